@@ -1,0 +1,4 @@
+pub mod Device
+pub mod Room
+pub mod Time
+pub mod Torn

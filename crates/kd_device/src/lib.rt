@@ -1,0 +1,12 @@
+//! What lies outside the program: a disk file and an output line, and the texts that are read.
+//!
+//! It stands on kd_base. To all layers above, the trait `Device` states the disk rules, with one clock over disk and
+//! line, so that what a power cut leaves of both can be proved; the trait `Room` states what a read of a text gives.
+//! Devices and rooms in memory keep these rules, fail where they are told to, and can be stopped after each call.
+#![tactic(auto)]
+
+mod device;
+mod room;
+
+pub use device::{Device, Failed};
+pub use room::{Room, RoomError};
