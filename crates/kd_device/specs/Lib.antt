@@ -2,3 +2,4 @@ pub mod Device
 pub mod Room
 pub mod Time
 pub mod Torn
+pub mod Rest

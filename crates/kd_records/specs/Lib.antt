@@ -1,3 +1,4 @@
+pub mod Identity
 pub mod Keys
 pub mod Contents
 pub mod Charge

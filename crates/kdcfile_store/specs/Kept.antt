@@ -1,0 +1,13 @@
+-- What a store keeps, and what a stop within a commit leaves.
+use Rattle.std.specs.Prelude.{◌≡◌, ◌⊎◌, ℕ, List}
+use Rattle.kd_device.specs.Device.{State, Only}
+use Rattle.kd_records.specs.declared.content.Content.{Content}
+
+-- the file is this store's, and a stop leaves just these bytes
+pub record IsKept (file : List ℕ → Type 0) (s : State) (leaves : ℕ → List ℕ → List ℕ → Type 0) : Type 0 where
+  pub bytes : file s.holds
+  pub settled : Only s.holds s leaves
+
+-- nothing more was sent, and the image stands for the old content or the new one
+abbrev pub OldOrNew : (Content → List ℕ → Type 0) → Content → Content → List ℕ → List ℕ → List ℕ → Type 0
+OldOrNew stands x y sent c out = (out ≡ sent) × (stands x c ⊎ stands y c)

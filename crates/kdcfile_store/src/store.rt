@@ -1,0 +1,92 @@
+//! The trait of everything that keeps a content in a file.
+ghost use Rattle.std.specs.Prelude.{◌≡◌, ◌≤◌, List, ℕ, IsTrue, OnOk, IsErrOf};
+ghost use Rattle.kd_device.specs.Device.{State, Rose, Frame, SameNames, LeavesOnly};
+ghost use Rattle.kd_device.specs.Rest.{Rests};
+ghost use Rattle.kd_records.specs.Identity.{Identity};
+ghost use Rattle.kd_records.specs.Contents.{IsPatch, patched};
+ghost use Rattle.kd_records.specs.declared.content.Content.{Content};
+ghost use Rattle.kd_records.specs.Charge.{total_charge};
+ghost use Rattle.kdcfile_store.specs.Kept.{IsKept, OldOrNew};
+
+use kd_base::OutOfMemory;
+use kd_device::{Device, Failed};
+use kd_records::{Content, Patch};
+use std::alloc::Global;
+use thiserror::Error;
+
+/// Why a commit ended early.
+#[derive(Clone, Copy, Debug, PartialEq, Eq, Error)]
+pub enum CommitError {
+    /// A disk call failed. The file has the old content or the new one; the store is opened again.
+    #[error("the disk failed")]
+    Failed,
+    /// Memory ran out before the first write. Store and file are as they were.
+    #[error("out of memory")]
+    Memory,
+}
+
+impl From<OutOfMemory> for CommitError {
+    ghost use Rattle.std.specs.Prelude.{◌≡◌};
+    ghost use Rattle.kdcfile_store.specs.declared.store.CommitError.TheVariants as errors;
+
+    ghost from_gives = { λ _ e. e ≡ errors.Memory };
+
+    fn from(_: OutOfMemory) -> Self {
+        CommitError::Memory
+    }
+}
+
+impl From<Failed> for CommitError {
+    ghost use Rattle.std.specs.Prelude.{◌≡◌};
+    ghost use Rattle.kdcfile_store.specs.declared.store.CommitError.TheVariants as errors;
+
+    ghost from_gives = { λ _ e. e ≡ errors.Failed };
+
+    fn from(_: Failed) -> Self {
+        CommitError::Failed
+    }
+}
+
+/// A content that is kept in a file of the device `D`.
+pub trait Store<D: Device> {
+    /// What the file was made with.
+    ghost identity: { Self → Identity };
+
+    /// What it keeps.
+    ghost kept: { Self → Content };
+
+    /// The bytes of its file: those that stand for its content, with its own selection.
+    ghost file: { Self → List ℕ → Type 0 };
+
+    /// The bytes that stand for a content, in a file that was made with this.
+    ghost stands: { Identity → Content → List ℕ → Type 0 };
+
+    /// What is kept. It takes no memory.
+    fn content(&self) -> &Content
+        ensures { result.now ≡ kept self.now };
+
+    /// Makes these changes, whole or not at all. All memory is taken before the first write.
+    fn commit(&mut self, alloc: Global, device: &mut D, patch: &Patch) -> Result<(), CommitError>
+        requires kept { IsTrue (D.state device.old).told → IsKept (file self.old) (D.state device.old) (D.leaves device.old) }
+        requires patch { IsPatch patch.now }
+        requires charge_before { total_charge (identity self.old).block (kept self.old).items ≤ (identity self.old).pages }
+        requires charge_after { total_charge (identity self.old).block (patched (kept self.old) patch.now).items ≤ (identity self.old).pages }
+
+        ensures content { OnOk result (kept self.new ≡ patched (kept self.old) patch.now) }
+        ensures identity { identity self.new ≡ identity self.old }
+        ensures kept { OnOk result (IsTrue (D.state device.old).told → IsKept (file self.new) (D.state device.new) (D.leaves device.new)) }
+        ensures sent { IsTrue (D.state device.old).told → (D.state device.new).sent ≡ (D.state device.old).sent }
+
+        // A stop at any moment of the call leaves the content with the patch or without it.
+        ensures any_moment { IsTrue (D.state device.old).told
+            → LeavesOnly (D.state device.old) (D.state device.new) (D.leaves device.old) (D.leaves device.new) (OldOrNew (stands (identity self.old)) (kept self.old) (patched (kept self.old) patch.now) (D.state device.old).sent) }
+
+        ensures failed { IsErrOf result CommitError.Failed → Rose (D.state device.old).disk_faults (D.state device.new).disk_faults }
+        ensures memory { IsErrOf result CommitError.Memory → IsTrue (D.state device.old).told → Rests (D.state device.old) (D.state device.new) (D.leaves device.old) (D.leaves device.new) }
+        ensures memory_store { IsErrOf result CommitError.Memory → self.new ≡ self.old }
+        ensures frame { Frame (D.state device.old) (D.state device.new) }
+        ensures names { SameNames (D.state device.old) (D.state device.new) };
+
+    /// Its file stands for its content.
+    ghost file_stands: { (store : Self) (bytes : List ℕ) → file store bytes → stands (identity store) (kept store) bytes };
+}
