@@ -1,0 +1,54 @@
+//! Why a script was refused.
+
+use kd_base::OutOfMemory;
+use std::alloc::{AllocError, AllocFailed};
+use thiserror::Error;
+
+/// The first fault of a script, with the number of its line from 1.
+#[derive(Clone, Copy, Debug, PartialEq, Eq, Error)]
+pub enum ScriptFault {
+    /// A line that is no command.
+    #[error("line {0}: no command")]
+    BadLine(u32),
+    /// A number of digits outside its range.
+    #[error("line {0}: a number outside its range")]
+    OutOfRange(u32),
+    /// More than 16,777,216 bytes, or more than 1,000,000 lines that are neither empty nor comments.
+    #[error("the script is too long")]
+    TooLong,
+    #[error("out of memory")]
+    Memory,
+}
+
+impl From<OutOfMemory> for ScriptFault {
+    ghost use Rattle.std.specs.Prelude.{◌≡◌};
+    ghost use Rattle.script_read.specs.declared.fault.ScriptFault.TheVariants as faults;
+
+    ghost from_gives = { λ _ e. e ≡ faults.Memory };
+
+    fn from(_: OutOfMemory) -> Self {
+        ScriptFault::Memory
+    }
+}
+
+impl From<AllocError> for ScriptFault {
+    ghost use Rattle.std.specs.Prelude.{◌≡◌};
+    ghost use Rattle.script_read.specs.declared.fault.ScriptFault.TheVariants as faults;
+
+    ghost from_gives = { λ _ e. e ≡ faults.Memory };
+
+    fn from(_: AllocError) -> Self {
+        ScriptFault::Memory
+    }
+}
+
+impl<T: Drop> From<AllocFailed<T>> for ScriptFault {
+    ghost use Rattle.std.specs.Prelude.{◌≡◌};
+    ghost use Rattle.script_read.specs.declared.fault.ScriptFault.TheVariants as faults;
+
+    ghost from_gives = { λ _ e. e ≡ faults.Memory };
+
+    fn from(_: AllocFailed<T>) -> Self {
+        ScriptFault::Memory
+    }
+}
