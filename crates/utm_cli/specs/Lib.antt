@@ -1,0 +1,5 @@
+pub mod Words
+pub mod Stored
+pub mod Said
+pub mod Performing
+pub mod Causes

@@ -1,0 +1,8 @@
+//! The program: what the words of a call ask for, the run of a script over a KDCFILE, and the answer as a status.
+//!
+//! It stands on all other crates. Its public call `utm` carries the promises that the whole program makes.
+#![tactic(auto)]
+
+mod error;
+mod perform;
+mod say;
