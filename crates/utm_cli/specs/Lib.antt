@@ -3,3 +3,4 @@ pub mod Stored
 pub mod Said
 pub mod Performing
 pub mod Causes
+pub mod Promise

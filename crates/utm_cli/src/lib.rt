@@ -5,4 +5,9 @@
 
 mod error;
 mod perform;
+mod refuse;
 mod say;
+mod status;
+mod words;
+
+pub use status::Status;

@@ -1,0 +1,25 @@
+//! The answer of a call.
+
+/// How a call ended: its exit status.
+#[derive(Clone, Copy, Debug, PartialEq, Eq)]
+pub struct Status {
+    /// From 0 to 7.
+    pub code: u8,
+}
+
+impl Status {
+    /// The whole input was read and done.
+    pub const DONE: Status = Status { code: 0 };
+    /// The words are none of the forms.
+    pub const USAGE: Status = Status { code: 1 };
+    /// The script was refused; nothing was run.
+    pub const SCRIPT: Status = Status { code: 3 };
+    /// The KDCFILE is not empty, and stands for no tables of this application.
+    pub const FILE: Status = Status { code: 4 };
+    /// The disk or the line failed.
+    pub const DEVICE: Status = Status { code: 5 };
+    /// A text could not be read.
+    pub const ROOM: Status = Status { code: 6 };
+    /// Want of memory.
+    pub const MEMORY: Status = Status { code: 7 };
+}
