@@ -1,5 +1,6 @@
 -- Big-endian fields at the front of a list of bytes.
-use Rattle.std.specs.Prelude.{ℕ, List, ◌++◌, length, take, drop, nat_lt, Option, Some, None, if◌then◌else◌}
+use Rattle.std.specs.Prelude.{ℕ, List, ◌++◌, is_some, length, take, drop, nat_lt, Option, Some, None, if◌then◌else◌}
+use Rattle.kd_base.specs.Text.{name_in}
 use Rattle.std.specs.Int.{Width, w32, byte_len, from_be_bytes, to_be_bytes}
 
 -- the number in the first bytes, none where there are too few
@@ -31,3 +32,11 @@ rest_of n behind bytes = if nat_lt (length behind) n then bytes else drop n behi
 abbrev pub after_list : List ℕ → List ℕ
 after_list bytes =
     if nat_lt (length bytes) 4 then bytes else rest_of (from_be_bytes w32 (take 4 bytes)) (drop 4 bytes) bytes
+
+-- the name in the first 8 bytes, none where there are too few or they are no name filled with spaces
+abbrev pub name_at : List ℕ → Option (List ℕ)
+name_at bytes = if nat_lt (length bytes) 8 then None else name_in (take 8 bytes)
+
+-- what is left behind it; all, where there is no name
+abbrev pub after_name : List ℕ → List ℕ
+after_name bytes = if is_some (name_at bytes) then drop 8 bytes else bytes

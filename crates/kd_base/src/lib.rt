@@ -1,17 +1,29 @@
-//! The pieces that every crate uses: lists of bytes, big-endian fields, and want of memory.
+//! The pieces that every crate uses: names, decimal numbers, the printed form of bytes, lists of bytes, big-endian
+//! fields, and want of memory.
 //!
-//! It stands on no other crate. To all layers above, its contract says that a field reader answers exactly the field
-//! that the bytes begin with, or `None` and stays where it was; and that a writer is unchanged by a call that fails.
+//! It stands on no other crate. To all layers above, its contract says which bytes are a name or a number, that names
+//! compare as their bytes do, that a field reader answers exactly the field that the bytes begin with, or `None` and
+//! stays where it was, that a writer is unchanged by a call that fails, and that what was written is read again.
 #![tactic(auto)]
 
 mod bytes;
+mod laws;
 mod memory;
+mod name;
+mod prog_name;
 mod reader;
+mod text;
+mod words;
 mod writer;
 
 pub use bytes::Bytes;
+pub use laws::{fields_come_back, names_are_told_apart};
 pub use memory::OutOfMemory;
+pub use name::Name;
+pub use prog_name::ProgName;
 pub use reader::Reader;
+pub use text::{decimal_of, escape};
+pub use words::{Mode, Variant};
 pub use writer::Writer;
 
 #[cfg(test)]

@@ -1,10 +1,12 @@
 //! Big-endian fields, read from the front of some bytes.
-ghost use Rattle.std.specs.Prelude.{◌≡◌, List, ℕ, length, IfOk, OnErr};
+ghost use Rattle.std.specs.Prelude.{◌≡◌, ◌++◌, List, ℕ, length, IfOk, IfSome, OnErr, Some};
 ghost use Rattle.std.specs.Int.{w8, w32, w64};
-ghost use Rattle.kd_base.specs.Field.{number_at, after_number, list_at, after_list};
+ghost use Rattle.kd_base.specs.Field.{number_at, after_number, list_at, after_list, name_at, after_name};
+ghost use Rattle.kd_base.specs.Text.{IsName, padded};
 
 use crate::bytes::Bytes;
 use crate::memory::OutOfMemory;
+use crate::name::Name;
 use std::alloc::Global;
 use std::marker::Model;
 
@@ -75,6 +77,22 @@ impl<'a> Reader<'a> {
         Some(u64::from_be_bytes([
             front[0], front[1], front[2], front[3], front[4], front[5], front[6], front[7],
         ]))
+    }
+
+    /// Eight bytes as a name that is filled with spaces on the right.
+    pub fn name_at(&mut self) -> Option<Name>
+        ensures value { result ≡ name_at self.old }
+        ensures left { self.new ≡ after_name self.old }
+        ensures found { IfSome result (λ name. IsName name × (self.old ≡ padded name ++ self.new)) }
+        ensures only { (name rest : List ℕ) → IsName name → self.old ≡ padded name ++ rest → result ≡ Some name }
+    {
+        if self.left.len() < 8 {
+            return None;
+        }
+        let (field, rest) = self.left.split_at(8);
+        let name = Name::from_padded(field)?;
+        self.left = rest;
+        Some(name)
     }
 
     /// A length of four bytes and so many bytes. `None`, and an error, leave the reader where it was.

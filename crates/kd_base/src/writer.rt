@@ -2,9 +2,11 @@
 ghost use Rattle.std.specs.Prelude.{◌≡◌, ◌<◌, ◌^◌, ◌++◌, ◌∷◌, [], List, ℕ, length, is_ok, if◌then◌else◌, OnErr};
 ghost use Rattle.std.specs.Int.{w32, w64, to_be_bytes};
 ghost use Rattle.kd_base.specs.Field.{list};
+ghost use Rattle.kd_base.specs.Text.{padded};
 
 use crate::bytes::Bytes;
 use crate::memory::OutOfMemory;
+use crate::name::Name;
 use std::alloc::Global;
 use std::marker::Model;
 
@@ -49,6 +51,14 @@ impl Writer {
         ensures { self.new ≡ (if is_ok result then self.old ++ to_be_bytes w64 v else self.old) }
     {
         self.written.extend_from_slice(&v.to_be_bytes())?;
+        Ok(())
+    }
+
+    /// The name in eight bytes, filled with spaces on the right.
+    pub fn put_name(&mut self, v: Name) -> Result<(), OutOfMemory>
+        ensures { self.new ≡ (if is_ok result then self.old ++ padded v else self.old) }
+    {
+        self.written.extend_from_slice(&v.padded())?;
         Ok(())
     }
 

@@ -1,0 +1,165 @@
+//! Names of TACs, users, terminals, areas and blocks.
+ghost use Rattle.std.specs.Prelude.{◌≡◌, ◌≤◌, List, ℕ, IfSome, SomeIff, Some, length, nat_eq, refl};
+ghost use Rattle.std.specs.List.{list_all, prefix_len};
+ghost use Rattle.std.specs.Hash as fed;
+ghost use Rattle.std.specs.Ordering.{nat_cmp};
+ghost use Rattle.std.specs.Cmp.{partial_equiv_from_equiv};
+ghost use Rattle.std.specs.Cmp.Lexicographic.{pointwise, slice_cmp, nat_list_eq_equiv, nat_list_cmp_total, texts_ties, texts_po};
+ghost use Rattle.kd_base.specs.Text.{is_name_byte, is_space, IsName, name_of, name_in, padded};
+
+use std::cmp::Ordering;
+use std::hash::{Hash, Hasher};
+use std::marker::Model;
+
+/// A name: 1 to 8 letters, digits, `$`, `#`, `@` and `_`. Contracts see the list of its bytes.
+#[derive(Clone, Copy, Debug)]
+pub struct Name {
+    cells: [u8; 8],
+    used: u8,
+}
+
+impl Model for Name {
+    ghost use Rattle.std.specs.Prelude.{List, ℕ, length, take};
+    ghost use Rattle.kd_base.specs.Text.{padded};
+
+    ghost Value = { List ℕ };
+
+    ghost use Rattle.kd_base.specs.NameCells.{IsNameCells, same_name};
+
+    ghost view = { λ n. take n.used n.cells };
+
+    ghost invariant = { λ n. IsNameCells n };
+
+    ghost inverse = { λ bytes. record { cells = padded bytes; used = length bytes } };
+
+    ghost inverse_ok = { same_name };
+}
+
+pub(crate) fn is_name_byte(b: u8) -> bool
+    ensures { result ≡ is_name_byte b }
+{
+    matches!(b, b'A'..=b'Z' | b'a'..=b'z' | b'0'..=b'9' | b'$' | b'#' | b'@' | b'_')
+}
+
+pub(crate) fn are_name_bytes(bytes: &[u8]) -> bool
+    ensures { result ≡ list_all is_name_byte bytes.now }
+{
+    bytes.iter().all(|b| is_name_byte(*b))
+}
+
+fn are_spaces(bytes: &[u8]) -> bool
+    ensures { result ≡ list_all is_space bytes.now }
+{
+    bytes.iter().all(|b| *b == b' ')
+}
+
+// How many name bytes stand in front.
+fn name_len(bytes: &[u8]) -> usize
+    ensures len { result ≡ prefix_len is_name_byte bytes.now }
+    ensures within { result ≤ length bytes.now }
+{
+    let mut n = 0;
+    while n < bytes.len() && is_name_byte(bytes[n]) {
+        n += 1;
+    }
+    n
+}
+
+impl Name {
+    /// The name with these bytes. It takes no memory.
+    pub fn from_bytes(bytes: &[u8]) -> Option<Name>
+        ensures exact { SomeIff result (IsName bytes.now) bytes.now }
+        ensures name { result ≡ name_of bytes.now }
+    {
+        if bytes.is_empty() || bytes.len() > 8 || !are_name_bytes(bytes) {
+            return None;
+        }
+        let mut cells = [b' '; 8];
+        cells[..bytes.len()].copy_from_slice(bytes);
+        Some(Name {
+            cells,
+            used: bytes.len() as u8,
+        })
+    }
+
+    /// The name that these 8 bytes are when it is filled with spaces on the right.
+    pub fn from_padded(bytes: &[u8]) -> Option<Name>
+        requires { length bytes.now ≡ 8 }
+        ensures name { result ≡ name_in bytes.now }
+        ensures found { IfSome result (λ name. IsName name × (bytes.now ≡ padded name)) }
+        ensures only { (name : List ℕ) → IsName name → bytes.now ≡ padded name → result ≡ Some name }
+    {
+        let (name, filling) = bytes.split_at(name_len(bytes));
+        if !are_spaces(filling) {
+            return None;
+        }
+        Name::from_bytes(name)
+    }
+
+    /// The name filled with spaces on the right.
+    pub fn padded(&self) -> [u8; 8]
+        ensures { result ≡ padded self.now }
+    {
+        self.cells
+    }
+
+    /// The bytes of the name.
+    pub fn as_slice(&self) -> &[u8]
+        ensures bytes { result.now ≡ self.now }
+        ensures name { IsName self.now }
+    {
+        &self.cells[..self.used as usize]
+    }
+}
+
+impl PartialEq for Name {
+    ghost eq = { pointwise nat_eq };
+
+    ghost laws = { partial_equiv_from_equiv nat_list_eq_equiv };
+
+    fn eq(&self, other: &Name) -> bool {
+        self.as_slice() == other.as_slice()
+    }
+}
+
+impl Eq for Name {
+    ghost laws = { nat_list_eq_equiv };
+}
+
+impl PartialOrd for Name {
+    ghost partial_cmp = { λ a b. Some (slice_cmp nat_cmp a b) };
+
+    ghost laws = { texts_po };
+
+    fn partial_cmp(&self, other: &Name) -> Option<Ordering> {
+        Some(self.cmp(other))
+    }
+}
+
+impl Ord for Name {
+    ghost cmp = { slice_cmp nat_cmp };
+
+    ghost total = { nat_list_cmp_total };
+
+    ghost matches_partial_cmp = { λ a b. refl };
+
+    ghost matches_eq = { texts_ties };
+
+    fn cmp(&self, other: &Name) -> Ordering {
+        self.as_slice().cmp(&other.as_slice())
+    }
+}
+
+impl Hash for Name {
+    ghost use Rattle.std.proofs.Common.{rules};
+    ghost use Rattle.std.specs.Cmp.Rules.{hashing};
+    ghost use Rattle.std.specs.Hash as fed;
+
+    ghost hash_input = { fed.slice fed.u8 };
+
+    ghost respects_eq = { Prim.search (hashing, rules) };
+
+    fn hash<H: Hasher>(&self, state: &mut H) {
+        self.as_slice().hash(state);
+    }
+}
