@@ -1,8 +1,9 @@
 //! Why a run ended early.
 
 use kd_base::OutOfMemory;
-use kd_device::Failed;
+use kd_device::{Failed, RoomError};
 use kdcfile_store::CommitError;
+use script_read::ScriptFault;
 use std::alloc::AllocError;
 use thiserror::Error;
 
@@ -59,6 +60,57 @@ impl From<CommitError> for RunError {
         match e {
             CommitError::Failed => RunError::Failed,
             CommitError::Memory => RunError::Memory,
+        }
+    }
+}
+
+/// Why there are no commands to run.
+#[derive(Clone, Copy, Debug, PartialEq, Eq, Error)]
+pub(crate) enum ScriptError {
+    /// The text is not there, or could not be read.
+    #[error("the script could not be read")]
+    Room,
+    #[error("the script is refused: {0}")]
+    Refused(ScriptFault),
+    #[error("out of memory")]
+    Memory,
+}
+
+impl From<AllocError> for ScriptError {
+    ghost use Rattle.std.specs.Prelude.{◌≡◌};
+    ghost use Rattle.utm_cli.specs.declared.error.ScriptError.TheVariants as errors;
+
+    ghost from_gives = { λ _ e. e ≡ errors.Memory };
+
+    fn from(_: AllocError) -> Self {
+        ScriptError::Memory
+    }
+}
+
+impl From<RoomError> for ScriptError {
+    ghost use Rattle.std.specs.Prelude.{◌≡◌};
+    ghost use Rattle.utm_cli.specs.Causes.{of_room};
+
+    ghost from_gives = { λ e r. r ≡ of_room e };
+
+    fn from(e: RoomError) -> Self {
+        match e {
+            RoomError::Failed => ScriptError::Room,
+            RoomError::Memory => ScriptError::Memory,
+        }
+    }
+}
+
+impl From<ScriptFault> for ScriptError {
+    ghost use Rattle.std.specs.Prelude.{◌≡◌};
+    ghost use Rattle.utm_cli.specs.Causes.{of_fault};
+
+    ghost from_gives = { λ e r. r ≡ of_fault e };
+
+    fn from(e: ScriptFault) -> Self {
+        match e {
+            ScriptFault::Memory => ScriptError::Memory,
+            fault => ScriptError::Refused(fault),
         }
     }
 }
