@@ -32,16 +32,18 @@ changed_all records (c ∷ changes) = changed_all (changed records c) changes
 abbrev pub patched : Content → Patch → Content
 patched x p = record { clock = p.clock; next_job = p.next_job; items = changed_all x.items p.items }
 
--- a key that a record can have: a kind from 1 in one byte, and 24 bytes
+-- a record that a file can keep: a kind from 1, a key of 24 bytes, and a value whose length has four bytes
+pub record IsRecord (r : Record) : Type 0 where
+  pub kind_from_one : 0 < r.0.kind
+  pub kind_is_byte : r.0.kind < 2 ^ 8
+  pub key_length : length r.0.bytes ≡ 24
+  pub value_length : length r.1 < 2 ^ 32
+
+-- a key that a record can have
 pub record IsKey (k : RecordKey) : Type 0 where
   pub kind_from_one : 0 < k.kind
   pub kind_is_byte : k.kind < 2 ^ 8
-  pub length : length k.bytes ≡ 24
-
--- a record that a file can keep: its value's length has four bytes
-pub record IsRecord (r : Record) : Type 0 where
-  pub key : IsKey r.0
-  pub value : length r.1 < 2 ^ 32
+  pub key_length : length k.bytes ≡ 24
 
 -- a content that a file can keep
 pub record IsContent (x : Content) : Type 0 where
