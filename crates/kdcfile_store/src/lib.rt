@@ -6,5 +6,7 @@
 #![tactic(auto)]
 
 mod store;
+mod whole;
 
-pub use store::{CommitError, Store};
+pub use store::{CommitError, Store, StoreLimits};
+pub use whole::{LoadError, WholeStore};

@@ -90,3 +90,10 @@ pub trait Store<D: Device> {
     /// Its file stands for its content.
     ghost file_stands: { (store : Self) (bytes : List ℕ) → file store bytes → stands (identity store) (kept store) bytes };
 }
+
+/// What a file is made with: BLKSIZE in bytes and PGPOOL in pages.
+#[derive(Clone, Copy, Debug, PartialEq, Eq)]
+pub struct StoreLimits {
+    pub blksize: u32,
+    pub pgpool: u32,
+}

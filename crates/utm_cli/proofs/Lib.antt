@@ -1,2 +1,6 @@
 pub mod Running
 pub mod Asked
+pub mod KeptTables
+pub mod Refused
+pub mod Opened
+pub mod Ran

@@ -4,6 +4,10 @@ use Rattle.utm_cli.specs.declared.error.RunError.TheVariants as to
 use Rattle.kdcfile_store.specs.declared.store.CommitError.{CommitError}
 use Rattle.kdcfile_store.specs.declared.store.CommitError.TheVariants as from
 
+use Rattle.utm_cli.specs.declared.error.OpenError.{OpenError}
+use Rattle.utm_cli.specs.declared.error.OpenError.TheVariants as opening
+use Rattle.kdcfile_store.specs.declared.whole.LoadError.{LoadError}
+use Rattle.kdcfile_store.specs.declared.whole.LoadError.TheVariants as load
 use Rattle.utm_cli.specs.declared.error.ScriptError.{ScriptError}
 use Rattle.utm_cli.specs.declared.error.ScriptError.TheVariants as script
 use Rattle.kd_device.specs.declared.room.RoomError.{RoomError}
@@ -25,3 +29,12 @@ of_fault (fault.BadLine line) = script.Refused (fault.BadLine line)
 of_fault (fault.OutOfRange line) = script.Refused (fault.OutOfRange line)
 of_fault fault.TooLong = script.Refused fault.TooLong
 of_fault fault.Memory = script.Memory
+
+abbrev pub of_create : CommitError → OpenError
+of_create from.Failed = opening.Failed
+of_create from.Memory = opening.Memory
+
+abbrev pub of_load : LoadError → OpenError
+of_load load.NotKdcfile = opening.NotKdcfile
+of_load load.Failed = opening.Failed
+of_load load.Memory = opening.Memory

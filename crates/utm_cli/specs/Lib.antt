@@ -4,3 +4,4 @@ pub mod Said
 pub mod Performing
 pub mod Causes
 pub mod Promise
+pub mod Opening

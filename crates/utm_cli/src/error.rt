@@ -2,7 +2,7 @@
 
 use kd_base::OutOfMemory;
 use kd_device::{Failed, RoomError};
-use kdcfile_store::CommitError;
+use kdcfile_store::{CommitError, LoadError};
 use script_read::ScriptFault;
 use std::alloc::AllocError;
 use thiserror::Error;
@@ -111,6 +111,69 @@ impl From<ScriptFault> for ScriptError {
         match e {
             ScriptFault::Memory => ScriptError::Memory,
             fault => ScriptError::Refused(fault),
+        }
+    }
+}
+
+/// Why the KDCFILE was not opened.
+#[derive(Clone, Copy, Debug, PartialEq, Eq, Error)]
+pub(crate) enum OpenError {
+    /// It is not empty, and stands for no tables of this application.
+    #[error("not a KDCFILE")]
+    NotKdcfile,
+    #[error("the device failed")]
+    Failed,
+    #[error("out of memory")]
+    Memory,
+}
+
+impl From<OutOfMemory> for OpenError {
+    ghost use Rattle.std.specs.Prelude.{◌≡◌};
+    ghost use Rattle.utm_cli.specs.declared.error.OpenError.TheVariants as errors;
+
+    ghost from_gives = { λ _ e. e ≡ errors.Memory };
+
+    fn from(_: OutOfMemory) -> Self {
+        OpenError::Memory
+    }
+}
+
+impl From<Failed> for OpenError {
+    ghost use Rattle.std.specs.Prelude.{◌≡◌};
+    ghost use Rattle.utm_cli.specs.declared.error.OpenError.TheVariants as errors;
+
+    ghost from_gives = { λ _ e. e ≡ errors.Failed };
+
+    fn from(_: Failed) -> Self {
+        OpenError::Failed
+    }
+}
+
+impl From<CommitError> for OpenError {
+    ghost use Rattle.std.specs.Prelude.{◌≡◌};
+    ghost use Rattle.utm_cli.specs.Causes.{of_create};
+
+    ghost from_gives = { λ e r. r ≡ of_create e };
+
+    fn from(e: CommitError) -> Self {
+        match e {
+            CommitError::Failed => OpenError::Failed,
+            CommitError::Memory => OpenError::Memory,
+        }
+    }
+}
+
+impl From<LoadError> for OpenError {
+    ghost use Rattle.std.specs.Prelude.{◌≡◌};
+    ghost use Rattle.utm_cli.specs.Causes.{of_load};
+
+    ghost from_gives = { λ e r. r ≡ of_load e };
+
+    fn from(e: LoadError) -> Self {
+        match e {
+            LoadError::NotKdcfile => OpenError::NotKdcfile,
+            LoadError::Failed => OpenError::Failed,
+            LoadError::Memory => OpenError::Memory,
         }
     }
 }

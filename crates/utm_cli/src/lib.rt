@@ -4,10 +4,13 @@
 #![tactic(auto)]
 
 mod error;
+mod opening;
 mod perform;
 mod refuse;
+mod run;
 mod say;
 mod status;
+mod text;
 mod words;
 
 pub use status::Status;

@@ -1,0 +1,23 @@
+-- A store that keeps its content in whole images.
+use Rattle.std.specs.Prelude.{◌≡◌, ◌⊎◌, ℕ, Bool, List}
+use Rattle.kd_records.specs.Identity.{Identity}
+use Rattle.kd_records.specs.declared.content.Content.{Content}
+use Rattle.kdcfile_images.specs.File.{Stands, StandsFor, IsNoImage, fresh}
+use Rattle.kdcfile_store.specs.declared.store.StoreLimits.{StoreLimits}
+
+pub record Whole : Type 0 where
+  pub identity : Identity
+  pub second : Bool  -- whether image B is selected
+  pub content : Content
+
+-- the bytes of its file
+abbrev pub HasFile : Whole → List ℕ → Type 0
+HasFile s bytes = Stands s.identity s.second s.content bytes
+
+-- what a file with these limits and this fingerprint is made with
+abbrev pub identity_with : StoreLimits → List ℕ → Identity
+identity_with l fingerprint = record { block = l.blksize; pages = l.pgpool; fingerprint = fingerprint }
+
+-- within a making nothing more is sent, and the file is no image yet, or has the first content
+abbrev pub Made : Identity → List ℕ → List ℕ → List ℕ → Type 0
+Made i sent c out = (out ≡ sent) × (IsNoImage c ⊎ StandsFor i fresh c)
