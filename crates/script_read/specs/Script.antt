@@ -1,21 +1,15 @@
 -- What a script says.
-use Rattle.std.specs.Prelude.{◌≡◌, ℕ, ◌+◌, Bool, true, false, not, ◌&&◌, ◌||◌, ◌==◌, nat_le, nat_lt, List, [], ◌∷◌, length, filter, count_by, codes, Result, Ok, Err}
+use Rattle.std.specs.Prelude.{ℕ, ◌+◌, Bool, true, false, not, ◌&&◌, ◌||◌, ◌==◌, nat_le, nat_lt, List, [], ◌∷◌, length, filter, count_by, codes, Result, Ok, Err}
 use Rattle.std.specs.List.{slice_split, list_all}
 use Rattle.std.specs.Ordering.{nat_cmp, eq_by_cmp}
 use Rattle.std.specs.Cmp.Lexicographic.{slice_cmp}
 use Rattle.std.specs.Str.Lines.{lines}
-use Rattle.std.specs.Str.Parse.{digits_value}
+use Rattle.kd_base.specs.Text.{is_digit, is_space, decimal_value}
 use Rattle.kdcs_types.specs.Limits.{last_clock}
 use Rattle.kdcs_types.specs.declared.command.Command.{Command}
 use Rattle.kdcs_types.specs.declared.command.Command.TheVariants.{Tick}
 use Rattle.script_read.specs.declared.fault.ScriptFault.{ScriptFault}
 use Rattle.script_read.specs.declared.fault.ScriptFault.TheVariants.{BadLine, OutOfRange, TooLong}
-
-abbrev pub is_space : ℕ → Bool
-is_space b = b == 32
-
-abbrev pub is_digit : ℕ → Bool
-is_digit b = nat_le 48 b && nat_le b 57
 
 -- the words of a line, which one or more spaces part
 abbrev pub words : List ℕ → List (List ℕ)
@@ -50,7 +44,7 @@ tick_in true n = Says (Tick n)
 tick_in false n = IsOutOfRange
 
 abbrev pub tick_of : Bool → List ℕ → Line
-tick_of true digits = tick_in (nat_le (length digits) 18 && nat_le (digits_value 10 digits) last_clock) (digits_value 10 digits)
+tick_of true digits = tick_in (nat_le (length digits) 18 && nat_le (decimal_value digits) last_clock) (decimal_value digits)
 tick_of false digits = IsBad
 
 abbrev pub keyed : Bool → List ℕ → Line

@@ -1,0 +1,4 @@
+pub mod FirstLine
+pub mod Words
+pub mod Ticks
+pub mod FirstFaults

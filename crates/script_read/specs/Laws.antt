@@ -1,0 +1,65 @@
+-- What holds of every script.
+use Rattle.std.specs.Prelude.{◌≡◌, ℕ, ◌+◌, ◌≤◌, IsTrue, List, [], ◌∷◌, ◌++◌, length, replicate, codes, Ok, Err}
+use Rattle.std.specs.List.{list_all}
+use Rattle.std.specs.Str.Lines.{lines}
+use Rattle.kd_base.specs.Text.{is_digit, decimal_value}
+use Rattle.kdcs_types.specs.Limits.{last_clock}
+use Rattle.kdcs_types.specs.declared.command.Command.{Command}
+use Rattle.kdcs_types.specs.declared.command.Command.TheVariants.{Tick}
+use Rattle.script_read.specs.declared.fault.ScriptFault.TheVariants.{BadLine, OutOfRange}
+use Rattle.script_read.specs.Script.{Line, Nothing, Says, IsBad, IsOutOfRange, line_of, script}
+
+-- 1 to 18 digits with a value that a clock may have
+pub record IsTickCount (bytes : List ℕ) : Type 0 where
+  pub digits : IsTrue (list_all is_digit bytes)
+  pub some : 1 ≤ length bytes
+  pub few : length bytes ≤ 18
+  pub value : decimal_value bytes ≤ last_clock
+
+abbrev pub TicksAreSaid : Type 0
+TicksAreSaid =
+    (digits : List ℕ) (between behind : ℕ) → IsTickCount digits → 1 ≤ between
+    → line_of (codes "TICK" ++ replicate between 32 ++ digits ++ replicate behind 32) ≡ Says (Tick (decimal_value digits))
+
+-- a line that is no fault
+abbrev pub IsRight : Line → Type 0
+IsRight Nothing = Unit {0}
+IsRight (Says command) = Unit {0}
+IsRight IsBad = ⊥
+IsRight IsOutOfRange = ⊥
+
+abbrev pub AreRight : List (List ℕ) → Type 0
+AreRight [] = Unit {0}
+AreRight (line ∷ rest) = IsRight (line_of line) × AreRight rest
+
+-- of these lines, the one with this number has the fault, and none before it has any
+pub record IsFirstFault (n : ℕ) (what : Line) (all : List (List ℕ)) : Type 0 where
+  pub before : List (List ℕ)
+  pub line : List ℕ
+  pub behind : List (List ℕ)
+  pub parts : all ≡ before ++ line ∷ behind
+  pub number : n ≡ length before + 1
+  pub right : AreRight before
+  pub fault : line_of line ≡ what
+
+pub record IsFirstOf (text : List ℕ) : Type 0 where
+  pub bad : (number : ℕ) → script text ≡ Err (BadLine number) → IsFirstFault number IsBad (lines text)
+  pub out_of_range : (number : ℕ) → script text ≡ Err (OutOfRange number) → IsFirstFault number IsOutOfRange (lines text)
+
+abbrev pub FaultsAreFirst : Type 0
+FaultsAreFirst = (text : List ℕ) → IsFirstOf text
+
+-- the command of a line, where it says one
+abbrev pub said : Line → List Command
+said Nothing = []
+said (Says command) = command ∷ []
+said IsBad = []
+said IsOutOfRange = []
+
+abbrev pub all_said : List (List ℕ) → List Command
+all_said [] = []
+all_said (line ∷ rest) = said (line_of line) ++ all_said rest
+
+abbrev pub SaysWhatItsLinesSay : Type 0
+SaysWhatItsLinesSay =
+    (text : List ℕ) (commands : List Command) → script text ≡ Ok commands → AreRight (lines text) × (commands ≡ all_said (lines text))

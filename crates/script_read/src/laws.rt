@@ -1,0 +1,17 @@
+//! What holds of every script, as contracts of functions that do nothing.
+ghost use Rattle.script_read.specs.Laws.{TicksAreSaid, FaultsAreFirst, SaysWhatItsLinesSay};
+
+/// `TICK`, spaces, 1 to 18 digits with a value that a clock may have, and spaces are that TICK.
+pub fn ticks_are_said()
+    ensures { TicksAreSaid }
+{}
+
+/// A script that is refused for a line is so for the first line that is no command, no comment and not empty.
+pub fn faults_are_first()
+    ensures { FaultsAreFirst }
+{}
+
+/// A script that says commands says those of its lines, one after another, and no line of it is at fault.
+pub fn says_what_its_lines_say()
+    ensures { SaysWhatItsLinesSay }
+{}
