@@ -54,7 +54,7 @@ keeps_meant one s t bytes file stands range =
     let same = one s.identity identity s.content (content_of t) bytes (s.second, file) stands in
     record { identity_is = same.0; content = same.1; range = range }
 
-tables_are : (t u : Tables) → content_of t ≡ content_of u → t ≡ u
+pub tables_are : (t u : Tables) → content_of t ≡ content_of u → t ≡ u
 tables_are t u same =
     let of : Content → Tables = λ x. record { clock = x.clock; next_job = x.next_job } in
     ap of same

@@ -9,6 +9,7 @@ mod perform;
 mod refuse;
 mod run;
 mod say;
+mod script;
 mod status;
 mod text;
 mod words;
