@@ -1,5 +1,13 @@
+pub mod Count
 pub mod Device
+pub mod History
+pub mod Laws
+pub mod Made
+pub mod Memory
 pub mod Room
+pub mod Sure
+pub mod Tape
+pub mod Texts
 pub mod Time
 pub mod Torn
 pub mod Rest

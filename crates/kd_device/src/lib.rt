@@ -5,8 +5,23 @@
 //! Devices and rooms in memory keep these rules, fail where they are told to, and can be stopped after each call.
 #![tactic(auto)]
 
+mod buffer;
 mod device;
+mod kind;
+mod memory;
+mod memory_room;
 mod room;
+mod step;
+mod stop;
+mod sure;
+mod tape;
 
 pub use device::{Device, Failed};
+pub use kind::CallKind;
+pub use memory::MemDevice;
+pub use memory_room::MemRoom;
 pub use room::{Room, RoomError};
+pub use sure::SureDevice;
+
+#[cfg(test)]
+mod tests;

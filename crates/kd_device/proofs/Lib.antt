@@ -1,0 +1,5 @@
+pub mod Counted
+pub mod Grows
+pub mod Kept
+pub mod Named
+pub mod Replay

@@ -1,0 +1,46 @@
+-- What holds of every history.
+use Rattle.std.specs.Prelude.{◌≡◌, ℕ, ◌+◌, min, true, false, List, [], ◌∷◌, ◌++◌, length, Result, Ok, Err, IsOk, OnErr, refl}
+use native.Mathlib.Omega.{arith}
+use Rattle.kd_device.specs.Device.{Rose, Torn, Only}
+use Rattle.kd_device.specs.History.{Event, Wrote, Synced, Emitted, Disk, fresh, step, after, Torns, Since, now_to, now_from}
+use Rattle.kd_device.specs.declared.kind.CallKind.{CallKind}
+use Rattle.kd_device.specs.Tape.{blank}
+use Rattle.kd_device.specs.Memory.{unused, state_of, leaves_of}
+use Rattle.kd_device.specs.Sure.{sure_state, sure_leaves}
+use Rattle.kd_device.specs.Torn.{torn_done, torn_not}
+
+pub torns_push : (rs : List (ℕ × ℕ)) (r : ℕ × ℕ) (old mid new : List ℕ) → Torns rs old mid → Torn r.0 r.1 mid new → Torns (rs ++ r ∷ []) old new
+torns_push [] r old mid new same torn = (new, (let P : List ℕ → Type 0 = λ l. Torn r.0 r.1 l new in subst_torn P mid old same torn), refl)
+  where
+    subst_torn : (P : List ℕ → Type 0) (a b : List ℕ) → a ≡ b → P a → P b
+    subst_torn P a b e h = rw (← e) h
+torns_push (q ∷ rs) r old mid new torns torn = (torns.0, torns.1, torns_push rs r torns.0 mid new torns.2 torn)
+
+keeps_bytes : (s : Disk) (e : Event) → Torns s.pending s.base s.bytes → Torns (step s e).pending (step s e).base (step s e).bytes
+keeps_bytes s (Wrote at bytes true) h = torns_push s.pending (min at (length s.bytes), at + length bytes) s.base s.bytes _ h (torn_done s.bytes at bytes)
+keeps_bytes s (Wrote at bytes false) h = torns_push s.pending (min at (length s.bytes), at + length bytes) s.base s.bytes _ h (torn_not _ _ s.bytes)
+keeps_bytes s (Synced true) h = refl
+keeps_bytes s (Synced false) h = h
+keeps_bytes s (Emitted piece done) h = h
+
+pub has_bytes : (s : Disk) (es : List Event) → Torns s.pending s.base s.bytes → Torns (after s es).pending (after s es).base (after s es).bytes
+has_bytes s [] h = h
+has_bytes s (e ∷ es) h = has_bytes (step s e) es (keeps_bytes s e h)
+
+pub bytes_now : (start : List ℕ) (es : List Event) → Since (length es) (fresh start) es (after (fresh start) es).bytes (after (fresh start) es).sent
+bytes_now start es = now_to (fresh start) es _ _ (has_bytes (fresh start) es refl, refl)
+
+pub sent_is : (start : List ℕ) (es : List Event) (c out : List ℕ) → Since (length es) (fresh start) es c out → out ≡ (after (fresh start) es).sent
+sent_is start es c out left = (now_from (fresh start) es c out left).1
+
+-- a stop of a device of which no call was made leaves its file
+pub unused_only : (start : List ℕ) (failing : List (CallKind × ℕ)) → Only start (state_of (unused start failing)) (leaves_of (unused start failing))
+unused_only start failing c left = left.0
+
+pub blank_only : (start : List ℕ) → Only start (sure_state (blank start)) (sure_leaves (blank start))
+blank_only start c left = left.0
+
+-- a call whose count of faults stays 0 does not fail
+pub is_ok_sure : {T E : Type 0} (r : Result T E) → OnErr r (Rose 0 0) → IsOk r
+is_ok_sure (Ok x) rose = refl
+is_ok_sure (Err e) rose = absurd (omega (arith, rose))

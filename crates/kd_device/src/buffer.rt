@@ -1,0 +1,69 @@
+//! Reads of a file in memory, and writes to buffers that have room.
+ghost use Rattle.std.specs.Prelude.{◌≡◌, ◌≤◌, ◌<◌, ◌+◌, ◌-◌, ◌++◌, ◌∷◌, [], List, ℕ, length, take, drop, min, if◌then◌else◌};
+ghost use Rattle.std.specs.Vec.{vec_len, vec_capacity};
+ghost use Rattle.kd_device.specs.Device.{written};
+
+pub fn append<T: Copy>(to: &mut Vec<T>, more: &[T])
+    requires { vec_len to.old + length more.now ≤ vec_capacity to.old }
+    ensures items { to.new.items ≡ to.old.items ++ more.now }
+    ensures len { vec_len to.new ≡ vec_len to.old + length more.now }
+    ensures room { vec_capacity to.old ≤ vec_capacity to.new }
+{
+    let _ = to.extend_from_slice(more);
+}
+
+pub fn put<T: Copy>(to: &mut Vec<T>, value: T)
+    requires { vec_len to.old < vec_capacity to.old }
+    ensures items { to.new.items ≡ to.old.items ++ value ∷ [] }
+    ensures len { vec_len to.new ≡ vec_len to.old + 1 }
+    ensures room { vec_capacity to.old ≤ vec_capacity to.new }
+{
+    let _ = to.push(value);
+}
+
+/// Writes over what is there and past the end, with zero bytes in a gap.
+pub fn overwrite(to: &mut Vec<u8>, at: usize, bytes: &[u8])
+    requires { at + length bytes.now ≤ vec_capacity to.old }
+    ensures items { to.new.items ≡ written to.old.items at bytes.now }
+    ensures room { vec_capacity to.old ≤ vec_capacity to.new }
+{
+    if to.len() < at {
+        let _ = to.resize(at, 0);
+    }
+    let over = (to.len() - at).min(bytes.len());
+    let (front, back) = bytes.split_at(over);
+    to[at..at + over].copy_from_slice(front);
+    let _ = to.extend_from_slice(back);
+}
+
+pub fn append_if(to: &mut Vec<u8>, more: &[u8], done: bool)
+    requires { vec_len to.old + length more.now ≤ vec_capacity to.old }
+    ensures items { to.new.items ≡ (if done then to.old.items ++ more.now else to.old.items) }
+    ensures len { vec_len to.new ≤ vec_len to.old + length more.now }
+    ensures room { vec_capacity to.old ≤ vec_capacity to.new }
+{
+    if done {
+        append(to, more);
+    }
+}
+
+pub fn overwrite_if(to: &mut Vec<u8>, at: usize, bytes: &[u8], done: bool)
+    requires { at + length bytes.now ≤ vec_capacity to.old }
+    ensures items { to.new.items ≡ (if done then written to.old.items at bytes.now else to.old.items) }
+    ensures room { vec_capacity to.old ≤ vec_capacity to.new }
+{
+    if done {
+        overwrite(to, at, bytes);
+    }
+}
+
+/// Fills the buffer from this place, as far as the file goes, and answers how many bytes that are.
+pub fn read_part(file: &[u8], at: u64, into: &mut [u8]) -> usize
+    ensures count { result ≡ min (length into.old) (length file.now - at) }
+    ensures bytes { into.new ≡ take result (drop at file.now) ++ drop result into.old }
+{
+    let from = (at as usize).min(file.len());
+    let count = (file.len() - from).min(into.len());
+    into[..count].copy_from_slice(&file[from..from + count]);
+    count
+}

@@ -1,0 +1,253 @@
+//! A device in memory, which fails the calls that it is told to fail, and can be stopped after each call.
+ghost use Rattle.std.specs.Prelude.{◌≡◌, ◌≤◌, ◌+◌, ◌-◌, ◌↔◌, [], ◌∷◌, ◌++◌, List, ℕ, IsTrue, length, take, drop, min, IfOk, OnOk, OnErr, is_ok, IsErr, not, if◌then◌else◌};
+ghost use Rattle.std.specs.List.{Contains};
+ghost use Rattle.kd_device.specs.Device.{State, Rose, Frame, SameNames, SameSpare, UsesSpare, HasSpare, Reserved, Quiet, Writes, Emits, Only};
+ghost use Rattle.kd_device.specs.History.{AllDone};
+ghost use Rattle.kd_device.specs.Tape.{disk_at};
+ghost use Rattle.kd_device.specs.Memory.{Memory, unused, state_of, leaves_of, Fails, Counts, SameCalls, counted, disk_fault, line_fault};
+ghost use Rattle.kd_device.specs.Laws.{bytes_now, sent_is};
+
+use crate::buffer::read_part;
+use crate::device::{Device, Failed};
+use crate::kind::{CallKind, Made, raise};
+use crate::tape::Tape;
+use kd_base::{Bytes, OutOfMemory};
+use std::alloc::Global;
+use std::marker::Model;
+
+/// A disk file and an output line in memory. Contracts see the calls that were made and those that fail.
+#[derive(Drop)]
+pub struct MemDevice {
+    tape: Tape,
+    failing: Vec<(CallKind, u64)>,
+    made: Made,
+    disk_faults: u64,
+    line_faults: u64,
+}
+
+impl Model for MemDevice {
+    ghost use Rattle.kd_device.specs.Memory.{Memory};
+
+    ghost Value = { Memory };
+
+    ghost view = { λ m. record { recording = m.tape; failing = m.failing.items; made = m.made; disk_faults = m.disk_faults; line_faults = m.line_faults } };
+}
+
+fn has_call(failing: &[(CallKind, u64)], kind: CallKind, number: u64) -> bool
+    ensures { IsTrue result ↔ Contains failing.now (kind, number) }
+{
+    failing.contains(&(kind, number))
+}
+
+pub(crate) fn answer(fails: bool) -> Result<(), Failed>
+    ensures { is_ok result ≡ not fails }
+{
+    if fails { Err(Failed) } else { Ok(()) }
+}
+
+impl MemDevice {
+    /// A device with this file, all of it on the disk, that fails the calls with these numbers, counted from 1 for
+    /// each kind.
+    pub fn new(
+        alloc: Global,
+        start: Bytes,
+        failing: Vec<(CallKind, u64)>,
+    ) -> Result<MemDevice, OutOfMemory>
+        ensures value { IfOk result (λ m. m ≡ unused start failing.items) }
+        ensures told { IfOk result (λ m. IsTrue (state_of m).told) }
+        ensures holds { IfOk result (λ m. (state_of m).holds ≡ start) }
+        ensures sent { IfOk result (λ m. (state_of m).sent ≡ []) }
+        ensures only { IfOk result (λ m. Only start (state_of m) (leaves_of m)) }
+    {
+        Ok(MemDevice {
+            tape: Tape::new(alloc, start)?,
+            failing,
+            made: Made::none(),
+            disk_faults: 0,
+            line_faults: 0,
+        })
+    }
+
+    /// The bytes of the disk, as reads give them.
+    pub fn holds(&self) -> &[u8]
+        ensures { result.now ≡ (state_of self.now).holds }
+    {
+        self.tape.holds()
+    }
+
+    /// All that was emitted.
+    pub fn sent(&self) -> &[u8]
+        ensures { result.now ≡ (state_of self.now).sent }
+    {
+        self.tape.sent()
+    }
+
+    /// How many writes, syncs and emits there were.
+    pub fn calls(&self) -> u64
+        ensures { result ≡ length self.now.recording.events }
+    {
+        self.tape.calls()
+    }
+
+    /// A device that a stop after so many calls may leave, with nothing sent and nothing pending, of which no call
+    /// fails. Choice 0 keeps the old bytes of every range that was not synced, 1 the new ones, and any other a mixture:
+    /// its digits to base 3 say, call by call, whether a write is left out, left, or left by half.
+    pub fn after_stop(
+        &self,
+        alloc: Global,
+        call: u64,
+        choice: u64,
+    ) -> Result<MemDevice, OutOfMemory>
+        requires { call ≤ length self.now.recording.events }
+        ensures value { IfOk result (λ m. m ≡ unused (state_of m).holds []) }
+        ensures image { IfOk result (λ m. leaves_of self.now call (state_of m).holds (disk_at call self.now.recording).sent) }
+        ensures old { choice ≡ 0 → IfOk result (λ m. (state_of m).holds ≡ (disk_at call self.now.recording).base) }
+        ensures new { choice ≡ 1 → AllDone (take call self.now.recording.events) → IfOk result (λ m. (state_of m).holds ≡ (disk_at call self.now.recording).bytes) }
+        ensures only { IfOk result (λ m. Only (state_of m).holds (state_of m) (leaves_of m)) }
+    {
+        let image = self.tape.stopped(alloc, call, choice)?;
+        MemDevice::new(alloc, image, Vec::new(alloc))
+    }
+
+    /// Counts a call of the disk, and answers whether it fails.
+    pub(crate) fn fails_disk(&mut self, kind: CallKind) -> bool
+        ensures fails { IsTrue result ↔ Fails kind self.old }
+        ensures counted { self.new ≡ (if result then disk_fault (counted kind self.old) else counted kind self.old) }
+    {
+        let number = self.made.next(kind);
+        let fails = has_call(&self.failing, kind, number);
+        if fails {
+            self.disk_faults = raise(self.disk_faults);
+        }
+        fails
+    }
+
+    /// Counts an emit, and answers whether it fails.
+    pub(crate) fn fails_line(&mut self) -> bool
+        ensures fails { IsTrue result ↔ Fails CallKind.Emit self.old }
+        ensures counted { self.new ≡ (if result then line_fault (counted CallKind.Emit self.old) else counted CallKind.Emit self.old) }
+    {
+        let number = self.made.next(CallKind::Emit);
+        let fails = has_call(&self.failing, CallKind::Emit, number);
+        if fails {
+            self.line_faults = raise(self.line_faults);
+        }
+        fails
+    }
+}
+
+impl Device for MemDevice {
+    ghost state = { state_of };
+
+    ghost leaves = { leaves_of };
+
+    fn attach(&mut self, name: &[u8]) -> Result<(), Failed>
+        requires { HasSpare (length name.now) (state_of self.old) }
+        ensures failed { OnErr result (Rose (state_of self.old).disk_faults (state_of self.new).disk_faults) }
+        ensures frame { Frame (state_of self.old) (state_of self.new) }
+        ensures spare { UsesSpare (length name.now) (state_of self.old) (state_of self.new) }
+        ensures names { IsTrue (state_of self.old).told → (state_of self.new).names ≡ (state_of self.old).names ++ name.now ∷ [] }
+        ensures content { IsTrue (state_of self.old).told → Quiet (state_of self.old) (state_of self.new) (leaves_of self.old) (leaves_of self.new) }
+        ensures fails { IsErr result ↔ Fails CallKind.Attach self.old }
+        ensures counted { Counts CallKind.Attach self.old self.new }
+    {
+        let fails = self.fails_disk(CallKind::Attach);
+        self.tape.named(name);
+        answer(fails)
+    }
+
+    fn reserve(&mut self, calls: u64, bytes: u64, end: u64) -> Result<(), OutOfMemory>
+        ensures spare { OnOk result (Reserved calls bytes end (state_of self.new)) }
+        ensures frame { Frame (state_of self.old) (state_of self.new) }
+        ensures names { SameNames (state_of self.old) (state_of self.new) }
+        ensures content { IsTrue (state_of self.old).told → Quiet (state_of self.old) (state_of self.new) (leaves_of self.old) (leaves_of self.new) }
+        ensures counted { SameCalls self.old self.new }
+    {
+        self.tape.reserve(calls, bytes, end)
+    }
+
+    fn size(&mut self) -> Result<u64, Failed>
+        ensures value { IfOk result (λ n. IsTrue (state_of self.old).told → n ≡ length (state_of self.old).holds) }
+        ensures failed { OnErr result (Rose (state_of self.old).disk_faults (state_of self.new).disk_faults) }
+        ensures frame { Frame (state_of self.old) (state_of self.new) }
+        ensures spare { SameSpare (state_of self.old) (state_of self.new) }
+        ensures names { SameNames (state_of self.old) (state_of self.new) }
+        ensures content { IsTrue (state_of self.old).told → Quiet (state_of self.old) (state_of self.new) (leaves_of self.old) (leaves_of self.new) }
+        ensures fails { IsErr result ↔ Fails CallKind.Size self.old }
+        ensures counted { Counts CallKind.Size self.old self.new }
+    {
+        if self.fails_disk(CallKind::Size) {
+            return Err(Failed);
+        }
+        Ok(self.holds().len() as u64)
+    }
+
+    fn read_at(&mut self, at: u64, into: &mut [u8]) -> Result<usize, Failed>
+        ensures count { IfOk result (λ n. IsTrue (state_of self.old).told → n ≡ min (length into.old) (length (state_of self.old).holds - at)) }
+        ensures bytes { IfOk result (λ n. IsTrue (state_of self.old).told → into.new ≡ take n (drop at (state_of self.old).holds) ++ drop n into.old) }
+        ensures bound { IfOk result (λ n. n ≤ length into.old) }
+        ensures failed { OnErr result (Rose (state_of self.old).disk_faults (state_of self.new).disk_faults) }
+        ensures frame { Frame (state_of self.old) (state_of self.new) }
+        ensures spare { SameSpare (state_of self.old) (state_of self.new) }
+        ensures names { SameNames (state_of self.old) (state_of self.new) }
+        ensures content { IsTrue (state_of self.old).told → Quiet (state_of self.old) (state_of self.new) (leaves_of self.old) (leaves_of self.new) }
+        ensures fails { IsErr result ↔ Fails CallKind.Read self.old }
+        ensures counted { Counts CallKind.Read self.old self.new }
+    {
+        if self.fails_disk(CallKind::Read) {
+            return Err(Failed);
+        }
+        Ok(read_part(self.holds(), at, into))
+    }
+
+    fn write_at(&mut self, at: u64, bytes: &[u8]) -> Result<(), Failed>
+        requires room { HasSpare (length bytes.now) (state_of self.old) }
+        requires inside { at + length bytes.now ≤ (state_of self.old).spare_end }
+        ensures failed { OnErr result (Rose (state_of self.old).disk_faults (state_of self.new).disk_faults) }
+        ensures frame { Frame (state_of self.old) (state_of self.new) }
+        ensures spare { UsesSpare (length bytes.now) (state_of self.old) (state_of self.new) }
+        ensures names { SameNames (state_of self.old) (state_of self.new) }
+        ensures content { IsTrue (state_of self.old).told → Writes at bytes.now (state_of self.old) (state_of self.new) (leaves_of self.old) (leaves_of self.new) result }
+        ensures fails { IsErr result ↔ Fails CallKind.Write self.old }
+        ensures counted { Counts CallKind.Write self.old self.new }
+    {
+        let fails = self.fails_disk(CallKind::Write);
+        self.tape.wrote(at as usize, bytes, !fails);
+        answer(fails)
+    }
+
+    fn sync(&mut self) -> Result<(), Failed>
+        requires { HasSpare 0 (state_of self.old) }
+        ensures failed { OnErr result (Rose (state_of self.old).disk_faults (state_of self.new).disk_faults) }
+        ensures frame { Frame (state_of self.old) (state_of self.new) }
+        ensures spare { UsesSpare 0 (state_of self.old) (state_of self.new) }
+        ensures names { SameNames (state_of self.old) (state_of self.new) }
+        ensures content { IsTrue (state_of self.old).told → Quiet (state_of self.old) (state_of self.new) (leaves_of self.old) (leaves_of self.new) }
+        ensures durable { OnOk result (IsTrue (state_of self.old).told → Only (state_of self.old).holds (state_of self.new) (leaves_of self.new)) }
+        ensures fails { IsErr result ↔ Fails CallKind.Sync self.old }
+        ensures counted { Counts CallKind.Sync self.old self.new }
+    {
+        let fails = self.fails_disk(CallKind::Sync);
+        self.tape.synced(!fails);
+        answer(fails)
+    }
+
+    fn emit(&mut self, piece: &[u8]) -> Result<(), Failed>
+        requires { HasSpare (length piece.now) (state_of self.old) }
+        ensures failed { OnErr result (Rose (state_of self.old).line_faults (state_of self.new).line_faults) }
+        ensures frame { Frame (state_of self.old) (state_of self.new) }
+        ensures spare { UsesSpare (length piece.now) (state_of self.old) (state_of self.new) }
+        ensures names { SameNames (state_of self.old) (state_of self.new) }
+        ensures content { IsTrue (state_of self.old).told → Emits piece.now (state_of self.old) (state_of self.new) (leaves_of self.old) (leaves_of self.new) result }
+        ensures fails { IsErr result ↔ Fails CallKind.Emit self.old }
+        ensures counted { Counts CallKind.Emit self.old self.new }
+    {
+        let fails = self.fails_line();
+        self.tape.emitted(piece, !fails);
+        answer(fails)
+    }
+
+    ghost holds_now = { λ m told. bytes_now m.recording.start m.recording.events };
+
+    ghost sent_now = { λ m c out told left. sent_is m.recording.start m.recording.events c out left };
+}

@@ -1,0 +1,147 @@
+//! What a stop leaves of a device in memory.
+ghost use Rattle.std.specs.Prelude.{◌≡◌, ◌≤◌, ◌+◌, ◌<◌, true, false, List, ℕ, length, take, IfOk, OnOk, if◌then◌else◌};
+ghost use Rattle.kd_device.specs.Device.{written, Torn};
+ghost use Rattle.kd_device.specs.History.{Disk, Torns, IsDone, AllDone, step, after, fresh};
+ghost use Rattle.kd_device.specs.Tape.{event, events, IsInside, AllInside};
+
+use crate::buffer::overwrite;
+use crate::step::Step;
+use std::alloc::{AllocError, Global};
+
+/// How much of a write that was not synced a stop leaves.
+#[derive(Clone, Copy, Debug, PartialEq, Eq)]
+enum Part {
+    Nothing,
+    All,
+    Half,
+}
+
+fn write_over(to: &mut Vec<u8>, at: usize, bytes: &[u8]) -> Result<(), AllocError>
+    ensures { OnOk result (to.new.items ≡ written to.old.items at bytes.now) }
+{
+    let Some(end) = at.checked_add(bytes.len()) else {
+        return Err(AllocError);
+    };
+    to.reserve(end.saturating_sub(to.len()))?;
+    overwrite(to, at, bytes);
+    Ok(())
+}
+
+fn write_if(to: &mut Vec<u8>, at: usize, bytes: &[u8], done: bool) -> Result<(), AllocError>
+    ensures { OnOk result (to.new.items ≡ (if done then written to.old.items at bytes.now else to.old.items)) }
+{
+    if done {
+        write_over(to, at, bytes)
+    } else {
+        Ok(())
+    }
+}
+
+/// The write of these bytes, or none of it where the file ends before the write's range.
+fn write_from(image: &mut Vec<u8>, first: usize, at: usize, bytes: &[u8]) -> Result<(), AllocError>
+    requires { first ≤ at }
+    ensures torn { OnOk result (Torn first (at + length bytes.now) image.old.items image.new.items) }
+    ensures all { OnOk result (first ≤ length image.old.items → image.new.items ≡ written image.old.items at bytes.now) }
+{
+    if first <= image.len() {
+        return write_over(image, at, bytes);
+    }
+    Ok(())
+}
+
+/// So much of the write of these bytes.
+fn tear(
+    image: &mut Vec<u8>,
+    first: usize,
+    at: usize,
+    bytes: &[u8],
+    part: Part,
+) -> Result<(), AllocError>
+    requires { first ≤ at }
+    ensures torn { OnOk result (Torn first (at + length bytes.now) image.old.items image.new.items) }
+    ensures old { OnOk result (part ≡ Part.Nothing → image.new.items ≡ image.old.items) }
+    ensures new { OnOk result (part ≡ Part.All → first ≤ length image.old.items → image.new.items ≡ written image.old.items at bytes.now) }
+{
+    match part {
+        Part::Nothing => Ok(()),
+        Part::All => write_from(image, first, at, bytes),
+        Part::Half => write_from(image, first, at, &bytes[..bytes.len() / 2]),
+    }
+}
+
+/// One call, as reads see it and as a stop may leave it.
+fn advance(
+    bytes: &mut Vec<u8>,
+    image: &mut Vec<u8>,
+    call: &Step,
+    kept: &[u8],
+    part: Part,
+) -> Result<(), AllocError>
+    requires { IsInside (length kept.now) call.now }
+    ensures bytes { OnOk result ((s : Disk) → bytes.old.items ≡ s.bytes → bytes.new.items ≡ (step s (event kept.now call.now)).bytes) }
+    ensures old { OnOk result ((s : Disk) → part ≡ Part.Nothing → bytes.old.items ≡ s.bytes → image.old.items ≡ s.base → image.new.items ≡ (step s (event kept.now call.now)).base) }
+    ensures new { OnOk result (part ≡ Part.All → IsDone (event kept.now call.now) → image.old.items ≡ bytes.old.items → image.new.items ≡ bytes.new.items) }
+    ensures image { OnOk result ((s : Disk) → bytes.old.items ≡ s.bytes → Torns s.pending s.base image.old.items → Torns (step s (event kept.now call.now)).pending (step s (event kept.now call.now)).base image.new.items) }
+{
+    match call {
+        Step::Write { at, span, done } => {
+            let new = &kept[span.from..span.from + span.len];
+            let first = (*at).min(bytes.len());
+            tear(image, first, *at, new, part)?;
+            write_if(bytes, *at, new, *done)?;
+            Ok(())
+        }
+        Step::Sync { done } => {
+            if *done {
+                image.clear();
+                image.extend_from_slice(bytes)?;
+            }
+            Ok(())
+        }
+        Step::Emit { .. } => Ok(()),
+    }
+}
+
+fn part_of(digits: u64) -> Part
+    ensures old { digits ≡ 0 → result ≡ Part.Nothing }
+    ensures new { digits ≡ 1 → result ≡ Part.All }
+{
+    match digits % 3 {
+        0 => Part::Nothing,
+        1 => Part::All,
+        _ => Part::Half,
+    }
+}
+
+/// The digits behind the last one, and the whole choice again behind the first one.
+fn next_digits(choice: u64, digits: u64) -> u64
+    ensures old { choice ≡ 0 → digits ≡ 0 → result ≡ 0 }
+    ensures new { choice ≡ 1 → digits ≡ 1 → result ≡ 1 }
+{
+    if digits < 3 { choice } else { digits / 3 }
+}
+
+/// An image that a stop after these calls may leave. The digits of the choice to base 3, from the last one on and over
+/// again, say how much of a write that was not synced is left: 0 nothing, 1 all, 2 the first half.
+pub fn image_after(
+    alloc: Global,
+    start: &[u8],
+    calls: &[Step],
+    kept: &[u8],
+    choice: u64,
+) -> Result<Vec<u8>, AllocError>
+    requires { AllInside (length kept.now) calls.now }
+    ensures old { choice ≡ 0 → IfOk result (λ image. image.items ≡ (after (fresh start.now) (events kept.now calls.now)).base) }
+    ensures new { choice ≡ 1 → AllDone (events kept.now calls.now) → IfOk result (λ image. image.items ≡ (after (fresh start.now) (events kept.now calls.now)).bytes) }
+    ensures image { IfOk result (λ image. Torns (after (fresh start.now) (events kept.now calls.now)).pending (after (fresh start.now) (events kept.now calls.now)).base image.items) }
+{
+    let mut bytes = start.to_vec(alloc)?;
+    let mut image = start.to_vec(alloc)?;
+    let mut digits = choice;
+    for call in calls {
+        let part = part_of(digits);
+        advance(&mut bytes, &mut image, call, kept, part)?;
+        digits = next_digits(choice, digits);
+    }
+    Ok(image)
+}
