@@ -5,3 +5,11 @@
 //! they stand for an image, and that during a commit a stop leaves the old image or the new one, after `Ok` the new
 //! one alone.
 #![tactic(auto)]
+
+mod fault;
+mod image;
+mod pages;
+
+pub use fault::{ImageError, LoadError};
+pub use image::{Image, Loaded, Root};
+pub use pages::{Directory, ImageRecord, ImageRecords, PageWrite, PageWrites, Pages};
