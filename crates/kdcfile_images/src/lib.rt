@@ -7,9 +7,15 @@
 #![tactic(auto)]
 
 mod fault;
+mod head;
 mod image;
+mod loading;
 mod pages;
+mod part;
+mod record;
+mod root;
 
 pub use fault::{ImageError, LoadError};
 pub use image::{Image, Loaded, Root};
+pub use loading::{load, one_meaning};
 pub use pages::{Directory, ImageRecord, ImageRecords, PageWrite, PageWrites, Pages};
