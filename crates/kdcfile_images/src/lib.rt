@@ -12,8 +12,8 @@ mod image;
 mod loading;
 mod pages;
 mod part;
+mod read_root;
 mod record;
-mod root;
 
 pub use fault::{ImageError, LoadError};
 pub use image::{Image, Loaded, Root};

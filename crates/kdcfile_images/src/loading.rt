@@ -12,7 +12,7 @@ use crate::head::{FRONT_LEN, Head, head_of};
 use crate::image::{Image, Loaded};
 use crate::part::read_part;
 use crate::record::records_of;
-use crate::root::{ROOT_LEN, root_of};
+use crate::read_root::{ROOT_LEN, root_of};
 use kd_base::OutOfMemory;
 use kd_device::Device;
 use std::alloc::Global;
@@ -37,6 +37,20 @@ fn image_of(alloc: Global, head: Head, bytes: &[u8]) -> Result<Option<Loaded>, O
     }))
 }
 
+// Brings the file onto the disk as reads give it.
+fn settle<D: Device>(device: &mut D) -> Result<(), LoadError>
+    ensures settled { OnOk result (IsTrue (D.state device.old).told → Only (D.state device.new).holds (D.state device.new) (D.leaves device.new)) }
+    ensures rests { IsTrue (D.state device.old).told → Rests (D.state device.old) (D.state device.new) (D.leaves device.old) (D.leaves device.new) }
+    ensures no_image { IsErrOf result LoadError.NotKdcfile → ⊥ }
+    ensures failed { IsErrOf result LoadError.Failed → Rose (D.state device.old).disk_faults (D.state device.new).disk_faults }
+    ensures frame { Frame (D.state device.old) (D.state device.new) }
+    ensures names { SameNames (D.state device.old) (D.state device.new) }
+{
+    device.reserve(1, 0, 0)?;
+    device.sync()?;
+    Ok(())
+}
+
 /// The image that the file has selected, with its records. After it, and after `NotKdcfile`, the file is on the disk
 /// as it was read.
 pub fn load<D: Device>(alloc: Global, device: &mut D) -> Result<Loaded, LoadError>
@@ -53,8 +67,7 @@ pub fn load<D: Device>(alloc: Global, device: &mut D) -> Result<Loaded, LoadErro
     ensures frame { Frame (D.state device.old) (D.state device.new) }
     ensures names { SameNames (D.state device.old) (D.state device.new) }
 {
-    device.reserve(1, 0, 0)?;
-    device.sync()?;
+    settle(device)?;
     let front = read_part(alloc, device, 0, FRONT_LEN)?;
     let Some(head) = head_of(front.as_slice()) else {
         return Err(LoadError::NotKdcfile);

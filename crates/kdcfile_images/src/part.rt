@@ -28,7 +28,8 @@ pub fn read_part<D: Device>(
     ensures frame { Frame (D.state device.old) (D.state device.new) }
     ensures names { SameNames (D.state device.old) (D.state device.new) }
 {
-    let mut part = zero_bytes(alloc, len)?;
+    let behind = device.size()?.saturating_sub(at);
+    let mut part = zero_bytes(alloc, behind.min(len as u64) as usize)?;
     let read = device.read_at(at, part.as_mut_slice())?;
     part.truncate(read);
     Ok(part)
