@@ -66,4 +66,3 @@ OneMeaning = (i j : Identity) (x y : Content) (bytes : List ℕ) → StandsFor i
 -- the content of a fresh file
 abbrev pub fresh : Content
 fresh = record { clock = 0; next_job = 1; items = [] }
-

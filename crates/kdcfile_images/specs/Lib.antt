@@ -1,1 +1,3 @@
 pub mod File
+pub mod Opened
+pub mod Reading

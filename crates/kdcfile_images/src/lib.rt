@@ -5,3 +5,17 @@
 //! they stand for an image, and that during a commit a stop leaves the old image or the new one, after `Ok` the new
 //! one alone.
 #![tactic(auto)]
+
+mod fault;
+mod head;
+mod image;
+mod loading;
+mod pages;
+mod part;
+mod read_root;
+mod record;
+
+pub use fault::{ImageError, LoadError};
+pub use image::{Image, Loaded, Root};
+pub use loading::{load, one_meaning};
+pub use pages::{Directory, ImageRecord, ImageRecords, PageWrite, PageWrites, Pages};

@@ -1,0 +1,5 @@
+use Rattle.kdcfile_images.proofs.ReadImages.{one_meaning}
+use Rattle.kdcfile_images.proofs.loading.one_meaning.Goals as goal
+
+pub returns : goal.returns
+returns c = one_meaning

@@ -1,0 +1,88 @@
+//! What the first bytes of a file say, up to the byte that selects an image.
+ghost use Rattle.std.specs.Prelude.{◌≡◌, ◌+◌, ◌*◌, ◌≤◌, length, IfSome};
+ghost use Rattle.std.specs.Int.{w32, w64};
+ghost use Rattle.kdcfile_images.specs.Reading.{AreBytes, HasSizes, has_sizes, head_of, number, size_of, place_of};
+
+/// The length of the first bytes, with the selector behind them.
+pub const FRONT_LEN: usize = 4097;
+
+/// The sizes of a file, and whether image B is selected.
+#[derive(Clone, Copy, Debug)]
+pub struct Head {
+    pub block: u32,
+    pub pages: u32,
+    pub second: bool,
+}
+
+impl Head {
+    /// How many bytes an image may have.
+    pub fn image_size(self) -> usize
+        requires { HasSizes self.block self.pages }
+        ensures { result ≡ size_of self }
+    {
+        8192 + self.pages as usize * self.block as usize
+    }
+
+    /// Where the selected image stands.
+    pub fn place(self) -> u64
+        requires { HasSizes self.block self.pages }
+        ensures { result ≡ place_of self }
+    {
+        if self.second {
+            8192 + self.image_size() as u64
+        } else {
+            8192
+        }
+    }
+}
+
+#[tactic(auto, unfolding(crate::specs::Reading::number))]
+/// The number in the four bytes from this place.
+pub fn u32_in(bytes: &[u8], at: usize) -> u32
+    requires { at + 4 ≤ length bytes.now }
+    ensures { result ≡ number w32 at bytes.now }
+{
+    let (_, behind) = bytes.split_at(at);
+    let (field, _) = behind.split_at(4);
+    u32::from_be_bytes([field[0], field[1], field[2], field[3]])
+}
+
+#[tactic(auto, unfolding(crate::specs::Reading::number))]
+/// The number in the eight bytes from this place.
+pub fn u64_in(bytes: &[u8], at: usize) -> u64
+    requires { at + 8 ≤ length bytes.now }
+    ensures { result ≡ number w64 at bytes.now }
+{
+    let (_, behind) = bytes.split_at(at);
+    let (field, _) = behind.split_at(8);
+    u64::from_be_bytes([
+        field[0], field[1], field[2], field[3], field[4], field[5], field[6], field[7],
+    ])
+}
+
+fn has_sizes(block: u32, pages: u32) -> bool
+    ensures { result ≡ has_sizes block pages }
+{
+    (block == 2048 || block == 4096 || block == 8192) && 16 <= pages && pages <= 30_000
+}
+
+/// The head of a file that begins so, where it is one.
+pub fn head_of(front: &[u8]) -> Option<Head>
+    ensures value { result ≡ head_of front.now }
+    ensures sizes { IfSome result (λ h. HasSizes h.block h.pages) }
+    ensures bytes { AreBytes front.now }
+{
+    if front.len() < FRONT_LEN || &front[..9] != b"KUTMKDCF\x01".as_slice() {
+        return None;
+    }
+    let block = u32_in(front, 9);
+    let pages = u32_in(front, 13);
+    if !has_sizes(block, pages) {
+        return None;
+    }
+    Some(Head {
+        block,
+        pages,
+        second: front[4096] % 2 == 1,
+    })
+}

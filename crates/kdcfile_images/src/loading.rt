@@ -1,0 +1,86 @@
+//! Loading the image that a file has selected.
+ghost use Rattle.std.specs.Prelude.{◌≡◌, ◌≤◌, List, ℕ, Some, None, IsTrue, length, take, drop, map, IfOk, IfSome, OnOk, IsErrOf};
+ghost use Rattle.std.specs.Option.{option_map};
+ghost use Rattle.kd_device.specs.Device.{State, Rose, Frame, SameNames, Only};
+ghost use Rattle.kd_device.specs.Rest.{Rests};
+ghost use Rattle.kdcfile_images.specs.File.{Stands, IsNoImage, OneMeaning};
+ghost use Rattle.kdcfile_images.specs.Opened.{identity_of, content_of, record_of};
+ghost use Rattle.kdcfile_images.specs.Reading.{AreBytes, HasSizes, InSlots, image_of};
+
+use crate::fault::LoadError;
+use crate::head::{FRONT_LEN, Head, head_of};
+use crate::image::{Image, Loaded};
+use crate::part::read_part;
+use crate::record::records_of;
+use crate::read_root::{ROOT_LEN, root_of};
+use kd_base::OutOfMemory;
+use kd_device::Device;
+use std::alloc::Global;
+
+// The image that these bytes begin with, in a file of that head.
+fn image_of(alloc: Global, head: Head, bytes: &[u8]) -> Result<Option<Loaded>, OutOfMemory>
+    requires { HasSizes head.block head.pages }
+    ensures value { IfOk result (λ found. option_map (λ l. (l.image, map record_of l.records)) found ≡ image_of head bytes.now) }
+    ensures slots { IfOk result (λ found. IfSome found (λ l. InSlots 0 l.records)) }
+    ensures bytes { AreBytes bytes.now }
+{
+    let Some(root) = root_of(alloc, bytes, head.pages) else {
+        return Ok(None);
+    };
+    let (_, behind) = bytes.split_at(ROOT_LEN);
+    let Some(records) = records_of(alloc, root.records, behind)? else {
+        return Ok(None);
+    };
+    Ok(Some(Loaded {
+        image: Image::new(head.block, root, head.second),
+        records,
+    }))
+}
+
+// Brings the file onto the disk as reads give it.
+fn settle<D: Device>(device: &mut D) -> Result<(), LoadError>
+    ensures settled { OnOk result (IsTrue (D.state device.old).told → Only (D.state device.new).holds (D.state device.new) (D.leaves device.new)) }
+    ensures rests { IsTrue (D.state device.old).told → Rests (D.state device.old) (D.state device.new) (D.leaves device.old) (D.leaves device.new) }
+    ensures no_image { IsErrOf result LoadError.NotKdcfile → ⊥ }
+    ensures failed { IsErrOf result LoadError.Failed → Rose (D.state device.old).disk_faults (D.state device.new).disk_faults }
+    ensures frame { Frame (D.state device.old) (D.state device.new) }
+    ensures names { SameNames (D.state device.old) (D.state device.new) }
+{
+    device.reserve(1, 0, 0)?;
+    device.sync()?;
+    Ok(())
+}
+
+/// The image that the file has selected, with its records. After it, and after `NotKdcfile`, the file is on the disk
+/// as it was read.
+pub fn load<D: Device>(alloc: Global, device: &mut D) -> Result<Loaded, LoadError>
+    // What is loaded is what the bytes stand for.
+    ensures stands { IfOk result (λ l. IsTrue (D.state device.old).told → Stands (identity_of l.image) l.image.second (content_of l.image.root l.records) (D.state device.old).holds) }
+    // Each record is told with its slot, and without pages.
+    ensures slots { IfOk result (λ l. InSlots 0 l.records) }
+    // Bytes are refused only where they stand for no image.
+    ensures none { IsErrOf result LoadError.NotKdcfile → IsTrue (D.state device.old).told → IsNoImage (D.state device.old).holds }
+    ensures settled { OnOk result (IsTrue (D.state device.old).told → Only (D.state device.new).holds (D.state device.new) (D.leaves device.new)) }
+    ensures settled_none { IsErrOf result LoadError.NotKdcfile → IsTrue (D.state device.old).told → Only (D.state device.new).holds (D.state device.new) (D.leaves device.new) }
+    ensures rests { IsTrue (D.state device.old).told → Rests (D.state device.old) (D.state device.new) (D.leaves device.old) (D.leaves device.new) }
+    ensures failed { IsErrOf result LoadError.Failed → Rose (D.state device.old).disk_faults (D.state device.new).disk_faults }
+    ensures frame { Frame (D.state device.old) (D.state device.new) }
+    ensures names { SameNames (D.state device.old) (D.state device.new) }
+{
+    settle(device)?;
+    let front = read_part(alloc, device, 0, FRONT_LEN)?;
+    let Some(head) = head_of(front.as_slice()) else {
+        return Err(LoadError::NotKdcfile);
+    };
+    let bytes = read_part(alloc, device, head.place(), head.image_size())?;
+    match image_of(alloc, head, bytes.as_slice())? {
+        Some(loaded) => Ok(loaded),
+        None => Err(LoadError::NotKdcfile),
+    }
+}
+
+/// The law of files: their bytes stand for one content at most, made with one identity.
+pub fn one_meaning()
+    ensures { OneMeaning }
+{
+}

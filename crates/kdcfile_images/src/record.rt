@@ -1,0 +1,101 @@
+//! The records behind a root.
+ghost use Rattle.std.specs.Prelude.{◌≡◌, ◌≤◌, ◌+◌, None, IfOk, IfSome, length, map};
+ghost use Rattle.std.specs.Option.{option_map};
+ghost use Rattle.kd_records.specs.Keys.{key_cmp};
+ghost use Rattle.kdcfile_images.specs.Opened.{record_of};
+ghost use Rattle.kdcfile_images.specs.Reading.{follows, key_at, record_at, records_of, InSlots};
+
+use crate::head::u32_in;
+use crate::pages::{ImageRecord, ImageRecords, Pages};
+use kd_base::{Bytes, OutOfMemory};
+use kd_records::RecordKey;
+use std::alloc::Global;
+use std::cmp::Ordering;
+
+/// The length of a record without its value.
+const RECORD_LEN: usize = 29;
+
+fn key_cmp(a: &RecordKey, b: &RecordKey) -> Ordering
+    ensures { result ≡ key_cmp a.now b.now }
+{
+    match a.kind.cmp(&b.kind) {
+        Ordering::Equal => a.bytes.as_slice().cmp(b.bytes.as_slice()),
+        other => other,
+    }
+}
+
+// Whether a key may stand behind another.
+fn follows(previous: &Option<RecordKey>, key: &RecordKey) -> bool
+    ensures { result ≡ follows previous.now key.now }
+{
+    match previous {
+        None => true,
+        Some(before) => key_cmp(before, key) == Ordering::Less,
+    }
+}
+
+// The key at the front.
+fn key_at(left: &[u8]) -> RecordKey
+    requires { 29 ≤ length left.now }
+    ensures { result ≡ key_at left.now }
+{
+    let (_, behind) = left.split_at(1);
+    let (front, _) = behind.split_at(24);
+    let mut bytes = [0; 24];
+    bytes.copy_from_slice(front);
+    RecordKey {
+        kind: left[0],
+        bytes,
+    }
+}
+
+#[tactic(auto, unfolding(crate::specs::Reading::record_at))]
+// The record at the front.
+fn record_at(alloc: Global, left: &[u8]) -> Result<Option<(RecordKey, Bytes)>, OutOfMemory>
+    ensures value { IfOk result (λ found. found ≡ record_at left.now) }
+    ensures long { IfOk result (λ found. IfSome found (λ r. 29 + length r.1 ≤ length left.now)) }
+{
+    if left.len() < RECORD_LEN || left[0] == 0 {
+        return Ok(None);
+    }
+    let len = u32_in(left, 25) as usize;
+    if left.len() < RECORD_LEN + len {
+        return Ok(None);
+    }
+    let (_, behind) = left.split_at(RECORD_LEN);
+    let (value, _) = behind.split_at(len);
+    Ok(Some((key_at(left), Bytes::from_slice(alloc, value)?)))
+}
+
+/// So many records, whose keys ascend, from the front of the bytes.
+pub fn records_of(
+    alloc: Global,
+    count: u32,
+    image: &[u8],
+) -> Result<Option<ImageRecords>, OutOfMemory>
+    ensures value { IfOk result (λ found. option_map (map record_of) found ≡ records_of None count image.now) }
+    ensures slots { IfOk result (λ found. IfSome found (InSlots 0)) }
+{
+    let mut records = ImageRecords::new(alloc);
+    let mut previous = None;
+    let mut left = image;
+    for slot in 0..count {
+        let Some((key, value)) = record_at(alloc, left)? else {
+            return Ok(None);
+        };
+        if !follows(&previous, &key) {
+            return Ok(None);
+        }
+        let (_, rest) = left.split_at(RECORD_LEN + value.len());
+        records.push(ImageRecord {
+            kind: key.kind,
+            key: key.bytes,
+            slot,
+            pages: Pages::new(alloc),
+            value,
+        })?;
+        previous = Some(key);
+        left = rest;
+    }
+    Ok(Some(records))
+}
