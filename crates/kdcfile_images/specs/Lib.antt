@@ -1,2 +1,5 @@
 pub mod File
 pub mod Opened
+pub mod Writes
+pub mod Commit
+pub mod Fresh

@@ -6,10 +6,16 @@
 //! one alone.
 #![tactic(auto)]
 
+mod commit;
 mod fault;
 mod image;
 mod pages;
+mod root;
+mod synced;
+mod writes;
 
+pub use commit::commit_image;
 pub use fault::{ImageError, LoadError};
 pub use image::{Image, Loaded, Root};
 pub use pages::{Directory, ImageRecord, ImageRecords, PageWrite, PageWrites, Pages};
+pub use synced::write_synced;

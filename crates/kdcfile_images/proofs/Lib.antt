@@ -1,0 +1,6 @@
+pub mod Torns
+pub mod Parts
+pub mod Writing
+pub mod Several
+pub mod Replacing
+pub mod Crash
