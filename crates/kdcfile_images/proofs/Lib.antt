@@ -4,3 +4,4 @@ pub mod Writing
 pub mod Several
 pub mod Replacing
 pub mod Crash
+pub mod Fresh

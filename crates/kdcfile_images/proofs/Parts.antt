@@ -1,8 +1,8 @@
 -- Parts of a file, and what a torn write leaves of them.
-use Rattle.std.proofs.Common.{◌≡◌, ◌⊎◌, inl, inr, ⊎_elim, ℕ, ◌+◌, ◌-◌, ◌%◌, ◌<◌, ◌≤◌, min, List, ◌++◌, length, take, drop, get_or, replicate, refl, sym, ap, ◌∙◌, arith}
+use Rattle.std.proofs.Common.{◌≡◌, ◌⊎◌, inl, inr, ⊎_elim, ℕ, ◌+◌, ◌-◌, ◌%◌, ◌<◌, ◌≤◌, List, length, take, drop, get_or, sym, ap, ◌∙◌, arith}
 use Rattle.std.proofs.lemmas.Bool.{cases_eq}
-use Rattle.std.proofs.lemmas.List.{take-take, take_at, drop_at, drop-drop, drop-take, length-take, length-drop, get_or-take}
-use Rattle.kd_device.specs.Device.{Torn, written}
+use Rattle.std.proofs.lemmas.List.{take-take, drop-drop, drop-take, length-take, length-drop, get_or-take}
+use Rattle.kd_device.specs.Device.{Torn}
 use Rattle.kdcfile_images.specs.File.{StandsAt}
 
 -- what stands in the file lies in it

@@ -1,6 +1,6 @@
 -- Writes one after another, and a sync behind them.
 use Rattle.std.proofs.Common.{◌≡◌, ℕ, ◌+◌, ◌≤◌, min, List, length, Result, Ok, Err, refl, sym, ap, subst, ◌∙◌, arith}
-use Rattle.std.proofs.Common.{inl, inr}
+use Rattle.std.proofs.Common.{inl}
 use Rattle.std.specs.Prelude.{OnOk}
 use Rattle.kd_device.specs.Device.{State, LeavesOnly, Now, Only, Torn, Quiet, Writes, written}
 use Rattle.kd_device.specs.Torn.{torn_done, torn_not}

@@ -1,5 +1,5 @@
 -- What a commit makes of a file, and what a stop within it leaves.
-use Rattle.std.specs.Prelude.{◌≡◌, ◌⊎◌, ◌≤◌, ◌+◌, ℕ, min, Bool, not, List, [], ◌∷◌, ◌++◌, length, codes}
+use Rattle.std.specs.Prelude.{◌≡◌, ◌⊎◌, ◌≤◌, ◌+◌, ℕ, min, not, List, [], ◌∷◌, ◌++◌, length, codes}
 use Rattle.std.specs.Int.{w32, w64, to_be_bytes}
 use Rattle.kd_device.specs.Device.{State, LeavesOnly, Torn, written}
 use Rattle.kd_records.specs.declared.content.Content.{Content}

@@ -1,7 +1,7 @@
 -- A fresh file, and what a stop within its making leaves.
-use Rattle.std.specs.Prelude.{◌≡◌, ◌⊎◌, ℕ, ◌-◌, List, [], ◌∷◌, ◌++◌, get_or, replicate}
+use Rattle.std.specs.Prelude.{◌≡◌, ◌≤◌, ◌⊎◌, ℕ, ◌+◌, ◌*◌, List, [], ◌∷◌, ◌++◌, length, get_or, replicate}
 use Rattle.kd_records.specs.Identity.{Identity}
-use Rattle.kdcfile_images.specs.File.{StandsFor, IsNoImage, mark, root, image_size, fresh}
+use Rattle.kdcfile_images.specs.File.{StandsFor, IsNoImage, mark, root, fresh}
 use Rattle.kdcfile_images.specs.declared.image.Root.{Root}
 
 -- so many zero bytes
@@ -10,7 +10,7 @@ zeros n = replicate n 0
 
 -- a list, and zero bytes up to the end of an image
 abbrev pub in_image : Identity → List ℕ → List ℕ
-in_image i part = part ++ zeros (image_size i - 64)
+in_image i part = part ++ zeros (8128 + i.pages * i.block)
 
 -- behind the gate: the mark, and two images with no records
 abbrev pub fresh_rest : Identity → List ℕ
@@ -28,10 +28,10 @@ fresh_root i = record { fingerprint = i.fingerprint; clock = 0; next_job = 1; pg
 abbrev pub Made : Identity → List ℕ → List ℕ → List ℕ → Type 0
 Made i sent c out = (out ≡ sent) × (IsNoImage c ⊎ StandsFor i fresh c)
 
--- the gate is not open
-abbrev pub IsClosed : List ℕ → Type 0
-IsClosed c = get_or c 0 0 ≡ 75 → ⊥
+-- the gate is not open, or nothing stands behind it
+abbrev pub IsShut : List ℕ → Type 0
+IsShut c = (length c ≤ 1) ⊎ (get_or c 0 0 ≡ 75 → ⊥)
 
--- nothing more was sent, and the gate is closed or this stands behind it
-abbrev pub ClosedOr : List ℕ → List ℕ → List ℕ → List ℕ → Type 0
-ClosedOr rest sent c out = (out ≡ sent) × (IsClosed c ⊎ (c ≡ 75 ∷ rest))
+-- nothing more was sent, and the file is shut, or this stands behind the open gate
+abbrev pub ShutOr : List ℕ → List ℕ → List ℕ → List ℕ → Type 0
+ShutOr rest sent c out = (out ≡ sent) × (IsShut c ⊎ (c ≡ 75 ∷ rest))

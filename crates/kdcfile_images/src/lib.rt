@@ -9,6 +9,7 @@
 mod commit;
 mod fault;
 mod image;
+mod making;
 mod pages;
 mod root;
 mod synced;
@@ -17,5 +18,6 @@ mod writes;
 pub use commit::commit_image;
 pub use fault::{ImageError, LoadError};
 pub use image::{Image, Loaded, Root};
+pub use making::create;
 pub use pages::{Directory, ImageRecord, ImageRecords, PageWrite, PageWrites, Pages};
 pub use synced::write_synced;

@@ -1,7 +1,5 @@
-use Rattle.std.proofs.Common.{◌≡◌, ◌∷◌, [], ◌∙◌, ◌+◌, ap, subst, List, ℕ, sym, arith}
+use Rattle.std.proofs.Common.{◌∷◌, [], ◌∙◌, sym}
 use Rattle.std.specs.Prelude.{IsTrue}
-use Rattle.kd_device.specs.Device.{Only, written}
-use Rattle.kdcfile_images.specs.Writes.{IsSynced}
 use Rattle.kdcfile_images.proofs.Writing.{on_ok}
 use Rattle.kdcfile_images.proofs.Replacing.{replaces_first, replaces_second, synced_then}
 use Rattle.kdcfile_images.proofs.commit.replace.Goals as goal

@@ -1,7 +1,4 @@
-use Rattle.std.proofs.Common.{◌≡◌, ◌∙◌, ◌+◌, List, ap, arith, take, sym, ◌++◌, ◌∷◌, []}
-use Rattle.std.proofs.lemmas.List.{take_more}
-use Rattle.kdcfile_images.specs.declared.pages.PageWrite.{PageWrite}
-use Rattle.kdcfile_images.specs.Writes.{total}
+use Rattle.std.proofs.Common.{arith}
 use Rattle.kdcfile_images.proofs.Several.{total_more}
 use Rattle.kdcfile_images.proofs.writes.total_bytes.Goals as goal
 

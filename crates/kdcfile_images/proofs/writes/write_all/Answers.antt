@@ -1,4 +1,4 @@
-use Rattle.std.proofs.Common.{◌≡◌, ◌∙◌, ◌≤◌, ◌+◌, length, ap, arith, List, ℕ}
+use Rattle.std.proofs.Common.{length, ap, arith, List, ℕ}
 use Rattle.std.specs.Prelude.{IsTrue}
 use Rattle.kd_device.specs.Device.{Writes}
 use Rattle.kdcfile_images.proofs.Several.{room, inside, any_at_all, writing_more, all_any, all_pending}

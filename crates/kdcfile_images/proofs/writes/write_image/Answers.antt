@@ -1,4 +1,4 @@
-use Rattle.std.proofs.Common.{◌≡◌, ◌∙◌, ◌≤◌, ◌+◌, length, ap, arith, List, ℕ}
+use Rattle.std.proofs.Common.{arith}
 use Rattle.std.specs.Prelude.{IsTrue}
 use Rattle.kdcfile_images.proofs.Writing.{writes_most, writes_more, pending_more, writes_synced, is_synced, on_ok}
 use Rattle.kdcfile_images.proofs.writes.write_image.Goals as goal
