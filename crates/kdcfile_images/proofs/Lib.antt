@@ -1,6 +1,8 @@
-pub mod Places
-pub mod Tests
-pub mod Heads
-pub mod ReadRecords
-pub mod ReadImages
 pub mod RecordsSoFar
+pub mod Torns
+pub mod Parts
+pub mod Writing
+pub mod Several
+pub mod Replacing
+pub mod Crash
+pub mod Fresh

@@ -8,7 +8,7 @@ use Rattle.kd_records.specs.Contents.{Record}
 use Rattle.kdcfile_images.specs.declared.pages.ImageRecord.{ImageRecord}
 use Rattle.kdcfile_images.specs.Opened.{record_of}
 use Rattle.kdcfile_images.specs.Reading.{record_at, after_record, records_of, onto, follows, InSlots}
-use Rattle.kdcfile_images.proofs.ReadRecords.{one_and_more, no_more, none_left, reads_on}
+use Rattle.kdcfile_images.specs.ReadRecords.{one_and_more, no_more, none_left, reads_on}
 
 onto_onto : (a b : List Record) (o : Option (List Record)) → onto a (onto b o) ≡ onto (a ++ b) o
 onto_onto a b None = refl

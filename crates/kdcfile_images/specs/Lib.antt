@@ -1,3 +1,11 @@
 pub mod File
 pub mod Opened
 pub mod Reading
+pub mod Writes
+pub mod Commit
+pub mod Fresh
+pub mod Tests
+pub mod Places
+pub mod Heads
+pub mod ReadRecords
+pub mod ReadImages

@@ -6,6 +6,7 @@
 //! one alone.
 #![tactic(auto)]
 
+mod commit;
 mod fault;
 mod head;
 mod image;
@@ -14,8 +15,15 @@ mod pages;
 mod part;
 mod read_root;
 mod record;
+mod making;
+mod root;
+mod synced;
+mod writes;
 
+pub use commit::commit_image;
 pub use fault::{ImageError, LoadError};
 pub use image::{Image, Loaded, Root};
 pub use loading::{load, one_meaning};
+pub use making::create;
 pub use pages::{Directory, ImageRecord, ImageRecords, PageWrite, PageWrites, Pages};
+pub use synced::write_synced;

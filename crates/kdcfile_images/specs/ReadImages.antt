@@ -17,10 +17,10 @@ use Rattle.kdcfile_images.specs.declared.image.Root.{Root}
 use Rattle.kdcfile_images.specs.Opened.{Opened, identity_of}
 use Rattle.kdcfile_images.specs.File.{Stands, StandsFor, IsNoImage, OneMeaning, head, root, spelled_record, spelled, selector, place, image_size}
 use Rattle.kdcfile_images.specs.Reading.{AreBytes, HasSizes, head_of, number, is_root, root_with, root_of, records_of, image_of, size_of, place_of}
-use Rattle.kdcfile_images.proofs.Places.{after, field, parted, read_4, read_8, small_8, small_4, written_4, written_8, length-piece, AreBytes-drop}
-use Rattle.kdcfile_images.proofs.Tests.{unless, when, mapped, bound}
-use Rattle.kdcfile_images.proofs.Heads.{Headed, head_written, head_read, sizes_of, block_small}
-use Rattle.kdcfile_images.proofs.ReadRecords.{records_written, records_read}
+use Rattle.kdcfile_images.specs.Places.{after, field, parted, read_4, read_8, small_8, small_4, written_4, written_8, length-piece, AreBytes-drop}
+use Rattle.kdcfile_images.specs.Tests.{unless, when, mapped, bound}
+use Rattle.kdcfile_images.specs.Heads.{Headed, head_written, head_read, sizes_of, block_small}
+use Rattle.kdcfile_images.specs.ReadRecords.{records_written, records_read}
 
 regrouped : (a b c d e f g h : List ℕ) → ((((((a ++ b) ++ c) ++ d) ++ e) ++ f) ++ g) ++ h ≡ a ++ (b ++ (c ++ (d ++ (e ++ (f ++ (g ++ h))))))
 regrouped a b c d e f g h = simp append_assoc

@@ -18,8 +18,8 @@ use Rattle.kd_records.specs.Contents.{Record, IsRecord}
 use Rattle.kd_records.specs.Keys.{key_text, key_cmp}
 use Rattle.kdcfile_images.specs.File.{spelled_record}
 use Rattle.kdcfile_images.specs.Reading.{AreBytes, number, key_at, valued, record_at, after_record, records_of, onto, follows}
-use Rattle.kdcfile_images.proofs.Places.{after, field, parted, read_4, small_4, written_4, length-piece, AreBytes-drop}
-use Rattle.kdcfile_images.proofs.Tests.{unless, when, mapped, bound}
+use Rattle.kdcfile_images.specs.Places.{after, field, parted, read_4, small_4, written_4, length-piece, AreBytes-drop}
+use Rattle.kdcfile_images.specs.Tests.{unless, when, mapped, bound}
 
 -- one record, written in front of a rest
 module _ (r : Record) (rest : List ℕ) (is : IsRecord r) where

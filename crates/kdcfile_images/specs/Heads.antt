@@ -11,8 +11,8 @@ use Rattle.kd_records.specs.Identity.{Identity, IsIdentity}
 use Rattle.kdcfile_images.specs.declared.head.Head.{Head}
 use Rattle.kdcfile_images.specs.File.{Stands, head, selector, place, spelled, image_size}
 use Rattle.kdcfile_images.specs.Reading.{AreBytes, HasSizes, has_sizes, sized, head_of, gate, number}
-use Rattle.kdcfile_images.proofs.Places.{after, field, parted, read_4, written_4}
-use Rattle.kdcfile_images.proofs.Tests.{unless, when}
+use Rattle.kdcfile_images.specs.Places.{after, field, parted, read_4, written_4}
+use Rattle.kdcfile_images.specs.Tests.{unless, when}
 
 sizes_pass : (block pages : ℕ) → HasSizes block pages → has_sizes block pages ≡ true
 sizes_pass block pages h =

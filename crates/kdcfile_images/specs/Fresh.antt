@@ -1,0 +1,37 @@
+-- A fresh file, and what a stop within its making leaves.
+use Rattle.std.specs.Prelude.{◌≡◌, ◌≤◌, ◌⊎◌, ℕ, ◌+◌, ◌*◌, List, [], ◌∷◌, ◌++◌, length, get_or, replicate}
+use Rattle.kd_records.specs.Identity.{Identity}
+use Rattle.kdcfile_images.specs.File.{StandsFor, IsNoImage, mark, root, fresh}
+use Rattle.kdcfile_images.specs.declared.image.Root.{Root}
+
+-- so many zero bytes
+unfoldable pub zeros : ℕ → List ℕ
+zeros n = replicate n 0
+
+-- a list, and zero bytes up to the end of an image
+abbrev pub in_image : Identity → List ℕ → List ℕ
+in_image i part = part ++ zeros (8128 + i.pages * i.block)
+
+-- behind the gate: the mark, and two images with no records
+abbrev pub fresh_rest : Identity → List ℕ
+fresh_rest i = mark i ++ zeros 8175 ++ in_image i (root i fresh) ++ in_image i (root i fresh)
+
+-- a fresh file: the open gate, and what is behind it
+abbrev pub fresh_file : Identity → List ℕ
+fresh_file i = 75 ∷ fresh_rest i
+
+-- the root of both images
+abbrev pub fresh_root : Identity → Root
+fresh_root i = record { fingerprint = i.fingerprint; clock = 0; next_job = 1; pgpool = i.pages; records = 0; directory = [] }
+
+-- nothing more was sent, and the file is no image or stands for the fresh content
+abbrev pub Made : Identity → List ℕ → List ℕ → List ℕ → Type 0
+Made i sent c out = (out ≡ sent) × (IsNoImage c ⊎ StandsFor i fresh c)
+
+-- the gate is not open, or nothing stands behind it
+abbrev pub IsShut : List ℕ → Type 0
+IsShut c = (length c ≤ 1) ⊎ (get_or c 0 0 ≡ 75 → ⊥)
+
+-- nothing more was sent, and the file is shut, or this stands behind the open gate
+abbrev pub ShutOr : List ℕ → List ℕ → List ℕ → List ℕ → Type 0
+ShutOr rest sent c out = (out ≡ sent) × (IsShut c ⊎ (c ≡ 75 ∷ rest))

@@ -1,0 +1,141 @@
+//! The unselected image is written, and then selected.
+ghost use Rattle.std.specs.Prelude.{◌≡◌, ◌≤◌, ◌<◌, ◌+◌, ◌*◌, ◌^◌, ◌∷◌, [], List, ℕ, Bool, not, IsTrue, is_ok, if◌then◌else◌, length, OnOk, OnErr, IfOk, IsErrOf};
+ghost use Rattle.kd_device.specs.Device.{State, Rose, Frame, SameNames, LeavesOnly, Only, written};
+ghost use Rattle.kd_device.specs.Rest.{Rests};
+ghost use Rattle.kd_records.specs.declared.content.Content.{Content};
+ghost use Rattle.kd_records.specs.Identity.{IsIdentity};
+ghost use Rattle.kdcfile_images.specs.File.{Stands, place as place_of, image_size as image_size_of, selector as selector_of};
+ghost use Rattle.kdcfile_images.specs.Opened.{identity_of, SameFile};
+ghost use Rattle.kdcfile_images.specs.Writes.{total, written_all, AllWithin, WritesOnly, IsSynced};
+ghost use Rattle.kdcfile_images.specs.Commit.{spelled_root, other_place, other_end, IsBehindRoot, staged, committed, Either, Replaces};
+
+use crate::fault::ImageError;
+use crate::image::{Image, Root};
+use crate::pages::{PageWrite, PageWrites};
+use crate::root::root_bytes;
+use crate::synced::write_synced;
+use crate::writes::{total_bytes, write_image};
+use kd_base::{Bytes, OutOfMemory};
+use kd_device::{Device, Failed};
+use std::alloc::Global;
+
+const SELECTOR: u64 = 4096;
+
+/// How many bytes an image of this file may have.
+fn image_size(image: &Image) -> u64
+    ensures value { result ≡ image_size_of (identity_of image.now) }
+    ensures bound { result < 2 ^ 28 }
+{
+    let pgpool = image.root().pgpool as u64;
+    8192 + pgpool * image.blksize() as u64
+}
+
+/// Where the unselected image stands.
+fn unselected(image: &Image) -> u64
+    ensures { result ≡ other_place image.now }
+{
+    if image.second() {
+        8192
+    } else {
+        8192 + image_size(image)
+    }
+}
+
+fn selector(second: bool) -> u8
+    ensures { result ≡ selector_of second }
+{
+    if second { 1 } else { 0 }
+}
+
+/// The root to come, its bytes, and how many bytes a commit writes.
+#[derive(Drop)]
+struct Prepared {
+    root: Root,
+    bytes: Bytes,
+    total: u64,
+}
+
+fn prepare(alloc: Global, pages: &[PageWrite], root: &Root) -> Result<Prepared, OutOfMemory>
+    ensures root { IfOk result (λ p. p.root ≡ root.now) }
+    ensures bytes { IfOk result (λ p. p.bytes ≡ spelled_root root.now) }
+    ensures length { IfOk result (λ p. length p.bytes ≡ 64) }
+    ensures total { IfOk result (λ p. p.total ≡ 65 + total pages.now) }
+{
+    Ok(Prepared {
+        root: root.copied(alloc)?,
+        bytes: root_bytes(alloc, root)?,
+        total: total_bytes(pages, 65).ok_or(OutOfMemory)?,
+    })
+}
+
+/// Writes an image and syncs, writes the selector and syncs.
+fn replace<D: Device>(
+    device: &mut D,
+    writes: &[PageWrite],
+    at: u64,
+    root: &[u8],
+    selector: u8,
+) -> Result<(), Failed>
+    requires calls { length writes.now + 4 ≤ (D.state device.old).spare_calls }
+    requires bytes { total writes.now + length root.now + 1 ≤ (D.state device.old).spare_bytes }
+    requires inside { AllWithin 0 (D.state device.old).spare_end writes.now }
+    requires root_inside { at + length root.now ≤ (D.state device.old).spare_end }
+    requires selector_inside { 4097 ≤ (D.state device.old).spare_end }
+    requires settled { IsTrue (D.state device.old).told → Only (D.state device.old).holds (D.state device.old) (D.leaves device.old) }
+    ensures failed { OnErr result (Rose (D.state device.old).disk_faults (D.state device.new).disk_faults) }
+    ensures frame { Frame (D.state device.old) (D.state device.new) }
+    ensures names { SameNames (D.state device.old) (D.state device.new) }
+    ensures any_moment { IsTrue (D.state device.old).told → (upto : ℕ) → AllWithin at upto writes.now → at + length root.now ≤ upto
+        → Replaces at upto (written (written_all (D.state device.old).holds writes.now) at root.now) (total writes.now + length root.now + 1) (D.state device.old) (D.state device.new) (D.leaves device.old) (D.leaves device.new) }
+    ensures ok { OnOk result (IsTrue (D.state device.old).told
+        → IsSynced (total writes.now + length root.now + 1) (written (written (written_all (D.state device.old).holds writes.now) at root.now) 4096 (selector ∷ [])) (D.state device.old) (D.state device.new) (D.leaves device.new)) }
+{
+    write_image(device, writes, at, root)?;
+    write_synced(device, SELECTOR, &[selector])
+}
+
+/// Writes the pages and the root of the unselected image, and then selects it. `Memory` comes before the first
+/// write. After `Failed` the file is loaded again.
+pub fn commit_image<D: Device>(
+    alloc: Global,
+    device: &mut D,
+    image: &mut Image,
+    pages: &PageWrites,
+    root: &Root,
+) -> Result<(), ImageError>
+    requires same_file { SameFile image.old root.now }
+    requires no_directory { root.now.directory ≡ [] }
+    requires behind_root { IsBehindRoot image.old pages.now }
+    requires stands { IsTrue (D.state device.old).told → (x : Content) × Stands (identity_of image.old) image.old.second x (D.state device.old).holds }
+    requires would_stand { IsTrue (D.state device.old).told → (y : Content) × Stands (identity_of image.old) (not image.old.second) y (committed image.old pages.now root.now (D.state device.old).holds) }
+    requires settled { IsTrue (D.state device.old).told → Only (D.state device.old).holds (D.state device.old) (D.leaves device.old) }
+
+    // At `Ok` the image is the other one with this root, and the file has it on the disk.
+    ensures image { image.new ≡ (if is_ok result then record image.old { root = root.now; second = not image.old.second } else image.old) }
+    ensures holds { OnOk result (IsTrue (D.state device.old).told → (D.state device.new).holds ≡ committed image.old pages.now root.now (D.state device.old).holds) }
+    ensures settled { OnOk result (IsTrue (D.state device.old).told → Only (D.state device.new).holds (D.state device.new) (D.leaves device.new)) }
+    ensures sent { IsTrue (D.state device.old).told → (D.state device.new).sent ≡ (D.state device.old).sent }
+
+    // A stop at any moment of the call leaves the old content or the new one.
+    ensures any_moment { IsTrue (D.state device.old).told → (x y : Content) → Stands (identity_of image.old) image.old.second x (D.state device.old).holds
+        → Stands (identity_of image.old) (not image.old.second) y (committed image.old pages.now root.now (D.state device.old).holds)
+        → LeavesOnly (D.state device.old) (D.state device.new) (D.leaves device.old) (D.leaves device.new) (Either (identity_of image.old) x y (D.state device.old).sent) }
+
+    // The bytes written are those of the pages, 64 of the root and 1 of the selector.
+    ensures put { OnOk result (IsTrue (D.state device.old).told → (D.state device.new).put ≡ (D.state device.old).put + total pages.now + 65) }
+    ensures put_most { IsTrue (D.state device.old).told → (D.state device.new).put ≤ (D.state device.old).put + total pages.now + 65 }
+
+    ensures failed { IsErrOf result ImageError.Failed → Rose (D.state device.old).disk_faults (D.state device.new).disk_faults }
+    ensures memory { IsErrOf result ImageError.Memory → IsTrue (D.state device.old).told → Rests (D.state device.old) (D.state device.new) (D.leaves device.old) (D.leaves device.new) }
+    ensures frame { Frame (D.state device.old) (D.state device.new) }
+    ensures names { SameNames (D.state device.old) (D.state device.new) }
+{
+    let writes = pages.as_slice();
+    let next = prepare(alloc, writes, root)?;
+    let at = unselected(image);
+    device.reserve(writes.len() as u64 + 4, next.total, at + image_size(image))?;
+    let byte = selector(!image.second());
+    replace(device, writes, at, next.bytes.as_slice(), byte)?;
+    image.turn(next.root);
+    Ok(())
+}
