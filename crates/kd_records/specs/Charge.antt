@@ -1,6 +1,10 @@
 -- How many pages records are charged.
-use Rattle.std.specs.Prelude.{ℕ, ◌+◌, ◌-◌, ◌/◌, max, List, length, sum_by}
+use Rattle.std.specs.Prelude.{◌≡◌, ◌⊎◌, ℕ, ◌+◌, ◌-◌, ◌/◌, max, List, length, sum_by}
 use Rattle.kd_records.specs.Contents.{Record}
+
+-- the block sizes that there are
+abbrev pub IsBlockSize : ℕ → Type 0
+IsBlockSize block = (block ≡ 2048) ⊎ ((block ≡ 4096) ⊎ (block ≡ 8192))
 
 -- a value of n bytes: each page but 48 of its bytes is payload, and a record has one page at least
 abbrev pub charge_of : ℕ → ℕ → ℕ

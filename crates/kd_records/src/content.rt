@@ -1,5 +1,11 @@
 //! Contents and patches.
-ghost use Rattle.std.specs.Prelude.{◌≡◌, ◌++◌, ◌∷◌, [], OnOk, OnErr};
+ghost use Rattle.std.specs.Prelude.{◌≡◌, ◌<◌, ◌≤◌, ◌++◌, ◌∷◌, [], length, drop, IsTrue, IfOk, OnOk, OnErr};
+ghost use Rattle.std.specs.List.{prefix_len};
+ghost use Rattle.std.specs.Ordering.{is_gt};
+ghost use Rattle.std.specs.FinMap.{put};
+ghost use Rattle.kd_records.specs.Keys.{key_cmp};
+ghost use Rattle.kd_records.specs.Contents.{Record, without, changed, changed_all, patched};
+ghost use Rattle.kd_records.specs.Places.{begins_with_key};
 
 use crate::key::RecordKey;
 use kd_base::{Bytes, OutOfMemory};
@@ -50,6 +56,79 @@ impl Records {
     {
         Ok(self.items.push((key, value))?)
     }
+
+    /// The same records once more.
+    pub fn copied(&self, alloc: Global) -> Result<Records, OutOfMemory>
+        ensures { IfOk result (λ x. x ≡ self.now) }
+    {
+        let records = self.as_slice();
+        let mut copy = Records::new(alloc);
+        for record in records {
+            copy.push(record.0, record.1.clone()?)?;
+        }
+        Ok(copy)
+    }
+
+    // Puts a record in its place among those of other keys, or changes nothing.
+    fn set(&mut self, key: RecordKey, value: Bytes) -> Result<(), OutOfMemory>
+        ensures ok { OnOk result (self.new ≡ put key_cmp key value self.old) }
+        ensures err { OnErr result (self.new ≡ self.old) }
+    {
+        let place = lesser_in_front(self.as_slice(), &key);
+        if has_key_at(self.as_slice(), place, &key) {
+            let record = &mut self.items[place];
+            record.1 = value;
+        } else {
+            self.items.insert(place, (key, value))?;
+        }
+        Ok(())
+    }
+
+    fn remove(&mut self, key: &RecordKey)
+        ensures { self.new ≡ without key.now self.old }
+    {
+        self.items.retain(|record| !key.compared(&record.0).is_eq());
+    }
+
+    // One change of a patch.
+    fn change(&mut self, change: &(RecordKey, Option<Bytes>)) -> Result<(), OutOfMemory>
+        ensures { OnOk result (self.new ≡ changed self.old change.now) }
+    {
+        match &change.1 {
+            Some(value) => self.set(change.0, value.clone()?)?,
+            None => self.remove(&change.0),
+        }
+        Ok(())
+    }
+
+    fn change_all(&mut self, changes: &[(RecordKey, Option<Bytes>)]) -> Result<(), OutOfMemory>
+        ensures { OnOk result (self.new ≡ changed_all self.old changes.now) }
+    {
+        for change in changes {
+            self.change(change)?;
+        }
+        Ok(())
+    }
+}
+
+// How many records in front have a lesser key.
+fn lesser_in_front(records: &[(RecordKey, Bytes)], key: &RecordKey) -> usize
+    ensures lesser { result ≡ prefix_len (λ (r : Record). is_gt (key_cmp key.now r.0)) records.now }
+    ensures within { result ≤ length records.now }
+{
+    let mut n = 0;
+    while n < records.len() && key.compared(&records[n].0).is_gt() {
+        n += 1;
+    }
+    n
+}
+
+// Whether the record at a place, if any, has this key.
+fn has_key_at(records: &[(RecordKey, Bytes)], place: usize, key: &RecordKey) -> bool
+    ensures key { result ≡ begins_with_key key.now (drop place records.now) }
+    ensures within { IsTrue result → place < length records.now }
+{
+    place < records.len() && key.compared(&records[place].0).is_eq()
 }
 
 /// What a KDCFILE keeps, its fingerprint and sizes apart: the clock in ticks, the next job number, and records in
@@ -59,6 +138,33 @@ pub struct Content {
     pub clock: u64,
     pub next_job: u64,
     pub items: Records,
+}
+
+impl Content {
+    /// The same content once more.
+    pub fn copied(&self, alloc: Global) -> Result<Content, OutOfMemory>
+        ensures { IfOk result (λ x. x ≡ self.now) }
+    {
+        Ok(Content {
+            clock: self.clock,
+            next_job: self.next_job,
+            items: self.items.copied(alloc)?,
+        })
+    }
+
+    /// The content that a patch makes of this one. Each change goes through the records from the front, which is
+    /// enough where contents are small and patches are few.
+    pub fn patched(&self, alloc: Global, patch: &Patch) -> Result<Content, OutOfMemory>
+        ensures { IfOk result (λ x. x ≡ patched self.now patch.now) }
+    {
+        let mut items = self.items.copied(alloc)?;
+        items.change_all(patch.items.as_slice())?;
+        Ok(Content {
+            clock: patch.clock,
+            next_job: patch.next_job,
+            items,
+        })
+    }
 }
 
 /// Keys with new values, or with none where the record goes. Contracts see the list of pairs.

@@ -1,11 +1,21 @@
 //! Records: what a KDCFILE keeps, as keys with values, and the changes that one commit makes to them.
 //!
 //! It stands on kd_base. To the store and to the crates that turn rows into records, its definitions say what a
-//! content is, which content a patch makes of another, and how many pages a record is charged.
+//! content is, which content a patch makes of another, and how many pages a record is charged. Its contract says that
+//! `patched` answers just that content and `charge` just that number, that a patch sets what it sets, removes what it
+//! removes and leaves the rest, that a content stays one that a file can keep, and that charged records fit into
+//! their pages.
 #![tactic(auto)]
 
 mod content;
 mod key;
+mod laws;
+mod pages;
 
 pub use content::{Content, Patch, PatchItems, Records};
 pub use key::RecordKey;
+pub use laws::{charged_records_fit, patches_keep_contents, patches_say_what_is_found};
+pub use pages::charge;
+
+#[cfg(test)]
+mod tests;

@@ -1,0 +1,135 @@
+-- Records that are charged no more than the pages that there are fit into the bytes of these pages.
+use Rattle.std.specs.Prelude.{◌≡◌, ℕ, suc, ◌+◌, ◌-◌, ◌*◌, ◌/◌, ◌%◌, ◌^◌, ◌<◌, ◌≤◌, min, max, List, [], ◌∷◌, length, sum_by, All}
+use Rattle.std.proofs.Common.{sym, ◌∙◌, ap, inl, inr, arith}
+use Rattle.std.proofs.Math.Nat.{mul-le-mul_left}
+use Rattle.std.proofs.lemmas.Bool.{cases_lt}
+use Rattle.std.proofs.lemmas.List.Sums.{sum_by-cons}
+use Rattle.std.proofs.lemmas.List.Elements.{All-nil, All-cons, All-weaker}
+use Rattle.std.proofs.lemmas.Nat.{div-add-mod', div-mul-add, mod_below}
+use Rattle.std.proofs.lemmas.Grind.{div_ceil_times}
+use Rattle.std.specs.Int.{div_ceil}
+use Rattle.kd_records.specs.Contents.{Record}
+use Rattle.kd_records.specs.Charge.{IsBlockSize, charge_of, total_charge}
+
+-- the key, the length of the value and the value
+abbrev pub room_of : Record → ℕ
+room_of r = 29 + length r.1
+
+-- so many records, each with its key and the length of its value, fit into the pages that they are charged
+abbrev pub ChargedRecordsFit : Type 0
+ChargedRecordsFit = (block pages : ℕ) (records : List Record) → IsBlockSize block → total_charge block records ≤ pages → 64 + sum_by (λ (r : Record). 29 + length r.1) records ≤ 8192 + pages * block
+
+pub block_from : (block : ℕ) → IsBlockSize block → 2048 ≤ block
+block_from block h = elim h [ inl e ↦ omega arith | inr h ↦ elim h [ inl e ↦ omega arith | inr e ↦ omega arith ] ]
+
+pub block_upto : (block : ℕ) → IsBlockSize block → block ≤ 8192
+block_upto block h = elim h [ inl e ↦ omega arith | inr h ↦ elim h [ inl e ↦ omega arith | inr e ↦ omega arith ] ]
+
+-- ---- one record
+
+-- a quotient that is rounded up, in two ways
+ceil_by : (m q r : ℕ) → r < m → q + min 1 r ≡ ((q * m + r) + (m - 1)) / m
+ceil_by m q r h =
+    elim (cases_lt 0 r) [
+      | inl p ↦
+          let one : q + min 1 r ≡ q + 1 = omega arith in
+          let whole : (q * m + r) + (m - 1) ≡ (q + 1) * m + (r - 1) = omega arith in
+          one ∙ sym (ap (λ (x : ℕ). x / m) whole ∙ div-mul-add (q + 1) m (r - 1) (omega arith))
+      | inr p ↦
+          let none : q + min 1 r ≡ q = omega arith in
+          let whole : (q * m + r) + (m - 1) ≡ q * m + (m - 1) = omega arith in
+          none ∙ sym (ap (λ (x : ℕ). x / m) whole ∙ div-mul-add q m (m - 1) (omega arith))
+    ]
+
+ceil_is : (n m : ℕ) → 0 < m → n / m + min 1 (n % m) ≡ (n + (m - 1)) / m
+ceil_is n m h = ceil_by m (n / m) (n % m) (mod_below n m h) ∙ ap (λ (x : ℕ). (x + (m - 1)) / m) (div-add-mod' n m)
+
+pub charge_is : (block n : ℕ) → 2048 ≤ block → charge_of block n ≡ max 1 (div_ceil n (block - 48))
+charge_is block n h =
+    let less : block - 49 ≡ (block - 48) - 1 = omega arith in
+    ap (λ (x : ℕ). max 1 ((n + x) / (block - 48))) less ∙ ap (λ (x : ℕ). max 1 x) (sym (ceil_is n (block - 48) (omega arith)))
+
+covers : (block m c d n : ℕ) → block ≡ m + 48 → c ≡ max 1 d → n ≤ d * m → 29 + n ≤ c * block
+covers block m c d n e is h =
+    let more : d ≤ c = omega arith in
+    let some : 1 ≤ c = omega arith in
+    omega (arith, ap (λ (x : ℕ). c * x) e, mul-le-mul_left m more)
+
+-- the pages of one record have room for its value, its key and the length
+pub charge_covers : (block n : ℕ) → 2048 ≤ block → 29 + n ≤ charge_of block n * block
+charge_covers block n h =
+    covers block (block - 48) (charge_of block n) (div_ceil n (block - 48)) n (omega arith) (charge_is block n h)
+    (div_ceil_times n (block - 48) (omega arith)).0
+
+one_le_max : (n : ℕ) → 1 ≤ max 1 n
+one_le_max n = omega arith
+
+pub charge_from_one : (block n : ℕ) → 1 ≤ charge_of block n
+charge_from_one block n = one_le_max ((n + (block - 49)) / (block - 48))
+
+small : (block c n : ℕ) → 29 + n ≤ c * block → c ≤ 30000 → block ≤ 8192 → n < 2 ^ 32
+small block c n h few upto = omega (arith, mul-le-mul_left block few)
+
+-- ---- all records
+
+abbrev charge_at : ℕ → Record → ℕ
+charge_at block r = charge_of block (length r.1)
+
+more_room : (block a b x y c t : ℕ) → a ≡ x + y → b ≡ c + t → x ≤ c * block → y ≤ t * block → a ≤ b * block
+more_room block a b x y c t e is h k = omega (arith, ap (λ (z : ℕ). z * block) is)
+
+pub room_within : (block : ℕ) (records : List Record) → 2048 ≤ block → sum_by room_of records ≤ total_charge block records * block
+room_within block [] h = omega arith
+room_within block (r ∷ records) h =
+    more_room block (sum_by room_of (r ∷ records)) (total_charge block (r ∷ records)) (room_of r) (sum_by room_of records) (charge_at block r) (total_charge block records)
+    (sum_by-cons room_of r records)
+    (sum_by-cons (charge_at block) r records)
+    (charge_covers block (length r.1) h)
+    (room_within block records h)
+
+all_room : (block pages room charge : ℕ) → room ≤ charge * block → charge ≤ pages → 64 + room ≤ 8192 + pages * block
+all_room block pages room charge h few = omega (arith, mul-le-mul_left block few)
+
+pub charged_records_fit : ChargedRecordsFit
+charged_records_fit block pages records is few =
+    all_room block pages (sum_by room_of records) (total_charge block records) (room_within block records (block_from block is)) few
+
+more_few : (n a c t : ℕ) → a ≡ c + t → 1 ≤ c → n ≤ t → suc n ≤ a
+more_few n a c t e h k = omega arith
+
+-- there are no more records than pages that they are charged
+pub length_within : (block : ℕ) (records : List Record) → length records ≤ total_charge block records
+length_within block [] = omega arith
+length_within block (r ∷ records) =
+    more_few (length records) (total_charge block (r ∷ records)) (charge_at block r) (total_charge block records)
+    (sum_by-cons (charge_at block) r records)
+    (charge_from_one block (length r.1))
+    (length_within block records)
+
+at_most : (a b c t : ℕ) → a ≡ c + t → (b ≤ t → b ≤ a) × (c ≤ a)
+at_most a b c t e = (λ h. omega arith, omega arith)
+
+-- no record is charged more than all together
+pub each_within : (block : ℕ) (records : List Record) → All (λ r. charge_at block r ≤ total_charge block records) records
+each_within block [] = All-nil (λ r. charge_at block r ≤ total_charge block [])
+each_within block (r ∷ records) =
+    let whole = total_charge block (r ∷ records) in
+    let e : whole ≡ charge_at block r + total_charge block records = sum_by-cons (charge_at block) r records in
+    All-cons (λ s. charge_at block s ≤ whole) r records
+    (at_most whole 0 (charge_at block r) (total_charge block records) e).1
+    (All-weaker (λ s. charge_at block s ≤ total_charge block records) (λ s. charge_at block s ≤ whole)
+    (λ s h. (at_most whole (charge_at block s) (charge_at block r) (total_charge block records) e).0 h)
+    records (each_within block records))
+
+-- so the length of a value has four bytes
+pub values_fit : (block pages : ℕ) (records : List Record) → IsBlockSize block → pages ≤ 30000 → total_charge block records ≤ pages
+    → All (λ r. length r.1 < 2 ^ 32) records
+values_fit block pages records is most few =
+    let least = block_from block is in
+    let upto = block_upto block is in
+    All-weaker (λ r. charge_at block r ≤ total_charge block records) (λ r. length r.1 < 2 ^ 32)
+    (λ r h. small block (charge_at block r) (length r.1) (charge_covers block (length r.1) least) (within (charge_at block r) (total_charge block records) pages h few most) upto)
+    records (each_within block records)
+  where
+    within : (c t pages : ℕ) → c ≤ t → t ≤ pages → pages ≤ 30000 → c ≤ 30000
+    within c t pages a b c' = omega arith
