@@ -16,7 +16,7 @@ use Rattle.kdcfile_images.specs.Writes.{written_all, total, AllWithin}
 use Rattle.kdcfile_images.specs.Commit.{spelled_root, other_place, other_end, IsBehindRoot, staged, committed, Either, InImageOrSelector, Replaces}
 use Rattle.kdcfile_images.proofs.Several.{within_wider}
 use Rattle.kdcfile_images.proofs.Torns.{torn_wider, torn_then, torn_back}
-use Rattle.kdcfile_images.proofs.Parts.{within_file, byte_below, stands_below, stands_above, one_of_two}
+use Rattle.kdcfile_images.specs.Parts.{within_file, byte_below, stands_below, stands_above, one_of_two}
 
 pub spelled_some : (i : Identity) (x : Content) → 0 < length (spelled i x)
 spelled_some i x =

@@ -1,6 +1,5 @@
 pub mod RecordsSoFar
 pub mod Torns
-pub mod Parts
 pub mod Writing
 pub mod Several
 pub mod Replacing

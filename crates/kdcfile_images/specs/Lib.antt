@@ -9,3 +9,5 @@ pub mod Places
 pub mod Heads
 pub mod ReadRecords
 pub mod ReadImages
+pub mod Parts
+pub mod Written
