@@ -30,8 +30,8 @@ fn image_size(image: &Image) -> u64
     8192 + pgpool * image.blksize() as u64
 }
 
-/// Where the unselected image stands.
-fn unselected(image: &Image) -> u64
+/// Where the unselected image stands, in bytes from the beginning of the file.
+pub fn unselected(image: &Image) -> u64
     ensures { result ≡ other_place image.now }
 {
     if image.second() {

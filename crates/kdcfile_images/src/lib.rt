@@ -20,7 +20,7 @@ mod root;
 mod synced;
 mod writes;
 
-pub use commit::commit_image;
+pub use commit::{commit_image, unselected};
 pub use fault::{ImageError, LoadError};
 pub use image::{Image, Loaded, Root};
 pub use loading::{load, one_meaning};

@@ -1,1 +1,2 @@
-pub mod Stub
+pub mod Writing
+pub mod Handed

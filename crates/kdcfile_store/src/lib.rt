@@ -5,8 +5,10 @@
 //! `Ok` for the new content alone. The trait names contents and nothing of images or pages.
 #![tactic(auto)]
 
+mod spell;
 mod store;
 mod whole;
 
 pub use store::{CommitError, Store, StoreLimits};
-pub use whole::{LoadError, WholeStore};
+pub use kdcfile_images::LoadError;
+pub use whole::WholeStore;

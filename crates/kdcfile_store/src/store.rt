@@ -11,6 +11,7 @@ ghost use Rattle.kdcfile_store.specs.Kept.{IsKept, OldOrNew};
 use kd_base::OutOfMemory;
 use kd_device::{Device, Failed};
 use kd_records::{Content, Patch};
+use kdcfile_images::ImageError;
 use std::alloc::Global;
 use thiserror::Error;
 
@@ -44,6 +45,20 @@ impl From<Failed> for CommitError {
 
     fn from(_: Failed) -> Self {
         CommitError::Failed
+    }
+}
+
+impl From<ImageError> for CommitError {
+    ghost use Rattle.std.specs.Prelude.{◌≡◌};
+    ghost use Rattle.kdcfile_store.specs.Causes.{of_image};
+
+    ghost from_gives = { λ e r. r ≡ of_image e };
+
+    fn from(e: ImageError) -> Self {
+        match e {
+            ImageError::Failed => CommitError::Failed,
+            ImageError::Memory => CommitError::Memory,
+        }
     }
 }
 

@@ -1,51 +1,141 @@
 //! A store that keeps its content in whole images: each commit writes the unselected image and selects it.
-ghost use Rattle.std.specs.Prelude.{◌≡◌, [], List, ℕ, IsTrue, IfOk, OnOk, IsErrOf};
+ghost use Rattle.std.specs.Prelude.{◌≡◌, ◌<◌, ◌≤◌, ◌^◌, [], List, ℕ, IsTrue, length, map, IfOk, OnOk, OnErr, IsErrOf};
 ghost use Rattle.kd_device.specs.Device.{State, Rose, Frame, SameNames, LeavesOnly, Only};
 ghost use Rattle.kd_device.specs.Rest.{Rests};
 ghost use Rattle.kd_records.specs.Identity.{IsIdentity};
-ghost use Rattle.kdcfile_images.specs.File.{StandsFor, IsNoImage, fresh};
-ghost use Rattle.kdcfile_store.specs.Kept.{IsKept};
-ghost use Rattle.kdcfile_store.specs.Whole.{Whole, HasFile, identity_with, Made};
+ghost use Rattle.kd_records.specs.Contents.{IsContent, patched};
+ghost use Rattle.kd_records.specs.Charge.{total_charge};
+ghost use Rattle.kd_records.specs.declared.content.Content.{Content};
+ghost use Rattle.kdcfile_images.specs.File.{Stands, StandsFor, IsNoImage, fresh};
+ghost use Rattle.kdcfile_images.specs.Opened.{identity_of, record_of};
+ghost use Rattle.kdcfile_store.specs.Kept.{IsKept, OldOrNew};
+ghost use Rattle.kdcfile_store.specs.Whole.{HasFile, identity_with, Made, root_with, pages_with};
 
+use crate::spell::records_bytes;
 use crate::store::{CommitError, Store, StoreLimits};
+use kd_base::{Bytes, OutOfMemory};
 use kd_device::Device;
-use kd_records::{Content, Patch};
+use kd_records::{Content, Patch, RecordKey, Records};
+use kdcfile_images::{
+    Directory, Image, ImageRecord, LoadError, PageWrite, PageWrites, Root, commit_image, create, load,
+    unselected,
+};
 use std::alloc::Global;
 use std::marker::Model;
-use thiserror::Error;
-
-/// Why a file could not be loaded.
-#[derive(Clone, Copy, Debug, PartialEq, Eq, Error)]
-pub enum LoadError {
-    /// The bytes stand for no image.
-    #[error("not a KDCFILE")]
-    NotKdcfile,
-    #[error("the disk failed")]
-    Failed,
-    #[error("out of memory")]
-    Memory,
-}
 
 /// A content in a file of two whole images.
 #[derive(Debug, Drop)]
 pub struct WholeStore {
-    limits: StoreLimits,
-    fingerprint: [u8; 32],
-    second: bool,
+    image: Image,
     content: Content,
 }
 
 impl Model for WholeStore {
-    ghost use Rattle.kdcfile_store.specs.Whole.{Whole, identity_with};
+    ghost use Rattle.kdcfile_images.specs.Opened.{identity_of};
+    ghost use Rattle.kdcfile_store.specs.Whole.{Whole};
 
     ghost Value = { Whole };
 
-    ghost view = { λ s. record { identity = identity_with s.limits s.fingerprint; second = s.second; content = s.content } };
+    ghost use Rattle.kd_records.specs.Identity.{IsIdentity};
+
+    ghost view = { λ s. record { identity = identity_of s.image; second = s.image.second; content = s.content } };
+
+    ghost invariant = { λ s. IsIdentity (identity_of s.image) };
+}
+
+/// The root of the same file for this content.
+fn next_root(alloc: Global, image: &Image, content: &Content) -> Root
+    requires few { length content.now.items < 2 ^ 32 }
+    ensures { result ≡ root_with image.now content.now }
+{
+    let root = image.root();
+    Root {
+        fingerprint: root.fingerprint,
+        clock: content.clock,
+        next_job: content.next_job,
+        pgpool: root.pgpool,
+        records: content.items.as_slice().len() as u32,
+        directory: Directory::new(alloc),
+    }
+}
+
+/// The records behind the root of the unselected image.
+fn next_pages(alloc: Global, image: &Image, body: Bytes) -> Result<PageWrites, OutOfMemory>
+    requires { IsIdentity (identity_of image.now) }
+    ensures { IfOk result (λ pages. pages ≡ pages_with image.now body) }
+{
+    let at = unselected(image) + 64;
+    let mut pages = PageWrites::new(alloc);
+    pages.push(PageWrite { at, bytes: body })?;
+    Ok(pages)
+}
+
+/// Writes a content as the unselected image, and selects it.
+fn write_content<D: Device>(
+    alloc: Global,
+    device: &mut D,
+    image: &mut Image,
+    content: &Content,
+) -> Result<(), CommitError>
+    requires identity { IsIdentity (identity_of image.old) }
+    requires charge { total_charge image.old.blksize content.now.items ≤ image.old.root.pgpool }
+    requires stands { IsTrue (D.state device.old).told → (x : Content) × Stands (identity_of image.old) image.old.second x (D.state device.old).holds }
+    requires fits { IsTrue (D.state device.old).told → IsContent content.now }
+    requires settled { IsTrue (D.state device.old).told → Only (D.state device.old).holds (D.state device.old) (D.leaves device.old) }
+    ensures identity { identity_of image.new ≡ identity_of image.old }
+    ensures err { OnErr result (image.new ≡ image.old) }
+    ensures stands { OnOk result (IsTrue (D.state device.old).told → Stands (identity_of image.old) image.new.second content.now (D.state device.new).holds) }
+    ensures settled { OnOk result (IsTrue (D.state device.old).told → Only (D.state device.new).holds (D.state device.new) (D.leaves device.new)) }
+    ensures sent { IsTrue (D.state device.old).told → (D.state device.new).sent ≡ (D.state device.old).sent }
+    ensures any_moment { IsTrue (D.state device.old).told → (x : Content) → Stands (identity_of image.old) image.old.second x (D.state device.old).holds
+        → LeavesOnly (D.state device.old) (D.state device.new) (D.leaves device.old) (D.leaves device.new) (OldOrNew (StandsFor (identity_of image.old)) x content.now (D.state device.old).sent) }
+    ensures failed { IsErrOf result CommitError.Failed → Rose (D.state device.old).disk_faults (D.state device.new).disk_faults }
+    ensures memory { IsErrOf result CommitError.Memory → IsTrue (D.state device.old).told → Rests (D.state device.old) (D.state device.new) (D.leaves device.old) (D.leaves device.new) }
+    ensures frame { Frame (D.state device.old) (D.state device.new) }
+    ensures names { SameNames (D.state device.old) (D.state device.new) }
+{
+    let body = records_bytes(alloc, content.items.as_slice())?;
+    let root = next_root(alloc, image, content);
+    let pages = next_pages(alloc, image, body)?;
+    commit_image(alloc, device, image, &pages, &root)?;
+    Ok(())
+}
+
+/// The content that a patch makes of this one.
+fn next_content(
+    alloc: Global,
+    content: &Content,
+    patch: &Patch,
+) -> Result<Content, OutOfMemory>
+    ensures content { IfOk result (λ x. x ≡ patched content.now patch.now) }
+    ensures clock { IfOk result (λ x. x.clock < 2 ^ 64) }
+    ensures next_job { IfOk result (λ x. x.next_job < 2 ^ 64) }
+{
+    let next = content.patched(alloc, patch)?;
+    Ok(Content {
+        clock: patch.clock,
+        next_job: patch.next_job,
+        items: next.items,
+    })
+}
+
+/// The records that were loaded, without their places.
+fn records_of(alloc: Global, records: &[ImageRecord]) -> Result<Records, OutOfMemory>
+    ensures { IfOk result (λ r. r ≡ map record_of records.now) }
+{
+    let mut kept = Records::new(alloc);
+    for record in records {
+        let key = RecordKey {
+            kind: record.kind,
+            bytes: record.key,
+        };
+        kept.push(key, Bytes::from_slice(alloc, record.value.as_slice())?)?;
+    }
+    Ok(kept)
 }
 
 impl WholeStore {
     /// Makes the file. A stop leaves it without a content, or with the first one.
-    #[tactic(auto, using(crate::proofs::Stub::none_made, kd_device::specs::Rest::rests_none))]
     pub fn create<D: Device>(
         alloc: Global,
         device: &mut D,
@@ -62,18 +152,20 @@ impl WholeStore {
         ensures any_moment { IsTrue (D.state device.old).told
             → LeavesOnly (D.state device.old) (D.state device.new) (D.leaves device.old) (D.leaves device.new) (Made (identity_with limits.now fingerprint.now) (D.state device.old).sent) }
         ensures failed { IsErrOf result CommitError.Failed → Rose (D.state device.old).disk_faults (D.state device.new).disk_faults }
+        ensures memory { IsErrOf result CommitError.Memory → IsTrue (D.state device.old).told → Rests (D.state device.old) (D.state device.new) (D.leaves device.old) (D.leaves device.new) }
         ensures frame { Frame (D.state device.old) (D.state device.new) }
         ensures names { SameNames (D.state device.old) (D.state device.new) }
     {
-        let _ = alloc;
-        let _ = device;
-        let _ = limits;
-        let _ = fingerprint;
-        Err(CommitError::Memory)
+        let image = create(alloc, device, limits.blksize, limits.pgpool, fingerprint)?;
+        let content = Content {
+            clock: 0,
+            next_job: 1,
+            items: Records::new(alloc),
+        };
+        Ok(WholeStore { image, content })
     }
 
     /// Opens the file, if its bytes stand for an image.
-    #[tactic(auto, using(kd_device::specs::Rest::rests_none))]
     pub fn load<D: Device>(alloc: Global, device: &mut D) -> Result<WholeStore, LoadError>
         ensures identity { IfOk result (λ s. IsIdentity s.identity) }
         ensures stands { IfOk result (λ s. IsTrue (D.state device.old).told → HasFile s (D.state device.old).holds) }
@@ -84,9 +176,18 @@ impl WholeStore {
         ensures frame { Frame (D.state device.old) (D.state device.new) }
         ensures names { SameNames (D.state device.old) (D.state device.new) }
     {
-        let _ = alloc;
-        let _ = device;
-        Err(LoadError::Memory)
+        let loaded = load(alloc, device)?;
+        let items = records_of(alloc, loaded.records.as_slice())?;
+        let root = loaded.image.root();
+        let content = Content {
+            clock: root.clock,
+            next_job: root.next_job,
+            items,
+        };
+        Ok(WholeStore {
+            image: loaded.image,
+            content,
+        })
     }
 
     /// What is kept.
@@ -100,7 +201,7 @@ impl WholeStore {
     pub fn fingerprint(&self) -> &[u8; 32]
         ensures { result.now ≡ self.now.identity.fingerprint }
     {
-        &self.fingerprint
+        &self.image.root().fingerprint
     }
 
     /// The sizes that the file holds.
@@ -108,7 +209,10 @@ impl WholeStore {
         ensures blksize { result.blksize ≡ self.now.identity.block }
         ensures pgpool { result.pgpool ≡ self.now.identity.pages }
     {
-        self.limits
+        StoreLimits {
+            blksize: self.image.blksize(),
+            pgpool: self.image.root().pgpool,
+        }
     }
 }
 
@@ -125,17 +229,16 @@ impl<D: Device> Store<D> for WholeStore {
         self.kept()
     }
 
-    #[tactic(auto, using(crate::proofs::Stub::none_made, kd_device::specs::Rest::rests_none))]
     fn commit(
         &mut self,
         alloc: Global,
         device: &mut D,
         patch: &Patch,
     ) -> Result<(), CommitError> {
-        let _ = alloc;
-        let _ = device;
-        let _ = patch;
-        Err(CommitError::Memory)
+        let next = next_content(alloc, &self.content, patch)?;
+        write_content(alloc, device, &mut self.image, &next)?;
+        self.content = next;
+        Ok(())
     }
 
     ghost file_stands = { λ s bytes file. (s.second, file) };
