@@ -4,3 +4,4 @@ pub mod KeptTables
 pub mod Refused
 pub mod Opened
 pub mod Ran
+pub mod Asking

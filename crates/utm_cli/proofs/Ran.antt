@@ -54,7 +54,7 @@ one_start one h t u (inr (stands, range)) (inl (empty, is)) = absurd (nothing_st
 one_start one h t u (inr (stands, range)) (inr (stands2, range2)) = tables_are t u (one identity identity (content_of t) (content_of u) h stands stands2).1
 
 module _ (t : Tables) (cs : List Command) (a : State) (la : ℕ → List ℕ → List ℕ → Type 0) (only : Only a.holds a la) where
-  as_it_was : (image out : List ℕ) → StartsFrom a.holds t → image ≡ a.holds → out ≡ a.sent → IsCutOfRun t cs a image out
+  pub as_it_was : (image out : List ℕ) → StartsFrom a.holds t → image ≡ a.holds → out ≡ a.sent → IsCutOfRun t cs a image out
   as_it_was image out (inl (empty, is)) same silent = inr (record { empty = empty; silent = silent; unmade = inl (same ∙ empty) })
   as_it_was image out (inr (stands, range)) same silent =
       inl (subst (λ (o : List ℕ). IsCutSince StandsForTables t (trace (started t) cs) a.sent image o) (sym silent) (cut_none StandsForTables t (trace (started t) cs) a.sent image (subst (λ (l : List ℕ). StandsForTables t l) (sym same) stands)))

@@ -1,8 +1,8 @@
 -- Which error came before an error that was handed on.
 use Rattle.std.proofs.Common.{◌≡◌, Result, Ok, Err, refl, sym, ◌∙◌}
 use Rattle.std.specs.Prelude.{IsErrOf, IsErrAnd}
-use Rattle.kdcfile_store.specs.declared.whole.LoadError.{LoadError}
-use Rattle.kdcfile_store.specs.declared.whole.LoadError.TheVariants as load
+use Rattle.kdcfile_images.specs.declared.fault.LoadError.{LoadError}
+use Rattle.kdcfile_images.specs.declared.fault.LoadError.TheVariants as load
 use Rattle.utm_cli.specs.declared.error.OpenError.{OpenError}
 use Rattle.utm_cli.specs.declared.error.OpenError.TheVariants as opening
 use Rattle.utm_cli.specs.Causes.{of_load}

@@ -6,8 +6,8 @@ use Rattle.kdcfile_store.specs.declared.store.CommitError.TheVariants as from
 
 use Rattle.utm_cli.specs.declared.error.OpenError.{OpenError}
 use Rattle.utm_cli.specs.declared.error.OpenError.TheVariants as opening
-use Rattle.kdcfile_store.specs.declared.whole.LoadError.{LoadError}
-use Rattle.kdcfile_store.specs.declared.whole.LoadError.TheVariants as load
+use Rattle.kdcfile_images.specs.declared.fault.LoadError.{LoadError}
+use Rattle.kdcfile_images.specs.declared.fault.LoadError.TheVariants as load
 use Rattle.utm_cli.specs.declared.error.ScriptError.{ScriptError}
 use Rattle.utm_cli.specs.declared.error.ScriptError.TheVariants as script
 use Rattle.kd_device.specs.declared.room.RoomError.{RoomError}

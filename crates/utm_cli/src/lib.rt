@@ -12,6 +12,8 @@ mod say;
 mod script;
 mod status;
 mod text;
+mod top;
 mod words;
 
 pub use status::Status;
+pub use top::utm;

@@ -1,5 +1,7 @@
-use Rattle.std.proofs.Common.{◌≡◌, ◌∙◌, sym}
+use Rattle.std.proofs.Common.{◌≡◌, ◌∙◌, sym, ap, Err}
 use Rattle.std.specs.Prelude.{IsTrue}
+use Rattle.kdcfile_images.specs.ReadImages.{one_meaning}
+use Rattle.utm_cli.specs.declared.error.OpenError.{OpenError}
 use Rattle.utm_cli.specs.Words.{not_a_kdcfile_line}
 use Rattle.utm_cli.proofs.Ran.{not_both, opening_cut, run_cut, said_then, part_then}
 use Rattle.utm_cli.proofs.run.run.Goals as goal
@@ -16,7 +18,7 @@ returns-in-Ok-open-clause-any_moment g c = λ told only t starts.
     let b = g.D.Device.state c.open.new.device in
     let d = g.D.Device.state c.run_opened.new.device in
     let told_b : IsTrue b.told = rw c.open.ensures.frame.told told in
-    run_cut t c.args.commands.now a (g.D.Device.leaves c.args.device.now) only ? c.in-Ok-open.tables b d (g.D.Device.leaves c.open.new.device) (g.D.Device.leaves c.run_opened.new.device) starts (c.in-Ok-open.ensures.starts told) (c.open.ensures.any_moment told) (c.open.ensures.sent told)
+    run_cut t c.args.commands.now a (g.D.Device.leaves c.args.device.now) only one_meaning c.in-Ok-open.tables b d (g.D.Device.leaves c.open.new.device) (g.D.Device.leaves c.run_opened.new.device) starts (c.in-Ok-open.ensures.starts told) (c.open.ensures.any_moment told) (c.open.ensures.sent told)
     (c.run_opened.ensures.any.any_moment told_b)
 
 pub returns-in-Err-NotKdcfile-clause-refused_only : goal.returns-in-Err-NotKdcfile-clause-refused_only
@@ -25,7 +27,7 @@ returns-in-Err-NotKdcfile-clause-refused_only g c = λ code told.
     let b = g.D.Device.state c.open.new.device in
     let d = g.D.Device.state c.refuse.new.device in
     let told_b : IsTrue b.told = rw c.open.ensures.frame.told told in
-    let refused = c.in-Err-NotKdcfile.ensures.refused ? told in
+    let refused = c.in-Err-NotKdcfile.ensures.refused (ap (λ (e : OpenError). Err e) c.in-Err-NotKdcfile.field-0-is) told in
     (refused, said_then not_a_kdcfile_line a b d (g.D.Device.leaves c.args.device.now) (g.D.Device.leaves c.open.new.device) (c.open.ensures.still told refused.0) (c.refuse.ensures.said code told_b))
 
 pub returns-in-Err-NotKdcfile-clause-refused_part : goal.returns-in-Err-NotKdcfile-clause-refused_part
