@@ -1,0 +1,22 @@
+//! Counts of faults.
+ghost use Rattle.std.specs.Prelude.{◌≡◌, ◌≤◌, Ok, IsErr, OnErr, OnOk, MatchResult};
+ghost use Rattle.kd_device.specs.Device.{Rose};
+
+use kd_device::Failed;
+use std::io;
+
+/// The value of a call of the outside. Where it failed, the count rises, and stands still at its type's end.
+pub(crate) fn counted<T: Drop>(outcome: io::Result<T>, faults: &mut u64) -> Result<T, Failed>
+    ensures value { MatchResult outcome (λ value. result ≡ Ok value) (λ _. IsErr result) }
+    ensures failed { OnErr result (Rose faults.old faults.new) }
+    ensures done { OnOk result (faults.new ≡ faults.old) }
+    ensures later { faults.old ≤ faults.new }
+{
+    match outcome {
+        Ok(value) => Ok(value),
+        Err(_) => {
+            *faults = faults.saturating_add(1);
+            Err(Failed)
+        }
+    }
+}

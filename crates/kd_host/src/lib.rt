@@ -1,0 +1,17 @@
+//! The outside itself: a real file and the standard output as a device, and the files of the current folder as a room.
+//!
+//! It stands on kd_base and kd_device. It is the trusted edge: no contract can say what a file, a power cut or a line
+//! really does, so its device and its room tell nothing of their content. What is proved of them is that each call that
+//! fails raises its count of faults. That a write reaches the file, that a sync makes it last, and that an emit is sent
+//! rests on this crate's few lines, the library and the system below it.
+#![tactic(auto)]
+
+mod count;
+mod device;
+mod room;
+
+pub use device::FileDevice;
+pub use room::FolderRoom;
+
+#[cfg(test)]
+mod tests;
