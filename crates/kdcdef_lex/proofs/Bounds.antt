@@ -1,8 +1,8 @@
 -- The statements of a text are within the bounds: each line has a byte, and each operand has one.
-use Rattle.std.proofs.Common.{◌≡◌, ℕ, zero, suc, ◌+◌, ◌-◌, ◌<◌, ◌≤◌, Bool, true, false, cond, eqb, ltb, List, [], ◌∷◌, ◌++◌, length, take, drop, Option, Some, None, Result, Ok, Err, refl, sym, ap, ◌∙◌, subst, arith, inl, inr, length-append, length-drop, length-take-le}
-use Rattle.std.specs.Prelude.{IfOk, IsTrue, slice_index}
+use Rattle.std.proofs.Common.{◌≡◌, ℕ, zero, suc, ◌+◌, ◌-◌, ◌<◌, ◌≤◌, eqb, ltb, List, [], ◌∷◌, ◌++◌, length, take, drop, Some, None, Result, Ok, Err, sym, ap, ◌∙◌, arith, inl, inr, length-append, length-drop, length-take-le}
+use Rattle.std.specs.Prelude.{IfOk, slice_index}
 use Rattle.std.specs.Global.{Vec}
-use Rattle.std.specs.List.{list_all, position_or_len, suffix_len}
+use Rattle.std.specs.List.{position_or_len, suffix_len}
 use Rattle.std.specs.Str.Lines.{lines, strip_carriage_return}
 use Rattle.std.proofs.lemmas.Bool.{cases_Bool, ltb-false, ltb-true}
 use Rattle.std.proofs.lemmas.List.{length-take}
@@ -13,7 +13,7 @@ use Rattle.kdcdef_lex.specs.declared.statement.RawStatement.{RawStatement}
 use Rattle.kdcdef_lex.specs.Lines.{is_blank, is_mark, up_to_last, continued}
 use Rattle.kdcdef_lex.specs.Groups.{is_lf}
 use Rattle.kdcdef_lex.specs.Grammar.{written, AreTokens, IsStatement}
-use Rattle.kdcdef_lex.specs.Spelling.{Joins, JoinsOpen, BeginsStatement, Cut, AllSay, SpellsStatements}
+use Rattle.kdcdef_lex.specs.Spelling.{Joins, BeginsStatement, Cut, AllSay, SpellsStatements}
 use Rattle.kdcdef_lex.specs.Bounds.{LinesUpTo, operand_count, AreWithinBounds}
 use Rattle.kd_base.specs.Tools.{chosen, some_is}
 use Rattle.kdcdef_lex.proofs.FirstLine.{first_line, last_line}

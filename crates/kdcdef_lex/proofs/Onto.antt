@@ -1,6 +1,5 @@
 -- What is put in front of what is found, piece by piece.
-use Rattle.std.proofs.Common.{◌≡◌, ℕ, suc, ◌<◌, Bool, true, false, ◌+◌, ◌*◌, ◌≤◌, length, drop, take, get_or, arith, ◌-◌, length-drop, List, [], ◌∷◌, ◌++◌, Option, Some, None, refl, sym, ap, ◌∙◌, append_assoc}
-use Rattle.std.proofs.lemmas.List.{take_all}
+use Rattle.std.proofs.Common.{◌≡◌, ℕ, suc, ◌<◌, Bool, true, false, ◌+◌, ◌*◌, ◌≤◌, length, drop, get_or, arith, ◌-◌, List, [], ◌∷◌, ◌++◌, Option, Some, None, refl, sym, ap, ◌∙◌, append_assoc}
 use Rattle.kdcdef_lex.specs.declared.token.Token.{Token}
 use Rattle.kdcdef_lex.specs.declared.statement.RawItem.{RawItem}
 use Rattle.kdcdef_lex.specs.declared.statement.RawOperand.{RawOperand}

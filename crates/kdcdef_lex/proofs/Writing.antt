@@ -1,10 +1,10 @@
 -- The plain text of statements spells them.
-use Rattle.std.proofs.Common.{◌≡◌, ℕ, zero, suc, ◌+◌, ◌-◌, ◌*◌, ◌/◌, ◌%◌, ◌<◌, ◌≤◌, ◌&&◌, Bool, true, false, cond, not, eqb, ltb, List, [], ◌∷◌, ◌++◌, length, take, drop, Option, Some, None, refl, sym, ap, ◌∙◌, subst, arith, inl, inr, append_assoc, length-append}
-use Rattle.std.specs.Prelude.{IsTrue, slice_index}
-use Rattle.std.specs.List.{list_all, prefix_len, position_or_len}
+use Rattle.std.proofs.Common.{◌≡◌, ℕ, zero, suc, ◌+◌, ◌-◌, ◌*◌, ◌/◌, ◌%◌, ◌<◌, ◌≤◌, ◌&&◌, Bool, true, false, not, eqb, ltb, List, [], ◌∷◌, ◌++◌, length, take, drop, Option, Some, None, refl, sym, ap, ◌∙◌, subst, arith, inl, inr, append_assoc, length-append}
+use Rattle.std.specs.Prelude.{slice_index}
+use Rattle.std.specs.List.{list_all, position_or_len}
 use Rattle.std.specs.Char.{digit_value}
 use Rattle.std.specs.Str.Lines.{lines, strip_carriage_return}
-use Rattle.std.proofs.lemmas.Bool.{cases_Bool, eqb-true, false≢true, ltb-true, ltb-false, lt-ltb}
+use Rattle.std.proofs.lemmas.Bool.{cases_Bool, eqb-true, ltb-true, ltb-false, lt-ltb}
 use Rattle.std.proofs.lemmas.Bool.Decides.{nat_tests}
 use Rattle.std.proofs.lemmas.List.{take_at, drop_at, append-nil}
 use Rattle.kd_base.specs.Text.{hex_digit as hex_of}
@@ -19,13 +19,13 @@ use Rattle.kdcdef_lex.specs.declared.statement.RawValue.{RawValue}
 use Rattle.kdcdef_lex.specs.declared.statement.RawValue.TheVariants as values
 use Rattle.kdcdef_lex.specs.declared.statement.RawOperand.{RawOperand}
 use Rattle.kdcdef_lex.specs.declared.statement.RawStatement.{RawStatement}
-use Rattle.kdcdef_lex.specs.Lines.{is_blank, is_word_byte, is_passed, continued}
+use Rattle.kdcdef_lex.specs.Lines.{is_blank, is_word_byte}
 use Rattle.kdcdef_lex.specs.Groups.{is_lf}
 use Rattle.kdcdef_lex.specs.Tokens.{is_quote}
 use Rattle.kdcdef_lex.specs.Parsing.{hex_digit, hex_bytes, quoted_value}
 use Rattle.kdcdef_lex.specs.Reading.{is_text_byte}
 use Rattle.kdcdef_lex.specs.Grammar.{doubled, written, IsToken, Ends, AreTokens, IsItem, AreItems, IsValue, IsKeyed, AreOperands, IsStatement}
-use Rattle.kdcdef_lex.specs.Spelling.{Joins, BeginsStatement, IsGroup, Cut, Spells, Says, AllSay, SpellsStatements}
+use Rattle.kdcdef_lex.specs.Spelling.{IsGroup, Cut, Spells, AllSay}
 use Rattle.kdcdef_lex.specs.Writing.{hex_written, quoted_token, item_tokens, items_tokens, value_tokens, keyed_tokens, operands_tokens, statement_tokens, with_blanks, plain_line, plain_text, is_byte, IsWord, ItemIsWritable, ItemsAreWritable, ValueIsWritable, KeyedIsWritable, OperandsAreWritable, IsWritable, AreWritable, PlainTextSpells}
 use Rattle.kdcdef_lex.proofs.FirstLine.{first_line}
 

@@ -69,7 +69,10 @@ fn texts_and_what_they_spell(rt: HostRuntime) -> Result<(), Fail> {
         (b"\n END \t\r\nEND", b"2:END\n3:END\n"),
         // Comments, which are never continued.
         (b"* \xff\r -\nEND\n \t* x\n", b"2:END\n"),
-        (b"REMARK it's ( \\\n remark\nRemark,x\nREMARK=x\nEND\n", b"5:END\n"),
+        (
+            b"REMARK it's ( \\\n remark\nRemark,x\nREMARK=x\nEND\n",
+            b"5:END\n",
+        ),
         (b"REMARKS\nREM -\n\n", b"1:REMARKS\n2:REM\n"),
         // Continued lines.
         (b"A x,\\\n*y\nB\n", b"1:A x *y\n3:B\n"),
@@ -80,11 +83,17 @@ fn texts_and_what_they_spell(rt: HostRuntime) -> Result<(), Fail> {
         (b"A 'x -\r\ny'\n", b"1:A <x y>\n"),
         (b"-\n*FOO -\n\n", b"1:*FOO\n"),
         // Values.
-        (b"A 'it''s',C'x, y',X'2c2C',''\n", b"1:A <it's> <x, y> <,,> <>\n"),
+        (
+            b"A 'it''s',C'x, y',X'2c2C',''\n",
+            b"1:A <it's> <x, y> <,,> <>\n",
+        ),
         (b"A X'','*',k= '='\n", b"1:A <> <*> k=<=>\n"),
         (b"A\tb ,\tc =d\n", b"1:A b c=d\n"),
         (b"A(b)\n", b"1:A (b)\n"),
-        (b"A ( ),(,),( a , ,'b',X'63'),K=(c)\n", b"1:A () (,) (a,,<b>,<c>) K=(c)\n"),
+        (
+            b"A ( ),(,),( a , ,'b',X'63'),K=(c)\n",
+            b"1:A () (,) (a,,<b>,<c>) K=(c)\n",
+        ),
         (b"A \"b\",c.d/e*,-f\n", b"1:A \"b\" c.d/e* -f\n"),
     ];
     for (text, wanted) in texts {
