@@ -8,7 +8,7 @@ use Rattle.std.proofs.lemmas.Bool.{cases_Bool, eqb-true, ltb-true, ltb-false, lt
 use Rattle.std.proofs.lemmas.Bool.Decides.{nat_tests}
 use Rattle.std.proofs.lemmas.List.{take_at, drop_at, append-nil}
 use Rattle.kd_base.specs.Text.{hex_digit as hex_of}
-use Rattle.kd_base.specs.Fronts.{begins, split_there}
+use Rattle.kd_base.specs.Fronts.{split_there}
 use Rattle.kd_base.specs.Tools.{both_true, true_both}
 use Rattle.kdcdef_lex.specs.declared.token.Token.{Token}
 use Rattle.kdcdef_lex.specs.declared.token.Token.TheVariants as tokens
