@@ -7,12 +7,12 @@ use Rattle.std.proofs.lemmas.List.{take-append-drop}
 use Rattle.kdcdef_lex.specs.declared.token.Token.{Token}
 use Rattle.kdcdef_lex.specs.declared.token.Token.TheVariants.{Word, Quoted, Comma, Equals, Open, Close}
 use Rattle.kdcdef_lex.specs.Lines.{is_blank, is_word_byte, from_first}
-use Rattle.kdcdef_lex.specs.Tokens.{is_quote, onto_content, quoted_at, mark_of, marked, word_at, token_at, token_step, onto_tokens, tokens_within, tokens_of}
+use Rattle.kdcdef_lex.specs.Tokens.{is_quote, quoted_at, mark_of, marked, word_at, token_at, token_step, tokens_within, tokens_of}
 use Rattle.kdcdef_lex.specs.Grammar.{doubled, written, IsToken, AreTokens}
 use Rattle.kdcdef_lex.specs.Faults.{odd_quotes}
 use Rattle.kdcdef_lex.proofs.Words.{token_takes, first_quote}
 use Rattle.kd_base.specs.Fronts.{begins, front_passes, stops}
-use Rattle.kd_base.specs.Tools.{chosen, both_true, map_some, map_none, and_none}
+use Rattle.kd_base.specs.Tools.{chosen, both_true, map_some, map_none, and_none, onto, onto_first}
 use Rattle.kdcdef_lex.proofs.TokenLists.{tokens_are}
 
 twice : (b : Bool) → not (not b) ≡ b
@@ -91,8 +91,8 @@ open_even (b ∷ []) e =
       | inr h ↦ rw h.0 refl
     ]
 open_even (b ∷ c ∷ bytes) e =
-    elim (chosen (is_quote b) (cond (is_quote c) (onto_content (39 ∷ []) (quoted_at bytes)) (Some ([], c ∷ bytes))) (onto_content (b ∷ []) (quoted_at (c ∷ bytes))) None e) [
-      | inl h ↦ elim (chosen (is_quote c) (onto_content (39 ∷ []) (quoted_at bytes)) (Some ([], c ∷ bytes)) None h.1) [
+    elim (chosen (is_quote b) (cond (is_quote c) (onto_first (39 ∷ []) (quoted_at bytes)) (Some ([], c ∷ bytes))) (onto_first (b ∷ []) (quoted_at (c ∷ bytes))) None e) [
+      | inl h ↦ elim (chosen (is_quote c) (onto_first (39 ∷ []) (quoted_at bytes)) (Some ([], c ∷ bytes)) None h.1) [
         | inl k ↦ rw (h.0, k.0) (twice (odd_quotes bytes) ∙ open_even bytes (map_none (λ (q : List ℕ × List ℕ). let x : List ℕ × List ℕ = (39 ∷ q.0, q.1) in x) (quoted_at bytes) k.1))
         | inr k ↦ absurd (cc k.1)
       ]
@@ -126,14 +126,14 @@ none_odd zero bytes start e = absurd cc
 none_odd (suc n) [] start e = absurd cc
 none_odd (suc n) (b ∷ bs) start e =
     let g = λ (t : Token × List ℕ). let x : Token × List ℕ = (t.0, from_first t.1) in x in
-    elim (and_none (λ (t : Token × List ℕ). onto_tokens (t.0 ∷ []) (tokens_within n t.1)) (token_step (b ∷ bs)) e) [
+    elim (and_none (λ (t : Token × List ℕ). onto (t.0 ∷ []) (tokens_within n t.1)) (token_step (b ∷ bs)) e) [
       | inl h ↦ by_mark (mark_of b) (b ∷ bs) (map_none g (token_at (b ∷ bs)) h)
       | inr h ↦
           let s = map_some g (token_at (b ∷ bs)) h.0 h.1 in
           let t = s.0.0 in
           let rest = s.0.1 in
           let taken = token_takes (b ∷ bs) t rest start (omega arith) s.1 in
-          let failed : onto_tokens (t ∷ []) (tokens_within n (from_first rest)) ≡ None = subst (λ (x : Token × List ℕ). onto_tokens (x.0 ∷ []) (tokens_within n x.1) ≡ None) (sym s.2) h.2 in
+          let failed : onto (t ∷ []) (tokens_within n (from_first rest)) ≡ None = subst (λ (x : Token × List ℕ). onto (x.0 ∷ []) (tokens_within n x.1) ≡ None) (sym s.2) h.2 in
           ap odd_quotes taken.parts ∙ even_then (written t) rest (written_even t taken.token) ∙ first_even rest
           ∙ none_odd n (from_first rest) (stops is_blank rest) (map_none (λ (us : List Token). t ∷ us) (tokens_within n (from_first rest)) failed)
     ]

@@ -10,9 +10,9 @@ use Rattle.kdcdef_lex.specs.declared.statement.RawValue.{RawValue}
 use Rattle.kdcdef_lex.specs.declared.statement.RawValue.TheVariants as values
 use Rattle.kdcdef_lex.specs.declared.statement.RawOperand.{RawOperand}
 use Rattle.kdcdef_lex.specs.declared.statement.RawStatement.{RawStatement}
-use Rattle.kdcdef_lex.specs.Parsing.{quoted_value, item_at, item_ended, item_step, onto_items, items_within, value_at, with_key, operand_at, operand_ended, operand_step, onto_operands, operands_within, operands_of, statement_at}
+use Rattle.kdcdef_lex.specs.Parsing.{quoted_value, item_at, item_ended, item_step, items_within, value_at, with_key, operand_at, operand_ended, operand_step, operands_within, operands_of, statement_at}
 use Rattle.kdcdef_lex.specs.Grammar.{IsItem, AreItems, IsValue, IsKeyed, IsOperand, AreOperands, IsStatement}
-use Rattle.kd_base.specs.Tools.{map_some, some_is, chosen, and_some}
+use Rattle.kd_base.specs.Tools.{map_some, some_is, chosen, and_some, onto, onto_first}
 
 -- ---- items
 
@@ -64,11 +64,11 @@ ItemsTaken ts found = (own : List Token) × (ts ≡ own ++ tokens.Close ∷ foun
 items_take : (n : ℕ) (ts : List Token) (is : List (Option RawItem)) (rest : List Token) → items_within n ts ≡ Some (is, rest) → ItemsTaken ts (is, rest)
 items_take zero ts is rest e = absurd cc
 items_take (suc n) ts is rest e =
-    let f = λ (s : Option RawItem × Bool × List Token). cond s.1 (onto_items (s.0 ∷ []) (items_within n s.2)) (Some (s.0 ∷ [], s.2)) in
+    let f = λ (s : Option RawItem × Bool × List Token). cond s.1 (onto_first (s.0 ∷ []) (items_within n s.2)) (Some (s.0 ∷ [], s.2)) in
     let a = and_some f (item_step ts) (is, rest) e in
     let s = a.0 in
     let t = item_step_takes ts s a.1 in
-    elim (chosen s.1 (onto_items (s.0 ∷ []) (items_within n s.2)) (Some (s.0 ∷ [], s.2)) (Some (is, rest)) a.2) [
+    elim (chosen s.1 (onto_first (s.0 ∷ []) (items_within n s.2)) (Some (s.0 ∷ [], s.2)) (Some (is, rest)) a.2) [
       | inl h ↦
           let m = map_some (λ (l : List (Option RawItem) × List Token). let x : List (Option RawItem) × List Token = (s.0 ∷ l.0, l.1) in x) (items_within n s.2) (is, rest) h.1 in
           let more = items_take n s.2 m.0.0 m.0.1 m.1 in
@@ -189,11 +189,11 @@ cons_operands o (p ∷ os) own rest h k = ((own, rest, refl, h, k.0), omega arit
 operands_take : (n : ℕ) (ts : List Token) (os : List RawOperand) → operands_within n ts ≡ Some os → SomeOperands os ts
 operands_take zero ts os e = absurd cc
 operands_take (suc n) ts os e =
-    let f = λ (s : RawOperand × Bool × List Token). cond s.1 (onto_operands (s.0 ∷ []) (operands_within n s.2)) (Some (s.0 ∷ [])) in
+    let f = λ (s : RawOperand × Bool × List Token). cond s.1 (onto (s.0 ∷ []) (operands_within n s.2)) (Some (s.0 ∷ [])) in
     let a = and_some f (operand_step ts) os e in
     let s = a.0 in
     let t = operand_step_takes ts s a.1 in
-    elim (chosen s.1 (onto_operands (s.0 ∷ []) (operands_within n s.2)) (Some (s.0 ∷ [])) (Some os) a.2) [
+    elim (chosen s.1 (onto (s.0 ∷ []) (operands_within n s.2)) (Some (s.0 ∷ [])) (Some os) a.2) [
       | inl h ↦
           let m = map_some (λ (l : List RawOperand). s.0 ∷ l) (operands_within n s.2) os h.1 in
           let more = operands_take n s.2 m.0 m.1 in

@@ -5,12 +5,12 @@ use Rattle.std.specs.List.{list_all, prefix_len}
 use Rattle.std.proofs.lemmas.List.{take-append-drop, drop_at, append-nil}
 use Rattle.kdcdef_lex.specs.declared.token.Token.{Token}
 use Rattle.kdcdef_lex.specs.Lines.{is_blank, from_first}
-use Rattle.kdcdef_lex.specs.Tokens.{token_at, token_step, onto_tokens, tokens_within, tokens_of}
+use Rattle.kdcdef_lex.specs.Tokens.{token_at, token_step, tokens_within, tokens_of}
 use Rattle.kdcdef_lex.specs.Grammar.{written, AreTokens}
 use Rattle.kdcdef_lex.proofs.Tokens.{none_left}
 use Rattle.kdcdef_lex.proofs.Words.{token_again, token_takes, starts}
 use Rattle.kd_base.specs.Fronts.{begins, front_passes, stops, split_there}
-use Rattle.kd_base.specs.Tools.{map_some, some_is, and_some}
+use Rattle.kd_base.specs.Tools.{map_some, some_is, and_some, onto}
 
 from_gap : (gap rest : List ℕ) → IsTrue (list_all is_blank gap) → begins is_blank rest ≡ false → from_first (gap ++ rest) ≡ rest
 from_gap gap rest h k = rw (split_there is_blank gap rest h k, drop_at gap rest (length gap) refl) refl
@@ -26,14 +26,14 @@ tokens_take zero [] ts gap le start blank e = no_tokens gap ts blank e
 tokens_take zero (b ∷ bs) ts gap le start blank e = absurd (omega arith)
 tokens_take (suc n) [] ts gap le start blank e = no_tokens gap ts blank e
 tokens_take (suc n) (b ∷ bs) ts gap le start blank e =
-    let f = λ (t : Token × List ℕ). onto_tokens (t.0 ∷ []) (tokens_within n t.1) in
+    let f = λ (t : Token × List ℕ). onto (t.0 ∷ []) (tokens_within n t.1) in
     let a = and_some f (token_step (b ∷ bs)) ts e in
     let g = λ (t : Token × List ℕ). let x : Token × List ℕ = (t.0, from_first t.1) in x in
     let s = map_some g (token_at (b ∷ bs)) a.0 a.1 in
     let t = s.0.0 in
     let rest = s.0.1 in
     let taken = token_takes (b ∷ bs) t rest start (omega arith) s.1 in
-    let found : onto_tokens (t ∷ []) (tokens_within n (from_first rest)) ≡ Some ts = subst (λ (x : Token × List ℕ). onto_tokens (x.0 ∷ []) (tokens_within n x.1) ≡ Some ts) (sym s.2) a.2 in
+    let found : onto (t ∷ []) (tokens_within n (from_first rest)) ≡ Some ts = subst (λ (x : Token × List ℕ). onto (x.0 ∷ []) (tokens_within n x.1) ≡ Some ts) (sym s.2) a.2 in
     let m = map_some (λ (us : List Token). t ∷ us) (tokens_within n (from_first rest)) ts found in
     let len : length (from_first rest) ≤ n = omega (arith, shorter rest, ap length taken.parts, length-append (written t) rest, (starts t rest taken.token).1) in
     let more = tokens_take n (from_first rest) m.0 (take (prefix_len is_blank rest) rest) len (stops is_blank rest) (front_passes is_blank rest) m.1 in

@@ -1,8 +1,9 @@
 -- The tokens of a statement.
-use Rattle.std.specs.Prelude.{ℕ, zero, suc, Bool, ◌==◌, List, [], ◌∷◌, ◌++◌, length, drop, Option, Some, None, if◌then◌else◌, slice_index, option_and_then}
+use Rattle.std.specs.Prelude.{ℕ, zero, suc, Bool, ◌==◌, List, [], ◌∷◌, length, drop, Option, Some, None, if◌then◌else◌, slice_index, option_and_then}
 use Rattle.kd_base.specs.Fronts.{begins}
 use Rattle.std.specs.Option.{option_map}
 use Rattle.std.specs.List.{prefix_len, take_while}
+use Rattle.kd_base.specs.Tools.{onto, onto_first}
 use Rattle.kdcdef_lex.specs.declared.token.Token.{Token}
 use Rattle.kdcdef_lex.specs.declared.token.Token.TheVariants.{Word, Quoted, Comma, Equals, Open, Close}
 use Rattle.kdcdef_lex.specs.Lines.{is_word_byte, from_first}
@@ -10,18 +11,14 @@ use Rattle.kdcdef_lex.specs.Lines.{is_word_byte, from_first}
 abbrev pub is_quote : ℕ → Bool
 is_quote b = b == 39
 
--- before goes in front of what was found
-abbrev pub onto_content : List ℕ → Option (List ℕ × List ℕ) → Option (List ℕ × List ℕ)
-onto_content before found = option_map (λ (q : List ℕ × List ℕ). (before ++ q.0, q.1)) found
-
 -- behind a quote: the bytes up to its end, where two quotes stand for one, and what follows
 abbrev pub quoted_at : List ℕ → Option (List ℕ × List ℕ)
 quoted_at [] = None
 quoted_at (b ∷ []) = if is_quote b then Some ([], []) else None
 quoted_at (b ∷ c ∷ bytes) =
     if is_quote b
-    then (if is_quote c then onto_content (39 ∷ []) (quoted_at bytes) else Some ([], c ∷ bytes))
-    else onto_content (b ∷ []) (quoted_at (c ∷ bytes))
+    then (if is_quote c then onto_first (39 ∷ []) (quoted_at bytes) else Some ([], c ∷ bytes))
+    else onto_first (b ∷ []) (quoted_at (c ∷ bytes))
 
 abbrev pub mark_of : ℕ → Option Token
 mark_of b =
@@ -45,9 +42,6 @@ marked None bytes = word_at bytes
 abbrev pub token_at : List ℕ → Option (Token × List ℕ)
 token_at bytes = marked (mark_of (slice_index bytes 0)) bytes
 
-abbrev pub onto_tokens : List Token → Option (List Token) → Option (List Token)
-onto_tokens before found = option_map (λ (ts : List Token). before ++ ts) found
-
 -- the same, without the blanks behind the token
 abbrev pub token_step : List ℕ → Option (Token × List ℕ)
 token_step bytes = option_map (λ (t : Token × List ℕ). (t.0, from_first t.1)) (token_at bytes)
@@ -57,7 +51,7 @@ abbrev pub tokens_within : ℕ → List ℕ → Option (List Token)
 tokens_within zero bytes = Some []
 tokens_within (suc n) [] = Some []
 tokens_within (suc n) (b ∷ bytes) =
-    option_and_then (λ (t : Token × List ℕ). onto_tokens (t.0 ∷ []) (tokens_within n t.1)) (token_step (b ∷ bytes))
+    option_and_then (λ (t : Token × List ℕ). onto (t.0 ∷ []) (tokens_within n t.1)) (token_step (b ∷ bytes))
 
 abbrev pub tokens_of : List ℕ → Option (List Token)
 tokens_of bytes = tokens_within (length (from_first bytes)) (from_first bytes)
