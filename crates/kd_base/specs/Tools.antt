@@ -1,7 +1,7 @@
 -- Small lemmas on `Option`, `Result`, `&&` and `cond`, for proofs about readers.
-use Rattle.std.specs.Prelude.{◌≡◌, ◌⊎◌, ℕ, ◌-◌, Bool, true, false, cond, ◌&&◌, List, length, take, drop, Option, Some, None, Result, Ok, Err, refl, option_and_then}
+use Rattle.std.specs.Prelude.{◌≡◌, ◌⊎◌, ℕ, ◌-◌, Bool, true, false, cond, ◌&&◌, List, ◌++◌, length, take, drop, Option, Some, None, Result, Ok, Err, refl, option_and_then}
 use Rattle.std.specs.Option.{option_map}
-use Rattle.std.proofs.Common.{inl, inr, ap, arith, length-drop}
+use Rattle.std.proofs.Common.{inl, inr, ap, arith, append_assoc, length-drop}
 use Rattle.std.proofs.lemmas.List.{take_all}
 
 -- ---- `cond` and `&&`
@@ -54,6 +54,22 @@ and_some f (Some x) y e = (x, refl, e)
 pub and_none : {A B : Type 0} (f : A → Option B) (o : Option A) → option_and_then f o ≡ None → (o ≡ None) ⊎ ((x : A) × (o ≡ Some x) × (f x ≡ None))
 and_none f None e = inl refl
 and_none f (Some x) e = inr (x, refl, e)
+
+-- what goes in front of what was found
+abbrev pub onto : {A : Type 0} → List A → Option (List A) → Option (List A)
+onto {A} before found = option_map (λ (after : List A). before ++ after) found
+
+pub onto_then : {A : Type 0} (front more : List A) (found : Option (List A)) → onto (front ++ more) found ≡ onto front (onto more found)
+onto_then front more None = refl
+onto_then front more (Some after) = ap some_of (append_assoc front more after)
+
+-- the same, where what follows was found with it
+abbrev pub onto_first : {A B : Type 0} → List A → Option (List A × B) → Option (List A × B)
+onto_first {A} {B} before found = option_map (λ (p : List A × B). (before ++ p.0, p.1)) found
+
+pub onto_first_then : {A B : Type 0} (front more : List A) (found : Option (List A × B)) → onto_first (front ++ more) found ≡ onto_first front (onto_first more found)
+onto_first_then front more None = refl
+onto_first_then {A} {B} front more (Some p) = ap (λ (x : List A). let y : Option (List A × B) = Some (x, p.1) in y) (append_assoc front more p.0)
 
 -- ---- `Result`
 

@@ -1,0 +1,13 @@
+pub mod FirstLine
+pub mod Onto
+pub mod Tokens
+pub mod Reading
+pub mod Quoted
+pub mod Words
+pub mod TokenLists
+pub mod Statements
+pub mod Spelling
+pub mod Quotes
+pub mod Faults
+pub mod Bounds
+pub mod Writing

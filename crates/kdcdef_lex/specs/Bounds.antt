@@ -1,0 +1,18 @@
+-- How many lines and operands the statements of a text can have.
+use Rattle.std.specs.Prelude.{ℕ, ◌+◌, ◌≤◌, List, [], ◌∷◌, length}
+use Rattle.kdcdef_lex.specs.declared.statement.RawStatement.{RawStatement}
+
+-- each statement stands at this line or before it
+abbrev pub LinesUpTo : ℕ → List RawStatement → Type 0
+LinesUpTo last [] = Unit {0}
+LinesUpTo last (s ∷ ss) = (s.line ≤ last) × LinesUpTo last ss
+
+-- how many operands the statements have together
+abbrev pub operand_count : List RawStatement → ℕ
+operand_count [] = 0
+operand_count (s ∷ ss) = length s.operands + operand_count ss
+
+-- what the statements of every text keep
+pub record AreWithinBounds (ss : List RawStatement) : Type 0 where
+  pub lines : LinesUpTo 16777217 ss
+  pub operands : operand_count ss ≤ 16777216

@@ -1,0 +1,40 @@
+-- A fault stands at a line.
+use Rattle.std.specs.Prelude.{◌≡◌, ◌≢◌, ℕ, ◌<◌, ◌≤◌, ◌⊎◌, Bool, true, false, not, IsTrue, List, [], ◌∷◌, length, if◌then◌else◌}
+use Rattle.std.specs.List.{list_all}
+use Rattle.std.specs.Str.Lines.{lines}
+use Rattle.kdcdef_lex.specs.declared.fault.LexFault.{LexFault}
+use Rattle.kdcdef_lex.specs.declared.fault.LexFault.TheVariants.{NotAscii, OpenQuote, OpenParen, DanglingContinuation, BadOperand, TextTooLong, Memory}
+use Rattle.kdcdef_lex.specs.declared.token.Token.{Token}
+use Rattle.kdcdef_lex.specs.declared.group.Group.{Group}
+use Rattle.kdcdef_lex.specs.declared.statement.RawStatement.{RawStatement}
+use Rattle.kdcdef_lex.specs.Tokens.{is_quote}
+use Rattle.kdcdef_lex.specs.Reading.{is_text_byte, leaves_open}
+use Rattle.kdcdef_lex.specs.Grammar.{AreTokens, IsStatement}
+use Rattle.kdcdef_lex.specs.Spelling.{Cut, Says}
+
+-- whether the number of quotes is odd
+abbrev pub odd_quotes : List ℕ → Bool
+odd_quotes [] = false
+odd_quotes (b ∷ bytes) = if is_quote b then not (odd_quotes bytes) else odd_quotes bytes
+
+abbrev pub IsText : Group → Type 0
+IsText g = IsTrue (list_all is_text_byte g.text)
+
+-- the group has the fault, and none with a lesser line or, on its line, a lesser number
+abbrev pub HasFault : Group → LexFault → Type 0
+HasFault g (NotAscii n) = (n ≡ g.first) × (list_all is_text_byte g.text ≡ false)
+HasFault g (OpenQuote n) = (n ≡ g.first) × IsText g × (odd_quotes g.text ≡ true)
+HasFault g (OpenParen n) = (n ≡ g.first) × IsText g × (ts : List Token) × AreTokens ts g.text × (leaves_open false ts ≡ true)
+HasFault g (DanglingContinuation n) = (n ≡ g.last) × IsText g × (g.dangling ≡ true) × (ts : List Token) × AreTokens ts g.text × (leaves_open false ts ≡ false) × ((g.first ≡ g.last) ⊎ ((s : RawStatement) × IsStatement s ts))
+HasFault g (BadOperand n) = (n ≡ g.first) × IsText g × (g.dangling ≡ true → g.first ≢ g.last) × (ts : List Token) × AreTokens ts g.text × (leaves_open false ts ≡ false) × ((s : RawStatement) → IsStatement s ts → ⊥)
+HasFault g TextTooLong = ⊥
+HasFault g Memory = ⊥
+
+-- the first group that is no spelling of a statement has the fault
+abbrev pub FirstFault : List Group → LexFault → Type 0
+FirstFault [] fault = ⊥
+FirstFault (g ∷ gs) fault = HasFault g fault ⊎ (((s : RawStatement) × Says g s) × FirstFault gs fault)
+
+abbrev pub HasTextFault : List ℕ → LexFault → Type 0
+HasTextFault text TextTooLong = 16777216 < length text
+HasTextFault text fault = (length text ≤ 16777216) × (gs : List Group) × Cut 1 (lines text) gs × FirstFault gs fault

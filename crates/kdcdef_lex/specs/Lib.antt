@@ -1,0 +1,10 @@
+pub mod Lines
+pub mod Groups
+pub mod Tokens
+pub mod Parsing
+pub mod Reading
+pub mod Grammar
+pub mod Spelling
+pub mod Faults
+pub mod Bounds
+pub mod Writing

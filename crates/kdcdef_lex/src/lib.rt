@@ -1,0 +1,23 @@
+//! The statements of a KDCDEF text, as they are written: keyword, keys, words, quoted values and lists.
+//!
+//! It stands on `kd_base`. To the reader of typed statements its contract says that the statements it gets are those
+//! that the text spells, that every other text is refused for the fault of its least line, and how many lines and
+//! operands there can be.
+#![tactic(auto)]
+
+mod fault;
+mod group;
+mod laws;
+mod line;
+mod parse;
+mod read;
+mod statement;
+mod token;
+
+pub use fault::LexFault;
+pub use laws::plain_text_spells;
+pub use read::lines;
+pub use statement::{Items, Operands, RawItem, RawOperand, RawStatement, RawValue};
+
+#[cfg(test)]
+mod tests;
