@@ -1,7 +1,7 @@
 //! A device in memory, which fails the calls that it is told to fail, and can be stopped after each call.
-ghost use Rattle.std.specs.Prelude.{◌≡◌, ◌≤◌, ◌+◌, ◌-◌, ◌↔◌, [], ◌∷◌, ◌++◌, List, ℕ, IsTrue, length, take, drop, min, IfOk, OnOk, OnErr, is_ok, IsErr, not, if◌then◌else◌};
+ghost use Rattle.std.specs.Prelude.{◌≡◌, ◌≤◌, ◌+◌, ◌-◌, ◌↔◌, [], ◌∷◌, ◌++◌, IsTrue, length, take, drop, min, IfOk, OnOk, OnErr, is_ok, IsErr, not, if◌then◌else◌};
 ghost use Rattle.std.specs.List.{Contains};
-ghost use Rattle.kd_device.specs.Device.{State, Rose, Frame, SameNames, SameSpare, UsesSpare, HasSpare, Reserved, Quiet, Writes, Emits, Only};
+ghost use Rattle.kd_device.specs.Device.{Rose, Frame, SameNames, SameSpare, UsesSpare, HasSpare, Reserved, Quiet, Writes, Emits, Only};
 ghost use Rattle.kd_device.specs.History.{AllDone};
 ghost use Rattle.kd_device.specs.Tape.{disk_at};
 ghost use Rattle.kd_device.specs.Memory.{Memory, unused, state_of, leaves_of, Fails, Counts, SameCalls, counted, disk_fault, line_fault};

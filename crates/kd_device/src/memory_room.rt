@@ -1,9 +1,8 @@
 //! A room of texts in memory, which fails the reads that it is told to fail.
-ghost use Rattle.std.specs.Prelude.{◌≡◌, ◌↔◌, ◌+◌, List, ℕ, IsTrue, IfOk, IsOk, IsSome, IsErrOf, IsSomeAnd, take, option_copied, [], refl};
-ghost use Rattle.std.specs.List.{Contains};
+ghost use Rattle.std.specs.Prelude.{◌≡◌, ◌↔◌, ◌+◌, IsTrue, IfOk, IsOk, IsSome, IsErrOf, IsSomeAnd, take, option_copied, [], refl};
 ghost use Rattle.kd_device.specs.Count.{raised};
 ghost use Rattle.kd_device.specs.Device.{Rose};
-ghost use Rattle.kd_device.specs.Room.{RoomState, text_of, SameRoom};
+ghost use Rattle.kd_device.specs.Room.{text_of, SameRoom};
 ghost use Rattle.kd_device.specs.Texts.{Texts, unread, room_of, with_fault, ReadFails};
 
 use crate::kind::raise;

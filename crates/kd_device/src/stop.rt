@@ -1,5 +1,5 @@
 //! What a stop leaves of a device in memory.
-ghost use Rattle.std.specs.Prelude.{◌≡◌, ◌≤◌, ◌+◌, ◌<◌, true, false, List, ℕ, length, take, IfOk, OnOk, if◌then◌else◌};
+ghost use Rattle.std.specs.Prelude.{◌≡◌, ◌≤◌, ◌+◌, ◌<◌, length, IfOk, OnOk, if◌then◌else◌};
 ghost use Rattle.kd_device.specs.Device.{written, Torn};
 ghost use Rattle.kd_device.specs.History.{Disk, Torns, IsDone, AllDone, step, after, fresh};
 ghost use Rattle.kd_device.specs.Tape.{event, events, IsInside, AllInside};

@@ -1,5 +1,5 @@
 //! A device in memory of which no call fails.
-ghost use Rattle.std.specs.Prelude.{◌≡◌, [], List, ℕ, IsTrue, length, IfOk};
+ghost use Rattle.std.specs.Prelude.{◌≡◌, [], IsTrue, length, IfOk};
 ghost use Rattle.kd_device.specs.Device.{Only};
 ghost use Rattle.kd_device.specs.Tape.{blank};
 ghost use Rattle.kd_device.specs.Sure.{sure_state, sure_leaves};

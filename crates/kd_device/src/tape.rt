@@ -1,6 +1,6 @@
 //! A disk file and an output line in memory, with the calls that were made.
-ghost use Rattle.std.specs.Prelude.{◌≡◌, ◌≤◌, ◌+◌, [], List, ℕ, length, take, IfOk, OnErr, OnOk, if◌then◌else◌};
-ghost use Rattle.kd_device.specs.History.{Event, Wrote, Synced, Emitted, AllDone};
+ghost use Rattle.std.specs.Prelude.{◌≡◌, ◌≤◌, ◌+◌, length, take, IfOk, OnErr, OnOk, if◌then◌else◌};
+ghost use Rattle.kd_device.specs.History.{Wrote, Synced, Emitted, AllDone};
 ghost use Rattle.kd_device.specs.Tape.{Recording, blank, disk_of, disk_at, left_by, with_event, with_name, reserved};
 
 use crate::buffer::{append, append_if, overwrite_if, put};
