@@ -1,6 +1,5 @@
 -- The records that are read so far, one after another.
-use Rattle.std.proofs.Common.{◌≡◌, ℕ, suc, ◌+◌, ◌-◌, ◌<◌, ◌≤◌, Bool, true, false, cond, List, [], ◌∷◌, ◌++◌, length, map, drop, Option, Some, None, refl, sym, ap, subst, ◌∙◌, arith, append_assoc}
-use Rattle.std.specs.Option.{option_map}
+use Rattle.std.proofs.Common.{◌≡◌, ℕ, suc, ◌+◌, ◌-◌, ◌<◌, ◌≤◌, true, false, List, [], ◌∷◌, ◌++◌, length, map, Option, Some, None, refl, sym, ap, subst, ◌∙◌, arith, append_assoc}
 use Rattle.std.proofs.lemmas.Bool.{cond-true, cond-false}
 use Rattle.std.proofs.lemmas.List.{append-nil, map-append}
 use Rattle.kd_records.specs.declared.key.RecordKey.{RecordKey}
@@ -8,7 +7,7 @@ use Rattle.kd_records.specs.Contents.{Record}
 use Rattle.kdcfile_images.specs.declared.pages.ImageRecord.{ImageRecord}
 use Rattle.kdcfile_images.specs.Opened.{record_of}
 use Rattle.kdcfile_images.specs.Reading.{record_at, after_record, records_of, onto, follows, InSlots}
-use Rattle.kdcfile_images.specs.ReadRecords.{one_and_more, no_more, none_left, reads_on}
+use Rattle.kdcfile_images.specs.ReadRecords.{one_and_more, no_more, none_left}
 
 onto_onto : (a b : List Record) (o : Option (List Record)) → onto a (onto b o) ≡ onto (a ++ b) o
 onto_onto a b None = refl

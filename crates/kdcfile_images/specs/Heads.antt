@@ -1,5 +1,5 @@
 -- What the first bytes say, and what is written there.
-use Rattle.std.proofs.Common.{◌≡◌, ◌⊎◌, inl, inr, ⊎_elim, ℕ, ◌+◌, ◌-◌, ◌*◌, ◌%◌, ◌<◌, ◌≤◌, ◌^◌, min, Bool, true, false, cond, ◌&&◌, ◌||◌, eqb, leb, ltb, List, [], ◌∷◌, ◌++◌, length, take, drop, get_or, Option, Some, None, refl, sym, ap, subst, ◌∙◌, arith, length-append}
+use Rattle.std.proofs.Common.{◌≡◌, ◌⊎◌, inl, inr, ⊎_elim, ℕ, ◌%◌, ◌<◌, ◌≤◌, ◌^◌, Bool, true, false, eqb, ltb, List, ◌++◌, length, take, drop, get_or, Some, refl, sym, ap, subst, ◌∙◌, arith}
 use Rattle.std.specs.Str.{bytes_eq}
 use Rattle.std.specs.Int.{w32, to_be_bytes}
 use Rattle.std.proofs.lemmas.Bool.{ltb-false, le-ltb, leb-true, le-leb, eqb-true, eq-eqb, and_parts, and_from, or_cases, or_left, or_right, cond-true, cond-false, cases_lt}
@@ -9,9 +9,9 @@ use Rattle.std.proofs.lemmas.List.{take-take, take_at, drop_at, take-append-drop
 use Rattle.kd_records.specs.declared.content.Content.{Content}
 use Rattle.kd_records.specs.Identity.{Identity, IsIdentity}
 use Rattle.kdcfile_images.specs.declared.head.Head.{Head}
-use Rattle.kdcfile_images.specs.File.{Stands, head, selector, place, spelled, image_size}
+use Rattle.kdcfile_images.specs.File.{Stands, head, selector, place, spelled}
 use Rattle.kdcfile_images.specs.Reading.{AreBytes, HasSizes, has_sizes, sized, head_of, gate, number}
-use Rattle.kdcfile_images.specs.Places.{after, field, parted, read_4, written_4}
+use Rattle.kdcfile_images.specs.Places.{after, parted, read_4, written_4}
 use Rattle.kdcfile_images.specs.Tests.{unless, when}
 
 sizes_pass : (block pages : ℕ) → HasSizes block pages → has_sizes block pages ≡ true
@@ -60,8 +60,7 @@ first_fields : (i : Identity) (front tail : List ℕ) → front ≡ gate ++ (to_
     → (take 9 front ≡ gate) × (number w32 9 front ≡ i.block) × (number w32 13 front ≡ i.pages)
 first_fields i front tail is block_fits pages_fits =
     let behind : drop 9 front ≡ to_be_bytes w32 i.block ++ (to_be_bytes w32 i.pages ++ tail) = ap (λ (l : List ℕ). drop 9 l) is ∙ drop_at gate (to_be_bytes w32 i.block ++ (to_be_bytes w32 i.pages ++ tail)) 9 refl in
-    let last : drop 13 front ≡ to_be_bytes w32 i.pages ++ tail = after front (to_be_bytes w32 i.block) (to_be_bytes w32 i.pages ++ tail) 9 4 behind refl in
-    (
+    let last : drop 13 front ≡ to_be_bytes w32 i.pages ++ tail = after front (to_be_bytes w32 i.block) (to_be_bytes w32 i.pages ++ tail) 9 4 behind refl in (
       ap (λ (l : List ℕ). take 9 l) is ∙ take_at gate (to_be_bytes w32 i.block ++ (to_be_bytes w32 i.pages ++ tail)) 9 refl,
       written_4 front (to_be_bytes w32 i.pages ++ tail) 9 i.block behind block_fits,
       written_4 front tail 13 i.pages last pages_fits,
@@ -110,7 +109,7 @@ head_read front h bytes e =
           (sym (take-append-drop 9 front)
           ∙ ap (λ (l : List ℕ). l ++ drop 9 front) mark
           ∙ ap (λ (l : List ℕ). gate ++ l) (parted 9 4 front ∙ ap (λ (l : List ℕ). l ++ drop 13 front) (sym (read_4 9 front bytes (omega arith)))
-            ∙ ap (λ (l : List ℕ). to_be_bytes w32 (number w32 9 front) ++ l) (parted 13 4 front ∙ ap (λ (l : List ℕ). l ++ drop 17 front) (sym (read_4 13 front bytes (omega arith))))))
+          ∙ ap (λ (l : List ℕ). to_be_bytes w32 (number w32 9 front) ++ l) (parted 13 4 front ∙ ap (λ (l : List ℕ). l ++ drop 17 front) (sym (read_4 13 front bytes (omega arith))))))
           ∙ take_at (gate ++ (to_be_bytes w32 (number w32 9 front) ++ to_be_bytes w32 (number w32 13 front))) (drop 17 front) 17 refl;
       selected = so_selected (get_or front 4096 0) (eqb (get_or front 4096 0 % 2) 1) refl;
       sizes = sizes_hold (number w32 9 front) (number w32 13 front) sizes;

@@ -1,5 +1,5 @@
 -- Images that are read, and images that are written.
-use Rattle.std.proofs.Common.{◌≡◌, ℕ, ◌+◌, ◌-◌, ◌*◌, ◌%◌, ◌<◌, ◌≤◌, ◌^◌, min, Bool, true, false, cond, ◌&&◌, eqb, ltb, List, [], ◌∷◌, ◌++◌, length, take, drop, get_or, Option, Some, None, refl, sym, ap, subst, ◌∙◌, arith, append_assoc, length-append}
+use Rattle.std.proofs.Common.{◌≡◌, ℕ, ◌%◌, ◌<◌, ◌≤◌, Bool, true, ◌&&◌, eqb, ltb, List, [], ◌++◌, length, take, drop, get_or, Option, Some, None, refl, sym, ap, subst, ◌∙◌, arith, append_assoc, length-append}
 use Rattle.std.specs.Prelude.{codes}
 use Rattle.std.specs.List.{flat_map}
 use Rattle.std.specs.Int.{w32, w64, to_be_bytes}
@@ -15,11 +15,11 @@ use Rattle.kd_records.specs.Identity.{Identity, IsIdentity}
 use Rattle.kdcfile_images.specs.declared.head.Head.{Head}
 use Rattle.kdcfile_images.specs.declared.image.Root.{Root}
 use Rattle.kdcfile_images.specs.Opened.{Opened, identity_of}
-use Rattle.kdcfile_images.specs.File.{Stands, StandsFor, IsNoImage, OneMeaning, head, root, spelled_record, spelled, selector, place, image_size}
+use Rattle.kdcfile_images.specs.File.{Stands, IsNoImage, OneMeaning, root, spelled_record, spelled, place, image_size}
 use Rattle.kdcfile_images.specs.Reading.{AreBytes, HasSizes, head_of, number, is_root, root_with, root_of, records_of, image_of, size_of, place_of}
 use Rattle.kdcfile_images.specs.Places.{after, field, parted, read_4, read_8, small_8, small_4, written_4, written_8, length-piece, AreBytes-drop}
 use Rattle.kdcfile_images.specs.Tests.{unless, when, mapped, bound}
-use Rattle.kdcfile_images.specs.Heads.{Headed, head_written, head_read, sizes_of, block_small}
+use Rattle.kdcfile_images.specs.Heads.{Headed, head_written, head_read}
 use Rattle.kdcfile_images.specs.ReadRecords.{records_written, records_read}
 
 regrouped : (a b c d e f g h : List ℕ) → ((((((a ++ b) ++ c) ++ d) ++ e) ++ f) ++ g) ++ h ≡ a ++ (b ++ (c ++ (d ++ (e ++ (f ++ (g ++ h))))))
@@ -128,14 +128,14 @@ image_made h image items sizes bytes long passes found =
     let directory : number w32 52 image ≡ 0 = eqb-true (number w32 52 image) 0 numbers.1 in
     let mark : take 4 (drop 60 image) ≡ codes "ROOT" = (bytes_eq-Decides (take 4 (drop 60 image)) (codes "ROOT")).0 tests.1 in
     let whole =
-        joined image (take 32 image) (to_be_bytes w64 (number w64 32 image)) (to_be_bytes w64 (number w64 40 image)) (to_be_bytes w32 h.pages) (to_be_bytes w32 0) (to_be_bytes w32 (length items)) (codes "ROOT")
-        (sym (take-append-drop 32 image))
-        (parted 32 8 image ∙ ap (λ (l : List ℕ). l ++ drop 40 image) (sym (read_8 32 image bytes (omega (arith, long)))))
-        (parted 40 8 image ∙ ap (λ (l : List ℕ). l ++ drop 48 image) (sym (read_8 40 image bytes (omega (arith, long)))))
-        (parted 48 4 image ∙ ap (λ (l : List ℕ). l ++ drop 52 image) (sym (read_4 48 image bytes (omega (arith, long))) ∙ ap (λ (n : ℕ). to_be_bytes w32 n) pages))
-        (parted 52 4 image ∙ ap (λ (l : List ℕ). l ++ drop 56 image) (sym (read_4 52 image bytes (omega (arith, long))) ∙ ap (λ (n : ℕ). to_be_bytes w32 n) directory))
-        (parted 56 4 image ∙ ap (λ (l : List ℕ). l ++ drop 60 image) (sym (read_4 56 image bytes (omega (arith, long))) ∙ ap (λ (n : ℕ). to_be_bytes w32 n) (sym rs.count)))
-        (parted 60 4 image ∙ ap (λ (l : List ℕ). l ++ drop 64 image) mark) in
+    joined image (take 32 image) (to_be_bytes w64 (number w64 32 image)) (to_be_bytes w64 (number w64 40 image)) (to_be_bytes w32 h.pages) (to_be_bytes w32 0) (to_be_bytes w32 (length items)) (codes "ROOT")
+    (sym (take-append-drop 32 image))
+    (parted 32 8 image ∙ ap (λ (l : List ℕ). l ++ drop 40 image) (sym (read_8 32 image bytes (omega (arith, long)))))
+    (parted 40 8 image ∙ ap (λ (l : List ℕ). l ++ drop 48 image) (sym (read_8 40 image bytes (omega (arith, long)))))
+    (parted 48 4 image ∙ ap (λ (l : List ℕ). l ++ drop 52 image) (sym (read_4 48 image bytes (omega (arith, long))) ∙ ap (λ (n : ℕ). to_be_bytes w32 n) pages))
+    (parted 52 4 image ∙ ap (λ (l : List ℕ). l ++ drop 56 image) (sym (read_4 52 image bytes (omega (arith, long))) ∙ ap (λ (n : ℕ). to_be_bytes w32 n) directory))
+    (parted 56 4 image ∙ ap (λ (l : List ℕ). l ++ drop 60 image) (sym (read_4 56 image bytes (omega (arith, long))) ∙ ap (λ (n : ℕ). to_be_bytes w32 n) (sym rs.count)))
+    (parted 60 4 image ∙ ap (λ (l : List ℕ). l ++ drop 64 image) mark) in
     let i : Identity = record { block = h.block; pages = h.pages; fingerprint = take 32 image } in
     let x : Content = record { clock = number w64 32 image; next_job = number w64 40 image; items = items } in
     record {
@@ -189,7 +189,7 @@ pub one_meaning : OneMeaning
 one_meaning i j x y bytes (s, a) (t, b) =
     let heads : head_made i s ≡ head_made j t = same_Some (head_made i s) (head_made j t) (sym (file_head i x s bytes a) ∙ file_head j y t bytes b) in
     let images : (opened i x s, x.items) ≡ (opened j y t, y.items) =
-        same_Some (opened i x s, x.items) (opened j y t, y.items) (sym (file_image i x s bytes a) ∙ ap (λ (h : Head). image_of h (image_in h bytes)) heads ∙ file_image j y t bytes b) in
+    same_Some (opened i x s, x.items) (opened j y t, y.items) (sym (file_image i x s bytes a) ∙ ap (λ (h : Head). image_of h (image_in h bytes)) heads ∙ file_image j y t bytes b) in
     (ap (λ (p : Opened × List Record). identity_of p.0) images, ap (λ (p : Opened × List Record). content_with p.0 p.1) images)
 
 -- what is read of a file, against what it holds
@@ -216,7 +216,7 @@ module _ (holds front : List ℕ) (front_is : front ≡ take 4097 (drop 0 holds)
             → Stands (identity_of o) o.second (content_with o items) holds
         stands_of holds front front_is o items image headed image_is identity content tail spelled_is =
             let len : length (spelled (identity_of o) (content_with o items)) ≤ image_size (identity_of o) =
-                omega (arith, ap (λ (l : List ℕ). length l) image_is, ap (λ (l : List ℕ). length l) spelled_is, length-append (spelled (identity_of o) (content_with o items)) tail, length-take (image_size (identity_of o)) (drop (place (identity_of o) o.second) holds)) in
+            omega (arith, ap (λ (l : List ℕ). length l) image_is, ap (λ (l : List ℕ). length l) spelled_is, length-append (spelled (identity_of o) (content_with o items)) tail, length-take (image_size (identity_of o)) (drop (place (identity_of o) o.second) holds)) in
             record {
               identity = identity;
               content = content;

@@ -1,5 +1,5 @@
 -- Records that are read, and records that are written.
-use Rattle.std.proofs.Common.{◌≡◌, ℕ, zero, suc, ◌+◌, ◌-◌, ◌<◌, ◌≤◌, ◌^◌, Bool, true, false, cond, ◌&&◌, IsTrue, eqb, ltb, List, [], ◌∷◌, ◌++◌, length, take, drop, get_or, Option, Some, None, refl, sym, ap, subst, ◌∙◌, arith, append_assoc, length-append}
+use Rattle.std.proofs.Common.{◌≡◌, ℕ, zero, suc, ◌+◌, ◌≤◌, true, cond, IsTrue, eqb, ltb, List, [], ◌∷◌, ◌++◌, length, take, drop, get_or, Option, Some, None, refl, sym, ap, subst, ◌∙◌, arith, append_assoc, length-append}
 use Rattle.std.specs.List.{All, flat_map}
 use Rattle.std.specs.Int.{w32, to_be_bytes}
 use Rattle.std.specs.Option.{option_and_then}
@@ -11,7 +11,7 @@ use Rattle.std.specs.declared.cmp.Ordering.{Ordering}
 use Rattle.std.specs.declared.cmp.Ordering.TheVariants.{Less, Equal, Greater}
 use Rattle.std.proofs.lemmas.Bool.{false≢true, ltb-false, le-ltb, eqb-false, ne_eqb, and_parts, and_from, cond-true, cond-false}
 use Rattle.std.proofs.lemmas.List.Elements.{All-nil, All-cons, All-head, All-tail}
-use Rattle.std.proofs.lemmas.List.{drop_more, drop_at, append-nil}
+use Rattle.std.proofs.lemmas.List.{drop_more}
 use Rattle.std.proofs.lemmas.Option.{same_Some}
 use Rattle.kd_records.specs.declared.key.RecordKey.{RecordKey}
 use Rattle.kd_records.specs.Contents.{Record, IsRecord}
@@ -92,10 +92,10 @@ record_read left r bytes e =
               ∙ ap (λ (l : List ℕ). get_or left 0 0 ∷ l)
               (parted 1 24 left
               ∙ ap (λ (l : List ℕ). take 24 (drop 1 left) ++ l)
-                (parted 25 4 left
-                ∙ ap (λ (l : List ℕ). l ++ drop 29 left) (sym (read_4 25 left bytes (omega arith)) ∙ ap (λ (n : ℕ). to_be_bytes w32 n) (sym value_length))
-                ∙ ap (λ (l : List ℕ). to_be_bytes w32 (length (take (number w32 25 left) (drop 29 left))) ++ l)
-                  (parted 29 (number w32 25 left) left ∙ ap (λ (n : ℕ). take (number w32 25 left) (drop 29 left) ++ drop (29 + n) left) (sym value_length)))
+              (parted 25 4 left
+              ∙ ap (λ (l : List ℕ). l ++ drop 29 left) (sym (read_4 25 left bytes (omega arith)) ∙ ap (λ (n : ℕ). to_be_bytes w32 n) (sym value_length))
+              ∙ ap (λ (l : List ℕ). to_be_bytes w32 (length (take (number w32 25 left) (drop 29 left))) ++ l)
+              (parted 29 (number w32 25 left) left ∙ ap (λ (n : ℕ). take (number w32 25 left) (drop 29 left) ++ drop (29 + n) left) (sym value_length)))
               ∙ sym (ap (λ (l : List ℕ). take 24 (drop 1 left) ++ l) (append_assoc (to_be_bytes w32 (length (take (number w32 25 left) (drop 29 left)))) (take (number w32 25 left) (drop 29 left)) (after_record (key_at left, take (number w32 25 left) (drop 29 left)) left)))
               ∙ sym (append_assoc (take 24 (drop 1 left)) (to_be_bytes w32 (length (take (number w32 25 left) (drop 29 left))) ++ take (number w32 25 left) (drop 29 left)) (after_record (key_at left, take (number w32 25 left) (drop 29 left)) left)));
         }

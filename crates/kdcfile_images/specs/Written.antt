@@ -3,7 +3,7 @@ use Rattle.std.proofs.Common.{◌≡◌, ℕ, ◌+◌, ◌-◌, ◌%◌, ◌≤�
 use Rattle.std.specs.List.{flat_map}
 use Rattle.std.proofs.Math.Seq.{take-append-add}
 use Rattle.std.proofs.lemmas.List.{take-append-drop, drop-drop, take_at, drop_at, get_or-take, get_or-drop}
-use Rattle.kd_device.specs.Device.{Torn, written}
+use Rattle.kd_device.specs.Device.{written}
 use Rattle.kd_device.specs.Torn.{torn_done, length-front, length-written}
 use Rattle.kd_records.specs.declared.content.Content.{Content}
 use Rattle.kd_records.specs.Contents.{IsContent}

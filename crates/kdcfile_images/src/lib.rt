@@ -11,11 +11,11 @@ mod fault;
 mod head;
 mod image;
 mod loading;
+mod making;
 mod pages;
 mod part;
 mod read_root;
 mod record;
-mod making;
 mod root;
 mod synced;
 mod writes;
@@ -27,3 +27,6 @@ pub use loading::{load, one_meaning};
 pub use making::create;
 pub use pages::{Directory, ImageRecord, ImageRecords, PageWrite, PageWrites, Pages};
 pub use synced::write_synced;
+
+#[cfg(test)]
+mod writing_tests;

@@ -11,8 +11,8 @@ use crate::fault::LoadError;
 use crate::head::{FRONT_LEN, Head, head_of};
 use crate::image::{Image, Loaded};
 use crate::part::read_part;
-use crate::record::records_of;
 use crate::read_root::{ROOT_LEN, root_of};
+use crate::record::records_of;
 use kd_base::OutOfMemory;
 use kd_device::Device;
 use std::alloc::Global;
@@ -82,5 +82,4 @@ pub fn load<D: Device>(alloc: Global, device: &mut D) -> Result<Loaded, LoadErro
 /// The law of files: their bytes stand for one content at most, made with one identity.
 pub fn one_meaning()
     ensures { OneMeaning }
-{
-}
+{}

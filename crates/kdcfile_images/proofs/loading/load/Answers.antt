@@ -1,4 +1,4 @@
-use Rattle.std.proofs.Common.{◌≡◌, List, ℕ, map, take, Option, Some, sym, ap, ◌∙◌}
+use Rattle.std.proofs.Common.{List, ℕ, map, take, Option, sym, ap, ◌∙◌}
 use Rattle.std.specs.Option.{option_map}
 use Rattle.kd_records.specs.Contents.{Record}
 use Rattle.kdcfile_images.specs.declared.image.Loaded.{Loaded}

@@ -1,4 +1,4 @@
-use Rattle.std.proofs.Common.{◌+◌, ◌++◌, ◌∷◌, [], List, ℕ, length, drop, arith, sym, ap, ◌∙◌, subst, length-append}
+use Rattle.std.proofs.Common.{◌+◌, ◌∷◌, [], List, ℕ, length, drop, arith, sym, ap, ◌∙◌, subst, length-append}
 use Rattle.kdcfile_images.specs.declared.pages.ImageRecord.{ImageRecord}
 use Rattle.kdcfile_images.specs.Reading.{InSlots}
 use Rattle.kdcfile_images.proofs.RecordsSoFar.{ended, out_of_order, one_more, all_read, at_first, slots_none, slots_more}
