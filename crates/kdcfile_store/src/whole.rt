@@ -17,8 +17,8 @@ use kd_base::{Bytes, OutOfMemory};
 use kd_device::Device;
 use kd_records::{Content, Patch, RecordKey, Records};
 use kdcfile_images::{
-    Directory, Image, ImageRecord, LoadError, PageWrite, PageWrites, Root, commit_image, create, load,
-    unselected,
+    Directory, Image, ImageRecord, LoadError, PageWrite, PageWrites, Root, commit_image, create,
+    load, unselected,
 };
 use std::alloc::Global;
 use std::marker::Model;
@@ -102,11 +102,7 @@ fn write_content<D: Device>(
 }
 
 /// The content that a patch makes of this one.
-fn next_content(
-    alloc: Global,
-    content: &Content,
-    patch: &Patch,
-) -> Result<Content, OutOfMemory>
+fn next_content(alloc: Global, content: &Content, patch: &Patch) -> Result<Content, OutOfMemory>
     ensures content { IfOk result (λ x. x ≡ patched content.now patch.now) }
     ensures clock { IfOk result (λ x. x.clock < 2 ^ 64) }
     ensures next_job { IfOk result (λ x. x.next_job < 2 ^ 64) }
@@ -229,12 +225,7 @@ impl<D: Device> Store<D> for WholeStore {
         self.kept()
     }
 
-    fn commit(
-        &mut self,
-        alloc: Global,
-        device: &mut D,
-        patch: &Patch,
-    ) -> Result<(), CommitError> {
+    fn commit(&mut self, alloc: Global, device: &mut D, patch: &Patch) -> Result<(), CommitError> {
         let next = next_content(alloc, &self.content, patch)?;
         write_content(alloc, device, &mut self.image, &next)?;
         self.content = next;

@@ -4,7 +4,6 @@
 #![tactic(auto)]
 
 use kd_host::{FileDevice, FolderRoom};
-use std::alloc::AllocError;
 use std::env;
 use std::process::ExitCode;
 use utm_cli::utm;
@@ -30,3 +29,6 @@ fn main(rt: HostRuntime) -> ExitCode {
     let status = utm(rt.alloc(), &words, &mut room, &mut device);
     ExitCode::from(status.code)
 }
+
+#[cfg(test)]
+mod tests;

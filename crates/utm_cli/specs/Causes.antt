@@ -3,7 +3,6 @@ use Rattle.utm_cli.specs.declared.error.RunError.{RunError}
 use Rattle.utm_cli.specs.declared.error.RunError.TheVariants as to
 use Rattle.kdcfile_store.specs.declared.store.CommitError.{CommitError}
 use Rattle.kdcfile_store.specs.declared.store.CommitError.TheVariants as from
-
 use Rattle.utm_cli.specs.declared.error.OpenError.{OpenError}
 use Rattle.utm_cli.specs.declared.error.OpenError.TheVariants as opening
 use Rattle.kdcfile_images.specs.declared.fault.LoadError.{LoadError}

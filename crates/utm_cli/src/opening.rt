@@ -70,10 +70,7 @@ fn tables_of(store: &WholeStore) -> Option<Tables>
 }
 
 /// Makes the empty file, with the empty tables.
-fn make<D: Device>(
-    alloc: Global,
-    device: &mut D,
-) -> Result<(WholeStore, Tables), OpenError>
+fn make<D: Device>(alloc: Global, device: &mut D) -> Result<(WholeStore, Tables), OpenError>
     requires empty { IsTrue (D.state device.old).told → (D.state device.old).holds ≡ [] }
     requires settled { IsTrue (D.state device.old).told → Only (D.state device.old).holds (D.state device.old) (D.leaves device.old) }
     ensures tables { IfOk result (λ o. (o.1 ≡ empty_tables) × KeepsTables o.0 o.1) }
@@ -97,10 +94,7 @@ fn make<D: Device>(
 }
 
 /// Opens the file that is there.
-fn warm<D: Device>(
-    alloc: Global,
-    device: &mut D,
-) -> Result<(WholeStore, Tables), OpenError>
+fn warm<D: Device>(alloc: Global, device: &mut D) -> Result<(WholeStore, Tables), OpenError>
     ensures tables { IfOk result (λ o. KeepsTables o.0 o.1) }
     ensures stands { IfOk result (λ o. IsTrue (D.state device.old).told → StandsForTables o.1 (D.state device.old).holds) }
     ensures kept { IfOk result (λ o. IsTrue (D.state device.old).told → IsKept (HasFile o.0) (D.state device.new) (D.leaves device.new)) }

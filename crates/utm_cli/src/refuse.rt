@@ -43,11 +43,7 @@ fn fault_text(alloc: Global, fault: ScriptFault) -> Result<String, AllocError>
 }
 
 /// Refuses a script for its first fault.
-pub(crate) fn refuse_script<D: Device>(
-    alloc: Global,
-    device: &mut D,
-    fault: ScriptFault,
-) -> Status
+pub(crate) fn refuse_script<D: Device>(alloc: Global, device: &mut D, fault: ScriptFault) -> Status
     ensures code { IsOneOf (3 ∷ 5 ∷ 7 ∷ []) result.code }
     ensures said { result.code ≡ 3 → IsTrue (D.state device.old).told → Said (line_of_fault fault) (D.state device.old) (D.state device.new) }
     ensures part { IsTrue (D.state device.old).told → SaidPart (line_of_fault fault) (D.state device.old) (D.state device.new) }
