@@ -1,0 +1,53 @@
+//! What a generation says of its TACs, users and terminals.
+
+use kd_base::{Bytes, Name, ProgName};
+
+/// Where in a service a TAC may stand: the operand CALL.
+#[derive(Clone, Copy, Debug, PartialEq, Eq)]
+pub enum CallUse {
+    /// At the beginning and as a follow-up.
+    Both,
+    /// At the beginning alone.
+    First,
+    /// As a follow-up alone.
+    Next,
+}
+
+/// A TAC statement, its defaults filled in.
+#[derive(Clone, Copy, Debug)]
+pub struct TacEntry {
+    /// The program unit that runs.
+    pub program: ProgName,
+    /// TYPE=A; a dialogue TAC has TYPE=D.
+    pub asynchronous: bool,
+    pub call: CallUse,
+    /// STATUS=ON.
+    pub on: bool,
+    /// TACCLASS: 1 to 16, and 0 for none.
+    pub class: u8,
+    /// TIME: the greatest number of statements of a unit run, from 1 to 100,000.
+    pub time: u32,
+}
+
+/// A USER statement, its defaults filled in.
+#[derive(Debug, Drop)]
+pub struct UserEntry {
+    /// PASS: 1 to 16 bytes, if there is a password.
+    pub pass: Option<Bytes>,
+    /// RESTART=YES.
+    pub restart: bool,
+}
+
+/// A PTERM statement.
+#[derive(Clone, Copy, Debug)]
+pub struct PtermEntry {
+    /// The LTERM that the terminal works as.
+    pub lterm: Name,
+}
+
+/// An LTERM statement, its defaults filled in.
+#[derive(Clone, Copy, Debug)]
+pub struct LtermEntry {
+    /// USAGE=O, an output medium; a dialogue terminal has USAGE=D.
+    pub printer: bool,
+}

@@ -1,0 +1,21 @@
+-- A program unit, as contracts and the definitions of the monitor see it.
+use Rattle.std.specs.Prelude.{ℕ, List, Option, bytes_eq, find}
+use Rattle.std.specs.Map.{lookup}
+use Rattle.unit_types.specs.declared.action.UnitStatement.{UnitStatement}
+use Rattle.unit_types.specs.declared.unit.Field.{Field}
+
+pub record UnitText : Type 0 where
+  pub name : List ℕ
+  pub line : ℕ
+  pub fields : List Field
+  -- each with the number, from 1, of the statement that it stands before
+  pub labels : List (List ℕ × ℕ)
+  pub statements : List UnitStatement
+
+-- the field of a name
+abbrev pub field_named : UnitText → List ℕ → Option Field
+field_named unit name = find (λ (f : Field). bytes_eq name f.name) unit.fields
+
+-- the number of the statement that a label stands before
+abbrev pub label_place : UnitText → List ℕ → Option ℕ
+label_place unit name = lookup (bytes_eq name) unit.labels
