@@ -1,1 +1,7 @@
+pub mod Keys
+pub mod Keyed
+pub mod Tables
+pub mod Same
+pub mod Difference
+pub mod TableLaws
 pub mod Limits

@@ -1,0 +1,50 @@
+-- The order of keys: by kind, then text by text. It is that of the keys of records in a KDCFILE.
+use Rattle.std.specs.Prelude.{ℕ, Bool, List, [], ◌∷◌}
+use Rattle.std.specs.Ordering.{nat_cmp, eq_by_cmp, on}
+use Rattle.std.specs.declared.cmp.Ordering.{Ordering}
+use Rattle.std.specs.Cmp.Lexicographic.{slice_cmp}
+use Rattle.kdcs_types.specs.declared.key.Area.{Area}
+use Rattle.kdcs_types.specs.declared.key.Area.TheVariants as area
+use Rattle.kdcs_types.specs.declared.key.ServiceId.{ServiceId}
+use Rattle.kdcs_types.specs.declared.key.ServiceId.TheVariants as id
+use Rattle.kdcs_types.specs.declared.key.Key.{Key}
+use Rattle.kdcs_types.specs.declared.key.Key.TheVariants as key
+
+-- the kind of a key, and what tells it from others of its kind; an asynchronous service has A, a dialogue service D
+abbrev pub key_texts : Key → List (List ℕ)
+key_texts (key.Gssb name) = (1 ∷ []) ∷ name ∷ []
+key_texts (key.Tls block lterm) = (2 ∷ []) ∷ block ∷ lterm ∷ []
+key_texts (key.Uls block user) = (3 ∷ []) ∷ block ∷ user ∷ []
+key_texts (key.Service (id.Asynchronous number)) = (4 ∷ []) ∷ (65 ∷ []) ∷ (number ∷ []) ∷ []
+key_texts (key.Service (id.Dialogue user)) = (4 ∷ []) ∷ (68 ∷ []) ∷ user ∷ []
+key_texts (key.Job number) = (5 ∷ []) ∷ (number ∷ []) ∷ []
+key_texts (key.Shown lterm) = (6 ∷ []) ∷ lterm ∷ []
+
+abbrev pub texts_cmp : List (List ℕ) → List (List ℕ) → Ordering
+texts_cmp = slice_cmp (slice_cmp nat_cmp)
+
+-- the order of keys
+abbrev pub key_cmp : Key → Key → Ordering
+key_cmp a b = texts_cmp (key_texts a) (key_texts b)
+
+abbrev pub key_eq : Key → Key → Bool
+key_eq = eq_by_cmp key_cmp
+
+-- the key of an area's row
+abbrev pub area_key : Area → Key
+area_key (area.Gssb name) = key.Gssb name
+area_key (area.Tls block lterm) = key.Tls block lterm
+area_key (area.Uls block user) = key.Uls block user
+
+-- the order of areas, and of services, is that of their keys
+abbrev pub area_cmp : Area → Area → Ordering
+area_cmp a b = key_cmp (area_key a) (area_key b)
+
+abbrev pub area_eq : Area → Area → Bool
+area_eq = eq_by_cmp area_cmp
+
+abbrev pub id_cmp : ServiceId → ServiceId → Ordering
+id_cmp a b = key_cmp (key.Service a) (key.Service b)
+
+abbrev pub id_eq : ServiceId → ServiceId → Bool
+id_eq = eq_by_cmp id_cmp
