@@ -10,13 +10,17 @@ use Rattle.kdcs_types.specs.declared.key.ServiceId.TheVariants as id
 use Rattle.kdcs_types.specs.declared.key.Key.{Key}
 use Rattle.kdcs_types.specs.declared.key.Key.TheVariants as key
 
--- the kind of a key, and what tells it from others of its kind; an asynchronous service has A, a dialogue service D
+-- what tells a service from others: an asynchronous one has A and its job's number, a dialogue one D and its user
+abbrev pub id_texts : ServiceId → List (List ℕ)
+id_texts (id.Asynchronous number) = (65 ∷ []) ∷ (number ∷ []) ∷ []
+id_texts (id.Dialogue user) = (68 ∷ []) ∷ user ∷ []
+
+-- the kind of a key, and what tells it from others of its kind
 abbrev pub key_texts : Key → List (List ℕ)
 key_texts (key.Gssb name) = (1 ∷ []) ∷ name ∷ []
 key_texts (key.Tls block lterm) = (2 ∷ []) ∷ block ∷ lterm ∷ []
 key_texts (key.Uls block user) = (3 ∷ []) ∷ block ∷ user ∷ []
-key_texts (key.Service (id.Asynchronous number)) = (4 ∷ []) ∷ (65 ∷ []) ∷ (number ∷ []) ∷ []
-key_texts (key.Service (id.Dialogue user)) = (4 ∷ []) ∷ (68 ∷ []) ∷ user ∷ []
+key_texts (key.Service service) = (4 ∷ []) ∷ id_texts service
 key_texts (key.Job number) = (5 ∷ []) ∷ (number ∷ []) ∷ []
 key_texts (key.Shown lterm) = (6 ∷ []) ∷ lterm ∷ []
 

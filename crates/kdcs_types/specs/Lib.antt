@@ -4,4 +4,7 @@ pub mod Tables
 pub mod Same
 pub mod Difference
 pub mod TableLaws
+pub mod KeyLaws
+pub mod KeyedLaws
+pub mod RowLaws
 pub mod Limits
