@@ -7,4 +7,6 @@ pub mod TableLaws
 pub mod KeyLaws
 pub mod KeyedLaws
 pub mod RowLaws
+pub mod SameLaws
+pub mod DifferenceLaws
 pub mod Limits
