@@ -1,7 +1,7 @@
 -- The order of keys is total, and only equal keys tie; so it is for areas and services.
 use Rattle.std.specs.Prelude.{◌≡◌, refl, ℕ, true, List, [], ◌∷◌, slice_index, ◌==◌, if◌then◌else◌}
 use Rattle.std.proofs.Common.{sym, ap, ◌∙◌, true≢false}
-use Rattle.std.specs.Ordering.{is_eq}
+use Rattle.std.specs.Ordering.{is_eq, ordering_then}
 use Rattle.std.specs.declared.cmp.Ordering.{Ordering}
 use Rattle.std.specs.declared.cmp.Ordering.TheVariants.{Less, Equal, Greater}
 use Rattle.std.specs.Cmp.{IsTotalOrder, on_total, tied_itself}
@@ -14,6 +14,11 @@ use Rattle.kdcs_types.specs.declared.key.ServiceId.TheVariants as id
 use Rattle.kdcs_types.specs.declared.key.Key.{Key}
 use Rattle.kdcs_types.specs.declared.key.Key.TheVariants as key
 use Rattle.kdcs_types.specs.Keys.{id_texts, key_texts, texts_cmp, key_cmp, key_eq, area_key, area_cmp, area_eq, id_cmp, id_eq}
+
+pub then_equal : (r : Ordering) → ordering_then r Equal ≡ r
+then_equal Less = refl
+then_equal Equal = refl
+then_equal Greater = refl
 
 pub key_total : IsTotalOrder key_cmp
 key_total = on_total key_texts (lists_total nat_list_cmp_total)
