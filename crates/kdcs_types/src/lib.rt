@@ -10,6 +10,8 @@ mod command;
 mod key;
 mod laws;
 mod lists;
+mod places;
+mod row_lists;
 mod run_state;
 mod service;
 mod tables;
