@@ -1,1 +1,2 @@
 mod AtPlaces
+mod Room
