@@ -51,15 +51,15 @@ form_says before r (Some (forms.Kept keyword)) =
     (or_missing r.line (passed_in keyword r.operands) (said_of keyword (answer_of keyword r.operands)))
 
 -- what a statement says behind these operands of MAX, or its fault
-abbrev pub says : List RawOperand → RawStatement → Result Statement ReadFault
-says before r = form_says (shared (form_of r.keyword) before) r (form_of r.keyword)
+abbrev pub says_of : List RawOperand → RawStatement → Result Statement ReadFault
+says_of before r = form_says (shared (form_of r.keyword) before) r (form_of r.keyword)
 
 -- the statements say this, one after another, behind these operands of MAX
 abbrev pub Say : List RawOperand → List RawStatement → List Statement → Type 0
 Say before [] [] = Unit {0}
 Say before [] (s ∷ ss) = ⊥
 Say before (r ∷ rs) [] = ⊥
-Say before (r ∷ rs) (s ∷ ss) = (says before r ≡ Ok s) × Say (before ++ shared (form_of r.keyword) r.operands) rs ss
+Say before (r ∷ rs) (s ∷ ss) = (says_of before r ≡ Ok s) × Say (before ++ shared (form_of r.keyword) r.operands) rs ss
 
 -- what the raw statements stand for: each says its own, the last is END, and no other is
 abbrev pub StandFor : List RawStatement → List Statement → Type 0
@@ -81,8 +81,8 @@ HasNextFault said rs fault later = later
 abbrev pub HasFaultFrom : List RawOperand → ℕ → List RawStatement → ReadFault → Type 0
 HasFaultFrom before n [] fault = fault ≡ NoEnd n
 HasFaultFrom before n (r ∷ rs) fault =
-    (says before r ≡ Err fault)
-    ⊎ ((s : Statement) × (says before r ≡ Ok s)
+    (says_of before r ≡ Err fault)
+    ⊎ ((s : Statement) × (says_of before r ≡ Ok s)
       × HasNextFault s.said rs fault (HasFaultFrom (before ++ shared (form_of r.keyword) r.operands) (r.line + 1) rs fault))
 
 abbrev pub HasFault : List RawStatement → ReadFault → Type 0

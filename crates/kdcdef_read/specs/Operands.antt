@@ -73,10 +73,6 @@ passed_in keyword os = passed_from true keyword os
 
 -- ---- faults
 
-abbrev pub is_first : List RawOperand → Bool
-is_first [] = true
-is_first (o ∷ os) = false
-
 abbrev pub cause_of : {A : Type 0} → Result A Cause → Option Cause
 cause_of (Ok x) = None
 cause_of (Err cause) = Some cause
@@ -91,10 +87,15 @@ key_cause keyword before o None = None
 key_cause keyword before o (Some key) = row_cause (is_some (said keyword key before)) o (row_of keyword key)
 
 -- why an operand behind these is refused
-abbrev pub operand_cause : Keyword → List RawOperand → RawOperand → Option Cause
-operand_cause keyword before o = key_cause keyword before o (operand_key (is_first before) o)
+abbrev pub operand_cause : Bool → Keyword → List RawOperand → RawOperand → Option Cause
+operand_cause first keyword before o = key_cause keyword before o (operand_key first o)
 
 -- why the first refused one of the operands is refused; `before` are the operands before them
+abbrev pub cause_from : Bool → Keyword → List RawOperand → List RawOperand → Option Cause
+cause_from first keyword before [] = None
+cause_from first keyword before (o ∷ os) =
+    or_else (operand_cause first keyword before o) (cause_from false keyword (before ++ o ∷ []) os)
+
+-- the same for all operands of a statement
 abbrev pub first_cause : Keyword → List RawOperand → List RawOperand → Option Cause
-first_cause keyword before [] = None
-first_cause keyword before (o ∷ os) = or_else (operand_cause keyword before o) (first_cause keyword (before ++ o ∷ []) os)
+first_cause keyword before os = cause_from true keyword before os

@@ -36,20 +36,10 @@ items_of (Err e) = Err e
 abbrev pub no_keys : List Bool
 no_keys = replicate 26 false
 
-abbrev pub is_max : Keyword → Bool
-is_max keywords.Max = true
-is_max keywords.Program = false
-is_max keywords.Tac = false
-is_max keywords.User = false
-is_max keywords.Pterm = false
-is_max keywords.Lterm = false
-is_max keywords.Tls = false
-is_max keywords.Uls = false
-is_max keywords.TacClass = false
-
 -- the first for MAX, and else the second
 abbrev pub for_max : Keyword → List Bool → List Bool → List Bool
-for_max keyword own other = if is_max keyword then own else other
+for_max keywords.Max own other = own
+for_max keyword own other = other
 
 abbrev pub said_by : Keyword → ℕ → Given → Result Statement ReadFault
 said_by keyword line given = or_missing line given.passed (said_of keyword (answers keyword given.slots))

@@ -18,5 +18,5 @@ mod words;
 pub use fault::ReadFault;
 pub use reading::read;
 
-
-
+#[cfg(test)]
+mod tests;

@@ -36,7 +36,8 @@ fn operand_key(first: bool, operand: &RawOperand) -> Option<Key>
 
 // Adds what an operand with this row says.
 fn add_row(given: &mut Given, key: Key, row: Row, operand: &RawOperand) -> Result<(), Cause>
-    ensures { after result given.new ≡ with_row given.old key row operand.now }
+    ensures says { after result given.new ≡ with_row given.old key row operand.now }
+    ensures passed { given.new.passed ≡ given.old.passed }
 {
     let place = place_of(key);
     if given.taken[place] {
@@ -56,7 +57,8 @@ fn add_operand(
     operand: &RawOperand,
 ) -> Result<(), Cause>
     requires { given.old.passed + 1 < 2 ^ 32 }
-    ensures { after result given.new ≡ with_operand keyword first given.old operand.now }
+    ensures says { after result given.new ≡ with_operand keyword first given.old operand.now }
+    ensures passed { given.new.passed ≤ given.old.passed + 1 }
 {
     if let Some(key) = operand_key(first, operand) {
         if let Some(row) = row_of(keyword, key) {

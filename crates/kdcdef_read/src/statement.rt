@@ -1,6 +1,6 @@
 //! A statement, read behind those before it.
-ghost use Rattle.std.specs.Prelude.{◌≡◌, ◌+◌, ◌<◌, ◌≤◌, ◌^◌, length};
-ghost use Rattle.kdcdef_read.specs.Steps.{Gives, is_end, said_by, kept_by, statement_by, step};
+ghost use Rattle.std.specs.Prelude.{◌≡◌, ◌+◌, ◌<◌, ◌≤◌, ◌^◌, length, Ok};
+ghost use Rattle.kdcdef_read.specs.Steps.{Gives, is_end, for_max, said_by, given_by, kept_by, statement_by, step};
 
 use crate::fault::{ReadFault, at_line};
 use crate::operands::{Given, Taken, read_operands};
@@ -40,6 +40,30 @@ fn said_by(
     }
 }
 
+// The first for MAX, whose statements share their operands, and else the second.
+fn for_max(keyword: Keyword, own: Taken, other: Taken) -> Taken
+    ensures { result ≡ for_max keyword own other }
+{
+    match keyword {
+        Keyword::Max => own,
+        _ => other,
+    }
+}
+
+// A statement with these operands, and those that MAX statements have given after it.
+fn given_by(
+    alloc: Global,
+    keyword: Keyword,
+    taken: Taken,
+    line: u32,
+    given: &Given,
+) -> Result<(Statement, Taken), ReadFault>
+    ensures { Gives result (given_by keyword taken line (Ok given.now)) }
+{
+    let statement = said_by(alloc, keyword, line, given)?;
+    Ok((statement, for_max(keyword, given.taken, taken)))
+}
+
 // A statement with this keyword, and the operands that MAX statements have given after it.
 fn kept_by(
     alloc: Global,
@@ -50,20 +74,11 @@ fn kept_by(
     requires { length raw.now.operands ≤ 16777216 }
     ensures { Gives result (kept_by keyword taken raw.now) }
 {
-    let before = match keyword {
-        Keyword::Max => taken,
-        _ => [false; KEYS],
-    };
-    let given = match read_operands(keyword, before, raw.operands.as_slice()) {
-        Ok(given) => given,
-        Err(cause) => return Err(at_line(raw.line, cause)),
-    };
-    let statement = said_by(alloc, keyword, raw.line, &given)?;
-    let after = match keyword {
-        Keyword::Max => given.taken,
-        _ => taken,
-    };
-    Ok((statement, after))
+    let before = for_max(keyword, taken, [false; KEYS]);
+    match read_operands(keyword, before, raw.operands.as_slice()) {
+        Ok(given) => given_by(alloc, keyword, taken, raw.line, &given),
+        Err(cause) => Err(at_line(raw.line, cause)),
+    }
 }
 
 // A statement, whatever its keyword, and the operands that MAX statements have given after it.
