@@ -46,15 +46,16 @@ silent : (key : Key) (before : List RawOperand) (o : RawOperand) (k : Option Key
 silent key before o None given fine = refl
 silent key before o (Some k) given fine = by_same (same_key k key) refl
   where
-  by_row : (r : Option Row) → row_cause true o r ≡ None → row_says o r ≡ None
-  by_row None h = refl
-  by_row (Some row) h = absurd cc
-  by_same : (b : Bool) → same_key k key ≡ b → cond b (row_says o (row_of keywords.Max key)) None ≡ None
-  by_same false h = refl
-  by_same true h =
-      let C : Key → Type 0 = λ x. row_cause (is_some (said keywords.Max x before)) o (row_of keywords.Max x) ≡ None in
-      let T : Bool → Type 0 = λ b. row_cause b o (row_of keywords.Max key) ≡ None in
-      by_row (row_of keywords.Max key) (subst T given (subst C (same_key_is k key h) fine))
+    by_row : (r : Option Row) → row_cause true o r ≡ None → row_says o r ≡ None
+    by_row None h = refl
+    by_row (Some row) h = absurd cc
+
+    by_same : (b : Bool) → same_key k key ≡ b → cond b (row_says o (row_of keywords.Max key)) None ≡ None
+    by_same false h = refl
+    by_same true h =
+        let C : Key → Type 0 = λ x. row_cause (is_some (said keywords.Max x before)) o (row_of keywords.Max x) ≡ None in
+        let T : Bool → Type 0 = λ b. row_cause b o (row_of keywords.Max key) ≡ None in
+        by_row (row_of keywords.Max key) (subst T given (subst C (same_key_is k key h) fine))
 
 still_given : (key : Key) (before : List RawOperand) (o : RawOperand) (first : Bool) → Given key before → Given key (before ++ o ∷ [])
 still_given key before o first given =
@@ -76,9 +77,9 @@ Behind os before = (key : Key) → Given key os → Given key before
 given_or : (key : Key) (os before later : List RawOperand) → Behind os before → first_cause keywords.Max before later ≡ None → (said keywords.Max key os ≡ None) ⊎ (said keywords.Max key later ≡ None)
 given_or key os before later behind fine = by_said (said keywords.Max key os) refl
   where
-  by_said : (x : Option Value) → said keywords.Max key os ≡ x → (said keywords.Max key os ≡ None) ⊎ (said keywords.Max key later ≡ None)
-  by_said None e = inl e
-  by_said (Some v) e = inr (all_silent true key before later (behind key (ap (λ (x : Option Value). is_some x) e)) fine)
+    by_said : (x : Option Value) → said keywords.Max key os ≡ x → (said keywords.Max key os ≡ None) ⊎ (said keywords.Max key later ≡ None)
+    by_said None e = inl e
+    by_said (Some v) e = inr (all_silent true key before later (behind key (ap (λ (x : Option Value). is_some x) e)) fine)
 
 not_none : {A : Type 0} (b : Option A) → NotBoth None b
 not_none None = tt
@@ -208,24 +209,24 @@ apart_from said os before (r ∷ rs) [] owns say = absurd say
 apart_from said os before (r ∷ rs) (s ∷ ss) owns say =
     All-cons (λ (t : Statement). SayApart said t.said) s ss
     (apart_unless said s.said (λ m n a b.
-      let o = owns m a in
-      let k = max_is (shared (form_of r.keyword) before) r (form_of r.keyword) s n say.0 b in
-      let C : Option Form → Type 0 = λ f. first_cause keywords.Max (shared f before) r.operands ≡ None in
-      let fine = subst C k.kept k.cause in
-      let P : Said → Type 0 = λ x. SayApart x (max_said (answer_of keywords.Max r.operands)) in
-      let Q : Said → Type 0 = λ x. SayApart (Max m) x in
-      subst Q k.said (subst P o.0 (max_apart os before r.operands o.1 fine))))
+    let o = owns m a in
+    let k = max_is (shared (form_of r.keyword) before) r (form_of r.keyword) s n say.0 b in
+    let C : Option Form → Type 0 = λ f. first_cause keywords.Max (shared f before) r.operands ≡ None in
+    let fine = subst C k.kept k.cause in
+    let P : Said → Type 0 = λ x. SayApart x (max_said (answer_of keywords.Max r.operands)) in
+    let Q : Said → Type 0 = λ x. SayApart (Max m) x in
+    subst Q k.said (subst P o.0 (max_apart os before r.operands o.1 fine))))
     (apart_from said os (before ++ shared (form_of r.keyword) r.operands) rs ss
-      (λ m a. let o = owns m a in (o.0, behind_more os before (shared (form_of r.keyword) r.operands) o.1)) say.1)
+    (λ m a. let o = owns m a in (o.0, behind_more os before (shared (form_of r.keyword) r.operands) o.1)) say.1)
 
 behind_own : (os before : List RawOperand) → Behind os (before ++ os)
 behind_own os before key given =
     let T : Option Value → Type 0 = λ x. is_some x ≡ true in
     subst T (sym (said_append_max key before os)) (given_last (said keywords.Max key before) (said keywords.Max key os) given)
   where
-  given_last : (a b : Option Value) → is_some b ≡ true → is_some (or_else a b) ≡ true
-  given_last None b h = h
-  given_last (Some v) b h = refl
+    given_last : (a b : Option Value) → is_some b ≡ true → is_some (or_else a b) ≡ true
+    given_last None b h = h
+    given_last (Some v) b h = refl
 
 pub no_max_twice : (before : List RawOperand) (rs : List RawStatement) (ss : List Statement) → Say before rs ss → NoMaxTwice ss
 no_max_twice before [] [] say = tt
@@ -233,11 +234,11 @@ no_max_twice before [] (s ∷ ss) say = absurd say
 no_max_twice before (r ∷ rs) [] say = absurd say
 no_max_twice before (r ∷ rs) (s ∷ ss) say = (
   apart_from s.said r.operands (before ++ shared (form_of r.keyword) r.operands) rs ss
-    (λ m a.
+      (λ m a.
       let k = max_is (shared (form_of r.keyword) before) r (form_of r.keyword) s m say.0 a in
       let B : Option Form → Type 0 = λ f. Behind r.operands (before ++ shared f r.operands) in
       (k.said, subst B (sym k.kept) (behind_own r.operands before)))
-    say.1,
+      say.1,
   no_max_twice (before ++ shared (form_of r.keyword) r.operands) rs ss say.1,
 )
 

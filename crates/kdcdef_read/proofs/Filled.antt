@@ -258,8 +258,8 @@ step_given first keyword before given o next fits g n = record {
   keys = n.keys;
   taken = λ key. rw (said_more first keyword before key o fits) (n.taken key);
   free = λ key none.
-    let b = both_none (said keyword key before) (key_says keyword key o (operand_key first o)) (sym (said_more first keyword before key o fits) ∙ none) in
-    n.says key ∙ rw (g.free key b.0, b.1) refl;
+      let b = both_none (said keyword key before) (key_says keyword key o (operand_key first o)) (sym (said_more first keyword before key o fits) ∙ none) in
+      n.says key ∙ rw (g.free key b.0, b.1) refl;
 }
 
 pub append_none : (os : List RawOperand) → os ++ [] ≡ os
@@ -281,8 +281,8 @@ all_given first keyword before given (o ∷ os) end fits g e =
     record {
       cause = rw (n.cause, a.cause) refl;
       says = λ key.
-        a.says key ∙ ap (λ (x : Option Value). or_else x (said_from false keyword key os)) (n.says key)
-        ∙ or_or (slot_at given.slots key) (key_says keyword key o (operand_key first o)) (said_from false keyword key os);
+          a.says key ∙ ap (λ (x : Option Value). or_else x (said_from false keyword key os)) (n.says key)
+          ∙ or_or (slot_at given.slots key) (key_says keyword key o (operand_key first o)) (said_from false keyword key os);
       passed = omega (arith, a.passed, n.passed);
       now = subst (λ (x : List RawOperand). IsGiven keyword x end) (append_assoc before (o ∷ []) os) a.now;
     }

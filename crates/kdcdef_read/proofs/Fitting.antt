@@ -126,20 +126,23 @@ said_value : (first : Bool) (keyword : Keyword) (key : Key) (row : Row) (P : Val
 said_value first keyword key row P [] v is each e = absurd cc
 said_value first keyword key row P (o ∷ os) v is each e = by_key (operand_key first o) (λ h. said_value false keyword key row P os v is each h) e
   where
-  by_value : (q : Result Value Cause) → (said_from false keyword key os ≡ Some v → P v) → value_of row.kind o.value ≡ q → or_else (result_ok q) (said_from false keyword key os) ≡ Some v → P v
-  by_value (Ok w) later read e = subst P (some_is w v e) (each o.value w read)
-  by_value (Err cause) later read e = later e
-  by_row : (r : Option Row) → (said_from false keyword key os ≡ Some v → P v) → r ≡ Some row → or_else (row_says o r) (said_from false keyword key os) ≡ Some v → P v
-  by_row None later same e = absurd cc
-  by_row (Some x) later same e =
-      let Q : Row → Type 0 = λ y. or_else (result_ok (value_of y.kind o.value)) (said_from false keyword key os) ≡ Some v in
-      by_value (value_of row.kind o.value) later refl (subst Q (some_is x row same) e)
-  by_same : (b : Bool) → (said_from false keyword key os ≡ Some v → P v) → or_else (cond b (row_says o (row_of keyword key)) None) (said_from false keyword key os) ≡ Some v → P v
-  by_same true later e = by_row (row_of keyword key) later is e
-  by_same false later e = later e
-  by_key : (k : Option Key) → (said_from false keyword key os ≡ Some v → P v) → or_else (key_says keyword key o k) (said_from false keyword key os) ≡ Some v → P v
-  by_key None later e = later e
-  by_key (Some k) later e = by_same (same_key k key) later e
+    by_value : (q : Result Value Cause) → (said_from false keyword key os ≡ Some v → P v) → value_of row.kind o.value ≡ q → or_else (result_ok q) (said_from false keyword key os) ≡ Some v → P v
+    by_value (Ok w) later read e = subst P (some_is w v e) (each o.value w read)
+    by_value (Err cause) later read e = later e
+
+    by_row : (r : Option Row) → (said_from false keyword key os ≡ Some v → P v) → r ≡ Some row → or_else (row_says o r) (said_from false keyword key os) ≡ Some v → P v
+    by_row None later same e = absurd cc
+    by_row (Some x) later same e =
+        let Q : Row → Type 0 = λ y. or_else (result_ok (value_of y.kind o.value)) (said_from false keyword key os) ≡ Some v in
+        by_value (value_of row.kind o.value) later refl (subst Q (some_is x row same) e)
+
+    by_same : (b : Bool) → (said_from false keyword key os ≡ Some v → P v) → or_else (cond b (row_says o (row_of keyword key)) None) (said_from false keyword key os) ≡ Some v → P v
+    by_same true later e = by_row (row_of keyword key) later is e
+    by_same false later e = later e
+
+    by_key : (k : Option Key) → (said_from false keyword key os ≡ Some v → P v) → or_else (key_says keyword key o k) (said_from false keyword key os) ≡ Some v → P v
+    by_key None later e = later e
+    by_key (Some k) later e = by_same (same_key k key) later e
 
 if_none : (P : Value → Type 0) (default : Option Value) (o : Option Value) → ((v : Value) → o ≡ Some v → P v) → IfSome default P → IfSome (or_else o default) P
 if_none P default None h d = d

@@ -50,7 +50,7 @@ Meant keyword own line os = unless line (first_cause keyword own os) (or_missing
 same_said : (keyword : Keyword) (own : List RawOperand) (taken : List Bool) (line : ℕ) (os : List RawOperand) (end : Given) → AreGiven true keyword own (nothing_given taken) os end → Meant keyword own line os ≡ said_by keyword line end
 same_said keyword own taken line os end a =
     let at : answers keyword end.slots ≡ answer_of keyword os =
-      fun_ext (λ (key : Key). ap (λ (x : Option Value). or_else x (default_in (row_of keyword key))) (a.says key ∙ ap (λ (x : Option Value). or_else x (said keyword key os)) (no_slot key))) in
+    fun_ext (λ (key : Key). ap (λ (x : Option Value). or_else x (default_in (row_of keyword key))) (a.says key ∙ ap (λ (x : Option Value). or_else x (said keyword key os)) (no_slot key))) in
     let count : end.passed ≡ passed_in keyword os = omega (arith, a.passed) in
     ap (λ (c : Option Cause). unless line c (or_missing line (passed_in keyword os) (said_of keyword (answer_of keyword os)))) a.cause
     ∙ ap (λ (n : ℕ). or_missing line n (said_of keyword (answer_of keyword os))) (sym count)
@@ -64,8 +64,7 @@ kept_ok keyword own taken other line os (Err cause) p fits given g e = absurd cc
 kept_ok keyword own taken other line os (Ok end) p fits given g e =
     let a = all_given true keyword own (nothing_given taken) os end fits given g in
     let b = bind_ok (said_by keyword line end) (with_taken (for_max keyword end.taken other)) p e in
-    let is : pair b.0 (for_max keyword end.taken other) ≡ p = ok_is ReadFault (pair b.0 (for_max keyword end.taken other)) p b.2 in
-    (
+    let is : pair b.0 (for_max keyword end.taken other) ≡ p = ok_is ReadFault (pair b.0 (for_max keyword end.taken other)) p b.2 in (
       same_said keyword own taken line os end a ∙ b.1 ∙ ap (λ (q : Statement × List Bool). ok_of {E = ReadFault} q.0) is,
       (end, a.now, sym (ap (λ (q : Statement × List Bool). q.1) is)),
     )

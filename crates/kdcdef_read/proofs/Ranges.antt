@@ -43,28 +43,29 @@ pub record IsKept (keyword : Keyword) (own : List RawOperand) (r : RawStatement)
 pub kept_is : (keyword : Keyword) (own : List RawOperand) (r : RawStatement) (s : Statement) → form_says own r (Some (forms.Kept keyword)) ≡ Ok s → IsKept keyword own r s
 kept_is keyword own r s e = by_cause (first_cause keyword own r.operands) refl e
   where
-  by_said : (o : Option Said) → said_of keyword (answer_of keyword r.operands) ≡ o → first_cause keyword own r.operands ≡ None → or_missing r.line (passed_in keyword r.operands) o ≡ Ok s → IsKept keyword own r s
-  by_said None is none h = absurd cc
-  by_said (Some said) is none h =
-      let made : Statement = statement r.line (passed_in keyword r.operands) said in
-      let same : made ≡ s = ok_is ReadFault made s h in
-      record {
-        cause = none;
-        said = is ∙ ap (λ (x : Statement). some_of x.said) same;
-        line = sym (ap (λ (x : Statement). x.line) same);
-        passed = sym (ap (λ (x : Statement). x.passed) same);
-      }
-  by_cause : (c : Option Cause) → first_cause keyword own r.operands ≡ c → unless r.line c (or_missing r.line (passed_in keyword r.operands) (said_of keyword (answer_of keyword r.operands))) ≡ Ok s → IsKept keyword own r s
-  by_cause None none h = by_said (said_of keyword (answer_of keyword r.operands)) refl none h
-  by_cause (Some cause) none h = absurd cc
+    by_said : (o : Option Said) → said_of keyword (answer_of keyword r.operands) ≡ o → first_cause keyword own r.operands ≡ None → or_missing r.line (passed_in keyword r.operands) o ≡ Ok s → IsKept keyword own r s
+    by_said None is none h = absurd cc
+    by_said (Some said) is none h =
+        let made : Statement = statement r.line (passed_in keyword r.operands) said in
+        let same : made ≡ s = ok_is ReadFault made s h in
+        record {
+          cause = none;
+          said = is ∙ ap (λ (x : Statement). some_of x.said) same;
+          line = sym (ap (λ (x : Statement). x.line) same);
+          passed = sym (ap (λ (x : Statement). x.passed) same);
+        }
+
+    by_cause : (c : Option Cause) → first_cause keyword own r.operands ≡ c → unless r.line c (or_missing r.line (passed_in keyword r.operands) (said_of keyword (answer_of keyword r.operands))) ≡ Ok s → IsKept keyword own r s
+    by_cause None none h = by_said (said_of keyword (answer_of keyword r.operands)) refl none h
+    by_cause (Some cause) none h = absurd cc
 
 few_passed : (first : Bool) (keyword : Keyword) (os : List RawOperand) → passed_from first keyword os ≤ length os
 few_passed first keyword [] = omega arith
 few_passed first keyword (o ∷ os) = at_most (is_kept keyword (operand_key first o)) (few_passed false keyword os)
   where
-  at_most : (b : Bool) → passed_from false keyword os ≤ length os → cond b 0 1 + passed_from false keyword os ≤ length (o ∷ os)
-  at_most true h = omega arith
-  at_most false h = omega arith
+    at_most : (b : Bool) → passed_from false keyword os ≤ length os → cond b 0 1 + passed_from false keyword os ≤ length (o ∷ os)
+    at_most true h = omega arith
+    at_most false h = omega arith
 
 -- its line and its count
 form_plain : (own : List RawOperand) (r : RawStatement) (form : Option Form) (s : Statement) → form_says own r form ≡ Ok s → (s.line ≡ r.line) × (s.passed ≤ length r.operands)

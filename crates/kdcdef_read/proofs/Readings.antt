@@ -125,15 +125,18 @@ refused_has before taken n (r ∷ rs) fault m e =
       | inl q ↦
           let k = form_ok before taken r (form_of r.keyword) q.0 m q.1 in
           elim (bind_err (read_from (at q.0.1 (is_end q.0.0.said) (r.line + 1)) rs) (λ (tail : List Statement). fine (q.0.0 ∷ tail)) fault (sym (reads_on taken n r rs q.0 q.1) ∙ e)) [
-            | inl bad ↦ inr (q.0.0, k.0,
-                elim (cases_Bool (is_end q.0.0.said)) [
-                  | inl h ↦
-                      let R : Bool → Type 0 = λ x. read_from (at q.0.1 x (r.line + 1)) rs ≡ Err fault in
-                      next_end q.0.0.said rs fault _ h (ended_err q.0.1 (r.line + 1) rs fault (subst R h bad))
-                  | inr h ↦
-                      let R : Bool → Type 0 = λ x. read_from (at q.0.1 x (r.line + 1)) rs ≡ Err fault in
-                      next_later q.0.0.said rs fault _ h (refused_has (before ++ shared (form_of r.keyword) r.operands) q.0.1 (r.line + 1) rs fault k.1 (subst R h bad))
-                ])
+            | inl bad ↦ inr (
+              q.0.0,
+              k.0,
+              elim (cases_Bool (is_end q.0.0.said)) [
+                | inl h ↦
+                    let R : Bool → Type 0 = λ x. read_from (at q.0.1 x (r.line + 1)) rs ≡ Err fault in
+                    next_end q.0.0.said rs fault _ h (ended_err q.0.1 (r.line + 1) rs fault (subst R h bad))
+                | inr h ↦
+                    let R : Bool → Type 0 = λ x. read_from (at q.0.1 x (r.line + 1)) rs ≡ Err fault in
+                    next_later q.0.0.said rs fault _ h (refused_has (before ++ shared (form_of r.keyword) r.operands) q.0.1 (r.line + 1) rs fault k.1 (subst R h bad))
+              ],
+            )
             | inr b ↦ absurd (cc b.2)
           ]
       | inr q ↦

@@ -24,15 +24,18 @@ after (Err cause) given = Err cause
 abbrev pub slot_at : List (Option Value) → Key → Option Value
 slot_at slots key = option_and_then (λ (slot : Option Value). slot) (slice_get slots (place_of key))
 
+-- whether the key was given
 abbrev pub is_taken : List Bool → Key → Bool
 is_taken taken key = unwrap_or (slice_get taken (place_of key)) false
 
+-- what is answered for a key: what stands in its slot, or the default
 abbrev pub answer : Keyword → List (Option Value) → Key → Option Value
 answer keyword slots key = or_else (slot_at slots key) (default_in (row_of keyword key))
 
 abbrev pub answers : Keyword → List (Option Value) → Key → Option Value
 answers keyword slots = λ key. answer keyword slots key
 
+-- with a value for a key
 abbrev pub put : Given → Key → Value → Given
 put given key value = record {
   slots = slice_set given.slots (place_of key) (Some value);
@@ -40,10 +43,12 @@ put given key value = record {
   passed = given.passed;
 }
 
+-- with what an operand with this row says
 abbrev pub with_row : Given → Key → Row → RawOperand → Result Given Cause
 with_row given key row o =
     if is_taken given.taken key then Err OperandTwice else (value_of row.kind o.value >>= λ value. Ok (put given key value))
 
+-- with one more operand passed over
 abbrev pub pass : Given → Given
 pass given = record { slots = given.slots; taken = given.taken; passed = given.passed + 1 }
 
@@ -58,6 +63,7 @@ with_key keyword given (Some key) o = with_kept given key (row_of keyword key) o
 abbrev pub with_operand : Keyword → Bool → Given → RawOperand → Result Given Cause
 with_operand keyword first given o = with_key keyword given (operand_key first o) o
 
+-- with what the operands say, from left to right
 abbrev pub with_operands : Keyword → Bool → Given → List RawOperand → Result Given Cause
 with_operands keyword first given [] = Ok given
 with_operands keyword first given (o ∷ os) = with_operand keyword first given o >>= λ next. with_operands keyword false next os
@@ -65,5 +71,6 @@ with_operands keyword first given (o ∷ os) = with_operand keyword first given 
 abbrev pub nothing_given : List Bool → Given
 nothing_given taken = record { slots = replicate 26 None; taken = taken; passed = 0 }
 
+-- what the operands of a statement give, these keys being taken
 abbrev pub read_operands : Keyword → List Bool → List RawOperand → Result Given Cause
 read_operands keyword taken os = with_operands keyword true (nothing_given taken) os

@@ -18,19 +18,16 @@ use Rattle.kdcdef_read.specs.Operands.{first_cause, answer_of, passed_in}
 use Rattle.kdcdef_read.specs.Said.{said_of}
 use Rattle.kdcdef_read.specs.Words.{form_of}
 
+-- the statement at this line
 abbrev pub statement : ℕ → ℕ → Said → Statement
 statement line passed said = record { line = line; passed = passed; said = said }
 
--- the operands that a form shares with those of its kind before it: only MAX has them, which may stand several times
+-- the operands that statements of a form share: MAX may stand several times, and gives an operand once in all
 abbrev pub shared : Option Form → List RawOperand → List RawOperand
 shared (Some (forms.Kept keywords.Max)) os = os
 shared form os = []
 
--- the operands of MAX in these statements
-abbrev pub max_operands : List RawStatement → List RawOperand
-max_operands [] = []
-max_operands (r ∷ rs) = shared (form_of r.keyword) r.operands ++ max_operands rs
-
+-- what the statement at this line says, where no operand is missing
 abbrev pub or_missing : ℕ → ℕ → Option Said → Result Statement ReadFault
 or_missing line passed None = Err (OperandMissing line)
 or_missing line passed (Some said) = Ok (statement line passed said)
@@ -83,7 +80,8 @@ HasFaultFrom before n [] fault = fault ≡ NoEnd n
 HasFaultFrom before n (r ∷ rs) fault =
     (says_of before r ≡ Err fault)
     ⊎ ((s : Statement) × (says_of before r ≡ Ok s)
-      × HasNextFault s.said rs fault (HasFaultFrom (before ++ shared (form_of r.keyword) r.operands) (r.line + 1) rs fault))
+    × HasNextFault s.said rs fault (HasFaultFrom (before ++ shared (form_of r.keyword) r.operands) (r.line + 1) rs fault))
 
+-- the raw statements have this fault, and it is the first one
 abbrev pub HasFault : List RawStatement → ReadFault → Type 0
 HasFault rs fault = HasFaultFrom [] 1 rs fault

@@ -22,12 +22,13 @@ or_else (Some x) other = Some x
 abbrev pub same_key : Key → Key → Bool
 same_key a b = place_of a == place_of b
 
--- the key of an operand; the first operand of a statement may have none
+-- the key that is written; the first operand of a statement may have none
 abbrev pub key_in : Bool → Option (List ℕ) → Option Key
 key_in first (Some word) = key_of word
 key_in true None = Some First
 key_in false None = None
 
+-- the key of an operand, `first` where it is the first one of its statement
 abbrev pub operand_key : Bool → RawOperand → Option Key
 operand_key first o = key_in first o.key
 
@@ -50,6 +51,7 @@ said_from first keyword key (o ∷ os) = or_else (key_says keyword key o (operan
 abbrev pub said : Keyword → Key → List RawOperand → Option Value
 said keyword key os = said_from true keyword key os
 
+-- the default of a row
 abbrev pub default_in : Option Row → Option Value
 default_in None = None
 default_in (Some row) = row.default
@@ -63,16 +65,18 @@ abbrev pub is_kept : Keyword → Option Key → Bool
 is_kept keyword None = false
 is_kept keyword (Some key) = is_some (row_of keyword key)
 
--- how many operands are passed over
+-- how many operands are passed over, the first of them being the statement's first one or not
 abbrev pub passed_from : Bool → Keyword → List RawOperand → ℕ
 passed_from first keyword [] = 0
 passed_from first keyword (o ∷ os) = (if is_kept keyword (operand_key first o) then 0 else 1) + passed_from false keyword os
 
+-- the same for all operands of a statement
 abbrev pub passed_in : Keyword → List RawOperand → ℕ
 passed_in keyword os = passed_from true keyword os
 
 -- ---- faults
 
+-- why there is no value
 abbrev pub cause_of : {A : Type 0} → Result A Cause → Option Cause
 cause_of (Ok x) = None
 cause_of (Err cause) = Some cause
@@ -82,6 +86,7 @@ abbrev pub row_cause : Bool → RawOperand → Option Row → Option Cause
 row_cause twice o None = None
 row_cause twice o (Some row) = if twice then Some OperandTwice else cause_of (value_of row.kind o.value)
 
+-- why an operand with this key is refused behind these
 abbrev pub key_cause : Keyword → List RawOperand → RawOperand → Option Key → Option Cause
 key_cause keyword before o None = None
 key_cause keyword before o (Some key) = row_cause (is_some (said keyword key before)) o (row_of keyword key)

@@ -52,6 +52,7 @@ password_at value = None
 
 -- ---- statements; `at` is what the operand with a key says, or its default
 
+-- MAX
 abbrev pub max_said : (Key → Option Value) → Said
 max_said at = Max (record {
   appliname = name_at (at keys.Appliname);
@@ -67,6 +68,7 @@ max_said at = Max (record {
   blksize = number_at (at keys.Blksize);
 })
 
+-- PROGRAM
 abbrev pub program_said : (Key → Option Value) → Option Said
 program_said at = option_map (λ (name : List ℕ). Program name) (prog_name_at (at keys.First))
 
@@ -76,6 +78,7 @@ class_of asynchronous (Some class) = class
 class_of true None = 16
 class_of false None = 0
 
+-- the operands of TAC with a key
 abbrev pub tac_entry : (Key → Option Value) → Option TacEntry
 tac_entry at =
     option_and_then (λ (program : List ℕ).
@@ -86,9 +89,11 @@ tac_entry at =
     record { program = program; asynchronous = asynchronous; call = call; on = on; class = class_of asynchronous (class_at (at keys.TacClass)); time = time })
     (time_at (at keys.Time))) (flag_at (at keys.Status))) (call_at (at keys.Call))) (flag_at (at keys.Type))) (prog_name_at (at keys.Program))
 
+-- TAC
 abbrev pub tac_said : (Key → Option Value) → Option Said
 tac_said at = option_and_then (λ (name : List ℕ). option_map (λ (entry : TacEntry). Tac name entry) (tac_entry at)) (name_at (at keys.First))
 
+-- USER
 abbrev pub user_said : (Key → Option Value) → Option Said
 user_said at =
     option_and_then (λ (name : List ℕ).
@@ -100,20 +105,25 @@ abbrev pub pterm_of : List ℕ → Option (List ℕ) → Said
 pterm_of name None = Passed
 pterm_of name (Some lterm) = Pterm name (record { lterm = lterm })
 
+-- PTERM
 abbrev pub pterm_said : (Key → Option Value) → Option Said
 pterm_said at = option_map (λ (name : List ℕ). pterm_of name (name_at (at keys.Lterm))) (name_at (at keys.First))
 
+-- LTERM
 abbrev pub lterm_said : (Key → Option Value) → Option Said
 lterm_said at =
     option_and_then (λ (name : List ℕ). option_map (λ (printer : Bool). Lterm name (record { printer = printer })) (flag_at (at keys.Usage)))
     (name_at (at keys.First))
 
+-- TLS
 abbrev pub tls_said : (Key → Option Value) → Option Said
 tls_said at = option_map (λ (name : List ℕ). Tls name) (name_at (at keys.First))
 
+-- ULS
 abbrev pub uls_said : (Key → Option Value) → Option Said
 uls_said at = option_map (λ (name : List ℕ). Uls name) (name_at (at keys.First))
 
+-- TACCLASS
 abbrev pub class_said : (Key → Option Value) → Option Said
 class_said at =
     option_and_then (λ (class : ℕ). option_map (λ (tasks : ℕ). TacClass class tasks) (number_at (at keys.Tasks))) (class_at (at keys.First))

@@ -41,6 +41,7 @@ abbrev pub for_max : Keyword → List Bool → List Bool → List Bool
 for_max keywords.Max own other = own
 for_max keyword own other = other
 
+-- the statement that what was given makes
 abbrev pub said_by : Keyword → ℕ → Given → Result Statement ReadFault
 said_by keyword line given = or_missing line given.passed (said_of keyword (answers keyword given.slots))
 
@@ -61,6 +62,7 @@ form_by taken r (Some forms.Passed) = Ok (statement r.line 0 says.Passed, taken)
 form_by taken r (Some forms.End) = Ok (statement r.line (length r.operands) says.End, taken)
 form_by taken r (Some (forms.Kept keyword)) = kept_by keyword taken r
 
+-- a statement, and the keys of MAX that are taken behind it
 abbrev pub statement_by : List Bool → RawStatement → Result (Statement × List Bool) ReadFault
 statement_by taken r = form_by taken r (form_of r.keyword)
 
@@ -80,12 +82,14 @@ is_end says.End = true
 abbrev pub behind : ℕ → Statement × List Bool → Result (Statement × Progress) ReadFault
 behind line p = Ok (p.0, record { taken = p.1; ended = is_end p.0.said; next = line + 1 })
 
+-- the next statement, and where the reading stands behind it
 abbrev pub step : Progress → RawStatement → Result (Statement × Progress) ReadFault
 step progress r = if progress.ended then Err (AfterEnd r.line) else (statement_by progress.taken r >>= behind r.line)
 
 abbrev pub with_front : List Statement → Result (List Statement) ReadFault → Result (List Statement) ReadFault
 with_front front read = read >>= λ ss. Ok (front ++ ss)
 
+-- the statements from here on
 abbrev pub read_from : Progress → List RawStatement → Result (List Statement) ReadFault
 read_from progress [] = if progress.ended then Ok [] else Err (NoEnd progress.next)
 read_from progress (r ∷ rs) = step progress r >>= λ p. with_front (p.0 ∷ []) (read_from p.1 rs)

@@ -13,12 +13,15 @@ use Rattle.kdcdef_read.specs.declared.rows.Row.{Row}
 use Rattle.kdcdef_read.specs.declared.value.Value.{Value}
 use Rattle.kdcdef_read.specs.declared.value.Value.TheVariants as values
 
+-- a row without a default
 abbrev pub of_kind : Kind → Option Row
 of_kind kind = Some (record { kind = kind; default = None })
 
+-- a row with a default
 abbrev pub of_kind_or : Value → Kind → Option Row
 of_kind_or default kind = Some (record { kind = kind; default = Some default })
 
+-- MAX, whose defaults stand for all MAX statements together and are filled in later
 abbrev pub max_row : Key → Option Row
 max_row keys.Appliname = of_kind kinds.Name
 max_row keys.KdcFile = of_kind kinds.File
@@ -35,10 +38,12 @@ max_row keys.Blksize = of_kind (kinds.OneOf choices.Blksize)
 max_row keys.Applimode = of_kind kinds.Mode
 max_row key = None
 
+-- PROGRAM
 abbrev pub program_row : Key → Option Row
 program_row keys.First = of_kind kinds.ProgName
 program_row key = None
 
+-- TAC; the default of TACCLASS is that of TYPE
 abbrev pub tac_row : Key → Option Row
 tac_row keys.First = of_kind kinds.Name
 tac_row keys.Program = of_kind kinds.ProgName
@@ -50,6 +55,7 @@ tac_row keys.Time = of_kind_or (values.Time 1000) kinds.Time
 tac_row keys.Lock = of_kind kinds.Unavailable
 tac_row key = None
 
+-- USER
 abbrev pub user_row : Key → Option Row
 user_row keys.First = of_kind kinds.Name
 user_row keys.Pass = of_kind kinds.Password
@@ -57,11 +63,13 @@ user_row keys.Restart = of_kind_or (values.Flag true) (kinds.OneOf choices.Resta
 user_row keys.Kset = of_kind kinds.Unavailable
 user_row key = None
 
+-- PTERM
 abbrev pub pterm_row : Key → Option Row
 pterm_row keys.First = of_kind kinds.Name
 pterm_row keys.Lterm = of_kind kinds.Name
 pterm_row key = None
 
+-- LTERM
 abbrev pub lterm_row : Key → Option Row
 lterm_row keys.First = of_kind kinds.Name
 lterm_row keys.Usage = of_kind_or (values.Flag false) (kinds.OneOf choices.Usage)
@@ -74,6 +82,7 @@ abbrev pub block_row : Key → Option Row
 block_row keys.First = of_kind kinds.Name
 block_row key = None
 
+-- TACCLASS
 abbrev pub class_row : Key → Option Row
 class_row keys.First = of_kind kinds.Class
 class_row keys.Tasks = of_kind_or (values.Number 240) (kinds.Number 0 240)

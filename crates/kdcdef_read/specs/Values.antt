@@ -34,6 +34,7 @@ number_text (raw.Listed (None ∷ more)) = []
 number_text (raw.Listed (Some (items.Word word) ∷ more)) = word
 number_text (raw.Listed (Some (items.Quoted bytes) ∷ more)) = []
 
+-- the number, where there is one and it is from low to high
 abbrev pub in_range : ℕ → ℕ → Option ℕ → Result ℕ Cause
 in_range low high None = Err BadNumber
 in_range low high (Some n) = if nat_le low n && nat_le n high then Ok n else Err OutOfRange
@@ -54,6 +55,7 @@ time_in value = number_between 0 100000 value >>= λ n. if n == 0 then Ok (value
 
 -- ---- choices
 
+-- one of two words
 abbrev pub flag_of : List ℕ → List ℕ → List ℕ → Option Value
 flag_of off on word = if is word off then Some (values.Flag false) else (if is word on then Some (values.Flag true) else None)
 
@@ -104,6 +106,7 @@ password_in (raw.Listed is) = Err BadChoice
 
 -- ---- KDCFILE and APPLIMODE
 
+-- the second item of KDCFILE's list
 abbrev pub file_of : List ℕ → Result Value Cause
 file_of word =
     if is word (codes "SINGLE") then Ok values.Accepted

@@ -33,6 +33,7 @@ is_passed word =
     is word (codes "FORMSYS") || is word (codes "ROOT") || is word (codes "OPTION") || is word (codes "EXIT") || is word (codes "MESSAGE")
     || is word (codes "BCAMAPPL") || is word (codes "RESERVE") || is word (codes "SIGNON") || is word (codes "ACCOUNT")
 
+-- what the other keywords stand for
 abbrev pub other_form : List ℕ → Option Form
 other_form word =
     if is_passed word then Some forms.Passed
@@ -40,6 +41,7 @@ other_form word =
     else (if is word (codes "END") then Some forms.End
     else None))
 
+-- a statement whose operands are kept, or another one
 abbrev pub kept_form : Option Keyword → Option Form → Option Form
 kept_form None other = other
 kept_form (Some keyword) other = Some (forms.Kept keyword)
@@ -83,6 +85,7 @@ entry_key word =
     else (if is word (codes "USAGE") then Some keys.Usage
     else None)))))))))))
 
+-- the first, if there is one, and else the other
 abbrev pub key_or : Option Key → Option Key → Option Key
 key_or None other = other
 key_or (Some key) other = Some key

@@ -86,10 +86,7 @@ fn statements_and_what_they_say(rt: HostRuntime) -> Result<(), Fail> {
     let rows: [(&[u8], &[u8]); 12] = [
         (b"END", b" 1 0 end\n"),
         (b"end X,KEY=Y", b" 1 2 end\n"),
-        (
-            b"Program P_1,COMP=C,X\nEND",
-            b" 1 2 P_1\n 2 0 end\n",
-        ),
+        (b"Program P_1,COMP=C,X\nEND", b" 1 2 P_1\n 2 0 end\n"),
         (
             b"TAC T,PROGRAM=P\nTAC U,program=P,TYPE=a,CALL=First,STATUS=off,TIME=0\nEND",
             b" 1 0 T P D BOTH ON 0 1000\n 2 0 U P A FIRST OFF 16 100000\n 3 0 end\n",
@@ -149,14 +146,20 @@ fn faults_in_their_order(rt: HostRuntime) -> Result<(), Fail> {
         (b"FOO X\nEND", ReadFault::UnknownStatement(1)),
         (b"\n\nKSET K\nEND", ReadFault::NotInProfile(3)),
         (b"END\n\nFOO", ReadFault::AfterEnd(3)),
-        (b"MAX APPLINAME=A\nUSER U\nEND\nUSER V", ReadFault::AfterEnd(4)),
+        (
+            b"MAX APPLINAME=A\nUSER U\nEND\nUSER V",
+            ReadFault::AfterEnd(4),
+        ),
         (b"END\nKSET K", ReadFault::AfterEnd(2)),
         (b"MAX APPLINAME=A\nUSER U", ReadFault::NoEnd(3)),
         (b"", ReadFault::NoEnd(1)),
         (b"USER U\nUSER 9+\nFOO", ReadFault::BadName(2)),
         // What is given twice, and what is missing.
         (b"MAX TASKS=1,TASKS=0\nEND", ReadFault::OperandTwice(1)),
-        (b"MAX KB=1\nMAX NB=1\nMAX kb=2\nEND", ReadFault::OperandTwice(3)),
+        (
+            b"MAX KB=1\nMAX NB=1\nMAX kb=2\nEND",
+            ReadFault::OperandTwice(3),
+        ),
         (b"TAC T,TYPE=D,TYPE=Z\nEND", ReadFault::OperandTwice(1)),
         (b"TAC T\nEND", ReadFault::OperandMissing(1)),
         (b"TAC T,TYPE=Z\nEND", ReadFault::BadChoice(1)),
@@ -175,7 +178,7 @@ fn faults_in_their_order(rt: HostRuntime) -> Result<(), Fail> {
         (b"USER (U)\nEND", ReadFault::BadChoice(1)),
         (b"PTERM P,LTERM=L-1\nEND", ReadFault::BadName(1)),
         (
-            b"PROGRAM A23456789B23456789C23456789D23\nEND",
+            b"PROGRAM A234567890B234567890C234567890D23\nEND",
             ReadFault::BadName(1),
         ),
         (b"TAC T,PROGRAM=(P)\nEND", ReadFault::BadChoice(1)),
@@ -189,8 +192,14 @@ fn faults_in_their_order(rt: HostRuntime) -> Result<(), Fail> {
         (b"TACCLASS 17\nEND", ReadFault::OutOfRange(1)),
         (b"TACCLASS 1,TASKS=241\nEND", ReadFault::OutOfRange(1)),
         (b"TAC T,PROGRAM=P,TACCLASS=0\nEND", ReadFault::OutOfRange(1)),
-        (b"TAC T,PROGRAM=P,TACCLASS=17\nEND", ReadFault::OutOfRange(1)),
-        (b"TAC T,PROGRAM=P,TIME=100001\nEND", ReadFault::OutOfRange(1)),
+        (
+            b"TAC T,PROGRAM=P,TACCLASS=17\nEND",
+            ReadFault::OutOfRange(1),
+        ),
+        (
+            b"TAC T,PROGRAM=P,TIME=100001\nEND",
+            ReadFault::OutOfRange(1),
+        ),
         // Choices.
         (b"MAX BLKSIZE=1K\nEND", ReadFault::BadChoice(1)),
         (b"MAX BLKSIZE='2K'\nEND", ReadFault::BadChoice(1)),
@@ -201,7 +210,10 @@ fn faults_in_their_order(rt: HostRuntime) -> Result<(), Fail> {
         (b"MAX KDCFILE=(a)\nEND", ReadFault::BadChoice(1)),
         (b"MAX KDCFILE='a'\nEND", ReadFault::BadChoice(1)),
         (b"USER U,PASS=''\nEND", ReadFault::OutOfRange(1)),
-        (b"USER U,PASS=12345678901234567\nEND", ReadFault::OutOfRange(1)),
+        (
+            b"USER U,PASS=12345678901234567\nEND",
+            ReadFault::OutOfRange(1),
+        ),
         (b"USER U,PASS=(a)\nEND", ReadFault::BadChoice(1)),
         (b"USER U,KSET=K\nEND", ReadFault::NotInProfile(1)),
         (b"TAC T,LOCK=1\nEND", ReadFault::NotInProfile(1)),
@@ -252,7 +264,13 @@ fn given_by(alloc: Global, place: u8, key: &str, number: u64) -> Result<Option<u
     let text = format!(in alloc; "MAX {key}=({number},x)\nEND")?;
     match read_text(alloc, text.as_bytes())? {
         Ok(statements) => match statements.as_slice() {
-            [Statement { said: Said::Max(given), .. }, ..] => Ok(number_at(place, given)),
+            [
+                Statement {
+                    said: Said::Max(given),
+                    ..
+                },
+                ..
+            ] => Ok(number_at(place, given)),
             _ => Ok(None),
         },
         Err(ReadFault::OutOfRange(1)) => Ok(Some(u64::MAX)),
