@@ -1,25 +1,20 @@
 -- No two MAX statements that are read give the same operand.
-use Rattle.std.proofs.Common.{◌≡◌, ◌≢◌, ◌⊎◌, ℕ, Bool, true, false, cond, List, [], ◌∷◌, ◌++◌, length, Option, Some, None, Result, Ok, Err, refl, sym, ap, ◌∙◌, subst, arith, inl, inr, append_assoc}
-use Rattle.std.specs.Prelude.{IfSome, is_some}
-use Rattle.std.specs.Result.{result_ok}
+use Rattle.std.proofs.Common.{◌≡◌, ◌⊎◌, ℕ, Bool, true, false, cond, List, [], ◌∷◌, ◌++◌, length, Option, Some, None, Ok, refl, sym, ap, ◌∙◌, subst, arith, inl, inr}
+use Rattle.std.specs.Prelude.{is_some}
 use Rattle.std.specs.List.{All}
-use Rattle.std.proofs.lemmas.Bool.{cases_Bool}
 use Rattle.std.proofs.lemmas.List.Elements.{All-nil, All-cons}
-use Rattle.kd_base.specs.Tools.{some_is, some_of, ok_is, ok_of}
+use Rattle.kd_base.specs.Tools.{some_is, ok_is}
 use Rattle.kdcdef_lex.specs.declared.statement.RawOperand.{RawOperand}
 use Rattle.kdcdef_lex.specs.declared.statement.RawStatement.{RawStatement}
 use Rattle.kdcdef_lex.specs.Bounds.{AreWithinBounds}
 use Rattle.kdcdef_types.specs.declared.statement.MaxOperands.{MaxOperands}
 use Rattle.kdcdef_types.specs.declared.statement.Said.{Said}
-use Rattle.kdcdef_types.specs.declared.statement.Said.TheVariants.{Max, Program, Tac, User, Pterm, Lterm, Tls, Uls, TacClass, Passed, End}
+use Rattle.kdcdef_types.specs.declared.statement.Said.TheVariants.{Max, Passed, End}
 use Rattle.kdcdef_types.specs.declared.statement.Statement.{Statement}
 use Rattle.kdcdef_types.specs.Statements.{NotBoth, AreApart, SayApart, NoMaxTwice, AreRead}
-use Rattle.kdcdef_read.specs.declared.fault.Cause.{Cause}
-use Rattle.kdcdef_read.specs.declared.fault.Cause.TheVariants.{OperandTwice}
 use Rattle.kdcdef_read.specs.declared.fault.ReadFault.{ReadFault}
 use Rattle.kdcdef_read.specs.declared.rows.Row.{Row}
 use Rattle.kdcdef_read.specs.declared.value.Value.{Value}
-use Rattle.kdcdef_read.specs.declared.words.Keyword.{Keyword}
 use Rattle.kdcdef_read.specs.declared.words.Keyword.TheVariants as keywords
 use Rattle.kdcdef_read.specs.declared.words.Form.{Form}
 use Rattle.kdcdef_read.specs.declared.words.Form.TheVariants as forms
@@ -27,12 +22,11 @@ use Rattle.kdcdef_read.specs.declared.words.Key.{Key}
 use Rattle.kdcdef_read.specs.declared.words.Key.TheVariants as keys
 use Rattle.kdcdef_read.specs.Words.{form_of}
 use Rattle.kdcdef_read.specs.Table.{row_of}
-use Rattle.kdcdef_read.specs.Values.{value_of}
 use Rattle.kdcdef_read.specs.Operands.{or_else, same_key, operand_key, row_says, key_says, said_from, said, row_cause, key_cause, operand_cause, cause_from, first_cause, answer_of, default_in}
-use Rattle.kdcdef_read.specs.Said.{name_at, number_at, max_said, said_of, pterm_of}
-use Rattle.kdcdef_read.specs.Meaning.{statement, shared, form_says, says_of, Say, StandFor}
+use Rattle.kdcdef_read.specs.Said.{name_at, number_at, max_said, pterm_of}
+use Rattle.kdcdef_read.specs.Meaning.{statement, shared, form_says, Say, StandFor}
 use Rattle.kdcdef_read.proofs.Keys.{same_key_is}
-use Rattle.kdcdef_read.proofs.Filled.{or_none, or_or, both_none, some_or_first, said_more_max, said_append_max}
+use Rattle.kdcdef_read.proofs.Filled.{or_none, both_none, some_or_first, said_more_max, said_append_max}
 use Rattle.kdcdef_read.proofs.Ranges.{kept_is, program_is, tac_is, user_is, pterm_is, lterm_is, tls_is, uls_is, class_is, all_in_range, all_in_lines, few_are_passed}
 
 -- ---- operands

@@ -1,8 +1,8 @@
 -- What was read from left to right is what the operands say, and the first cause is theirs.
-use Rattle.std.proofs.Common.{◌≡◌, ◌≢◌, ◌⊎◌, ℕ, ◌+◌, ◌<◌, Bool, true, false, cond, eqb, List, [], ◌∷◌, ◌++◌, length, set, Option, Some, None, Result, Ok, Err, refl, sym, ap, ◌∙◌, subst, arith, inl, inr, length-set, eq-eqb, append_assoc}
-use Rattle.std.specs.Prelude.{is_some, replicate}
-use Rattle.std.proofs.lemmas.Bool.{cases_Bool, eqb-true, false≢true}
-use Rattle.kd_base.specs.Tools.{◌>>=◌, chosen, bind_ok, bind_err, ok_is, err_is, ok_of, some_of}
+use Rattle.std.proofs.Common.{◌≡◌, ◌≢◌, ◌⊎◌, ℕ, ◌+◌, Bool, true, false, cond, List, [], ◌∷◌, ◌++◌, length, set, Option, Some, None, Result, Ok, Err, refl, sym, ap, ◌∙◌, subst, arith, inl, inr, length-set, eq-eqb, append_assoc}
+use Rattle.std.specs.Prelude.{is_some}
+use Rattle.std.proofs.lemmas.Bool.{cases_Bool, false≢true}
+use Rattle.kd_base.specs.Tools.{◌>>=◌, chosen, bind_ok, bind_err, ok_is, err_is, some_of}
 use Rattle.kdcdef_lex.specs.declared.statement.RawOperand.{RawOperand}
 use Rattle.kdcdef_read.specs.declared.fault.Cause.{Cause}
 use Rattle.kdcdef_read.specs.declared.fault.Cause.TheVariants.{OperandTwice}
@@ -14,11 +14,11 @@ use Rattle.kdcdef_read.specs.declared.words.Key.TheVariants as keys
 use Rattle.kdcdef_read.specs.declared.rows.Row.{Row}
 use Rattle.kdcdef_read.specs.declared.value.Value.{Value}
 use Rattle.kdcdef_read.specs.Words.{place_of}
-use Rattle.kdcdef_read.specs.Table.{row_of, max_row}
+use Rattle.kdcdef_read.specs.Table.{row_of}
 use Rattle.kdcdef_read.specs.Values.{value_of}
-use Rattle.kdcdef_read.specs.Operands.{or_else, same_key, key_in, operand_key, row_says, key_says, said_from, said, is_kept, passed_from, cause_of, row_cause, key_cause, cause_from, operand_cause}
-use Rattle.kdcdef_read.specs.Filling.{slot_at, is_taken, put, pass, with_row, with_kept, with_key, with_operand, with_operands}
-use Rattle.kdcdef_read.proofs.Keys.{same_key_is, same_place}
+use Rattle.kdcdef_read.specs.Operands.{or_else, same_key, key_in, operand_key, key_says, said_from, said, is_kept, passed_from, row_cause, key_cause, cause_from}
+use Rattle.kdcdef_read.specs.Filling.{slot_at, is_taken, put, pass, with_kept, with_key, with_operand, with_operands}
+use Rattle.kdcdef_read.proofs.Keys.{same_key_is}
 use Rattle.kdcdef_read.proofs.Slots.{slot_same, slot_other, taken_same, taken_other}
 
 -- ---- what may be given

@@ -1,10 +1,10 @@
 -- The numbers that values have lie in the ranges of their rows.
-use Rattle.std.proofs.Common.{◌≡◌, ◌⊎◌, ℕ, zero, suc, ◌+◌, ◌≤◌, Bool, true, false, cond, eqb, leb, List, [], ◌∷◌, ◌++◌, length, Option, Some, None, Result, Ok, Err, refl, sym, ap, ◌∙◌, subst, arith, inl, inr}
+use Rattle.std.proofs.Common.{◌≡◌, ℕ, zero, suc, ◌≤◌, Bool, true, false, cond, eqb, leb, List, [], ◌∷◌, length, Option, Some, None, Result, Ok, Err, refl, sym, subst, arith, inl, inr}
 use Rattle.std.specs.Prelude.{◌&&◌, IfSome, codes, if◌then◌else◌}
 use Rattle.std.specs.Result.{result_ok}
 use Rattle.std.proofs.lemmas.Bool.{cases_Bool, leb-true}
 use Rattle.kd_base.specs.Text.{decimal_of}
-use Rattle.kd_base.specs.Tools.{◌>>=◌, chosen, both_true, cases_option, some_is, some_of, bind_ok, ok_is, ok_of}
+use Rattle.kd_base.specs.Tools.{chosen, both_true, some_is, bind_ok, ok_is, ok_of}
 use Rattle.kdcdef_lex.specs.declared.statement.RawOperand.{RawOperand}
 use Rattle.kdcdef_lex.specs.declared.statement.RawValue.{RawValue}
 use Rattle.kdcdef_lex.specs.declared.statement.RawValue.TheVariants as raw
@@ -22,7 +22,7 @@ use Rattle.kdcdef_read.specs.declared.words.Key.{Key}
 use Rattle.kdcdef_read.specs.Passwords.{password_of}
 use Rattle.kdcdef_read.specs.Words.{is}
 use Rattle.kdcdef_read.specs.Table.{row_of}
-use Rattle.kdcdef_read.specs.Values.{number_text, in_range, number_between, number_in, class_in, time_in, blksize_of, or_cause, password_in, value_of}
+use Rattle.kdcdef_read.specs.Values.{number_text, in_range, number_between, number_in, class_in, time_in, or_cause, password_in, value_of}
 use Rattle.kdcdef_read.specs.Operands.{or_else, same_key, operand_key, row_says, key_says, said_from, said, default_in, answer_of}
 use Rattle.kdcdef_read.specs.Said.{number_at, class_at, time_at, password_at}
 

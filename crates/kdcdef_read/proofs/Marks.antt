@@ -1,11 +1,10 @@
 -- What a statement is read as is what it says behind those before it.
-use Rattle.std.proofs.Common.{◌≡◌, ◌≢◌, ◌⊎◌, ℕ, ◌+◌, Bool, true, false, List, [], ◌∷◌, ◌++◌, length, Option, Some, None, Result, Ok, Err, refl, sym, ap, ◌∙◌, subst, rules, arith, inl, inr}
+use Rattle.std.proofs.Common.{◌≡◌, ◌⊎◌, ℕ, Bool, true, List, [], ◌++◌, length, Option, Some, None, Result, Ok, Err, refl, sym, ap, ◌∙◌, subst, arith, inl, inr}
 use Rattle.std.proofs.Math.Path.{fun_ext}
-use Rattle.std.specs.Prelude.{is_some, replicate}
-use Rattle.kd_base.specs.Tools.{◌>>=◌, bind_ok, bind_err, ok_is, err_is, ok_of, err_of}
+use Rattle.std.specs.Prelude.{is_some}
+use Rattle.kd_base.specs.Tools.{bind_ok, bind_err, ok_is, err_is, ok_of, err_of}
 use Rattle.kdcdef_lex.specs.declared.statement.RawOperand.{RawOperand}
 use Rattle.kdcdef_lex.specs.declared.statement.RawStatement.{RawStatement}
-use Rattle.kdcdef_types.specs.declared.statement.Said.{Said}
 use Rattle.kdcdef_types.specs.declared.statement.Said.TheVariants as says
 use Rattle.kdcdef_types.specs.declared.statement.Statement.{Statement}
 use Rattle.kdcdef_read.specs.declared.fault.Cause.{Cause}
@@ -22,7 +21,7 @@ use Rattle.kdcdef_read.specs.Words.{form_of}
 use Rattle.kdcdef_read.specs.Table.{row_of}
 use Rattle.kdcdef_read.specs.Operands.{or_else, said, default_in, answer_of, passed_in, first_cause}
 use Rattle.kdcdef_read.specs.Said.{said_of}
-use Rattle.kdcdef_read.specs.Filling.{slot_at, is_taken, answers, nothing_given, read_operands}
+use Rattle.kdcdef_read.specs.Filling.{is_taken, answers, nothing_given, read_operands}
 use Rattle.kdcdef_read.specs.Meaning.{statement, shared, or_missing, unless, form_says, says_of}
 use Rattle.kdcdef_read.specs.Steps.{no_keys, for_max, said_by, with_taken, given_by, kept_by, form_by, statement_by}
 use Rattle.kdcdef_read.proofs.Slots.{no_slot, no_key}

@@ -1,20 +1,19 @@
 -- Statements that are read keep what the next reader relies on: ranges, lines, counts, and no operand of MAX twice.
-use Rattle.std.proofs.Common.{◌≡◌, ◌≢◌, ◌⊎◌, ℕ, suc, ◌+◌, ◌≤◌, Bool, true, false, cond, List, [], ◌∷◌, ◌++◌, length, Option, Some, None, Result, Ok, Err, refl, sym, ap, ◌∙◌, subst, arith, inl, inr, append_assoc}
-use Rattle.std.specs.Prelude.{IfSome, is_some, option_and_then}
+use Rattle.std.proofs.Common.{◌≡◌, ℕ, ◌+◌, ◌≤◌, Bool, true, false, cond, List, [], ◌∷◌, ◌++◌, length, Option, Some, None, Ok, refl, sym, ap, ◌∙◌, subst, arith}
+use Rattle.std.specs.Prelude.{IfSome, option_and_then}
 use Rattle.std.specs.Option.{option_map}
 use Rattle.std.specs.List.{All}
 use Rattle.std.proofs.lemmas.List.Elements.{All-nil, All-cons}
-use Rattle.kd_base.specs.Tools.{some_is, some_of, map_some, and_some, ok_is, ok_of}
+use Rattle.kd_base.specs.Tools.{some_is, some_of, map_some, and_some, ok_is}
 use Rattle.kdcdef_lex.specs.declared.statement.RawOperand.{RawOperand}
 use Rattle.kdcdef_lex.specs.declared.statement.RawStatement.{RawStatement}
-use Rattle.kdcdef_lex.specs.Bounds.{LinesUpTo, operand_count, AreWithinBounds}
+use Rattle.kdcdef_lex.specs.Bounds.{LinesUpTo, operand_count}
 use Rattle.kdcdef_types.specs.declared.entry.CallUse.{CallUse}
 use Rattle.kdcdef_types.specs.declared.entry.TacEntry.{TacEntry}
-use Rattle.kdcdef_types.specs.declared.statement.MaxOperands.{MaxOperands}
 use Rattle.kdcdef_types.specs.declared.statement.Said.{Said}
-use Rattle.kdcdef_types.specs.declared.statement.Said.TheVariants.{Max, Program, Tac, User, Pterm, Lterm, Tls, Uls, TacClass, Passed, End}
+use Rattle.kdcdef_types.specs.declared.statement.Said.TheVariants.{Program, Tac, User, Lterm, Tls, Uls, TacClass, Passed, End}
 use Rattle.kdcdef_types.specs.declared.statement.Statement.{Statement}
-use Rattle.kdcdef_types.specs.Statements.{IsWithin, IsMaxInRange, IsTacInRange, IsInRange, passed_count}
+use Rattle.kdcdef_types.specs.Statements.{IsWithin, IsTacInRange, IsInRange, passed_count}
 use Rattle.kdcdef_read.specs.declared.fault.Cause.{Cause}
 use Rattle.kdcdef_read.specs.declared.fault.ReadFault.{ReadFault}
 use Rattle.kdcdef_read.specs.declared.value.Value.{Value}
@@ -28,8 +27,8 @@ use Rattle.kdcdef_read.specs.declared.words.Key.TheVariants as keys
 use Rattle.kdcdef_read.specs.Words.{form_of}
 use Rattle.kdcdef_read.specs.Operands.{operand_key, is_kept, passed_from, passed_in, first_cause, answer_of}
 use Rattle.kdcdef_read.specs.Said.{name_at, prog_name_at, number_at, class_at, time_at, call_at, flag_at, password_at, max_said, class_of, tac_entry, program_said, tac_said, user_said, pterm_of, pterm_said, lterm_said, tls_said, uls_said, class_said, said_of}
-use Rattle.kdcdef_read.specs.Meaning.{statement, shared, or_missing, unless, form_says, says_of, Say}
-use Rattle.kdcdef_read.proofs.Fitting.{number_within, blksize_is, class_within, time_within, password_within, IsPassword}
+use Rattle.kdcdef_read.specs.Meaning.{statement, shared, or_missing, unless, form_says, Say}
+use Rattle.kdcdef_read.proofs.Fitting.{number_within, blksize_is, class_within, time_within, password_within}
 
 -- ---- one statement
 

@@ -1,7 +1,7 @@
 -- What is read is what the statements stand for, and what is refused has the fault.
-use Rattle.std.proofs.Common.{◌≡◌, ◌≢◌, ◌⊎◌, ℕ, ◌+◌, Bool, true, false, List, [], ◌∷◌, ◌++◌, Option, Some, None, Result, Ok, Err, refl, sym, ap, ◌∙◌, subst, inl, inr}
+use Rattle.std.proofs.Common.{◌≡◌, ◌⊎◌, ℕ, ◌+◌, Bool, true, false, List, [], ◌∷◌, ◌++◌, Result, Ok, Err, refl, sym, ap, ◌∙◌, subst, inl, inr}
 use Rattle.std.proofs.lemmas.Bool.{cases_Bool}
-use Rattle.kd_base.specs.Tools.{◌>>=◌, bind_ok, bind_err, ok_is, err_is, ok_of, err_of}
+use Rattle.kd_base.specs.Tools.{◌>>=◌, bind_ok, bind_err, ok_is, err_is, err_of}
 use Rattle.kdcdef_lex.specs.declared.statement.RawOperand.{RawOperand}
 use Rattle.kdcdef_lex.specs.declared.statement.RawStatement.{RawStatement}
 use Rattle.kdcdef_types.specs.declared.statement.Said.{Said}
@@ -13,7 +13,7 @@ use Rattle.kdcdef_read.specs.declared.fault.ReadFault.TheVariants.{AfterEnd, NoE
 use Rattle.kdcdef_read.specs.declared.statement.Progress.{Progress}
 use Rattle.kdcdef_read.specs.Words.{form_of}
 use Rattle.kdcdef_read.specs.Meaning.{shared, says_of, Say, StandFor, HasEndFault, HasNextFault, HasFaultFrom, HasFault}
-use Rattle.kdcdef_read.specs.Steps.{no_keys, is_end, statement_by, behind, step, with_front, read_from, at_start, read_all}
+use Rattle.kdcdef_read.specs.Steps.{no_keys, is_end, statement_by, behind, with_front, read_from, read_all}
 use Rattle.kdcdef_read.proofs.Marks.{Marks, no_marks, form_ok, form_err, says_read, says_refused}
 
 -- ---- END

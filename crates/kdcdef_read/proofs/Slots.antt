@@ -1,7 +1,6 @@
 -- What stands in a slot once another was filled.
-use Rattle.std.proofs.Common.{◌≡◌, ◌≢◌, ℕ, ◌<◌, Bool, true, false, List, length, set, Option, Some, None, refl, rules, arith, length-set, get_or-set_same, get_or-set_other}
-use Rattle.std.specs.Prelude.{replicate, unwrap_or}
-use Rattle.std.specs.List.{slice_get}
+use Rattle.std.proofs.Common.{◌≡◌, ◌≢◌, ◌<◌, Bool, true, false, List, length, set, Option, Some, None, refl, arith, length-set, get_or-set_same, get_or-set_other}
+use Rattle.std.specs.Prelude.{replicate}
 use Rattle.std.proofs.lemmas.Option.{slice_get-get_or, unwrap_or-slice_get}
 use Rattle.kdcdef_read.specs.declared.words.Key.{Key}
 use Rattle.kdcdef_read.specs.declared.words.Key.TheVariants as keys

@@ -1,5 +1,5 @@
 -- Operands read one after another into slots, as the reader does.
-use Rattle.std.specs.Prelude.{ℕ, ◌+◌, Bool, true, false, List, [], ◌∷◌, Option, Some, None, Result, Ok, Err, if◌then◌else◌, option_and_then, slice_set, replicate, unwrap_or}
+use Rattle.std.specs.Prelude.{◌+◌, Bool, true, false, List, [], ◌∷◌, Option, Some, None, Result, Ok, Err, if◌then◌else◌, option_and_then, slice_set, replicate, unwrap_or}
 use Rattle.std.specs.List.{slice_get}
 use Rattle.kd_base.specs.Tools.{◌>>=◌}
 use Rattle.kdcdef_lex.specs.declared.statement.RawOperand.{RawOperand}

@@ -9,7 +9,6 @@ use Rattle.kdcdef_types.specs.Statements.{EndsOnce}
 use Rattle.kdcdef_read.specs.declared.fault.Cause.{Cause}
 use Rattle.kdcdef_read.specs.declared.fault.ReadFault.{ReadFault}
 use Rattle.kdcdef_read.specs.declared.fault.ReadFault.TheVariants.{UnknownStatement, OperandMissing, NotInProfile, AfterEnd, NoEnd}
-use Rattle.kdcdef_read.specs.declared.words.Keyword.{Keyword}
 use Rattle.kdcdef_read.specs.declared.words.Keyword.TheVariants as keywords
 use Rattle.kdcdef_read.specs.declared.words.Form.{Form}
 use Rattle.kdcdef_read.specs.declared.words.Form.TheVariants as forms

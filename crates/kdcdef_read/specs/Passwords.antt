@@ -1,5 +1,5 @@
 -- Passwords.
-use Rattle.std.specs.Prelude.{ℕ, ◌≤◌, ◌&&◌, nat_le, List, length, Option, Some, None, if◌then◌else◌}
+use Rattle.std.specs.Prelude.{ℕ, ◌&&◌, nat_le, List, length, Option, Some, None, if◌then◌else◌}
 
 -- the bytes, where they are 1 to 16
 abbrev pub password_of : List ℕ → Option (List ℕ)

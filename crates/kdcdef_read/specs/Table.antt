@@ -1,6 +1,6 @@
 -- The table of operands: for a statement and a key, the values of the operand and its default. Where there is no
 -- row the operand is passed over.
-use Rattle.std.specs.Prelude.{ℕ, true, false, Option, Some, None}
+use Rattle.std.specs.Prelude.{true, false, Option, Some, None}
 use Rattle.kdcdef_types.specs.declared.entry.CallUse.TheVariants as calls
 use Rattle.kdcdef_read.specs.declared.words.Keyword.{Keyword}
 use Rattle.kdcdef_read.specs.declared.words.Keyword.TheVariants as keywords

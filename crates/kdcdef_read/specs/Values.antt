@@ -1,9 +1,8 @@
 -- The values of operands, by the kind of their rows.
-use Rattle.std.specs.Prelude.{ℕ, ◌==◌, ◌&&◌, nat_le, Bool, true, false, List, [], ◌∷◌, Option, Some, None, Result, Ok, Err, if◌then◌else◌, codes}
+use Rattle.std.specs.Prelude.{ℕ, ◌==◌, ◌&&◌, nat_le, true, false, List, [], ◌∷◌, Option, Some, None, Result, Ok, Err, if◌then◌else◌, codes}
 use Rattle.kd_base.specs.Text.{decimal_of, name_of, prog_name_of}
 use Rattle.kd_base.specs.Tools.{◌>>=◌}
 use Rattle.kdcdef_types.specs.declared.entry.CallUse.TheVariants as calls
-use Rattle.kdcdef_lex.specs.declared.statement.RawItem.{RawItem}
 use Rattle.kdcdef_lex.specs.declared.statement.RawItem.TheVariants as items
 use Rattle.kdcdef_lex.specs.declared.statement.RawValue.{RawValue}
 use Rattle.kdcdef_lex.specs.declared.statement.RawValue.TheVariants as raw

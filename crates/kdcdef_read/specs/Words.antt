@@ -1,7 +1,6 @@
 -- The words of KDCDEF, which may be written in either case.
-use Rattle.std.specs.Prelude.{ℕ, Bool, ◌||◌, List, Option, Some, None, if◌then◌else◌, codes, unwrap_or}
+use Rattle.std.specs.Prelude.{ℕ, Bool, ◌||◌, List, Option, Some, None, if◌then◌else◌, codes}
 use Rattle.std.specs.Str.{str_eq_ignore_ascii_case}
-use Rattle.std.specs.Option.{option_map}
 use Rattle.kdcdef_read.specs.declared.words.Keyword.{Keyword}
 use Rattle.kdcdef_read.specs.declared.words.Keyword.TheVariants as keywords
 use Rattle.kdcdef_read.specs.declared.words.Form.{Form}

@@ -1,5 +1,4 @@
 use Rattle.std.proofs.Common.{◌≡◌, drop}
-use Rattle.kdcdef_lex.specs.Bounds.{AreWithinBounds}
 use Rattle.kdcdef_read.specs.Steps.{with_front, read_from, read_all}
 use Rattle.kdcdef_read.proofs.reading.read_all.Given as goal
 
