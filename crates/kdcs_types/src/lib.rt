@@ -7,6 +7,7 @@
 mod act;
 mod call;
 mod command;
+mod fixed;
 mod key;
 mod lists;
 mod run_state;
@@ -16,6 +17,7 @@ mod tables;
 pub use act::{Act, Acts, Change, Changes, Row, RowChanges};
 pub use call::{Call, Cause, Code, Reply};
 pub use command::Command;
+pub use fixed::FixedBytes;
 pub use key::{Area, Key, ServiceId, Target};
 pub use lists::{Areas, Notes, Parts};
 pub use run_state::{Header, RunState};
