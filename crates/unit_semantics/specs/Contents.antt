@@ -1,5 +1,5 @@
 -- Bytes of fields and operands: without spaces, filled or cut, put over others, as numbers, and compared.
-use Rattle.std.specs.Prelude.{ℕ, zero, suc, ◌+◌, ◌-◌, ◌/◌, ◌%◌, ◌^◌, ◌&&◌, List, [], ◌∷◌, ◌++◌, length, take, drop, Option, Some, None, nat_lt, if◌then◌else◌}
+use Rattle.std.specs.Prelude.{ℕ, zero, suc, ◌+◌, ◌-◌, ◌/◌, ◌%◌, ◌^◌, List, [], ◌∷◌, ◌++◌, length, take, drop, Option, Some, None, min, nat_lt, if◌then◌else◌}
 use Rattle.std.specs.List.{prefix_len, suffix_len}
 use Rattle.std.specs.Ordering.{nat_cmp}
 use Rattle.std.specs.Cmp.Lexicographic.{slice_cmp}
@@ -38,7 +38,7 @@ in_digits (suc k) n = in_digits k (n / 10) ++ (48 + n % 10) ∷ []
 
 -- a number in a field: with leading zeros to the field's length; none where it has more digits than the field or than 18
 unfoldable pub number_in : ℕ → ℕ → Option (List ℕ)
-number_in len n = if nat_lt n (10 ^ len) && nat_lt n (10 ^ 18) then Some (in_digits len n) else None
+number_in len n = if nat_lt n (10 ^ min len 18) then Some (in_digits len n) else None
 
 -- byte by byte, the shorter filled with spaces
 unfoldable pub compared : List ℕ → List ℕ → Ordering
