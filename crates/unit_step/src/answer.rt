@@ -63,6 +63,7 @@ pub fn answered(unit: &Unit, run: &mut RunState, reply: &Reply)
     requires can { CanAnswer unit.now run.old reply.now }
     ensures { run.new ≡ answered unit.now run.old reply.now }
 {
+    let _budget = run.budget;
     read_into(unit, run, &reply.content);
     run.place += 1;
     run.count += 1;

@@ -60,10 +60,11 @@ pub fn step(alloc: Global, unit: &Unit, run: &mut RunState) -> Result<Stepped, O
     ensures memory { OnErr result (IsTrue (next_takes_memory (action_at unit.now run.old.place))) }
     ensures in_time { OnErr result (run.old.count < run.old.budget) }
 {
+    let budget = run.budget;
     let Some(statement) = unit.statement(run.place) else {
         return Ok(Stepped::Ends(Cause::E08));
     };
-    if run.count == run.budget {
+    if run.count == budget {
         return Ok(Stepped::Ends(Cause::E07));
     }
     perform(alloc, unit, run, &statement.action)
