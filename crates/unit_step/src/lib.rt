@@ -17,5 +17,8 @@ mod plain;
 mod stepping;
 
 pub use answer::answered;
-pub use stepping::step;
 pub use outcome::Stepped;
+pub use stepping::step;
+
+#[cfg(test)]
+mod tests;
