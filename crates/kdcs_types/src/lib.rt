@@ -9,7 +9,10 @@ mod call;
 mod command;
 mod fixed;
 mod key;
+mod laws;
 mod lists;
+mod places;
+mod row_lists;
 mod run_state;
 mod service;
 mod tables;
@@ -19,7 +22,11 @@ pub use call::{Call, Cause, Code, Reply};
 pub use command::Command;
 pub use fixed::FixedBytes;
 pub use key::{Area, Key, ServiceId, Target};
+pub use laws::{changes_set_and_remove, tables_change_by_their_difference};
 pub use lists::{Areas, Notes, Parts};
 pub use run_state::{Header, RunState};
 pub use service::{Ending, Job, JobValue, Note, Service, Settled};
 pub use tables::Tables;
+
+#[cfg(test)]
+mod tests;
