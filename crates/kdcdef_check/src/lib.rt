@@ -8,6 +8,8 @@
 mod fault;
 mod generation;
 mod hashing;
+mod limits;
+mod tally;
 
 pub use fault::CheckFault;
 pub use generation::Generation;
