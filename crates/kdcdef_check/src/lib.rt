@@ -9,6 +9,7 @@ mod fault;
 mod generation;
 mod hashing;
 mod limits;
+mod tables;
 mod tally;
 
 pub use fault::CheckFault;
