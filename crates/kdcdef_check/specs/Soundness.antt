@@ -1,5 +1,5 @@
 -- What every generation keeps.
-use Rattle.std.specs.Prelude.{◌≡◌, ℕ, ◌+◌, ◌≤◌, Bool, false, ◌||◌, List, length, IsTrue, is_some, count_by, if◌then◌else◌, nat_le}
+use Rattle.std.specs.Prelude.{◌≡◌, ℕ, ◌+◌, ◌≤◌, Bool, false, ◌||◌, ◌==◌, List, length, IsTrue, is_some, count_by, if◌then◌else◌, nat_le}
 use Rattle.std.specs.List.{All}
 use Rattle.std.specs.Map.{keys_of, values_of}
 use Rattle.kdcdef_types.specs.declared.entry.TacEntry.{TacEntry}
@@ -24,7 +24,7 @@ pub record AreLimits (m : Limits) : Type 0 where
 
 -- a dialogue TAC has a class from 1 to 8 or none, an asynchronous TAC one from 9 to 16 or none
 abbrev pub fits_kind : TacEntry → Bool
-fits_kind t = if t.asynchronous then nat_le t.class 0 || nat_le 9 t.class else nat_le t.class 8
+fits_kind t = if t.asynchronous then t.class == 0 || nat_le 9 t.class else nat_le t.class 8
 
 -- how many of the users have RESTART=YES
 abbrev pub restart_count : List (List ℕ × UserEntry) → ℕ

@@ -1,5 +1,7 @@
 //! Why statements generate nothing.
 ghost use Rattle.std.specs.Prelude.{◌≡◌};
+ghost use Rattle.kdcdef_check.specs.Faults.{line_of, number_of, comes_first};
+ghost use Rattle.kdcdef_check.specs.Steps.{earlier};
 ghost use Rattle.kdcdef_check.specs.declared.fault.CheckFault.TheVariants.{Memory};
 
 use kd_base::OutOfMemory;
@@ -64,5 +66,59 @@ impl From<OutOfMemory> for CheckFault {
 
     fn from(_: OutOfMemory) -> CheckFault {
         CheckFault::Memory
+    }
+}
+
+impl CheckFault {
+    fn line(&self) -> u32
+        ensures { result ≡ line_of self.now }
+    {
+        match self {
+            CheckFault::NameTwice(line)
+            | CheckFault::NoProgram(line)
+            | CheckFault::NoLterm(line)
+            | CheckFault::LtermTwice(line)
+            | CheckFault::NoMax(line)
+            | CheckFault::ClassOfWrongKind(line)
+            | CheckFault::PoolTooSmall(line)
+            | CheckFault::NoUser(line)
+            | CheckFault::TooMany(line) => *line,
+            CheckFault::Memory => 0,
+        }
+    }
+
+    // The order of the faults of one line.
+    fn number(&self) -> u8
+        ensures { result ≡ number_of self.now }
+    {
+        match self {
+            CheckFault::NameTwice(_) => 1,
+            CheckFault::NoProgram(_) => 2,
+            CheckFault::NoLterm(_) => 3,
+            CheckFault::LtermTwice(_) => 4,
+            CheckFault::NoMax(_) => 5,
+            CheckFault::ClassOfWrongKind(_) => 6,
+            CheckFault::PoolTooSmall(_) => 7,
+            CheckFault::NoUser(_) => 8,
+            CheckFault::TooMany(_) => 9,
+            CheckFault::Memory => 0,
+        }
+    }
+
+    fn comes_first(&self, other: &CheckFault) -> bool
+        ensures { result ≡ comes_first self.now other.now }
+    {
+        self.line() < other.line()
+            || (self.line() == other.line() && self.number() <= other.number())
+    }
+}
+
+/// The first of two faults that were found.
+pub(crate) fn earlier(a: Option<CheckFault>, b: Option<CheckFault>) -> Option<CheckFault>
+    ensures { result ≡ earlier a b }
+{
+    match (a, b) {
+        (None, found) | (found, None) => found,
+        (Some(a), Some(b)) => Some(if a.comes_first(&b) { a } else { b }),
     }
 }

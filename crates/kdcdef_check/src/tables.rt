@@ -1,6 +1,8 @@
 //! The tables of names, filled from the statements.
-ghost use Rattle.std.specs.Prelude.{◌≡◌, OnOk, IfOk};
-ghost use Rattle.kdcdef_check.specs.Steps.{IsAdded};
+ghost use Rattle.std.specs.Prelude.{◌≡◌, [], OnOk, IfOk};
+ghost use Rattle.kdcdef_types.specs.Generation.{Generated};
+ghost use Rattle.kdcdef_check.specs.Faults.{is_taken, shares_lterm, lacks_program, lacks_lterm};
+ghost use Rattle.kdcdef_check.specs.Steps.{IsAdded, AreFilled, HaveNames};
 
 use crate::hashing::NameHashing;
 use indexmap::{IndexMap, IndexSet};
@@ -37,7 +39,9 @@ fn copy_of(entry: &UserEntry) -> Result<UserEntry, OutOfMemory>
 }
 
 impl Tables {
-    pub(crate) fn new(alloc: Global, hashing: NameHashing) -> Tables {
+    pub(crate) fn new(alloc: Global, hashing: NameHashing) -> Tables
+        ensures { AreFilled result [] }
+    {
         Tables {
             programs: IndexMap::with_hasher(alloc, hashing),
             tacs: IndexMap::with_hasher(alloc, hashing),
@@ -84,5 +88,52 @@ impl Tables {
             Said::Max(_) | Said::Passed | Said::End => {}
         }
         Ok(())
+    }
+
+    /// Whether the name of the statement stands in its table already; TACs and LTERMs share their names.
+    pub(crate) fn is_taken(&self, said: &Said) -> bool
+        ensures { (g : Generated) → HaveNames self.now g → result ≡ is_taken g said.now }
+    {
+        match said {
+            Said::Program(name) => self.programs.contains_key(name),
+            Said::Tac(name, _) => self.tacs.contains_key(name) || self.lterms.contains_key(name),
+            Said::User(name, _) => self.users.contains_key(name),
+            Said::Pterm(name, _) => self.pterms.contains_key(name),
+            Said::Lterm(name, _) => self.lterms.contains_key(name) || self.tacs.contains_key(name),
+            Said::Tls(name) => self.tls.contains(name),
+            Said::Uls(name) => self.uls.contains(name),
+            Said::TacClass(class, _) => self.classes.contains_key(class),
+            Said::Max(_) | Said::Passed | Said::End => false,
+        }
+    }
+
+    /// Whether the statement is a PTERM whose LTERM has one already.
+    pub(crate) fn shares_lterm(&self, said: &Said) -> bool
+        ensures { (g : Generated) → HaveNames self.now g → result ≡ shares_lterm g said.now }
+    {
+        match said {
+            Said::Pterm(_, entry) => self.served.contains(&entry.lterm),
+            _ => false,
+        }
+    }
+
+    /// Whether the statement is a TAC that names no PROGRAM.
+    pub(crate) fn lacks_program(&self, said: &Said) -> bool
+        ensures { (g : Generated) → HaveNames self.now g → result ≡ lacks_program g said.now }
+    {
+        match said {
+            Said::Tac(_, entry) => !self.programs.contains_key(&entry.program),
+            _ => false,
+        }
+    }
+
+    /// Whether the statement is a PTERM that names no LTERM.
+    pub(crate) fn lacks_lterm(&self, said: &Said) -> bool
+        ensures { (g : Generated) → HaveNames self.now g → result ≡ lacks_lterm g said.now }
+    {
+        match said {
+            Said::Pterm(_, entry) => !self.lterms.contains_key(&entry.lterm),
+            _ => false,
+        }
     }
 }
