@@ -1,15 +1,15 @@
 -- What the passes over the statements have, one statement after another.
-use Rattle.std.specs.Prelude.{◌≡◌, ℕ, ◌+◌, ◌<◌, ◌&&◌, ◌==◌, Bool, true, false, IsTrue, nat_eq, bytes_eq, is_some, is_none, List, [], take, slice_get, Option, Some, None, fold, slice_index, if◌then◌else◌}
+use Rattle.std.specs.Prelude.{◌≡◌, ℕ, ◌+◌, ◌<◌, ◌&&◌, ◌==◌, Bool, true, false, IsTrue, nat_eq, bytes_eq, is_some, is_none, List, [], length, take, slice_get, Option, Some, None, fold, slice_index, if◌then◌else◌}
 use Rattle.std.specs.List.{list_any}
 use Rattle.std.specs.Map.{lookup}
 use Rattle.indexmap.specs.IndexMap.{insert_entry}
 use Rattle.indexmap.specs.IndexSet.{insert_key}
 use Rattle.kdcdef_types.specs.declared.entry.PtermEntry.{PtermEntry}
 use Rattle.kdcdef_types.specs.declared.statement.Said.{Said}
-use Rattle.kdcdef_types.specs.declared.statement.Said.TheVariants.{Pterm}
+use Rattle.kdcdef_types.specs.declared.statement.Said.TheVariants.{User, Pterm}
 use Rattle.kdcdef_types.specs.declared.statement.Statement.{Statement}
 use Rattle.kdcdef_types.specs.Generation.{Generated, entry_of, tac_of, user_of, pterm_of, lterm_of, has_tls, has_uls, class_limit}
-use Rattle.kdcdef_check.specs.Generating.{as_program, as_tac, as_user, as_pterm, as_lterm, as_tls, as_uls, as_class, max_given, generated}
+use Rattle.kdcdef_check.specs.Generating.{as_program, as_tac, as_user, as_pterm, as_lterm, as_tls, as_uls, as_class, said_as, max_given, generated}
 use Rattle.kdcdef_check.specs.Faults.{kind_count, kind_of, is_taken, shares_lterm, has_other_class, lacks_program, lacks_lterm, is_end, has_small_pool, lacks_user, comes_first, HasFault}
 use Rattle.kdcdef_check.specs.declared.fault.CheckFault.{CheckFault}
 use Rattle.kdcdef_check.specs.declared.fault.CheckFault.TheVariants.{NameTwice, NoProgram, NoLterm, LtermTwice, NoMax, ClassOfWrongKind, PoolTooSmall, NoUser, TooMany, Memory}
@@ -17,6 +17,8 @@ use Rattle.kdcdef_check.specs.declared.tally.Kind.{Kind}
 use Rattle.kdcdef_check.specs.declared.tally.Kind.TheVariants as kinds
 use Rattle.kdcdef_check.specs.declared.tally.Tally.{Tally}
 use Rattle.kdcdef_check.specs.declared.tables.Tables.{Tables}
+use Rattle.kdcdef_check.specs.declared.whole.Whole.{Whole}
+use Rattle.kdcdef_check.specs.Soundness.{restart_count}
 
 -- ---- the first fault
 
@@ -149,3 +151,15 @@ pub record HaveNames (t : Tables) (g : Generated) : Type 0 where
 
 abbrev pub IsTallyOf : Tally → List Statement → Type 0
 IsTallyOf t ss = (kind : ℕ) → kind < 11 → slice_index t.counts kind ≡ kind_count kind ss
+
+-- a USER statement with RESTART=YES
+abbrev pub is_restart : Said → Bool
+is_restart (User name entry) = entry.restart
+is_restart _ = false
+
+-- what all statements say together
+pub record IsWhole (w : Whole) (ss : List Statement) : Type 0 where
+  pub max : w.max ≡ max_given ss
+  pub users : w.users ≡ length (said_as as_user ss)
+  pub restarts : w.restarts ≡ restart_count (said_as as_user ss)
+  pub lterms : w.lterms ≡ length (said_as as_lterm ss)

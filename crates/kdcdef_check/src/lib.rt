@@ -9,8 +9,10 @@ mod fault;
 mod generation;
 mod hashing;
 mod limits;
+mod own;
 mod tables;
 mod tally;
+mod whole;
 
 pub use fault::CheckFault;
 pub use generation::Generation;
