@@ -1,4 +1,5 @@
-ghost use Rattle.std.specs.Prelude.{All, OnTrue};
+ghost use Rattle.std.specs.Bool.{OnTrue};
+ghost use Rattle.std.specs.Prelude.{All};
 ghost use Rattle.unit_semantics.specs.Ready.{IsInside, IsReady, KnowsLabel};
 ghost use Rattle.unit_types.specs.declared.action.UnitStatement.{UnitStatement};
 
@@ -56,9 +57,6 @@ fn is_ready(unit: &Unit, run: &RunState) -> bool
     ensures { OnTrue result (IsReady unit.now run.now) }
 {
     if run.place < 1 || run.length > 99_999 || run.count > run.budget {
-        return false;
-    }
-    if unit.statements().len() > 10_000 {
         return false;
     }
     if !are_inside(run, unit.fields()) {
@@ -179,14 +177,14 @@ fn check(
     let mut run = run_of(alloc, before.0, before.1)?;
     assert!(rt; is_ready(&unit, &run));
     let stepped = step(alloc, &unit, &mut run)?;
-    match (stepped, after) {
+    match (&stepped, after) {
         (Stepped::Plain, Ok((kb, spab))) => {
             assert_eq!(rt; run.kb.as_slice(), kb);
             assert!(rt; run.spab.as_slice().starts_with(spab));
             assert_eq!(rt; (run.place, run.count), (place, 6));
         }
         (Stepped::Ends(cause), Err(wanted)) => {
-            assert_eq!(rt; cause, wanted);
+            assert_eq!(rt; *cause, wanted);
             assert_eq!(rt; run.kb.as_slice(), before.0);
             assert_eq!(rt; (run.place, run.count), (1, 5));
         }
@@ -334,10 +332,11 @@ fn a_call_and_the_end_of_time(rt: HostRuntime) -> Result<(), Fail> {
     let unit = unit_of(alloc, Action::SgetGb(name, bytes(alloc, b"g")?))?;
     let mut run = run_of(alloc, b"ABCDEF", b"0010")?;
     assert!(rt; is_ready(&unit, &run));
-    match step(alloc, &unit, &mut run)? {
+    let stepped = step(alloc, &unit, &mut run)?;
+    match &stepped {
         Stepped::Asks(Call::SgetGb(name, room)) => {
             assert_eq!(rt; name.as_slice(), b"A".as_slice());
-            assert_eq!(rt; room, 4);
+            assert_eq!(rt; *room, 4);
         }
         _ => assert!(rt; false, "another answer"),
     }
