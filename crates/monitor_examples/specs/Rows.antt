@@ -1,0 +1,105 @@
+-- Worked rows of the sample application: what scripts print, and which tables they leave.
+use Rattle.std.specs.Prelude.{◌≡◌, ℕ, List, [], ◌∷◌, ◌++◌, Option, Some, None, codes}
+use Rattle.kdcs_types.specs.declared.key.Area.TheVariants.{Gssb}
+use Rattle.kdcs_types.specs.declared.service.Note.{Note}
+use Rattle.kdcs_types.specs.declared.service.Note.TheVariants.{Released}
+use Rattle.kdcs_types.specs.Tables.{empty_tables}
+use Rattle.monitor_semantics.specs.Commands.{Command, Input, Tick, Run, Turn, Drop, Print, PrintLast, Restart, Done, Maker, ByTick, ByShow, ByTransaction, started}
+use Rattle.monitor_semantics.specs.Trace.{history}
+use Rattle.monitor_semantics.specs.Listing.{listing}
+use Rattle.monitor_examples.specs.Sample.{shop}
+use Rattle.monitor_examples.specs.Words.{prints, prints_from, stores, stores_from, lists, p1, p2, s1, s2, signed_1, signed_2, signed_both}
+
+abbrev pub notes_by : Option Maker → List (List Note) → List (List Note)
+notes_by None rest = rest
+notes_by (Some (ByTick ticks)) rest = rest
+notes_by (Some (ByShow lterm)) rest = rest
+notes_by (Some (ByTransaction kept)) rest = kept.notes ∷ rest
+
+-- the notes of each transaction that made a commit
+abbrev pub notes_kept : List Done → List (List Note)
+notes_kept [] = []
+notes_kept (d ∷ ds) = notes_by d.by (notes_kept ds)
+
+-- the clock
+pub record ClockRows : Type 0 where
+  -- one tick
+  pub tick : prints (Tick 5 ∷ []) ≡ codes "TICK 5\n"
+  -- up to its limit
+  pub limit : prints (Tick 0 ∷ Tick 999999999999 ∷ Tick 1 ∷ []) ≡ codes "TICK 0\nTICK 999999999999\nTICK REFUSED\n"
+  -- the clock of a second run goes on
+  pub kept : prints_from shop (stores (Tick 5 ∷ [])) (Tick 1 ∷ []) ≡ codes "TICK 6\n"
+
+-- dialogue steps, and what a second run finds
+pub record DialogueRows : Type 0 where
+  -- PEND RE: the KB keeps what the first step read
+  pub step : prints (s1 ∷ p1 (codes "ORD1 APPLE") ∷ Run 20 ∷ []) ≡ signed_1 ++ codes "OUT P1 QTY\n"
+  -- a second run goes on from the synchronisation point
+  pub resumed : prints_from shop (stores (s1 ∷ p1 (codes "ORD1 APPLE") ∷ Run 20 ∷ [])) (s1 ∷ p1 (codes "5") ∷ Run 20 ∷ []) ≡ codes "SYS P1 SIGNED ON U1\nOUT P1 QTY\nOUT P1 APPLE5\n"
+  -- and so does a RESTART
+  pub restarted : prints (s1 ∷ p1 (codes "ORD1 APPLE") ∷ Run 20 ∷ Restart ∷ s1 ∷ p1 (codes "5") ∷ Run 20 ∷ []) ≡ signed_1 ++ codes "OUT P1 QTY\nRESTART\nSYS P1 SIGNED ON U1\nOUT P1 QTY\nOUT P1 APPLE5\n"
+  -- a user with RESTART=NO has no service left
+  pub not_restarted : prints_from shop (stores (s2 ∷ p2 (codes "ORD1 APPLE") ∷ Run 20 ∷ [])) (s2 ∷ p2 (codes "5") ∷ []) ≡ codes "SYS P2 SIGNED ON U2\nSYS P2 UNKNOWN TAC\n"
+  -- a message that PEND KP sent belongs to no point
+  pub keep : prints (s1 ∷ p1 (codes "R1") ∷ Run 20 ∷ p1 (codes "X") ∷ Run 20 ∷ []) ≡ signed_1 ++ codes "OUT P1 ONE\nOUT P1 TWO\n"
+  -- and its writes are not stored
+  pub keep_listed : lists (s1 ∷ p1 (codes "R1") ∷ Run 20 ∷ p1 (codes "X") ∷ Run 20 ∷ []) ≡ codes "CLOCK 0\nNEXT 1\nSERVICE U1 R1 R2 WAITS ONE\nKB U1                 \n"
+  -- the next run shows the message of the point
+  pub keep_resumed : prints_from shop (stores (s1 ∷ p1 (codes "R1") ∷ Run 20 ∷ p1 (codes "X") ∷ Run 20 ∷ [])) (s1 ∷ []) ≡ codes "SYS P1 SIGNED ON U1\nOUT P1 ONE\n"
+  -- DROP after PEND KP goes back to the point
+  pub dropped : prints (s1 ∷ p1 (codes "R1") ∷ Run 20 ∷ p1 (codes "X") ∷ Run 20 ∷ Drop (codes "P1") ∷ s1 ∷ p1 (codes "X") ∷ Run 20 ∷ []) ≡ signed_1 ++ codes "OUT P1 ONE\nOUT P1 TWO\nSYS P1 DROPPED\nSYS P1 SIGNED ON U1\nOUT P1 ONE\nOUT P1 TWO\n"
+  -- DROP of a service in a task
+  pub dropped_in_task : prints (s1 ∷ p1 (codes "HELLO") ∷ Turn 1 ∷ Turn 1 ∷ Drop (codes "P1") ∷ Drop (codes "P1") ∷ Run 20 ∷ []) ≡ signed_1 ++ codes "SYS P1 DROPPED\nSYS P1 NOT SIGNED ON\n"
+  -- PEND PA hands its message on; KDCDISP shows the last one again
+  pub handed_on : prints (s1 ∷ p1 (codes "PRA") ∷ Run 30 ∷ p1 (codes "KDCDISP") ∷ p1 (codes "KDCOFF") ∷ p1 (codes "HELLO") ∷ []) ≡ signed_1 ++ codes "OUT P1 ONETWO\nOUT P1 ONETWO\nSYS P1 SIGNED OFF U1\nSYS P1 SIGN ON FIRST\n"
+  -- what inputs mean
+  pub inputs : prints (p1 (codes "KDCSIGN U9") ∷ p1 (codes "KDCSIGN U1") ∷ s1 ∷ s1 ∷ p2 (codes "KDCSIGN U1,PW1") ∷ p1 (codes "ORD2") ∷ p1 (codes "HELLO") ∷ p1 (codes "KDCOFF") ∷ Restart ∷ s1 ∷ []) ≡ codes "SYS P1 UNKNOWN USER\nSYS P1 WRONG PASSWORD\nSYS P1 SIGNED ON U1\nSYS P1 ALREADY SIGNED ON\nSYS P2 USER IS SIGNED ON\nSYS P1 TAC NOT ALLOWED\nSYS P1 SERVICE RUNNING\nRESTART\nSYS P1 SIGNED ON U1\n"
+  -- no message and no job
+  pub nothing_to_show : prints (s1 ∷ p1 (codes "KDCOUT") ∷ p1 (codes "KDCDISP") ∷ []) ≡ signed_1 ++ codes "SYS P1 NO MESSAGE\nSYS P1 NO MESSAGE\n"
+
+-- locks, and interleaved services
+pub record LockRows : Type 0 where
+  -- two services that count
+  pub counted : prints (s1 ∷ s2 ∷ p1 (codes "ADD1") ∷ p2 (codes "ADD1") ∷ Run 100 ∷ []) ≡ signed_both ++ codes "OUT P1 0001\nOUT P2 0002\n"
+  -- a deadlock is answered K05
+  pub crossed : prints (s1 ∷ s2 ∷ p1 (codes "CROSS1") ∷ p2 (codes "CROSS2") ∷ Run 100 ∷ []) ≡ signed_both ++ codes "OUT P2 K05\nOUT P1 K03\n"
+  -- RESWAIT is over: K04; PEND KP keeps its locks
+  pub late : prints (s1 ∷ s2 ∷ p1 (codes "HOLD") ∷ Run 100 ∷ p2 (codes "SEEK") ∷ Run 100 ∷ Tick 2 ∷ Run 100 ∷ Tick 1 ∷ Run 100 ∷ []) ≡ signed_both ++ codes "OUT P1 HELD\nTICK 2\nTICK 3\nOUT P2 K04\n"
+  -- UNLK releases what was not written
+  pub unlocked : prints (s1 ∷ s2 ∷ p1 (codes "UNL") ∷ p2 (codes "ADD1") ∷ Turn 1 ∷ Turn 1 ∷ Turn 1 ∷ Turn 1 ∷ Turn 2 ∷ Turn 2 ∷ Turn 2 ∷ Turn 2 ∷ Turn 2 ∷ Turn 2 ∷ Turn 2 ∷ Turn 1 ∷ Turn 1 ∷ Turn 1 ∷ Turn 1 ∷ []) ≡ signed_both ++ codes "OUT P2 0001\nOUT P1 K07\n"
+  -- of its UNLKs the one that is done leaves a note, that the area was absent
+  pub noted : notes_kept (history shop (started shop empty_tables) (s1 ∷ s2 ∷ p1 (codes "UNL") ∷ p2 (codes "ADD1") ∷ Turn 1 ∷ Turn 1 ∷ Turn 1 ∷ Turn 1 ∷ Turn 2 ∷ Turn 2 ∷ Turn 2 ∷ Turn 2 ∷ Turn 2 ∷ Turn 2 ∷ Turn 2 ∷ Turn 1 ∷ Turn 1 ∷ Turn 1 ∷ Turn 1 ∷ [])) ≡ [] ∷ (Released (Gssb (codes "CNT")) None ∷ []) ∷ []
+
+-- the other ways to end
+pub record EndRows : Type 0 where
+  -- causes and their places
+  pub causes : prints (s1 ∷ p1 (codes "NOMSG") ∷ Run 9 ∷ p1 (codes "NOINIT") ∷ Run 9 ∷ p1 (codes "LOOP") ∷ Run 20 ∷ []) ≡ signed_1 ++ codes "DUMP U1 NOMSG E03 2\nSYS P1 SERVICE ENDED\nDUMP U1 NOINIT E01 1\nSYS P1 SERVICE ENDED\nDUMP U1 LOOP E07 2\nSYS P1 SERVICE ENDED\n"
+  -- PEND FC: the message is passed, LSSBs and KB are new
+  pub follow : prints (s1 ∷ p1 (codes "FCA") ∷ Run 60 ∷ []) ≡ signed_1 ++ codes "OUT P1 PASSK03\n"
+  -- PEND RS, without a point and at one that awaits an input
+  pub back : prints (s1 ∷ p1 (codes "RSA") ∷ Run 20 ∷ p1 (codes "ADD1") ∷ Run 20 ∷ p1 (codes "RSB1") ∷ Run 20 ∷ p1 (codes "Y") ∷ Run 20 ∷ []) ≡ signed_1 ++ codes "SYS P1 SERVICE ENDED\nOUT P1 0001\nOUT P1 ASK\nOUT P1 ASK\n"
+
+-- jobs
+pub record JobRows : Type 0 where
+  -- a job that is rolled back draws no number
+  pub numbered : prints (s1 ∷ s2 ∷ p1 (codes "FER") ∷ Run 20 ∷ p2 (codes "KDCOUT") ∷ p1 (codes "FSP") ∷ Run 30 ∷ p2 (codes "KDCOUT") ∷ p2 (codes "KDCLAST") ∷ []) ≡ signed_both ++ codes "DUMP U1 FER ER 3\nSYS P1 SERVICE ENDED\nSYS P2 NO MESSAGE\nDUMP U1 FSP2 ER 2\nSYS P1 SERVICE ENDED\nASY P2 NOTE\nASY P2 NOTE\n"
+  -- what is shown stays
+  pub numbered_listed : lists (s1 ∷ s2 ∷ p1 (codes "FER") ∷ Run 20 ∷ p2 (codes "KDCOUT") ∷ p1 (codes "FSP") ∷ Run 30 ∷ p2 (codes "KDCOUT") ∷ p2 (codes "KDCLAST") ∷ []) ≡ codes "CLOCK 0\nNEXT 2\nSHOWN L2 NOTE\n"
+  -- a job that is taken stays in the tables
+  pub taken : prints (s1 ∷ p1 (codes "MAKEJ") ∷ Turn 1 ∷ Turn 1 ∷ Turn 1 ∷ Turn 1 ∷ Turn 1 ∷ Turn 1 ∷ Turn 1 ∷ []) ≡ signed_1 ++ codes "OUT P1 MADE\n"
+  -- until the first synchronisation point of its service
+  pub taken_listed : lists (s1 ∷ p1 (codes "MAKEJ") ∷ Turn 1 ∷ Turn 1 ∷ Turn 1 ∷ Turn 1 ∷ Turn 1 ∷ Turn 1 ∷ Turn 1 ∷ []) ≡ codes "CLOCK 0\nNEXT 2\nJOB 1 T JOB1 DUE 0 U1 L1 0007\n"
+  -- a second run takes it again
+  pub taken_again : prints_from shop (stores (s1 ∷ p1 (codes "MAKEJ") ∷ Turn 1 ∷ Turn 1 ∷ Turn 1 ∷ Turn 1 ∷ Turn 1 ∷ Turn 1 ∷ Turn 1 ∷ [])) (Run 20 ∷ []) ≡ []
+  -- and its writes are stored once
+  pub done_listed : listing (stores_from shop (stores (s1 ∷ p1 (codes "MAKEJ") ∷ Turn 1 ∷ Turn 1 ∷ Turn 1 ∷ Turn 1 ∷ Turn 1 ∷ Turn 1 ∷ Turn 1 ∷ [])) (Run 20 ∷ [])) ≡ codes "CLOCK 0\nNEXT 2\nGSSB CNT 0007\n"
+  -- jobs in the order of their due and number
+  pub due : prints (s1 ∷ s2 ∷ p1 (codes "DP") ∷ Run 20 ∷ p2 (codes "KDCOUT") ∷ p2 (codes "KDCOUT") ∷ Tick 9 ∷ p2 (codes "KDCOUT") ∷ Tick 1 ∷ p2 (codes "KDCOUT") ∷ p2 (codes "KDCOUT") ∷ []) ≡ signed_both ++ codes "OUT P1 DONE\nASY P2 NOW\nSYS P2 NO MESSAGE\nTICK 9\nSYS P2 NO MESSAGE\nTICK 10\nASY P2 TEN\nASY P2 TWO\n"
+  -- a full page pool refuses a synchronisation point, and no abnormal end
+  pub full : prints (s1 ∷ p1 (codes "FILL") ∷ Run 200 ∷ p1 (codes "MAKEJ") ∷ Run 20 ∷ p1 (codes "HELLO") ∷ Run 20 ∷ []) ≡ signed_1 ++ codes "OUT P1 FULL\nDUMP U1 MAKEJ E09 4\nSYS P1 SERVICE ENDED\nOUT P1 HELLO\n"
+  -- a printer
+  pub printed : prints (s1 ∷ p1 (codes "TOPRT") ∷ Run 20 ∷ Print (codes "P3") ∷ Print (codes "P3") ∷ PrintLast (codes "P3") ∷ []) ≡ signed_1 ++ codes "OUT P1 OK\nPRT P3 PAPER\nSYS P3 NO MESSAGE\nPRT P3 PAPER\n"
+  -- TLS and ULS blocks; K08 for one that is not declared
+  pub blocks : prints (s1 ∷ p1 (codes "TLU") ∷ Run 20 ∷ []) ≡ signed_1 ++ codes "OUT P1 K08\n"
+  -- and their rows
+  pub blocks_listed : lists (s1 ∷ p1 (codes "TLU") ∷ Run 20 ∷ []) ≡ codes "CLOCK 0\nNEXT 1\nTLS T1 L1 AB\nULS S1 U1 CD\n"

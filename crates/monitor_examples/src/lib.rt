@@ -1,0 +1,2 @@
+//! Worked examples of the abstract monitor.
+#![tactic(auto)]

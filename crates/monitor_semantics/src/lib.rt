@@ -1,0 +1,2 @@
+//! The abstract monitor, as definitions that compute.
+#![tactic(auto)]
