@@ -1,6 +1,6 @@
 -- The worked rows compute.
 use Rattle.std.specs.Prelude.{refl}
-use Rattle.monitor_examples.specs.Rows.{ClockRows, DialogueRows, LockRows, EndRows, JobRows}
+use Rattle.monitor_examples.specs.Rows.{ClockRows, DialogueRows, LockRows, EndRows, HelloRows, JobRows, MadeRows}
 use Rattle.monitor_examples.proofs.Computing.{monitor}
 
 pub clock_rows : ClockRows
@@ -17,8 +17,16 @@ lock_rows = record { counted = refl; crossed = refl; late = refl; unlocked = ref
 
 pub end_rows : EndRows
 unfolding monitor
-end_rows = record { causes = refl; follow = refl; back = refl }
+end_rows = record { causes = refl; follow = refl; back = refl; classed = refl; not_classed = refl }
+
+pub hello_rows : HelloRows
+unfolding monitor
+hello_rows = record { overflow = refl; no_pend = refl; no_follow_up = refl; too_long = refl; too_many_gssbs = refl; too_many_lssbs = refl; cut = refl; no_target = refl; no_moment = refl; at_a_clock = refl; past_a_clock = refl }
 
 pub job_rows : JobRows
 unfolding monitor
-job_rows = record { numbered = refl; numbered_listed = refl; taken = refl; taken_listed = refl; taken_again = refl; done_listed = refl; due = refl; full = refl; printed = refl; blocks = refl; blocks_listed = refl }
+job_rows = record { numbered = refl; numbered_listed = refl; taken = refl; taken_listed = refl; taken_again = refl; done_listed = refl; due = refl; full = refl; printed = refl; blocks = refl; blocks_listed = refl; spent = refl; spent_listed = refl }
+
+pub made_rows : MadeRows
+unfolding monitor
+made_rows = record { one = refl; hundred = refl }

@@ -1,5 +1,10 @@
 -- Worked rows of the sample application: what scripts print, and which tables they leave.
-use Rattle.std.specs.Prelude.{◌≡◌, ℕ, List, [], ◌∷◌, ◌++◌, Option, Some, None, codes}
+use Rattle.std.specs.Prelude.{◌≡◌, ℕ, List, [], ◌∷◌, ◌++◌, Bool, true, replicate, Option, Some, None, codes}
+use Rattle.kd_base.specs.declared.words.Mode.TheVariants.{Relative, Absolute}
+use Rattle.kd_base.specs.declared.words.Variant.TheVariants.{Re, Fi}
+use Rattle.unit_types.specs.declared.action.Action.TheVariants.{Move, Join, Add, Init, Mput, Fput, Dput, SgetGb, SputGb, SputMs, Pend}
+use Rattle.unit_types.specs.declared.action.HeaderName.TheVariants.{Crccc, Rlm}
+use Rattle.unit_types.specs.declared.action.Operand.TheVariants.{Field as FieldOf, Literal, Digits, Header}
 use Rattle.kdcs_types.specs.declared.key.Area.TheVariants.{Gssb}
 use Rattle.kdcs_types.specs.declared.service.Note.{Note}
 use Rattle.kdcs_types.specs.declared.service.Note.TheVariants.{Released}
@@ -7,7 +12,9 @@ use Rattle.kdcs_types.specs.Tables.{empty_tables}
 use Rattle.monitor_semantics.specs.Commands.{Command, Input, Tick, Run, Turn, Drop, Print, PrintLast, Restart, Done, Maker, ByTick, ByShow, ByTransaction, started}
 use Rattle.monitor_semantics.specs.Trace.{history}
 use Rattle.monitor_semantics.specs.Listing.{listing}
-use Rattle.monitor_examples.specs.Sample.{shop}
+use Rattle.monitor_semantics.specs.Made.{made_lines}
+use Rattle.monitor_examples.specs.Sample.{shop, hello_as, classed}
+use Rattle.monitor_examples.specs.SampleUnits.{field, at}
 use Rattle.monitor_examples.specs.Words.{prints, prints_from, stores, stores_from, lists, p1, p2, s1, s2, signed_1, signed_2, signed_both}
 
 abbrev pub notes_by : Option Maker → List (List Note) → List (List Note)
@@ -78,6 +85,35 @@ pub record EndRows : Type 0 where
   pub follow : prints (s1 ∷ p1 (codes "FCA") ∷ Run 60 ∷ []) ≡ signed_1 ++ codes "OUT P1 PASSK03\n"
   -- PEND RS, without a point and at one that awaits an input
   pub back : prints (s1 ∷ p1 (codes "RSA") ∷ Run 20 ∷ p1 (codes "ADD1") ∷ Run 20 ∷ p1 (codes "RSB1") ∷ Run 20 ∷ p1 (codes "Y") ∷ Run 20 ∷ []) ≡ signed_1 ++ codes "SYS P1 SERVICE ENDED\nOUT P1 0001\nOUT P1 ASK\nOUT P1 ASK\n"
+  -- TACCLASS 1,TASKS=1: the second service waits for the first
+  pub classed : prints_from classed empty_tables (s1 ∷ s2 ∷ p1 (codes "HELLO") ∷ p2 (codes "HELLO") ∷ Turn 1 ∷ Turn 2 ∷ Turn 2 ∷ Turn 2 ∷ Turn 2 ∷ Run 20 ∷ []) ≡ signed_both ++ codes "OUT P1 HELLO\nOUT P2 HELLO\n"
+  -- without a class it does not
+  pub not_classed : prints (s1 ∷ s2 ∷ p1 (codes "HELLO") ∷ p2 (codes "HELLO") ∷ Turn 1 ∷ Turn 2 ∷ Turn 2 ∷ Turn 2 ∷ Turn 2 ∷ Run 20 ∷ []) ≡ signed_both ++ codes "OUT P2 HELLO\nOUT P1 HELLO\n"
+
+-- hELLO with other statements
+pub record HelloRows : Type 0 where
+  -- a sum that does not fit its field
+  pub overflow : prints_from (hello_as (field 2 (codes "n") true 0 4 ∷ []) (at 3 Init ∷ at 4 (Move (codes "n") (Literal (codes "9999"))) ∷ at 5 (Add (codes "n") (Digits (codes "1"))) ∷ at 6 (Mput (FieldOf (codes "n"))) ∷ at 7 (Pend Fi None) ∷ [])) empty_tables (s1 ∷ p1 (codes "HELLO") ∷ Run 20 ∷ []) ≡ signed_1 ++ codes "DUMP U1 HELLO E06 3\nSYS P1 SERVICE ENDED\n"
+  -- a unit without PEND
+  pub no_pend : prints_from (hello_as [] (at 2 Init ∷ [])) empty_tables (s1 ∷ p1 (codes "HELLO") ∷ Run 20 ∷ []) ≡ signed_1 ++ codes "DUMP U1 HELLO E08 2\nSYS P1 SERVICE ENDED\n"
+  -- a follow-up that is no TAC
+  pub no_follow_up : prints_from (hello_as (field 2 (codes "n") true 0 4 ∷ []) (at 3 Init ∷ at 4 (Mput (Literal (codes "X"))) ∷ at 5 (Move (codes "n") (Literal (codes "ZZZZ"))) ∷ at 6 (Pend Re (Some (FieldOf (codes "n")))) ∷ [])) empty_tables (s1 ∷ p1 (codes "HELLO") ∷ Run 20 ∷ []) ≡ signed_1 ++ codes "DUMP U1 HELLO E04 4\nSYS P1 SERVICE ENDED\n"
+  -- a part of 81 bytes, with NB=80
+  pub too_long : prints_from (hello_as [] (at 2 Init ∷ at 3 (Mput (Literal (replicate 81 88))) ∷ at 4 (Pend Fi None) ∷ [])) empty_tables (s1 ∷ p1 (codes "HELLO") ∷ Run 20 ∷ []) ≡ signed_1 ++ codes "DUMP U1 HELLO E12 2\nSYS P1 SERVICE ENDED\n"
+  -- a fifth GSSB, with GSSBS=4
+  pub too_many_gssbs : prints_from (hello_as [] (at 2 Init ∷ at 3 (SputGb (Literal (codes "A")) (Literal (codes "1"))) ∷ at 4 (SputGb (Literal (codes "B")) (Literal (codes "1"))) ∷ at 5 (SputGb (Literal (codes "C")) (Literal (codes "1"))) ∷ at 6 (SputGb (Literal (codes "D")) (Literal (codes "1"))) ∷ at 7 (SputGb (Literal (codes "E")) (Literal (codes "1"))) ∷ at 8 (Mput (Literal (codes "X"))) ∷ at 9 (Pend Fi None) ∷ [])) empty_tables (s1 ∷ p1 (codes "HELLO") ∷ Run 30 ∷ []) ≡ signed_1 ++ codes "DUMP U1 HELLO E10 8\nSYS P1 SERVICE ENDED\n"
+  -- a third LSSB, with LSSBS=2
+  pub too_many_lssbs : prints_from (hello_as [] (at 2 Init ∷ at 3 (SputMs (Literal (codes "A")) (Literal (codes "1"))) ∷ at 4 (SputMs (Literal (codes "B")) (Literal (codes "1"))) ∷ at 5 (SputMs (Literal (codes "C")) (Literal (codes "1"))) ∷ at 6 (Mput (Header Crccc)) ∷ at 7 (Pend Fi None) ∷ [])) empty_tables (s1 ∷ p1 (codes "HELLO") ∷ Run 30 ∷ []) ≡ signed_1 ++ codes "OUT P1 K09\n"
+  -- a content that is longer than the field
+  pub cut : prints_from (hello_as (field 2 (codes "v") true 0 8 ∷ field 3 (codes "a") true 8 8 ∷ []) (at 4 Init ∷ at 5 (SputGb (Literal (codes "A")) (Literal (codes "123456789"))) ∷ at 6 (SgetGb (Literal (codes "A")) (codes "v")) ∷ at 7 (Join (codes "a") (Header Crccc) (Header Rlm)) ∷ at 8 (Mput (FieldOf (codes "a"))) ∷ at 9 (Pend Fi None) ∷ [])) empty_tables (s1 ∷ p1 (codes "HELLO") ∷ Run 30 ∷ []) ≡ signed_1 ++ codes "OUT P1 K0200009\n"
+  -- a job for nobody
+  pub no_target : prints_from (hello_as [] (at 2 Init ∷ at 3 (Fput (Literal (codes "NOPE")) (Literal (codes "X"))) ∷ at 4 (Mput (Header Crccc)) ∷ at 5 (Pend Fi None) ∷ [])) empty_tables (s1 ∷ p1 (codes "HELLO") ∷ Run 30 ∷ []) ≡ signed_1 ++ codes "OUT P1 K08\n"
+  -- a moment that there is not
+  pub no_moment : prints_from (hello_as [] (at 2 Init ∷ at 3 (Dput (Literal (codes "L2")) Relative (Digits (codes "0")) (Digits (codes "24")) (Digits (codes "0")) (Digits (codes "0")) (Literal (codes "X"))) ∷ at 4 (Mput (Header Crccc)) ∷ at 5 (Pend Fi None) ∷ [])) empty_tables (s1 ∷ p1 (codes "HELLO") ∷ Run 30 ∷ []) ≡ signed_1 ++ codes "OUT P1 K10\n"
+  -- a job that is due at a clock
+  pub at_a_clock : prints_from (hello_as [] (at 2 Init ∷ at 3 (Dput (Literal (codes "L2")) Absolute (Digits (codes "0")) (Digits (codes "0")) (Digits (codes "0")) (Digits (codes "5")) (Literal (codes "FIVE"))) ∷ at 4 (Mput (Literal (codes "OK"))) ∷ at 5 (Pend Fi None) ∷ [])) empty_tables (Tick 4 ∷ s1 ∷ s2 ∷ p1 (codes "HELLO") ∷ Run 20 ∷ p2 (codes "KDCOUT") ∷ Tick 1 ∷ p2 (codes "KDCOUT") ∷ []) ≡ codes "TICK 4\nSYS P1 SIGNED ON U1\nSYS P2 SIGNED ON U2\nOUT P1 OK\nSYS P2 NO MESSAGE\nTICK 5\nASY P2 FIVE\n"
+  -- and at one that is past
+  pub past_a_clock : prints_from (hello_as [] (at 2 Init ∷ at 3 (Dput (Literal (codes "L2")) Absolute (Digits (codes "0")) (Digits (codes "0")) (Digits (codes "0")) (Digits (codes "5")) (Literal (codes "FIVE"))) ∷ at 4 (Mput (Literal (codes "OK"))) ∷ at 5 (Pend Fi None) ∷ [])) empty_tables (Tick 9 ∷ s1 ∷ s2 ∷ p1 (codes "HELLO") ∷ Run 20 ∷ p2 (codes "KDCOUT") ∷ []) ≡ codes "TICK 9\nSYS P1 SIGNED ON U1\nSYS P2 SIGNED ON U2\nOUT P1 OK\nASY P2 FIVE\n"
 
 -- jobs
 pub record JobRows : Type 0 where
@@ -103,3 +139,14 @@ pub record JobRows : Type 0 where
   pub blocks : prints (s1 ∷ p1 (codes "TLU") ∷ Run 20 ∷ []) ≡ signed_1 ++ codes "OUT P1 K08\n"
   -- and their rows
   pub blocks_listed : lists (s1 ∷ p1 (codes "TLU") ∷ Run 20 ∷ []) ≡ codes "CLOCK 0\nNEXT 1\nTLS T1 L1 AB\nULS S1 U1 CD\n"
+  -- the numbers are spent
+  pub spent : prints_from shop (record empty_tables { next_job = 1000000000000 }) (s1 ∷ p1 (codes "MAKEJ") ∷ Run 20 ∷ []) ≡ signed_1 ++ codes "DUMP U1 MAKEJ E11 4\nSYS P1 SERVICE ENDED\n"
+  -- and the next job number stays
+  pub spent_listed : listing (stores_from shop (record empty_tables { next_job = 1000000000000 }) (s1 ∷ p1 (codes "MAKEJ") ∷ Run 20 ∷ [])) ≡ codes "CLOCK 0\nNEXT 1000000000000\n"
+
+-- the made input, without its digest
+pub record MadeRows : Type 0 where
+  -- `make 1`
+  pub one : made_lines 1 ≡ codes "INPUTS 1\nCOMMITS 2\nLINES 5\nCLOCK 0\nTOTAL 00000001\n"
+  -- `make 100`
+  pub hundred : made_lines 100 ≡ codes "INPUTS 100\nCOMMITS 201\nLINES 105\nCLOCK 1\nTOTAL 00000450\n"

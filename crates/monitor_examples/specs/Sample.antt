@@ -4,9 +4,10 @@ use Rattle.kdcdef_types.specs.declared.entry.CallUse.{CallUse}
 use Rattle.kdcdef_types.specs.declared.entry.CallUse.TheVariants.{Both, First, Next as NextOnly}
 use Rattle.kdcdef_types.specs.declared.entry.TacEntry.{TacEntry}
 use Rattle.kdcdef_types.specs.Generation.{Generated}
-use Rattle.unit_types.specs.UnitText.{UnitText}
+use Rattle.unit_types.specs.declared.action.UnitStatement.{UnitStatement}
+use Rattle.unit_types.specs.declared.unit.Field.{Field}
 use Rattle.monitor_semantics.specs.State.{Application}
-use Rattle.monitor_examples.specs.SampleUnits.{sample_units}
+use Rattle.monitor_examples.specs.SampleUnits.{unit, hello_unit, other_units}
 
 -- the name, TYPE=A, CALL, TACCLASS and TIME
 abbrev pub tac : List ℕ → Bool → CallUse → ℕ → ℕ → List ℕ × TacEntry
@@ -120,4 +121,12 @@ sample_generation = record {
 }
 
 abbrev pub shop : Application
-shop = record { generation = sample_generation; units = sample_units }
+shop = record { generation = sample_generation; units = hello_unit ∷ other_units }
+
+-- with other fields and statements in HELLO
+abbrev pub hello_as : List Field → List UnitStatement → Application
+hello_as fields statements = record shop { units = unit (codes "HELLO") 1 fields [] statements ∷ other_units }
+
+-- with TACCLASS=1 for HELLO, and one task for this class
+abbrev pub classed : Application
+classed = record shop { generation = record sample_generation { tacs = tac (codes "HELLO") false Both 1 1000 ∷ sample_tacs; classes = (1, 1) ∷ [] } }

@@ -310,11 +310,10 @@ prb_unit =
     ∷ at 212 (Pend Fi None)
     ∷ [])
 
--- in the order of their UNIT lines
-abbrev pub sample_units : List UnitText
-sample_units =
-    hello_unit
-    ∷ ord1_unit
+-- in the order of their UNIT lines, HELLO apart
+abbrev pub other_units : List UnitText
+other_units =
+    ord1_unit
     ∷ ord2_unit
     ∷ add1_unit
     ∷ cross1_unit
