@@ -10,15 +10,31 @@ use Rattle.kdcs_types.specs.declared.key.ServiceId.TheVariants as id
 use Rattle.kdcs_types.specs.declared.key.Key.{Key}
 use Rattle.kdcs_types.specs.declared.key.Key.TheVariants as key
 
--- the kind of a key, and what tells it from others of its kind; an asynchronous service has A, a dialogue service D
+-- what tells a service from others: an asynchronous one has A and its job's number, a dialogue one D and its user
+abbrev pub id_texts : ServiceId → List (List ℕ)
+id_texts (id.Asynchronous number) = (65 ∷ []) ∷ (number ∷ []) ∷ []
+id_texts (id.Dialogue user) = (68 ∷ []) ∷ user ∷ []
+
+-- the kind of the record that a row has
+abbrev pub key_kind : Key → ℕ
+key_kind (key.Gssb name) = 1
+key_kind (key.Tls block lterm) = 2
+key_kind (key.Uls block user) = 3
+key_kind (key.Service service) = 4
+key_kind (key.Job number) = 5
+key_kind (key.Shown lterm) = 6
+
+-- what tells a key from others of its kind
+abbrev pub texts_behind : Key → List (List ℕ)
+texts_behind (key.Gssb name) = name ∷ []
+texts_behind (key.Tls block lterm) = block ∷ lterm ∷ []
+texts_behind (key.Uls block user) = block ∷ user ∷ []
+texts_behind (key.Service service) = id_texts service
+texts_behind (key.Job number) = (number ∷ []) ∷ []
+texts_behind (key.Shown lterm) = lterm ∷ []
+
 abbrev pub key_texts : Key → List (List ℕ)
-key_texts (key.Gssb name) = (1 ∷ []) ∷ name ∷ []
-key_texts (key.Tls block lterm) = (2 ∷ []) ∷ block ∷ lterm ∷ []
-key_texts (key.Uls block user) = (3 ∷ []) ∷ block ∷ user ∷ []
-key_texts (key.Service (id.Asynchronous number)) = (4 ∷ []) ∷ (65 ∷ []) ∷ (number ∷ []) ∷ []
-key_texts (key.Service (id.Dialogue user)) = (4 ∷ []) ∷ (68 ∷ []) ∷ user ∷ []
-key_texts (key.Job number) = (5 ∷ []) ∷ (number ∷ []) ∷ []
-key_texts (key.Shown lterm) = (6 ∷ []) ∷ lterm ∷ []
+key_texts k = (key_kind k ∷ []) ∷ texts_behind k
 
 abbrev pub texts_cmp : List (List ℕ) → List (List ℕ) → Ordering
 texts_cmp = slice_cmp (slice_cmp nat_cmp)

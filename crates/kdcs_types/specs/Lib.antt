@@ -4,4 +4,9 @@ pub mod Tables
 pub mod Same
 pub mod Difference
 pub mod TableLaws
+pub mod KeyLaws
+pub mod KeyedLaws
+pub mod RowLaws
+pub mod SameLaws
+pub mod DifferenceLaws
 pub mod Limits

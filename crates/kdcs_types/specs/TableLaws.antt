@@ -18,6 +18,9 @@ row_after (Some (Remove k)) before = None
 abbrev pub RowsAreChanged : Type 0
 RowsAreChanged = (t : TableRows) (c : Changes) → AreChanges c.items → (k : Key) → row_at (changed t c) k ≡ row_after (change_at k c.items) (row_at t k)
 
+abbrev pub NumbersAreChanged : Type 0
+NumbersAreChanged = (t : TableRows) (c : Changes) → ((changed t c).clock ≡ c.clock) × ((changed t c).next_job ≡ c.next_job)
+
 abbrev pub ChangedAreSorted : Type 0
 ChangedAreSorted = (t : TableRows) (c : Changes) → IsSortedTables t → AreChanges c.items → IsSortedTables (changed t c)
 

@@ -1,9 +1,10 @@
 //! Laws on the definitions, which all crates above may cite. The functions do nothing.
-ghost use Rattle.kdcs_types.specs.TableLaws.{RowsAreChanged, ChangedAreSorted, TablesAreTheirRows, DifferenceIsExact, DifferencesAreChanges, DifferenceMakesNew};
+ghost use Rattle.kdcs_types.specs.TableLaws.{RowsAreChanged, NumbersAreChanged, ChangedAreSorted, TablesAreTheirRows, DifferenceIsExact, DifferencesAreChanges, DifferenceMakesNew};
 
 /// Changed tables have, at each key, the row that the changes give it, and else the row that they had.
 pub fn changes_set_and_remove()
     ensures rows { RowsAreChanged }
+    ensures numbers { NumbersAreChanged }
     ensures sorted { ChangedAreSorted }
     ensures known { TablesAreTheirRows }
 {}
