@@ -1,7 +1,8 @@
 //! The run of one program unit.
 
 use crate::call::Code;
-use kd_base::{Bytes, Name};
+use crate::fixed::FixedBytes;
+use kd_base::Name;
 
 /// What a program unit reads of itself: the KB header.
 #[derive(Clone, Copy, Debug, PartialEq, Eq)]
@@ -26,9 +27,9 @@ pub struct RunState {
     /// TIME: how many statements may be done.
     pub budget: u32,
     /// The communication area KB.
-    pub kb: Bytes,
+    pub kb: FixedBytes,
     /// The standard primary working area SPAB.
-    pub spab: Bytes,
+    pub spab: FixedBytes,
     /// KCRCCC of the last call.
     pub code: Code,
     /// KCRLM of the last call, from 0 to 99,999.

@@ -1,1 +1,2 @@
 pub mod UnitText
+pub mod Index
