@@ -24,7 +24,7 @@ use Rattle.kdcdef_types.specs.declared.entry.LtermEntry.{LtermEntry}
 use Rattle.kdcdef_types.specs.Generation.{Generated, tac_of, lterm_of, has_tls, has_uls}
 use Rattle.monitor_semantics.specs.Bytes.{Bytes, bytes_cmp}
 use Rattle.kdcs_types.specs.Keys.{area_cmp, area_eq}
-use Rattle.monitor_semantics.specs.Unit.{trim_end, number_of}
+use Rattle.unit_semantics.specs.Contents.{trim_end, number_of}
 use Rattle.monitor_semantics.specs.State.{OpenTransaction, Due, After, At}
 use Rattle.monitor_semantics.specs.Outcomes.{Outcome, goes_first, pend_outcome}
 

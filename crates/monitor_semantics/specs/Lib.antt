@@ -1,5 +1,4 @@
 pub mod Bytes
-pub mod Unit
 pub mod State
 pub mod Outcomes
 pub mod Calls

@@ -16,7 +16,7 @@ use Rattle.kdcs_types.specs.declared.service.Service.{Service}
 use Rattle.kdcs_types.specs.declared.service.Settled.{Settled}
 use Rattle.unit_types.specs.UnitText.{UnitText}
 use Rattle.monitor_semantics.specs.Bytes.{Bytes}
-use Rattle.monitor_semantics.specs.Unit.{Stepped, Plain, Asks, Ends, step, answered}
+use Rattle.unit_semantics.specs.Statement.{Meaning, Plain, Asks, Ends, step, answered}
 use Rattle.monitor_semantics.specs.State.{Application, OpenTransaction, unit_of}
 use Rattle.monitor_semantics.specs.Outcomes.{Outcome, Hold, Stay, Queue, Wait, Point, Follow, Finish, Break, Back}
 use Rattle.monitor_semantics.specs.Calls.{Told, Called, Replied, Waits, Abnormal, Pends, name_in_operand, call_outcome}
@@ -69,7 +69,7 @@ area_of_call x (Ptda name bytes) = tls_named x.lterm (name_in_operand name)
 area_of_call x (UnlkDa name) = tls_named x.lterm (name_in_operand name)
 area_of_call x _ = any_area
 
-abbrev pub area_of_step : OpenTransaction → Stepped → Area
+abbrev pub area_of_step : OpenTransaction → Meaning → Area
 area_of_step x (Plain after) = any_area
 area_of_step x (Ends cause) = any_area
 area_of_step x (Asks call) = area_of_call x call
@@ -118,7 +118,7 @@ by_call app asynchronous x unit Waits = Waited
 by_call app asynchronous x unit (Abnormal cause) = Breaks (Broken cause)
 by_call app asynchronous x unit (Pends variant o) = by_outcome app asynchronous x variant o
 
-abbrev pub by_step : Application → Told → (asynchronous : Bool) → OpenTransaction → UnitText → Stepped → Happened
+abbrev pub by_step : Application → Told → (asynchronous : Bool) → OpenTransaction → UnitText → Meaning → Happened
 by_step app v asynchronous x unit (Plain after) = Went (record x { run = after; statements = x.statements + 1 })
 by_step app v asynchronous x unit (Ends cause) = Breaks (Broken cause)
 by_step app v asynchronous x unit (Asks call) = by_call app asynchronous x unit (call_outcome app.generation v asynchronous x call)
