@@ -1,6 +1,6 @@
 -- The worked rows compute.
 use Rattle.std.specs.Prelude.{refl}
-use Rattle.monitor_examples.specs.Rows.{ClockRows, DialogueRows, LockRows, EndRows, HelloRows, JobRows, MadeRows}
+use Rattle.monitor_examples.specs.Rows.{ClockRows, DialogueRows, LockRows, EndRows, HelloRows, JobRows, SerialRows, MadeRows}
 use Rattle.monitor_examples.proofs.Computing.{monitor}
 
 pub clock_rows : ClockRows
@@ -26,6 +26,10 @@ hello_rows = record { overflow = refl; no_pend = refl; no_follow_up = refl; too_
 pub job_rows : JobRows
 unfolding monitor
 job_rows = record { numbered = refl; numbered_listed = refl; taken = refl; taken_listed = refl; taken_again = refl; done_listed = refl; due = refl; full = refl; printed = refl; blocks = refl; blocks_listed = refl; spent = refl; spent_listed = refl }
+
+pub serial_rows : SerialRows
+unfolding monitor
+serial_rows = record { counted = refl; crossed = refl; late = refl; unlocked = refl; causes = refl; follow = refl; back = refl; numbered = refl; not_durable = refl; jobs = refl; made = refl }
 
 pub made_rows : MadeRows
 unfolding monitor

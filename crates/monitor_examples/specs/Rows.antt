@@ -1,5 +1,5 @@
 -- Worked rows of the sample application: what scripts print, and which tables they leave.
-use Rattle.std.specs.Prelude.{◌≡◌, ℕ, List, [], ◌∷◌, ◌++◌, Bool, true, replicate, Option, Some, None, codes}
+use Rattle.std.specs.Prelude.{◌≡◌, IsTrue, ℕ, List, [], ◌∷◌, ◌++◌, Bool, true, replicate, Option, Some, None, codes}
 use Rattle.kd_base.specs.declared.words.Mode.TheVariants.{Relative, Absolute}
 use Rattle.kd_base.specs.declared.words.Variant.TheVariants.{Re, Fi}
 use Rattle.unit_types.specs.declared.action.Action.TheVariants.{Move, Join, Add, Init, Mput, Fput, Dput, SgetGb, SputGb, SputMs, Pend}
@@ -12,7 +12,8 @@ use Rattle.kdcs_types.specs.Tables.{empty_tables}
 use Rattle.monitor_semantics.specs.Commands.{Command, Input, Tick, Run, Turn, Drop, Print, PrintLast, Restart, Done, Maker, ByTick, ByShow, ByTransaction, started}
 use Rattle.monitor_semantics.specs.Trace.{history}
 use Rattle.monitor_semantics.specs.Listing.{listing}
-use Rattle.monitor_semantics.specs.Made.{made_lines}
+use Rattle.monitor_semantics.specs.Made.{made_lines, made_application, made_script}
+use Rattle.monitor_laws.specs.Commits.{is_serial}
 use Rattle.monitor_examples.specs.Sample.{shop, hello_as, classed}
 use Rattle.monitor_examples.specs.SampleUnits.{field, at}
 use Rattle.monitor_examples.specs.Words.{prints, prints_from, stores, stores_from, lists, p1, p2, s1, s2, signed_1, signed_2, signed_both}
@@ -27,6 +28,10 @@ notes_by (Some (ByTransaction kept)) rest = kept.notes ∷ rest
 abbrev pub notes_kept : List Done → List (List Note)
 notes_kept [] = []
 notes_kept (d ∷ ds) = notes_by d.by (notes_kept ds)
+
+-- each commit of a transaction in the script is that of its record
+abbrev pub serial_after : List Command → Bool
+serial_after script = is_serial shop empty_tables (history shop (started shop empty_tables) script)
 
 -- the clock
 pub record ClockRows : Type 0 where
@@ -143,6 +148,31 @@ pub record JobRows : Type 0 where
   pub spent : prints_from shop (record empty_tables { next_job = 1000000000000 }) (s1 ∷ p1 (codes "MAKEJ") ∷ Run 20 ∷ []) ≡ signed_1 ++ codes "DUMP U1 MAKEJ E11 4\nSYS P1 SERVICE ENDED\n"
   -- and the next job number stays
   pub spent_listed : listing (stores_from shop (record empty_tables { next_job = 1000000000000 }) (s1 ∷ p1 (codes "MAKEJ") ∷ Run 20 ∷ [])) ≡ codes "CLOCK 0\nNEXT 1000000000000\n"
+
+-- each commit of a transaction is that of its record, run in one go
+pub record SerialRows : Type 0 where
+  -- two services that count
+  pub counted : IsTrue (serial_after (s1 ∷ s2 ∷ p1 (codes "ADD1") ∷ p2 (codes "ADD1") ∷ Run 100 ∷ []))
+  -- a deadlock
+  pub crossed : IsTrue (serial_after (s1 ∷ s2 ∷ p1 (codes "CROSS1") ∷ p2 (codes "CROSS2") ∷ Run 100 ∷ []))
+  -- a request that was late
+  pub late : IsTrue (serial_after (s1 ∷ s2 ∷ p1 (codes "HOLD") ∷ Run 100 ∷ p2 (codes "SEEK") ∷ Run 100 ∷ Tick 2 ∷ Run 100 ∷ Tick 1 ∷ Run 100 ∷ p1 (codes "GO") ∷ Run 20 ∷ []))
+  -- an area that was released, and then written by another
+  pub unlocked : IsTrue (serial_after (s1 ∷ s2 ∷ p1 (codes "UNL") ∷ p2 (codes "ADD1") ∷ Turn 1 ∷ Turn 1 ∷ Turn 1 ∷ Turn 1 ∷ Turn 2 ∷ Turn 2 ∷ Turn 2 ∷ Turn 2 ∷ Turn 2 ∷ Turn 2 ∷ Turn 2 ∷ Turn 1 ∷ Turn 1 ∷ Turn 1 ∷ Turn 1 ∷ []))
+  -- abnormal ends
+  pub causes : IsTrue (serial_after (s1 ∷ p1 (codes "NOMSG") ∷ Run 9 ∷ p1 (codes "NOINIT") ∷ Run 9 ∷ p1 (codes "LOOP") ∷ Run 20 ∷ []))
+  -- PEND FC
+  pub follow : IsTrue (serial_after (s1 ∷ p1 (codes "FCA") ∷ Run 60 ∷ []))
+  -- PEND RS
+  pub back : IsTrue (serial_after (s1 ∷ p1 (codes "RSA") ∷ Run 20 ∷ p1 (codes "ADD1") ∷ Run 20 ∷ p1 (codes "RSB1") ∷ Run 20 ∷ p1 (codes "Y") ∷ Run 20 ∷ []))
+  -- PEND SP and jobs
+  pub numbered : IsTrue (serial_after (s1 ∷ s2 ∷ p1 (codes "FER") ∷ Run 20 ∷ p2 (codes "KDCOUT") ∷ p1 (codes "FSP") ∷ Run 30 ∷ p2 (codes "KDCOUT") ∷ p2 (codes "KDCLAST") ∷ []))
+  -- a user with RESTART=NO
+  pub not_durable : IsTrue (serial_after (s2 ∷ p2 (codes "ORD1 APPLE") ∷ Run 20 ∷ p2 (codes "5") ∷ Run 20 ∷ []))
+  -- jobs that services take
+  pub jobs : IsTrue (serial_after (s1 ∷ p1 (codes "MAKEJ") ∷ Run 40 ∷ p1 (codes "FILL") ∷ Run 200 ∷ p1 (codes "MAKEJ") ∷ Run 20 ∷ []))
+  -- the made input
+  pub made : IsTrue (is_serial made_application empty_tables (history made_application (started made_application empty_tables) (made_script 20)))
 
 -- the made input, without its digest
 pub record MadeRows : Type 0 where

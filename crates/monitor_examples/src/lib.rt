@@ -1,7 +1,7 @@
 //! Worked examples of the abstract monitor.
 #![tactic(auto)]
 
-ghost use Rattle.monitor_examples.specs.Rows.{ClockRows, DialogueRows, LockRows, EndRows, HelloRows, JobRows, MadeRows};
+ghost use Rattle.monitor_examples.specs.Rows.{ClockRows, DialogueRows, LockRows, EndRows, HelloRows, JobRows, SerialRows, MadeRows};
 
 /// The clock.
 pub fn clock_rows()
@@ -31,6 +31,11 @@ pub fn hello_rows()
 /// Jobs.
 pub fn job_rows()
     ensures { JobRows }
+{}
+
+/// Each commit of a transaction is that of its record, run in one go.
+pub fn serial_rows()
+    ensures { SerialRows }
 {}
 
 /// The made input, without its digest.

@@ -21,7 +21,7 @@ use Rattle.kdcs_types.specs.Tables.{TableRows, service_of, shown_of, with_change
 use Rattle.kdcs_types.specs.Keys.{id_cmp, id_eq}
 use Rattle.monitor_semantics.specs.Bytes.{Bytes, bytes_cmp}
 use Rattle.monitor_semantics.specs.State.{Application, OpenTransaction, Session, State}
-use Rattle.monitor_semantics.specs.Endings.{is_asynchronous, opened_by_start, opened_by_input, opened_by_row, followed_by_input, with_service, without_job, durable, restarts}
+use Rattle.monitor_semantics.specs.Endings.{is_asynchronous, opened_by_start, opened_by_input, opened_by_row, lterm_of_row, followed_by_input, with_service, without_job, durable, restarts}
 use Rattle.monitor_semantics.specs.Statements.{Happened, Went, Queued, Waited, Held, Settles, Breaks, Returns}
 use Rattle.monitor_semantics.specs.Lines.{sys_line, out_line, asy_line, prt_line, no_message_line, tick_line, tick_refused_line, restart_line}
 use Rattle.monitor_semantics.specs.Locks.{Active}
@@ -68,16 +68,11 @@ says s text = done s (Emit text ∷ [])
 
 -- ---- start
 
--- an asynchronous service goes on from its row, with its own LTERM
-abbrev pub lterm_of_row : Option Bytes → Bytes
-lterm_of_row None = []
-lterm_of_row (Some lterm) = lterm
-
 abbrev pub asynchronous_rows : TableRows → List Service
 asynchronous_rows t = filter (λ (s : Service). is_asynchronous s.id) t.services
 
 abbrev pub opened_row : Application → Service → ServiceId × OpenTransaction
-opened_row app row = (row.id, opened_by_row app.generation row (lterm_of_row row.lterm))
+opened_row app row = (row.id, opened_by_row app.generation row.id row (lterm_of_row row.lterm))
 
 -- a cold or warm start: nobody signed on, all tasks empty, the asynchronous services ready in the order of their numbers
 unfoldable pub started : Application → TableRows → State
@@ -132,7 +127,7 @@ out_again pterm (Some message) = Emit (out_line pterm message) ∷ []
 
 abbrev pub resumed_by : Application → State → (user lterm : Bytes) → Service → (awaits : Bool) → State
 resumed_by app s user lterm row true = s
-resumed_by app s user lterm row false = queued s (Dialogue user) (opened_by_row app.generation row lterm)
+resumed_by app s user lterm row false = queued s (Dialogue user) (opened_by_row app.generation (Dialogue user) row lterm)
 
 -- a user with an open service sees its last dialogue message again; one that awaits no input becomes ready
 abbrev pub signed_on_by : Application → State → (pterm user lterm : Bytes) → Option Service → Done
@@ -213,7 +208,7 @@ held_tac Returns = []
 abbrev pub next_by : Application → State → (user lterm text : Bytes) → Option OpenTransaction → Option Service → State
 next_by app s user lterm text (Some x) row =
     queued s (Dialogue user) (followed_by_input app.generation x (held_tac (statement_now app s (Dialogue user) x)) text)
-next_by app s user lterm text None (Some row) = queued s (Dialogue user) (opened_by_input app.generation row lterm text)
+next_by app s user lterm text None (Some row) = queued s (Dialogue user) (opened_by_input app.generation (Dialogue user) row lterm text)
 next_by app s user lterm text None None = s
 
 abbrev pub next_input : Application → State → (user lterm text : Bytes) → State

@@ -90,20 +90,30 @@ opened g began header unread inputs = record {
 abbrev pub header_of : (user lterm first next : Bytes) → Header
 header_of user lterm first next = record { benid = user; logter = lterm; tacvg = first; tacal = next }
 
-abbrev pub header_of_row : Service → Bytes → Header
-header_of_row row lterm = header_of row.user lterm row.first row.next
+-- a dialogue service has the user of its id
+abbrev pub user_in_row : ServiceId → Service → Bytes
+user_in_row (Dialogue user) row = user
+user_in_row (Asynchronous number) row = row.user
+
+abbrev pub header_of_row : ServiceId → Service → (lterm : Bytes) → Header
+header_of_row id row lterm = header_of (user_in_row id row) lterm row.first row.next
 
 -- an input starts a service: it is the message to read
 abbrev pub opened_by_start : Generated → (user lterm tac input : Bytes) → OpenTransaction
 opened_by_start g user lterm tac input = opened g None (header_of user lterm tac tac) (input ∷ []) (input ∷ [])
 
 -- an input reaches a service whose row awaits one
-abbrev pub opened_by_input : Generated → Service → (lterm input : Bytes) → OpenTransaction
-opened_by_input g row lterm input = opened g (Some row) (header_of_row row lterm) (input ∷ []) (input ∷ [])
+abbrev pub opened_by_input : Generated → ServiceId → Service → (lterm input : Bytes) → OpenTransaction
+opened_by_input g id row lterm input = opened g (Some row) (header_of_row id row lterm) (input ∷ []) (input ∷ [])
 
 -- a service goes on from its row: the parts handed on are the message to read
-abbrev pub opened_by_row : Generated → Service → (lterm : Bytes) → OpenTransaction
-opened_by_row g row lterm = opened g (Some row) (header_of_row row lterm) row.handed []
+abbrev pub opened_by_row : Generated → ServiceId → Service → (lterm : Bytes) → OpenTransaction
+opened_by_row g id row lterm = opened g (Some row) (header_of_row id row lterm) row.handed []
+
+-- the LTERM of an asynchronous service's row
+abbrev pub lterm_of_row : Option Bytes → Bytes
+lterm_of_row None = []
+lterm_of_row (Some lterm) = lterm
 
 -- a task takes a job: its message, which is no accepted input, is the message to read
 abbrev pub opened_by_job : Generated → JobValue → (tac : Bytes) → OpenTransaction

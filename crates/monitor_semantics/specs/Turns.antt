@@ -137,7 +137,7 @@ message_acts s (Asynchronous number) x = []
 -- after SP and FC the service goes on from its row
 abbrev pub goes_on : Application → State → ServiceId → OpenTransaction → Option Service → State
 goes_on app s id x None = s
-goes_on app s id x (Some row) = queued s id (opened_by_row app.generation row x.lterm)
+goes_on app s id x (Some row) = queued s id (opened_by_row app.generation id row x.lterm)
 
 abbrev pub after_point : Application → State → ServiceId → OpenTransaction → Outcome → Option Service → Act → Settled → Turned
 after_point app s id x (Wait tac) row commit kept = committed (message_sent s id x) commit kept (message_acts s id x)
@@ -161,14 +161,15 @@ settled app s task id x o =
     let new = synchronised app.generation s.tables id x o in
     settled_by app s task id x o new (refusal app.generation (durable app.generation new))
 
-abbrev pub last_again : State → Bytes → Option Bytes → Turned
-last_again s user None = moved_to s []
-last_again s user (Some message) = moved_to (told_user s user message) (user_acts s user message)
+abbrev pub last_again : State → ServiceId → Option Bytes → Turned
+last_again s id None = moved_to s []
+last_again s (Dialogue user) (Some message) = moved_to (told_user s user message) (user_acts s user message)
+last_again s (Asynchronous number) (Some message) = moved_to s []
 
 -- a point that awaits an input has its last dialogue message sent again; from another the service goes on
 abbrev pub back_by : Application → State → ServiceId → OpenTransaction → Service → (awaits : Bool) → Turned
-back_by app s id x row true = last_again s x.user row.last
-back_by app s id x row false = moved_to (queued s id (opened_by_row app.generation row x.lterm)) []
+back_by app s id x row true = last_again s id row.last
+back_by app s id x row false = moved_to (queued s id (opened_by_row app.generation id row x.lterm)) []
 
 -- PEND RS: back to the row; a service without one is over
 abbrev pub back : Application → State → ServiceId → OpenTransaction → Option Service → Turned

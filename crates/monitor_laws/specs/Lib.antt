@@ -1,0 +1,5 @@
+pub mod Facts
+pub mod Suits
+pub mod Replay
+pub mod Commits
+pub mod Cut

@@ -1,0 +1,2 @@
+//! What holds of the abstract monitor.
+#![tactic(auto)]
