@@ -1,5 +1,5 @@
 -- Worked rows of the sample application: what scripts print, and which tables they leave.
-use Rattle.std.specs.Prelude.{◌≡◌, IsTrue, ℕ, List, [], ◌∷◌, ◌++◌, Bool, true, replicate, Option, Some, None, codes}
+use Rattle.std.specs.Prelude.{◌≡◌, IsTrue, List, [], ◌∷◌, ◌++◌, Bool, true, replicate, Option, Some, None, codes}
 use Rattle.kd_base.specs.declared.words.Mode.TheVariants.{Relative, Absolute}
 use Rattle.kd_base.specs.declared.words.Variant.TheVariants.{Re, Fi}
 use Rattle.unit_types.specs.declared.action.Action.TheVariants.{Move, Join, Add, Init, Mput, Fput, Dput, SgetGb, SputGb, SputMs, Pend}
@@ -9,14 +9,14 @@ use Rattle.kdcs_types.specs.declared.key.Area.TheVariants.{Gssb}
 use Rattle.kdcs_types.specs.declared.service.Note.{Note}
 use Rattle.kdcs_types.specs.declared.service.Note.TheVariants.{Released}
 use Rattle.kdcs_types.specs.Tables.{empty_tables}
-use Rattle.monitor_semantics.specs.Commands.{Command, Input, Tick, Run, Turn, Drop, Print, PrintLast, Restart, Done, Maker, ByTick, ByShow, ByTransaction, started}
+use Rattle.monitor_semantics.specs.Commands.{Command, Tick, Run, Turn, Drop, Print, PrintLast, Restart, Done, Maker, ByTick, ByShow, ByTransaction, started}
 use Rattle.monitor_semantics.specs.Trace.{history}
 use Rattle.monitor_semantics.specs.Listing.{listing}
 use Rattle.monitor_semantics.specs.Made.{made_lines, made_application, made_script}
 use Rattle.monitor_laws.specs.Commits.{is_serial}
 use Rattle.monitor_examples.specs.Sample.{shop, hello_as, classed}
 use Rattle.monitor_examples.specs.SampleUnits.{field, at}
-use Rattle.monitor_examples.specs.Words.{prints, prints_from, stores, stores_from, lists, p1, p2, s1, s2, signed_1, signed_2, signed_both}
+use Rattle.monitor_examples.specs.Words.{prints, prints_from, stores, stores_from, lists, p1, p2, s1, s2, signed_1, signed_both}
 
 abbrev pub notes_by : Option Maker → List (List Note) → List (List Note)
 notes_by None rest = rest

@@ -24,7 +24,7 @@ at line action = record { line = line; action = action }
 
 abbrev pub hello_unit : UnitText
 hello_unit =
-    unit (codes "HELLO") 1 [] [] 
+    unit (codes "HELLO") 1 [] []
     (at 2 Init
     ∷ at 3 (Mput (Literal (codes "HELLO")))
     ∷ at 4 (Pend Fi None)
@@ -32,7 +32,7 @@ hello_unit =
 
 abbrev pub ord1_unit : UnitText
 ord1_unit =
-    unit (codes "ORD1") 6 (field 7 (codes "item") false 0 8 ∷ []) [] 
+    unit (codes "ORD1") 6 (field 7 (codes "item") false 0 8 ∷ []) []
     (at 8 Init
     ∷ at 9 (Mget (codes "item"))
     ∷ at 10 (Mput (Literal (codes "QTY")))
@@ -41,7 +41,7 @@ ord1_unit =
 
 abbrev pub ord2_unit : UnitText
 ord2_unit =
-    unit (codes "ORD2") 13 (field 14 (codes "item") false 0 8 ∷ field 15 (codes "qty") true 0 8 ∷ field 16 (codes "ans") true 8 24 ∷ []) [] 
+    unit (codes "ORD2") 13 (field 14 (codes "item") false 0 8 ∷ field 15 (codes "qty") true 0 8 ∷ field 16 (codes "ans") true 8 24 ∷ []) []
     (at 17 Init
     ∷ at 18 (Mget (codes "qty"))
     ∷ at 19 (Join (codes "ans") (Trim (codes "item")) (Trim (codes "qty")))
@@ -51,7 +51,7 @@ ord2_unit =
 
 abbrev pub add1_unit : UnitText
 add1_unit =
-    unit (codes "ADD1") 23 (field 24 (codes "n") true 0 4 ∷ []) [] 
+    unit (codes "ADD1") 23 (field 24 (codes "n") true 0 4 ∷ []) []
     (at 25 Init
     ∷ at 26 (SgetGb (Literal (codes "CNT")) (codes "n"))
     ∷ at 27 (Add (codes "n") (Digits (codes "1")))
@@ -62,7 +62,7 @@ add1_unit =
 
 abbrev pub cross1_unit : UnitText
 cross1_unit =
-    unit (codes "CROSS1") 32 (field 33 (codes "v") true 0 8 ∷ []) [] 
+    unit (codes "CROSS1") 32 (field 33 (codes "v") true 0 8 ∷ []) []
     (at 34 Init
     ∷ at 35 (SgetGb (Literal (codes "A")) (codes "v"))
     ∷ at 36 (SgetGb (Literal (codes "B")) (codes "v"))
@@ -72,7 +72,7 @@ cross1_unit =
 
 abbrev pub cross2_unit : UnitText
 cross2_unit =
-    unit (codes "CROSS2") 40 (field 41 (codes "v") true 0 8 ∷ []) [] 
+    unit (codes "CROSS2") 40 (field 41 (codes "v") true 0 8 ∷ []) []
     (at 42 Init
     ∷ at 43 (SgetGb (Literal (codes "B")) (codes "v"))
     ∷ at 44 (SgetGb (Literal (codes "A")) (codes "v"))
@@ -82,7 +82,7 @@ cross2_unit =
 
 abbrev pub hold_unit : UnitText
 hold_unit =
-    unit (codes "HOLD") 48 (field 49 (codes "v") true 0 8 ∷ []) [] 
+    unit (codes "HOLD") 48 (field 49 (codes "v") true 0 8 ∷ []) []
     (at 50 Init
     ∷ at 51 (SgetGb (Literal (codes "A")) (codes "v"))
     ∷ at 52 (Mput (Literal (codes "HELD")))
@@ -91,7 +91,7 @@ hold_unit =
 
 abbrev pub hold2_unit : UnitText
 hold2_unit =
-    unit (codes "HOLD2") 55 [] [] 
+    unit (codes "HOLD2") 55 [] []
     (at 56 Init
     ∷ at 57 (Mput (Literal (codes "FREE")))
     ∷ at 58 (Pend Fi None)
@@ -99,7 +99,7 @@ hold2_unit =
 
 abbrev pub seek_unit : UnitText
 seek_unit =
-    unit (codes "SEEK") 60 (field 61 (codes "v") true 0 8 ∷ []) [] 
+    unit (codes "SEEK") 60 (field 61 (codes "v") true 0 8 ∷ []) []
     (at 62 Init
     ∷ at 63 (SgetGb (Literal (codes "A")) (codes "v"))
     ∷ at 64 (Mput (Header Crccc))
@@ -108,7 +108,7 @@ seek_unit =
 
 abbrev pub unl_unit : UnitText
 unl_unit =
-    unit (codes "UNL") 67 (field 68 (codes "n") true 0 4 ∷ []) [] 
+    unit (codes "UNL") 67 (field 68 (codes "n") true 0 4 ∷ []) []
     (at 69 Init
     ∷ at 70 (SgetGb (Literal (codes "CNT")) (codes "n"))
     ∷ at 71 (UnlkGb (Literal (codes "CNT")))
@@ -120,28 +120,28 @@ unl_unit =
 
 abbrev pub nomsg_unit : UnitText
 nomsg_unit =
-    unit (codes "NOMSG") 77 [] [] 
+    unit (codes "NOMSG") 77 [] []
     (at 78 Init
     ∷ at 79 (Pend Fi None)
     ∷ [])
 
 abbrev pub noinit_unit : UnitText
 noinit_unit =
-    unit (codes "NOINIT") 81 [] [] 
+    unit (codes "NOINIT") 81 [] []
     (at 82 (Mput (Literal (codes "X")))
     ∷ at 83 (Pend Fi None)
     ∷ [])
 
 abbrev pub loop_unit : UnitText
 loop_unit =
-    unit (codes "LOOP") 85 [] ((codes "again", 2) ∷ []) 
+    unit (codes "LOOP") 85 [] ((codes "again", 2) ∷ [])
     (at 86 Init
     ∷ at 88 (Jump (codes "again"))
     ∷ [])
 
 abbrev pub fca_unit : UnitText
 fca_unit =
-    unit (codes "FCA") 90 (field 91 (codes "k") false 0 4 ∷ []) [] 
+    unit (codes "FCA") 90 (field 91 (codes "k") false 0 4 ∷ []) []
     (at 92 Init
     ∷ at 93 (Move (codes "k") (Literal (codes "OLD")))
     ∷ at 94 (SputMs (Literal (codes "L1")) (Literal (codes "X")))
@@ -151,7 +151,7 @@ fca_unit =
 
 abbrev pub fcb_unit : UnitText
 fcb_unit =
-    unit (codes "FCB") 98 (field 99 (codes "k") false 0 4 ∷ field 100 (codes "m") true 0 8 ∷ field 101 (codes "w") true 8 8 ∷ field 102 (codes "a") true 16 24 ∷ []) [] 
+    unit (codes "FCB") 98 (field 99 (codes "k") false 0 4 ∷ field 100 (codes "m") true 0 8 ∷ field 101 (codes "w") true 8 8 ∷ field 102 (codes "a") true 16 24 ∷ []) []
     (at 103 Init
     ∷ at 104 (Mget (codes "m"))
     ∷ at 105 (SgetKp (Literal (codes "L1")) (codes "w"))
@@ -163,7 +163,7 @@ fcb_unit =
 
 abbrev pub rsa_unit : UnitText
 rsa_unit =
-    unit (codes "RSA") 111 [] [] 
+    unit (codes "RSA") 111 [] []
     (at 112 Init
     ∷ at 113 (SputGb (Literal (codes "CNT")) (Literal (codes "0009")))
     ∷ at 114 (Pend Rs None)
@@ -171,7 +171,7 @@ rsa_unit =
 
 abbrev pub rsb1_unit : UnitText
 rsb1_unit =
-    unit (codes "RSB1") 116 [] [] 
+    unit (codes "RSB1") 116 [] []
     (at 117 Init
     ∷ at 118 (Mput (Literal (codes "ASK")))
     ∷ at 119 (Pend Re (Some (Literal (codes "RSB2"))))
@@ -179,14 +179,14 @@ rsb1_unit =
 
 abbrev pub rsb2_unit : UnitText
 rsb2_unit =
-    unit (codes "RSB2") 121 [] [] 
+    unit (codes "RSB2") 121 [] []
     (at 122 Init
     ∷ at 123 (Pend Rs None)
     ∷ [])
 
 abbrev pub fer_unit : UnitText
 fer_unit =
-    unit (codes "FER") 125 [] [] 
+    unit (codes "FER") 125 [] []
     (at 126 Init
     ∷ at 127 (Fput (Literal (codes "L2")) (Literal (codes "NOTE")))
     ∷ at 128 (Pend Er None)
@@ -194,7 +194,7 @@ fer_unit =
 
 abbrev pub fsp_unit : UnitText
 fsp_unit =
-    unit (codes "FSP") 130 [] [] 
+    unit (codes "FSP") 130 [] []
     (at 131 Init
     ∷ at 132 (Fput (Literal (codes "L2")) (Literal (codes "NOTE")))
     ∷ at 133 (Pend Sp (Some (Literal (codes "FSP2"))))
@@ -202,14 +202,14 @@ fsp_unit =
 
 abbrev pub fsp2_unit : UnitText
 fsp2_unit =
-    unit (codes "FSP2") 135 [] [] 
+    unit (codes "FSP2") 135 [] []
     (at 136 Init
     ∷ at 137 (Pend Er None)
     ∷ [])
 
 abbrev pub job1_unit : UnitText
 job1_unit =
-    unit (codes "JOB1") 139 (field 140 (codes "n") true 0 4 ∷ []) [] 
+    unit (codes "JOB1") 139 (field 140 (codes "n") true 0 4 ∷ []) []
     (at 141 Init
     ∷ at 142 (Fget (codes "n"))
     ∷ at 143 (SputGb (Literal (codes "CNT")) (FieldOf (codes "n")))
@@ -218,7 +218,7 @@ job1_unit =
 
 abbrev pub makej_unit : UnitText
 makej_unit =
-    unit (codes "MAKEJ") 146 [] [] 
+    unit (codes "MAKEJ") 146 [] []
     (at 147 Init
     ∷ at 148 (Fput (Literal (codes "JOB1")) (Literal (codes "0007")))
     ∷ at 149 (Mput (Literal (codes "MADE")))
@@ -227,7 +227,7 @@ makej_unit =
 
 abbrev pub dp_unit : UnitText
 dp_unit =
-    unit (codes "DP") 152 [] [] 
+    unit (codes "DP") 152 [] []
     (at 153 Init
     ∷ at 154 (Dput (Literal (codes "L2")) Relative (Digits (codes "0")) (Digits (codes "0")) (Digits (codes "0")) (Digits (codes "10")) (Literal (codes "TEN")))
     ∷ at 155 (Dput (Literal (codes "L2")) Relative (Digits (codes "0")) (Digits (codes "0")) (Digits (codes "0")) (Digits (codes "0")) (Literal (codes "NOW")))
@@ -238,7 +238,7 @@ dp_unit =
 
 abbrev pub fill_unit : UnitText
 fill_unit =
-    unit (codes "FILL") 160 (field 161 (codes "c") true 0 2 ∷ []) ((codes "again", 2) ∷ []) 
+    unit (codes "FILL") 160 (field 161 (codes "c") true 0 2 ∷ []) ((codes "again", 2) ∷ [])
     (at 162 Init
     ∷ at 164 (Fput (Literal (codes "L2")) (Literal (codes "X")))
     ∷ at 165 (Add (codes "c") (Digits (codes "1")))
@@ -249,7 +249,7 @@ fill_unit =
 
 abbrev pub r1_unit : UnitText
 r1_unit =
-    unit (codes "R1") 170 [] [] 
+    unit (codes "R1") 170 [] []
     (at 171 Init
     ∷ at 172 (Mput (Literal (codes "ONE")))
     ∷ at 173 (Pend Re (Some (Literal (codes "R2"))))
@@ -257,7 +257,7 @@ r1_unit =
 
 abbrev pub r2_unit : UnitText
 r2_unit =
-    unit (codes "R2") 175 [] [] 
+    unit (codes "R2") 175 [] []
     (at 176 Init
     ∷ at 177 (SputGb (Literal (codes "CNT")) (Literal (codes "0005")))
     ∷ at 178 (Mput (Literal (codes "TWO")))
@@ -266,7 +266,7 @@ r2_unit =
 
 abbrev pub r3_unit : UnitText
 r3_unit =
-    unit (codes "R3") 181 [] [] 
+    unit (codes "R3") 181 [] []
     (at 182 Init
     ∷ at 183 (Mput (Literal (codes "END")))
     ∷ at 184 (Pend Fi None)
@@ -274,7 +274,7 @@ r3_unit =
 
 abbrev pub tlu_unit : UnitText
 tlu_unit =
-    unit (codes "TLU") 186 (field 187 (codes "v") true 0 8 ∷ []) [] 
+    unit (codes "TLU") 186 (field 187 (codes "v") true 0 8 ∷ []) []
     (at 188 Init
     ∷ at 189 (Ptda (Literal (codes "T1")) (Literal (codes "AB")))
     ∷ at 190 (SputUs (Literal (codes "S1")) (Literal (codes "CD")))
@@ -285,7 +285,7 @@ tlu_unit =
 
 abbrev pub toprt_unit : UnitText
 toprt_unit =
-    unit (codes "TOPRT") 195 [] [] 
+    unit (codes "TOPRT") 195 [] []
     (at 196 Init
     ∷ at 197 (Fput (Literal (codes "L3")) (Literal (codes "PAPER")))
     ∷ at 198 (Mput (Literal (codes "OK")))
@@ -294,7 +294,7 @@ toprt_unit =
 
 abbrev pub pra_unit : UnitText
 pra_unit =
-    unit (codes "PRA") 201 [] [] 
+    unit (codes "PRA") 201 [] []
     (at 202 Init
     ∷ at 203 (Mput (Literal (codes "ONE")))
     ∷ at 204 (Pend Pa (Some (Literal (codes "PRB"))))
@@ -302,7 +302,7 @@ pra_unit =
 
 abbrev pub prb_unit : UnitText
 prb_unit =
-    unit (codes "PRB") 206 (field 207 (codes "v") true 0 8 ∷ []) [] 
+    unit (codes "PRB") 206 (field 207 (codes "v") true 0 8 ∷ []) []
     (at 208 Init
     ∷ at 209 (Mget (codes "v"))
     ∷ at 210 (Mput (Trim (codes "v")))

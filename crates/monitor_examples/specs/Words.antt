@@ -1,5 +1,5 @@
 -- How worked rows are written: what a script prints, and which tables it leaves.
-use Rattle.std.specs.Prelude.{◌≡◌, ℕ, List, [], ◌∷◌, ◌++◌, codes}
+use Rattle.std.specs.Prelude.{List, ◌++◌, codes}
 use Rattle.kdcs_types.specs.Tables.{TableRows, empty_tables}
 use Rattle.monitor_semantics.specs.Bytes.{Bytes}
 use Rattle.monitor_semantics.specs.State.{Application}

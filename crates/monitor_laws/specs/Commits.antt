@@ -16,7 +16,6 @@ use Rattle.kdcs_types.specs.declared.service.Settled.{Settled}
 use Rattle.kdcs_types.specs.Difference.{difference}
 use Rattle.kdcs_types.specs.Keyed.{without_item}
 use Rattle.kdcs_types.specs.Keys.{id_cmp}
-use Rattle.kdcs_types.specs.Same.{bool_eq}
 use Rattle.kdcs_types.specs.Tables.{TableRows, job_key, service_of, shown_of}
 use Rattle.monitor_semantics.specs.Bytes.{Bytes}
 use Rattle.monitor_semantics.specs.State.{Application, OpenTransaction, State}

@@ -1,5 +1,5 @@
 -- The facts of a monitor's state that each turn and each command keeps.
-use Rattle.std.specs.Prelude.{◌≡◌, ◌≤◌, IsTrue, ℕ, false, List, ◌++◌, count_by, filter_map, Option, Some, None, IsSome}
+use Rattle.std.specs.Prelude.{◌≡◌, ◌≤◌, IsTrue, false, List, ◌++◌, count_by, filter_map, Option, Some, IsSome}
 use Rattle.std.specs.FinMap.{find}
 use Rattle.kdcs_types.specs.declared.key.ServiceId.{ServiceId}
 use Rattle.kdcs_types.specs.declared.key.ServiceId.TheVariants.{Dialogue}

@@ -1,5 +1,5 @@
 -- A kept record, run again in one go, with no other service and against tables alone.
-use Rattle.std.specs.Prelude.{◌≡◌, ◌<◌, ◌≤◌, IsTrue, ℕ, zero, suc, ◌+◌, Bool, true, false, List, [], ◌∷◌, drop, length, filter, slice_get, nat_le, Option, Some, None}
+use Rattle.std.specs.Prelude.{◌≡◌, ◌<◌, ◌≤◌, IsTrue, ℕ, zero, suc, Bool, true, false, List, [], drop, length, filter, slice_get, nat_le, Option, Some, None}
 use Rattle.std.specs.List.{list_all}
 use Rattle.std.specs.FinMap.{find}
 use Rattle.kdcs_types.specs.declared.call.Cause.{Cause}
@@ -7,7 +7,7 @@ use Rattle.kdcs_types.specs.declared.key.Area.{Area}
 use Rattle.kdcs_types.specs.declared.key.ServiceId.{ServiceId}
 use Rattle.kdcs_types.specs.declared.key.ServiceId.TheVariants.{Dialogue, Asynchronous}
 use Rattle.kdcs_types.specs.declared.service.Ending.{Ending}
-use Rattle.kdcs_types.specs.declared.service.Ending.TheVariants.{Synced, Broken, BrokenFr}
+use Rattle.kdcs_types.specs.declared.service.Ending.TheVariants.{Synced, Broken}
 use Rattle.kdcs_types.specs.declared.service.JobValue.{JobValue}
 use Rattle.kdcs_types.specs.declared.service.Note.{Note}
 use Rattle.kdcs_types.specs.declared.service.Note.TheVariants.{Released, Refused}
@@ -17,11 +17,10 @@ use Rattle.kdcs_types.specs.Keys.{area_eq, id_cmp}
 use Rattle.kdcs_types.specs.Tables.{TableRows, content_of, job_of}
 use Rattle.monitor_semantics.specs.Bytes.{Bytes}
 use Rattle.monitor_semantics.specs.State.{Application, OpenTransaction, State}
-use Rattle.monitor_semantics.specs.Outcomes.{Outcome}
 use Rattle.monitor_semantics.specs.Calls.{Told, Asked, Granted, Denied, or_empty}
 use Rattle.monitor_semantics.specs.Endings.{is_asynchronous, opened, header_of, opened_by_start, opened_by_input, opened_by_row, opened_by_job, lterm_of_row, followed_by_input, with_service, synchronised, broken, durable, refusal}
 use Rattle.monitor_semantics.specs.Statements.{Happened, Went, Queued, Waited, Held, Settles, Breaks, Returns, statement, area_of, Kept, kept_so_far, kept_of}
-use Rattle.monitor_semantics.specs.Turns.{Turned, turn_of}
+use Rattle.monitor_semantics.specs.Turns.{turn_of}
 
 -- ---- notes
 

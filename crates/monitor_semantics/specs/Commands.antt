@@ -7,7 +7,7 @@ use Rattle.kdcs_types.specs.declared.act.Act.TheVariants.{Emit}
 use Rattle.kdcs_types.specs.declared.act.Row.TheVariants.{Shown as ShownRow}
 use Rattle.kdcs_types.specs.declared.act.Change.TheVariants.{Set}
 use Rattle.kdcs_types.specs.declared.key.ServiceId.{ServiceId}
-use Rattle.kdcs_types.specs.declared.key.ServiceId.TheVariants.{Dialogue, Asynchronous}
+use Rattle.kdcs_types.specs.declared.key.ServiceId.TheVariants.{Dialogue}
 use Rattle.kdcs_types.specs.declared.key.Target.{Target}
 use Rattle.kdcs_types.specs.declared.key.Target.TheVariants.{Tac, Lterm}
 use Rattle.kdcs_types.specs.declared.service.Job.{Job}
@@ -15,7 +15,7 @@ use Rattle.kdcs_types.specs.declared.service.JobValue.{JobValue}
 use Rattle.kdcs_types.specs.declared.service.Service.{Service}
 use Rattle.kdcs_types.specs.declared.service.Settled.{Settled}
 use Rattle.kdcdef_types.specs.declared.entry.PtermEntry.{PtermEntry}
-use Rattle.kdcdef_types.specs.Generation.{Generated, pterm_of}
+use Rattle.kdcdef_types.specs.Generation.{pterm_of}
 use Rattle.kdcs_types.specs.Limits.{last_clock}
 use Rattle.kdcs_types.specs.Tables.{TableRows, service_of, shown_of, with_change}
 use Rattle.kdcs_types.specs.Keys.{id_cmp, id_eq}
@@ -24,10 +24,9 @@ use Rattle.monitor_semantics.specs.State.{Application, OpenTransaction, Session,
 use Rattle.monitor_semantics.specs.Endings.{is_asynchronous, opened_by_start, opened_by_input, opened_by_row, lterm_of_row, followed_by_input, with_service, without_job, durable, restarts}
 use Rattle.monitor_semantics.specs.Statements.{Happened, Went, Queued, Waited, Held, Settles, Breaks, Returns}
 use Rattle.monitor_semantics.specs.Lines.{sys_line, out_line, asy_line, prt_line, no_message_line, tick_line, tick_refused_line, restart_line}
-use Rattle.monitor_semantics.specs.Locks.{Active}
 use Rattle.monitor_semantics.specs.Picks.{due_job}
-use Rattle.monitor_semantics.specs.Turns.{Turned, commit_of, queued, without_open, with_last, last_told, statement_now, turn_of}
-use Rattle.monitor_semantics.specs.Sessions.{Use, Sign, SignRefused, SignFirst, AlreadySigned, Off, Display, Output, Again, Busy, TooLong, Next, Start, TacRefused, SignFault, BadForm, UnknownUser, WrongPassword, InUse, TacFault, UnknownTac, NotAllowed, IsOff, ServiceState, NoService, in_place, service_state, use_of}
+use Rattle.monitor_semantics.specs.Turns.{Turned, commit_of, queued, without_open, statement_now, turn_of}
+use Rattle.monitor_semantics.specs.Sessions.{Use, Sign, SignRefused, SignFirst, AlreadySigned, Off, Display, Output, Again, Busy, TooLong, Next, Start, TacRefused, SignFault, BadForm, UnknownUser, WrongPassword, InUse, TacFault, UnknownTac, NotAllowed, IsOff, in_place, service_state, use_of}
 
 pub data Command : Type 0 where
   -- IN: a terminal input

@@ -1,5 +1,5 @@
 -- How a transaction opens, goes on in a further unit run, and ends: synchronisation points and abnormal ends.
-use Rattle.std.specs.Prelude.{ℕ, ◌+◌, Bool, true, false, not, List, [], ◌∷◌, ◌++◌, map, replicate, length, filter, max, Option, Some, None, nat_lt, if◌then◌else◌}
+use Rattle.std.specs.Prelude.{ℕ, ◌+◌, Bool, true, false, List, [], ◌∷◌, ◌++◌, replicate, length, filter, max, Option, Some, None, nat_lt, if◌then◌else◌}
 use Rattle.kdcs_types.specs.declared.call.Cause.{Cause}
 use Rattle.kdcs_types.specs.declared.call.Cause.TheVariants.{E09, E10, E11}
 use Rattle.kdcs_types.specs.declared.call.Code.TheVariants.{Done}

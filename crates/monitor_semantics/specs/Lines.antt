@@ -1,5 +1,5 @@
 -- The output line of each event, ended by LF.
-use Rattle.std.specs.Prelude.{ℕ, List, [], ◌∷◌, ◌++◌, codes, decimal, Option, Some, None}
+use Rattle.std.specs.Prelude.{ℕ, [], ◌∷◌, ◌++◌, codes, decimal}
 use Rattle.kd_base.specs.Text.{escaped}
 use Rattle.kdcs_types.specs.declared.call.Cause.{Cause}
 use Rattle.kdcs_types.specs.declared.call.Cause.TheVariants.{E01, E02, E03, E04, E05, E06, E07, E08, E09, E10, E11, E12, Er}

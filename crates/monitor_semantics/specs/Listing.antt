@@ -1,5 +1,5 @@
 -- The list of tables that `show` prints, in the order of kinds and keys. Messages and contents stand by escape.
-use Rattle.std.specs.Prelude.{ℕ, Bool, true, false, List, [], ◌∷◌, ◌++◌, flat_map, codes, decimal, Option, Some, None}
+use Rattle.std.specs.Prelude.{Bool, true, false, List, [], ◌∷◌, ◌++◌, flat_map, codes, decimal, Option, Some, None}
 use Rattle.kd_base.specs.Text.{escaped}
 use Rattle.kdcs_types.specs.declared.key.Target.{Target}
 use Rattle.kdcs_types.specs.declared.key.Target.TheVariants.{Tac, Lterm}
@@ -46,8 +46,8 @@ target_words (Lterm lterm) = codes "L" ∷ lterm ∷ []
 abbrev pub job_line : Job → Bytes
 job_line job =
     line (
-      codes "JOB" ++ spaced (decimal job.number ∷ target_words job.value.to)
-      ++ spaced (codes "DUE" ∷ decimal job.value.due ∷ job.value.user ∷ job.value.lterm ∷ escaped job.value.message ∷ [])
+    codes "JOB" ++ spaced (decimal job.number ∷ target_words job.value.to)
+    ++ spaced (codes "DUE" ∷ decimal job.value.due ∷ job.value.user ∷ job.value.lterm ∷ escaped job.value.message ∷ [])
     )
 
 abbrev pub shown_line : Bytes × JobValue → Bytes

@@ -1,6 +1,5 @@
 -- The made application of `make N`, its script, and the lines that it prints before the digest.
-use Rattle.std.specs.Prelude.{ℕ, zero, suc, ◌+◌, ◌%◌, Bool, true, false, ◌||◌, List, [], ◌∷◌, ◌++◌, count_by, codes, decimal, Option, Some, None, ◌==◌}
-use Rattle.std.specs.List.{flat_map}
+use Rattle.std.specs.Prelude.{ℕ, zero, suc, ◌+◌, ◌%◌, Bool, true, false, ◌||◌, List, [], ◌∷◌, ◌++◌, count_by, codes, decimal, None, ◌==◌}
 use Rattle.kd_base.specs.declared.words.Variant.TheVariants.{Fi}
 use Rattle.kdcs_types.specs.declared.act.Act.{Act}
 use Rattle.kdcs_types.specs.declared.act.Act.TheVariants.{Commit, Emit}

@@ -1,5 +1,5 @@
 -- How a PEND ends a unit run: its outcome, or the cause that refuses it.
-use Rattle.std.specs.Prelude.{ℕ, Bool, true, false, ◌&&◌, ◌||◌, not, List, [], ◌∷◌, Option, Some, None, Result, Ok, Err}
+use Rattle.std.specs.Prelude.{Bool, true, false, ◌&&◌, ◌||◌, not, [], Option, Some, None, Result, Ok, Err}
 use Rattle.kd_base.specs.declared.words.Variant.{Variant}
 use Rattle.kd_base.specs.declared.words.Variant.TheVariants.{Kp, Pr, Pa, Re, Sp, Fi, Fc, Fr, Er, Rs}
 use Rattle.kdcs_types.specs.declared.call.Cause.{Cause}

@@ -1,15 +1,15 @@
 -- What a free task takes: the first allowed service of the ready list, else the due job of an allowed TAC.
-use Rattle.std.specs.Prelude.{ℕ, Bool, true, false, ◌&&◌, ◌||◌, not, List, [], ◌∷◌, length, count_by, filter, find, Option, Some, None, nat_lt, nat_le, is_some, ◌==◌, if◌then◌else◌}
+use Rattle.std.specs.Prelude.{ℕ, Bool, true, false, ◌&&◌, ◌||◌, not, List, [], ◌∷◌, count_by, filter, find, Option, Some, None, nat_lt, nat_le, is_some, ◌==◌, if◌then◌else◌}
 use Rattle.std.specs.FinMap.{find as value_at}
 use Rattle.kdcs_types.specs.declared.key.ServiceId.{ServiceId}
-use Rattle.kdcs_types.specs.declared.key.ServiceId.TheVariants.{Dialogue, Asynchronous}
+use Rattle.kdcs_types.specs.declared.key.ServiceId.TheVariants.{Asynchronous}
 use Rattle.kdcs_types.specs.declared.key.Target.{Target}
 use Rattle.kdcs_types.specs.declared.key.Target.TheVariants.{Tac, Lterm}
 use Rattle.kdcs_types.specs.declared.service.Job.{Job}
 use Rattle.kdcdef_types.specs.declared.entry.TacEntry.{TacEntry}
 use Rattle.kdcdef_types.specs.Generation.{Generated, tac_of, class_limit}
 use Rattle.monitor_semantics.specs.Bytes.{Bytes}
-use Rattle.kdcs_types.specs.Keys.{id_cmp, id_eq}
+use Rattle.kdcs_types.specs.Keys.{id_cmp}
 use Rattle.monitor_semantics.specs.State.{Application, OpenTransaction, State}
 use Rattle.monitor_semantics.specs.Endings.{is_asynchronous}
 use Rattle.monitor_semantics.specs.Locks.{Active}

@@ -12,7 +12,7 @@ use Rattle.kdcdef_types.specs.Generation.{Generated, tac_of, user_of}
 use Rattle.monitor_semantics.specs.Bytes.{Bytes, bytes_cmp}
 use Rattle.kdcs_types.specs.Keys.{id_cmp, id_eq}
 use Rattle.kdcs_types.specs.Tables.{service_of}
-use Rattle.monitor_semantics.specs.State.{OpenTransaction, Session, State}
+use Rattle.monitor_semantics.specs.State.{Session, State}
 use Rattle.monitor_semantics.specs.Outcomes.{goes_first}
 use Rattle.monitor_semantics.specs.Calls.{or_empty}
 

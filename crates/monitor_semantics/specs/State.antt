@@ -1,6 +1,5 @@
 -- What a monitor consists of: an application, open transactions, and the state of tables, sessions, tasks and services.
 use Rattle.std.specs.Prelude.{ℕ, Bool, List, Option, Some, None, bytes_eq, find}
-use Rattle.kd_base.specs.declared.words.Mode.{Mode}
 use Rattle.kdcs_types.specs.declared.key.Area.{Area}
 use Rattle.kdcs_types.specs.declared.key.ServiceId.{ServiceId}
 use Rattle.kdcs_types.specs.declared.key.Target.{Target}

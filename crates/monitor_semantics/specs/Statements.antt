@@ -10,7 +10,7 @@ use Rattle.kdcs_types.specs.declared.key.Area.{Area}
 use Rattle.kdcs_types.specs.declared.key.Area.TheVariants.{Gssb, Tls, Uls}
 use Rattle.kdcs_types.specs.declared.key.ServiceId.{ServiceId}
 use Rattle.kdcs_types.specs.declared.service.Ending.{Ending}
-use Rattle.kdcs_types.specs.declared.service.Ending.TheVariants.{Synced, Broken, BrokenFr}
+use Rattle.kdcs_types.specs.declared.service.Ending.TheVariants.{Broken, BrokenFr}
 use Rattle.kdcs_types.specs.declared.service.Note.{Note}
 use Rattle.kdcs_types.specs.declared.service.Service.{Service}
 use Rattle.kdcs_types.specs.declared.service.Settled.{Settled}
