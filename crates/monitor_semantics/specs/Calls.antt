@@ -22,11 +22,14 @@ use Rattle.kdcs_types.specs.declared.service.Note.TheVariants.{Released, Refused
 use Rattle.kdcdef_types.specs.declared.entry.TacEntry.{TacEntry}
 use Rattle.kdcdef_types.specs.declared.entry.LtermEntry.{LtermEntry}
 use Rattle.kdcdef_types.specs.Generation.{Generated, tac_of, lterm_of, has_tls, has_uls}
+use Rattle.monitor_semantics.specs.declared.outcome.Outcome.{Outcome}
+use Rattle.monitor_semantics.specs.declared.draft.Due.{Due}
+use Rattle.monitor_semantics.specs.declared.draft.Due.TheVariants.{After, At}
 use Rattle.monitor_semantics.specs.Bytes.{Bytes, bytes_cmp}
 use Rattle.kdcs_types.specs.Keys.{area_cmp, area_eq}
 use Rattle.unit_semantics.specs.Contents.{trim_end, number_of}
-use Rattle.monitor_semantics.specs.State.{OpenTransaction, Due, After, At}
-use Rattle.monitor_semantics.specs.Outcomes.{Outcome, goes_first, pend_outcome}
+use Rattle.monitor_semantics.specs.State.{OpenTransaction}
+use Rattle.monitor_semantics.specs.Outcomes.{goes_first, pend_outcome}
 
 -- how a request for an area that the transaction does not hold is answered
 pub data Asked : Type 0 where

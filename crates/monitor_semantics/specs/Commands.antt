@@ -19,6 +19,12 @@ use Rattle.kdcdef_types.specs.Generation.{pterm_of}
 use Rattle.kdcs_types.specs.Limits.{last_clock}
 use Rattle.kdcs_types.specs.Tables.{TableRows, service_of, shown_of, with_change}
 use Rattle.kdcs_types.specs.Keys.{id_cmp, id_eq}
+use Rattle.monitor_semantics.specs.declared.input_use.SignFault.{SignFault}
+use Rattle.monitor_semantics.specs.declared.input_use.SignFault.TheVariants.{BadForm, UnknownUser, WrongPassword, InUse}
+use Rattle.monitor_semantics.specs.declared.input_use.TacFault.{TacFault}
+use Rattle.monitor_semantics.specs.declared.input_use.TacFault.TheVariants.{UnknownTac, NotAllowed, IsOff}
+use Rattle.monitor_semantics.specs.declared.input_use.Use.{Use}
+use Rattle.monitor_semantics.specs.declared.input_use.Use.TheVariants.{Sign, SignRefused, SignFirst, AlreadySigned, Off, Display, Output, Again, Busy, TooLong, Next, Start, TacRefused}
 use Rattle.monitor_semantics.specs.Bytes.{Bytes, bytes_cmp}
 use Rattle.monitor_semantics.specs.State.{Application, OpenTransaction, Session, State}
 use Rattle.monitor_semantics.specs.Endings.{is_asynchronous, opened_by_start, opened_by_input, opened_by_row, lterm_of_row, followed_by_input, with_service, without_job, durable, restarts}
@@ -26,7 +32,7 @@ use Rattle.monitor_semantics.specs.Statements.{Happened, Went, Queued, Waited, H
 use Rattle.monitor_semantics.specs.Lines.{sys_line, out_line, asy_line, prt_line, no_message_line, tick_line, tick_refused_line, restart_line}
 use Rattle.monitor_semantics.specs.Picks.{due_job}
 use Rattle.monitor_semantics.specs.Turns.{Turned, commit_of, queued, without_open, statement_now, turn_of}
-use Rattle.monitor_semantics.specs.Sessions.{Use, Sign, SignRefused, SignFirst, AlreadySigned, Off, Display, Output, Again, Busy, TooLong, Next, Start, TacRefused, SignFault, BadForm, UnknownUser, WrongPassword, InUse, TacFault, UnknownTac, NotAllowed, IsOff, in_place, service_state, use_of}
+use Rattle.monitor_semantics.specs.Sessions.{in_place, service_state, use_of}
 
 pub data Command : Type 0 where
   -- IN: a terminal input

@@ -19,11 +19,15 @@ use Rattle.kdcs_types.specs.declared.key.Key.TheVariants.{Gssb as GssbKey, Tls a
 use Rattle.kdcdef_types.specs.declared.entry.TacEntry.{TacEntry}
 use Rattle.kdcdef_types.specs.declared.entry.UserEntry.{UserEntry}
 use Rattle.kdcdef_types.specs.Generation.{Generated, tac_of, user_of}
+use Rattle.monitor_semantics.specs.declared.outcome.Outcome.{Outcome}
+use Rattle.monitor_semantics.specs.declared.outcome.Outcome.TheVariants.{Wait, Point, Follow, Finish, Hold, Stay, Queue, Break, Back}
+use Rattle.monitor_semantics.specs.declared.draft.Due.{Due}
+use Rattle.monitor_semantics.specs.declared.draft.Due.TheVariants.{After, At}
+use Rattle.monitor_semantics.specs.declared.draft.Draft.{Draft}
 use Rattle.monitor_semantics.specs.Bytes.{Bytes}
 use Rattle.kdcs_types.specs.Limits.{last_next_job}
 use Rattle.kdcs_types.specs.Tables.{TableRows, with_change}
-use Rattle.monitor_semantics.specs.State.{OpenTransaction, Due, After, At, Draft}
-use Rattle.monitor_semantics.specs.Outcomes.{Outcome, Wait, Point, Follow, Finish, Hold, Stay, Queue, Break, Back}
+use Rattle.monitor_semantics.specs.State.{OpenTransaction}
 use Rattle.monitor_semantics.specs.Charges.{total_charge}
 
 abbrev pub is_asynchronous : ServiceId → Bool

@@ -1,5 +1,5 @@
 -- Who holds an area, who waits for whom, and how a request for an area is answered.
-use Rattle.std.specs.Prelude.{◌≡◌, IsTrue, ℕ, zero, suc, ◌+◌, Bool, true, false, ◌||◌, List, [], ◌∷◌, length, Option, Some, None, nat_le, option_map, option_and_then, if◌then◌else◌}
+use Rattle.std.specs.Prelude.{◌≡◌, IsTrue, ℕ, zero, suc, ◌+◌, Bool, true, false, ◌||◌, List, [], ◌∷◌, length, map, find as find_first, Option, Some, None, nat_le, option_map, option_and_then, if◌then◌else◌}
 use Rattle.std.specs.FinMap.{find}
 use Rattle.kdcs_types.specs.declared.call.Code.TheVariants.{K04, K05}
 use Rattle.kdcs_types.specs.declared.key.Area.{Area}
@@ -56,14 +56,9 @@ pub record IsDeadlocked (active : Active) (asker : ServiceId) (area : Area) : Ty
   pub other : id_eq first asker ≡ false
   pub chain : IsChain active asker first rest
 
-abbrev pub holder_by : ServiceId → Bool → Option ServiceId → Option ServiceId
-holder_by id true rest = Some id
-holder_by id false rest = rest
-
 -- the service that holds the area
 unfoldable pub holder : Active → Area → Option ServiceId
-holder [] area = None
-holder (e ∷ es) area = holder_by e.0 (touches e.1 area) (holder es area)
+holder active area = find_first (λ (id : ServiceId). holds active id area) (map (λ (e : ServiceId × OpenTransaction). e.0) active)
 
 -- the service for which this one waits
 abbrev pub waits_for : Active → ServiceId → Option ServiceId

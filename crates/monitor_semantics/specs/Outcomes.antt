@@ -7,16 +7,9 @@ use Rattle.kdcs_types.specs.declared.call.Cause.TheVariants.{E03, E04, E05}
 use Rattle.kdcdef_types.specs.declared.entry.CallUse.{CallUse}
 use Rattle.kdcdef_types.specs.declared.entry.CallUse.TheVariants.{Both, First, Next}
 use Rattle.kdcdef_types.specs.declared.entry.TacEntry.{TacEntry}
+use Rattle.monitor_semantics.specs.declared.outcome.Outcome.{Outcome}
+use Rattle.monitor_semantics.specs.declared.outcome.Outcome.TheVariants.{Stay, Queue, Hold, Wait, Point, Finish, Follow, Break, Back}
 use Rattle.monitor_semantics.specs.Bytes.{Bytes}
-
--- where a service goes, each with its follow-up TAC
-pub data Outcome : Type 0 where
-  -- KP: the transaction stays open for the next input; PR: it goes on; PA: it goes to the back of the ready list
-  Hold Stay Queue : (tac : Bytes) → Outcome
-  -- synchronised: RE awaits input, SP goes on, FC begins a new service
-  Wait Point Follow : (tac : Bytes) → Outcome
-  -- FI: synchronised, and the service is over; ER and FR: rolled back, and it is over; RS: rolled back to the last point
-  Finish Break Back : Outcome
 
 -- CALL other than FIRST: the TAC may stand within a service
 abbrev pub goes_within : CallUse → Bool

@@ -8,6 +8,8 @@ use Rattle.kdcs_types.specs.declared.key.Target.TheVariants.{Tac, Lterm}
 use Rattle.kdcs_types.specs.declared.service.Job.{Job}
 use Rattle.kdcdef_types.specs.declared.entry.TacEntry.{TacEntry}
 use Rattle.kdcdef_types.specs.Generation.{Generated, tac_of, class_limit}
+use Rattle.monitor_semantics.specs.declared.work.Work.{Work}
+use Rattle.monitor_semantics.specs.declared.work.Work.TheVariants as work
 use Rattle.monitor_semantics.specs.Bytes.{Bytes}
 use Rattle.kdcs_types.specs.Keys.{id_cmp}
 use Rattle.monitor_semantics.specs.State.{Application, OpenTransaction, State}
@@ -84,16 +86,12 @@ target_is_allowed app s (Lterm lterm) = false
 
 -- ---- the choice
 
-pub data Work : Type 0 where
-  TakeService : (id : ServiceId) → Work
-  TakeJob : (job : Job) → Work
-
 abbrev pub job_work : Option Job → Option Work
 job_work None = None
-job_work (Some job) = Some (TakeJob job)
+job_work (Some job) = Some (work.Job job.number)
 
 abbrev pub pick_by : Option ServiceId → Option Job → Option Work
-pick_by (Some id) job = Some (TakeService id)
+pick_by (Some id) job = Some (work.Service id)
 pick_by None job = job_work job
 
 -- what a free task takes, if anything

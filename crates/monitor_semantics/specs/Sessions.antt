@@ -9,37 +9,20 @@ use Rattle.kdcs_types.specs.declared.service.Service.{Service}
 use Rattle.kdcdef_types.specs.declared.entry.TacEntry.{TacEntry}
 use Rattle.kdcdef_types.specs.declared.entry.UserEntry.{UserEntry}
 use Rattle.kdcdef_types.specs.Generation.{Generated, tac_of, user_of}
+use Rattle.monitor_semantics.specs.declared.input_use.SignFault.{SignFault}
+use Rattle.monitor_semantics.specs.declared.input_use.SignFault.TheVariants.{BadForm, UnknownUser, WrongPassword, InUse}
+use Rattle.monitor_semantics.specs.declared.input_use.TacFault.{TacFault}
+use Rattle.monitor_semantics.specs.declared.input_use.TacFault.TheVariants.{UnknownTac, NotAllowed, IsOff}
+use Rattle.monitor_semantics.specs.declared.input_use.ServiceState.{ServiceState}
+use Rattle.monitor_semantics.specs.declared.input_use.ServiceState.TheVariants.{NoService, Awaits, Running}
+use Rattle.monitor_semantics.specs.declared.input_use.Use.{Use}
+use Rattle.monitor_semantics.specs.declared.input_use.Use.TheVariants.{Sign, SignRefused, SignFirst, AlreadySigned, Off, Display, Output, Again, Busy, TooLong, Next, Start, TacRefused}
 use Rattle.monitor_semantics.specs.Bytes.{Bytes, bytes_cmp}
 use Rattle.kdcs_types.specs.Keys.{id_cmp, id_eq}
 use Rattle.kdcs_types.specs.Tables.{service_of}
 use Rattle.monitor_semantics.specs.State.{Session, State}
 use Rattle.monitor_semantics.specs.Outcomes.{goes_first}
 use Rattle.monitor_semantics.specs.Calls.{or_empty}
-
-pub data SignFault : Type 0 where
-  BadForm UnknownUser WrongPassword InUse : SignFault
-
-pub data TacFault : Type 0 where
-  UnknownTac NotAllowed IsOff : TacFault
-
--- the use of an input
-pub data Use : Type 0 where
-  -- KDCSIGN: the user signs on, or is refused; anything else of a terminal without a session
-  Sign : (user : Bytes) → Use
-  SignRefused : (fault : SignFault) → Use
-  SignFirst AlreadySigned : Use
-  -- KDCOFF, KDCDISP, KDCOUT and KDCLAST
-  Off Display Output Again : Use
-  -- a service runs; the text is longer than a message may be
-  Busy TooLong : Use
-  -- the awaited input, or the start of a service
-  Next : (text : Bytes) → Use
-  Start : (tac text : Bytes) → Use
-  TacRefused : (fault : TacFault) → Use
-
--- the user's dialogue service: none, one that awaits an input, or one that is ready or in a task
-pub data ServiceState : Type 0 where
-  NoService Awaits Running : ServiceState
 
 -- ---- the service of a user
 

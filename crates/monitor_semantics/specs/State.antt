@@ -9,6 +9,7 @@ use Rattle.kdcs_types.specs.declared.run_state.RunState.{RunState}
 use Rattle.kdcdef_types.specs.declared.entry.TacEntry.{TacEntry}
 use Rattle.kdcdef_types.specs.Generation.{Generated, tac_of}
 use Rattle.unit_types.specs.UnitText.{UnitText}
+use Rattle.monitor_semantics.specs.declared.draft.Draft.{Draft}
 use Rattle.monitor_semantics.specs.Bytes.{Bytes}
 use Rattle.kdcs_types.specs.Tables.{TableRows}
 
@@ -24,16 +25,6 @@ unit_by app (Some t) = find (λ (u : UnitText). bytes_eq u.name t.program) app.u
 -- the program unit of a TAC
 unfoldable pub unit_of : Application → Bytes → Option UnitText
 unit_of app tac = unit_by app (tac_of app.generation tac)
-
--- when a job is due: so many ticks after the synchronisation point, or at this clock
-pub data Due : Type 0 where
-  After At : (ticks : ℕ) → Due
-
--- a job that FPUT or DPUT made, and that has no number before the synchronisation point
-pub record Draft : Type 0 where
-  pub to : Target
-  pub due : Due
-  pub message : Bytes
 
 pub record OpenTransaction : Type 0 where
   -- the row of its service as it began, if there was one

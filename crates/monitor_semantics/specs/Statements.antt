@@ -15,10 +15,11 @@ use Rattle.kdcs_types.specs.declared.service.Note.{Note}
 use Rattle.kdcs_types.specs.declared.service.Service.{Service}
 use Rattle.kdcs_types.specs.declared.service.Settled.{Settled}
 use Rattle.unit_types.specs.UnitText.{UnitText}
+use Rattle.monitor_semantics.specs.declared.outcome.Outcome.{Outcome}
+use Rattle.monitor_semantics.specs.declared.outcome.Outcome.TheVariants.{Hold, Stay, Queue, Wait, Point, Follow, Finish, Break, Back}
 use Rattle.monitor_semantics.specs.Bytes.{Bytes}
 use Rattle.unit_semantics.specs.Statement.{Meaning, Plain, Asks, Ends, step, answered}
 use Rattle.monitor_semantics.specs.State.{Application, OpenTransaction, unit_of}
-use Rattle.monitor_semantics.specs.Outcomes.{Outcome, Hold, Stay, Queue, Wait, Point, Follow, Finish, Break, Back}
 use Rattle.monitor_semantics.specs.Calls.{Told, Called, Replied, Waits, Abnormal, Pends, name_in_operand, call_outcome}
 use Rattle.monitor_semantics.specs.Endings.{followed}
 

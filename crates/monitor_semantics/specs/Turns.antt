@@ -12,20 +12,23 @@ use Rattle.kdcs_types.specs.declared.key.Target.{Target}
 use Rattle.kdcs_types.specs.declared.key.Target.TheVariants.{Tac, Lterm}
 use Rattle.kdcs_types.specs.declared.service.Ending.{Ending}
 use Rattle.kdcs_types.specs.declared.service.Ending.TheVariants.{Synced, Broken, BrokenFr}
-use Rattle.kdcs_types.specs.declared.service.Job.{Job}
+use Rattle.kdcs_types.specs.declared.service.JobValue.{JobValue}
 use Rattle.kdcs_types.specs.declared.service.Service.{Service}
 use Rattle.kdcs_types.specs.declared.service.Settled.{Settled}
+use Rattle.monitor_semantics.specs.declared.work.Work.{Work}
+use Rattle.monitor_semantics.specs.declared.work.Work.TheVariants as work
+use Rattle.monitor_semantics.specs.declared.outcome.Outcome.{Outcome}
+use Rattle.monitor_semantics.specs.declared.outcome.Outcome.TheVariants.{Hold, Stay, Queue, Wait, Point, Follow, Finish, Break, Back}
 use Rattle.monitor_semantics.specs.Bytes.{Bytes, bytes_cmp}
-use Rattle.kdcs_types.specs.Tables.{TableRows}
+use Rattle.kdcs_types.specs.Tables.{TableRows, job_of}
 use Rattle.kdcs_types.specs.Keys.{id_cmp, id_eq}
 use Rattle.kdcs_types.specs.Difference.{difference}
 use Rattle.monitor_semantics.specs.State.{Application, OpenTransaction, Session, State}
-use Rattle.monitor_semantics.specs.Outcomes.{Outcome, Hold, Stay, Queue, Wait, Point, Follow, Finish, Break, Back}
 use Rattle.monitor_semantics.specs.Endings.{is_asynchronous, joined, opened_by_row, opened_by_job, row_after, synchronised, broken, durable, refusal}
 use Rattle.monitor_semantics.specs.Statements.{Happened, Went, Queued, Waited, Held, Settles, Breaks, Returns, statement, area_of, kept_record}
 use Rattle.monitor_semantics.specs.Lines.{out_line, ended_line, dump_line}
 use Rattle.monitor_semantics.specs.Locks.{since, told_now}
-use Rattle.monitor_semantics.specs.Picks.{Work, TakeService, TakeJob, pick}
+use Rattle.monitor_semantics.specs.Picks.{pick}
 
 -- the state after a turn, its acts, and the record of a transaction that made a commit
 pub record Turned : Type 0 where
@@ -199,15 +202,20 @@ abbrev pub worked : Application → State → (task : ℕ) → ServiceId → Opt
 worked app s task id None = unmoved s
 worked app s task id (Some x) = happens app s task id x (statement_now app s id x)
 
-abbrev pub took_job : Application → State → (task : ℕ) → Job → Target → Turned
-took_job app s task job (Tac tac) =
-    moved_to (with_open (with_task s task (Some (Asynchronous job.number))) (Asynchronous job.number) (opened_by_job app.generation job.value tac)) []
-took_job app s task job (Lterm lterm) = unmoved s
+abbrev pub took_job_for : Application → State → (task : ℕ) → (number : ℕ) → JobValue → Target → Turned
+took_job_for app s task number job (Tac tac) =
+    moved_to (with_open (with_task s task (Some (Asynchronous number))) (Asynchronous number) (opened_by_job app.generation job tac)) []
+took_job_for app s task number job (Lterm lterm) = unmoved s
 
+abbrev pub took_job : Application → State → (task : ℕ) → (number : ℕ) → Option JobValue → Turned
+took_job app s task number None = unmoved s
+took_job app s task number (Some job) = took_job_for app s task number job job.to
+
+-- the task takes a service of the ready list, or a job, which stays in the tables
 abbrev pub took : Application → State → (task : ℕ) → Option Work → Turned
 took app s task None = unmoved s
-took app s task (Some (TakeService id)) = moved_to (record (with_task s task (Some id)) { ready = filter (λ (i : ServiceId). not (id_eq id i)) s.ready }) []
-took app s task (Some (TakeJob job)) = took_job app s task job job.value.to
+took app s task (Some (work.Service id)) = moved_to (record (with_task s task (Some id)) { ready = filter (λ (i : ServiceId). not (id_eq id i)) s.ready }) []
+took app s task (Some (work.Job number)) = took_job app s task number (job_of s.tables number)
 
 abbrev pub turn_by : Application → State → (task : ℕ) → Option (Option ServiceId) → Turned
 turn_by app s task None = unmoved s
