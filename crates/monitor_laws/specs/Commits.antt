@@ -33,6 +33,7 @@ abbrev pub AreNumberedFrom : ℕ → List Job → Type 0
 AreNumberedFrom n [] = Unit {0}
 AreNumberedFrom n (job ∷ jobs) = (job.number ≡ n) × AreNumberedFrom (n + 1) jobs
 
+-- the jobs without the one that goes
 abbrev pub without_gone : Option Job → List Job → List Job
 without_gone None jobs = jobs
 without_gone (Some job) jobs = without_item job_key (JobKey job.number) jobs
@@ -63,6 +64,7 @@ pub record QueueLaw (before after : TableRows) (by : Maker) (acts : List Act) : 
 
 -- ---- services
 
+-- the row behind a synchronisation point, and none behind an abnormal end
 abbrev pub row_by_ending : Application → ServiceId → OpenTransaction → Happened → Ending → Option Service
 row_by_ending app id x (Settles o) Synced = row_after app.generation id x o
 row_by_ending app id x (Settles o) (Broken cause) = None
@@ -90,6 +92,7 @@ ServiceLaw app before after by =
 
 -- ---- all tables
 
+-- TICK, KDCOUT and PRINT are no transactions
 abbrev pub IsAtomicBy : Application → TableRows → TableRows → Maker → Type 0
 IsAtomicBy app before after (ByTick ticks) = Unit {0}
 IsAtomicBy app before after (ByShow lterm) = Unit {0}
@@ -101,6 +104,7 @@ IsAtomicBy app before after (ByTransaction kept) =
 abbrev pub AtomicLaw : Application → TableRows → TableRows → Maker → Type 0
 AtomicLaw app before after by = IsAtomicBy app before after by
 
+-- a step without a commit keeps the tables
 abbrev pub CommitIsLawful : Application → State → Done → Option Maker → Type 0
 CommitIsLawful app before d None = Unit {0}
 CommitIsLawful app before d (Some by) =
@@ -115,6 +119,7 @@ IsLawful app s (d ∷ ds) = CommitIsLawful app s d d.by × IsLawful app d.after 
 
 -- ---- the third law as a test of a history
 
+-- nothing differs
 abbrev pub no_changes : List Change → Bool
 no_changes [] = true
 no_changes (c ∷ cs) = false
@@ -123,6 +128,7 @@ no_changes (c ∷ cs) = false
 abbrev pub same_tables : TableRows → TableRows → Bool
 same_tables a b = a.clock == b.clock && a.next_job == b.next_job && no_changes (difference a b).items
 
+-- both ended in the same way
 abbrev pub same_ending : Ending → Ending → Bool
 same_ending Synced Synced = true
 same_ending Synced (Broken b) = false
@@ -134,9 +140,11 @@ same_ending BrokenFr Synced = false
 same_ending BrokenFr (Broken b) = false
 same_ending BrokenFr BrokenFr = true
 
+-- the tables and the ending are this result
 abbrev pub is_result : Application → TableRows → Settled → Ended → Bool
 is_result app after kept result = same_tables after (durable app.generation result.tables) && same_ending kept.ending result.ending
 
+-- the commit of a transaction is that of its record
 abbrev pub is_atomic_by : Application → TableRows → TableRows → Option Maker → Bool
 is_atomic_by app before after None = true
 is_atomic_by app before after (Some (ByTick ticks)) = true

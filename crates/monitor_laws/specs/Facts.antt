@@ -17,9 +17,11 @@ use Rattle.monitor_semantics.specs.Turns.{pterm_of_user, statement_now}
 abbrev pub placed : State → List ServiceId
 placed s = s.ready ++ filter_map (λ (place : Option ServiceId). place) s.tasks
 
+-- the user is signed on somewhere
 abbrev pub IsSignedOn : State → Bytes → Type 0
 IsSignedOn s user = IsSome (pterm_of_user s.signed user)
 
+-- the service has an open transaction
 abbrev pub IsOpen : State → ServiceId → Type 0
 IsOpen s id = IsSome (find id_cmp id s.active)
 
@@ -27,6 +29,7 @@ IsOpen s id = IsSome (find id_cmp id s.active)
 abbrev pub StandsAtKeep : Application → State → ServiceId → OpenTransaction → Type 0
 StandsAtKeep app s id x = (tac : Bytes) × (statement_now app s id x ≡ Held tac)
 
+-- what holds of each state that a run reaches
 pub record IsConsistent (app : Application) (s : State) : Type 0 where
   -- a service stands in at most one place of the ready list and the tasks together
   pub placed_once : (id : ServiceId) → count_by (id_eq id) (placed s) ≤ 1

@@ -24,10 +24,12 @@ use Rattle.monitor_semantics.specs.Turns.{turn_of}
 
 -- ---- notes
 
+-- the area of a note
 abbrev pub noted_area : Note → Area
 noted_area (Released area content) = area
 noted_area (Refused area code) = area
 
+-- the notes on an area, in order
 abbrev pub notes_on : Area → List Note → List Note
 notes_on area notes = filter (λ (n : Note). area_eq area (noted_area n)) notes
 
@@ -35,6 +37,7 @@ notes_on area notes = filter (λ (n : Note). area_eq area (noted_area n)) notes
 abbrev pub unused : Kept → OpenTransaction → Area → List Note
 unused r x area = drop (length (notes_on area x.notes)) (notes_on area r.notes)
 
+-- the note that the next request for the area looks at
 abbrev pub first_unused : Kept → OpenTransaction → Area → Option Note
 first_unused r x area = slice_get (unused r x area) 0
 
@@ -63,15 +66,19 @@ replay_told t r x area = record {
 abbrev pub tac_in : Kept → Bytes
 tac_in r = or_empty (slice_get r.inputs 0)
 
+-- the LTERM of a dialogue service
 abbrev pub lterm_in : Kept → Bytes
 lterm_in r = or_empty (slice_get r.inputs 1)
 
+-- the accepted inputs
 abbrev pub accepted : Kept → List Bytes
 accepted r = drop 2 r.inputs
 
+-- an input; none is empty
 abbrev pub input_at : Kept → ℕ → Bytes
 input_at r n = or_empty (slice_get (accepted r) n)
 
+-- a row that awaits reads the first input, another its handed parts
 abbrev pub dialogue_from : Application → Kept → Bytes → Service → (awaits : Bool) → OpenTransaction
 dialogue_from app r user row true = opened_by_input app.generation (Dialogue user) row (lterm_in r) (input_at r 0)
 dialogue_from app r user row false = opened_by_row app.generation (Dialogue user) row (lterm_in r)
@@ -81,6 +88,7 @@ abbrev pub job_from : Application → Kept → Option JobValue → OpenTransacti
 job_from app r None = opened app.generation None (header_of [] [] (tac_in r) (tac_in r)) [] []
 job_from app r (Some job) = opened_by_job app.generation job (tac_in r)
 
+-- the open transaction before its first statement
 abbrev pub opened_from : Application → TableRows → Kept → ServiceId → Option Service → OpenTransaction
 opened_from app t r (Dialogue user) None = opened_by_start app.generation user (lterm_in r) (tac_in r) (input_at r 0)
 opened_from app t r (Dialogue user) (Some row) = dialogue_from app r user row row.awaits
@@ -99,6 +107,7 @@ went_on app r x (Settles o) = x
 went_on app r x (Breaks ending) = x
 went_on app r x Returns = x
 
+-- what the next statement of a replay does
 abbrev pub replay_statement : Application → TableRows → Kept → OpenTransaction → Happened
 replay_statement app t r x = statement app (replay_told t r x (area_of app x)) (is_asynchronous r.service) x
 
@@ -114,10 +123,12 @@ pub record Ended : Type 0 where
   pub tables : TableRows
   pub ending : Ending
 
+-- the synchronised tables, or the broken ones with the cause that refuses the point
 abbrev pub settled_as : Application → TableRows → ServiceId → OpenTransaction → TableRows → Option Cause → Ended
 settled_as app t id x new None = record { tables = new; ending = Synced }
 settled_as app t id x new (Some cause) = record { tables = broken t id x; ending = Broken cause }
 
+-- where the statement leaves the transaction open, nothing has ended yet
 abbrev pub ended_by : Application → TableRows → ServiceId → OpenTransaction → Happened → Ended
 ended_by app t id x (Settles o) = let new = synchronised app.generation t id x o in settled_as app t id x new (refusal app.generation (durable app.generation new))
 ended_by app t id x (Breaks ending) = record { tables = broken t id x; ending = ending }
@@ -157,6 +168,7 @@ EndsIt Returns = ⊥
 abbrev pub notes_suffice : Kept → OpenTransaction → Bool
 notes_suffice r x = list_all (λ (n : Note). nat_le (length (notes_on (noted_area n) x.notes)) (length (notes_on (noted_area n) r.notes))) x.notes
 
+-- each note of the record was used
 abbrev pub all_notes_used : Kept → OpenTransaction → Bool
 all_notes_used r x = list_all (λ (n : Note). nat_le (length (notes_on (noted_area n) r.notes)) (length (notes_on (noted_area n) x.notes))) r.notes
 
@@ -174,6 +186,7 @@ pub record IsDetermined (app : Application) (t : TableRows) (r : Kept) : Type 0 
 abbrev pub IsReplayed : Application → TableRows → ServiceId → OpenTransaction → Type 0
 IsReplayed app t id x = replay app t (kept_so_far id x) x.statements ≡ record x { awaited = None }
 
+-- each open transaction is the replay of what it has done
 abbrev pub IsReplayable : Application → State → Type 0
 IsReplayable app s = (id : ServiceId) (x : OpenTransaction) → find id_cmp id s.active ≡ Some x → IsReplayed app s.tables id x
 

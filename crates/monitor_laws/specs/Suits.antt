@@ -17,11 +17,13 @@ use Rattle.monitor_semantics.specs.Bytes.{Bytes}
 use Rattle.monitor_semantics.specs.Outcomes.{same_kind}
 use Rattle.monitor_semantics.specs.Calls.{target_of}
 use Rattle.monitor_semantics.specs.Charges.{total_charge}
-use Rattle.monitor_semantics.specs.Endings.{is_asynchronous, restarts}
+use Rattle.monitor_semantics.specs.Endings.{is_asynchronous, is_durable}
 
+-- the user is declared
 abbrev pub is_user : Generated → Bytes → Bool
 is_user g user = is_some (user_of g user)
 
+-- the LTERM is declared
 abbrev pub is_lterm : Generated → Bytes → Bool
 is_lterm g lterm = is_some (lterm_of g lterm)
 
@@ -29,11 +31,13 @@ is_lterm g lterm = is_some (lterm_of g lterm)
 abbrev pub fits_content : Bytes → Bool
 fits_content bytes = nat_le (length bytes) 32767
 
+-- a message has at most NB bytes
 abbrev pub fits_message : Generated → Bytes → Bool
 fits_message g bytes = nat_le (length bytes) g.limits.nb
 
 -- ---- areas
 
+-- a GSSB
 abbrev pub gssb_suits : Bytes × Bytes → Bool
 gssb_suits r = fits_content r.1
 
@@ -47,6 +51,7 @@ uls_suits g r = has_uls g r.0 && is_user g r.1 && fits_content r.2
 
 -- ---- services
 
+-- a TAC that is not declared has no kind
 abbrev pub has_kind_by : Option TacEntry → (asynchronous : Bool) → Bool
 has_kind_by None asynchronous = false
 has_kind_by (Some t) asynchronous = same_kind asynchronous t.asynchronous
@@ -55,10 +60,12 @@ has_kind_by (Some t) asynchronous = same_kind asynchronous t.asynchronous
 abbrev pub has_kind : Generated → Bytes → (asynchronous : Bool) → Bool
 has_kind g tac asynchronous = has_kind_by (tac_of g tac) asynchronous
 
+-- no items
 abbrev pub is_empty : {A : Type 0} → List A → Bool
 is_empty [] = true
 is_empty (x ∷ xs) = false
 
+-- a last message, if there is one
 abbrev pub last_fits : Generated → Option Bytes → Bool
 last_fits g None = true
 last_fits g (Some message) = fits_message g message
@@ -68,6 +75,7 @@ abbrev pub awaits_rightly : Service → (awaits : Bool) → Bool
 awaits_rightly s true = is_some s.last && is_empty s.handed
 awaits_rightly s false = true
 
+-- the LTERM of an asynchronous service is declared
 abbrev pub lterm_suits : Generated → Option Bytes → Bool
 lterm_suits g None = true
 lterm_suits g (Some lterm) = is_lterm g lterm
@@ -86,25 +94,23 @@ service_suits g s =
     && awaits_rightly s s.awaits && last_fits g s.last
     && nat_le (length s.handed) 16 && nat_le (sum_by length s.handed) g.limits.nb
 
--- a dialogue service is of a user with RESTART=YES
-abbrev pub is_kept : Generated → ServiceId → Bool
-is_kept g (Dialogue user) = restarts g user
-is_kept g (Asynchronous number) = true
-
 -- ---- jobs
 
 -- the greatest clock and the greatest relative time together
 abbrev pub last_due : ℕ
 last_due = 1000863999998
 
+-- the target is one that a job may have
 abbrev pub target_suits : Generated → Target → Option Target → Bool
 target_suits g to None = false
 target_suits g to (Some found) = target_eq to found
 
+-- the name of a TAC or LTERM
 abbrev pub target_name : Target → Bytes
 target_name (Tac tac) = tac
 target_name (Lterm lterm) = lterm
 
+-- due, user and LTERM of a job or of a shown message
 abbrev pub value_suits : Generated → JobValue → Bool
 value_suits g v = nat_le v.due last_due && is_user g v.user && is_lterm g v.lterm
 
@@ -118,6 +124,7 @@ shown_suits g r = is_lterm g r.0 && value_suits g r.1 && target_eq r.1.to (Lterm
 
 -- ---- numbers
 
+-- the number of an asynchronous service is below the next job number
 abbrev pub number_is_below : ℕ → ServiceId → Bool
 number_is_below next (Dialogue user) = true
 number_is_below next (Asynchronous number) = nat_lt number next
@@ -133,7 +140,8 @@ pub record Suits (g : Generated) (t : TableRows) : Type 0 where
   pub tlss : IsTrue (list_all (tls_suits g) t.tlss)
   pub ulss : IsTrue (list_all (uls_suits g) t.ulss)
   pub services : IsTrue (list_all (service_suits g) t.services)
-  pub durable : IsTrue (list_all (λ (s : Service). is_kept g s.id) t.services)
+  -- a dialogue service is of a user with RESTART=YES
+  pub durable : IsTrue (list_all (λ (s : Service). is_durable g s.id) t.services)
   pub jobs : IsTrue (list_all (job_suits g) t.jobs)
   pub shown : IsTrue (list_all (shown_suits g) t.shown)
   -- the numbers of jobs and of asynchronous services are below the next one, and none is both

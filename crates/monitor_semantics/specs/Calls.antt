@@ -42,6 +42,7 @@ pub record Told : Type 0 where
   pub asked : Asked
   pub content : Option Bytes
 
+-- what a call does
 pub data Called : Type 0 where
   -- the call is answered
   Replied : (after : OpenTransaction) (reply : Reply) → Called
@@ -53,9 +54,11 @@ pub data Called : Type 0 where
 
 -- ---- answers
 
+-- a code alone, with KCRLM 0
 abbrev pub plain_reply : Code → Reply
 plain_reply code = record { code = code; length = 0; content = None }
 
+-- the call is answered with a code alone
 abbrev pub replied : OpenTransaction → Code → Called
 replied x code = Replied x (plain_reply code)
 
@@ -63,6 +66,7 @@ replied x code = Replied x (plain_reply code)
 abbrev pub read_reply : ℕ → Bytes → Reply
 read_reply room bytes = record { code = if nat_lt room (length bytes) then K02 else Done; length = length bytes; content = Some bytes }
 
+-- what was read, or this code where there is nothing
 abbrev pub read_or : Code → OpenTransaction → ℕ → Option Bytes → Called
 read_or code x room None = replied x code
 read_or code x room (Some bytes) = Replied x (read_reply room bytes)
@@ -97,14 +101,17 @@ declared x false go = replied x K08
 abbrev pub touches : OpenTransaction → Area → Bool
 touches x area = list_any (area_eq area) x.touched
 
+-- a request for an area that is held already is granted
 abbrev pub asked_by : Told → (held : Bool) → Asked
 asked_by v true = Granted
 asked_by v false = v.asked
 
+-- the area is held from now on, and no request waits
 abbrev pub touching : OpenTransaction → Area → (held : Bool) → OpenTransaction
 touching x area true = record x { awaited = None }
 touching x area false = record x { touched = area ∷ x.touched; awaited = None }
 
+-- the call goes on with the lock, or waits, or is answered K04 or K05
 abbrev pub on_answer : OpenTransaction → Area → Asked → (OpenTransaction → Called) → Called
 on_answer x area Granted go = go (touching x area (touches x area))
 on_answer x area MustWait go = Waits
@@ -114,6 +121,7 @@ on_answer x area (Denied code) go = replied (record x { awaited = None; notes = 
 abbrev pub locked : Told → OpenTransaction → Area → (OpenTransaction → Called) → Called
 locked v x area go = on_answer x area (asked_by v (touches x area)) go
 
+-- the own write or deletion comes before what lies outside
 abbrev pub shown_by : Option (Option Bytes) → Option Bytes → Option Bytes
 shown_by None outside = outside
 shown_by (Some own) outside = own
@@ -124,6 +132,7 @@ seen v x area = shown_by (find area_cmp area x.written) v.content
 
 -- ---- messages
 
+-- K01 where no part is left
 abbrev pub got_by : OpenTransaction → ℕ → List Bytes → Called
 got_by x room [] = replied x K01
 got_by x room (part ∷ rest) = Replied (record x { unread = rest }) (read_reply room part)
@@ -139,6 +148,7 @@ put_part g x bytes =
     (nat_le (sum_by length x.parts + length bytes) g.limits.nb && nat_lt (length x.parts) 16)
     (replied (record x { parts = x.parts ++ bytes ∷ [] }) Done)
 
+-- an LTERM and a TAC never have one name
 abbrev pub target_by : Bytes → Option LtermEntry → Option TacEntry → Option Target
 target_by name (Some l) t = Some (Lterm name)
 target_by name None None = None
@@ -148,6 +158,7 @@ target_by name None (Some t) = if t.asynchronous && goes_first t.call && t.on th
 unfoldable pub target_of : Generated → Bytes → Option Target
 target_of g name = target_by name (lterm_of g name) (tac_of g name)
 
+-- so many ticks from now on, or at this clock
 abbrev pub due_in : Mode → ℕ → Due
 due_in Relative ticks = After ticks
 due_in Absolute ticks = At ticks
@@ -159,6 +170,7 @@ moment_of mode d h m s =
     then Some (due_in mode (86400 * d + 3600 * h + 60 * m + s))
     else None
 
+-- K10 where a number operand is no number
 abbrev pub moment_by : Mode → Option ℕ → Option ℕ → Option ℕ → Option ℕ → Option Due
 moment_by mode (Some d) (Some h) (Some m) (Some s) = moment_of mode d h m s
 moment_by mode _ _ _ _ = None
@@ -176,9 +188,11 @@ put_job g x to due message =
 
 -- ---- areas
 
+-- the area has this content, or is absent, for this transaction
 abbrev pub wrote : OpenTransaction → Area → Option Bytes → Called
 wrote x area content = replied (record x { written = put area_cmp area content x.written }) Done
 
+-- K03 where the area is absent
 abbrev pub deleted : OpenTransaction → Area → Option Bytes → Called
 deleted x area None = replied x K03
 deleted x area (Some bytes) = wrote x area None
@@ -195,6 +209,7 @@ write_gssb v x name bytes = locked v x (Gssb name) (λ y. wrote y (Gssb name) (S
 abbrev pub delete_gssb : Told → OpenTransaction → Bytes → Called
 delete_gssb v x name = locked v x (Gssb name) (λ y. deleted y (Gssb name) (seen v y (Gssb name)))
 
+-- an absent block is empty
 abbrev pub or_empty : Option Bytes → Bytes
 or_empty None = []
 or_empty (Some bytes) = bytes
@@ -214,11 +229,13 @@ unlocked_by v x area true true = replied x K07
 unlocked_by v x area true false =
     replied (record x { touched = filter (λ (a : Area). not (area_eq area a)) x.touched; notes = x.notes ++ Released area v.content ∷ [] }) Done
 
+-- UNLK of an area
 abbrev pub unlocked : Told → OpenTransaction → Area → Called
 unlocked v x area = unlocked_by v x area (touches x area) (is_some (find area_cmp area x.written))
 
 -- ---- LSSBs
 
+-- the LSSBs without one
 abbrev pub without_local : Bytes → List (Bytes × Bytes) → List (Bytes × Bytes)
 without_local name lssbs = where_key bytes_cmp (λ n. not (bytes_eq name n)) lssbs
 
@@ -229,6 +246,7 @@ write_local g x name bytes =
     then replied x K09
     else replied (record x { lssbs = put bytes_cmp name bytes x.lssbs }) Done
 
+-- K03 where there is no such LSSB
 abbrev pub read_away_by : OpenTransaction → Bytes → ℕ → Option Bytes → Called
 read_away_by x name room None = replied x K03
 read_away_by x name room (Some bytes) = Replied (record x { lssbs = without_local name x.lssbs }) (read_reply room bytes)
@@ -237,6 +255,7 @@ read_away_by x name room (Some bytes) = Replied (record x { lssbs = without_loca
 abbrev pub read_away : OpenTransaction → Bytes → ℕ → Called
 read_away x name room = read_away_by x name room (find bytes_cmp name x.lssbs)
 
+-- K03 where there is no such LSSB
 abbrev pub delete_local_by : OpenTransaction → Bytes → Option Bytes → Called
 delete_local_by x name None = replied x K03
 delete_local_by x name (Some bytes) = replied (record x { lssbs = without_local name x.lssbs }) Done
@@ -247,14 +266,17 @@ delete_local x name = delete_local_by x name (find bytes_cmp name x.lssbs)
 
 -- ---- all calls
 
+-- a message is one part put, or more; a part may be empty
 abbrev pub has_message : List Bytes → Bool
 has_message [] = false
 has_message (part ∷ parts) = true
 
+-- the outcome of a PEND, or the cause that refuses it
 abbrev pub pended : Variant → Result Outcome Cause → Called
 pended variant (Ok o) = Pends variant o
 pended variant (Err cause) = Abnormal cause
 
+-- the name in an operand, if there is one
 abbrev pub name_by : Option Bytes → Option Bytes
 name_by None = None
 name_by (Some operand) = name_in_operand operand
@@ -293,6 +315,7 @@ abbrev pub first_call : OpenTransaction → Call → Called
 first_call x Init = replied (record x { inited = true }) Done
 first_call x _ = Abnormal E01
 
+-- E01 where INIT is missing
 abbrev pub called_by : Generated → Told → (asynchronous : Bool) → OpenTransaction → Call → (inited : Bool) → Called
 called_by g v asynchronous x call true = called g v asynchronous x call
 called_by g v asynchronous x call false = first_call x call

@@ -14,6 +14,7 @@ charge_of blksize n = max 1 ((n + (blksize - 49)) / (blksize - 48))
 abbrev pub list_length : Bytes → ℕ
 list_length bytes = 4 + length bytes
 
+-- a byte, and the message where there is one
 abbrev pub last_length : Option Bytes → ℕ
 last_length None = 1
 last_length (Some bytes) = 1 + list_length bytes

@@ -34,6 +34,7 @@ use Rattle.monitor_semantics.specs.Picks.{due_job}
 use Rattle.monitor_semantics.specs.Turns.{Turned, commit_of, queued, without_open, statement_now, turn_of}
 use Rattle.monitor_semantics.specs.Sessions.{in_place, service_state, use_of}
 
+-- the commands of a script
 pub data Command : Type 0 where
   -- IN: a terminal input
   Input : (pterm text : Bytes) → Command
@@ -73,9 +74,11 @@ says s text = done s (Emit text ∷ [])
 
 -- ---- start
 
+-- the asynchronous services, in the order of their numbers
 abbrev pub asynchronous_rows : TableRows → List Service
 asynchronous_rows t = filter (λ (s : Service). is_asynchronous s.id) t.services
 
+-- a service with the transaction that goes on from its row
 abbrev pub opened_row : Application → Service → ServiceId × OpenTransaction
 opened_row app row = (row.id, opened_by_row app.generation row.id row (lterm_of_row row.lterm))
 
@@ -91,6 +94,7 @@ started app t = record {
 
 -- ---- terminals
 
+-- no LTERM where there is no such PTERM
 abbrev pub lterm_by : Option PtermEntry → Bytes
 lterm_by None = []
 lterm_by (Some p) = p.lterm
@@ -99,6 +103,7 @@ lterm_by (Some p) = p.lterm
 abbrev pub lterm_at : Application → Bytes → Bytes
 lterm_at app pterm = lterm_by (pterm_of app.generation pterm)
 
+-- no user where there is no session
 abbrev pub user_by : Option Session → Bytes
 user_by None = []
 user_by (Some v) = v.user
@@ -107,12 +112,14 @@ user_by (Some v) = v.user
 abbrev pub user_at : State → Bytes → Bytes
 user_at s pterm = user_by (find bytes_cmp pterm s.signed)
 
+-- why a KDCSIGN is refused
 abbrev pub fault_text : SignFault → Bytes
 fault_text BadForm = codes "BAD SIGN ON"
 fault_text UnknownUser = codes "UNKNOWN USER"
 fault_text WrongPassword = codes "WRONG PASSWORD"
 fault_text InUse = codes "USER IS SIGNED ON"
 
+-- why a TAC is refused
 abbrev pub refusal_text : TacFault → Bytes
 refusal_text UnknownTac = codes "UNKNOWN TAC"
 refusal_text NotAllowed = codes "TAC NOT ALLOWED"
@@ -120,16 +127,20 @@ refusal_text IsOff = codes "TAC IS OFF"
 
 -- ---- sign-on and sign-off
 
+-- the user is signed on at this PTERM
 abbrev pub with_session : State → (pterm user : Bytes) → (last : Option Bytes) → State
 with_session s pterm user last = record s { signed = put bytes_cmp pterm (record { user = user; last = last }) s.signed }
 
+-- nobody is signed on at this PTERM
 abbrev pub without_session : State → (pterm : Bytes) → State
 without_session s pterm = record s { signed = where_key bytes_cmp (λ p. not (bytes_eq pterm p)) s.signed }
 
+-- the last dialogue message, where there is one
 abbrev pub out_again : Bytes → Option Bytes → List Act
 out_again pterm None = []
 out_again pterm (Some message) = Emit (out_line pterm message) ∷ []
 
+-- a row that awaits an input goes on waiting
 abbrev pub resumed_by : Application → State → (user lterm : Bytes) → Service → (awaits : Bool) → State
 resumed_by app s user lterm row true = s
 resumed_by app s user lterm row false = queued s (Dialogue user) (opened_by_row app.generation (Dialogue user) row lterm)
@@ -140,9 +151,11 @@ signed_on_by app s pterm user lterm None = says (with_session s pterm user None)
 signed_on_by app s pterm user lterm (Some row) =
     done (resumed_by app (with_session s pterm user row.last) user lterm row row.awaits) (Emit (sys_line pterm (codes "SIGNED ON " ++ user)) ∷ out_again pterm row.last)
 
+-- KDCSIGN of a user
 abbrev pub signed_on : Application → State → (pterm user : Bytes) → Done
 signed_on app s pterm user = signed_on_by app s pterm user (lterm_at app pterm) (service_of s.tables (Dialogue user))
 
+-- a task that held this service is free
 abbrev pub no_place : ServiceId → Option ServiceId → Option ServiceId
 no_place id place = if in_place id place then None else place
 
@@ -150,6 +163,7 @@ no_place id place = if in_place id place then None else place
 abbrev pub withdrawn : State → ServiceId → State
 withdrawn s id = record (without_open s id) { ready = filter (λ (i : ServiceId). not (id_eq id i)) s.ready; tasks = map (no_place id) s.tasks }
 
+-- a user with RESTART=YES keeps the row of the last synchronisation point
 abbrev pub rolled_tables : Application → TableRows → Bytes → Bool → TableRows
 rolled_tables app t user true = t
 rolled_tables app t user false = with_service t (Dialogue user) None
@@ -160,6 +174,7 @@ signed_off app s pterm user = record (without_session (withdrawn s (Dialogue use
 
 -- ---- jobs for LTERMs
 
+-- the job goes to this LTERM
 abbrev pub is_for : Bytes → Target → Bool
 is_for lterm (Tac tac) = false
 is_for lterm (Lterm other) = bytes_eq lterm other
@@ -172,6 +187,7 @@ due_for s lterm = due_job s.active s.tables.clock (is_for lterm) s.tables.jobs
 abbrev pub shown_tables : TableRows → (lterm : Bytes) → Job → TableRows
 shown_tables t lterm job = with_change (without_job t job.number) (Set (ShownRow lterm job.value))
 
+-- without a due job there is no commit
 abbrev pub show_by : Application → State → (lterm : Bytes) → (no_message : Bytes) → (line_of : Bytes → Bytes) → Option Job → Done
 show_by app s lterm no_message line_of None = says s no_message
 show_by app s lterm no_message line_of (Some job) = done_by app s (shown_tables s.tables lterm job) (ByShow lterm) (line_of job.value.message)
@@ -180,6 +196,7 @@ show_by app s lterm no_message line_of (Some job) = done_by app s (shown_tables 
 unfoldable pub show_next : Application → State → (lterm : Bytes) → (no_message : Bytes) → (line_of : Bytes → Bytes) → Done
 show_next app s lterm no_message line_of = show_by app s lterm no_message line_of (due_for s lterm)
 
+-- a line alone
 abbrev pub show_again_by : State → (no_message : Bytes) → (line_of : Bytes → Bytes) → Option JobValue → Done
 show_again_by s no_message line_of None = says s no_message
 show_again_by s no_message line_of (Some value) = says s (line_of value.message)
@@ -190,6 +207,7 @@ show_again s lterm no_message line_of = show_again_by s no_message line_of (show
 
 -- ---- inputs
 
+-- none where nobody is signed on
 abbrev pub last_by : Option Session → Option Bytes
 last_by None = None
 last_by (Some v) = v.last
@@ -216,9 +234,11 @@ next_by app s user lterm text (Some x) row =
 next_by app s user lterm text None (Some row) = queued s (Dialogue user) (opened_by_input app.generation (Dialogue user) row lterm text)
 next_by app s user lterm text None None = s
 
+-- the input that a service awaits
 abbrev pub next_input : Application → State → (user lterm text : Bytes) → State
 next_input app s user lterm text = next_by app s user lterm text (find id_cmp (Dialogue user) s.active) (service_of s.tables (Dialogue user))
 
+-- an input starts a service
 abbrev pub start_service : Application → State → (user lterm tac text : Bytes) → State
 start_service app s user lterm tac text = queued s (Dialogue user) (opened_by_start app.generation user lterm tac text)
 
@@ -244,6 +264,7 @@ use_now app s pterm text = use_of app.generation s.signed (service_state s (user
 
 -- ---- the other commands
 
+-- a clock past the greatest one is refused, without a commit
 abbrev pub tick_by : Application → State → (ticks clock : ℕ) → (within : Bool) → Done
 tick_by app s ticks clock false = says s tick_refused_line
 tick_by app s ticks clock true = done_by app s (record s.tables { clock = clock }) (ByTick ticks) (tick_line clock)
@@ -252,6 +273,7 @@ tick_by app s ticks clock true = done_by app s (record s.tables { clock = clock 
 abbrev pub ticked : Application → State → (ticks : ℕ) → Done
 ticked app s ticks = tick_by app s ticks (s.tables.clock + ticks) (nat_le (s.tables.clock + ticks) last_clock)
 
+-- DROP of a terminal, with or without a session
 abbrev pub drop_by : Application → State → (pterm : Bytes) → Option Session → Done
 drop_by app s pterm None = says s (sys_line pterm (codes "NOT SIGNED ON"))
 drop_by app s pterm (Some v) = says (signed_off app s pterm v.user) (sys_line pterm (codes "DROPPED"))
@@ -262,17 +284,21 @@ restarted app s = says (started app (durable app.generation s.tables)) restart_l
 
 -- ---- turns in rotation
 
+-- the tasks in rotation
 abbrev pub next_task : Application → ℕ → ℕ
 next_task app task = if task == app.generation.limits.tasks then 1 else task + 1
 
+-- how many turns in a row moved nothing
 abbrev pub in_a_row : (moved : Bool) → ℕ → ℕ
 in_a_row true n = 0
 in_a_row false n = n + 1
 
+-- a commit of a turn is that of its transaction
 abbrev pub maker_of : Option Settled → Option Maker
 maker_of None = None
 maker_of (Some kept) = Some (ByTransaction kept)
 
+-- a turn as a step
 abbrev pub turned_done : Turned → Done
 turned_done t = record { after = t.after; acts = t.acts; by = maker_of t.settled }
 

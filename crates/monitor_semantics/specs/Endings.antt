@@ -30,6 +30,7 @@ use Rattle.kdcs_types.specs.Tables.{TableRows, with_change}
 use Rattle.monitor_semantics.specs.State.{OpenTransaction}
 use Rattle.monitor_semantics.specs.Charges.{total_charge}
 
+-- the kind of a service
 abbrev pub is_asynchronous : ServiceId → Bool
 is_asynchronous (Dialogue user) = false
 is_asynchronous (Asynchronous number) = true
@@ -41,10 +42,12 @@ joined (part ∷ parts) = part ++ joined parts
 
 -- ---- opening
 
+-- TIME of the TAC
 abbrev pub budget_by : Option TacEntry → ℕ
 budget_by None = 0
 budget_by (Some t) = t.time
 
+-- so many spaces
 abbrev pub spaces : ℕ → Bytes
 spaces n = replicate n 32
 
@@ -61,10 +64,12 @@ fresh_run g kb header = record {
   header = header;
 }
 
+-- the KB of the row, or a new one
 abbrev pub kb_of : Generated → Option Service → Bytes
 kb_of g None = spaces g.limits.kb
 kb_of g (Some row) = row.kb
 
+-- the LSSBs of the row, or none
 abbrev pub lssbs_of : Option Service → List (Bytes × Bytes)
 lssbs_of None = []
 lssbs_of (Some row) = row.lssbs
@@ -91,6 +96,7 @@ opened g began header unread inputs = record {
   statements = 0;
 }
 
+-- user, LTERM, first and current TAC
 abbrev pub header_of : (user lterm first next : Bytes) → Header
 header_of user lterm first next = record { benid = user; logter = lterm; tacvg = first; tacal = next }
 
@@ -99,6 +105,7 @@ abbrev pub user_in_row : ServiceId → Service → Bytes
 user_in_row (Dialogue user) row = user
 user_in_row (Asynchronous number) row = row.user
 
+-- the header of a service that goes on from its row
 abbrev pub header_of_row : ServiceId → Service → (lterm : Bytes) → Header
 header_of_row id row lterm = header_of (user_in_row id row) lterm row.first row.next
 
@@ -128,6 +135,7 @@ abbrev pub handed_on : (asynchronous : Bool) → OpenTransaction → List Bytes
 handed_on true x = x.unread
 handed_on false x = x.parts
 
+-- a new unit run of this TAC in the same transaction; the statement before it is counted
 abbrev pub next_run : Generated → OpenTransaction → (tac : Bytes) → (unread inputs : List Bytes) → OpenTransaction
 next_run g x tac unread inputs = record x {
   inputs = x.inputs ++ inputs;
@@ -165,6 +173,7 @@ unfoldable pub with_areas : TableRows → List (Area × Option Bytes) → TableR
 with_areas t [] = t
 with_areas t (w ∷ ws) = with_areas (with_change t (area_change w.0 w.1)) ws
 
+-- what becomes of the row of a service
 abbrev pub service_change : ServiceId → Option Service → Change
 service_change id None = Remove (ServiceKey id)
 service_change id (Some row) = Set (ServiceRow id row)
@@ -201,6 +210,7 @@ with_drafts t x = record t { jobs = t.jobs ++ numbered t.next_job t.clock x.user
 
 -- ---- synchronisation points and abnormal ends
 
+-- the last dialogue message of the row, if there is one
 abbrev pub last_of : Option Service → Option Bytes
 last_of None = None
 last_of (Some row) = row.last
@@ -210,6 +220,7 @@ abbrev pub lterm_in_row : ServiceId → Bytes → Option Bytes
 lterm_in_row (Dialogue user) lterm = None
 lterm_in_row (Asynchronous number) lterm = Some lterm
 
+-- the row of a service that goes on behind the point
 abbrev pub point_row : ServiceId → OpenTransaction → (next : Bytes) → (awaits : Bool) → (handed : List Bytes) → (last : Option Bytes) → Service
 point_row id x next awaits handed last = record {
   id = id;
@@ -224,6 +235,7 @@ point_row id x next awaits handed last = record {
   lssbs = x.lssbs;
 }
 
+-- the row of the service that PEND FC begins
 abbrev pub new_row : Generated → ServiceId → OpenTransaction → (first : Bytes) → Service
 new_row g id x first = record {
   id = id;
@@ -258,6 +270,7 @@ synchronised g t id x o = with_service (with_drafts (without_own_job (with_areas
 unfoldable pub broken : TableRows → ServiceId → OpenTransaction → TableRows
 broken t id x = with_service (without_own_job t id x.began) id None
 
+-- no user has no service to keep
 abbrev pub restarts_by : Option UserEntry → Bool
 restarts_by None = false
 restarts_by (Some u) = u.restart
@@ -266,6 +279,7 @@ restarts_by (Some u) = u.restart
 abbrev pub restarts : Generated → Bytes → Bool
 restarts g user = restarts_by (user_of g user)
 
+-- whether the row of the service outlives a stop
 abbrev pub is_durable : Generated → ServiceId → Bool
 is_durable g (Dialogue user) = restarts g user
 is_durable g (Asynchronous number) = true

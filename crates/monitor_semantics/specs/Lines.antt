@@ -7,6 +7,7 @@ use Rattle.kdcs_types.specs.declared.key.ServiceId.{ServiceId}
 use Rattle.kdcs_types.specs.declared.key.ServiceId.TheVariants.{Dialogue, Asynchronous}
 use Rattle.monitor_semantics.specs.Bytes.{Bytes}
 
+-- a text and LF
 abbrev pub line : Bytes → Bytes
 line text = text ++ 10 ∷ []
 
@@ -14,9 +15,11 @@ line text = text ++ 10 ∷ []
 abbrev pub out_line : (pterm message : Bytes) → Bytes
 out_line pterm message = line (codes "OUT " ++ pterm ++ 32 ∷ escaped message)
 
+-- the message of a job at a terminal: KDCOUT and KDCLAST
 abbrev pub asy_line : (pterm message : Bytes) → Bytes
 asy_line pterm message = line (codes "ASY " ++ pterm ++ 32 ∷ escaped message)
 
+-- the message of a job at a printer: PRINT
 abbrev pub prt_line : (pterm message : Bytes) → Bytes
 prt_line pterm message = line (codes "PRT " ++ pterm ++ 32 ∷ escaped message)
 
@@ -24,12 +27,15 @@ prt_line pterm message = line (codes "PRT " ++ pterm ++ 32 ∷ escaped message)
 abbrev pub sys_line : (pterm text : Bytes) → Bytes
 sys_line pterm text = line (codes "SYS " ++ pterm ++ 32 ∷ text)
 
+-- there is nothing to show
 abbrev pub no_message_line : (pterm : Bytes) → Bytes
 no_message_line pterm = sys_line pterm (codes "NO MESSAGE")
 
+-- a service is over without a message
 abbrev pub ended_line : (pterm : Bytes) → Bytes
 ended_line pterm = sys_line pterm (codes "SERVICE ENDED")
 
+-- the name of a cause
 abbrev pub cause_text : Cause → Bytes
 cause_text E01 = codes "E01"
 cause_text E02 = codes "E02"
@@ -54,11 +60,14 @@ owner_text (Asynchronous number) = 35 ∷ decimal number
 abbrev pub dump_line : ServiceId → (tac : Bytes) → Cause → (place : ℕ) → Bytes
 dump_line id tac cause place = line (codes "DUMP " ++ owner_text id ++ 32 ∷ tac ++ 32 ∷ cause_text cause ++ 32 ∷ decimal place)
 
+-- TICK: the new clock
 abbrev pub tick_line : (clock : ℕ) → Bytes
 tick_line clock = line (codes "TICK " ++ decimal clock)
 
+-- TICK past the greatest clock
 abbrev pub tick_refused_line : Bytes
 tick_refused_line = line (codes "TICK REFUSED")
 
+-- RESTART
 abbrev pub restart_line : Bytes
 restart_line = line (codes "RESTART")

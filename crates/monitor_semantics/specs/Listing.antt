@@ -14,6 +14,7 @@ use Rattle.monitor_semantics.specs.Lines.{line, owner_text}
 abbrev pub spaced : List Bytes → Bytes
 spaced words = flat_map (λ (w : Bytes). 32 ∷ w) words
 
+-- GSSB, the name and its content
 abbrev pub gssb_line : Bytes × Bytes → Bytes
 gssb_line r = line (codes "GSSB" ++ spaced (r.0 ∷ escaped r.1 ∷ []))
 
@@ -21,14 +22,17 @@ gssb_line r = line (codes "GSSB" ++ spaced (r.0 ∷ escaped r.1 ∷ []))
 abbrev pub block_line : (kind : Bytes) → Bytes × Bytes × Bytes → Bytes
 block_line kind r = line (kind ++ spaced (r.0 ∷ r.1 ∷ escaped r.2 ∷ []))
 
+-- it awaits an input, or goes on
 abbrev pub state_text : (awaits : Bool) → Bytes
 state_text true = codes "WAITS"
 state_text false = codes "GOES"
 
+-- the last dialogue message, or `-`
 abbrev pub last_text : Option Bytes → Bytes
 last_text None = codes "-"
 last_text (Some message) = escaped message
 
+-- LSSB, the owner, the name and its content
 abbrev pub lssb_line : Service → Bytes × Bytes → Bytes
 lssb_line s l = line (codes "LSSB" ++ spaced (owner_text s.id ∷ l.0 ∷ escaped l.1 ∷ []))
 
@@ -39,10 +43,12 @@ service_lines s =
     ++ line (codes "KB" ++ spaced (owner_text s.id ∷ escaped s.kb ∷ []))
     ++ flat_map (lssb_line s) s.lssbs
 
+-- T and a TAC, or L and an LTERM
 abbrev pub target_words : Target → List Bytes
 target_words (Tac tac) = codes "T" ∷ tac ∷ []
 target_words (Lterm lterm) = codes "L" ∷ lterm ∷ []
 
+-- JOB, its number, target, due, user, LTERM and message
 abbrev pub job_line : Job → Bytes
 job_line job =
     line (
@@ -50,6 +56,7 @@ job_line job =
     ++ spaced (codes "DUE" ∷ decimal job.value.due ∷ job.value.user ∷ job.value.lterm ∷ escaped job.value.message ∷ [])
     )
 
+-- SHOWN, the LTERM and its message
 abbrev pub shown_line : Bytes × JobValue → Bytes
 shown_line r = line (codes "SHOWN" ++ spaced (r.0 ∷ escaped r.1.message ∷ []))
 

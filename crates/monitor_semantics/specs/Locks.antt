@@ -9,9 +9,11 @@ use Rattle.kdcs_types.specs.Tables.{content_of}
 use Rattle.monitor_semantics.specs.State.{Application, OpenTransaction, State}
 use Rattle.monitor_semantics.specs.Calls.{Told, Asked, Granted, MustWait, Denied, touches}
 
+-- the open transactions by their services
 abbrev pub Active : Type 0
 Active = List (ServiceId × OpenTransaction)
 
+-- without an open transaction nothing is held
 abbrev pub touched_by : Option OpenTransaction → Area → Bool
 touched_by None area = false
 touched_by (Some x) area = touches x area
@@ -20,6 +22,7 @@ touched_by (Some x) area = touches x area
 abbrev pub holds : Active → ServiceId → Area → Bool
 holds active id area = touched_by (find id_cmp id active) area
 
+-- the service holds the area
 abbrev pub Holds : Active → ServiceId → Area → Type 0
 Holds active id area = IsTrue (holds active id area)
 
@@ -27,6 +30,7 @@ Holds active id area = IsTrue (holds active id area)
 abbrev pub IsExclusive : Active → Type 0
 IsExclusive active = (i j : ServiceId) (area : Area) → Holds active i area → Holds active j area → i ≡ j
 
+-- the area of the waiting request
 abbrev pub awaited_by : Option OpenTransaction → Option Area
 awaited_by None = None
 awaited_by (Some x) = option_map (λ (w : Area × ℕ). w.0) x.awaited
@@ -76,6 +80,7 @@ is_deadlocked active asker other = reaches (length active) active asker (Some ot
 
 -- ---- a request
 
+-- a request for another area than the one awaited begins a new wait
 abbrev pub since_by : Area → ℕ → Option (Area × ℕ) → ℕ
 since_by area now None = now
 since_by area now (Some w) = if area_eq area w.0 then w.1 else now
@@ -84,6 +89,7 @@ since_by area now (Some w) = if area_eq area w.0 then w.1 else now
 abbrev pub since : OpenTransaction → Area → ℕ → ℕ
 since x area now = since_by area now x.awaited
 
+-- a deadlock is answered before the wait is looked at
 abbrev pub denied_by : (deadlock late : Bool) → Asked
 denied_by true _ = Denied K05
 denied_by false true = Denied K04

@@ -30,18 +30,23 @@ use Rattle.monitor_semantics.specs.Trace.{trace, tables_after}
 abbrev pub numbered_name : Bytes → ℕ → Bytes
 numbered_name letter k = letter ++ decimal k
 
+-- for the numbers from 1 to 4
 abbrev pub for_four : {A : Type 0} → (ℕ → A) → List A
 for_four f = f 1 ∷ f 2 ∷ f 3 ∷ f 4 ∷ []
 
+-- a TAC with the program of its name
 abbrev pub made_tac : (name : Bytes) → (asynchronous : Bool) → (class : ℕ) → Bytes × TacEntry
 made_tac name asynchronous class = (name, record { program = name; asynchronous = asynchronous; call = Both; on = true; class = class; time = 1000 })
 
+-- user Uk, without a password
 abbrev pub made_user : ℕ → Bytes × UserEntry
 made_user k = (numbered_name (codes "U") k, record { pass = None; restart = true })
 
+-- LTERM Lk
 abbrev pub made_lterm : ℕ → Bytes × LtermEntry
 made_lterm k = (numbered_name (codes "L") k, record { printer = false })
 
+-- PTERM Pk at LTERM Lk
 abbrev pub made_pterm : ℕ → Bytes × PtermEntry
 made_pterm k = (numbered_name (codes "P") k, record { lterm = numbered_name (codes "L") k })
 
@@ -80,9 +85,11 @@ made_generation = record {
   };
 }
 
+-- a field of 8 bytes in SPAB
 abbrev pub made_field : (line : ℕ) → (name : Bytes) → (offset : ℕ) → Field
 made_field line name offset = record { name = name; line = line; spab = true; offset = offset; length = 8 }
 
+-- a statement on its line
 abbrev pub at_line : ℕ → Action → UnitStatement
 at_line line action = record { line = line; action = action }
 
@@ -120,14 +127,17 @@ tally_unit = record {
       ∷ [];
 }
 
+-- the application of `make`
 abbrev pub made_application : Application
 made_application = record { generation = made_generation; units = add_unit ∷ tally_unit ∷ [] }
 
 -- ---- the script
 
+-- user Uk signs on at PTERM Pk
 abbrev pub sign_on_command : ℕ → Command
 sign_on_command k = Input (numbered_name (codes "P") k) (codes "KDCSIGN " ++ numbered_name (codes "U") k)
 
+-- a command or none
 abbrev pub when : Bool → Command → List Command
 when true command = command ∷ []
 when false command = []
@@ -138,6 +148,7 @@ made_round all i =
     Input (numbered_name (codes "P") ((i + 3) % 4 + 1)) (codes "ADD " ++ decimal (i % 10))
     ∷ when (i % 2 == 0 || i == all) (Run 100) ++ when (i % 100 == 0) (Tick 1)
 
+-- so many inputs from this one on
 unfoldable pub made_rounds : (all left i : ℕ) → List Command
 made_rounds all zero i = []
 made_rounds all (suc n) i = made_round all i ++ made_rounds all n (i + 1)
@@ -148,20 +159,25 @@ made_script n = for_four sign_on_command ++ made_rounds n n 1
 
 -- ---- the lines
 
+-- a commit
 abbrev pub is_commit : Act → Bool
 is_commit (Commit changes) = true
 is_commit (Emit bytes) = false
 
+-- a line
 abbrev pub is_emit : Act → Bool
 is_emit (Commit changes) = false
 is_emit (Emit bytes) = true
 
+-- a word and a number
 abbrev pub number_line : Bytes → ℕ → Bytes
 number_line word n = line (word ++ 32 ∷ decimal n)
 
+-- the content of the GSSB TOTAL
 abbrev pub total_line : TableRows → Bytes
 total_line t = line (codes "TOTAL " ++ or_empty (content_of t (Gssb (codes "TOTAL"))))
 
+-- the lines by the acts and the last durable tables
 abbrev pub lines_of_acts : ℕ → List Act → TableRows → Bytes
 lines_of_acts n acts last =
     number_line (codes "INPUTS") n

@@ -23,6 +23,7 @@ goes_first Both = true
 goes_first First = true
 goes_first Next = false
 
+-- both are asynchronous, or neither is
 abbrev pub same_kind : Bool → Bool → Bool
 same_kind true asynchronous = asynchronous
 same_kind false asynchronous = not asynchronous
@@ -79,6 +80,7 @@ needs_message asynchronous Fr = false
 needs_message asynchronous Er = false
 needs_message asynchronous Rs = false
 
+-- the operand names a TAC that may follow
 abbrev pub fits_follow_up : (asynchronous : Bool) → Variant → Option TacEntry → Option Bytes → Bool
 fits_follow_up asynchronous variant None name = false
 fits_follow_up asynchronous variant (Some t) None = false
@@ -97,6 +99,7 @@ goes_by Fr tac = Break
 goes_by Er tac = Break
 goes_by Rs tac = Back
 
+-- FI, FR, ER and RS have no operand
 abbrev pub name_or_empty : Option Bytes → Bytes
 name_or_empty None = []
 name_or_empty (Some name) = name

@@ -22,9 +22,11 @@ use Rattle.monitor_semantics.specs.Locks.{Active}
 abbrev pub is_free : Active → Job → Bool
 is_free active job = not (is_some (value_at id_cmp (Asynchronous job.number) active))
 
+-- by due, then by number
 abbrev pub is_earlier : Job → Job → Bool
 is_earlier a b = nat_lt a.value.due b.value.due || (a.value.due == b.value.due && nat_lt a.number b.number)
 
+-- the earlier of two jobs
 abbrev pub earlier_of : Job → Option Job → Option Job
 earlier_of job None = Some job
 earlier_of job (Some other) = Some (if is_earlier other job then other else job)
@@ -40,6 +42,7 @@ due_job active now allowed jobs = least_job (filter (λ (job : Job). is_free act
 
 -- ---- classes
 
+-- 0 for no TAC
 abbrev pub class_by : Option TacEntry → ℕ
 class_by None = 0
 class_by (Some t) = t.class
@@ -48,6 +51,7 @@ class_by (Some t) = t.class
 abbrev pub class_of : Generated → Bytes → ℕ
 class_of g tac = class_by (tac_of g tac)
 
+-- none without an open transaction
 abbrev pub current_by : Option OpenTransaction → Bytes
 current_by None = []
 current_by (Some x) = x.current
@@ -56,6 +60,7 @@ current_by (Some x) = x.current
 abbrev pub current_tac : State → ServiceId → Bytes
 current_tac s id = current_by (value_at id_cmp id s.active)
 
+-- the task holds a service that passes the test
 abbrev pub place_passes : (ServiceId → Bool) → Option ServiceId → Bool
 place_passes test None = false
 place_passes test (Some id) = test id
@@ -64,6 +69,7 @@ place_passes test (Some id) = test id
 abbrev pub tasks_with : State → (ServiceId → Bool) → ℕ
 tasks_with s test = count_by (place_passes test) s.tasks
 
+-- a class without TACCLASS has no limit
 abbrev pub below_limit : Option ℕ → ℕ → Bool
 below_limit None n = true
 below_limit (Some limit) n = nat_lt n limit
@@ -77,19 +83,23 @@ abbrev pub is_allowed : Application → State → (asynchronous : Bool) → (tac
 is_allowed app s asynchronous tac =
     class_is_free app s (class_of app.generation tac) && (not asynchronous || nat_lt (tasks_with s is_asynchronous) app.generation.limits.asyntasks)
 
+-- a task may work for the current TAC of this service
 abbrev pub service_is_allowed : Application → State → ServiceId → Bool
 service_is_allowed app s id = is_allowed app s (is_asynchronous id) (current_tac s id)
 
+-- a task may begin a service of this TAC; a job for an LTERM is no work of tasks
 abbrev pub target_is_allowed : Application → State → Target → Bool
 target_is_allowed app s (Tac tac) = is_allowed app s true tac
 target_is_allowed app s (Lterm lterm) = false
 
 -- ---- the choice
 
+-- a job as work
 abbrev pub job_work : Option Job → Option Work
 job_work None = None
 job_work (Some job) = Some (work.Job job.number)
 
+-- a ready service comes before a job
 abbrev pub pick_by : Option ServiceId → Option Job → Option Work
 pick_by (Some id) job = Some (work.Service id)
 pick_by None job = job_work job

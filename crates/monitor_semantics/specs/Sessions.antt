@@ -26,6 +26,7 @@ use Rattle.monitor_semantics.specs.Calls.{or_empty}
 
 -- ---- the service of a user
 
+-- the task holds this service
 abbrev pub in_place : ServiceId → Option ServiceId → Bool
 in_place id None = false
 in_place id (Some other) = id_eq id other
@@ -34,6 +35,7 @@ in_place id (Some other) = id_eq id other
 abbrev pub is_running : State → ServiceId → Bool
 is_running s id = list_any (id_eq id) s.ready || list_any (in_place id) s.tasks
 
+-- the row awaits an input
 abbrev pub awaits_by : Option Service → Bool
 awaits_by None = false
 awaits_by (Some row) = row.awaits
@@ -42,11 +44,13 @@ awaits_by (Some row) = row.awaits
 abbrev pub is_awaiting : State → ServiceId → Bool
 is_awaiting s id = is_some (find id_cmp id s.active) || awaits_by (service_of s.tables id)
 
+-- a service in a task may have a row that awaits
 abbrev pub service_state_by : (running awaiting : Bool) → ServiceState
 service_state_by true _ = Running
 service_state_by false true = Awaits
 service_state_by false false = NoService
 
+-- what the dialogue service of a user does
 unfoldable pub service_state : State → Bytes → ServiceState
 service_state s user = service_state_by (is_running s (Dialogue user)) (is_awaiting s (Dialogue user))
 
@@ -57,10 +61,12 @@ pub record Split : Type 0 where
   pub word : Bytes
   pub rest : Option Bytes
 
+-- the byte that parts is in neither piece
 abbrev pub split_by : ℕ → Bytes → (found : Bool) → Split → Split
 split_by c cs true r = record { word = []; rest = Some cs }
 split_by c cs false r = record { word = c ∷ r.word; rest = r.rest }
 
+-- at the first such byte
 unfoldable pub split_at : ℕ → Bytes → Split
 split_at mark [] = record { word = []; rest = None }
 split_at mark (c ∷ cs) = split_by c cs (c == mark) (split_at mark cs)
@@ -69,29 +75,35 @@ split_at mark (c ∷ cs) = split_by c cs (c == mark) (split_at mark cs)
 abbrev pub first_word : Bytes → Split
 first_word text = split_at 32 text
 
+-- nothing where no space follows the word
 abbrev pub after_word : Split → Bytes
 after_word r = or_empty r.rest
 
 -- ---- sign-on
 
+-- both have none, or both have the same
 abbrev pub same_password : Option Bytes → Option Bytes → Bool
 same_password None None = true
 same_password None (Some b) = false
 same_password (Some a) None = false
 same_password (Some a) (Some b) = bytes_eq a b
 
+-- the session is of this user
 abbrev pub has_user : Bytes → Bytes × Session → Bool
 has_user user e = bytes_eq e.1.user user
 
+-- WrongPassword before InUse
 abbrev pub sign_by : (right free : Bool) → Bytes → Use
 sign_by false _ user = SignRefused WrongPassword
 sign_by true false user = SignRefused InUse
 sign_by true true user = Sign user
 
+-- UnknownUser before the password
 abbrev pub sign_user : List (Bytes × Session) → Bytes → Option Bytes → Option UserEntry → Use
 sign_user signed user pass None = SignRefused UnknownUser
 sign_user signed user pass (Some u) = sign_by (same_password u.pass pass) (not (list_any (has_user user) signed)) user
 
+-- BadForm where no user name stands there
 abbrev pub sign_name : Generated → List (Bytes × Session) → Option Bytes → Option Bytes → Use
 sign_name g signed pass None = SignRefused BadForm
 sign_name g signed pass (Some user) = sign_user signed user pass (user_of g user)
@@ -102,9 +114,11 @@ sign_on_use g signed r = sign_name g signed r.rest (name_of r.word)
 
 -- ---- uses
 
+-- without a session: KDCSIGN alone
 abbrev pub use_unsigned : Generated → List (Bytes × Session) → Split → Use
 use_unsigned g signed r = if bytes_eq r.word (codes "KDCSIGN") then sign_on_use g signed (split_at 44 (after_word r)) else SignFirst
 
+-- UnknownTac, NotAllowed, IsOff and TooLong in this order
 abbrev pub start_by : Generated → Bytes → Bytes → Option TacEntry → Use
 start_by g tac text None = TacRefused UnknownTac
 start_by g tac text (Some t) =
@@ -113,16 +127,19 @@ start_by g tac text (Some t) =
     else if nat_lt g.limits.nb (length text) then TooLong
     else Start tac text
 
+-- the use of a text that is no command of the terminal
 abbrev pub use_of_text : Generated → Bytes → Split → ServiceState → Use
 use_of_text g text r Running = Busy
 use_of_text g text r Awaits = if nat_lt g.limits.nb (length text) then TooLong else Next text
 use_of_text g text r NoService = start_by g r.word (after_word r) (tac_of g r.word)
 
+-- KDCOFF while a service runs is Busy
 abbrev pub off_use : ServiceState → Use
 off_use Running = Busy
 off_use Awaits = Off
 off_use NoService = Off
 
+-- within a session: the commands by their first word, then the text
 abbrev pub use_signed : Generated → Bytes → Split → ServiceState → Use
 use_signed g text r state =
     if bytes_eq r.word (codes "KDCSIGN") then AlreadySigned
@@ -132,6 +149,7 @@ use_signed g text r state =
     else if bytes_eq r.word (codes "KDCOFF") then off_use state
     else use_of_text g text r state
 
+-- with or without a session at this PTERM
 abbrev pub use_by : Generated → List (Bytes × Session) → ServiceState → Bytes → Option Session → Use
 use_by g signed state text None = use_unsigned g signed (first_word text)
 use_by g signed state text (Some v) = use_signed g text (first_word text) state

@@ -18,6 +18,7 @@ pub record Application : Type 0 where
   pub generation : Generated
   pub units : List UnitText
 
+-- no unit without a TAC
 abbrev pub unit_by : Application → Option TacEntry → Option UnitText
 unit_by app None = None
 unit_by app (Some t) = find (λ (u : UnitText). bytes_eq u.name t.program) app.units
@@ -26,6 +27,7 @@ unit_by app (Some t) = find (λ (u : UnitText). bytes_eq u.name t.program) app.u
 unfoldable pub unit_of : Application → Bytes → Option UnitText
 unit_of app tac = unit_by app (tac_of app.generation tac)
 
+-- what a service has done since its last synchronisation point
 pub record OpenTransaction : Type 0 where
   -- the row of its service as it began, if there was one
   pub began : Option Service
@@ -61,6 +63,7 @@ pub record Session : Type 0 where
   pub user : Bytes
   pub last : Option Bytes
 
+-- all that the monitor has between two steps
 pub record State : Type 0 where
   pub tables : TableRows
   -- sessions by PTERM

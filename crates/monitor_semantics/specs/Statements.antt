@@ -42,21 +42,26 @@ pub data Happened : Type 0 where
 
 -- ---- the area of which a statement asks; for the others any will do
 
+-- an area that stands for none
 abbrev pub any_area : Area
 any_area = Gssb []
 
+-- the GSSB of this name
 abbrev pub gssb_named : Option Bytes → Area
 gssb_named None = any_area
 gssb_named (Some name) = Gssb name
 
+-- the ULS block of this name and user
 abbrev pub uls_named : Bytes → Option Bytes → Area
 uls_named user None = any_area
 uls_named user (Some name) = Uls name user
 
+-- the TLS block of this name and LTERM
 abbrev pub tls_named : Bytes → Option Bytes → Area
 tls_named lterm None = any_area
 tls_named lterm (Some name) = Tls name lterm
 
+-- the area of which a call asks
 abbrev pub area_of_call : OpenTransaction → Call → Area
 area_of_call x (SgetGb name room) = gssb_named (name_in_operand name)
 area_of_call x (SputGb name bytes) = gssb_named (name_in_operand name)
@@ -70,11 +75,13 @@ area_of_call x (Ptda name bytes) = tls_named x.lterm (name_in_operand name)
 area_of_call x (UnlkDa name) = tls_named x.lterm (name_in_operand name)
 area_of_call x _ = any_area
 
+-- a plain statement asks of none
 abbrev pub area_of_step : OpenTransaction → Meaning → Area
 area_of_step x (Plain after) = any_area
 area_of_step x (Ends cause) = any_area
 area_of_step x (Asks call) = area_of_call x call
 
+-- none without a unit
 abbrev pub area_in_unit : OpenTransaction → Option UnitText → Area
 area_in_unit x None = any_area
 area_in_unit x (Some unit) = area_of_step x (step unit x.run)
@@ -102,6 +109,7 @@ break_ending Fr = BrokenFr
 break_ending Er = Broken ErCause
 break_ending Rs = Broken ErCause
 
+-- what the outcome of a PEND does
 abbrev pub by_outcome : Application → (asynchronous : Bool) → OpenTransaction → Variant → Outcome → Happened
 by_outcome app asynchronous x variant (Stay tac) = Went (followed app.generation asynchronous x tac)
 by_outcome app asynchronous x variant (Queue tac) = Queued (followed app.generation asynchronous x tac)
@@ -113,17 +121,20 @@ by_outcome app asynchronous x variant Finish = Settles Finish
 by_outcome app asynchronous x variant Break = Breaks (break_ending variant)
 by_outcome app asynchronous x variant Back = Returns
 
+-- what the answer of a call does
 abbrev pub by_call : Application → (asynchronous : Bool) → OpenTransaction → UnitText → Called → Happened
 by_call app asynchronous x unit (Replied y reply) = Went (counted unit y reply)
 by_call app asynchronous x unit Waits = Waited
 by_call app asynchronous x unit (Abnormal cause) = Breaks (Broken cause)
 by_call app asynchronous x unit (Pends variant o) = by_outcome app asynchronous x variant o
 
+-- a plain statement is done and counted; a call asks
 abbrev pub by_step : Application → Told → (asynchronous : Bool) → OpenTransaction → UnitText → Meaning → Happened
 by_step app v asynchronous x unit (Plain after) = Went (record x { run = after; statements = x.statements + 1 })
 by_step app v asynchronous x unit (Ends cause) = Breaks (Broken cause)
 by_step app v asynchronous x unit (Asks call) = by_call app asynchronous x unit (call_outcome app.generation v asynchronous x call)
 
+-- every TAC has a unit
 abbrev pub in_unit : Application → Told → (asynchronous : Bool) → OpenTransaction → Option UnitText → Happened
 in_unit app v asynchronous x None = Returns
 in_unit app v asynchronous x (Some unit) = by_step app v asynchronous x unit (step unit x.run)
@@ -142,6 +153,7 @@ pub record Kept : Type 0 where
   pub notes : List Note
   pub statements : ℕ
 
+-- the record of an open transaction, without an ending
 abbrev pub kept_so_far : ServiceId → OpenTransaction → Kept
 kept_so_far id x = record { service = id; began = x.began; inputs = x.first ∷ x.lterm ∷ x.inputs; notes = x.notes; statements = x.statements }
 

@@ -38,9 +38,11 @@ pub record Turned : Type 0 where
   pub acts : List Act
   pub settled : Option Settled
 
+-- a turn that moves nothing
 abbrev pub unmoved : State → Turned
 unmoved s = record { after = s; moved = false; acts = []; settled = None }
 
+-- a turn without a commit
 abbrev pub moved_to : State → List Act → Turned
 moved_to s acts = record { after = s; moved = true; acts = acts; settled = None }
 
@@ -54,9 +56,11 @@ commit_of app old new = Commit (difference (durable app.generation old) (durable
 
 -- ---- parts of a state
 
+-- the service has this open transaction
 abbrev pub with_open : State → ServiceId → OpenTransaction → State
 with_open s id x = record s { active = put id_cmp id x s.active }
 
+-- the service has none
 abbrev pub without_open : State → ServiceId → State
 without_open s id = record s { active = where_key id_cmp (λ i. not (id_eq id i)) s.active }
 
@@ -74,6 +78,7 @@ without_work s task id = without_open (with_task s task None) id
 
 -- ---- the terminal of a user
 
+-- the first session of the user
 abbrev pub pterm_by : Bytes → Bool → Option Bytes → Option Bytes
 pterm_by pterm true rest = Some pterm
 pterm_by pterm false rest = rest
@@ -83,6 +88,7 @@ unfoldable pub pterm_of_user : List (Bytes × Session) → Bytes → Option Byte
 pterm_of_user [] user = None
 pterm_of_user (e ∷ es) user = pterm_by e.0 (bytes_eq e.1.user user) (pterm_of_user es user)
 
+-- without a session there is nothing to note
 abbrev pub noted_last : State → Bytes → Bytes → Option Session → State
 noted_last s pterm message None = s
 noted_last s pterm message (Some v) = record s { signed = put bytes_cmp pterm (record v { last = Some message }) s.signed }
@@ -91,10 +97,12 @@ noted_last s pterm message (Some v) = record s { signed = put bytes_cmp pterm (r
 abbrev pub with_last : State → (pterm message : Bytes) → State
 with_last s pterm message = noted_last s pterm message (find bytes_cmp pterm s.signed)
 
+-- without a terminal there is nothing to note
 abbrev pub last_told : State → Option Bytes → Bytes → State
 last_told s None message = s
 last_told s (Some pterm) message = with_last s pterm message
 
+-- an OUT line, where there is a terminal
 abbrev pub out_acts : Option Bytes → Bytes → List Act
 out_acts None message = []
 out_acts (Some pterm) message = Emit (out_line pterm message) ∷ []
@@ -103,9 +111,11 @@ out_acts (Some pterm) message = Emit (out_line pterm message) ∷ []
 abbrev pub told_user : State → (user message : Bytes) → State
 told_user s user message = last_told s (pterm_of_user s.signed user) message
 
+-- the line of a dialogue message
 abbrev pub user_acts : State → (user message : Bytes) → List Act
 user_acts s user message = out_acts (pterm_of_user s.signed user) message
 
+-- SERVICE ENDED, where there is a terminal
 abbrev pub ended_at : Option Bytes → List Act
 ended_at None = []
 ended_at (Some pterm) = Emit (ended_line pterm) ∷ []
@@ -117,6 +127,7 @@ ended_acts s (Asynchronous number) = []
 
 -- ---- ends
 
+-- the dump line of an abnormal end; PEND FR has none
 abbrev pub dump_acts : ServiceId → OpenTransaction → Ending → List Act
 dump_acts id x Synced = []
 dump_acts id x (Broken cause) = Emit (dump_line id x.current cause x.run.place) ∷ []
@@ -133,6 +144,7 @@ abbrev pub message_sent : State → ServiceId → OpenTransaction → State
 message_sent s (Dialogue user) x = told_user s user (joined x.parts)
 message_sent s (Asynchronous number) x = s
 
+-- the line of that message
 abbrev pub message_acts : State → ServiceId → OpenTransaction → List Act
 message_acts s (Dialogue user) x = user_acts s user (joined x.parts)
 message_acts s (Asynchronous number) x = []
@@ -142,6 +154,7 @@ abbrev pub goes_on : Application → State → ServiceId → OpenTransaction →
 goes_on app s id x None = s
 goes_on app s id x (Some row) = queued s id (opened_by_row app.generation id row x.lterm)
 
+-- what follows the commit of a synchronisation point
 abbrev pub after_point : Application → State → ServiceId → OpenTransaction → Outcome → Option Service → Act → Settled → Turned
 after_point app s id x (Wait tac) row commit kept = committed (message_sent s id x) commit kept (message_acts s id x)
 after_point app s id x Finish row commit kept = committed (message_sent s id x) commit kept (message_acts s id x)
@@ -153,6 +166,7 @@ after_point app s id x (Queue tac) row commit kept = unmoved s
 after_point app s id x Break row commit kept = unmoved s
 after_point app s id x Back row commit kept = unmoved s
 
+-- a cause refuses the point
 abbrev pub settled_by : Application → State → (task : ℕ) → ServiceId → OpenTransaction → Outcome → TableRows → Option Cause → Turned
 settled_by app s task id x o new (Some cause) = abnormal app s task id x (Broken cause)
 settled_by app s task id x o new None =
@@ -164,6 +178,7 @@ settled app s task id x o =
     let new = synchronised app.generation s.tables id x o in
     settled_by app s task id x o new (refusal app.generation (durable app.generation new))
 
+-- the last dialogue message is sent again
 abbrev pub last_again : State → ServiceId → Option Bytes → Turned
 last_again s id None = moved_to s []
 last_again s (Dialogue user) (Some message) = moved_to (told_user s user message) (user_acts s user message)
@@ -179,6 +194,7 @@ abbrev pub back : Application → State → ServiceId → OpenTransaction → Op
 back app s id x None = moved_to s (ended_acts s id)
 back app s id x (Some row) = back_by app s id x row row.awaits
 
+-- the service waits, since the first request of this wait
 abbrev pub waiting : State → ServiceId → OpenTransaction → Area → State
 waiting s id x area = with_open s id (record x { awaited = Some (area, since x area s.tables.clock) })
 
@@ -198,15 +214,18 @@ happens app s task id x Returns = back app (without_work s task id) id x x.began
 abbrev pub statement_now : Application → State → ServiceId → OpenTransaction → Happened
 statement_now app s id x = statement app (told_now app s id x (area_of app x)) (is_asynchronous id) x
 
+-- a task works for a service with an open transaction
 abbrev pub worked : Application → State → (task : ℕ) → ServiceId → Option OpenTransaction → Turned
 worked app s task id None = unmoved s
 worked app s task id (Some x) = happens app s task id x (statement_now app s id x)
 
+-- an asynchronous service begins with its message
 abbrev pub took_job_for : Application → State → (task : ℕ) → (number : ℕ) → JobValue → Target → Turned
 took_job_for app s task number job (Tac tac) =
     moved_to (with_open (with_task s task (Some (Asynchronous number))) (Asynchronous number) (opened_by_job app.generation job tac)) []
 took_job_for app s task number job (Lterm lterm) = unmoved s
 
+-- the job is marked as taken by its open service
 abbrev pub took_job : Application → State → (task : ℕ) → (number : ℕ) → Option JobValue → Turned
 took_job app s task number None = unmoved s
 took_job app s task number (Some job) = took_job_for app s task number job job.to
@@ -217,6 +236,7 @@ took app s task None = unmoved s
 took app s task (Some (work.Service id)) = moved_to (record (with_task s task (Some id)) { ready = filter (λ (i : ServiceId). not (id_eq id i)) s.ready }) []
 took app s task (Some (work.Job number)) = took_job app s task number (job_of s.tables number)
 
+-- a free task takes work, another goes on
 abbrev pub turn_by : Application → State → (task : ℕ) → Option (Option ServiceId) → Turned
 turn_by app s task None = unmoved s
 turn_by app s task (Some None) = took app s task (pick app s)
