@@ -3,3 +3,4 @@ pub mod Suits
 pub mod Replay
 pub mod Commits
 pub mod Cut
+pub mod DeadlockLaw
