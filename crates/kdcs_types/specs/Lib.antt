@@ -9,4 +9,6 @@ pub mod KeyedLaws
 pub mod RowLaws
 pub mod SameLaws
 pub mod DifferenceLaws
+pub mod Places
+pub mod RowsKept
 pub mod Limits

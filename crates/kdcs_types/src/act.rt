@@ -4,7 +4,7 @@ ghost use Rattle.std.specs.Prelude.{◌≡◌, ◌++◌, ◌∷◌, [], OnOk, On
 use crate::key::{Key, ServiceId};
 use crate::service::{JobValue, Service};
 use kd_base::{Bytes, Name, OutOfMemory};
-use std::alloc::Global;
+use std::alloc::{AllocError, Global};
 use std::marker::Model;
 
 /// A row of the tables: a key with its value.
@@ -82,6 +82,42 @@ impl RowChanges {
         ensures err { OnErr result (self.new ≡ self.old) }
     {
         Ok(self.items.push(change)?)
+    }
+}
+
+impl Clone for Row {
+    ghost is_clone = { λ row copy. copy ≡ row };
+
+    fn clone(&self) -> Result<Row, AllocError> {
+        Ok(match self {
+            Row::Gssb(name, content) => Row::Gssb(*name, content.clone()?),
+            Row::Tls(block, lterm, content) => Row::Tls(*block, *lterm, content.clone()?),
+            Row::Uls(block, user, content) => Row::Uls(*block, *user, content.clone()?),
+            Row::Service(id, service) => Row::Service(*id, service.clone()?),
+            Row::Job(number, value) => Row::Job(*number, value.clone()?),
+            Row::Shown(lterm, value) => Row::Shown(*lterm, value.clone()?),
+        })
+    }
+}
+
+impl Clone for Change {
+    ghost is_clone = { λ change copy. copy ≡ change };
+
+    fn clone(&self) -> Result<Change, AllocError> {
+        Ok(match self {
+            Change::Set(row) => Change::Set(row.clone()?),
+            Change::Remove(key) => Change::Remove(*key),
+        })
+    }
+}
+
+impl Clone for RowChanges {
+    ghost is_clone = { λ changes copy. copy ≡ changes };
+
+    fn clone(&self) -> Result<RowChanges, AllocError> {
+        Ok(RowChanges {
+            items: self.items.clone()?,
+        })
     }
 }
 

@@ -11,6 +11,8 @@ mod fixed;
 mod key;
 mod laws;
 mod lists;
+mod places;
+mod row_lists;
 mod run_state;
 mod service;
 mod tables;
@@ -25,3 +27,6 @@ pub use lists::{Areas, Notes, Parts};
 pub use run_state::{Header, RunState};
 pub use service::{Ending, Job, JobValue, Note, Service, Settled};
 pub use tables::Tables;
+
+#[cfg(test)]
+mod tests;

@@ -3,7 +3,7 @@ ghost use Rattle.std.specs.Prelude.{◌≡◌, ◌∷◌, [], ◌++◌, length, 
 
 use crate::service::Note;
 use kd_base::{Bytes, Name, OutOfMemory};
-use std::alloc::Global;
+use std::alloc::{AllocError, Global};
 use std::marker::Model;
 
 /// The parts of a message, in order. Contracts see the list.
@@ -146,5 +146,25 @@ impl Notes {
         ensures err { OnErr result (self.new ≡ self.old) }
     {
         Ok(self.items.push(note)?)
+    }
+}
+
+impl Clone for Parts {
+    ghost is_clone = { λ parts copy. copy ≡ parts };
+
+    fn clone(&self) -> Result<Parts, AllocError> {
+        Ok(Parts {
+            items: self.items.clone()?,
+        })
+    }
+}
+
+impl Clone for Areas {
+    ghost is_clone = { λ areas copy. copy ≡ areas };
+
+    fn clone(&self) -> Result<Areas, AllocError> {
+        Ok(Areas {
+            items: self.items.clone()?,
+        })
     }
 }

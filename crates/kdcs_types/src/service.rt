@@ -1,9 +1,12 @@
 //! Services, jobs, and what a transaction keeps for its replay.
 
+ghost use Rattle.std.specs.Prelude.{◌≡◌};
+
 use crate::call::{Cause, Code};
 use crate::key::{Area, ServiceId, Target};
 use crate::lists::{Areas, Notes, Parts};
 use kd_base::{Bytes, Name};
+use std::alloc::AllocError;
 
 /// A service at its last synchronisation point.
 #[derive(Debug, Drop)]
@@ -80,4 +83,48 @@ pub struct Settled {
     /// How many statements were done.
     pub statements: u64,
     pub ending: Ending,
+}
+
+impl Clone for Service {
+    ghost is_clone = { λ service copy. copy ≡ service };
+
+    fn clone(&self) -> Result<Service, AllocError> {
+        Ok(Service {
+            id: self.id,
+            first: self.first,
+            next: self.next,
+            awaits: self.awaits,
+            user: self.user,
+            lterm: self.lterm,
+            kb: self.kb.clone()?,
+            handed: self.handed.clone()?,
+            last: self.last.clone()?,
+            lssbs: self.lssbs.clone()?,
+        })
+    }
+}
+
+impl Clone for JobValue {
+    ghost is_clone = { λ value copy. copy ≡ value };
+
+    fn clone(&self) -> Result<JobValue, AllocError> {
+        Ok(JobValue {
+            to: self.to,
+            due: self.due,
+            user: self.user,
+            lterm: self.lterm,
+            message: self.message.clone()?,
+        })
+    }
+}
+
+impl Clone for Job {
+    ghost is_clone = { λ job copy. copy ≡ job };
+
+    fn clone(&self) -> Result<Job, AllocError> {
+        Ok(Job {
+            number: self.number,
+            value: self.value.clone()?,
+        })
+    }
 }
