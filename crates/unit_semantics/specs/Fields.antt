@@ -1,5 +1,6 @@
 -- What a statement reads of its unit run, and how it stores bytes in a field.
 use Rattle.std.specs.Prelude.{ℕ, Bool, true, false, List, [], take, drop, Option, Some, None, codes}
+use Rattle.kd_base.specs.Text.{padded}
 use Rattle.kdcs_types.specs.declared.call.Code.{Code}
 use Rattle.kdcs_types.specs.declared.call.Code.TheVariants.{Done, K01, K02, K03, K04, K05, K06, K07, K08, K09, K10, K11}
 use Rattle.kdcs_types.specs.declared.run_state.RunState.{RunState}
@@ -28,10 +29,10 @@ code_text K11 = codes "K11"
 
 -- names in 8 bytes, the last code in 3, the last length in 5 digits
 abbrev pub header_value : RunState → HeaderName → List ℕ
-header_value run Benid = fitted 8 run.header.benid
-header_value run Logter = fitted 8 run.header.logter
-header_value run Tacvg = fitted 8 run.header.tacvg
-header_value run Tacal = fitted 8 run.header.tacal
+header_value run Benid = padded run.header.benid
+header_value run Logter = padded run.header.logter
+header_value run Tacvg = padded run.header.tacvg
+header_value run Tacal = padded run.header.tacal
 header_value run Crccc = code_text run.code
 header_value run Rlm = in_digits 5 run.length
 

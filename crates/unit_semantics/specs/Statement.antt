@@ -15,9 +15,10 @@ use Rattle.unit_types.specs.declared.action.Operand.{Operand}
 use Rattle.unit_types.specs.declared.action.Relation.{Relation}
 use Rattle.unit_types.specs.declared.action.Relation.TheVariants.{Eq, Ne, Lt, Gt}
 use Rattle.unit_types.specs.declared.action.UnitStatement.{UnitStatement}
+use Rattle.unit_types.specs.declared.unit.Field.{Field}
 use Rattle.unit_types.specs.UnitText.{UnitText, field_named, label_place, statement_at}
 use Rattle.unit_semantics.specs.Contents.{number_of, number_in, compared}
-use Rattle.unit_semantics.specs.Fields.{content_of, room_of, value_of, stored}
+use Rattle.unit_semantics.specs.Fields.{content_of, room_of, value_of, stored, stored_in}
 
 -- a plain statement was done and leads to this state, this call comes next, or the run ends with this cause
 pub data Meaning : Type 0 where
@@ -74,15 +75,15 @@ abbrev pub gets : UnitText → RunState → List ℕ → List ℕ → Meaning
 gets unit run name bytes = Plain (moved_on (stored unit run name bytes))
 
 -- a field gets a result, where there is one
-abbrev pub gets_result : UnitText → RunState → List ℕ → Option (List ℕ) → Meaning
-gets_result unit run name None = Ends E06
-gets_result unit run name (Some bytes) = gets unit run name bytes
+abbrev pub gets_result : RunState → Field → Option (List ℕ) → Meaning
+gets_result run f None = Ends E06
+gets_result run f (Some bytes) = Plain (moved_on (stored_in run (Some f) bytes))
 
 -- a field gets what a calculation makes of its own number and that of an operand
-abbrev pub calculates : UnitText → RunState → List ℕ → Operand → (ℕ → ℕ → Option ℕ) → Meaning
-calculates unit run name operand calculation =
-    let field = field_named unit name in
-    gets_result unit run name (calculated (room_of field) calculation (number_of (content_of run field)) (number_of (value_of unit run operand)))
+abbrev pub calculates : UnitText → RunState → Option Field → Operand → (ℕ → ℕ → Option ℕ) → Meaning
+calculates unit run None operand calculation = Plain (moved_on run)
+calculates unit run (Some f) operand calculation =
+    gets_result run f (calculated f.length calculation (number_of (content_of run (Some f))) (number_of (value_of unit run operand)))
 
 -- the length of a target field
 abbrev pub target_room : UnitText → List ℕ → ℕ
@@ -91,10 +92,10 @@ target_room unit name = room_of (field_named unit name)
 unfoldable pub done_by : UnitText → RunState → Action → Meaning
 done_by unit run (action.Move f x) = gets unit run f (value_of unit run x)
 done_by unit run (action.Join f x y) = gets unit run f (value_of unit run x ++ value_of unit run y)
-done_by unit run (action.Add f x) = calculates unit run f x sum_of
-done_by unit run (action.Sub f x) = calculates unit run f x difference_of
-done_by unit run (action.Mul f x) = calculates unit run f x product_of
-done_by unit run (action.Div f x) = calculates unit run f x quotient_of
+done_by unit run (action.Add f x) = calculates unit run (field_named unit f) x sum_of
+done_by unit run (action.Sub f x) = calculates unit run (field_named unit f) x difference_of
+done_by unit run (action.Mul f x) = calculates unit run (field_named unit f) x product_of
+done_by unit run (action.Div f x) = calculates unit run (field_named unit f) x quotient_of
 done_by unit run (action.If x relation y label) =
     Plain (branched unit run label (relates relation (compared (value_of unit run x) (value_of unit run y))))
 done_by unit run (action.Jump label) = Plain (jumped run (label_place unit label))
@@ -120,6 +121,39 @@ done_by unit run (action.UnlkGb name) = Asks (call.UnlkGb (value_of unit run nam
 done_by unit run (action.UnlkUs name) = Asks (call.UnlkUs (value_of unit run name))
 done_by unit run (action.UnlkDa name) = Asks (call.UnlkDa (value_of unit run name))
 done_by unit run (action.Pend variant follow_up) = Asks (call.Pend variant (option_map (value_of unit run) follow_up))
+
+-- whether the doing of a statement may take memory: one that copies bytes
+abbrev pub takes_memory : Action → Bool
+takes_memory (action.Move f x) = true
+takes_memory (action.Join f x y) = true
+takes_memory (action.Add f x) = false
+takes_memory (action.Sub f x) = false
+takes_memory (action.Mul f x) = false
+takes_memory (action.Div f x) = false
+takes_memory (action.If x relation y label) = false
+takes_memory (action.Jump label) = false
+takes_memory action.Init = false
+takes_memory (action.Mget f) = false
+takes_memory (action.Mput x) = true
+takes_memory (action.Fget f) = false
+takes_memory (action.Fput to x) = true
+takes_memory (action.Dput to mode d h m s x) = true
+takes_memory (action.SgetGb name f) = true
+takes_memory (action.SputGb name x) = true
+takes_memory (action.SrelGb name) = true
+takes_memory (action.SgetKp name f) = true
+takes_memory (action.SgetRl name f) = true
+takes_memory (action.SputMs name x) = true
+takes_memory (action.SrelLb name) = true
+takes_memory (action.SgetUs name f) = true
+takes_memory (action.SputUs name x) = true
+takes_memory (action.Gtda name f) = true
+takes_memory (action.Ptda name x) = true
+takes_memory (action.UnlkGb name) = true
+takes_memory (action.UnlkUs name) = true
+takes_memory (action.UnlkDa name) = true
+takes_memory (action.Pend variant None) = false
+takes_memory (action.Pend variant (Some follow_up)) = true
 
 -- what the statement at a place says, counted from 1
 abbrev pub action_at : UnitText → ℕ → Option Action

@@ -1,3 +1,6 @@
 pub mod Comparing
 pub mod Digits
 pub mod Writing
+pub mod Fields
+pub mod Results
+pub mod Calls

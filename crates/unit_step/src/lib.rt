@@ -6,6 +6,16 @@
 //! a call comes next, the run ends or memory ran out.
 #![tactic(auto)]
 
+mod answer;
 mod area;
+mod call;
 mod compare;
 mod number;
+mod operand;
+mod outcome;
+mod plain;
+mod stepping;
+
+pub use answer::answered;
+pub use stepping::step;
+pub use outcome::Stepped;

@@ -1,8 +1,18 @@
 //! Bytes without the spaces around them, and numbers.
 ghost use Rattle.std.specs.Prelude.{◌≡◌, ◌/◌, ◌^◌, length};
 ghost use Rattle.unit_semantics.specs.Contents.{trim_end, trim_start, number_of, in_digits};
+ghost use Rattle.unit_step.specs.Calculation.{calculation_of, limited};
 
 use kd_base::decimal_of;
+
+/// What ADD, SUB, MUL and DIV make of two numbers.
+#[derive(Clone, Copy, Debug)]
+pub enum Calculation {
+    Sum,
+    Difference,
+    Product,
+    Quotient,
+}
 
 /// The bytes without the spaces at the end.
 #[tactic(auto, unfolding(unit_semantics::specs::Contents::trim_end))]
@@ -52,4 +62,22 @@ pub fn last_digits(number: u64, into: &mut [u8]) -> u64
         left /= 10;
     }
     left
+}
+
+/// A result of at most 64 bits; none for a difference below 0 and by a divisor of 0.
+pub fn result_of(calculation: Calculation, a: u64, b: u64) -> Option<u64>
+    ensures { result ≡ limited (calculation_of calculation a b) }
+{
+    match calculation {
+        Calculation::Sum => a.checked_add(b),
+        Calculation::Difference => a.checked_sub(b),
+        Calculation::Product => a.checked_mul(b),
+        Calculation::Quotient => {
+            if b == 0 {
+                None
+            } else {
+                Some(a / b)
+            }
+        }
+    }
 }
