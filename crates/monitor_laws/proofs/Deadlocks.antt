@@ -1,5 +1,5 @@
 -- A chain of waits can be cut at its repeats, and is then no longer than there are open transactions.
-use Rattle.std.specs.Prelude.{◌≡◌, ◌≤◌, refl, ℕ, zero, suc, Bool, true, false, cond, ◌||◌, IsTrue, List, [], ◌∷◌, Option, Some, None, length, map, find as find_first, is_some, option_map, option_and_then}
+use Rattle.std.specs.Prelude.{◌≡◌, ◌≤◌, refl, ℕ, zero, suc, Bool, true, false, cond, ◌||◌, IsTrue, List, [], ◌∷◌, Option, Some, None, length, map, find as find_first, is_some, option_and_then}
 use Rattle.std.proofs.Common.{sym, ap, subst, ◌∙◌, true≢false, arith}
 use Rattle.std.proofs.lemmas.List.{length-map}
 use Rattle.std.specs.List.{list_any, IsDistinct, AllByRecursion}
@@ -12,7 +12,7 @@ use Rattle.kdcs_types.specs.declared.key.ServiceId.{ServiceId}
 use Rattle.kdcs_types.specs.Keys.{id_cmp, id_eq}
 use Rattle.kdcs_types.specs.KeyLaws.{id_total, id_eq-same, id_eq-itself}
 use Rattle.monitor_semantics.specs.State.{OpenTransaction}
-use Rattle.monitor_semantics.specs.Locks.{Active, Holds, holds, touched_by, IsExclusive, IsDeadlocked, IsChain, WaitsFor, awaited_area, awaited_by, holder, waits_for, reaches, is_deadlocked}
+use Rattle.monitor_semantics.specs.Locks.{Active, Holds, holds, touched_by, IsExclusive, IsChain, WaitsFor, awaited_area, awaited_by, holder, waits_for, reaches, is_deadlocked}
 use Rattle.monitor_laws.specs.DeadlockLaw.{DeadlocksAreFound}
 
 abbrev keys : Active → List ServiceId
@@ -186,10 +186,9 @@ module _ (active : Active) (exclusive : IsExclusive active) where
 
 -- the test finds the relation, and nothing else
 pub deadlocks_found : DeadlocksAreFound
-deadlocks_found active exclusive asker other area held apart_from =
-    (
-      λ h. let r = chain-from_reaches active exclusive asker (length active) other h in
-        record { first = other; rest = r.0; holds = holder-holds active area other held; other = apart_from; chain = r.1 },
-      λ d. let same = exclusive d.first other area d.holds (holder-holds active area other held) in
-        reached active exclusive asker other (way-from_chain active exclusive asker other d.rest (subst (λ i. IsChain active asker i d.rest) same d.chain)),
-    )
+deadlocks_found active exclusive asker other area held apart_from = (
+  λ h. let r = chain-from_reaches active exclusive asker (length active) other h in
+      record { first = other; rest = r.0; holds = holder-holds active area other held; other = apart_from; chain = r.1 },
+  λ d. let same = exclusive d.first other area d.holds (holder-holds active area other held) in
+      reached active exclusive asker other (way-from_chain active exclusive asker other d.rest (subst (λ i. IsChain active asker i d.rest) same d.chain)),
+)

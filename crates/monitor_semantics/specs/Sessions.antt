@@ -9,9 +9,7 @@ use Rattle.kdcs_types.specs.declared.service.Service.{Service}
 use Rattle.kdcdef_types.specs.declared.entry.TacEntry.{TacEntry}
 use Rattle.kdcdef_types.specs.declared.entry.UserEntry.{UserEntry}
 use Rattle.kdcdef_types.specs.Generation.{Generated, tac_of, user_of}
-use Rattle.monitor_semantics.specs.declared.input_use.SignFault.{SignFault}
 use Rattle.monitor_semantics.specs.declared.input_use.SignFault.TheVariants.{BadForm, UnknownUser, WrongPassword, InUse}
-use Rattle.monitor_semantics.specs.declared.input_use.TacFault.{TacFault}
 use Rattle.monitor_semantics.specs.declared.input_use.TacFault.TheVariants.{UnknownTac, NotAllowed, IsOff}
 use Rattle.monitor_semantics.specs.declared.input_use.ServiceState.{ServiceState}
 use Rattle.monitor_semantics.specs.declared.input_use.ServiceState.TheVariants.{NoService, Awaits, Running}
