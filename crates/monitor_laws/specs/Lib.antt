@@ -1,0 +1,6 @@
+pub mod Facts
+pub mod Suits
+pub mod Replay
+pub mod Commits
+pub mod Cut
+pub mod DeadlockLaw

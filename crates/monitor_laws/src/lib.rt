@@ -1,0 +1,13 @@
+//! What holds of the abstract monitor: the facts of its states, which tables suit a generation, kept records run again
+//! in one go, the laws on a commit, and the cut of a trace.
+//!
+//! It stands on the definitions of the monitor. The functions do nothing: their contracts are laws on the definitions,
+//! which all crates above may cite.
+#![tactic(auto)]
+
+ghost use Rattle.monitor_laws.specs.DeadlockLaw.{DeadlocksAreFound};
+
+/// A request that is answered K05 waits in a chain that ends at its own service, and no other does.
+pub fn deadlocks_are_found()
+    ensures { DeadlocksAreFound }
+{}
