@@ -4,3 +4,6 @@ pub mod GivenOperands
 pub mod Names
 pub mod Filling
 pub mod FirstOfFaults
+pub mod Tallies
+pub mod Chains
+pub mod Counting

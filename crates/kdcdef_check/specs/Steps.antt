@@ -149,8 +149,9 @@ pub record HaveNames (t : Tables) (g : Generated) : Type 0 where
 
 -- ---- counts
 
-abbrev pub IsTallyOf : Tally → List Statement → Type 0
-IsTallyOf t ss = (kind : ℕ) → kind < 11 → slice_index t.counts kind ≡ kind_count kind ss
+pub record IsTallyOf (t : Tally) (ss : List Statement) : Type 0 where
+  pub kinds : length t.counts ≡ 11
+  pub counts : (kind : ℕ) → kind < 11 → slice_index t.counts kind ≡ kind_count kind ss
 
 -- a USER statement with RESTART=YES
 abbrev pub is_restart : Said → Bool

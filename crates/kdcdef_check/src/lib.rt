@@ -10,6 +10,7 @@ mod generation;
 mod hashing;
 mod limits;
 mod own;
+mod passes;
 mod tables;
 mod tally;
 mod whole;

@@ -1,7 +1,7 @@
 //! How many statements there are.
-ghost use Rattle.std.specs.Prelude.{◌≡◌, ◌+◌, ◌^◌, ◌<◌, replicate, slice_index, slice_set};
+ghost use Rattle.std.specs.Prelude.{◌≡◌, ◌+◌, ◌^◌, ◌<◌, [], slice_index, slice_set};
 ghost use Rattle.kdcdef_check.specs.Faults.{kind_of};
-ghost use Rattle.kdcdef_check.specs.Steps.{place_of};
+ghost use Rattle.kdcdef_check.specs.Steps.{place_of, IsTallyOf};
 
 use kdcdef_types::Said;
 
@@ -56,7 +56,7 @@ impl Kind {
 
 impl Tally {
     pub(crate) fn new() -> Tally
-        ensures { result.counts ≡ replicate 11 0 }
+        ensures { IsTallyOf result [] }
     {
         Tally { counts: [0; 11] }
     }
@@ -70,7 +70,7 @@ impl Tally {
 
     /// Counts one more statement of the kind.
     pub(crate) fn add(&mut self, kind: Kind)
-        requires { slice_index self.old.counts (place_of kind) < 2 ^ 63 }
+        requires { slice_index self.old.counts (place_of kind) + 1 < 2 ^ 64 }
         ensures { self.new.counts ≡ slice_set self.old.counts (place_of kind) (slice_index self.old.counts (place_of kind) + 1) }
     {
         self.counts[kind.place()] += 1;
