@@ -80,17 +80,3 @@ one_restart _ n us h = omega (arith, h)
 pub restarts_said : (ss : List Statement) → count_by (λ (s : Statement). is_restart s.said) ss ≡ restart_count (said_as as_user ss)
 restarts_said [] = refl
 restarts_said (s ∷ ss) = count_cons (λ (t : Statement). is_restart t.said) s ss ∙ one_restart s.said (count_by (λ (s : Statement). is_restart s.said) ss) (said_as as_user ss) (restarts_said ss)
-
-one_of_both : (said : Said) (a b n : ℕ) → a + b ≤ n → (cond (is_restart said) 1 0 + a) + (cond (kind_of said == 5) 1 0 + b) ≤ suc n
-one_of_both (User name entry) a b n h = restarting entry.restart a b n h
-  where
-    restarting : (r : Bool) (a b n : ℕ) → a + b ≤ n → (cond r 1 0 + a) + (0 + b) ≤ suc n
-    restarting true a b n h = omega (arith, h)
-    restarting false a b n h = omega (arith, h)
-one_of_both (Lterm name entry) a b n h = omega (arith, h)
-one_of_both _ a b n h = omega (arith, h)
-
--- a statement is a USER or an LTERM
-pub both_within : (ss : List Statement) → count_by (λ (s : Statement). is_restart s.said) ss + kind_count 5 ss ≤ length ss
-both_within [] = omega arith
-both_within (s ∷ ss) = rw (count_cons (λ (t : Statement). is_restart t.said) s ss) (rw (count_cons (λ (t : Statement). kind_of t.said == 5) s ss) (one_of_both s.said (count_by (λ (s : Statement). is_restart s.said) ss) (kind_count 5 ss) (length ss) (both_within ss)))

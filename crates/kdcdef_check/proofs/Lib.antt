@@ -7,3 +7,9 @@ pub mod FirstOfFaults
 pub mod Tallies
 pub mod Chains
 pub mod Counting
+pub mod Faultless
+pub mod Exact
+pub mod Apart
+pub mod Sound
+pub mod Answered
+pub mod PassedOperands

@@ -5,6 +5,7 @@
 //! answers for each name what its statement says; and which ranges the numbers of every generation keep.
 #![tactic(auto)]
 
+mod checking;
 mod fault;
 mod generation;
 mod hashing;
@@ -15,6 +16,7 @@ mod tables;
 mod tally;
 mod whole;
 
+pub use checking::check;
 pub use fault::CheckFault;
 pub use generation::Generation;
 pub use hashing::NameHashing;

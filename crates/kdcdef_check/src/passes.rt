@@ -1,6 +1,5 @@
 //! The two passes over the statements: one fills the tables, the other tests what needs all of them.
-ghost use Rattle.std.specs.Prelude.{◌≡◌, ◌+◌, ◌^◌, ◌<◌, List, length, IfOk};
-ghost use Rattle.kdcdef_types.specs.declared.statement.Statement.{Statement};
+ghost use Rattle.std.specs.Prelude.{length, IfOk};
 ghost use Rattle.kdcdef_check.specs.Generating.{generated};
 ghost use Rattle.kdcdef_check.specs.Steps.{AreFilled, IsTallyOf, IsFirstOf, AmongFirst, OwnFault, OuterFault, HaveNames, IsWhole};
 
@@ -51,7 +50,6 @@ pub(crate) fn first_outer_fault(
     whole: &Whole,
     statements: &[Statement],
 ) -> Option<CheckFault>
-    requires fits { whole.now.restarts + whole.now.lterms < 2 ^ 64 }
     requires names { HaveNames tables.now (generated statements.now) }
     requires whole { IsWhole whole.now statements.now }
     ensures { IsFirstOf (AmongFirst statements.now (OuterFault statements.now) (length statements.now)) result }

@@ -1,9 +1,9 @@
 //! How many statements there are.
 ghost use Rattle.std.specs.Prelude.{◌≡◌, ◌+◌, ◌^◌, ◌<◌, [], slice_index, slice_set};
 ghost use Rattle.kdcdef_check.specs.Faults.{kind_of};
-ghost use Rattle.kdcdef_check.specs.Steps.{place_of, IsTallyOf};
+ghost use Rattle.kdcdef_check.specs.Steps.{place_of, AreFew, counts_in, IsTallyOf};
 
-use kdcdef_types::Said;
+use kdcdef_types::{Counts, Said};
 
 /// The kinds of statements; all that are passed over are one kind.
 #[derive(Clone, Copy)]
@@ -66,6 +66,22 @@ impl Tally {
         ensures { result ≡ slice_index self.now.counts (place_of kind) }
     {
         self.counts[kind.place()]
+    }
+
+    /// The counts of a generation.
+    pub(crate) fn counts(&self, passed_operands: u32) -> Counts
+        requires { AreFew self.now }
+        ensures { result ≡ counts_in self.now passed_operands }
+    {
+        Counts {
+            users: self.count(Kind::User) as u32,
+            pterms: self.count(Kind::Pterm) as u32,
+            lterms: self.count(Kind::Lterm) as u32,
+            tacs: self.count(Kind::Tac) as u32,
+            programs: self.count(Kind::Program) as u32,
+            passed_statements: self.count(Kind::Passed) as u32,
+            passed_operands,
+        }
     }
 
     /// Counts one more statement of the kind.

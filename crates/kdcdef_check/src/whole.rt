@@ -1,5 +1,5 @@
 //! What the statements say together, and the faults that show against it.
-ghost use Rattle.std.specs.Prelude.{◌≡◌, ◌+◌, ◌^◌, ◌<◌, ◌≤◌, List, length, nat_lt, unwrap_or};
+ghost use Rattle.std.specs.Prelude.{◌≡◌, ◌+◌, ◌≤◌, List, length, nat_lt, unwrap_or};
 ghost use Rattle.kdcdef_types.specs.declared.statement.Statement.{Statement};
 ghost use Rattle.kdcdef_check.specs.Soundness.{restart_count};
 ghost use Rattle.kdcdef_check.specs.Generating.{as_user, said_as, generated};
@@ -54,8 +54,7 @@ fn is_end(said: &Said) -> bool
 impl Whole {
     pub(crate) fn of(statements: &[Statement], tally: &Tally) -> Whole
         requires { IsTallyOf tally.now statements.now }
-        ensures whole { IsWhole result statements.now }
-        ensures fits { result.restarts + result.lterms < 2 ^ 64 }
+        ensures { IsWhole result statements.now }
     {
         Whole {
             max: max_given(statements),
@@ -67,15 +66,14 @@ impl Whole {
 
     // Whether the pool has no page for each user with RESTART=YES and each LTERM.
     fn has_small_pool(&self) -> bool
-        requires { self.now.restarts + self.now.lterms < 2 ^ 64 }
         ensures { result ≡ nat_lt (unwrap_or self.now.max.pgpool 100) (self.now.restarts + self.now.lterms) }
     {
-        (self.max.pgpool.unwrap_or(100) as usize) < self.restarts + self.lterms
+        let needed = self.restarts.saturating_add(self.lterms);
+        (self.max.pgpool.unwrap_or(100) as usize) < needed
     }
 
     /// The first of a statement's faults against all statements.
     pub(crate) fn fault_of(&self, tables: &Tables, statement: &Statement) -> Option<CheckFault>
-        requires { self.now.restarts + self.now.lterms < 2 ^ 64 }
         ensures { (all : List Statement) → HaveNames tables.now (generated all) → IsWhole self.now all → result ≡ outer_fault all statement.now }
     {
         let said = &statement.said;

@@ -1,9 +1,9 @@
 use Rattle.std.proofs.Common.{◌∙◌, sym, ap, arith}
-use Rattle.kdcdef_check.proofs.Counting.{user_count, lterm_count, restarts_said, both_within}
+use Rattle.kdcdef_check.proofs.Counting.{user_count, lterm_count}
 use Rattle.kdcdef_check.proofs.whole.Whole.of.Goals as goal
 
-pub returns-clause-whole : goal.returns-clause-whole
-returns-clause-whole c =
+pub returns : goal.returns
+returns c =
     let ss = c.args.statements.now in
     record {
       max = c.max_given.ensures;
@@ -11,6 +11,3 @@ returns-clause-whole c =
       restarts = c.restart_count.ensures.count;
       lterms = c.count-2.ensures ∙ c.requires.counts 5 (omega arith) ∙ lterm_count ss;
     }
-
-pub returns-clause-fits : goal.returns-clause-fits
-returns-clause-fits c = let h = c.well_formed in ?
