@@ -14,10 +14,10 @@ use Rattle.kdcdef_check.specs.Steps.{put, put_key, table_of, keys_table, lterm_s
 use Rattle.kdcdef_check.proofs.Names.{exact_numbers, exact_bytes, there-table_of, among-keys_table}
 use Rattle.kdcdef_check.proofs.Passing.{next_taken}
 
-table_of-push : {K V : Type 0} (eq : K → K → Bool) (f : Statement → Option (K × V)) (ss : List Statement) (s : Statement) → table_of eq f (ss ++ s ∷ []) ≡ put eq (f s) (table_of eq f ss)
+pub table_of-push : {K V : Type 0} (eq : K → K → Bool) (f : Statement → Option (K × V)) (ss : List Statement) (s : Statement) → table_of eq f (ss ++ s ∷ []) ≡ put eq (f s) (table_of eq f ss)
 table_of-push {K} {V} eq f ss s = fold-append (λ (entries : List (K × V)) (s : Statement). put eq (f s) entries) [] ss (s ∷ [])
 
-keys_table-push : {K : Type 0} (eq : K → K → Bool) (f : Statement → Option K) (ss : List Statement) (s : Statement) → keys_table eq f (ss ++ s ∷ []) ≡ put_key eq (f s) (keys_table eq f ss)
+pub keys_table-push : {K : Type 0} (eq : K → K → Bool) (f : Statement → Option K) (ss : List Statement) (s : Statement) → keys_table eq f (ss ++ s ∷ []) ≡ put_key eq (f s) (keys_table eq f ss)
 keys_table-push {K} eq f ss s = fold-append (λ (keys : List K) (s : Statement). put_key eq (f s) keys) [] ss (s ∷ [])
 
 -- a table, and the same with one more statement
@@ -37,7 +37,7 @@ filled_further ss s old new was added = record {
   classes = further nat_eq (λ (s : Statement). as_class s.said) ss s _ _ was.classes added.classes;
   tls = further_keys bytes_eq (λ (s : Statement). as_tls s.said) ss s _ _ was.tls added.tls;
   uls = further_keys bytes_eq (λ (s : Statement). as_uls s.said) ss s _ _ was.uls added.uls;
-  served = further_keys bytes_eq (λ (s : Statement). lterm_said s.said) ss s _ _ was.served added.served
+  served = further_keys bytes_eq (λ (s : Statement). lterm_said s.said) ss s _ _ was.served added.served;
 }
 
 -- the tables of the loop, one statement further
@@ -64,5 +64,5 @@ filled_names t ss filled = record {
   classes = λ (class : ℕ). ap (λ (es : List (ℕ × ℕ)). is_some (lookup (nat_eq class) es)) filled.classes ∙ there-table_of nat_eq exact_numbers (λ (s : Statement). as_class s.said) ss class;
   tls = λ (name : List ℕ). ap (λ (ks : List (List ℕ)). list_any (bytes_eq name) ks) filled.tls ∙ among-keys_table bytes_eq exact_bytes (λ (s : Statement). as_tls s.said) ss name;
   uls = λ (name : List ℕ). ap (λ (ks : List (List ℕ)). list_any (bytes_eq name) ks) filled.uls ∙ among-keys_table bytes_eq exact_bytes (λ (s : Statement). as_uls s.said) ss name;
-  served = λ (name : List ℕ). ap (λ (ks : List (List ℕ)). list_any (bytes_eq name) ks) filled.served ∙ among-keys_table bytes_eq exact_bytes (λ (s : Statement). lterm_said s.said) ss name ∙ served_by ss name
+  served = λ (name : List ℕ). ap (λ (ks : List (List ℕ)). list_any (bytes_eq name) ks) filled.served ∙ among-keys_table bytes_eq exact_bytes (λ (s : Statement). lterm_said s.said) ss name ∙ served_by ss name;
 }

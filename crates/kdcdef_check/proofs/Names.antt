@@ -21,11 +21,11 @@ exact_numbers x y h = elim (eqb_tells x y) [ inl p ↦ p.1 | inr p ↦ absurd (g
 pub exact_bytes : IsExact bytes_eq
 exact_bytes x y h = (bytes_eq-Decides x y).0 h
 
-or_true : (b : Bool) → (b || true) ≡ true
+pub or_true : (b : Bool) → (b || true) ≡ true
 or_true true = refl
 or_true false = refl
 
-or_false : (b : Bool) → (b || false) ≡ b
+pub or_false : (b : Bool) → (b || false) ≡ b
 or_false true = refl
 or_false false = refl
 
@@ -45,7 +45,7 @@ or_again : (a b c : Bool) → a ≡ b → (b || c) ≡ (a || (b || c))
 or_again true b c h = rw (sym h) refl
 or_again false b c h = refl
 
-at_head : {V : Type 0} (b : Bool) (v : V) (o : Option V) → is_some (cond b (Some v) o) ≡ (b || is_some o)
+pub at_head : {V : Type 0} (b : Bool) (v : V) (o : Option V) → is_some (cond b (Some v) o) ≡ (b || is_some o)
 at_head true v o = refl
 at_head false v o = refl
 
@@ -57,8 +57,10 @@ module _ {K V : Type 0} (eq : K → K → Bool) (exact : IsExact eq) where
     where
       there : Bool
       there = is_some (lookup (eq k) es)
+
       behind : (eq k new || (eq k e.0 || there)) ≡ (eq k new || is_some (cond (eq k e.0) (Some e.1) (lookup (eq k) es)))
       behind = ap (λ b. eq k new || b) (sym (at_head (eq k e.0) e.1 (lookup (eq k) es)))
+
       go : is_some (lookup (eq k) (insert_entry eq es new v)) ≡ (eq k new || there) → (a : Bool) → eq new e.0 ≡ a → is_some (lookup (eq k) (cond a ((e.0, v) ∷ es) (e ∷ insert_entry eq es new v))) ≡ (eq k new || is_some (cond (eq k e.0) (Some e.1) (lookup (eq k) es)))
       go so_far true h = at_head (eq k e.0) v (lookup (eq k) es) ∙ or_again (eq k new) (eq k e.0) there (ap (eq k) (exact new e.0 h)) ∙ behind
       go so_far false h =
@@ -97,6 +99,7 @@ module _ {K : Type 0} (eq : K → K → Bool) (exact : IsExact eq) where
       present : (b : Bool) → eq k new ≡ b → list_any (eq new) ks ≡ true → list_any (eq k) ks ≡ (b || list_any (eq k) ks)
       present true h is = rw (exact k new h) is
       present false h is = refl
+
       go : (a : Bool) → list_any (eq new) ks ≡ a → list_any (eq k) (cond a ks (ks ++ new ∷ [])) ≡ (eq k new || list_any (eq k) ks)
       go true h = present (eq k new) refl h
       go false h = list_any-append (eq k) ks (new ∷ []) ∙ ap (λ b. list_any (eq k) ks || b) (or_false (eq k new)) ∙ or_turned (list_any (eq k) ks) (eq k new)
