@@ -14,10 +14,10 @@ use Rattle.kdcdef_check.specs.Steps.{put, put_key, table_of, keys_table, lterm_s
 use Rattle.kdcdef_check.proofs.Names.{exact_numbers, exact_bytes, there-table_of, among-keys_table}
 use Rattle.kdcdef_check.proofs.Passing.{next_taken}
 
-table_of-push : {K V : Type 0} (eq : K → K → Bool) (f : Statement → Option (K × V)) (ss : List Statement) (s : Statement) → table_of eq f (ss ++ s ∷ []) ≡ put eq (f s) (table_of eq f ss)
+pub table_of-push : {K V : Type 0} (eq : K → K → Bool) (f : Statement → Option (K × V)) (ss : List Statement) (s : Statement) → table_of eq f (ss ++ s ∷ []) ≡ put eq (f s) (table_of eq f ss)
 table_of-push {K} {V} eq f ss s = fold-append (λ (entries : List (K × V)) (s : Statement). put eq (f s) entries) [] ss (s ∷ [])
 
-keys_table-push : {K : Type 0} (eq : K → K → Bool) (f : Statement → Option K) (ss : List Statement) (s : Statement) → keys_table eq f (ss ++ s ∷ []) ≡ put_key eq (f s) (keys_table eq f ss)
+pub keys_table-push : {K : Type 0} (eq : K → K → Bool) (f : Statement → Option K) (ss : List Statement) (s : Statement) → keys_table eq f (ss ++ s ∷ []) ≡ put_key eq (f s) (keys_table eq f ss)
 keys_table-push {K} eq f ss s = fold-append (λ (keys : List K) (s : Statement). put_key eq (f s) keys) [] ss (s ∷ [])
 
 -- a table, and the same with one more statement

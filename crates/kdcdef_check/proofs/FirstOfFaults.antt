@@ -64,3 +64,8 @@ next_first ss Such n s a b within is p q = first_of_both (AmongFirst ss Such n) 
     left e among = (among.0, among.1, omega (arith, among.2), among.3, among.4)
     right : (e : CheckFault) → Such n s e → AmongFirst ss Such (n + 1) e
     right e such = (n, s, omega arith, at, such)
+
+-- the same faults, said in another way
+pub first_as : (P Q : CheckFault → Type 0) → ((e : CheckFault) → P e → Q e) → ((e : CheckFault) → Q e → P e) → (a : Option CheckFault) → IsFirstOf P a → IsFirstOf Q a
+first_as P Q to from None p = λ e h. p e (from e h)
+first_as P Q to from (Some a) p = (to a p.0, λ e h. p.1 e (from e h))

@@ -4,3 +4,12 @@ pub mod GivenOperands
 pub mod Names
 pub mod Filling
 pub mod FirstOfFaults
+pub mod Tallies
+pub mod Chains
+pub mod Counting
+pub mod Faultless
+pub mod Exact
+pub mod Apart
+pub mod Sound
+pub mod Answered
+pub mod PassedOperands

@@ -21,11 +21,11 @@ exact_numbers x y h = elim (eqb_tells x y) [ inl p ↦ p.1 | inr p ↦ absurd (g
 pub exact_bytes : IsExact bytes_eq
 exact_bytes x y h = (bytes_eq-Decides x y).0 h
 
-or_true : (b : Bool) → (b || true) ≡ true
+pub or_true : (b : Bool) → (b || true) ≡ true
 or_true true = refl
 or_true false = refl
 
-or_false : (b : Bool) → (b || false) ≡ b
+pub or_false : (b : Bool) → (b || false) ≡ b
 or_false true = refl
 or_false false = refl
 
@@ -45,7 +45,7 @@ or_again : (a b c : Bool) → a ≡ b → (b || c) ≡ (a || (b || c))
 or_again true b c h = rw (sym h) refl
 or_again false b c h = refl
 
-at_head : {V : Type 0} (b : Bool) (v : V) (o : Option V) → is_some (cond b (Some v) o) ≡ (b || is_some o)
+pub at_head : {V : Type 0} (b : Bool) (v : V) (o : Option V) → is_some (cond b (Some v) o) ≡ (b || is_some o)
 at_head true v o = refl
 at_head false v o = refl
 

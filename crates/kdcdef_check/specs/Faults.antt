@@ -78,22 +78,18 @@ lacks_user g = length g.users == 0
 
 -- ---- faults
 
--- the statement s of `all`, which comes after the statements `before`, has the fault
-abbrev pub HasFault : List Statement → List Statement → Statement → CheckFault → Type 0
-HasFault all before s (NameTwice n) = (n ≡ s.line) × IsTrue (is_taken (generated before) s.said)
-HasFault all before s (NoProgram n) = (n ≡ s.line) × IsTrue (lacks_program (generated all) s.said)
-HasFault all before s (NoLterm n) = (n ≡ s.line) × IsTrue (lacks_lterm (generated all) s.said)
-HasFault all before s (LtermTwice n) = (n ≡ s.line) × IsTrue (shares_lterm (generated before) s.said)
-HasFault all before s (NoMax n) = (n ≡ s.line) × IsTrue (is_end s.said && is_none (max_given all).appliname)
-HasFault all before s (ClassOfWrongKind n) = (n ≡ s.line) × IsTrue (has_other_class s.said)
-HasFault all before s (PoolTooSmall n) = (n ≡ s.line) × IsTrue (is_end s.said && has_small_pool (generated all))
-HasFault all before s (NoUser n) = (n ≡ s.line) × IsTrue (is_end s.said && lacks_user (generated all))
-HasFault all before s (TooMany n) = (n ≡ s.line) × IsTrue (kind_count (kind_of s.said) before == 20000)
-HasFault all before s Memory = ⊥
-
--- a statement has the fault
-abbrev pub Stands : List Statement → CheckFault → Type 0
-Stands ss fault = (i : ℕ) × (s : Statement) × (slice_get ss i ≡ Some s) × HasFault ss (take i ss) s fault
+-- what the statement says, of all statements and after those before it, shows the fault
+abbrev pub shows : List Statement → List Statement → Said → CheckFault → Bool
+shows all before said (NameTwice n) = is_taken (generated before) said
+shows all before said (NoProgram n) = lacks_program (generated all) said
+shows all before said (NoLterm n) = lacks_lterm (generated all) said
+shows all before said (LtermTwice n) = shares_lterm (generated before) said
+shows all before said (NoMax n) = is_end said && is_none (max_given all).appliname
+shows all before said (ClassOfWrongKind n) = has_other_class said
+shows all before said (PoolTooSmall n) = is_end said && has_small_pool (generated all)
+shows all before said (NoUser n) = is_end said && lacks_user (generated all)
+shows all before said (TooMany n) = kind_count (kind_of said) before == 20000
+shows all before said Memory = false
 
 -- the line of a fault, and its number among those of one line
 abbrev pub line_of : CheckFault → ℕ
@@ -119,6 +115,14 @@ number_of (PoolTooSmall n) = 7
 number_of (NoUser n) = 8
 number_of (TooMany n) = 9
 number_of Memory = 0
+
+-- the statement has the fault, on its line
+abbrev pub HasFault : List Statement → List Statement → Statement → CheckFault → Type 0
+HasFault all before s fault = (line_of fault ≡ s.line) × IsTrue (shows all before s.said fault)
+
+-- a statement has the fault
+abbrev pub Stands : List Statement → CheckFault → Type 0
+Stands ss fault = (i : ℕ) × (s : Statement) × (slice_get ss i ≡ Some s) × HasFault ss (take i ss) s fault
 
 -- a stands on a lesser line, or on the same one with a number that is not greater
 abbrev pub comes_first : CheckFault → CheckFault → Bool

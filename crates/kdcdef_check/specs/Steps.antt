@@ -1,10 +1,12 @@
 -- What the passes over the statements have, one statement after another.
-use Rattle.std.specs.Prelude.{◌≡◌, ℕ, ◌+◌, ◌<◌, ◌&&◌, ◌==◌, Bool, true, false, IsTrue, nat_eq, bytes_eq, is_some, is_none, List, [], length, take, slice_get, Option, Some, None, fold, slice_index, if◌then◌else◌}
+use Rattle.std.specs.Prelude.{◌≡◌, ℕ, ◌+◌, ◌<◌, ◌≤◌, ◌&&◌, ◌==◌, Bool, true, false, IsTrue, nat_eq, bytes_eq, is_some, is_none, List, [], length, take, slice_get, Option, Some, None, fold, slice_index, if◌then◌else◌}
 use Rattle.std.specs.List.{list_any}
 use Rattle.std.specs.Map.{lookup}
 use Rattle.indexmap.specs.IndexMap.{insert_entry}
 use Rattle.indexmap.specs.IndexSet.{insert_key}
 use Rattle.kdcdef_types.specs.declared.entry.PtermEntry.{PtermEntry}
+use Rattle.kdcdef_types.specs.declared.limits.Limits.{Limits}
+use Rattle.kdcdef_types.specs.declared.limits.Counts.{Counts}
 use Rattle.kdcdef_types.specs.declared.statement.Said.{Said}
 use Rattle.kdcdef_types.specs.declared.statement.Said.TheVariants.{User, Pterm}
 use Rattle.kdcdef_types.specs.declared.statement.Statement.{Statement}
@@ -149,8 +151,39 @@ pub record HaveNames (t : Tables) (g : Generated) : Type 0 where
 
 -- ---- counts
 
-abbrev pub IsTallyOf : Tally → List Statement → Type 0
-IsTallyOf t ss = (kind : ℕ) → kind < 11 → slice_index t.counts kind ≡ kind_count kind ss
+pub record IsTallyOf (t : Tally) (ss : List Statement) : Type 0 where
+  pub kinds : length t.counts ≡ 11
+  pub counts : (kind : ℕ) → kind < 11 → slice_index t.counts kind ≡ kind_count kind ss
+
+-- no kind has more than 20,000
+abbrev pub AreFew : Tally → Type 0
+AreFew t = (kind : ℕ) → kind < 11 → slice_index t.counts kind ≤ 20000
+
+abbrev pub counts_in : Tally → ℕ → Counts
+counts_in t passed = record {
+  users = slice_index t.counts 3;
+  pterms = slice_index t.counts 4;
+  lterms = slice_index t.counts 5;
+  tacs = slice_index t.counts 2;
+  programs = slice_index t.counts 1;
+  passed_statements = slice_index t.counts 9;
+  passed_operands = passed
+}
+
+-- the generation that filled tables, limits and counts are
+abbrev pub made_of : Tables → Limits → Counts → Generated
+made_of t limits counts = record {
+  limits = limits;
+  programs = t.programs.entries;
+  tacs = t.tacs.entries;
+  users = t.users.entries;
+  pterms = t.pterms.entries;
+  lterms = t.lterms.entries;
+  tls = t.tls.keys;
+  uls = t.uls.keys;
+  classes = t.classes.entries;
+  counts = counts
+}
 
 -- a USER statement with RESTART=YES
 abbrev pub is_restart : Said → Bool

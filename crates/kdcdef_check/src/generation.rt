@@ -4,8 +4,10 @@ ghost use Rattle.std.specs.Option.{option_copied};
 ghost use Rattle.kdcdef_types.specs.Statements.{IsTacInRange, IsUserInRange};
 ghost use Rattle.kdcdef_types.specs.Generation.{tac_of, user_of, pterm_of, lterm_of, has_tls, has_uls, class_limit};
 ghost use Rattle.kdcdef_check.specs.Soundness.{AreLimits, IsSound};
+ghost use Rattle.kdcdef_check.specs.Steps.{made_of};
 
 use crate::hashing::NameHashing;
+use crate::tables::Tables;
 use indexmap::{IndexMap, IndexSet};
 use kd_base::{Name, ProgName};
 use kdcdef_types::{Counts, Limits, LtermEntry, PtermEntry, TacEntry, UserEntry};
@@ -39,6 +41,35 @@ impl Model for Generation {
 }
 
 impl Generation {
+    pub(crate) fn of(tables: Tables, limits: Limits, counts: Counts) -> Generation
+        requires { IsSound (made_of tables limits counts) }
+        ensures { result ≡ made_of tables limits counts }
+    {
+        let Tables {
+            programs,
+            tacs,
+            users,
+            pterms,
+            lterms,
+            tls,
+            uls,
+            classes,
+            served: _served,
+        } = tables;
+        Generation {
+            limits,
+            programs,
+            tacs,
+            users,
+            pterms,
+            lterms,
+            tls,
+            uls,
+            classes,
+            counts,
+        }
+    }
+
     /// The numbers of the MAX statements.
     pub fn max(&self) -> &Limits
         ensures limits { result.now ≡ self.now.limits }

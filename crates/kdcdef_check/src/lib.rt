@@ -5,15 +5,18 @@
 //! answers for each name what its statement says; and which ranges the numbers of every generation keep.
 #![tactic(auto)]
 
+mod checking;
 mod fault;
 mod generation;
 mod hashing;
 mod limits;
 mod own;
+mod passes;
 mod tables;
 mod tally;
 mod whole;
 
+pub use checking::check;
 pub use fault::CheckFault;
 pub use generation::Generation;
 pub use hashing::NameHashing;

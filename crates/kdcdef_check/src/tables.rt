@@ -22,7 +22,7 @@ pub(crate) struct Tables {
     pub(crate) uls: IndexSet<Name, NameHashing>,
     pub(crate) classes: IndexMap<u8, u16, NameHashing>,
     /// The LTERMs that have a PTERM.
-    served: IndexSet<Name, NameHashing>,
+    pub(crate) served: IndexSet<Name, NameHashing>,
 }
 
 fn copy_of(entry: &UserEntry) -> Result<UserEntry, OutOfMemory>

@@ -1,9 +1,9 @@
 //! How many statements there are.
-ghost use Rattle.std.specs.Prelude.{◌≡◌, ◌+◌, ◌^◌, ◌<◌, replicate, slice_index, slice_set};
+ghost use Rattle.std.specs.Prelude.{◌≡◌, ◌+◌, ◌^◌, ◌<◌, [], slice_index, slice_set};
 ghost use Rattle.kdcdef_check.specs.Faults.{kind_of};
-ghost use Rattle.kdcdef_check.specs.Steps.{place_of};
+ghost use Rattle.kdcdef_check.specs.Steps.{place_of, AreFew, counts_in, IsTallyOf};
 
-use kdcdef_types::Said;
+use kdcdef_types::{Counts, Said};
 
 /// The kinds of statements; all that are passed over are one kind.
 #[derive(Clone, Copy)]
@@ -56,7 +56,7 @@ impl Kind {
 
 impl Tally {
     pub(crate) fn new() -> Tally
-        ensures { result.counts ≡ replicate 11 0 }
+        ensures { IsTallyOf result [] }
     {
         Tally { counts: [0; 11] }
     }
@@ -68,9 +68,25 @@ impl Tally {
         self.counts[kind.place()]
     }
 
+    /// The counts of a generation.
+    pub(crate) fn counts(&self, passed_operands: u32) -> Counts
+        requires { AreFew self.now }
+        ensures { result ≡ counts_in self.now passed_operands }
+    {
+        Counts {
+            users: self.count(Kind::User) as u32,
+            pterms: self.count(Kind::Pterm) as u32,
+            lterms: self.count(Kind::Lterm) as u32,
+            tacs: self.count(Kind::Tac) as u32,
+            programs: self.count(Kind::Program) as u32,
+            passed_statements: self.count(Kind::Passed) as u32,
+            passed_operands,
+        }
+    }
+
     /// Counts one more statement of the kind.
     pub(crate) fn add(&mut self, kind: Kind)
-        requires { slice_index self.old.counts (place_of kind) < 2 ^ 63 }
+        requires { slice_index self.old.counts (place_of kind) + 1 < 2 ^ 64 }
         ensures { self.new.counts ≡ slice_set self.old.counts (place_of kind) (slice_index self.old.counts (place_of kind) + 1) }
     {
         self.counts[kind.place()] += 1;
