@@ -1,5 +1,5 @@
 -- What stands at the place of a key is the item of that key, and a change there is the change at that key.
-use Rattle.std.specs.Prelude.{◌≡◌, refl, ℕ, zero, suc, ◌+◌, ◌<◌, ◌≤◌, Bool, true, false, cond, not, ◌&&◌, IsTrue, List, [], ◌∷◌, map, length, Option, Some, None, Result, Ok, Err, slice_get, slice_set, slice_index_or}
+use Rattle.std.specs.Prelude.{◌≡◌, refl, ℕ, zero, suc, ◌+◌, ◌<◌, ◌≤◌, true, false, cond, not, IsTrue, List, [], ◌∷◌, map, length, Option, Some, None, Result, Ok, Err, slice_get, slice_set, slice_index_or}
 use Rattle.std.proofs.Common.{sym, ap, subst, ◌∙◌, true≢false, arith, inl, inr}
 use Rattle.std.specs.List.{insert, remove, AllWithin, HoldsAt}
 use Rattle.std.specs.List.Sorted.{IsSortedBy}
@@ -14,7 +14,7 @@ use Rattle.kd_base.specs.Tools.{both_true}
 use Rattle.kdcs_types.specs.declared.key.Key.{Key}
 use Rattle.kdcs_types.specs.Keys.{key_cmp, key_eq}
 use Rattle.kdcs_types.specs.Keyed.{keyed, ascends, item_at, with_item, without_item}
-use Rattle.kdcs_types.specs.KeyLaws.{key_total, same_key, key_eq-itself}
+use Rattle.kdcs_types.specs.KeyLaws.{key_total, same_key}
 use Rattle.kdcs_types.specs.KeyedLaws.{items_back}
 use Rattle.kdcs_types.specs.Places.{IsPlaceOf, found_at, placed_at, removed_at}
 

@@ -1,6 +1,6 @@
 -- Room for one change, and for those after it.
-use Rattle.std.specs.Prelude.{◌≡◌, ◌≤◌, ◌+◌, ℕ, suc, List, [], ◌∷◌, length, refl, vec_len, vec_capacity}
-use Rattle.std.proofs.Common.{subst, arith}
+use Rattle.std.specs.Prelude.{◌≡◌, ◌≤◌, ◌+◌, ℕ, List, [], ◌∷◌, length, refl}
+use Rattle.std.proofs.Common.{arith}
 use Rattle.kdcs_types.specs.declared.act.Change.{Change}
 use Rattle.kdcs_types.specs.declared.row_lists.RowLists.{RowLists}
 use Rattle.kdcs_types.specs.RowsKept.{HasRoom}

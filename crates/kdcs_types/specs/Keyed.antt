@@ -1,5 +1,5 @@
 -- Lists of items in ascending order of their keys, without repeats.
-use Rattle.std.specs.Prelude.{Bool, not, List, [], ◌∷◌, map, Option}
+use Rattle.std.specs.Prelude.{Bool, not, List, map, Option}
 use Rattle.std.specs.List.{filter}
 use Rattle.std.specs.FinMap.{find, put, is_sorted}
 use Rattle.kdcs_types.specs.declared.key.Key.{Key}

@@ -1,8 +1,8 @@
 -- What look-ups find in lists of items in ascending order, after an item was put in or taken out.
-use Rattle.std.specs.Prelude.{◌≡◌, refl, Bool, true, false, cond, not, T, ◌||◌, ◌&&◌, IsTrue, List, [], ◌∷◌, map, Option, Some, None, is_some}
+use Rattle.std.specs.Prelude.{◌≡◌, refl, Bool, true, false, cond, not, T, IsTrue, List, [], ◌∷◌, map, Some, None, is_some}
 use Rattle.std.proofs.Common.{sym, ap, subst, ◌∙◌, true≢false}
-use Rattle.std.specs.List.{list_all, list_any, filter}
-use Rattle.std.specs.Ordering.{is_eq, is_lt, eq_by_cmp}
+use Rattle.std.specs.List.{list_all, list_any}
+use Rattle.std.specs.Ordering.{is_eq, is_lt}
 use Rattle.std.specs.declared.cmp.Ordering.{Ordering}
 use Rattle.std.specs.declared.cmp.Ordering.TheVariants.{Less, Equal, Greater}
 use Rattle.std.specs.Cmp.{eq_by_cmp_equiv}
@@ -12,7 +12,7 @@ use Rattle.kd_base.specs.Tools.{both_true, true_both}
 use Rattle.kdcs_types.specs.declared.key.Key.{Key}
 use Rattle.kdcs_types.specs.Keys.{key_cmp, key_eq}
 use Rattle.kdcs_types.specs.Keyed.{keyed, ascends, item_at, with_item, without_item}
-use Rattle.kdcs_types.specs.KeyLaws.{key_total, same_key, is_equal, key_eq-same}
+use Rattle.kdcs_types.specs.KeyLaws.{key_total, same_key, key_eq-same}
 
 holds : (b : Bool) → b ≡ true → T b
 holds true e = tt
@@ -44,8 +44,8 @@ module _ {E : Type 0} (key_of : E → Key) where
   keyed-with e [] = refl
   keyed-with e (x ∷ xs) =
       elim (key_cmp (key_of e) (key_of x)) as (λ r. key_cmp (key_of e) (key_of x) ≡ r
-        → keyed key_of (map (λ p. p.1) (by_order r ((key_of e, e) ∷ (key_of x, x) ∷ keyed key_of xs) ((key_of x, e) ∷ keyed key_of xs) ((key_of x, x) ∷ put key_cmp (key_of e) e (keyed key_of xs))))
-          ≡ by_order r ((key_of e, e) ∷ (key_of x, x) ∷ keyed key_of xs) ((key_of x, e) ∷ keyed key_of xs) ((key_of x, x) ∷ put key_cmp (key_of e) e (keyed key_of xs))) [
+      → keyed key_of (map (λ p. p.1) (by_order r ((key_of e, e) ∷ (key_of x, x) ∷ keyed key_of xs) ((key_of x, e) ∷ keyed key_of xs) ((key_of x, x) ∷ put key_cmp (key_of e) e (keyed key_of xs))))
+      ≡ by_order r ((key_of e, e) ∷ (key_of x, x) ∷ keyed key_of xs) ((key_of x, e) ∷ keyed key_of xs) ((key_of x, x) ∷ put key_cmp (key_of e) e (keyed key_of xs))) [
         | Less ↦ λ p. ap (λ (l : List E). (key_of e, e) ∷ (key_of x, x) ∷ keyed key_of l) (items_back xs)
         | Equal ↦ λ p i. (same_key (key_of e) (key_of x) p i, e) ∷ keyed key_of (items_back xs i)
         | Greater ↦ λ p. ap (λ (l : List (Key × E)). (key_of x, x) ∷ l) (keyed-with e xs)

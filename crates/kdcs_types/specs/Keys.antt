@@ -1,6 +1,6 @@
 -- The order of keys: by kind, then text by text. It is that of the keys of records in a KDCFILE.
 use Rattle.std.specs.Prelude.{ℕ, Bool, List, [], ◌∷◌}
-use Rattle.std.specs.Ordering.{nat_cmp, eq_by_cmp, on}
+use Rattle.std.specs.Ordering.{nat_cmp, eq_by_cmp}
 use Rattle.std.specs.declared.cmp.Ordering.{Ordering}
 use Rattle.std.specs.Cmp.Lexicographic.{slice_cmp}
 use Rattle.kdcs_types.specs.declared.key.Area.{Area}

@@ -1,5 +1,5 @@
 -- Where a key stands in a list in ascending order, and what is read and changed there.
-use Rattle.std.specs.Prelude.{ℕ, List, length, Option, Some, None, Result, Ok, Err, slice_get, slice_set}
+use Rattle.std.specs.Prelude.{ℕ, List, length, Option, None, Result, Ok, Err, slice_get, slice_set}
 use Rattle.std.specs.List.{insert, remove}
 use Rattle.std.specs.List.Sorted.{IsSearchInRange, IsBinarySearchResult}
 use Rattle.kdcs_types.specs.declared.key.Key.{Key}

@@ -1,11 +1,11 @@
 -- What holds of the tables after changes, and that tables are known by their rows.
-use Rattle.std.specs.Prelude.{◌≡◌, refl, ℕ, Bool, true, false, cond, ◌&&◌, IsTrue, List, [], ◌∷◌, map, Option, Some, None, is_some, option_and_then}
-use Rattle.std.proofs.Common.{sym, ap, subst, ◌∙◌, true≢false}
+use Rattle.std.specs.Prelude.{◌≡◌, refl, ℕ, Bool, true, false, cond, IsTrue, List, [], ◌∷◌, Option, Some, None, option_and_then}
+use Rattle.std.proofs.Common.{sym, ap, subst, ◌∙◌}
 use Rattle.std.specs.Option.{option_map}
 use Rattle.std.specs.List.{list_all}
 use Rattle.std.specs.FinMap.{is_sorted}
 use Rattle.std.specs.FinMap.Entries.{below_all}
-use Rattle.kd_base.specs.Tools.{both_true, true_both}
+use Rattle.kd_base.specs.Tools.{both_true}
 use Rattle.kdcs_types.specs.declared.key.ServiceId.{ServiceId}
 use Rattle.kdcs_types.specs.declared.key.Key.{Key}
 use Rattle.kdcs_types.specs.declared.key.Key.TheVariants as key

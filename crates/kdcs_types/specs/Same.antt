@@ -1,8 +1,7 @@
 -- Whether two rows are the same, as a test.
-use Rattle.std.specs.Prelude.{ℕ, Bool, true, false, ◌&&◌, List, Option, bytes_eq, nat_eq}
+use Rattle.std.specs.Prelude.{Bool, true, false, ◌&&◌, Option, bytes_eq, nat_eq}
 use Rattle.std.specs.Option.{option_eq}
 use Rattle.std.specs.Cmp.Lexicographic.{pointwise}
-use Rattle.kdcs_types.specs.declared.key.ServiceId.{ServiceId}
 use Rattle.kdcs_types.specs.declared.key.Target.{Target}
 use Rattle.kdcs_types.specs.declared.key.Target.TheVariants as target
 use Rattle.kdcs_types.specs.declared.service.Service.{Service}

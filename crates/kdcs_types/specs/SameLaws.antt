@@ -1,11 +1,10 @@
 -- The tests of sameness hold exactly of the same.
-use Rattle.std.specs.Prelude.{◌≡◌, refl, ℕ, Bool, true, false, ◌&&◌, List, [], ◌∷◌, Option, Some, None, bytes_eq, nat_eq}
-use Rattle.std.proofs.Common.{sym, ap, ◌∙◌, true≢false}
+use Rattle.std.specs.Prelude.{◌≡◌, refl, Bool, true, false, List, [], ◌∷◌, Option, Some, None, bytes_eq, nat_eq}
+use Rattle.std.proofs.Common.{sym, ap, true≢false}
 use Rattle.std.proofs.lemmas.Bool.{eqb-true, eq-eqb}
 use Rattle.std.specs.Option.{option_eq}
 use Rattle.std.specs.Cmp.Lexicographic.{pointwise, bytes_decides}
-use Rattle.kd_base.specs.Tools.{both_true, true_both, some_is}
-use Rattle.kdcs_types.specs.declared.key.ServiceId.{ServiceId}
+use Rattle.kd_base.specs.Tools.{both_true, true_both}
 use Rattle.kdcs_types.specs.declared.key.Target.{Target}
 use Rattle.kdcs_types.specs.declared.key.Target.TheVariants as target
 use Rattle.kdcs_types.specs.declared.service.Service.{Service}

@@ -1,5 +1,5 @@
 -- The tables as lists and numbers, their look-ups, and what changes make of them.
-use Rattle.std.specs.Prelude.{ℕ, Bool, true, false, not, ◌&&◌, IsTrue, List, [], ◌∷◌, map, Option, Some, None, is_some}
+use Rattle.std.specs.Prelude.{ℕ, Bool, true, false, not, ◌&&◌, IsTrue, List, [], ◌∷◌, Option, is_some}
 use Rattle.std.specs.Option.{option_map}
 use Rattle.std.specs.List.{list_all}
 use Rattle.kdcs_types.specs.declared.key.Area.{Area}
@@ -16,7 +16,7 @@ use Rattle.kdcs_types.specs.declared.act.Row.TheVariants as row
 use Rattle.kdcs_types.specs.declared.act.Change.{Change}
 use Rattle.kdcs_types.specs.declared.act.Change.TheVariants.{Set, Remove}
 use Rattle.kdcs_types.specs.declared.act.Changes.{Changes}
-use Rattle.kdcs_types.specs.Keys.{area_key, id_eq}
+use Rattle.kdcs_types.specs.Keys.{id_eq}
 use Rattle.kdcs_types.specs.Keyed.{ascends, item_at, with_item, without_item}
 
 -- what the monitor keeps over a warm start

@@ -2,11 +2,13 @@
 ghost use Rattle.std.specs.Prelude.{◌≡◌, OnOk, OnErr, option_copied};
 ghost use Rattle.kdcs_types.specs.Tables.{empty_tables, content_of, service_of, job_of, shown_of, changed, AreChanges, IsSortedTables};
 
+use crate::act::Changes;
 use crate::key::{Area, ServiceId};
-use crate::places::{found, gssb_place, job_place, service_place, shown_place, tls_place, uls_place};
+use crate::places::{
+    found, gssb_place, job_place, service_place, shown_place, tls_place, uls_place,
+};
 use crate::row_lists::RowLists;
 use crate::service::{Job, JobValue, Service};
-use crate::act::Changes;
 use kd_base::{Bytes, Name, OutOfMemory};
 use std::alloc::Global;
 use std::marker::Model;

@@ -9,13 +9,14 @@ use Rattle.kdcs_types.specs.declared.command.Command.{Command}
 use Rattle.kdcs_types.specs.declared.command.Command.TheVariants.{Tick}
 use Rattle.kdcs_types.specs.declared.tables.Tables.{Tables}
 use Rattle.kdcs_types.specs.Limits.{last_clock}
+use Rattle.kdcs_types.specs.Tables.{changed}
 use Rattle.monitor_core.specs.Monitor.{State, Done, ticked, command_of}
 use Rattle.monitor_core.specs.Trace.{trace, state_after, tables_after, bytes_of}
 use Rattle.monitor_core.specs.Cut.{SentBy, IsCut, IsCutSince}
 
 pub tables_joined : (t : Tables) (p q : List Act) → tables_after t (p ++ q) ≡ tables_after (tables_after t p) q
 tables_joined t [] q = refl
-tables_joined t (Commit c ∷ p) q = tables_joined _ p q
+tables_joined t (Commit c ∷ p) q = tables_joined (changed t c) p q
 tables_joined t (Emit line ∷ p) q = tables_joined t p q
 
 pub bytes_joined : (p q : List Act) → bytes_of (p ++ q) ≡ bytes_of p ++ bytes_of q

@@ -13,7 +13,8 @@ use crate::error::OpenError;
 use kd_device::Device;
 use kd_records::Content;
 use kdcfile_store::{Store, StoreLimits, WholeStore};
-use kdcs_types::Tables;
+use kd_base::OutOfMemory;
+use kdcs_types::{Changes, RowChanges, Tables};
 use std::alloc::Global;
 
 /// What a KDCFILE is made with until a definition says it: BLKSIZE in bytes and PGPOOL in pages.
@@ -49,12 +50,12 @@ fn attached<D: Device>(device: &mut D, name: &[u8]) -> Result<u64, OpenError>
 }
 
 /// The tables that a store keeps, where its file is one of this application.
-fn tables_of(store: &WholeStore) -> Option<Tables>
-    ensures some { IfSome result (λ t. KeepsTables store.now t) }
-    ensures none { IfNone result ((t : Tables) → KeepsTables store.now t → ⊥) }
+fn tables_of(alloc: Global, store: &WholeStore) -> Result<Option<Tables>, OutOfMemory>
+    ensures some { IfOk result (λ o. IfSome o (λ t. KeepsTables store.now t)) }
+    ensures none { IfOk result (λ o. IfNone o ((t : Tables) → KeepsTables store.now t → ⊥)) }
 {
     if store.limits() != LIMITS || *store.fingerprint() != FINGERPRINT {
-        return None;
+        return Ok(None);
     }
     let content = store.kept();
     let clock = content.clock;
@@ -64,9 +65,15 @@ fn tables_of(store: &WholeStore) -> Option<Tables>
         || next_job == 0
         || next_job > LAST_NEXT_JOB
     {
-        return None;
+        return Ok(None);
     }
-    Some(Tables { clock, next_job })
+    let mut tables = Tables::empty(alloc);
+    tables.change(&Changes {
+        clock,
+        next_job,
+        items: RowChanges::new(alloc),
+    })?;
+    Ok(Some(tables))
 }
 
 /// Makes the empty file, with the empty tables.
@@ -84,13 +91,7 @@ fn make<D: Device>(alloc: Global, device: &mut D) -> Result<(WholeStore, Tables)
     ensures names { SameNames (D.state device.old) (D.state device.new) }
 {
     let store = WholeStore::create(alloc, device, &LIMITS, &FINGERPRINT)?;
-    Ok((
-        store,
-        Tables {
-            clock: 0,
-            next_job: 1,
-        },
-    ))
+    Ok((store, Tables::empty(alloc)))
 }
 
 /// Opens the file that is there.
@@ -105,7 +106,7 @@ fn warm<D: Device>(alloc: Global, device: &mut D) -> Result<(WholeStore, Tables)
     ensures names { SameNames (D.state device.old) (D.state device.new) }
 {
     let store = WholeStore::load(alloc, device)?;
-    match tables_of(&store) {
+    match tables_of(alloc, &store)? {
         Some(tables) => Ok((store, tables)),
         None => Err(OpenError::NotKdcfile),
     }

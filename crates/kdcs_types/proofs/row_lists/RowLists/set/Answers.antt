@@ -1,5 +1,4 @@
 use Rattle.std.proofs.Common.{ap}
-use Rattle.kdcs_types.specs.declared.key.Key.TheVariants as key
 use Rattle.kdcs_types.specs.Tables.{gssb_key, tls_key, uls_key, service_key, job_key, shown_key}
 use Rattle.kdcs_types.specs.RowsKept.{tables_in}
 use Rattle.kdcs_types.proofs.AtPlaces.{set_in}
