@@ -27,8 +27,6 @@ pub record IsReady (unit : UnitText) (run : RunState) : Type 0 where
   pub count : run.count ≤ run.budget
   pub fields : All (IsInside run) unit.fields
   pub labels : All (λ (s : UnitStatement). KnowsLabel unit s.action) unit.statements
-  -- no unit has more
-  pub statements : length unit.statements ≤ 10000
 
 -- the next statement is a call
 abbrev pub IsAsking : Meaning → Type 0

@@ -4,3 +4,4 @@ pub mod Writing
 pub mod Fields
 pub mod Results
 pub mod Calls
+pub mod Asking

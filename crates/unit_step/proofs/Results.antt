@@ -127,7 +127,7 @@ gets_number run f n m left cells digits room is left_is none digits_are =
     let short : k ≤ f.length = omega (arith, length-take m cells) in
     let count : length digits ≡ k = ap length digits_are ∙ length-in_digits k n in
     let all : replicate (f.length - length digits) zero_digit ++ digits ≡ in_digits f.length n =
-        ap (λ (x : ℕ). replicate (f.length - x) zero_digit ++ digits) count ∙ ap (λ (x : List ℕ). replicate (f.length - k) zero_digit ++ x) digits_are ∙ whole_digits f.length n k short (sym left_is ∙ none) in
+    ap (λ (x : ℕ). replicate (f.length - x) zero_digit ++ digits) count ∙ ap (λ (x : List ℕ). replicate (f.length - k) zero_digit ++ x) digits_are ∙ whole_digits f.length n k short (sym left_is ∙ none) in
     let same : fitted f.length (in_digits f.length n) ≡ in_digits f.length n = fits_as_it_is f.length (in_digits f.length n) (length-in_digits f.length n) in
     rw (fits f.length n m left cells room is left_is none) (ap (λ (x : List ℕ). written run f.spab f.offset x) (all ∙ sym same))
 

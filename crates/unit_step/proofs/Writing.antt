@@ -13,8 +13,8 @@ one_behind at a b under room =
     let len : length front ≡ at + length a = omega (arith, length-append (take at under) a, length-take at under) in
     let rest = drop (at + length a) under in
     let dropped : drop (at + length a + length b) (front ++ rest) ≡ drop (at + length (a ++ b)) under =
-        sym (drop-drop (length b) (at + length a) (front ++ rest)) ∙ ap (λ (x : List ℕ). drop (length b) x) (drop_at front rest (at + length a) len) ∙ drop-drop (length b) (at + length a) under
-        ∙ ap (λ (n : ℕ). drop n under) (omega (arith, length-append a b)) in
+    sym (drop-drop (length b) (at + length a) (front ++ rest)) ∙ ap (λ (x : List ℕ). drop (length b) x) (drop_at front rest (at + length a) len) ∙ drop-drop (length b) (at + length a) under
+    ∙ ap (λ (n : ℕ). drop n under) (omega (arith, length-append a b)) in
     rw (take_at front rest (at + length a) len, dropped) (ap (λ (x : List ℕ). x ++ drop (at + length (a ++ b)) under) (append_assoc (take at under) a b))
 
 pub fits_whole : (count : ℕ) (bytes : List ℕ) → length bytes ≤ count → fitted count bytes ≡ bytes ++ replicate (count - length bytes) 32

@@ -1,5 +1,5 @@
 //! What a call answers.
-ghost use Rattle.std.specs.Prelude.{◌≡◌, All};
+ghost use Rattle.std.specs.Prelude.{◌≡◌, ◌≤◌, All, length};
 ghost use Rattle.std.specs.Option.{option_copied};
 ghost use Rattle.unit_semantics.specs.Fields.{stored};
 ghost use Rattle.unit_semantics.specs.Ready.{CanAnswer, IsInside, IsReady};
@@ -28,7 +28,8 @@ fn target_of(action: &Action) -> Option<&Bytes>
 
 // The field that the next statement's call reads into.
 fn next_target<'a>(unit: &'a Unit, run: &RunState) -> Option<&'a Bytes>
-    ensures { option_copied result ≡ next_target unit.now run.now }
+    ensures target { option_copied result ≡ next_target unit.now run.now }
+    ensures few { length unit.now.statements ≤ 10000 }
 {
     match unit.statement(run.place) {
         Some(statement) => target_of(&statement.action),
@@ -43,6 +44,7 @@ fn read_into(unit: &Unit, run: &mut RunState, content: &Option<Bytes>)
     ensures read { run.new ≡ read_into unit.now run.old (next_target unit.now run.old) content.now }
     ensures place { run.new.place ≡ run.old.place }
     ensures count { run.new.count ≡ run.old.count }
+    ensures few { length unit.now.statements ≤ 10000 }
 {
     let Some(name) = next_target(unit, run) else {
         return;
@@ -63,6 +65,7 @@ pub fn answered(unit: &Unit, run: &mut RunState, reply: &Reply)
     requires can { CanAnswer unit.now run.old reply.now }
     ensures { run.new ≡ answered unit.now run.old reply.now }
 {
+    let _budget = run.budget;
     read_into(unit, run, &reply.content);
     run.place += 1;
     run.count += 1;

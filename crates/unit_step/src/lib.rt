@@ -10,6 +10,7 @@ mod answer;
 mod area;
 mod call;
 mod compare;
+mod laws;
 mod number;
 mod operand;
 mod outcome;
@@ -17,5 +18,9 @@ mod plain;
 mod stepping;
 
 pub use answer::answered;
-pub use stepping::step;
+pub use laws::runs_stay_ready;
 pub use outcome::Stepped;
+pub use stepping::step;
+
+#[cfg(test)]
+mod tests;

@@ -72,12 +72,6 @@ pub fn result_of(calculation: Calculation, a: u64, b: u64) -> Option<u64>
         Calculation::Sum => a.checked_add(b),
         Calculation::Difference => a.checked_sub(b),
         Calculation::Product => a.checked_mul(b),
-        Calculation::Quotient => {
-            if b == 0 {
-                None
-            } else {
-                Some(a / b)
-            }
-        }
+        Calculation::Quotient => { if b == 0 { None } else { Some(a / b) } }
     }
 }

@@ -120,7 +120,12 @@ pub fn value<'a>(unit: &Unit, run: &'a RunState, operand: &'a Operand, cells: &'
 }
 
 /// A copy of the bytes of an operand.
-pub fn bytes_of(alloc: Global, unit: &Unit, run: &RunState, operand: &Operand) -> Result<Bytes, OutOfMemory>
+pub fn bytes_of(
+    alloc: Global,
+    unit: &Unit,
+    run: &RunState,
+    operand: &Operand,
+) -> Result<Bytes, OutOfMemory>
     requires { All (IsInside run.now) unit.now.fields }
     ensures { IfOk result (λ bytes. bytes ≡ value_of unit.now run.now operand.now) }
 {

@@ -56,7 +56,10 @@ pub fn move_bytes(
         return Ok(());
     };
     let cells = operand_cells(run, operand);
-    let bytes = Bytes::from_slice(alloc, front(value(unit, run, operand, &cells), field.length))?;
+    let bytes = Bytes::from_slice(
+        alloc,
+        front(value(unit, run, operand, &cells), field.length),
+    )?;
     store(run, field, bytes.as_slice());
     move_on(run);
     Ok(())

@@ -6,15 +6,20 @@ ghost use Rattle.unit_step.specs.Answers.{OnlyPlainMoves, meaning_of, next_takes
 
 use crate::call::call_of;
 use crate::number::Calculation;
-use crate::plain::{arithmetic, branch, join_bytes, jump, move_bytes};
 use crate::outcome::Stepped;
+use crate::plain::{arithmetic, branch, join_bytes, jump, move_bytes};
 use kd_base::OutOfMemory;
 use kdcs_types::{Cause, RunState};
 use std::alloc::Global;
 use unit_types::{Action, Unit};
 
 #[tactic(auto, unfolding(unit_semantics::specs::Statement::done_by))]
-fn perform(alloc: Global, unit: &Unit, run: &mut RunState, action: &Action) -> Result<Stepped, OutOfMemory>
+fn perform(
+    alloc: Global,
+    unit: &Unit,
+    run: &mut RunState,
+    action: &Action,
+) -> Result<Stepped, OutOfMemory>
     requires inside { All (IsInside run.old) unit.now.fields }
     requires place { run.old.place + 1 < 2 ^ 32 }
     requires count { run.old.count + 1 < 2 ^ 32 }
@@ -33,9 +38,27 @@ fn perform(alloc: Global, unit: &Unit, run: &mut RunState, action: &Action) -> R
             Ok(Stepped::Plain)
         }
         Action::Add(field, operand) => Ok(arithmetic(unit, run, field, operand, Calculation::Sum)),
-        Action::Sub(field, operand) => Ok(arithmetic(unit, run, field, operand, Calculation::Difference)),
-        Action::Mul(field, operand) => Ok(arithmetic(unit, run, field, operand, Calculation::Product)),
-        Action::Div(field, operand) => Ok(arithmetic(unit, run, field, operand, Calculation::Quotient)),
+        Action::Sub(field, operand) => Ok(arithmetic(
+            unit,
+            run,
+            field,
+            operand,
+            Calculation::Difference,
+        )),
+        Action::Mul(field, operand) => Ok(arithmetic(
+            unit,
+            run,
+            field,
+            operand,
+            Calculation::Product,
+        )),
+        Action::Div(field, operand) => Ok(arithmetic(
+            unit,
+            run,
+            field,
+            operand,
+            Calculation::Quotient,
+        )),
         Action::If(first, relation, second, label) => {
             branch(unit, run, first, *relation, second, label);
             Ok(Stepped::Plain)
@@ -60,10 +83,11 @@ pub fn step(alloc: Global, unit: &Unit, run: &mut RunState) -> Result<Stepped, O
     ensures memory { OnErr result (IsTrue (next_takes_memory (action_at unit.now run.old.place))) }
     ensures in_time { OnErr result (run.old.count < run.old.budget) }
 {
+    let budget = run.budget;
     let Some(statement) = unit.statement(run.place) else {
         return Ok(Stepped::Ends(Cause::E08));
     };
-    if run.count == run.budget {
+    if run.count == budget {
         return Ok(Stepped::Ends(Cause::E07));
     }
     perform(alloc, unit, run, &statement.action)

@@ -1,5 +1,5 @@
 //! A unit, with its look-ups by name.
-ghost use Rattle.std.specs.Prelude.{◌≡◌, IfOk};
+ghost use Rattle.std.specs.Prelude.{◌≡◌, ◌≤◌, length, IfOk};
 ghost use Rattle.std.specs.Option.{option_copied};
 
 use crate::action::UnitStatement;
@@ -45,15 +45,16 @@ impl Model for Unit {
 
     ghost view = { λ u. record { name = u.name; line = u.line; fields = u.fields.items; labels = u.labels.items; statements = u.statements.items } };
 
+    ghost use Rattle.std.specs.Prelude.{◌≤◌, length};
     ghost use Rattle.unit_types.specs.Index.{AreFieldPlaces, AreLabelPlaces};
 
-    ghost invariant = { λ u. AreFieldPlaces u.field_places u.fields.items × AreLabelPlaces u.label_places u.labels.items };
+    ghost invariant = { λ u. AreFieldPlaces u.field_places u.fields.items × AreLabelPlaces u.label_places u.labels.items × (length u.statements.items ≤ 10000) };
 }
 
 impl Unit {
     ghost use Rattle.unit_types.specs.UnitText.{field_named, label_place, statement_at};
 
-    /// The unit of these parts.
+    /// The unit of these parts. A unit has at most 10,000 statements.
     pub fn new(
         alloc: Global,
         name: ProgName,
@@ -62,6 +63,7 @@ impl Unit {
         labels: Vec<(Bytes, u32)>,
         statements: Vec<UnitStatement>,
     ) -> Result<Unit, OutOfMemory>
+        requires few { length statements.items ≤ 10000 }
         ensures { IfOk result (λ u. u ≡ record { name = name; line = line; fields = fields.items; labels = labels.items; statements = statements.items }) }
     {
         let field_places = field_index(alloc, fields.as_slice())?;
@@ -97,7 +99,8 @@ impl Unit {
     }
 
     pub fn statements(&self) -> &[UnitStatement]
-        ensures { result.now ≡ self.now.statements }
+        ensures all { result.now ≡ self.now.statements }
+        ensures few { length self.now.statements ≤ 10000 }
     {
         self.statements.as_slice()
     }
@@ -122,7 +125,8 @@ impl Unit {
 
     /// The statement at this place, counted from 1.
     pub fn statement(&self, place: u32) -> Option<&UnitStatement>
-        ensures { option_copied result ≡ statement_at self.now place }
+        ensures at { option_copied result ≡ statement_at self.now place }
+        ensures few { length self.now.statements ≤ 10000 }
     {
         match place.checked_sub(1) {
             Some(index) => self.statements.get(index as usize),

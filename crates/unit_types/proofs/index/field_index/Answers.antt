@@ -1,5 +1,5 @@
 use Rattle.unit_types.specs.Index.{at_name}
-use Rattle.unit_types.proofs.Places.{field_more}
+use Rattle.unit_types.proofs.MorePlaces.{field_more}
 use Rattle.unit_types.proofs.index.field_index.Goals as goal
 
 pub loop-i-preserved : goal.loop-i-preserved

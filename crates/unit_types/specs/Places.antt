@@ -1,5 +1,5 @@
--- What an index by names finds after one more name was put.
-use Rattle.std.proofs.Common.{◌≡◌, ℕ, ◌+◌, ◌<◌, inl, inr, Bool, true, false, cond, List, [], ◌∷◌, ◌++◌, length, take, get_or, Bor, refl, sym, ap, ◌∙◌, suc, arith, add-zero, add-one}
+-- What an index by names finds, and what it finds after one more name was put.
+use Rattle.std.proofs.Common.{◌≡◌, ℕ, ◌+◌, inl, inr, Bool, true, false, cond, List, [], ◌∷◌, ◌++◌, length, Bor, refl, sym, ap, ◌∙◌, suc, arith, add-zero, add-one}
 use Rattle.std.specs.Prelude.{Option, Some, None, find, slice_get, bytes_eq, is_some}
 use Rattle.std.specs.BTreeMap.{is_at}
 use Rattle.std.specs.Cmp.Lexicographic.{slice_cmp}
@@ -9,12 +9,10 @@ use Rattle.std.specs.Option.{option_or, option_and_then, option_map, option_copi
 use Rattle.std.specs.Slice.{IsItemAt}
 use Rattle.std.specs.Ordering.{nat_cmp, is_eq, eq_by_cmp}
 use Rattle.std.proofs.lemmas.Bool.{cases_Bool}
-use Rattle.std.proofs.lemmas.List.{take_more, length-take-le}
 use Rattle.std.proofs.lemmas.Option.{slice_get_past, slice_get_read}
 use Rattle.std.proofs.lemmas.Map.Text.{is_eq-slice_cmp}
 use Rattle.std.proofs.lemmas.Slice.Eq.{bytes_eq-Decides}
 use Rattle.unit_types.specs.Index.{or_first}
-use Rattle.unit_types.specs.declared.unit.Field.{Field}
 
 same_bytes : (a b : List ℕ) → bytes_eq a b ≡ true → a ≡ b
 same_bytes a b h = (bytes_eq-Decides a b).0 h
@@ -95,23 +93,6 @@ found_at test (x ∷ all) =
 pub none_found : {P : Type 0} (found : Option P) {found_any : Bool} → found_any ≡ is_some found → found_any ≡ false → found ≡ None
 none_found None e h = refl
 none_found (Some x) e h = absurd cc
-
--- one more label, or one more field, was put
-pub label_more : (old new : List ℕ → Option ℕ) (labels : List (List ℕ × ℕ)) (i : ℕ) (e : List ℕ × ℕ) (name : List ℕ) (place : ℕ) → i < length labels → e ≡ get_or labels i e → name ≡ e.0 → place ≡ e.1 → ((w : List ℕ) → old w ≡ lookup (bytes_eq w) (take i labels)) → ((w : List ℕ) → new w ≡ or_first (old w) name place w) → (w : List ℕ) → new w ≡ lookup (bytes_eq w) (take (i + 1) labels)
-label_more old new labels i e name place lt is named placed so_far put w =
-    put w
-    ∙ ap (λ (o : Option ℕ). or_first o name place w) (so_far w)
-    ∙ rw (named, placed) (sym (lookup_more (bytes_eq w) (take i labels) e))
-    ∙ ap (lookup (bytes_eq w)) (ap (λ (x : List ℕ × ℕ). take i labels ++ x ∷ []) is ∙ sym (take_more labels i e lt))
-
-pub field_more : (old new : List ℕ → Option ℕ) (fields : List Field) (i : ℕ) (f : Field) (name : List ℕ) → i < length fields → f ≡ get_or fields i f → name ≡ f.name → ((w : List ℕ) → old w ≡ position_from (λ (g : Field). bytes_eq w g.name) 0 (take i fields)) → ((w : List ℕ) → new w ≡ or_first (old w) name i w) → (w : List ℕ) → new w ≡ position_from (λ (g : Field). bytes_eq w g.name) 0 (take (i + 1) fields)
-field_more old new fields i f name lt is named so_far put w =
-    let test : Field → Bool = λ (g : Field). bytes_eq w g.name in
-    let count : 0 + length (take i fields) ≡ i = omega (arith, length-take-le i fields) in
-    put w
-    ∙ ap (λ (o : Option ℕ). or_first o name i w) (so_far w)
-    ∙ rw named (ap (λ (n : ℕ). option_or (position_from test 0 (take i fields)) (cond (test f) (Some n) None)) (sym count) ∙ sym (position_more test 0 (take i fields) f))
-    ∙ ap (position_from test 0) (ap (λ (x : Field). take i fields ++ x ∷ []) is ∙ sym (take_more fields i f lt))
 
 -- a lent item is the one at its place
 pub lent_at : {A : Type 0} (all : List A) (i : ℕ) (lent : Option (Bor A)) → IsItemAt all i lent → option_copied lent ≡ slice_get all i
