@@ -1,5 +1,5 @@
 -- What an answer of the check says of the statements.
-use Rattle.std.proofs.Common.{◌≡◌, ◌≢◌, ◌⊎◌, ℕ, ◌<◌, ◌≤◌, ◌==◌, refl, sym, ◌∙◌, ap, subst, inl, inr, arith, Bool, true, false, cond, ◌&&◌, ◌||◌, nat_lt, nat_le, List, length, take, slice_get, Option, Some, None, IsTrue, is_none}
+use Rattle.std.proofs.Common.{◌≡◌, ◌≢◌, ◌⊎◌, ℕ, ◌<◌, ◌≤◌, ◌==◌, refl, sym, ◌∙◌, ap, subst, inl, inr, arith, Bool, true, false, ◌&&◌, ◌||◌, nat_lt, nat_le, List, length, take, slice_get, Option, Some, None, is_none}
 use Rattle.std.specs.Prelude.{Result, Ok, Err, IfOk, IfErr, IsSome, slice_index}
 use Rattle.std.proofs.lemmas.Bool.Decides.{nat_tests}
 use Rattle.std.proofs.lemmas.Option.{slice_get_within}
@@ -16,7 +16,7 @@ use Rattle.kdcdef_check.specs.declared.tables.Tables.{Tables}
 use Rattle.kdcdef_check.specs.declared.tally.Tally.{Tally}
 use Rattle.kdcdef_check.specs.Soundness.{IsSound}
 use Rattle.kdcdef_check.specs.Generating.{generated, max_given, with_defaults, counts_of}
-use Rattle.kdcdef_check.specs.Faults.{HasFault, Stands, line_of, number_of, comes_first, AreFaultless, IsFirstFault, Gives}
+use Rattle.kdcdef_check.specs.Faults.{HasFault, Stands, line_of, number_of, AreFaultless, IsFirstFault, Gives}
 use Rattle.kdcdef_check.specs.Steps.{earlier, IsFirstOf, AmongFirst, is_own, OwnFault, OuterFault, AreFilled, IsTallyOf, counts_in, made_of}
 use Rattle.kdcdef_check.proofs.FirstOfFaults.{first_of_both}
 use Rattle.kdcdef_check.proofs.Counting.{program_count, tac_count, user_count, pterm_count, lterm_count, passed_statements}

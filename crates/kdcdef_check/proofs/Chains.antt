@@ -1,11 +1,11 @@
 -- The first of the faults of one statement.
-use Rattle.std.proofs.Common.{◌≡◌, ◌⊎◌, ℕ, ◌+◌, ◌<◌, ◌≤◌, refl, sym, ◌∙◌, ap, subst, inl, inr, arith, Bool, true, false, cond, ◌&&◌, ◌||◌, ◌==◌, nat_lt, nat_le, List, length, take, slice_get, Option, Some, None, IsTrue, is_none}
+use Rattle.std.proofs.Common.{◌≡◌, ℕ, ◌≤◌, refl, sym, ◌∙◌, arith, Bool, true, false, cond, ◌&&◌, ◌||◌, ◌==◌, nat_lt, nat_le, List, take, Some, None, IsTrue, is_none}
 use Rattle.std.proofs.lemmas.Bool.Decides.{nat_tests}
 use Rattle.kdcdef_types.specs.declared.statement.Statement.{Statement}
 use Rattle.kdcdef_check.specs.declared.fault.CheckFault.{CheckFault}
 use Rattle.kdcdef_check.specs.declared.fault.CheckFault.TheVariants.{NameTwice, NoProgram, NoLterm, LtermTwice, NoMax, ClassOfWrongKind, PoolTooSmall, NoUser, TooMany, Memory}
 use Rattle.kdcdef_check.specs.Generating.{generated, max_given}
-use Rattle.kdcdef_check.specs.Faults.{is_taken, shares_lterm, has_other_class, kind_count, kind_of, lacks_program, lacks_lterm, is_end, has_small_pool, lacks_user, line_of, number_of, comes_first, shows, HasFault}
+use Rattle.kdcdef_check.specs.Faults.{is_taken, shares_lterm, has_other_class, kind_count, kind_of, lacks_program, lacks_lterm, is_end, has_small_pool, lacks_user, line_of, number_of, comes_first}
 use Rattle.kdcdef_check.specs.Steps.{IsFirstOf, own_fault, outer_fault, OwnFault, OuterFault}
 use Rattle.kdcdef_check.proofs.FirstOfFaults.{first_as}
 

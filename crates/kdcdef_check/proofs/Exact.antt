@@ -6,7 +6,6 @@ use Rattle.std.proofs.lemmas.List.{take_all, append-nil}
 use Rattle.std.proofs.lemmas.List.Elements.{filter_map-append}
 use Rattle.std.proofs.lemmas.Option.{slice_get_cases}
 use Rattle.indexmap.specs.IndexMap.{insert_entry}
-use Rattle.indexmap.specs.IndexSet.{insert_key}
 use Rattle.kd_base.specs.Tools.{some_is}
 use Rattle.kdcdef_types.specs.declared.entry.TacEntry.{TacEntry}
 use Rattle.kdcdef_types.specs.declared.entry.UserEntry.{UserEntry}

@@ -1,5 +1,5 @@
 -- Tables that were filled from the statements so far.
-use Rattle.std.proofs.Common.{◌≡◌, ◌+◌, ◌<◌, ◌||◌, ℕ, refl, sym, ◌∙◌, ap, Bool, nat_eq, bytes_eq, is_some, List, [], ◌∷◌, ◌++◌, length, take, get_or, Option, Some, None, fold, filter_map}
+use Rattle.std.proofs.Common.{◌≡◌, ◌+◌, ◌<◌, ◌||◌, ℕ, refl, sym, ◌∙◌, ap, Bool, nat_eq, bytes_eq, is_some, List, [], ◌∷◌, ◌++◌, length, take, get_or, Option, filter_map}
 use Rattle.std.specs.List.{cons_option, list_any}
 use Rattle.std.specs.Map.{lookup}
 use Rattle.std.proofs.lemmas.List.Sums.{fold-append}
@@ -7,7 +7,6 @@ use Rattle.kdcdef_types.specs.declared.entry.PtermEntry.{PtermEntry}
 use Rattle.kdcdef_types.specs.declared.statement.Said.{Said}
 use Rattle.kdcdef_types.specs.declared.statement.Said.TheVariants.{Pterm}
 use Rattle.kdcdef_types.specs.declared.statement.Statement.{Statement}
-use Rattle.kdcdef_types.specs.Generation.{Generated}
 use Rattle.kdcdef_check.specs.declared.tables.Tables.{Tables}
 use Rattle.kdcdef_check.specs.Generating.{as_program, as_tac, as_user, as_pterm, as_lterm, as_tls, as_uls, as_class, said_as, generated}
 use Rattle.kdcdef_check.specs.Steps.{put, put_key, table_of, keys_table, lterm_said, IsAdded, AreFilled, HaveNames}

@@ -1,5 +1,5 @@
 -- The first of the faults that were found.
-use Rattle.std.proofs.Common.{◌≡◌, ◌⊎◌, ℕ, ◌+◌, ◌<◌, ◌≤◌, get_or, refl, sym, ◌∙◌, ap, subst, inl, inr, arith, Bool, true, false, cond, ◌&&◌, ◌||◌, ◌==◌, nat_lt, nat_le, List, length, take, slice_get, Option, Some, None, IsTrue}
+use Rattle.std.proofs.Common.{◌≡◌, ◌⊎◌, ℕ, ◌+◌, ◌<◌, get_or, refl, sym, ◌∙◌, ap, subst, inl, inr, arith, Bool, true, false, cond, ◌&&◌, ◌||◌, ◌==◌, nat_lt, nat_le, List, length, slice_get, Option, Some, None, IsTrue}
 use Rattle.std.proofs.lemmas.Option.{slice_get_read}
 use Rattle.kd_base.specs.Tools.{some_is}
 use Rattle.std.proofs.lemmas.Bool.Decides.{nat_tests}

@@ -1,8 +1,7 @@
 -- Which names a table has, filled one statement after another.
-use Rattle.std.proofs.Common.{◌≡◌, ◌⊎◌, ℕ, ◌+◌, ◌<◌, refl, sym, ◌∙◌, ap, subst, inl, inr, arith, Bool, true, false, cond, ◌||◌, nat_eq, bytes_eq, is_some, List, [], ◌∷◌, ◌++◌, Option, Some, None, fold, filter_map}
+use Rattle.std.proofs.Common.{◌≡◌, refl, sym, ◌∙◌, ap, inl, inr, arith, Bool, true, false, cond, ◌||◌, nat_eq, bytes_eq, is_some, List, [], ◌∷◌, ◌++◌, Option, Some, None, fold, filter_map}
 use Rattle.std.specs.List.{cons_option, list_any}
 use Rattle.std.specs.Map.{lookup}
-use Rattle.std.proofs.lemmas.Bool.{cases_Bool}
 use Rattle.std.proofs.lemmas.Bool.Decides.{eqb_tells}
 use Rattle.std.proofs.lemmas.List.Folds.{list_any-append}
 use Rattle.std.proofs.lemmas.Slice.Eq.{bytes_eq-Decides}

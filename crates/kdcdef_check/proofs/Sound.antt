@@ -1,8 +1,8 @@
 -- What the statements generate keeps its ranges, where they have no fault.
-use Rattle.std.proofs.Common.{◌≡◌, ◌⊎◌, ℕ, zero, suc, ◌+◌, ◌<◌, ◌≤◌, ◌==◌, refl, sym, ◌∙◌, ap, subst, inl, inr, arith, Bool, true, false, cond, not, ◌&&◌, ◌||◌, nat_lt, nat_le, List, [], ◌∷◌, ◌++◌, length, take, get_or, slice_get, Option, Some, None, is_some, is_none, bytes_eq, nat_eq, filter_map, IsTrue, unwrap_or}
-use Rattle.std.specs.Prelude.{IfSome, IsSome}
-use Rattle.std.specs.List.{All, cons_option, list_any}
-use Rattle.std.specs.Map.{lookup, keys_of, values_of}
+use Rattle.std.proofs.Common.{◌≡◌, ℕ, suc, ◌≤◌, ◌==◌, refl, sym, subst, inl, inr, arith, Bool, true, false, not, nat_lt, List, [], ◌∷◌, length, Option, Some, None, is_some, is_none, filter_map, IsTrue, unwrap_or}
+use Rattle.std.specs.Prelude.{IfSome}
+use Rattle.std.specs.List.{All, cons_option}
+use Rattle.std.specs.Map.{values_of}
 use Rattle.std.specs.Option.{option_or}
 use Rattle.std.proofs.lemmas.Bool.Decides.{nat_tests}
 use Rattle.std.proofs.lemmas.List.Elements.{All-cons, All-nil}
@@ -10,17 +10,16 @@ use Rattle.kd_base.specs.Tools.{some_is}
 use Rattle.kdcdef_types.specs.declared.entry.TacEntry.{TacEntry}
 use Rattle.kdcdef_types.specs.declared.entry.UserEntry.{UserEntry}
 use Rattle.kdcdef_types.specs.declared.entry.PtermEntry.{PtermEntry}
-use Rattle.kdcdef_types.specs.declared.entry.LtermEntry.{LtermEntry}
 use Rattle.kdcdef_types.specs.declared.statement.MaxOperands.{MaxOperands}
 use Rattle.kdcdef_types.specs.declared.statement.Said.{Said}
-use Rattle.kdcdef_types.specs.declared.statement.Said.TheVariants.{Max, Program, Tac, User, Pterm, Lterm, Tls, Uls, TacClass, Passed, End}
+use Rattle.kdcdef_types.specs.declared.statement.Said.TheVariants.{Max, Tac, User, Pterm, TacClass}
 use Rattle.kdcdef_types.specs.declared.statement.Statement.{Statement}
 use Rattle.kdcdef_types.specs.Statements.{IsWithin, IsBlksize, IsMaxInRange, IsTacInRange, IsUserInRange, IsInRange, AreRead}
-use Rattle.kdcdef_types.specs.Generation.{Generated, entry_of, tac_of, lterm_of}
+use Rattle.kdcdef_types.specs.Generation.{Generated, entry_of, lterm_of}
 use Rattle.kdcdef_check.specs.declared.fault.CheckFault.TheVariants.{NoProgram, NoLterm, ClassOfWrongKind}
-use Rattle.kdcdef_check.specs.Soundness.{AreLimits, IsSound, AreCounted, IsCountOf, fits_kind, restart_count}
-use Rattle.kdcdef_check.specs.Generating.{as_program, as_tac, as_user, as_pterm, as_lterm, as_class, as_passed, said_as, programs_said, nothing_given, operands_said, both_given, max_given, with_defaults, generated}
-use Rattle.kdcdef_check.specs.Faults.{lacks_program, lacks_lterm, has_other_class, kind_count, has_small_pool, lacks_user, AreFaultless}
+use Rattle.kdcdef_check.specs.Soundness.{AreLimits, IsSound, AreCounted, fits_kind}
+use Rattle.kdcdef_check.specs.Generating.{as_tac, as_user, as_pterm, as_lterm, as_class, said_as, programs_said, nothing_given, operands_said, both_given, max_given, with_defaults, generated}
+use Rattle.kdcdef_check.specs.Faults.{lacks_program, lacks_lterm, has_other_class, AreFaultless}
 use Rattle.kdcdef_check.proofs.Counting.{program_count, tac_count, user_count, pterm_count, lterm_count, passed_statements}
 use Rattle.kdcdef_check.proofs.Faultless.{not_shown, all_at, few, some_user_said, pool_said}
 use Rattle.kdcdef_check.proofs.Apart.{names_apart}

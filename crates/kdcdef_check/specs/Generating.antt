@@ -1,5 +1,5 @@
 -- What a list of statements generates: each table by a filter, in the order of the statements.
-use Rattle.std.specs.Prelude.{ℕ, ◌+◌, Bool, true, false, List, [], ◌∷◌, length, Option, Some, None, nat_eq, unwrap_or, count_by}
+use Rattle.std.specs.Prelude.{ℕ, List, [], ◌∷◌, length, Option, Some, None, unwrap_or}
 use Rattle.std.specs.List.{filter_map}
 use Rattle.std.specs.Option.{option_or}
 use Rattle.kdcdef_types.specs.declared.entry.TacEntry.{TacEntry}
@@ -10,7 +10,7 @@ use Rattle.kdcdef_types.specs.declared.limits.Limits.{Limits}
 use Rattle.kdcdef_types.specs.declared.limits.Counts.{Counts}
 use Rattle.kdcdef_types.specs.declared.statement.MaxOperands.{MaxOperands}
 use Rattle.kdcdef_types.specs.declared.statement.Said.{Said}
-use Rattle.kdcdef_types.specs.declared.statement.Said.TheVariants.{Max, Program, Tac, User, Pterm, Lterm, Tls, Uls, TacClass, Passed, End}
+use Rattle.kdcdef_types.specs.declared.statement.Said.TheVariants.{Max, Program, Tac, User, Pterm, Lterm, Tls, Uls, TacClass, Passed}
 use Rattle.kdcdef_types.specs.declared.statement.Statement.{Statement}
 use Rattle.kdcdef_types.specs.Statements.{passed_count}
 use Rattle.kdcdef_types.specs.Generation.{Generated}

@@ -1,5 +1,4 @@
-use Rattle.std.proofs.Common.{◌∙◌, ap, ◌≡◌}
-use Rattle.kdcdef_types.specs.declared.statement.MaxOperands.{MaxOperands}
+use Rattle.std.proofs.Common.{◌∙◌, ap}
 use Rattle.kdcdef_check.specs.Generating.{both_given}
 use Rattle.kdcdef_check.proofs.GivenOperands.{next_given}
 use Rattle.kdcdef_check.proofs.limits.max_given.Goals as goal

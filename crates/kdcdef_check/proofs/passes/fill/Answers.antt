@@ -1,4 +1,4 @@
-use Rattle.std.proofs.Common.{◌+◌, ℕ, ◌∙◌, ap, arith, take}
+use Rattle.std.proofs.Common.{ℕ, ◌∙◌, ap, arith, take}
 use Rattle.kdcdef_check.specs.Generating.{generated}
 use Rattle.kdcdef_check.specs.Faults.{kind_count}
 use Rattle.kdcdef_check.specs.Steps.{place_of, own_fault, OwnFault}

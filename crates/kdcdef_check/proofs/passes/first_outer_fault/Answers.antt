@@ -1,4 +1,4 @@
-use Rattle.std.proofs.Common.{◌+◌, ℕ, arith, subst}
+use Rattle.std.proofs.Common.{ℕ, arith, subst}
 use Rattle.kdcdef_check.specs.Steps.{OuterFault, IsFirstOf, AmongFirst}
 use Rattle.kdcdef_check.proofs.FirstOfFaults.{next_first}
 use Rattle.kdcdef_check.proofs.Chains.{outer_first}

@@ -1,4 +1,4 @@
-use Rattle.std.proofs.Common.{◌∙◌, sym, ap, arith}
+use Rattle.std.proofs.Common.{◌∙◌, arith}
 use Rattle.kdcdef_check.proofs.Counting.{user_count, lterm_count}
 use Rattle.kdcdef_check.proofs.whole.Whole.of.Goals as goal
 
