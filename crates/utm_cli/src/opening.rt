@@ -49,6 +49,19 @@ fn attached<D: Device>(device: &mut D, name: &[u8]) -> Result<u64, OpenError>
     Ok(device.size()?)
 }
 
+/// The tables of these numbers, with no rows.
+fn without_rows(alloc: Global, clock: u64, next_job: u64) -> Result<Tables, OutOfMemory>
+    ensures { IfOk result (λ t. t ≡ record empty_tables { clock = clock; next_job = next_job }) }
+{
+    let mut tables = Tables::empty(alloc);
+    tables.change(&Changes {
+        clock,
+        next_job,
+        items: RowChanges::new(alloc),
+    })?;
+    Ok(tables)
+}
+
 /// The tables that a store keeps, where its file is one of this application.
 fn tables_of(alloc: Global, store: &WholeStore) -> Result<Option<Tables>, OutOfMemory>
     ensures some { IfOk result (λ o. IfSome o (λ t. KeepsTables store.now t)) }
@@ -67,12 +80,7 @@ fn tables_of(alloc: Global, store: &WholeStore) -> Result<Option<Tables>, OutOfM
     {
         return Ok(None);
     }
-    let mut tables = Tables::empty(alloc);
-    tables.change(&Changes {
-        clock,
-        next_job,
-        items: RowChanges::new(alloc),
-    })?;
+    let tables = without_rows(alloc, clock, next_job)?;
     Ok(Some(tables))
 }
 
@@ -106,7 +114,8 @@ fn warm<D: Device>(alloc: Global, device: &mut D) -> Result<(WholeStore, Tables)
     ensures names { SameNames (D.state device.old) (D.state device.new) }
 {
     let store = WholeStore::load(alloc, device)?;
-    match tables_of(alloc, &store)? {
+    let found = tables_of(alloc, &store)?;
+    match found {
         Some(tables) => Ok((store, tables)),
         None => Err(OpenError::NotKdcfile),
     }
