@@ -31,6 +31,7 @@ settled ss a b p q = first_of_both (AmongFirst ss (OwnFault ss) (length ss)) (Am
     by : (e : CheckFault) (i : ℕ) (s : Statement) → slice_get ss i ≡ Some s → HasFault ss (take i ss) s e → (b : Bool) → is_own e ≡ b → AmongFirst ss (OwnFault ss) (length ss) e ⊎ AmongFirst ss (OuterFault ss) (length ss) e
     by e i s at has true own = inl (i, s, slice_get_within ss i s at, at, (own, has))
     by e i s at has false own = inr (i, s, slice_get_within ss i s at, at, (own, has))
+
     split : (e : CheckFault) → Stands ss e → AmongFirst ss (OwnFault ss) (length ss) e ⊎ AmongFirst ss (OuterFault ss) (length ss) e
     split e h = by e h.0 h.1 h.2 h.3 (is_own e) refl
 
@@ -150,7 +151,7 @@ counted ss t passed tally is = λ j. record {
   tacs = (tally.counts 2 (omega arith) ∙ tac_count ss) j;
   programs = (tally.counts 1 (omega arith) ∙ program_count ss) j;
   passed_statements = (tally.counts 9 (omega arith) ∙ passed_statements ss) j;
-  passed_operands = is j
+  passed_operands = is j;
 }
 
 pub all_made : (ss : List Statement) (tables : Tables) (t : Tally) (m : MaxOperands) (passed : ℕ) (limits : Limits) (counts : Counts) → AreFilled tables ss → IsTallyOf t ss → m ≡ max_given ss → passed ≡ passed_count ss → limits ≡ with_defaults m → counts ≡ counts_in t passed → AreFaultless ss → made_of tables limits counts ≡ generated ss

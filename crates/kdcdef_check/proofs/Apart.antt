@@ -47,8 +47,10 @@ apart_said (Lterm n entry) g free apart name h = go (bytes_eq name n) refl
   where
     is : is_some (tac_of g name) ≡ true
     is = from_or_false (is_some (tac_of g name)) h
+
     differs : (a b : Bool) → a ≡ true → a ≡ false → b ≡ false
     differs a b i j = absurd (grind (arith, i, j))
+
     go : (b : Bool) → bytes_eq name n ≡ b → (is_some (lterm_of g name) || is_some (cond b (Some entry) None)) ≡ false
     go true e = differs (is_some (tac_of g name)) (is_some (lterm_of g name) || true) is (subst (λ (m : List ℕ). is_some (tac_of g m) ≡ false) (sym (exact_bytes name n e)) (right_false (is_some (lterm_of g n)) (is_some (tac_of g n)) free))
     go false e = or_false (is_some (lterm_of g name)) ∙ apart name is
@@ -79,8 +81,8 @@ found_there : {V : Type 0} (es : List (List ℕ × V)) → All (λ (name : List 
 found_there [] = All-nil _
 found_there (e ∷ es) =
     All-cons (λ (name : List ℕ). is_some (lookup (bytes_eq name) (e ∷ es)) ≡ true) e.0 (keys_of es)
-      (at_head (bytes_eq e.0 e.0) e.1 (lookup (bytes_eq e.0) es) ∙ ap (λ b. b || is_some (lookup (bytes_eq e.0) es)) ((bytes_eq-Decides e.0 e.0).1 refl))
-      (λ k d below. behind (get_or (keys_of es) k d) (found_there es k d below))
+    (at_head (bytes_eq e.0 e.0) e.1 (lookup (bytes_eq e.0) es) ∙ ap (λ b. b || is_some (lookup (bytes_eq e.0) es)) ((bytes_eq-Decides e.0 e.0).1 refl))
+    (λ k d below. behind (get_or (keys_of es) k d) (found_there es k d below))
   where
     behind : (name : List ℕ) → is_some (lookup (bytes_eq name) es) ≡ true → is_some (lookup (bytes_eq name) (e ∷ es)) ≡ true
     behind name h = at_head (bytes_eq name e.0) e.1 (lookup (bytes_eq name) es) ∙ ap (λ b. bytes_eq name e.0 || b) h ∙ or_true (bytes_eq name e.0)

@@ -119,14 +119,14 @@ fresh_class g _ p e h = absurd cc
 -- the tables that the statements filled, with the limits and counts, are what they generate
 pub made_exactly : (t : Tables) (ss : List Statement) (counts : Counts) → AreFilled t ss → AreFaultless ss → counts ≡ counts_of ss → made_of t (with_defaults (max_given ss)) counts ≡ generated ss
 made_exactly t ss counts filled free counted = λ j. record {
-    limits = with_defaults (max_given ss);
-    programs = (filled.programs ∙ exact_table bytes_eq (λ (s : Statement). as_program s.line s.said) ss (λ i s at p e. fresh_program (generated (take i ss)) s.line s.said p e (not_taken ss free i s at))) j;
-    tacs = (filled.tacs ∙ exact_table bytes_eq (λ (s : Statement). as_tac s.said) ss (λ i s at p e. fresh_tac (generated (take i ss)) s.said p e (not_taken ss free i s at))) j;
-    users = (filled.users ∙ exact_table bytes_eq (λ (s : Statement). as_user s.said) ss (λ i s at p e. fresh_user (generated (take i ss)) s.said p e (not_taken ss free i s at))) j;
-    pterms = (filled.pterms ∙ exact_table bytes_eq (λ (s : Statement). as_pterm s.said) ss (λ i s at p e. fresh_pterm (generated (take i ss)) s.said p e (not_taken ss free i s at))) j;
-    lterms = (filled.lterms ∙ exact_table bytes_eq (λ (s : Statement). as_lterm s.said) ss (λ i s at p e. fresh_lterm (generated (take i ss)) s.said p e (not_taken ss free i s at))) j;
-    tls = (filled.tls ∙ exact_keys bytes_eq (λ (s : Statement). as_tls s.said) ss (λ i s at p e. fresh_tls (generated (take i ss)) s.said p e (not_taken ss free i s at))) j;
-    uls = (filled.uls ∙ exact_keys bytes_eq (λ (s : Statement). as_uls s.said) ss (λ i s at p e. fresh_uls (generated (take i ss)) s.said p e (not_taken ss free i s at))) j;
-    classes = (filled.classes ∙ exact_table nat_eq (λ (s : Statement). as_class s.said) ss (λ i s at p e. fresh_class (generated (take i ss)) s.said p e (not_taken ss free i s at))) j;
-    counts = counted j
-  }
+  limits = with_defaults (max_given ss);
+  programs = (filled.programs ∙ exact_table bytes_eq (λ (s : Statement). as_program s.line s.said) ss (λ i s at p e. fresh_program (generated (take i ss)) s.line s.said p e (not_taken ss free i s at))) j;
+  tacs = (filled.tacs ∙ exact_table bytes_eq (λ (s : Statement). as_tac s.said) ss (λ i s at p e. fresh_tac (generated (take i ss)) s.said p e (not_taken ss free i s at))) j;
+  users = (filled.users ∙ exact_table bytes_eq (λ (s : Statement). as_user s.said) ss (λ i s at p e. fresh_user (generated (take i ss)) s.said p e (not_taken ss free i s at))) j;
+  pterms = (filled.pterms ∙ exact_table bytes_eq (λ (s : Statement). as_pterm s.said) ss (λ i s at p e. fresh_pterm (generated (take i ss)) s.said p e (not_taken ss free i s at))) j;
+  lterms = (filled.lterms ∙ exact_table bytes_eq (λ (s : Statement). as_lterm s.said) ss (λ i s at p e. fresh_lterm (generated (take i ss)) s.said p e (not_taken ss free i s at))) j;
+  tls = (filled.tls ∙ exact_keys bytes_eq (λ (s : Statement). as_tls s.said) ss (λ i s at p e. fresh_tls (generated (take i ss)) s.said p e (not_taken ss free i s at))) j;
+  uls = (filled.uls ∙ exact_keys bytes_eq (λ (s : Statement). as_uls s.said) ss (λ i s at p e. fresh_uls (generated (take i ss)) s.said p e (not_taken ss free i s at))) j;
+  classes = (filled.classes ∙ exact_table nat_eq (λ (s : Statement). as_class s.said) ss (λ i s at p e. fresh_class (generated (take i ss)) s.said p e (not_taken ss free i s at))) j;
+  counts = counted j;
+}

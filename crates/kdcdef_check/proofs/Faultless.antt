@@ -35,10 +35,13 @@ few_so ss free kind n s within at is le = by (eqb_tells (kind_of s.said) kind)
   where
     same : (b : Bool) → (kind_of s.said == kind) ≡ b → (kind_of (get_or ss n s).said == kind) ≡ b
     same b h = rw is h
+
     room : kind_of s.said ≡ kind → (kind_count kind (take n ss) == 20000) ≡ false
     room e = subst (λ (k : ℕ). (kind_count k (take n ss) == 20000) ≡ false) e (not_shown ss free n s at (TooMany s.line) refl)
+
     below : (c : ℕ) → c ≤ 20000 → (c == 20000) ≡ false → c + 1 ≤ 20000
     below c h i = grind (arith, nat_tests, h, i)
+
     by : (((kind_of s.said == kind) ≡ true) × (kind_of s.said ≡ kind)) ⊎ (((kind_of s.said == kind) ≡ false) × (kind_of s.said ≡ kind → ⊥)) → kind_count kind (take (n + 1) ss) ≤ 20000
     by (inl h) = rw (count_by_more_yes (λ (t : Statement). kind_of t.said == kind) ss n s within (same true h.0)) (below (kind_count kind (take n ss)) le (room h.1))
     by (inr h) = rw (count_by_more_no (λ (t : Statement). kind_of t.said == kind) ss n s within (same false h.0)) le

@@ -37,7 +37,7 @@ filled_further ss s old new was added = record {
   classes = further nat_eq (λ (s : Statement). as_class s.said) ss s _ _ was.classes added.classes;
   tls = further_keys bytes_eq (λ (s : Statement). as_tls s.said) ss s _ _ was.tls added.tls;
   uls = further_keys bytes_eq (λ (s : Statement). as_uls s.said) ss s _ _ was.uls added.uls;
-  served = further_keys bytes_eq (λ (s : Statement). lterm_said s.said) ss s _ _ was.served added.served
+  served = further_keys bytes_eq (λ (s : Statement). lterm_said s.said) ss s _ _ was.served added.served;
 }
 
 -- the tables of the loop, one statement further
@@ -64,5 +64,5 @@ filled_names t ss filled = record {
   classes = λ (class : ℕ). ap (λ (es : List (ℕ × ℕ)). is_some (lookup (nat_eq class) es)) filled.classes ∙ there-table_of nat_eq exact_numbers (λ (s : Statement). as_class s.said) ss class;
   tls = λ (name : List ℕ). ap (λ (ks : List (List ℕ)). list_any (bytes_eq name) ks) filled.tls ∙ among-keys_table bytes_eq exact_bytes (λ (s : Statement). as_tls s.said) ss name;
   uls = λ (name : List ℕ). ap (λ (ks : List (List ℕ)). list_any (bytes_eq name) ks) filled.uls ∙ among-keys_table bytes_eq exact_bytes (λ (s : Statement). as_uls s.said) ss name;
-  served = λ (name : List ℕ). ap (λ (ks : List (List ℕ)). list_any (bytes_eq name) ks) filled.served ∙ among-keys_table bytes_eq exact_bytes (λ (s : Statement). lterm_said s.said) ss name ∙ served_by ss name
+  served = λ (name : List ℕ). ap (λ (ks : List (List ℕ)). list_any (bytes_eq name) ks) filled.served ∙ among-keys_table bytes_eq exact_bytes (λ (s : Statement). lterm_said s.said) ss name ∙ served_by ss name;
 }

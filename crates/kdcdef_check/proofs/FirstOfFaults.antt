@@ -53,15 +53,19 @@ next_first ss Such n s a b within is p q = first_of_both (AmongFirst ss Such n) 
   where
     at : slice_get ss n ≡ Some s
     at = slice_get_read ss (length ss) n s refl within is
+
     by_place : (e : CheckFault) (i : ℕ) (t : Statement) → slice_get ss i ≡ Some t → Such i t e → (i < n) ⊎ (i ≡ n) → AmongFirst ss Such n e ⊎ Such n s e
     by_place e i t here such (inl below) = inl (i, t, below, here, such)
     by_place e i t here such (inr same) =
         let such_n : Such n t e = subst (λ (j : ℕ). Such j t e) same such in
         inr (subst (λ (u : Statement). Such n u e) (same_place ss n i s t at here same) such_n)
+
     split : (e : CheckFault) → AmongFirst ss Such (n + 1) e → AmongFirst ss Such n e ⊎ Such n s e
     split e among = by_place e among.0 among.1 among.3 among.4 (grind (arith, among.2))
+
     left : (e : CheckFault) → AmongFirst ss Such n e → AmongFirst ss Such (n + 1) e
     left e among = (among.0, among.1, omega (arith, among.2), among.3, among.4)
+
     right : (e : CheckFault) → Such n s e → AmongFirst ss Such (n + 1) e
     right e such = (n, s, omega arith, at, such)
 

@@ -26,7 +26,7 @@ both_nothing m = λ i. record {
   nb = or_none m.nb i;
   pgpool = or_none m.pgpool i;
   reswait = or_none m.reswait i;
-  blksize = or_none m.blksize i
+  blksize = or_none m.blksize i;
 }
 
 both_both : (a b c : MaxOperands) → both_given (both_given a b) c ≡ both_given a (both_given b c)
@@ -41,7 +41,7 @@ both_both a b c = λ i. record {
   nb = or_or a.nb b.nb c.nb i;
   pgpool = or_or a.pgpool b.pgpool c.pgpool i;
   reswait = or_or a.reswait b.reswait c.reswait i;
-  blksize = or_or a.blksize b.blksize c.blksize i
+  blksize = or_or a.blksize b.blksize c.blksize i;
 }
 
 -- one more statement

@@ -57,8 +57,10 @@ module _ {K V : Type 0} (eq : K → K → Bool) (exact : IsExact eq) where
     where
       there : Bool
       there = is_some (lookup (eq k) es)
+
       behind : (eq k new || (eq k e.0 || there)) ≡ (eq k new || is_some (cond (eq k e.0) (Some e.1) (lookup (eq k) es)))
       behind = ap (λ b. eq k new || b) (sym (at_head (eq k e.0) e.1 (lookup (eq k) es)))
+
       go : is_some (lookup (eq k) (insert_entry eq es new v)) ≡ (eq k new || there) → (a : Bool) → eq new e.0 ≡ a → is_some (lookup (eq k) (cond a ((e.0, v) ∷ es) (e ∷ insert_entry eq es new v))) ≡ (eq k new || is_some (cond (eq k e.0) (Some e.1) (lookup (eq k) es)))
       go so_far true h = at_head (eq k e.0) v (lookup (eq k) es) ∙ or_again (eq k new) (eq k e.0) there (ap (eq k) (exact new e.0 h)) ∙ behind
       go so_far false h =
@@ -97,6 +99,7 @@ module _ {K : Type 0} (eq : K → K → Bool) (exact : IsExact eq) where
       present : (b : Bool) → eq k new ≡ b → list_any (eq new) ks ≡ true → list_any (eq k) ks ≡ (b || list_any (eq k) ks)
       present true h is = rw (exact k new h) is
       present false h is = refl
+
       go : (a : Bool) → list_any (eq new) ks ≡ a → list_any (eq k) (cond a ks (ks ++ new ∷ [])) ≡ (eq k new || list_any (eq k) ks)
       go true h = present (eq k new) refl h
       go false h = list_any-append (eq k) ks (new ∷ []) ∙ ap (λ b. list_any (eq k) ks || b) (or_false (eq k new)) ∙ or_turned (list_any (eq k) ks) (eq k new)

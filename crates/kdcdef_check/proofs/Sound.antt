@@ -70,7 +70,7 @@ both_in_range a b h i = record {
   nb = in_either (IsWithin 1 32700) a.nb b.nb h.nb i.nb;
   pgpool = in_either (IsWithin 16 30000) a.pgpool b.pgpool h.pgpool i.pgpool;
   reswait = in_either (IsWithin 0 32767) a.reswait b.reswait h.reswait i.reswait;
-  blksize = in_either IsBlksize a.blksize b.blksize h.blksize i.blksize
+  blksize = in_either IsBlksize a.blksize b.blksize h.blksize i.blksize;
 }
 
 max_in_range : (ss : List Statement) → All (λ (s : Statement). IsInRange s.said) ss → IsMaxInRange (max_given ss)
@@ -89,7 +89,7 @@ limits_in_range m h = record {
   nb = or_default (IsWithin 1 32700) m.nb 2048 h.nb (omega arith, omega arith);
   pgpool = or_default (IsWithin 16 30000) m.pgpool 100 h.pgpool (omega arith, omega arith);
   reswait = (or_default (IsWithin 0 32767) m.reswait 60 h.reswait (omega arith, omega arith)).1;
-  blksize = or_default IsBlksize m.blksize 4096 h.blksize (inr (inl refl))
+  blksize = or_default IsBlksize m.blksize 4096 h.blksize (inr (inl refl));
 }
 
 -- ---- the entries
@@ -136,7 +136,7 @@ counted ss read free = record {
   tacs = (refl, rw (sym (tac_count ss)) (few ss free 2));
   programs = (refl, rw (sym (program_count ss)) (few ss free 1));
   passed_statements = rw (sym (passed_statements ss)) (few ss free 9);
-  passed_operands = read.passed
+  passed_operands = read.passed;
 }
 
 one_or_more : (n : ℕ) → (n == 0) ≡ false → 1 ≤ n
@@ -157,5 +157,5 @@ sound ss read free = record {
   apart = names_apart ss free;
   counts = counted ss read free;
   some_user = one_or_more (length (said_as as_user ss)) (some_user_said ss free read.ends);
-  pool = not_less _ _ (pool_said ss free read.ends)
+  pool = not_less _ _ (pool_said ss free read.ends);
 }

@@ -35,12 +35,13 @@ count_within ss i t kind within below tally =
 
 pub next_tally : (ss : List Statement) (i : ℕ) (s : Statement) (old new : Tally) (k : ℕ) → i < length ss → s ≡ get_or ss i s → k ≡ kind_of s.said → k < 11 → IsTallyOf old (take i ss) → new.counts ≡ set old.counts k (slice_index old.counts k + 1) → IsTallyOf new (take (i + 1) ss)
 next_tally ss i s old new k within is kind_is small was added = record {
-    kinds = ap length added ∙ length-set old.counts k (slice_index old.counts k + 1) ∙ was.kinds;
-    counts = λ kind below. by kind below (eqb_tells (kind_of s.said) kind)
-  }
+  kinds = ap length added ∙ length-set old.counts k (slice_index old.counts k + 1) ∙ was.kinds;
+  counts = λ kind below. by kind below (eqb_tells (kind_of s.said) kind);
+}
   where
     same : (kind : ℕ) (b : Bool) → (kind_of s.said == kind) ≡ b → (kind_of (get_or ss i s).said == kind) ≡ b
     same kind b h = rw (sym is) h
+
     by : (kind : ℕ) → kind < 11 → (((kind_of s.said == kind) ≡ true) × (kind_of s.said ≡ kind)) ⊎ (((kind_of s.said == kind) ≡ false) × (kind_of s.said ≡ kind → ⊥)) → slice_index new.counts kind ≡ kind_count kind (take (i + 1) ss)
     by kind below (inl h) =
         rw (count_by_more_yes (λ (t : Statement). kind_of t.said == kind) ss i s within (same kind true h.0))

@@ -74,7 +74,7 @@ nothing_given = record {
   nb = None;
   pgpool = None;
   reswait = None;
-  blksize = None
+  blksize = None;
 }
 
 -- the operands that a statement gives
@@ -95,7 +95,7 @@ both_given a b = record {
   nb = option_or a.nb b.nb;
   pgpool = option_or a.pgpool b.pgpool;
   reswait = option_or a.reswait b.reswait;
-  blksize = option_or a.blksize b.blksize
+  blksize = option_or a.blksize b.blksize;
 }
 
 -- the operands of all MAX statements together
@@ -116,7 +116,7 @@ with_defaults m = record {
   nb = unwrap_or m.nb 2048;
   pgpool = unwrap_or m.pgpool 100;
   reswait = unwrap_or m.reswait 60;
-  blksize = unwrap_or m.blksize 4096
+  blksize = unwrap_or m.blksize 4096;
 }
 
 -- ---- the generation
@@ -129,7 +129,7 @@ counts_of ss = record {
   tacs = length (said_as as_tac ss);
   programs = length (programs_said ss);
   passed_statements = length (said_as as_passed ss);
-  passed_operands = passed_count ss
+  passed_operands = passed_count ss;
 }
 
 abbrev pub generated : List Statement → Generated
@@ -143,5 +143,5 @@ generated ss = record {
   tls = said_as as_tls ss;
   uls = said_as as_uls ss;
   classes = said_as as_class ss;
-  counts = counts_of ss
+  counts = counts_of ss;
 }

@@ -167,7 +167,7 @@ counts_in t passed = record {
   tacs = slice_index t.counts 2;
   programs = slice_index t.counts 1;
   passed_statements = slice_index t.counts 9;
-  passed_operands = passed
+  passed_operands = passed;
 }
 
 -- the generation that filled tables, limits and counts are
@@ -182,7 +182,7 @@ made_of t limits counts = record {
   tls = t.tls.keys;
   uls = t.uls.keys;
   classes = t.classes.entries;
-  counts = counts
+  counts = counts;
 }
 
 -- a USER statement with RESTART=YES

@@ -33,11 +33,7 @@ fn has_other_class(said: &Said) -> bool
 }
 
 /// The first of a statement's own faults. The tables hold the statements before it, of which `count` are of its kind.
-pub(crate) fn own_fault(
-    tables: &Tables,
-    count: usize,
-    statement: &Statement,
-) -> Option<CheckFault>
+pub(crate) fn own_fault(tables: &Tables, count: usize, statement: &Statement) -> Option<CheckFault>
     ensures { (g : Generated) → HaveNames tables.now g → result ≡ own_fault g count statement.now }
 {
     let said = &statement.said;

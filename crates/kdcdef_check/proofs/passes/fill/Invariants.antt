@@ -6,5 +6,5 @@ abbrev pub invariant-loop-statement : goal.invariant-loop-statement
 invariant-loop-statement l = record {
   tables : AreFilled l.tables (take l.statement-index l.statements);
   tally : IsTallyOf l.tally (take l.statement-index l.statements);
-  first : IsFirstOf (AmongFirst l.statements (OwnFault l.statements) l.statement-index) l.first
+  first : IsFirstOf (AmongFirst l.statements (OwnFault l.statements) l.statement-index) l.first;
 }

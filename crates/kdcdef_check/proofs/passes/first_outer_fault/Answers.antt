@@ -10,8 +10,8 @@ loop-statement-preserved c =
     let i = c.loop-statement.statement-index in
     let s = c.statement-item.result in
     rw c.earlier-first.ensures
-      (next_first ss (OuterFault ss) i s c.loop-statement.first c.fault_of.result c.loop-statement-test.true c.statement-item.is c.loop-statement.invariant
-        (rw (c.fault_of.ensures ss c.requires.names c.requires.whole) (outer_first ss i s)))
+    (next_first ss (OuterFault ss) i s c.loop-statement.first c.fault_of.result c.loop-statement-test.true c.statement-item.is c.loop-statement.invariant
+    (rw (c.fault_of.ensures ss c.requires.names c.requires.whole) (outer_first ss i s)))
 
 pub returns : goal.returns
 returns c =

@@ -6,5 +6,5 @@ use Rattle.kdcdef_check.proofs.whole.restart_count.Given as goal
 abbrev pub invariant-loop-statement : goal.invariant-loop-statement
 invariant-loop-statement l = record {
   count : l.count ≡ count_by (λ (s : Statement). is_restart s.said) (take l.statement-index l.statements);
-  within : l.count ≤ l.statement-index
+  within : l.count ≤ l.statement-index;
 }
