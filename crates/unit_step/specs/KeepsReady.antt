@@ -115,9 +115,6 @@ area_lengths old new same false = same.kb
 inside_still : (old new : RunState) → SameLengths old new → (f : Field) → IsInside old f → IsInside new f
 inside_still old new same f h = omega (arith, area_lengths old new same f.spab)
 
-inside_still : (old new : RunState) → SameLengths old new → (f : Field) → IsInside old f → IsInside new f
-inside_still old new same f h = omega (arith, area_lengths old new same f.spab)
-
 ready_again : (unit : UnitText) (old new : RunState) → IsReady unit old → 1 ≤ new.place → new.length ≤ 99999 → new.count ≤ new.budget → SameLengths old new → IsReady unit new × SameLengths old new
 ready_again unit old new ready place read_length count same = (
   record {
