@@ -1,5 +1,5 @@
 -- No turn and no command makes two open transactions touch one area.
-use Rattle.std.specs.Prelude.{◌≡◌, refl, ℕ, zero, suc, slice_get, Bool, true, false, cond, ◌||◌, not, ◌⊎◌, IsTrue, List, [], ◌∷◌, map, filter, is_some, ◌+◌, ◌++◌, ◌&&◌, length, sum_by, nat_le, nat_lt, find as find_first, Option, Some, None, Result, Ok, Err}
+use Rattle.std.specs.Prelude.{◌≡◌, refl, ℕ, Bool, true, false, cond, ◌||◌, not, ◌⊎◌, IsTrue, List, [], ◌∷◌, filter, is_some, ◌+◌, ◌++◌, ◌&&◌, length, sum_by, nat_le, nat_lt, Option, Some, None, Result, Ok, Err}
 use Rattle.std.proofs.Common.{sym, ap, ◌∙◌, subst, inl, inr, ⊎_elim, true≢false}
 use Rattle.std.specs.List.{list_any}
 use Rattle.std.specs.declared.cmp.Ordering.TheVariants.{Equal}
@@ -25,7 +25,7 @@ use Rattle.monitor_semantics.specs.declared.draft.Due.{Due}
 use Rattle.kdcs_types.specs.declared.key.Target.{Target}
 use Rattle.monitor_semantics.specs.Bytes.{Bytes, bytes_cmp}
 use Rattle.monitor_semantics.specs.State.{Application, OpenTransaction, State, unit_of}
-use Rattle.monitor_semantics.specs.Calls.{Told, Asked, Granted, MustWait, Denied, Called, Replied, Waits, Abnormal, Pends, touches, touching, asked_by, on_answer, locked, for_kind, within_length, with_name, declared, name_in_operand, read_or, replied, got, got_by, put_part, drafted, put_job, target_of, wrote, deleted, seen, read_gssb, write_gssb, delete_gssb, read_block, write_block, unlocked, unlocked_by, write_local, read_away, read_away_by, delete_local, delete_local_by, pended, pend, called, first_call, called_by, call_outcome}
+use Rattle.monitor_semantics.specs.Calls.{Told, Asked, Granted, MustWait, Denied, Called, Replied, Waits, Abnormal, Pends, touches, touching, asked_by, on_answer, locked, for_kind, within_length, with_name, declared, name_in_operand, read_or, replied, got_by, drafted, put_job, target_of, deleted, seen, unlocked_by, read_away_by, delete_local_by, pended, called, first_call, called_by, call_outcome}
 use Rattle.monitor_semantics.specs.Endings.{followed}
 use Rattle.monitor_semantics.specs.Statements.{gssb_named, uls_named, tls_named, any_area, area_of_call, area_of_step, area_in_unit, area_of, Happened, Went, Queued, Waited, Held, Settles, Breaks, Returns, by_outcome, by_call, by_step, in_unit, statement}
 use Rattle.monitor_semantics.specs.Locks.{Active, holds, touched_by, IsExclusive, holder, told_now, asked_of, denied_by}

@@ -1,9 +1,8 @@
 -- Turns, commands and starts, one by one.
-use Rattle.std.specs.Prelude.{◌≡◌, refl, ℕ, zero, suc, slice_get, Bool, true, false, cond, not, IsTrue, List, [], ◌∷◌, map, Option, Some, None, ◌-◌, ◌==◌}
-use Rattle.std.proofs.Common.{sym, ap, ◌∙◌, subst, inl, inr, ⊎_elim, true≢false}
+use Rattle.std.specs.Prelude.{◌≡◌, refl, ℕ, zero, suc, slice_get, Bool, true, false, cond, IsTrue, List, [], ◌∷◌, map, Option, Some, None, ◌-◌}
+use Rattle.std.proofs.Common.{sym, ◌∙◌, subst, inl, inr, ⊎_elim, true≢false}
 use Rattle.std.specs.List.{list_any}
 use Rattle.std.specs.FinMap.{find, put}
-use Rattle.std.specs.FinMap.Entries.{where_key}
 use Rattle.kdcs_types.specs.declared.act.Act.{Act}
 use Rattle.kdcs_types.specs.declared.call.Cause.{Cause}
 use Rattle.kdcs_types.specs.declared.key.Area.{Area}
@@ -27,13 +26,13 @@ use Rattle.monitor_semantics.specs.declared.work.Work.{Work}
 use Rattle.monitor_semantics.specs.declared.work.Work.TheVariants as work
 use Rattle.monitor_semantics.specs.Bytes.{Bytes, bytes_cmp}
 use Rattle.monitor_semantics.specs.State.{Application, OpenTransaction, Session, State}
-use Rattle.monitor_semantics.specs.Calls.{Told, Granted, touches}
-use Rattle.monitor_semantics.specs.Endings.{is_asynchronous, opened, opened_by_row, opened_by_input, opened_by_start, opened_by_job, followed_by_input, row_after, synchronised, broken, durable, refusal, restarts}
-use Rattle.monitor_semantics.specs.Statements.{Happened, Went, Queued, Waited, Held, Settles, Breaks, Returns, area_of, statement}
+use Rattle.monitor_semantics.specs.Calls.{Told, Granted}
+use Rattle.monitor_semantics.specs.Endings.{is_asynchronous, opened, opened_by_row, opened_by_input, opened_by_start, followed_by_input, synchronised, durable, refusal}
+use Rattle.monitor_semantics.specs.Statements.{Happened, Went, Queued, Waited, Held, Settles, Breaks, Returns, area_of}
 use Rattle.monitor_semantics.specs.Locks.{Active, holds, touched_by, IsExclusive, since, told_now}
 use Rattle.monitor_semantics.specs.Picks.{pick}
-use Rattle.monitor_semantics.specs.Turns.{Turned, with_open, without_open, with_task, queued, without_work, with_last, noted_last, last_told, told_user, message_sent, abnormal, goes_on, after_point, settled, settled_by, last_again, back, back_by, waiting, happens, statement_now, worked, took, took_job, took_job_for, turn_by, turn_of, pterm_of_user, commit_of}
-use Rattle.monitor_semantics.specs.Commands.{Command, Input, Tick, Run, Turn, Drop, Print, PrintLast, Restart, Done, asynchronous_rows, opened_row, started, signed_on, signed_on_by, resumed_by, with_session, signed_off, show_next, show_by, show_again, show_again_by, due_for, display, last_by, held_tac, next_by, next_input, start_service, used, use_now, tick_by, drop_by, restarted, rotated, state_after, command_of, lterm_at, user_at, in_a_row, next_task, turned_done}
+use Rattle.monitor_semantics.specs.Turns.{without_open, with_task, without_work, noted_last, last_told, message_sent, abnormal, goes_on, after_point, settled, settled_by, last_again, back, back_by, happens, statement_now, worked, took, took_job, took_job_for, turn_by, turn_of, pterm_of_user}
+use Rattle.monitor_semantics.specs.Commands.{Input, Tick, Run, Turn, Drop, Print, PrintLast, Restart, asynchronous_rows, opened_row, started, signed_on_by, resumed_by, with_session, signed_off, show_next, show_by, show_again_by, due_for, display, last_by, held_tac, next_by, start_service, used, use_now, tick_by, drop_by, rotated, state_after, command_of, lterm_at, user_at, in_a_row, next_task}
 use Rattle.monitor_laws.specs.ExclusiveLaw.{TurnsKeepExclusive, CommandsKeepExclusive, StartsAreExclusive}
 use Rattle.monitor_laws.proofs.Exclusive.{IsFree, Grows, Keeps, KeepsHappened, exclusive-grows, grows_same, grows-put, grows_without, granted-free, statement-keeps}
 

@@ -1,10 +1,10 @@
 -- No area is ever touched by two open transactions.
-use Rattle.std.specs.Prelude.{ℕ, List, All}
+use Rattle.std.specs.Prelude.{ℕ}
 use Rattle.kdcs_types.specs.Tables.{TableRows}
 use Rattle.monitor_semantics.specs.State.{Application, State}
 use Rattle.monitor_semantics.specs.Locks.{IsExclusive}
 use Rattle.monitor_semantics.specs.Turns.{turn_of}
-use Rattle.monitor_semantics.specs.Commands.{Command, Done, started, command_of}
+use Rattle.monitor_semantics.specs.Commands.{Command, started, command_of}
 
 -- no turn makes two open transactions touch one area
 abbrev pub TurnsKeepExclusive : Type 0
