@@ -1,6 +1,6 @@
 -- The worked rows compute.
 use Rattle.std.specs.Prelude.{refl}
-use Rattle.monitor_examples.specs.Rows.{ClockRows, DialogueRows, LockRows, EndRows, HelloRows, JobRows, SerialRows, MadeRows}
+use Rattle.monitor_examples.specs.Rows.{ClockRows, DialogueRows, LockRows, EndRows, HelloRows, JobRows, RuleRows, SerialRows, MadeRows}
 use Rattle.monitor_examples.proofs.Computing.{monitor}
 
 pub clock_rows : ClockRows
@@ -26,6 +26,10 @@ hello_rows = record { overflow = refl; no_pend = refl; no_follow_up = refl; too_
 pub job_rows : JobRows
 unfolding monitor
 job_rows = record { numbered = refl; numbered_listed = refl; taken = refl; taken_listed = refl; taken_again = refl; done_listed = refl; due = refl; full = refl; printed = refl; blocks = refl; blocks_listed = refl; spent = refl; spent_listed = refl }
+
+pub rule_rows : RuleRows
+unfolding monitor
+rule_rows = record { sign_on = refl; too_long_input = refl; at_the_limit = refl; no_part_left = refl; wrong_kind = refl; second_init = refl; follow_up_first = refl; no_name = refl; no_gssb = refl; empty_block = refl; not_held = refl; read_away = refl; broken = refl; stays = refl; back_to_ready = refl }
 
 pub serial_rows : SerialRows
 unfolding monitor

@@ -1,8 +1,8 @@
 -- Worked rows of the sample application: what scripts print, and which tables they leave.
 use Rattle.std.specs.Prelude.{◌≡◌, IsTrue, List, [], ◌∷◌, ◌++◌, Bool, true, replicate, Option, Some, None, codes}
 use Rattle.kd_base.specs.declared.words.Mode.TheVariants.{Relative, Absolute}
-use Rattle.kd_base.specs.declared.words.Variant.TheVariants.{Re, Fi}
-use Rattle.unit_types.specs.declared.action.Action.TheVariants.{Move, Join, Add, Init, Mput, Fput, Dput, SgetGb, SputGb, SputMs, Pend}
+use Rattle.kd_base.specs.declared.words.Variant.TheVariants.{Pr, Re, Sp, Fi, Fr}
+use Rattle.unit_types.specs.declared.action.Action.TheVariants.{Move, Join, Add, Init, Mget, Mput, Fget, Fput, Dput, SgetGb, SputGb, SrelGb, SgetKp, SgetRl, SputMs, SgetUs, UnlkGb, Pend}
 use Rattle.unit_types.specs.declared.action.HeaderName.TheVariants.{Crccc, Rlm}
 use Rattle.unit_types.specs.declared.action.Operand.TheVariants.{Field as FieldOf, Literal, Digits, Header}
 use Rattle.kdcs_types.specs.declared.key.Area.TheVariants.{Gssb}
@@ -148,6 +148,39 @@ pub record JobRows : Type 0 where
   pub spent : prints_from shop (record empty_tables { next_job = 1000000000000 }) (s1 ∷ p1 (codes "MAKEJ") ∷ Run 20 ∷ []) ≡ signed_1 ++ codes "DUMP U1 MAKEJ E11 4\nSYS P1 SERVICE ENDED\n"
   -- and the next job number stays
   pub spent_listed : listing (stores_from shop (record empty_tables { next_job = 1000000000000 }) (s1 ∷ p1 (codes "MAKEJ") ∷ Run 20 ∷ [])) ≡ codes "CLOCK 0\nNEXT 1000000000000\n"
+
+-- rules of calls, PENDs and inputs, one by one
+pub record RuleRows : Type 0 where
+  -- a comma with nothing behind it is a password; no name; no sign-on
+  pub sign_on : prints (p2 (codes "KDCSIGN U2,") ∷ p2 (codes "KDCSIGN") ∷ p2 (codes "HI") ∷ []) ≡ codes "SYS P2 WRONG PASSWORD\nSYS P2 BAD SIGN ON\nSYS P2 SIGN ON FIRST\n"
+  -- a message of 81 bytes behind the TAC, with NB=80
+  pub too_long_input : prints (s1 ∷ p1 (codes "HELLO " ++ replicate 81 88) ∷ []) ≡ signed_1 ++ codes "SYS P1 INPUT TOO LONG\n"
+  -- and one of 80
+  pub at_the_limit : prints_from (hello_as (field 2 (codes "v") true 0 8 ∷ []) (at 3 Init ∷ at 4 (Mget (codes "v")) ∷ at 5 (Mput (Header Rlm)) ∷ at 6 (Pend Fi None) ∷ [])) empty_tables (s1 ∷ p1 (codes "HELLO " ++ replicate 80 88) ∷ Run 20 ∷ []) ≡ signed_1 ++ codes "OUT P1 00080\n"
+  -- a second MGET
+  pub no_part_left : prints_from (hello_as (field 2 (codes "v") true 0 8 ∷ []) (at 3 Init ∷ at 4 (Mget (codes "v")) ∷ at 5 (Mget (codes "v")) ∷ at 6 (Mput (Header Crccc)) ∷ at 7 (Pend Fi None) ∷ [])) empty_tables (s1 ∷ p1 (codes "HELLO") ∷ Run 20 ∷ []) ≡ signed_1 ++ codes "OUT P1 K01\n"
+  -- FGET in a dialogue service
+  pub wrong_kind : prints_from (hello_as (field 2 (codes "v") true 0 8 ∷ []) (at 3 Init ∷ at 4 (Fget (codes "v")) ∷ at 5 (Pend Fi None) ∷ [])) empty_tables (s1 ∷ p1 (codes "HELLO") ∷ Run 20 ∷ []) ≡ signed_1 ++ codes "DUMP U1 HELLO E02 2\nSYS P1 SERVICE ENDED\n"
+  -- INIT again
+  pub second_init : prints_from (hello_as [] (at 2 Init ∷ at 3 Init ∷ at 4 (Pend Fi None) ∷ [])) empty_tables (s1 ∷ p1 (codes "HELLO") ∷ Run 20 ∷ []) ≡ signed_1 ++ codes "DUMP U1 HELLO E01 2\nSYS P1 SERVICE ENDED\n"
+  -- the follow-up is tested before the message
+  pub follow_up_first : prints_from (hello_as [] (at 2 Init ∷ at 3 (Pend Re (Some (Literal (codes "HOLD")))) ∷ [])) empty_tables (s1 ∷ p1 (codes "HELLO") ∷ Run 20 ∷ []) ≡ signed_1 ++ codes "DUMP U1 HELLO E04 2\nSYS P1 SERVICE ENDED\n"
+  -- an operand that is no name
+  pub no_name : prints_from (hello_as [] (at 2 Init ∷ at 3 (SrelGb (Literal (codes "A-B"))) ∷ at 4 (Mput (Header Crccc)) ∷ at 5 (Pend Fi None) ∷ [])) empty_tables (s1 ∷ p1 (codes "HELLO") ∷ Run 20 ∷ []) ≡ signed_1 ++ codes "OUT P1 K11\n"
+  -- a GSSB that there is not
+  pub no_gssb : prints_from (hello_as [] (at 2 Init ∷ at 3 (SrelGb (Literal (codes "A"))) ∷ at 4 (Mput (Header Crccc)) ∷ at 5 (Pend Fi None) ∷ [])) empty_tables (s1 ∷ p1 (codes "HELLO") ∷ Run 20 ∷ []) ≡ signed_1 ++ codes "OUT P1 K03\n"
+  -- a block that there is not is empty
+  pub empty_block : prints_from (hello_as (field 2 (codes "v") true 0 8 ∷ field 3 (codes "a") true 8 8 ∷ []) (at 4 Init ∷ at 5 (SgetUs (Literal (codes "S1")) (codes "v")) ∷ at 6 (Join (codes "a") (Header Crccc) (Header Rlm)) ∷ at 7 (Mput (FieldOf (codes "a"))) ∷ at 8 (Pend Fi None) ∷ [])) empty_tables (s1 ∷ p1 (codes "HELLO") ∷ Run 20 ∷ []) ≡ signed_1 ++ codes "OUT P1 00000000\n"
+  -- UNLK of an area that is not held
+  pub not_held : prints_from (hello_as [] (at 2 Init ∷ at 3 (UnlkGb (Literal (codes "A"))) ∷ at 4 (Mput (Header Crccc)) ∷ at 5 (Pend Fi None) ∷ [])) empty_tables (s1 ∷ p1 (codes "HELLO") ∷ Run 20 ∷ []) ≡ signed_1 ++ codes "OUT P1 K06\n"
+  -- SGET RL deletes
+  pub read_away : prints_from (hello_as (field 2 (codes "v") true 0 8 ∷ []) (at 3 Init ∷ at 4 (SputMs (Literal (codes "A")) (Literal (codes "X"))) ∷ at 5 (SgetRl (Literal (codes "A")) (codes "v")) ∷ at 6 (SgetKp (Literal (codes "A")) (codes "v")) ∷ at 7 (Mput (Header Crccc)) ∷ at 8 (Pend Fi None) ∷ [])) empty_tables (s1 ∷ p1 (codes "HELLO") ∷ Run 20 ∷ []) ≡ signed_1 ++ codes "OUT P1 K03\n"
+  -- PEND FR has no dump line
+  pub broken : prints_from (hello_as [] (at 2 Init ∷ at 3 (Mput (Literal (codes "X"))) ∷ at 4 (Pend Fr None) ∷ [])) empty_tables (s1 ∷ p1 (codes "HELLO") ∷ Run 20 ∷ []) ≡ signed_1 ++ codes "SYS P1 SERVICE ENDED\n"
+  -- PEND PR goes on in the same task
+  pub stays : prints_from (hello_as [] (at 2 Init ∷ at 3 (Mput (Literal (codes "ONE"))) ∷ at 4 (Pend Pr (Some (Literal (codes "PRB")))) ∷ [])) empty_tables (s1 ∷ p1 (codes "HELLO") ∷ Run 20 ∷ []) ≡ signed_1 ++ codes "OUT P1 ONETWO\n"
+  -- PEND RS at a point of PEND SP goes on from it, again and again
+  pub back_to_ready : prints_from (hello_as [] (at 2 Init ∷ at 3 (Mput (Literal (codes "X"))) ∷ at 4 (Pend Sp (Some (Literal (codes "RSB2")))) ∷ [])) empty_tables (s1 ∷ p1 (codes "HELLO") ∷ Run 50 ∷ p1 (codes "X") ∷ p1 (codes "KDCDISP") ∷ []) ≡ signed_1 ++ codes "SYS P1 SERVICE RUNNING\nSYS P1 NO MESSAGE\n"
 
 -- each commit of a transaction is that of its record, run in one go
 pub record SerialRows : Type 0 where

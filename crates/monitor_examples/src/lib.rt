@@ -1,7 +1,12 @@
-//! Worked examples of the abstract monitor.
+//! Worked examples of the abstract monitor: what scripts of the sample application SHOP print, which tables they leave,
+//! that each of their commits is that of its record run in one go, and the first lines of `make N`.
+//!
+//! It stands on the definitions of the monitor and on their laws. The functions do nothing: their contracts are equations
+//! with lines that were written down before the definitions, and hold by computation. So they say to every crate above
+//! that the definitions mean what they are to mean.
 #![tactic(auto)]
 
-ghost use Rattle.monitor_examples.specs.Rows.{ClockRows, DialogueRows, LockRows, EndRows, HelloRows, JobRows, SerialRows, MadeRows};
+ghost use Rattle.monitor_examples.specs.Rows.{ClockRows, DialogueRows, LockRows, EndRows, HelloRows, JobRows, RuleRows, SerialRows, MadeRows};
 
 /// The clock.
 pub fn clock_rows()
@@ -31,6 +36,11 @@ pub fn hello_rows()
 /// Jobs.
 pub fn job_rows()
     ensures { JobRows }
+{}
+
+/// Rules of calls, PENDs and inputs, one by one.
+pub fn rule_rows()
+    ensures { RuleRows }
 {}
 
 /// Each commit of a transaction is that of its record, run in one go.

@@ -15,7 +15,7 @@ use Rattle.monitor_semantics.specs.State.{OpenTransaction}
 use Rattle.monitor_semantics.specs.Locks.{Active, Holds, holds, touched_by, IsExclusive, IsChain, WaitsFor, awaited_area, awaited_by, holder, waits_for, reaches, is_deadlocked}
 use Rattle.monitor_laws.specs.DeadlockLaw.{DeadlocksAreFound}
 
-abbrev keys : Active → List ServiceId
+abbrev pub keys : Active → List ServiceId
 keys active = map (λ (e : ServiceId × OpenTransaction). e.0) active
 
 abbrev some_or : ServiceId → Option ServiceId → ServiceId
@@ -27,7 +27,7 @@ same_some i j e = ap (some_or i) e
 
 -- ---- the first that passes a test
 
-find-passes : (p : ServiceId → Bool) (xs : List ServiceId) (x : ServiceId) → find_first p xs ≡ Some x → p x ≡ true
+pub find-passes : (p : ServiceId → Bool) (xs : List ServiceId) (x : ServiceId) → find_first p xs ≡ Some x → p x ≡ true
 find-passes p [] x e = absurd (true≢false (sym (ap is_some e)))
 find-passes p (y ∷ ys) x e = by (p y) refl e (find-passes p ys x)
   where
@@ -35,7 +35,7 @@ find-passes p (y ∷ ys) x e = by (p y) refl e (find-passes p ys x)
     by true h t later = subst (λ z. p z ≡ true) (same_some y x t) h
     by false h t later = later t
 
-found : (p : ServiceId → Bool) (xs : List ServiceId) (x : ServiceId) → list_any (id_eq x) xs ≡ true → p x ≡ true → (y : ServiceId) × (find_first p xs ≡ Some y)
+pub found : (p : ServiceId → Bool) (xs : List ServiceId) (x : ServiceId) → list_any (id_eq x) xs ≡ true → p x ≡ true → (y : ServiceId) × (find_first p xs ≡ Some y)
 found p [] x m h = absurd (true≢false (sym m))
 found p (y ∷ ys) x m h = by (p y) refl (id_eq x y) refl m (λ n. found p ys x n h)
   where
@@ -72,12 +72,12 @@ one_less n m h = omega arith
 
 -- ---- who holds an area
 
-holds_open : (o : Option OpenTransaction) (area : Area) → touched_by o area ≡ true → is_some o ≡ true
+pub holds_open : (o : Option OpenTransaction) (area : Area) → touched_by o area ≡ true → is_some o ≡ true
 holds_open None area h = absurd (true≢false (sym h))
 holds_open (Some x) area h = refl
 
 -- a service with an open transaction is among those of the list
-among : (active : Active) (id : ServiceId) → is_some (find id_cmp id active) ≡ true → list_any (id_eq id) (keys active) ≡ true
+pub among : (active : Active) (id : ServiceId) → is_some (find id_cmp id active) ≡ true → list_any (id_eq id) (keys active) ≡ true
 among active id h = sym (is_some-find id_cmp id active) ∙ h
 
 holder-holds : (active : Active) (area : Area) (id : ServiceId) → holder active area ≡ Some id → Holds active id area

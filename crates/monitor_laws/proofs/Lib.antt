@@ -1,1 +1,3 @@
 pub mod Deadlocks
+pub mod Exclusive
+pub mod ExclusiveSteps

@@ -4,3 +4,4 @@ pub mod Replay
 pub mod Commits
 pub mod Cut
 pub mod DeadlockLaw
+pub mod ExclusiveLaw
