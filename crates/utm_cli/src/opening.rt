@@ -10,10 +10,10 @@ ghost use Rattle.utm_cli.specs.Stored.{StartsFrom, IsRefused, StandsForTables, i
 ghost use Rattle.utm_cli.specs.Opening.{IsOpening, KeepsTables, MayAttach};
 
 use crate::error::OpenError;
+use kd_base::OutOfMemory;
 use kd_device::Device;
 use kd_records::Content;
 use kdcfile_store::{Store, StoreLimits, WholeStore};
-use kd_base::OutOfMemory;
 use kdcs_types::{Changes, RowChanges, Tables};
 use std::alloc::Global;
 
