@@ -1,3 +1,4 @@
 pub mod Deadlocks
 pub mod Exclusive
 pub mod ExclusiveSteps
+pub mod Jobs

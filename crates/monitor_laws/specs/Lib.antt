@@ -5,3 +5,4 @@ pub mod Commits
 pub mod Cut
 pub mod DeadlockLaw
 pub mod ExclusiveLaw
+pub mod JobLaw
