@@ -6,3 +6,4 @@ pub mod Cut
 pub mod DeadlockLaw
 pub mod ExclusiveLaw
 pub mod JobLaw
+pub mod RowLaw
