@@ -5,3 +5,5 @@ pub mod Commits
 pub mod Cut
 pub mod DeadlockLaw
 pub mod ExclusiveLaw
+pub mod JobLaw
+pub mod RowLaw

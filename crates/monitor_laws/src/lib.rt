@@ -6,6 +6,8 @@
 #![tactic(auto)]
 
 ghost use Rattle.monitor_laws.specs.DeadlockLaw.{DeadlocksAreFound};
+ghost use Rattle.monitor_laws.specs.JobLaw.{PointsNumberJobs, EndsDrawNoNumber};
+ghost use Rattle.monitor_laws.specs.RowLaw.{PointsSetOwnRow, EndsRemoveOwnRow};
 ghost use Rattle.monitor_laws.specs.ExclusiveLaw.{TurnsKeepExclusive, CommandsKeepExclusive, StartsAreExclusive};
 
 /// A request that is answered K05 waits in a chain that ends at its own service, and no other does.
@@ -18,4 +20,16 @@ pub fn areas_stay_exclusive()
     ensures turns { TurnsKeepExclusive }
     ensures commands { CommandsKeepExclusive }
     ensures starts { StartsAreExclusive }
+{}
+
+/// Job numbers are drawn at synchronisation points alone, one after another; and only its own service takes a job away.
+pub fn points_number_jobs()
+    ensures points { PointsNumberJobs }
+    ensures ends { EndsDrawNoNumber }
+{}
+
+/// A synchronisation point and an abnormal end set or remove the row of their own service, and keep all others.
+pub fn ends_change_their_own_row()
+    ensures points { PointsSetOwnRow }
+    ensures ends { EndsRemoveOwnRow }
 {}
