@@ -1,9 +1,8 @@
 -- When a store keeps tables of this application.
-use Rattle.std.proofs.Common.{◌≡◌, ◌⊎◌, ℕ, ◌≤◌, Bool, true, false, not, List, [], ◌∷◌, length, refl, sym, ap, subst, ◌∙◌, arith}
+use Rattle.std.proofs.Common.{◌≡◌, ℕ, ◌≤◌, Bool, true, false, not, List, [], refl, sym, ap, ◌∙◌, arith}
 use Rattle.std.specs.Prelude.{nat_eq, ◌&&◌, replicate}
 use Rattle.std.specs.Cmp.Lexicographic.{pointwise}
 use Rattle.std.proofs.lemmas.Bool.{eqb-true}
-use Rattle.std.proofs.lemmas.List.{nil_from_length}
 use Rattle.kd_base.specs.Order.{equal_is_same}
 use Rattle.kd_base.specs.Tools.{both_true}
 use Rattle.kd_records.specs.Identity.{Identity}
@@ -11,7 +10,7 @@ use Rattle.kd_records.specs.Contents.{Record}
 use Rattle.kd_records.specs.declared.content.Content.{Content}
 use Rattle.kdcs_types.specs.declared.tables.Tables.{Tables}
 use Rattle.kdcs_types.specs.Limits.{IsInRange}
-use Rattle.kdcfile_images.specs.File.{OneMeaning, StandsFor}
+use Rattle.kdcfile_images.specs.File.{OneMeaning}
 use Rattle.kdcfile_store.specs.Whole.{Whole, HasFile}
 use Rattle.utm_cli.specs.Stored.{identity, content_of, tables_in, HasNoRows, StandsForTables}
 use Rattle.utm_cli.specs.Opening.{KeepsTables}

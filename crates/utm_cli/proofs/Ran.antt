@@ -1,5 +1,5 @@
 -- A run over an opened KDCFILE.
-use Rattle.std.proofs.Common.{◌≡◌, ◌⊎◌, inl, inr, ⊎_elim, ℕ, List, [], ◌++◌, length, take, drop, refl, sym, ap, subst, ◌∙◌, arith}
+use Rattle.std.proofs.Common.{◌≡◌, inl, inr, ⊎_elim, ℕ, List, [], ◌++◌, length, take, sym, ap, subst, ◌∙◌, arith}
 use Rattle.std.specs.Prelude.{IsTrue}
 use Rattle.std.proofs.lemmas.List.{length-take}
 use Rattle.kd_device.specs.Device.{State, LeavesOnly, Only}
@@ -7,22 +7,20 @@ use Rattle.kd_device.specs.Time.{leaves_weaker, leaves_then}
 use Rattle.kd_device.specs.Rest.{Rests}
 use Rattle.kd_records.specs.Identity.{Identity}
 use Rattle.kd_records.specs.declared.content.Content.{Content}
-use Rattle.kdcfile_images.specs.File.{OneMeaning, StandsFor, Stands}
-use Rattle.kdcfile_store.specs.Kept.{IsKept}
+use Rattle.kdcfile_images.specs.File.{OneMeaning, StandsFor}
 use Rattle.kdcfile_store.specs.Whole.{Whole, HasFile}
 use Rattle.kdcs_types.specs.declared.act.Act.{Act}
 use Rattle.kdcs_types.specs.declared.command.Command.{Command}
 use Rattle.kdcs_types.specs.declared.tables.Tables.{Tables}
-use Rattle.kdcs_types.specs.Limits.{IsInRange}
 use Rattle.monitor_core.specs.Monitor.{started}
-use Rattle.monitor_core.specs.Trace.{trace, state_after, tables_after}
+use Rattle.monitor_core.specs.Trace.{trace, state_after}
 use Rattle.monitor_core.specs.Cut.{IsCutSince}
 use Rattle.monitor_core.specs.Laws.{trace_commits, cut_none}
-use Rattle.utm_cli.specs.Said.{SameDisk, Said, SaidPart}
+use Rattle.utm_cli.specs.Said.{Said, SaidPart}
 use Rattle.utm_cli.specs.Stored.{identity, content_of, empty_tables, StandsForTables, StartsFrom, IsRefused}
-use Rattle.utm_cli.specs.Opening.{IsOpening, IsBeingMade, KeepsTables}
+use Rattle.utm_cli.specs.Opening.{IsOpening, IsBeingMade}
 use Rattle.utm_cli.specs.Performing.{Performs, Performed}
-use Rattle.utm_cli.specs.Promise.{Ran, IsCutOfRun, LeavesUnmade}
+use Rattle.utm_cli.specs.Promise.{Ran, IsCutOfRun}
 use Rattle.utm_cli.proofs.KeptTables.{tables_are}
 
 -- the acts are performed in a file of this application

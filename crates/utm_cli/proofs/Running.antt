@@ -1,16 +1,16 @@
 -- How acts go on from one another.
-use Rattle.std.proofs.Common.{◌≡◌, ◌⊎◌, inl, inr, ⊎_elim, ℕ, ◌+◌, ◌≤◌, ◌<◌, List, [], ◌∷◌, ◌++◌, length, take, drop, get_or, refl, sym, ap, subst, ◌∙◌, arith, append_assoc}
+use Rattle.std.proofs.Common.{◌≡◌, inl, inr, ℕ, ◌+◌, ◌<◌, List, [], ◌∷◌, ◌++◌, length, take, drop, get_or, refl, sym, ap, subst, ◌∙◌, arith, append_assoc}
 use Rattle.std.specs.Prelude.{IsTrue, Bool, true, false, zero, suc, nat_le}
 use Rattle.std.specs.List.{All}
-use Rattle.std.proofs.lemmas.List.{append-nil, take-append-drop, drop_more, take_more, take_all}
-use Rattle.kd_device.specs.Device.{State, Frame, SameNames, LeavesOnly}
+use Rattle.std.proofs.lemmas.List.{append-nil, take-append-drop, drop_more, take_more}
+use Rattle.kd_device.specs.Device.{State, LeavesOnly}
 use Rattle.kd_device.specs.Time.{leaves_weaker, leaves_then}
 use Rattle.kd_records.specs.declared.content.Content.{Content}
 use Rattle.kd_records.specs.declared.content.Patch.{Patch}
 use Rattle.kd_records.specs.Contents.{Record, patched}
 use Rattle.kdcfile_store.specs.Kept.{IsKept, OldOrNew}
 use Rattle.kdcs_types.specs.declared.act.Act.{Act}
-use Rattle.kdcs_types.specs.declared.act.Act.TheVariants.{Commit, Emit}
+use Rattle.kdcs_types.specs.declared.act.Act.TheVariants.{Commit}
 use Rattle.kdcs_types.specs.declared.act.Changes.{Changes}
 use Rattle.kdcs_types.specs.declared.tables.Tables.{Tables}
 use Rattle.kdcs_types.specs.declared.command.Command.{Command}
@@ -22,7 +22,7 @@ use Rattle.kdcs_types.specs.Tables.{changed, with_changes}
 use Rattle.kdcs_types.specs.RowLaws.{numbers_changed}
 use Rattle.monitor_core.specs.Trace.{trace, state_after, tables_after, bytes_of}
 use Rattle.monitor_core.specs.Cut.{IsCutSince}
-use Rattle.monitor_core.specs.Laws.{tables_joined, bytes_joined, trace_joined, state_joined, cut_none, cut_after, cut_within_line, cut_of_part}
+use Rattle.monitor_core.specs.Laws.{tables_joined, bytes_joined, trace_joined, state_joined, cut_none, cut_after, cut_of_part}
 use Rattle.utm_cli.specs.Stored.{content_of, tables_in, HasNoRows}
 use Rattle.utm_cli.specs.Performing.{ChangesNoRow, Performs, Performed}
 

@@ -1,6 +1,5 @@
 -- What the monitor's KDCFILE stands for.
 use Rattle.std.specs.Prelude.{◌≡◌, ◌⊎◌, ℕ, List, [], replicate}
-use Rattle.kd_device.specs.Device.{State, Only}
 use Rattle.kd_records.specs.Identity.{Identity}
 use Rattle.kd_records.specs.declared.content.Content.{Content}
 use Rattle.kdcfile_images.specs.File.{StandsFor}
