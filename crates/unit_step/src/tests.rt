@@ -325,14 +325,24 @@ fn jumps(rt: HostRuntime) -> Result<(), Fail> {
     Ok(())
 }
 
-#[test]
-fn a_call_and_the_end_of_time(rt: HostRuntime) -> Result<(), Fail> {
-    let alloc = rt.alloc();
+// A unit that reads a GSSB.
+fn reads_a_gssb(alloc: Global) -> Result<Unit, Fail> {
     let name = operand_of(alloc, Read::Text(b"A"))?;
-    let unit = unit_of(alloc, Action::SgetGb(name, bytes(alloc, b"g")?))?;
+    unit_of(alloc, Action::SgetGb(name, bytes(alloc, b"g")?))
+}
+
+// What the next statement of a run does.
+fn next(rt: &impl Abort, alloc: Global, unit: &Unit, run: &mut RunState) -> Result<Stepped, Fail> {
+    assert!(rt; is_ready(unit, run));
+    Ok(step(alloc, unit, run)?)
+}
+
+#[test]
+fn a_call_is_asked_for(rt: HostRuntime) -> Result<(), Fail> {
+    let alloc = rt.alloc();
+    let unit = reads_a_gssb(alloc)?;
     let mut run = run_of(alloc, b"ABCDEF", b"0010")?;
-    assert!(rt; is_ready(&unit, &run));
-    let stepped = step(alloc, &unit, &mut run)?;
+    let stepped = next(&rt, alloc, &unit, &mut run)?;
     match &stepped {
         Stepped::Asks(Call::SgetGb(name, room)) => {
             assert_eq!(rt; name.as_slice(), b"A".as_slice());
@@ -341,13 +351,27 @@ fn a_call_and_the_end_of_time(rt: HostRuntime) -> Result<(), Fail> {
         _ => assert!(rt; false, "another answer"),
     }
     assert_eq!(rt; (run.place, run.count), (1, 5));
-    // TIME's statements are done.
-    run.count = 6;
-    assert!(rt; is_ready(&unit, &run));
-    assert!(rt; matches!(step(alloc, &unit, &mut run)?, Stepped::Ends(Cause::E07)));
-    // Behind the last statement it is E08 all the same.
-    run.place = 2;
-    assert!(rt; is_ready(&unit, &run));
-    assert!(rt; matches!(step(alloc, &unit, &mut run)?, Stepped::Ends(Cause::E08)));
     Ok(())
+}
+
+fn ends(rt: &impl Abort, alloc: Global, place: u32, count: u32, wanted: Cause) -> Result<(), Fail> {
+    let unit = reads_a_gssb(alloc)?;
+    let mut run = run_of(alloc, b"ABCDEF", b"0010")?;
+    run.place = place;
+    run.count = count;
+    match next(rt, alloc, &unit, &mut run)? {
+        Stepped::Ends(cause) => assert_eq!(rt; cause, wanted),
+        _ => assert!(rt; false, "another answer"),
+    }
+    Ok(())
+}
+
+#[test]
+fn the_end_of_time_and_of_the_unit(rt: HostRuntime) -> Result<(), Fail> {
+    let alloc = rt.alloc();
+    // TIME's statements are done.
+    ends(&rt, alloc, 1, 6, Cause::E07)?;
+    // Behind the last statement it is E08, whether TIME is spent or not.
+    ends(&rt, alloc, 2, 6, Cause::E08)?;
+    ends(&rt, alloc, 2, 5, Cause::E08)
 }
