@@ -1,0 +1,57 @@
+//! Reading a units text.
+ghost use Rattle.std.specs.Prelude.{◌≡◌, ◌≢◌, ◌<◌, ◌≤◌, ◌^◌, IfOk, IfErr};
+ghost use Rattle.unit_read.specs.Reading.{Gives, units_of_result, line_step, read_text};
+
+use crate::fault::UnitFault;
+use crate::line::{is_passed, next_line};
+use crate::piece::piece_of;
+use crate::reading::Reading;
+use crate::word::words_of;
+use std::alloc::Global;
+use unit_types::Unit;
+
+/// The greatest length of a text in bytes.
+const MAX_TEXT_LEN: usize = 16_777_216;
+
+// One more line.
+fn line_step(
+    alloc: Global,
+    reading: Reading,
+    number: u32,
+    line: &[u8],
+) -> Result<Reading, UnitFault>
+    ensures { Gives result (line_step number line.now reading) }
+{
+    if is_passed(line) {
+        return Ok(reading);
+    }
+    let Some(words) = words_of(alloc, line)? else {
+        return Err(UnitFault::BadStatement(number));
+    };
+    let Some(piece) = piece_of(alloc, &words)? else {
+        return Err(UnitFault::BadStatement(number));
+    };
+    reading.stepped(alloc, number, piece)
+}
+
+fn read_text(alloc: Global, text: &[u8]) -> Result<Vec<Unit>, UnitFault>
+    ensures { Gives (units_of_result result) (read_text text.now) }
+{
+    if text.len() > MAX_TEXT_LEN {
+        return Err(UnitFault::TooLong(0));
+    }
+    let mut reading = Reading::new(alloc);
+    let mut number: u32 = 1;
+    let mut rest = text;
+    while !rest.is_empty() {
+        let (line, after) = next_line(rest);
+        reading = line_step(alloc, reading, number, line)?;
+        number += 1;
+        rest = after;
+    }
+    reading.finished(number)
+}
+
+pub fn read_units(alloc: Global, text: &[u8]) -> Result<Vec<Unit>, UnitFault> {
+    read_text(alloc, text)
+}
