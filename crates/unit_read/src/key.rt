@@ -7,7 +7,7 @@ use crate::word::Word;
 use kd_base::Variant;
 
 /// A statement of the step language. Where an operation of a call has a keyword of its own, it is part of the key.
-#[derive(Clone, Copy, Debug)]
+#[derive(Clone, Copy)]
 pub(crate) enum Key {
     Move,
     Join,

@@ -1,7 +1,9 @@
 //! A unit whose END has not come yet.
-ghost use Rattle.std.specs.Prelude.{◌≡◌, [], IfOk, length};
-ghost use Rattle.unit_read.specs.Units.{begun, with_field, with_label, with_statement, with_piece};
-ghost use Rattle.unit_read.specs.Reading.{Gives};
+ghost use Rattle.std.specs.Prelude.{◌≡◌, IfOk, OnOk};
+ghost use Rattle.unit_read.specs.Names.{AreFieldNames, AreLabelNames};
+ghost use Rattle.unit_read.specs.Units.{begun, add_statement, with_field, with_label, statement_fault, with_statement, with_piece};
+ghost use Rattle.unit_read.specs.Open.{unit_so_far, IsKept};
+ghost use Rattle.unit_read.specs.Outcomes.{Gives, after};
 
 use crate::fault::UnitFault;
 use crate::names::{Names, add_name, holds, no_names};
@@ -9,14 +11,13 @@ use crate::piece::Piece;
 use crate::used::is_defined;
 use kd_base::{Bytes, OutOfMemory, ProgName};
 use std::alloc::Global;
-use std::marker::Model;
 use unit_types::{Action, Field, Unit, UnitStatement};
 
 /// The greatest number of statements in a unit.
 const MAX_STATEMENTS: usize = 10_000;
 
-/// A unit so far. Contracts see the unit that it would be if it ended here.
-#[derive(Debug, Drop)]
+/// A unit so far, with sets of the names of its fields and its labels.
+#[derive(Drop)]
 pub(crate) struct OpenUnit {
     name: ProgName,
     line: u32,
@@ -27,21 +28,10 @@ pub(crate) struct OpenUnit {
     label_names: Names,
 }
 
-impl Model for OpenUnit {
-    ghost use Rattle.std.specs.Prelude.{◌×◌};
-    ghost use Rattle.unit_types.specs.UnitText.{UnitText};
-    ghost use Rattle.unit_read.specs.Names.{AreFieldNames, AreLabelNames};
-
-    ghost Value = { UnitText };
-
-    ghost view = { λ u. record { name = u.name; line = u.line; fields = u.fields.items; labels = u.labels.items; statements = u.statements.items } };
-
-    ghost invariant = { λ u. AreFieldNames u.field_names u.fields.items × AreLabelNames u.label_names u.labels.items };
-}
-
 impl OpenUnit {
     pub(crate) fn new(alloc: Global, name: ProgName, line: u32) -> OpenUnit
-        ensures { result ≡ begun name line }
+        ensures unit { unit_so_far result ≡ begun name line }
+        ensures kept { IsKept result }
     {
         OpenUnit {
             name,
@@ -54,8 +44,16 @@ impl OpenUnit {
         }
     }
 
-    fn with_field(mut self, alloc: Global, field: Field) -> Result<OpenUnit, UnitFault>
-        ensures { Gives result (with_field field self) }
+    pub(crate) fn name(&self) -> &[u8]
+        ensures { result.now ≡ self.now.name }
+    {
+        self.name.as_slice()
+    }
+
+    fn with_field(&mut self, alloc: Global, field: Field) -> Result<(), UnitFault>
+        requires { IsKept self.old }
+        ensures unit { Gives (after result (unit_so_far self.new)) (with_field field (unit_so_far self.old)) }
+        ensures kept { OnOk result (IsKept self.new) }
     {
         if !self.labels.is_empty() || !self.statements.is_empty() {
             return Err(UnitFault::BadStatement(field.line));
@@ -65,11 +63,13 @@ impl OpenUnit {
         }
         add_name(alloc, &mut self.field_names, field.name.as_slice())?;
         self.fields.push(field)?;
-        Ok(self)
+        Ok(())
     }
 
-    fn with_label(mut self, alloc: Global, line: u32, label: Bytes) -> Result<OpenUnit, UnitFault>
-        ensures { Gives result (with_label line label self) }
+    fn with_label(&mut self, alloc: Global, line: u32, label: Bytes) -> Result<(), UnitFault>
+        requires { IsKept self.old }
+        ensures unit { Gives (after result (unit_so_far self.new)) (with_label line label (unit_so_far self.old)) }
+        ensures kept { OnOk result (IsKept self.new) }
     {
         if holds(&self.label_names, label.as_slice()) {
             return Err(UnitFault::LabelTwice(line));
@@ -77,51 +77,65 @@ impl OpenUnit {
         add_name(alloc, &mut self.label_names, label.as_slice())?;
         let place = self.statements.len() as u32 + 1;
         self.labels.push((label, place))?;
-        Ok(self)
+        Ok(())
     }
 
-    fn with_statement(mut self, line: u32, action: Action) -> Result<OpenUnit, UnitFault>
-        ensures { Gives result (with_statement line action self) }
+    // The fault of one more statement, if it has one.
+    fn statement_fault(&self, line: u32, action: &Action) -> Option<UnitFault>
+        requires { IsKept self.now }
+        ensures { result ≡ statement_fault line action.now (unit_so_far self.now) }
     {
-        if !is_defined(&action, &self.field_names) {
-            return Err(UnitFault::BadField(line));
+        if !is_defined(action, &self.field_names) {
+            return Some(UnitFault::BadField(line));
         }
         if self.statements.len() >= MAX_STATEMENTS {
-            return Err(UnitFault::TooLong(line));
+            return Some(UnitFault::TooLong(line));
         }
-        self.statements.push(UnitStatement { line, action })?;
-        Ok(self)
+        None
     }
-}
 
-impl OpenUnit {
-    pub(crate) fn name(&self) -> &[u8]
-        ensures { result.now ≡ self.now.name }
+    fn push_statement(&mut self, line: u32, action: Action) -> Result<(), OutOfMemory>
+        ensures unit { OnOk result (unit_so_far self.new ≡ add_statement line action (unit_so_far self.old)) }
+        ensures names { OnOk result ((self.new.field_names ≡ self.old.field_names) × (self.new.label_names ≡ self.old.label_names)) }
     {
-        self.name.as_slice()
+        Ok(self.statements.push(UnitStatement { line, action })?)
     }
 
-    /// The unit with one more piece, which is neither its UNIT line nor its END.
+    fn with_statement(&mut self, line: u32, action: Action) -> Result<(), UnitFault>
+        requires { IsKept self.old }
+        ensures unit { Gives (after result (unit_so_far self.new)) (with_statement line action (unit_so_far self.old)) }
+        ensures kept { OnOk result (IsKept self.new) }
+    {
+        if let Some(fault) = self.statement_fault(line, &action) {
+            return Err(fault);
+        }
+        self.push_statement(line, action)?;
+        Ok(())
+    }
+
+    /// One more piece, which is not the END of the unit.
     pub(crate) fn with_piece(
-        self,
+        &mut self,
         alloc: Global,
         line: u32,
         piece: Piece,
-    ) -> Result<OpenUnit, UnitFault>
-        ensures { Gives result (with_piece line piece self) }
+    ) -> Result<(), UnitFault>
+        requires { IsKept self.old }
+        ensures unit { Gives (after result (unit_so_far self.new)) (with_piece line piece (unit_so_far self.old)) }
+        ensures kept { OnOk result (IsKept self.new) }
     {
         match piece {
             Piece::Unit(_) | Piece::End => Err(UnitFault::NoEnd(line)),
-            Piece::Field(name, spab, offset, length) => self.with_field(
-                alloc,
-                Field {
+            Piece::Field(name, spab, offset, length) => {
+                let field = Field {
                     name,
                     line,
                     spab,
                     offset,
                     length,
-                },
-            ),
+                };
+                self.with_field(alloc, field)
+            }
             Piece::Label(label) => self.with_label(alloc, line, label),
             Piece::Statement(action) => self.with_statement(line, action),
         }
@@ -129,7 +143,7 @@ impl OpenUnit {
 
     /// The unit, which ends here.
     pub(crate) fn ended(self, alloc: Global) -> Result<Unit, OutOfMemory>
-        ensures { IfOk result (λ u. u ≡ self) }
+        ensures { IfOk result (λ u. u ≡ unit_so_far self) }
     {
         Unit::new(alloc, self.name, self.line, self.fields, self.labels, self.statements)
     }

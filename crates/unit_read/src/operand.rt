@@ -22,7 +22,7 @@ fn is_letter(b: u8) -> bool
 fn is_name_byte(b: u8) -> bool
     ensures { result ≡ is_name_byte b }
 {
-    is_letter(b) || matches!(b, b'0'..=b'9') || b == b'_'
+    is_letter(b) || is_digit(b) || b == b'_'
 }
 
 fn are_name_bytes(bytes: &[u8]) -> bool
@@ -38,10 +38,22 @@ pub(crate) fn is_name(bytes: &[u8]) -> bool
     !bytes.is_empty() && bytes.len() <= 16 && is_letter(bytes[0]) && are_name_bytes(bytes)
 }
 
+fn is_digit(b: u8) -> bool
+    ensures { result ≡ is_digit b }
+{
+    matches!(b, b'0'..=b'9')
+}
+
+fn all_digits(bytes: &[u8]) -> bool
+    ensures { result ≡ list_all is_digit bytes.now }
+{
+    bytes.iter().all(|b| is_digit(*b))
+}
+
 fn are_digits(bytes: &[u8]) -> bool
     ensures { result ≡ are_digits bytes.now }
 {
-    !bytes.is_empty() && bytes.len() <= 18 && bytes.iter().all(|b| matches!(*b, b'0'..=b'9'))
+    !bytes.is_empty() && bytes.len() <= 18 && all_digits(bytes)
 }
 
 // The name of a field or a label.

@@ -1,6 +1,6 @@
 //! The pieces of units, one to a line.
 ghost use Rattle.std.specs.Prelude.{◌≡◌, ◌<◌, ◌≤◌, IfOk, length, option_copied};
-ghost use Rattle.unit_read.specs.Pieces.{number_up_to, is_spab, defined_name, field_of, unit_of, named_label, label_of, end_of, piece_of};
+ghost use Rattle.unit_read.specs.Pieces.{plain, number_from, area_of, new_field, field_of, unit_of, before_colon, label_in, inner_of, piece_of};
 
 use crate::line::same;
 use crate::operand::{header_of, is_name};
@@ -11,7 +11,7 @@ use std::alloc::Global;
 use unit_types::Action;
 
 /// A line of a units text that is neither empty nor a comment.
-#[derive(Debug, Drop)]
+#[derive(Drop)]
 pub(crate) enum Piece {
     Unit(ProgName),
     /// Name, whether it stands in SPAB, offset and length.
@@ -129,7 +129,7 @@ fn label_in(words: &[Word]) -> Option<&[u8]>
 
 // A label or a statement.
 fn inner_of(alloc: Global, words: &[Word]) -> Result<Option<Piece>, OutOfMemory>
-    ensures { IfOk result (λ found. found ≡ inner_of words.now) }
+    ensures { IfOk result (λ found. found ≡ inner_of (label_in words.now) words.now) }
 {
     if let Some(name) = label_in(words) {
         return Ok(Some(Piece::Label(Bytes::from_slice(alloc, name)?)));

@@ -1,6 +1,8 @@
 //! Reading a units text.
-ghost use Rattle.std.specs.Prelude.{◌≡◌, ◌≢◌, ◌<◌, ◌≤◌, ◌^◌, IfOk, IfErr};
-ghost use Rattle.unit_read.specs.Reading.{Gives, units_of_result, line_step, read_text};
+ghost use Rattle.std.specs.Prelude.{◌≡◌, ◌≢◌, ◌<◌, ◌≤◌, ◌^◌, IfOk, IfErr, OnOk};
+ghost use Rattle.unit_read.specs.Open.{state_of, AreKept};
+ghost use Rattle.unit_read.specs.Outcomes.{Gives, after, units_of_result};
+ghost use Rattle.unit_read.specs.Reading.{line_step, read_text};
 
 use crate::fault::UnitFault;
 use crate::line::{is_passed, next_line};
@@ -16,14 +18,16 @@ const MAX_TEXT_LEN: usize = 16_777_216;
 // One more line.
 fn line_step(
     alloc: Global,
-    reading: Reading,
+    reading: &mut Reading,
     number: u32,
     line: &[u8],
-) -> Result<Reading, UnitFault>
-    ensures { Gives result (line_step number line.now reading) }
+) -> Result<(), UnitFault>
+    requires { AreKept reading.old }
+    ensures state { Gives (after result (state_of reading.new)) (line_step number line.now (state_of reading.old)) }
+    ensures kept { OnOk result (AreKept reading.new) }
 {
     if is_passed(line) {
-        return Ok(reading);
+        return Ok(());
     }
     let Some(words) = words_of(alloc, line)? else {
         return Err(UnitFault::BadStatement(number));
@@ -45,13 +49,16 @@ fn read_text(alloc: Global, text: &[u8]) -> Result<Vec<Unit>, UnitFault>
     let mut rest = text;
     while !rest.is_empty() {
         let (line, after) = next_line(rest);
-        reading = line_step(alloc, reading, number, line)?;
+        line_step(alloc, &mut reading, number, line)?;
         number += 1;
         rest = after;
     }
     reading.finished(number)
 }
 
-pub fn read_units(alloc: Global, text: &[u8]) -> Result<Vec<Unit>, UnitFault> {
+/// The units of a text, in their order, or its first fault.
+pub fn read_units(alloc: Global, text: &[u8]) -> Result<Vec<Unit>, UnitFault>
+    ensures { Gives (units_of_result result) (read_text text.now) }
+{
     read_text(alloc, text)
 }

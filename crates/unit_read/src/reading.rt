@@ -1,41 +1,31 @@
 //! What was read so far: whole units, and perhaps an open one.
-ghost use Rattle.std.specs.Prelude.{◌≡◌, None, Some, IfOk, length};
+ghost use Rattle.std.specs.Prelude.{◌≡◌, None, OnOk};
 ghost use Rattle.unit_read.specs.Units.{nothing_read, opened, closed, stepped, finished};
-ghost use Rattle.unit_read.specs.Reading.{Gives, units_of_result};
+ghost use Rattle.unit_read.specs.Open.{unit_so_far, IsKept, state_of, AreKept};
+ghost use Rattle.unit_read.specs.Outcomes.{Gives, after, units_of_result};
 
 use crate::fault::UnitFault;
 use crate::names::{Names, add_name, holds, no_names};
 use crate::open_unit::OpenUnit;
 use crate::piece::Piece;
 use std::alloc::Global;
-use std::marker::Model;
 use unit_types::Unit;
 
 /// The greatest number of units in a text.
 const MAX_UNITS: usize = 1_000;
 
-/// Whole units, and the one that is open. Contracts see these.
-#[derive(Debug, Drop)]
+/// Whole units with a set of their names, and the one that is open.
+#[derive(Drop)]
 pub(crate) struct Reading {
     units: Vec<Unit>,
     names: Names,
     unit: Option<OpenUnit>,
 }
 
-impl Model for Reading {
-    ghost use Rattle.unit_read.specs.Units.{State};
-    ghost use Rattle.unit_read.specs.Names.{AreUnitNames};
-
-    ghost Value = { State };
-
-    ghost view = { λ r. record { units = r.units.items; current = r.unit } };
-
-    ghost invariant = { λ r. AreUnitNames r.names r.units.items };
-}
-
 impl Reading {
     pub(crate) fn new(alloc: Global) -> Reading
-        ensures { result ≡ nothing_read }
+        ensures state { state_of result ≡ nothing_read }
+        ensures kept { AreKept result }
     {
         Reading {
             units: Vec::new(alloc),
@@ -45,8 +35,11 @@ impl Reading {
     }
 
     // No unit is open.
-    fn opened(mut self, alloc: Global, line: u32, piece: Piece) -> Result<Reading, UnitFault>
-        ensures { Gives result (opened line piece self.units) }
+    fn opened(&mut self, alloc: Global, line: u32, piece: Piece) -> Result<(), UnitFault>
+        requires kept { AreKept self.old }
+        requires none { self.old.unit ≡ None }
+        ensures state { Gives (after result (state_of self.new)) (opened line piece self.old.units.items) }
+        ensures kept { OnOk result (AreKept self.new) }
     {
         let Piece::Unit(name) = piece else {
             return Err(UnitFault::BadStatement(line));
@@ -58,43 +51,46 @@ impl Reading {
             return Err(UnitFault::TooLong(line));
         }
         self.unit = Some(OpenUnit::new(alloc, name, line));
-        Ok(self)
+        Ok(())
     }
 
-    // The open unit ends.
-    fn closed(mut self, alloc: Global, unit: OpenUnit) -> Result<Reading, UnitFault>
-        ensures { Gives result (closed self.units unit) }
+    // The unit, which was open, ends.
+    fn closed(&mut self, alloc: Global, unit: OpenUnit) -> Result<(), UnitFault>
+        requires kept { AreKept self.old }
+        requires none { self.old.unit ≡ None }
+        ensures state { Gives (after result (state_of self.new)) (closed self.old.units.items (unit_so_far unit)) }
+        ensures kept { OnOk result (AreKept self.new) }
     {
         add_name(alloc, &mut self.names, unit.name())?;
         self.units.push(unit.ended(alloc)?)?;
-        self.unit = None;
-        Ok(self)
+        Ok(())
     }
 
     /// One more piece, on this line.
     pub(crate) fn stepped(
-        mut self,
+        &mut self,
         alloc: Global,
         line: u32,
         piece: Piece,
-    ) -> Result<Reading, UnitFault>
-        ensures { Gives result (stepped line piece self) }
+    ) -> Result<(), UnitFault>
+        requires { AreKept self.old }
+        ensures state { Gives (after result (state_of self.new)) (stepped line piece (state_of self.old)) }
+        ensures kept { OnOk result (AreKept self.new) }
     {
-        match self.unit.take() {
-            None => self.opened(alloc, line, piece),
-            Some(unit) => match piece {
-                Piece::End => self.closed(alloc, unit),
-                piece => {
-                    self.unit = Some(unit.with_piece(alloc, line, piece)?);
-                    Ok(self)
-                }
-            },
+        let Some(mut unit) = self.unit.take() else {
+            return self.opened(alloc, line, piece);
+        };
+        if let Piece::End = piece {
+            return self.closed(alloc, unit);
         }
+        unit.with_piece(alloc, line, piece)?;
+        self.unit = Some(unit);
+        Ok(())
     }
 
     /// The units, where the text ends before this line.
     pub(crate) fn finished(self, line: u32) -> Result<Vec<Unit>, UnitFault>
-        ensures { units_of_result result ≡ finished line self }
+        ensures { units_of_result result ≡ finished line (state_of self) }
     {
         match self.unit {
             None => Ok(self.units),

@@ -143,7 +143,7 @@ fn moment_of(
 }
 
 /// What a DPUT says: to, relative or absolute, days, and then hours, minutes, seconds and the message.
-#[derive(Debug, Drop)]
+#[derive(Drop)]
 pub(crate) struct DelayedMessage {
     pub to: Operand,
     pub mode: Mode,

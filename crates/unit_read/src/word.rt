@@ -10,7 +10,7 @@ use kd_base::{Bytes, OutOfMemory};
 use std::alloc::Global;
 
 /// A word of a line: bytes without a blank, or what a literal says.
-#[derive(Debug, Drop)]
+#[derive(Drop)]
 pub(crate) enum Word {
     Plain(Bytes),
     Literal(Bytes),
