@@ -12,3 +12,4 @@ pub mod Units
 pub mod Open
 pub mod Reading
 pub mod Grammar
+pub mod Laws

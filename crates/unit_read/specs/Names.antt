@@ -1,16 +1,15 @@
 -- Sets of names that hold those of a list.
 use Rattle.std.specs.Prelude.{◌≡◌, ℕ, Bool, List, bytes_eq}
-use Rattle.std.specs.BTreeSet.{BTreeSet, contains_by}
+use Rattle.std.specs.BTreeSet.{BTreeSet, contains}
 use Rattle.std.specs.Cmp.Lexicographic.{slice_cmp}
-use Rattle.std.specs.Global.{Vec}
 use Rattle.std.specs.List.{list_any}
 use Rattle.std.specs.Ordering.{nat_cmp}
 use Rattle.unit_types.specs.declared.unit.Field.{Field}
 use Rattle.unit_types.specs.UnitText.{UnitText}
 
 -- whether a set holds a name
-abbrev pub holds : BTreeSet (Vec ℕ) → List ℕ → Bool
-holds names name = contains_by (λ (k : Vec ℕ). slice_cmp nat_cmp name k.items) names
+abbrev pub holds : BTreeSet (List ℕ) → List ℕ → Bool
+holds names name = contains (slice_cmp nat_cmp) names name
 
 -- whether a field, a label or a unit has the name
 abbrev pub has_field : List Field → List ℕ → Bool
@@ -22,11 +21,11 @@ has_label labels name = list_any (λ (l : List ℕ × ℕ). bytes_eq l.0 name) l
 abbrev pub has_unit : List UnitText → List ℕ → Bool
 has_unit units name = list_any (λ (u : UnitText). bytes_eq u.name name) units
 
-abbrev pub AreFieldNames : BTreeSet (Vec ℕ) → List Field → Type 0
+abbrev pub AreFieldNames : BTreeSet (List ℕ) → List Field → Type 0
 AreFieldNames names fields = (q : List ℕ) → holds names q ≡ has_field fields q
 
-abbrev pub AreLabelNames : BTreeSet (Vec ℕ) → List (List ℕ × ℕ) → Type 0
+abbrev pub AreLabelNames : BTreeSet (List ℕ) → List (List ℕ × ℕ) → Type 0
 AreLabelNames names labels = (q : List ℕ) → holds names q ≡ has_label labels q
 
-abbrev pub AreUnitNames : BTreeSet (Vec ℕ) → List UnitText → Type 0
+abbrev pub AreUnitNames : BTreeSet (List ℕ) → List UnitText → Type 0
 AreUnitNames names units = (q : List ℕ) → holds names q ≡ has_unit units q

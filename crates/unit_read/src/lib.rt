@@ -7,6 +7,7 @@
 
 mod fault;
 mod key;
+
 mod line;
 mod names;
 mod open_unit;
@@ -20,6 +21,7 @@ mod used;
 mod word;
 
 pub use fault::UnitFault;
+
 pub use read::read_units;
 
 #[cfg(test)]

@@ -44,13 +44,13 @@ impl OpenUnit {
         }
     }
 
-    pub(crate) fn name(&self) -> &[u8]
+    pub(crate) fn name(&self) -> &ProgName
         ensures { result.now ≡ self.now.name }
     {
-        self.name.as_slice()
+        &self.name
     }
 
-    fn with_field(&mut self, alloc: Global, field: Field) -> Result<(), UnitFault>
+    fn with_field(&mut self, field: Field) -> Result<(), UnitFault>
         requires { IsKept self.old }
         ensures unit { Gives (after result (unit_so_far self.new)) (with_field field (unit_so_far self.old)) }
         ensures kept { OnOk result (IsKept self.new) }
@@ -58,23 +58,23 @@ impl OpenUnit {
         if !self.labels.is_empty() || !self.statements.is_empty() {
             return Err(UnitFault::BadStatement(field.line));
         }
-        if holds(&self.field_names, field.name.as_slice()) {
+        if holds(&self.field_names, &field.name) {
             return Err(UnitFault::BadField(field.line));
         }
-        add_name(alloc, &mut self.field_names, field.name.as_slice())?;
+        add_name(&mut self.field_names, &field.name)?;
         self.fields.push(field)?;
         Ok(())
     }
 
-    fn with_label(&mut self, alloc: Global, line: u32, label: Bytes) -> Result<(), UnitFault>
+    fn with_label(&mut self, line: u32, label: Bytes) -> Result<(), UnitFault>
         requires { IsKept self.old }
         ensures unit { Gives (after result (unit_so_far self.new)) (with_label line label (unit_so_far self.old)) }
         ensures kept { OnOk result (IsKept self.new) }
     {
-        if holds(&self.label_names, label.as_slice()) {
+        if holds(&self.label_names, &label) {
             return Err(UnitFault::LabelTwice(line));
         }
-        add_name(alloc, &mut self.label_names, label.as_slice())?;
+        add_name(&mut self.label_names, &label)?;
         let place = self.statements.len() as u32 + 1;
         self.labels.push((label, place))?;
         Ok(())
@@ -114,12 +114,7 @@ impl OpenUnit {
     }
 
     /// One more piece, which is not the END of the unit.
-    pub(crate) fn with_piece(
-        &mut self,
-        alloc: Global,
-        line: u32,
-        piece: Piece,
-    ) -> Result<(), UnitFault>
+    pub(crate) fn with_piece(&mut self, line: u32, piece: Piece) -> Result<(), UnitFault>
         requires { IsKept self.old }
         ensures unit { Gives (after result (unit_so_far self.new)) (with_piece line piece (unit_so_far self.old)) }
         ensures kept { OnOk result (IsKept self.new) }
@@ -134,9 +129,9 @@ impl OpenUnit {
                     offset,
                     length,
                 };
-                self.with_field(alloc, field)
+                self.with_field(field)
             }
-            Piece::Label(label) => self.with_label(alloc, line, label),
+            Piece::Label(label) => self.with_label(line, label),
             Piece::Statement(action) => self.with_statement(line, action),
         }
     }

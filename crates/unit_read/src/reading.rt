@@ -5,7 +5,7 @@ ghost use Rattle.unit_read.specs.Open.{unit_so_far, IsKept, state_of, AreKept};
 ghost use Rattle.unit_read.specs.Outcomes.{Gives, after, units_of_result};
 
 use crate::fault::UnitFault;
-use crate::names::{Names, add_name, holds, no_names};
+use crate::names::{UnitNames, add_unit_name, holds_unit, no_unit_names};
 use crate::open_unit::OpenUnit;
 use crate::piece::Piece;
 use std::alloc::Global;
@@ -18,7 +18,7 @@ const MAX_UNITS: usize = 1_000;
 #[derive(Drop)]
 pub(crate) struct Reading {
     units: Vec<Unit>,
-    names: Names,
+    names: UnitNames,
     unit: Option<OpenUnit>,
 }
 
@@ -29,7 +29,7 @@ impl Reading {
     {
         Reading {
             units: Vec::new(alloc),
-            names: no_names(alloc),
+            names: no_unit_names(alloc),
             unit: None,
         }
     }
@@ -44,7 +44,7 @@ impl Reading {
         let Piece::Unit(name) = piece else {
             return Err(UnitFault::BadStatement(line));
         };
-        if holds(&self.names, name.as_slice()) {
+        if holds_unit(&self.names, &name) {
             return Err(UnitFault::UnitTwice(line));
         }
         if self.units.len() >= MAX_UNITS {
@@ -61,7 +61,7 @@ impl Reading {
         ensures state { Gives (after result (state_of self.new)) (closed self.old.units.items (unit_so_far unit)) }
         ensures kept { OnOk result (AreKept self.new) }
     {
-        add_name(alloc, &mut self.names, unit.name())?;
+        add_unit_name(&mut self.names, unit.name())?;
         self.units.push(unit.ended(alloc)?)?;
         Ok(())
     }
@@ -83,7 +83,7 @@ impl Reading {
         if let Piece::End = piece {
             return self.closed(alloc, unit);
         }
-        unit.with_piece(alloc, line, piece)?;
+        unit.with_piece(line, piece)?;
         self.unit = Some(unit);
         Ok(())
     }

@@ -10,7 +10,7 @@ fn operand_is_defined(operand: &Operand, names: &Names) -> bool
     ensures { result ≡ operand_uses (holds names.now) operand.now }
 {
     match operand {
-        Operand::Field(name) | Operand::Trim(name) => holds(names, name.as_slice()),
+        Operand::Field(name) | Operand::Trim(name) => holds(names, name),
         Operand::Literal(_) | Operand::Digits(_) | Operand::Header(_) => true,
     }
 }
@@ -29,13 +29,13 @@ pub(crate) fn is_defined(action: &Action, names: &Names) -> bool
         | Action::SgetKp(o, f)
         | Action::SgetRl(o, f)
         | Action::SgetUs(o, f)
-        | Action::Gtda(o, f) => holds(names, f.as_slice()) && operand_is_defined(o, names),
+        | Action::Gtda(o, f) => holds(names, f) && operand_is_defined(o, names),
         Action::Join(f, o, p) => {
-            holds(names, f.as_slice())
+            holds(names, f)
                 && operand_is_defined(o, names)
                 && operand_is_defined(p, names)
         }
-        Action::Mget(f) | Action::Fget(f) => holds(names, f.as_slice()),
+        Action::Mget(f) | Action::Fget(f) => holds(names, f),
         Action::Mput(o)
         | Action::SrelGb(o)
         | Action::SrelLb(o)
