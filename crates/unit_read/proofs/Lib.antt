@@ -2,3 +2,4 @@ pub mod FirstLine
 pub mod WordSteps
 pub mod Kept
 pub mod OpenUnits
+pub mod Giving

@@ -101,6 +101,7 @@ impl OpenUnit {
         Ok(self.statements.push(UnitStatement { line, action })?)
     }
 
+    #[tactic(none)]
     fn with_statement(&mut self, line: u32, action: Action) -> Result<(), UnitFault>
         requires { IsKept self.old }
         ensures unit { Gives (after result (unit_so_far self.new)) (with_statement line action (unit_so_far self.old)) }
