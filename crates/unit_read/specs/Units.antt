@@ -36,18 +36,11 @@ with_field f u =
 abbrev pub with_label : ℕ → List ℕ → UnitText → Result UnitText UnitFault
 with_label n l u = if has_label u.labels l then Err (LabelTwice n) else Ok (add_label l u)
 
-abbrev pub statement_fault : ℕ → Action → UnitText → Option UnitFault
-statement_fault n a u =
-    if uses (has_field u.fields) a
-    then (if nat_le 10000 (length u.statements) then Some (TooLong n) else None)
-    else Some (BadField n)
-
-abbrev pub unless : {X : Type 0} → Option UnitFault → X → Result X UnitFault
-unless None x = Ok x
-unless (Some fault) x = Err fault
-
 abbrev pub with_statement : ℕ → Action → UnitText → Result UnitText UnitFault
-with_statement n a u = unless (statement_fault n a u) (add_statement n a u)
+with_statement n a u =
+    if uses (has_field u.fields) a
+    then (if nat_le 10000 (length u.statements) then Err (TooLong n) else Ok (add_statement n a u))
+    else Err (BadField n)
 
 -- one more piece of a unit, which is not its END
 abbrev pub with_piece : ℕ → Piece → UnitText → Result UnitText UnitFault

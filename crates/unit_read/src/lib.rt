@@ -15,6 +15,7 @@ mod operand;
 mod piece;
 mod read;
 mod reading;
+mod said;
 mod shape;
 mod statement;
 mod used;

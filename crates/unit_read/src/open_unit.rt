@@ -1,17 +1,18 @@
 //! A unit whose END has not come yet.
 ghost use Rattle.std.specs.Prelude.{◌≡◌, IfOk, OnOk};
 ghost use Rattle.unit_read.specs.Names.{AreFieldNames, AreLabelNames};
-ghost use Rattle.unit_read.specs.Units.{begun, add_statement, with_field, with_label, statement_fault, with_statement, with_piece};
+ghost use Rattle.unit_read.specs.Units.{begun, with_field, with_label, with_statement, with_piece};
 ghost use Rattle.unit_read.specs.Open.{unit_so_far, IsKept};
 ghost use Rattle.unit_read.specs.Outcomes.{Gives, after};
 
 use crate::fault::UnitFault;
 use crate::names::{Names, add_name, holds, no_names};
 use crate::piece::Piece;
+use crate::said::Said;
 use crate::used::is_defined;
 use kd_base::{Bytes, OutOfMemory, ProgName};
 use std::alloc::Global;
-use unit_types::{Action, Field, Unit, UnitStatement};
+use unit_types::{Field, Unit, UnitStatement};
 
 /// The greatest number of statements in a unit.
 const MAX_STATEMENTS: usize = 10_000;
@@ -80,37 +81,18 @@ impl OpenUnit {
         Ok(())
     }
 
-    // The fault of one more statement, if it has one.
-    fn statement_fault(&self, line: u32, action: &Action) -> Option<UnitFault>
-        requires { IsKept self.now }
-        ensures { result ≡ statement_fault line action.now (unit_so_far self.now) }
-    {
-        if !is_defined(action, &self.field_names) {
-            return Some(UnitFault::BadField(line));
-        }
-        if self.statements.len() >= MAX_STATEMENTS {
-            return Some(UnitFault::TooLong(line));
-        }
-        None
-    }
-
-    fn push_statement(&mut self, line: u32, action: Action) -> Result<(), OutOfMemory>
-        ensures unit { OnOk result (unit_so_far self.new ≡ add_statement line action (unit_so_far self.old)) }
-        ensures names { OnOk result ((self.new.field_names ≡ self.old.field_names) × (self.new.label_names ≡ self.old.label_names)) }
-    {
-        Ok(self.statements.push(UnitStatement { line, action })?)
-    }
-
-    #[tactic(none)]
-    fn with_statement(&mut self, line: u32, action: Action) -> Result<(), UnitFault>
+    fn with_statement(&mut self, line: u32, said: Said) -> Result<(), UnitFault>
         requires { IsKept self.old }
-        ensures unit { Gives (after result (unit_so_far self.new)) (with_statement line action (unit_so_far self.old)) }
+        ensures unit { Gives (after result (unit_so_far self.new)) (with_statement line said (unit_so_far self.old)) }
         ensures kept { OnOk result (IsKept self.new) }
     {
-        if let Some(fault) = self.statement_fault(line, &action) {
-            return Err(fault);
+        if !is_defined(said.action(), &self.field_names) {
+            return Err(UnitFault::BadField(line));
         }
-        self.push_statement(line, action)?;
+        if self.statements.len() >= MAX_STATEMENTS {
+            return Err(UnitFault::TooLong(line));
+        }
+        said.add_to(&mut self.statements, line)?;
         Ok(())
     }
 
@@ -133,7 +115,7 @@ impl OpenUnit {
                 self.with_field(field)
             }
             Piece::Label(label) => self.with_label(line, label),
-            Piece::Statement(action) => self.with_statement(line, action),
+            Piece::Statement(said) => self.with_statement(line, said),
         }
     }
 

@@ -4,11 +4,11 @@ ghost use Rattle.unit_read.specs.Pieces.{plain, number_from, area_of, new_field,
 
 use crate::line::same;
 use crate::operand::{header_of, is_name};
+use crate::said::Said;
 use crate::statement::action_of;
 use crate::word::Word;
 use kd_base::{Bytes, OutOfMemory, ProgName, decimal_of};
 use std::alloc::Global;
-use unit_types::Action;
 
 /// A line of a units text that is neither empty nor a comment.
 #[derive(Drop)]
@@ -17,7 +17,7 @@ pub(crate) enum Piece {
     /// Name, whether it stands in SPAB, offset and length.
     Field(Bytes, bool, u32, u32),
     Label(Bytes),
-    Statement(Action),
+    Statement(Said),
     End,
 }
 
@@ -134,7 +134,10 @@ fn inner_of(alloc: Global, words: &[Word]) -> Result<Option<Piece>, OutOfMemory>
     if let Some(name) = label_in(words) {
         return Ok(Some(Piece::Label(Bytes::from_slice(alloc, name)?)));
     }
-    Ok(action_of(alloc, words)?.map(|action| Piece::Statement(action)))
+    match action_of(alloc, words)? {
+        None => Ok(None),
+        Some(said) => Ok(Some(Piece::Statement(said))),
+    }
 }
 
 /// The piece that the words are.

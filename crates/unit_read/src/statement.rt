@@ -4,6 +4,7 @@ ghost use Rattle.unit_read.specs.Statements.{takes_follow_up, pend_action, delay
 
 use crate::key::{Key, key_of, keyword_count};
 use crate::shape::{DelayedMessage, compared, delayed, name_and_operand, name_and_two, one_name, one_operand, operand_and_name, two_operands};
+use crate::said::Said;
 use crate::word::Word;
 use kd_base::{OutOfMemory, Variant};
 use std::alloc::Global;
@@ -90,11 +91,14 @@ fn action_at(alloc: Global, key: Key, words: &[Word]) -> Result<Option<Action>, 
 }
 
 /// The statement that the words are.
-pub(crate) fn action_of(alloc: Global, words: &[Word]) -> Result<Option<Action>, OutOfMemory>
+pub(crate) fn action_of(alloc: Global, words: &[Word]) -> Result<Option<Said>, OutOfMemory>
     ensures { IfOk result (λ found. found ≡ action_of words.now) }
 {
-    match key_of(words) {
+    let Some(key) = key_of(words) else {
+        return Ok(None);
+    };
+    match action_at(alloc, key, &words[keyword_count(key)..])? {
         None => Ok(None),
-        Some(key) => action_at(alloc, key, &words[keyword_count(key)..]),
+        Some(action) => Ok(Some(Said::new(alloc, action)?)),
     }
 }
