@@ -3,3 +3,11 @@ pub mod WordSteps
 pub mod Kept
 pub mod OpenUnits
 pub mod Giving
+pub mod Quoted
+pub mod WordLists
+pub mod Operands
+pub mod Shapes
+pub mod Keys
+pub mod Statements
+pub mod Pieces
+pub mod Pieced

@@ -166,11 +166,11 @@ fn begins_with(words: &[Word], key: Key) -> bool
     second.is_empty() || is_front(&words[1..], second)
 }
 
-/// The statement that the words begin with.
-pub(crate) fn key_of(words: &[Word]) -> Option<Key>
-    ensures { result ≡ key_of words.now }
+// The first of these statements that the words begin with.
+fn find_key(words: &[Word], keys: &[Key]) -> Option<Key>
+    ensures { result ≡ find (begins_with words.now) keys.now }
 {
-    for key in &KEYS {
+    for key in keys {
         if begins_with(words, *key) {
             return Some(*key);
         }
@@ -178,9 +178,25 @@ pub(crate) fn key_of(words: &[Word]) -> Option<Key>
     None
 }
 
-/// How many keywords the statement begins with.
-pub(crate) fn keyword_count(key: Key) -> usize
+/// The statement that the words begin with.
+pub(crate) fn key_of(words: &[Word]) -> Option<Key>
+    ensures { result ≡ key_of words.now }
+{
+    find_key(words, &KEYS)
+}
+
+// How many keywords the statement begins with.
+fn keyword_count(key: Key) -> usize
     ensures { result ≡ keyword_count key }
 {
     if second_keyword(key).is_empty() { 1 } else { 2 }
+}
+
+/// What stands behind the keywords.
+pub(crate) fn behind_keywords(words: &[Word], key: Key) -> &[Word]
+    requires { keyword_count key ≤ length words.now }
+    ensures { result.now ≡ drop (keyword_count key) words.now }
+{
+    let (_, operands) = words.split_at(keyword_count(key));
+    operands
 }

@@ -2,7 +2,7 @@
 ghost use Rattle.std.specs.Prelude.{◌≡◌, IfOk};
 ghost use Rattle.unit_read.specs.Statements.{takes_follow_up, pend_action, delayed_action, action_at, action_of};
 
-use crate::key::{Key, key_of, keyword_count};
+use crate::key::{Key, behind_keywords, key_of};
 use crate::shape::{DelayedMessage, compared, delayed, name_and_operand, name_and_two, one_name, one_operand, operand_and_name, two_operands};
 use crate::said::Said;
 use crate::word::Word;
@@ -97,7 +97,7 @@ pub(crate) fn action_of(alloc: Global, words: &[Word]) -> Result<Option<Said>, O
     let Some(key) = key_of(words) else {
         return Ok(None);
     };
-    match action_at(alloc, key, &words[keyword_count(key)..])? {
+    match action_at(alloc, key, behind_keywords(words, key))? {
         None => Ok(None),
         Some(action) => Ok(Some(Said::new(alloc, action)?)),
     }
