@@ -11,3 +11,7 @@ pub mod Keys
 pub mod Statements
 pub mod Pieces
 pub mod Pieced
+pub mod Standing
+pub mod Runs
+pub mod FaultsAt
+pub mod Answered

@@ -13,3 +13,5 @@ pub mod Open
 pub mod Reading
 pub mod Grammar
 pub mod Laws
+pub mod Spelling
+pub mod Faults

@@ -1,5 +1,9 @@
 //! Reading a units text.
-ghost use Rattle.std.specs.Prelude.{◌≡◌, ◌≢◌, ◌<◌, ◌≤◌, ◌^◌, IfOk, IfErr, OnOk};
+ghost use Rattle.std.specs.Prelude.{◌≢◌, List, IfOk, IfErr, OnOk};
+ghost use Rattle.unit_types.specs.UnitText.{UnitText};
+ghost use Rattle.unit_read.specs.declared.fault.UnitFault.TheVariants.{Memory};
+ghost use Rattle.unit_read.specs.Spelling.{SpellsUnits};
+ghost use Rattle.unit_read.specs.Faults.{HasTextFault};
 ghost use Rattle.unit_read.specs.Open.{state_of, AreKept};
 ghost use Rattle.unit_read.specs.Outcomes.{Gives, after, units_of_result};
 ghost use Rattle.unit_read.specs.Reading.{line_step, read_text};
@@ -58,7 +62,14 @@ fn read_text(alloc: Global, text: &[u8]) -> Result<Vec<Unit>, UnitFault>
 
 /// The units of a text, in their order, or its first fault.
 pub fn read_units(alloc: Global, text: &[u8]) -> Result<Vec<Unit>, UnitFault>
-    ensures { Gives (units_of_result result) (read_text text.now) }
+    // The text spells what is read.
+    ensures found { IfOk result (λ units. SpellsUnits text.now units.items) }
+    // What the text spells is read, unless memory runs out.
+    ensures only { (units : List UnitText) → SpellsUnits text.now units → Gives (units_of_result result) (Ok units) }
+    // The fault that is answered stands there.
+    ensures fault { IfErr result (λ e. e ≢ Memory → HasTextFault text.now e) }
+    // A text with the fault is refused for it, unless memory runs out.
+    ensures refused { (e : UnitFault) → HasTextFault text.now e → Gives (units_of_result result) (Err e) }
 {
     read_text(alloc, text)
 }
