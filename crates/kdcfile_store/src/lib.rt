@@ -12,3 +12,6 @@ mod whole;
 pub use kdcfile_images::LoadError;
 pub use store::{CommitError, Store, StoreLimits};
 pub use whole::WholeStore;
+
+#[cfg(test)]
+mod tests;

@@ -1,1 +1,14 @@
+pub mod Keys
+pub mod Keyed
+pub mod Tables
+pub mod Same
+pub mod Difference
+pub mod TableLaws
+pub mod KeyLaws
+pub mod KeyedLaws
+pub mod RowLaws
+pub mod SameLaws
+pub mod DifferenceLaws
+pub mod Places
+pub mod RowsKept
 pub mod Limits

@@ -1,21 +1,21 @@
 -- What holds of every trace and of every cut.
-use Rattle.std.proofs.Common.{◌≡◌, ◌⊎◌, inl, inr, ⊎_elim, ℕ, ◌+◌, ◌≤◌, Bool, true, false, List, [], ◌∷◌, ◌++◌, length, take, refl, sym, ap, subst, ◌∙◌, arith, append_assoc}
+use Rattle.std.proofs.Common.{◌≡◌, inl, inr, ℕ, ◌+◌, Bool, true, false, List, [], ◌∷◌, ◌++◌, take, refl, sym, ap, ◌∙◌, append_assoc}
 use Rattle.std.specs.Prelude.{nat_le}
 use Rattle.std.proofs.lemmas.List.{append-nil}
-use Rattle.std.proofs.lemmas.Bool.{cases_Bool}
 use Rattle.kdcs_types.specs.declared.act.Act.{Act}
 use Rattle.kdcs_types.specs.declared.act.Act.TheVariants.{Commit, Emit}
 use Rattle.kdcs_types.specs.declared.command.Command.{Command}
 use Rattle.kdcs_types.specs.declared.command.Command.TheVariants.{Tick}
 use Rattle.kdcs_types.specs.declared.tables.Tables.{Tables}
 use Rattle.kdcs_types.specs.Limits.{last_clock}
-use Rattle.monitor_core.specs.Monitor.{State, Done, ticked, command_of}
+use Rattle.kdcs_types.specs.Tables.{changed}
+use Rattle.monitor_core.specs.Monitor.{State, ticked, command_of}
 use Rattle.monitor_core.specs.Trace.{trace, state_after, tables_after, bytes_of}
-use Rattle.monitor_core.specs.Cut.{SentBy, IsCut, IsCutSince}
+use Rattle.monitor_core.specs.Cut.{SentBy, IsCutSince}
 
 pub tables_joined : (t : Tables) (p q : List Act) → tables_after t (p ++ q) ≡ tables_after (tables_after t p) q
 tables_joined t [] q = refl
-tables_joined t (Commit c ∷ p) q = tables_joined _ p q
+tables_joined t (Commit c ∷ p) q = tables_joined (changed t c) p q
 tables_joined t (Emit line ∷ p) q = tables_joined t p q
 
 pub bytes_joined : (p q : List Act) → bytes_of (p ++ q) ≡ bytes_of p ++ bytes_of q

@@ -26,7 +26,7 @@ at_clock s clock = record s { tables = record s.tables { clock = clock } }
 
 -- one commit and its line, or, where the clock would pass its greatest value, a line alone
 abbrev pub ticked : Bool → State → ℕ → Done
-ticked true s clock = record { state = at_clock s clock; acts = Commit (record { clock = clock; next_job = s.tables.next_job }) ∷ Emit (tick_line clock) ∷ [] }
+ticked true s clock = record { state = at_clock s clock; acts = Commit (record { clock = clock; next_job = s.tables.next_job; items = [] }) ∷ Emit (tick_line clock) ∷ [] }
 ticked false s clock = record { state = s; acts = Emit refused_line ∷ [] }
 
 -- one script command

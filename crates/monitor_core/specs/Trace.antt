@@ -2,9 +2,9 @@
 use Rattle.std.specs.Prelude.{List, [], ◌∷◌, ◌++◌, ℕ}
 use Rattle.kdcs_types.specs.declared.act.Act.{Act}
 use Rattle.kdcs_types.specs.declared.act.Act.TheVariants.{Commit, Emit}
-use Rattle.kdcs_types.specs.declared.act.Changes.{Changes}
 use Rattle.kdcs_types.specs.declared.command.Command.{Command}
 use Rattle.kdcs_types.specs.declared.tables.Tables.{Tables}
+use Rattle.kdcs_types.specs.Tables.{changed}
 use Rattle.monitor_core.specs.Monitor.{State, command_of}
 
 -- all acts of the commands, in order
@@ -16,10 +16,6 @@ trace s (c ∷ cs) = (command_of s c).acts ++ trace (command_of s c).state cs
 abbrev pub state_after : State → List Command → State
 state_after s [] = s
 state_after s (c ∷ cs) = state_after (command_of s c).state cs
-
--- the tables that a commit makes of others
-abbrev pub changed : Tables → Changes → Tables
-changed t c = record t { clock = c.clock; next_job = c.next_job }
 
 -- the durable tables after some acts
 abbrev pub tables_after : Tables → List Act → Tables

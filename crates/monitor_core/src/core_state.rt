@@ -5,7 +5,7 @@ ghost use Rattle.monitor_core.specs.Monitor.{started, command_of, ticked};
 ghost use Rattle.monitor_core.specs.Lines.{tick_line as line_of_tick};
 
 use kd_base::{Bytes, OutOfMemory};
-use kdcs_types::{Act, Acts, Changes, Command, Tables};
+use kdcs_types::{Act, Acts, Changes, Command, RowChanges, Tables};
 use std::alloc::{AllocError, Global};
 use std::marker::Model;
 
@@ -66,13 +66,15 @@ impl Core {
         ensures { IfOk result (λ done. let next = ticked (nat_le (self.tables.clock + n) last_clock) self (self.tables.clock + n) in (done.0 ≡ next.state) × (done.1 ≡ next.acts)) }
     {
         let mut acts = Acts::new(alloc);
-        match moved(self.tables.clock, n) {
+        match moved(self.tables.clock(), n) {
             Some(clock) => {
-                self.tables.clock = clock;
-                acts.push(Act::Commit(Changes {
+                let changes = Changes {
                     clock,
-                    next_job: self.tables.next_job,
-                }))?;
+                    next_job: self.tables.next_job(),
+                    items: RowChanges::new(alloc),
+                };
+                self.tables.change(&changes)?;
+                acts.push(Act::Commit(changes))?;
                 acts.push(Act::Emit(tick_line(alloc, clock)?))?;
             }
             None => acts.push(Act::Emit(Bytes::from_slice(alloc, b"TICK REFUSED\n")?))?,

@@ -1,1 +1,3 @@
 pub mod UnitText
+pub mod Index
+pub mod Places

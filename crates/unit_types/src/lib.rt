@@ -6,7 +6,11 @@
 #![tactic(auto)]
 
 mod action;
+mod index;
 mod unit;
 
 pub use action::{Action, HeaderName, Operand, Relation, UnitStatement};
 pub use unit::{Field, Unit};
+
+#[cfg(test)]
+mod tests;

@@ -220,11 +220,11 @@ fn failing_calls_have_their_status(rt: HostRuntime) -> Result<(), Fail> {
     Ok(())
 }
 
-/// The device after `TICK 0`, `TICK 999999999999` and `TICK 1` over an empty file.
-fn device_after_ticks(alloc: Global) -> Result<MemDevice, OutOfMemory> {
+/// The device after `run clock` with this script over an empty file.
+fn device_after(alloc: Global, script: &[u8]) -> Result<MemDevice, OutOfMemory> {
     let words = words_of(alloc, &["run", "clock"])?;
     let name = Bytes::from_slice(alloc, b"clock.script")?;
-    let text = Bytes::from_slice(alloc, b"TICK 0\nTICK 999999999999\nTICK 1\n")?;
+    let text = Bytes::from_slice(alloc, script)?;
     let texts = vec![in alloc; (name, text)]?;
     let mut room = MemRoom::new(alloc, texts, Vec::new(alloc))?;
     let mut device = MemDevice::new(alloc, Bytes::new(alloc), Vec::new(alloc))?;
@@ -232,28 +232,54 @@ fn device_after_ticks(alloc: Global) -> Result<MemDevice, OutOfMemory> {
     Ok(device)
 }
 
-/// Whether a stop after so many calls may leave this clock. The calls are a sync, the making (a write and a sync three
-/// times), then two commits (two writes of the image, a sync, the selector, a sync) with a line each, and one line.
-fn may_leave(call: u64, clock: Option<u64>) -> bool {
+/// Whether a stop after so many calls may leave this clock, where this call selects the script's last clock. The first
+/// calls are a sync and the making (a write and a sync three times).
+fn may_leave(call: u64, clock: Option<u64>, selects: u64, last: u64) -> bool {
     match clock {
         None => call <= 6,
-        Some(0) => (6..=17).contains(&call),
-        Some(999_999_999_999) => call >= 17,
-        Some(_) => false,
+        Some(0) => (6..=selects).contains(&call),
+        Some(clock) => clock == last && call >= selects,
     }
+}
+
+/// The first stop, as call and choice, that leaves a file which it may not leave.
+fn wrong_stop(
+    alloc: Global,
+    device: &MemDevice,
+    selects: u64,
+    last: u64,
+) -> Result<Option<(u64, u64)>, OutOfMemory> {
+    for call in 0..=device.calls() {
+        for choice in [0u64, 1, 2, 6] {
+            let left = device.after_stop(alloc, call, choice)?;
+            if !may_leave(call, clock_of(left.holds()), selects, last)
+                || !opens_as_it_must(alloc, left.holds())?
+            {
+                return Ok(Some((call, choice)));
+            }
+        }
+    }
+    Ok(None)
 }
 
 #[test]
 fn a_stop_leaves_a_commit(rt: HostRuntime) -> Result<(), Fail> {
     let alloc = rt.alloc();
-    let device = device_after_ticks(alloc)?;
-    assert_eq!(rt; device.calls(), 20);
-    for call in 0..=device.calls() {
-        for choice in [0u64, 1, 2, 6] {
-            let left = device.after_stop(alloc, call, choice)?;
-            assert!(rt; may_leave(call, clock_of(left.holds())));
-            assert!(rt; opens_as_it_must(alloc, left.holds())?);
-        }
+    // How many calls a script makes over an empty file, the call that selects its last clock, and that clock. A commit
+    // is two writes of the image, a sync, the selector and a sync, and each line is a call.
+    let table: [(&[u8], u64, u64, u64); 2] = [
+        (b"TICK 5\n", 13, 11, 5),
+        (
+            b"TICK 0\nTICK 999999999999\nTICK 1\n",
+            20,
+            17,
+            999_999_999_999,
+        ),
+    ];
+    for (script, calls, selects, last) in table {
+        let device = device_after(alloc, script)?;
+        assert_eq!(rt; device.calls(), calls);
+        assert_eq!(rt; wrong_stop(alloc, &device, selects, last)?, None);
     }
     Ok(())
 }

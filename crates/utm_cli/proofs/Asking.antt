@@ -1,6 +1,6 @@
 -- What the words and the texts say, and what is said of it.
-use Rattle.std.proofs.Common.{◌≡◌, ◌≢◌, ◌⊎◌, inl, inr, ⊎_elim, ℕ, ◌+◌, ◌<◌, ◌≤◌, Bool, true, List, ◌++◌, length, take, Option, Some, None, Result, Ok, Err, refl, sym, ap, subst, ◌∙◌, arith}
-use Rattle.std.specs.Prelude.{nat_lt, ◌||◌, IsTrue, IsSomeAnd, IsErrOf, IsErrAnd}
+use Rattle.std.proofs.Common.{◌≡◌, ◌≢◌, ◌⊎◌, ⊎_elim, ℕ, ◌<◌, ◌≤◌, true, List, length, take, Option, Some, None, Result, Ok, Err, refl, sym, ap, subst, ◌∙◌, arith}
+use Rattle.std.specs.Prelude.{nat_lt, IsSomeAnd, IsErrOf, IsErrAnd}
 use Rattle.std.proofs.lemmas.List.{take_all, length-take}
 use Rattle.std.proofs.lemmas.Bool.Decides.{nat_tests}
 use Rattle.kd_device.specs.Device.{State, LeavesOnly, Only}
@@ -9,14 +9,13 @@ use Rattle.kdcs_types.specs.declared.command.Command.{Command}
 use Rattle.kdcs_types.specs.declared.tables.Tables.{Tables}
 use Rattle.script_read.specs.declared.fault.ScriptFault.{ScriptFault}
 use Rattle.script_read.specs.declared.fault.ScriptFault.TheVariants as fault
-use Rattle.script_read.specs.Script.{script, script_by, command_lines}
+use Rattle.script_read.specs.Script.{script}
 use Rattle.utm_cli.specs.declared.error.ScriptError.{ScriptError}
 use Rattle.utm_cli.specs.declared.error.ScriptError.TheVariants as error
 use Rattle.utm_cli.specs.Causes.{of_fault}
-use Rattle.utm_cli.specs.Words.{request_of, script_name, file_name}
+use Rattle.utm_cli.specs.Words.{request_of, script_name}
 use Rattle.utm_cli.specs.Stored.{StartsFrom}
-use Rattle.utm_cli.specs.Opening.{MayAttach}
-use Rattle.utm_cli.specs.Promise.{Reads, Misses, IsCutOfRun, Attached}
+use Rattle.utm_cli.specs.Promise.{Reads, Misses, IsCutOfRun}
 use Rattle.utm_cli.proofs.Ran.{as_it_was}
 
 -- ---- the text of a script

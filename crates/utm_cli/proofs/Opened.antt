@@ -1,5 +1,5 @@
 -- What a stop within the opening of the KDCFILE leaves.
-use Rattle.std.proofs.Common.{◌≡◌, ◌⊎◌, inl, inr, ℕ, List, [], length, sym, ap, subst, ◌∙◌, arith}
+use Rattle.std.proofs.Common.{◌≡◌, inl, inr, ℕ, List, [], length, sym, ap, subst, ◌∙◌}
 use Rattle.kd_device.specs.Device.{State, LeavesOnly}
 use Rattle.kd_device.specs.Time.{leaves_weaker, leaves_then}
 use Rattle.kd_device.specs.Rest.{Rests, Before}

@@ -1,5 +1,5 @@
 -- A run over an opened KDCFILE.
-use Rattle.std.proofs.Common.{◌≡◌, ◌⊎◌, inl, inr, ⊎_elim, ℕ, List, [], ◌++◌, length, take, drop, refl, sym, ap, subst, ◌∙◌, arith}
+use Rattle.std.proofs.Common.{◌≡◌, inl, inr, ⊎_elim, ℕ, List, [], ◌++◌, length, take, sym, ap, subst, ◌∙◌, arith}
 use Rattle.std.specs.Prelude.{IsTrue}
 use Rattle.std.proofs.lemmas.List.{length-take}
 use Rattle.kd_device.specs.Device.{State, LeavesOnly, Only}
@@ -7,22 +7,20 @@ use Rattle.kd_device.specs.Time.{leaves_weaker, leaves_then}
 use Rattle.kd_device.specs.Rest.{Rests}
 use Rattle.kd_records.specs.Identity.{Identity}
 use Rattle.kd_records.specs.declared.content.Content.{Content}
-use Rattle.kdcfile_images.specs.File.{OneMeaning, StandsFor, Stands}
-use Rattle.kdcfile_store.specs.Kept.{IsKept}
+use Rattle.kdcfile_images.specs.File.{OneMeaning, StandsFor}
 use Rattle.kdcfile_store.specs.Whole.{Whole, HasFile}
 use Rattle.kdcs_types.specs.declared.act.Act.{Act}
 use Rattle.kdcs_types.specs.declared.command.Command.{Command}
 use Rattle.kdcs_types.specs.declared.tables.Tables.{Tables}
-use Rattle.kdcs_types.specs.Limits.{IsInRange}
 use Rattle.monitor_core.specs.Monitor.{started}
-use Rattle.monitor_core.specs.Trace.{trace, state_after, tables_after}
+use Rattle.monitor_core.specs.Trace.{trace, state_after}
 use Rattle.monitor_core.specs.Cut.{IsCutSince}
 use Rattle.monitor_core.specs.Laws.{trace_commits, cut_none}
-use Rattle.utm_cli.specs.Said.{SameDisk, Said, SaidPart}
+use Rattle.utm_cli.specs.Said.{Said, SaidPart}
 use Rattle.utm_cli.specs.Stored.{identity, content_of, empty_tables, StandsForTables, StartsFrom, IsRefused}
-use Rattle.utm_cli.specs.Opening.{IsOpening, IsBeingMade, KeepsTables}
+use Rattle.utm_cli.specs.Opening.{IsOpening, IsBeingMade}
 use Rattle.utm_cli.specs.Performing.{Performs, Performed}
-use Rattle.utm_cli.specs.Promise.{Ran, IsCutOfRun, LeavesUnmade}
+use Rattle.utm_cli.specs.Promise.{Ran, IsCutOfRun}
 use Rattle.utm_cli.proofs.KeptTables.{tables_are}
 
 -- the acts are performed in a file of this application
@@ -40,7 +38,7 @@ ran s is t cs a b lb h told =
 -- a file is not both accepted and refused
 pub not_both : (h : List ℕ) (t : Tables) → StartsFrom h t → IsRefused h → ⊥
 not_both h t (inl (empty, is)) refused = refused.0 empty
-not_both h t (inr (stands, range)) refused = refused.1 t stands range
+not_both h t (inr (stands, range, rows)) refused = refused.1 t stands range
 
 -- an empty file stands for nothing
 nothing_stands : (t : Tables) → StandsForTables t [] → ⊥
@@ -49,20 +47,20 @@ nothing_stands t (second, stands) = absurd (omega (arith, ap (λ (l : List ℕ).
 -- a run starts from one list of tables
 pub one_start : OneMeaning → (h : List ℕ) (t u : Tables) → StartsFrom h t → StartsFrom h u → t ≡ u
 one_start one h t u (inl (empty, is)) (inl (empty2, is2)) = is ∙ sym is2
-one_start one h t u (inl (empty, is)) (inr (stands, range)) = absurd (nothing_stands u (subst (λ (l : List ℕ). StandsForTables u l) empty stands))
-one_start one h t u (inr (stands, range)) (inl (empty, is)) = absurd (nothing_stands t (subst (λ (l : List ℕ). StandsForTables t l) empty stands))
-one_start one h t u (inr (stands, range)) (inr (stands2, range2)) = tables_are t u (one identity identity (content_of t) (content_of u) h stands stands2).1
+one_start one h t u (inl (empty, is)) (inr (stands, range, rows)) = absurd (nothing_stands u (subst (λ (l : List ℕ). StandsForTables u l) empty stands))
+one_start one h t u (inr (stands, range, rows)) (inl (empty, is)) = absurd (nothing_stands t (subst (λ (l : List ℕ). StandsForTables t l) empty stands))
+one_start one h t u (inr (stands, range, rows)) (inr (stands2, range2, rows2)) = tables_are t u rows rows2 (one identity identity (content_of t) (content_of u) h stands stands2).1
 
 module _ (t : Tables) (cs : List Command) (a : State) (la : ℕ → List ℕ → List ℕ → Type 0) (only : Only a.holds a la) where
   pub as_it_was : (image out : List ℕ) → StartsFrom a.holds t → image ≡ a.holds → out ≡ a.sent → IsCutOfRun t cs a image out
   as_it_was image out (inl (empty, is)) same silent = inr (record { empty = empty; silent = silent; unmade = inl (same ∙ empty) })
-  as_it_was image out (inr (stands, range)) same silent =
+  as_it_was image out (inr (stands, range, rows)) same silent =
       inl (subst (λ (o : List ℕ). IsCutSince StandsForTables t (trace (started t) cs) a.sent image o) (sym silent) (cut_none StandsForTables t (trace (started t) cs) a.sent image (subst (λ (l : List ℕ). StandsForTables t l) (sym same) stands)))
 
   new_file : (image out : List ℕ) → StartsFrom a.holds t → a.holds ≡ [] → out ≡ a.sent → StandsForTables empty_tables image → IsCutOfRun t cs a image out
   new_file image out (inl (empty, is)) none silent stands =
       inl (subst (λ (o : List ℕ). IsCutSince StandsForTables t (trace (started t) cs) a.sent image o) (sym silent) (cut_none StandsForTables t (trace (started t) cs) a.sent image (subst (λ (u : Tables). StandsForTables u image) (sym is) stands)))
-  new_file image out (inr (old, range)) none silent stands = absurd (nothing_stands t (subst (λ (l : List ℕ). StandsForTables t l) none old))
+  new_file image out (inr (old, range, rows)) none silent stands = absurd (nothing_stands t (subst (λ (l : List ℕ). StandsForTables t l) none old))
 
   in_opening : (image out : List ℕ) → StartsFrom a.holds t → IsOpening a la image out → IsCutOfRun t cs a image out
   in_opening image out starts o = ⊎_elim (λ left. as_it_was image out starts (only image left) o.silent) (λ made. made_cut made) o.file

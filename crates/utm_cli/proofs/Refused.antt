@@ -1,5 +1,5 @@
 -- Which error came before an error that was handed on.
-use Rattle.std.proofs.Common.{◌≡◌, Result, Ok, Err, refl, sym, ◌∙◌}
+use Rattle.std.proofs.Common.{◌≡◌, Result, Ok, Err, refl}
 use Rattle.std.specs.Prelude.{IsErrOf, IsErrAnd}
 use Rattle.kdcfile_images.specs.declared.fault.LoadError.{LoadError}
 use Rattle.kdcfile_images.specs.declared.fault.LoadError.TheVariants as load

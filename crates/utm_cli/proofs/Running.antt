@@ -1,24 +1,30 @@
 -- How acts go on from one another.
-use Rattle.std.proofs.Common.{◌≡◌, ◌⊎◌, inl, inr, ⊎_elim, ℕ, ◌+◌, ◌≤◌, ◌<◌, List, [], ◌∷◌, ◌++◌, length, take, drop, get_or, refl, sym, ap, subst, ◌∙◌, arith, append_assoc}
-use Rattle.std.specs.Prelude.{IsTrue}
-use Rattle.std.proofs.lemmas.List.{append-nil, take-append-drop, drop_more, take_more, take_all}
-use Rattle.kd_device.specs.Device.{State, Frame, SameNames, LeavesOnly}
+use Rattle.std.proofs.Common.{◌≡◌, inl, inr, ℕ, ◌+◌, ◌<◌, List, [], ◌∷◌, ◌++◌, length, take, drop, get_or, refl, sym, ap, subst, ◌∙◌, arith, append_assoc}
+use Rattle.std.specs.Prelude.{IsTrue, Bool, true, false, zero, suc, nat_le}
+use Rattle.std.specs.List.{All}
+use Rattle.std.proofs.lemmas.List.{append-nil, take-append-drop, drop_more, take_more}
+use Rattle.kd_device.specs.Device.{State, LeavesOnly}
 use Rattle.kd_device.specs.Time.{leaves_weaker, leaves_then}
 use Rattle.kd_records.specs.declared.content.Content.{Content}
 use Rattle.kd_records.specs.declared.content.Patch.{Patch}
 use Rattle.kd_records.specs.Contents.{Record, patched}
 use Rattle.kdcfile_store.specs.Kept.{IsKept, OldOrNew}
 use Rattle.kdcs_types.specs.declared.act.Act.{Act}
-use Rattle.kdcs_types.specs.declared.act.Act.TheVariants.{Commit, Emit}
+use Rattle.kdcs_types.specs.declared.act.Act.TheVariants.{Commit}
 use Rattle.kdcs_types.specs.declared.act.Changes.{Changes}
 use Rattle.kdcs_types.specs.declared.tables.Tables.{Tables}
 use Rattle.kdcs_types.specs.declared.command.Command.{Command}
-use Rattle.monitor_core.specs.Monitor.{State as MonitorState, command_of}
-use Rattle.monitor_core.specs.Trace.{trace, state_after, changed, tables_after, bytes_of}
+use Rattle.kdcs_types.specs.declared.command.Command.TheVariants.{Tick}
+use Rattle.kdcs_types.specs.Limits.{last_clock}
+use Rattle.monitor_core.specs.Monitor.{State as MonitorState, command_of, ticked}
+use Rattle.kdcs_types.specs.declared.act.Change.{Change}
+use Rattle.kdcs_types.specs.Tables.{changed, with_changes}
+use Rattle.kdcs_types.specs.RowLaws.{numbers_changed}
+use Rattle.monitor_core.specs.Trace.{trace, state_after, tables_after, bytes_of}
 use Rattle.monitor_core.specs.Cut.{IsCutSince}
-use Rattle.monitor_core.specs.Laws.{tables_joined, bytes_joined, trace_joined, state_joined, cut_none, cut_after, cut_within_line, cut_of_part}
-use Rattle.utm_cli.specs.Stored.{content_of, tables_in}
-use Rattle.utm_cli.specs.Performing.{Performs, Performed}
+use Rattle.monitor_core.specs.Laws.{tables_joined, bytes_joined, trace_joined, state_joined, cut_none, cut_after, cut_of_part}
+use Rattle.utm_cli.specs.Stored.{content_of, tables_in, HasNoRows}
+use Rattle.utm_cli.specs.Performing.{ChangesNoRow, Performs, Performed}
 
 -- a commit that was whole or absent
 pub commit_cut : (st : Content → List ℕ → Type 0) (x : Content) (ch : Changes) (sent c out : List ℕ) → x ≡ content_of (tables_in x) → OldOrNew st x (content_of (changed (tables_in x) ch)) sent c out
@@ -36,7 +42,14 @@ pub patched_is : (x : Content) (p : Patch) (ch : Changes) → x ≡ content_of (
 patched_is x p ch is same =
     let rows : x.items ≡ [] = ap (λ (y : Content). y.items) is in
     let with_rows : List Record → Content = λ rows. record { clock = ch.clock; next_job = ch.next_job; items = rows } in
-    ap (λ (q : Patch). patched x q) same ∙ ap with_rows rows
+    let numbers = numbers_changed (tables_in x) ch in
+    let with_numbers : content_of (changed (tables_in x) ch) ≡ record { clock = ch.clock; next_job = ch.next_job; items = [] } = λ i. record { clock = numbers.0 i; next_job = numbers.1 i; items = [] } in
+    ap (λ (q : Patch). patched x q) same ∙ ap with_rows rows ∙ sym with_numbers
+
+-- a commit that changes no row leaves none
+pub no_row_after : (x : Content) (ch : Changes) → ch.items ≡ [] → HasNoRows (changed (tables_in x) ch)
+no_row_after x ch none =
+    subst (λ (items : List Change). HasNoRows (with_changes (record (tables_in x) { clock = ch.clock; next_job = ch.next_job }) items)) (sym none) refl
 
 pub committing_patch : (st : Content → List ℕ → Type 0) (x : Content) (p : Patch) (ch : Changes) (a b : State) (la lb : ℕ → List ℕ → List ℕ → Type 0) → x ≡ content_of (tables_in x) → p ≡ record { clock = ch.clock; next_job = ch.next_job; items = [] } → LeavesOnly a b la lb (OldOrNew st x (patched x p) a.sent)
     → LeavesOnly a b la lb (IsCutSince (λ t image. st (content_of t) image) (tables_in x) (Commit ch ∷ []) a.sent)
@@ -50,12 +63,12 @@ pub record Running (stands : Tables → List ℕ → Type 0) (file : List ℕ �
 pub running_start : (stands : Tables → List ℕ → Type 0) (file : List ℕ → Type 0) (x : Content) (all : List Act) (a : State) (la : ℕ → List ℕ → List ℕ → Type 0) → x ≡ content_of (tables_in x) → (IsTrue a.told → IsKept file a la) → Running stands file x (tables_in x) all [] a a la la
 running_start stands file x all a la is kept = record {
   performs = record { frame = record { told = refl; disk_faults = omega arith; line_faults = omega arith }; names = refl; any_moment = λ told. record { later = omega arith; only = λ u c out le left. inl left } };
-  performed = record { tables = is; rest = kept; sent = λ told. sym (append-nil a.sent) };
+  performed = record { tables = is; rows = refl; rest = kept; sent = λ told. sym (append-nil a.sent) };
 }
 
 module _ (stands : Tables → List ℕ → Type 0) (file : List ℕ → Type 0) (x : Content) (t : Tables) (all done here rest : List Act) (a b d : State) (la lb ld : ℕ → List ℕ → List ℕ → Type 0) (split : all ≡ done ++ (here ++ rest)) (run : Running stands file x t all done a b la lb) (step : Performs stands (tables_in x) here b d lb ld) where
   here_tables : tables_in x ≡ tables_after t done
-  here_tables = ap tables_in run.performed.tables
+  here_tables = ap tables_in run.performed.tables ∙ sym run.performed.rows
 
   told_then : IsTrue a.told → IsTrue b.told
   told_then told = rw run.performs.frame.told told
@@ -77,6 +90,7 @@ module _ (stands : Tables → List ℕ → Type 0) (file : List ℕ → Type 0) 
     performs = running_performs;
     performed = record {
       tables = h.tables ∙ ap (λ (u : Tables). content_of (tables_after u here)) here_tables ∙ ap content_of (sym (tables_joined t done here));
+      rows = subst HasNoRows (ap (λ (u : Tables). tables_after u here) here_tables ∙ sym (tables_joined t done here)) h.rows;
       rest = λ told. h.rest (told_then told);
       sent = λ told. h.sent (told_then told) ∙ ap (λ (s : List ℕ). s ++ bytes_of here) (run.performed.sent told) ∙ append_assoc a.sent (bytes_of done) (bytes_of here) ∙ ap (λ (s : List ℕ). a.sent ++ s) (sym (bytes_joined done here));
     };
@@ -100,3 +114,14 @@ module _ (s now : MonitorState) (cs : List Command) (i : ℕ) (d : Command) (lt 
 
   pub state_more : state_after s (take (i + 1) cs) ≡ (command_of now (get_or cs i d)).state
   state_more = rw core (ap (λ l. state_after s l) (one_more cs i d (get_or cs i d) refl lt) ∙ state_joined s (take i cs) (get_or cs i d ∷ []))
+
+-- the acts of a command change no row
+ticks_change_no_row : (b : Bool) (s : MonitorState) (clock : ℕ) → All ChangesNoRow (ticked b s clock).acts
+ticks_change_no_row true s clock zero d lt = refl
+ticks_change_no_row true s clock (suc zero) d lt = tt
+ticks_change_no_row true s clock (suc (suc k)) d lt = absurd (omega arith)
+ticks_change_no_row false s clock zero d lt = tt
+ticks_change_no_row false s clock (suc k) d lt = absurd (omega arith)
+
+pub commands_change_no_row : (s : MonitorState) (c : Command) → All ChangesNoRow (command_of s c).acts
+commands_change_no_row s (Tick n) = ticks_change_no_row (nat_le (s.tables.clock + n) last_clock) s (s.tables.clock + n)

@@ -5,7 +5,7 @@ use Rattle.kdcfile_images.specs.File.{StandsFor, IsNoImage, fresh}
 use Rattle.kdcs_types.specs.declared.tables.Tables.{Tables}
 use Rattle.kdcs_types.specs.Limits.{IsInRange}
 use Rattle.kdcfile_store.specs.Whole.{Whole}
-use Rattle.utm_cli.specs.Stored.{identity, content_of}
+use Rattle.utm_cli.specs.Stored.{identity, content_of, HasNoRows}
 
 -- within the making of an empty file: it is no image yet, or has the empty tables
 pub record IsBeingMade (a : State) (image : List ℕ) : Type 0 where
@@ -22,6 +22,7 @@ pub record KeepsTables (store : Whole) (t : Tables) : Type 0 where
   pub identity_is : store.identity ≡ identity
   pub content : store.content ≡ content_of t
   pub range : IsInRange t
+  pub rows : HasNoRows t
 
 -- this name, or none, was handed to attach
 abbrev pub MayAttach : List ℕ → State → State → Type 0

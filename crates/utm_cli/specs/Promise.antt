@@ -1,5 +1,5 @@
 -- The words in which the top call promises.
-use Rattle.std.specs.Prelude.{◌≡◌, ◌⊎◌, ℕ, Bool, nat_eq, IsTrue, List, [], ◌∷◌, ◌++◌, Option, Some, None, Result, Ok, Err}
+use Rattle.std.specs.Prelude.{◌≡◌, ◌⊎◌, ℕ, nat_eq, IsTrue, List, [], ◌∷◌, ◌++◌, Some, None, Result}
 use Rattle.std.specs.List.{list_any}
 use Rattle.kd_device.specs.Device.{State, Only}
 use Rattle.kd_device.specs.Room.{RoomState, text_of}
@@ -11,7 +11,7 @@ use Rattle.monitor_core.specs.Monitor.{started}
 use Rattle.monitor_core.specs.Trace.{trace, state_after, bytes_of}
 use Rattle.monitor_core.specs.Cut.{IsCutSince}
 use Rattle.utm_cli.specs.Words.{request_of, script_name, file_name}
-use Rattle.utm_cli.specs.Stored.{StandsForTables, StartsFrom, IsUnmade}
+use Rattle.utm_cli.specs.Stored.{StandsForTables, IsUnmade}
 
 -- the status is one of these
 abbrev pub IsOneOf : List ℕ → ℕ → Type 0

@@ -10,10 +10,11 @@ ghost use Rattle.utm_cli.specs.Stored.{StartsFrom, IsRefused, StandsForTables, i
 ghost use Rattle.utm_cli.specs.Opening.{IsOpening, KeepsTables, MayAttach};
 
 use crate::error::OpenError;
+use kd_base::OutOfMemory;
 use kd_device::Device;
 use kd_records::Content;
 use kdcfile_store::{Store, StoreLimits, WholeStore};
-use kdcs_types::Tables;
+use kdcs_types::{Changes, RowChanges, Tables};
 use std::alloc::Global;
 
 /// What a KDCFILE is made with until a definition says it: BLKSIZE in bytes and PGPOOL in pages.
@@ -48,13 +49,26 @@ fn attached<D: Device>(device: &mut D, name: &[u8]) -> Result<u64, OpenError>
     Ok(device.size()?)
 }
 
+/// The tables of these numbers, with no rows.
+fn without_rows(alloc: Global, clock: u64, next_job: u64) -> Result<Tables, OutOfMemory>
+    ensures { IfOk result (λ t. t ≡ record empty_tables { clock = clock; next_job = next_job }) }
+{
+    let mut tables = Tables::empty(alloc);
+    tables.change(&Changes {
+        clock,
+        next_job,
+        items: RowChanges::new(alloc),
+    })?;
+    Ok(tables)
+}
+
 /// The tables that a store keeps, where its file is one of this application.
-fn tables_of(store: &WholeStore) -> Option<Tables>
-    ensures some { IfSome result (λ t. KeepsTables store.now t) }
-    ensures none { IfNone result ((t : Tables) → KeepsTables store.now t → ⊥) }
+fn tables_of(alloc: Global, store: &WholeStore) -> Result<Option<Tables>, OutOfMemory>
+    ensures some { IfOk result (λ o. IfSome o (λ t. KeepsTables store.now t)) }
+    ensures none { IfOk result (λ o. IfNone o ((t : Tables) → KeepsTables store.now t → ⊥)) }
 {
     if store.limits() != LIMITS || *store.fingerprint() != FINGERPRINT {
-        return None;
+        return Ok(None);
     }
     let content = store.kept();
     let clock = content.clock;
@@ -64,9 +78,10 @@ fn tables_of(store: &WholeStore) -> Option<Tables>
         || next_job == 0
         || next_job > LAST_NEXT_JOB
     {
-        return None;
+        return Ok(None);
     }
-    Some(Tables { clock, next_job })
+    let tables = without_rows(alloc, clock, next_job)?;
+    Ok(Some(tables))
 }
 
 /// Makes the empty file, with the empty tables.
@@ -84,13 +99,7 @@ fn make<D: Device>(alloc: Global, device: &mut D) -> Result<(WholeStore, Tables)
     ensures names { SameNames (D.state device.old) (D.state device.new) }
 {
     let store = WholeStore::create(alloc, device, &LIMITS, &FINGERPRINT)?;
-    Ok((
-        store,
-        Tables {
-            clock: 0,
-            next_job: 1,
-        },
-    ))
+    Ok((store, Tables::empty(alloc)))
 }
 
 /// Opens the file that is there.
@@ -105,7 +114,8 @@ fn warm<D: Device>(alloc: Global, device: &mut D) -> Result<(WholeStore, Tables)
     ensures names { SameNames (D.state device.old) (D.state device.new) }
 {
     let store = WholeStore::load(alloc, device)?;
-    match tables_of(&store) {
+    let found = tables_of(alloc, &store)?;
+    match found {
         Some(tables) => Ok((store, tables)),
         None => Err(OpenError::NotKdcfile),
     }

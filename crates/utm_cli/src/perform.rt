@@ -1,12 +1,13 @@
 //! The acts of a script: commits to the store, and lines that are sent, in their order.
+ghost use Rattle.std.specs.List.{All};
 ghost use Rattle.std.specs.Prelude.{◌≡◌, ◌⊎◌, ◌++◌, ◌∷◌, [], List, ℕ, IsTrue, OnOk, IsErrOf};
 ghost use Rattle.kd_device.specs.Device.{State, Rose};
 ghost use Rattle.kdcfile_store.specs.Kept.{IsKept};
 ghost use Rattle.kdcs_types.specs.Limits.{IsInRange};
 ghost use Rattle.monitor_core.specs.Monitor.{started};
 ghost use Rattle.monitor_core.specs.Trace.{trace};
-ghost use Rattle.utm_cli.specs.Stored.{content_of, tables_in};
-ghost use Rattle.utm_cli.specs.Performing.{Performs, Performed};
+ghost use Rattle.utm_cli.specs.Stored.{content_of, tables_in, HasNoRows};
+ghost use Rattle.utm_cli.specs.Performing.{ChangesNoRow, Performs, Performed};
 
 use crate::error::RunError;
 use crate::say::say;
@@ -35,6 +36,7 @@ fn perform_act<D: Device, S: Store<D>>(
     store: &mut S,
     act: &Act,
 ) -> Result<(), RunError>
+    requires rows { ChangesNoRow act.now }
     requires kept { IsTrue (D.state device.old).told → IsKept (S.file store.old) (D.state device.old) (D.leaves device.old) }
     requires tables { S.kept store.old ≡ content_of (tables_in (S.kept store.old)) }
     ensures identity { S.identity store.new ≡ S.identity store.old }
@@ -59,6 +61,7 @@ fn perform_acts<D: Device, S: Store<D>>(
     store: &mut S,
     acts: &[Act],
 ) -> Result<(), RunError>
+    requires rows { All ChangesNoRow acts.now }
     requires kept { IsTrue (D.state device.old).told → IsKept (S.file store.old) (D.state device.old) (D.leaves device.old) }
     requires tables { S.kept store.old ≡ content_of (tables_in (S.kept store.old)) }
     ensures identity { S.identity store.new ≡ S.identity store.old }
@@ -83,6 +86,7 @@ pub(crate) fn perform_script<D: Device, S: Store<D>>(
     requires range { IsInRange tables }
     requires kept { IsTrue (D.state device.old).told → IsKept (S.file store.old) (D.state device.old) (D.leaves device.old) }
     requires tables { S.kept store.old ≡ content_of tables }
+    requires rows { HasNoRows tables }
     ensures identity { S.identity store.new ≡ S.identity store.old }
     ensures any { Performs (λ t c. S.stands (S.identity store.old) (content_of t) c) tables (trace (started tables) commands.now) (D.state device.old) (D.state device.new) (D.leaves device.old) (D.leaves device.new) }
     ensures done { OnOk result (Performed (S.file store.new) (S.kept store.new) tables (trace (started tables) commands.now) (D.state device.old) (D.state device.new) (D.leaves device.new)) }

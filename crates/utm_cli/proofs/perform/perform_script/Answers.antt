@@ -1,11 +1,11 @@
-use Rattle.std.proofs.Common.{◌≡◌, ◌∙◌, ◌+◌, ◌++◌, sym, ap, subst, take, drop, get_or, arith, List, ℕ}
+use Rattle.std.proofs.Common.{◌≡◌, ◌∙◌, ◌+◌, sym, subst, take, drop, get_or, List, ℕ}
 use Rattle.kd_records.specs.Identity.{Identity}
 use Rattle.kdcs_types.specs.declared.act.Act.{Act}
 use Rattle.kdcs_types.specs.declared.command.Command.{Command}
 use Rattle.kdcs_types.specs.declared.command.Command.TheVariants.{Tick}
 use Rattle.kdcs_types.specs.declared.tables.Tables.{Tables}
 use Rattle.monitor_core.specs.Monitor.{started, command_of}
-use Rattle.monitor_core.specs.Trace.{trace, state_after}
+use Rattle.monitor_core.specs.Trace.{trace}
 use Rattle.utm_cli.specs.Performing.{Performs, Performed}
 use Rattle.utm_cli.specs.Stored.{content_of, tables_in}
 use Rattle.utm_cli.proofs.Running.{Running, running_performs, running_more, trace_around, trace_more, state_more}

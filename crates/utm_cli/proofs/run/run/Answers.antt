@@ -1,4 +1,4 @@
-use Rattle.std.proofs.Common.{◌≡◌, ◌∙◌, sym, ap, Err}
+use Rattle.std.proofs.Common.{ap, Err}
 use Rattle.std.specs.Prelude.{IsTrue}
 use Rattle.kdcfile_images.specs.ReadImages.{one_meaning}
 use Rattle.utm_cli.specs.declared.error.OpenError.{OpenError}

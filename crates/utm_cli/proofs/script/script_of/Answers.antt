@@ -1,7 +1,5 @@
-use Rattle.std.proofs.Common.{◌≡◌, ◌∙◌, ◌++◌, sym, ap, subst, List, ℕ, Result, Ok, Err}
-use Rattle.std.specs.Prelude.{IsTrue, IsSomeAnd}
+use Rattle.std.proofs.Common.{◌≡◌, ◌∙◌, sym, ap, Ok, Err}
 use Rattle.kd_device.specs.Room.{text_of}
-use Rattle.kdcs_types.specs.declared.command.Command.{Command}
 use Rattle.script_read.specs.declared.fault.ScriptFault.{ScriptFault}
 use Rattle.script_read.specs.Script.{script}
 use Rattle.utm_cli.specs.Words.{script_name}

@@ -1,4 +1,4 @@
-use Rattle.std.proofs.Common.{◌≡◌, ◌∙◌, ◌++◌, ⊎_elim, inl, inr, sym, ap, subst, map, List, ℕ, Option, Some, Result, Ok, Err, refl, arith}
+use Rattle.std.proofs.Common.{◌≡◌, ◌∙◌, ⊎_elim, inl, inr, sym, ap, subst, map, List, Some, Ok, Err}
 use Rattle.std.specs.Prelude.{IsTrue}
 use Rattle.std.specs.String.{string_bytes}
 use Rattle.kdcs_types.specs.declared.command.Command.{Command}

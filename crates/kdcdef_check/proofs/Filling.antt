@@ -1,0 +1,67 @@
+-- Tables that were filled from the statements so far.
+use Rattle.std.proofs.Common.{◌≡◌, ◌+◌, ◌<◌, ◌||◌, ℕ, refl, sym, ◌∙◌, ap, Bool, nat_eq, bytes_eq, is_some, List, [], ◌∷◌, ◌++◌, length, take, get_or, Option, filter_map}
+use Rattle.std.specs.List.{cons_option, list_any}
+use Rattle.std.specs.Map.{lookup}
+use Rattle.std.proofs.lemmas.List.Sums.{fold-append}
+use Rattle.kdcdef_types.specs.declared.entry.PtermEntry.{PtermEntry}
+use Rattle.kdcdef_types.specs.declared.statement.Said.{Said}
+use Rattle.kdcdef_types.specs.declared.statement.Said.TheVariants.{Pterm}
+use Rattle.kdcdef_types.specs.declared.statement.Statement.{Statement}
+use Rattle.kdcdef_check.specs.declared.tables.Tables.{Tables}
+use Rattle.kdcdef_check.specs.Generating.{as_program, as_tac, as_user, as_pterm, as_lterm, as_tls, as_uls, as_class, said_as, generated}
+use Rattle.kdcdef_check.specs.Steps.{put, put_key, table_of, keys_table, lterm_said, IsAdded, AreFilled, HaveNames}
+use Rattle.kdcdef_check.proofs.Names.{exact_numbers, exact_bytes, there-table_of, among-keys_table}
+use Rattle.kdcdef_check.proofs.Passing.{next_taken}
+
+pub table_of-push : {K V : Type 0} (eq : K → K → Bool) (f : Statement → Option (K × V)) (ss : List Statement) (s : Statement) → table_of eq f (ss ++ s ∷ []) ≡ put eq (f s) (table_of eq f ss)
+table_of-push {K} {V} eq f ss s = fold-append (λ (entries : List (K × V)) (s : Statement). put eq (f s) entries) [] ss (s ∷ [])
+
+pub keys_table-push : {K : Type 0} (eq : K → K → Bool) (f : Statement → Option K) (ss : List Statement) (s : Statement) → keys_table eq f (ss ++ s ∷ []) ≡ put_key eq (f s) (keys_table eq f ss)
+keys_table-push {K} eq f ss s = fold-append (λ (keys : List K) (s : Statement). put_key eq (f s) keys) [] ss (s ∷ [])
+
+-- a table, and the same with one more statement
+further : {K V : Type 0} (eq : K → K → Bool) (f : Statement → Option (K × V)) (ss : List Statement) (s : Statement) (old new : List (K × V)) → old ≡ table_of eq f ss → new ≡ put eq (f s) old → new ≡ table_of eq f (ss ++ s ∷ [])
+further eq f ss s old new was is = is ∙ ap (put eq (f s)) was ∙ sym (table_of-push eq f ss s)
+
+further_keys : {K : Type 0} (eq : K → K → Bool) (f : Statement → Option K) (ss : List Statement) (s : Statement) (old new : List K) → old ≡ keys_table eq f ss → new ≡ put_key eq (f s) old → new ≡ keys_table eq f (ss ++ s ∷ [])
+further_keys eq f ss s old new was is = is ∙ ap (put_key eq (f s)) was ∙ sym (keys_table-push eq f ss s)
+
+filled_further : (ss : List Statement) (s : Statement) (old new : Tables) → AreFilled old ss → IsAdded old new s.line s.said → AreFilled new (ss ++ s ∷ [])
+filled_further ss s old new was added = record {
+  programs = further bytes_eq (λ (s : Statement). as_program s.line s.said) ss s _ _ was.programs added.programs;
+  tacs = further bytes_eq (λ (s : Statement). as_tac s.said) ss s _ _ was.tacs added.tacs;
+  users = further bytes_eq (λ (s : Statement). as_user s.said) ss s _ _ was.users added.users;
+  pterms = further bytes_eq (λ (s : Statement). as_pterm s.said) ss s _ _ was.pterms added.pterms;
+  lterms = further bytes_eq (λ (s : Statement). as_lterm s.said) ss s _ _ was.lterms added.lterms;
+  classes = further nat_eq (λ (s : Statement). as_class s.said) ss s _ _ was.classes added.classes;
+  tls = further_keys bytes_eq (λ (s : Statement). as_tls s.said) ss s _ _ was.tls added.tls;
+  uls = further_keys bytes_eq (λ (s : Statement). as_uls s.said) ss s _ _ was.uls added.uls;
+  served = further_keys bytes_eq (λ (s : Statement). lterm_said s.said) ss s _ _ was.served added.served;
+}
+
+-- the tables of the loop, one statement further
+pub next_filled : (ss : List Statement) (i : ℕ) (s : Statement) (old new : Tables) → i < length ss → s ≡ get_or ss i s → AreFilled old (take i ss) → IsAdded old new s.line s.said → AreFilled new (take (i + 1) ss)
+next_filled ss i s old new within is was added = rw (next_taken ss i s within is) (filled_further (take i ss) s old new was added)
+
+-- an LTERM is among those of the PTERMs
+served_so : (said : Said) (name : List ℕ) (ks : List (List ℕ)) (ps : List (List ℕ × PtermEntry)) → list_any (bytes_eq name) ks ≡ list_any (λ (p : List ℕ × PtermEntry). bytes_eq name p.1.lterm) ps → list_any (bytes_eq name) (cons_option (lterm_said said) ks) ≡ list_any (λ (p : List ℕ × PtermEntry). bytes_eq name p.1.lterm) (cons_option (as_pterm said) ps)
+served_so (Pterm n entry) name ks ps h = ap (λ b. bytes_eq name entry.lterm || b) h
+served_so _ name ks ps h = h
+
+served_by : (ss : List Statement) (name : List ℕ) → list_any (bytes_eq name) (filter_map (λ (s : Statement). lterm_said s.said) ss) ≡ list_any (λ (p : List ℕ × PtermEntry). bytes_eq name p.1.lterm) (said_as as_pterm ss)
+served_by [] name = refl
+served_by (s ∷ ss) name = served_so s.said name (filter_map (λ (s : Statement). lterm_said s.said) ss) (said_as as_pterm ss) (served_by ss name)
+
+-- the tables that the statements filled have the names of what these generate
+pub filled_names : (t : Tables) (ss : List Statement) → AreFilled t ss → HaveNames t (generated ss)
+filled_names t ss filled = record {
+  programs = λ (name : List ℕ). ap (λ (es : List (List ℕ × _)). is_some (lookup (bytes_eq name) es)) filled.programs ∙ there-table_of bytes_eq exact_bytes (λ (s : Statement). as_program s.line s.said) ss name;
+  tacs = λ (name : List ℕ). ap (λ (es : List (List ℕ × _)). is_some (lookup (bytes_eq name) es)) filled.tacs ∙ there-table_of bytes_eq exact_bytes (λ (s : Statement). as_tac s.said) ss name;
+  users = λ (name : List ℕ). ap (λ (es : List (List ℕ × _)). is_some (lookup (bytes_eq name) es)) filled.users ∙ there-table_of bytes_eq exact_bytes (λ (s : Statement). as_user s.said) ss name;
+  pterms = λ (name : List ℕ). ap (λ (es : List (List ℕ × _)). is_some (lookup (bytes_eq name) es)) filled.pterms ∙ there-table_of bytes_eq exact_bytes (λ (s : Statement). as_pterm s.said) ss name;
+  lterms = λ (name : List ℕ). ap (λ (es : List (List ℕ × _)). is_some (lookup (bytes_eq name) es)) filled.lterms ∙ there-table_of bytes_eq exact_bytes (λ (s : Statement). as_lterm s.said) ss name;
+  classes = λ (class : ℕ). ap (λ (es : List (ℕ × ℕ)). is_some (lookup (nat_eq class) es)) filled.classes ∙ there-table_of nat_eq exact_numbers (λ (s : Statement). as_class s.said) ss class;
+  tls = λ (name : List ℕ). ap (λ (ks : List (List ℕ)). list_any (bytes_eq name) ks) filled.tls ∙ among-keys_table bytes_eq exact_bytes (λ (s : Statement). as_tls s.said) ss name;
+  uls = λ (name : List ℕ). ap (λ (ks : List (List ℕ)). list_any (bytes_eq name) ks) filled.uls ∙ among-keys_table bytes_eq exact_bytes (λ (s : Statement). as_uls s.said) ss name;
+  served = λ (name : List ℕ). ap (λ (ks : List (List ℕ)). list_any (bytes_eq name) ks) filled.served ∙ among-keys_table bytes_eq exact_bytes (λ (s : Statement). lterm_said s.said) ss name ∙ served_by ss name;
+}

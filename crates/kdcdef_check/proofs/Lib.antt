@@ -1,0 +1,15 @@
+pub mod Options
+pub mod Passing
+pub mod GivenOperands
+pub mod Names
+pub mod Filling
+pub mod FirstOfFaults
+pub mod Tallies
+pub mod Chains
+pub mod Counting
+pub mod Faultless
+pub mod Exact
+pub mod Apart
+pub mod Sound
+pub mod Answered
+pub mod PassedOperands

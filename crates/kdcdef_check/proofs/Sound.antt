@@ -1,0 +1,160 @@
+-- What the statements generate keeps its ranges, where they have no fault.
+use Rattle.std.proofs.Common.{◌≡◌, ℕ, suc, ◌≤◌, ◌==◌, refl, sym, subst, inl, inr, arith, Bool, true, false, not, nat_lt, List, [], ◌∷◌, length, Option, Some, None, is_some, is_none, filter_map, IsTrue, unwrap_or}
+use Rattle.std.specs.Prelude.{IfSome}
+use Rattle.std.specs.List.{All, cons_option}
+use Rattle.std.specs.Map.{values_of}
+use Rattle.std.specs.Option.{option_or}
+use Rattle.std.proofs.lemmas.Bool.Decides.{nat_tests}
+use Rattle.std.proofs.lemmas.List.Elements.{All-cons, All-nil}
+use Rattle.kd_base.specs.Tools.{some_is}
+use Rattle.kdcdef_types.specs.declared.entry.TacEntry.{TacEntry}
+use Rattle.kdcdef_types.specs.declared.entry.UserEntry.{UserEntry}
+use Rattle.kdcdef_types.specs.declared.entry.PtermEntry.{PtermEntry}
+use Rattle.kdcdef_types.specs.declared.statement.MaxOperands.{MaxOperands}
+use Rattle.kdcdef_types.specs.declared.statement.Said.{Said}
+use Rattle.kdcdef_types.specs.declared.statement.Said.TheVariants.{Max, Tac, User, Pterm, TacClass}
+use Rattle.kdcdef_types.specs.declared.statement.Statement.{Statement}
+use Rattle.kdcdef_types.specs.Statements.{IsWithin, IsBlksize, IsMaxInRange, IsTacInRange, IsUserInRange, IsInRange, AreRead}
+use Rattle.kdcdef_types.specs.Generation.{Generated, entry_of, lterm_of}
+use Rattle.kdcdef_check.specs.declared.fault.CheckFault.TheVariants.{NoProgram, NoLterm, ClassOfWrongKind}
+use Rattle.kdcdef_check.specs.Soundness.{AreLimits, IsSound, AreCounted, fits_kind}
+use Rattle.kdcdef_check.specs.Generating.{as_tac, as_user, as_pterm, as_lterm, as_class, said_as, programs_said, nothing_given, operands_said, both_given, max_given, with_defaults, generated}
+use Rattle.kdcdef_check.specs.Faults.{lacks_program, lacks_lterm, has_other_class, AreFaultless}
+use Rattle.kdcdef_check.proofs.Counting.{program_count, tac_count, user_count, pterm_count, lterm_count, passed_statements}
+use Rattle.kdcdef_check.proofs.Faultless.{not_shown, all_at, few, some_user_said, pool_said}
+use Rattle.kdcdef_check.proofs.Apart.{names_apart}
+
+-- ---- lists
+
+all_head : {A : Type 0} (P : A → Type 0) (x : A) (xs : List A) → All P (x ∷ xs) → P x
+all_head P x xs h = h 0 x (omega arith)
+
+all_tail : {A : Type 0} (P : A → Type 0) (x : A) (xs : List A) → All P (x ∷ xs) → All P xs
+all_tail P x xs h = λ k d below. h (suc k) d (omega (arith, below))
+
+values_cons : {K V : Type 0} (Q : V → Type 0) (o : Option (K × V)) (es : List (K × V)) → ((p : K × V) → o ≡ Some p → Q p.1) → All Q (values_of es) → All Q (values_of (cons_option o es))
+values_cons Q None es h rest = rest
+values_cons Q (Some p) es h rest = All-cons Q p.1 (values_of es) (h p refl) rest
+
+-- what holds of the statements holds of the entries that they make
+values_keep : {K V : Type 0} (P : Statement → Type 0) (Q : V → Type 0) (f : Statement → Option (K × V)) → ((s : Statement) (p : K × V) → f s ≡ Some p → P s → Q p.1) → (ss : List Statement) → All P ss → All Q (values_of (filter_map f ss))
+values_keep P Q f h [] all = All-nil Q
+values_keep P Q f h (s ∷ ss) all = values_cons Q (f s) (filter_map f ss) (λ p e. h s p e (all_head P s ss all)) (values_keep P Q f h ss (all_tail P s ss all))
+
+-- ---- the limits
+
+in_either : {A : Type 0} (P : A → Type 0) (x y : Option A) → IfSome x P → IfSome y P → IfSome (option_or x y) P
+in_either P None y h i = i
+in_either P (Some x) y h i = h
+
+or_default : {A : Type 0} (P : A → Type 0) (x : Option A) (d : A) → IfSome x P → P d → P (unwrap_or x d)
+or_default P None d h i = i
+or_default P (Some x) d h i = h
+
+nothing_in_range : IsMaxInRange nothing_given
+nothing_in_range = record { tasks = tt; asyntasks = tt; gssbs = tt; lssbs = tt; kb = tt; spab = tt; nb = tt; pgpool = tt; reswait = tt; blksize = tt }
+
+said_in_range : (said : Said) → IsInRange said → IsMaxInRange (operands_said said)
+said_in_range (Max m) h = h
+said_in_range _ h = nothing_in_range
+
+both_in_range : (a b : MaxOperands) → IsMaxInRange a → IsMaxInRange b → IsMaxInRange (both_given a b)
+both_in_range a b h i = record {
+  tasks = in_either (IsWithin 1 240) a.tasks b.tasks h.tasks i.tasks;
+  asyntasks = in_either (IsWithin 0 240) a.asyntasks b.asyntasks h.asyntasks i.asyntasks;
+  gssbs = in_either (IsWithin 0 30000) a.gssbs b.gssbs h.gssbs i.gssbs;
+  lssbs = in_either (IsWithin 0 1000) a.lssbs b.lssbs h.lssbs i.lssbs;
+  kb = in_either (IsWithin 0 32767) a.kb b.kb h.kb i.kb;
+  spab = in_either (IsWithin 0 32767) a.spab b.spab h.spab i.spab;
+  nb = in_either (IsWithin 1 32700) a.nb b.nb h.nb i.nb;
+  pgpool = in_either (IsWithin 16 30000) a.pgpool b.pgpool h.pgpool i.pgpool;
+  reswait = in_either (IsWithin 0 32767) a.reswait b.reswait h.reswait i.reswait;
+  blksize = in_either IsBlksize a.blksize b.blksize h.blksize i.blksize;
+}
+
+max_in_range : (ss : List Statement) → All (λ (s : Statement). IsInRange s.said) ss → IsMaxInRange (max_given ss)
+max_in_range [] h = nothing_in_range
+max_in_range (s ∷ ss) h =
+    both_in_range (operands_said s.said) (max_given ss) (said_in_range s.said (all_head (λ (t : Statement). IsInRange t.said) s ss h)) (max_in_range ss (all_tail (λ (t : Statement). IsInRange t.said) s ss h))
+
+limits_in_range : (m : MaxOperands) → IsMaxInRange m → AreLimits (with_defaults m)
+limits_in_range m h = record {
+  tasks = or_default (IsWithin 1 240) m.tasks 1 h.tasks (omega arith, omega arith);
+  asyntasks = (or_default (IsWithin 0 240) m.asyntasks 1 h.asyntasks (omega arith, omega arith)).1;
+  gssbs = (or_default (IsWithin 0 30000) m.gssbs 32 h.gssbs (omega arith, omega arith)).1;
+  lssbs = (or_default (IsWithin 0 1000) m.lssbs 8 h.lssbs (omega arith, omega arith)).1;
+  kb = (or_default (IsWithin 0 32767) m.kb 512 h.kb (omega arith, omega arith)).1;
+  spab = (or_default (IsWithin 0 32767) m.spab 512 h.spab (omega arith, omega arith)).1;
+  nb = or_default (IsWithin 1 32700) m.nb 2048 h.nb (omega arith, omega arith);
+  pgpool = or_default (IsWithin 16 30000) m.pgpool 100 h.pgpool (omega arith, omega arith);
+  reswait = (or_default (IsWithin 0 32767) m.reswait 60 h.reswait (omega arith, omega arith)).1;
+  blksize = or_default IsBlksize m.blksize 4096 h.blksize (inr (inl refl));
+}
+
+-- ---- the entries
+
+tac_ranges : (said : Said) (p : List ℕ × TacEntry) → as_tac said ≡ Some p → IsInRange said → IsTacInRange p.1
+tac_ranges (Tac name entry) p e h = subst (λ (q : List ℕ × TacEntry). IsTacInRange q.1) (some_is _ p e) h
+tac_ranges _ p e h = absurd cc
+
+user_ranges : (said : Said) (p : List ℕ × UserEntry) → as_user said ≡ Some p → IsInRange said → IsUserInRange p.1
+user_ranges (User name entry) p e h = subst (λ (q : List ℕ × UserEntry). IsUserInRange q.1) (some_is _ p e) h
+user_ranges _ p e h = absurd cc
+
+class_ranges : (said : Said) (p : ℕ × ℕ) → as_class said ≡ Some p → IsInRange said → p.1 ≤ 240
+class_ranges (TacClass class tasks) p e h = subst (λ (q : ℕ × ℕ). q.1 ≤ 240) (some_is _ p e) h.1
+class_ranges _ p e h = absurd cc
+
+not_not : (b : Bool) → not b ≡ false → b ≡ true
+not_not true h = refl
+not_not false h = absurd (grind (arith, h))
+
+not_none : {A : Type 0} (o : Option A) → is_none o ≡ false → is_some o ≡ true
+not_none None h = absurd (grind (arith, h))
+not_none (Some x) h = refl
+
+tac_kinds : (said : Said) (p : List ℕ × TacEntry) → as_tac said ≡ Some p → has_other_class said ≡ false → IsTrue (fits_kind p.1)
+tac_kinds (Tac name entry) p e h = subst (λ (q : List ℕ × TacEntry). IsTrue (fits_kind q.1)) (some_is _ p e) (not_not (fits_kind entry) h)
+tac_kinds _ p e h = absurd cc
+
+tac_programs : (g : Generated) (said : Said) (p : List ℕ × TacEntry) → as_tac said ≡ Some p → lacks_program g said ≡ false → IsTrue (is_some (entry_of g.programs p.1.program))
+tac_programs g (Tac name entry) p e h = subst (λ (q : List ℕ × TacEntry). IsTrue (is_some (entry_of g.programs q.1.program))) (some_is _ p e) (not_none (entry_of g.programs entry.program) h)
+tac_programs g _ p e h = absurd cc
+
+pterm_lterms : (g : Generated) (said : Said) (p : List ℕ × PtermEntry) → as_pterm said ≡ Some p → lacks_lterm g said ≡ false → IsTrue (is_some (lterm_of g p.1.lterm))
+pterm_lterms g (Pterm name entry) p e h = subst (λ (q : List ℕ × PtermEntry). IsTrue (is_some (lterm_of g q.1.lterm))) (some_is _ p e) (not_none (lterm_of g entry.lterm) h)
+pterm_lterms g _ p e h = absurd cc
+
+-- ---- the counts
+
+counted : (ss : List Statement) → AreRead ss → AreFaultless ss → AreCounted (generated ss)
+counted ss read free = record {
+  users = (refl, rw (sym (user_count ss)) (few ss free 3));
+  pterms = (refl, rw (sym (pterm_count ss)) (few ss free 4));
+  lterms = (refl, rw (sym (lterm_count ss)) (few ss free 5));
+  tacs = (refl, rw (sym (tac_count ss)) (few ss free 2));
+  programs = (refl, rw (sym (program_count ss)) (few ss free 1));
+  passed_statements = rw (sym (passed_statements ss)) (few ss free 9);
+  passed_operands = read.passed;
+}
+
+one_or_more : (n : ℕ) → (n == 0) ≡ false → 1 ≤ n
+one_or_more n h = grind (arith, nat_tests, h)
+
+not_less : (m n : ℕ) → nat_lt m n ≡ false → n ≤ m
+not_less m n h = grind (arith, nat_tests, h)
+
+pub sound : (ss : List Statement) → AreRead ss → AreFaultless ss → IsSound (generated ss)
+sound ss read free = record {
+  limits = limits_in_range (max_given ss) (max_in_range ss read.ranges);
+  tacs = values_keep (λ (s : Statement). IsInRange s.said) IsTacInRange (λ (s : Statement). as_tac s.said) (λ s p e h. tac_ranges s.said p e h) ss read.ranges;
+  users = values_keep (λ (s : Statement). IsInRange s.said) IsUserInRange (λ (s : Statement). as_user s.said) (λ s p e h. user_ranges s.said p e h) ss read.ranges;
+  classes = values_keep (λ (s : Statement). IsInRange s.said) (λ (tasks : ℕ). tasks ≤ 240) (λ (s : Statement). as_class s.said) (λ s p e h. class_ranges s.said p e h) ss read.ranges;
+  kinds = values_keep (λ (s : Statement). has_other_class s.said ≡ false) (λ (t : TacEntry). IsTrue (fits_kind t)) (λ (s : Statement). as_tac s.said) (λ s p e h. tac_kinds s.said p e h) ss (all_at (λ (s : Statement). has_other_class s.said ≡ false) ss (λ i s at. not_shown ss free i s at (ClassOfWrongKind s.line) refl));
+  programs = values_keep (λ (s : Statement). lacks_program (generated ss) s.said ≡ false) (λ (t : TacEntry). IsTrue (is_some (entry_of (programs_said ss) t.program))) (λ (s : Statement). as_tac s.said) (λ s p e h. tac_programs (generated ss) s.said p e h) ss (all_at (λ (s : Statement). lacks_program (generated ss) s.said ≡ false) ss (λ i s at. not_shown ss free i s at (NoProgram s.line) refl));
+  terminals = values_keep (λ (s : Statement). lacks_lterm (generated ss) s.said ≡ false) (λ (p : PtermEntry). IsTrue (is_some (entry_of (said_as as_lterm ss) p.lterm))) (λ (s : Statement). as_pterm s.said) (λ s p e h. pterm_lterms (generated ss) s.said p e h) ss (all_at (λ (s : Statement). lacks_lterm (generated ss) s.said ≡ false) ss (λ i s at. not_shown ss free i s at (NoLterm s.line) refl));
+  apart = names_apart ss free;
+  counts = counted ss read free;
+  some_user = one_or_more (length (said_as as_user ss)) (some_user_said ss free read.ends);
+  pool = not_less _ _ (pool_said ss free read.ends);
+}

@@ -1,0 +1,52 @@
+-- How many statements there are of each kind, one statement further.
+use Rattle.std.proofs.Common.{◌≡◌, ◌⊎◌, ℕ, ◌+◌, ◌<◌, ◌≤◌, ◌==◌, sym, ◌∙◌, ap, inl, inr, arith, Bool, true, false, List, length, take, get_or, set}
+use Rattle.std.specs.Prelude.{slice_index}
+use Rattle.std.proofs.lemmas.Bool.Decides.{eqb_tells}
+use Rattle.std.proofs.lemmas.List.{get_or-set_other, length-set, length-take}
+use Rattle.std.proofs.lemmas.Grind.{get_or-set_at}
+use Rattle.std.proofs.lemmas.List.Sums.{count_by_more_yes, count_by_more_no, count_by-le-length}
+use Rattle.kdcdef_types.specs.declared.statement.Statement.{Statement}
+use Rattle.kdcdef_check.specs.declared.tally.Kind.{Kind}
+use Rattle.kdcdef_check.specs.declared.tally.Kind.TheVariants.{Max, Program, Tac, User, Pterm, Lterm, Tls, Uls, TacClass, Passed, End}
+use Rattle.kdcdef_check.specs.declared.tally.Tally.{Tally}
+use Rattle.kdcdef_check.specs.Faults.{kind_of, kind_count}
+use Rattle.kdcdef_check.specs.Steps.{place_of, IsTallyOf}
+
+pub place_within : (kind : Kind) → place_of kind < 11
+place_within Max = omega arith
+place_within Program = omega arith
+place_within Tac = omega arith
+place_within User = omega arith
+place_within Pterm = omega arith
+place_within Lterm = omega arith
+place_within Tls = omega arith
+place_within Uls = omega arith
+place_within TacClass = omega arith
+place_within Passed = omega arith
+place_within End = omega arith
+
+is_kind : ℕ → Statement → Bool
+is_kind kind s = kind_of s.said == kind
+
+-- the count of a kind has room for one more
+pub count_within : (ss : List Statement) (i : ℕ) (t : Tally) (kind : ℕ) → i < length ss → kind < 11 → IsTallyOf t (take i ss) → slice_index t.counts kind ≤ i
+count_within ss i t kind within below tally =
+    rw (tally.counts kind below) (omega (arith, count_by-le-length (λ (s : Statement). kind_of s.said == kind) (take i ss), length-take i ss))
+
+pub next_tally : (ss : List Statement) (i : ℕ) (s : Statement) (old new : Tally) (k : ℕ) → i < length ss → s ≡ get_or ss i s → k ≡ kind_of s.said → k < 11 → IsTallyOf old (take i ss) → new.counts ≡ set old.counts k (slice_index old.counts k + 1) → IsTallyOf new (take (i + 1) ss)
+next_tally ss i s old new k within is kind_is small was added = record {
+  kinds = ap length added ∙ length-set old.counts k (slice_index old.counts k + 1) ∙ was.kinds;
+  counts = λ kind below. by kind below (eqb_tells (kind_of s.said) kind);
+}
+  where
+    same : (kind : ℕ) (b : Bool) → (kind_of s.said == kind) ≡ b → (kind_of (get_or ss i s).said == kind) ≡ b
+    same kind b h = rw (sym is) h
+
+    by : (kind : ℕ) → kind < 11 → (((kind_of s.said == kind) ≡ true) × (kind_of s.said ≡ kind)) ⊎ (((kind_of s.said == kind) ≡ false) × (kind_of s.said ≡ kind → ⊥)) → slice_index new.counts kind ≡ kind_count kind (take (i + 1) ss)
+    by kind below (inl h) =
+        rw (count_by_more_yes (λ (t : Statement). kind_of t.said == kind) ss i s within (same kind true h.0))
+        (rw added (get_or-set_at old.counts k kind (slice_index old.counts k + 1) 0 (sym (kind_is ∙ h.1)) (omega (arith, was.kinds, small))
+        ∙ ap (λ n. slice_index old.counts n + 1) (kind_is ∙ h.1) ∙ ap (λ n. n + 1) (was.counts kind below)))
+    by kind below (inr h) =
+        rw (count_by_more_no (λ (t : Statement). kind_of t.said == kind) ss i s within (same kind false h.0))
+        (rw added (get_or-set_other old.counts k kind (slice_index old.counts k + 1) 0 (λ e. h.1 (sym kind_is ∙ sym e)) ∙ was.counts kind below))

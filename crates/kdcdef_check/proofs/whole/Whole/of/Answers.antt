@@ -1,0 +1,13 @@
+use Rattle.std.proofs.Common.{◌∙◌, arith}
+use Rattle.kdcdef_check.proofs.Counting.{user_count, lterm_count}
+use Rattle.kdcdef_check.proofs.whole.Whole.of.Goals as goal
+
+pub returns : goal.returns
+returns c =
+    let ss = c.args.statements.now in
+    record {
+      max = c.max_given.ensures;
+      users = c.count.ensures ∙ c.requires.counts 3 (omega arith) ∙ user_count ss;
+      restarts = c.restart_count.ensures.count;
+      lterms = c.count-2.ensures ∙ c.requires.counts 5 (omega arith) ∙ lterm_count ss;
+    }

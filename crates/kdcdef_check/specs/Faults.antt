@@ -1,0 +1,143 @@
+-- A fault stands at a statement.
+use Rattle.std.specs.Prelude.{◌≡◌, ℕ, ◌+◌, Bool, true, false, not, ◌&&◌, ◌||◌, ◌==◌, nat_lt, nat_le, List, length, take, slice_get, Some, Result, Ok, Err, is_some, is_none, IsTrue, bytes_eq, count_by}
+use Rattle.std.specs.List.{list_any}
+use Rattle.kdcdef_types.specs.declared.entry.PtermEntry.{PtermEntry}
+use Rattle.kdcdef_types.specs.declared.statement.Said.{Said}
+use Rattle.kdcdef_types.specs.declared.statement.Said.TheVariants.{Max, Program, Tac, User, Pterm, Lterm, Tls, Uls, TacClass, Passed, End}
+use Rattle.kdcdef_types.specs.declared.statement.Statement.{Statement}
+use Rattle.kdcdef_types.specs.Generation.{Generated, entry_of, tac_of, user_of, pterm_of, lterm_of, has_tls, has_uls, class_limit}
+use Rattle.kdcdef_check.specs.declared.fault.CheckFault.{CheckFault}
+use Rattle.kdcdef_check.specs.declared.fault.CheckFault.TheVariants.{NameTwice, NoProgram, NoLterm, LtermTwice, NoMax, ClassOfWrongKind, PoolTooSmall, NoUser, TooMany, Memory}
+use Rattle.kdcdef_check.specs.Soundness.{fits_kind, restart_count}
+use Rattle.kdcdef_check.specs.Generating.{generated, max_given}
+
+-- ---- against what the statements before it generate
+
+-- its name stands in the table already; TACs and LTERMs share their names
+abbrev pub is_taken : Generated → Said → Bool
+is_taken g (Program name) = is_some (entry_of g.programs name)
+is_taken g (Tac name entry) = is_some (tac_of g name) || is_some (lterm_of g name)
+is_taken g (User name entry) = is_some (user_of g name)
+is_taken g (Pterm name entry) = is_some (pterm_of g name)
+is_taken g (Lterm name entry) = is_some (lterm_of g name) || is_some (tac_of g name)
+is_taken g (Tls name) = has_tls g name
+is_taken g (Uls name) = has_uls g name
+is_taken g (TacClass class tasks) = is_some (class_limit g class)
+is_taken g (Max m) = false
+is_taken g Passed = false
+is_taken g End = false
+
+-- it is a PTERM whose LTERM has one already
+abbrev pub shares_lterm : Generated → Said → Bool
+shares_lterm g (Pterm name entry) = list_any (λ (p : List ℕ × PtermEntry). bytes_eq entry.lterm p.1.lterm) g.pterms
+shares_lterm g _ = false
+
+-- the place of its variant in `Said`
+abbrev pub kind_of : Said → ℕ
+kind_of (Max m) = 0
+kind_of (Program name) = 1
+kind_of (Tac name entry) = 2
+kind_of (User name entry) = 3
+kind_of (Pterm name entry) = 4
+kind_of (Lterm name entry) = 5
+kind_of (Tls name) = 6
+kind_of (Uls name) = 7
+kind_of (TacClass class tasks) = 8
+kind_of Passed = 9
+kind_of End = 10
+
+-- how many statements are of a kind
+abbrev pub kind_count : ℕ → List Statement → ℕ
+kind_count kind ss = count_by (λ (s : Statement). kind_of s.said == kind) ss
+
+-- ---- against what all statements generate
+
+abbrev pub lacks_program : Generated → Said → Bool
+lacks_program g (Tac name entry) = is_none (entry_of g.programs entry.program)
+lacks_program g _ = false
+
+abbrev pub lacks_lterm : Generated → Said → Bool
+lacks_lterm g (Pterm name entry) = is_none (lterm_of g entry.lterm)
+lacks_lterm g _ = false
+
+abbrev pub has_other_class : Said → Bool
+has_other_class (Tac name entry) = not (fits_kind entry)
+has_other_class _ = false
+
+abbrev pub is_end : Said → Bool
+is_end End = true
+is_end _ = false
+
+-- the pool has no page for each user with RESTART=YES and each LTERM
+abbrev pub has_small_pool : Generated → Bool
+has_small_pool g = nat_lt g.limits.pgpool (restart_count g.users + length g.lterms)
+
+abbrev pub lacks_user : Generated → Bool
+lacks_user g = length g.users == 0
+
+-- ---- faults
+
+-- what the statement says, of all statements and after those before it, shows the fault
+abbrev pub shows : List Statement → List Statement → Said → CheckFault → Bool
+shows all before said (NameTwice n) = is_taken (generated before) said
+shows all before said (NoProgram n) = lacks_program (generated all) said
+shows all before said (NoLterm n) = lacks_lterm (generated all) said
+shows all before said (LtermTwice n) = shares_lterm (generated before) said
+shows all before said (NoMax n) = is_end said && is_none (max_given all).appliname
+shows all before said (ClassOfWrongKind n) = has_other_class said
+shows all before said (PoolTooSmall n) = is_end said && has_small_pool (generated all)
+shows all before said (NoUser n) = is_end said && lacks_user (generated all)
+shows all before said (TooMany n) = kind_count (kind_of said) before == 20000
+shows all before said Memory = false
+
+-- the line of a fault, and its number among those of one line
+abbrev pub line_of : CheckFault → ℕ
+line_of (NameTwice n) = n
+line_of (NoProgram n) = n
+line_of (NoLterm n) = n
+line_of (LtermTwice n) = n
+line_of (NoMax n) = n
+line_of (ClassOfWrongKind n) = n
+line_of (PoolTooSmall n) = n
+line_of (NoUser n) = n
+line_of (TooMany n) = n
+line_of Memory = 0
+
+abbrev pub number_of : CheckFault → ℕ
+number_of (NameTwice n) = 1
+number_of (NoProgram n) = 2
+number_of (NoLterm n) = 3
+number_of (LtermTwice n) = 4
+number_of (NoMax n) = 5
+number_of (ClassOfWrongKind n) = 6
+number_of (PoolTooSmall n) = 7
+number_of (NoUser n) = 8
+number_of (TooMany n) = 9
+number_of Memory = 0
+
+-- the statement has the fault, on its line
+abbrev pub HasFault : List Statement → List Statement → Statement → CheckFault → Type 0
+HasFault all before s fault = (line_of fault ≡ s.line) × IsTrue (shows all before s.said fault)
+
+-- a statement has the fault
+abbrev pub Stands : List Statement → CheckFault → Type 0
+Stands ss fault = (i : ℕ) × (s : Statement) × (slice_get ss i ≡ Some s) × HasFault ss (take i ss) s fault
+
+-- a stands on a lesser line, or on the same one with a number that is not greater
+abbrev pub comes_first : CheckFault → CheckFault → Bool
+comes_first a b = nat_lt (line_of a) (line_of b) || (line_of a == line_of b && nat_le (number_of a) (number_of b))
+
+-- no fault stands
+abbrev pub AreFaultless : List Statement → Type 0
+AreFaultless ss = (fault : CheckFault) → Stands ss fault → ⊥
+
+-- the fault stands, and none on a lesser line, nor one of a lesser number on its line
+pub record IsFirstFault (ss : List Statement) (fault : CheckFault) : Type 0 where
+  pub stands : Stands ss fault
+  pub first : (other : CheckFault) → Stands ss other → IsTrue (comes_first fault other)
+
+-- what came back is this, unless memory ran out
+abbrev pub Gives : {A : Type 0} → Result A CheckFault → Result A CheckFault → Type 0
+Gives (Ok x) wanted = wanted ≡ Ok x
+Gives (Err Memory) wanted = Unit {0}
+Gives (Err fault) wanted = wanted ≡ Err fault

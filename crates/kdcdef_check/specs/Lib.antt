@@ -1,0 +1,5 @@
+pub mod Soundness
+pub mod Tables
+pub mod Generating
+pub mod Faults
+pub mod Steps

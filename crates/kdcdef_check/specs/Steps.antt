@@ -1,0 +1,198 @@
+-- What the passes over the statements have, one statement after another.
+use Rattle.std.specs.Prelude.{◌≡◌, ℕ, ◌<◌, ◌≤◌, ◌&&◌, ◌==◌, Bool, true, false, IsTrue, nat_eq, bytes_eq, is_some, is_none, List, [], length, take, slice_get, Option, Some, None, fold, slice_index, if◌then◌else◌}
+use Rattle.std.specs.List.{list_any}
+use Rattle.std.specs.Map.{lookup}
+use Rattle.indexmap.specs.IndexMap.{insert_entry}
+use Rattle.indexmap.specs.IndexSet.{insert_key}
+use Rattle.kdcdef_types.specs.declared.entry.PtermEntry.{PtermEntry}
+use Rattle.kdcdef_types.specs.declared.limits.Limits.{Limits}
+use Rattle.kdcdef_types.specs.declared.limits.Counts.{Counts}
+use Rattle.kdcdef_types.specs.declared.statement.Said.{Said}
+use Rattle.kdcdef_types.specs.declared.statement.Said.TheVariants.{User, Pterm}
+use Rattle.kdcdef_types.specs.declared.statement.Statement.{Statement}
+use Rattle.kdcdef_types.specs.Generation.{Generated, entry_of, tac_of, user_of, pterm_of, lterm_of, has_tls, has_uls, class_limit}
+use Rattle.kdcdef_check.specs.Generating.{as_program, as_tac, as_user, as_pterm, as_lterm, as_tls, as_uls, as_class, said_as, max_given, generated}
+use Rattle.kdcdef_check.specs.Faults.{kind_count, is_taken, shares_lterm, has_other_class, lacks_program, lacks_lterm, is_end, has_small_pool, lacks_user, comes_first, HasFault}
+use Rattle.kdcdef_check.specs.declared.fault.CheckFault.{CheckFault}
+use Rattle.kdcdef_check.specs.declared.fault.CheckFault.TheVariants.{NameTwice, NoProgram, NoLterm, LtermTwice, NoMax, ClassOfWrongKind, PoolTooSmall, NoUser, TooMany, Memory}
+use Rattle.kdcdef_check.specs.declared.tally.Kind.{Kind}
+use Rattle.kdcdef_check.specs.declared.tally.Kind.TheVariants as kinds
+use Rattle.kdcdef_check.specs.declared.tally.Tally.{Tally}
+use Rattle.kdcdef_check.specs.declared.tables.Tables.{Tables}
+use Rattle.kdcdef_check.specs.declared.whole.Whole.{Whole}
+use Rattle.kdcdef_check.specs.Soundness.{restart_count}
+
+-- ---- the first fault
+
+-- the first of two faults that were found
+abbrev pub earlier : Option CheckFault → Option CheckFault → Option CheckFault
+earlier None b = b
+earlier (Some a) None = Some a
+earlier (Some a) (Some b) = if comes_first a b then Some a else Some b
+
+-- none is such a fault, or it is one, and comes first of them
+abbrev pub IsFirstOf : (CheckFault → Type 0) → Option CheckFault → Type 0
+IsFirstOf Such None = (fault : CheckFault) → Such fault → ⊥
+IsFirstOf Such (Some fault) = Such fault × ((other : CheckFault) → Such other → IsTrue (comes_first fault other))
+
+-- a fault of one of the first n statements
+abbrev pub AmongFirst : List Statement → (ℕ → Statement → CheckFault → Type 0) → ℕ → CheckFault → Type 0
+AmongFirst ss Such n fault = (i : ℕ) × (s : Statement) × (i < n) × (slice_get ss i ≡ Some s) × Such i s fault
+
+-- a fault that shows at a statement and those before it
+abbrev pub is_own : CheckFault → Bool
+is_own (NameTwice n) = true
+is_own (NoProgram n) = false
+is_own (NoLterm n) = false
+is_own (LtermTwice n) = true
+is_own (NoMax n) = false
+is_own (ClassOfWrongKind n) = true
+is_own (PoolTooSmall n) = false
+is_own (NoUser n) = false
+is_own (TooMany n) = true
+is_own Memory = true
+
+-- the first of a statement's own faults, where so many of its kind stand before it
+abbrev pub own_fault : Generated → ℕ → Statement → Option CheckFault
+own_fault g count s =
+    if is_taken g s.said then Some (NameTwice s.line)
+    else (if shares_lterm g s.said then Some (LtermTwice s.line)
+    else (if has_other_class s.said then Some (ClassOfWrongKind s.line)
+    else (if count == 20000 then Some (TooMany s.line) else None)))
+
+-- the first of a statement's faults against all statements
+abbrev pub outer_fault : List Statement → Statement → Option CheckFault
+outer_fault all s =
+    if lacks_program (generated all) s.said then Some (NoProgram s.line)
+    else (if lacks_lterm (generated all) s.said then Some (NoLterm s.line)
+    else (if is_end s.said && is_none (max_given all).appliname then Some (NoMax s.line)
+    else (if is_end s.said && has_small_pool (generated all) then Some (PoolTooSmall s.line)
+    else (if is_end s.said && lacks_user (generated all) then Some (NoUser s.line) else None))))
+
+abbrev pub OwnFault : List Statement → ℕ → Statement → CheckFault → Type 0
+OwnFault all i s fault = IsTrue (is_own fault) × HasFault all (take i all) s fault
+
+abbrev pub OuterFault : List Statement → ℕ → Statement → CheckFault → Type 0
+OuterFault all i s fault = (is_own fault ≡ false) × HasFault all (take i all) s fault
+
+-- ---- tables
+
+-- the place of a kind
+abbrev pub place_of : Kind → ℕ
+place_of kinds.Max = 0
+place_of kinds.Program = 1
+place_of kinds.Tac = 2
+place_of kinds.User = 3
+place_of kinds.Pterm = 4
+place_of kinds.Lterm = 5
+place_of kinds.Tls = 6
+place_of kinds.Uls = 7
+place_of kinds.TacClass = 8
+place_of kinds.Passed = 9
+place_of kinds.End = 10
+
+-- the LTERM of a PTERM
+abbrev pub lterm_said : Said → Option (List ℕ)
+lterm_said (Pterm name entry) = Some entry.lterm
+lterm_said _ = None
+
+-- a table with one more entry, or none; a name that is there keeps its place and takes the value
+abbrev pub put : {K V : Type 0} → (K → K → Bool) → Option (K × V) → List (K × V) → List (K × V)
+put eq None entries = entries
+put eq (Some entry) entries = insert_entry eq entries entry.0 entry.1
+
+-- a set with one more key, or none
+abbrev pub put_key : {K : Type 0} → (K → K → Bool) → Option K → List K → List K
+put_key eq None keys = keys
+put_key eq (Some key) keys = insert_key eq keys key
+
+-- the tables after one more statement
+pub record IsAdded (old new : Tables) (line : ℕ) (said : Said) : Type 0 where
+  pub programs : new.programs.entries ≡ put bytes_eq (as_program line said) old.programs.entries
+  pub tacs : new.tacs.entries ≡ put bytes_eq (as_tac said) old.tacs.entries
+  pub users : new.users.entries ≡ put bytes_eq (as_user said) old.users.entries
+  pub pterms : new.pterms.entries ≡ put bytes_eq (as_pterm said) old.pterms.entries
+  pub lterms : new.lterms.entries ≡ put bytes_eq (as_lterm said) old.lterms.entries
+  pub tls : new.tls.keys ≡ put_key bytes_eq (as_tls said) old.tls.keys
+  pub uls : new.uls.keys ≡ put_key bytes_eq (as_uls said) old.uls.keys
+  pub classes : new.classes.entries ≡ put nat_eq (as_class said) old.classes.entries
+  pub served : new.served.keys ≡ put_key bytes_eq (lterm_said said) old.served.keys
+
+-- a table of what the statements make, one after another
+abbrev pub table_of : {K V : Type 0} → (K → K → Bool) → (Statement → Option (K × V)) → List Statement → List (K × V)
+table_of {K} {V} eq f ss = fold (λ (entries : List (K × V)) (s : Statement). put eq (f s) entries) [] ss
+
+abbrev pub keys_table : {K : Type 0} → (K → K → Bool) → (Statement → Option K) → List Statement → List K
+keys_table {K} eq f ss = fold (λ (keys : List K) (s : Statement). put_key eq (f s) keys) [] ss
+
+-- the tables were filled from these statements
+pub record AreFilled (t : Tables) (ss : List Statement) : Type 0 where
+  pub programs : t.programs.entries ≡ table_of bytes_eq (λ (s : Statement). as_program s.line s.said) ss
+  pub tacs : t.tacs.entries ≡ table_of bytes_eq (λ (s : Statement). as_tac s.said) ss
+  pub users : t.users.entries ≡ table_of bytes_eq (λ (s : Statement). as_user s.said) ss
+  pub pterms : t.pterms.entries ≡ table_of bytes_eq (λ (s : Statement). as_pterm s.said) ss
+  pub lterms : t.lterms.entries ≡ table_of bytes_eq (λ (s : Statement). as_lterm s.said) ss
+  pub tls : t.tls.keys ≡ keys_table bytes_eq (λ (s : Statement). as_tls s.said) ss
+  pub uls : t.uls.keys ≡ keys_table bytes_eq (λ (s : Statement). as_uls s.said) ss
+  pub classes : t.classes.entries ≡ table_of nat_eq (λ (s : Statement). as_class s.said) ss
+  pub served : t.served.keys ≡ keys_table bytes_eq (λ (s : Statement). lterm_said s.said) ss
+
+-- the tables have the names of a generation
+pub record HaveNames (t : Tables) (g : Generated) : Type 0 where
+  pub programs : (name : List ℕ) → is_some (entry_of t.programs.entries name) ≡ is_some (entry_of g.programs name)
+  pub tacs : (name : List ℕ) → is_some (entry_of t.tacs.entries name) ≡ is_some (tac_of g name)
+  pub users : (name : List ℕ) → is_some (entry_of t.users.entries name) ≡ is_some (user_of g name)
+  pub pterms : (name : List ℕ) → is_some (entry_of t.pterms.entries name) ≡ is_some (pterm_of g name)
+  pub lterms : (name : List ℕ) → is_some (entry_of t.lterms.entries name) ≡ is_some (lterm_of g name)
+  pub tls : (name : List ℕ) → list_any (bytes_eq name) t.tls.keys ≡ has_tls g name
+  pub uls : (name : List ℕ) → list_any (bytes_eq name) t.uls.keys ≡ has_uls g name
+  pub classes : (class : ℕ) → is_some (lookup (nat_eq class) t.classes.entries) ≡ is_some (class_limit g class)
+  pub served : (name : List ℕ) → list_any (bytes_eq name) t.served.keys ≡ list_any (λ (p : List ℕ × PtermEntry). bytes_eq name p.1.lterm) g.pterms
+
+-- ---- counts
+
+pub record IsTallyOf (t : Tally) (ss : List Statement) : Type 0 where
+  pub kinds : length t.counts ≡ 11
+  pub counts : (kind : ℕ) → kind < 11 → slice_index t.counts kind ≡ kind_count kind ss
+
+-- no kind has more than 20,000
+abbrev pub AreFew : Tally → Type 0
+AreFew t = (kind : ℕ) → kind < 11 → slice_index t.counts kind ≤ 20000
+
+abbrev pub counts_in : Tally → ℕ → Counts
+counts_in t passed = record {
+  users = slice_index t.counts 3;
+  pterms = slice_index t.counts 4;
+  lterms = slice_index t.counts 5;
+  tacs = slice_index t.counts 2;
+  programs = slice_index t.counts 1;
+  passed_statements = slice_index t.counts 9;
+  passed_operands = passed;
+}
+
+-- the generation that filled tables, limits and counts are
+abbrev pub made_of : Tables → Limits → Counts → Generated
+made_of t limits counts = record {
+  limits = limits;
+  programs = t.programs.entries;
+  tacs = t.tacs.entries;
+  users = t.users.entries;
+  pterms = t.pterms.entries;
+  lterms = t.lterms.entries;
+  tls = t.tls.keys;
+  uls = t.uls.keys;
+  classes = t.classes.entries;
+  counts = counts;
+}
+
+-- a USER statement with RESTART=YES
+abbrev pub is_restart : Said → Bool
+is_restart (User name entry) = entry.restart
+is_restart _ = false
+
+-- what all statements say together
+pub record IsWhole (w : Whole) (ss : List Statement) : Type 0 where
+  pub max : w.max ≡ max_given ss
+  pub users : w.users ≡ length (said_as as_user ss)
+  pub restarts : w.restarts ≡ restart_count (said_as as_user ss)
+  pub lterms : w.lterms ≡ length (said_as as_lterm ss)

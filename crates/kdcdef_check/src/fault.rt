@@ -1,0 +1,124 @@
+//! Why statements generate nothing.
+ghost use Rattle.std.specs.Prelude.{◌≡◌};
+ghost use Rattle.kdcdef_check.specs.Faults.{line_of, number_of, comes_first};
+ghost use Rattle.kdcdef_check.specs.Steps.{earlier};
+ghost use Rattle.kdcdef_check.specs.declared.fault.CheckFault.TheVariants.{Memory};
+
+use kd_base::OutOfMemory;
+use std::alloc::{AllocError, AllocFailed};
+use thiserror::Error;
+
+/// The first fault of statements together, with the line of its statement, counted from 1.
+///
+/// The fault of the least line is answered, and on one line the one that stands first here.
+#[derive(Clone, Copy, Debug, PartialEq, Eq, Error)]
+pub enum CheckFault {
+    /// A name that an earlier statement of the kind has, a class twice, or one name for a TAC and an LTERM.
+    #[error("line {0}: a name that an earlier statement has")]
+    NameTwice(u32),
+    /// A TAC that names no PROGRAM statement.
+    #[error("line {0}: no PROGRAM statement has this name")]
+    NoProgram(u32),
+    /// A PTERM that names no LTERM statement.
+    #[error("line {0}: no LTERM statement has this name")]
+    NoLterm(u32),
+    /// A PTERM whose LTERM an earlier one has.
+    #[error("line {0}: an earlier PTERM has this LTERM")]
+    LtermTwice(u32),
+    /// No MAX statement gives APPLINAME; the line of END.
+    #[error("line {0}: no MAX statement gives APPLINAME")]
+    NoMax(u32),
+    /// A dialogue TAC with a class from 9 to 16, or an asynchronous TAC with one from 1 to 8.
+    #[error("line {0}: a TAC with a class of the other kind")]
+    ClassOfWrongKind(u32),
+    /// PGPOOL is less than the users with RESTART=YES and the LTERMs together; the line of END.
+    #[error("line {0}: PGPOOL is too small for the users and LTERMs")]
+    PoolTooSmall(u32),
+    /// No USER statement; the line of END.
+    #[error("line {0}: no USER statement")]
+    NoUser(u32),
+    /// The 20,001st statement of a kind; all statements that are passed over are one kind.
+    #[error("line {0}: more than 20000 statements of a kind")]
+    TooMany(u32),
+    /// Memory ran out, which may be answered in place of anything else.
+    #[error("out of memory")]
+    Memory,
+}
+
+impl From<AllocError> for CheckFault {
+    ghost from_gives = { λ _ e. e ≡ Memory };
+
+    fn from(_: AllocError) -> CheckFault {
+        CheckFault::Memory
+    }
+}
+
+impl<T: Drop> From<AllocFailed<T>> for CheckFault {
+    ghost from_gives = { λ _ e. e ≡ Memory };
+
+    fn from(_: AllocFailed<T>) -> CheckFault {
+        CheckFault::Memory
+    }
+}
+
+impl From<OutOfMemory> for CheckFault {
+    ghost from_gives = { λ _ e. e ≡ Memory };
+
+    fn from(_: OutOfMemory) -> CheckFault {
+        CheckFault::Memory
+    }
+}
+
+impl CheckFault {
+    fn line(&self) -> u32
+        ensures { result ≡ line_of self.now }
+    {
+        match self {
+            CheckFault::NameTwice(line)
+            | CheckFault::NoProgram(line)
+            | CheckFault::NoLterm(line)
+            | CheckFault::LtermTwice(line)
+            | CheckFault::NoMax(line)
+            | CheckFault::ClassOfWrongKind(line)
+            | CheckFault::PoolTooSmall(line)
+            | CheckFault::NoUser(line)
+            | CheckFault::TooMany(line) => *line,
+            CheckFault::Memory => 0,
+        }
+    }
+
+    // The order of the faults of one line.
+    fn number(&self) -> u8
+        ensures { result ≡ number_of self.now }
+    {
+        match self {
+            CheckFault::NameTwice(_) => 1,
+            CheckFault::NoProgram(_) => 2,
+            CheckFault::NoLterm(_) => 3,
+            CheckFault::LtermTwice(_) => 4,
+            CheckFault::NoMax(_) => 5,
+            CheckFault::ClassOfWrongKind(_) => 6,
+            CheckFault::PoolTooSmall(_) => 7,
+            CheckFault::NoUser(_) => 8,
+            CheckFault::TooMany(_) => 9,
+            CheckFault::Memory => 0,
+        }
+    }
+
+    fn comes_first(&self, other: &CheckFault) -> bool
+        ensures { result ≡ comes_first self.now other.now }
+    {
+        self.line() < other.line()
+            || (self.line() == other.line() && self.number() <= other.number())
+    }
+}
+
+/// The first of two faults that were found.
+pub(crate) fn earlier(a: Option<CheckFault>, b: Option<CheckFault>) -> Option<CheckFault>
+    ensures { result ≡ earlier a b }
+{
+    match (a, b) {
+        (None, found) | (found, None) => found,
+        (Some(a), Some(b)) => Some(if a.comes_first(&b) { a } else { b }),
+    }
+}

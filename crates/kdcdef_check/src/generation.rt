@@ -1,0 +1,154 @@
+//! A generation: what the statements of a KDCDEF text say together.
+ghost use Rattle.std.specs.Prelude.{◌≡◌, ◌≤◌, IfSome};
+ghost use Rattle.std.specs.Option.{option_copied};
+ghost use Rattle.kdcdef_types.specs.Statements.{IsTacInRange, IsUserInRange};
+ghost use Rattle.kdcdef_types.specs.Generation.{tac_of, user_of, pterm_of, lterm_of, has_tls, has_uls, class_limit};
+ghost use Rattle.kdcdef_check.specs.Soundness.{AreLimits, IsSound};
+ghost use Rattle.kdcdef_check.specs.Steps.{made_of};
+
+use crate::hashing::NameHashing;
+use crate::tables::Tables;
+use indexmap::{IndexMap, IndexSet};
+use kd_base::{Name, ProgName};
+use kdcdef_types::{Counts, Limits, LtermEntry, PtermEntry, TacEntry, UserEntry};
+use std::marker::Model;
+
+/// What the statements of a KDCDEF text generate. Contracts see its limits, its tables in the order of their statements,
+/// and its counts. No call of it takes memory.
+#[derive(Drop)]
+pub struct Generation {
+    limits: Limits,
+    programs: IndexMap<ProgName, u32, NameHashing>,
+    tacs: IndexMap<Name, TacEntry, NameHashing>,
+    users: IndexMap<Name, UserEntry, NameHashing>,
+    pterms: IndexMap<Name, PtermEntry, NameHashing>,
+    lterms: IndexMap<Name, LtermEntry, NameHashing>,
+    tls: IndexSet<Name, NameHashing>,
+    uls: IndexSet<Name, NameHashing>,
+    classes: IndexMap<u8, u16, NameHashing>,
+    counts: Counts,
+}
+
+impl Model for Generation {
+    ghost use Rattle.kdcdef_types.specs.Generation.{Generated};
+    ghost use Rattle.kdcdef_check.specs.Tables.{generated_of, IsSoundInside};
+
+    ghost Value = { Generated };
+
+    ghost view = { generated_of };
+
+    ghost invariant = { IsSoundInside };
+}
+
+impl Generation {
+    pub(crate) fn of(tables: Tables, limits: Limits, counts: Counts) -> Generation
+        requires { IsSound (made_of tables limits counts) }
+        ensures { result ≡ made_of tables limits counts }
+    {
+        let Tables {
+            programs,
+            tacs,
+            users,
+            pterms,
+            lterms,
+            tls,
+            uls,
+            classes,
+            served: _served,
+        } = tables;
+        Generation {
+            limits,
+            programs,
+            tacs,
+            users,
+            pterms,
+            lterms,
+            tls,
+            uls,
+            classes,
+            counts,
+        }
+    }
+
+    /// The numbers of the MAX statements.
+    pub fn max(&self) -> &Limits
+        ensures limits { result.now ≡ self.now.limits }
+        ensures ranges { AreLimits result.now }
+        ensures sound { IsSound self.now }
+    {
+        &self.limits
+    }
+
+    /// What the TAC statement of this name says, if there is one.
+    pub fn tac(&self, name: Name) -> Option<&TacEntry>
+        ensures entry { option_copied result ≡ tac_of self.now name }
+        ensures ranges { IfSome result (λ e. IsTacInRange e.now) }
+    {
+        self.tacs.get(&name)
+    }
+
+    /// What the USER statement of this name says, if there is one.
+    pub fn user(&self, name: Name) -> Option<&UserEntry>
+        ensures entry { option_copied result ≡ user_of self.now name }
+        ensures ranges { IfSome result (λ e. IsUserInRange e.now) }
+    {
+        self.users.get(&name)
+    }
+
+    /// What the PTERM statement of this name says, if there is one that names an LTERM.
+    pub fn pterm(&self, name: Name) -> Option<&PtermEntry>
+        ensures { option_copied result ≡ pterm_of self.now name }
+    {
+        self.pterms.get(&name)
+    }
+
+    /// What the LTERM statement of this name says, if there is one.
+    pub fn lterm(&self, name: Name) -> Option<&LtermEntry>
+        ensures { option_copied result ≡ lterm_of self.now name }
+    {
+        self.lterms.get(&name)
+    }
+
+    /// Whether a TLS statement names this block.
+    pub fn has_tls(&self, name: Name) -> bool
+        ensures { result ≡ has_tls self.now name }
+    {
+        self.tls.contains(&name)
+    }
+
+    /// Whether a ULS statement names this block.
+    pub fn has_uls(&self, name: Name) -> bool
+        ensures { result ≡ has_uls self.now name }
+    {
+        self.uls.contains(&name)
+    }
+
+    /// How many tasks may work for a TAC class, from 0 to 240, if a TACCLASS statement says so.
+    pub fn class_limit(&self, class: u8) -> Option<u16>
+        ensures limit { result ≡ class_limit self.now class }
+        ensures ranges { IfSome result (λ tasks. tasks ≤ 240) }
+    {
+        self.classes.get(&class).copied()
+    }
+
+    /// The program units, in the order of their statements, each with the line of its statement.
+    pub fn programs(&self) -> &IndexMap<ProgName, u32, NameHashing>
+        ensures { result.now.entries ≡ self.now.programs }
+    {
+        &self.programs
+    }
+
+    /// The TACs, in the order of their statements.
+    pub fn tacs(&self) -> &IndexMap<Name, TacEntry, NameHashing>
+        ensures { result.now.entries ≡ self.now.tacs }
+    {
+        &self.tacs
+    }
+
+    /// How many statements of a kind there are, and what was passed over.
+    pub fn counts(&self) -> Counts
+        ensures { result ≡ self.now.counts }
+    {
+        self.counts
+    }
+}

@@ -1,0 +1,62 @@
+//! The two passes over the statements: one fills the tables, the other tests what needs all of them.
+ghost use Rattle.std.specs.Prelude.{length, IfOk};
+ghost use Rattle.kdcdef_check.specs.Generating.{generated};
+ghost use Rattle.kdcdef_check.specs.Steps.{AreFilled, IsTallyOf, IsFirstOf, AmongFirst, OwnFault, OuterFault, HaveNames, IsWhole};
+
+use crate::fault::{CheckFault, earlier};
+use crate::hashing::NameHashing;
+use crate::own::own_fault;
+use crate::tables::Tables;
+use crate::tally::{Kind, Tally};
+use crate::whole::Whole;
+use kd_base::OutOfMemory;
+use kdcdef_types::Statement;
+use std::alloc::Global;
+
+/// What the first pass gives.
+#[derive(Drop)]
+pub(crate) struct Filled {
+    pub(crate) tables: Tables,
+    pub(crate) tally: Tally,
+    /// The first of the faults that show at a statement and those before it.
+    pub(crate) first: Option<CheckFault>,
+}
+
+/// Fills the tables and finds the first of the statements' own faults.
+pub(crate) fn fill(alloc: Global, statements: &[Statement]) -> Result<Filled, OutOfMemory>
+    ensures tables { IfOk result (λ f. AreFilled f.tables statements.now) }
+    ensures tally { IfOk result (λ f. IsTallyOf f.tally statements.now) }
+    ensures first { IfOk result (λ f. IsFirstOf (AmongFirst statements.now (OwnFault statements.now) (length statements.now)) f.first) }
+{
+    let mut tables = Tables::new(alloc, NameHashing::of(statements));
+    let mut tally = Tally::new();
+    let mut first = None;
+    for statement in statements {
+        let kind = Kind::of(&statement.said);
+        first = earlier(first, own_fault(&tables, tally.count(kind), statement));
+        tables.add(statement)?;
+        tally.add(kind);
+    }
+    Ok(Filled {
+        tables,
+        tally,
+        first,
+    })
+}
+
+/// The first of the faults that show against all statements.
+pub(crate) fn first_outer_fault(
+    tables: &Tables,
+    whole: &Whole,
+    statements: &[Statement],
+) -> Option<CheckFault>
+    requires names { HaveNames tables.now (generated statements.now) }
+    requires whole { IsWhole whole.now statements.now }
+    ensures { IsFirstOf (AmongFirst statements.now (OuterFault statements.now) (length statements.now)) result }
+{
+    let mut first = None;
+    for statement in statements {
+        first = earlier(first, whole.fault_of(tables, statement));
+    }
+    first
+}

@@ -1,0 +1,94 @@
+//! What the statements say together, and the faults that show against it.
+ghost use Rattle.std.specs.Prelude.{◌≡◌, ◌+◌, ◌≤◌, List, length, nat_lt, unwrap_or};
+ghost use Rattle.kdcdef_types.specs.declared.statement.Statement.{Statement};
+ghost use Rattle.kdcdef_check.specs.Soundness.{restart_count};
+ghost use Rattle.kdcdef_check.specs.Generating.{as_user, said_as, generated};
+ghost use Rattle.kdcdef_check.specs.Faults.{is_end};
+ghost use Rattle.kdcdef_check.specs.Steps.{HaveNames, IsTallyOf, IsWhole, is_restart, outer_fault};
+
+use crate::fault::CheckFault;
+use crate::limits::max_given;
+use crate::tables::Tables;
+use crate::tally::{Kind, Tally};
+use kdcdef_types::{MaxOperands, Said, Statement};
+
+/// What the limits of the statements are tested against.
+#[derive(Clone, Copy)]
+pub(crate) struct Whole {
+    pub(crate) max: MaxOperands,
+    pub(crate) users: usize,
+    /// Users with RESTART=YES.
+    pub(crate) restarts: usize,
+    pub(crate) lterms: usize,
+}
+
+fn is_restart(said: &Said) -> bool
+    ensures { result ≡ is_restart said.now }
+{
+    match said {
+        Said::User(_, entry) => entry.restart,
+        _ => false,
+    }
+}
+
+/// How many USER statements have RESTART=YES.
+pub(crate) fn restart_count(statements: &[Statement]) -> usize
+    ensures count { result ≡ restart_count (said_as as_user statements.now) }
+    ensures within { result ≤ length statements.now }
+{
+    let mut count = 0;
+    for statement in statements {
+        if is_restart(&statement.said) {
+            count += 1;
+        }
+    }
+    count
+}
+
+fn is_end(said: &Said) -> bool
+    ensures { result ≡ is_end said.now }
+{
+    matches!(said, Said::End)
+}
+
+impl Whole {
+    pub(crate) fn of(statements: &[Statement], tally: &Tally) -> Whole
+        requires { IsTallyOf tally.now statements.now }
+        ensures { IsWhole result statements.now }
+    {
+        Whole {
+            max: max_given(statements),
+            users: tally.count(Kind::User),
+            restarts: restart_count(statements),
+            lterms: tally.count(Kind::Lterm),
+        }
+    }
+
+    // Whether the pool has no page for each user with RESTART=YES and each LTERM.
+    fn has_small_pool(&self) -> bool
+        ensures { result ≡ nat_lt (unwrap_or self.now.max.pgpool 100) (self.now.restarts + self.now.lterms) }
+    {
+        let needed = self.restarts.saturating_add(self.lterms);
+        (self.max.pgpool.unwrap_or(100) as usize) < needed
+    }
+
+    /// The first of a statement's faults against all statements.
+    pub(crate) fn fault_of(&self, tables: &Tables, statement: &Statement) -> Option<CheckFault>
+        ensures { (all : List Statement) → HaveNames tables.now (generated all) → IsWhole self.now all → result ≡ outer_fault all statement.now }
+    {
+        let said = &statement.said;
+        if tables.lacks_program(said) {
+            Some(CheckFault::NoProgram(statement.line))
+        } else if tables.lacks_lterm(said) {
+            Some(CheckFault::NoLterm(statement.line))
+        } else if is_end(said) && self.max.appliname.is_none() {
+            Some(CheckFault::NoMax(statement.line))
+        } else if is_end(said) && self.has_small_pool() {
+            Some(CheckFault::PoolTooSmall(statement.line))
+        } else if is_end(said) && self.users == 0 {
+            Some(CheckFault::NoUser(statement.line))
+        } else {
+            None
+        }
+    }
+}

@@ -1,0 +1,49 @@
+-- The clauses of the public call, from what reading gives.
+use Rattle.std.proofs.Common.{◌≡◌, ◌≢◌, List, Result, Ok, Err, refl, subst}
+use Rattle.std.specs.Prelude.{IfOk, IfErr}
+use Rattle.std.specs.Global.{Vec}
+use Rattle.kdcdef_lex.specs.declared.statement.RawStatement.{RawStatement}
+use Rattle.kdcdef_lex.specs.Bounds.{AreWithinBounds}
+use Rattle.kdcdef_types.specs.declared.statement.Statement.{Statement}
+use Rattle.kdcdef_types.specs.Statements.{AreRead}
+use Rattle.kdcdef_read.specs.declared.fault.ReadFault.{ReadFault}
+use Rattle.kdcdef_read.specs.declared.fault.ReadFault.TheVariants.{UnknownStatement, OperandTwice, OperandMissing, BadName, BadNumber, OutOfRange, BadChoice, NotInProfile, AfterEnd, NoEnd, Memory}
+use Rattle.kdcdef_read.specs.Meaning.{StandFor, HasFault}
+use Rattle.kdcdef_read.specs.Steps.{Gives, items_of, read_all}
+use Rattle.kdcdef_read.proofs.Readings.{found, only, fault_is, refused}
+use Rattle.kdcdef_read.proofs.Apart.{are_read}
+
+pub stands : (rs : List RawStatement) (r : Result (Vec Statement) ReadFault) → Gives (items_of r) (read_all rs) → IfOk r (λ v. StandFor rs v.items)
+stands rs (Ok v) h = found rs v.items h
+stands rs (Err e) h = tt
+
+-- what reading gives is determined
+given_by : (read wanted : Result (List Statement) ReadFault) (r : Result (List Statement) ReadFault) → Gives r read → read ≡ wanted → Gives r wanted
+given_by read wanted r h e = let P : Result (List Statement) ReadFault → Type 0 = λ x. Gives r x in subst P e h
+
+pub only_that : (rs : List RawStatement) (r : Result (Vec Statement) ReadFault) → Gives (items_of r) (read_all rs) → (ss : List Statement) → StandFor rs ss → Gives (items_of r) (Ok ss)
+only_that rs r h ss s = given_by (read_all rs) (Ok ss) (items_of r) h (only rs ss s)
+
+pub refused_for : (rs : List RawStatement) (r : Result (Vec Statement) ReadFault) → Gives (items_of r) (read_all rs) → (e : ReadFault) → HasFault rs e → Gives (items_of r) (Err e)
+refused_for rs r h e f = given_by (read_all rs) (Err e) (items_of r) h (refused rs e f)
+
+refused_by : (rs : List RawStatement) (e : ReadFault) → Gives (items_of {X = Statement} (Err e)) (read_all rs) → e ≢ Memory → read_all rs ≡ Err e
+refused_by rs Memory h other = absurd (other refl)
+refused_by rs (UnknownStatement line) h other = h
+refused_by rs (OperandTwice line) h other = h
+refused_by rs (OperandMissing line) h other = h
+refused_by rs (BadName line) h other = h
+refused_by rs (BadNumber line) h other = h
+refused_by rs (OutOfRange line) h other = h
+refused_by rs (BadChoice line) h other = h
+refused_by rs (NotInProfile line) h other = h
+refused_by rs (AfterEnd line) h other = h
+refused_by rs (NoEnd line) h other = h
+
+pub fault_found : (rs : List RawStatement) (r : Result (Vec Statement) ReadFault) → Gives (items_of r) (read_all rs) → IfErr r (λ e. e ≢ Memory → HasFault rs e)
+fault_found rs (Ok v) h = tt
+fault_found rs (Err e) h = λ other. fault_is rs e (refused_by rs e h other)
+
+pub read_well : (rs : List RawStatement) (r : Result (Vec Statement) ReadFault) → AreWithinBounds rs → IfOk r (λ v. StandFor rs v.items) → IfOk r (λ v. AreRead v.items)
+read_well rs (Ok v) within h = are_read rs v.items within h
+read_well rs (Err e) within h = tt

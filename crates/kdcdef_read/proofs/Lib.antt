@@ -1,0 +1,10 @@
+pub mod Keys
+pub mod Slots
+pub mod Filled
+pub mod Marks
+pub mod Readings
+pub mod Loops
+pub mod Fitting
+pub mod Ranges
+pub mod Apart
+pub mod Clauses

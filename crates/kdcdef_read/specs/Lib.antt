@@ -1,0 +1,11 @@
+pub mod Passwords
+pub mod PasswordCells
+pub mod Words
+pub mod Table
+pub mod Values
+pub mod Faults
+pub mod Operands
+pub mod Said
+pub mod Meaning
+pub mod Filling
+pub mod Steps

@@ -1,0 +1,145 @@
+-- The values of operands, by the kind of their rows.
+use Rattle.std.specs.Prelude.{ℕ, ◌==◌, ◌&&◌, nat_le, true, false, List, [], ◌∷◌, Option, Some, None, Result, Ok, Err, if◌then◌else◌, codes}
+use Rattle.kd_base.specs.Text.{decimal_of, name_of, prog_name_of}
+use Rattle.kd_base.specs.Tools.{◌>>=◌}
+use Rattle.kdcdef_types.specs.declared.entry.CallUse.TheVariants as calls
+use Rattle.kdcdef_lex.specs.declared.statement.RawItem.TheVariants as items
+use Rattle.kdcdef_lex.specs.declared.statement.RawValue.{RawValue}
+use Rattle.kdcdef_lex.specs.declared.statement.RawValue.TheVariants as raw
+use Rattle.kdcdef_read.specs.declared.fault.Cause.{Cause}
+use Rattle.kdcdef_read.specs.declared.fault.Cause.TheVariants.{BadName, BadNumber, OutOfRange, BadChoice, NotInProfile}
+use Rattle.kdcdef_read.specs.declared.rows.Choice.{Choice}
+use Rattle.kdcdef_read.specs.declared.rows.Choice.TheVariants as choices
+use Rattle.kdcdef_read.specs.declared.rows.Kind.{Kind}
+use Rattle.kdcdef_read.specs.declared.rows.Kind.TheVariants as kinds
+use Rattle.kdcdef_read.specs.declared.value.Value.{Value}
+use Rattle.kdcdef_read.specs.declared.value.Value.TheVariants as values
+use Rattle.kdcdef_read.specs.Passwords.{password_of}
+use Rattle.kdcdef_read.specs.Words.{is}
+
+-- what is there, or the cause
+abbrev pub or_cause : {A : Type 0} → (A → Value) → Cause → Option A → Result Value Cause
+or_cause made cause None = Err cause
+or_cause made cause (Some x) = Ok (made x)
+
+-- ---- numbers
+
+-- the word, or the first item of a list where that is a word
+abbrev pub number_text : RawValue → List ℕ
+number_text (raw.Word word) = word
+number_text (raw.Quoted bytes) = []
+number_text (raw.Listed []) = []
+number_text (raw.Listed (None ∷ more)) = []
+number_text (raw.Listed (Some (items.Word word) ∷ more)) = word
+number_text (raw.Listed (Some (items.Quoted bytes) ∷ more)) = []
+
+-- the number, where there is one and it is from low to high
+abbrev pub in_range : ℕ → ℕ → Option ℕ → Result ℕ Cause
+in_range low high None = Err BadNumber
+in_range low high (Some n) = if nat_le low n && nat_le n high then Ok n else Err OutOfRange
+
+-- a number from low to high
+abbrev pub number_between : ℕ → ℕ → RawValue → Result ℕ Cause
+number_between low high value = in_range low high (decimal_of (number_text value))
+
+abbrev pub number_in : ℕ → ℕ → RawValue → Result Value Cause
+number_in low high value = number_between low high value >>= λ n. Ok (values.Number n)
+
+abbrev pub class_in : RawValue → Result Value Cause
+class_in value = number_between 1 16 value >>= λ n. Ok (values.Class n)
+
+-- 0 stands for 100,000
+abbrev pub time_in : RawValue → Result Value Cause
+time_in value = number_between 0 100000 value >>= λ n. if n == 0 then Ok (values.Time 100000) else Ok (values.Time n)
+
+-- ---- choices
+
+-- one of two words
+abbrev pub flag_of : List ℕ → List ℕ → List ℕ → Option Value
+flag_of off on word = if is word off then Some (values.Flag false) else (if is word on then Some (values.Flag true) else None)
+
+abbrev pub call_of : List ℕ → Option Value
+call_of word =
+    if is word (codes "BOTH") then Some (values.Call calls.Both)
+    else (if is word (codes "FIRST") then Some (values.Call calls.First)
+    else (if is word (codes "NEXT") then Some (values.Call calls.Next)
+    else None))
+
+abbrev pub blksize_of : List ℕ → Option Value
+blksize_of word =
+    if is word (codes "2K") then Some (values.Number 2048)
+    else (if is word (codes "4K") then Some (values.Number 4096)
+    else (if is word (codes "8K") then Some (values.Number 8192)
+    else None))
+
+-- what a word says, where it is one of the choices
+abbrev pub choice_of : Choice → List ℕ → Option Value
+choice_of choices.Type word = flag_of (codes "D") (codes "A") word
+choice_of choices.Call word = call_of word
+choice_of choices.Status word = flag_of (codes "OFF") (codes "ON") word
+choice_of choices.Restart word = flag_of (codes "NO") (codes "YES") word
+choice_of choices.Usage word = flag_of (codes "D") (codes "O") word
+choice_of choices.Blksize word = blksize_of word
+
+abbrev pub one_of : Choice → RawValue → Result Value Cause
+one_of choice (raw.Word word) = or_cause (λ (value : Value). value) BadChoice (choice_of choice word)
+one_of choice (raw.Quoted bytes) = Err BadChoice
+one_of choice (raw.Listed is) = Err BadChoice
+
+-- ---- names and passwords
+
+abbrev pub name_in : RawValue → Result Value Cause
+name_in (raw.Word word) = or_cause (λ (name : List ℕ). values.Name name) BadName (name_of word)
+name_in (raw.Quoted bytes) = Err BadName
+name_in (raw.Listed is) = Err BadChoice
+
+abbrev pub prog_name_in : RawValue → Result Value Cause
+prog_name_in (raw.Word word) = or_cause (λ (name : List ℕ). values.ProgName name) BadName (prog_name_of word)
+prog_name_in (raw.Quoted bytes) = Err BadName
+prog_name_in (raw.Listed is) = Err BadChoice
+
+abbrev pub password_in : RawValue → Result Value Cause
+password_in (raw.Word bytes) = or_cause (λ (pass : List ℕ). values.Password pass) OutOfRange (password_of bytes)
+password_in (raw.Quoted bytes) = or_cause (λ (pass : List ℕ). values.Password pass) OutOfRange (password_of bytes)
+password_in (raw.Listed is) = Err BadChoice
+
+-- ---- KDCFILE and APPLIMODE
+
+-- the second item of KDCFILE's list
+abbrev pub file_of : List ℕ → Result Value Cause
+file_of word =
+    if is word (codes "SINGLE") then Ok values.Accepted
+    else (if is word (codes "DOUBLE") then Err NotInProfile
+    else Err BadChoice)
+
+-- a base, or a list of a base and a word
+abbrev pub file_in : RawValue → Result Value Cause
+file_in (raw.Word base) = Ok values.Accepted
+file_in (raw.Listed (Some (items.Word base) ∷ Some (items.Word word) ∷ [])) = file_of word
+file_in value = Err BadChoice
+
+abbrev pub mode_of : List ℕ → Result Value Cause
+mode_of word =
+    if is word (codes "SECURE") then Ok values.Accepted
+    else (if is word (codes "FAST") then Err NotInProfile
+    else Err BadChoice)
+
+abbrev pub mode_in : RawValue → Result Value Cause
+mode_in (raw.Word word) = mode_of word
+mode_in (raw.Quoted bytes) = Err BadChoice
+mode_in (raw.Listed is) = Err BadChoice
+
+-- ---- all kinds
+
+-- what an operand with this value says, or why it is refused
+abbrev pub value_of : Kind → RawValue → Result Value Cause
+value_of kinds.Name value = name_in value
+value_of kinds.ProgName value = prog_name_in value
+value_of (kinds.Number low high) value = number_in low high value
+value_of kinds.Class value = class_in value
+value_of kinds.Time value = time_in value
+value_of (kinds.OneOf choice) value = one_of choice value
+value_of kinds.Password value = password_in value
+value_of kinds.File value = file_in value
+value_of kinds.Mode value = mode_in value
+value_of kinds.Unavailable value = Err NotInProfile

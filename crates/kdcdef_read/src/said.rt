@@ -1,0 +1,259 @@
+//! What a statement says, from what its operands say.
+ghost use Rattle.std.specs.Prelude.{◌≡◌, IfOk};
+ghost use Rattle.kdcdef_read.specs.Said.{name_at, prog_name_at, number_at, class_at, time_at, call_at, flag_at, password_at, max_said, program_said, class_of, tac_entry, tac_said, user_said, pterm_said, lterm_said, tls_said, uls_said, class_said, said_of};
+ghost use Rattle.kdcdef_read.specs.Filling.{answer, answers};
+ghost use Rattle.kdcdef_read.specs.declared.words.Keyword.TheVariants as keywords;
+ghost use Rattle.kdcdef_read.specs.declared.words.Key.TheVariants as keys;
+
+use crate::operands::Given;
+use crate::rows::row_of;
+use crate::value::Value;
+use crate::words::{Key, Keyword, place_of};
+use kd_base::{Bytes, Name, OutOfMemory, ProgName};
+use kdcdef_types::{CallUse, LtermEntry, MaxOperands, PtermEntry, Said, TacEntry, UserEntry};
+use std::alloc::Global;
+
+// What the operand with this key says, or its default.
+fn answer(keyword: Keyword, given: &Given, key: Key) -> Option<Value>
+    ensures { result ≡ answer keyword given.now.slots key }
+{
+    let place = place_of(key);
+    if given.slots[place].is_some() {
+        return given.slots[place];
+    }
+    match row_of(keyword, key) {
+        Some(row) => row.default,
+        None => None,
+    }
+}
+
+fn name_at(value: &Option<Value>) -> Option<Name>
+    ensures { result ≡ name_at value.now }
+{
+    match value {
+        Some(Value::Name(name)) => Some(*name),
+        _ => None,
+    }
+}
+
+fn prog_name_at(value: &Option<Value>) -> Option<ProgName>
+    ensures { result ≡ prog_name_at value.now }
+{
+    match value {
+        Some(Value::ProgName(name)) => Some(*name),
+        _ => None,
+    }
+}
+
+fn number_at(value: Option<Value>) -> Option<u16>
+    ensures { result ≡ number_at value }
+{
+    match value {
+        Some(Value::Number(number)) => Some(number),
+        _ => None,
+    }
+}
+
+// The same in a wider type.
+fn wide_at(value: Option<Value>) -> Option<u32>
+    ensures { result ≡ number_at value }
+{
+    match value {
+        Some(Value::Number(number)) => Some(u32::from(number)),
+        _ => None,
+    }
+}
+
+fn ticks_at(value: Option<Value>) -> Option<u64>
+    ensures { result ≡ number_at value }
+{
+    match value {
+        Some(Value::Number(number)) => Some(u64::from(number)),
+        _ => None,
+    }
+}
+
+fn class_at(value: Option<Value>) -> Option<u8>
+    ensures { result ≡ class_at value }
+{
+    match value {
+        Some(Value::Class(class)) => Some(class),
+        _ => None,
+    }
+}
+
+fn time_at(value: Option<Value>) -> Option<u32>
+    ensures { result ≡ time_at value }
+{
+    match value {
+        Some(Value::Time(time)) => Some(time),
+        _ => None,
+    }
+}
+
+fn call_at(value: Option<Value>) -> Option<CallUse>
+    ensures { result ≡ call_at value }
+{
+    match value {
+        Some(Value::Call(call)) => Some(call),
+        _ => None,
+    }
+}
+
+fn flag_at(value: Option<Value>) -> Option<bool>
+    ensures { result ≡ flag_at value }
+{
+    match value {
+        Some(Value::Flag(flag)) => Some(flag),
+        _ => None,
+    }
+}
+
+fn password_at(alloc: Global, value: &Option<Value>) -> Result<Option<Bytes>, OutOfMemory>
+    ensures { IfOk result (λ pass. pass ≡ password_at value.now) }
+{
+    match value {
+        Some(Value::Password(password)) => {
+            Ok(Some(Bytes::from_slice(alloc, password.as_slice())?))
+        }
+        _ => Ok(None),
+    }
+}
+
+fn max_said(given: &Given) -> Said
+    ensures { result ≡ max_said (answers keywords.Max given.now.slots) }
+{
+    Said::Max(MaxOperands {
+        appliname: name_at(&answer(Keyword::Max, given, Key::Appliname)),
+        tasks: number_at(answer(Keyword::Max, given, Key::Tasks)),
+        asyntasks: number_at(answer(Keyword::Max, given, Key::Asyntasks)),
+        gssbs: wide_at(answer(Keyword::Max, given, Key::Gssbs)),
+        lssbs: wide_at(answer(Keyword::Max, given, Key::Lssbs)),
+        kb: wide_at(answer(Keyword::Max, given, Key::Kb)),
+        spab: wide_at(answer(Keyword::Max, given, Key::Spab)),
+        nb: wide_at(answer(Keyword::Max, given, Key::Nb)),
+        pgpool: wide_at(answer(Keyword::Max, given, Key::Pgpool)),
+        reswait: ticks_at(answer(Keyword::Max, given, Key::Reswait)),
+        blksize: wide_at(answer(Keyword::Max, given, Key::Blksize)),
+    })
+}
+
+fn program_said(given: &Given) -> Option<Said>
+    ensures { result ≡ program_said (answers keywords.Program given.now.slots) }
+{
+    let name = prog_name_at(&answer(Keyword::Program, given, Key::First))?;
+    Some(Said::Program(name))
+}
+
+// The class of a TAC; 0 for none, which only a dialogue TAC has.
+fn class_of(asynchronous: bool, class: Option<u8>) -> u8
+    ensures { result ≡ class_of asynchronous class }
+{
+    match class {
+        Some(class) => class,
+        None if asynchronous => 16,
+        None => 0,
+    }
+}
+
+fn tac_entry(given: &Given) -> Option<TacEntry>
+    ensures { result ≡ tac_entry (answers keywords.Tac given.now.slots) }
+{
+    let program = prog_name_at(&answer(Keyword::Tac, given, Key::Program))?;
+    let asynchronous = flag_at(answer(Keyword::Tac, given, Key::Type))?;
+    let call = call_at(answer(Keyword::Tac, given, Key::Call))?;
+    let on = flag_at(answer(Keyword::Tac, given, Key::Status))?;
+    let class = class_at(answer(Keyword::Tac, given, Key::TacClass));
+    let time = time_at(answer(Keyword::Tac, given, Key::Time))?;
+    Some(TacEntry {
+        program,
+        asynchronous,
+        call,
+        on,
+        class: class_of(asynchronous, class),
+        time,
+    })
+}
+
+fn tac_said(given: &Given) -> Option<Said>
+    ensures { result ≡ tac_said (answers keywords.Tac given.now.slots) }
+{
+    let name = name_at(&answer(Keyword::Tac, given, Key::First))?;
+    let entry = tac_entry(given)?;
+    Some(Said::Tac(name, entry))
+}
+
+fn user_said(alloc: Global, given: &Given) -> Result<Option<Said>, OutOfMemory>
+    ensures { IfOk result (λ said. said ≡ user_said (answers keywords.User given.now.slots)) }
+{
+    let Some(name) = name_at(&answer(Keyword::User, given, Key::First)) else {
+        return Ok(None);
+    };
+    let Some(restart) = flag_at(answer(Keyword::User, given, Key::Restart)) else {
+        return Ok(None);
+    };
+    let pass = password_at(alloc, &answer(Keyword::User, given, Key::Pass))?;
+    Ok(Some(Said::User(name, UserEntry { pass, restart })))
+}
+
+// A PTERM without LTERM is passed over.
+fn pterm_said(given: &Given) -> Option<Said>
+    ensures { result ≡ pterm_said (answers keywords.Pterm given.now.slots) }
+{
+    let name = name_at(&answer(Keyword::Pterm, given, Key::First))?;
+    match name_at(&answer(Keyword::Pterm, given, Key::Lterm)) {
+        Some(lterm) => Some(Said::Pterm(name, PtermEntry { lterm })),
+        None => Some(Said::Passed),
+    }
+}
+
+fn lterm_said(given: &Given) -> Option<Said>
+    ensures { result ≡ lterm_said (answers keywords.Lterm given.now.slots) }
+{
+    let name = name_at(&answer(Keyword::Lterm, given, Key::First))?;
+    let printer = flag_at(answer(Keyword::Lterm, given, Key::Usage))?;
+    Some(Said::Lterm(name, LtermEntry { printer }))
+}
+
+fn tls_said(given: &Given) -> Option<Said>
+    ensures { result ≡ tls_said (answers keywords.Tls given.now.slots) }
+{
+    let name = name_at(&answer(Keyword::Tls, given, Key::First))?;
+    Some(Said::Tls(name))
+}
+
+fn uls_said(given: &Given) -> Option<Said>
+    ensures { result ≡ uls_said (answers keywords.Uls given.now.slots) }
+{
+    let name = name_at(&answer(Keyword::Uls, given, Key::First))?;
+    Some(Said::Uls(name))
+}
+
+fn class_said(given: &Given) -> Option<Said>
+    ensures { result ≡ class_said (answers keywords.TacClass given.now.slots) }
+{
+    let class = class_at(answer(Keyword::TacClass, given, Key::First))?;
+    let tasks = number_at(answer(Keyword::TacClass, given, Key::Tasks))?;
+    Some(Said::TacClass(class, tasks))
+}
+
+/// What the statement says; `None` where an operand is missing that has no default.
+pub(crate) fn said_of(
+    alloc: Global,
+    keyword: Keyword,
+    given: &Given,
+) -> Result<Option<Said>, OutOfMemory>
+    ensures { IfOk result (λ said. said ≡ said_of keyword (answers keyword given.now.slots)) }
+{
+    match keyword {
+        Keyword::Max => Ok(Some(max_said(given))),
+        Keyword::Program => Ok(program_said(given)),
+        Keyword::Tac => Ok(tac_said(given)),
+        Keyword::User => user_said(alloc, given),
+        Keyword::Pterm => Ok(pterm_said(given)),
+        Keyword::Lterm => Ok(lterm_said(given)),
+        Keyword::Tls => Ok(tls_said(given)),
+        Keyword::Uls => Ok(uls_said(given)),
+        Keyword::TacClass => Ok(class_said(given)),
+    }
+}

@@ -1,0 +1,254 @@
+//! The value of an operand, by the kind of its row.
+ghost use Rattle.std.specs.Prelude.{◌≡◌};
+ghost use Rattle.kdcdef_read.specs.Values.{number_text, number_between, number_in, class_in, time_in, flag_of, call_of, blksize_of, choice_of, one_of, name_in, prog_name_in, password_in, file_of, file_in, mode_of, mode_in, value_of};
+
+use crate::fault::Cause;
+use crate::password::Password;
+use crate::rows::{Choice, Kind};
+use crate::words::is;
+use kd_base::{Name, ProgName, decimal_of};
+use kdcdef_lex::{RawItem, RawValue};
+use kdcdef_types::CallUse;
+
+/// What an operand says.
+#[derive(Clone, Copy, Debug)]
+pub enum Value {
+    Name(Name),
+    ProgName(ProgName),
+    Number(u16),
+    /// A TAC class.
+    Class(u8),
+    /// The statements that a unit run may have.
+    Time(u32),
+    Call(CallUse),
+    /// TYPE=A, STATUS=ON, RESTART=YES, USAGE=O.
+    Flag(bool),
+    Password(Password),
+    /// A value that is read and not kept.
+    Accepted,
+}
+
+// The digits of a number: a word, or the word that is a list's first item.
+fn number_text(raw: &RawValue) -> &[u8]
+    ensures { result.now ≡ number_text raw.now }
+{
+    match raw {
+        RawValue::Word(word) => word.as_slice(),
+        RawValue::Listed(items) => match items.as_slice() {
+            [Some(RawItem::Word(word)), ..] => word.as_slice(),
+            _ => &[],
+        },
+        RawValue::Quoted(_) => &[],
+    }
+}
+
+// A number from low to high.
+fn number_between(low: u64, high: u64, raw: &RawValue) -> Result<u64, Cause>
+    ensures { result ≡ number_between low high raw.now }
+{
+    let Some(number) = decimal_of(number_text(raw)) else {
+        return Err(Cause::BadNumber);
+    };
+    if low <= number && number <= high {
+        Ok(number)
+    } else {
+        Err(Cause::OutOfRange)
+    }
+}
+
+fn number_in(low: u16, high: u16, raw: &RawValue) -> Result<Value, Cause>
+    ensures { result ≡ number_in low high raw.now }
+{
+    let number = number_between(u64::from(low), u64::from(high), raw)?;
+    Ok(Value::Number(number as u16))
+}
+
+fn class_in(raw: &RawValue) -> Result<Value, Cause>
+    ensures { result ≡ class_in raw.now }
+{
+    let number = number_between(1, 16, raw)?;
+    Ok(Value::Class(number as u8))
+}
+
+fn time_in(raw: &RawValue) -> Result<Value, Cause>
+    ensures { result ≡ time_in raw.now }
+{
+    let number = number_between(0, 100_000, raw)?;
+    if number == 0 {
+        return Ok(Value::Time(100_000));
+    }
+    Ok(Value::Time(number as u32))
+}
+
+// A choice of two words.
+fn flag_of(off: &[u8], on: &[u8], word: &[u8]) -> Option<Value>
+    ensures { result ≡ flag_of off.now on.now word.now }
+{
+    if is(word, off) {
+        return Some(Value::Flag(false));
+    }
+    if is(word, on) {
+        return Some(Value::Flag(true));
+    }
+    None
+}
+
+fn call_of(word: &[u8]) -> Option<Value>
+    ensures { result ≡ call_of word.now }
+{
+    if is(word, b"BOTH") {
+        return Some(Value::Call(CallUse::Both));
+    }
+    if is(word, b"FIRST") {
+        return Some(Value::Call(CallUse::First));
+    }
+    if is(word, b"NEXT") {
+        return Some(Value::Call(CallUse::Next));
+    }
+    None
+}
+
+fn blksize_of(word: &[u8]) -> Option<Value>
+    ensures { result ≡ blksize_of word.now }
+{
+    if is(word, b"2K") {
+        return Some(Value::Number(2048));
+    }
+    if is(word, b"4K") {
+        return Some(Value::Number(4096));
+    }
+    if is(word, b"8K") {
+        return Some(Value::Number(8192));
+    }
+    None
+}
+
+fn choice_of(choice: Choice, word: &[u8]) -> Option<Value>
+    ensures { result ≡ choice_of choice word.now }
+{
+    match choice {
+        Choice::Type => flag_of(b"D", b"A", word),
+        Choice::Call => call_of(word),
+        Choice::Status => flag_of(b"OFF", b"ON", word),
+        Choice::Restart => flag_of(b"NO", b"YES", word),
+        Choice::Usage => flag_of(b"D", b"O", word),
+        Choice::Blksize => blksize_of(word),
+    }
+}
+
+fn one_of(choice: Choice, raw: &RawValue) -> Result<Value, Cause>
+    ensures { result ≡ one_of choice raw.now }
+{
+    match raw {
+        RawValue::Word(word) => match choice_of(choice, word.as_slice()) {
+            Some(value) => Ok(value),
+            None => Err(Cause::BadChoice),
+        },
+        _ => Err(Cause::BadChoice),
+    }
+}
+
+fn name_in(raw: &RawValue) -> Result<Value, Cause>
+    ensures { result ≡ name_in raw.now }
+{
+    match raw {
+        RawValue::Word(word) => match Name::from_bytes(word.as_slice()) {
+            Some(name) => Ok(Value::Name(name)),
+            None => Err(Cause::BadName),
+        },
+        RawValue::Quoted(_) => Err(Cause::BadName),
+        RawValue::Listed(_) => Err(Cause::BadChoice),
+    }
+}
+
+fn prog_name_in(raw: &RawValue) -> Result<Value, Cause>
+    ensures { result ≡ prog_name_in raw.now }
+{
+    match raw {
+        RawValue::Word(word) => match ProgName::from_bytes(word.as_slice()) {
+            Some(name) => Ok(Value::ProgName(name)),
+            None => Err(Cause::BadName),
+        },
+        RawValue::Quoted(_) => Err(Cause::BadName),
+        RawValue::Listed(_) => Err(Cause::BadChoice),
+    }
+}
+
+fn password_in(raw: &RawValue) -> Result<Value, Cause>
+    ensures { result ≡ password_in raw.now }
+{
+    match raw {
+        RawValue::Word(bytes) | RawValue::Quoted(bytes) => {
+            match Password::from_bytes(bytes.as_slice()) {
+                Some(password) => Ok(Value::Password(password)),
+                None => Err(Cause::OutOfRange),
+            }
+        }
+        RawValue::Listed(_) => Err(Cause::BadChoice),
+    }
+}
+
+// The second item of KDCFILE's list.
+fn file_of(word: &[u8]) -> Result<Value, Cause>
+    ensures { result ≡ file_of word.now }
+{
+    if is(word, b"SINGLE") {
+        return Ok(Value::Accepted);
+    }
+    if is(word, b"DOUBLE") {
+        return Err(Cause::NotInProfile);
+    }
+    Err(Cause::BadChoice)
+}
+
+fn file_in(raw: &RawValue) -> Result<Value, Cause>
+    ensures { result ≡ file_in raw.now }
+{
+    match raw {
+        RawValue::Word(_) => Ok(Value::Accepted),
+        RawValue::Quoted(_) => Err(Cause::BadChoice),
+        RawValue::Listed(items) => match items.as_slice() {
+            [Some(RawItem::Word(_)), Some(RawItem::Word(word))] => file_of(word.as_slice()),
+            _ => Err(Cause::BadChoice),
+        },
+    }
+}
+
+fn mode_of(word: &[u8]) -> Result<Value, Cause>
+    ensures { result ≡ mode_of word.now }
+{
+    if is(word, b"SECURE") {
+        return Ok(Value::Accepted);
+    }
+    if is(word, b"FAST") {
+        return Err(Cause::NotInProfile);
+    }
+    Err(Cause::BadChoice)
+}
+
+fn mode_in(raw: &RawValue) -> Result<Value, Cause>
+    ensures { result ≡ mode_in raw.now }
+{
+    match raw {
+        RawValue::Word(word) => mode_of(word.as_slice()),
+        _ => Err(Cause::BadChoice),
+    }
+}
+
+/// What an operand with this value says.
+pub(crate) fn value_of(kind: Kind, raw: &RawValue) -> Result<Value, Cause>
+    ensures { result ≡ value_of kind raw.now }
+{
+    match kind {
+        Kind::Name => name_in(raw),
+        Kind::ProgName => prog_name_in(raw),
+        Kind::Number(low, high) => number_in(low, high, raw),
+        Kind::Class => class_in(raw),
+        Kind::Time => time_in(raw),
+        Kind::OneOf(choice) => one_of(choice, raw),
+        Kind::Password => password_in(raw),
+        Kind::File => file_in(raw),
+        Kind::Mode => mode_in(raw),
+        Kind::Unavailable => Err(Cause::NotInProfile),
+    }
+}

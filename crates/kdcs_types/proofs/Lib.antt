@@ -1,0 +1,3 @@
+mod AtPlaces
+mod Numbers
+mod Room

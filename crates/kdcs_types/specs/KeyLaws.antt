@@ -1,0 +1,118 @@
+-- The order of keys is total, and only equal keys tie; so it is for areas and services.
+use Rattle.std.specs.Prelude.{◌≡◌, refl, ℕ, true, List, [], ◌∷◌, slice_index, ◌==◌, if◌then◌else◌}
+use Rattle.std.proofs.Common.{sym, ap, ◌∙◌, true≢false}
+use Rattle.std.specs.Ordering.{is_eq, ordering_then}
+use Rattle.std.specs.declared.cmp.Ordering.{Ordering}
+use Rattle.std.specs.declared.cmp.Ordering.TheVariants.{Less, Equal, Greater}
+use Rattle.std.specs.Cmp.{IsTotalOrder, on_total, tied_itself}
+use Rattle.std.specs.Cmp.Lexicographic.{lists_total, nat_list_cmp_total}
+use Rattle.std.specs.FinMap.{IsAntisymmetric, slice_cmp-IsAntisymmetric, nat_cmp-IsAntisymmetric}
+use Rattle.kdcs_types.specs.declared.key.Area.{Area}
+use Rattle.kdcs_types.specs.declared.key.Area.TheVariants as area
+use Rattle.kdcs_types.specs.declared.key.ServiceId.{ServiceId}
+use Rattle.kdcs_types.specs.declared.key.ServiceId.TheVariants as id
+use Rattle.kdcs_types.specs.declared.key.Key.{Key}
+use Rattle.kdcs_types.specs.declared.key.Key.TheVariants as key
+use Rattle.kdcs_types.specs.Keys.{id_texts, key_texts, texts_cmp, key_cmp, key_eq, area_key, area_cmp, area_eq, id_cmp, id_eq}
+
+pub then_equal : (r : Ordering) → ordering_then r Equal ≡ r
+then_equal Less = refl
+then_equal Equal = refl
+then_equal Greater = refl
+
+pub key_total : IsTotalOrder key_cmp
+key_total = on_total key_texts (lists_total nat_list_cmp_total)
+
+pub id_total : IsTotalOrder id_cmp
+id_total = on_total (λ i. key.Service i) key_total
+
+pub area_total : IsTotalOrder area_cmp
+area_total = on_total area_key key_total
+
+texts_same : IsAntisymmetric texts_cmp
+texts_same = slice_cmp-IsAntisymmetric (slice_cmp-IsAntisymmetric nat_cmp-IsAntisymmetric)
+
+abbrev head : List (List ℕ) → List ℕ
+head [] = []
+head (t ∷ ts) = t
+
+abbrev tail : List (List ℕ) → List (List ℕ)
+tail [] = []
+tail (t ∷ ts) = ts
+
+abbrev id_of : List (List ℕ) → ServiceId
+id_of ts = if slice_index (head ts) 0 == 65 then id.Asynchronous (slice_index (head (tail ts)) 0) else id.Dialogue (head (tail ts))
+
+id_back : (i : ServiceId) → id_of (id_texts i) ≡ i
+id_back (id.Asynchronous number) = refl
+id_back (id.Dialogue user) = refl
+
+abbrev key_of : List (List ℕ) → Key
+key_of ts =
+    if slice_index (head ts) 0 == 1 then key.Gssb (head (tail ts))
+    else if slice_index (head ts) 0 == 2 then key.Tls (head (tail ts)) (head (tail (tail ts)))
+    else if slice_index (head ts) 0 == 3 then key.Uls (head (tail ts)) (head (tail (tail ts)))
+    else if slice_index (head ts) 0 == 4 then key.Service (id_of (tail ts))
+    else if slice_index (head ts) 0 == 5 then key.Job (slice_index (head (tail ts)) 0)
+    else key.Shown (head (tail ts))
+
+key_back : (k : Key) → key_of (key_texts k) ≡ k
+key_back (key.Gssb name) = refl
+key_back (key.Tls block lterm) = refl
+key_back (key.Uls block user) = refl
+key_back (key.Service service) = ap (λ i. key.Service i) (id_back service)
+key_back (key.Job number) = refl
+key_back (key.Shown lterm) = refl
+
+pub same_key : IsAntisymmetric key_cmp
+same_key a b e = sym (key_back a) ∙ ap key_of (texts_same (key_texts a) (key_texts b) e) ∙ key_back b
+
+abbrev id_in : ServiceId → Key → ServiceId
+id_in i (key.Service j) = j
+id_in i (key.Gssb name) = i
+id_in i (key.Tls block lterm) = i
+id_in i (key.Uls block user) = i
+id_in i (key.Job number) = i
+id_in i (key.Shown lterm) = i
+
+pub same_id : IsAntisymmetric id_cmp
+same_id i j e = ap (id_in i) (same_key (key.Service i) (key.Service j) e)
+
+abbrev area_in : Area → Key → Area
+area_in a (key.Gssb name) = area.Gssb name
+area_in a (key.Tls block lterm) = area.Tls block lterm
+area_in a (key.Uls block user) = area.Uls block user
+area_in a (key.Service i) = a
+area_in a (key.Job number) = a
+area_in a (key.Shown lterm) = a
+
+area_back : (a b : Area) → area_in b (area_key a) ≡ a
+area_back (area.Gssb name) b = refl
+area_back (area.Tls block lterm) b = refl
+area_back (area.Uls block user) b = refl
+
+pub same_area : IsAntisymmetric area_cmp
+same_area a b e = sym (area_back a a) ∙ ap (area_in a) (same_key (area_key a) (area_key b) e) ∙ area_back b a
+
+pub is_equal : (r : Ordering) → is_eq r ≡ true → r ≡ Equal
+is_equal Less e = absurd (true≢false (sym e))
+is_equal Equal e = refl
+is_equal Greater e = absurd (true≢false (sym e))
+
+pub key_eq-same : (a b : Key) → key_eq a b ≡ true → a ≡ b
+key_eq-same a b e = same_key a b (is_equal _ e)
+
+pub key_eq-itself : (a : Key) → key_eq a a ≡ true
+key_eq-itself a = ap is_eq (tied_itself key_total a)
+
+pub area_eq-same : (a b : Area) → area_eq a b ≡ true → a ≡ b
+area_eq-same a b e = same_area a b (is_equal _ e)
+
+pub area_eq-itself : (a : Area) → area_eq a a ≡ true
+area_eq-itself a = ap is_eq (tied_itself area_total a)
+
+pub id_eq-same : (i j : ServiceId) → id_eq i j ≡ true → i ≡ j
+id_eq-same i j e = same_id i j (is_equal _ e)
+
+pub id_eq-itself : (i : ServiceId) → id_eq i i ≡ true
+id_eq-itself i = ap is_eq (tied_itself id_total i)

@@ -1,0 +1,130 @@
+//! Services, jobs, and what a transaction keeps for its replay.
+
+ghost use Rattle.std.specs.Prelude.{◌≡◌};
+
+use crate::call::{Cause, Code};
+use crate::key::{Area, ServiceId, Target};
+use crate::lists::{Areas, Notes, Parts};
+use kd_base::{Bytes, Name};
+use std::alloc::AllocError;
+
+/// A service at its last synchronisation point.
+#[derive(Debug, Drop)]
+pub struct Service {
+    pub id: ServiceId,
+    /// The TAC that started it: KCTACVG.
+    pub first: Name,
+    /// The TAC whose unit runs next: KCTACAL.
+    pub next: Name,
+    /// It awaits the next terminal input.
+    pub awaits: bool,
+    pub user: Name,
+    /// The LTERM of an asynchronous service. `None` exactly for a dialogue service, which has the LTERM of its input.
+    pub lterm: Option<Name>,
+    /// The communication area KB.
+    pub kb: Bytes,
+    /// The message that the next program unit reads.
+    pub handed: Parts,
+    /// The last dialogue message.
+    pub last: Option<Bytes>,
+    /// The local secondary storage areas, in ascending order of their names without repeats.
+    pub lssbs: Areas,
+}
+
+/// What a job is, beside its number.
+#[derive(Debug, Drop)]
+pub struct JobValue {
+    pub to: Target,
+    /// The clock from which on it may be taken.
+    pub due: u64,
+    /// The user of the service that made it.
+    pub user: Name,
+    /// The LTERM of the service that made it.
+    pub lterm: Name,
+    pub message: Bytes,
+}
+
+/// A job: an asynchronous message by its number, from 1 on.
+#[derive(Debug, Drop)]
+pub struct Job {
+    pub number: u64,
+    pub value: JobValue,
+}
+
+/// What a transaction was told of a lock, and which its replay has to be told again.
+#[derive(Debug, Drop)]
+pub enum Note {
+    /// It released this area, in which it saw this content.
+    Released(Area, Option<Bytes>),
+    /// Its request for this area was refused with this code, K04 or K05.
+    Refused(Area, Code),
+}
+
+/// How a transaction ended.
+#[derive(Clone, Copy, Debug, PartialEq, Eq)]
+pub enum Ending {
+    /// By a synchronisation point.
+    Synced,
+    /// By an abnormal end of this cause.
+    Broken(Cause),
+    /// By PEND FR.
+    BrokenFr,
+}
+
+/// What a transaction keeps for its replay.
+#[derive(Debug, Drop)]
+pub struct Settled {
+    pub service: ServiceId,
+    /// The service's row as the transaction began, or none for a service without a row.
+    pub began: Option<Service>,
+    /// The inputs that it accepted.
+    pub inputs: Parts,
+    pub notes: Notes,
+    /// How many statements were done.
+    pub statements: u64,
+    pub ending: Ending,
+}
+
+impl Clone for Service {
+    ghost is_clone = { λ service copy. copy ≡ service };
+
+    fn clone(&self) -> Result<Service, AllocError> {
+        Ok(Service {
+            id: self.id,
+            first: self.first,
+            next: self.next,
+            awaits: self.awaits,
+            user: self.user,
+            lterm: self.lterm,
+            kb: self.kb.clone()?,
+            handed: self.handed.clone()?,
+            last: self.last.clone()?,
+            lssbs: self.lssbs.clone()?,
+        })
+    }
+}
+
+impl Clone for JobValue {
+    ghost is_clone = { λ value copy. copy ≡ value };
+
+    fn clone(&self) -> Result<JobValue, AllocError> {
+        Ok(JobValue {
+            to: self.to,
+            due: self.due,
+            user: self.user,
+            lterm: self.lterm,
+            message: self.message.clone()?,
+        })
+    }
+}
+
+impl Clone for Job {
+    ghost is_clone = { λ job copy. copy ≡ job };
+
+    fn clone(&self) -> Result<Job, AllocError> {
+        Ok(Job {
+            number: self.number,
+            value: self.value.clone()?,
+        })
+    }
+}

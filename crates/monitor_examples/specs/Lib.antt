@@ -1,0 +1,4 @@
+pub mod SampleUnits
+pub mod Sample
+pub mod Words
+pub mod Rows

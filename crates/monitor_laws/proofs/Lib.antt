@@ -1,0 +1,5 @@
+pub mod Deadlocks
+pub mod Exclusive
+pub mod ExclusiveSteps
+pub mod Jobs
+pub mod OwnRows

@@ -1,0 +1,5 @@
+use Rattle.monitor_laws.proofs.Deadlocks.{deadlocks_found}
+use Rattle.monitor_laws.proofs.deadlocks_are_found.Goals as goal
+
+pub returns : goal.returns
+returns c = deadlocks_found

@@ -1,0 +1,29 @@
+-- The cut of a trace: what was sent and what is stored, at some moment of a run.
+use Rattle.std.specs.Prelude.{◌≡◌, ◌⊎◌, ℕ, List, [], ◌∷◌, ◌++◌, take}
+use Rattle.kdcs_types.specs.declared.act.Act.{Act}
+use Rattle.kdcs_types.specs.declared.act.Act.TheVariants.{Emit}
+use Rattle.kdcs_types.specs.Tables.{TableRows}
+use Rattle.monitor_semantics.specs.Bytes.{Bytes}
+use Rattle.monitor_semantics.specs.Trace.{tables_after, bytes_of}
+
+-- the bytes are those of the acts that are done, and perhaps a part of the line that is next
+abbrev pub SentBy : List Act → List Act → Bytes → Type 0
+SentBy done left out =
+    (out ≡ bytes_of done) ⊎ ((line : Bytes) × (rest : List Act) × (left ≡ Emit line ∷ rest) × (n : ℕ) × (out ≡ bytes_of done ++ take n line))
+
+-- some first acts of all were done, the image stands for the durable tables after them, and these bytes were sent
+pub record IsCut (stands : TableRows → Bytes → Type 0) (start : TableRows) (all : List Act) (image out : Bytes) : Type 0 where
+  pub done : List Act
+  pub left : List Act
+  pub whole : all ≡ done ++ left
+  pub file : stands (tables_after start done) image
+  pub bytes : SentBy done left out
+
+-- nothing was sent, and the file is empty or stands for no tables: a stop came while it was made
+pub record IsUnmade (stands : TableRows → Bytes → Type 0) (image out : Bytes) : Type 0 where
+  pub nothing_sent : out ≡ []
+  pub no_tables : (image ≡ []) ⊎ ((t : TableRows) → stands t image → ⊥)
+
+-- what a run may leave: a cut, or, where its file was empty, an unmade file
+abbrev pub IsCutOrUnmade : (TableRows → Bytes → Type 0) → TableRows → List Act → (was_empty : Type 0) → (image out : Bytes) → Type 0
+IsCutOrUnmade stands start all was_empty image out = IsCut stands start all image out ⊎ (was_empty × IsUnmade stands image out)

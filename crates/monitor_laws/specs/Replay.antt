@@ -1,0 +1,209 @@
+-- A kept record, run again in one go, with no other service and against tables alone.
+use Rattle.std.specs.Prelude.{◌≡◌, ◌<◌, ◌≤◌, IsTrue, ℕ, zero, suc, Bool, true, false, List, [], drop, length, filter, slice_get, nat_le, Option, Some, None}
+use Rattle.std.specs.List.{list_all}
+use Rattle.std.specs.FinMap.{find}
+use Rattle.kdcs_types.specs.declared.call.Cause.{Cause}
+use Rattle.kdcs_types.specs.declared.key.Area.{Area}
+use Rattle.kdcs_types.specs.declared.key.ServiceId.{ServiceId}
+use Rattle.kdcs_types.specs.declared.key.ServiceId.TheVariants.{Dialogue, Asynchronous}
+use Rattle.kdcs_types.specs.declared.service.Ending.{Ending}
+use Rattle.kdcs_types.specs.declared.service.Ending.TheVariants.{Synced, Broken}
+use Rattle.kdcs_types.specs.declared.service.JobValue.{JobValue}
+use Rattle.kdcs_types.specs.declared.service.Note.{Note}
+use Rattle.kdcs_types.specs.declared.service.Note.TheVariants.{Released, Refused}
+use Rattle.kdcs_types.specs.declared.service.Service.{Service}
+use Rattle.kdcs_types.specs.declared.service.Settled.{Settled}
+use Rattle.kdcs_types.specs.Keys.{area_eq, id_cmp}
+use Rattle.kdcs_types.specs.Tables.{TableRows, content_of, job_of}
+use Rattle.monitor_semantics.specs.Bytes.{Bytes}
+use Rattle.monitor_semantics.specs.State.{Application, OpenTransaction, State}
+use Rattle.monitor_semantics.specs.Calls.{Told, Asked, Granted, Denied, or_empty}
+use Rattle.monitor_semantics.specs.Endings.{is_asynchronous, opened, header_of, opened_by_start, opened_by_input, opened_by_row, opened_by_job, lterm_of_row, followed_by_input, with_service, synchronised, broken, durable, refusal}
+use Rattle.monitor_semantics.specs.Statements.{Happened, Went, Queued, Waited, Held, Settles, Breaks, Returns, statement, area_of, Kept, kept_so_far, kept_of}
+use Rattle.monitor_semantics.specs.Turns.{turn_of}
+
+-- ---- notes
+
+-- the area of a note
+abbrev pub noted_area : Note → Area
+noted_area (Released area content) = area
+noted_area (Refused area code) = area
+
+-- the notes on an area, in order
+abbrev pub notes_on : Area → List Note → List Note
+notes_on area notes = filter (λ (n : Note). area_eq area (noted_area n)) notes
+
+-- the notes of a record on an area, without those that its replay has used: it makes these again
+abbrev pub unused : Kept → OpenTransaction → Area → List Note
+unused r x area = drop (length (notes_on area x.notes)) (notes_on area r.notes)
+
+-- the note that the next request for the area looks at
+abbrev pub first_unused : Kept → OpenTransaction → Area → Option Note
+first_unused r x area = slice_get (unused r x area) 0
+
+-- K04 or K05 where the note says so; else the request is granted
+abbrev pub asked_by_note : Option Note → Asked
+asked_by_note None = Granted
+asked_by_note (Some (Released area content)) = Granted
+asked_by_note (Some (Refused area code)) = Denied code
+
+-- what it saw in an area that it released, else what stands in the tables
+abbrev pub content_by_note : Option Note → Option Bytes → Option Bytes
+content_by_note None outside = outside
+content_by_note (Some (Released area content)) outside = content
+content_by_note (Some (Refused area code)) outside = outside
+
+-- what a replay is told of an area
+unfoldable pub replay_told : TableRows → Kept → OpenTransaction → Area → Told
+replay_told t r x area = record {
+  asked = asked_by_note (first_unused r x area);
+  content = content_by_note (first_unused r x area) (content_of t area);
+}
+
+-- ---- the opening state
+
+-- the first TAC and the LTERM, and then the inputs that were accepted
+abbrev pub tac_in : Kept → Bytes
+tac_in r = or_empty (slice_get r.inputs 0)
+
+-- the LTERM of a dialogue service
+abbrev pub lterm_in : Kept → Bytes
+lterm_in r = or_empty (slice_get r.inputs 1)
+
+-- the accepted inputs
+abbrev pub accepted : Kept → List Bytes
+accepted r = drop 2 r.inputs
+
+-- an input; none is empty
+abbrev pub input_at : Kept → ℕ → Bytes
+input_at r n = or_empty (slice_get (accepted r) n)
+
+-- a row that awaits reads the first input, another its handed parts
+abbrev pub dialogue_from : Application → Kept → Bytes → Service → (awaits : Bool) → OpenTransaction
+dialogue_from app r user row true = opened_by_input app.generation (Dialogue user) row (lterm_in r) (input_at r 0)
+dialogue_from app r user row false = opened_by_row app.generation (Dialogue user) row (lterm_in r)
+
+-- message, user and LTERM of a taken job are those of the job in the tables
+abbrev pub job_from : Application → Kept → Option JobValue → OpenTransaction
+job_from app r None = opened app.generation None (header_of [] [] (tac_in r) (tac_in r)) [] []
+job_from app r (Some job) = opened_by_job app.generation job (tac_in r)
+
+-- the open transaction before its first statement
+abbrev pub opened_from : Application → TableRows → Kept → ServiceId → Option Service → OpenTransaction
+opened_from app t r (Dialogue user) None = opened_by_start app.generation user (lterm_in r) (tac_in r) (input_at r 0)
+opened_from app t r (Dialogue user) (Some row) = dialogue_from app r user row row.awaits
+opened_from app t r (Asynchronous number) None = job_from app r (job_of t number)
+opened_from app t r (Asynchronous number) (Some row) = opened_by_row app.generation (Asynchronous number) row (lterm_of_row row.lterm)
+
+-- ---- the run
+
+-- PEND PR and PA go straight on, and PEND KP reads the next input
+abbrev pub went_on : Application → Kept → OpenTransaction → Happened → OpenTransaction
+went_on app r x (Went y) = y
+went_on app r x (Queued y) = y
+went_on app r x (Held tac) = followed_by_input app.generation x tac (input_at r (length x.inputs))
+went_on app r x Waited = x
+went_on app r x (Settles o) = x
+went_on app r x (Breaks ending) = x
+went_on app r x Returns = x
+
+-- what the next statement of a replay does
+abbrev pub replay_statement : Application → TableRows → Kept → OpenTransaction → Happened
+replay_statement app t r x = statement app (replay_told t r x (area_of app x)) (is_asynchronous r.service) x
+
+-- the open transaction after so many statements of a record
+unfoldable pub replay : Application → TableRows → Kept → ℕ → OpenTransaction
+replay app t r zero = opened_from app t r r.service r.began
+replay app t r (suc n) = let x = replay app t r n in went_on app r x (replay_statement app t r x)
+
+-- ---- the atomic result
+
+-- the tables after the statement that ended it, and how it ended
+pub record Ended : Type 0 where
+  pub tables : TableRows
+  pub ending : Ending
+
+-- the synchronised tables, or the broken ones with the cause that refuses the point
+abbrev pub settled_as : Application → TableRows → ServiceId → OpenTransaction → TableRows → Option Cause → Ended
+settled_as app t id x new None = record { tables = new; ending = Synced }
+settled_as app t id x new (Some cause) = record { tables = broken t id x; ending = Broken cause }
+
+-- where the statement leaves the transaction open, nothing has ended yet
+abbrev pub ended_by : Application → TableRows → ServiceId → OpenTransaction → Happened → Ended
+ended_by app t id x (Settles o) = let new = synchronised app.generation t id x o in settled_as app t id x new (refusal app.generation (durable app.generation new))
+ended_by app t id x (Breaks ending) = record { tables = broken t id x; ending = ending }
+ended_by app t id x (Went y) = record { tables = t; ending = Synced }
+ended_by app t id x (Queued y) = record { tables = t; ending = Synced }
+ended_by app t id x (Held tac) = record { tables = t; ending = Synced }
+ended_by app t id x Waited = record { tables = t; ending = Synced }
+ended_by app t id x Returns = record { tables = t; ending = Synced }
+
+-- the result of the statement behind those of the record
+unfoldable pub atomic : Application → TableRows → Kept → Ended
+atomic app t r = let x = replay app t r r.statements in ended_by app t r.service x (replay_statement app t r x)
+
+-- ---- which records determine a replay
+
+-- the statement leaves the transaction open
+abbrev pub GoesOn : Happened → Type 0
+GoesOn (Went y) = Unit {0}
+GoesOn (Queued y) = Unit {0}
+GoesOn (Held tac) = Unit {0}
+GoesOn Waited = ⊥
+GoesOn (Settles o) = ⊥
+GoesOn (Breaks ending) = ⊥
+GoesOn Returns = ⊥
+
+-- it synchronises, or ends abnormally
+abbrev pub EndsIt : Happened → Type 0
+EndsIt (Settles o) = Unit {0}
+EndsIt (Breaks ending) = Unit {0}
+EndsIt (Went y) = ⊥
+EndsIt (Queued y) = ⊥
+EndsIt (Held tac) = ⊥
+EndsIt Waited = ⊥
+EndsIt Returns = ⊥
+
+-- the replay used as many notes on each area as the record has, or fewer
+abbrev pub notes_suffice : Kept → OpenTransaction → Bool
+notes_suffice r x = list_all (λ (n : Note). nat_le (length (notes_on (noted_area n) x.notes)) (length (notes_on (noted_area n) r.notes))) x.notes
+
+-- each note of the record was used
+abbrev pub all_notes_used : Kept → OpenTransaction → Bool
+all_notes_used r x = list_all (λ (n : Note). nat_le (length (notes_on (noted_area n) r.notes)) (length (notes_on (noted_area n) x.notes))) r.notes
+
+-- the opening and each PEND KP find the input that they read; so does each UNLK its note; and the next statement ends it
+pub record IsDetermined (app : Application) (t : TableRows) (r : Kept) : Type 0 where
+  pub goes_on : (n : ℕ) → n < r.statements → GoesOn (replay_statement app t r (replay app t r n))
+  pub ends : EndsIt (replay_statement app t r (replay app t r r.statements))
+  pub inputs : length (replay app t r r.statements).inputs ≤ length (accepted r)
+  pub notes : IsTrue (notes_suffice r (replay app t r r.statements))
+  pub used : IsTrue (all_notes_used r (replay app t r r.statements))
+
+-- ---- serial equivalence
+
+-- the private state of an open transaction is the replay of what it has done so far on the present tables
+abbrev pub IsReplayed : Application → TableRows → ServiceId → OpenTransaction → Type 0
+IsReplayed app t id x = replay app t (kept_so_far id x) x.statements ≡ record x { awaited = None }
+
+-- each open transaction is the replay of what it has done
+abbrev pub IsReplayable : Application → State → Type 0
+IsReplayable app s = (id : ServiceId) (x : OpenTransaction) → find id_cmp id s.active ≡ Some x → IsReplayed app s.tables id x
+
+-- the tables after it and its ending are those of its record, run in one go
+abbrev pub SettlesAs : Application → TableRows → TableRows → Option Settled → Type 0
+SettlesAs app before after None = Unit {0}
+SettlesAs app before after (Some r) = (after ≡ (atomic app before (kept_of r)).tables) × (r.ending ≡ (atomic app before (kept_of r)).ending)
+
+-- a turn that settles a transaction settles it as its record does
+abbrev pub TurnsAreAtomic : Application → State → Type 0
+TurnsAreAtomic app s = (task : ℕ) → IsReplayable app s → SettlesAs app s.tables (turn_of app s task).after.tables (turn_of app s task).settled
+
+-- durable tables, with the row at the beginning of a dialogue service that is not durable
+abbrev pub with_began : TableRows → Kept → TableRows
+with_began t r = began_by t r.service r.began
+  where
+    began_by : TableRows → ServiceId → Option Service → TableRows
+    began_by u (Dialogue user) None = u
+    began_by u (Dialogue user) (Some row) = with_service u (Dialogue user) (Some row)
+    began_by u (Asynchronous number) row = u

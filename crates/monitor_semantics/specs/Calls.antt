@@ -1,0 +1,325 @@
+-- What each KDCS call answers, and how it changes the open transaction. A call is told of the outside in one value, by the running system or by a replay.
+use Rattle.std.specs.Prelude.{ℕ, ◌+◌, ◌*◌, Bool, true, false, ◌&&◌, not, List, [], ◌∷◌, ◌++◌, length, sum_by, filter, Option, Some, None, Result, Ok, Err, nat_lt, nat_le, is_some, bytes_eq, if◌then◌else◌, option_and_then}
+use Rattle.std.specs.List.{list_any}
+use Rattle.std.specs.FinMap.{find, put}
+use Rattle.std.specs.FinMap.Entries.{where_key}
+use Rattle.kd_base.specs.Text.{name_of}
+use Rattle.kd_base.specs.declared.words.Variant.{Variant}
+use Rattle.kd_base.specs.declared.words.Mode.{Mode}
+use Rattle.kd_base.specs.declared.words.Mode.TheVariants.{Relative, Absolute}
+use Rattle.kdcs_types.specs.declared.call.Call.{Call}
+use Rattle.kdcs_types.specs.declared.call.Call.TheVariants.{Init, Mget, Mput, Fget, Fput, Dput, SgetGb, SputGb, SrelGb, SgetKp, SgetRl, SputMs, SrelLb, SgetUs, SputUs, Gtda, Ptda, UnlkGb, UnlkUs, UnlkDa, Pend}
+use Rattle.kdcs_types.specs.declared.call.Cause.{Cause}
+use Rattle.kdcs_types.specs.declared.call.Cause.TheVariants.{E01, E02, E12}
+use Rattle.kdcs_types.specs.declared.call.Code.{Code}
+use Rattle.kdcs_types.specs.declared.call.Code.TheVariants.{Done, K01, K02, K03, K06, K07, K08, K09, K10, K11}
+use Rattle.kdcs_types.specs.declared.call.Reply.{Reply}
+use Rattle.kdcs_types.specs.declared.key.Area.{Area}
+use Rattle.kdcs_types.specs.declared.key.Area.TheVariants.{Gssb, Tls, Uls}
+use Rattle.kdcs_types.specs.declared.key.Target.{Target}
+use Rattle.kdcs_types.specs.declared.key.Target.TheVariants.{Tac, Lterm}
+use Rattle.kdcs_types.specs.declared.service.Note.TheVariants.{Released, Refused}
+use Rattle.kdcdef_types.specs.declared.entry.TacEntry.{TacEntry}
+use Rattle.kdcdef_types.specs.declared.entry.LtermEntry.{LtermEntry}
+use Rattle.kdcdef_types.specs.Generation.{Generated, tac_of, lterm_of, has_tls, has_uls}
+use Rattle.monitor_semantics.specs.declared.outcome.Outcome.{Outcome}
+use Rattle.monitor_semantics.specs.declared.draft.Due.{Due}
+use Rattle.monitor_semantics.specs.declared.draft.Due.TheVariants.{After, At}
+use Rattle.monitor_semantics.specs.Bytes.{Bytes, bytes_cmp}
+use Rattle.kdcs_types.specs.Keys.{area_cmp, area_eq}
+use Rattle.unit_semantics.specs.Contents.{trim_end, number_of}
+use Rattle.monitor_semantics.specs.State.{OpenTransaction}
+use Rattle.monitor_semantics.specs.Outcomes.{goes_first, pend_outcome}
+
+-- how a request for an area that the transaction does not hold is answered
+pub data Asked : Type 0 where
+  Granted MustWait : Asked
+  -- with K04 or K05
+  Denied : (code : Code) → Asked
+
+-- what a call is told of the area of which it asks: the answer to a request for it, and its content outside the transaction
+pub record Told : Type 0 where
+  pub asked : Asked
+  pub content : Option Bytes
+
+-- what a call does
+pub data Called : Type 0 where
+  -- the call is answered
+  Replied : (after : OpenTransaction) (reply : Reply) → Called
+  -- the request for the area waits
+  Waits : Called
+  -- the service ends abnormally
+  Abnormal : (cause : Cause) → Called
+  Pends : (variant : Variant) (outcome : Outcome) → Called
+
+-- ---- answers
+
+-- a code alone, with KCRLM 0
+abbrev pub plain_reply : Code → Reply
+plain_reply code = record { code = code; length = 0; content = None }
+
+-- the call is answered with a code alone
+abbrev pub replied : OpenTransaction → Code → Called
+replied x code = Replied x (plain_reply code)
+
+-- a content that was read into a field of this length: K02 where it is longer
+abbrev pub read_reply : ℕ → Bytes → Reply
+read_reply room bytes = record { code = if nat_lt room (length bytes) then K02 else Done; length = length bytes; content = Some bytes }
+
+-- what was read, or this code where there is nothing
+abbrev pub read_or : Code → OpenTransaction → ℕ → Option Bytes → Called
+read_or code x room None = replied x code
+read_or code x room (Some bytes) = Replied x (read_reply room bytes)
+
+-- E02 where the call is not for this kind of service
+abbrev pub for_kind : (allowed : Bool) → Called → Called
+for_kind true go = go
+for_kind false go = Abnormal E02
+
+-- E12 where the bytes are longer than a message may be
+abbrev pub within_length : (fits : Bool) → Called → Called
+within_length true go = go
+within_length false go = Abnormal E12
+
+-- a name operand: the bytes without trailing spaces, where they are a name
+abbrev pub name_in_operand : Bytes → Option Bytes
+name_in_operand bytes = name_of (trim_end bytes)
+
+-- K11 where the operand is no name
+abbrev pub with_name : OpenTransaction → Option Bytes → (Bytes → Called) → Called
+with_name x None go = replied x K11
+with_name x (Some name) go = go name
+
+-- K08 where the block is not declared
+abbrev pub declared : OpenTransaction → Bool → Called → Called
+declared x true go = go
+declared x false go = replied x K08
+
+-- ---- locks
+
+-- the transaction holds the area
+abbrev pub touches : OpenTransaction → Area → Bool
+touches x area = list_any (area_eq area) x.touched
+
+-- a request for an area that is held already is granted
+abbrev pub asked_by : Told → (held : Bool) → Asked
+asked_by v true = Granted
+asked_by v false = v.asked
+
+-- the area is held from now on, and no request waits
+abbrev pub touching : OpenTransaction → Area → (held : Bool) → OpenTransaction
+touching x area true = record x { awaited = None }
+touching x area false = record x { touched = area ∷ x.touched; awaited = None }
+
+-- the call goes on with the lock, or waits, or is answered K04 or K05
+abbrev pub on_answer : OpenTransaction → Area → Asked → (OpenTransaction → Called) → Called
+on_answer x area Granted go = go (touching x area (touches x area))
+on_answer x area MustWait go = Waits
+on_answer x area (Denied code) go = replied (record x { awaited = None; notes = x.notes ++ Refused area code ∷ [] }) code
+
+-- the request for the area: a lock that is granted is held from now on, K04 and K05 are noted
+abbrev pub locked : Told → OpenTransaction → Area → (OpenTransaction → Called) → Called
+locked v x area go = on_answer x area (asked_by v (touches x area)) go
+
+-- the own write or deletion comes before what lies outside
+abbrev pub shown_by : Option (Option Bytes) → Option Bytes → Option Bytes
+shown_by None outside = outside
+shown_by (Some own) outside = own
+
+-- what the transaction sees: its own last write or deletion of the area, else what lies outside
+abbrev pub seen : Told → OpenTransaction → Area → Option Bytes
+seen v x area = shown_by (find area_cmp area x.written) v.content
+
+-- ---- messages
+
+-- K01 where no part is left
+abbrev pub got_by : OpenTransaction → ℕ → List Bytes → Called
+got_by x room [] = replied x K01
+got_by x room (part ∷ rest) = Replied (record x { unread = rest }) (read_reply room part)
+
+-- MGET and FGET: the next part that is still to be read, a cut part too
+abbrev pub got : OpenTransaction → ℕ → Called
+got x room = got_by x room x.unread
+
+-- MPUT: at most 16 parts, of at most NB bytes together
+abbrev pub put_part : Generated → OpenTransaction → Bytes → Called
+put_part g x bytes =
+    within_length
+    (nat_le (sum_by length x.parts + length bytes) g.limits.nb && nat_lt (length x.parts) 16)
+    (replied (record x { parts = x.parts ++ bytes ∷ [] }) Done)
+
+-- an LTERM and a TAC never have one name
+abbrev pub target_by : Bytes → Option LtermEntry → Option TacEntry → Option Target
+target_by name (Some l) t = Some (Lterm name)
+target_by name None None = None
+target_by name None (Some t) = if t.asynchronous && goes_first t.call && t.on then Some (Tac name) else None
+
+-- whom a job may go to: an LTERM, or an asynchronous TAC with CALL other than NEXT and STATUS=ON
+unfoldable pub target_of : Generated → Bytes → Option Target
+target_of g name = target_by name (lterm_of g name) (tac_of g name)
+
+-- so many ticks from now on, or at this clock
+abbrev pub due_in : Mode → ℕ → Due
+due_in Relative ticks = After ticks
+due_in Absolute ticks = At ticks
+
+-- days, hours, minutes and seconds, where they are in range
+unfoldable pub moment_of : Mode → ℕ → ℕ → ℕ → ℕ → Option Due
+moment_of mode d h m s =
+    if nat_le d 9999 && nat_le h 23 && nat_le m 59 && nat_le s 59
+    then Some (due_in mode (86400 * d + 3600 * h + 60 * m + s))
+    else None
+
+-- K10 where a number operand is no number
+abbrev pub moment_by : Mode → Option ℕ → Option ℕ → Option ℕ → Option ℕ → Option Due
+moment_by mode (Some d) (Some h) (Some m) (Some s) = moment_of mode d h m s
+moment_by mode _ _ _ _ = None
+
+-- a new draft, once its target (K08) and then its moment (K10) are found
+abbrev pub drafted : OpenTransaction → Option Target → Option Due → Bytes → Called
+drafted x None due message = replied x K08
+drafted x (Some to) None message = replied x K10
+drafted x (Some to) (Some due) message = replied (record x { drafts = x.drafts ++ record { to = to; due = due; message = message } ∷ [] }) Done
+
+-- FPUT and DPUT
+abbrev pub put_job : Generated → OpenTransaction → Bytes → Option Due → Bytes → Called
+put_job g x to due message =
+    within_length (nat_le (length message) g.limits.nb) (with_name x (name_in_operand to) (λ name. drafted x (target_of g name) due message))
+
+-- ---- areas
+
+-- the area has this content, or is absent, for this transaction
+abbrev pub wrote : OpenTransaction → Area → Option Bytes → Called
+wrote x area content = replied (record x { written = put area_cmp area content x.written }) Done
+
+-- K03 where the area is absent
+abbrev pub deleted : OpenTransaction → Area → Option Bytes → Called
+deleted x area None = replied x K03
+deleted x area (Some bytes) = wrote x area None
+
+-- SGET GB
+abbrev pub read_gssb : Told → OpenTransaction → Bytes → ℕ → Called
+read_gssb v x name room = locked v x (Gssb name) (λ y. read_or K03 y room (seen v y (Gssb name)))
+
+-- SPUT GB
+abbrev pub write_gssb : Told → OpenTransaction → Bytes → Bytes → Called
+write_gssb v x name bytes = locked v x (Gssb name) (λ y. wrote y (Gssb name) (Some bytes))
+
+-- SREL GB
+abbrev pub delete_gssb : Told → OpenTransaction → Bytes → Called
+delete_gssb v x name = locked v x (Gssb name) (λ y. deleted y (Gssb name) (seen v y (Gssb name)))
+
+-- an absent block is empty
+abbrev pub or_empty : Option Bytes → Bytes
+or_empty None = []
+or_empty (Some bytes) = bytes
+
+-- SGET US and GTDA: a block that is absent is read as empty
+abbrev pub read_block : Told → OpenTransaction → Area → ℕ → Called
+read_block v x area room = locked v x area (λ y. Replied y (read_reply room (or_empty (seen v y area))))
+
+-- SPUT US and PTDA
+abbrev pub write_block : Told → OpenTransaction → Area → Bytes → Called
+write_block v x area bytes = locked v x area (λ y. wrote y area (Some bytes))
+
+-- UNLK: the area is held by this transaction (K06), and it has not written or deleted it (K07)
+abbrev pub unlocked_by : Told → OpenTransaction → Area → (held written : Bool) → Called
+unlocked_by v x area false _ = replied x K06
+unlocked_by v x area true true = replied x K07
+unlocked_by v x area true false =
+    replied (record x { touched = filter (λ (a : Area). not (area_eq area a)) x.touched; notes = x.notes ++ Released area v.content ∷ [] }) Done
+
+-- UNLK of an area
+abbrev pub unlocked : Told → OpenTransaction → Area → Called
+unlocked v x area = unlocked_by v x area (touches x area) (is_some (find area_cmp area x.written))
+
+-- ---- LSSBs
+
+-- the LSSBs without one
+abbrev pub without_local : Bytes → List (Bytes × Bytes) → List (Bytes × Bytes)
+without_local name lssbs = where_key bytes_cmp (λ n. not (bytes_eq name n)) lssbs
+
+-- SPUT MS: K09 where the name is new and there are LSSBS of them
+abbrev pub write_local : Generated → OpenTransaction → Bytes → Bytes → Called
+write_local g x name bytes =
+    if not (is_some (find bytes_cmp name x.lssbs)) && nat_le g.limits.lssbs (length x.lssbs)
+    then replied x K09
+    else replied (record x { lssbs = put bytes_cmp name bytes x.lssbs }) Done
+
+-- K03 where there is no such LSSB
+abbrev pub read_away_by : OpenTransaction → Bytes → ℕ → Option Bytes → Called
+read_away_by x name room None = replied x K03
+read_away_by x name room (Some bytes) = Replied (record x { lssbs = without_local name x.lssbs }) (read_reply room bytes)
+
+-- SGET RL: it is read and deleted, for K02 too
+abbrev pub read_away : OpenTransaction → Bytes → ℕ → Called
+read_away x name room = read_away_by x name room (find bytes_cmp name x.lssbs)
+
+-- K03 where there is no such LSSB
+abbrev pub delete_local_by : OpenTransaction → Bytes → Option Bytes → Called
+delete_local_by x name None = replied x K03
+delete_local_by x name (Some bytes) = replied (record x { lssbs = without_local name x.lssbs }) Done
+
+-- SREL LB
+abbrev pub delete_local : OpenTransaction → Bytes → Called
+delete_local x name = delete_local_by x name (find bytes_cmp name x.lssbs)
+
+-- ---- all calls
+
+-- a message is one part put, or more; a part may be empty
+abbrev pub has_message : List Bytes → Bool
+has_message [] = false
+has_message (part ∷ parts) = true
+
+-- the outcome of a PEND, or the cause that refuses it
+abbrev pub pended : Variant → Result Outcome Cause → Called
+pended variant (Ok o) = Pends variant o
+pended variant (Err cause) = Abnormal cause
+
+-- the name in an operand, if there is one
+abbrev pub name_by : Option Bytes → Option Bytes
+name_by None = None
+name_by (Some operand) = name_in_operand operand
+
+-- PEND with its operand
+abbrev pub pend : Generated → (asynchronous : Bool) → OpenTransaction → Variant → Option Bytes → Called
+pend g asynchronous x variant op =
+    pended variant (pend_outcome asynchronous variant (has_message x.parts) (option_and_then (tac_of g) (name_by op)) (name_by op))
+
+-- the rows of the calls, once INIT is done
+unfoldable pub called : Generated → Told → (asynchronous : Bool) → OpenTransaction → Call → Called
+called g v asynchronous x Init = Abnormal E01
+called g v asynchronous x (Mget room) = for_kind (not asynchronous) (got x room)
+called g v asynchronous x (Mput bytes) = for_kind (not asynchronous) (put_part g x bytes)
+called g v asynchronous x (Fget room) = for_kind asynchronous (got x room)
+called g v asynchronous x (Fput to message) = put_job g x to (Some (After 0)) message
+called g v asynchronous x (Dput to mode d h m s message) = put_job g x to (moment_by mode (number_of d) (number_of h) (number_of m) (number_of s)) message
+called g v asynchronous x (SgetGb name room) = with_name x (name_in_operand name) (λ n. read_gssb v x n room)
+called g v asynchronous x (SputGb name bytes) = with_name x (name_in_operand name) (λ n. write_gssb v x n bytes)
+called g v asynchronous x (SrelGb name) = with_name x (name_in_operand name) (λ n. delete_gssb v x n)
+called g v asynchronous x (SgetKp name room) = with_name x (name_in_operand name) (λ n. read_or K03 x room (find bytes_cmp n x.lssbs))
+called g v asynchronous x (SgetRl name room) = with_name x (name_in_operand name) (λ n. read_away x n room)
+called g v asynchronous x (SputMs name bytes) = with_name x (name_in_operand name) (λ n. write_local g x n bytes)
+called g v asynchronous x (SrelLb name) = with_name x (name_in_operand name) (λ n. delete_local x n)
+called g v asynchronous x (SgetUs name room) = with_name x (name_in_operand name) (λ n. declared x (has_uls g n) (read_block v x (Uls n x.user) room))
+called g v asynchronous x (SputUs name bytes) = with_name x (name_in_operand name) (λ n. declared x (has_uls g n) (write_block v x (Uls n x.user) bytes))
+called g v asynchronous x (Gtda name room) = with_name x (name_in_operand name) (λ n. declared x (has_tls g n) (read_block v x (Tls n x.lterm) room))
+called g v asynchronous x (Ptda name bytes) = with_name x (name_in_operand name) (λ n. declared x (has_tls g n) (write_block v x (Tls n x.lterm) bytes))
+called g v asynchronous x (UnlkGb name) = with_name x (name_in_operand name) (λ n. unlocked v x (Gssb n))
+called g v asynchronous x (UnlkUs name) = with_name x (name_in_operand name) (λ n. declared x (has_uls g n) (unlocked v x (Uls n x.user)))
+called g v asynchronous x (UnlkDa name) = with_name x (name_in_operand name) (λ n. declared x (has_tls g n) (unlocked v x (Tls n x.lterm)))
+called g v asynchronous x (Pend variant op) = pend g asynchronous x variant op
+
+-- before INIT is done, INIT alone is answered
+abbrev pub first_call : OpenTransaction → Call → Called
+first_call x Init = replied (record x { inited = true }) Done
+first_call x _ = Abnormal E01
+
+-- E01 where INIT is missing
+abbrev pub called_by : Generated → Told → (asynchronous : Bool) → OpenTransaction → Call → (inited : Bool) → Called
+called_by g v asynchronous x call true = called g v asynchronous x call
+called_by g v asynchronous x call false = first_call x call
+
+-- what a call answers
+unfoldable pub call_outcome : Generated → Told → (asynchronous : Bool) → OpenTransaction → Call → Called
+call_outcome g v asynchronous x call = called_by g v asynchronous x call x.inited

@@ -1,0 +1,16 @@
+pub mod Bytes
+pub mod State
+pub mod Outcomes
+pub mod Calls
+pub mod Charges
+pub mod Endings
+pub mod Statements
+pub mod Lines
+pub mod Locks
+pub mod Picks
+pub mod Turns
+pub mod Sessions
+pub mod Commands
+pub mod Trace
+pub mod Listing
+pub mod Made

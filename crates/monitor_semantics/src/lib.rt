@@ -1,0 +1,17 @@
+//! The abstract monitor: what KDCS calls, PENDs, turns of tasks, terminal inputs and script commands do, as definitions
+//! over lists and whole tables that compute; and the data types that they need beside those below.
+//!
+//! It stands on the data types, the generation and the units. A crate above proves each of its calls against one
+//! definition: `call_outcome`, `pend_outcome`, `synchronised`, `broken`, `due_job`, `pick`, `use_of`, `turn_of`,
+//! `command_of`, `started` and `trace` are the words that contracts cite.
+#![tactic(auto)]
+
+mod draft;
+mod input_use;
+mod outcome;
+mod work;
+
+pub use draft::{Draft, Due};
+pub use input_use::{ServiceState, SignFault, TacFault, Use};
+pub use outcome::Outcome;
+pub use work::Work;

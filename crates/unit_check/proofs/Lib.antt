@@ -1,0 +1,3 @@
+mod Order
+mod Laws
+mod Places

@@ -1,0 +1,30 @@
+use Rattle.std.proofs.Common.{◌≡◌, List, refl, sym, ap, ◌∙◌}
+use Rattle.std.specs.Prelude.{bytes_eq}
+use Rattle.std.specs.List.{position_from}
+use Rattle.unit_types.specs.UnitText.{UnitText}
+use Rattle.std.proofs.lemmas.List.Elements.{same_from_all_zip}
+use Rattle.unit_check.specs.Finding.{fit_fault}
+use Rattle.unit_check.proofs.Laws.{HasNoFault, no_fault, found_first, pair_same}
+use Rattle.unit_check.proofs.fitting.fit.Goals as goal
+
+pub returns-in-Some : goal.returns-in-Some
+returns-in-Some c =
+    let e = ap (fit_fault c.args.generation.now) (sym c.as_slice-2.ensures.value) ∙ sym c.in-Some.ensures in
+    record { found = tt; fault = λ _. found_first c.args.generation.now c.args.units.items c.in-Some.fault e; refused = λ fault first. refl }
+
+faultless : (c : goal.In_ok-clone) → HasNoFault c.args.generation.now c.args.units.items
+faultless c =
+    no_fault c.args.generation.now c.args.units.items c.max.ensures.sound (ap (fit_fault c.args.generation.now) (sym c.as_slice-2.ensures.value) ∙ sym c.in_default.ensures)
+
+same_tacs : (c : goal.In_ok-clone) → c.in_ok-clone.field-0.entries ≡ c.args.generation.now.tacs
+same_tacs c = same_from_all_zip _ _ _ c.in_ok-clone.ensures.cases (λ x y r. pair_same x y r.0 r.1) ∙ c.tacs.ensures
+
+pub invariant_of-result : goal.invariant_of-result
+invariant_of-result c =
+    (λ name. c.in_ok-places.ensures name ∙ ap (λ (units : List UnitText). position_from (λ (u : UnitText). bytes_eq name u.name) 0 units) c.as_slice.ensures.value, rw (c.max.ensures.limits, same_tacs c) (faultless c).fit)
+
+pub returns-clause-found : goal.returns-clause-found
+returns-clause-found c = record { units = refl; limits = c.max.ensures.limits; tacs = same_tacs c; programs = (faultless c).programs; fit = (faultless c).fit }
+
+pub returns-clause-refused : goal.returns-clause-refused
+returns-clause-refused c fault first = absurd ((faultless c).none fault first)

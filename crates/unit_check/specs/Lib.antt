@@ -1,0 +1,3 @@
+pub mod Fitted
+pub mod Faults
+pub mod Finding

@@ -1,0 +1,107 @@
+//! Fitting units to a generation.
+ghost use Rattle.std.specs.Prelude.{◌≡◌, ◌≢◌, None, IfOk, IfErr, IsErr, OnOk};
+ghost use Rattle.unit_check.specs.declared.fault.FitFault.TheVariants.{Memory};
+ghost use Rattle.unit_check.specs.Fitted.{PutsPlace, AreUnitPlaces, AreFittedTo};
+ghost use Rattle.unit_check.specs.Faults.{IsFirstFault};
+ghost use Rattle.unit_check.specs.Finding.{lacking, units_fault, fit_fault};
+
+use crate::earlier::earlier;
+use crate::fault::FitFault;
+use crate::unit::unit_fault;
+use crate::units::Units;
+use kd_base::{OutOfMemory, ProgName};
+use kdcdef_check::Generation;
+use std::alloc::Global;
+use std::collections::BTreeMap;
+use unit_types::Unit;
+
+// Puts the place of a name, unless it has one already.
+fn put_first(
+    places: &mut BTreeMap<ProgName, usize>,
+    name: ProgName,
+    place: usize,
+) -> Result<(), OutOfMemory>
+    ensures { OnOk result (PutsPlace places.old places.new name place) }
+{
+    if !places.contains_key(&name) {
+        places.insert(name, place)?;
+    }
+    Ok(())
+}
+
+// The place, from 0, of the first unit of each name.
+fn places_of(alloc: Global, units: &[Unit]) -> Result<BTreeMap<ProgName, usize>, OutOfMemory>
+    ensures { IfOk result (λ places. AreUnitPlaces places units.now) }
+{
+    let mut places: BTreeMap<ProgName, usize> = BTreeMap::new(alloc);
+    for (i, unit) in units.iter().enumerate() {
+        put_first(&mut places, *unit.name(), i)?;
+    }
+    Ok(places)
+}
+
+// The first PROGRAM statement without a unit.
+fn lacking(
+    units: &[Unit],
+    places: &BTreeMap<ProgName, usize>,
+    generation: &Generation,
+) -> Option<FitFault>
+    requires { AreUnitPlaces places.now units.now }
+    ensures { result ≡ lacking units.now generation.now.programs }
+{
+    let programs = generation.programs();
+    for i in 0..programs.len() {
+        let (name, line) = programs.get_index(i)?;
+        if !places.contains_key(name) {
+            return Some(FitFault::NoUnit(*line));
+        }
+    }
+    None
+}
+
+fn units_fault(units: &[Unit], generation: &Generation) -> Option<FitFault>
+    ensures { result ≡ units_fault generation.now units.now }
+{
+    units.iter().fold(
+        None,
+        |first, unit| earlier(first, unit_fault(generation, unit)),
+    )
+}
+
+fn fit_fault(
+    units: &[Unit],
+    places: &BTreeMap<ProgName, usize>,
+    generation: &Generation,
+) -> Option<FitFault>
+    requires { AreUnitPlaces places.now units.now }
+    ensures { result ≡ fit_fault generation.now units.now }
+{
+    match lacking(units, places, generation) {
+        Some(fault) => Some(fault),
+        None => units_fault(units, generation),
+    }
+}
+
+/// The units, where they fit the generation, or their first fault.
+///
+/// A PROGRAM statement without a unit is answered before all others, in the order of these statements. A unit that no
+/// PROGRAM statement names is tested as the others are, and kept.
+pub fn fit(alloc: Global, units: Vec<Unit>, generation: &Generation) -> Result<Units, FitFault>
+    // Units that are taken have no fault, and are all kept.
+    ensures found { IfOk result (λ fitted. AreFittedTo generation.now units.items fitted) }
+    // The fault that is answered stands, and comes first.
+    ensures fault { IfErr result (λ fault. fault ≢ Memory → IsFirstFault generation.now units.items fault) }
+    // Units with a fault are refused.
+    ensures refused { (fault : FitFault) → IsFirstFault generation.now units.items fault → IsErr result }
+{
+    let places = places_of(alloc, units.as_slice())?;
+    if let Some(fault) = fit_fault(units.as_slice(), &places, generation) {
+        return Err(fault);
+    }
+    Ok(Units {
+        units,
+        limits: *generation.max(),
+        tacs: generation.tacs().clone()?,
+        places,
+    })
+}

@@ -1,0 +1,60 @@
+//! Units that fit a generation.
+ghost use Rattle.std.specs.Prelude.{◌≡◌, ◌↔◌, IfSome, IsSome};
+ghost use Rattle.std.specs.Option.{option_copied};
+ghost use Rattle.kdcdef_types.specs.Generation.{entry_of};
+ghost use Rattle.unit_check.specs.Fitted.{unit_named, unit_of, IsFitted};
+
+use indexmap::IndexMap;
+use kd_base::{Name, ProgName};
+use kdcdef_check::NameHashing;
+use kdcdef_types::{Limits, TacEntry};
+use std::collections::BTreeMap;
+use std::marker::Model;
+use unit_types::Unit;
+
+/// Units that fit a generation. Contracts see the units in their order, and the limits and TACs of the generation.
+#[derive(Drop)]
+pub struct Units {
+    pub(crate) units: Vec<Unit>,
+    pub(crate) limits: Limits,
+    pub(crate) tacs: IndexMap<Name, TacEntry, NameHashing>,
+    // Where the first unit of a name stands.
+    pub(crate) places: BTreeMap<ProgName, usize>,
+}
+
+impl Model for Units {
+    ghost use Rattle.unit_check.specs.Fitted.{FittedUnits};
+
+    ghost Value = { FittedUnits };
+
+    ghost view = { λ u. record { units = u.units.items; limits = u.limits; tacs = u.tacs.entries } };
+
+    ghost use Rattle.unit_check.specs.Fitted.{AreUnitPlaces, AreFit};
+
+    ghost invariant = { λ u. AreUnitPlaces u.places u.units.items × AreFit u.limits u.tacs.entries u.units.items };
+}
+
+impl Units {
+    /// The unit that a TAC runs, in a time that grows only with the logarithm of the number of units; none where the
+    /// generation has no such TAC.
+    pub fn unit_of(&self, tac: Name) -> Option<&Unit>
+        ensures unit { option_copied result ≡ unit_of self.now tac }
+        ensures found { IsSome result ↔ IsSome (entry_of self.now.tacs tac) }
+        ensures fitted { IfSome result (λ unit. IsFitted self.now.limits self.now.tacs unit.now) }
+    {
+        match self.tacs.get(&tac) {
+            Some(entry) => self.unit_named(&entry.program),
+            None => None,
+        }
+    }
+
+    // The first unit of this name.
+    fn unit_named(&self, name: &ProgName) -> Option<&Unit>
+        ensures { option_copied result ≡ unit_named self.now.units name.now }
+    {
+        match self.places.get(name) {
+            Some(place) => self.units.get(*place),
+            None => None,
+        }
+    }
+}

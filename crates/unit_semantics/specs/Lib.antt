@@ -1,0 +1,4 @@
+pub mod Contents
+pub mod Fields
+pub mod Statement
+pub mod Ready

@@ -1,0 +1,40 @@
+-- A run that asks for a call is at a statement of its unit, and in its time.
+use Rattle.std.proofs.Common.{◌≡◌, ◌≢◌, ℕ, zero, suc, ◌≤◌, ◌<◌, List, length, true, false, nat_eq, inl, inr, arith, Option, Some, None}
+use Rattle.std.proofs.lemmas.Bool.{cases_Bool}
+use Rattle.std.proofs.lemmas.Bool.Decides.{nat_tests}
+use Rattle.std.proofs.lemmas.Option.{slice_get_within}
+use Rattle.kd_base.specs.Tools.{cases_option}
+use Rattle.kdcs_types.specs.declared.run_state.RunState.{RunState}
+use Rattle.unit_types.specs.declared.action.UnitStatement.{UnitStatement}
+use Rattle.unit_types.specs.UnitText.{UnitText, statement_at}
+use Rattle.unit_semantics.specs.Ready.{IsAsking}
+use Rattle.unit_semantics.specs.Statement.{step}
+
+at_a_statement : (unit : UnitText) (place : ℕ) (s : UnitStatement) → statement_at unit place ≡ Some s → place ≤ length unit.statements
+at_a_statement unit zero s is = omega arith
+at_a_statement unit (suc n) s is =
+    let h : n < length unit.statements = slice_get_within unit.statements n s is in
+    omega arith
+
+pub asks_at : (unit : UnitText) (run : RunState) → IsAsking (step unit run) → run.place ≤ length unit.statements
+unfolding step
+asks_at unit run asks =
+    elim (cases_option (statement_at unit run.place)) [
+      | inl none ↦ absurd (rw none at asks)
+      | inr found ↦ at_a_statement unit run.place found.0 found.1
+    ]
+
+differ : (a b : ℕ) → nat_eq a b ≡ false → a ≤ b → a < b
+differ a b h le = grind (arith, nat_tests)
+
+pub asks_in_time : (unit : UnitText) (run : RunState) → IsAsking (step unit run) → run.count ≤ run.budget → run.count < run.budget
+unfolding step
+asks_in_time unit run asks le =
+    elim (cases_option (statement_at unit run.place)) [
+      | inl none ↦ absurd (rw none at asks)
+      | inr found ↦
+          elim (cases_Bool (nat_eq run.count run.budget)) [
+            | inl spent ↦ absurd (rw (found.1, spent) at asks)
+            | inr left ↦ differ run.count run.budget left le
+          ]
+    ]

@@ -1,0 +1,7 @@
+use Rattle.std.proofs.Common.{arith}
+use Rattle.unit_step.proofs.Writing.{put_and_filled}
+use Rattle.unit_step.proofs.area.fill_or_cut.Goals as goal
+
+pub returns : goal.returns
+returns c =
+    put_and_filled c.args.at c.args.count c.min.result c.args.bytes.now c.args.area.now c.put.new.self c.fill.new.self c.min.ensures c.requires c.put.ensures c.fill.ensures

@@ -1,0 +1,22 @@
+use Rattle.std.proofs.Common.{◌∙◌, ap, ℕ, List}
+use Rattle.unit_types.specs.UnitText.{field_named}
+use Rattle.unit_semantics.specs.Fields.{stored}
+use Rattle.unit_semantics.specs.Statement.{moved_on}
+use Rattle.unit_step.proofs.Fields.{found_inside, gets_front, gets_nothing}
+use Rattle.unit_step.proofs.plain.move_bytes.Goals as goal
+
+pub returns-in_default-clause-ok : goal.returns-in_default-clause-ok
+returns-in_default-clause-ok c =
+    let none = c.in_default.ensures ∙ ap (λ (n : List ℕ). field_named c.args.unit.now n) c.as_slice.ensures in
+    c.move_on.ensures ∙ ap moved_on (gets_nothing c.args.unit.now c.args.run.now c.args.name.now _ none)
+
+pub store-requires : goal.store-requires
+store-requires c =
+    found_inside c.args.unit.now c.args.run.now c.as_slice.result.now c.in-Some.field.now c.requires.inside c.in-Some.ensures
+
+pub returns-clause-ok : goal.returns-clause-ok
+returns-clause-ok c =
+    let found = c.in-Some.ensures ∙ ap (λ (n : List ℕ). field_named c.args.unit.now n) c.as_slice.ensures in
+    let kept = c.as_slice-2.ensures ∙ c.in_ok-bytes.ensures ∙ c.front.ensures in
+    c.move_on-2.ensures
+    ∙ ap moved_on (c.store.ensures.stored ∙ gets_front c.args.unit.now c.args.run.now c.args.name.now c.in-Some.field.now c.value.result.now c.as_slice-2.result.now found kept ∙ ap (stored c.args.unit.now c.args.run.now c.args.name.now) c.value.ensures)

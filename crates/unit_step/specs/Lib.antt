@@ -1,0 +1,4 @@
+pub mod Header
+pub mod Calculation
+pub mod Answers
+pub mod KeepsReady
