@@ -1,5 +1,5 @@
 -- What reading answers, against what the text spells.
-use Rattle.std.proofs.Common.{◌≡◌, ℕ, List, Result, Ok, Err, refl, subst}
+use Rattle.std.proofs.Common.{ℕ, List, Result, Ok, Err, refl, subst}
 use Rattle.std.specs.Prelude.{◌≢◌, IfOk, IfErr}
 use Rattle.std.specs.Global.{Vec}
 use Rattle.unit_types.specs.UnitText.{UnitText}

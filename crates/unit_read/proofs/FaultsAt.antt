@@ -1,12 +1,11 @@
 -- The faults of pieces and of texts: what is answered stands there, and what stands there is answered.
-use Rattle.std.proofs.Common.{◌≡◌, ℕ, zero, suc, ◌+◌, ◌<◌, ◌≤◌, Bool, true, false, cond, eqb, List, [], ◌∷◌, ◌++◌, length, Option, Some, None, Result, Ok, Err, refl, sym, ap, ◌∙◌, subst, inl, inr, arith, append_assoc, length-append}
+use Rattle.std.proofs.Common.{◌≡◌, ℕ, ◌+◌, ◌<◌, ◌≤◌, true, false, cond, List, [], ◌∷◌, ◌++◌, length, Option, Some, None, Result, Ok, Err, refl, sym, ap, ◌∙◌, subst, inl, inr, arith}
 use Rattle.std.specs.Prelude.{nat_le, nat_lt}
 use Rattle.std.specs.Str.Lines.{lines}
 use Rattle.std.proofs.lemmas.Bool.{cases_Bool, leb-true, ltb-true, ltb-false}
 use Rattle.std.proofs.lemmas.Bool.Decides.{nat_tests}
 use Rattle.std.proofs.lemmas.List.{append-nil}
 use Rattle.kd_base.specs.Tools.{◌>>=◌, chosen, ok_is, err_is, ok_of, err_of, bind_ok, bind_err}
-use Rattle.unit_types.specs.declared.action.Action.{Action}
 use Rattle.unit_types.specs.declared.unit.Field.{Field}
 use Rattle.unit_types.specs.UnitText.{UnitText}
 use Rattle.unit_read.specs.declared.fault.UnitFault.{UnitFault}
@@ -16,18 +15,15 @@ use Rattle.unit_read.specs.declared.piece.Piece.TheVariants as pieces
 use Rattle.unit_read.specs.Lines.{is_passed}
 use Rattle.unit_read.specs.Names.{has_field, has_label, has_unit}
 use Rattle.unit_read.specs.Used.{uses}
-use Rattle.unit_read.specs.Units.{add_field, add_label, add_statement, with_field, with_label, with_statement, with_piece, begun, State, in_unit, nothing_read, by_current, finished}
+use Rattle.unit_read.specs.Units.{add_field, add_label, with_field, with_label, with_statement, begun, State, in_unit, nothing_read, by_current, finished}
 use Rattle.unit_read.specs.Reading.{piece_in, piece_step, line_step, read_from, read_text}
 use Rattle.unit_read.specs.Grammar.{SpellsPiece}
 use Rattle.unit_read.specs.Spelling.{Placed, has_no_body, ArePieces, AreUnits, SpellsUnits}
 use Rattle.unit_read.specs.Faults.{Stand, IsMisplaced, NamesBadField, RepeatsLabel, MeetsUnit, RepeatsUnit, IsOneTooMany, PieceFault, LineFault, EndFault, FaultNext, FirstFault, HasTextFault}
 use Rattle.unit_read.proofs.Pieced.{line_is, line_again}
-use Rattle.unit_read.proofs.Runs.{run, after_lines, no_unit, pieces_run, lines_are_pieces, run_stands, stand_run}
+use Rattle.unit_read.proofs.Runs.{after_lines, no_unit, pieces_run, lines_are_pieces, run_stands, stand_run}
 
 -- ---- a piece
-
-abbrev Has : ℕ → List UnitText → Option UnitText → Piece → UnitFault → Type 0
-Has n us o piece e = PieceFault n us o piece e
 
 err_for : (n : ℕ) (us : List UnitText) (o : Option UnitText) (piece : Piece) (d e : UnitFault) → PieceFault n us o piece d → err_of {A = State} d ≡ err_of {A = State} e → PieceFault n us o piece e
 err_for n us o piece d e h is = subst (PieceFault n us o piece) (err_is State d e is) h

@@ -2,7 +2,6 @@ pub mod FirstLine
 pub mod WordSteps
 pub mod Kept
 pub mod OpenUnits
-pub mod Giving
 pub mod Quoted
 pub mod WordLists
 pub mod Operands

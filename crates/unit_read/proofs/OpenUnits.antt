@@ -1,12 +1,11 @@
 -- An open unit with one more piece, from its parts.
-use Rattle.std.proofs.Common.{◌≡◌, ℕ, ◌+◌, Bool, true, false, List, [], ◌∷◌, ◌++◌, ◌<◌, ◌≤◌, length, Result, Ok, Err, refl, ap, arith}
+use Rattle.std.proofs.Common.{◌≡◌, ℕ, ◌+◌, Bool, true, false, List, [], ◌∷◌, ◌++◌, ◌<◌, ◌≤◌, length, Ok, Err, refl, ap, arith}
 use Rattle.std.specs.Prelude.{nat_le}
 use Rattle.std.proofs.lemmas.Bool.Decides.{nat_tests}
 use Rattle.unit_types.specs.declared.action.Action.{Action}
 use Rattle.unit_types.specs.declared.action.UnitStatement.{UnitStatement}
 use Rattle.unit_types.specs.declared.unit.Field.{Field}
 use Rattle.unit_types.specs.UnitText.{UnitText}
-use Rattle.unit_read.specs.declared.fault.UnitFault.{UnitFault}
 use Rattle.unit_read.specs.declared.fault.UnitFault.TheVariants.{BadField, LabelTwice, TooLong}
 use Rattle.unit_read.specs.Names.{has_field, has_label}
 use Rattle.unit_read.specs.Units.{with_field, with_label, with_statement}

@@ -1,16 +1,15 @@
 -- Operands: what is read is written so, and what is written so is read.
 use Rattle.std.proofs.Common.{◌≡◌, ℕ, ◌+◌, ◌-◌, ◌≤◌, Bool, true, false, cond, ◌&&◌, List, [], ◌∷◌, ◌++◌, length, take, drop, Option, Some, None, refl, sym, ap, ◌∙◌, subst, inl, inr, arith, length-append}
-use Rattle.std.specs.Prelude.{IsTrue, bytes_eq, codes, nat_le, not, is_some}
+use Rattle.std.specs.Prelude.{IsTrue, bytes_eq, codes, nat_le}
 use Rattle.std.specs.List.{list_all}
-use Rattle.std.proofs.lemmas.Bool.{cases_Bool, leb-true}
+use Rattle.std.proofs.lemmas.Bool.{leb-true}
 use Rattle.std.proofs.lemmas.Bool.Decides.{nat_tests}
 use Rattle.std.proofs.lemmas.List.{take-append-drop, take_at, drop_at}
 use Rattle.std.proofs.lemmas.Slice.Eq.{bytes_eq-Decides}
 use Rattle.kd_base.specs.declared.words.Mode.{Mode}
 use Rattle.kd_base.specs.declared.words.Mode.TheVariants.{Relative, Absolute}
-use Rattle.kd_base.specs.Fronts.{begins}
 use Rattle.kd_base.specs.Text.{is_digit, IsDecimal}
-use Rattle.kd_base.specs.Tools.{chosen, both_true, true_both, some_is}
+use Rattle.kd_base.specs.Tools.{chosen, both_true, some_is}
 use Rattle.unit_types.specs.declared.action.HeaderName.{HeaderName}
 use Rattle.unit_types.specs.declared.action.HeaderName.TheVariants.{Benid, Logter, Tacvg, Tacal, Crccc, Rlm}
 use Rattle.unit_types.specs.declared.action.Operand.{Operand}
@@ -19,7 +18,7 @@ use Rattle.unit_types.specs.declared.action.Relation.{Relation}
 use Rattle.unit_types.specs.declared.action.Relation.TheVariants.{Eq, Ne, Lt, Gt}
 use Rattle.unit_read.specs.declared.word.Word.{Word}
 use Rattle.unit_read.specs.declared.word.Word.TheVariants.{Plain, Literal}
-use Rattle.unit_read.specs.Operands.{is_letter, is_name_byte, is_name, are_digits, name_of, header_of, in_trim, trim_operand, named_operand, plain_operand, operand_of, relation_of, mode_of}
+use Rattle.unit_read.specs.Operands.{is_letter, is_name, are_digits, name_of, header_of, in_trim, trim_operand, named_operand, operand_of, relation_of, mode_of}
 use Rattle.unit_read.specs.Grammar.{header_name, operand_word, IsOperand, IsName, relation_name, mode_name}
 
 -- ---- tests

@@ -1,5 +1,5 @@
 -- A line and the piece that it spells.
-use Rattle.std.proofs.Common.{◌≡◌, ℕ, false, List, Some, refl, ap, ◌∙◌}
+use Rattle.std.proofs.Common.{◌≡◌, ℕ, false, List, Some, ap, ◌∙◌}
 use Rattle.std.specs.Prelude.{option_and_then}
 use Rattle.kd_base.specs.Tools.{and_some}
 use Rattle.unit_read.specs.declared.piece.Piece.{Piece}
@@ -8,7 +8,6 @@ use Rattle.unit_read.specs.Words.{words_of}
 use Rattle.unit_read.specs.Pieces.{piece_of}
 use Rattle.unit_read.specs.Reading.{piece_in}
 use Rattle.unit_read.specs.Grammar.{SpellsPiece}
-use Rattle.unit_read.specs.Laws.{LinesAreSpelled}
 use Rattle.unit_read.proofs.WordLists.{words_are, are_words}
 use Rattle.unit_read.proofs.Pieces.{piece_is, piece_again}
 
@@ -19,6 +18,3 @@ line_is line p stands e =
 
 pub line_again : (line : List ℕ) (p : Piece) → SpellsPiece line p → piece_in line ≡ Some p
 line_again line p h = ap (option_and_then piece_of) (are_words line h.1 h.2) ∙ piece_again p h.1 h.3
-
-pub lines_spelled : LinesAreSpelled
-lines_spelled line p stands = (line_is line p stands, line_again line p)

@@ -1,18 +1,16 @@
 -- Pieces: what is read is written so, and what is written so is read.
-use Rattle.std.proofs.Common.{◌≡◌, ℕ, zero, suc, ◌+◌, ◌-◌, ◌<◌, ◌≤◌, Bool, true, false, cond, ◌&&◌, List, [], ◌∷◌, ◌++◌, length, take, drop, Option, Some, None, refl, sym, ap, ◌∙◌, subst, inl, inr, arith, length-append}
-use Rattle.std.specs.Prelude.{IsTrue, codes, bytes_eq, nat_le, slice_index, not, is_some, option_and_then, ◌==◌}
+use Rattle.std.proofs.Common.{◌≡◌, ℕ, zero, suc, ◌+◌, ◌-◌, ◌≤◌, Bool, true, false, cond, ◌&&◌, List, [], ◌∷◌, ◌++◌, length, take, drop, Option, Some, None, refl, sym, ap, ◌∙◌, subst, inl, inr, arith, length-append}
+use Rattle.std.specs.Prelude.{codes, bytes_eq, nat_le, slice_index, not, is_some, option_and_then, ◌==◌}
 use Rattle.std.specs.Option.{option_map}
 use Rattle.std.specs.List.{list_all}
 use Rattle.std.proofs.lemmas.Bool.{cases_Bool, eqb-true, leb-true}
 use Rattle.std.proofs.lemmas.Bool.Decides.{nat_tests}
-use Rattle.std.proofs.lemmas.List.{take-append-drop, take_at, drop_all, nil_from_length}
+use Rattle.std.proofs.lemmas.List.{take-append-drop, take_at, nil_from_length}
 use Rattle.kd_base.specs.Text.{IsProgName, IsDecimal, prog_name_of, decimal_of, decimal_value, is_digit, is_name_byte}
-use Rattle.kd_base.specs.Tools.{map_some, some_is, and_some, chosen, both_true, cases_option}
-use Rattle.unit_types.specs.declared.action.Operand.{Operand}
+use Rattle.kd_base.specs.Tools.{map_some, some_is, and_some, chosen, both_true}
 use Rattle.unit_types.specs.declared.action.HeaderName.{HeaderName}
 use Rattle.unit_types.specs.declared.action.Action.{Action}
 use Rattle.unit_types.specs.declared.action.Action.TheVariants as actions
-use Rattle.kd_base.specs.declared.words.Variant.TheVariants as variants
 use Rattle.unit_read.specs.declared.word.Word.{Word}
 use Rattle.unit_read.specs.declared.word.Word.TheVariants.{Plain, Literal}
 use Rattle.unit_read.specs.declared.piece.Piece.{Piece}
@@ -20,8 +18,8 @@ use Rattle.unit_read.specs.declared.piece.Piece.TheVariants as pieces
 use Rattle.unit_read.specs.Operands.{is_name, header_of}
 use Rattle.unit_read.specs.Shapes.{both}
 use Rattle.unit_read.specs.Statements.{action_of}
-use Rattle.unit_read.specs.Pieces.{plain, in_range, number_from, area_of, new_field, field_of, unit_of, before_colon, label_in, inner_of, piece_of}
-use Rattle.unit_read.specs.Grammar.{IsName, area_name, Says, IsPiece, spelled, IsAction}
+use Rattle.unit_read.specs.Pieces.{in_range, number_from, area_of, new_field, field_of, unit_of, before_colon, label_in, inner_of, piece_of}
+use Rattle.unit_read.specs.Grammar.{IsName, area_name, Says, IsPiece, spelled}
 use Rattle.unit_read.proofs.Operands.{same_bytes}
 use Rattle.unit_read.proofs.Shapes.{both_some}
 use Rattle.unit_read.proofs.Statements.{statement_is, statement_again}
@@ -168,12 +166,12 @@ last_is : (word : List ℕ) (n : ℕ) → slice_index word n ≡ 58 → n + 1 �
 last_is word n h long =
     let rest : drop n word ≡ codes ":" = at_last word n h long in
     sym (take-append-drop n word) ∙ ap (λ (x : List ℕ). take n word ++ x) rest
-    where
-      at_last : (word : List ℕ) (n : ℕ) → slice_index word n ≡ 58 → n + 1 ≡ length word → drop n word ≡ codes ":"
-      at_last [] n h long = absurd (omega arith)
-      at_last (b ∷ []) zero h long = ap (λ (x : ℕ). x ∷ []) h
-      at_last (b ∷ c ∷ word) zero h long = absurd (omega arith)
-      at_last (b ∷ word) (suc n) h long = at_last word n h (omega arith)
+  where
+    at_last : (word : List ℕ) (n : ℕ) → slice_index word n ≡ 58 → n + 1 ≡ length word → drop n word ≡ codes ":"
+    at_last [] n h long = absurd (omega arith)
+    at_last (b ∷ []) zero h long = ap (λ (x : ℕ). x ∷ []) h
+    at_last (b ∷ c ∷ word) zero h long = absurd (omega arith)
+    at_last (b ∷ word) (suc n) h long = at_last word n h (omega arith)
 
 before_colon_is : (word name : List ℕ) → before_colon word ≡ Some name → (word ≡ name ++ codes ":") × IsName name
 before_colon_is [] name e = absurd cc

@@ -1,8 +1,6 @@
 -- Lines one after another, and the pieces that they are.
-use Rattle.std.proofs.Common.{◌≡◌, ℕ, zero, suc, ◌+◌, ◌<◌, ◌≤◌, Bool, true, false, cond, ◌&&◌, eqb, List, [], ◌∷◌, ◌++◌, length, Option, Some, None, Result, Ok, Err, refl, sym, ap, ◌∙◌, subst, inl, inr, arith, append_assoc, length-append}
-use Rattle.std.specs.Prelude.{IsTrue, nat_le}
-use Rattle.std.specs.List.{list_all}
-use Rattle.std.proofs.lemmas.Bool.{cases_Bool}
+use Rattle.std.proofs.Common.{◌≡◌, ℕ, ◌+◌, ◌<◌, ◌≤◌, Bool, true, false, List, [], ◌∷◌, ◌++◌, length, Option, Some, None, Result, Ok, Err, refl, sym, ap, ◌∙◌, subst, inl, inr, arith, append_assoc, length-append}
+use Rattle.std.specs.Prelude.{nat_le}
 use Rattle.std.proofs.lemmas.Bool.Decides.{nat_tests}
 use Rattle.std.proofs.lemmas.List.{append-nil}
 use Rattle.kd_base.specs.Tools.{◌>>=◌, chosen, both_true, ok_is, ok_of, bind_ok}
@@ -11,19 +9,18 @@ use Rattle.unit_types.specs.declared.action.UnitStatement.{UnitStatement}
 use Rattle.unit_types.specs.declared.unit.Field.{Field}
 use Rattle.unit_types.specs.UnitText.{UnitText}
 use Rattle.unit_read.specs.declared.fault.UnitFault.{UnitFault}
-use Rattle.unit_read.specs.declared.fault.UnitFault.TheVariants.{BadStatement}
 use Rattle.unit_read.specs.declared.piece.Piece.{Piece}
 use Rattle.unit_read.specs.declared.piece.Piece.TheVariants as pieces
 use Rattle.unit_read.specs.Lines.{is_passed}
-use Rattle.unit_read.specs.Names.{has_field, has_label, has_unit}
+use Rattle.unit_read.specs.Names.{has_field, has_label}
 use Rattle.unit_read.specs.Used.{uses}
-use Rattle.unit_read.specs.Units.{begun, add_field, add_label, add_statement, State, nothing_read, in_unit, by_current, stepped, finished}
-use Rattle.unit_read.specs.Reading.{piece_in, piece_step, line_step, read_from}
+use Rattle.unit_read.specs.Units.{begun, add_field, add_label, add_statement, State, nothing_read, in_unit, stepped}
+use Rattle.unit_read.specs.Reading.{piece_in, piece_step, line_step}
 use Rattle.unit_read.specs.Grammar.{SpellsPiece}
 use Rattle.unit_read.specs.Spelling.{Placed, placed, has_no_body, ArePieces, is_field, is_inner, are_fields, are_inner, field_in, label_in, statement_in, fields_in, statements_in, labels_in, FieldsAreNew, LabelsAreNew, are_defined, IsBegun, MayFollow, AreUnits}
 use Rattle.unit_read.specs.Faults.{IsOpen, Stand}
 use Rattle.unit_read.proofs.Pieced.{line_is, line_again}
-use Rattle.unit_read.proofs.Standing.{stand_more, fields_append, statements_append}
+use Rattle.unit_read.proofs.Standing.{stand_more}
 
 -- the state behind pieces
 abbrev pub run : List Placed → State → Result State UnitFault
@@ -89,10 +86,6 @@ below n m h = grind (arith, nat_tests)
 field_step : (us : List UnitText) (u : UnitText) (n : ℕ) (name : List ℕ) (spab : Bool) (offset len : ℕ) → has_no_body u ≡ true → has_field u.fields name ≡ false
     → stepped n (pieces.Field name spab offset len) (in_unit us u) ≡ Ok (in_unit us (add_field (record { name = name; line = n; spab = spab; offset = offset; length = len }) u))
 field_step us u n name spab offset len none new = rw (none, new) refl
-
--- a unit with more of each
-abbrev more_of : UnitText → List Field → List (List ℕ × ℕ) → List UnitStatement → UnitText
-more_of u fs ls ss = record { name = u.name; line = u.line; fields = u.fields ++ fs; labels = u.labels ++ ls; statements = u.statements ++ ss }
 
 heads_first : (us : List UnitText) (u : UnitText) (n : ℕ) (piece : Piece) (ps : List Placed) → is_field piece ≡ true → has_no_body u ≡ true → FieldsAreNew u.fields (field_in n piece ++ fields_in ps)
     → (f : Field) × (field_in n piece ≡ f ∷ []) × (stepped n piece (in_unit us u) ≡ Ok (in_unit us (add_field f u))) × FieldsAreNew (u.fields ++ f ∷ []) (fields_in ps)

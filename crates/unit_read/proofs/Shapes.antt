@@ -1,5 +1,5 @@
 -- The operands of a statement: what is read is written so, and what is written so is read.
-use Rattle.std.proofs.Common.{◌≡◌, ℕ, Bool, true, false, List, [], ◌∷◌, Option, Some, None, refl, sym, ap, ◌∙◌, subst}
+use Rattle.std.proofs.Common.{◌≡◌, ℕ, List, [], ◌∷◌, Option, Some, None, refl, ap, subst}
 use Rattle.kd_base.specs.declared.words.Mode.{Mode}
 use Rattle.kd_base.specs.Tools.{map_some, some_is}
 use Rattle.unit_types.specs.declared.action.Operand.{Operand}

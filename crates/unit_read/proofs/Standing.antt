@@ -1,10 +1,10 @@
 -- Pieces behind pieces: what is read so far stands above.
-use Rattle.std.proofs.Common.{◌≡◌, ℕ, zero, suc, ◌+◌, ◌<◌, ◌≤◌, Bool, true, false, cond, ◌&&◌, eqb, List, [], ◌∷◌, ◌++◌, length, Option, Some, None, Result, Ok, Err, refl, sym, ap, ◌∙◌, subst, inl, inr, arith, append_assoc, length-append}
+use Rattle.std.proofs.Common.{◌≡◌, ℕ, ◌+◌, ◌<◌, Bool, true, false, cond, eqb, List, [], ◌∷◌, ◌++◌, length, Option, Some, None, Ok, Err, refl, sym, ap, ◌∙◌, subst, inl, inr, arith, append_assoc, length-append}
 use Rattle.std.specs.Prelude.{nat_le}
 use Rattle.std.specs.List.{list_all}
 use Rattle.std.proofs.lemmas.Bool.{cases_Bool, eqb-true, leb-false}
 use Rattle.std.proofs.lemmas.List.{append-nil, nil_from_length}
-use Rattle.kd_base.specs.Tools.{◌>>=◌, chosen, both_true, ok_is, ok_of, bind_ok}
+use Rattle.kd_base.specs.Tools.{chosen, both_true, ok_is, ok_of, bind_ok}
 use Rattle.unit_types.specs.declared.action.Action.{Action}
 use Rattle.unit_types.specs.declared.action.UnitStatement.{UnitStatement}
 use Rattle.unit_types.specs.declared.unit.Field.{Field}
@@ -15,9 +15,9 @@ use Rattle.unit_read.specs.declared.piece.Piece.{Piece}
 use Rattle.unit_read.specs.declared.piece.Piece.TheVariants as pieces
 use Rattle.unit_read.specs.Names.{has_field, has_label, has_unit}
 use Rattle.unit_read.specs.Used.{uses}
-use Rattle.unit_read.specs.Units.{begun, add_field, add_label, add_statement, with_field, with_label, with_statement, with_piece, State, in_unit, goes_on, by_current}
-use Rattle.unit_read.specs.Spelling.{Placed, placed, has_no_body, is_field, is_inner, are_fields, are_inner, field_in, label_in, statement_in, fields_in, statements_in, labels_in, FieldsAreNew, LabelsAreNew, are_defined, IsBegun, MayFollow, AreUnits}
-use Rattle.unit_read.specs.Faults.{IsOpen, Stand}
+use Rattle.unit_read.specs.Units.{begun, add_field, add_label, add_statement, with_field, with_label, with_statement, State, in_unit, by_current}
+use Rattle.unit_read.specs.Spelling.{Placed, placed, has_no_body, is_field, is_inner, are_inner, field_in, label_in, statement_in, fields_in, statements_in, labels_in, FieldsAreNew, LabelsAreNew, are_defined, IsBegun, MayFollow, AreUnits}
+use Rattle.unit_read.specs.Faults.{Stand}
 
 -- ---- lists with one more at the end
 
@@ -145,9 +145,15 @@ units_more : (before us : List UnitText) (u : UnitText) (whole own : List Placed
 units_more before [] u whole own n h may b =
     (own, [], n, ap (λ (x : List Placed). x ++ (own ++ placed n pieces.End ∷ [])) h, subst (λ (x : List UnitText). MayFollow x u) (append-nil before) may, b, refl)
 units_more before (v ∷ vs) u whole own n h may b =
-    let tail = own ++ placed n pieces.End ∷ [] in
-    (h.0, h.1 ++ tail, h.2, ap (λ (x : List Placed). x ++ tail) h.3 ∙ append_assoc h.0 (placed h.2 pieces.End ∷ h.1) tail, h.4, h.5,
-    units_more (before ++ v ∷ []) vs u h.1 own n h.6 (subst (λ (x : List UnitText). MayFollow x u) (sym (append_assoc before (v ∷ []) vs)) may) b)
+    let tail = own ++ placed n pieces.End ∷ [] in (
+      h.0,
+      h.1 ++ tail,
+      h.2,
+      ap (λ (x : List Placed). x ++ tail) h.3 ∙ append_assoc h.0 (placed h.2 pieces.End ∷ h.1) tail,
+      h.4,
+      h.5,
+      units_more (before ++ v ∷ []) vs u h.1 own n h.6 (subst (λ (x : List UnitText). MayFollow x u) (sym (append_assoc before (v ∷ []) vs)) may) b,
+    )
 
 -- ---- one more piece
 
@@ -156,10 +162,16 @@ StandsNow s ps = Stand s.units s.current ps
 
 begins : (us : List UnitText) (n : ℕ) (name : List ℕ) (ps : List Placed) → Stand us None ps → has_unit us name ≡ false → length us < 1000 → StandsNow (in_unit us (begun name n)) (ps ++ placed n (pieces.Unit name) ∷ [])
 begins us n name ps h new few =
-    let p = placed n (pieces.Unit name) in
-    (h.0, p ∷ [], ap (λ (x : List Placed). x ++ p ∷ []) (h.2 ∙ ap (λ (x : List Placed). h.0 ++ x) h.4 ∙ append-nil h.0), h.3,
-    (record { new = new; few = omega arith },
-    record { heads = []; body = []; parts = refl; heads_are = refl; body_is = refl; fields = refl; labels = refl; statements = refl; new_fields = tt; new_labels = tt; defined = refl; few = omega arith }))
+    let p = placed n (pieces.Unit name) in (
+      h.0,
+      p ∷ [],
+      ap (λ (x : List Placed). x ++ p ∷ []) (h.2 ∙ ap (λ (x : List Placed). h.0 ++ x) h.4 ∙ append-nil h.0),
+      h.3,
+      (
+        record { new = new; few = omega arith },
+        record { heads = []; body = []; parts = refl; heads_are = refl; body_is = refl; fields = refl; labels = refl; statements = refl; new_fields = tt; new_labels = tt; defined = refl; few = omega arith },
+      ),
+    )
 
 goes_further : (us : List UnitText) (u v : UnitText) (ps : List Placed) (p : Placed) (h : Stand us (Some u) ps) → MayFollow us v → IsBegun v (h.1 ++ p ∷ []) → StandsNow (in_unit us v) (ps ++ p ∷ [])
 goes_further us u v ps p h may b =
@@ -167,9 +179,13 @@ goes_further us u v ps p h may b =
 
 ends : (us : List UnitText) (u : UnitText) (n : ℕ) (ps : List Placed) → Stand us (Some u) ps → Stand (us ++ u ∷ []) None (ps ++ placed n pieces.End ∷ [])
 ends us u n ps h =
-    let p = placed n pieces.End in
-    (ps ++ p ∷ [], [], sym (append-nil (ps ++ p ∷ [])),
-    subst (AreUnits [] (us ++ u ∷ [])) (sym (ap (λ (x : List Placed). x ++ p ∷ []) h.2 ∙ append_assoc h.0 h.1 (p ∷ []))) (units_more [] us u h.0 h.1 n h.3 h.4.0 h.4.1), refl)
+    let p = placed n pieces.End in (
+      ps ++ p ∷ [],
+      [],
+      sym (append-nil (ps ++ p ∷ [])),
+      subst (AreUnits [] (us ++ u ∷ [])) (sym (ap (λ (x : List Placed). x ++ p ∷ []) h.2 ∙ append_assoc h.0 h.1 (p ∷ []))) (units_more [] us u h.0 h.1 n h.3 h.4.0 h.4.1),
+      refl,
+    )
 
 statement_added : (n : ℕ) (a : Action) (u v : UnitText) → with_statement n a u ≡ Ok v → (uses (has_field u.fields) a ≡ true) × (length u.statements < 10000) × (add_statement n a u ≡ v)
 statement_added n a u v e =

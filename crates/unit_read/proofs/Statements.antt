@@ -1,5 +1,5 @@
 -- Statements: what is read is written so, and what is written so is read.
-use Rattle.std.proofs.Common.{◌≡◌, ℕ, Bool, true, false, List, [], ◌∷◌, ◌++◌, drop, Option, Some, None, refl, sym, ap, ◌∙◌, subst, inl, inr}
+use Rattle.std.proofs.Common.{◌≡◌, ℕ, List, [], ◌∷◌, ◌++◌, drop, Some, None, refl, ap, ◌∙◌, subst, inl, inr}
 use Rattle.std.specs.Prelude.{codes}
 use Rattle.std.specs.Option.{option_map}
 use Rattle.std.proofs.lemmas.List.{append-nil}
@@ -18,9 +18,9 @@ use Rattle.unit_read.specs.declared.key.Key.TheVariants as keys
 use Rattle.unit_read.specs.Keys.{variant_keyword, key_of, keyword_count}
 use Rattle.unit_read.specs.Shapes.{one_name, one_operand, two_operands, name_and_operand, operand_and_name, name_and_two, compared, delayed}
 use Rattle.unit_read.specs.Statements.{takes_follow_up, alone, pend_action, action_at, action_of}
-use Rattle.unit_read.specs.Grammar.{operand_word, IsOperand, IsName, relation_name, mode_name, spelled, IsAction}
+use Rattle.unit_read.specs.Grammar.{spelled, IsAction}
 use Rattle.unit_read.proofs.Keys.{keyword_words, keywords_in_front}
-use Rattle.unit_read.proofs.Operands.{name_again, operand_again, relation_again, mode_again}
+use Rattle.unit_read.proofs.Operands.{operand_again, relation_again, mode_again}
 use Rattle.unit_read.proofs.Shapes.{one_name_is, one_operand_is, two_operands_are, name_and_operand_are, operand_and_name_are, name_and_two_are, compared_are, delayed_is}
 
 -- ---- what is read is written

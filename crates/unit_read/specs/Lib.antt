@@ -12,6 +12,5 @@ pub mod Units
 pub mod Open
 pub mod Reading
 pub mod Grammar
-pub mod Laws
 pub mod Spelling
 pub mod Faults

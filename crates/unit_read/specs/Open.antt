@@ -1,5 +1,5 @@
 -- What a unit that is open, and what was read so far, stand for.
-use Rattle.std.specs.Prelude.{ℕ, ◌≤◌, length, List, Option, Some, None}
+use Rattle.std.specs.Prelude.{◌≤◌, length, Option, Some, None}
 use Rattle.std.specs.Option.{option_map}
 use Rattle.unit_types.specs.UnitText.{UnitText}
 use Rattle.unit_read.specs.declared.open_unit.OpenUnit.{OpenUnit}

@@ -6,7 +6,6 @@ use Rattle.unit_types.specs.UnitText.{UnitText}
 use Rattle.unit_read.specs.declared.fault.UnitFault.{UnitFault}
 use Rattle.unit_read.specs.declared.fault.UnitFault.TheVariants.{BadStatement, TooLong}
 use Rattle.unit_read.specs.declared.piece.Piece.{Piece}
-use Rattle.unit_read.specs.declared.word.Word.{Word}
 use Rattle.unit_read.specs.Lines.{is_passed}
 use Rattle.unit_read.specs.Words.{words_of}
 use Rattle.unit_read.specs.Pieces.{piece_of}

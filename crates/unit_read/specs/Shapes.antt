@@ -1,5 +1,5 @@
 -- The operands of a statement, by how many there are and of what kind.
-use Rattle.std.specs.Prelude.{ℕ, List, [], ◌∷◌, Option, None, Some, option_and_then}
+use Rattle.std.specs.Prelude.{ℕ, List, [], ◌∷◌, Option, None, Some}
 use Rattle.std.specs.Option.{option_map}
 use Rattle.kd_base.specs.declared.words.Mode.{Mode}
 use Rattle.unit_types.specs.declared.action.Operand.{Operand}

@@ -6,7 +6,7 @@ use Rattle.kd_base.specs.Fronts.{begins}
 use Rattle.kd_base.specs.Tools.{onto, onto_first}
 use Rattle.unit_read.specs.declared.word.Word.{Word}
 use Rattle.unit_read.specs.declared.word.Word.TheVariants.{Plain, Literal}
-use Rattle.unit_read.specs.Lines.{is_blank, is_word_byte, from_first}
+use Rattle.unit_read.specs.Lines.{is_word_byte, from_first}
 
 abbrev pub is_quote : ℕ → Bool
 is_quote b = b == 39

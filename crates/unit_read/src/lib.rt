@@ -7,7 +7,6 @@
 
 mod fault;
 mod key;
-mod laws;
 mod line;
 mod names;
 mod open_unit;
@@ -22,7 +21,6 @@ mod used;
 mod word;
 
 pub use fault::UnitFault;
-pub use laws::lines_are_spelled;
 pub use read::read_units;
 
 #[cfg(test)]

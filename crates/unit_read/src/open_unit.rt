@@ -121,8 +121,16 @@ impl OpenUnit {
 
     /// The unit, which ends here.
     pub(crate) fn ended(self, alloc: Global) -> Result<Unit, OutOfMemory>
+        requires { IsKept self }
         ensures { IfOk result (λ u. u ≡ unit_so_far self) }
     {
-        Unit::new(alloc, self.name, self.line, self.fields, self.labels, self.statements)
+        Unit::new(
+            alloc,
+            self.name,
+            self.line,
+            self.fields,
+            self.labels,
+            self.statements,
+        )
     }
 }

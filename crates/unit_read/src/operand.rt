@@ -114,9 +114,7 @@ fn plain_operand(alloc: Global, word: &Bytes) -> Result<Option<Operand>, OutOfMe
         return Ok(Some(Operand::Digits(word.clone()?)));
     }
     match in_trim(word.as_slice()) {
-        Some(name) if is_name(name) => {
-            Ok(Some(Operand::Trim(Bytes::from_slice(alloc, name)?)))
-        }
+        Some(name) if is_name(name) => { Ok(Some(Operand::Trim(Bytes::from_slice(alloc, name)?))) }
         _ => Ok(None),
     }
 }

@@ -58,6 +58,7 @@ impl Reading {
     fn closed(&mut self, alloc: Global, unit: OpenUnit) -> Result<(), UnitFault>
         requires kept { AreKept self.old }
         requires none { self.old.unit ≡ None }
+        requires unit { IsKept unit }
         ensures state { Gives (after result (state_of self.new)) (closed self.old.units.items (unit_so_far unit)) }
         ensures kept { OnOk result (AreKept self.new) }
     {

@@ -3,8 +3,11 @@ ghost use Rattle.std.specs.Prelude.{◌≡◌, IfOk};
 ghost use Rattle.unit_read.specs.Statements.{takes_follow_up, pend_action, delayed_action, action_at, action_of};
 
 use crate::key::{Key, behind_keywords, key_of};
-use crate::shape::{DelayedMessage, compared, delayed, name_and_operand, name_and_two, one_name, one_operand, operand_and_name, two_operands};
 use crate::said::Said;
+use crate::shape::{
+    DelayedMessage, compared, delayed, name_and_operand, name_and_two, one_name, one_operand,
+    operand_and_name, two_operands,
+};
 use crate::word::Word;
 use kd_base::{OutOfMemory, Variant};
 use std::alloc::Global;
@@ -38,12 +41,14 @@ fn pend_action(
 fn delayed_action(alloc: Global, words: &[Word]) -> Result<Option<Action>, OutOfMemory>
     ensures { IfOk result (λ found. found ≡ delayed_action words.now) }
 {
-    let Some(DelayedMessage {
-        to,
-        mode,
-        days,
-        rest: (hours, minutes, seconds, message),
-    }) = delayed(alloc, words)?
+    let Some(
+        DelayedMessage {
+            to,
+            mode,
+            days,
+            rest: (hours, minutes, seconds, message),
+        },
+    ) = delayed(alloc, words)?
     else {
         return Ok(None);
     };

@@ -219,7 +219,10 @@ fn texts_and_their_first_faults(rt: HostRuntime) {
         (b"UNIT A B\n", UnitFault::BadStatement(1)),
         (b"UNIT 'A'\n", UnitFault::BadStatement(1)),
         (b"unit A\n", UnitFault::BadStatement(1)),
-        (b"UNIT ABCDEFGHIJKLMNOPQRSTUVWXYZ0123456\nEND\n", UnitFault::BadStatement(1)),
+        (
+            b"UNIT ABCDEFGHIJKLMNOPQRSTUVWXYZ0123456\nEND\n",
+            UnitFault::BadStatement(1),
+        ),
         (b"UNIT A\n", UnitFault::NoEnd(2)),
         (b"UNIT A", UnitFault::NoEnd(2)),
         (b"UNIT A\n*\n\n", UnitFault::NoEnd(4)),
@@ -229,18 +232,51 @@ fn texts_and_their_first_faults(rt: HostRuntime) {
         (b"UNIT A\nEND\r", UnitFault::BadStatement(2)),
         (b"UNIT A\nEND\n\r", UnitFault::BadStatement(3)),
         (b"UNIT A\nEND\n *\n", UnitFault::BadStatement(3)),
-        (b"UNIT A\nEND\nUNIT B\nEND\nUNIT A\nEND\n", UnitFault::UnitTwice(5)),
-        (b"UNIT A\nFIELD f KB 0 1\nFIELD f SPAB 0 1\nEND\n", UnitFault::BadField(3)),
-        (b"UNIT A\nFIELD KCRCCC KB 0 3\nEND\n", UnitFault::BadStatement(2)),
-        (b"UNIT A\nFIELD f KB 32768 1\nEND\n", UnitFault::BadStatement(2)),
-        (b"UNIT A\nFIELD f KB 0 32768\nEND\n", UnitFault::BadStatement(2)),
+        (
+            b"UNIT A\nEND\nUNIT B\nEND\nUNIT A\nEND\n",
+            UnitFault::UnitTwice(5),
+        ),
+        (
+            b"UNIT A\nFIELD f KB 0 1\nFIELD f SPAB 0 1\nEND\n",
+            UnitFault::BadField(3),
+        ),
+        (
+            b"UNIT A\nFIELD KCRCCC KB 0 3\nEND\n",
+            UnitFault::BadStatement(2),
+        ),
+        (
+            b"UNIT A\nFIELD f KB 32768 1\nEND\n",
+            UnitFault::BadStatement(2),
+        ),
+        (
+            b"UNIT A\nFIELD f KB 0 32768\nEND\n",
+            UnitFault::BadStatement(2),
+        ),
         (b"UNIT A\nFIELD f KB 0 0\nEND\n", UnitFault::BadStatement(2)),
-        (b"UNIT A\nFIELD f KB 0 0000000000000000001\nEND\n", UnitFault::BadStatement(2)),
-        (b"UNIT A\nFIELD f TLS 0 1\nEND\n", UnitFault::BadStatement(2)),
-        (b"UNIT A\nFIELD 1f KB 0 1\nEND\n", UnitFault::BadStatement(2)),
-        (b"UNIT A\nFIELD a2345678901234567 KB 0 1\nEND\n", UnitFault::BadStatement(2)),
-        (b"UNIT A\nINIT\nFIELD f KB 0 1\nEND\n", UnitFault::BadStatement(3)),
-        (b"UNIT A\nl:\nFIELD f KB 0 1\nEND\n", UnitFault::BadStatement(3)),
+        (
+            b"UNIT A\nFIELD f KB 0 0000000000000000001\nEND\n",
+            UnitFault::BadStatement(2),
+        ),
+        (
+            b"UNIT A\nFIELD f TLS 0 1\nEND\n",
+            UnitFault::BadStatement(2),
+        ),
+        (
+            b"UNIT A\nFIELD 1f KB 0 1\nEND\n",
+            UnitFault::BadStatement(2),
+        ),
+        (
+            b"UNIT A\nFIELD a2345678901234567 KB 0 1\nEND\n",
+            UnitFault::BadStatement(2),
+        ),
+        (
+            b"UNIT A\nINIT\nFIELD f KB 0 1\nEND\n",
+            UnitFault::BadStatement(3),
+        ),
+        (
+            b"UNIT A\nl:\nFIELD f KB 0 1\nEND\n",
+            UnitFault::BadStatement(3),
+        ),
         (b"UNIT A\nl :\nEND\n", UnitFault::BadStatement(2)),
         (b"UNIT A\n:\nEND\n", UnitFault::BadStatement(2)),
         (b"UNIT A\n_:\nEND\n", UnitFault::BadStatement(2)),
@@ -249,7 +285,10 @@ fn texts_and_their_first_faults(rt: HostRuntime) {
         (b"UNIT A\nMPUT'x'\nEND\n", UnitFault::BadStatement(2)),
         (b"UNIT A\nMPUT\x00'x'\nEND\n", UnitFault::BadStatement(2)),
         (b"UNIT A\nMPUT 'x'\x7f\nEND\n", UnitFault::BadStatement(2)),
-        (b"UNIT A\nMPUT 1234567890123456789\nEND\n", UnitFault::BadStatement(2)),
+        (
+            b"UNIT A\nMPUT 1234567890123456789\nEND\n",
+            UnitFault::BadStatement(2),
+        ),
         (b"UNIT A\nMPUT TRIM( f)\nEND\n", UnitFault::BadStatement(2)),
         (b"UNIT A\nMPUT TRIM(1)\nEND\n", UnitFault::BadStatement(2)),
         (b"UNIT A\nMPUT TRIM(KCRLM)\nEND\n", UnitFault::BadField(2)),
@@ -267,7 +306,10 @@ fn texts_and_their_first_faults(rt: HostRuntime) {
         (b"UNIT A\nPEND PS\nEND\n", UnitFault::BadStatement(2)),
         (b"UNIT A\nIF 1 LE 2 l\nEND\n", UnitFault::BadStatement(2)),
         (b"UNIT A\nIF 1 EQ 2 9l\nEND\n", UnitFault::BadStatement(2)),
-        (b"UNIT A\nDPUT 1 X 0 0 0 0 1\nEND\n", UnitFault::BadStatement(2)),
+        (
+            b"UNIT A\nDPUT 1 X 0 0 0 0 1\nEND\n",
+            UnitFault::BadStatement(2),
+        ),
         (b"UNIT A\nDPUT 1 R 0 0 0 0 g\nEND\n", UnitFault::BadField(2)),
         (b"UNIT A\nJOIN f 1 2\na:\na:\n", UnitFault::BadField(2)),
     ];
@@ -280,7 +322,13 @@ fn texts_and_their_first_faults(rt: HostRuntime) {
 }
 
 // `head`, so many times `piece`, and `tail`.
-fn repeated(alloc: Global, head: &[u8], piece: &[u8], count: u32, tail: &[u8]) -> Result<Bytes, OutOfMemory> {
+fn repeated(
+    alloc: Global,
+    head: &[u8],
+    piece: &[u8],
+    count: u32,
+    tail: &[u8],
+) -> Result<Bytes, OutOfMemory> {
     let mut out = Bytes::new(alloc);
     out.append(head)?;
     for _ in 0..count {
@@ -306,9 +354,15 @@ fn limits(rt: HostRuntime) -> Result<(), Fail> {
     let statements = repeated(alloc, b"UNIT A\n", b"INIT\n", 10_000, b"a:\nEND\n")?;
     assert_eq!(rt; fault_of(alloc, &statements), None);
     let statements = repeated(alloc, b"UNIT A\n", b"INIT\n", 10_000, b"a:\nMGET f\nEND\n")?;
-    assert_eq!(rt; fault_of(alloc, &statements), Some(UnitFault::BadField(10_003)));
+    assert_eq!(rt;
+        fault_of(alloc, &statements),
+        Some(UnitFault::BadField(10_003))
+    );
     let statements = repeated(alloc, b"UNIT A\n", b"INIT\n", 10_001, b"END\n")?;
-    assert_eq!(rt; fault_of(alloc, &statements), Some(UnitFault::TooLong(10_002)));
+    assert_eq!(rt;
+        fault_of(alloc, &statements),
+        Some(UnitFault::TooLong(10_002))
+    );
     let mut text = Vec::new(alloc);
     text.resize(16_777_216, b'*')?;
     assert_eq!(rt; read_units(alloc, &text).err(), None);
@@ -330,7 +384,9 @@ fn many_units(alloc: Global, count: u32) -> Result<Bytes, OutOfMemory> {
 fn limits_of_units(rt: HostRuntime) -> Result<(), Fail> {
     let alloc = rt.alloc();
     let mut text = many_units(alloc, 1_000)?;
-    let units = read_units(alloc, text.as_slice()).ok().ok_or("1,000 units")?;
+    let units = read_units(alloc, text.as_slice())
+        .ok()
+        .ok_or("1,000 units")?;
     assert_eq!(rt; units.len(), 1_000);
     text.append(b"UNIT U7\n")?;
     assert_eq!(rt; fault_of(alloc, &text), Some(UnitFault::UnitTwice(3_001)));
@@ -559,7 +615,9 @@ fn sample() -> &'static [u8] {
 #[test]
 fn sample_units(rt: HostRuntime) -> Result<(), Fail> {
     let alloc = rt.alloc();
-    let units = read_units(alloc, sample()).ok().ok_or("the sample is right")?;
+    let units = read_units(alloc, sample())
+        .ok()
+        .ok_or("the sample is right")?;
     assert_eq!(rt; units.len(), 32);
     let mut lines = 0;
     for unit in units.as_slice() {

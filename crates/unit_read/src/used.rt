@@ -31,9 +31,7 @@ pub(crate) fn is_defined(action: &Action, names: &Names) -> bool
         | Action::SgetUs(o, f)
         | Action::Gtda(o, f) => holds(names, f) && operand_is_defined(o, names),
         Action::Join(f, o, p) => {
-            holds(names, f)
-                && operand_is_defined(o, names)
-                && operand_is_defined(p, names)
+            holds(names, f) && operand_is_defined(o, names) && operand_is_defined(p, names)
         }
         Action::Mget(f) | Action::Fget(f) => holds(names, f),
         Action::Mput(o)

@@ -1,4 +1,4 @@
-use Rattle.std.proofs.Common.{◌≡◌, ◌<◌, ◌≤◌, ◌++◌, [], ◌∷◌, length, sym, ap, ◌∙◌, arith, length-append}
+use Rattle.std.proofs.Common.{◌<◌, ◌≤◌, [], ◌∷◌, length, sym, ap, ◌∙◌, arith, length-append}
 use Rattle.unit_read.specs.Names.{holds, has_field}
 use Rattle.unit_read.specs.Used.{uses}
 use Rattle.unit_read.specs.Open.{unit_so_far}
