@@ -1,0 +1,16 @@
+pub mod FirstLine
+pub mod WordSteps
+pub mod Kept
+pub mod OpenUnits
+pub mod Quoted
+pub mod WordLists
+pub mod Operands
+pub mod Shapes
+pub mod Keys
+pub mod Statements
+pub mod Pieces
+pub mod Pieced
+pub mod Standing
+pub mod Runs
+pub mod FaultsAt
+pub mod Answered

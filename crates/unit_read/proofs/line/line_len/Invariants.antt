@@ -1,0 +1,10 @@
+use Rattle.std.proofs.Common.{◌≡◌, ◌+◌, ◌-◌, ◌≤◌, length, drop}
+use Rattle.std.specs.List.{position_or_len}
+use Rattle.unit_read.specs.Lines.{is_line_feed}
+use Rattle.unit_read.proofs.line.line_len.Given as goal
+
+abbrev pub invariant-loop-n : goal.invariant-loop-n
+invariant-loop-n l = (l.n ≤ length l.text) × (l.n + position_or_len is_line_feed (drop l.n l.text) ≡ position_or_len is_line_feed l.text)
+
+abbrev pub decreases-loop-n : goal.decreases-loop-n
+decreases-loop-n l = length l.text - l.n

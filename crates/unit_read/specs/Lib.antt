@@ -1,0 +1,16 @@
+pub mod Lines
+pub mod Words
+pub mod Operands
+pub mod Keys
+pub mod Shapes
+pub mod Statements
+pub mod Pieces
+pub mod Names
+pub mod Used
+pub mod Outcomes
+pub mod Units
+pub mod Open
+pub mod Reading
+pub mod Grammar
+pub mod Spelling
+pub mod Faults

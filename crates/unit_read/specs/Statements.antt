@@ -1,0 +1,76 @@
+-- A statement from its words: the table of keywords and operands.
+use Rattle.std.specs.Prelude.{ℕ, Bool, true, false, List, [], ◌∷◌, drop, Option, None, Some, if◌then◌else◌, option_and_then}
+use Rattle.std.specs.Option.{option_map}
+use Rattle.kd_base.specs.declared.words.Variant.{Variant}
+use Rattle.kd_base.specs.declared.words.Variant.TheVariants as variants
+use Rattle.unit_types.specs.declared.action.Operand.{Operand}
+use Rattle.unit_types.specs.declared.action.Relation.{Relation}
+use Rattle.unit_types.specs.declared.action.Action.{Action}
+use Rattle.unit_types.specs.declared.action.Action.TheVariants as actions
+use Rattle.unit_read.specs.declared.word.Word.{Word}
+use Rattle.unit_read.specs.declared.shape.DelayedMessage.{DelayedMessage}
+use Rattle.unit_read.specs.declared.key.Key.{Key}
+use Rattle.unit_read.specs.declared.key.Key.TheVariants as keys
+use Rattle.unit_read.specs.Keys.{key_of, keyword_count}
+use Rattle.unit_read.specs.Shapes.{one_name, one_operand, two_operands, name_and_operand, operand_and_name, name_and_two, compared, delayed}
+
+abbrev pub takes_follow_up : Variant → Bool
+takes_follow_up variants.Kp = true
+takes_follow_up variants.Pr = true
+takes_follow_up variants.Pa = true
+takes_follow_up variants.Re = true
+takes_follow_up variants.Sp = true
+takes_follow_up variants.Fi = false
+takes_follow_up variants.Fc = true
+takes_follow_up variants.Fr = false
+takes_follow_up variants.Er = false
+takes_follow_up variants.Rs = false
+
+-- the action, where no words are left
+abbrev pub alone : Action → List Word → Option Action
+alone action [] = Some action
+alone action (w ∷ ws) = None
+
+abbrev pub pend_action : Variant → List Word → Option Action
+pend_action variant words =
+    if takes_follow_up variant then option_map (λ (o : Operand). actions.Pend variant (Some o)) (one_operand words)
+    else alone (actions.Pend variant None) words
+
+abbrev pub delayed_action : List Word → Option Action
+delayed_action words = option_map (λ (d : DelayedMessage). actions.Dput d.to d.mode d.days d.rest.0 d.rest.1 d.rest.2 d.rest.3) (delayed words)
+
+-- the statement with these keywords, from its operands
+abbrev pub action_at : Key → List Word → Option Action
+action_at keys.Move ws = option_map (λ (p : List ℕ × Operand). actions.Move p.0 p.1) (name_and_operand ws)
+action_at keys.Join ws = option_map (λ (p : List ℕ × Operand × Operand). actions.Join p.0 p.1 p.2) (name_and_two ws)
+action_at keys.Add ws = option_map (λ (p : List ℕ × Operand). actions.Add p.0 p.1) (name_and_operand ws)
+action_at keys.Sub ws = option_map (λ (p : List ℕ × Operand). actions.Sub p.0 p.1) (name_and_operand ws)
+action_at keys.Mul ws = option_map (λ (p : List ℕ × Operand). actions.Mul p.0 p.1) (name_and_operand ws)
+action_at keys.Div ws = option_map (λ (p : List ℕ × Operand). actions.Div p.0 p.1) (name_and_operand ws)
+action_at keys.If ws = option_map (λ (p : Operand × Relation × Operand × List ℕ). actions.If p.0 p.1 p.2 p.3) (compared ws)
+action_at keys.Jump ws = option_map (λ (l : List ℕ). actions.Jump l) (one_name ws)
+action_at keys.Init ws = alone actions.Init ws
+action_at keys.Mget ws = option_map (λ (f : List ℕ). actions.Mget f) (one_name ws)
+action_at keys.Mput ws = option_map (λ (o : Operand). actions.Mput o) (one_operand ws)
+action_at keys.Fget ws = option_map (λ (f : List ℕ). actions.Fget f) (one_name ws)
+action_at keys.Fput ws = option_map (λ (p : Operand × Operand). actions.Fput p.0 p.1) (two_operands ws)
+action_at keys.Dput ws = delayed_action ws
+action_at keys.SgetGb ws = option_map (λ (p : Operand × List ℕ). actions.SgetGb p.0 p.1) (operand_and_name ws)
+action_at keys.SputGb ws = option_map (λ (p : Operand × Operand). actions.SputGb p.0 p.1) (two_operands ws)
+action_at keys.SrelGb ws = option_map (λ (o : Operand). actions.SrelGb o) (one_operand ws)
+action_at keys.SgetKp ws = option_map (λ (p : Operand × List ℕ). actions.SgetKp p.0 p.1) (operand_and_name ws)
+action_at keys.SgetRl ws = option_map (λ (p : Operand × List ℕ). actions.SgetRl p.0 p.1) (operand_and_name ws)
+action_at keys.SputMs ws = option_map (λ (p : Operand × Operand). actions.SputMs p.0 p.1) (two_operands ws)
+action_at keys.SrelLb ws = option_map (λ (o : Operand). actions.SrelLb o) (one_operand ws)
+action_at keys.SgetUs ws = option_map (λ (p : Operand × List ℕ). actions.SgetUs p.0 p.1) (operand_and_name ws)
+action_at keys.SputUs ws = option_map (λ (p : Operand × Operand). actions.SputUs p.0 p.1) (two_operands ws)
+action_at keys.Gtda ws = option_map (λ (p : Operand × List ℕ). actions.Gtda p.0 p.1) (operand_and_name ws)
+action_at keys.Ptda ws = option_map (λ (p : Operand × Operand). actions.Ptda p.0 p.1) (two_operands ws)
+action_at keys.UnlkGb ws = option_map (λ (o : Operand). actions.UnlkGb o) (one_operand ws)
+action_at keys.UnlkUs ws = option_map (λ (o : Operand). actions.UnlkUs o) (one_operand ws)
+action_at keys.UnlkDa ws = option_map (λ (o : Operand). actions.UnlkDa o) (one_operand ws)
+action_at (keys.Pend variant) ws = pend_action variant ws
+
+-- the statement that the words are
+abbrev pub action_of : List Word → Option Action
+action_of words = option_and_then (λ (key : Key). action_at key (drop (keyword_count key) words)) (key_of words)

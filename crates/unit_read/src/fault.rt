@@ -1,0 +1,59 @@
+//! Why a units text could not be read.
+ghost use Rattle.std.specs.Prelude.{◌≡◌};
+ghost use Rattle.unit_read.specs.declared.fault.UnitFault.TheVariants.{Memory};
+
+use kd_base::OutOfMemory;
+use std::alloc::{AllocError, AllocFailed};
+use thiserror::Error;
+
+/// The first fault of a units text, with the number of its line, counted from 1.
+///
+/// The fault of the least line is answered, and on one line the one that stands first here.
+#[derive(Clone, Copy, Debug, PartialEq, Eq, Error)]
+pub enum UnitFault {
+    /// A line that is no piece of a unit, or not one that may stand there.
+    #[error("line {0}: no statement of a unit")]
+    BadStatement(u32),
+    /// A field that is not defined, a field that is defined twice, or a header name where bytes are stored.
+    #[error("line {0}: a field that is not defined, or defined twice")]
+    BadField(u32),
+    /// A label that the unit already has.
+    #[error("line {0}: a label that stands twice")]
+    LabelTwice(u32),
+    /// A UNIT line, or the line behind the last, where a unit is open.
+    #[error("line {0}: a unit without its END")]
+    NoEnd(u32),
+    /// A UNIT line with the name of a unit above.
+    #[error("line {0}: a unit that stands twice")]
+    UnitTwice(u32),
+    /// The 10,001st statement of a unit, the 1,001st unit, or, with line 0, a text of more than 16,777,216 bytes.
+    #[error("line {0}: too long")]
+    TooLong(u32),
+    /// Memory ran out, which may be answered in place of anything else.
+    #[error("out of memory")]
+    Memory,
+}
+
+impl From<AllocError> for UnitFault {
+    ghost from_gives = { λ _ e. e ≡ Memory };
+
+    fn from(_: AllocError) -> UnitFault {
+        UnitFault::Memory
+    }
+}
+
+impl<T: Drop> From<AllocFailed<T>> for UnitFault {
+    ghost from_gives = { λ _ e. e ≡ Memory };
+
+    fn from(_: AllocFailed<T>) -> UnitFault {
+        UnitFault::Memory
+    }
+}
+
+impl From<OutOfMemory> for UnitFault {
+    ghost from_gives = { λ _ e. e ≡ Memory };
+
+    fn from(_: OutOfMemory) -> UnitFault {
+        UnitFault::Memory
+    }
+}

@@ -1,0 +1,75 @@
+//! Reading a units text.
+ghost use Rattle.std.specs.Prelude.{◌≢◌, List, IfOk, IfErr, OnOk};
+ghost use Rattle.unit_types.specs.UnitText.{UnitText};
+ghost use Rattle.unit_read.specs.declared.fault.UnitFault.TheVariants.{Memory};
+ghost use Rattle.unit_read.specs.Spelling.{SpellsUnits};
+ghost use Rattle.unit_read.specs.Faults.{HasTextFault};
+ghost use Rattle.unit_read.specs.Open.{state_of, AreKept};
+ghost use Rattle.unit_read.specs.Outcomes.{Gives, after, units_of_result};
+ghost use Rattle.unit_read.specs.Reading.{line_step, read_text};
+
+use crate::fault::UnitFault;
+use crate::line::{is_passed, next_line};
+use crate::piece::piece_of;
+use crate::reading::Reading;
+use crate::word::words_of;
+use std::alloc::Global;
+use unit_types::Unit;
+
+/// The greatest length of a text in bytes.
+const MAX_TEXT_LEN: usize = 16_777_216;
+
+// One more line.
+fn line_step(
+    alloc: Global,
+    reading: &mut Reading,
+    number: u32,
+    line: &[u8],
+) -> Result<(), UnitFault>
+    requires { AreKept reading.old }
+    ensures state { Gives (after result (state_of reading.new)) (line_step number line.now (state_of reading.old)) }
+    ensures kept { OnOk result (AreKept reading.new) }
+{
+    if is_passed(line) {
+        return Ok(());
+    }
+    let Some(words) = words_of(alloc, line)? else {
+        return Err(UnitFault::BadStatement(number));
+    };
+    let Some(piece) = piece_of(alloc, &words)? else {
+        return Err(UnitFault::BadStatement(number));
+    };
+    reading.stepped(alloc, number, piece)
+}
+
+fn read_text(alloc: Global, text: &[u8]) -> Result<Vec<Unit>, UnitFault>
+    ensures { Gives (units_of_result result) (read_text text.now) }
+{
+    if text.len() > MAX_TEXT_LEN {
+        return Err(UnitFault::TooLong(0));
+    }
+    let mut reading = Reading::new(alloc);
+    let mut number: u32 = 1;
+    let mut rest = text;
+    while !rest.is_empty() {
+        let (line, after) = next_line(rest);
+        line_step(alloc, &mut reading, number, line)?;
+        number += 1;
+        rest = after;
+    }
+    reading.finished(number)
+}
+
+/// The units of a text, in their order, or its first fault.
+pub fn read_units(alloc: Global, text: &[u8]) -> Result<Vec<Unit>, UnitFault>
+    // The text spells what is read.
+    ensures found { IfOk result (λ units. SpellsUnits text.now units.items) }
+    // What the text spells is read, unless memory runs out.
+    ensures only { (units : List UnitText) → SpellsUnits text.now units → Gives (units_of_result result) (Ok units) }
+    // The fault that is answered stands there.
+    ensures fault { IfErr result (λ e. e ≢ Memory → HasTextFault text.now e) }
+    // A text with the fault is refused for it, unless memory runs out.
+    ensures refused { (e : UnitFault) → HasTextFault text.now e → Gives (units_of_result result) (Err e) }
+{
+    read_text(alloc, text)
+}
