@@ -187,14 +187,13 @@ unit_fits g unit h =
 -- ---- PROGRAM statements
 
 -- the first without a unit, or none
-lacking_is : (units : List UnitText) (programs : List (List ℕ × ℕ)) → ((lacking units programs ≡ None) × HaveUnits units programs × ((n : ℕ) → IsFirstWithout units programs n → ⊥)) ⊎ ((n : ℕ) × (lacking units programs ≡ Some (NoUnit n)) × IsFirstWithout units programs n)
-lacking_is units [] = inl (refl, all_none (λ (p : List ℕ × ℕ). IsSome (unit_named units p.0)), λ n h. h)
+lacking_is : (units : List UnitText) (programs : List (List ℕ × ℕ)) → ((lacking units programs ≡ None) × HaveUnits units programs) ⊎ ((n : ℕ) × (lacking units programs ≡ Some (NoUnit n)) × IsFirstWithout units programs n)
+lacking_is units [] = inl (refl, all_none (λ (p : List ℕ × ℕ). IsSome (unit_named units p.0)))
 lacking_is units (p ∷ programs) = go (unit_named units p.0) refl (lacking_is units programs)
   where
-    go : (o : Option UnitText) → unit_named units p.0 ≡ o → ((lacking units programs ≡ None) × HaveUnits units programs × ((n : ℕ) → IsFirstWithout units programs n → ⊥)) ⊎ ((n : ℕ) × (lacking units programs ≡ Some (NoUnit n)) × IsFirstWithout units programs n) → ((lacking units (p ∷ programs) ≡ None) × HaveUnits units (p ∷ programs) × ((n : ℕ) → IsFirstWithout units (p ∷ programs) n → ⊥)) ⊎ ((n : ℕ) × (lacking units (p ∷ programs) ≡ Some (NoUnit n)) × IsFirstWithout units (p ∷ programs) n)
+    go : (o : Option UnitText) → unit_named units p.0 ≡ o → ((lacking units programs ≡ None) × HaveUnits units programs) ⊎ ((n : ℕ) × (lacking units programs ≡ Some (NoUnit n)) × IsFirstWithout units programs n) → ((lacking units (p ∷ programs) ≡ None) × HaveUnits units (p ∷ programs)) ⊎ ((n : ℕ) × (lacking units (p ∷ programs) ≡ Some (NoUnit n)) × IsFirstWithout units (p ∷ programs) n)
     go None e rest = inr (p.1, rw e refl, inl (e, refl))
-    go (Some u) e (inl none) =
-        inl (rw e none.0, all_cons (λ (q : List ℕ × ℕ). IsSome (unit_named units q.0)) p programs (rw e refl) none.1, λ n h. elim h [ inl here ↦ absurd (let x : Some u ≡ None = sym e ∙ here.0 in cc) | inr behind ↦ none.2 n behind.1 ])
+    go (Some u) e (inl none) = inl (rw e none.0, all_cons (λ (q : List ℕ × ℕ). IsSome (unit_named units q.0)) p programs (rw e refl) none.1)
     go (Some u) e (inr some) = inr (some.0, rw e some.1, inr (rw e refl, some.2))
 
 -- the program of a TAC has its unit
@@ -218,15 +217,14 @@ all_values {K} {V} P (e ∷ entries) h =
 pub record HasNoFault (g : Generated) (units : List UnitText) : Type 0 where
   pub programs : HaveUnits units g.programs
   pub fit : AreFit g.limits g.tacs units
-  pub none : (fault : FitFault) → IsFirstFault g units fault → ⊥
 
 none_or : (a b : Option FitFault) → option_or a b ≡ None → (a ≡ None) × (b ≡ None)
 none_or None b h = (refl, h)
 none_or (Some a) b h = absurd cc
 
-no_unit_lacks : (units : List UnitText) (programs : List (List ℕ × ℕ)) → lacking units programs ≡ None → HaveUnits units programs × ((n : ℕ) → IsFirstWithout units programs n → ⊥)
+no_unit_lacks : (units : List UnitText) (programs : List (List ℕ × ℕ)) → lacking units programs ≡ None → HaveUnits units programs
 no_unit_lacks units programs h = elim (lacking_is units programs) [
-  | inl is ↦ (is.1, is.2)
+  | inl is ↦ is.1
   | inr is ↦ absurd (let e : Some (NoUnit is.0) ≡ None = sym is.1 ∙ h in cc)
 ]
 
@@ -234,22 +232,13 @@ pub no_fault : (g : Generated) (units : List UnitText) → IsSound g → fit_fau
 no_fault g units sound h =
     let both = none_or (lacking units g.programs) (units_fault g units) h in
     let have = no_unit_lacks units g.programs both.0 in
-    let never : (e : FitFault) → Any (λ (u : UnitText). UnitHas g u e) units → ⊥ = rw both.1 at (units_first g units) in
     record {
-      programs = have.0;
+      programs = have;
       fit = record {
         fitted = all_weaker (λ (u : UnitText). unit_fault g u ≡ None) (IsFitted g.limits g.tacs) (unit_fits g) units (none_of_all (unit_fault g) units both.1);
-        named = all_weaker (λ (e : List ℕ × TacEntry). IsTrue (is_some (entry_of g.programs e.1.program))) (λ (e : List ℕ × TacEntry). IsSome (unit_named units e.1.program)) (λ e. named_has_unit units g.programs have.0 e.1.program) g.tacs (all_values (λ (t : TacEntry). IsTrue (is_some (entry_of g.programs t.program))) g.tacs sound.programs);
+        named = all_weaker (λ (e : List ℕ × TacEntry). IsTrue (is_some (entry_of g.programs e.1.program))) (λ (e : List ℕ × TacEntry). IsSome (unit_named units e.1.program)) (λ e. named_has_unit units g.programs have e.1.program) g.tacs (all_values (λ (t : TacEntry). IsTrue (is_some (entry_of g.programs t.program))) g.tacs sound.programs);
       };
-      none = never_first g units have.1 never;
     }
-  where
-    never_first : (g : Generated) (units : List UnitText) → ((n : ℕ) → IsFirstWithout units g.programs n → ⊥) → ((e : FitFault) → Any (λ (u : UnitText). UnitHas g u e) units → ⊥) → (fault : FitFault) → IsFirstFault g units fault → ⊥
-    never_first g units lacks never (NoUnit n) f = lacks n f
-    never_first g units lacks never (NoLabel n) f = never (NoLabel n) f.1.stands
-    never_first g units lacks never (FieldPastArea n) f = never (FieldPastArea n) f.1.stands
-    never_first g units lacks never (LiteralFollowUp n) f = never (LiteralFollowUp n) f.1.stands
-    never_first g units lacks never Memory f = f
 
 -- the fault that was found among the units is none of the PROGRAM statements
 first_in_units : (g : Generated) (units : List UnitText) (fault : FitFault) → HaveUnits units g.programs → IsFirstInUnits g units fault → IsFirstFault g units fault

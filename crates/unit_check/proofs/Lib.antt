@@ -1,3 +1,4 @@
 mod Order
 mod Laws
 mod Places
+mod Answered

@@ -1,8 +1,9 @@
 -- The first of the faults that were found.
-use Rattle.std.proofs.Common.{◌≡◌, ◌⊎◌, ℕ, get_or, refl, sym, inl, inr, arith, Bool, true, false, cond, ◌&&◌, ◌||◌, ◌==◌, nat_lt, nat_le, List, [], ◌∷◌, Option, Some, None, IsTrue, zero, suc, subst}
+use Rattle.std.proofs.Common.{◌≡◌, ◌⊎◌, ℕ, get_or, refl, sym, ap, inl, inr, arith, Bool, true, false, cond, ◌&&◌, ◌||◌, ◌==◌, nat_lt, nat_le, List, [], ◌∷◌, Option, Some, None, IsTrue, zero, suc, subst}
 use Rattle.std.specs.Prelude.{fold, Any, All}
 use Rattle.std.proofs.lemmas.Bool.Decides.{nat_tests}
 use Rattle.unit_check.specs.declared.fault.FitFault.{FitFault}
+use Rattle.unit_check.specs.declared.fault.FitFault.TheVariants.{NoUnit, NoLabel, FieldPastArea, LiteralFollowUp, Memory}
 use Rattle.unit_check.specs.Faults.{line_of, number_of, comes_first}
 use Rattle.unit_check.specs.Finding.{earlier, first_of}
 
@@ -32,6 +33,36 @@ first_trans a b c h i = before_trans (line_of a) (number_of a) (line_of b) (numb
 
 pub first_self : (a : FitFault) → IsTrue (comes_first a a)
 first_self a = before_self (line_of a) (number_of a)
+
+-- each before the other: they are on one line and have one number
+before_both : (l n m k : ℕ) → before l n m k ≡ true → before m k l n ≡ true → (l ≡ m) × (n ≡ k)
+before_both l n m k h i = (grind (arith, nat_tests, h, i), grind (arith, nat_tests, h, i))
+
+abbrev pub no_unit : ℕ → FitFault
+no_unit n = NoUnit n
+
+abbrev no_label : ℕ → FitFault
+no_label n = NoLabel n
+
+abbrev past_area : ℕ → FitFault
+past_area n = FieldPastArea n
+
+abbrev follow_up : ℕ → FitFault
+follow_up n = LiteralFollowUp n
+
+one_fault : (a b : FitFault) → line_of a ≡ line_of b → number_of a ≡ number_of b → a ≡ b
+one_fault (NoUnit n) (NoUnit m) l k = ap no_unit l
+one_fault (NoLabel n) (NoLabel m) l k = ap no_label l
+one_fault (FieldPastArea n) (FieldPastArea m) l k = ap past_area l
+one_fault (LiteralFollowUp n) (LiteralFollowUp m) l k = ap follow_up l
+one_fault Memory Memory l k = refl
+one_fault _ _ l k = absurd (omega (arith, k))
+
+-- two faults that each come first are one
+pub first_both : (a b : FitFault) → IsTrue (comes_first a b) → IsTrue (comes_first b a) → a ≡ b
+first_both a b h i =
+    let same = before_both (line_of a) (number_of a) (line_of b) (number_of b) h i in
+    one_fault a b same.0 same.1
 
 -- the first of two kinds of faults together
 pub first_of_both : (P Q R : FitFault → Type 0) → ((e : FitFault) → R e → P e ⊎ Q e) → ((e : FitFault) → P e → R e) → ((e : FitFault) → Q e → R e) → (a b : Option FitFault) → IsFirstOf P a → IsFirstOf Q b → IsFirstOf R (earlier a b)

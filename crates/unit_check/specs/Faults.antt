@@ -1,5 +1,5 @@
 -- A fault stands in units that are to fit a generation.
-use Rattle.std.specs.Prelude.{◌≡◌, ℕ, ◌+◌, ◌<◌, ◌⊎◌, Bool, ◌&&◌, ◌||◌, ◌==◌, nat_lt, nat_le, List, [], ◌∷◌, None, IsTrue, IsSome, Any, All}
+use Rattle.std.specs.Prelude.{◌≡◌, ℕ, ◌+◌, ◌<◌, ◌⊎◌, Bool, ◌&&◌, ◌||◌, ◌==◌, nat_lt, nat_le, List, [], ◌∷◌, None, Result, Ok, Err, IsTrue, IsSome, Any, All}
 use Rattle.std.specs.Option.{IsSomeAnd}
 use Rattle.kdcdef_types.specs.declared.entry.TacEntry.{TacEntry}
 use Rattle.kdcdef_types.specs.declared.limits.Limits.{Limits}
@@ -9,7 +9,7 @@ use Rattle.unit_types.specs.declared.unit.Field.{Field}
 use Rattle.unit_types.specs.UnitText.{UnitText, jump_of, label_place}
 use Rattle.unit_check.specs.declared.fault.FitFault.{FitFault}
 use Rattle.unit_check.specs.declared.fault.FitFault.TheVariants.{NoUnit, NoLabel, FieldPastArea, LiteralFollowUp, Memory}
-use Rattle.unit_check.specs.Fitted.{unit_named, area_len, literal_follow_up, tac_in}
+use Rattle.unit_check.specs.Fitted.{FittedUnits, unit_named, area_len, literal_follow_up, tac_in}
 
 -- the line of a fault, and its number among those of one line
 abbrev pub line_of : FitFault → ℕ
@@ -79,3 +79,9 @@ IsFirstFault g units (NoLabel n) = HaveUnits units g.programs × IsFirstInUnits 
 IsFirstFault g units (FieldPastArea n) = HaveUnits units g.programs × IsFirstInUnits g units (FieldPastArea n)
 IsFirstFault g units (LiteralFollowUp n) = HaveUnits units g.programs × IsFirstInUnits g units (LiteralFollowUp n)
 IsFirstFault g units Memory = ⊥
+
+-- what came back is this, unless memory ran out
+abbrev pub Gives : Result FittedUnits FitFault → Result FittedUnits FitFault → Type 0
+Gives (Ok units) wanted = wanted ≡ Ok units
+Gives (Err Memory) wanted = Unit {0}
+Gives (Err fault) wanted = wanted ≡ Err fault

@@ -1,8 +1,8 @@
 //! Fitting units to a generation.
-ghost use Rattle.std.specs.Prelude.{◌≡◌, ◌≢◌, None, IfOk, IfErr, IsErr, OnOk};
+ghost use Rattle.std.specs.Prelude.{◌≡◌, ◌≢◌, None, Ok, Err, IfOk, IfErr, OnOk};
 ghost use Rattle.unit_check.specs.declared.fault.FitFault.TheVariants.{Memory};
-ghost use Rattle.unit_check.specs.Fitted.{PutsPlace, AreUnitPlaces, AreFittedTo};
-ghost use Rattle.unit_check.specs.Faults.{IsFirstFault};
+ghost use Rattle.unit_check.specs.Fitted.{FittedUnits, PutsPlace, AreUnitPlaces, AreFittedTo};
+ghost use Rattle.unit_check.specs.Faults.{IsFirstFault, Gives};
 ghost use Rattle.unit_check.specs.Finding.{lacking, units_fault, fit_fault};
 
 use crate::earlier::earlier;
@@ -89,10 +89,12 @@ fn fit_fault(
 pub fn fit(alloc: Global, units: Vec<Unit>, generation: &Generation) -> Result<Units, FitFault>
     // Units that are taken have no fault, and are all kept.
     ensures found { IfOk result (λ fitted. AreFittedTo generation.now units.items fitted) }
+    // Units that fit are taken, unless memory runs out.
+    ensures only { (fitted : FittedUnits) → AreFittedTo generation.now units.items fitted → Gives result (Ok fitted) }
     // The fault that is answered stands, and comes first.
     ensures fault { IfErr result (λ fault. fault ≢ Memory → IsFirstFault generation.now units.items fault) }
-    // Units with a fault are refused.
-    ensures refused { (fault : FitFault) → IsFirstFault generation.now units.items fault → IsErr result }
+    // Units with the fault are refused for it, unless memory runs out.
+    ensures refused { (fault : FitFault) → IsFirstFault generation.now units.items fault → Gives result (Err fault) }
 {
     let places = places_of(alloc, units.as_slice())?;
     if let Some(fault) = fit_fault(units.as_slice(), &places, generation) {

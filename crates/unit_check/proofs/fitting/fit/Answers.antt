@@ -1,16 +1,21 @@
 use Rattle.std.proofs.Common.{◌≡◌, List, refl, sym, ap, ◌∙◌}
-use Rattle.std.specs.Prelude.{bytes_eq}
+use Rattle.std.specs.Prelude.{Ok, Err, bytes_eq}
 use Rattle.std.specs.List.{position_from}
 use Rattle.unit_types.specs.UnitText.{UnitText}
 use Rattle.std.proofs.lemmas.List.Elements.{same_from_all_zip}
 use Rattle.unit_check.specs.Finding.{fit_fault}
 use Rattle.unit_check.proofs.Laws.{HasNoFault, no_fault, found_first, pair_same}
+use Rattle.unit_check.proofs.Answered.{only_that, refused_for}
 use Rattle.unit_check.proofs.fitting.fit.Goals as goal
 
-pub returns-in-Some : goal.returns-in-Some
-returns-in-Some c =
-    let e = ap (fit_fault c.args.generation.now) (sym c.as_slice-2.ensures.value) ∙ sym c.in-Some.ensures in
-    record { found = tt; fault = λ _. found_first c.args.generation.now c.args.units.items c.in-Some.fault e; refused = λ fault first. refl }
+pub returns-in-Some-clause-fault : goal.returns-in-Some-clause-fault
+returns-in-Some-clause-fault c = λ _. found_first c.args.generation.now c.args.units.items c.in-Some.fault (ap (fit_fault c.args.generation.now) (sym c.as_slice-2.ensures.value) ∙ sym c.in-Some.ensures)
+
+pub returns-in-Some-clause-only : goal.returns-in-Some-clause-only
+returns-in-Some-clause-only c = only_that c.args.generation.now c.args.units.items (Err c.in-Some.fault) tt (returns-in-Some-clause-fault c)
+
+pub returns-in-Some-clause-refused : goal.returns-in-Some-clause-refused
+returns-in-Some-clause-refused c = refused_for c.args.generation.now c.args.units.items (Err c.in-Some.fault) tt (returns-in-Some-clause-fault c)
 
 faultless : (c : goal.In_ok-clone) → HasNoFault c.args.generation.now c.args.units.items
 faultless c =
@@ -26,5 +31,8 @@ invariant_of-result c =
 pub returns-clause-found : goal.returns-clause-found
 returns-clause-found c = record { units = refl; limits = c.max.ensures.limits; tacs = same_tacs c; programs = (faultless c).programs; fit = (faultless c).fit }
 
+pub returns-clause-only : goal.returns-clause-only
+returns-clause-only c = only_that c.args.generation.now c.args.units.items (Ok _) (returns-clause-found c) tt
+
 pub returns-clause-refused : goal.returns-clause-refused
-returns-clause-refused c fault first = absurd ((faultless c).none fault first)
+returns-clause-refused c = refused_for c.args.generation.now c.args.units.items (Ok _) (returns-clause-found c) tt
