@@ -1,0 +1,89 @@
+-- The three readers together.
+use Rattle.std.proofs.Common.{◌≡◌, ℕ, List, Ok, Err, ap, subst, ◌∙◌}
+use Rattle.kd_base.specs.Tools.{ok_of, ok_is}
+use Rattle.kdcdef_types.specs.Generation.{Generated}
+use Rattle.generation_read.specs.declared.fault.DefinitionFault.{DefinitionFault}
+use Rattle.generation_read.specs.Definition.{Generates, HasFault, Gives as DefinitionGives}
+use Rattle.unit_types.specs.UnitText.{UnitText}
+use Rattle.unit_read.specs.declared.fault.UnitFault.{UnitFault}
+use Rattle.unit_read.specs.Spelling.{SpellsUnits}
+use Rattle.unit_read.specs.Faults.{HasTextFault}
+use Rattle.unit_read.specs.Outcomes.{Gives as UnitsGive}
+use Rattle.unit_check.specs.declared.fault.FitFault.{FitFault}
+use Rattle.unit_check.specs.Fitted.{FittedUnits, AreFittedTo}
+use Rattle.unit_check.specs.Faults.{IsFirstFault, Gives as FitGives}
+use Rattle.application_read.specs.declared.application.Application.{Application}
+use Rattle.application_read.specs.declared.fault.ApplicationFault.{ApplicationFault}
+use Rattle.application_read.specs.declared.fault.ApplicationFault.TheVariants.{Definition, Units, Fit, Memory}
+use Rattle.application_read.specs.Causes.{of_definition, of_units, of_fit}
+use Rattle.application_read.specs.Texts.{TextsGenerate, TextsHaveFault, Gives}
+use Rattle.application_read.proofs.Handed.{Wanted, definition_handed, units_handed, fit_handed}
+
+abbrev application : Generated → FittedUnits → Application
+application g fitted = record { generation = g; units = fitted }
+
+-- what the texts generate, or their fault
+abbrev pub Stands : (definition units : List ℕ) → Wanted → Type 0
+Stands definition units (Ok a) = TextsGenerate definition units a
+Stands definition units (Err e) = TextsHaveFault definition units e
+
+module _ (definition units : List ℕ) where
+  -- ---- the definition was refused
+
+  module _ (e : DefinitionFault) (only : (g : Generated) → Generates definition g → DefinitionGives (Err e) (Ok g)) (refused : (f : DefinitionFault) → HasFault definition f → DefinitionGives (Err e) (Err f)) where
+    pub without_definition : (wanted : Wanted) → Stands definition units wanted → Gives (Err (of_definition e)) wanted
+    without_definition (Ok a) h = (definition_handed e).gives (Ok a.generation) (Ok a) (only a.generation h.0) (λ x. cc)
+    without_definition (Err (Definition f)) h = (definition_handed e).gives (Err f) (Err (Definition f)) (refused f h) (λ x. cc)
+    without_definition (Err (Units f)) h = (definition_handed e).gives (Ok h.0.0) (Err (Units f)) (only h.0.0 h.0.1) (λ x. cc)
+    without_definition (Err (Fit f)) h = (definition_handed e).gives (Ok h.0) (Err (Fit f)) (only h.0 h.2) (λ x. cc)
+    without_definition (Err Memory) h = absurd h
+
+  -- ---- the definition makes a generation
+
+  module _ (g : Generated) (one : (x : Generated) → Generates definition x → DefinitionGives (Ok g) (Ok x)) (none : (f : DefinitionFault) → HasFault definition f → DefinitionGives (Ok g) (Err f)) where
+    same_generation : (x : Generated) → Generates definition x → x ≡ g
+    same_generation x h = ok_is DefinitionFault x g (one x h)
+
+    -- the units were refused
+    module _ (e : UnitFault) (only : (us : List UnitText) → SpellsUnits units us → UnitsGive {X = List UnitText} (Err e) (Ok us)) (refused : (f : UnitFault) → HasTextFault units f → UnitsGive {X = List UnitText} (Err e) (Err f)) where
+      pub without_units : (wanted : Wanted) → Stands definition units wanted → Gives (Err (of_units e)) wanted
+      without_units (Ok a) h = (units_handed e).gives (Ok h.1.0) (Ok a) (only h.1.0 h.1.1) (λ x. cc)
+      without_units (Err (Definition f)) h = absurd (let x = none f h in cc)
+      without_units (Err (Units f)) h = (units_handed e).gives (Err f) (Err (Units f)) (refused f h.1) (λ x. cc)
+      without_units (Err (Fit f)) h = (units_handed e).gives (Ok h.1) (Err (Fit f)) (only h.1 h.3) (λ x. cc)
+      without_units (Err Memory) h = absurd h
+
+    -- the text spells units
+    module _ (us : List UnitText) (one_text : (xs : List UnitText) → SpellsUnits units xs → UnitsGive {X = List UnitText} (Ok us) (Ok xs)) (no_text : (f : UnitFault) → HasTextFault units f → UnitsGive {X = List UnitText} (Ok us) (Err f)) where
+      same_units : (xs : List UnitText) → SpellsUnits units xs → xs ≡ us
+      same_units xs h = ok_is UnitFault xs us (one_text xs h)
+
+      -- what holds of a generation and units of the texts holds of these
+      these : (P : Generated → List UnitText → Type 0) (x : Generated) (xs : List UnitText) → Generates definition x → SpellsUnits units xs → P x xs → P g us
+      these P x xs made spelled h = subst (P g) (same_units xs spelled) (subst (λ (y : Generated). P y xs) (same_generation x made) h)
+
+      fitted_to : (a : Application) → TextsGenerate definition units a → AreFittedTo g us a.units
+      fitted_to a h = these (λ x xs. AreFittedTo x xs a.units) a.generation h.1.0 h.0 h.1.1 h.1.2
+
+      faulty : (f : FitFault) → TextsHaveFault definition units (Fit f) → IsFirstFault g us f
+      faulty f h = these (λ x xs. IsFirstFault x xs f) h.0 h.1 h.2 h.3 h.4
+
+      -- they do not fit
+      module _ (e : FitFault) (only : (x : FittedUnits) → AreFittedTo g us x → FitGives (Err e) (Ok x)) (refused : (f : FitFault) → IsFirstFault g us f → FitGives (Err e) (Err f)) where
+        pub without_fit : (wanted : Wanted) → Stands definition units wanted → Gives (Err (of_fit e)) wanted
+        without_fit (Ok a) h = (fit_handed e).gives (Ok a.units) (Ok a) (only a.units (fitted_to a h)) (λ x. cc)
+        without_fit (Err (Definition f)) h = absurd (let x = none f h in cc)
+        without_fit (Err (Units f)) h = absurd (let x = no_text f h.1 in cc)
+        without_fit (Err (Fit f)) h = (fit_handed e).gives (Err f) (Err (Fit f)) (refused f (faulty f h)) (λ x. cc)
+        without_fit (Err Memory) h = absurd h
+
+      -- they fit
+      module _ (made : FittedUnits) (one_fit : (x : FittedUnits) → AreFittedTo g us x → FitGives (Ok made) (Ok x)) (no_fit : (f : FitFault) → IsFirstFault g us f → FitGives (Ok made) (Err f)) where
+        pub with_all : (wanted : Wanted) → Stands definition units wanted → Gives (Ok (application g made)) wanted
+        with_all (Ok a) h =
+            ap (λ (x : Generated). ok_of {E = ApplicationFault} (application x a.units)) (same_generation a.generation h.0)
+            ∙ ap (λ (x : FittedUnits). ok_of {E = ApplicationFault} (application g x)) (ok_is FitFault a.units made (one_fit a.units (fitted_to a h)))
+        with_all (Err (Definition f)) h = absurd (let x = none f h in cc)
+        with_all (Err (Units f)) h = absurd (let x = no_text f h.1 in cc)
+        with_all (Err (Fit f)) h = absurd (let x = no_fit f (faulty f h) in cc)
+        with_all (Err Memory) h = absurd h
