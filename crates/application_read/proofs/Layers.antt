@@ -19,10 +19,11 @@ use Rattle.application_read.specs.Causes.{of_definition, of_units, of_fit}
 use Rattle.application_read.specs.Texts.{TextsGenerate, TextsHaveFault, Gives}
 use Rattle.application_read.proofs.Handed.{Wanted, definition_handed, units_handed, fit_handed}
 
+-- the application of these
 abbrev application : Generated → FittedUnits → Application
 application g fitted = record { generation = g; units = fitted }
 
--- what the texts generate, or their fault
+-- this is what the texts generate, or their fault
 abbrev pub Stands : (definition units : List ℕ) → Wanted → Type 0
 Stands definition units (Ok a) = TextsGenerate definition units a
 Stands definition units (Err e) = TextsHaveFault definition units e

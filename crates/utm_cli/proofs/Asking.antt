@@ -1,96 +1,103 @@
 -- What the words and the texts say, and what is said of it.
-use Rattle.std.proofs.Common.{◌≡◌, ◌≢◌, ◌⊎◌, ⊎_elim, ℕ, ◌<◌, ◌≤◌, true, List, length, take, Option, Some, None, Result, Ok, Err, refl, sym, ap, subst, ◌∙◌, arith}
-use Rattle.std.specs.Prelude.{nat_lt, IsSomeAnd, IsErrOf, IsErrAnd}
-use Rattle.std.proofs.lemmas.List.{take_all, length-take}
-use Rattle.std.proofs.lemmas.Bool.Decides.{nat_tests}
+use Rattle.std.proofs.Common.{◌≡◌, ◌⊎◌, inl, inr, ⊎_elim, ℕ, List, [], Some, None, Ok, Err, refl, sym, ap, subst, ◌∙◌, arith}
+use Rattle.kd_base.specs.Tools.{cases_option}
 use Rattle.kd_device.specs.Device.{State, LeavesOnly, Only}
 use Rattle.kd_device.specs.Room.{RoomState, text_of}
-use Rattle.kdcs_types.specs.declared.command.Command.{Command}
+use Rattle.kd_records.specs.Identity.{Identity}
+use Rattle.kdcs_types.specs.declared.act.Act.{Act}
 use Rattle.kdcs_types.specs.declared.tables.Tables.{Tables}
-use Rattle.script_read.specs.declared.fault.ScriptFault.{ScriptFault}
-use Rattle.script_read.specs.declared.fault.ScriptFault.TheVariants as fault
-use Rattle.script_read.specs.Script.{script}
-use Rattle.utm_cli.specs.declared.error.ScriptError.{ScriptError}
-use Rattle.utm_cli.specs.declared.error.ScriptError.TheVariants as error
-use Rattle.utm_cli.specs.Causes.{of_fault}
-use Rattle.utm_cli.specs.Words.{request_of, script_name}
+use Rattle.utm_cli.specs.declared.error.Refusal.{Refusal}
+use Rattle.utm_cli.specs.declared.words.Word.{Word}
+use Rattle.utm_cli.specs.declared.words.Word.TheVariants.{Gen, Run}
+use Rattle.utm_cli.specs.Words.{definition_name, units_name, script_name}
+use Rattle.utm_cli.specs.Asking.{Errand, Reading, AreThere, ReadsFor}
 use Rattle.utm_cli.specs.Stored.{StartsFrom}
-use Rattle.utm_cli.specs.Promise.{Reads, Misses, IsCutOfRun}
+use Rattle.utm_cli.specs.Promise.{Request, Reads, Lacks, Misses, IsCutOfRun}
 use Rattle.utm_cli.proofs.Ran.{as_it_was}
-
--- ---- the text of a script
-
-too_long : (n : ℕ) → 16777216 < n → nat_lt 16777216 n ≡ true
-too_long n h = grind (arith, nat_tests)
-
-long_script : (text : List ℕ) → 16777216 < length text → script text ≡ Err fault.TooLong
-long_script text h = let e : nat_lt 16777216 (length text) ≡ true = too_long (length text) h in rw e refl
-
--- a text that is cut off behind the limit says what the whole text says
-pub same_script : (text : List ℕ) → script (take 16777217 text) ≡ script text
-same_script text = ⊎_elim (λ le. ap script (take_all 16777217 text le)) (λ lt. long_script (take 16777217 text) (omega (arith, length-take 16777217 text, lt)) ∙ sym (long_script text (omega (arith, lt)))) (short_or_long (length text))
-  where
-    short_or_long : (n : ℕ) → (n ≤ 16777217) ⊎ (16777217 < n)
-    short_or_long n = grind (arith, nat_tests)
-
-pub read_says : (o : Option (List ℕ)) (read : List ℕ) (r : Result (List Command) ScriptFault) → IsSomeAnd o (λ whole. read ≡ take 16777217 whole) → script read ≡ r → IsSomeAnd o (λ whole. script whole ≡ r)
-read_says None read r h is = absurd h
-read_says (Some whole) read r h is = sym (same_script whole) ∙ ap script (sym h) ∙ is
-
--- the fault that was handed on
-pub fault_is : (T : Type 0) (r : Result T ScriptError) (e f : ScriptFault) → IsErrAnd r (λ x. x ≡ of_fault e) → IsErrOf r (error.Refused f) → (e ≢ fault.Memory) × (e ≡ f)
-fault_is T (Ok v) e f gives is = absurd gives
-fault_is T (Err x) (fault.BadLine n) f gives is = (λ e. cc, cc)
-fault_is T (Err x) (fault.OutOfRange n) f gives is = (λ e. cc, cc)
-fault_is T (Err x) fault.TooLong f gives is = (λ e. cc, cc)
-fault_is T (Err x) fault.Memory f gives is = absurd (let h : error.Memory ≡ error.Refused f = cc in cc)
-
--- ---- what a call reads
-
-some_and : {X : Type 0} (o : Option X) (P : X → Type 0) → IsSomeAnd o P → (x : X) × (o ≡ Some x) × P x
-some_and None P h = absurd h
-some_and (Some x) P h = (x, refl, h)
-
-pub reads_of : (words : List (List ℕ)) (room : RoomState) (base : List ℕ) → request_of words ≡ Some base → (r : Result (List Command) ScriptFault) → IsSomeAnd (text_of (script_name base) room.texts) (λ text. script text ≡ r) → Reads words room r
-reads_of words room base asked r h = let there = some_and (text_of (script_name base) room.texts) (λ text. script text ≡ r) h in record { base = base; asked = asked; text = there.0; there = there.1; says = there.2 }
 
 same_some : {X : Type 0} (x y : X) → Some x ≡ Some y → x ≡ y
 same_some x y e = cc
 
-module _ (words : List (List ℕ)) (room : RoomState) where
-  same_base : (b c : List ℕ) → request_of words ≡ Some b → request_of words ≡ Some c → b ≡ c
-  same_base b c h k = same_some b c (sym h ∙ k)
+-- ---- the one reading of a call
 
-  -- words and texts say one thing
-  pub one_reading : (r s : Result (List Command) ScriptFault) → Reads words room r → Reads words room s → r ≡ s
-  one_reading r s h k =
-      let base = same_base h.base k.base h.asked k.asked in
-      let text = same_some h.text k.text (sym h.there ∙ ap (λ (b : List ℕ). text_of (script_name b) room.texts) base ∙ k.there) in
-      sym h.says ∙ ap script text ∙ k.says
+module _ (words : List (List ℕ)) (room : RoomState) (word : Word) (base : List ℕ) (asked : Request words word base) where
+  pub reads_of : (said : Reading) → ReadsFor word base room said → Reads words room said
+  reads_of said h = record { word = word; base = base; asked = asked; reads = h }
 
-  pub not_missed : (r : Result (List Command) ScriptFault) → Reads words room r → Misses words room → ⊥
-  not_missed r h k =
-      let base = same_base h.base k.base h.asked k.asked in
-      let none : Some h.text ≡ None = sym h.there ∙ ap (λ (b : List ℕ). text_of (script_name b) room.texts) base ∙ k.not_there in
-      cc
+  same_request : (w : Word) (b : List ℕ) → Request words w b → (w ≡ word) × (b ≡ base)
+  same_request w b h =
+      let first : Word × List ℕ = (w, b) in
+      let second : Word × List ℕ = (word, base) in
+      let e : first ≡ second = same_some first second (sym h ∙ asked) in
+      (ap (λ (p : Word × List ℕ). p.0) e, ap (λ (p : Word × List ℕ). p.1) e)
 
-  -- commands and a fault are two things
-  pub not_both_said : (commands : List Command) (f : ScriptFault) → Reads words room (Ok commands) → Reads words room (Err f) → ⊥
-  not_both_said commands f h k = let e = one_reading (Ok commands) (Err f) h k in cc
+  lacked : (w : Word) (d u s : List ℕ) → AreThere w base room d u s → Lacks w base room → ⊥
+  lacked Gen d u s there (inl none) = let differ = sym there.definition_is ∙ none in cc
+  lacked Gen d u s there (inr none) = let differ = sym there.units_is ∙ none in cc
+  lacked Run d u s there (inl none) = let differ = sym there.definition_is ∙ none in cc
+  lacked Run d u s there (inr (inl none)) = let differ = sym there.units_is ∙ none in cc
+  lacked Run d u s there (inr (inr none)) = let differ = sym there.script_is ∙ none in cc
 
-  pub same_commands : (xs ys : List Command) → Reads words room (Ok xs) → Reads words room (Ok ys) → xs ≡ ys
-  same_commands xs ys h k = let e = one_reading (Ok xs) (Ok ys) h k in cc
+  pub not_missed : (said : Reading) → ReadsFor word base room said → Misses words room → ⊥
+  not_missed said h k =
+      let same = same_request k.word k.base k.asked in
+      lacked word h.definition h.units h.text h.there (subst (λ (b : List ℕ). Lacks word b room) same.1 (subst (λ (w : Word). Lacks w k.base room) same.0 k.not_there))
 
-  pub same_fault : (e f : ScriptFault) → Reads words room (Err e) → Reads words room (Err f) → e ≡ f
-  same_fault e f h k = let same = one_reading (Err e) (Err f) h k in cc
+  -- a text, or none
+  found : (name : List ℕ) → (text_of name room.texts ≡ None) ⊎ ((text : List ℕ) × (text_of name room.texts ≡ Some text))
+  found name = cases_option (text_of name room.texts)
+
+  lacks : (w : Word) → ((d u s : List ℕ) → AreThere w base room d u s → ⊥) → Lacks w base room
+  lacks Gen none_there =
+      ⊎_elim (λ none. inl none)
+      (λ d. ⊎_elim (λ none. inr none) (λ u. absurd (none_there d.0 u.0 [] (record { definition_is = d.1; units_is = u.1; script_is = refl }))) (found (units_name base)))
+      (found (definition_name base))
+  lacks Run none_there =
+      ⊎_elim (λ none. inl none)
+      (λ d.
+      ⊎_elim (λ none. inr (inl none))
+      (λ u. ⊎_elim (λ none. inr (inr none)) (λ s. absurd (none_there d.0 u.0 s.0 (record { definition_is = d.1; units_is = u.1; script_is = s.1 }))) (found (script_name base)))
+      (found (units_name base)))
+      (found (definition_name base))
+
+  pub misses_of : ((d u s : List ℕ) → AreThere word base room d u s → ⊥) → Misses words room
+  misses_of none_there = record { word = word; base = base; asked = asked; not_there = lacks word none_there }
+
+  -- the words and the texts say one thing
+  pub one_reading : (answer : Reading) → ((said : Reading) → ReadsFor word base room said → said ≡ answer) → (said : Reading) → Reads words room said → said ≡ answer
+  one_reading answer one said h =
+      let same = same_request h.word h.base h.asked in
+      one said (subst (λ (b : List ℕ). ReadsFor word b room said) same.1 (subst (λ (v : Word). ReadsFor v h.base room said) same.0 h.reads))
+
+-- ---- texts that ask for something
+
+module _ (words : List (List ℕ)) (room : RoomState) (e : Errand) (one : (said : Reading) → Reads words room said → said ≡ Ok e) where
+  pub ok_not : (why : Refusal) → Reads words room (Err why) → ⊥
+  ok_not why h = let none_there = one (Err why) h in cc
+
+  -- what holds of what was read holds of what is said
+  pub moved : (P : Errand → Type 0) (f : Errand) → Reads words room (Ok f) → P e → P f
+  moved P f h p =
+      let same = one (Ok f) h in
+      let is : e ≡ f = cc in
+      subst P is p
+
+-- ---- texts that are refused
+
+module _ (words : List (List ℕ)) (room : RoomState) (why : Refusal) (one : (said : Reading) → Reads words room said → said ≡ Err why) where
+  pub err_not : (e : Errand) → Reads words room (Ok e) → ⊥
+  err_not e h = let none_there = one (Ok e) h in cc
+
+  pub err_same : (other : Refusal) → Reads words room (Err other) → other ≡ why
+  err_same other h = let same = one (Err other) h in cc
 
 -- ---- what a stop leaves
 
-module _ (t : Tables) (cs : List Command) (a d : State) (la ld : ℕ → List ℕ → List ℕ → Type 0) (only : Only a.holds a la) (starts : StartsFrom a.holds t) (silent : (c out : List ℕ) → la a.moment c out → out ≡ a.sent) where
-  pub cut_at_call : (image out : List ℕ) → la a.moment image out → IsCutOfRun t cs a image out
+module _ (i : Identity) (acts : Tables → List Act) (t : Tables) (a d : State) (la ld : ℕ → List ℕ → List ℕ → Type 0) (only : Only a.holds a la) (starts : StartsFrom i a.holds t) (silent : (c out : List ℕ) → la a.moment c out → out ≡ a.sent) where
+  pub cut_at_call : (image out : List ℕ) → la a.moment image out → IsCutOfRun i acts t a image out
   cut_at_call image out left =
       let same = silent image out left in
-      as_it_was t cs a la only image out starts (only image (subst (λ (o : List ℕ). la a.moment image o) same left)) same
+      as_it_was i acts t a la only image out starts (only image (subst (λ (o : List ℕ). la a.moment image o) same left)) same
 
-  pub cut_since : LeavesOnly a d la ld (IsCutOfRun t cs a) → (image out : List ℕ) → ld a.moment image out → IsCutOfRun t cs a image out
+  pub cut_since : LeavesOnly a d la ld (IsCutOfRun i acts t a) → (image out : List ℕ) → ld a.moment image out → IsCutOfRun i acts t a image out
   cut_since h image out left = ⊎_elim (λ past. cut_at_call image out past) (λ cut. cut) (h.only a.moment image out (omega arith) left)

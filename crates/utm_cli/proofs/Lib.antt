@@ -4,4 +4,7 @@ pub mod KeptTables
 pub mod Refused
 pub mod Opened
 pub mod Ran
+pub mod Doing
+pub mod TextsSaid
 pub mod Asking
+pub mod Codes

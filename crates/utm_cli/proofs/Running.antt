@@ -3,6 +3,8 @@ use Rattle.std.proofs.Common.{◌≡◌, inl, inr, ℕ, ◌+◌, ◌<◌, List, 
 use Rattle.std.specs.Prelude.{IsTrue, Bool, true, false, zero, suc, nat_le}
 use Rattle.std.specs.List.{All}
 use Rattle.std.proofs.lemmas.List.{append-nil, take-append-drop, drop_more, take_more}
+use Rattle.std.proofs.lemmas.List.Folds.{list_all-append}
+use Rattle.kd_base.specs.Tools.{both_true}
 use Rattle.kd_device.specs.Device.{State, LeavesOnly}
 use Rattle.kd_device.specs.Time.{leaves_weaker, leaves_then}
 use Rattle.kd_records.specs.declared.content.Content.{Content}
@@ -24,7 +26,7 @@ use Rattle.monitor_core.specs.Trace.{trace, state_after, tables_after, bytes_of}
 use Rattle.monitor_core.specs.Cut.{IsCutSince}
 use Rattle.monitor_core.specs.Laws.{tables_joined, bytes_joined, trace_joined, state_joined, cut_none, cut_after, cut_of_part}
 use Rattle.utm_cli.specs.Stored.{content_of, tables_in, HasNoRows}
-use Rattle.utm_cli.specs.Performing.{ChangesNoRow, Performs, Performed}
+use Rattle.utm_cli.specs.Performing.{ChangesNoRow, is_line, commits_nothing, Performs, Performed}
 
 -- a commit that was whole or absent
 pub commit_cut : (st : Content → List ℕ → Type 0) (x : Content) (ch : Changes) (sent c out : List ℕ) → x ≡ content_of (tables_in x) → OldOrNew st x (content_of (changed (tables_in x) ch)) sent c out
@@ -36,6 +38,10 @@ commit_cut st x ch sent c out is (same, inr new) = cut_after (λ t image. st (co
 pub committing : (st : Content → List ℕ → Type 0) (x : Content) (ch : Changes) (a b : State) (la lb : ℕ → List ℕ → List ℕ → Type 0) → x ≡ content_of (tables_in x) → LeavesOnly a b la lb (OldOrNew st x (content_of (changed (tables_in x) ch)) a.sent)
     → LeavesOnly a b la lb (IsCutSince (λ t image. st (content_of t) image) (tables_in x) (Commit ch ∷ []) a.sent)
 committing st x ch a b la lb is h = leaves_weaker a b la lb (OldOrNew st x (content_of (changed (tables_in x) ch)) a.sent) (IsCutSince (λ t image. st (content_of t) image) (tables_in x) (Commit ch ∷ []) a.sent) h (λ c out old. commit_cut st x ch a.sent c out is old)
+
+-- a commit is no line
+pub not_lines : (changes : Changes) (act : Act) → act ≡ Commit changes → commits_nothing (act ∷ []) ≡ true → ⊥
+not_lines changes act is lines = let no_line = ap (λ (x : Act). commits_nothing (x ∷ [])) (sym is) ∙ lines in cc
 
 -- a patch with no records changes the clock and the next job number alone
 pub patched_is : (x : Content) (p : Patch) (ch : Changes) → x ≡ content_of (tables_in x) → p ≡ record { clock = ch.clock; next_job = ch.next_job; items = [] } → patched x p ≡ content_of (changed (tables_in x) ch)
@@ -62,7 +68,7 @@ pub record Running (stands : Tables → List ℕ → Type 0) (file : List ℕ �
 
 pub running_start : (stands : Tables → List ℕ → Type 0) (file : List ℕ → Type 0) (x : Content) (all : List Act) (a : State) (la : ℕ → List ℕ → List ℕ → Type 0) → x ≡ content_of (tables_in x) → (IsTrue a.told → IsKept file a la) → Running stands file x (tables_in x) all [] a a la la
 running_start stands file x all a la is kept = record {
-  performs = record { frame = record { told = refl; disk_faults = omega arith; line_faults = omega arith }; names = refl; any_moment = λ told. record { later = omega arith; only = λ u c out le left. inl left } };
+  performs = record { frame = record { told = refl; disk_faults = omega arith; line_faults = omega arith }; names = refl; any_moment = λ told. record { later = omega arith; only = λ u c out le left. inl left }; quiet = λ told lines. record { holds = refl; put = refl } };
   performed = record { tables = is; rows = refl; rest = kept; sent = λ told. sym (append-nil a.sent) };
 }
 
@@ -78,11 +84,21 @@ module _ (stands : Tables → List ℕ → Type 0) (file : List ℕ → Type 0) 
       subst (λ (l : List Act). IsCutSince stands t l a.sent c out) (sym split)
       (cut_of_part stands t done here rest a.sent c out (subst (λ (u : Tables). IsCutSince stands u here (a.sent ++ bytes_of done) c out) here_tables (subst (λ (s : List ℕ). IsCutSince stands (tables_in x) here s c out) (run.performed.sent told) cut)))
 
+  -- a part of lines alone is lines alone
+  lines_here : commits_nothing all ≡ true → commits_nothing here ≡ true
+  lines_here lines =
+      let behind = (both_true (commits_nothing done) (commits_nothing (here ++ rest)) (sym (list_all-append is_line done (here ++ rest)) ∙ ap commits_nothing (sym split) ∙ lines)).1 in
+      (both_true (commits_nothing here) (commits_nothing rest) (sym (list_all-append is_line here rest) ∙ behind)).0
+
   pub running_performs : Performs stands t all a d la ld
   running_performs = record {
     frame = record { told = step.frame.told ∙ run.performs.frame.told; disk_faults = omega (arith, step.frame.disk_faults, run.performs.frame.disk_faults); line_faults = omega (arith, step.frame.line_faults, run.performs.frame.line_faults) };
     names = step.names ∙ run.performs.names;
     any_moment = λ told. leaves_then a b la lb d ld (IsCutSince stands t all a.sent) (run.performs.any_moment told) (leaves_weaker b d lb ld (IsCutSince stands (tables_in x) here b.sent) (IsCutSince stands t all a.sent) (step.any_moment (told_then told)) (part_cut told));
+    quiet = λ told lines.
+        let before = run.performs.quiet told lines in
+        let here_too = step.quiet (told_then told) (lines_here lines) in
+        record { holds = here_too.holds ∙ before.holds; put = here_too.put ∙ before.put };
   }
 
   pub running_more : (file' : List ℕ → Type 0) (x' : Content) → Performed file' x' (tables_in x) here b d ld → Running stands file' x' t all (done ++ here) a d la ld

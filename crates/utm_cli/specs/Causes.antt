@@ -7,10 +7,13 @@ use Rattle.utm_cli.specs.declared.error.OpenError.{OpenError}
 use Rattle.utm_cli.specs.declared.error.OpenError.TheVariants as opening
 use Rattle.kdcfile_images.specs.declared.fault.LoadError.{LoadError}
 use Rattle.kdcfile_images.specs.declared.fault.LoadError.TheVariants as load
-use Rattle.utm_cli.specs.declared.error.ScriptError.{ScriptError}
-use Rattle.utm_cli.specs.declared.error.ScriptError.TheVariants as script
+use Rattle.utm_cli.specs.declared.error.Refusal.TheVariants as refusal
+use Rattle.utm_cli.specs.declared.error.TextError.{TextError}
+use Rattle.utm_cli.specs.declared.error.TextError.TheVariants as text
 use Rattle.kd_device.specs.declared.room.RoomError.{RoomError}
 use Rattle.kd_device.specs.declared.room.RoomError.TheVariants as room
+use Rattle.application_read.specs.declared.fault.ApplicationFault.{ApplicationFault}
+use Rattle.application_read.specs.declared.fault.ApplicationFault.TheVariants as application
 use Rattle.script_read.specs.declared.fault.ScriptFault.{ScriptFault}
 use Rattle.script_read.specs.declared.fault.ScriptFault.TheVariants as fault
 
@@ -18,16 +21,22 @@ abbrev pub of_commit : CommitError → RunError
 of_commit from.Failed = to.Failed
 of_commit from.Memory = to.Memory
 
-abbrev pub of_room : RoomError → ScriptError
-of_room room.Failed = script.Room
-of_room room.Memory = script.Memory
+abbrev pub of_room : RoomError → TextError
+of_room room.Failed = text.Room
+of_room room.Memory = text.Memory
 
--- a fault of the text, or want of memory
-abbrev pub of_fault : ScriptFault → ScriptError
-of_fault (fault.BadLine line) = script.Refused (fault.BadLine line)
-of_fault (fault.OutOfRange line) = script.Refused (fault.OutOfRange line)
-of_fault fault.TooLong = script.Refused fault.TooLong
-of_fault fault.Memory = script.Memory
+-- a fault of the texts, or want of memory
+abbrev pub of_application : ApplicationFault → TextError
+of_application (application.Definition fault) = text.Refused (refusal.Application (application.Definition fault))
+of_application (application.Units fault) = text.Refused (refusal.Application (application.Units fault))
+of_application (application.Fit fault) = text.Refused (refusal.Application (application.Fit fault))
+of_application application.Memory = text.Memory
+
+abbrev pub of_fault : ScriptFault → TextError
+of_fault (fault.BadLine line) = text.Refused (refusal.Script (fault.BadLine line))
+of_fault (fault.OutOfRange line) = text.Refused (refusal.Script (fault.OutOfRange line))
+of_fault fault.TooLong = text.Refused (refusal.Script fault.TooLong)
+of_fault fault.Memory = text.Memory
 
 abbrev pub of_create : CommitError → OpenError
 of_create from.Failed = opening.Failed

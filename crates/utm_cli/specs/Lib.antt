@@ -1,4 +1,7 @@
 pub mod Words
+pub mod Report
+pub mod Doing
+pub mod Asking
 pub mod Stored
 pub mod Said
 pub mod Performing

@@ -1,40 +1,54 @@
 -- The words in which the top call promises.
-use Rattle.std.specs.Prelude.{◌≡◌, ◌⊎◌, ℕ, nat_eq, IsTrue, List, [], ◌∷◌, ◌++◌, Some, None, Result}
+use Rattle.std.specs.Prelude.{◌≡◌, ◌⊎◌, ℕ, nat_eq, IsTrue, List, [], ◌∷◌, ◌++◌, Some, None}
 use Rattle.std.specs.List.{list_any}
 use Rattle.kd_device.specs.Device.{State, Only}
 use Rattle.kd_device.specs.Room.{RoomState, text_of}
-use Rattle.kdcs_types.specs.declared.command.Command.{Command}
+use Rattle.kd_records.specs.Identity.{Identity}
 use Rattle.kdcs_types.specs.declared.tables.Tables.{Tables}
-use Rattle.script_read.specs.declared.fault.ScriptFault.{ScriptFault}
-use Rattle.script_read.specs.Script.{script}
-use Rattle.monitor_core.specs.Monitor.{started}
-use Rattle.monitor_core.specs.Trace.{trace, state_after, bytes_of}
+use Rattle.kdcs_types.specs.declared.act.Act.{Act}
+use Rattle.monitor_core.specs.Trace.{tables_after, bytes_of}
 use Rattle.monitor_core.specs.Cut.{IsCutSince}
-use Rattle.utm_cli.specs.Words.{request_of, script_name, file_name}
+use Rattle.utm_cli.specs.declared.words.Word.{Word}
+use Rattle.utm_cli.specs.declared.words.Word.TheVariants.{Gen, Run}
+use Rattle.utm_cli.specs.Words.{request_of, definition_name, units_name, script_name, file_name}
+use Rattle.utm_cli.specs.Asking.{Reading, ReadsFor}
 use Rattle.utm_cli.specs.Stored.{StandsForTables, IsUnmade}
 
 -- the status is one of these
 abbrev pub IsOneOf : List ℕ → ℕ → Type 0
 IsOneOf codes code = IsTrue (list_any (λ k. nat_eq code k) codes)
 
--- the words ask for a run, the script is there, and this is what it says
-pub record Reads (words : List (List ℕ)) (room : RoomState) (said : Result (List Command) ScriptFault) : Type 0 where
-  pub base : List ℕ
-  pub asked : request_of words ≡ Some base
-  pub text : List ℕ
-  pub there : text_of (script_name base) room.texts ≡ Some text
-  pub says : script text ≡ said
+-- the words are this word with this BASE
+abbrev pub Request : List (List ℕ) → Word → List ℕ → Type 0
+Request words word base = request_of words ≡ Some (word, base)
 
--- the words ask for a run, and the script is not there
+-- the words ask for something, the texts that it reads are there, and this is what they say
+pub record Reads (words : List (List ℕ)) (room : RoomState) (said : Reading) : Type 0 where
+  pub word : Word
+  pub base : List ℕ
+  pub asked : Request words word base
+  pub reads : ReadsFor word base room said
+
+-- there is no text of this name
+abbrev pub IsMissing : List ℕ → RoomState → Type 0
+IsMissing name room = text_of name room.texts ≡ None
+
+-- a text that the word reads is not there
+abbrev pub Lacks : Word → List ℕ → RoomState → Type 0
+Lacks Gen base room = IsMissing (definition_name base) room ⊎ IsMissing (units_name base) room
+Lacks Run base room = IsMissing (definition_name base) room ⊎ IsMissing (units_name base) room ⊎ IsMissing (script_name base) room
+
+-- the words ask for something, and a text that it reads is not there
 pub record Misses (words : List (List ℕ)) (room : RoomState) : Type 0 where
+  pub word : Word
   pub base : List ℕ
-  pub asked : request_of words ≡ Some base
-  pub not_there : text_of (script_name base) room.texts ≡ None
+  pub asked : Request words word base
+  pub not_there : Lacks word base room
 
--- a run that ended well: the lines of the trace were sent, the file stands for its last tables, and a stop leaves just it
-pub record Ran (t : Tables) (commands : List Command) (a b : State) (lb : ℕ → List ℕ → List ℕ → Type 0) : Type 0 where
-  pub sent : b.sent ≡ a.sent ++ bytes_of (trace (started t) commands)
-  pub holds : StandsForTables (state_after (started t) commands).tables b.holds
+-- all acts were done: their lines were sent, the file stands for the tables after them, and a stop leaves just it
+pub record Ran (i : Identity) (acts : Tables → List Act) (t : Tables) (a b : State) (lb : ℕ → List ℕ → List ℕ → Type 0) : Type 0 where
+  pub sent : b.sent ≡ a.sent ++ bytes_of (acts t)
+  pub holds : StandsForTables i (tables_after t (acts t)) b.holds
   pub settled : Only b.holds b lb
 
 -- the file was empty at the call, nothing was sent, and the file is unmade
@@ -43,9 +57,9 @@ pub record LeavesUnmade (a : State) (image out : List ℕ) : Type 0 where
   pub silent : out ≡ a.sent
   pub unmade : IsUnmade image
 
--- what was sent and what a stop leaves are a cut of the trace of these commands from these tables
-abbrev pub IsCutOfRun : Tables → List Command → State → List ℕ → List ℕ → Type 0
-IsCutOfRun t commands a image out = IsCutSince StandsForTables t (trace (started t) commands) a.sent image out ⊎ LeavesUnmade a image out
+-- what was sent and what a stop leaves are a cut of these acts from these tables
+abbrev pub IsCutOfRun : Identity → (Tables → List Act) → Tables → State → List ℕ → List ℕ → Type 0
+IsCutOfRun i acts t a image out = IsCutSince (StandsForTables i) t (acts t) a.sent image out ⊎ LeavesUnmade a image out
 
 -- the file of this BASE, and no other, was handed to attach
 abbrev pub Attached : List ℕ → State → State → Type 0

@@ -1,5 +1,6 @@
 //! Why a run ended early.
 
+use application_read::ApplicationFault;
 use kd_base::OutOfMemory;
 use kd_device::{Failed, RoomError};
 use kdcfile_store::{CommitError, LoadError};
@@ -64,30 +65,28 @@ impl From<CommitError> for RunError {
     }
 }
 
-/// Why there are no commands to run.
+/// Why a call does nothing with its texts.
+#[derive(Clone, Copy, Debug, PartialEq, Eq)]
+pub(crate) enum Refusal {
+    /// The definition and the units make no application.
+    Application(ApplicationFault),
+    /// The script has no commands.
+    Script(ScriptFault),
+}
+
+/// Why the texts of a call ask for nothing.
 #[derive(Clone, Copy, Debug, PartialEq, Eq, Error)]
-pub(crate) enum ScriptError {
-    /// The text is not there, or could not be read.
-    #[error("the script could not be read")]
+pub(crate) enum TextError {
+    /// A text is not there, or could not be read.
+    #[error("a text could not be read")]
     Room,
-    #[error("the script is refused: {0}")]
-    Refused(ScriptFault),
+    #[error("a text is refused")]
+    Refused(Refusal),
     #[error("out of memory")]
     Memory,
 }
 
-impl From<AllocError> for ScriptError {
-    ghost use Rattle.std.specs.Prelude.{◌≡◌};
-    ghost use Rattle.utm_cli.specs.declared.error.ScriptError.TheVariants as errors;
-
-    ghost from_gives = { λ _ e. e ≡ errors.Memory };
-
-    fn from(_: AllocError) -> Self {
-        ScriptError::Memory
-    }
-}
-
-impl From<RoomError> for ScriptError {
+impl From<RoomError> for TextError {
     ghost use Rattle.std.specs.Prelude.{◌≡◌};
     ghost use Rattle.utm_cli.specs.Causes.{of_room};
 
@@ -95,13 +94,27 @@ impl From<RoomError> for ScriptError {
 
     fn from(e: RoomError) -> Self {
         match e {
-            RoomError::Failed => ScriptError::Room,
-            RoomError::Memory => ScriptError::Memory,
+            RoomError::Failed => TextError::Room,
+            RoomError::Memory => TextError::Memory,
         }
     }
 }
 
-impl From<ScriptFault> for ScriptError {
+impl From<ApplicationFault> for TextError {
+    ghost use Rattle.std.specs.Prelude.{◌≡◌};
+    ghost use Rattle.utm_cli.specs.Causes.{of_application};
+
+    ghost from_gives = { λ e r. r ≡ of_application e };
+
+    fn from(e: ApplicationFault) -> Self {
+        match e {
+            ApplicationFault::Memory => TextError::Memory,
+            fault => TextError::Refused(Refusal::Application(fault)),
+        }
+    }
+}
+
+impl From<ScriptFault> for TextError {
     ghost use Rattle.std.specs.Prelude.{◌≡◌};
     ghost use Rattle.utm_cli.specs.Causes.{of_fault};
 
@@ -109,8 +122,8 @@ impl From<ScriptFault> for ScriptError {
 
     fn from(e: ScriptFault) -> Self {
         match e {
-            ScriptFault::Memory => ScriptError::Memory,
-            fault => ScriptError::Refused(fault),
+            ScriptFault::Memory => TextError::Memory,
+            fault => TextError::Refused(Refusal::Script(fault)),
         }
     }
 }

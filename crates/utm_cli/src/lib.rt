@@ -7,11 +7,12 @@ mod error;
 mod opening;
 mod perform;
 mod refuse;
+mod report;
 mod run;
 mod say;
-mod script;
 mod status;
 mod text;
+mod texts;
 mod top;
 mod words;
 

@@ -3,10 +3,11 @@ ghost use Rattle.std.specs.Prelude.{◌≡◌, ◌⊎◌, ◌++◌, ◌∷◌, [
 ghost use Rattle.kd_device.specs.Device.{State, Rose, Frame, SameNames, LeavesOnly, Only};
 ghost use Rattle.kd_device.specs.Rest.{Rests};
 ghost use Rattle.kdcfile_store.specs.Kept.{IsKept};
-ghost use Rattle.kdcfile_store.specs.Whole.{HasFile, Made};
+ghost use Rattle.kd_records.specs.Identity.{IsIdentity};
+ghost use Rattle.kdcfile_store.specs.Whole.{HasFile, Made, identity_with};
 ghost use Rattle.kdcs_types.specs.Limits.{IsInRange};
 ghost use Rattle.kdcs_types.specs.declared.tables.Tables.{Tables};
-ghost use Rattle.utm_cli.specs.Stored.{StartsFrom, IsRefused, StandsForTables, identity, empty_tables};
+ghost use Rattle.utm_cli.specs.Stored.{StartsFrom, IsRefused, StandsForTables, no_print, empty_tables};
 ghost use Rattle.utm_cli.specs.Opening.{IsOpening, KeepsTables, MayAttach};
 
 use crate::error::OpenError;
@@ -16,12 +17,6 @@ use kd_records::Content;
 use kdcfile_store::{Store, StoreLimits, WholeStore};
 use kdcs_types::{Changes, RowChanges, Tables};
 use std::alloc::Global;
-
-/// What a KDCFILE is made with until a definition says it: BLKSIZE in bytes and PGPOOL in pages.
-const LIMITS: StoreLimits = StoreLimits {
-    blksize: 2048,
-    pgpool: 16,
-};
 
 /// The fingerprint until a definition has one.
 const FINGERPRINT: [u8; 32] = [0; 32];
@@ -62,12 +57,16 @@ fn without_rows(alloc: Global, clock: u64, next_job: u64) -> Result<Tables, OutO
     Ok(tables)
 }
 
-/// The tables that a store keeps, where its file is one of this application.
-fn tables_of(alloc: Global, store: &WholeStore) -> Result<Option<Tables>, OutOfMemory>
-    ensures some { IfOk result (λ o. IfSome o (λ t. KeepsTables store.now t)) }
-    ensures none { IfOk result (λ o. IfNone o ((t : Tables) → KeepsTables store.now t → ⊥)) }
+/// The tables that a store keeps, where its file is one of this application with these limits.
+fn tables_of(
+    alloc: Global,
+    store: &WholeStore,
+    limits: &StoreLimits,
+) -> Result<Option<Tables>, OutOfMemory>
+    ensures some { IfOk result (λ o. IfSome o (λ t. KeepsTables (identity_with limits.now no_print) store.now t)) }
+    ensures none { IfOk result (λ o. IfNone o ((t : Tables) → KeepsTables (identity_with limits.now no_print) store.now t → ⊥)) }
 {
-    if store.limits() != LIMITS || *store.fingerprint() != FINGERPRINT {
+    if store.limits() != *limits || *store.fingerprint() != FINGERPRINT {
         return Ok(None);
     }
     let content = store.kept();
@@ -85,58 +84,69 @@ fn tables_of(alloc: Global, store: &WholeStore) -> Result<Option<Tables>, OutOfM
 }
 
 /// Makes the empty file, with the empty tables.
-fn make<D: Device>(alloc: Global, device: &mut D) -> Result<(WholeStore, Tables), OpenError>
+fn make<D: Device>(
+    alloc: Global,
+    device: &mut D,
+    limits: &StoreLimits,
+) -> Result<(WholeStore, Tables), OpenError>
+    requires identity { IsIdentity (identity_with limits.now no_print) }
     requires empty { IsTrue (D.state device.old).told → (D.state device.old).holds ≡ [] }
     requires settled { IsTrue (D.state device.old).told → Only (D.state device.old).holds (D.state device.old) (D.leaves device.old) }
-    ensures tables { IfOk result (λ o. (o.1 ≡ empty_tables) × KeepsTables o.0 o.1) }
+    ensures tables { IfOk result (λ o. (o.1 ≡ empty_tables) × KeepsTables (identity_with limits.now no_print) o.0 o.1) }
     ensures kept { IfOk result (λ o. IsTrue (D.state device.old).told → IsKept (HasFile o.0) (D.state device.new) (D.leaves device.new)) }
     ensures sent { IsTrue (D.state device.old).told → (D.state device.new).sent ≡ (D.state device.old).sent }
     ensures any_moment { IsTrue (D.state device.old).told
-        → LeavesOnly (D.state device.old) (D.state device.new) (D.leaves device.old) (D.leaves device.new) (Made identity (D.state device.old).sent) }
+        → LeavesOnly (D.state device.old) (D.state device.new) (D.leaves device.old) (D.leaves device.new) (Made (identity_with limits.now no_print) (D.state device.old).sent) }
     ensures never { IsErrOf result OpenError.NotKdcfile → ⊥ }
     ensures failed { IsErrOf result OpenError.Failed → Rose (D.state device.old).disk_faults (D.state device.new).disk_faults }
     ensures frame { Frame (D.state device.old) (D.state device.new) }
     ensures names { SameNames (D.state device.old) (D.state device.new) }
 {
-    let store = WholeStore::create(alloc, device, &LIMITS, &FINGERPRINT)?;
+    let store = WholeStore::create(alloc, device, limits, &FINGERPRINT)?;
     Ok((store, Tables::empty(alloc)))
 }
 
 /// Opens the file that is there.
-fn warm<D: Device>(alloc: Global, device: &mut D) -> Result<(WholeStore, Tables), OpenError>
-    ensures tables { IfOk result (λ o. KeepsTables o.0 o.1) }
-    ensures stands { IfOk result (λ o. IsTrue (D.state device.old).told → StandsForTables o.1 (D.state device.old).holds) }
+fn warm<D: Device>(
+    alloc: Global,
+    device: &mut D,
+    limits: &StoreLimits,
+) -> Result<(WholeStore, Tables), OpenError>
+    ensures tables { IfOk result (λ o. KeepsTables (identity_with limits.now no_print) o.0 o.1) }
+    ensures stands { IfOk result (λ o. IsTrue (D.state device.old).told → StandsForTables (identity_with limits.now no_print) o.1 (D.state device.old).holds) }
     ensures kept { IfOk result (λ o. IsTrue (D.state device.old).told → IsKept (HasFile o.0) (D.state device.new) (D.leaves device.new)) }
-    ensures refused { IsErrOf result OpenError.NotKdcfile → IsTrue (D.state device.old).told → (t : Tables) → StandsForTables t (D.state device.old).holds → IsInRange t → ⊥ }
+    ensures refused { IsErrOf result OpenError.NotKdcfile → IsTrue (D.state device.old).told → (t : Tables) → StandsForTables (identity_with limits.now no_print) t (D.state device.old).holds → IsInRange t → ⊥ }
     ensures rests { IsTrue (D.state device.old).told → Rests (D.state device.old) (D.state device.new) (D.leaves device.old) (D.leaves device.new) }
     ensures failed { IsErrOf result OpenError.Failed → Rose (D.state device.old).disk_faults (D.state device.new).disk_faults }
     ensures frame { Frame (D.state device.old) (D.state device.new) }
     ensures names { SameNames (D.state device.old) (D.state device.new) }
 {
     let store = WholeStore::load(alloc, device)?;
-    let found = tables_of(alloc, &store)?;
+    let found = tables_of(alloc, &store, limits)?;
     match found {
         Some(tables) => Ok((store, tables)),
         None => Err(OpenError::NotKdcfile),
     }
 }
 
-/// Opens the KDCFILE of this name: makes it where it is empty, and else starts warm from what it keeps.
+/// Opens the KDCFILE of this name: makes it with these limits where it is empty, and else starts warm from what it keeps.
 pub(crate) fn open<D: Device>(
     alloc: Global,
     device: &mut D,
     name: &[u8],
+    limits: &StoreLimits,
 ) -> Result<(WholeStore, Tables), OpenError>
-    ensures tables { IfOk result (λ o. KeepsTables o.0 o.1) }
-    ensures starts { IfOk result (λ o. IsTrue (D.state device.old).told → StartsFrom (D.state device.old).holds o.1) }
+    requires identity { IsIdentity (identity_with limits.now no_print) }
+    ensures tables { IfOk result (λ o. KeepsTables (identity_with limits.now no_print) o.0 o.1) }
+    ensures starts { IfOk result (λ o. IsTrue (D.state device.old).told → StartsFrom (identity_with limits.now no_print) (D.state device.old).holds o.1) }
     ensures kept { IfOk result (λ o. IsTrue (D.state device.old).told → IsKept (HasFile o.0) (D.state device.new) (D.leaves device.new)) }
-    ensures refused { IsErrOf result OpenError.NotKdcfile → IsTrue (D.state device.old).told → IsRefused (D.state device.old).holds }
+    ensures refused { IsErrOf result OpenError.NotKdcfile → IsTrue (D.state device.old).told → IsRefused (identity_with limits.now no_print) (D.state device.old).holds }
 
     // A file that is not empty stays as it is.
     ensures still { IsTrue (D.state device.old).told → ((D.state device.old).holds ≡ [] → ⊥) → Rests (D.state device.old) (D.state device.new) (D.leaves device.old) (D.leaves device.new) }
     ensures sent { IsTrue (D.state device.old).told → (D.state device.new).sent ≡ (D.state device.old).sent }
     ensures any_moment { IsTrue (D.state device.old).told
-        → LeavesOnly (D.state device.old) (D.state device.new) (D.leaves device.old) (D.leaves device.new) (IsOpening (D.state device.old) (D.leaves device.old)) }
+        → LeavesOnly (D.state device.old) (D.state device.new) (D.leaves device.old) (D.leaves device.new) (IsOpening (identity_with limits.now no_print) (D.state device.old) (D.leaves device.old)) }
 
     ensures names { IsTrue (D.state device.old).told → MayAttach name.now (D.state device.old) (D.state device.new) }
     ensures named { OnOk result (IsTrue (D.state device.old).told → (D.state device.new).names ≡ (D.state device.old).names ++ name.now ∷ []) }
@@ -145,8 +155,8 @@ pub(crate) fn open<D: Device>(
 {
     let size = attached(device, name)?;
     if size == 0 {
-        make(alloc, device)
+        make(alloc, device, limits)
     } else {
-        warm(alloc, device)
+        warm(alloc, device, limits)
     }
 }

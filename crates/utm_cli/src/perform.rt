@@ -8,9 +8,13 @@ ghost use Rattle.monitor_core.specs.Monitor.{started};
 ghost use Rattle.monitor_core.specs.Trace.{trace};
 ghost use Rattle.utm_cli.specs.Stored.{content_of, tables_in, HasNoRows};
 ghost use Rattle.utm_cli.specs.Performing.{ChangesNoRow, Performs, Performed};
+ghost use Rattle.utm_cli.specs.Doing.{acts_of};
 
 use crate::error::RunError;
+use crate::report::report;
 use crate::say::say;
+use crate::texts::Asked;
+use crate::words::Word;
 use kd_device::Device;
 use kd_records::{Patch, PatchItems};
 use kdcfile_store::Store;
@@ -76,7 +80,7 @@ fn perform_acts<D: Device, S: Store<D>>(
 }
 
 /// The commands of a script in their order, from these tables, which the store keeps.
-pub(crate) fn perform_script<D: Device, S: Store<D>>(
+fn perform_script<D: Device, S: Store<D>>(
     alloc: Global,
     device: &mut D,
     store: &mut S,
@@ -99,4 +103,30 @@ pub(crate) fn perform_script<D: Device, S: Store<D>>(
         perform_acts(alloc, device, store, acts.as_slice())?;
     }
     Ok(())
+}
+
+/// What is asked for, from these tables, which the store keeps: the report of the generation, or the script.
+pub(crate) fn perform<D: Device, S: Store<D>>(
+    alloc: Global,
+    device: &mut D,
+    store: &mut S,
+    tables: Tables,
+    asked: &Asked,
+) -> Result<(), RunError>
+    requires range { IsInRange tables }
+    requires kept { IsTrue (D.state device.old).told → IsKept (S.file store.old) (D.state device.old) (D.leaves device.old) }
+    requires tables { S.kept store.old ≡ content_of tables }
+    requires rows { HasNoRows tables }
+    ensures identity { S.identity store.new ≡ S.identity store.old }
+    ensures any { Performs (λ t c. S.stands (S.identity store.old) (content_of t) c) tables (acts_of asked.now tables) (D.state device.old) (D.state device.new) (D.leaves device.old) (D.leaves device.new) }
+    ensures done { OnOk result (Performed (S.file store.new) (S.kept store.new) tables (acts_of asked.now tables) (D.state device.old) (D.state device.new) (D.leaves device.new)) }
+    ensures failed { IsErrOf result RunError.Failed → Rose (D.state device.old).disk_faults (D.state device.new).disk_faults ⊎ Rose (D.state device.old).line_faults (D.state device.new).line_faults }
+{
+    match asked.word {
+        Word::Gen => {
+            let acts = report(alloc, &asked.application.generation)?;
+            perform_acts(alloc, device, store, acts.as_slice())
+        }
+        Word::Run => perform_script(alloc, device, store, tables, &asked.commands),
+    }
 }

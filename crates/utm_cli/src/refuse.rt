@@ -4,18 +4,19 @@ ghost use Rattle.std.specs.String.{string_bytes};
 ghost use Rattle.kd_device.specs.Device.{State, Rose, Frame, SameNames};
 ghost use Rattle.utm_cli.specs.Said.{Said, SaidPart};
 ghost use Rattle.utm_cli.specs.Promise.{IsOneOf};
-ghost use Rattle.utm_cli.specs.Words.{fault_line as line_of_fault};
+ghost use Rattle.utm_cli.specs.Words.{fault_line, application_line, refusal_line, status_of};
 
-use crate::error::RunError;
+use crate::error::{Refusal, RunError};
 use crate::say::say;
 use crate::status::Status;
+use application_read::ApplicationFault;
 use kd_device::Device;
 use script_read::ScriptFault;
 use std::alloc::{AllocError, Global};
 
 /// Sends the line of a refusal with this status.
 pub(crate) fn refuse<D: Device>(device: &mut D, line: &[u8], status: Status) -> Status
-    requires { IsOneOf (1 ∷ 3 ∷ 4 ∷ []) status.code }
+    requires { IsOneOf (1 ∷ 2 ∷ 3 ∷ 4 ∷ []) status.code }
     ensures code { IsOneOf (status.code ∷ 5 ∷ 7 ∷ []) result.code }
     ensures said { result.code ≡ status.code → IsTrue (D.state device.old).told → Said line.now (D.state device.old) (D.state device.new) }
     ensures part { IsTrue (D.state device.old).told → SaidPart line.now (D.state device.old) (D.state device.new) }
@@ -31,8 +32,8 @@ pub(crate) fn refuse<D: Device>(device: &mut D, line: &[u8], status: Status) -> 
 }
 
 /// The line of a script's fault.
-fn fault_text(alloc: Global, fault: ScriptFault) -> Result<String, AllocError>
-    ensures { IfOk result (λ line. string_bytes line ≡ line_of_fault fault) }
+fn script_line(alloc: Global, fault: ScriptFault) -> Result<String, AllocError>
+    ensures { IfOk result (λ line. string_bytes line ≡ fault_line fault) }
 {
     match fault {
         ScriptFault::BadLine(line) => format!(in alloc; "SCRIPT {line} BadLine\n"),
@@ -42,17 +43,49 @@ fn fault_text(alloc: Global, fault: ScriptFault) -> Result<String, AllocError>
     }
 }
 
-/// Refuses a script for its first fault.
-pub(crate) fn refuse_script<D: Device>(alloc: Global, device: &mut D, fault: ScriptFault) -> Status
-    ensures code { IsOneOf (3 ∷ 5 ∷ 7 ∷ []) result.code }
-    ensures said { result.code ≡ 3 → IsTrue (D.state device.old).told → Said (line_of_fault fault) (D.state device.old) (D.state device.new) }
-    ensures part { IsTrue (D.state device.old).told → SaidPart (line_of_fault fault) (D.state device.old) (D.state device.new) }
+/// The line of a fault of the definition or the units.
+fn application_line(alloc: Global, fault: ApplicationFault) -> Result<Vec<u8>, AllocError>
+    ensures { IfOk result (λ line. line.items ≡ application_line fault) }
+{
+    let line = fault.line();
+    let number = format!(in alloc; " {line} ")?;
+    let mut text = Vec::from_slice(alloc, fault.text().as_bytes())?;
+    text.extend_from_slice(number.as_bytes())?;
+    text.extend_from_slice(fault.name().as_bytes())?;
+    text.extend_from_slice(b"\n")?;
+    Ok(text)
+}
+
+fn refusal_line(alloc: Global, why: Refusal) -> Result<Vec<u8>, AllocError>
+    ensures { IfOk result (λ line. line.items ≡ refusal_line why) }
+{
+    match why {
+        Refusal::Application(fault) => application_line(alloc, fault),
+        Refusal::Script(fault) => Ok(script_line(alloc, fault)?.into_bytes()),
+    }
+}
+
+fn status_of(why: Refusal) -> Status
+    ensures status { result.code ≡ status_of why }
+    ensures texts { IsOneOf (2 ∷ 3 ∷ []) result.code }
+{
+    match why {
+        Refusal::Application(_) => Status::APPLICATION,
+        Refusal::Script(_) => Status::SCRIPT,
+    }
+}
+
+/// Refuses texts for their first fault.
+pub(crate) fn refuse_texts<D: Device>(alloc: Global, device: &mut D, why: Refusal) -> Status
+    ensures code { IsOneOf (status_of why ∷ 5 ∷ 7 ∷ []) result.code }
+    ensures said { IsOneOf (2 ∷ 3 ∷ []) result.code → (result.code ≡ status_of why) × (IsTrue (D.state device.old).told → Said (refusal_line why) (D.state device.old) (D.state device.new)) }
+    ensures part { IsTrue (D.state device.old).told → SaidPart (refusal_line why) (D.state device.old) (D.state device.new) }
     ensures failed { result.code ≡ 5 → Rose (D.state device.old).line_faults (D.state device.new).line_faults }
     ensures frame { Frame (D.state device.old) (D.state device.new) }
     ensures names { SameNames (D.state device.old) (D.state device.new) }
 {
-    let Ok(line) = fault_text(alloc, fault) else {
+    let Ok(line) = refusal_line(alloc, why) else {
         return Status::MEMORY;
     };
-    refuse(device, line.as_bytes(), Status::SCRIPT)
+    refuse(device, &line, status_of(why))
 }

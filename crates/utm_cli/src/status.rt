@@ -12,6 +12,8 @@ impl Status {
     pub const DONE: Status = Status { code: 0 };
     /// The words are none of the forms.
     pub const USAGE: Status = Status { code: 1 };
+    /// The definition or the units were refused; nothing was made or run.
+    pub const APPLICATION: Status = Status { code: 2 };
     /// The script was refused; nothing was run.
     pub const SCRIPT: Status = Status { code: 3 };
     /// The KDCFILE is not empty, and stands for no tables of this application.

@@ -1,119 +1,324 @@
-use Rattle.std.proofs.Common.{◌≡◌, ◌∙◌, ⊎_elim, inl, inr, sym, ap, subst, map, List, Some, Ok, Err}
-use Rattle.std.specs.Prelude.{IsTrue}
+use Rattle.std.proofs.Common.{◌≡◌, ◌∙◌, ⊎_elim, inl, inr, sym, ap, subst, map, ℕ, List, [], ◌∷◌, Ok, Err}
+use Rattle.std.specs.Prelude.{IsTrue, true}
 use Rattle.std.specs.String.{string_bytes}
-use Rattle.kdcs_types.specs.declared.command.Command.{Command}
-use Rattle.script_read.specs.declared.fault.ScriptFault.{ScriptFault}
-use Rattle.kd_device.specs.Device.{LeavesOnly}
-use Rattle.utm_cli.specs.declared.error.ScriptError.{ScriptError}
-use Rattle.utm_cli.specs.Words.{request_of, fault_line}
-use Rattle.utm_cli.specs.Said.{Said, SaidPart}
-use Rattle.utm_cli.specs.Promise.{Reads, IsCutOfRun}
-use Rattle.utm_cli.proofs.Asking.{reads_of, not_missed, not_both_said, same_commands, same_fault, cut_at_call, cut_since}
+use Rattle.utm_cli.specs.declared.error.Refusal.{Refusal}
+use Rattle.utm_cli.specs.declared.error.TextError.{TextError}
+use Rattle.utm_cli.specs.Words.{request_of, status_of, refusal_line, not_a_kdcfile_line}
+use Rattle.utm_cli.specs.Said.{SameDisk, Said, SaidPart}
+use Rattle.utm_cli.specs.Stored.{StartsFrom, IsRefused, identity_of}
+use Rattle.utm_cli.specs.Asking.{Errand, AreThere}
+use Rattle.utm_cli.specs.Doing.{acts_of}
+use Rattle.utm_cli.specs.Performing.{commits_nothing}
+use Rattle.utm_cli.specs.Promise.{IsOneOf, Request, IsCutOfRun}
+use Rattle.utm_cli.proofs.Asking.{reads_of, one_reading, not_missed, misses_of, ok_not, moved, err_not, err_same, cut_at_call, cut_since}
+use Rattle.utm_cli.proofs.Codes.{of_run, of_file, of_done, of_refused, not_refused, not_device}
+use Rattle.utm_cli.proofs.top.utm.Given.{Over}
 use Rattle.utm_cli.proofs.top.utm.Goals as goal
 
-pub returns-in-Ok-clause-cut : goal.returns-in-Ok-clause-cut
-returns-in-Ok-clause-cut g c = λ told_room told only commands t said starts image out left.
+pub returns-in-Ok-clause-code : goal.returns-in-Ok-clause-code
+returns-in-Ok-clause-code g c = of_run c.run.result.code c.run.ensures.code
+
+pub returns-in-Ok-clause-texts : goal.returns-in-Ok-clause-texts
+returns-in-Ok-clause-texts g c = λ told why said.
     let words = map string_bytes c.args.words.now.items in
     let room = g.R.Room.room c.args.room.now in
+    let word = c.in-Some.word in
     let base = c.in-Some.base.now in
-    let asked : request_of words ≡ Some base = ap (λ l. request_of (map string_bytes l)) (sym c.deref.ensures.value) ∙ c.in-Some.ensures in
-    let reads : (told : IsTrue room.told) → Reads words room (Ok c.in-Ok.commands.items) = λ told. reads_of words room base asked (Ok c.in-Ok.commands.items) (c.in-Ok.ensures.found told) in
+    let asked : Request words word base = ap (λ l. request_of (map string_bytes l)) (sym c.deref.ensures.value) ∙ c.in-Some.ensures in
+    let e : Errand = c.in-Ok.asked in
+    let one = one_reading words room word base asked (Ok e) (c.in-Ok.ensures.found_one told) in
+    absurd (ok_not words room e one why said)
+
+pub returns-in-Ok-clause-texts_part : goal.returns-in-Ok-clause-texts_part
+returns-in-Ok-clause-texts_part g c = λ told why said.
+    let words = map string_bytes c.args.words.now.items in
+    let room = g.R.Room.room c.args.room.now in
+    let word = c.in-Some.word in
+    let base = c.in-Some.base.now in
+    let asked : Request words word base = ap (λ l. request_of (map string_bytes l)) (sym c.deref.ensures.value) ∙ c.in-Some.ensures in
+    let e : Errand = c.in-Ok.asked in
+    let one = one_reading words room word base asked (Ok e) (c.in-Ok.ensures.found_one told) in
+    absurd (ok_not words room e one why said)
+
+pub returns-in-Ok-clause-texts_only : goal.returns-in-Ok-clause-texts_only
+returns-in-Ok-clause-texts_only g c = λ code. absurd (not_refused c.run.result.code c.run.ensures.code code)
+
+pub returns-in-Ok-clause-file : goal.returns-in-Ok-clause-file
+returns-in-Ok-clause-file g c = λ told told_device f said.
+    let words = map string_bytes c.args.words.now.items in
+    let room = g.R.Room.room c.args.room.now in
+    let word = c.in-Some.word in
+    let base = c.in-Some.base.now in
+    let asked : Request words word base = ap (λ l. request_of (map string_bytes l)) (sym c.deref.ensures.value) ∙ c.in-Some.ensures in
+    let e : Errand = c.in-Ok.asked in
+    let one = one_reading words room word base asked (Ok e) (c.in-Ok.ensures.found_one told) in
+    let a = g.D.Device.state c.args.device.now in
+    let d = g.D.Device.state c.run.new.device in
+    moved words room e one (λ x. IsRefused (identity_of x) a.holds → IsOneOf (4 ∷ 6 ∷ 5 ∷ 7 ∷ []) c.run.result.code) f said (λ refused. of_file c.run.result.code (c.run.ensures.refused told_device refused))
+
+pub returns-in-Ok-clause-file_only : goal.returns-in-Ok-clause-file_only
+returns-in-Ok-clause-file_only g c = λ code.
+    let words = map string_bytes c.args.words.now.items in
+    let room = g.R.Room.room c.args.room.now in
+    let word = c.in-Some.word in
+    let base = c.in-Some.base.now in
+    let asked : Request words word base = ap (λ l. request_of (map string_bytes l)) (sym c.deref.ensures.value) ∙ c.in-Some.ensures in
+    (c.in-Ok.asked, λ told. reads_of words room word base asked (Ok c.in-Ok.asked) (c.in-Ok.ensures.found told), λ told_device. c.run.ensures.refused_only code told_device)
+
+pub returns-in-Ok-clause-file_part : goal.returns-in-Ok-clause-file_part
+returns-in-Ok-clause-file_part g c = λ told told_device f said.
+    let words = map string_bytes c.args.words.now.items in
+    let room = g.R.Room.room c.args.room.now in
+    let word = c.in-Some.word in
+    let base = c.in-Some.base.now in
+    let asked : Request words word base = ap (λ l. request_of (map string_bytes l)) (sym c.deref.ensures.value) ∙ c.in-Some.ensures in
+    let e : Errand = c.in-Ok.asked in
+    let one = one_reading words room word base asked (Ok e) (c.in-Ok.ensures.found_one told) in
+    let a = g.D.Device.state c.args.device.now in
+    let d = g.D.Device.state c.run.new.device in
+    moved words room e one (λ x. IsRefused (identity_of x) a.holds → SaidPart not_a_kdcfile_line a d) f said (λ refused. c.run.ensures.refused_part told_device refused)
+
+pub returns-in-Ok-clause-missing : goal.returns-in-Ok-clause-missing
+returns-in-Ok-clause-missing g c = λ told misses.
+    let words = map string_bytes c.args.words.now.items in
+    let room = g.R.Room.room c.args.room.now in
+    let word = c.in-Some.word in
+    let base = c.in-Some.base.now in
+    let asked : Request words word base = ap (λ l. request_of (map string_bytes l)) (sym c.deref.ensures.value) ∙ c.in-Some.ensures in
+    absurd (not_missed words room word base asked (Ok c.in-Ok.asked) (c.in-Ok.ensures.found told) misses)
+
+pub returns-in-Ok-clause-done : goal.returns-in-Ok-clause-done
+returns-in-Ok-clause-done g c = λ code told told_device.
+    let words = map string_bytes c.args.words.now.items in
+    let room = g.R.Room.room c.args.room.now in
+    let word = c.in-Some.word in
+    let base = c.in-Some.base.now in
+    let asked : Request words word base = ap (λ l. request_of (map string_bytes l)) (sym c.deref.ensures.value) ∙ c.in-Some.ensures in
+    let ran = c.run.ensures.done code told_device in (c.in-Ok.asked, reads_of words room word base asked (Ok c.in-Ok.asked) (c.in-Ok.ensures.found told), ran.0, ran.1, ran.2)
+
+pub returns-in-Ok-clause-accepted : goal.returns-in-Ok-clause-accepted
+returns-in-Ok-clause-accepted g c = λ told told_device f t said.
+    let words = map string_bytes c.args.words.now.items in
+    let room = g.R.Room.room c.args.room.now in
+    let word = c.in-Some.word in
+    let base = c.in-Some.base.now in
+    let asked : Request words word base = ap (λ l. request_of (map string_bytes l)) (sym c.deref.ensures.value) ∙ c.in-Some.ensures in
+    let e : Errand = c.in-Ok.asked in
+    let one = one_reading words room word base asked (Ok e) (c.in-Ok.ensures.found_one told) in
+    let a = g.D.Device.state c.args.device.now in
+    let d = g.D.Device.state c.run.new.device in
+    moved words room e one (λ x. StartsFrom (identity_of x) a.holds t → IsOneOf (0 ∷ 6 ∷ 5 ∷ 7 ∷ []) c.run.result.code) f said (λ starts. of_done c.run.result.code (c.run.ensures.accepted told_device t starts))
+
+pub returns-in-Ok-clause-complete : goal.returns-in-Ok-clause-complete
+returns-in-Ok-clause-complete g c = λ told told_device f t said starts disk line texts.
+    let words = map string_bytes c.args.words.now.items in
+    let room = g.R.Room.room c.args.room.now in
+    let word = c.in-Some.word in
+    let base = c.in-Some.base.now in
+    let asked : Request words word base = ap (λ l. request_of (map string_bytes l)) (sym c.deref.ensures.value) ∙ c.in-Some.ensures in
+    let e : Errand = c.in-Ok.asked in
+    let one = one_reading words room word base asked (Ok e) (c.in-Ok.ensures.found_one told) in
+    let a = g.D.Device.state c.args.device.now in
+    let d = g.D.Device.state c.run.new.device in
+    not_device c.run.result.code (moved words room e one (λ x. StartsFrom (identity_of x) a.holds t → IsOneOf (0 ∷ 5 ∷ 7 ∷ []) c.run.result.code) f said (λ from. c.run.ensures.accepted told_device t from) starts) (λ five. ⊎_elim (λ rose. disk rose) (λ rose. line rose) (c.run.ensures.failed five))
+
+pub returns-in-Ok-clause-cut : goal.returns-in-Ok-clause-cut
+returns-in-Ok-clause-cut g c = λ told told_device only f t said.
+    let words = map string_bytes c.args.words.now.items in
+    let room = g.R.Room.room c.args.room.now in
+    let word = c.in-Some.word in
+    let base = c.in-Some.base.now in
+    let asked : Request words word base = ap (λ l. request_of (map string_bytes l)) (sym c.deref.ensures.value) ∙ c.in-Some.ensures in
+    let e : Errand = c.in-Ok.asked in
+    let one = one_reading words room word base asked (Ok e) (c.in-Ok.ensures.found_one told) in
     let a = g.D.Device.state c.args.device.now in
     let d = g.D.Device.state c.run.new.device in
     let la = g.D.Device.leaves c.args.device.now in
     let ld = g.D.Device.leaves c.run.new.device in
-    let same : c.deref-in-Ok.result.now ≡ commands = c.deref-in-Ok.ensures.value ∙ same_commands words room c.in-Ok.commands.items commands (reads told_room) said in
-    let h : LeavesOnly a d la ld (IsCutOfRun t commands a) = subst (λ (l : List Command). LeavesOnly a d la ld (IsCutOfRun t l a)) same (c.run.ensures.any_moment told only t starts) in
-    cut_since t commands a d la ld only starts (λ m o past. g.met.D.Device.sent_now c.args.device.now m o told past) h image out left
+    moved words room e one (λ x. StartsFrom (identity_of x) a.holds t → (image out : List ℕ) → ld a.moment image out → IsCutOfRun (identity_of x) (acts_of x) t a image out) f said
+    (λ starts image out left. cut_since (identity_of e) (acts_of e) t a d la ld only starts (λ m o past. g.met.D.Device.sent_now c.args.device.now m o told_device past) (c.run.ensures.any_moment told_device only t starts) image out left)
+
+pub returns-in-Ok-clause-left : goal.returns-in-Ok-clause-left
+returns-in-Ok-clause-left g c = λ told told_device f t said.
+    let words = map string_bytes c.args.words.now.items in
+    let room = g.R.Room.room c.args.room.now in
+    let word = c.in-Some.word in
+    let base = c.in-Some.base.now in
+    let asked : Request words word base = ap (λ l. request_of (map string_bytes l)) (sym c.deref.ensures.value) ∙ c.in-Some.ensures in
+    let e : Errand = c.in-Ok.asked in
+    let one = one_reading words room word base asked (Ok e) (c.in-Ok.ensures.found_one told) in
+    let a = g.D.Device.state c.args.device.now in
+    let d = g.D.Device.state c.run.new.device in
+    moved words room e one (λ x. StartsFrom (identity_of x) a.holds t → (a.holds ≡ [] → ⊥) → commits_nothing (acts_of x t) ≡ true → SameDisk a d) f said (λ starts some lines. c.run.ensures.left told_device t starts some lines)
 
 pub returns-in-Ok-clause-names : goal.returns-in-Ok-clause-names
-returns-in-Ok-clause-names g c = λ told.
+returns-in-Ok-clause-names g c = λ told_device.
     let words = map string_bytes c.args.words.now.items in
     let room = g.R.Room.room c.args.room.now in
+    let word = c.in-Some.word in
     let base = c.in-Some.base.now in
-    let asked : request_of words ≡ Some base = ap (λ l. request_of (map string_bytes l)) (sym c.deref.ensures.value) ∙ c.in-Some.ensures in
-    ⊎_elim (λ same. inl same) (λ grown. inr (base, asked, grown)) (c.run.ensures.names told)
+    let asked : Request words word base = ap (λ l. request_of (map string_bytes l)) (sym c.deref.ensures.value) ∙ c.in-Some.ensures in
+    ⊎_elim (λ same. inl same) (λ grown. inr (word, (base, asked, grown))) (c.run.ensures.names told_device)
 
-pub returns-in-Err-Refused-clause-script_only : goal.returns-in-Err-Refused-clause-script_only
-returns-in-Err-Refused-clause-script_only g c = λ code told_room.
+pub returns-in-Ok-clause-attached : goal.returns-in-Ok-clause-attached
+returns-in-Ok-clause-attached g c = λ code told_device.
     let words = map string_bytes c.args.words.now.items in
     let room = g.R.Room.room c.args.room.now in
+    let word = c.in-Some.word in
     let base = c.in-Some.base.now in
-    let asked : request_of words ≡ Some base = ap (λ l. request_of (map string_bytes l)) (sym c.deref.ensures.value) ∙ c.in-Some.ensures in
-    let reads : (told : IsTrue room.told) → Reads words room (Err c.in-Err-Refused.fault) = λ told. reads_of words room base asked (Err c.in-Err-Refused.fault) (c.in-Err-Refused.ensures.refused c.in-Err-Refused.fault (ap (λ (e : ScriptError). Err e) c.in-Err-Refused.field-0-is) told) in
-    (c.in-Err-Refused.fault, reads told_room, λ told. subst (λ (f : ScriptFault). Said (fault_line f) (g.D.Device.state c.args.device.now) (g.D.Device.state c.refuse_script.new.device)) c.in-Err-Refused.fault-is (c.refuse_script.ensures.said code told))
+    let asked : Request words word base = ap (λ l. request_of (map string_bytes l)) (sym c.deref.ensures.value) ∙ c.in-Some.ensures in
+    (word, (base, asked, c.run.ensures.attached code told_device))
 
-pub returns-in-Err-Refused-clause-script_part : goal.returns-in-Err-Refused-clause-script_part
-returns-in-Err-Refused-clause-script_part g c = λ told_room fault said told.
+pub returns-in-Err-Refused-clause-texts : goal.returns-in-Err-Refused-clause-texts
+returns-in-Err-Refused-clause-texts g c = λ told other said.
     let words = map string_bytes c.args.words.now.items in
     let room = g.R.Room.room c.args.room.now in
+    let word = c.in-Some.word in
     let base = c.in-Some.base.now in
-    let asked : request_of words ≡ Some base = ap (λ l. request_of (map string_bytes l)) (sym c.deref.ensures.value) ∙ c.in-Some.ensures in
-    let reads : (told : IsTrue room.told) → Reads words room (Err c.in-Err-Refused.fault) = λ told. reads_of words room base asked (Err c.in-Err-Refused.fault) (c.in-Err-Refused.ensures.refused c.in-Err-Refused.fault (ap (λ (e : ScriptError). Err e) c.in-Err-Refused.field-0-is) told) in
-    subst (λ (f : ScriptFault). SaidPart (fault_line f) (g.D.Device.state c.args.device.now) (g.D.Device.state c.refuse_script.new.device)) (c.in-Err-Refused.fault-is ∙ same_fault words room c.in-Err-Refused.fault fault (reads told_room) said) (c.refuse_script.ensures.part told)
+    let asked : Request words word base = ap (λ l. request_of (map string_bytes l)) (sym c.deref.ensures.value) ∙ c.in-Some.ensures in
+    let why = c.in-Err-Refused.why in
+    let is = ap (λ (e : TextError). Err e) c.in-Err-Refused.field-0-is in
+    let one = one_reading words room word base asked (Err why) (c.in-Err-Refused.ensures.refused_one why is told) in
+    subst (λ (x : Refusal). IsOneOf (status_of x ∷ 6 ∷ 5 ∷ 7 ∷ []) c.refuse_texts.result.code) (c.in-Err-Refused.why-is ∙ sym (err_same words room why one other said)) (of_refused (status_of _) c.refuse_texts.result.code c.refuse_texts.ensures.code)
+
+pub returns-in-Err-Refused-clause-texts_only : goal.returns-in-Err-Refused-clause-texts_only
+returns-in-Err-Refused-clause-texts_only g c = λ code told.
+    let words = map string_bytes c.args.words.now.items in
+    let room = g.R.Room.room c.args.room.now in
+    let word = c.in-Some.word in
+    let base = c.in-Some.base.now in
+    let asked : Request words word base = ap (λ l. request_of (map string_bytes l)) (sym c.deref.ensures.value) ∙ c.in-Some.ensures in
+    let why = c.in-Err-Refused.why in
+    let is = ap (λ (e : TextError). Err e) c.in-Err-Refused.field-0-is in
+    let a = g.D.Device.state c.args.device.now in
+    let d = g.D.Device.state c.refuse_texts.new.device in
+    let said = subst (λ (x : Refusal). (c.refuse_texts.result.code ≡ status_of x) × (IsTrue a.told → Said (refusal_line x) a d)) c.in-Err-Refused.why-is (c.refuse_texts.ensures.said code) in (why, reads_of words room word base asked (Err why) (c.in-Err-Refused.ensures.refused why is told), said.0, said.1)
+
+pub returns-in-Err-Refused-clause-texts_part : goal.returns-in-Err-Refused-clause-texts_part
+returns-in-Err-Refused-clause-texts_part g c = λ told other said told_device.
+    let words = map string_bytes c.args.words.now.items in
+    let room = g.R.Room.room c.args.room.now in
+    let word = c.in-Some.word in
+    let base = c.in-Some.base.now in
+    let asked : Request words word base = ap (λ l. request_of (map string_bytes l)) (sym c.deref.ensures.value) ∙ c.in-Some.ensures in
+    let why = c.in-Err-Refused.why in
+    let is = ap (λ (e : TextError). Err e) c.in-Err-Refused.field-0-is in
+    let one = one_reading words room word base asked (Err why) (c.in-Err-Refused.ensures.refused_one why is told) in
+    subst (λ (x : Refusal). SaidPart (refusal_line x) (g.D.Device.state c.args.device.now) (g.D.Device.state c.refuse_texts.new.device)) (c.in-Err-Refused.why-is ∙ sym (err_same words room why one other said)) (c.refuse_texts.ensures.part told_device)
 
 pub returns-in-Err-Refused-clause-file : goal.returns-in-Err-Refused-clause-file
-returns-in-Err-Refused-clause-file g c = λ told_room told commands said no.
+returns-in-Err-Refused-clause-file g c = λ told told_device f said.
     let words = map string_bytes c.args.words.now.items in
     let room = g.R.Room.room c.args.room.now in
+    let word = c.in-Some.word in
     let base = c.in-Some.base.now in
-    let asked : request_of words ≡ Some base = ap (λ l. request_of (map string_bytes l)) (sym c.deref.ensures.value) ∙ c.in-Some.ensures in
-    let reads : (told : IsTrue room.told) → Reads words room (Err c.in-Err-Refused.fault) = λ told. reads_of words room base asked (Err c.in-Err-Refused.fault) (c.in-Err-Refused.ensures.refused c.in-Err-Refused.fault (ap (λ (e : ScriptError). Err e) c.in-Err-Refused.field-0-is) told) in
-    absurd (not_both_said words room commands c.in-Err-Refused.fault said (reads told_room))
+    let asked : Request words word base = ap (λ l. request_of (map string_bytes l)) (sym c.deref.ensures.value) ∙ c.in-Some.ensures in
+    let why = c.in-Err-Refused.why in
+    let is = ap (λ (e : TextError). Err e) c.in-Err-Refused.field-0-is in
+    let one = one_reading words room word base asked (Err why) (c.in-Err-Refused.ensures.refused_one why is told) in
+    absurd (err_not words room why one f said)
 
 pub returns-in-Err-Refused-clause-file_part : goal.returns-in-Err-Refused-clause-file_part
-returns-in-Err-Refused-clause-file_part g c = λ told_room told commands said no.
+returns-in-Err-Refused-clause-file_part g c = λ told told_device f said.
     let words = map string_bytes c.args.words.now.items in
     let room = g.R.Room.room c.args.room.now in
+    let word = c.in-Some.word in
     let base = c.in-Some.base.now in
-    let asked : request_of words ≡ Some base = ap (λ l. request_of (map string_bytes l)) (sym c.deref.ensures.value) ∙ c.in-Some.ensures in
-    let reads : (told : IsTrue room.told) → Reads words room (Err c.in-Err-Refused.fault) = λ told. reads_of words room base asked (Err c.in-Err-Refused.fault) (c.in-Err-Refused.ensures.refused c.in-Err-Refused.fault (ap (λ (e : ScriptError). Err e) c.in-Err-Refused.field-0-is) told) in
-    absurd (not_both_said words room commands c.in-Err-Refused.fault said (reads told_room))
+    let asked : Request words word base = ap (λ l. request_of (map string_bytes l)) (sym c.deref.ensures.value) ∙ c.in-Some.ensures in
+    let why = c.in-Err-Refused.why in
+    let is = ap (λ (e : TextError). Err e) c.in-Err-Refused.field-0-is in
+    let one = one_reading words room word base asked (Err why) (c.in-Err-Refused.ensures.refused_one why is told) in
+    absurd (err_not words room why one f said)
 
 pub returns-in-Err-Refused-clause-missing : goal.returns-in-Err-Refused-clause-missing
-returns-in-Err-Refused-clause-missing g c = λ told_room misses.
+returns-in-Err-Refused-clause-missing g c = λ told misses.
     let words = map string_bytes c.args.words.now.items in
     let room = g.R.Room.room c.args.room.now in
+    let word = c.in-Some.word in
     let base = c.in-Some.base.now in
-    let asked : request_of words ≡ Some base = ap (λ l. request_of (map string_bytes l)) (sym c.deref.ensures.value) ∙ c.in-Some.ensures in
-    let reads : (told : IsTrue room.told) → Reads words room (Err c.in-Err-Refused.fault) = λ told. reads_of words room base asked (Err c.in-Err-Refused.fault) (c.in-Err-Refused.ensures.refused c.in-Err-Refused.fault (ap (λ (e : ScriptError). Err e) c.in-Err-Refused.field-0-is) told) in
-    absurd (not_missed words room (Err c.in-Err-Refused.fault) (reads told_room) misses)
+    let asked : Request words word base = ap (λ l. request_of (map string_bytes l)) (sym c.deref.ensures.value) ∙ c.in-Some.ensures in
+    let why = c.in-Err-Refused.why in
+    let is = ap (λ (e : TextError). Err e) c.in-Err-Refused.field-0-is in
+    absurd (not_missed words room word base asked (Err why) (c.in-Err-Refused.ensures.refused why is told) misses)
 
 pub returns-in-Err-Refused-clause-accepted : goal.returns-in-Err-Refused-clause-accepted
-returns-in-Err-Refused-clause-accepted g c = λ told_room told commands t said starts.
+returns-in-Err-Refused-clause-accepted g c = λ told told_device f t said.
     let words = map string_bytes c.args.words.now.items in
     let room = g.R.Room.room c.args.room.now in
+    let word = c.in-Some.word in
     let base = c.in-Some.base.now in
-    let asked : request_of words ≡ Some base = ap (λ l. request_of (map string_bytes l)) (sym c.deref.ensures.value) ∙ c.in-Some.ensures in
-    let reads : (told : IsTrue room.told) → Reads words room (Err c.in-Err-Refused.fault) = λ told. reads_of words room base asked (Err c.in-Err-Refused.fault) (c.in-Err-Refused.ensures.refused c.in-Err-Refused.fault (ap (λ (e : ScriptError). Err e) c.in-Err-Refused.field-0-is) told) in
-    absurd (not_both_said words room commands c.in-Err-Refused.fault said (reads told_room))
+    let asked : Request words word base = ap (λ l. request_of (map string_bytes l)) (sym c.deref.ensures.value) ∙ c.in-Some.ensures in
+    let why = c.in-Err-Refused.why in
+    let is = ap (λ (e : TextError). Err e) c.in-Err-Refused.field-0-is in
+    let one = one_reading words room word base asked (Err why) (c.in-Err-Refused.ensures.refused_one why is told) in
+    absurd (err_not words room why one f said)
 
 pub returns-in-Err-Refused-clause-complete : goal.returns-in-Err-Refused-clause-complete
-returns-in-Err-Refused-clause-complete g c = λ told_room told commands t said starts disk line texts.
+returns-in-Err-Refused-clause-complete g c = λ told told_device f t said.
     let words = map string_bytes c.args.words.now.items in
     let room = g.R.Room.room c.args.room.now in
+    let word = c.in-Some.word in
     let base = c.in-Some.base.now in
-    let asked : request_of words ≡ Some base = ap (λ l. request_of (map string_bytes l)) (sym c.deref.ensures.value) ∙ c.in-Some.ensures in
-    let reads : (told : IsTrue room.told) → Reads words room (Err c.in-Err-Refused.fault) = λ told. reads_of words room base asked (Err c.in-Err-Refused.fault) (c.in-Err-Refused.ensures.refused c.in-Err-Refused.fault (ap (λ (e : ScriptError). Err e) c.in-Err-Refused.field-0-is) told) in
-    absurd (not_both_said words room commands c.in-Err-Refused.fault said (reads told_room))
+    let asked : Request words word base = ap (λ l. request_of (map string_bytes l)) (sym c.deref.ensures.value) ∙ c.in-Some.ensures in
+    let why = c.in-Err-Refused.why in
+    let is = ap (λ (e : TextError). Err e) c.in-Err-Refused.field-0-is in
+    let one = one_reading words room word base asked (Err why) (c.in-Err-Refused.ensures.refused_one why is told) in
+    absurd (err_not words room why one f said)
 
 pub returns-in-Err-Refused-clause-cut : goal.returns-in-Err-Refused-clause-cut
-returns-in-Err-Refused-clause-cut g c = λ told_room told only commands t said starts image out left.
+returns-in-Err-Refused-clause-cut g c = λ told told_device only f t said.
     let words = map string_bytes c.args.words.now.items in
     let room = g.R.Room.room c.args.room.now in
+    let word = c.in-Some.word in
     let base = c.in-Some.base.now in
-    let asked : request_of words ≡ Some base = ap (λ l. request_of (map string_bytes l)) (sym c.deref.ensures.value) ∙ c.in-Some.ensures in
-    let reads : (told : IsTrue room.told) → Reads words room (Err c.in-Err-Refused.fault) = λ told. reads_of words room base asked (Err c.in-Err-Refused.fault) (c.in-Err-Refused.ensures.refused c.in-Err-Refused.fault (ap (λ (e : ScriptError). Err e) c.in-Err-Refused.field-0-is) told) in
-    absurd (not_both_said words room commands c.in-Err-Refused.fault said (reads told_room))
+    let asked : Request words word base = ap (λ l. request_of (map string_bytes l)) (sym c.deref.ensures.value) ∙ c.in-Some.ensures in
+    let why = c.in-Err-Refused.why in
+    let is = ap (λ (e : TextError). Err e) c.in-Err-Refused.field-0-is in
+    let one = one_reading words room word base asked (Err why) (c.in-Err-Refused.ensures.refused_one why is told) in
+    absurd (err_not words room why one f said)
+
+pub returns-in-Err-Refused-clause-left : goal.returns-in-Err-Refused-clause-left
+returns-in-Err-Refused-clause-left g c = λ told told_device f t said.
+    let words = map string_bytes c.args.words.now.items in
+    let room = g.R.Room.room c.args.room.now in
+    let word = c.in-Some.word in
+    let base = c.in-Some.base.now in
+    let asked : Request words word base = ap (λ l. request_of (map string_bytes l)) (sym c.deref.ensures.value) ∙ c.in-Some.ensures in
+    let why = c.in-Err-Refused.why in
+    let is = ap (λ (e : TextError). Err e) c.in-Err-Refused.field-0-is in
+    let one = one_reading words room word base asked (Err why) (c.in-Err-Refused.ensures.refused_one why is told) in
+    absurd (err_not words room why one f said)
+
+-- over a sure room a text is not there
+missed : (g : Over) (c : goal.In-Err-Room g) → IsTrue (g.R.Room.room c.args.room.now).sure → (d u s : List ℕ) → AreThere c.in-Some.word c.in-Some.base.now (g.R.Room.room c.args.room.now) d u s → ⊥
+missed g c sure d u s there = c.in-Err-Room.ensures.sure sure d u s there (ap (λ (e : TextError). Err e) c.in-Err-Room.field-0-is)
+
+pub returns-in-Err-Room-clause-room_sure : goal.returns-in-Err-Room-clause-room_sure
+returns-in-Err-Room-clause-room_sure g c = λ code sure.
+    let words = map string_bytes c.args.words.now.items in
+    let room = g.R.Room.room c.args.room.now in
+    let word = c.in-Some.word in
+    let base = c.in-Some.base.now in
+    let asked : Request words word base = ap (λ l. request_of (map string_bytes l)) (sym c.deref.ensures.value) ∙ c.in-Some.ensures in
+    misses_of words room word base asked (missed g c sure)
+
+pub returns-in-Err-Room-clause-complete : goal.returns-in-Err-Room-clause-complete
+returns-in-Err-Room-clause-complete g c = λ told told_device f t said starts disk line texts.
+    let words = map string_bytes c.args.words.now.items in
+    let room = g.R.Room.room c.args.room.now in
+    let word = c.in-Some.word in
+    let base = c.in-Some.base.now in
+    let asked : Request words word base = ap (λ l. request_of (map string_bytes l)) (sym c.deref.ensures.value) ∙ c.in-Some.ensures in
+    absurd (⊎_elim (λ none. none (c.in-Err-Room.ensures.room (ap (λ (e : TextError). Err e) c.in-Err-Room.field-0-is))) (λ sure. not_missed words room said.word said.base said.asked (Ok f) said.reads (misses_of words room word base asked (missed g c sure))) texts)
 
 pub returns-in-Err-Room-clause-cut : goal.returns-in-Err-Room-clause-cut
-returns-in-Err-Room-clause-cut g c = λ told_room told only commands t said starts image out left.
+returns-in-Err-Room-clause-cut g c = λ told told_device only f t said starts image out left.
     let a = g.D.Device.state c.args.device.now in
     let la = g.D.Device.leaves c.args.device.now in
-    cut_at_call t commands a a la la only starts (λ m o past. g.met.D.Device.sent_now c.args.device.now m o told past) image out left
+    cut_at_call (identity_of f) (acts_of f) t a a la la only starts (λ m o past. g.met.D.Device.sent_now c.args.device.now m o told_device past) image out left
 
 pub returns-in-Err-Memory-clause-cut : goal.returns-in-Err-Memory-clause-cut
-returns-in-Err-Memory-clause-cut g c = λ told_room told only commands t said starts image out left.
+returns-in-Err-Memory-clause-cut g c = λ told told_device only f t said starts image out left.
     let a = g.D.Device.state c.args.device.now in
     let la = g.D.Device.leaves c.args.device.now in
-    cut_at_call t commands a a la la only starts (λ m o past. g.met.D.Device.sent_now c.args.device.now m o told past) image out left
+    cut_at_call (identity_of f) (acts_of f) t a a la la only starts (λ m o past. g.met.D.Device.sent_now c.args.device.now m o told_device past) image out left

@@ -1,0 +1,28 @@
+use Rattle.std.proofs.Common.{ap, ◌∙◌}
+use Rattle.utm_cli.specs.declared.error.Refusal.{Refusal}
+use Rattle.utm_cli.proofs.TextsSaid.{application_is, application_one, script_is, script_refused, script_one, script_never_room, asked_one, said_refused}
+use Rattle.utm_cli.proofs.texts.asked_of.Goals as goal
+
+pub returns-in_err-application-clause-refused_one : goal.returns-in_err-application-clause-refused_one
+returns-in_err-application-clause-refused_one c = λ why is said h.
+    let e = c.in_err-application.field-0.0 in
+    let same = application_is _ c.from_residual.result e why c.from_residual.ensures.1 is in
+    application_one c.args.word c.args.definition.now c.args.units.now c.args.script.now e same.0 c.in_err-application.ensures.only c.in_err-application.ensures.refused said h ∙ ap (λ (k : Refusal). said_refused k) same.1
+
+pub returns-in_err-commands-clause-refused : goal.returns-in_err-commands-clause-refused
+returns-in_err-commands-clause-refused c = λ why is.
+    let e = c.in_err-commands.field-0.0 in
+    let same = script_is _ c.from_residual-in_err-commands.result e why c.from_residual-in_err-commands.ensures.1 is in
+    script_refused c.args.word c.args.definition.now c.args.units.now c.args.script.now c.in_ok-application.application c.in_ok-application.ensures.found e why same.1 (c.in_err-commands.ensures.refused same.0)
+
+pub returns-in_err-commands-clause-refused_one : goal.returns-in_err-commands-clause-refused_one
+returns-in_err-commands-clause-refused_one c = λ why is said h.
+    let e = c.in_err-commands.field-0.0 in
+    let same = script_is _ c.from_residual-in_err-commands.result e why c.from_residual-in_err-commands.ensures.1 is in
+    script_one c.args.word c.args.definition.now c.args.units.now c.args.script.now c.in_ok-application.application c.in_ok-application.ensures.only c.in_ok-application.ensures.refused e (c.in_err-commands.ensures.refused same.0) said h ∙ ap (λ (k : Refusal). said_refused k) same.1
+
+pub returns-in_err-commands-clause-never : goal.returns-in_err-commands-clause-never
+returns-in_err-commands-clause-never c = script_never_room _ c.from_residual-in_err-commands.result c.in_err-commands.field-0.0 c.from_residual-in_err-commands.ensures.1
+
+pub returns-clause-found_one : goal.returns-clause-found_one
+returns-clause-found_one c = asked_one c.args.word c.args.definition.now c.args.units.now c.args.script.now c.in_ok-application.application c.in_ok-application.ensures.only c.in_ok-application.ensures.refused c.in_ok-commands.commands.items c.in_ok-commands.ensures.found

@@ -1,0 +1,116 @@
+//! The texts of a call, read from the room, and what they say.
+ghost use Rattle.std.specs.Prelude.{◌≡◌, ◌++◌, List, ℕ, IsTrue, IfOk, IsErrOf, IsSome, IsSomeAnd, [], Ok, Err};
+ghost use Rattle.kd_device.specs.Device.{Rose};
+ghost use Rattle.kd_device.specs.Room.{RoomState, SameRoom, text_of};
+ghost use Rattle.utm_cli.specs.Asking.{Errand, Reading, AskFor, ScriptIs, ReadsFor, AreThere, shown_of};
+ghost use Rattle.utm_cli.specs.declared.error.Refusal.{Refusal};
+
+use crate::error::TextError;
+use crate::text::named;
+use crate::words::Word;
+use application_read::{Application, read_application};
+use kd_device::{Room, RoomError};
+use kdcs_types::Command;
+use script_read::read_script;
+use std::alloc::Global;
+use std::marker::Model;
+
+/// The greatest length of a text, in bytes.
+const TEXT_LIMIT: u64 = 16_777_216;
+
+/// What a call asks for.
+#[derive(Drop)]
+pub(crate) struct Asked {
+    pub word: Word,
+    pub application: Application,
+    /// The commands of the script; `gen` has none.
+    pub commands: Vec<Command>,
+}
+
+impl Model for Asked {
+    ghost use Rattle.utm_cli.specs.Asking.{Errand};
+
+    ghost Value = { Errand };
+
+    ghost view = { λ a. record { word = a.word; application = a.application; commands = a.commands.items } };
+}
+
+/// The text of this BASE with this ending, up to one byte past the limit.
+fn text<R: Room>(
+    alloc: Global,
+    room: &mut R,
+    base: &[u8],
+    ending: &[u8],
+) -> Result<Vec<u8>, RoomError>
+    ensures value { IfOk result (λ text. IsTrue (R.room room.old).told → IsSomeAnd (text_of (base.now ++ ending.now) (R.room room.old).texts) (λ whole. text.items ≡ shown_of whole)) }
+    ensures room { IsErrOf result RoomError.Failed → Rose (R.room room.old).faults (R.room room.new).faults }
+    ensures sure { IsTrue (R.room room.old).sure → IsSome (text_of (base.now ++ ending.now) (R.room room.old).texts) → IsErrOf result RoomError.Failed → ⊥ }
+    ensures same { SameRoom (R.room room.old) (R.room room.new) }
+{
+    let Ok(name) = named(alloc, base, ending) else {
+        return Err(RoomError::Memory);
+    };
+    room.read(alloc, &name, TEXT_LIMIT)
+}
+
+/// The text of the script, which `gen` does not read.
+fn script_text<R: Room>(
+    alloc: Global,
+    room: &mut R,
+    word: Word,
+    base: &[u8],
+) -> Result<Vec<u8>, RoomError>
+    ensures value { IfOk result (λ text. IsTrue (R.room room.old).told → (whole : List ℕ) × ScriptIs word base.now (R.room room.old) whole × (text.items ≡ shown_of whole)) }
+    ensures room { IsErrOf result RoomError.Failed → Rose (R.room room.old).faults (R.room room.new).faults }
+    ensures sure { IsTrue (R.room room.old).sure → (whole : List ℕ) → ScriptIs word base.now (R.room room.old) whole → IsErrOf result RoomError.Failed → ⊥ }
+    ensures same { SameRoom (R.room room.old) (R.room room.new) }
+{
+    match word {
+        Word::Gen => Ok(Vec::new(alloc)),
+        Word::Run => text(alloc, room, base, b".script"),
+    }
+}
+
+/// What a definition, its units and a script say, or the first fault.
+fn asked_of(
+    alloc: Global,
+    word: Word,
+    definition: &[u8],
+    units: &[u8],
+    script: &[u8],
+) -> Result<Asked, TextError>
+    ensures found { IfOk result (λ e. AskFor word definition.now units.now script.now (Ok e)) }
+    ensures found_one { IfOk result (λ e. (said : Reading) → AskFor word definition.now units.now script.now said → said ≡ Ok e) }
+    ensures refused { (why : Refusal) → IsErrOf result (TextError.Refused why) → AskFor word definition.now units.now script.now (Err why) }
+    ensures refused_one { (why : Refusal) → IsErrOf result (TextError.Refused why) → (said : Reading) → AskFor word definition.now units.now script.now said → said ≡ Err why }
+    ensures never { IsErrOf result TextError.Room → ⊥ }
+{
+    let application = read_application(alloc, definition, units)?;
+    let commands = read_script(alloc, script)?;
+    Ok(Asked {
+        word,
+        application,
+        commands,
+    })
+}
+
+/// What the texts of this BASE say that the word reads. All of them are read before the first is looked into.
+pub(crate) fn read_texts<R: Room>(
+    alloc: Global,
+    room: &mut R,
+    word: Word,
+    base: &[u8],
+) -> Result<Asked, TextError>
+    ensures found { IfOk result (λ e. IsTrue (R.room room.old).told → ReadsFor word base.now (R.room room.old) (Ok e)) }
+    ensures found_one { IfOk result (λ e. IsTrue (R.room room.old).told → (said : Reading) → ReadsFor word base.now (R.room room.old) said → said ≡ Ok e) }
+    ensures refused { (why : Refusal) → IsErrOf result (TextError.Refused why) → IsTrue (R.room room.old).told → ReadsFor word base.now (R.room room.old) (Err why) }
+    ensures refused_one { (why : Refusal) → IsErrOf result (TextError.Refused why) → IsTrue (R.room room.old).told → (said : Reading) → ReadsFor word base.now (R.room room.old) said → said ≡ Err why }
+    ensures room { IsErrOf result TextError.Room → Rose (R.room room.old).faults (R.room room.new).faults }
+    ensures sure { IsTrue (R.room room.old).sure → (definition units text : List ℕ) → AreThere word base.now (R.room room.old) definition units text → IsErrOf result TextError.Room → ⊥ }
+    ensures same { SameRoom (R.room room.old) (R.room room.new) }
+{
+    let definition = text(alloc, room, base, b".def")?;
+    let units = text(alloc, room, base, b".units")?;
+    let script = script_text(alloc, room, word, base)?;
+    asked_of(alloc, word, &definition, &units, &script)
+}
