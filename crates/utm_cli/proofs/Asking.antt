@@ -73,7 +73,7 @@ module _ (words : List (List ℕ)) (room : RoomState) (word : Word) (base : List
 
 module _ (words : List (List ℕ)) (room : RoomState) (e : Errand) (one : (said : Reading) → Reads words room said → said ≡ Ok e) where
   pub ok_not : (why : Refusal) → Reads words room (Err why) → ⊥
-  ok_not why h = let none_there = one (Err why) h in cc
+  ok_not why h = let differ = one (Err why) h in cc
 
   -- what holds of what was read holds of what is said
   pub moved : (P : Errand → Type 0) (f : Errand) → Reads words room (Ok f) → P e → P f
@@ -86,7 +86,7 @@ module _ (words : List (List ℕ)) (room : RoomState) (e : Errand) (one : (said 
 
 module _ (words : List (List ℕ)) (room : RoomState) (why : Refusal) (one : (said : Reading) → Reads words room said → said ≡ Err why) where
   pub err_not : (e : Errand) → Reads words room (Ok e) → ⊥
-  err_not e h = let none_there = one (Ok e) h in cc
+  err_not e h = let differ = one (Ok e) h in cc
 
   pub err_same : (other : Refusal) → Reads words room (Err other) → other ≡ why
   err_same other h = let same = one (Err other) h in cc
