@@ -12,7 +12,7 @@ use Rattle.kdcs_types.specs.declared.call.Call.TheVariants.{Init, Mget, Mput, Fg
 use Rattle.kdcs_types.specs.declared.call.Cause.{Cause}
 use Rattle.kdcs_types.specs.declared.call.Cause.TheVariants.{E01, E02, E12}
 use Rattle.kdcs_types.specs.declared.call.Code.{Code}
-use Rattle.kdcs_types.specs.declared.call.Code.TheVariants.{Done, K01, K02, K03, K06, K07, K08, K09, K10, K11}
+use Rattle.kdcs_types.specs.declared.call.Code.TheVariants.{Done, K01, K02, K03, K04, K05, K06, K07, K08, K09, K10, K11}
 use Rattle.kdcs_types.specs.declared.call.Reply.{Reply}
 use Rattle.kdcs_types.specs.declared.key.Area.{Area}
 use Rattle.kdcs_types.specs.declared.key.Area.TheVariants.{Gssb, Tls, Uls}
@@ -22,6 +22,10 @@ use Rattle.kdcs_types.specs.declared.service.Note.TheVariants.{Released, Refused
 use Rattle.kdcdef_types.specs.declared.entry.TacEntry.{TacEntry}
 use Rattle.kdcdef_types.specs.declared.entry.LtermEntry.{LtermEntry}
 use Rattle.kdcdef_types.specs.Generation.{Generated, tac_of, lterm_of, has_tls, has_uls}
+use Rattle.monitor_semantics.specs.declared.answer.LockAnswer.{LockAnswer}
+use Rattle.monitor_semantics.specs.declared.answer.LockAnswer.TheVariants.{Granted, Wait, Busy, Deadlock}
+use Rattle.monitor_semantics.specs.declared.answer.Called.{Called}
+use Rattle.monitor_semantics.specs.declared.answer.Called.TheVariants.{Replied, Waits, Abnormal, Pends}
 use Rattle.monitor_semantics.specs.declared.outcome.Outcome.{Outcome}
 use Rattle.monitor_semantics.specs.declared.draft.Due.{Due}
 use Rattle.monitor_semantics.specs.declared.draft.Due.TheVariants.{After, At}
@@ -31,26 +35,18 @@ use Rattle.unit_semantics.specs.Contents.{trim_end, number_of}
 use Rattle.monitor_semantics.specs.State.{OpenTransaction}
 use Rattle.monitor_semantics.specs.Outcomes.{goes_first, pend_outcome}
 
--- how a request for an area that the transaction does not hold is answered
-pub data Asked : Type 0 where
-  Granted MustWait : Asked
-  -- with K04 or K05
-  Denied : (code : Code) → Asked
-
--- what a call is told of the area of which it asks: the answer to a request for it, and its content outside the transaction
+-- what a call is told of the area of which it asks: how a request for it is answered, and its content in the tables
 pub record Told : Type 0 where
-  pub asked : Asked
+  pub answer : LockAnswer
   pub content : Option Bytes
 
--- what a call does
-pub data Called : Type 0 where
-  -- the call is answered
-  Replied : (after : OpenTransaction) (reply : Reply) → Called
-  -- the request for the area waits
-  Waits : Called
-  -- the service ends abnormally
-  Abnormal : (cause : Cause) → Called
-  Pends : (variant : Variant) (outcome : Outcome) → Called
+-- what a call is told that asks of no area
+abbrev pub nothing_told : Told
+nothing_told = record { answer = Granted; content = None }
+
+-- the open transaction after a call, and what the call does
+abbrev pub Performed : Type 0
+Performed = OpenTransaction × Called
 
 -- ---- answers
 
@@ -58,40 +54,48 @@ pub data Called : Type 0 where
 abbrev pub plain_reply : Code → Reply
 plain_reply code = record { code = code; length = 0; content = None }
 
--- the call is answered with a code alone
-abbrev pub replied : OpenTransaction → Code → Called
-replied x code = Replied x (plain_reply code)
-
 -- a content that was read into a field of this length: K02 where it is longer
 abbrev pub read_reply : ℕ → Bytes → Reply
 read_reply room bytes = record { code = if nat_lt room (length bytes) then K02 else Done; length = length bytes; content = Some bytes }
 
+-- the call is answered with a code alone
+abbrev pub replied : OpenTransaction → Code → Performed
+replied x code = (x, Replied (plain_reply code))
+
+-- the call is answered with what was read into a field of this length
+abbrev pub read_into : OpenTransaction → ℕ → Bytes → Performed
+read_into x room bytes = (x, Replied (read_reply room bytes))
+
+-- the service ends abnormally, with nothing done
+abbrev pub refused : OpenTransaction → Cause → Performed
+refused x cause = (x, Abnormal cause)
+
 -- what was read, or this code where there is nothing
-abbrev pub read_or : Code → OpenTransaction → ℕ → Option Bytes → Called
+abbrev pub read_or : Code → OpenTransaction → ℕ → Option Bytes → Performed
 read_or code x room None = replied x code
-read_or code x room (Some bytes) = Replied x (read_reply room bytes)
+read_or code x room (Some bytes) = read_into x room bytes
 
 -- E02 where the call is not for this kind of service
-abbrev pub for_kind : (allowed : Bool) → Called → Called
-for_kind true go = go
-for_kind false go = Abnormal E02
+abbrev pub for_kind : OpenTransaction → (allowed : Bool) → Performed → Performed
+for_kind x true go = go
+for_kind x false go = refused x E02
 
 -- E12 where the bytes are longer than a message may be
-abbrev pub within_length : (fits : Bool) → Called → Called
-within_length true go = go
-within_length false go = Abnormal E12
+abbrev pub within_length : OpenTransaction → (fits : Bool) → Performed → Performed
+within_length x true go = go
+within_length x false go = refused x E12
 
 -- a name operand: the bytes without trailing spaces, where they are a name
 abbrev pub name_in_operand : Bytes → Option Bytes
 name_in_operand bytes = name_of (trim_end bytes)
 
 -- K11 where the operand is no name
-abbrev pub with_name : OpenTransaction → Option Bytes → (Bytes → Called) → Called
+abbrev pub with_name : OpenTransaction → Option Bytes → (Bytes → Performed) → Performed
 with_name x None go = replied x K11
 with_name x (Some name) go = go name
 
 -- K08 where the block is not declared
-abbrev pub declared : OpenTransaction → Bool → Called → Called
+abbrev pub declared : OpenTransaction → Bool → Performed → Performed
 declared x true go = go
 declared x false go = replied x K08
 
@@ -99,27 +103,32 @@ declared x false go = replied x K08
 
 -- the transaction holds the area
 abbrev pub touches : OpenTransaction → Area → Bool
-touches x area = list_any (area_eq area) x.touched
+touches x area = list_any (λ (held : Area). area_eq held area) x.touched
 
--- a request for an area that is held already is granted
-abbrev pub asked_by : Told → (held : Bool) → Asked
-asked_by v true = Granted
-asked_by v false = v.asked
-
--- the area is held from now on, and no request waits
+-- the area is held from now on
 abbrev pub touching : OpenTransaction → Area → (held : Bool) → OpenTransaction
-touching x area true = record x { awaited = None }
-touching x area false = record x { touched = area ∷ x.touched; awaited = None }
+touching x area true = x
+touching x area false = record x { touched = x.touched ++ area ∷ [] }
+
+-- K04 and K05 are noted
+abbrev pub noted : OpenTransaction → Area → Code → OpenTransaction
+noted x area code = record x { notes = x.notes ++ Refused area code ∷ [] }
 
 -- the call goes on with the lock, or waits, or is answered K04 or K05
-abbrev pub on_answer : OpenTransaction → Area → Asked → (OpenTransaction → Called) → Called
+abbrev pub on_answer : OpenTransaction → Area → LockAnswer → (OpenTransaction → Performed) → Performed
 on_answer x area Granted go = go (touching x area (touches x area))
-on_answer x area MustWait go = Waits
-on_answer x area (Denied code) go = replied (record x { awaited = None; notes = x.notes ++ Refused area code ∷ [] }) code
+on_answer x area Wait go = (x, Waits)
+on_answer x area Busy go = replied (noted x area K04) K04
+on_answer x area Deadlock go = replied (noted x area K05) K05
 
--- the request for the area: a lock that is granted is held from now on, K04 and K05 are noted
-abbrev pub locked : Told → OpenTransaction → Area → (OpenTransaction → Called) → Called
-locked v x area go = on_answer x area (asked_by v (touches x area)) go
+-- a request for an area that the transaction holds is granted, whatever it is told
+abbrev pub answer_by : Told → (held : Bool) → LockAnswer
+answer_by v true = Granted
+answer_by v false = v.answer
+
+-- the request for the area: a lock that is granted is held from now on
+abbrev pub locked : Told → OpenTransaction → Area → (OpenTransaction → Performed) → Performed
+locked v x area go = on_answer x area (answer_by v (touches x area)) go
 
 -- the own write or deletion comes before what lies outside
 abbrev pub shown_by : Option (Option Bytes) → Option Bytes → Option Bytes
@@ -133,18 +142,19 @@ seen v x area = shown_by (find area_cmp area x.written) v.content
 -- ---- messages
 
 -- K01 where no part is left
-abbrev pub got_by : OpenTransaction → ℕ → List Bytes → Called
+abbrev pub got_by : OpenTransaction → ℕ → List Bytes → Performed
 got_by x room [] = replied x K01
-got_by x room (part ∷ rest) = Replied (record x { unread = rest }) (read_reply room part)
+got_by x room (part ∷ rest) = read_into (record x { unread = rest }) room part
 
 -- MGET and FGET: the next part that is still to be read, a cut part too
-abbrev pub got : OpenTransaction → ℕ → Called
+abbrev pub got : OpenTransaction → ℕ → Performed
 got x room = got_by x room x.unread
 
 -- MPUT: at most 16 parts, of at most NB bytes together
-abbrev pub put_part : Generated → OpenTransaction → Bytes → Called
+abbrev pub put_part : Generated → OpenTransaction → Bytes → Performed
 put_part g x bytes =
     within_length
+    x
     (nat_le (sum_by length x.parts + length bytes) g.limits.nb && nat_lt (length x.parts) 16)
     (replied (record x { parts = x.parts ++ bytes ∷ [] }) Done)
 
@@ -176,37 +186,37 @@ moment_by mode (Some d) (Some h) (Some m) (Some s) = moment_of mode d h m s
 moment_by mode _ _ _ _ = None
 
 -- a new draft, once its target (K08) and then its moment (K10) are found
-abbrev pub drafted : OpenTransaction → Option Target → Option Due → Bytes → Called
+abbrev pub drafted : OpenTransaction → Option Target → Option Due → Bytes → Performed
 drafted x None due message = replied x K08
 drafted x (Some to) None message = replied x K10
 drafted x (Some to) (Some due) message = replied (record x { drafts = x.drafts ++ record { to = to; due = due; message = message } ∷ [] }) Done
 
 -- FPUT and DPUT
-abbrev pub put_job : Generated → OpenTransaction → Bytes → Option Due → Bytes → Called
+abbrev pub put_job : Generated → OpenTransaction → Bytes → Option Due → Bytes → Performed
 put_job g x to due message =
-    within_length (nat_le (length message) g.limits.nb) (with_name x (name_in_operand to) (λ name. drafted x (target_of g name) due message))
+    within_length x (nat_le (length message) g.limits.nb) (with_name x (name_in_operand to) (λ name. drafted x (target_of g name) due message))
 
 -- ---- areas
 
 -- the area has this content, or is absent, for this transaction
-abbrev pub wrote : OpenTransaction → Area → Option Bytes → Called
+abbrev pub wrote : OpenTransaction → Area → Option Bytes → Performed
 wrote x area content = replied (record x { written = put area_cmp area content x.written }) Done
 
 -- K03 where the area is absent
-abbrev pub deleted : OpenTransaction → Area → Option Bytes → Called
+abbrev pub deleted : OpenTransaction → Area → Option Bytes → Performed
 deleted x area None = replied x K03
 deleted x area (Some bytes) = wrote x area None
 
 -- SGET GB
-abbrev pub read_gssb : Told → OpenTransaction → Bytes → ℕ → Called
+abbrev pub read_gssb : Told → OpenTransaction → Bytes → ℕ → Performed
 read_gssb v x name room = locked v x (Gssb name) (λ y. read_or K03 y room (seen v y (Gssb name)))
 
 -- SPUT GB
-abbrev pub write_gssb : Told → OpenTransaction → Bytes → Bytes → Called
+abbrev pub write_gssb : Told → OpenTransaction → Bytes → Bytes → Performed
 write_gssb v x name bytes = locked v x (Gssb name) (λ y. wrote y (Gssb name) (Some bytes))
 
 -- SREL GB
-abbrev pub delete_gssb : Told → OpenTransaction → Bytes → Called
+abbrev pub delete_gssb : Told → OpenTransaction → Bytes → Performed
 delete_gssb v x name = locked v x (Gssb name) (λ y. deleted y (Gssb name) (seen v y (Gssb name)))
 
 -- an absent block is empty
@@ -215,22 +225,22 @@ or_empty None = []
 or_empty (Some bytes) = bytes
 
 -- SGET US and GTDA: a block that is absent is read as empty
-abbrev pub read_block : Told → OpenTransaction → Area → ℕ → Called
-read_block v x area room = locked v x area (λ y. Replied y (read_reply room (or_empty (seen v y area))))
+abbrev pub read_block : Told → OpenTransaction → Area → ℕ → Performed
+read_block v x area room = locked v x area (λ y. read_into y room (or_empty (seen v y area)))
 
 -- SPUT US and PTDA
-abbrev pub write_block : Told → OpenTransaction → Area → Bytes → Called
+abbrev pub write_block : Told → OpenTransaction → Area → Bytes → Performed
 write_block v x area bytes = locked v x area (λ y. wrote y area (Some bytes))
 
 -- UNLK: the area is held by this transaction (K06), and it has not written or deleted it (K07)
-abbrev pub unlocked_by : Told → OpenTransaction → Area → (held written : Bool) → Called
+abbrev pub unlocked_by : Told → OpenTransaction → Area → (held written : Bool) → Performed
 unlocked_by v x area false _ = replied x K06
 unlocked_by v x area true true = replied x K07
 unlocked_by v x area true false =
-    replied (record x { touched = filter (λ (a : Area). not (area_eq area a)) x.touched; notes = x.notes ++ Released area v.content ∷ [] }) Done
+    replied (record x { touched = filter (λ (held : Area). not (area_eq held area)) x.touched; notes = x.notes ++ Released area v.content ∷ [] }) Done
 
 -- UNLK of an area
-abbrev pub unlocked : Told → OpenTransaction → Area → Called
+abbrev pub unlocked : Told → OpenTransaction → Area → Performed
 unlocked v x area = unlocked_by v x area (touches x area) (is_some (find area_cmp area x.written))
 
 -- ---- LSSBs
@@ -240,28 +250,28 @@ abbrev pub without_local : Bytes → List (Bytes × Bytes) → List (Bytes × By
 without_local name lssbs = where_key bytes_cmp (λ n. not (bytes_eq name n)) lssbs
 
 -- SPUT MS: K09 where the name is new and there are LSSBS of them
-abbrev pub write_local : Generated → OpenTransaction → Bytes → Bytes → Called
+abbrev pub write_local : Generated → OpenTransaction → Bytes → Bytes → Performed
 write_local g x name bytes =
     if not (is_some (find bytes_cmp name x.lssbs)) && nat_le g.limits.lssbs (length x.lssbs)
     then replied x K09
     else replied (record x { lssbs = put bytes_cmp name bytes x.lssbs }) Done
 
 -- K03 where there is no such LSSB
-abbrev pub read_away_by : OpenTransaction → Bytes → ℕ → Option Bytes → Called
+abbrev pub read_away_by : OpenTransaction → Bytes → ℕ → Option Bytes → Performed
 read_away_by x name room None = replied x K03
-read_away_by x name room (Some bytes) = Replied (record x { lssbs = without_local name x.lssbs }) (read_reply room bytes)
+read_away_by x name room (Some bytes) = read_into (record x { lssbs = without_local name x.lssbs }) room bytes
 
 -- SGET RL: it is read and deleted, for K02 too
-abbrev pub read_away : OpenTransaction → Bytes → ℕ → Called
+abbrev pub read_away : OpenTransaction → Bytes → ℕ → Performed
 read_away x name room = read_away_by x name room (find bytes_cmp name x.lssbs)
 
 -- K03 where there is no such LSSB
-abbrev pub delete_local_by : OpenTransaction → Bytes → Option Bytes → Called
+abbrev pub delete_local_by : OpenTransaction → Bytes → Option Bytes → Performed
 delete_local_by x name None = replied x K03
 delete_local_by x name (Some bytes) = replied (record x { lssbs = without_local name x.lssbs }) Done
 
 -- SREL LB
-abbrev pub delete_local : OpenTransaction → Bytes → Called
+abbrev pub delete_local : OpenTransaction → Bytes → Performed
 delete_local x name = delete_local_by x name (find bytes_cmp name x.lssbs)
 
 -- ---- all calls
@@ -272,9 +282,9 @@ has_message [] = false
 has_message (part ∷ parts) = true
 
 -- the outcome of a PEND, or the cause that refuses it
-abbrev pub pended : Variant → Result Outcome Cause → Called
-pended variant (Ok o) = Pends variant o
-pended variant (Err cause) = Abnormal cause
+abbrev pub pended : OpenTransaction → Variant → Result Outcome Cause → Performed
+pended x variant (Ok o) = (x, Pends variant o)
+pended x variant (Err cause) = refused x cause
 
 -- the name in an operand, if there is one
 abbrev pub name_by : Option Bytes → Option Bytes
@@ -282,16 +292,16 @@ name_by None = None
 name_by (Some operand) = name_in_operand operand
 
 -- PEND with its operand
-abbrev pub pend : Generated → (asynchronous : Bool) → OpenTransaction → Variant → Option Bytes → Called
+abbrev pub pend : Generated → (asynchronous : Bool) → OpenTransaction → Variant → Option Bytes → Performed
 pend g asynchronous x variant op =
-    pended variant (pend_outcome asynchronous variant (has_message x.parts) (option_and_then (tac_of g) (name_by op)) (name_by op))
+    pended x variant (pend_outcome asynchronous variant (has_message x.parts) (option_and_then (tac_of g) (name_by op)) (name_by op))
 
 -- the rows of the calls, once INIT is done
-unfoldable pub called : Generated → Told → (asynchronous : Bool) → OpenTransaction → Call → Called
-called g v asynchronous x Init = Abnormal E01
-called g v asynchronous x (Mget room) = for_kind (not asynchronous) (got x room)
-called g v asynchronous x (Mput bytes) = for_kind (not asynchronous) (put_part g x bytes)
-called g v asynchronous x (Fget room) = for_kind asynchronous (got x room)
+unfoldable pub called : Generated → Told → (asynchronous : Bool) → OpenTransaction → Call → Performed
+called g v asynchronous x Init = refused x E01
+called g v asynchronous x (Mget room) = for_kind x (not asynchronous) (got x room)
+called g v asynchronous x (Mput bytes) = for_kind x (not asynchronous) (put_part g x bytes)
+called g v asynchronous x (Fget room) = for_kind x asynchronous (got x room)
 called g v asynchronous x (Fput to message) = put_job g x to (Some (After 0)) message
 called g v asynchronous x (Dput to mode d h m s message) = put_job g x to (moment_by mode (number_of d) (number_of h) (number_of m) (number_of s)) message
 called g v asynchronous x (SgetGb name room) = with_name x (name_in_operand name) (λ n. read_gssb v x n room)
@@ -311,15 +321,34 @@ called g v asynchronous x (UnlkDa name) = with_name x (name_in_operand name) (λ
 called g v asynchronous x (Pend variant op) = pend g asynchronous x variant op
 
 -- before INIT is done, INIT alone is answered
-abbrev pub first_call : OpenTransaction → Call → Called
+abbrev pub first_call : OpenTransaction → Call → Performed
 first_call x Init = replied (record x { inited = true }) Done
-first_call x _ = Abnormal E01
+first_call x (Mget room) = refused x E01
+first_call x (Mput bytes) = refused x E01
+first_call x (Fget room) = refused x E01
+first_call x (Fput to message) = refused x E01
+first_call x (Dput to mode d h m s message) = refused x E01
+first_call x (SgetGb name room) = refused x E01
+first_call x (SputGb name bytes) = refused x E01
+first_call x (SrelGb name) = refused x E01
+first_call x (SgetKp name room) = refused x E01
+first_call x (SgetRl name room) = refused x E01
+first_call x (SputMs name bytes) = refused x E01
+first_call x (SrelLb name) = refused x E01
+first_call x (SgetUs name room) = refused x E01
+first_call x (SputUs name bytes) = refused x E01
+first_call x (Gtda name room) = refused x E01
+first_call x (Ptda name bytes) = refused x E01
+first_call x (UnlkGb name) = refused x E01
+first_call x (UnlkUs name) = refused x E01
+first_call x (UnlkDa name) = refused x E01
+first_call x (Pend variant op) = refused x E01
 
 -- E01 where INIT is missing
-abbrev pub called_by : Generated → Told → (asynchronous : Bool) → OpenTransaction → Call → (inited : Bool) → Called
+abbrev pub called_by : Generated → Told → (asynchronous : Bool) → OpenTransaction → Call → (inited : Bool) → Performed
 called_by g v asynchronous x call true = called g v asynchronous x call
 called_by g v asynchronous x call false = first_call x call
 
 -- what a call answers
-unfoldable pub call_outcome : Generated → Told → (asynchronous : Bool) → OpenTransaction → Call → Called
+unfoldable pub call_outcome : Generated → Told → (asynchronous : Bool) → OpenTransaction → Call → Performed
 call_outcome g v asynchronous x call = called_by g v asynchronous x call x.inited

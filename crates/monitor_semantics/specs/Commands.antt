@@ -19,6 +19,8 @@ use Rattle.kdcdef_types.specs.Generation.{pterm_of}
 use Rattle.kdcs_types.specs.Limits.{last_clock}
 use Rattle.kdcs_types.specs.Tables.{TableRows, service_of, shown_of, with_change}
 use Rattle.kdcs_types.specs.Keys.{id_cmp, id_eq}
+use Rattle.monitor_semantics.specs.declared.answer.Happened.{Happened}
+use Rattle.monitor_semantics.specs.declared.answer.Happened.TheVariants.{Went, Queued, Waited, Held, Settles, Breaks, Returns}
 use Rattle.monitor_semantics.specs.declared.input_use.SignFault.{SignFault}
 use Rattle.monitor_semantics.specs.declared.input_use.SignFault.TheVariants.{BadForm, UnknownUser, WrongPassword, InUse}
 use Rattle.monitor_semantics.specs.declared.input_use.TacFault.{TacFault}
@@ -28,10 +30,11 @@ use Rattle.monitor_semantics.specs.declared.input_use.Use.TheVariants.{Sign, Sig
 use Rattle.monitor_semantics.specs.Bytes.{Bytes, bytes_cmp}
 use Rattle.monitor_semantics.specs.State.{Application, OpenTransaction, Session, State}
 use Rattle.monitor_semantics.specs.Endings.{is_asynchronous, opened_by_start, opened_by_input, opened_by_row, lterm_of_row, followed_by_input, with_service, without_job, durable, restarts}
-use Rattle.monitor_semantics.specs.Statements.{Happened, Went, Queued, Waited, Held, Settles, Breaks, Returns}
+use Rattle.monitor_semantics.specs.Calls.{nothing_told}
+use Rattle.monitor_semantics.specs.Statements.{statement}
 use Rattle.monitor_semantics.specs.Lines.{sys_line, out_line, asy_line, prt_line, no_message_line, tick_line, tick_refused_line, restart_line}
-use Rattle.monitor_semantics.specs.Picks.{due_job}
-use Rattle.monitor_semantics.specs.Turns.{Turned, commit_of, queued, without_open, statement_now, turn_of}
+use Rattle.monitor_semantics.specs.Picks.{free_jobs, due_job}
+use Rattle.monitor_semantics.specs.Turns.{Turned, commit_of, queued, without_open, turn_of}
 use Rattle.monitor_semantics.specs.Sessions.{in_place, service_state, use_of}
 
 -- the commands of a script
@@ -54,23 +57,23 @@ pub data Maker : Type 0 where
   ByShow : (lterm : Bytes) → Maker
   ByTransaction : (kept : Settled) → Maker
 
--- the state after a turn or another command, its acts, and what made its commit, if it has one
-pub record Done : Type 0 where
+-- one step of a script: the state after a turn or another command, its acts, and what made its commit, if it has one
+pub record ScriptStep : Type 0 where
   pub after : State
   pub acts : List Act
   pub by : Option Maker
 
--- no commit
-abbrev pub done : State → List Act → Done
-done s acts = record { after = s; acts = acts; by = None }
+-- a step without a commit
+abbrev pub uncommitted : State → List Act → ScriptStep
+uncommitted s acts = record { after = s; acts = acts; by = None }
 
 -- a commit that makes these tables, and a line
-abbrev pub done_by : Application → State → TableRows → Maker → (text : Bytes) → Done
-done_by app s new maker text = record { after = record s { tables = new }; acts = commit_of app s.tables new ∷ Emit text ∷ []; by = Some maker }
+abbrev pub committing : Application → State → TableRows → Maker → (text : Bytes) → ScriptStep
+committing app s new maker text = record { after = record s { tables = new }; acts = commit_of app s.tables new ∷ Emit text ∷ []; by = Some maker }
 
 -- a line alone
-abbrev pub says : State → Bytes → Done
-says s text = done s (Emit text ∷ [])
+abbrev pub says : State → Bytes → ScriptStep
+says s text = uncommitted s (Emit text ∷ [])
 
 -- ---- start
 
@@ -90,6 +93,7 @@ started app t = record {
   ready = map (λ (s : Service). s.id) (asynchronous_rows t);
   tasks = replicate app.generation.limits.tasks None;
   active = map (opened_row app) (asynchronous_rows t);
+  waits = [];
 }
 
 -- ---- terminals
@@ -146,13 +150,13 @@ resumed_by app s user lterm row true = s
 resumed_by app s user lterm row false = queued s (Dialogue user) (opened_by_row app.generation (Dialogue user) row lterm)
 
 -- a user with an open service sees its last dialogue message again; one that awaits no input becomes ready
-abbrev pub signed_on_by : Application → State → (pterm user lterm : Bytes) → Option Service → Done
+abbrev pub signed_on_by : Application → State → (pterm user lterm : Bytes) → Option Service → ScriptStep
 signed_on_by app s pterm user lterm None = says (with_session s pterm user None) (sys_line pterm (codes "SIGNED ON " ++ user))
 signed_on_by app s pterm user lterm (Some row) =
-    done (resumed_by app (with_session s pterm user row.last) user lterm row row.awaits) (Emit (sys_line pterm (codes "SIGNED ON " ++ user)) ∷ out_again pterm row.last)
+    uncommitted (resumed_by app (with_session s pterm user row.last) user lterm row row.awaits) (Emit (sys_line pterm (codes "SIGNED ON " ++ user)) ∷ out_again pterm row.last)
 
 -- KDCSIGN of a user
-abbrev pub signed_on : Application → State → (pterm user : Bytes) → Done
+abbrev pub signed_on : Application → State → (pterm user : Bytes) → ScriptStep
 signed_on app s pterm user = signed_on_by app s pterm user (lterm_at app pterm) (service_of s.tables (Dialogue user))
 
 -- a task that held this service is free
@@ -181,28 +185,28 @@ is_for lterm (Lterm other) = bytes_eq lterm other
 
 -- the job for this LTERM with the least due and number, of those that are due
 abbrev pub due_for : State → (lterm : Bytes) → Option Job
-due_for s lterm = due_job s.active s.tables.clock (is_for lterm) s.tables.jobs
+due_for s lterm = due_job s.tables.clock (is_for lterm) (free_jobs s.active s.tables.jobs)
 
 -- the job leaves the tables, and its value is the shown message
 abbrev pub shown_tables : TableRows → (lterm : Bytes) → Job → TableRows
 shown_tables t lterm job = with_change (without_job t job.number) (Set (ShownRow lterm job.value))
 
 -- without a due job there is no commit
-abbrev pub show_by : Application → State → (lterm : Bytes) → (no_message : Bytes) → (line_of : Bytes → Bytes) → Option Job → Done
+abbrev pub show_by : Application → State → (lterm : Bytes) → (no_message : Bytes) → (line_of : Bytes → Bytes) → Option Job → ScriptStep
 show_by app s lterm no_message line_of None = says s no_message
-show_by app s lterm no_message line_of (Some job) = done_by app s (shown_tables s.tables lterm job) (ByShow lterm) (line_of job.value.message)
+show_by app s lterm no_message line_of (Some job) = committing app s (shown_tables s.tables lterm job) (ByShow lterm) (line_of job.value.message)
 
 -- KDCOUT and PRINT
-unfoldable pub show_next : Application → State → (lterm : Bytes) → (no_message : Bytes) → (line_of : Bytes → Bytes) → Done
+unfoldable pub show_next : Application → State → (lterm : Bytes) → (no_message : Bytes) → (line_of : Bytes → Bytes) → ScriptStep
 show_next app s lterm no_message line_of = show_by app s lterm no_message line_of (due_for s lterm)
 
 -- a line alone
-abbrev pub show_again_by : State → (no_message : Bytes) → (line_of : Bytes → Bytes) → Option JobValue → Done
+abbrev pub show_again_by : State → (no_message : Bytes) → (line_of : Bytes → Bytes) → Option JobValue → ScriptStep
 show_again_by s no_message line_of None = says s no_message
 show_again_by s no_message line_of (Some value) = says s (line_of value.message)
 
 -- KDCLAST and PRINT LAST
-abbrev pub show_again : State → (lterm : Bytes) → (no_message : Bytes) → (line_of : Bytes → Bytes) → Done
+abbrev pub show_again : State → (lterm : Bytes) → (no_message : Bytes) → (line_of : Bytes → Bytes) → ScriptStep
 show_again s lterm no_message line_of = show_again_by s no_message line_of (shown_of s.tables lterm)
 
 -- ---- inputs
@@ -213,24 +217,28 @@ last_by None = None
 last_by (Some v) = v.last
 
 -- KDCDISP: the last OUT message of this session
-abbrev pub display : State → (pterm : Bytes) → Option Bytes → Done
+abbrev pub display : State → (pterm : Bytes) → Option Bytes → ScriptStep
 display s pterm None = says s (no_message_line pterm)
 display s pterm (Some message) = says s (out_line pterm message)
 
--- the follow-up that a PEND KP names
-abbrev pub held_tac : Happened → Bytes
-held_tac (Held tac) = tac
-held_tac (Went y) = []
-held_tac (Queued y) = []
-held_tac Waited = []
-held_tac (Settles o) = []
-held_tac (Breaks ending) = []
-held_tac Returns = []
+-- the follow-up that a PEND KP names; no run asks it of another statement
+abbrev pub follow_up_of : Happened → Bytes
+follow_up_of (Held tac) = tac
+follow_up_of Went = []
+follow_up_of Queued = []
+follow_up_of Waited = []
+follow_up_of (Settles o) = []
+follow_up_of (Breaks ending) = []
+follow_up_of Returns = []
 
--- after PEND KP the open transaction goes on with the input, else the service's row does
+-- the TAC that reads the next input of a dialogue service that stands at a PEND KP, which asks of no area
+abbrev pub held_tac : Application → OpenTransaction → Bytes
+held_tac app x = follow_up_of (statement app nothing_told false x).1
+
+-- after PEND KP the open transaction goes on with the input, else the service's row does; an input that is awaited finds one of them
 abbrev pub next_by : Application → State → (user lterm text : Bytes) → Option OpenTransaction → Option Service → State
 next_by app s user lterm text (Some x) row =
-    queued s (Dialogue user) (followed_by_input app.generation x (held_tac (statement_now app s (Dialogue user) x)) text)
+    queued s (Dialogue user) (followed_by_input app.generation x (held_tac app x) text)
 next_by app s user lterm text None (Some row) = queued s (Dialogue user) (opened_by_input app.generation (Dialogue user) row lterm text)
 next_by app s user lterm text None None = s
 
@@ -243,7 +251,7 @@ abbrev pub start_service : Application → State → (user lterm tac text : Byte
 start_service app s user lterm tac text = queued s (Dialogue user) (opened_by_start app.generation user lterm tac text)
 
 -- what the use of an input does
-unfoldable pub used : Application → State → (pterm lterm user : Bytes) → Use → Done
+unfoldable pub used : Application → State → (pterm lterm user : Bytes) → Use → ScriptStep
 used app s pterm lterm user (Sign name) = signed_on app s pterm name
 used app s pterm lterm user (SignRefused fault) = says s (sys_line pterm (fault_text fault))
 used app s pterm lterm user SignFirst = says s (sys_line pterm (codes "SIGN ON FIRST"))
@@ -254,8 +262,8 @@ used app s pterm lterm user Output = show_next app s lterm (no_message_line pter
 used app s pterm lterm user Again = show_again s lterm (no_message_line pterm) (asy_line pterm)
 used app s pterm lterm user Busy = says s (sys_line pterm (codes "SERVICE RUNNING"))
 used app s pterm lterm user TooLong = says s (sys_line pterm (codes "INPUT TOO LONG"))
-used app s pterm lterm user (Next text) = done (next_input app s user lterm text) []
-used app s pterm lterm user (Start tac text) = done (start_service app s user lterm tac text) []
+used app s pterm lterm user (Next text) = uncommitted (next_input app s user lterm text) []
+used app s pterm lterm user (Start tac text) = uncommitted (start_service app s user lterm tac text) []
 used app s pterm lterm user (TacRefused fault) = says s (sys_line pterm (refusal_text fault))
 
 -- what an input means, as the system stands
@@ -265,21 +273,21 @@ use_now app s pterm text = use_of app.generation s.signed (service_state s (user
 -- ---- the other commands
 
 -- a clock past the greatest one is refused, without a commit
-abbrev pub tick_by : Application → State → (ticks clock : ℕ) → (within : Bool) → Done
+abbrev pub tick_by : Application → State → (ticks clock : ℕ) → (within : Bool) → ScriptStep
 tick_by app s ticks clock false = says s tick_refused_line
-tick_by app s ticks clock true = done_by app s (record s.tables { clock = clock }) (ByTick ticks) (tick_line clock)
+tick_by app s ticks clock true = committing app s (record s.tables { clock = clock }) (ByTick ticks) (tick_line clock)
 
 -- TICK within the greatest clock
-abbrev pub ticked : Application → State → (ticks : ℕ) → Done
+abbrev pub ticked : Application → State → (ticks : ℕ) → ScriptStep
 ticked app s ticks = tick_by app s ticks (s.tables.clock + ticks) (nat_le (s.tables.clock + ticks) last_clock)
 
 -- DROP of a terminal, with or without a session
-abbrev pub drop_by : Application → State → (pterm : Bytes) → Option Session → Done
+abbrev pub drop_by : Application → State → (pterm : Bytes) → Option Session → ScriptStep
 drop_by app s pterm None = says s (sys_line pterm (codes "NOT SIGNED ON"))
 drop_by app s pterm (Some v) = says (signed_off app s pterm v.user) (sys_line pterm (codes "DROPPED"))
 
 -- RESTART: a warm start from the durable tables
-abbrev pub restarted : Application → State → Done
+abbrev pub restarted : Application → State → ScriptStep
 restarted app s = says (started app (durable app.generation s.tables)) restart_line
 
 -- ---- turns in rotation
@@ -299,34 +307,45 @@ maker_of None = None
 maker_of (Some kept) = Some (ByTransaction kept)
 
 -- a turn as a step
-abbrev pub turned_done : Turned → Done
-turned_done t = record { after = t.after; acts = t.acts; by = maker_of t.settled }
+abbrev pub turned_step : Turned → ScriptStep
+turned_step t = record { after = t.after; acts = t.acts; by = maker_of t.settled }
 
 -- at most so many turns from this task on, after so many in a row that moved nothing; TASKS such turns end it
-unfoldable pub rotated : Application → (turns : ℕ) → (ended : Bool) → State → (task : ℕ) → (unmoved : ℕ) → List Done
+unfoldable pub rotated : Application → (turns : ℕ) → (ended : Bool) → State → (task : ℕ) → (unmoved : ℕ) → List ScriptStep
 rotated app zero ended s task unmoved = []
 rotated app (suc n) true s task unmoved = []
 rotated app (suc n) false s task unmoved =
     let turned = turn_of app s task in
     let row = in_a_row turned.moved unmoved in
-    turned_done turned ∷ rotated app n (row == app.generation.limits.tasks) turned.after (next_task app task) row
+    turned_step turned ∷ rotated app n (row == app.generation.limits.tasks) turned.after (next_task app task) row
 
 -- the state after some steps
-unfoldable pub state_after : State → List Done → State
+unfoldable pub state_after : State → List ScriptStep → State
 state_after s [] = s
 state_after s (d ∷ ds) = state_after d.after ds
 
 -- all their acts, in order
-abbrev pub acts_of : List Done → List Act
-acts_of steps = flat_map (λ (d : Done). d.acts) steps
+abbrev pub acts_of : List ScriptStep → List Act
+acts_of steps = flat_map (λ (d : ScriptStep). d.acts) steps
 
--- what a command does
-unfoldable pub command_of : Application → State → Command → Done
+-- what a command does in one step; RUN is a list of turns and none itself
+unfoldable pub command_of : Application → State → Command → ScriptStep
 command_of app s (Input pterm text) = used app s pterm (lterm_at app pterm) (user_at s pterm) (use_now app s pterm text)
 command_of app s (Tick ticks) = ticked app s ticks
-command_of app s (Run turns) = let steps = rotated app turns false s 1 0 in done (state_after s steps) (acts_of steps)
-command_of app s (Turn task) = turned_done (turn_of app s task)
+command_of app s (Run turns) = uncommitted s []
+command_of app s (Turn task) = turned_step (turn_of app s task)
 command_of app s (Drop pterm) = drop_by app s pterm (find bytes_cmp pterm s.signed)
 command_of app s (Print pterm) = show_next app s (lterm_at app pterm) (no_message_line pterm) (prt_line pterm)
 command_of app s (PrintLast pterm) = show_again s (lterm_at app pterm) (no_message_line pterm) (prt_line pterm)
 command_of app s Restart = restarted app s
+
+-- the steps of a command: RUN makes one for each turn, and any other command one
+unfoldable pub steps_of : Application → State → Command → List ScriptStep
+steps_of app s (Run turns) = rotated app turns false s 1 0
+steps_of app s (Input pterm text) = command_of app s (Input pterm text) ∷ []
+steps_of app s (Tick ticks) = command_of app s (Tick ticks) ∷ []
+steps_of app s (Turn task) = command_of app s (Turn task) ∷ []
+steps_of app s (Drop pterm) = command_of app s (Drop pterm) ∷ []
+steps_of app s (Print pterm) = command_of app s (Print pterm) ∷ []
+steps_of app s (PrintLast pterm) = command_of app s (PrintLast pterm) ∷ []
+steps_of app s Restart = command_of app s Restart ∷ []

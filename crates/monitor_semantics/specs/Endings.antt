@@ -91,7 +91,6 @@ opened g began header unread inputs = record {
   lssbs = lssbs_of began;
   drafts = [];
   touched = [];
-  awaited = None;
   notes = [];
   statements = 0;
 }
@@ -250,7 +249,7 @@ new_row g id x first = record {
   lssbs = [];
 }
 
--- the service's row after a synchronisation point
+-- the service's row after a synchronisation point by PEND RE, SP, FC or FI; the other outcomes are none of a point
 unfoldable pub row_after : Generated → ServiceId → OpenTransaction → Outcome → Option Service
 row_after g id x (Wait tac) = Some (point_row id x tac true [] (Some (joined x.parts)))
 row_after g id x (Point tac) = Some (point_row id x tac false x.parts (last_of x.began))

@@ -1,5 +1,5 @@
 -- What a free task takes: the first allowed service of the ready list, else the due job of an allowed TAC.
-use Rattle.std.specs.Prelude.{ℕ, Bool, true, false, ◌&&◌, ◌||◌, not, List, [], ◌∷◌, count_by, filter, find, Option, Some, None, nat_lt, nat_le, is_some, ◌==◌, if◌then◌else◌}
+use Rattle.std.specs.Prelude.{ℕ, Bool, true, false, ◌&&◌, ◌||◌, not, List, [], ◌∷◌, map, count_by, filter, find, Option, Some, None, nat_lt, nat_le, is_some, option_map, ◌==◌, if◌then◌else◌}
 use Rattle.std.specs.FinMap.{find as value_at}
 use Rattle.kdcs_types.specs.declared.key.ServiceId.{ServiceId}
 use Rattle.kdcs_types.specs.declared.key.ServiceId.TheVariants.{Asynchronous}
@@ -22,6 +22,10 @@ use Rattle.monitor_semantics.specs.Locks.{Active}
 abbrev pub is_free : Active → Job → Bool
 is_free active job = not (is_some (value_at id_cmp (Asynchronous job.number) active))
 
+-- the jobs that no open service has taken
+abbrev pub free_jobs : Active → List Job → List Job
+free_jobs active jobs = filter (is_free active) jobs
+
 -- by due, then by number
 abbrev pub is_earlier : Job → Job → Bool
 is_earlier a b = nat_lt a.value.due b.value.due || (a.value.due == b.value.due && nat_lt a.number b.number)
@@ -36,9 +40,9 @@ unfoldable pub least_job : List Job → Option Job
 least_job [] = None
 least_job (job ∷ jobs) = earlier_of job (least_job jobs)
 
--- the due job among those whose target passes the test: free, due, and with the least due and number
-abbrev pub due_job : Active → (now : ℕ) → (Target → Bool) → List Job → Option Job
-due_job active now allowed jobs = least_job (filter (λ (job : Job). is_free active job && nat_le job.value.due now && allowed job.value.to) jobs)
+-- of free jobs, the due one whose target passes the test, with the least due and number; due at the clock itself is due
+abbrev pub due_job : (now : ℕ) → (Target → Bool) → (free : List Job) → Option Job
+due_job now allowed free = least_job (filter (λ (job : Job). nat_le job.value.due now && allowed job.value.to) free)
 
 -- ---- classes
 
@@ -51,46 +55,44 @@ class_by (Some t) = t.class
 abbrev pub class_of : Generated → Bytes → ℕ
 class_of g tac = class_by (tac_of g tac)
 
--- none without an open transaction
-abbrev pub current_by : Option OpenTransaction → Bytes
-current_by None = []
-current_by (Some x) = x.current
-
--- the current TAC of a service
-abbrev pub current_tac : State → ServiceId → Bytes
-current_tac s id = current_by (value_at id_cmp id s.active)
+-- a service with the class of its current TAC
+abbrev pub Classed : Type 0
+Classed = ServiceId × ℕ
 
 -- the task holds a service that passes the test
-abbrev pub place_passes : (ServiceId → Bool) → Option ServiceId → Bool
+abbrev pub place_passes : (Classed → Bool) → Option Classed → Bool
 place_passes test None = false
-place_passes test (Some id) = test id
+place_passes test (Some e) = test e
 
 -- how many tasks hold a service that passes the test
-abbrev pub tasks_with : State → (ServiceId → Bool) → ℕ
-tasks_with s test = count_by (place_passes test) s.tasks
+abbrev pub tasks_with : List (Option Classed) → (Classed → Bool) → ℕ
+tasks_with places test = count_by (place_passes test) places
 
 -- a class without TACCLASS has no limit
 abbrev pub below_limit : Option ℕ → ℕ → Bool
 below_limit None n = true
 below_limit (Some limit) n = nat_lt n limit
 
--- fewer tasks than the class allows hold services whose current TAC has this class; without TACCLASS there is no limit
-abbrev pub class_is_free : Application → State → ℕ → Bool
-class_is_free app s class = below_limit (class_limit app.generation class) (tasks_with s (λ id. class_of app.generation (current_tac s id) == class))
+-- fewer tasks than the class allows hold services whose current TAC has this class
+abbrev pub class_is_free : Generated → List (Option Classed) → ℕ → Bool
+class_is_free g places class = below_limit (class_limit g class) (tasks_with places (λ e. e.1 == class))
 
--- a task may work for this TAC
-abbrev pub is_allowed : Application → State → (asynchronous : Bool) → (tac : Bytes) → Bool
-is_allowed app s asynchronous tac =
-    class_is_free app s (class_of app.generation tac) && (not asynchronous || nat_lt (tasks_with s is_asynchronous) app.generation.limits.asyntasks)
+-- fewer tasks than ASYNTASKS hold asynchronous services
+abbrev pub asynchronous_is_free : Generated → List (Option Classed) → Bool
+asynchronous_is_free g places = nat_lt (tasks_with places (λ e. is_asynchronous e.0)) g.limits.asyntasks
 
--- a task may work for the current TAC of this service
-abbrev pub service_is_allowed : Application → State → ServiceId → Bool
-service_is_allowed app s id = is_allowed app s (is_asynchronous id) (current_tac s id)
+-- a task may work for a service of this kind and class
+abbrev pub is_allowed : Generated → List (Option Classed) → (asynchronous : Bool) → (class : ℕ) → Bool
+is_allowed g places asynchronous class = class_is_free g places class && (not asynchronous || asynchronous_is_free g places)
+
+-- a task may work for this service
+abbrev pub service_is_allowed : Generated → List (Option Classed) → Classed → Bool
+service_is_allowed g places e = is_allowed g places (is_asynchronous e.0) e.1
 
 -- a task may begin a service of this TAC; a job for an LTERM is no work of tasks
-abbrev pub target_is_allowed : Application → State → Target → Bool
-target_is_allowed app s (Tac tac) = is_allowed app s true tac
-target_is_allowed app s (Lterm lterm) = false
+abbrev pub target_is_allowed : Generated → List (Option Classed) → Target → Bool
+target_is_allowed g places (Tac tac) = is_allowed g places true (class_of g tac)
+target_is_allowed g places (Lterm lterm) = false
 
 -- ---- the choice
 
@@ -100,10 +102,33 @@ job_work None = None
 job_work (Some job) = Some (work.Job job.number)
 
 -- a ready service comes before a job
-abbrev pub pick_by : Option ServiceId → Option Job → Option Work
-pick_by (Some id) job = Some (work.Service id)
+abbrev pub pick_by : Option Classed → Option Job → Option Work
+pick_by (Some e) job = Some (work.Service e.0)
 pick_by None job = job_work job
+
+-- what a free task takes, if anything: the first allowed entry of the ready list, else the due job of an allowed TAC
+abbrev pub pick_work : Generated → (ready : List Classed) → (places : List (Option Classed)) → (now : ℕ) → (free : List Job) → Option Work
+pick_work g ready places now free = pick_by (find (service_is_allowed g places) ready) (due_job now (target_is_allowed g places) free)
+
+-- ---- the choice in a state
+
+-- none without an open transaction
+abbrev pub current_by : Option OpenTransaction → Bytes
+current_by None = []
+current_by (Some x) = x.current
+
+-- the service with the class of its current TAC
+abbrev pub classed : Application → State → ServiceId → Classed
+classed app s id = (id, class_of app.generation (current_by (value_at id_cmp id s.active)))
+
+-- the ready list with classes
+abbrev pub ready_classes : Application → State → List Classed
+ready_classes app s = map (classed app s) s.ready
+
+-- the tasks with the classes of their services
+abbrev pub place_classes : Application → State → List (Option Classed)
+place_classes app s = map (option_map (classed app s)) s.tasks
 
 -- what a free task takes, if anything
 unfoldable pub pick : Application → State → Option Work
-pick app s = pick_by (find (service_is_allowed app s) s.ready) (due_job s.active s.tables.clock (target_is_allowed app s) s.tables.jobs)
+pick app s = pick_work app.generation (ready_classes app s) (place_classes app s) s.tables.clock (free_jobs s.active s.tables.jobs)

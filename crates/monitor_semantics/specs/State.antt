@@ -20,13 +20,13 @@ pub record Application : Type 0 where
 -- no unit without a TAC
 abbrev pub unit_by : Application → Option TacEntry → Option UnitText
 unit_by app None = None
-unit_by app (Some t) = find (λ (u : UnitText). bytes_eq u.name t.program) app.units
+unit_by app (Some t) = find (λ (u : UnitText). bytes_eq t.program u.name) app.units
 
 -- the program unit of a TAC
 unfoldable pub unit_of : Application → Bytes → Option UnitText
 unit_of app tac = unit_by app (tac_of app.generation tac)
 
--- what a service has done since its last synchronisation point
+-- what a service has done since its last synchronisation point; a request that waits stands beside it, in the state
 pub record OpenTransaction : Type 0 where
   -- the row of its service as it began, if there was one
   pub began : Option Service
@@ -49,10 +49,8 @@ pub record OpenTransaction : Type 0 where
   pub written : List (Area × Option Bytes)
   pub lssbs : List (Bytes × Bytes)
   pub drafts : List Draft
-  -- the areas that it holds
+  -- the areas that it holds, in the order in which it asked for them
   pub touched : List Area
-  -- the area for which it waits, and the clock of the first request
-  pub awaited : Option (Area × ℕ)
   pub notes : List Note
   -- how many statements it has done
   pub statements : ℕ
@@ -71,4 +69,7 @@ pub record State : Type 0 where
   pub ready : List ServiceId
   -- each task's service, if it holds one
   pub tasks : List (Option ServiceId)
+  -- the open transactions by their services, in ascending order
   pub active : List (ServiceId × OpenTransaction)
+  -- by the services that wait, in ascending order: the area, and the clock of the first request
+  pub waits : List (ServiceId × (Area × ℕ))

@@ -1,9 +1,9 @@
 -- One statement of an open transaction, by what it is told of the outside. A turn and a replay both read it.
-use Rattle.std.specs.Prelude.{ℕ, ◌+◌, Bool, List, [], ◌∷◌, Option, Some, None}
+use Rattle.std.specs.Prelude.{ℕ, ◌+◌, Bool, List, ◌∷◌, Option, Some, None, option_map}
 use Rattle.kd_base.specs.declared.words.Variant.{Variant}
 use Rattle.kd_base.specs.declared.words.Variant.TheVariants.{Kp, Pr, Pa, Re, Sp, Fi, Fc, Fr, Er, Rs}
 use Rattle.kdcs_types.specs.declared.call.Call.{Call}
-use Rattle.kdcs_types.specs.declared.call.Call.TheVariants.{SgetGb, SputGb, SrelGb, SgetUs, SputUs, Gtda, Ptda, UnlkGb, UnlkUs, UnlkDa}
+use Rattle.kdcs_types.specs.declared.call.Call.TheVariants.{Init, Mget, Mput, Fget, Fput, Dput, SgetGb, SputGb, SrelGb, SgetKp, SgetRl, SputMs, SrelLb, SgetUs, SputUs, Gtda, Ptda, UnlkGb, UnlkUs, UnlkDa, Pend}
 use Rattle.kdcs_types.specs.declared.call.Cause.TheVariants.{Er as ErCause}
 use Rattle.kdcs_types.specs.declared.call.Reply.{Reply}
 use Rattle.kdcs_types.specs.declared.key.Area.{Area}
@@ -15,79 +15,61 @@ use Rattle.kdcs_types.specs.declared.service.Note.{Note}
 use Rattle.kdcs_types.specs.declared.service.Service.{Service}
 use Rattle.kdcs_types.specs.declared.service.Settled.{Settled}
 use Rattle.unit_types.specs.UnitText.{UnitText}
+use Rattle.monitor_semantics.specs.declared.answer.Called.{Called}
+use Rattle.monitor_semantics.specs.declared.answer.Called.TheVariants.{Replied, Waits, Abnormal, Pends}
+use Rattle.monitor_semantics.specs.declared.answer.Happened.{Happened}
+use Rattle.monitor_semantics.specs.declared.answer.Happened.TheVariants.{Went, Queued, Waited, Held, Settles, Breaks, Returns}
 use Rattle.monitor_semantics.specs.declared.outcome.Outcome.{Outcome}
 use Rattle.monitor_semantics.specs.declared.outcome.Outcome.TheVariants.{Hold, Stay, Queue, Wait, Point, Follow, Finish, Break, Back}
 use Rattle.monitor_semantics.specs.Bytes.{Bytes}
 use Rattle.unit_semantics.specs.Statement.{Meaning, Plain, Asks, Ends, step, answered}
 use Rattle.monitor_semantics.specs.State.{Application, OpenTransaction, unit_of}
-use Rattle.monitor_semantics.specs.Calls.{Told, Called, Replied, Waits, Abnormal, Pends, name_in_operand, call_outcome}
+use Rattle.monitor_semantics.specs.Calls.{Told, Performed, name_in_operand, call_outcome}
 use Rattle.monitor_semantics.specs.Endings.{followed}
 
--- what the next statement does
-pub data Happened : Type 0 where
-  -- it is done, and the service goes on
-  Went : (after : OpenTransaction) → Happened
-  -- it is done, and the service goes to the back of the ready list
-  Queued : (after : OpenTransaction) → Happened
-  -- the service waits for the area of which it asks; nothing is done
-  Waited : Happened
-  -- PEND KP: the service waits for an input, which this TAC reads
-  Held : (tac : Bytes) → Happened
-  -- a synchronisation point
-  Settles : (outcome : Outcome) → Happened
-  -- an abnormal end, or PEND FR
-  Breaks : (ending : Ending) → Happened
-  -- PEND RS
-  Returns : Happened
+-- the open transaction after a statement, and what the statement does; but where it is done, nothing changes
+abbrev pub Stated : Type 0
+Stated = OpenTransaction × Happened
 
--- ---- the area of which a statement asks; for the others any will do
+-- ---- the area of which a statement asks
 
--- an area that stands for none
-abbrev pub any_area : Area
-any_area = Gssb []
-
--- the GSSB of this name
-abbrev pub gssb_named : Option Bytes → Area
-gssb_named None = any_area
-gssb_named (Some name) = Gssb name
-
--- the ULS block of this name and user
-abbrev pub uls_named : Bytes → Option Bytes → Area
-uls_named user None = any_area
-uls_named user (Some name) = Uls name user
-
--- the TLS block of this name and LTERM
-abbrev pub tls_named : Bytes → Option Bytes → Area
-tls_named lterm None = any_area
-tls_named lterm (Some name) = Tls name lterm
-
--- the area of which a call asks
-abbrev pub area_of_call : OpenTransaction → Call → Area
-area_of_call x (SgetGb name room) = gssb_named (name_in_operand name)
-area_of_call x (SputGb name bytes) = gssb_named (name_in_operand name)
-area_of_call x (SrelGb name) = gssb_named (name_in_operand name)
-area_of_call x (UnlkGb name) = gssb_named (name_in_operand name)
-area_of_call x (SgetUs name room) = uls_named x.user (name_in_operand name)
-area_of_call x (SputUs name bytes) = uls_named x.user (name_in_operand name)
-area_of_call x (UnlkUs name) = uls_named x.user (name_in_operand name)
-area_of_call x (Gtda name room) = tls_named x.lterm (name_in_operand name)
-area_of_call x (Ptda name bytes) = tls_named x.lterm (name_in_operand name)
-area_of_call x (UnlkDa name) = tls_named x.lterm (name_in_operand name)
-area_of_call x _ = any_area
+-- the area of which a call asks; most ask of none, and a name that is none is refused first
+abbrev pub area_of_call : OpenTransaction → Call → Option Area
+area_of_call x (SgetGb name room) = option_map Gssb (name_in_operand name)
+area_of_call x (SputGb name bytes) = option_map Gssb (name_in_operand name)
+area_of_call x (SrelGb name) = option_map Gssb (name_in_operand name)
+area_of_call x (UnlkGb name) = option_map Gssb (name_in_operand name)
+area_of_call x (SgetUs name room) = option_map (λ block. Uls block x.user) (name_in_operand name)
+area_of_call x (SputUs name bytes) = option_map (λ block. Uls block x.user) (name_in_operand name)
+area_of_call x (UnlkUs name) = option_map (λ block. Uls block x.user) (name_in_operand name)
+area_of_call x (Gtda name room) = option_map (λ block. Tls block x.lterm) (name_in_operand name)
+area_of_call x (Ptda name bytes) = option_map (λ block. Tls block x.lterm) (name_in_operand name)
+area_of_call x (UnlkDa name) = option_map (λ block. Tls block x.lterm) (name_in_operand name)
+area_of_call x Init = None
+area_of_call x (Mget room) = None
+area_of_call x (Mput bytes) = None
+area_of_call x (Fget room) = None
+area_of_call x (Fput to message) = None
+area_of_call x (Dput to mode d h m s message) = None
+area_of_call x (SgetKp name room) = None
+area_of_call x (SgetRl name room) = None
+area_of_call x (SputMs name bytes) = None
+area_of_call x (SrelLb name) = None
+area_of_call x (Pend variant op) = None
 
 -- a plain statement asks of none
-abbrev pub area_of_step : OpenTransaction → Meaning → Area
-area_of_step x (Plain after) = any_area
-area_of_step x (Ends cause) = any_area
+abbrev pub area_of_step : OpenTransaction → Meaning → Option Area
+area_of_step x (Plain after) = None
+area_of_step x (Ends cause) = None
 area_of_step x (Asks call) = area_of_call x call
 
 -- none without a unit
-abbrev pub area_in_unit : OpenTransaction → Option UnitText → Area
-area_in_unit x None = any_area
+abbrev pub area_in_unit : OpenTransaction → Option UnitText → Option Area
+area_in_unit x None = None
 area_in_unit x (Some unit) = area_of_step x (step unit x.run)
 
 -- the area of which the next statement asks
-unfoldable pub area_of : Application → OpenTransaction → Area
+unfoldable pub area_of : Application → OpenTransaction → Option Area
 area_of app x = area_in_unit x (unit_of app x.current)
 
 -- ---- the statement
@@ -109,38 +91,42 @@ break_ending Fr = BrokenFr
 break_ending Er = Broken ErCause
 break_ending Rs = Broken ErCause
 
--- what the outcome of a PEND does
-abbrev pub by_outcome : Application → (asynchronous : Bool) → OpenTransaction → Variant → Outcome → Happened
-by_outcome app asynchronous x variant (Stay tac) = Went (followed app.generation asynchronous x tac)
-by_outcome app asynchronous x variant (Queue tac) = Queued (followed app.generation asynchronous x tac)
-by_outcome app asynchronous x variant (Hold tac) = Held tac
-by_outcome app asynchronous x variant (Wait tac) = Settles (Wait tac)
-by_outcome app asynchronous x variant (Point tac) = Settles (Point tac)
-by_outcome app asynchronous x variant (Follow tac) = Settles (Follow tac)
-by_outcome app asynchronous x variant Finish = Settles Finish
-by_outcome app asynchronous x variant Break = Breaks (break_ending variant)
-by_outcome app asynchronous x variant Back = Returns
+-- what the outcome of a PEND does: PR goes on and PA is queued in a further unit run, and the others change the state alone
+abbrev pub by_outcome : Application → (asynchronous : Bool) → OpenTransaction → Variant → Outcome → Stated
+by_outcome app asynchronous x variant (Stay tac) = (followed app.generation asynchronous x tac, Went)
+by_outcome app asynchronous x variant (Queue tac) = (followed app.generation asynchronous x tac, Queued)
+by_outcome app asynchronous x variant (Hold tac) = (x, Held tac)
+by_outcome app asynchronous x variant (Wait tac) = (x, Settles (Wait tac))
+by_outcome app asynchronous x variant (Point tac) = (x, Settles (Point tac))
+by_outcome app asynchronous x variant (Follow tac) = (x, Settles (Follow tac))
+by_outcome app asynchronous x variant Finish = (x, Settles Finish)
+by_outcome app asynchronous x variant Break = (x, Breaks (break_ending variant))
+by_outcome app asynchronous x variant Back = (x, Returns)
 
 -- what the answer of a call does
-abbrev pub by_call : Application → (asynchronous : Bool) → OpenTransaction → UnitText → Called → Happened
-by_call app asynchronous x unit (Replied y reply) = Went (counted unit y reply)
-by_call app asynchronous x unit Waits = Waited
-by_call app asynchronous x unit (Abnormal cause) = Breaks (Broken cause)
-by_call app asynchronous x unit (Pends variant o) = by_outcome app asynchronous x variant o
+abbrev pub by_call : Application → (asynchronous : Bool) → UnitText → OpenTransaction → Called → Stated
+by_call app asynchronous unit x (Replied reply) = (counted unit x reply, Went)
+by_call app asynchronous unit x Waits = (x, Waited)
+by_call app asynchronous unit x (Abnormal cause) = (x, Breaks (Broken cause))
+by_call app asynchronous unit x (Pends variant o) = by_outcome app asynchronous x variant o
+
+-- a call that was performed
+abbrev pub by_performed : Application → (asynchronous : Bool) → UnitText → Performed → Stated
+by_performed app asynchronous unit p = by_call app asynchronous unit p.0 p.1
 
 -- a plain statement is done and counted; a call asks
-abbrev pub by_step : Application → Told → (asynchronous : Bool) → OpenTransaction → UnitText → Meaning → Happened
-by_step app v asynchronous x unit (Plain after) = Went (record x { run = after; statements = x.statements + 1 })
-by_step app v asynchronous x unit (Ends cause) = Breaks (Broken cause)
-by_step app v asynchronous x unit (Asks call) = by_call app asynchronous x unit (call_outcome app.generation v asynchronous x call)
+abbrev pub by_step : Application → Told → (asynchronous : Bool) → OpenTransaction → UnitText → Meaning → Stated
+by_step app v asynchronous x unit (Plain after) = (record x { run = after; statements = x.statements + 1 }, Went)
+by_step app v asynchronous x unit (Ends cause) = (x, Breaks (Broken cause))
+by_step app v asynchronous x unit (Asks call) = by_performed app asynchronous unit (call_outcome app.generation v asynchronous x call)
 
--- every TAC has a unit
-abbrev pub in_unit : Application → Told → (asynchronous : Bool) → OpenTransaction → Option UnitText → Happened
-in_unit app v asynchronous x None = Returns
+-- every TAC has a unit, so no run comes to the first case
+abbrev pub in_unit : Application → Told → (asynchronous : Bool) → OpenTransaction → Option UnitText → Stated
+in_unit app v asynchronous x None = (x, Returns)
 in_unit app v asynchronous x (Some unit) = by_step app v asynchronous x unit (step unit x.run)
 
 -- what the next statement does
-unfoldable pub statement : Application → Told → (asynchronous : Bool) → OpenTransaction → Happened
+unfoldable pub statement : Application → Told → (asynchronous : Bool) → OpenTransaction → Stated
 statement app v asynchronous x = in_unit app v asynchronous x (unit_of app x.current)
 
 -- ---- what a transaction keeps for its replay

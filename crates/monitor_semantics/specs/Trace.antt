@@ -1,25 +1,14 @@
 -- What a script does to the outside: its steps, and all their acts.
-use Rattle.std.specs.Prelude.{false, List, [], ◌∷◌, ◌++◌}
+use Rattle.std.specs.Prelude.{List, [], ◌∷◌, ◌++◌}
 use Rattle.kdcs_types.specs.declared.act.Act.{Act}
 use Rattle.kdcs_types.specs.declared.act.Act.TheVariants.{Commit, Emit}
 use Rattle.kdcs_types.specs.Tables.{TableRows, changed}
 use Rattle.monitor_semantics.specs.Bytes.{Bytes}
 use Rattle.monitor_semantics.specs.State.{Application, State}
-use Rattle.monitor_semantics.specs.Commands.{Command, Input, Tick, Run, Turn, Drop, Print, PrintLast, Restart, Done, started, rotated, command_of, state_after, acts_of}
-
--- the steps of a command: RUN makes one for each turn
-unfoldable pub steps_of : Application → State → Command → List Done
-steps_of app s (Input pterm text) = command_of app s (Input pterm text) ∷ []
-steps_of app s (Tick ticks) = command_of app s (Tick ticks) ∷ []
-steps_of app s (Run turns) = rotated app turns false s 1 0
-steps_of app s (Turn task) = command_of app s (Turn task) ∷ []
-steps_of app s (Drop pterm) = command_of app s (Drop pterm) ∷ []
-steps_of app s (Print pterm) = command_of app s (Print pterm) ∷ []
-steps_of app s (PrintLast pterm) = command_of app s (PrintLast pterm) ∷ []
-steps_of app s Restart = command_of app s Restart ∷ []
+use Rattle.monitor_semantics.specs.Commands.{Command, ScriptStep, started, steps_of, state_after, acts_of}
 
 -- the steps of a script from a state
-unfoldable pub history : Application → State → List Command → List Done
+unfoldable pub history : Application → State → List Command → List ScriptStep
 history app s [] = []
 history app s (c ∷ cs) = let steps = steps_of app s c in steps ++ history app (state_after s steps) cs
 

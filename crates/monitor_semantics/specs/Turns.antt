@@ -15,6 +15,8 @@ use Rattle.kdcs_types.specs.declared.service.Ending.TheVariants.{Synced, Broken,
 use Rattle.kdcs_types.specs.declared.service.JobValue.{JobValue}
 use Rattle.kdcs_types.specs.declared.service.Service.{Service}
 use Rattle.kdcs_types.specs.declared.service.Settled.{Settled}
+use Rattle.monitor_semantics.specs.declared.answer.Happened.{Happened}
+use Rattle.monitor_semantics.specs.declared.answer.Happened.TheVariants.{Went, Queued, Waited, Held, Settles, Breaks, Returns}
 use Rattle.monitor_semantics.specs.declared.work.Work.{Work}
 use Rattle.monitor_semantics.specs.declared.work.Work.TheVariants as work
 use Rattle.monitor_semantics.specs.declared.outcome.Outcome.{Outcome}
@@ -25,9 +27,10 @@ use Rattle.kdcs_types.specs.Keys.{id_cmp, id_eq}
 use Rattle.kdcs_types.specs.Difference.{difference}
 use Rattle.monitor_semantics.specs.State.{Application, OpenTransaction, Session, State}
 use Rattle.monitor_semantics.specs.Endings.{is_asynchronous, joined, opened_by_row, opened_by_job, row_after, synchronised, broken, durable, refusal}
-use Rattle.monitor_semantics.specs.Statements.{Happened, Went, Queued, Waited, Held, Settles, Breaks, Returns, statement, area_of, kept_record}
+use Rattle.monitor_semantics.specs.Statements.{Stated, statement, area_of, kept_record}
 use Rattle.monitor_semantics.specs.Lines.{out_line, ended_line, dump_line}
-use Rattle.monitor_semantics.specs.Locks.{since, told_now}
+use Rattle.monitor_semantics.specs.Calls.{Told}
+use Rattle.monitor_semantics.specs.Locks.{since, locks_of, told_now}
 use Rattle.monitor_semantics.specs.Picks.{pick}
 
 -- the state after a turn, its acts, and the record of a transaction that made a commit
@@ -60,9 +63,13 @@ commit_of app old new = Commit (difference (durable app.generation old) (durable
 abbrev pub with_open : State → ServiceId → OpenTransaction → State
 with_open s id x = record s { active = put id_cmp id x s.active }
 
--- the service has none
+-- no request of the service waits
+abbrev pub without_wait : State → ServiceId → State
+without_wait s id = record s { waits = where_key id_cmp (λ i. not (id_eq id i)) s.waits }
+
+-- the service has no open transaction, and no request of it waits
 abbrev pub without_open : State → ServiceId → State
-without_open s id = record s { active = where_key id_cmp (λ i. not (id_eq id i)) s.active }
+without_open s id = record (without_wait s id) { active = where_key id_cmp (λ i. not (id_eq id i)) s.active }
 
 -- the task holds this service, or none
 abbrev pub with_task : State → (task : ℕ) → Option ServiceId → State
@@ -154,7 +161,7 @@ abbrev pub goes_on : Application → State → ServiceId → OpenTransaction →
 goes_on app s id x None = s
 goes_on app s id x (Some row) = queued s id (opened_by_row app.generation id row x.lterm)
 
--- what follows the commit of a synchronisation point
+-- what follows the commit of a synchronisation point by PEND RE, FI, SP or FC; the other outcomes come to none
 abbrev pub after_point : Application → State → ServiceId → OpenTransaction → Outcome → Option Service → Act → Settled → Turned
 after_point app s id x (Wait tac) row commit kept = committed (message_sent s id x) commit kept (message_acts s id x)
 after_point app s id x Finish row commit kept = committed (message_sent s id x) commit kept (message_acts s id x)
@@ -194,30 +201,43 @@ abbrev pub back : Application → State → ServiceId → OpenTransaction → Op
 back app s id x None = moved_to s (ended_acts s id)
 back app s id x (Some row) = back_by app s id x row row.awaits
 
--- the service waits, since the first request of this wait
-abbrev pub waiting : State → ServiceId → OpenTransaction → Area → State
-waiting s id x area = with_open s id (record x { awaited = Some (area, since x area s.tables.clock) })
+-- the service waits for the area, since the first request of this wait
+abbrev pub waiting : State → ServiceId → Area → State
+waiting s id area = record s { waits = put id_cmp id (area, since (locks_of s) id area s.tables.clock) s.waits }
 
--- what the statement of the service in this task does to the system
-unfoldable pub happens : Application → State → (task : ℕ) → ServiceId → OpenTransaction → Happened → Turned
-happens app s task id x (Went y) = moved_to (with_open s id y) []
-happens app s task id x (Queued y) = moved_to (queued (with_task s task None) id y) []
-happens app s task id x Waited = unmoved (waiting s id x (area_of app x))
-happens app s task id x (Held tac) = moved_to (message_sent (with_task s task None) id x) (message_acts s id x)
-happens app s task id x (Settles o) = settled app s task id x o
-happens app s task id x (Breaks ending) = abnormal app s task id x ending
-happens app s task id x Returns = back app (without_work s task id) id x x.began
+-- only a statement that asks of an area waits
+abbrev pub waiting_for : State → ServiceId → Option Area → State
+waiting_for s id None = s
+waiting_for s id (Some area) = waiting s id area
+
+-- what the statement of the service in this task does to the system; x is its transaction before it, y after it
+unfoldable pub happens : Application → State → (task : ℕ) → ServiceId → (x y : OpenTransaction) → Happened → Turned
+happens app s task id x y Went = moved_to (with_open (without_wait s id) id y) []
+happens app s task id x y Queued = moved_to (queued (with_task (without_wait s id) task None) id y) []
+happens app s task id x y Waited = unmoved (waiting_for s id (area_of app x))
+happens app s task id x y (Held tac) = moved_to (message_sent (with_task (without_wait s id) task None) id x) (message_acts s id x)
+happens app s task id x y (Settles o) = settled app s task id x o
+happens app s task id x y (Breaks ending) = abnormal app s task id x ending
+happens app s task id x y Returns = back app (without_work s task id) id x x.began
 
 -- ---- a turn
 
+-- what a statement of this service is told, as the system stands
+abbrev pub told_here : Application → State → ServiceId → OpenTransaction → Told
+told_here app s id x = told_now (locks_of s) app.generation.limits.reswait s.tables id (area_of app x)
+
 -- what the next statement of an open transaction does, as the system stands
-abbrev pub statement_now : Application → State → ServiceId → OpenTransaction → Happened
-statement_now app s id x = statement app (told_now app s id x (area_of app x)) (is_asynchronous id) x
+abbrev pub statement_now : Application → State → ServiceId → OpenTransaction → Stated
+statement_now app s id x = statement app (told_here app s id x) (is_asynchronous id) x
+
+-- the statement of the service in this task
+abbrev pub stated : Application → State → (task : ℕ) → ServiceId → OpenTransaction → Stated → Turned
+stated app s task id x r = happens app s task id x r.0 r.1
 
 -- a task works for a service with an open transaction
 abbrev pub worked : Application → State → (task : ℕ) → ServiceId → Option OpenTransaction → Turned
 worked app s task id None = unmoved s
-worked app s task id (Some x) = happens app s task id x (statement_now app s id x)
+worked app s task id (Some x) = stated app s task id x (statement_now app s id x)
 
 -- an asynchronous service begins with its message
 abbrev pub took_job_for : Application → State → (task : ℕ) → (number : ℕ) → JobValue → Target → Turned

@@ -6,11 +6,13 @@
 //! `command_of`, `started` and `trace` are the words that contracts cite.
 #![tactic(auto)]
 
+mod answer;
 mod draft;
 mod input_use;
 mod outcome;
 mod work;
 
+pub use answer::{Called, Happened, LockAnswer};
 pub use draft::{Draft, Due};
 pub use input_use::{ServiceState, SignFault, TacFault, Use};
 pub use outcome::Outcome;
