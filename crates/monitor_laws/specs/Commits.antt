@@ -20,11 +20,13 @@ use Rattle.kdcs_types.specs.Tables.{TableRows, job_key, service_of, shown_of}
 use Rattle.monitor_semantics.specs.Bytes.{Bytes}
 use Rattle.monitor_semantics.specs.State.{Application, OpenTransaction, State}
 use Rattle.monitor_semantics.specs.Endings.{row_after, durable}
-use Rattle.monitor_semantics.specs.Statements.{Happened, Went, Queued, Waited, Held, Settles, Breaks, Returns, kept_of}
+use Rattle.monitor_semantics.specs.declared.answer.Happened.{Happened}
+use Rattle.monitor_semantics.specs.declared.answer.Happened.TheVariants.{Went, Queued, Waited, Held, Settles, Breaks, Returns}
+use Rattle.monitor_semantics.specs.Statements.{kept_of}
 use Rattle.monitor_semantics.specs.Lines.{asy_line, prt_line, cause_text}
 use Rattle.monitor_semantics.specs.Turns.{statement_now}
-use Rattle.monitor_semantics.specs.Commands.{Done, Maker, ByTick, ByShow, ByTransaction}
-use Rattle.monitor_laws.specs.Replay.{Ended, atomic, with_began}
+use Rattle.monitor_semantics.specs.Commands.{ScriptStep, Maker, ByTick, ByShow, ByTransaction}
+use Rattle.monitor_laws.specs.Replay.{Ended, IsAtomic, atomic, with_began}
 
 -- ---- jobs
 
@@ -70,8 +72,8 @@ row_by_ending app id x (Settles o) Synced = row_after app.generation id x o
 row_by_ending app id x (Settles o) (Broken cause) = None
 row_by_ending app id x (Settles o) BrokenFr = None
 row_by_ending app id x (Breaks by) ending = None
-row_by_ending app id x (Went y) ending = None
-row_by_ending app id x (Queued y) ending = None
+row_by_ending app id x Went ending = None
+row_by_ending app id x Queued ending = None
 row_by_ending app id x (Held tac) ending = None
 row_by_ending app id x Waited ending = None
 row_by_ending app id x Returns ending = None
@@ -83,7 +85,7 @@ pub record IsOwnRow (app : Application) (before : State) (by : Maker) (id : Serv
   pub maker : by ≡ ByTransaction kept
   pub service : kept.service ≡ id
   pub was_open : find id_cmp id before.active ≡ Some own
-  pub gives : row ≡ row_by_ending app id own (statement_now app before id own) kept.ending
+  pub gives : row ≡ row_by_ending app id own (statement_now app before id own).1 kept.ending
 
 -- a service's row is changed by its own transaction alone
 abbrev pub ServiceLaw : Application → State → TableRows → Maker → Type 0
@@ -92,20 +94,20 @@ ServiceLaw app before after by =
 
 -- ---- all tables
 
--- TICK, KDCOUT and PRINT are no transactions
-abbrev pub IsAtomicBy : Application → TableRows → TableRows → Maker → Type 0
-IsAtomicBy app before after (ByTick ticks) = Unit {0}
-IsAtomicBy app before after (ByShow lterm) = Unit {0}
-IsAtomicBy app before after (ByTransaction kept) =
-    let result = atomic app (with_began before (kept_of kept)) (kept_of kept) in
-    (after ≡ durable app.generation result.tables) × (kept.ending ≡ result.ending)
+-- the durable tables after a commit of a transaction are those of the tables that its record, run in one go, makes of those before it
+pub record IsAtomicCommit (app : Application) (before after : TableRows) (kept : Settled) : Type 0 where
+  pub whole : TableRows
+  pub atomic : IsAtomic app (with_began before (kept_of kept)) whole kept
+  pub kept_part : after ≡ durable app.generation whole
 
--- a commit of a transaction makes the durable tables that its record, run in one go, makes of those before it
+-- TICK, KDCOUT and PRINT are no transactions
 abbrev pub AtomicLaw : Application → TableRows → TableRows → Maker → Type 0
-AtomicLaw app before after by = IsAtomicBy app before after by
+AtomicLaw app before after (ByTick ticks) = Unit {0}
+AtomicLaw app before after (ByShow lterm) = Unit {0}
+AtomicLaw app before after (ByTransaction kept) = IsAtomicCommit app before after kept
 
 -- a step without a commit keeps the tables
-abbrev pub CommitIsLawful : Application → State → Done → Option Maker → Type 0
+abbrev pub CommitIsLawful : Application → State → ScriptStep → Option Maker → Type 0
 CommitIsLawful app before d None = Unit {0}
 CommitIsLawful app before d (Some by) =
     QueueLaw (durable app.generation before.tables) (durable app.generation d.after.tables) by d.acts
@@ -113,7 +115,7 @@ CommitIsLawful app before d (Some by) =
     × AtomicLaw app (durable app.generation before.tables) (durable app.generation d.after.tables) by
 
 -- the commits of a history, each after the state before it, meet the three laws
-abbrev pub IsLawful : Application → State → List Done → Type 0
+abbrev pub IsLawful : Application → State → List ScriptStep → Type 0
 IsLawful app s [] = Unit {0}
 IsLawful app s (d ∷ ds) = CommitIsLawful app s d d.by × IsLawful app d.after ds
 
@@ -141,8 +143,9 @@ same_ending BrokenFr (Broken b) = false
 same_ending BrokenFr BrokenFr = true
 
 -- the tables and the ending are this result
-abbrev pub is_result : Application → TableRows → Settled → Ended → Bool
-is_result app after kept result = same_tables after (durable app.generation result.tables) && same_ending kept.ending result.ending
+abbrev pub is_result : Application → TableRows → Settled → Option Ended → Bool
+is_result app after kept None = false
+is_result app after kept (Some result) = same_tables after (durable app.generation result.tables) && same_ending kept.ending result.ending
 
 -- the commit of a transaction is that of its record
 abbrev pub is_atomic_by : Application → TableRows → TableRows → Option Maker → Bool
@@ -152,6 +155,6 @@ is_atomic_by app before after (Some (ByShow lterm)) = true
 is_atomic_by app before after (Some (ByTransaction kept)) = is_result app after kept (atomic app (with_began before (kept_of kept)) (kept_of kept))
 
 -- all commits of transactions in a history pass
-unfoldable pub is_serial : Application → TableRows → List Done → Bool
+unfoldable pub is_serial : Application → TableRows → List ScriptStep → Bool
 is_serial app before [] = true
 is_serial app before (d ∷ ds) = let after = durable app.generation d.after.tables in is_atomic_by app before after d.by && is_serial app after ds
