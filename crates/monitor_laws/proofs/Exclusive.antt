@@ -25,7 +25,7 @@ use Rattle.monitor_semantics.specs.declared.draft.Due.{Due}
 use Rattle.kdcs_types.specs.declared.key.Target.{Target}
 use Rattle.monitor_semantics.specs.Bytes.{Bytes, bytes_cmp}
 use Rattle.monitor_semantics.specs.State.{Application, OpenTransaction, State, unit_of}
-use Rattle.monitor_semantics.specs.Calls.{Told, Asked, Granted, MustWait, Denied, Called, Replied, Waits, Abnormal, Pends, touches, touching, asked_by, on_answer, locked, for_kind, within_length, with_name, declared, name_in_operand, read_or, replied, got_by, drafted, put_job, target_of, deleted, seen, unlocked_by, read_away_by, delete_local_by, pended, called, first_call, called_by, call_outcome}
+use Rattle.monitor_semantics.specs.Calls.{Told, Asked, Granted, MustWait, Denied, Called, Replied, Waits, Abnormal, Pends, touches, touching, asked_by, on_answer, locked, for_kind, within_length, with_name, declared, name_in_operand, read_or, replied, got_by, drafted, put_job, job_target, deleted, seen, unlocked_by, read_away_by, delete_local_by, pended, called, first_call, called_by, call_outcome}
 use Rattle.monitor_semantics.specs.Endings.{followed}
 use Rattle.monitor_semantics.specs.Statements.{gssb_named, uls_named, tls_named, any_area, area_of_call, area_of_step, area_in_unit, area_of, Happened, Went, Queued, Waited, Held, Settles, Breaks, Returns, by_outcome, by_call, by_step, in_unit, statement}
 use Rattle.monitor_semantics.specs.Locks.{Active, holds, touched_by, IsExclusive, holder, told_now, asked_of, denied_by}
@@ -171,7 +171,7 @@ drafted-same x (Some to) None message = refl
 drafted-same x (Some to) (Some due) message = refl
 
 job-same : (g : Generated) (x : OpenTransaction) (to : Bytes) (due : Option Due) (message : Bytes) → SameTouched x (put_job g x to due message)
-job-same g x to due message = within-same x _ _ (named-same x (name_in_operand to) _ (λ name. drafted-same x (target_of g name) due message))
+job-same g x to due message = within-same x _ _ (named-same x (name_in_operand to) _ (λ name. drafted-same x (job_target g name) due message))
 
 read_or-same : (code : Code) (x : OpenTransaction) (room : ℕ) (o : Option Bytes) → SameTouched x (read_or code x room o)
 read_or-same code x room None = refl

@@ -15,7 +15,7 @@ use Rattle.kdcdef_types.specs.declared.entry.TacEntry.{TacEntry}
 use Rattle.kdcdef_types.specs.Generation.{Generated, tac_of, user_of, lterm_of, has_tls, has_uls}
 use Rattle.monitor_semantics.specs.Bytes.{Bytes}
 use Rattle.monitor_semantics.specs.Outcomes.{same_kind}
-use Rattle.monitor_semantics.specs.Calls.{target_of}
+use Rattle.monitor_semantics.specs.Calls.{job_target}
 use Rattle.monitor_semantics.specs.Charges.{total_charge}
 use Rattle.monitor_semantics.specs.Endings.{is_asynchronous, is_durable}
 
@@ -116,7 +116,7 @@ value_suits g v = nat_le v.due last_due && is_user g v.user && is_lterm g v.lter
 
 -- its target is an LTERM, or an asynchronous TAC with CALL other than NEXT and STATUS=ON
 abbrev pub job_suits : Generated → Job → Bool
-job_suits g j = value_suits g j.value && fits_message g j.value.message && target_suits g j.value.to (target_of g (target_name j.value.to))
+job_suits g j = value_suits g j.value && fits_message g j.value.message && target_suits g j.value.to (job_target g (target_name j.value.to))
 
 -- its target is its LTERM
 abbrev pub shown_suits : Generated → Bytes × JobValue → Bool
