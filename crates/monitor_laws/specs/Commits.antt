@@ -25,7 +25,7 @@ use Rattle.monitor_semantics.specs.declared.answer.Happened.TheVariants.{Went, Q
 use Rattle.monitor_semantics.specs.Statements.{kept_of}
 use Rattle.monitor_semantics.specs.Lines.{asy_line, prt_line, cause_text}
 use Rattle.monitor_semantics.specs.Turns.{statement_now}
-use Rattle.monitor_semantics.specs.Commands.{ScriptStep, Maker, ByTick, ByShow, ByTransaction}
+use Rattle.monitor_semantics.specs.Commands.{ScriptStep, Maker, ByTick, ByShow, ByTransaction, lterm_at}
 use Rattle.monitor_laws.specs.Replay.{Ended, IsAtomic, atomic, with_began}
 
 -- ---- jobs
@@ -40,29 +40,30 @@ abbrev pub without_gone : Option Job → List Job → List Job
 without_gone None jobs = jobs
 without_gone (Some job) jobs = without_item job_key (JobKey job.number) jobs
 
--- a commit, and then the message at a terminal or printer
-abbrev pub SendsNext : Bytes → List Act → Type 0
-SendsNext message [] = ⊥
-SendsNext message (Emit bytes ∷ acts) = ⊥
-SendsNext message (Commit changes ∷ []) = ⊥
-SendsNext message (Commit changes ∷ Commit more ∷ acts) = ⊥
-SendsNext message (Commit changes ∷ Emit bytes ∷ acts) = (pterm : Bytes) × ((bytes ≡ asy_line pterm message) ⊎ (bytes ≡ prt_line pterm message))
+-- a commit, and then the message at the terminal or printer of this LTERM
+abbrev pub SendsNext : Application → (lterm message : Bytes) → List Act → Type 0
+SendsNext app lterm message [] = ⊥
+SendsNext app lterm message (Emit bytes ∷ acts) = ⊥
+SendsNext app lterm message (Commit changes ∷ []) = ⊥
+SendsNext app lterm message (Commit changes ∷ Commit more ∷ acts) = ⊥
+SendsNext app lterm message (Commit changes ∷ Emit bytes ∷ acts) =
+    (pterm : Bytes) × ((lterm_at app pterm ≡ lterm) × ((bytes ≡ asy_line pterm message) ⊎ (bytes ≡ prt_line pterm message)))
 
 -- who may take a job out of the tables: its own service before its first synchronisation point, or KDCOUT and PRINT, which show it and send it next
-abbrev pub MayTake : Maker → Job → TableRows → List Act → Type 0
-MayTake (ByTick ticks) job after acts = ⊥
-MayTake (ByShow lterm) job after acts = (job.value.to ≡ Lterm lterm) × (shown_of after lterm ≡ Some job.value) × SendsNext job.value.message acts
-MayTake (ByTransaction kept) job after acts = (kept.service ≡ Asynchronous job.number) × (kept.began ≡ None)
+abbrev pub MayTake : Application → Maker → Job → TableRows → List Act → Type 0
+MayTake app (ByTick ticks) job after acts = ⊥
+MayTake app (ByShow lterm) job after acts = (job.value.to ≡ Lterm lterm) × (shown_of after lterm ≡ Some job.value) × SendsNext app lterm job.value.message acts
+MayTake app (ByTransaction kept) job after acts = (kept.service ≡ Asynchronous job.number) × (kept.began ≡ None)
 
 -- jobs keep their values; at most one goes, and new ones are numbered from the next job number
-pub record QueueLaw (before after : TableRows) (by : Maker) (acts : List Act) : Type 0 where
+pub record QueueLaw (app : Application) (before after : TableRows) (by : Maker) (acts : List Act) : Type 0 where
   pub gone : Option Job
   pub made : List Job
   pub jobs : after.jobs ≡ without_gone gone before.jobs ++ made
   pub numbers : AreNumberedFrom before.next_job made
   pub next : after.next_job ≡ before.next_job + length made
   pub was_there : IfSome gone (λ (job : Job). Contains before.jobs job)
-  pub taken : IfSome gone (λ (job : Job). MayTake by job after acts)
+  pub taken : IfSome gone (λ (job : Job). MayTake app by job after acts)
 
 -- ---- services
 
@@ -110,7 +111,7 @@ AtomicLaw app before after (ByTransaction kept) = IsAtomicCommit app before afte
 abbrev pub CommitIsLawful : Application → State → ScriptStep → Option Maker → Type 0
 CommitIsLawful app before d None = Unit {0}
 CommitIsLawful app before d (Some by) =
-    QueueLaw (durable app.generation before.tables) (durable app.generation d.after.tables) by d.acts
+    QueueLaw app (durable app.generation before.tables) (durable app.generation d.after.tables) by d.acts
     × ServiceLaw app before d.after.tables by
     × AtomicLaw app (durable app.generation before.tables) (durable app.generation d.after.tables) by
 

@@ -13,7 +13,8 @@ use Rattle.kdcs_types.specs.Same.{target_eq}
 use Rattle.kdcs_types.specs.Tables.{TableRows, service_of}
 use Rattle.kdcdef_types.specs.declared.entry.TacEntry.{TacEntry}
 use Rattle.kdcdef_types.specs.Generation.{Generated, tac_of, user_of, lterm_of, has_tls, has_uls}
-use Rattle.monitor_semantics.specs.Bytes.{Bytes}
+use Rattle.std.specs.FinMap.{is_sorted}
+use Rattle.monitor_semantics.specs.Bytes.{Bytes, bytes_cmp}
 use Rattle.monitor_semantics.specs.Outcomes.{same_kind}
 use Rattle.monitor_semantics.specs.Calls.{job_target}
 use Rattle.monitor_semantics.specs.Charges.{total_charge}
@@ -85,12 +86,12 @@ abbrev pub owner_suits : ServiceId → Service → Bool
 owner_suits (Dialogue user) s = bytes_eq user s.user
 owner_suits (Asynchronous number) s = not s.awaits && is_empty s.handed && not (is_some s.last)
 
--- every condition on a service's row but RESTART=YES
+-- every condition on a service's row but RESTART=YES; its LSSBs ascend without repeats
 abbrev pub service_suits : Generated → Service → Bool
 service_suits g s =
     is_user g s.user && lterm_suits g s.lterm && owner_suits s.id s
     && has_kind g s.first (is_asynchronous s.id) && has_kind g s.next (is_asynchronous s.id)
-    && length s.kb == g.limits.kb && nat_le (length s.lssbs) g.limits.lssbs && list_all (λ (l : Bytes × Bytes). fits_content l.1) s.lssbs
+    && length s.kb == g.limits.kb && nat_le (length s.lssbs) g.limits.lssbs && is_sorted bytes_cmp s.lssbs && list_all (λ (l : Bytes × Bytes). fits_content l.1) s.lssbs
     && awaits_rightly s s.awaits && last_fits g s.last
     && nat_le (length s.handed) 16 && nat_le (sum_by length s.handed) g.limits.nb
 
