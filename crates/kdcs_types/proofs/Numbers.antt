@@ -41,4 +41,4 @@ change_made clock next old reserved new copied items rows same made =
     ∙ sym (all clock next (tables_in 0 0 old) items)
 
 pub renumbered : (a b clock next : ℕ) (l : RowLists) → IsSortedTables (tables_in a b l) → IsSortedTables (tables_in clock next l)
-renumbered a b clock next l h = record { gssbs = h.gssbs; tlss = h.tlss; ulss = h.ulss; services = h.services; jobs = h.jobs; shown = h.shown; tlss_filled = h.tlss_filled; ulss_filled = h.ulss_filled; lterms = h.lterms }
+renumbered a b clock next l h = record { gssbs = h.gssbs; tlss = h.tlss; ulss = h.ulss; services = h.services; jobs = h.jobs; shown = h.shown; tlss_filled = h.tlss_filled; ulss_filled = h.ulss_filled; services_fit = h.services_fit }

@@ -10,15 +10,17 @@ use Rattle.kdcs_types.specs.declared.key.Key.TheVariants as key
 use Rattle.kdcs_types.specs.declared.service.Service.{Service}
 use Rattle.kdcs_types.specs.declared.act.Row.{Row}
 use Rattle.kdcs_types.specs.declared.act.Change.{Change}
+use Rattle.kdcs_types.specs.declared.act.Change.TheVariants.{Set, Remove}
+use Rattle.kdcs_types.specs.declared.act.Changes.{Changes}
 use Rattle.kdcs_types.specs.Keys.{key_eq}
 use Rattle.kdcs_types.specs.Keyed.{ascends, item_at}
 use Rattle.kdcs_types.specs.KeyLaws.{key_eq-same, id_eq-itself}
-use Rattle.kdcs_types.specs.KeyedLaws.{item_at-with, ascends-with, all-with, found_key, found_passes, found_among}
-use Rattle.kdcs_types.specs.Tables.{TableRows, gssb_key, tls_key, uls_key, service_key, job_key, shown_key, gssb_row, tls_row, uls_row, service_row, job_row, shown_row, row_key, row_at, changed, is_filled, has_its_lterm, row_fits, change_fits, change_key, change_at, AreChanges, IsSortedTables}
+use Rattle.kdcs_types.specs.KeyedLaws.{item_at-with, ascends-with, all-with, found_key, found_passes, found_among, same_items}
+use Rattle.kdcs_types.specs.Tables.{TableRows, gssb_key, tls_key, uls_key, service_key, job_key, shown_key, gssb_row, tls_row, uls_row, service_row, job_row, shown_row, row_key, row_at, changed, is_filled, service_fits, row_fits, change_fits, change_key, change_at, AreChanges, IsSortedTables}
 use Rattle.kdcs_types.specs.Same.{row_same}
 use Rattle.kdcs_types.specs.SameLaws.{row_same-only, row_same-itself}
 use Rattle.kdcs_types.specs.Difference.{keys_of, change_to, noted_unless, differing, difference}
-use Rattle.kdcs_types.specs.TableLaws.{row_after}
+use Rattle.kdcs_types.specs.TableLaws.{row_after, AreRealChanges}
 use Rattle.kdcs_types.specs.RowLaws.{rows_changed, numbers_changed, changed_sorted, same_tables}
 
 -- ---- the rows of tables
@@ -52,7 +54,7 @@ row_at-fits t h (key.Uls b l) =
     (λ e f. found_passes uls_key (λ r. is_filled r.2) (key.Uls b l) t.ulss e h.ulss_filled f) _ refl
 row_at-fits t h (key.Service i) =
     found_fits service_key service_row (λ e. refl) (key.Service i) t.services
-    (λ (e : Service) f. true_both _ _ (id_eq-itself e.id) (found_passes service_key has_its_lterm (key.Service i) t.services e h.lterms f)) _ refl
+    (λ (e : Service) f. true_both _ _ (id_eq-itself e.id) (found_passes service_key service_fits (key.Service i) t.services e h.services_fit f)) _ refl
 row_at-fits t h (key.Job n) = found_fits job_key job_row (λ e. refl) (key.Job n) t.jobs (λ e f. refl) _ refl
 row_at-fits t h (key.Shown n) = found_fits shown_key shown_row (λ e. refl) (key.Shown n) t.shown (λ e f. refl) _ refl
 
@@ -236,3 +238,27 @@ difference_makes_new old new g h =
     let numbers = numbers_changed old (difference old new) in
     same_tables (changed old (difference old new)) new (changed_sorted old (difference old new) g are) h numbers.0 numbers.1
     (λ k. rows_changed old (difference old new) are k ∙ ap (λ o. row_after o (row_at old k)) (difference-at old new k) ∙ after_needed old new k)
+
+-- ---- the difference of tables and the same with changes
+
+module _ (t : TableRows) (c : Changes) (sorted : IsSortedTables t) (are : AreRealChanges t c) where
+  -- after a change, the row of its key says which it was
+  changed_by : (k : Key) (ch : Change) → change_key ch ≡ k → change_to k (row_after (Some ch) (row_at t k)) ≡ ch
+  changed_by k (Set r) e = refl
+  changed_by k (Remove j) e = ap Remove (sym e)
+
+  same_change : (k : Key) (o : Option Change) → change_at k c.items ≡ o → change_at k (difference t (changed t c)).items ≡ o
+  same_change k None e =
+      (difference_exact t (changed t c) k).0 (sym (rows_changed t c are.changes k ∙ ap (λ o. row_after o (row_at t k)) e))
+  same_change k (Some ch) e =
+      let row : row_at (changed t c) k ≡ row_after (Some ch) (row_at t k) = rows_changed t c are.changes k ∙ ap (λ o. row_after o (row_at t k)) e in
+      (difference_exact t (changed t c) k).1 (λ same. are.real k ch e (sym row ∙ sym same))
+      ∙ ap (λ o. Some (change_to k o)) row
+      ∙ ap Some (changed_by k ch (found_key change_key k c.items ch e))
+
+  pub difference_is_changes : difference t (changed t c) ≡ c
+  difference_is_changes =
+      let after = changed_sorted t c sorted are.changes in
+      let numbers = numbers_changed t c in
+      let items = same_items change_key (difference t (changed t c)).items c.items (difference_changes t (changed t c) after).ascending are.changes.ascending (λ k. same_change k _ refl) in
+      λ i. record { clock = numbers.0 i; next_job = numbers.1 i; items = items i }

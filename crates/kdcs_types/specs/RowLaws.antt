@@ -21,7 +21,7 @@ use Rattle.kdcs_types.specs.Keys.{key_cmp, key_eq, id_eq}
 use Rattle.kdcs_types.specs.Keyed.{keyed, ascends, item_at, with_item, without_item}
 use Rattle.kdcs_types.specs.KeyLaws.{id_eq-same, key_eq-same}
 use Rattle.kdcs_types.specs.KeyedLaws.{item_at-with, item_at-without, ascends-with, ascends-without, all-with, all-without, not_above, not_among, same_items}
-use Rattle.kdcs_types.specs.Tables.{TableRows, gssb_key, tls_key, uls_key, service_key, job_key, shown_key, gssb_row, tls_row, uls_row, service_row, job_row, shown_row, row_key, row_at, with_row, without_row, with_change, with_changes, changed, is_filled, has_its_lterm, row_fits, change_fits, change_key, change_at, AreChanges, IsSortedTables}
+use Rattle.kdcs_types.specs.Tables.{TableRows, gssb_key, tls_key, uls_key, service_key, job_key, shown_key, gssb_row, tls_row, uls_row, service_row, job_row, shown_row, row_key, row_at, with_row, without_row, with_change, with_changes, changed, is_filled, service_fits, row_fits, change_fits, change_key, change_at, AreChanges, IsSortedTables}
 use Rattle.kdcs_types.specs.TableLaws.{row_after}
 
 -- ---- one change
@@ -51,7 +51,7 @@ row_at-with t (row.Uls b u c) _ h = refl
 row_at-with t (row.Service i s) (key.Service j) h =
     subst
     (λ (k : ServiceId). row_at (with_row t (row.Service k s)) (key.Service j) ≡ cond (key_eq (key.Service j) (key.Service k)) (Some (row.Service k s)) (row_at t (key.Service j)))
-    (id_eq-same s.id i ((both_true (id_eq s.id i) (has_its_lterm s) h).0))
+    (id_eq-same s.id i ((both_true (id_eq s.id i) (service_fits s) h).0))
     (set_item service_key service_row (key.Service j) s t.services)
 row_at-with t (row.Service i s) _ h = refl
 row_at-with t (row.Job n v) (key.Job m) h = set_item job_key job_row (key.Job m) (record { number = n; value = v }) t.jobs
@@ -134,20 +134,20 @@ numbers_changed t c = numbers_stay (record t { clock = c.clock; next_job = c.nex
 -- ---- the order
 
 pub sorted_with : (t : TableRows) (r : Row) → IsSortedTables t → IsTrue (row_fits r) → IsSortedTables (with_row t r)
-sorted_with t (row.Gssb n c) h f = record { gssbs = ascends-with gssb_key (n, c) t.gssbs h.gssbs; tlss = h.tlss; ulss = h.ulss; services = h.services; jobs = h.jobs; shown = h.shown; tlss_filled = h.tlss_filled; ulss_filled = h.ulss_filled; lterms = h.lterms }
-sorted_with t (row.Tls b l c) h f = record { gssbs = h.gssbs; tlss = ascends-with tls_key (b, l, c) t.tlss h.tlss; ulss = h.ulss; services = h.services; jobs = h.jobs; shown = h.shown; tlss_filled = all-with tls_key (λ r. is_filled r.2) (b, l, c) t.tlss f h.tlss_filled; ulss_filled = h.ulss_filled; lterms = h.lterms }
-sorted_with t (row.Uls b u c) h f = record { gssbs = h.gssbs; tlss = h.tlss; ulss = ascends-with uls_key (b, u, c) t.ulss h.ulss; services = h.services; jobs = h.jobs; shown = h.shown; tlss_filled = h.tlss_filled; ulss_filled = all-with uls_key (λ r. is_filled r.2) (b, u, c) t.ulss f h.ulss_filled; lterms = h.lterms }
-sorted_with t (row.Service i s) h f = record { gssbs = h.gssbs; tlss = h.tlss; ulss = h.ulss; services = ascends-with service_key s t.services h.services; jobs = h.jobs; shown = h.shown; tlss_filled = h.tlss_filled; ulss_filled = h.ulss_filled; lterms = all-with service_key has_its_lterm s t.services ((both_true (id_eq s.id i) (has_its_lterm s) f).1) h.lterms }
-sorted_with t (row.Job n v) h f = record { gssbs = h.gssbs; tlss = h.tlss; ulss = h.ulss; services = h.services; jobs = ascends-with job_key (record { number = n; value = v }) t.jobs h.jobs; shown = h.shown; tlss_filled = h.tlss_filled; ulss_filled = h.ulss_filled; lterms = h.lterms }
-sorted_with t (row.Shown l v) h f = record { gssbs = h.gssbs; tlss = h.tlss; ulss = h.ulss; services = h.services; jobs = h.jobs; shown = ascends-with shown_key (l, v) t.shown h.shown; tlss_filled = h.tlss_filled; ulss_filled = h.ulss_filled; lterms = h.lterms }
+sorted_with t (row.Gssb n c) h f = record { gssbs = ascends-with gssb_key (n, c) t.gssbs h.gssbs; tlss = h.tlss; ulss = h.ulss; services = h.services; jobs = h.jobs; shown = h.shown; tlss_filled = h.tlss_filled; ulss_filled = h.ulss_filled; services_fit = h.services_fit }
+sorted_with t (row.Tls b l c) h f = record { gssbs = h.gssbs; tlss = ascends-with tls_key (b, l, c) t.tlss h.tlss; ulss = h.ulss; services = h.services; jobs = h.jobs; shown = h.shown; tlss_filled = all-with tls_key (λ r. is_filled r.2) (b, l, c) t.tlss f h.tlss_filled; ulss_filled = h.ulss_filled; services_fit = h.services_fit }
+sorted_with t (row.Uls b u c) h f = record { gssbs = h.gssbs; tlss = h.tlss; ulss = ascends-with uls_key (b, u, c) t.ulss h.ulss; services = h.services; jobs = h.jobs; shown = h.shown; tlss_filled = h.tlss_filled; ulss_filled = all-with uls_key (λ r. is_filled r.2) (b, u, c) t.ulss f h.ulss_filled; services_fit = h.services_fit }
+sorted_with t (row.Service i s) h f = record { gssbs = h.gssbs; tlss = h.tlss; ulss = h.ulss; services = ascends-with service_key s t.services h.services; jobs = h.jobs; shown = h.shown; tlss_filled = h.tlss_filled; ulss_filled = h.ulss_filled; services_fit = all-with service_key service_fits s t.services ((both_true (id_eq s.id i) (service_fits s) f).1) h.services_fit }
+sorted_with t (row.Job n v) h f = record { gssbs = h.gssbs; tlss = h.tlss; ulss = h.ulss; services = h.services; jobs = ascends-with job_key (record { number = n; value = v }) t.jobs h.jobs; shown = h.shown; tlss_filled = h.tlss_filled; ulss_filled = h.ulss_filled; services_fit = h.services_fit }
+sorted_with t (row.Shown l v) h f = record { gssbs = h.gssbs; tlss = h.tlss; ulss = h.ulss; services = h.services; jobs = h.jobs; shown = ascends-with shown_key (l, v) t.shown h.shown; tlss_filled = h.tlss_filled; ulss_filled = h.ulss_filled; services_fit = h.services_fit }
 
 pub sorted_without : (t : TableRows) (k : Key) → IsSortedTables t → IsSortedTables (without_row t k)
-sorted_without t (key.Gssb n) h = record { gssbs = ascends-without gssb_key (key.Gssb n) t.gssbs h.gssbs; tlss = h.tlss; ulss = h.ulss; services = h.services; jobs = h.jobs; shown = h.shown; tlss_filled = h.tlss_filled; ulss_filled = h.ulss_filled; lterms = h.lterms }
-sorted_without t (key.Tls b l) h = record { gssbs = h.gssbs; tlss = ascends-without tls_key (key.Tls b l) t.tlss h.tlss; ulss = h.ulss; services = h.services; jobs = h.jobs; shown = h.shown; tlss_filled = all-without tls_key (λ r. is_filled r.2) (key.Tls b l) t.tlss h.tlss_filled; ulss_filled = h.ulss_filled; lterms = h.lterms }
-sorted_without t (key.Uls b u) h = record { gssbs = h.gssbs; tlss = h.tlss; ulss = ascends-without uls_key (key.Uls b u) t.ulss h.ulss; services = h.services; jobs = h.jobs; shown = h.shown; tlss_filled = h.tlss_filled; ulss_filled = all-without uls_key (λ r. is_filled r.2) (key.Uls b u) t.ulss h.ulss_filled; lterms = h.lterms }
-sorted_without t (key.Service i) h = record { gssbs = h.gssbs; tlss = h.tlss; ulss = h.ulss; services = ascends-without service_key (key.Service i) t.services h.services; jobs = h.jobs; shown = h.shown; tlss_filled = h.tlss_filled; ulss_filled = h.ulss_filled; lterms = all-without service_key has_its_lterm (key.Service i) t.services h.lterms }
-sorted_without t (key.Job n) h = record { gssbs = h.gssbs; tlss = h.tlss; ulss = h.ulss; services = h.services; jobs = ascends-without job_key (key.Job n) t.jobs h.jobs; shown = h.shown; tlss_filled = h.tlss_filled; ulss_filled = h.ulss_filled; lterms = h.lterms }
-sorted_without t (key.Shown l) h = record { gssbs = h.gssbs; tlss = h.tlss; ulss = h.ulss; services = h.services; jobs = h.jobs; shown = ascends-without shown_key (key.Shown l) t.shown h.shown; tlss_filled = h.tlss_filled; ulss_filled = h.ulss_filled; lterms = h.lterms }
+sorted_without t (key.Gssb n) h = record { gssbs = ascends-without gssb_key (key.Gssb n) t.gssbs h.gssbs; tlss = h.tlss; ulss = h.ulss; services = h.services; jobs = h.jobs; shown = h.shown; tlss_filled = h.tlss_filled; ulss_filled = h.ulss_filled; services_fit = h.services_fit }
+sorted_without t (key.Tls b l) h = record { gssbs = h.gssbs; tlss = ascends-without tls_key (key.Tls b l) t.tlss h.tlss; ulss = h.ulss; services = h.services; jobs = h.jobs; shown = h.shown; tlss_filled = all-without tls_key (λ r. is_filled r.2) (key.Tls b l) t.tlss h.tlss_filled; ulss_filled = h.ulss_filled; services_fit = h.services_fit }
+sorted_without t (key.Uls b u) h = record { gssbs = h.gssbs; tlss = h.tlss; ulss = ascends-without uls_key (key.Uls b u) t.ulss h.ulss; services = h.services; jobs = h.jobs; shown = h.shown; tlss_filled = h.tlss_filled; ulss_filled = all-without uls_key (λ r. is_filled r.2) (key.Uls b u) t.ulss h.ulss_filled; services_fit = h.services_fit }
+sorted_without t (key.Service i) h = record { gssbs = h.gssbs; tlss = h.tlss; ulss = h.ulss; services = ascends-without service_key (key.Service i) t.services h.services; jobs = h.jobs; shown = h.shown; tlss_filled = h.tlss_filled; ulss_filled = h.ulss_filled; services_fit = all-without service_key service_fits (key.Service i) t.services h.services_fit }
+sorted_without t (key.Job n) h = record { gssbs = h.gssbs; tlss = h.tlss; ulss = h.ulss; services = h.services; jobs = ascends-without job_key (key.Job n) t.jobs h.jobs; shown = h.shown; tlss_filled = h.tlss_filled; ulss_filled = h.ulss_filled; services_fit = h.services_fit }
+sorted_without t (key.Shown l) h = record { gssbs = h.gssbs; tlss = h.tlss; ulss = h.ulss; services = h.services; jobs = h.jobs; shown = ascends-without shown_key (key.Shown l) t.shown h.shown; tlss_filled = h.tlss_filled; ulss_filled = h.ulss_filled; services_fit = h.services_fit }
 
 pub sorted_with_change : (t : TableRows) (c : Change) → IsSortedTables t → IsTrue (change_fits c) → IsSortedTables (with_change t c)
 sorted_with_change t (Set r) h f = sorted_with t r h f
@@ -162,7 +162,7 @@ sorted_with_changes t (c ∷ cs) h f =
 pub changed_sorted : (t : TableRows) (c : Changes) → IsSortedTables t → AreChanges c.items → IsSortedTables (changed t c)
 changed_sorted t c h are =
     sorted_with_changes (record t { clock = c.clock; next_job = c.next_job }) c.items
-    (record { gssbs = h.gssbs; tlss = h.tlss; ulss = h.ulss; services = h.services; jobs = h.jobs; shown = h.shown; tlss_filled = h.tlss_filled; ulss_filled = h.ulss_filled; lterms = h.lterms })
+    (record { gssbs = h.gssbs; tlss = h.tlss; ulss = h.ulss; services = h.services; jobs = h.jobs; shown = h.shown; tlss_filled = h.tlss_filled; ulss_filled = h.ulss_filled; services_fit = h.services_fit })
     are.fit
 
 -- ---- tables are known by their rows

@@ -1,7 +1,10 @@
 -- The tables as lists and numbers, their look-ups, and what changes make of them.
 use Rattle.std.specs.Prelude.{ℕ, Bool, true, false, not, ◌&&◌, IsTrue, List, [], ◌∷◌, Option, is_some}
 use Rattle.std.specs.Option.{option_map}
+use Rattle.std.specs.Cmp.Lexicographic.{slice_cmp}
+use Rattle.std.specs.FinMap.{is_sorted}
 use Rattle.std.specs.List.{list_all}
+use Rattle.std.specs.Ordering.{nat_cmp}
 use Rattle.kdcs_types.specs.declared.key.Area.{Area}
 use Rattle.kdcs_types.specs.declared.key.Area.TheVariants as area
 use Rattle.kdcs_types.specs.declared.key.ServiceId.{ServiceId}
@@ -154,16 +157,16 @@ abbrev pub lterm_fits : ServiceId → Option (List ℕ) → Bool
 lterm_fits (id.Dialogue user) lterm = not (is_some lterm)
 lterm_fits (id.Asynchronous number) lterm = is_some lterm
 
--- the LTERM is None exactly for a dialogue service
-abbrev pub has_its_lterm : Service → Bool
-has_its_lterm s = lterm_fits s.id s.lterm
+-- the LTERM is None exactly for a dialogue service, and the LSSBs ascend without repeats
+abbrev pub service_fits : Service → Bool
+service_fits s = lterm_fits s.id s.lterm && is_sorted (slice_cmp nat_cmp) s.lssbs
 
--- a TLS or ULS block is not empty; a service stands under its id, and has an LTERM exactly where it is asynchronous
+-- a TLS or ULS block is not empty; a service stands under its id, has an LTERM exactly where it is asynchronous, and LSSBs in ascending order
 abbrev pub row_fits : Row → Bool
 row_fits (row.Gssb name content) = true
 row_fits (row.Tls block lterm content) = is_filled content
 row_fits (row.Uls block user content) = is_filled content
-row_fits (row.Service id service) = id_eq service.id id && has_its_lterm service
+row_fits (row.Service id service) = id_eq service.id id && service_fits service
 row_fits (row.Job number value) = true
 row_fits (row.Shown lterm value) = true
 
@@ -195,4 +198,4 @@ pub record IsSortedTables (t : TableRows) : Type 0 where
   pub shown : IsTrue (ascends shown_key t.shown)
   pub tlss_filled : IsTrue (list_all (λ r. is_filled r.2) t.tlss)
   pub ulss_filled : IsTrue (list_all (λ r. is_filled r.2) t.ulss)
-  pub lterms : IsTrue (list_all has_its_lterm t.services)
+  pub services_fit : IsTrue (list_all service_fits t.services)
