@@ -1,3 +1,4 @@
 pub mod Deadlocks
 pub mod Jobs
 pub mod OwnRows
+pub mod Commits

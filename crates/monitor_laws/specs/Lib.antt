@@ -5,6 +5,8 @@ pub mod Suits
 pub mod Keeping
 pub mod Replay
 pub mod Commits
+pub mod DurableLaws
+pub mod Steps
 pub mod Cut
 pub mod DeadlockLaw
 pub mod JobLaw

@@ -6,6 +6,8 @@
 #![tactic(auto)]
 
 ghost use Rattle.monitor_laws.specs.DeadlockLaw.{DeadlocksAreFound};
+ghost use Rattle.monitor_laws.specs.DurableLaws.{DurableFollows};
+ghost use Rattle.monitor_laws.specs.Steps.{TurnsCommitOnce, CommandsCommitOnce, StepsMakeTheirTables};
 ghost use Rattle.monitor_laws.specs.JobLaw.{PointsNumberJobs, EndsDrawNoNumber};
 ghost use Rattle.monitor_laws.specs.RowLaw.{PointsSetOwnRow, EndsRemoveOwnRow};
 
@@ -24,4 +26,17 @@ pub fn points_number_jobs()
 pub fn ends_change_their_own_row()
     ensures points { PointsSetOwnRow }
     ensures ends { EndsRemoveOwnRow }
+{}
+
+/// A step of a script has at most one commit. It stands first, and is the difference of the durable tables before and
+/// after; a step without one changes nothing durable. So a step's commit makes of the durable tables those after it.
+pub fn steps_commit_once()
+    ensures turns { TurnsCommitOnce }
+    ensures commands { CommandsCommitOnce }
+    ensures tables { StepsMakeTheirTables }
+{}
+
+/// A change of a row that outlives a stop is the same change of the durable tables, and any other is none of them.
+pub fn durable_part_follows()
+    ensures { DurableFollows }
 {}

@@ -167,11 +167,11 @@ after_point app s id x (Wait tac) row commit kept = committed (message_sent s id
 after_point app s id x Finish row commit kept = committed (message_sent s id x) commit kept (message_acts s id x)
 after_point app s id x (Point tac) row commit kept = committed (goes_on app s id x row) commit kept []
 after_point app s id x (Follow tac) row commit kept = committed (goes_on app s id x row) commit kept []
-after_point app s id x (Hold tac) row commit kept = unmoved s
-after_point app s id x (Stay tac) row commit kept = unmoved s
-after_point app s id x (Queue tac) row commit kept = unmoved s
-after_point app s id x Break row commit kept = unmoved s
-after_point app s id x Back row commit kept = unmoved s
+after_point app s id x (Hold tac) row commit kept = committed s commit kept []
+after_point app s id x (Stay tac) row commit kept = committed s commit kept []
+after_point app s id x (Queue tac) row commit kept = committed s commit kept []
+after_point app s id x Break row commit kept = committed s commit kept []
+after_point app s id x Back row commit kept = committed s commit kept []
 
 -- a cause refuses the point
 abbrev pub settled_by : Application → State → (task : ℕ) → ServiceId → OpenTransaction → Outcome → TableRows → Option Cause → Turned
