@@ -1,6 +1,6 @@
 -- What reading answers, against what the text spells.
 use Rattle.std.proofs.Common.{ℕ, List, Result, Ok, Err, refl, subst}
-use Rattle.std.specs.Prelude.{◌≢◌, IfOk, IfErr}
+use Rattle.std.specs.Prelude.{◌≢◌, All, IfOk, IfErr}
 use Rattle.std.specs.Global.{Vec}
 use Rattle.unit_types.specs.UnitText.{UnitText}
 use Rattle.unit_read.specs.declared.fault.UnitFault.{UnitFault}
@@ -8,12 +8,18 @@ use Rattle.unit_read.specs.declared.fault.UnitFault.TheVariants.{BadStatement, B
 use Rattle.unit_read.specs.Outcomes.{Gives, units_of_result}
 use Rattle.unit_read.specs.Reading.{read_text}
 use Rattle.unit_read.specs.Spelling.{SpellsUnits}
+use Rattle.unit_types.specs.UnitText.{IsWhole}
+use Rattle.unit_read.specs.Whole.{spelled_whole}
 use Rattle.unit_read.specs.Faults.{HasTextFault}
 use Rattle.unit_read.proofs.FaultsAt.{text_is, text_again, fault_stands, fault_answered}
 
 pub found_stands : (text : List ℕ) (r : Result (Vec UnitText) UnitFault) → Gives (units_of_result r) (read_text text) → IfOk r (λ v. SpellsUnits text v.items)
 found_stands text (Ok v) h = text_is text v.items h
 found_stands text (Err e) h = tt
+
+pub read_whole : (text : List ℕ) (r : Result (Vec UnitText) UnitFault) → IfOk r (λ v. SpellsUnits text v.items) → IfOk r (λ v. All IsWhole v.items)
+read_whole text (Ok v) h = spelled_whole text v.items h
+read_whole text (Err e) h = tt
 
 pub only_that : (text : List ℕ) (r : Result (Vec UnitText) UnitFault) → Gives (units_of_result r) (read_text text) → (us : List UnitText) → SpellsUnits text us → Gives (units_of_result r) (Ok us)
 only_that text r h us spells = subst (Gives (units_of_result r)) (text_again text us spells) h

@@ -1,6 +1,6 @@
 //! Reading a units text.
-ghost use Rattle.std.specs.Prelude.{◌≢◌, List, IfOk, IfErr, OnOk};
-ghost use Rattle.unit_types.specs.UnitText.{UnitText};
+ghost use Rattle.std.specs.Prelude.{◌≢◌, All, List, IfOk, IfErr, OnOk};
+ghost use Rattle.unit_types.specs.UnitText.{UnitText, IsWhole};
 ghost use Rattle.unit_read.specs.declared.fault.UnitFault.TheVariants.{Memory};
 ghost use Rattle.unit_read.specs.Spelling.{SpellsUnits};
 ghost use Rattle.unit_read.specs.Faults.{HasTextFault};
@@ -64,6 +64,8 @@ fn read_text(alloc: Global, text: &[u8]) -> Result<Vec<Unit>, UnitFault>
 pub fn read_units(alloc: Global, text: &[u8]) -> Result<Vec<Unit>, UnitFault>
     // The text spells what is read.
     ensures found { IfOk result (λ units. SpellsUnits text.now units.items) }
+    // Labels count from one, and no operand is longer than an area may be.
+    ensures whole { IfOk result (λ units. All IsWhole units.items) }
     // What the text spells is read, unless memory runs out.
     ensures only { (units : List UnitText) → SpellsUnits text.now units → Gives (units_of_result result) (Ok units) }
     // The fault that is answered stands there.

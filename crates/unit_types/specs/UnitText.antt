@@ -93,3 +93,8 @@ IsShortOperand (Trim name) = Unit {0}
 -- no operand is longer than an area may be
 abbrev pub HasShortOperands : UnitText → Type 0
 HasShortOperands unit = All (λ (s : UnitStatement). All IsShortOperand (operands_of s.action)) unit.statements
+
+-- what a text can spell: labels count from one, and no operand is longer than an area may be
+pub record IsWhole (unit : UnitText) : Type 0 where
+  pub labels : LabelsFromOne unit
+  pub operands : HasShortOperands unit
