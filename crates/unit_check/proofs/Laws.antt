@@ -11,7 +11,7 @@ use Rattle.kdcdef_types.specs.Generation.{Generated, entry_of}
 use Rattle.kdcdef_check.specs.Soundness.{IsSound}
 use Rattle.unit_types.specs.declared.action.UnitStatement.{UnitStatement}
 use Rattle.unit_types.specs.declared.unit.Field.{Field}
-use Rattle.unit_types.specs.UnitText.{UnitText, jump_of, label_place}
+use Rattle.unit_types.specs.UnitText.{UnitText, jump_of, label_place, IsWhole}
 use Rattle.unit_check.specs.declared.fault.FitFault.{FitFault}
 use Rattle.unit_check.specs.declared.fault.FitFault.TheVariants.{NoUnit, NoLabel, FieldPastArea, LiteralFollowUp, Memory}
 use Rattle.unit_check.specs.Fitted.{unit_named, area_len, IsInside, literal_follow_up, tac_in, IsFitted, AreFit}
@@ -172,8 +172,8 @@ tac_there tacs s h = elim (there (literal_follow_up s.action) (tac_in tacs) (Lit
   | inr is ↦ absurd (let e : Some (LiteralFollowUp s.line) ≡ None = sym is.0 ∙ h in cc)
 ]
 
-unit_fits : (g : Generated) (unit : UnitText) → unit_fault g unit ≡ None → IsFitted g.limits g.tacs unit
-unit_fits g unit h =
+unit_fits : (g : Generated) (unit : UnitText) → unit_fault g unit ≡ None → IsWhole unit → IsFitted g.limits g.tacs unit
+unit_fits g unit h whole =
     let both = earlier_none (fields_fault g.limits unit.fields) (statements_fault g.tacs unit) h in
     let fields = none_of_all (field_fault g.limits) unit.fields both.0 in
     let statements = none_of_all (statement_fault g.tacs unit) unit.statements both.1 in
@@ -182,6 +182,7 @@ unit_fits g unit h =
       fields = all_weaker (λ (f : Field). field_fault g.limits f ≡ None) (IsInside g.limits) (field_inside g.limits) unit.fields fields;
       labels = all_weaker (λ (s : UnitStatement). statement_fault g.tacs unit s ≡ None) (λ (s : UnitStatement). IfSome (jump_of s.action) (λ label. IsSome (label_place unit label))) (λ s e. label_there unit s (parts s e).0) unit.statements statements;
       follow_ups = all_weaker (λ (s : UnitStatement). statement_fault g.tacs unit s ≡ None) (λ (s : UnitStatement). IfSome (literal_follow_up s.action) (λ bytes. IsSome (tac_in g.tacs bytes))) (λ s e. tac_there g.tacs s (parts s e).1) unit.statements statements;
+      whole = whole;
     }
 
 -- ---- PROGRAM statements
@@ -228,14 +229,14 @@ no_unit_lacks units programs h = elim (lacking_is units programs) [
   | inr is ↦ absurd (let e : Some (NoUnit is.0) ≡ None = sym is.1 ∙ h in cc)
 ]
 
-pub no_fault : (g : Generated) (units : List UnitText) → IsSound g → fit_fault g units ≡ None → HasNoFault g units
-no_fault g units sound h =
+pub no_fault : (g : Generated) (units : List UnitText) → IsSound g → All IsWhole units → fit_fault g units ≡ None → HasNoFault g units
+no_fault g units sound whole h =
     let both = none_or (lacking units g.programs) (units_fault g units) h in
     let have = no_unit_lacks units g.programs both.0 in
     record {
       programs = have;
       fit = record {
-        fitted = all_weaker (λ (u : UnitText). unit_fault g u ≡ None) (IsFitted g.limits g.tacs) (unit_fits g) units (none_of_all (unit_fault g) units both.1);
+        fitted = λ k u lt. unit_fits g _ (none_of_all (unit_fault g) units both.1 k u lt) (whole k u lt);
         named = all_weaker (λ (e : List ℕ × TacEntry). IsTrue (is_some (entry_of g.programs e.1.program))) (λ (e : List ℕ × TacEntry). IsSome (unit_named units e.1.program)) (λ e. named_has_unit units g.programs have e.1.program) g.tacs (all_values (λ (t : TacEntry). IsTrue (is_some (entry_of g.programs t.program))) g.tacs sound.programs);
       };
     }

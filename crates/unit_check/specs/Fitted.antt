@@ -14,7 +14,7 @@ use Rattle.unit_types.specs.declared.action.Operand.TheVariants.{Literal}
 use Rattle.unit_types.specs.declared.action.UnitStatement.{UnitStatement}
 use Rattle.unit_types.specs.declared.unit.Field.{Field}
 use Rattle.unit_types.specs.Index.{or_first}
-use Rattle.unit_types.specs.UnitText.{UnitText, KnowsItsLabels}
+use Rattle.unit_types.specs.UnitText.{UnitText, KnowsItsLabels, IsWhole}
 
 -- the units in their order, and what they were fitted to
 pub record FittedUnits : Type 0 where
@@ -56,6 +56,7 @@ pub record IsFitted (limits : Limits) (tacs : List (List ℕ × TacEntry)) (unit
   pub fields : All (IsInside limits) unit.fields
   pub labels : KnowsItsLabels unit
   pub follow_ups : All (λ (s : UnitStatement). IfSome (literal_follow_up s.action) (λ bytes. IsSome (tac_in tacs bytes))) unit.statements
+  pub whole : IsWhole unit
 
 -- each unit is fitted, and each TAC has its unit
 pub record AreFit (limits : Limits) (tacs : List (List ℕ × TacEntry)) (units : List UnitText) : Type 0 where

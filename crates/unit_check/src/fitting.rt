@@ -1,5 +1,6 @@
 //! Fitting units to a generation.
-ghost use Rattle.std.specs.Prelude.{◌≡◌, ◌≢◌, None, Ok, Err, IfOk, IfErr, OnOk};
+ghost use Rattle.std.specs.Prelude.{◌≡◌, ◌≢◌, All, None, Ok, Err, IfOk, IfErr, OnOk};
+ghost use Rattle.unit_types.specs.UnitText.{IsWhole};
 ghost use Rattle.unit_check.specs.declared.fault.FitFault.TheVariants.{Memory};
 ghost use Rattle.unit_check.specs.Fitted.{FittedUnits, PutsPlace, AreUnitPlaces, AreFittedTo};
 ghost use Rattle.unit_check.specs.Faults.{IsFirstFault, Gives};
@@ -85,8 +86,9 @@ fn fit_fault(
 /// The units, where they fit the generation, or their first fault.
 ///
 /// A PROGRAM statement without a unit is answered before all others, in the order of these statements. A unit that no
-/// PROGRAM statement names is tested as the others are, and kept.
+/// PROGRAM statement names is tested as the others are, and kept. The units are such as a text spells.
 pub fn fit(alloc: Global, units: Vec<Unit>, generation: &Generation) -> Result<Units, FitFault>
+    requires whole { All IsWhole units.items }
     // Units that are taken have no fault, and are all kept.
     ensures found { IfOk result (λ fitted. AreFittedTo generation.now units.items fitted) }
     // Units that fit are taken, unless memory runs out.

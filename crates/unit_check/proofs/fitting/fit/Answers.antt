@@ -19,7 +19,7 @@ returns-in-Some-clause-refused c = refused_for c.args.generation.now c.args.unit
 
 faultless : (c : goal.In_ok-clone) → HasNoFault c.args.generation.now c.args.units.items
 faultless c =
-    no_fault c.args.generation.now c.args.units.items c.max.ensures.sound (ap (fit_fault c.args.generation.now) (sym c.as_slice-2.ensures.value) ∙ sym c.in_default.ensures)
+    no_fault c.args.generation.now c.args.units.items c.max.ensures.sound c.requires.whole (ap (fit_fault c.args.generation.now) (sym c.as_slice-2.ensures.value) ∙ sym c.in_default.ensures)
 
 same_tacs : (c : goal.In_ok-clone) → c.in_ok-clone.field-0.entries ≡ c.args.generation.now.tacs
 same_tacs c = same_from_all_zip _ _ _ c.in_ok-clone.ensures.cases (λ x y r. pair_same x y r.0 r.1) ∙ c.tacs.ensures
