@@ -2,3 +2,5 @@ pub mod Deadlocks
 pub mod Jobs
 pub mod OwnRows
 pub mod Commits
+pub mod Frames
+pub mod Shown

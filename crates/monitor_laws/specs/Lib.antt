@@ -7,6 +7,7 @@ pub mod Replay
 pub mod Commits
 pub mod DurableLaws
 pub mod Steps
+pub mod Frames
 pub mod Cut
 pub mod DeadlockLaw
 pub mod JobLaw

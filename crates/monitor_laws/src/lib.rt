@@ -7,6 +7,7 @@
 
 ghost use Rattle.monitor_laws.specs.DeadlockLaw.{DeadlocksAreFound};
 ghost use Rattle.monitor_laws.specs.DurableLaws.{DurableFollows};
+ghost use Rattle.monitor_laws.specs.Frames.{TurnsLeaveOthers, CommandsTouchOne, ShowsAtItsTerminal};
 ghost use Rattle.monitor_laws.specs.Steps.{TurnsCommitOnce, CommandsCommitOnce, StepsMakeTheirTables};
 ghost use Rattle.monitor_laws.specs.JobLaw.{PointsNumberJobs, EndsDrawNoNumber};
 ghost use Rattle.monitor_laws.specs.RowLaw.{PointsSetOwnRow, EndsRemoveOwnRow};
@@ -39,4 +40,17 @@ pub fn steps_commit_once()
 /// A change of a row that outlives a stop is the same change of the durable tables, and any other is none of them.
 pub fn durable_part_follows()
     ensures { DurableFollows }
+{}
+
+/// A step touches one service at most: all others keep their open transactions, rows and requests. RESTART alone ends
+/// all of them.
+pub fn steps_leave_other_services()
+    ensures turns { TurnsLeaveOthers }
+    ensures commands { CommandsTouchOne }
+{}
+
+/// What KDCOUT and PRINT take out of the tables is the due job of their LTERM, and its message goes next to the terminal
+/// of that LTERM.
+pub fn shown_messages_go_to_their_terminal()
+    ensures { ShowsAtItsTerminal }
 {}
