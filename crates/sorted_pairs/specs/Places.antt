@@ -1,5 +1,5 @@
 -- Lists of pairs in ascending order of their keys: where a key stands, what is found there, and what a change there makes.
-use Rattle.std.specs.Prelude.{◌≡◌, refl, ℕ, zero, suc, ◌+◌, ◌<◌, ◌≤◌, Bool, true, false, cond, not, IsTrue, T, List, [], ◌∷◌, length, Option, None, Some, Result, Ok, Err, slice_get, slice_set, slice_index_or, option_map}
+use Rattle.std.specs.Prelude.{◌≡◌, refl, ℕ, zero, suc, ◌+◌, ◌<◌, ◌≤◌, Bool, true, false, cond, not, IsTrue, T, List, [], ◌∷◌, filter, length, Option, None, Some, Result, Ok, Err, slice_get, slice_set, slice_index_or, option_map}
 use Rattle.std.proofs.Common.{arith, sym, ap, subst, ◌∙◌, true≢false, inl, inr}
 use Rattle.std.specs.Ordering.{is_eq, is_lt, eq_by_cmp, ordering_reverse}
 use Rattle.std.specs.declared.cmp.Ordering.{Ordering}
@@ -12,7 +12,7 @@ use Rattle.std.specs.List.Sorted.{IsSearchInRange, IsBinarySearchResult, IsSorte
 use Rattle.std.proofs.lemmas.Bool.{cases_lt}
 use Rattle.std.proofs.lemmas.List.Sorted.{searchable_from_sorted}
 use Rattle.std.proofs.lemmas.Option.{slice_get_read}
-use Rattle.kd_base.specs.Tools.{both_true}
+use Rattle.kd_base.specs.Tools.{both_true, true_both}
 
 -- what a binary search for a key answers
 pub record IsPlace {K X : Type 0} (R : K → K → Ordering) (key : K) (pairs : List (K × X)) (place : Result ℕ ℕ) : Type 0 where
@@ -48,6 +48,20 @@ kept {R = R} o key value pairs up = is_true _ (is_sorted-put R o key value pairs
 
 pub left_sorted : {K X : Type 0} (R : K → K → Ordering) (key : K) (pairs : List (K × X)) → IsTrue (is_sorted R pairs) → IsTrue (is_sorted R (without R key pairs))
 left_sorted R key pairs up = is_true _ (is_sorted-where_key R (λ k. not (eq_by_cmp R key k)) pairs (holds _ up))
+
+below_filtered : {K X : Type 0} (R : K → K → Ordering) (test : K × X → Bool) (key : K) (pairs : List (K × X)) → IsTrue (below_all R key pairs) → IsTrue (below_all R key (filter test pairs))
+below_filtered R test key [] below = refl
+below_filtered R test key (e ∷ es) below =
+    let parts = both_true (is_lt (R key e.0)) (below_all R key es) below in
+    let rest = below_filtered R test key es parts.1 in
+    elim (test e) as (λ b. IsTrue (below_all R key (cond b (e ∷ filter test es) (filter test es)))) [ true ↦ true_both _ _ parts.0 rest | false ↦ rest ]
+
+pub filtered_sorted : {K X : Type 0} (R : K → K → Ordering) (test : K × X → Bool) (pairs : List (K × X)) → IsTrue (is_sorted R pairs) → IsTrue (is_sorted R (filter test pairs))
+filtered_sorted R test [] up = refl
+filtered_sorted R test (e ∷ es) up =
+    let parts = both_true (below_all R e.0 es) (is_sorted R es) up in
+    let rest = filtered_sorted R test es parts.1 in
+    elim (test e) as (λ b. IsTrue (is_sorted R (cond b (e ∷ filter test es) (filter test es)))) [ true ↦ true_both _ _ (below_filtered R test e.0 es parts.0) rest | false ↦ rest ]
 
 module _ {K : Type 0} (R : K → K → Ordering) (o : IsTotalOrder R) where
   turned_less : (a b : K) → R a b ≡ Less → R b a ≡ Greater

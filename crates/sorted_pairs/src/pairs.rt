@@ -1,6 +1,9 @@
 //! Pairs in a `Vec`, found by binary search.
-ghost use Rattle.std.specs.Prelude.{◌≡◌, [], IsTrue, OnOk, OnErr, is_some, length, option_copied};
+ghost use Rattle.std.specs.Prelude.{◌≡◌, [], IsTrue, OnOk, OnErr, Ok, Some, filter, is_some, length, not, option_copied};
 ghost use Rattle.std.specs.FinMap.{find, put, is_sorted};
+ghost use Rattle.std.specs.Option.{option_copied_mut};
+ghost use Rattle.std.specs.Borrow.{sem};
+ghost use Rattle.sorted_pairs.specs.Lends.{lends_value, lends_found};
 ghost use Rattle.sorted_pairs.specs.Places.{IsPlace, without};
 
 use kd_base::OutOfMemory;
@@ -100,6 +103,32 @@ impl<K: Ord + Copy, V: Drop> SortedPairs<K, V> {
         }
     }
 
+    fn place(&self, key: &K) -> Result<usize, usize>
+        ensures place { IsPlace K.cmp key.now self.now result }
+        ensures ascending { IsTrue (is_sorted K.cmp self.now) }
+    {
+        place_of(self.pairs.as_slice(), key)
+    }
+
+    fn value_at(&mut self, key: &K, at: usize) -> &mut V
+        requires { IsPlace K.cmp key.now self.old (Ok at) }
+        ensures* writes_back { sem 𝓛 (lends_value K.row V.row K.Ord self.entry key.now result) }
+        ensures value { Some result.now ≡ find K.cmp key.now self.old }
+    {
+        &mut self.pairs[at].1
+    }
+
+    /// The value of a key, for writing.
+    pub fn get_mut(&mut self, key: &K) -> Option<&mut V>
+        ensures* writes_back { sem 𝓛 (lends_found K.row V.row K.Ord self.entry key.now result) }
+        ensures value { option_copied_mut result ≡ find K.cmp key.now self.old }
+    {
+        match self.place(key) {
+            Ok(at) => Some(self.value_at(key, at)),
+            Err(_) => None,
+        }
+    }
+
     /// Takes the key and its value out, and answers the value. It takes no memory.
     pub fn remove(&mut self, key: &K) -> Option<V>
         ensures value { result ≡ find K.cmp key.now self.old }
@@ -109,5 +138,14 @@ impl<K: Ord + Copy, V: Drop> SortedPairs<K, V> {
             Ok(at) => Some(self.pairs.remove(at).1),
             Err(_) => None,
         }
+    }
+
+    /// Takes out each pair that has this value. It takes no memory.
+    pub fn remove_value(&mut self, value: &V)
+    where
+        V: PartialEq,
+        ensures { self.new ≡ filter (λ e. not (V.eq e.1 value.now)) self.old }
+    {
+        self.pairs.retain(|pair| pair.1 != *value);
     }
 }
