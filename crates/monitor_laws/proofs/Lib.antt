@@ -1,3 +1,2 @@
-pub mod Deadlocks
 pub mod Jobs
 pub mod OwnRows
