@@ -74,7 +74,8 @@ impl<K: Ord + Copy, V: Drop> SortedPairs<K, V> {
 
     /// The value of a key.
     pub fn get(&self, key: &K) -> Option<&V>
-        ensures { option_copied result ≡ find K.cmp key.now self.now }
+        ensures value { option_copied result ≡ find K.cmp key.now self.now }
+        ensures ascending { IsTrue (is_sorted K.cmp self.now) }
     {
         match place_of(self.pairs.as_slice(), key) {
             Ok(at) => Some(&self.pairs[at].1),
