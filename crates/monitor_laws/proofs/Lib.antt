@@ -1,4 +1,3 @@
-pub mod Deadlocks
 pub mod Jobs
 pub mod OwnRows
 pub mod Commits

@@ -1,0 +1,182 @@
+//! The lock table.
+ghost use Rattle.std.specs.Prelude.{◌≡◌, ◌↔◌, false, IsTrue, IfOk, OnOk, OnErr, Some, ◌+◌, nat_le};
+ghost use Rattle.std.specs.FinMap.{is_sorted};
+ghost use Rattle.kdcs_types.specs.declared.key.ServiceId.{ServiceId as Service};
+ghost use Rattle.kdcs_types.specs.Keys.{area_cmp, id_eq};
+ghost use Rattle.monitor_semantics.specs.declared.answer.LockAnswer.TheVariants as lock_answer;
+ghost use Rattle.monitor_semantics.specs.Locks.{holder, waits_for, since, is_deadlocked, answer_of, refused_by, IsDeadlocked};
+ghost use Rattle.area_locks.specs.Asked.{no_locks, asked, locks_after, holds_area, unlocked, freed};
+
+use kd_base::OutOfMemory;
+use kdcs_types::{Area, ServiceId};
+use monitor_semantics::LockAnswer;
+use sorted_pairs::SortedPairs;
+use std::alloc::Global;
+use std::marker::Model;
+
+/// Who holds which area, and who waits for which. Contracts see the two lists.
+#[derive(Debug, Drop)]
+pub struct LockTable {
+    holders: SortedPairs<Area, ServiceId>,
+    // the area, and the clock of the first request of this wait
+    waits: SortedPairs<ServiceId, (Area, u64)>,
+}
+
+impl Model for LockTable {
+    ghost use Rattle.monitor_semantics.specs.Locks.{Locks};
+
+    ghost Value = { Locks };
+
+    ghost view = { λ t. record { holders = t.holders; waits = t.waits } };
+}
+
+impl LockTable {
+    /// Nobody holds an area, and nobody waits.
+    pub fn new(alloc: Global) -> LockTable
+        ensures { result ≡ no_locks }
+    {
+        LockTable {
+            holders: SortedPairs::new(alloc),
+            waits: SortedPairs::new(alloc),
+        }
+    }
+
+    /// The service that holds the area. It takes no memory.
+    pub fn holder(&self, area: &Area) -> Option<ServiceId>
+        ensures value { result ≡ holder self.now area.now }
+        ensures once { IsTrue (is_sorted area_cmp self.now.holders) }
+    {
+        self.holders.get(area).copied()
+    }
+
+    /// Answers the request of a service for an area, at this clock, in ticks, where a wait lasts at most `reswait` ticks:
+    /// the area is its own from now on, or the request waits, or it is refused with K04 or K05. The cost grows with the
+    /// number of waits. On an error nothing changes.
+    pub fn ask(
+        &mut self,
+        who: ServiceId,
+        area: Area,
+        now: u64,
+        reswait: u64,
+    ) -> Result<LockAnswer, OutOfMemory>
+        ensures answer { IfOk result (λ answer. answer ≡ answer_of self.old reswait now who area) }
+        ensures deadlock { IfOk result (λ answer. (other : Service) → holder self.old area ≡ Some other → id_eq other who ≡ false → answer ≡ lock_answer.Deadlock ↔ IsDeadlocked self.old who area) }
+        ensures locks { OnOk result (self.new ≡ asked self.old reswait now who area) }
+        ensures err { OnErr result (self.new ≡ self.old) }
+    {
+        let answer = self.answer(&who, &area, now, reswait);
+        self.settle(answer, &who, &area, now)?;
+        Ok(answer)
+    }
+
+    /// Gives an area back, and answers false exactly where the service does not hold it. It takes no memory.
+    pub fn unlock(&mut self, who: ServiceId, area: &Area) -> bool
+        ensures held { result ≡ holds_area self.old who area.now }
+        ensures locks { self.new ≡ unlocked self.old who area.now }
+    {
+        if self.holder(area) != Some(who) {
+            return false;
+        }
+        self.holders.remove(area);
+        true
+    }
+
+    /// Gives back all that a service holds, and ends its wait. It takes no memory.
+    pub fn free_all(&mut self, who: ServiceId)
+        ensures { self.new ≡ freed self.old who }
+    {
+        self.holders.remove_value(&who);
+        self.waits.remove(&who);
+    }
+
+    fn answer(&self, who: &ServiceId, area: &Area, now: u64, reswait: u64) -> LockAnswer
+        ensures { result ≡ answer_of self.now reswait now who.now area.now }
+    {
+        match self.holder(area) {
+            None => LockAnswer::Granted,
+            Some(other) if other == *who => LockAnswer::Granted,
+            Some(other) => refused(
+                self.is_deadlocked(who, other),
+                self.is_late(who, area, now, reswait),
+            ),
+        }
+    }
+
+    // The locks once a request is answered.
+    fn settle(
+        &mut self,
+        answer: LockAnswer,
+        who: &ServiceId,
+        area: &Area,
+        now: u64,
+    ) -> Result<(), OutOfMemory>
+        ensures locks { OnOk result (self.new ≡ locks_after answer self.old now who.now area.now) }
+        ensures err { OnErr result (self.new ≡ self.old) }
+    {
+        match answer {
+            LockAnswer::Wait => {
+                let since = self.since(who, area, now);
+                return self.waits.put(*who, (*area, since));
+            }
+            LockAnswer::Granted => self.holders.put(*area, *who)?,
+            LockAnswer::Busy | LockAnswer::Deadlock => {}
+        }
+        self.waits.remove(who);
+        Ok(())
+    }
+
+    // The clock of the first request of this wait.
+    fn since(&self, who: &ServiceId, area: &Area, now: u64) -> u64
+        ensures { result ≡ since self.now who.now area.now now }
+    {
+        match self.waits.get(who) {
+            Some(wait) if *area == wait.0 => wait.1,
+            _ => now,
+        }
+    }
+
+    fn is_late(&self, who: &ServiceId, area: &Area, now: u64, reswait: u64) -> bool
+        ensures { result ≡ nat_le (since self.now who.now area.now now + reswait) now }
+    {
+        let since = self.since(who, area, now);
+        since <= now && reswait <= now - since
+    }
+
+    // The service for which this one waits.
+    fn waits_for(&self, id: &ServiceId) -> Option<ServiceId>
+        ensures { result ≡ waits_for self.now id.now }
+    {
+        match self.waits.get(id) {
+            Some(wait) => self.holder(&wait.0),
+            None => None,
+        }
+    }
+
+    // Each service waits for one other at most, so the waits are followed, from the holder of the area on.
+    fn is_deadlocked(&self, asker: &ServiceId, other: ServiceId) -> bool
+        ensures { result ≡ is_deadlocked self.now asker.now other }
+    {
+        let mut at = other;
+        for _ in 0..self.waits.len() {
+            if at == *asker {
+                return true;
+            }
+            match self.waits_for(&at) {
+                Some(next) => at = next,
+                None => return false,
+            }
+        }
+        at == *asker
+    }
+}
+
+// A deadlock is answered before the wait is looked at.
+fn refused(deadlock: bool, late: bool) -> LockAnswer
+    ensures { result ≡ refused_by deadlock late }
+{
+    match (deadlock, late) {
+        (true, _) => LockAnswer::Deadlock,
+        (false, true) => LockAnswer::Busy,
+        (false, false) => LockAnswer::Wait,
+    }
+}
