@@ -1,12 +1,10 @@
 -- Each step has at most one commit, which stands first and is the difference that the step makes.
-use Rattle.std.specs.Prelude.{◌≡◌, refl, ℕ, ◌+◌, Bool, true, false, IsTrue, List, [], ◌∷◌, ◌++◌, ◌-◌, ◌⊎◌, Option, Some, None, slice_get, nat_le, codes}
-use Rattle.std.proofs.Common.{sym, ap, subst, ◌∙◌, inl, inr}
+use Rattle.std.specs.Prelude.{◌≡◌, refl, ℕ, ◌+◌, Bool, true, false, List, [], ◌∷◌, ◌++◌, ◌-◌, ◌⊎◌, Option, Some, None, slice_get, nat_le, codes}
+use Rattle.std.proofs.Common.{sym, ap, ◌∙◌, inl, inr}
 use Rattle.std.specs.FinMap.{find}
 use Rattle.kdcs_types.specs.declared.act.Act.{Act}
 use Rattle.kdcs_types.specs.declared.act.Act.TheVariants.{Commit, Emit}
-use Rattle.kdcs_types.specs.declared.act.Change.TheVariants.{Remove}
 use Rattle.kdcs_types.specs.declared.call.Cause.{Cause}
-use Rattle.kdcs_types.specs.declared.key.Key.TheVariants.{Service as ServiceKey}
 use Rattle.kdcs_types.specs.declared.key.ServiceId.{ServiceId}
 use Rattle.kdcs_types.specs.declared.key.ServiceId.TheVariants.{Dialogue, Asynchronous}
 use Rattle.kdcs_types.specs.declared.key.Target.{Target}
@@ -19,8 +17,7 @@ use Rattle.kdcs_types.specs.declared.service.Service.{Service}
 use Rattle.kdcs_types.specs.declared.service.Settled.{Settled}
 use Rattle.kdcs_types.specs.DifferenceLaws.{difference_makes_new}
 use Rattle.kdcs_types.specs.Keys.{id_cmp}
-use Rattle.kdcs_types.specs.Tables.{TableRows, IsSortedTables, changed, service_of, job_of, shown_of}
-use Rattle.kdcs_types.specs.Difference.{difference}
+use Rattle.kdcs_types.specs.Tables.{TableRows, service_of, job_of, shown_of}
 use Rattle.kdcs_types.specs.Limits.{last_clock}
 use Rattle.monitor_semantics.specs.declared.answer.Happened.{Happened}
 use Rattle.monitor_semantics.specs.declared.answer.Happened.TheVariants.{Went, Queued, Waited, Held, Settles, Breaks, Returns}
@@ -32,15 +29,15 @@ use Rattle.monitor_semantics.specs.declared.work.Work.{Work}
 use Rattle.monitor_semantics.specs.declared.work.Work.TheVariants as work
 use Rattle.monitor_semantics.specs.Bytes.{Bytes, bytes_cmp}
 use Rattle.monitor_semantics.specs.State.{Application, OpenTransaction, Session, State}
-use Rattle.monitor_semantics.specs.Endings.{durable, synchronised, broken, refusal, row_after, restarts}
+use Rattle.monitor_semantics.specs.Endings.{durable, synchronised, refusal, row_after, restarts}
 use Rattle.monitor_semantics.specs.Statements.{area_of, kept_record}
 use Rattle.monitor_semantics.specs.Lines.{sys_line}
 use Rattle.monitor_semantics.specs.Picks.{pick}
-use Rattle.monitor_semantics.specs.Turns.{Turned, commit_of, committed, without_work, with_task, without_wait, with_open, queued, waiting_for, pterm_of_user, out_acts, ended_at, ended_acts, dump_acts, noted_last, last_told, message_sent, message_acts, goes_on, after_point, settled_by, settled, abnormal, last_again, back_by, back, happens, statement_now, worked, took_job_for, took_job, took, turn_by, turn_of}
-use Rattle.monitor_semantics.specs.Commands.{Command, Input, Tick, Run, Turn, Drop, Print, PrintLast, Restart, ScriptStep, Maker, ByTransaction, started, signed_on_by, resumed_by, with_session, signed_off, rolled_tables, show_next, show_by, show_again_by, due_for, display, last_by, next_by, start_service, used, use_now, tick_by, drop_by, command_of, turned_step, lterm_at, user_at, uncommitted, says, committing, maker_of, out_again, restarted}
+use Rattle.monitor_semantics.specs.Turns.{Turned, commit_of, committed, without_work, with_task, without_wait, waiting_for, pterm_of_user, out_acts, ended_at, ended_acts, dump_acts, noted_last, last_told, message_sent, message_acts, goes_on, after_point, settled_by, settled, abnormal, last_again, back_by, back, happens, worked, took_job_for, took_job, took, turn_by, turn_of}
+use Rattle.monitor_semantics.specs.Commands.{Input, Tick, Run, Turn, Drop, Print, PrintLast, Restart, Maker, ByTransaction, started, signed_on_by, resumed_by, with_session, signed_off, rolled_tables, show_next, show_by, show_again_by, due_for, display, last_by, next_by, used, use_now, tick_by, drop_by, command_of, turned_step, lterm_at, uncommitted, says, committing, maker_of, out_again, restarted}
 use Rattle.monitor_semantics.specs.Trace.{tables_after}
 use Rattle.monitor_laws.specs.DurableLaws.{durable_sorted, durable_again, durable_without}
-use Rattle.monitor_laws.specs.Steps.{AreLines, MakesNoCommit, MakesOneCommit, CommitsOnce, TurnsCommitOnce, CommandsCommitOnce, StepsMakeTheirTables}
+use Rattle.monitor_laws.specs.Steps.{AreLines, CommitsOnce, TurnsCommitOnce, CommandsCommitOnce, StepsMakeTheirTables}
 
 -- ---- lines
 

@@ -1,10 +1,9 @@
 -- A step touches one service at most.
-use Rattle.std.specs.Prelude.{◌≡◌, refl, ℕ, ◌-◌, ◌+◌, Bool, true, false, cond, not, List, [], ◌∷◌, ◌++◌, Option, Some, None, IfSome, slice_get, nat_le, codes}
+use Rattle.std.specs.Prelude.{◌≡◌, refl, ℕ, ◌-◌, ◌+◌, Bool, true, false, cond, not, List, Option, Some, None, slice_get, nat_le}
 use Rattle.std.proofs.Common.{sym, ap, subst, ◌∙◌}
 use Rattle.std.specs.Cmp.{eq_by_cmp_equiv}
 use Rattle.std.specs.FinMap.{find, put}
 use Rattle.std.specs.FinMap.Entries.{where_key, find-put, find-where_key}
-use Rattle.std.specs.declared.cmp.Ordering.TheVariants.{Equal}
 use Rattle.kdcs_types.specs.declared.act.Act.{Act}
 use Rattle.kdcs_types.specs.declared.call.Cause.{Cause}
 use Rattle.kdcs_types.specs.declared.key.Area.{Area}
@@ -35,12 +34,11 @@ use Rattle.monitor_semantics.specs.declared.work.Work.{Work}
 use Rattle.monitor_semantics.specs.declared.work.Work.TheVariants as work
 use Rattle.monitor_semantics.specs.Bytes.{Bytes, bytes_cmp}
 use Rattle.monitor_semantics.specs.State.{Application, OpenTransaction, Session, State}
-use Rattle.monitor_semantics.specs.Endings.{durable, synchronised, broken, refusal, row_after, restarts, with_service}
+use Rattle.monitor_semantics.specs.Endings.{durable, synchronised, broken, refusal, row_after, restarts}
 use Rattle.monitor_semantics.specs.Statements.{area_of, kept_record}
-use Rattle.monitor_semantics.specs.Lines.{sys_line}
 use Rattle.monitor_semantics.specs.Picks.{pick}
-use Rattle.monitor_semantics.specs.Turns.{Turned, commit_of, without_work, with_task, without_wait, without_open, with_open, queued, waiting, waiting_for, pterm_of_user, noted_last, last_told, message_sent, goes_on, after_point, settled_by, settled, abnormal, last_again, back_by, back, happens, worked, took_job_for, took_job, took, turn_by, turn_of}
-use Rattle.monitor_semantics.specs.Commands.{Command, Input, Tick, Run, Turn, Drop, Print, PrintLast, Restart, signed_on_by, resumed_by, with_session, signed_off, rolled_tables, show_next, show_by, show_again_by, due_for, display, last_by, next_by, used, use_now, tick_by, drop_by, command_of, lterm_at, user_at, withdrawn, uncommitted, out_again}
+use Rattle.monitor_semantics.specs.Turns.{without_work, with_task, without_wait, without_open, with_open, queued, waiting_for, pterm_of_user, noted_last, last_told, message_sent, goes_on, after_point, settled_by, settled, abnormal, last_again, back_by, back, happens, worked, took_job_for, took_job, took, turn_by, turn_of}
+use Rattle.monitor_semantics.specs.Commands.{Input, Tick, Run, Turn, Drop, Print, PrintLast, Restart, signed_on_by, resumed_by, with_session, signed_off, rolled_tables, show_next, show_by, show_again_by, due_for, display, last_by, next_by, used, use_now, tick_by, drop_by, command_of, lterm_at}
 use Rattle.monitor_laws.specs.Frames.{LeavesOthers, TurnsLeaveOthers, TouchesOne, CommandsTouchOne}
 use Rattle.monitor_laws.proofs.OwnRows.{points_set, ends_remove}
 
@@ -168,11 +166,14 @@ abbrev nobody : ServiceId
 nobody = Asynchronous 0
 
 untouched : (s u : State) → u.active ≡ s.active → u.tables.services ≡ s.tables.services → u.waits ≡ s.waits → TouchesOne s u
-untouched s u a t w = (nobody, record {
-  transactions = λ other e. ap (find id_cmp other) a;
-  rows = λ other e. ap (λ (rows : List Service). item_at service_key (ServiceKey other) rows) t;
-  waits = λ other e. ap (find id_cmp other) w;
-})
+untouched s u a t w = (
+  nobody,
+  record {
+    transactions = λ other e. ap (find id_cmp other) a;
+    rows = λ other e. ap (λ (rows : List Service). item_at service_key (ServiceKey other) rows) t;
+    waits = λ other e. ap (find id_cmp other) w;
+  },
+)
 
 job-touches : (app : Application) (s : State) (task number : ℕ) (job : Option JobValue) → TouchesOne s (took_job app s task number job).after
 job-touches app s task number None = untouched s s refl refl refl
@@ -204,11 +205,14 @@ module _ (app : Application) (s : State) where
 
   resumed : (u : State) (user lterm : Bytes) (row : Service) (awaits : Bool) → u.active ≡ s.active → u.tables ≡ s.tables → u.waits ≡ s.waits → TouchesOne s (resumed_by app u user lterm row awaits)
   resumed u user lterm row true a t w = untouched s u a (ap (λ (r : TableRows). r.services) t) w
-  resumed u user lterm row false a t w = (Dialogue user, record {
-    transactions = λ other e. put-other u.active (Dialogue user) other _ e ∙ ap (find id_cmp other) a;
-    rows = λ other e. ap (λ (r : TableRows). service_of r other) t;
-    waits = λ other e. ap (find id_cmp other) w;
-  })
+  resumed u user lterm row false a t w = (
+    Dialogue user,
+    record {
+      transactions = λ other e. put-other u.active (Dialogue user) other _ e ∙ ap (find id_cmp other) a;
+      rows = λ other e. ap (λ (r : TableRows). service_of r other) t;
+      waits = λ other e. ap (find id_cmp other) w;
+    },
+  )
 
   signed : (pterm user lterm : Bytes) (row : Option Service) → TouchesOne s (signed_on_by app s pterm user lterm row).after
   signed pterm user lterm None = untouched s _ refl refl refl
@@ -220,11 +224,14 @@ module _ (app : Application) (s : State) where
 
   off : (pterm user : Bytes) → TouchesOne s (signed_off app s pterm user)
   unfolding signed_off
-  off pterm user = (Dialogue user, record {
-    transactions = λ other e. without-other s.active (Dialogue user) other e;
-    rows = rolled user (restarts app.generation user);
-    waits = λ other e. without-other s.waits (Dialogue user) other e;
-  })
+  off pterm user = (
+    Dialogue user,
+    record {
+      transactions = λ other e. without-other s.active (Dialogue user) other e;
+      rows = rolled user (restarts app.generation user);
+      waits = λ other e. without-other s.waits (Dialogue user) other e;
+    },
+  )
 
   shows : (lterm none : Bytes) (line_of : Bytes → Bytes) (job : Option Job) → TouchesOne s (show_by app s lterm none line_of job).after
   shows lterm none line_of None = same

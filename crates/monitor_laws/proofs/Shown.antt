@@ -1,6 +1,6 @@
 -- What KDCOUT and PRINT show goes to the terminal of its LTERM.
-use Rattle.std.specs.Prelude.{◌≡◌, ◌⊎◌, refl, ℕ, ◌+◌, Bool, true, false, List, [], Option, Some, None, nat_le}
-use Rattle.std.proofs.Common.{sym, ap, subst, ◌∙◌, inl, inr}
+use Rattle.std.specs.Prelude.{◌≡◌, ◌⊎◌, refl, ℕ, ◌+◌, Bool, true, false, [], Option, Some, None, nat_le}
+use Rattle.std.proofs.Common.{ap, subst, inl, inr}
 use Rattle.std.specs.FinMap.{find}
 use Rattle.kdcs_types.specs.declared.key.ServiceId.TheVariants.{Dialogue}
 use Rattle.kdcs_types.specs.declared.service.Job.{Job}
@@ -15,7 +15,7 @@ use Rattle.monitor_semantics.specs.Bytes.{Bytes, bytes_cmp}
 use Rattle.monitor_semantics.specs.Lines.{asy_line, prt_line, no_message_line}
 use Rattle.monitor_semantics.specs.State.{Application, Session, State}
 use Rattle.monitor_semantics.specs.Turns.{turn_of}
-use Rattle.monitor_semantics.specs.Commands.{Command, Input, Tick, Run, Turn, Drop, Print, PrintLast, Restart, ScriptStep, Maker, ByTick, ByShow, ByTransaction, signed_on_by, show_next, show_by, show_again_by, due_for, display, last_by, used, use_now, tick_by, drop_by, command_of, lterm_at, maker_of}
+use Rattle.monitor_semantics.specs.Commands.{Input, Tick, Run, Turn, Drop, Print, PrintLast, Restart, ScriptStep, Maker, ByTick, ByShow, ByTransaction, signed_on_by, show_next, show_by, show_again_by, due_for, display, last_by, used, use_now, tick_by, drop_by, command_of, lterm_at, maker_of}
 use Rattle.monitor_laws.specs.Commits.{SendsNext}
 use Rattle.monitor_laws.specs.Frames.{ShowsAtItsTerminal}
 

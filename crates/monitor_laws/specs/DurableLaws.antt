@@ -15,7 +15,7 @@ use Rattle.kdcs_types.specs.declared.act.Change.TheVariants.{Set, Remove}
 use Rattle.kdcs_types.specs.declared.act.Row.TheVariants as row
 use Rattle.kdcs_types.specs.Keys.{key_cmp, key_eq}
 use Rattle.kdcs_types.specs.Keyed.{keyed, item_at, without_item}
-use Rattle.kdcs_types.specs.KeyLaws.{key_total, same_key, key_eq-same}
+use Rattle.kdcs_types.specs.KeyLaws.{same_key, key_eq-same}
 use Rattle.kdcs_types.specs.Tables.{TableRows, service_key, service_row, service_fits, row_at, with_change, change_fits, change_key, IsSortedTables}
 use Rattle.kdcs_types.specs.TableLaws.{row_after}
 use Rattle.kdcs_types.specs.RowLaws.{row_at-with_change, sorted_with_change, same_tables}
@@ -85,9 +85,14 @@ module _ (g : Generated) where
   pub durable_sorted : (t : TableRows) → IsSortedTables t → IsSortedTables (durable g t)
   unfolding durable
   durable_sorted t h = record {
-    gssbs = h.gssbs; tlss = h.tlss; ulss = h.ulss;
+    gssbs = h.gssbs;
+    tlss = h.tlss;
+    ulss = h.ulss;
     services = ap (is_sorted key_cmp) (keyed-durable t.services) ∙ is_true _ (is_sorted-where_key key_cmp (key_is_durable g) (keyed service_key t.services) (holds _ h.services));
-    jobs = h.jobs; shown = h.shown; tlss_filled = h.tlss_filled; ulss_filled = h.ulss_filled;
+    jobs = h.jobs;
+    shown = h.shown;
+    tlss_filled = h.tlss_filled;
+    ulss_filled = h.ulss_filled;
     services_fit = kept_all service_fits t.services h.services_fit;
   }
 

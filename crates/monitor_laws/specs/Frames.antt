@@ -1,5 +1,5 @@
 -- What a step leaves alone: all services but one; and where a message that is shown goes.
-use Rattle.std.specs.Prelude.{◌≡◌, ℕ, ◌-◌, false, Option, Some, None, slice_get}
+use Rattle.std.specs.Prelude.{◌≡◌, ℕ, ◌-◌, false, Some, slice_get}
 use Rattle.std.specs.FinMap.{find}
 use Rattle.kdcs_types.specs.declared.key.ServiceId.{ServiceId}
 use Rattle.kdcs_types.specs.declared.service.Job.{Job}

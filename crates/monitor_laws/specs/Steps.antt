@@ -1,12 +1,12 @@
 -- What each step of a script makes of the durable tables: it has at most one commit, which stands first and is the difference that the step makes.
-use Rattle.std.specs.Prelude.{◌≡◌, ◌⊎◌, ℕ, List, [], ◌∷◌, Option, Some, None}
+use Rattle.std.specs.Prelude.{◌≡◌, ◌⊎◌, ℕ, List, [], ◌∷◌, Some, None}
 use Rattle.kdcs_types.specs.declared.act.Act.{Act}
 use Rattle.kdcs_types.specs.declared.act.Act.TheVariants.{Commit, Emit}
 use Rattle.kdcs_types.specs.Tables.{IsSortedTables}
 use Rattle.monitor_semantics.specs.State.{Application, State}
 use Rattle.monitor_semantics.specs.Endings.{durable}
 use Rattle.monitor_semantics.specs.Turns.{commit_of, turn_of}
-use Rattle.monitor_semantics.specs.Commands.{Command, ScriptStep, Maker, ByTransaction, turned_step, command_of}
+use Rattle.monitor_semantics.specs.Commands.{Command, ScriptStep, Maker, turned_step, command_of}
 use Rattle.monitor_semantics.specs.Trace.{tables_after}
 
 -- lines alone

@@ -1,5 +1,5 @@
 -- What holds of each open transaction between two steps, so that its next statement can be done and its end is one that tables may keep.
-use Rattle.std.specs.Prelude.{◌≡◌, ◌≤◌, ℕ, Bool, true, false, ◌&&◌, IsTrue, List, [], length, sum_by, count_by, nat_le, Option, Some, None, IsSome}
+use Rattle.std.specs.Prelude.{◌≡◌, ◌≤◌, ℕ, Bool, true, ◌&&◌, IsTrue, List, [], length, sum_by, count_by, nat_le, Option, Some, None, IsSome}
 use Rattle.std.specs.List.{list_all}
 use Rattle.std.specs.FinMap.{is_sorted}
 use Rattle.kdcs_types.specs.declared.key.Area.{Area}
@@ -14,7 +14,7 @@ use Rattle.monitor_semantics.specs.declared.draft.Due.{Due}
 use Rattle.monitor_semantics.specs.declared.draft.Due.TheVariants.{After, At}
 use Rattle.monitor_semantics.specs.declared.draft.Draft.{Draft}
 use Rattle.monitor_semantics.specs.Bytes.{Bytes, bytes_cmp}
-use Rattle.monitor_semantics.specs.State.{Application, OpenTransaction}
+use Rattle.monitor_semantics.specs.State.{OpenTransaction}
 use Rattle.monitor_semantics.specs.Calls.{job_target, touches}
 use Rattle.monitor_semantics.specs.Endings.{is_asynchronous, header_of}
 use Rattle.monitor_laws.specs.Suits.{is_user, is_lterm, fits_content, fits_message, has_kind, target_suits, target_name}

@@ -1,10 +1,9 @@
 -- A run that can be stepped stays so: after a plain statement, and after a call's answer.
-use Rattle.std.specs.Prelude.{◌≡◌, ℕ, suc, [], ◌∷◌, ◌+◌, ◌-◌, ◌≤◌, ◌<◌, Bool, true, false, List, ◌++◌, length, take, drop, replicate, nat_eq, All, Option, Some, None, IfSome, IsSome, refl, find, bytes_eq, slice_index_or}
-use Rattle.std.proofs.Common.{inl, inr, arith, ap, subst, sym, ◌∙◌, length-append, length-take, length-drop}
+use Rattle.std.specs.Prelude.{◌≡◌, ℕ, suc, [], ◌∷◌, ◌+◌, ◌-◌, ◌≤◌, ◌<◌, Bool, true, false, List, ◌++◌, length, take, drop, replicate, nat_eq, All, Option, Some, None, IfSome, refl, find, bytes_eq, slice_index_or}
+use Rattle.std.proofs.Common.{inl, inr, arith, subst, length-append, length-take, length-drop}
 use Rattle.std.proofs.lemmas.Bool.{cases_Bool}
 use Rattle.std.proofs.lemmas.Bool.Decides.{nat_tests}
 use Rattle.std.proofs.lemmas.List.{length-replicate}
-use Rattle.kd_base.specs.Text.{filled}
 use Rattle.kd_base.specs.Tools.{cases_option, chosen, some_is}
 use Rattle.kdcs_types.specs.declared.call.Reply.{Reply}
 use Rattle.kdcs_types.specs.declared.run_state.RunState.{RunState}
