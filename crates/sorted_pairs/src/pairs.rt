@@ -1,5 +1,5 @@
 //! Pairs in a `Vec`, found by binary search.
-ghost use Rattle.std.specs.Prelude.{◌≡◌, [], IsTrue, OnOk, OnErr, Ok, Some, filter, is_some, length, not, option_copied};
+ghost use Rattle.std.specs.Prelude.{◌≡◌, [], IsTrue, IfNone, OnOk, OnErr, Ok, Some, filter, is_some, length, not, option_copied};
 ghost use Rattle.std.specs.FinMap.{find, put, is_sorted};
 ghost use Rattle.std.specs.Option.{option_copied_mut};
 ghost use Rattle.std.specs.Borrow.{sem};
@@ -134,6 +134,7 @@ impl<K: Ord + Copy, V: Drop> SortedPairs<K, V> {
     pub fn remove(&mut self, key: &K) -> Option<V>
         ensures value { result ≡ find K.cmp key.now self.old }
         ensures left { self.new ≡ without K.cmp key.now self.old }
+        ensures absent { IfNone result (self.new ≡ self.old) }
     {
         match place_of(self.pairs.as_slice(), key) {
             Ok(at) => Some(self.pairs.remove(at).1),

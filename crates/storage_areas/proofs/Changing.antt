@@ -1,0 +1,70 @@
+-- The changes of a transaction's writes are in the order of their keys, may be made, and make what the writes make.
+use Rattle.std.specs.Prelude.{◌≡◌, ◌≤◌, refl, ℕ, IsTrue, List, [], ◌∷◌, length, take, Option, Some, None}
+use Rattle.std.proofs.Common.{ap, ◌∙◌}
+use Rattle.std.proofs.lemmas.List.{take_all}
+use Rattle.std.specs.Ordering.{is_lt}
+use Rattle.std.specs.FinMap.{is_sorted}
+use Rattle.std.specs.FinMap.Entries.{below_all}
+use Rattle.std.specs.List.{list_all}
+use Rattle.kd_base.specs.Tools.{both_true, true_both}
+use Rattle.kdcs_types.specs.declared.act.Change.{Change}
+use Rattle.kdcs_types.specs.declared.key.Area.{Area}
+use Rattle.kdcs_types.specs.declared.key.Area.TheVariants.{Gssb, Tls, Uls}
+use Rattle.kdcs_types.specs.declared.key.Key.{Key}
+use Rattle.kdcs_types.specs.Keyed.{keyed}
+use Rattle.kdcs_types.specs.Keys.{area_cmp, area_key, key_cmp}
+use Rattle.kdcs_types.specs.Tables.{TableRows, AreChanges, change_fits, change_key, with_change, with_changes}
+use Rattle.monitor_semantics.specs.Bytes.{Bytes}
+use Rattle.monitor_semantics.specs.Endings.{area_change, with_areas}
+use Rattle.storage_areas.specs.Areas.{changes_of}
+
+abbrev pub Written : Type 0
+Written = List (Area × Option Bytes)
+
+key_of_change : (area : Area) (content : Option Bytes) → change_key (area_change area content) ≡ area_key area
+key_of_change (Gssb name) None = refl
+key_of_change (Gssb name) (Some bytes) = refl
+key_of_change (Tls block lterm) None = refl
+key_of_change (Tls block lterm) (Some []) = refl
+key_of_change (Tls block lterm) (Some (c ∷ cs)) = refl
+key_of_change (Uls block user) None = refl
+key_of_change (Uls block user) (Some []) = refl
+key_of_change (Uls block user) (Some (c ∷ cs)) = refl
+
+change_may_be : (area : Area) (content : Option Bytes) → IsTrue (change_fits (area_change area content))
+change_may_be (Gssb name) None = refl
+change_may_be (Gssb name) (Some bytes) = refl
+change_may_be (Tls block lterm) None = refl
+change_may_be (Tls block lterm) (Some []) = refl
+change_may_be (Tls block lterm) (Some (c ∷ cs)) = refl
+change_may_be (Uls block user) None = refl
+change_may_be (Uls block user) (Some []) = refl
+change_may_be (Uls block user) (Some (c ∷ cs)) = refl
+
+below : (area : Area) (key : Key) (ws : Written) → key ≡ area_key area → IsTrue (below_all area_cmp area ws) → IsTrue (below_all key_cmp key (keyed change_key (changes_of ws)))
+below area key [] e h = refl
+below area key (w ∷ ws) e h =
+    let parts = both_true (is_lt (area_cmp area w.0)) (below_all area_cmp area ws) h in
+    true_both _ _ ((λ i. is_lt (key_cmp (e i) (key_of_change w.0 w.1 i))) ∙ parts.0) (below area key ws e parts.1)
+
+ascending : (ws : Written) → IsTrue (is_sorted area_cmp ws) → IsTrue (is_sorted key_cmp (keyed change_key (changes_of ws)))
+ascending [] up = refl
+ascending (w ∷ ws) up =
+    let parts = both_true (below_all area_cmp w.0 ws) (is_sorted area_cmp ws) up in
+    true_both _ _ (below w.0 _ ws (key_of_change w.0 w.1) parts.0) (ascending ws parts.1)
+
+fit : (ws : Written) → IsTrue (list_all change_fits (changes_of ws))
+fit [] = refl
+fit (w ∷ ws) = true_both _ _ (change_may_be w.0 w.1) (fit ws)
+
+pub are_changes : (ws : Written) → IsTrue (is_sorted area_cmp ws) → AreChanges (changes_of ws)
+are_changes ws up = record { ascending = ascending ws up; fit = fit ws }
+
+pub makes_the_writes : (ws : Written) (t : TableRows) → with_changes t (changes_of ws) ≡ with_areas t ws
+unfolding with_areas
+makes_the_writes [] t = refl
+makes_the_writes (w ∷ ws) t = makes_the_writes ws (with_change t (area_change w.0 w.1))
+
+-- where all were gone over
+pub all_made : (items written : Written) (n : ℕ) (changes : List Change) → changes ≡ changes_of (take n items) → length items ≤ n → items ≡ written → changes ≡ changes_of written
+all_made items written n changes made within same = made ∙ ap changes_of (take_all n items within ∙ same)
