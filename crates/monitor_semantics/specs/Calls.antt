@@ -150,13 +150,13 @@ got_by x room (part ∷ rest) = read_answer (record x { unread = rest }) room pa
 abbrev pub got : OpenTransaction → ℕ → Performed
 got x room = got_by x room x.unread
 
--- MPUT: at most 16 parts, of at most NB bytes together
+-- one more part makes at most 16 parts, of at most NB bytes together
+abbrev pub fits_one_more : (nb : ℕ) → (parts : List Bytes) → Bytes → Bool
+fits_one_more nb parts bytes = nat_le (sum_by length parts + length bytes) nb && nat_lt (length parts) 16
+
+-- MPUT: one more message part
 abbrev pub put_part : Generated → OpenTransaction → Bytes → Performed
-put_part g x bytes =
-    within_length
-    x
-    (nat_le (sum_by length x.parts + length bytes) g.limits.nb && nat_lt (length x.parts) 16)
-    (replied (record x { parts = x.parts ++ bytes ∷ [] }) Done)
+put_part g x bytes = within_length x (fits_one_more g.limits.nb x.parts bytes) (replied (record x { parts = x.parts ++ bytes ∷ [] }) Done)
 
 -- an LTERM and a TAC never have one name
 abbrev pub target_by : Bytes → Option LtermEntry → Option TacEntry → Option Target

@@ -1,5 +1,5 @@
 -- What a terminal input means.
-use Rattle.std.specs.Prelude.{ℕ, Bool, true, false, ◌||◌, not, List, [], ◌∷◌, length, Option, Some, None, nat_lt, is_some, bytes_eq, codes, ◌==◌, if◌then◌else◌}
+use Rattle.std.specs.Prelude.{ℕ, Bool, true, false, ◌||◌, not, List, [], ◌∷◌, length, Option, Some, None, nat_lt, is_some, option_and_then, bytes_eq, codes, ◌==◌, if◌then◌else◌}
 use Rattle.std.specs.List.{list_any}
 use Rattle.std.specs.FinMap.{find}
 use Rattle.kd_base.specs.Text.{name_of}
@@ -125,11 +125,15 @@ start_by g tac text (Some t) =
     else if nat_lt g.limits.nb (length text) then TooLong
     else Start tac text
 
+-- the TAC that a word names
+abbrev pub tac_named : Generated → Bytes → Option TacEntry
+tac_named g word = option_and_then (tac_of g) (name_of word)
+
 -- the use of a text that is no command of the terminal
 abbrev pub use_of_text : Generated → Bytes → Split → ServiceState → Use
 use_of_text g text r Running = Busy
 use_of_text g text r Awaits = if nat_lt g.limits.nb (length text) then TooLong else Next text
-use_of_text g text r NoService = start_by g r.word (after_word r) (tac_of g r.word)
+use_of_text g text r NoService = start_by g r.word (after_word r) (tac_named g r.word)
 
 -- KDCOFF while a service runs is Busy
 abbrev pub off_use : ServiceState → Use

@@ -1,0 +1,6 @@
+use Rattle.std.proofs.Common.{sym, ap}
+use Rattle.session_table.proofs.Keeping.{kept_by_change}
+use Rattle.session_table.proofs.sessions.Sessions.set_last.Goals as goal
+
+pub invariant_of-self-2 : goal.invariant_of-self-2
+invariant_of-self-2 c = kept_by_change c.args.pterm _ _ _ c.self.invariant (sym c.in-Some.ensures.value) (sym (ap (λ s. s.user) c.set_last.ensures))

@@ -1,0 +1,16 @@
+-- What lists of sessions keep.
+use Rattle.std.specs.Prelude.{◌≡◌, IsTrue, List, Some, None}
+use Rattle.std.specs.FinMap.{find, is_sorted}
+use Rattle.monitor_semantics.specs.Bytes.{Bytes, bytes_cmp}
+use Rattle.monitor_semantics.specs.State.{Session}
+use Rattle.monitor_semantics.specs.Turns.{pterm_of_user}
+
+-- they stand in the order of their PTERMs, and a user is in one session at most
+pub record AreSessions (signed : List (Bytes × Session)) : Type 0 where
+  pub sorted : IsTrue (is_sorted bytes_cmp signed)
+  pub once : (p q : Bytes) (v w : Session) → find bytes_cmp p signed ≡ Some v → find bytes_cmp q signed ≡ Some w → v.user ≡ w.user → p ≡ q
+
+-- nobody is signed on at the PTERM, and the user nowhere
+pub record CanSignOn (signed : List (Bytes × Session)) (pterm user : Bytes) : Type 0 where
+  pub pterm_is_free : find bytes_cmp pterm signed ≡ None
+  pub user_is_free : pterm_of_user signed user ≡ None

@@ -1,0 +1,146 @@
+//! What a terminal input means, in the order of the tests.
+ghost use Rattle.std.specs.Prelude.{◌≡◌, List, ℕ, None, IfOk, IsTrue, OnErr, length, nat_lt};
+ghost use Rattle.std.specs.Option.{option_copied};
+ghost use Rattle.monitor_semantics.specs.Sessions.{after_word, off_use, same_password, sign_on_use, start_by, tac_named, use_of_text, use_signed, use_unsigned};
+ghost use Rattle.monitor_semantics.specs.Turns.{pterm_of_user};
+ghost use Rattle.monitor_semantics.specs.declared.input_use.Use.TheVariants.{Sign};
+ghost use Rattle.session_table.specs.Inputs.{holds_text};
+
+use crate::sessions::Sessions;
+use crate::split::Split;
+use kd_base::{Bytes, Name, OutOfMemory};
+use kdcdef_check::Generation;
+use kdcdef_types::CallUse;
+use monitor_semantics::{ServiceState, SignFault, TacFault, Use};
+use std::alloc::Global;
+
+// Both have none, or both have the same.
+fn same_password(given: &Option<Bytes>, said: Option<&[u8]>) -> bool
+    ensures { result ≡ same_password given.now (option_copied said.entry) }
+{
+    match (given, said) {
+        (None, None) => true,
+        (Some(given), Some(said)) => given.as_slice() == said,
+        _ => false,
+    }
+}
+
+// A user and, after a comma, the password, as they stand behind KDCSIGN.
+fn sign_on_use(generation: &Generation, sessions: &Sessions, named: &Split) -> Use
+    ensures exact { result ≡ sign_on_use generation.now sessions.now named.now }
+    ensures nowhere { (user : List ℕ) → result ≡ Sign user → pterm_of_user sessions.now user ≡ None }
+{
+    let Some(user) = Name::from_bytes(named.word()) else {
+        return Use::SignRefused(SignFault::BadForm);
+    };
+    let Some(entry) = generation.user(user) else {
+        return Use::SignRefused(SignFault::UnknownUser);
+    };
+    if !same_password(&entry.pass, named.rest()) {
+        return Use::SignRefused(SignFault::WrongPassword);
+    }
+    if sessions.is_signed_on(user) {
+        return Use::SignRefused(SignFault::InUse);
+    }
+    Use::Sign(user)
+}
+
+/// The use of an input where nobody is signed on.
+pub fn use_unsigned(generation: &Generation, sessions: &Sessions, text: &Split) -> Use
+    ensures exact { result ≡ use_unsigned generation.now sessions.now text.now }
+    ensures nowhere { (user : List ℕ) → result ≡ Sign user → pterm_of_user sessions.now user ≡ None }
+{
+    if text.word() != b"KDCSIGN".as_slice() {
+        return Use::SignFirst;
+    }
+    sign_on_use(generation, sessions, &Split::at(b',', text.after_word()))
+}
+
+fn is_too_long(generation: &Generation, text: &[u8]) -> bool
+    ensures { result ≡ nat_lt generation.now.limits.nb (length text.now) }
+{
+    text.len() > generation.max().nb as usize
+}
+
+// A service starts with the TAC that the first word names, or why it does not.
+fn start(alloc: Global, generation: &Generation, text: &Split) -> Result<Use, OutOfMemory>
+    ensures ok { IfOk result (λ u. u ≡ start_by generation.now text.now.word (after_word text.now) (tac_named generation.now text.now.word)) }
+    ensures memory { OnErr result (IsTrue (holds_text (start_by generation.now text.now.word (after_word text.now) (tac_named generation.now text.now.word)))) }
+{
+    let Some(tac) = Name::from_bytes(text.word()) else {
+        return Ok(Use::TacRefused(TacFault::UnknownTac));
+    };
+    let Some(entry) = generation.tac(tac) else {
+        return Ok(Use::TacRefused(TacFault::UnknownTac));
+    };
+    if entry.asynchronous || entry.call == CallUse::Next {
+        return Ok(Use::TacRefused(TacFault::NotAllowed));
+    }
+    if !entry.on {
+        return Ok(Use::TacRefused(TacFault::IsOff));
+    }
+    let message = text.after_word();
+    if is_too_long(generation, message) {
+        return Ok(Use::TooLong);
+    }
+    Ok(Use::Start(tac, Bytes::from_slice(alloc, message)?))
+}
+
+// The use of a text that is no command of the terminal.
+fn use_of_text(
+    alloc: Global,
+    generation: &Generation,
+    whole: &[u8],
+    text: &Split,
+    state: ServiceState,
+) -> Result<Use, OutOfMemory>
+    ensures ok { IfOk result (λ u. u ≡ use_of_text generation.now whole.now text.now state) }
+    ensures memory { OnErr result (IsTrue (holds_text (use_of_text generation.now whole.now text.now state))) }
+{
+    match state {
+        ServiceState::Running => Ok(Use::Busy),
+        ServiceState::Awaits if is_too_long(generation, whole) => Ok(Use::TooLong),
+        ServiceState::Awaits => Ok(Use::Next(Bytes::from_slice(alloc, whole)?)),
+        ServiceState::NoService => start(alloc, generation, text),
+    }
+}
+
+// KDCOFF while a service runs is Busy.
+fn off_use(state: ServiceState) -> Use
+    ensures { result ≡ off_use state }
+{
+    match state {
+        ServiceState::Running => Use::Busy,
+        ServiceState::Awaits | ServiceState::NoService => Use::Off,
+    }
+}
+
+/// The use of an input of a user who is signed on: the commands of the terminal by their first word, then the text.
+pub fn use_signed(
+    alloc: Global,
+    generation: &Generation,
+    whole: &[u8],
+    text: &Split,
+    state: ServiceState,
+) -> Result<Use, OutOfMemory>
+    ensures ok { IfOk result (λ u. u ≡ use_signed generation.now whole.now text.now state) }
+    ensures memory { OnErr result (IsTrue (holds_text (use_signed generation.now whole.now text.now state))) }
+{
+    let word = text.word();
+    if word == b"KDCSIGN".as_slice() {
+        return Ok(Use::AlreadySigned);
+    }
+    if word == b"KDCDISP".as_slice() {
+        return Ok(Use::Display);
+    }
+    if word == b"KDCOUT".as_slice() {
+        return Ok(Use::Output);
+    }
+    if word == b"KDCLAST".as_slice() {
+        return Ok(Use::Again);
+    }
+    if word == b"KDCOFF".as_slice() {
+        return Ok(off_use(state));
+    }
+    use_of_text(alloc, generation, whole, text, state)
+}

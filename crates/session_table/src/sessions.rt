@@ -1,0 +1,139 @@
+//! The sessions.
+ghost use Rattle.std.specs.Prelude.{◌≡◌, List, ℕ, [], MatchOption, Ok, Some, None, OnOk, OnErr, IfOk, IsTrue, bytes_eq, not};
+ghost use Rattle.std.specs.Bool.{OnFalse};
+ghost use Rattle.std.specs.Option.{option_copied, option_map};
+ghost use Rattle.std.specs.List.{list_any};
+ghost use Rattle.std.specs.FinMap.{find, put};
+ghost use Rattle.std.specs.FinMap.Entries.{where_key};
+ghost use Rattle.monitor_semantics.specs.Bytes.{bytes_cmp};
+ghost use Rattle.monitor_semantics.specs.Commands.{last_by};
+ghost use Rattle.monitor_semantics.specs.Sessions.{has_user, use_of};
+ghost use Rattle.monitor_semantics.specs.Turns.{pterm_of_user};
+ghost use Rattle.monitor_semantics.specs.declared.input_use.Use.TheVariants.{Sign};
+ghost use Rattle.session_table.specs.Inputs.{holds_text};
+ghost use Rattle.session_table.specs.Signed.{CanSignOn};
+
+use crate::input::{use_signed, use_unsigned};
+use crate::session::Session;
+use crate::split::Split;
+use kd_base::{Bytes, Name, OutOfMemory};
+use kdcdef_check::Generation;
+use monitor_semantics::{ServiceState, Use};
+use sorted_pairs::SortedPairs;
+use std::alloc::Global;
+use std::marker::Model;
+
+/// The sessions by their PTERMs. Contracts see their list, in ascending order of the PTERMs; a user is in one session at
+/// most.
+#[derive(Drop)]
+pub struct Sessions {
+    by_pterm: SortedPairs<Name, Session>,
+    alloc: Global,
+}
+
+impl Model for Sessions {
+    ghost use Rattle.std.specs.Prelude.{List, ℕ};
+    ghost use Rattle.monitor_semantics.specs.State.{Session as Signed};
+    ghost use Rattle.session_table.specs.Signed.{AreSessions};
+
+    ghost Value = { List (List ℕ × Signed) };
+
+    ghost view = { λ s. s.by_pterm };
+
+    ghost invariant = { λ s. AreSessions s.by_pterm };
+}
+
+impl Sessions {
+    /// Nobody is signed on.
+    pub fn new(alloc: Global) -> Sessions
+        ensures { result ≡ [] }
+    {
+        Sessions {
+            by_pterm: SortedPairs::new(alloc),
+            alloc,
+        }
+    }
+
+    /// A user who is signed on nowhere signs on at a PTERM where nobody is signed on. On an error nothing changes.
+    pub fn sign_on(&mut self, pterm: Name, user: Name) -> Result<(), OutOfMemory>
+        requires { CanSignOn self.old pterm user }
+        ensures ok { OnOk result (self.new ≡ put bytes_cmp pterm (record { user = user; last = None }) self.old) }
+        ensures err { OnErr result (self.new ≡ self.old) }
+    {
+        self.by_pterm.put(pterm, Session::of(user))
+    }
+
+    /// The user at this PTERM signs off; `None` where nobody is signed on there. It takes no memory.
+    pub fn sign_off(&mut self, pterm: Name) -> Option<Name>
+        ensures user { result ≡ option_map (λ v. v.user) (find bytes_cmp pterm self.old) }
+        ensures left { self.new ≡ where_key bytes_cmp (λ p. not (bytes_eq pterm p)) self.old }
+    {
+        Some(self.by_pterm.remove(&pterm)?.user())
+    }
+
+    /// Who is signed on at this PTERM. It takes no memory.
+    pub fn user_at(&self, pterm: Name) -> Option<Name>
+        ensures { result ≡ option_map (λ v. v.user) (find bytes_cmp pterm self.now) }
+    {
+        Some(self.by_pterm.get(&pterm)?.user())
+    }
+
+    /// Where this user is signed on. It takes no memory.
+    pub fn pterm_of(&self, user: Name) -> Option<Name>
+        ensures { result ≡ pterm_of_user self.now user }
+    {
+        for (pterm, session) in self.by_pterm.as_slice() {
+            if session.user() == user {
+                return Some(*pterm);
+            }
+        }
+        None
+    }
+
+    /// Whether this user is signed on anywhere. It takes no memory.
+    pub fn is_signed_on(&self, user: Name) -> bool
+        ensures exact { result ≡ list_any (has_user user) self.now }
+        ensures nowhere { OnFalse result (pterm_of_user self.now user ≡ None) }
+    {
+        self.pterm_of(user).is_some()
+    }
+
+    /// What an input means at this PTERM, where the service of the user who is signed on there, if one is, has this state.
+    /// Memory is wanted only for the text that a service reads.
+    pub fn use_of(
+        &self,
+        generation: &Generation,
+        state: ServiceState,
+        pterm: Name,
+        text: &[u8],
+    ) -> Result<Use, OutOfMemory>
+        ensures ok { IfOk result (λ u. u ≡ use_of generation.now self.now state pterm text.now) }
+        ensures sign { (user : List ℕ) → result ≡ Ok (Sign user) → CanSignOn self.now pterm user }
+        ensures memory { OnErr result (IsTrue (holds_text (use_of generation.now self.now state pterm text.now))) }
+    {
+        let pieces = Split::at(b' ', text);
+        if !self.by_pterm.contains_key(&pterm) {
+            return Ok(use_unsigned(generation, self, &pieces));
+        }
+        use_signed(self.alloc, generation, text, &pieces, state)
+    }
+
+    /// A message becomes the last one of the session at this PTERM. Nothing changes where nobody is signed on there. It
+    /// takes no memory.
+    pub fn set_last(&mut self, pterm: Name, message: Bytes)
+        ensures { MatchOption (find bytes_cmp pterm self.old) (self.new ≡ self.old)
+            (λ v. self.new ≡ put bytes_cmp pterm (record v { last = Some message }) self.old) }
+    {
+        let Some(session) = self.by_pterm.get_mut(&pterm) else {
+            return;
+        };
+        session.set_last(message);
+    }
+
+    /// The last message of the session at this PTERM, if there is one. It takes no memory.
+    pub fn last(&self, pterm: Name) -> Option<&Bytes>
+        ensures { option_copied result ≡ last_by (find bytes_cmp pterm self.now) }
+    {
+        self.by_pterm.get(&pterm)?.last()
+    }
+}
