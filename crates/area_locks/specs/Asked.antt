@@ -1,5 +1,5 @@
 -- What becomes of the locks when a service asks for an area, gives one back, or is over.
-use Rattle.std.specs.Prelude.{ℕ, Bool, true, false, not, [], filter, Option, Some, None}
+use Rattle.std.specs.Prelude.{ℕ, Bool, true, false, not, [], filter, Option, Some, None, if◌then◌else◌}
 use Rattle.std.specs.FinMap.{put}
 use Rattle.std.specs.FinMap.Entries.{where_key}
 use Rattle.kdcs_types.specs.declared.key.Area.{Area}
@@ -65,3 +65,18 @@ unlocked l who area = given_back l area (holds_area l who area)
 -- the service holds nothing, and waits for nothing
 abbrev pub freed : Locks → ServiceId → Locks
 freed l who = record (without_wait l who) { holders = filter (λ (e : Area × ServiceId). not (id_eq e.1 who)) l.holders }
+
+-- ---- who holds an area then
+
+-- an area that the asker asks for is its own once it is granted, and no other changes hands
+abbrev pub holder_after : LockAnswer → ServiceId → (same : Bool) → Option ServiceId → Option ServiceId
+holder_after Granted who true before = Some who
+holder_after Granted who false before = before
+holder_after Wait who same before = before
+holder_after Busy who same before = before
+holder_after Deadlock who same before = before
+
+-- nobody, where this service was the holder
+abbrev pub other_than : ServiceId → Option ServiceId → Option ServiceId
+other_than who None = None
+other_than who (Some holder) = if id_eq holder who then None else Some holder

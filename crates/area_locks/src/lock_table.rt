@@ -1,11 +1,12 @@
 //! The lock table.
-ghost use Rattle.std.specs.Prelude.{◌≡◌, ◌↔◌, false, IsTrue, IfOk, OnOk, OnErr, Some, ◌+◌, nat_le};
+ghost use Rattle.std.specs.Prelude.{◌≡◌, ◌↔◌, false, IsTrue, IfOk, OnOk, OnErr, None, Some, ◌&&◌, if◌then◌else◌, ◌+◌, nat_le};
 ghost use Rattle.std.specs.FinMap.{is_sorted};
-ghost use Rattle.kdcs_types.specs.declared.key.ServiceId.{ServiceId as Service};
-ghost use Rattle.kdcs_types.specs.Keys.{area_cmp, id_eq};
+ghost use Rattle.kdcs_types.specs.declared.key.Area.{Area};
+ghost use Rattle.kdcs_types.specs.declared.key.ServiceId.{ServiceId};
+ghost use Rattle.kdcs_types.specs.Keys.{area_cmp, area_eq, id_eq};
 ghost use Rattle.monitor_semantics.specs.declared.answer.LockAnswer.TheVariants as lock_answer;
 ghost use Rattle.monitor_semantics.specs.Locks.{holder, waits_for, since, is_deadlocked, answer_of, refused_by, IsDeadlocked};
-ghost use Rattle.area_locks.specs.Asked.{no_locks, asked, locks_after, holds_area, unlocked, freed};
+ghost use Rattle.area_locks.specs.Asked.{no_locks, asked, locks_after, holder_after, holds_area, unlocked, freed, other_than};
 
 use kd_base::OutOfMemory;
 use kdcs_types::{Area, ServiceId};
@@ -60,8 +61,9 @@ impl LockTable {
         reswait: u64,
     ) -> Result<LockAnswer, OutOfMemory>
         ensures answer { IfOk result (λ answer. answer ≡ answer_of self.old reswait now who area) }
-        ensures deadlock { IfOk result (λ answer. (other : Service) → holder self.old area ≡ Some other → id_eq other who ≡ false → answer ≡ lock_answer.Deadlock ↔ IsDeadlocked self.old who area) }
+        ensures deadlock { IfOk result (λ answer. (other : ServiceId) → holder self.old area ≡ Some other → id_eq other who ≡ false → answer ≡ lock_answer.Deadlock ↔ IsDeadlocked self.old who area) }
         ensures locks { OnOk result (self.new ≡ asked self.old reswait now who area) }
+        ensures holders { IfOk result (λ answer. (a : Area) → holder self.new a ≡ holder_after answer who (area_eq a area) (holder self.old a)) }
         ensures err { OnErr result (self.new ≡ self.old) }
     {
         let answer = self.answer(&who, &area, now, reswait);
@@ -73,6 +75,7 @@ impl LockTable {
     pub fn unlock(&mut self, who: ServiceId, area: &Area) -> bool
         ensures held { result ≡ holds_area self.old who area.now }
         ensures locks { self.new ≡ unlocked self.old who area.now }
+        ensures holders { (a : Area) → holder self.new a ≡ (if result && area_eq a area.now then None else holder self.old a) }
     {
         if self.holder(area) != Some(who) {
             return false;
@@ -83,7 +86,8 @@ impl LockTable {
 
     /// Gives back all that a service holds, and ends its wait. It takes no memory.
     pub fn free_all(&mut self, who: ServiceId)
-        ensures { self.new ≡ freed self.old who }
+        ensures locks { self.new ≡ freed self.old who }
+        ensures holders { (a : Area) → holder self.new a ≡ other_than who (holder self.old a) }
     {
         self.holders.remove_value(&who);
         self.waits.remove(&who);

@@ -146,7 +146,8 @@ impl<K: Ord + Copy, V: Drop> SortedPairs<K, V> {
     pub fn remove_value(&mut self, value: &V)
     where
         V: PartialEq,
-        ensures { self.new ≡ filter (λ e. not (V.eq e.1 value.now)) self.old }
+        ensures left { self.new ≡ filter (λ e. not (V.eq e.1 value.now)) self.old }
+        ensures ascending { IsTrue (is_sorted K.cmp self.old) }
     {
         self.pairs.retain(|pair| pair.1 != *value);
     }

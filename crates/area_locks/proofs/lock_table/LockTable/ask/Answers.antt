@@ -1,5 +1,13 @@
+use Rattle.std.proofs.Common.{◌∙◌, ap}
+use Rattle.monitor_semantics.specs.Locks.{Locks, holder}
 use Rattle.area_locks.proofs.Answering.{deadlock_answered}
+use Rattle.area_locks.proofs.Holders.{holder_after_is}
 use Rattle.area_locks.proofs.lock_table.LockTable.ask.Goals as goal
 
 pub returns-clause-deadlock : goal.returns-clause-deadlock
 returns-clause-deadlock c = deadlock_answered c.args.self.now c.args.reswait c.args.now c.args.who c.args.area c.answer-answer.result c.answer-answer.ensures
+
+pub returns-clause-holders : goal.returns-clause-holders
+returns-clause-holders c a =
+    ap (λ (l : Locks). holder l a) c.in_ok-settle.ensures.locks
+    ∙ holder_after_is c.answer-answer.result c.args.self.now c.args.now c.args.who c.args.area a

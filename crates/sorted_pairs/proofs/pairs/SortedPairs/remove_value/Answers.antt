@@ -5,8 +5,8 @@ use Rattle.std.proofs.lemmas.Fn.{filter_same}
 use Rattle.sorted_pairs.specs.Places.{filtered_sorted}
 use Rattle.sorted_pairs.proofs.pairs.SortedPairs.remove_value.Goals as goal
 
-pub returns : goal.returns
-returns g c = rw (← c.self.view_is) (filter_same _ _ _ (λ x b f' k. search rules) _ _ c.retain.ensures.filtered)
+pub returns-clause-left : goal.returns-clause-left
+returns-clause-left g c = rw (← c.self.view_is) (filter_same _ _ _ (λ x b f' k. search rules) _ _ c.retain.ensures.filtered)
 
 pub invariant_of-self : goal.invariant_of-self
 invariant_of-self g c =
