@@ -9,7 +9,7 @@ use Rattle.kdcs_types.specs.declared.key.Area.TheVariants.{Gssb}
 use Rattle.kdcs_types.specs.declared.service.Note.{Note}
 use Rattle.kdcs_types.specs.declared.service.Note.TheVariants.{Released}
 use Rattle.kdcs_types.specs.Tables.{empty_tables}
-use Rattle.monitor_semantics.specs.Commands.{Command, Tick, Run, Turn, Drop, Print, PrintLast, Restart, Done, Maker, ByTick, ByShow, ByTransaction, started}
+use Rattle.monitor_semantics.specs.Commands.{Command, Tick, Run, Turn, Drop, Print, PrintLast, Restart, ScriptStep, Maker, ByTick, ByShow, ByTransaction, started}
 use Rattle.monitor_semantics.specs.Trace.{history}
 use Rattle.monitor_semantics.specs.Listing.{listing}
 use Rattle.monitor_semantics.specs.Made.{made_lines, made_application, made_script}
@@ -25,7 +25,7 @@ notes_by (Some (ByShow lterm)) rest = rest
 notes_by (Some (ByTransaction kept)) rest = kept.notes ∷ rest
 
 -- the notes of each transaction that made a commit
-abbrev pub notes_kept : List Done → List (List Note)
+abbrev pub notes_kept : List ScriptStep → List (List Note)
 notes_kept [] = []
 notes_kept (d ∷ ds) = notes_by d.by (notes_kept ds)
 

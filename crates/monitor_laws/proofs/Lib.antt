@@ -1,5 +1,2 @@
-pub mod Deadlocks
-pub mod Exclusive
-pub mod ExclusiveSteps
 pub mod Jobs
 pub mod OwnRows

@@ -20,11 +20,13 @@ use Rattle.kdcs_types.specs.Tables.{TableRows, job_key, service_of, shown_of}
 use Rattle.monitor_semantics.specs.Bytes.{Bytes}
 use Rattle.monitor_semantics.specs.State.{Application, OpenTransaction, State}
 use Rattle.monitor_semantics.specs.Endings.{row_after, durable}
-use Rattle.monitor_semantics.specs.Statements.{Happened, Went, Queued, Waited, Held, Settles, Breaks, Returns, kept_of}
+use Rattle.monitor_semantics.specs.declared.answer.Happened.{Happened}
+use Rattle.monitor_semantics.specs.declared.answer.Happened.TheVariants.{Went, Queued, Waited, Held, Settles, Breaks, Returns}
+use Rattle.monitor_semantics.specs.Statements.{kept_of}
 use Rattle.monitor_semantics.specs.Lines.{asy_line, prt_line, cause_text}
 use Rattle.monitor_semantics.specs.Turns.{statement_now}
-use Rattle.monitor_semantics.specs.Commands.{Done, Maker, ByTick, ByShow, ByTransaction}
-use Rattle.monitor_laws.specs.Replay.{Ended, atomic, with_began}
+use Rattle.monitor_semantics.specs.Commands.{ScriptStep, Maker, ByTick, ByShow, ByTransaction, lterm_at}
+use Rattle.monitor_laws.specs.Replay.{Ended, IsAtomic, atomic, with_began}
 
 -- ---- jobs
 
@@ -38,29 +40,30 @@ abbrev pub without_gone : Option Job → List Job → List Job
 without_gone None jobs = jobs
 without_gone (Some job) jobs = without_item job_key (JobKey job.number) jobs
 
--- a commit, and then the message at a terminal or printer
-abbrev pub SendsNext : Bytes → List Act → Type 0
-SendsNext message [] = ⊥
-SendsNext message (Emit bytes ∷ acts) = ⊥
-SendsNext message (Commit changes ∷ []) = ⊥
-SendsNext message (Commit changes ∷ Commit more ∷ acts) = ⊥
-SendsNext message (Commit changes ∷ Emit bytes ∷ acts) = (pterm : Bytes) × ((bytes ≡ asy_line pterm message) ⊎ (bytes ≡ prt_line pterm message))
+-- a commit, and then the message at the terminal or printer of this LTERM
+abbrev pub SendsNext : Application → (lterm message : Bytes) → List Act → Type 0
+SendsNext app lterm message [] = ⊥
+SendsNext app lterm message (Emit bytes ∷ acts) = ⊥
+SendsNext app lterm message (Commit changes ∷ []) = ⊥
+SendsNext app lterm message (Commit changes ∷ Commit more ∷ acts) = ⊥
+SendsNext app lterm message (Commit changes ∷ Emit bytes ∷ acts) =
+    (pterm : Bytes) × ((lterm_at app pterm ≡ lterm) × ((bytes ≡ asy_line pterm message) ⊎ (bytes ≡ prt_line pterm message)))
 
 -- who may take a job out of the tables: its own service before its first synchronisation point, or KDCOUT and PRINT, which show it and send it next
-abbrev pub MayTake : Maker → Job → TableRows → List Act → Type 0
-MayTake (ByTick ticks) job after acts = ⊥
-MayTake (ByShow lterm) job after acts = (job.value.to ≡ Lterm lterm) × (shown_of after lterm ≡ Some job.value) × SendsNext job.value.message acts
-MayTake (ByTransaction kept) job after acts = (kept.service ≡ Asynchronous job.number) × (kept.began ≡ None)
+abbrev pub MayTake : Application → Maker → Job → TableRows → List Act → Type 0
+MayTake app (ByTick ticks) job after acts = ⊥
+MayTake app (ByShow lterm) job after acts = (job.value.to ≡ Lterm lterm) × (shown_of after lterm ≡ Some job.value) × SendsNext app lterm job.value.message acts
+MayTake app (ByTransaction kept) job after acts = (kept.service ≡ Asynchronous job.number) × (kept.began ≡ None)
 
 -- jobs keep their values; at most one goes, and new ones are numbered from the next job number
-pub record QueueLaw (before after : TableRows) (by : Maker) (acts : List Act) : Type 0 where
+pub record QueueLaw (app : Application) (before after : TableRows) (by : Maker) (acts : List Act) : Type 0 where
   pub gone : Option Job
   pub made : List Job
   pub jobs : after.jobs ≡ without_gone gone before.jobs ++ made
   pub numbers : AreNumberedFrom before.next_job made
   pub next : after.next_job ≡ before.next_job + length made
   pub was_there : IfSome gone (λ (job : Job). Contains before.jobs job)
-  pub taken : IfSome gone (λ (job : Job). MayTake by job after acts)
+  pub taken : IfSome gone (λ (job : Job). MayTake app by job after acts)
 
 -- ---- services
 
@@ -70,8 +73,8 @@ row_by_ending app id x (Settles o) Synced = row_after app.generation id x o
 row_by_ending app id x (Settles o) (Broken cause) = None
 row_by_ending app id x (Settles o) BrokenFr = None
 row_by_ending app id x (Breaks by) ending = None
-row_by_ending app id x (Went y) ending = None
-row_by_ending app id x (Queued y) ending = None
+row_by_ending app id x Went ending = None
+row_by_ending app id x Queued ending = None
 row_by_ending app id x (Held tac) ending = None
 row_by_ending app id x Waited ending = None
 row_by_ending app id x Returns ending = None
@@ -83,7 +86,7 @@ pub record IsOwnRow (app : Application) (before : State) (by : Maker) (id : Serv
   pub maker : by ≡ ByTransaction kept
   pub service : kept.service ≡ id
   pub was_open : find id_cmp id before.active ≡ Some own
-  pub gives : row ≡ row_by_ending app id own (statement_now app before id own) kept.ending
+  pub gives : row ≡ row_by_ending app id own (statement_now app before id own).1 kept.ending
 
 -- a service's row is changed by its own transaction alone
 abbrev pub ServiceLaw : Application → State → TableRows → Maker → Type 0
@@ -92,28 +95,28 @@ ServiceLaw app before after by =
 
 -- ---- all tables
 
--- TICK, KDCOUT and PRINT are no transactions
-abbrev pub IsAtomicBy : Application → TableRows → TableRows → Maker → Type 0
-IsAtomicBy app before after (ByTick ticks) = Unit {0}
-IsAtomicBy app before after (ByShow lterm) = Unit {0}
-IsAtomicBy app before after (ByTransaction kept) =
-    let result = atomic app (with_began before (kept_of kept)) (kept_of kept) in
-    (after ≡ durable app.generation result.tables) × (kept.ending ≡ result.ending)
+-- the durable tables after a commit of a transaction are those of the tables that its record, run in one go, makes of those before it
+pub record IsAtomicCommit (app : Application) (before after : TableRows) (kept : Settled) : Type 0 where
+  pub whole : TableRows
+  pub atomic : IsAtomic app (with_began before (kept_of kept)) whole kept
+  pub kept_part : after ≡ durable app.generation whole
 
--- a commit of a transaction makes the durable tables that its record, run in one go, makes of those before it
+-- TICK, KDCOUT and PRINT are no transactions
 abbrev pub AtomicLaw : Application → TableRows → TableRows → Maker → Type 0
-AtomicLaw app before after by = IsAtomicBy app before after by
+AtomicLaw app before after (ByTick ticks) = Unit {0}
+AtomicLaw app before after (ByShow lterm) = Unit {0}
+AtomicLaw app before after (ByTransaction kept) = IsAtomicCommit app before after kept
 
 -- a step without a commit keeps the tables
-abbrev pub CommitIsLawful : Application → State → Done → Option Maker → Type 0
+abbrev pub CommitIsLawful : Application → State → ScriptStep → Option Maker → Type 0
 CommitIsLawful app before d None = Unit {0}
 CommitIsLawful app before d (Some by) =
-    QueueLaw (durable app.generation before.tables) (durable app.generation d.after.tables) by d.acts
+    QueueLaw app (durable app.generation before.tables) (durable app.generation d.after.tables) by d.acts
     × ServiceLaw app before d.after.tables by
     × AtomicLaw app (durable app.generation before.tables) (durable app.generation d.after.tables) by
 
 -- the commits of a history, each after the state before it, meet the three laws
-abbrev pub IsLawful : Application → State → List Done → Type 0
+abbrev pub IsLawful : Application → State → List ScriptStep → Type 0
 IsLawful app s [] = Unit {0}
 IsLawful app s (d ∷ ds) = CommitIsLawful app s d d.by × IsLawful app d.after ds
 
@@ -141,8 +144,9 @@ same_ending BrokenFr (Broken b) = false
 same_ending BrokenFr BrokenFr = true
 
 -- the tables and the ending are this result
-abbrev pub is_result : Application → TableRows → Settled → Ended → Bool
-is_result app after kept result = same_tables after (durable app.generation result.tables) && same_ending kept.ending result.ending
+abbrev pub is_result : Application → TableRows → Settled → Option Ended → Bool
+is_result app after kept None = false
+is_result app after kept (Some result) = same_tables after (durable app.generation result.tables) && same_ending kept.ending result.ending
 
 -- the commit of a transaction is that of its record
 abbrev pub is_atomic_by : Application → TableRows → TableRows → Option Maker → Bool
@@ -152,6 +156,6 @@ is_atomic_by app before after (Some (ByShow lterm)) = true
 is_atomic_by app before after (Some (ByTransaction kept)) = is_result app after kept (atomic app (with_began before (kept_of kept)) (kept_of kept))
 
 -- all commits of transactions in a history pass
-unfoldable pub is_serial : Application → TableRows → List Done → Bool
+unfoldable pub is_serial : Application → TableRows → List ScriptStep → Bool
 is_serial app before [] = true
 is_serial app before (d ∷ ds) = let after = durable app.generation d.after.tables in is_atomic_by app before after d.by && is_serial app after ds

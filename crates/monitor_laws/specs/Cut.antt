@@ -19,11 +19,11 @@ pub record IsCut (stands : TableRows → Bytes → Type 0) (start : TableRows) (
   pub file : stands (tables_after start done) image
   pub bytes : SentBy done left out
 
--- nothing was sent, and the file is empty or stands for no tables: a stop came while it was made
-pub record IsUnmade (stands : TableRows → Bytes → Type 0) (image out : Bytes) : Type 0 where
+-- nothing was sent, and the file is empty or stands for no tables of any identity: a stop came while it was made
+pub record IsUnmade {Identity : Type 0} (stands : Identity → TableRows → Bytes → Type 0) (image out : Bytes) : Type 0 where
   pub nothing_sent : out ≡ []
-  pub no_tables : (image ≡ []) ⊎ ((t : TableRows) → stands t image → ⊥)
+  pub no_tables : (image ≡ []) ⊎ ((identity : Identity) (t : TableRows) → stands identity t image → ⊥)
 
 -- what a run may leave: a cut, or, where its file was empty, an unmade file
-abbrev pub IsCutOrUnmade : (TableRows → Bytes → Type 0) → TableRows → List Act → (was_empty : Type 0) → (image out : Bytes) → Type 0
-IsCutOrUnmade stands start all was_empty image out = IsCut stands start all image out ⊎ (was_empty × IsUnmade stands image out)
+abbrev pub IsCutOrUnmade : {Identity : Type 0} → (Identity → TableRows → Bytes → Type 0) → Identity → TableRows → List Act → (was_empty : Type 0) → (image out : Bytes) → Type 0
+IsCutOrUnmade stands identity start all was_empty image out = IsCut (stands identity) start all image out ⊎ (was_empty × IsUnmade stands image out)

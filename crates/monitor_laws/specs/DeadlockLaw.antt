@@ -3,10 +3,10 @@ use Rattle.std.specs.Prelude.{◌≡◌, ◌↔◌, IsTrue, false, Some}
 use Rattle.kdcs_types.specs.declared.key.Area.{Area}
 use Rattle.kdcs_types.specs.declared.key.ServiceId.{ServiceId}
 use Rattle.kdcs_types.specs.Keys.{id_eq}
-use Rattle.monitor_semantics.specs.Locks.{Active, IsExclusive, IsDeadlocked, holder, is_deadlocked}
+use Rattle.monitor_semantics.specs.Locks.{Locks, IsDeadlocked, holder, is_deadlocked}
 
--- where no area is touched by two open transactions, and another service holds the area
+-- where another service holds the area
 abbrev pub DeadlocksAreFound : Type 0
 DeadlocksAreFound =
-    (active : Active) → IsExclusive active → (asker other : ServiceId) (area : Area) → holder active area ≡ Some other → id_eq other asker ≡ false
-    → IsTrue (is_deadlocked active asker other) ↔ IsDeadlocked active asker area
+    (l : Locks) (asker other : ServiceId) (area : Area) → holder l area ≡ Some other → id_eq other asker ≡ false
+    → IsTrue (is_deadlocked l asker other) ↔ IsDeadlocked l asker area

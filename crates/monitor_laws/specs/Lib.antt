@@ -1,9 +1,11 @@
+pub mod Applications
+pub mod Transactions
 pub mod Facts
 pub mod Suits
+pub mod Keeping
 pub mod Replay
 pub mod Commits
 pub mod Cut
 pub mod DeadlockLaw
-pub mod ExclusiveLaw
 pub mod JobLaw
 pub mod RowLaw

@@ -1,8 +1,10 @@
 -- A kept record, run again in one go, with no other service and against tables alone.
-use Rattle.std.specs.Prelude.{◌≡◌, ◌<◌, ◌≤◌, IsTrue, ℕ, zero, suc, Bool, true, false, List, [], drop, length, filter, slice_get, nat_le, Option, Some, None}
+use Rattle.std.specs.Prelude.{◌≡◌, ◌<◌, ◌≤◌, IsTrue, ℕ, zero, suc, Bool, true, false, List, [], drop, length, filter, slice_get, nat_le, Option, Some, None, IsSome}
 use Rattle.std.specs.List.{list_all}
 use Rattle.std.specs.FinMap.{find}
 use Rattle.kdcs_types.specs.declared.call.Cause.{Cause}
+use Rattle.kdcs_types.specs.declared.call.Code.{Code}
+use Rattle.kdcs_types.specs.declared.call.Code.TheVariants.{Done, K01, K02, K03, K04, K05, K06, K07, K08, K09, K10, K11}
 use Rattle.kdcs_types.specs.declared.key.Area.{Area}
 use Rattle.kdcs_types.specs.declared.key.ServiceId.{ServiceId}
 use Rattle.kdcs_types.specs.declared.key.ServiceId.TheVariants.{Dialogue, Asynchronous}
@@ -14,12 +16,16 @@ use Rattle.kdcs_types.specs.declared.service.Note.TheVariants.{Released, Refused
 use Rattle.kdcs_types.specs.declared.service.Service.{Service}
 use Rattle.kdcs_types.specs.declared.service.Settled.{Settled}
 use Rattle.kdcs_types.specs.Keys.{area_eq, id_cmp}
-use Rattle.kdcs_types.specs.Tables.{TableRows, content_of, job_of}
+use Rattle.kdcs_types.specs.Tables.{TableRows, content_of, job_of, service_of}
 use Rattle.monitor_semantics.specs.Bytes.{Bytes}
 use Rattle.monitor_semantics.specs.State.{Application, OpenTransaction, State}
-use Rattle.monitor_semantics.specs.Calls.{Told, Asked, Granted, Denied, or_empty}
+use Rattle.monitor_semantics.specs.declared.answer.LockAnswer.{LockAnswer}
+use Rattle.monitor_semantics.specs.declared.answer.LockAnswer.TheVariants.{Granted, Busy, Deadlock}
+use Rattle.monitor_semantics.specs.declared.answer.Happened.{Happened}
+use Rattle.monitor_semantics.specs.declared.answer.Happened.TheVariants.{Went, Queued, Waited, Held, Settles, Breaks, Returns}
+use Rattle.monitor_semantics.specs.Calls.{Told, nothing_told, or_empty}
 use Rattle.monitor_semantics.specs.Endings.{is_asynchronous, opened, header_of, opened_by_start, opened_by_input, opened_by_row, opened_by_job, lterm_of_row, followed_by_input, with_service, synchronised, broken, durable, refusal}
-use Rattle.monitor_semantics.specs.Statements.{Happened, Went, Queued, Waited, Held, Settles, Breaks, Returns, statement, area_of, Kept, kept_so_far, kept_of}
+use Rattle.monitor_semantics.specs.Statements.{Stated, statement, area_of, Kept, kept_so_far, kept_of}
 use Rattle.monitor_semantics.specs.Turns.{turn_of}
 
 -- ---- notes
@@ -41,11 +47,26 @@ unused r x area = drop (length (notes_on area x.notes)) (notes_on area r.notes)
 abbrev pub first_unused : Kept → OpenTransaction → Area → Option Note
 first_unused r x area = slice_get (unused r x area) 0
 
+-- the answer that had this code; a note of another code than K04 and K05 is none that a run makes
+abbrev pub answer_of_code : Code → LockAnswer
+answer_of_code K04 = Busy
+answer_of_code K05 = Deadlock
+answer_of_code Done = Granted
+answer_of_code K01 = Granted
+answer_of_code K02 = Granted
+answer_of_code K03 = Granted
+answer_of_code K06 = Granted
+answer_of_code K07 = Granted
+answer_of_code K08 = Granted
+answer_of_code K09 = Granted
+answer_of_code K10 = Granted
+answer_of_code K11 = Granted
+
 -- K04 or K05 where the note says so; else the request is granted
-abbrev pub asked_by_note : Option Note → Asked
-asked_by_note None = Granted
-asked_by_note (Some (Released area content)) = Granted
-asked_by_note (Some (Refused area code)) = Denied code
+abbrev pub answer_by_note : Option Note → LockAnswer
+answer_by_note None = Granted
+answer_by_note (Some (Released area content)) = Granted
+answer_by_note (Some (Refused area code)) = answer_of_code code
 
 -- what it saw in an area that it released, else what stands in the tables
 abbrev pub content_by_note : Option Note → Option Bytes → Option Bytes
@@ -53,10 +74,11 @@ content_by_note None outside = outside
 content_by_note (Some (Released area content)) outside = content
 content_by_note (Some (Refused area code)) outside = outside
 
--- what a replay is told of an area
-unfoldable pub replay_told : TableRows → Kept → OpenTransaction → Area → Told
-replay_told t r x area = record {
-  asked = asked_by_note (first_unused r x area);
+-- what a replay is told of the area of which a statement asks
+unfoldable pub replay_told : TableRows → Kept → OpenTransaction → Option Area → Told
+replay_told t r x None = nothing_told
+replay_told t r x (Some area) = record {
+  answer = answer_by_note (first_unused r x area);
   content = content_by_note (first_unused r x area) (content_of t area);
 }
 
@@ -97,24 +119,28 @@ opened_from app t r (Asynchronous number) (Some row) = opened_by_row app.generat
 
 -- ---- the run
 
--- PEND PR and PA go straight on, and PEND KP reads the next input
-abbrev pub went_on : Application → Kept → OpenTransaction → Happened → OpenTransaction
-went_on app r x (Went y) = y
-went_on app r x (Queued y) = y
-went_on app r x (Held tac) = followed_by_input app.generation x tac (input_at r (length x.inputs))
-went_on app r x Waited = x
-went_on app r x (Settles o) = x
-went_on app r x (Breaks ending) = x
-went_on app r x Returns = x
+-- PEND PR and PA go straight on, and PEND KP reads the next input; the others leave the transaction as it is
+abbrev pub went_on : Application → Kept → (x y : OpenTransaction) → Happened → OpenTransaction
+went_on app r x y Went = y
+went_on app r x y Queued = y
+went_on app r x y (Held tac) = followed_by_input app.generation x tac (input_at r (length x.inputs))
+went_on app r x y Waited = x
+went_on app r x y (Settles o) = x
+went_on app r x y (Breaks ending) = x
+went_on app r x y Returns = x
 
 -- what the next statement of a replay does
-abbrev pub replay_statement : Application → TableRows → Kept → OpenTransaction → Happened
+abbrev pub replay_statement : Application → TableRows → Kept → OpenTransaction → Stated
 replay_statement app t r x = statement app (replay_told t r x (area_of app x)) (is_asynchronous r.service) x
+
+-- the open transaction after the next statement of a replay
+abbrev pub replay_step : Application → TableRows → Kept → OpenTransaction → OpenTransaction
+replay_step app t r x = let next = replay_statement app t r x in went_on app r x next.0 next.1
 
 -- the open transaction after so many statements of a record
 unfoldable pub replay : Application → TableRows → Kept → ℕ → OpenTransaction
 replay app t r zero = opened_from app t r r.service r.began
-replay app t r (suc n) = let x = replay app t r n in went_on app r x (replay_statement app t r x)
+replay app t r (suc n) = replay_step app t r (replay app t r n)
 
 -- ---- the atomic result
 
@@ -128,41 +154,31 @@ abbrev pub settled_as : Application → TableRows → ServiceId → OpenTransact
 settled_as app t id x new None = record { tables = new; ending = Synced }
 settled_as app t id x new (Some cause) = record { tables = broken t id x; ending = Broken cause }
 
--- where the statement leaves the transaction open, nothing has ended yet
-abbrev pub ended_by : Application → TableRows → ServiceId → OpenTransaction → Happened → Ended
-ended_by app t id x (Settles o) = let new = synchronised app.generation t id x o in settled_as app t id x new (refusal app.generation (durable app.generation new))
-ended_by app t id x (Breaks ending) = record { tables = broken t id x; ending = ending }
-ended_by app t id x (Went y) = record { tables = t; ending = Synced }
-ended_by app t id x (Queued y) = record { tables = t; ending = Synced }
-ended_by app t id x (Held tac) = record { tables = t; ending = Synced }
-ended_by app t id x Waited = record { tables = t; ending = Synced }
-ended_by app t id x Returns = record { tables = t; ending = Synced }
+-- none where the statement leaves the transaction open, or goes back to the last point
+abbrev pub ended_by : Application → TableRows → ServiceId → OpenTransaction → Happened → Option Ended
+ended_by app t id x (Settles o) = let new = synchronised app.generation t id x o in Some (settled_as app t id x new (refusal app.generation (durable app.generation new)))
+ended_by app t id x (Breaks ending) = Some (record { tables = broken t id x; ending = ending })
+ended_by app t id x Went = None
+ended_by app t id x Queued = None
+ended_by app t id x (Held tac) = None
+ended_by app t id x Waited = None
+ended_by app t id x Returns = None
 
 -- the result of the statement behind those of the record
-unfoldable pub atomic : Application → TableRows → Kept → Ended
-atomic app t r = let x = replay app t r r.statements in ended_by app t r.service x (replay_statement app t r x)
+unfoldable pub atomic : Application → TableRows → Kept → Option Ended
+atomic app t r = let x = replay app t r r.statements in ended_by app t r.service x (replay_statement app t r x).1
 
 -- ---- which records determine a replay
 
 -- the statement leaves the transaction open
 abbrev pub GoesOn : Happened → Type 0
-GoesOn (Went y) = Unit {0}
-GoesOn (Queued y) = Unit {0}
+GoesOn Went = Unit {0}
+GoesOn Queued = Unit {0}
 GoesOn (Held tac) = Unit {0}
 GoesOn Waited = ⊥
 GoesOn (Settles o) = ⊥
 GoesOn (Breaks ending) = ⊥
 GoesOn Returns = ⊥
-
--- it synchronises, or ends abnormally
-abbrev pub EndsIt : Happened → Type 0
-EndsIt (Settles o) = Unit {0}
-EndsIt (Breaks ending) = Unit {0}
-EndsIt (Went y) = ⊥
-EndsIt (Queued y) = ⊥
-EndsIt (Held tac) = ⊥
-EndsIt Waited = ⊥
-EndsIt Returns = ⊥
 
 -- the replay used as many notes on each area as the record has, or fewer
 abbrev pub notes_suffice : Kept → OpenTransaction → Bool
@@ -172,28 +188,34 @@ notes_suffice r x = list_all (λ (n : Note). nat_le (length (notes_on (noted_are
 abbrev pub all_notes_used : Kept → OpenTransaction → Bool
 all_notes_used r x = list_all (λ (n : Note). nat_le (length (notes_on (noted_area n) r.notes)) (length (notes_on (noted_area n) x.notes))) r.notes
 
--- the opening and each PEND KP find the input that they read; so does each UNLK its note; and the next statement ends it
+-- the opening and each PEND KP find the input that they read; so does each UNLK its note; exactly so many statements leave it open, and the next one ends it
 pub record IsDetermined (app : Application) (t : TableRows) (r : Kept) : Type 0 where
-  pub goes_on : (n : ℕ) → n < r.statements → GoesOn (replay_statement app t r (replay app t r n))
-  pub ends : EndsIt (replay_statement app t r (replay app t r r.statements))
+  pub goes_on : (n : ℕ) → n < r.statements → GoesOn (replay_statement app t r (replay app t r n)).1
+  pub ends : IsSome (atomic app t r)
   pub inputs : length (replay app t r r.statements).inputs ≤ length (accepted r)
   pub notes : IsTrue (notes_suffice r (replay app t r r.statements))
   pub used : IsTrue (all_notes_used r (replay app t r r.statements))
 
 -- ---- serial equivalence
 
--- the private state of an open transaction is the replay of what it has done so far on the present tables
+-- the open transaction is the replay of what it has done so far on the present tables
 abbrev pub IsReplayed : Application → TableRows → ServiceId → OpenTransaction → Type 0
-IsReplayed app t id x = replay app t (kept_so_far id x) x.statements ≡ record x { awaited = None }
+IsReplayed app t id x = replay app t (kept_so_far id x) x.statements ≡ x
 
 -- each open transaction is the replay of what it has done
 abbrev pub IsReplayable : Application → State → Type 0
 IsReplayable app s = (id : ServiceId) (x : OpenTransaction) → find id_cmp id s.active ≡ Some x → IsReplayed app s.tables id x
 
--- the tables after it and its ending are those of its record, run in one go
+-- a record determines its replay on these tables, where its service has the row with which it began, and its ending and these tables are those of the replay
+pub record IsAtomic (app : Application) (before after : TableRows) (r : Settled) : Type 0 where
+  pub began : service_of before r.service ≡ r.began
+  pub determined : IsDetermined app before (kept_of r)
+  pub result : atomic app before (kept_of r) ≡ Some (record { tables = after; ending = r.ending })
+
+-- a transaction that ended did so as its record, run in one go
 abbrev pub SettlesAs : Application → TableRows → TableRows → Option Settled → Type 0
 SettlesAs app before after None = Unit {0}
-SettlesAs app before after (Some r) = (after ≡ (atomic app before (kept_of r)).tables) × (r.ending ≡ (atomic app before (kept_of r)).ending)
+SettlesAs app before after (Some r) = IsAtomic app before after r
 
 -- a turn that settles a transaction settles it as its record does
 abbrev pub TurnsAreAtomic : Application → State → Type 0

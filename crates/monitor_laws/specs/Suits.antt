@@ -13,9 +13,10 @@ use Rattle.kdcs_types.specs.Same.{target_eq}
 use Rattle.kdcs_types.specs.Tables.{TableRows, service_of}
 use Rattle.kdcdef_types.specs.declared.entry.TacEntry.{TacEntry}
 use Rattle.kdcdef_types.specs.Generation.{Generated, tac_of, user_of, lterm_of, has_tls, has_uls}
-use Rattle.monitor_semantics.specs.Bytes.{Bytes}
+use Rattle.std.specs.FinMap.{is_sorted}
+use Rattle.monitor_semantics.specs.Bytes.{Bytes, bytes_cmp}
 use Rattle.monitor_semantics.specs.Outcomes.{same_kind}
-use Rattle.monitor_semantics.specs.Calls.{target_of}
+use Rattle.monitor_semantics.specs.Calls.{job_target}
 use Rattle.monitor_semantics.specs.Charges.{total_charge}
 use Rattle.monitor_semantics.specs.Endings.{is_asynchronous, is_durable}
 
@@ -85,12 +86,12 @@ abbrev pub owner_suits : ServiceId → Service → Bool
 owner_suits (Dialogue user) s = bytes_eq user s.user
 owner_suits (Asynchronous number) s = not s.awaits && is_empty s.handed && not (is_some s.last)
 
--- every condition on a service's row but RESTART=YES
+-- every condition on a service's row but RESTART=YES; its LSSBs ascend without repeats
 abbrev pub service_suits : Generated → Service → Bool
 service_suits g s =
     is_user g s.user && lterm_suits g s.lterm && owner_suits s.id s
     && has_kind g s.first (is_asynchronous s.id) && has_kind g s.next (is_asynchronous s.id)
-    && length s.kb == g.limits.kb && nat_le (length s.lssbs) g.limits.lssbs && list_all (λ (l : Bytes × Bytes). fits_content l.1) s.lssbs
+    && length s.kb == g.limits.kb && nat_le (length s.lssbs) g.limits.lssbs && is_sorted bytes_cmp s.lssbs && list_all (λ (l : Bytes × Bytes). fits_content l.1) s.lssbs
     && awaits_rightly s s.awaits && last_fits g s.last
     && nat_le (length s.handed) 16 && nat_le (sum_by length s.handed) g.limits.nb
 
@@ -116,7 +117,7 @@ value_suits g v = nat_le v.due last_due && is_user g v.user && is_lterm g v.lter
 
 -- its target is an LTERM, or an asynchronous TAC with CALL other than NEXT and STATUS=ON
 abbrev pub job_suits : Generated → Job → Bool
-job_suits g j = value_suits g j.value && fits_message g j.value.message && target_suits g j.value.to (target_of g (target_name j.value.to))
+job_suits g j = value_suits g j.value && fits_message g j.value.message && target_suits g j.value.to (job_target g (target_name j.value.to))
 
 -- its target is its LTERM
 abbrev pub shown_suits : Generated → Bytes × JobValue → Bool

@@ -8,18 +8,10 @@
 ghost use Rattle.monitor_laws.specs.DeadlockLaw.{DeadlocksAreFound};
 ghost use Rattle.monitor_laws.specs.JobLaw.{PointsNumberJobs, EndsDrawNoNumber};
 ghost use Rattle.monitor_laws.specs.RowLaw.{PointsSetOwnRow, EndsRemoveOwnRow};
-ghost use Rattle.monitor_laws.specs.ExclusiveLaw.{TurnsKeepExclusive, CommandsKeepExclusive, StartsAreExclusive};
 
 /// A request that is answered K05 waits in a chain that ends at its own service, and no other does.
 pub fn deadlocks_are_found()
     ensures { DeadlocksAreFound }
-{}
-
-/// In no state that a run reaches is an area touched by two open transactions.
-pub fn areas_stay_exclusive()
-    ensures turns { TurnsKeepExclusive }
-    ensures commands { CommandsKeepExclusive }
-    ensures starts { StartsAreExclusive }
 {}
 
 /// Job numbers are drawn at synchronisation points alone, one after another; and only its own service takes a job away.

@@ -63,8 +63,8 @@ abbrev pub replied : OpenTransaction → Code → Performed
 replied x code = (x, Replied (plain_reply code))
 
 -- the call is answered with what was read into a field of this length
-abbrev pub read_into : OpenTransaction → ℕ → Bytes → Performed
-read_into x room bytes = (x, Replied (read_reply room bytes))
+abbrev pub read_answer : OpenTransaction → ℕ → Bytes → Performed
+read_answer x room bytes = (x, Replied (read_reply room bytes))
 
 -- the service ends abnormally, with nothing done
 abbrev pub refused : OpenTransaction → Cause → Performed
@@ -73,7 +73,7 @@ refused x cause = (x, Abnormal cause)
 -- what was read, or this code where there is nothing
 abbrev pub read_or : Code → OpenTransaction → ℕ → Option Bytes → Performed
 read_or code x room None = replied x code
-read_or code x room (Some bytes) = read_into x room bytes
+read_or code x room (Some bytes) = read_answer x room bytes
 
 -- E02 where the call is not for this kind of service
 abbrev pub for_kind : OpenTransaction → (allowed : Bool) → Performed → Performed
@@ -144,7 +144,7 @@ seen v x area = shown_by (find area_cmp area x.written) v.content
 -- K01 where no part is left
 abbrev pub got_by : OpenTransaction → ℕ → List Bytes → Performed
 got_by x room [] = replied x K01
-got_by x room (part ∷ rest) = read_into (record x { unread = rest }) room part
+got_by x room (part ∷ rest) = read_answer (record x { unread = rest }) room part
 
 -- MGET and FGET: the next part that is still to be read, a cut part too
 abbrev pub got : OpenTransaction → ℕ → Performed
@@ -165,8 +165,8 @@ target_by name None None = None
 target_by name None (Some t) = if t.asynchronous && goes_first t.call && t.on then Some (Tac name) else None
 
 -- whom a job may go to: an LTERM, or an asynchronous TAC with CALL other than NEXT and STATUS=ON
-unfoldable pub target_of : Generated → Bytes → Option Target
-target_of g name = target_by name (lterm_of g name) (tac_of g name)
+unfoldable pub job_target : Generated → Bytes → Option Target
+job_target g name = target_by name (lterm_of g name) (tac_of g name)
 
 -- so many ticks from now on, or at this clock
 abbrev pub due_in : Mode → ℕ → Due
@@ -194,7 +194,7 @@ drafted x (Some to) (Some due) message = replied (record x { drafts = x.drafts +
 -- FPUT and DPUT
 abbrev pub put_job : Generated → OpenTransaction → Bytes → Option Due → Bytes → Performed
 put_job g x to due message =
-    within_length x (nat_le (length message) g.limits.nb) (with_name x (name_in_operand to) (λ name. drafted x (target_of g name) due message))
+    within_length x (nat_le (length message) g.limits.nb) (with_name x (name_in_operand to) (λ name. drafted x (job_target g name) due message))
 
 -- ---- areas
 
@@ -226,7 +226,7 @@ or_empty (Some bytes) = bytes
 
 -- SGET US and GTDA: a block that is absent is read as empty
 abbrev pub read_block : Told → OpenTransaction → Area → ℕ → Performed
-read_block v x area room = locked v x area (λ y. read_into y room (or_empty (seen v y area)))
+read_block v x area room = locked v x area (λ y. read_answer y room (or_empty (seen v y area)))
 
 -- SPUT US and PTDA
 abbrev pub write_block : Told → OpenTransaction → Area → Bytes → Performed
@@ -259,7 +259,7 @@ write_local g x name bytes =
 -- K03 where there is no such LSSB
 abbrev pub read_away_by : OpenTransaction → Bytes → ℕ → Option Bytes → Performed
 read_away_by x name room None = replied x K03
-read_away_by x name room (Some bytes) = read_into (record x { lssbs = without_local name x.lssbs }) room bytes
+read_away_by x name room (Some bytes) = read_answer (record x { lssbs = without_local name x.lssbs }) room bytes
 
 -- SGET RL: it is read and deleted, for K02 too
 abbrev pub read_away : OpenTransaction → Bytes → ℕ → Performed

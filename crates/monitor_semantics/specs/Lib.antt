@@ -7,6 +7,7 @@ pub mod Endings
 pub mod Statements
 pub mod Lines
 pub mod Locks
+pub mod Deadlocks
 pub mod Picks
 pub mod Turns
 pub mod Sessions

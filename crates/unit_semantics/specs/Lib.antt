@@ -2,3 +2,4 @@ pub mod Contents
 pub mod Fields
 pub mod Statement
 pub mod Ready
+pub mod KeepsReady

@@ -1,4 +1,3 @@
 pub mod Header
 pub mod Calculation
 pub mod Answers
-pub mod KeepsReady

@@ -1,22 +1,24 @@
 -- A program unit, as contracts and the definitions of the monitor see it.
-use Rattle.std.specs.Prelude.{ℕ, List, Option, None, Some, IsSome, IfSome, All, bytes_eq, find, slice_get, zero, suc}
+use Rattle.std.specs.Prelude.{ℕ, ◌≤◌, List, [], ◌∷◌, length, Option, None, Some, IsSome, IfSome, All, bytes_eq, find, slice_get, zero, suc}
 use Rattle.std.specs.Map.{lookup}
 use Rattle.unit_types.specs.declared.action.Action.{Action}
 use Rattle.unit_types.specs.declared.action.Action.TheVariants as action
+use Rattle.unit_types.specs.declared.action.Operand.{Operand}
+use Rattle.unit_types.specs.declared.action.Operand.TheVariants.{Field, Literal, Digits, Header, Trim}
 use Rattle.unit_types.specs.declared.action.UnitStatement.{UnitStatement}
-use Rattle.unit_types.specs.declared.unit.Field.{Field}
+use Rattle.unit_types.specs.declared.unit.Field.{Field as UnitField}
 
 pub record UnitText : Type 0 where
   pub name : List ℕ
   pub line : ℕ
-  pub fields : List Field
+  pub fields : List UnitField
   -- each with the number, from 1, of the statement that it stands before
   pub labels : List (List ℕ × ℕ)
   pub statements : List UnitStatement
 
 -- the field of a name
-abbrev pub field_named : UnitText → List ℕ → Option Field
-field_named unit name = find (λ (f : Field). bytes_eq name f.name) unit.fields
+abbrev pub field_named : UnitText → List ℕ → Option UnitField
+field_named unit name = find (λ (f : UnitField). bytes_eq name f.name) unit.fields
 
 -- the number of the statement that a label stands before
 abbrev pub label_place : UnitText → List ℕ → Option ℕ
@@ -36,3 +38,58 @@ jump_of _ = None
 -- each label that a statement may jump to is one of the unit's
 abbrev pub KnowsItsLabels : UnitText → Type 0
 KnowsItsLabels unit = All (λ (s : UnitStatement). IfSome (jump_of s.action) (λ label. IsSome (label_place unit label))) unit.statements
+
+-- labels stand before statements, which are counted from 1
+abbrev pub LabelsFromOne : UnitText → Type 0
+LabelsFromOne unit = (name : List ℕ) → IfSome (label_place unit name) (λ place. 1 ≤ place)
+
+-- ---- operands
+
+-- an operand that a statement may lack
+abbrev pub operand_if_there : Option Operand → List Operand
+operand_if_there None = []
+operand_if_there (Some x) = x ∷ []
+
+-- what a statement reads
+abbrev pub operands_of : Action → List Operand
+operands_of (action.Move f x) = x ∷ []
+operands_of (action.Join f x y) = x ∷ y ∷ []
+operands_of (action.Add f x) = x ∷ []
+operands_of (action.Sub f x) = x ∷ []
+operands_of (action.Mul f x) = x ∷ []
+operands_of (action.Div f x) = x ∷ []
+operands_of (action.If x relation y label) = x ∷ y ∷ []
+operands_of (action.Jump label) = []
+operands_of action.Init = []
+operands_of (action.Mget f) = []
+operands_of (action.Mput x) = x ∷ []
+operands_of (action.Fget f) = []
+operands_of (action.Fput to x) = to ∷ x ∷ []
+operands_of (action.Dput to mode d h m s x) = to ∷ d ∷ h ∷ m ∷ s ∷ x ∷ []
+operands_of (action.SgetGb name f) = name ∷ []
+operands_of (action.SputGb name x) = name ∷ x ∷ []
+operands_of (action.SrelGb name) = name ∷ []
+operands_of (action.SgetKp name f) = name ∷ []
+operands_of (action.SgetRl name f) = name ∷ []
+operands_of (action.SputMs name x) = name ∷ x ∷ []
+operands_of (action.SrelLb name) = name ∷ []
+operands_of (action.SgetUs name f) = name ∷ []
+operands_of (action.SputUs name x) = name ∷ x ∷ []
+operands_of (action.Gtda name f) = name ∷ []
+operands_of (action.Ptda name x) = name ∷ x ∷ []
+operands_of (action.UnlkGb name) = name ∷ []
+operands_of (action.UnlkUs name) = name ∷ []
+operands_of (action.UnlkDa name) = name ∷ []
+operands_of (action.Pend variant follow_up) = operand_if_there follow_up
+
+-- a literal has at most 32,767 bytes, and a number 18 digits
+abbrev pub IsShortOperand : Operand → Type 0
+IsShortOperand (Field name) = Unit {0}
+IsShortOperand (Literal bytes) = length bytes ≤ 32767
+IsShortOperand (Digits bytes) = length bytes ≤ 18
+IsShortOperand (Header name) = Unit {0}
+IsShortOperand (Trim name) = Unit {0}
+
+-- no operand is longer than an area may be
+abbrev pub HasShortOperands : UnitText → Type 0
+HasShortOperands unit = All (λ (s : UnitStatement). All IsShortOperand (operands_of s.action)) unit.statements

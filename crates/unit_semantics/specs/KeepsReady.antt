@@ -12,15 +12,11 @@ use Rattle.unit_types.specs.declared.action.Action.{Action}
 use Rattle.unit_types.specs.declared.action.Action.TheVariants as action
 use Rattle.unit_types.specs.declared.action.Operand.{Operand}
 use Rattle.unit_types.specs.declared.unit.Field.{Field}
-use Rattle.unit_types.specs.UnitText.{UnitText, field_named, label_place, statement_at}
+use Rattle.unit_types.specs.UnitText.{UnitText, LabelsFromOne, field_named, label_place, statement_at}
 use Rattle.unit_semantics.specs.Contents.{number_of, fitted, overlaid, compared}
 use Rattle.unit_semantics.specs.Fields.{area_of, content_of, value_of, written, stored_in, stored}
 use Rattle.unit_semantics.specs.Statement.{Meaning, Plain, Asks, Ends, moved_on, jumped, branched, relates, calculated, calculates, gets_result, sum_of, difference_of, product_of, quotient_of, done_by, step, read_into, next_target, answered}
 use Rattle.unit_semantics.specs.Ready.{IsInside, IsReady, IsAsking, CanAnswer}
-
--- labels stand before statements, which are counted from 1
-abbrev pub LabelsFromOne : UnitText → Type 0
-LabelsFromOne unit = (name : List ℕ) → IfSome (label_place unit name) (λ place. 1 ≤ place)
 
 -- the areas keep their lengths
 pub record SameLengths (old new : RunState) : Type 0 where

@@ -1,0 +1,53 @@
+-- What a monitor may take of its application: what checked generations and fitted units give; and which commands are its.
+use Rattle.std.specs.Prelude.{◌≡◌, ◌≤◌, ◌+◌, Bool, cond, Some, IsTrue, IfSome, All, is_some}
+use Rattle.kdcdef_types.specs.declared.entry.PtermEntry.{PtermEntry}
+use Rattle.kdcdef_types.specs.declared.entry.TacEntry.{TacEntry}
+use Rattle.kdcdef_types.specs.declared.limits.Limits.{Limits}
+use Rattle.kdcdef_types.specs.Generation.{Generated, tac_of, pterm_of}
+use Rattle.kdcdef_types.specs.Statements.{IsWithin}
+use Rattle.unit_types.specs.declared.unit.Field.{Field}
+use Rattle.unit_types.specs.UnitText.{UnitText, KnowsItsLabels, LabelsFromOne, HasShortOperands}
+use Rattle.monitor_semantics.specs.Bytes.{Bytes}
+use Rattle.monitor_semantics.specs.State.{Application, unit_of}
+use Rattle.monitor_semantics.specs.Commands.{Command, Input, Tick, Run, Turn, Drop, Print, PrintLast, Restart}
+use Rattle.monitor_laws.specs.Suits.{is_lterm}
+
+-- a field lies inside KB or SPAB of these lengths
+abbrev pub LiesInside : Limits → Field → Type 0
+LiesInside m f = f.offset + f.length ≤ cond f.spab m.spab m.kb
+
+-- a unit that was fitted: its fields lie inside their areas, each jump has its label, labels count from one, and no literal is longer than an area may be
+pub record IsFittedUnit (m : Limits) (unit : UnitText) : Type 0 where
+  pub fields : All (LiesInside m) unit.fields
+  pub labels : KnowsItsLabels unit
+  pub labels_from_one : LabelsFromOne unit
+  pub literals : HasShortOperands unit
+
+-- the TAC has a fitted unit
+abbrev pub HasUnit : Application → Bytes → Type 0
+HasUnit app tac = (unit : UnitText) × (unit_of app tac ≡ Some unit) × IsFittedUnit app.generation.limits unit
+
+-- a generation within its ranges, with a fitted unit for each of its TACs
+pub record IsApplication (app : Application) : Type 0 where
+  pub tasks : 1 ≤ app.generation.limits.tasks
+  pub kb : app.generation.limits.kb ≤ 32767
+  pub spab : app.generation.limits.spab ≤ 32767
+  pub nb : app.generation.limits.nb ≤ 32700
+  -- each PTERM has an LTERM of the generation
+  pub terminals : (pterm : Bytes) → IfSome (pterm_of app.generation pterm) (λ (p : PtermEntry). IsTrue (is_lterm app.generation p.lterm))
+  pub units : (tac : Bytes) → IfSome (tac_of app.generation tac) (λ (t : TacEntry). HasUnit app tac)
+
+-- the PTERM is one of the generation
+abbrev pub is_pterm : Generated → Bytes → Bool
+is_pterm g pterm = is_some (pterm_of g pterm)
+
+-- the names and tasks of a command are those of the generation
+abbrev pub IsCommandOf : Generated → Command → Type 0
+IsCommandOf g (Input pterm text) = IsTrue (is_pterm g pterm)
+IsCommandOf g (Tick ticks) = Unit {0}
+IsCommandOf g (Run turns) = Unit {0}
+IsCommandOf g (Turn task) = IsWithin 1 g.limits.tasks task
+IsCommandOf g (Drop pterm) = IsTrue (is_pterm g pterm)
+IsCommandOf g (Print pterm) = IsTrue (is_pterm g pterm)
+IsCommandOf g (PrintLast pterm) = IsTrue (is_pterm g pterm)
+IsCommandOf g Restart = Unit {0}

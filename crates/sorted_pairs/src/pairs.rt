@@ -1,0 +1,151 @@
+//! Pairs in a `Vec`, found by binary search.
+ghost use Rattle.std.specs.Prelude.{◌≡◌, [], IsTrue, OnOk, OnErr, Ok, Some, filter, is_some, length, not, option_copied};
+ghost use Rattle.std.specs.FinMap.{find, put, is_sorted};
+ghost use Rattle.std.specs.Option.{option_copied_mut};
+ghost use Rattle.std.specs.Borrow.{sem};
+ghost use Rattle.sorted_pairs.specs.Lends.{lends_value, lends_found};
+ghost use Rattle.sorted_pairs.specs.Places.{IsPlace, without};
+
+use kd_base::OutOfMemory;
+use std::alloc::Global;
+use std::marker::Model;
+
+/// Pairs of keys and values, in ascending order of the keys without repeats. Contracts see the list of pairs.
+#[derive(Debug, Drop)]
+pub struct SortedPairs<K: Ord, V> {
+    pairs: Vec<(K, V)>,
+}
+
+impl<K: Ord, V> Model for SortedPairs<K, V> {
+    ghost use Rattle.std.specs.Prelude.{List, IsTrue};
+    ghost use Rattle.std.specs.FinMap.{is_sorted};
+
+    ghost Value = { List (K × V) };
+
+    ghost view = { λ p. p.pairs.items };
+
+    ghost invariant = { λ p. IsTrue (is_sorted K.cmp p.pairs.items) };
+}
+
+fn place_of<K: Ord + Copy, V>(pairs: &[(K, V)], key: &K) -> Result<usize, usize>
+    ensures { IsPlace K.cmp key.now pairs.now result }
+{
+    pairs.binary_search_by_key(key, |pair| pair.0)
+}
+
+impl<K: Ord + Copy, V: Drop> SortedPairs<K, V> {
+    pub fn new(alloc: Global) -> SortedPairs<K, V>
+        ensures { result ≡ [] }
+    {
+        SortedPairs {
+            pairs: Vec::new(alloc),
+        }
+    }
+
+    /// The pairs of a `Vec` that is in order, which takes no memory.
+    pub fn from_vec(pairs: Vec<(K, V)>) -> SortedPairs<K, V>
+        requires { IsTrue (is_sorted K.cmp pairs.items) }
+        ensures { result ≡ pairs.items }
+    {
+        SortedPairs { pairs }
+    }
+
+    /// The `Vec` of these pairs, which takes no memory.
+    pub fn into_vec(self) -> Vec<(K, V)>
+        ensures pairs { result.items ≡ self }
+        ensures ascending { IsTrue (is_sorted K.cmp self) }
+    {
+        self.pairs
+    }
+
+    /// The pairs in ascending order of their keys.
+    pub fn as_slice(&self) -> &[(K, V)]
+        ensures pairs { result.now ≡ self.now }
+        ensures ascending { IsTrue (is_sorted K.cmp self.now) }
+    {
+        self.pairs.as_slice()
+    }
+
+    pub fn len(&self) -> usize
+        ensures { result ≡ length self.now }
+    {
+        self.pairs.len()
+    }
+
+    /// The value of a key.
+    pub fn get(&self, key: &K) -> Option<&V>
+        ensures { option_copied result ≡ find K.cmp key.now self.now }
+    {
+        match place_of(self.pairs.as_slice(), key) {
+            Ok(at) => Some(&self.pairs[at].1),
+            Err(_) => None,
+        }
+    }
+
+    /// Whether the key has a value.
+    pub fn contains_key(&self, key: &K) -> bool
+        ensures { result ≡ is_some (find K.cmp key.now self.now) }
+    {
+        self.get(key).is_some()
+    }
+
+    /// Gives the key this value, in place of the one that it has. On an error nothing changes.
+    pub fn put(&mut self, key: K, value: V) -> Result<(), OutOfMemory>
+        ensures ok { OnOk result (self.new ≡ put K.cmp key value self.old) }
+        ensures err { OnErr result (self.new ≡ self.old) }
+    {
+        match place_of(self.pairs.as_slice(), &key) {
+            Ok(at) => {
+                self.pairs[at].1 = value;
+                Ok(())
+            }
+            Err(at) => Ok(self.pairs.insert(at, (key, value))?),
+        }
+    }
+
+    fn place(&self, key: &K) -> Result<usize, usize>
+        ensures place { IsPlace K.cmp key.now self.now result }
+        ensures ascending { IsTrue (is_sorted K.cmp self.now) }
+    {
+        place_of(self.pairs.as_slice(), key)
+    }
+
+    fn value_at(&mut self, key: &K, at: usize) -> &mut V
+        requires { IsPlace K.cmp key.now self.old (Ok at) }
+        ensures* writes_back { sem 𝓛 (lends_value K.row V.row K.Ord self.entry key.now result) }
+        ensures value { Some result.now ≡ find K.cmp key.now self.old }
+    {
+        &mut self.pairs[at].1
+    }
+
+    /// The value of a key, for writing.
+    pub fn get_mut(&mut self, key: &K) -> Option<&mut V>
+        ensures* writes_back { sem 𝓛 (lends_found K.row V.row K.Ord self.entry key.now result) }
+        ensures value { option_copied_mut result ≡ find K.cmp key.now self.old }
+    {
+        match self.place(key) {
+            Ok(at) => Some(self.value_at(key, at)),
+            Err(_) => None,
+        }
+    }
+
+    /// Takes the key and its value out, and answers the value. It takes no memory.
+    pub fn remove(&mut self, key: &K) -> Option<V>
+        ensures value { result ≡ find K.cmp key.now self.old }
+        ensures left { self.new ≡ without K.cmp key.now self.old }
+    {
+        match place_of(self.pairs.as_slice(), key) {
+            Ok(at) => Some(self.pairs.remove(at).1),
+            Err(_) => None,
+        }
+    }
+
+    /// Takes out each pair that has this value. It takes no memory.
+    pub fn remove_value(&mut self, value: &V)
+    where
+        V: PartialEq,
+        ensures { self.new ≡ filter (λ e. not (V.eq e.1 value.now)) self.old }
+    {
+        self.pairs.retain(|pair| pair.1 != *value);
+    }
+}
