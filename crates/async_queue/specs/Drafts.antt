@@ -1,0 +1,27 @@
+-- How late a draft may be due, and the job that it becomes.
+use Rattle.std.specs.Prelude.{◌≤◌, ℕ, List, [], ◌∷◌}
+use Rattle.kdcs_types.specs.declared.service.Job.{Job}
+use Rattle.monitor_semantics.specs.declared.draft.Due.{Due}
+use Rattle.monitor_semantics.specs.declared.draft.Due.TheVariants.{After, At}
+use Rattle.monitor_semantics.specs.declared.draft.Draft.{Draft}
+use Rattle.monitor_semantics.specs.Endings.{due_at}
+
+-- 9,999 days, 23 hours, 59 minutes and 59 seconds
+abbrev pub last_ticks : ℕ
+last_ticks = 863999999
+
+abbrev pub ticks_of : Due → ℕ
+ticks_of (After ticks) = ticks
+ticks_of (At ticks) = ticks
+
+-- the ticks are those that days, hours, minutes and seconds give
+abbrev pub IsInTicks : Due → Type 0
+IsInTicks due = ticks_of due ≤ last_ticks
+
+abbrev pub AreInTicks : List Draft → Type 0
+AreInTicks [] = Unit {0}
+AreInTicks (d ∷ ds) = IsInTicks d.due × AreInTicks ds
+
+-- a draft as the job with this number
+abbrev pub job_of : (number clock : ℕ) → (user lterm : List ℕ) → Draft → Job
+job_of number clock user lterm d = record { number = number; value = record { to = d.to; due = due_at d.due clock; user = user; lterm = lterm; message = d.message } }

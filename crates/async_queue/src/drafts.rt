@@ -1,0 +1,115 @@
+//! The jobs of a transaction before its synchronisation point.
+ghost use Rattle.std.specs.Prelude.{◌≡◌, ◌+◌, ◌≤◌, [], ◌∷◌, ◌++◌, length, IfOk, OnOk, OnErr};
+ghost use Rattle.kdcs_types.specs.Limits.{last_clock, last_next_job};
+ghost use Rattle.monitor_semantics.specs.Endings.{due_at, numbered};
+ghost use Rattle.async_queue.specs.Drafts.{IsInTicks, job_of};
+
+use kd_base::{Bytes, Name, OutOfMemory};
+use kdcs_types::{Job, JobValue, Target};
+use monitor_semantics::{Draft, Due};
+use std::alloc::Global;
+use std::marker::Model;
+
+/// The jobs that FPUT and DPUT made since the last synchronisation point, in order. They have no numbers yet. Contracts
+/// see the list.
+#[derive(Debug, Drop)]
+pub struct DraftJobs {
+    items: Vec<Draft>,
+}
+
+impl Model for DraftJobs {
+    ghost use Rattle.std.specs.Prelude.{List};
+    ghost use Rattle.std.specs.List.{All};
+    ghost use Rattle.monitor_semantics.specs.declared.draft.Draft.{Draft};
+    ghost use Rattle.async_queue.specs.Drafts.{AreInTicks};
+
+    ghost Value = { List Draft };
+
+    ghost view = { λ d. d.items.items };
+
+    ghost invariant = { λ d. AreInTicks d.items.items };
+}
+
+fn due_at(due: Due, clock: u64) -> u64
+    requires due { IsInTicks due }
+    requires clock { clock ≤ last_clock }
+    ensures { result ≡ due_at due clock }
+{
+    match due {
+        Due::After(ticks) => clock + ticks,
+        Due::At(ticks) => ticks.max(clock),
+    }
+}
+
+fn numbered_job(
+    draft: &Draft,
+    number: u64,
+    clock: u64,
+    user: Name,
+    lterm: Name,
+) -> Result<Job, OutOfMemory>
+    requires due { IsInTicks draft.now.due }
+    requires clock { clock ≤ last_clock }
+    ensures { IfOk result (λ job. job ≡ job_of number clock user lterm draft.now) }
+{
+    Ok(Job {
+        number,
+        value: JobValue {
+            to: draft.to,
+            due: due_at(draft.due, clock),
+            user,
+            lterm,
+            message: draft.message.clone()?,
+        },
+    })
+}
+
+impl DraftJobs {
+    pub fn new(alloc: Global) -> DraftJobs
+        ensures { result ≡ [] }
+    {
+        DraftJobs {
+            items: Vec::new(alloc),
+        }
+    }
+
+    /// How many there are.
+    pub fn len(&self) -> usize
+        ensures { result ≡ length self.now }
+    {
+        self.items.len()
+    }
+
+    /// Adds a job at the end, or changes nothing. Its ticks are at most 863,999,999: 9,999 days, 23 hours, 59 minutes and
+    /// 59 seconds.
+    pub fn add(&mut self, to: Target, due: Due, message: Bytes) -> Result<(), OutOfMemory>
+        requires { IsInTicks due }
+        ensures ok { OnOk result (self.new ≡ self.old ++ record { to = to; due = due; message = message } ∷ []) }
+        ensures err { OnErr result (self.new ≡ self.old) }
+    {
+        Ok(self.items.push(Draft { to, due, message })?)
+    }
+
+    /// The jobs that these become at a synchronisation point at this clock: in order, numbered from `next` on. The clock
+    /// and the last number are each at most 999,999,999,999.
+    pub fn numbered(
+        &self,
+        next: u64,
+        clock: u64,
+        user: Name,
+        lterm: Name,
+        alloc: Global,
+    ) -> Result<Vec<Job>, OutOfMemory>
+        requires clock { clock ≤ last_clock }
+        requires last { next + length self.now ≤ last_next_job }
+        ensures { IfOk result (λ jobs. jobs.items ≡ numbered next clock user lterm self.now) }
+    {
+        let mut jobs = Vec::with_capacity(alloc, self.items.len())?;
+        let mut number = next;
+        for draft in &self.items {
+            jobs.push(numbered_job(draft, number, clock, user, lterm)?)?;
+            number += 1;
+        }
+        Ok(jobs)
+    }
+}

@@ -1,0 +1,86 @@
+-- The ready list and the tasks, and what becomes of them.
+use Rattle.std.specs.Prelude.{ℕ, ◌-◌, ◌≤◌, Bool, not, List, [], ◌∷◌, ◌++◌, length, find, filter, replicate, Option, Some, None, slice_get, slice_set, option_map}
+use Rattle.std.specs.List.{list_any}
+use Rattle.kdcs_types.specs.declared.key.ServiceId.{ServiceId}
+use Rattle.kdcs_types.specs.declared.key.ServiceId.TheVariants.{Asynchronous}
+use Rattle.kdcs_types.specs.declared.key.Target.{Target}
+use Rattle.kdcs_types.specs.declared.key.Target.TheVariants.{Tac, Lterm}
+use Rattle.kdcs_types.specs.declared.service.Job.{Job}
+use Rattle.kdcs_types.specs.Keys.{id_eq}
+use Rattle.kdcdef_types.specs.Generation.{Generated}
+use Rattle.monitor_semantics.specs.Picks.{Classed, class_of, due_job, service_is_allowed, target_is_allowed}
+
+-- services with the classes of their current TACs
+pub record Schedule : Type 0 where
+  -- the services that are ready, front first
+  pub ready : List Classed
+  -- the service of each task, if it holds one
+  pub places : List (Option Classed)
+
+-- nothing is ready, and so many tasks are free
+abbrev pub all_free : ℕ → Schedule
+all_free tasks = record { ready = []; places = replicate tasks None }
+
+-- ---- the ready list
+
+abbrev pub is_ready : ServiceId → Schedule → Bool
+is_ready id s = list_any (λ (e : Classed). id_eq id e.0) s.ready
+
+-- the service at the back
+abbrev pub with_ready : ServiceId → (class : ℕ) → Schedule → Schedule
+with_ready id class s = record s { ready = s.ready ++ (id, class) ∷ [] }
+
+-- the service is not ready
+abbrev pub without_ready : ServiceId → Schedule → Schedule
+without_ready id s = record s { ready = filter (λ (e : Classed). not (id_eq id e.0)) s.ready }
+
+-- ---- the tasks, from 1
+
+abbrev pub IsTask : ℕ → Schedule → Type 0
+IsTask task s = (1 ≤ task) × (task ≤ length s.places)
+
+-- what stands in a place, if there is such a place
+abbrev pub place_by : Option (Option Classed) → Option Classed
+place_by None = None
+place_by (Some place) = place
+
+-- what a task holds
+abbrev pub place_of : (task : ℕ) → Schedule → Option Classed
+place_of task s = place_by (slice_get s.places (task - 1))
+
+-- the service without its class
+abbrev pub service_in : Option Classed → Option ServiceId
+service_in place = option_map (λ (e : Classed). e.0) place
+
+-- the service with another class
+abbrev pub with_class : (class : ℕ) → Option Classed → Option Classed
+with_class class place = option_map (λ (e : Classed). (e.0, class)) place
+
+-- the task holds this, or nothing
+abbrev pub with_place : (task : ℕ) → Option Classed → Schedule → Schedule
+with_place task place s = record s { places = slice_set s.places (task - 1) place }
+
+-- ---- what a free task takes
+
+-- the class of a job's TAC; a job for an LTERM has none
+abbrev pub class_of_target : Generated → Target → ℕ
+class_of_target g (Tac tac) = class_of g tac
+class_of_target g (Lterm lterm) = 0
+
+-- a service of the ready list goes to the task
+abbrev pub took_service : (task : ℕ) → Classed → Schedule → Schedule
+took_service task e s = with_place task (Some e) (without_ready e.0 s)
+
+-- the service that a job begins goes to the task
+abbrev pub took_job : Generated → (task : ℕ) → Job → Schedule → Schedule
+took_job g task job s = with_place task (Some (Asynchronous job.number, class_of_target g job.value.to)) s
+
+-- a ready service comes before a job
+abbrev pub picked_by : Generated → (task : ℕ) → Option Classed → Option Job → Schedule → Schedule
+picked_by g task (Some e) job s = took_service task e s
+picked_by g task None (Some job) s = took_job g task job s
+picked_by g task None None s = s
+
+-- a free task takes the first allowed service of the ready list, else the due job of an allowed TAC, if there is one
+abbrev pub picked : Generated → (task now : ℕ) → (free : List Job) → Schedule → Schedule
+picked g task now free s = picked_by g task (find (service_is_allowed g s.places) s.ready) (due_job now (target_is_allowed g s.places) free) s

@@ -1,0 +1,11 @@
+//! Which work a free task takes: the ready list, the services that the tasks hold, and the limits of TAC classes.
+//!
+//! It stands on the definitions of the monitor, which say what is allowed and what is picked, on the generation, whose
+//! limits it asks for, and on the queue of jobs. To the layers above, its contract says that a free task takes exactly
+//! the work of the definitions, and what becomes of the ready list and of the tasks.
+#![tactic(auto)]
+
+mod room;
+mod scheduler;
+
+pub use scheduler::Scheduler;
