@@ -11,7 +11,7 @@ ghost use Rattle.monitor_semantics.specs.Sessions.{has_user, use_of};
 ghost use Rattle.monitor_semantics.specs.Turns.{pterm_of_user};
 ghost use Rattle.monitor_semantics.specs.declared.input_use.Use.TheVariants.{Sign};
 ghost use Rattle.session_table.specs.Inputs.{holds_text};
-ghost use Rattle.session_table.specs.Signed.{CanSignOn};
+ghost use Rattle.session_table.specs.Signed.{AreSessions, CanSignOn};
 
 use crate::input::{use_signed, use_unsigned};
 use crate::session::Session;
@@ -80,7 +80,8 @@ impl Sessions {
 
     /// Where this user is signed on. It takes no memory.
     pub fn pterm_of(&self, user: Name) -> Option<Name>
-        ensures { result ≡ pterm_of_user self.now user }
+        ensures exact { result ≡ pterm_of_user self.now user }
+        ensures once { AreSessions self.now }
     {
         for (pterm, session) in self.by_pterm.as_slice() {
             if session.user() == user {
