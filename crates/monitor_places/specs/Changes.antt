@@ -23,7 +23,7 @@ use Rattle.monitor_laws.specs.Facts.{IsOpen}
 use Rattle.monitor_laws.specs.Transactions.{HasOwnJob}
 use Rattle.monitor_places.specs.Counts.{times, times_push, times_set, times_without_itself, times_without_other, times_freed_itself, times_freed_other, any_counted, counted_any, none_counted, counted_none}
 use Rattle.monitor_places.specs.Entries.{found_put, other_put, found_without, other_without, sorted_put, sorted_without}
-use Rattle.monitor_places.specs.Terminals.{Signed, same_bytes, signed_any, signed_sorted, left_sorted, signed_more, signed_same, signed_less}
+use Rattle.monitor_places.specs.Terminals.{Signed, same_bytes, signed_any, signed_sorted, left_sorted, signed_more, signed_same, signed_less, fewer}
 use Rattle.monitor_places.specs.Places.{times_ready, times_held, is_signed_for, IsLeft, left_itself, left_then}
 
 -- sessions in the order of their terminals, and each user in one of them at most
@@ -290,23 +290,6 @@ session_alters s pterm user last free none = sessions_alter s (put bytes_cmp pte
             let z : times (has_user u) s.signed ≡ 0 = ap (λ n. times (has_user n) s.signed) (sym (same_bytes user u e)) ∙ none in
             omega arith
         by u false e h o = omega arith
-
-fewer : (pterm : Bytes) (p : Bytes × Session → Bool) (es : Signed) → times p (where_key bytes_cmp (λ q. not (bytes_eq pterm q)) es) ≤ times p es
-fewer pterm p [] = omega arith
-fewer pterm p (e ∷ es) = by (not (bytes_eq pterm e.0)) (fewer pterm p es)
-  where
-    more : (c : Bool) (k n : ℕ) → k ≤ n → cond c (suc k) k ≤ cond c (suc n) n
-    more true k n h = omega arith
-    more false k n h = h
-
-    over : (c : Bool) (k n : ℕ) → k ≤ n → k ≤ cond c (suc n) n
-    over true k n h = omega arith
-    over false k n h = h
-
-    by : (b : Bool) → times p (where_key bytes_cmp (λ q. not (bytes_eq pterm q)) es) ≤ times p es
-        → times p (cond b (e ∷ where_key bytes_cmp (λ q. not (bytes_eq pterm q)) es) (where_key bytes_cmp (λ q. not (bytes_eq pterm q)) es)) ≤ cond (p e) (suc (times p es)) (times p es)
-    by true h = more (p e) _ _ h
-    by false h = over (p e) _ _ h
 
 -- the terminal of a user is left
 pub off_alters : (s : State) (pterm : Bytes) (v : Session) → IsTrue (is_sorted bytes_cmp s.signed) → find bytes_cmp pterm s.signed ≡ Some v → Alters s (without_session s pterm) (Dialogue v.user)

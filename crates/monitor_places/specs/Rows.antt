@@ -1,6 +1,8 @@
 -- What steps make of the rows that services look at: their own, and their job's.
 use Rattle.std.specs.Prelude.{◌≡◌, refl, ℕ, ◌+◌, ◌≤◌, Bool, true, false, cond, not, ◌&&◌, IsTrue, List, [], ◌∷◌, ◌++◌, filter, Option, Some, None, is_some, option_map, if◌then◌else◌}
 use Rattle.std.proofs.Common.{sym, ap, ◌∙◌, subst, true≢false, arith}
+use Rattle.std.specs.FinMap.{is_sorted}
+use Rattle.std.specs.FinMap.Entries.{where_key, is_sorted-where_key}
 use Rattle.std.specs.List.{list_all}
 use Rattle.kd_base.specs.Tools.{some_is, both_true, true_both}
 use Rattle.kdcs_types.specs.declared.key.Key.{Key}
@@ -9,9 +11,9 @@ use Rattle.kdcs_types.specs.declared.key.ServiceId.{ServiceId}
 use Rattle.kdcs_types.specs.declared.key.ServiceId.TheVariants.{Dialogue, Asynchronous}
 use Rattle.kdcs_types.specs.declared.service.Job.{Job}
 use Rattle.kdcs_types.specs.declared.service.Service.{Service}
-use Rattle.kdcs_types.specs.Keyed.{item_at, without_item}
+use Rattle.kdcs_types.specs.Keyed.{keyed, ascends, item_at, without_item}
 use Rattle.kdcs_types.specs.KeyedLaws.{item_at-without}
-use Rattle.kdcs_types.specs.Keys.{id_eq, key_eq}
+use Rattle.kdcs_types.specs.Keys.{id_eq, key_cmp, key_eq}
 use Rattle.kdcs_types.specs.KeyLaws.{id_eq-itself, id_eq-same, key_eq-same, key_eq-itself}
 use Rattle.kdcs_types.specs.Tables.{TableRows, job_key, service_key, job_of, service_of}
 use Rattle.kdcdef_types.specs.Generation.{Generated}
@@ -25,6 +27,7 @@ use Rattle.monitor_laws.proofs.Jobs.{points_number, ends_draw_none}
 use Rattle.monitor_laws.proofs.OwnRows.{points_set, ends_remove}
 use Rattle.monitor_laws.specs.JobLaw.{jobs_left, new_jobs}
 use Rattle.monitor_laws.specs.Transactions.{HasOwnJob}
+use Rattle.monitor_places.specs.Entries.{holds, is_true}
 
 -- ---- jobs
 
@@ -113,25 +116,60 @@ rolled_other true app t user i apart = refl
 rolled_other false app t user i apart =
     item_at-without service_key (ServiceKey i) (ServiceKey (Dialogue user)) t.services ∙ ap (λ b. cond b None (service_of t i)) apart
 
+abbrev no_service : Option Service
+no_service = None
+
+-- of the services that pass a test, a look-up finds those that passed
+pub kept_at : (p : ServiceId → Bool) (id : ServiceId) (rows : List Service) → item_at service_key (ServiceKey id) (filter (λ (s : Service). p s.id) rows) ≡ cond (p id) (item_at service_key (ServiceKey id) rows) None
+kept_at p id [] = by (p id)
+  where
+    by : (b : Bool) → no_service ≡ cond b no_service no_service
+    by true = refl
+    by false = refl
+kept_at p id (r ∷ rs) = by (p r.id) refl (id_eq id r.id) refl (kept_at p id rs)
+  where
+    by : (b : Bool) → p r.id ≡ b → (c : Bool) → id_eq id r.id ≡ c
+        → item_at service_key (ServiceKey id) (filter (λ (s : Service). p s.id) rs) ≡ cond (p id) (item_at service_key (ServiceKey id) rs) None
+        → item_at service_key (ServiceKey id) (cond b (r ∷ filter (λ (s : Service). p s.id) rs) (filter (λ (s : Service). p s.id) rs))
+        ≡ cond (p id) (cond (id_eq id r.id) (Some r) (item_at service_key (ServiceKey id) rs)) None
+    by true d true e h =
+        ap (λ b. cond b (Some r) (item_at service_key (ServiceKey id) (filter (λ (s : Service). p s.id) rs))) e
+        ∙ sym (ap (λ b. cond b (cond (id_eq id r.id) (Some r) (item_at service_key (ServiceKey id) rs)) None) (ap p (id_eq-same id r.id e) ∙ d)
+        ∙ ap (λ b. cond b (Some r) (item_at service_key (ServiceKey id) rs)) e)
+    by true d false e h =
+        ap (λ b. cond b (Some r) (item_at service_key (ServiceKey id) (filter (λ (s : Service). p s.id) rs))) e ∙ h
+        ∙ ap (λ b. cond (p id) (cond b (Some r) (item_at service_key (ServiceKey id) rs)) None) (sym e)
+    by false d true e h =
+        h ∙ ap (λ b. cond b (item_at service_key (ServiceKey id) rs) None) (ap p (id_eq-same id r.id e) ∙ d)
+        ∙ sym (ap (λ b. cond b (cond (id_eq id r.id) (Some r) (item_at service_key (ServiceKey id) rs)) None) (ap p (id_eq-same id r.id e) ∙ d))
+    by false d false e h = h ∙ ap (λ b. cond (p id) (cond b (Some r) (item_at service_key (ServiceKey id) rs)) None) (sym e)
+
 -- what a stop leaves has the same asynchronous services
 pub durable_service : (g : Generated) (t : TableRows) (n : ℕ) → service_of (durable g t) (Asynchronous n) ≡ service_of t (Asynchronous n)
 unfolding durable
-durable_service g t n = kept t.services
-  where
-    kept : (rows : List Service) → item_at service_key (ServiceKey (Asynchronous n)) (filter (λ (s : Service). is_durable g s.id) rows) ≡ item_at service_key (ServiceKey (Asynchronous n)) rows
-    kept [] = refl
-    kept (r ∷ rs) = by (is_durable g r.id) refl (id_eq (Asynchronous n) r.id) refl (kept rs)
-      where
-        left : List Service
-        left = filter (λ (s : Service). is_durable g s.id) rs
+durable_service g t n = kept_at (is_durable g) (Asynchronous n) t.services
 
-        by : (b : Bool) → is_durable g r.id ≡ b → (c : Bool) → id_eq (Asynchronous n) r.id ≡ c
-            → item_at service_key (ServiceKey (Asynchronous n)) (filter (λ (s : Service). is_durable g s.id) rs) ≡ item_at service_key (ServiceKey (Asynchronous n)) rs
-            → item_at service_key (ServiceKey (Asynchronous n)) (cond b (r ∷ filter (λ (s : Service). is_durable g s.id) rs) (filter (λ (s : Service). is_durable g s.id) rs))
-            ≡ cond (id_eq (Asynchronous n) r.id) (Some r) (item_at service_key (ServiceKey (Asynchronous n)) rs)
-        by true d c e h = ap (λ o. cond (id_eq (Asynchronous n) r.id) (Some r) o) h
-        by false d false e h = h ∙ ap (λ b. cond b (Some r) (item_at service_key (ServiceKey (Asynchronous n)) rs)) (sym e)
-        by false d true e h = absurd (true≢false (ap (is_durable g) (id_eq-same (Asynchronous n) r.id e) ∙ d))
+-- rows in order stay so
+pub kept_ascends : (p : ServiceId → Bool) (rows : List Service) → IsTrue (ascends service_key rows) → IsTrue (ascends service_key (filter (λ (s : Service). p s.id) rows))
+kept_ascends p rows h = ap (is_sorted key_cmp) (kept_keys rows) ∙ is_true _ (is_sorted-where_key key_cmp passes (keyed service_key rows) (holds _ h))
+  where
+    passes : Key → Bool
+    passes (ServiceKey id) = p id
+    passes (JobKey number) = true
+    passes (Gssb name) = true
+    passes (Tls block lterm) = true
+    passes (Uls block user) = true
+    passes (Shown lterm) = true
+
+    kept_keys : (rs : List Service) → keyed service_key (filter (λ (s : Service). p s.id) rs) ≡ where_key key_cmp passes (keyed service_key rs)
+    kept_keys [] = refl
+    kept_keys (r ∷ rs) = by (p r.id) (kept_keys rs)
+      where
+        by : (b : Bool) → keyed service_key (filter (λ (s : Service). p s.id) rs) ≡ where_key key_cmp passes (keyed service_key rs)
+            → keyed service_key (cond b (r ∷ filter (λ (s : Service). p s.id) rs) (filter (λ (s : Service). p s.id) rs))
+            ≡ cond b ((service_key r, r) ∷ where_key key_cmp passes (keyed service_key rs)) (where_key key_cmp passes (keyed service_key rs))
+        by true e = ap (λ (l : List (Key × Service)). (service_key r, r) ∷ l) e
+        by false e = e
 
 -- ---- due jobs
 

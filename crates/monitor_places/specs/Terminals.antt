@@ -76,6 +76,24 @@ signed_same u k v w (e ∷ es) sorted is same = by (bytes_cmp k e.0) refl is (si
     by Equal q h later = ap (λ name. cond (bytes_eq name u) (suc (times (has_user u) es)) (times (has_user u) es)) (same ∙ ap (λ (x : Session). x.user) (sym (some_is e.1 v h)))
     by Greater q h later = ap (λ n. cond (has_user u e) (suc n) n) (later parts.1 h same)
 
+-- no test counts more where sessions were taken out
+pub fewer : (pterm : Bytes) (p : Bytes × Session → Bool) (es : Signed) → times p (where_key bytes_cmp (λ q. not (bytes_eq pterm q)) es) ≤ times p es
+fewer pterm p [] = omega arith
+fewer pterm p (e ∷ es) = by (not (bytes_eq pterm e.0)) (fewer pterm p es)
+  where
+    more : (c : Bool) (k n : ℕ) → k ≤ n → cond c (suc k) k ≤ cond c (suc n) n
+    more true k n h = omega arith
+    more false k n h = h
+
+    over : (c : Bool) (k n : ℕ) → k ≤ n → k ≤ cond c (suc n) n
+    over true k n h = omega arith
+    over false k n h = h
+
+    by : (b : Bool) → times p (where_key bytes_cmp (λ q. not (bytes_eq pterm q)) es) ≤ times p es
+        → times p (cond b (e ∷ where_key bytes_cmp (λ q. not (bytes_eq pterm q)) es) (where_key bytes_cmp (λ q. not (bytes_eq pterm q)) es)) ≤ cond (p e) (suc (times p es)) (times p es)
+    by true h = more (p e) _ _ h
+    by false h = over (p e) _ _ h
+
 -- a terminal where another user was signed on
 pub signed_less : (u k : Bytes) (es : Signed) → IsTrue (is_sorted bytes_cmp es) → ((v : Session) → find bytes_cmp k es ≡ Some v → bytes_eq v.user u ≡ false)
     → times (has_user u) (where_key bytes_cmp (λ p. not (bytes_eq k p)) es) ≡ times (has_user u) es
@@ -105,3 +123,22 @@ signed_less u k (e ∷ es) sorted other = by (bytes_eq k e.0) refl (signed_less 
         skip : (b : Bool) → is_eq (bytes_cmp k e.0) ≡ b → (v : Session) → find bytes_cmp k es ≡ Some v → cond b (Some e.1) (find bytes_cmp k es) ≡ Some v
         skip false r v h = h
         skip true r v h = absurd (true≢false (sym r ∙ is_eq-slice_cmp k e.0 ∙ q))
+
+-- the terminal of a user is left: one session of the user fewer
+pub signed_fewer : (k : Bytes) (v : Session) (es : Signed) → find bytes_cmp k es ≡ Some v → suc (times (has_user v.user) (where_key bytes_cmp (λ p. not (bytes_eq k p)) es)) ≤ times (has_user v.user) es
+signed_fewer k v [] is = absurd (true≢false (sym (ap is_some is)))
+signed_fewer k v (e ∷ es) is = by (bytes_eq k e.0) refl (signed_fewer k v es)
+  where
+    by : (b : Bool) → bytes_eq k e.0 ≡ b
+        → (find bytes_cmp k es ≡ Some v → suc (times (has_user v.user) (where_key bytes_cmp (λ p. not (bytes_eq k p)) es)) ≤ times (has_user v.user) es)
+        → suc (times (has_user v.user) (cond (not b) (e ∷ where_key bytes_cmp (λ p. not (bytes_eq k p)) es) (where_key bytes_cmp (λ p. not (bytes_eq k p)) es))) ≤ cond (bytes_eq e.1.user v.user) (suc (times (has_user v.user) es)) (times (has_user v.user) es)
+    by true q later =
+        let found : e.1 ≡ v = some_is e.1 v (sym (ap (λ b. cond b (Some e.1) (find bytes_cmp k es)) (is_eq-slice_cmp k e.0 ∙ q)) ∙ is) in
+        let own : bytes_eq e.1.user v.user ≡ true = ap (λ (w : Session). bytes_eq w.user v.user) found ∙ bytes_itself v.user in
+        let less : times (has_user v.user) (where_key bytes_cmp (λ p. not (bytes_eq k p)) es) ≤ times (has_user v.user) es = fewer k (has_user v.user) es in
+        subst (λ b. suc (times (has_user v.user) (where_key bytes_cmp (λ p. not (bytes_eq k p)) es)) ≤ cond b (suc (times (has_user v.user) es)) (times (has_user v.user) es)) (sym own) (omega arith)
+    by false q later = more (has_user v.user e) _ _ (later (sym (ap (λ b. cond b (Some e.1) (find bytes_cmp k es)) (is_eq-slice_cmp k e.0 ∙ q)) ∙ is))
+      where
+        more : (c : Bool) (m n : ℕ) → suc m ≤ n → suc (cond c (suc m) m) ≤ cond c (suc n) n
+        more true m n h = omega arith
+        more false m n h = h
