@@ -1,9 +1,9 @@
 -- Each command keeps a state consistent.
-use Rattle.std.specs.Prelude.{◌≡◌, refl, ℕ, zero, suc, ◌+◌, ◌≤◌, Bool, true, false, cond, not, ◌||◌, IsTrue, List, [], ◌∷◌, bytes_eq, nat_le, filter, Option, Some, None, is_some}
+use Rattle.std.specs.Prelude.{◌≡◌, refl, ℕ, zero, suc, ◌+◌, ◌≤◌, Bool, true, false, cond, not, ◌||◌, IsTrue, [], bytes_eq, Option, Some, None, is_some}
 use Rattle.std.proofs.Common.{sym, ap, ◌∙◌, subst, inl, true≢false, arith}
-use Rattle.std.specs.FinMap.{find, put, is_sorted}
+use Rattle.std.specs.FinMap.{find, put}
 use Rattle.std.specs.FinMap.Entries.{where_key}
-use Rattle.std.specs.List.{list_all, list_any}
+use Rattle.std.specs.List.{list_any}
 use Rattle.kd_base.specs.Tools.{some_is}
 use Rattle.kdcs_types.specs.declared.key.ServiceId.{ServiceId}
 use Rattle.kdcs_types.specs.declared.key.ServiceId.TheVariants.{Dialogue, Asynchronous}
@@ -13,14 +13,12 @@ use Rattle.kdcs_types.specs.declared.service.Service.{Service}
 use Rattle.kdcs_types.specs.Keyed.{ascends}
 use Rattle.kdcs_types.specs.Keys.{id_cmp, id_eq}
 use Rattle.kdcs_types.specs.KeyLaws.{id_eq-same}
-use Rattle.kdcs_types.specs.Tables.{TableRows, service_key, service_of, shown_of}
-use Rattle.kdcdef_types.specs.Statements.{IsWithin}
+use Rattle.kdcs_types.specs.Tables.{service_key, service_of, shown_of}
 use Rattle.monitor_semantics.specs.declared.input_use.Use.{Use}
 use Rattle.monitor_semantics.specs.declared.input_use.Use.TheVariants.{Sign, SignRefused, SignFirst, AlreadySigned, Off, Display, Output, Again, Busy, TooLong, Next, Start, TacRefused}
 use Rattle.monitor_semantics.specs.Bytes.{Bytes, bytes_cmp}
-use Rattle.monitor_semantics.specs.Calls.{nothing_told}
-use Rattle.monitor_semantics.specs.Commands.{Command, Input, Tick, Run, Turn, Drop, Print, PrintLast, Restart, ScriptStep, started, lterm_at, user_by, user_at, with_session, without_session, resumed_by, signed_on_by, signed_on, withdrawn, rolled_tables, signed_off, is_for, due_for, shown_tables, show_by, show_next, show_again_by, show_again, last_by, display, held_tac, next_by, next_input, start_service, used, use_now, tick_by, drop_by, command_of}
-use Rattle.monitor_semantics.specs.Endings.{is_asynchronous, is_durable, durable, restarts, opened, opened_by_start, opened_by_input, opened_by_row, followed_by_input}
+use Rattle.monitor_semantics.specs.Commands.{Command, Input, Tick, Run, Turn, Drop, Print, PrintLast, Restart, lterm_at, user_by, user_at, with_session, without_session, resumed_by, signed_on_by, signed_on, withdrawn, rolled_tables, signed_off, is_for, due_for, shown_tables, show_by, show_next, show_again_by, last_by, display, held_tac, next_by, next_input, start_service, used, use_now, tick_by, drop_by, command_of}
+use Rattle.monitor_semantics.specs.Endings.{is_durable, durable, restarts, opened, opened_by_start, opened_by_input, opened_by_row, followed_by_input}
 use Rattle.monitor_semantics.specs.Locks.{Waiting}
 use Rattle.monitor_semantics.specs.Sessions.{has_user, awaits_by, is_awaiting}
 use Rattle.monitor_semantics.specs.State.{Application, OpenTransaction, Session, State}
@@ -32,8 +30,8 @@ use Rattle.monitor_places.specs.Counts.{times, none_counted, times_without_itsel
 use Rattle.monitor_places.specs.Entries.{found_put, found_without}
 use Rattle.monitor_places.specs.Terminals.{Signed, bytes_itself, signed_more, signed_fewer}
 use Rattle.monitor_places.specs.Places.{times_ready, times_held, is_signed_for, IsPlaced, IsLeft, placed_of, rests_placed, placed_running, placed_closed}
-use Rattle.monitor_places.specs.Changes.{Alters, KeepsRows, alters_then, still, queued_alters, withdrawn_alters, tables_alter, session_alters, off_alters, counted_signed, signed_counted}
-use Rattle.monitor_places.specs.Rows.{job_stays, job_there, has_job, rolled_other, kept_ascends}
+use Rattle.monitor_places.specs.Changes.{KeepsRows, alters_then, queued_alters, withdrawn_alters, tables_alter, session_alters, off_alters, counted_signed, signed_counted}
+use Rattle.monitor_places.specs.Rows.{job_stays, job_there, rolled_other, kept_ascends}
 use Rattle.monitor_places.specs.Areas.{HoldsNew, closed_holds, new_holds, same_holds}
 use Rattle.monitor_places.specs.After.{consistent_after, consistent_left, sessions_of, still_signed, no_wait, rooted_still, rooted_row}
 use Rattle.monitor_places.proofs.Turns.{times_queued}
@@ -76,7 +74,7 @@ module _ (app : Application) (s : State) (c : IsConsistent app s) (pterm user : 
   now_signed last =
       let v : Session = record { user = user; last = last } in
       let more : times (has_user user) (put bytes_cmp pterm v s.signed) ≡ suc (times (has_user user) s.signed) =
-          signed_more (has_user user) pterm v s.signed free ∙ ap (λ b. cond b (suc (times (has_user user) s.signed)) (times (has_user user) s.signed)) (bytes_itself user) in
+      signed_more (has_user user) pterm v s.signed free ∙ ap (λ b. cond b (suc (times (has_user user) s.signed)) (times (has_user user) s.signed)) (bytes_itself user) in
       counted_signed (put bytes_cmp pterm v s.signed) user (omega arith)
 
   -- no row goes on without an input

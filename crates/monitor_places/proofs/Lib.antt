@@ -3,3 +3,4 @@ pub mod Taking
 pub mod Starts
 pub mod Uses
 pub mod Commands
+pub mod Keeping

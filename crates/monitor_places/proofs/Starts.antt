@@ -1,6 +1,6 @@
 -- A start comes to a consistent state.
-use Rattle.std.specs.Prelude.{◌≡◌, refl, ℕ, zero, suc, ◌+◌, ◌≤◌, Bool, true, false, cond, not, ◌||◌, ◌&&◌, IsTrue, List, [], ◌∷◌, map, filter, length, replicate, Option, Some, None, is_some}
-use Rattle.std.proofs.Common.{sym, ap, ◌∙◌, subst, true≢false, arith}
+use Rattle.std.specs.Prelude.{◌≡◌, refl, ℕ, zero, suc, ◌≤◌, Bool, true, false, cond, ◌&&◌, IsTrue, List, [], ◌∷◌, map, replicate, Option, Some, None, is_some}
+use Rattle.std.proofs.Common.{sym, ap, ◌∙◌, true≢false, arith}
 use Rattle.std.proofs.lemmas.List.{length-replicate}
 use Rattle.std.specs.FinMap.{find, is_sorted}
 use Rattle.std.specs.FinMap.Entries.{below_all, is_some-find}
@@ -18,14 +18,14 @@ use Rattle.kdcs_types.specs.KeyLaws.{id_eq-same}
 use Rattle.kdcs_types.specs.Tables.{TableRows, service_key, service_of}
 use Rattle.monitor_semantics.specs.Commands.{asynchronous_rows, opened_row, started}
 use Rattle.monitor_semantics.specs.Endings.{is_asynchronous, opened}
-use Rattle.monitor_semantics.specs.Locks.{Active, holds, touched_by, IsExclusive}
+use Rattle.monitor_semantics.specs.Locks.{Active, holds, touched_by}
 use Rattle.monitor_semantics.specs.Sessions.{in_place}
-use Rattle.monitor_semantics.specs.State.{Application, OpenTransaction, State}
+use Rattle.monitor_semantics.specs.State.{Application, OpenTransaction}
 use Rattle.monitor_semantics.specs.Turns.{pterm_of_user}
 use Rattle.monitor_laws.specs.Facts.{IsOpen, IsConsistent}
 use Rattle.monitor_places.specs.Counts.{times, counted_any, any_counted}
 use Rattle.monitor_places.specs.Entries.{none_below}
-use Rattle.monitor_places.specs.Places.{times_ready, times_held, is_signed_for, HasLists, IsPlaced, consistent_from}
+use Rattle.monitor_places.specs.Places.{is_signed_for, consistent_from}
 use Rattle.monitor_places.specs.Rows.{kept_at, kept_ascends}
 use Rattle.monitor_places.specs.After.{rooted_row}
 

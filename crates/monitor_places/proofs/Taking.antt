@@ -1,11 +1,11 @@
 -- A free task that takes work keeps a state consistent; and so does each turn.
-use Rattle.std.specs.Prelude.{◌≡◌, refl, ℕ, zero, suc, ◌+◌, ◌-◌, ◌≤◌, Bool, true, false, cond, not, ◌||◌, IsTrue, List, [], ◌∷◌, slice_get, slice_set, map, filter, find as find_first, Option, Some, None, is_some}
+use Rattle.std.specs.Prelude.{◌≡◌, refl, ℕ, zero, suc, ◌+◌, ◌-◌, ◌≤◌, Bool, true, false, cond, not, ◌||◌, List, [], ◌∷◌, slice_get, slice_set, map, find as find_first, Option, Some, None, is_some}
 use Rattle.std.proofs.Common.{sym, ap, ◌∙◌, subst, inl, true≢false, arith}
 use Rattle.std.specs.FinMap.{find}
 use Rattle.std.specs.List.{list_all, list_any}
 use Rattle.kd_base.specs.Tools.{some_is}
 use Rattle.kdcs_types.specs.declared.key.ServiceId.{ServiceId}
-use Rattle.kdcs_types.specs.declared.key.ServiceId.TheVariants.{Dialogue, Asynchronous}
+use Rattle.kdcs_types.specs.declared.key.ServiceId.TheVariants.{Asynchronous}
 use Rattle.kdcs_types.specs.declared.key.Target.{Target}
 use Rattle.kdcs_types.specs.declared.key.Target.TheVariants.{Tac, Lterm}
 use Rattle.kdcs_types.specs.declared.service.Job.{Job}
@@ -15,23 +15,21 @@ use Rattle.kdcs_types.specs.Keys.{id_cmp, id_eq}
 use Rattle.kdcs_types.specs.KeyLaws.{id_eq-itself}
 use Rattle.kdcs_types.specs.Tables.{TableRows, service_of, job_of}
 use Rattle.kdcdef_types.specs.Generation.{Generated}
-use Rattle.kdcdef_types.specs.Statements.{IsWithin}
 use Rattle.monitor_semantics.specs.declared.work.Work.{Work}
 use Rattle.monitor_semantics.specs.declared.work.Work.TheVariants as work
 use Rattle.monitor_semantics.specs.Bytes.{Bytes}
 use Rattle.monitor_semantics.specs.Endings.{opened, opened_by_job, durable}
-use Rattle.monitor_semantics.specs.Locks.{Active, Waiting}
+use Rattle.monitor_semantics.specs.Locks.{Active}
 use Rattle.monitor_semantics.specs.Picks.{Classed, classed, ready_classes, place_classes, service_is_allowed, target_is_allowed, job_work, pick_by, pick, due_job, free_jobs, is_free}
 use Rattle.monitor_semantics.specs.Sessions.{in_place}
 use Rattle.monitor_semantics.specs.State.{Application, OpenTransaction, State}
-use Rattle.monitor_semantics.specs.Turns.{Turned, with_open, with_task, took_job_for, took_job, took, turn_by, turn_of}
-use Rattle.monitor_laws.specs.Facts.{IsConsistent, IsSoundState}
+use Rattle.monitor_semantics.specs.Turns.{with_open, with_task, took_job_for, took_job, took, turn_by, turn_of}
+use Rattle.monitor_laws.specs.Facts.{IsConsistent}
 use Rattle.monitor_laws.specs.Keeping.{HasFacts}
 use Rattle.monitor_laws.specs.Suits.{Suits}
-use Rattle.monitor_laws.specs.Transactions.{HasOwnJob, IsRooted}
 use Rattle.monitor_places.specs.Counts.{times, times_set, times_without_itself, any_counted}
 use Rattle.monitor_places.specs.Entries.{found_put}
-use Rattle.monitor_places.specs.Places.{times_ready, times_held, is_signed_for, IsPlaced, placed_of, placed_running}
+use Rattle.monitor_places.specs.Places.{times_ready, times_held, IsPlaced, placed_of, placed_running}
 use Rattle.monitor_places.specs.Changes.{alters_then, without_ready, open_alters, taken_alters, unready_alters}
 use Rattle.monitor_places.specs.Rows.{least_passes, all_filtered, filtered_pass, durable_service}
 use Rattle.monitor_places.specs.Areas.{new_holds}

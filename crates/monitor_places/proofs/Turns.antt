@@ -1,47 +1,40 @@
 -- Each turn keeps a state consistent.
-use Rattle.std.specs.Prelude.{◌≡◌, refl, ℕ, suc, ◌+◌, ◌-◌, ◌≤◌, Bool, true, false, cond, not, ◌&&◌, IsTrue, List, [], ◌∷◌, slice_get, map, find as find_first, Option, Some, None, is_some, if◌then◌else◌}
-use Rattle.std.proofs.Common.{sym, ap, ◌∙◌, subst, inl, inr, true≢false, arith}
+use Rattle.std.specs.Prelude.{◌≡◌, refl, ℕ, suc, ◌+◌, ◌-◌, ◌≤◌, Bool, true, false, cond, [], slice_get, Option, Some, None, is_some, if◌then◌else◌}
+use Rattle.std.proofs.Common.{sym, ap, ◌∙◌, subst, inl, true≢false, arith}
 use Rattle.std.specs.FinMap.{find}
-use Rattle.std.specs.List.{list_all, list_any}
 use Rattle.kd_base.specs.Tools.{some_is}
 use Rattle.kdcs_types.specs.declared.act.Act.{Act}
 use Rattle.kdcs_types.specs.declared.call.Cause.{Cause}
 use Rattle.kdcs_types.specs.declared.key.Area.{Area}
 use Rattle.kdcs_types.specs.declared.key.ServiceId.{ServiceId}
 use Rattle.kdcs_types.specs.declared.key.ServiceId.TheVariants.{Dialogue, Asynchronous}
-use Rattle.kdcs_types.specs.declared.key.Target.{Target}
-use Rattle.kdcs_types.specs.declared.key.Target.TheVariants.{Tac, Lterm}
 use Rattle.kdcs_types.specs.declared.service.Ending.{Ending}
-use Rattle.kdcs_types.specs.declared.service.Ending.TheVariants.{Synced, Broken, BrokenFr}
-use Rattle.kdcs_types.specs.declared.service.JobValue.{JobValue}
+use Rattle.kdcs_types.specs.declared.service.Ending.TheVariants.{Broken}
 use Rattle.kdcs_types.specs.declared.service.Service.{Service}
 use Rattle.kdcs_types.specs.declared.service.Settled.{Settled}
 use Rattle.kdcs_types.specs.Keys.{area_eq, id_cmp, id_eq}
 use Rattle.kdcs_types.specs.KeyLaws.{id_eq-itself}
-use Rattle.kdcs_types.specs.Tables.{TableRows, service_of, job_of}
-use Rattle.kdcdef_types.specs.Statements.{IsWithin}
+use Rattle.kdcs_types.specs.Tables.{TableRows, service_of}
 use Rattle.monitor_semantics.specs.declared.answer.Happened.{Happened}
 use Rattle.monitor_semantics.specs.declared.answer.Happened.TheVariants.{Went, Queued, Waited, Held, Settles, Breaks, Returns}
 use Rattle.monitor_semantics.specs.declared.outcome.Outcome.{Outcome}
 use Rattle.monitor_semantics.specs.declared.outcome.Outcome.TheVariants.{Hold, Stay, Queue, Wait, Point, Follow, Finish, Break, Back}
-use Rattle.monitor_semantics.specs.declared.work.Work.{Work}
-use Rattle.monitor_semantics.specs.declared.work.Work.TheVariants as work
 use Rattle.monitor_semantics.specs.Bytes.{Bytes}
 use Rattle.monitor_semantics.specs.Endings.{is_asynchronous, opened, opened_by_row, row_after, synchronised, broken, durable, refusal}
-use Rattle.monitor_semantics.specs.Locks.{Waiting, locks_of, since, since_by, wait_of}
+use Rattle.monitor_semantics.specs.Locks.{Waiting, locks_of, since, since_by}
 use Rattle.monitor_semantics.specs.State.{Application, OpenTransaction, State}
-use Rattle.monitor_semantics.specs.Statements.{Stated, area_of, statement}
-use Rattle.monitor_semantics.specs.Turns.{Turned, with_open, without_wait, with_task, queued, without_work, abnormal, message_sent, goes_on, after_point, settled_by, settled, last_again, told_user, pterm_of_user, back_by, back, waiting, waiting_for, happens, told_here, statement_now, stated, worked}
-use Rattle.monitor_laws.specs.Facts.{IsOpen, IsConsistent}
-use Rattle.monitor_laws.specs.Transactions.{HasOwnJob, IsRooted}
+use Rattle.monitor_semantics.specs.Statements.{area_of}
+use Rattle.monitor_semantics.specs.Turns.{with_open, without_wait, with_task, queued, without_work, abnormal, after_point, settled_by, settled, last_again, pterm_of_user, back_by, back, waiting, waiting_for, happens, told_here, statement_now, worked}
+use Rattle.monitor_laws.specs.Facts.{IsConsistent}
+use Rattle.monitor_laws.specs.Transactions.{IsRooted}
 use Rattle.monitor_laws.proofs.Jobs.{points_number, ends_draw_none}
 use Rattle.monitor_places.specs.Counts.{times, times_push}
 use Rattle.monitor_places.specs.Entries.{found_put, found_without}
 use Rattle.monitor_places.specs.Places.{times_ready, times_held, is_signed_for, IsPlaced, placed_of, placed_running, placed_kept, placed_closed}
-use Rattle.monitor_places.specs.Changes.{Alters, KeepsRows, alters_then, open_alters, unwaiting_alters, wait_alters, freed_alters, queued_alters, work_alters, tables_alter}
+use Rattle.monitor_places.specs.Changes.{KeepsRows, alters_then, open_alters, unwaiting_alters, wait_alters, freed_alters, queued_alters, work_alters, tables_alter}
 use Rattle.monitor_places.specs.Kept.{StatementKeeps, statement_keeps, held_alike}
 use Rattle.monitor_places.specs.Rows.{synchronised_jobs, broken_jobs, synchronised_other, synchronised_own, broken_other, broken_own}
-use Rattle.monitor_places.specs.Areas.{closed_holds, new_holds, same_holds, statement_holds}
+use Rattle.monitor_places.specs.Areas.{closed_holds, new_holds, statement_holds}
 use Rattle.monitor_places.specs.After.{consistent_after, still_signed, no_wait, IsInTask, in_task, rooted_still, rooted_row, last_consistent, sent_consistent}
 
 row-new : (app : Application) (id : ServiceId) (row : Service) (lterm : Bytes) → (opened_by_row app.generation id row lterm).touched ≡ []
@@ -56,7 +49,7 @@ row-began app id row lterm = refl
 pub times_queued : (s : State) (id : ServiceId) (y : OpenTransaction) → times_ready s id ≡ 0 → times_held s id ≡ 0 → times_ready (queued s id y) id + times_held (queued s id y) id ≡ 1
 times_queued s id y none free =
     let one : times (id_eq id) (queued s id y).ready ≡ 1 =
-        times_push (id_eq id) s.ready id ∙ ap (λ b. cond b (suc (times (id_eq id) s.ready)) (times (id_eq id) s.ready)) (id_eq-itself id) ∙ ap (λ n. suc n) none in
+    times_push (id_eq id) s.ready id ∙ ap (λ b. cond b (suc (times (id_eq id) s.ready)) (times (id_eq id) s.ready)) (id_eq-itself id) ∙ ap (λ n. suc n) none in
     omega arith
 
 module _ (app : Application) (s : State) (task : ℕ) (id : ServiceId) (x : OpenTransaction) (c : IsConsistent app s) (at : slice_get s.tasks (task - 1) ≡ Some (Some id)) (is : find id_cmp id s.active ≡ Some x) where

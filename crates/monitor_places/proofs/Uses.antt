@@ -1,10 +1,8 @@
 -- What holds of a state where a terminal input has its use.
-use Rattle.std.specs.Prelude.{◌≡◌, refl, ℕ, Bool, true, false, cond, not, ◌||◌, List, length, Option, Some, None, nat_lt, is_some, bytes_eq, codes, if◌then◌else◌}
-use Rattle.std.proofs.Common.{sym, ap, ◌∙◌, subst, true≢false}
+use Rattle.std.specs.Prelude.{◌≡◌, refl, Bool, true, false, not, ◌||◌, length, Option, Some, None, nat_lt, bytes_eq, codes, if◌then◌else◌}
 use Rattle.std.specs.FinMap.{find}
 use Rattle.std.specs.List.{list_any}
 use Rattle.kd_base.specs.Text.{name_of}
-use Rattle.kdcs_types.specs.declared.key.ServiceId.{ServiceId}
 use Rattle.kdcs_types.specs.declared.key.ServiceId.TheVariants.{Dialogue}
 use Rattle.kdcdef_types.specs.declared.entry.TacEntry.{TacEntry}
 use Rattle.kdcdef_types.specs.declared.entry.UserEntry.{UserEntry}
@@ -12,9 +10,9 @@ use Rattle.kdcdef_types.specs.Generation.{Generated, tac_of, user_of}
 use Rattle.monitor_semantics.specs.declared.input_use.ServiceState.{ServiceState}
 use Rattle.monitor_semantics.specs.declared.input_use.ServiceState.TheVariants.{NoService, Awaits, Running}
 use Rattle.monitor_semantics.specs.declared.input_use.Use.{Use}
-use Rattle.monitor_semantics.specs.declared.input_use.Use.TheVariants.{Sign, SignRefused, SignFirst, AlreadySigned, Off, Display, Output, Again, Busy, TooLong, Next, Start, TacRefused}
+use Rattle.monitor_semantics.specs.declared.input_use.Use.TheVariants.{Sign, SignFirst, AlreadySigned, Off, Display, Output, Again, TooLong, Next, Start}
 use Rattle.monitor_semantics.specs.Bytes.{Bytes, bytes_cmp}
-use Rattle.monitor_semantics.specs.Commands.{user_by, user_at, use_now}
+use Rattle.monitor_semantics.specs.Commands.{user_by, use_now}
 use Rattle.monitor_semantics.specs.Outcomes.{goes_first}
 use Rattle.monitor_semantics.specs.Sessions.{Split, split_at, first_word, after_word, is_running, is_awaiting, service_state_by, service_state, same_password, has_user, sign_by, sign_user, sign_name, sign_on_use, use_unsigned, start_by, use_of_text, off_use, use_signed, use_by, use_of}
 use Rattle.monitor_semantics.specs.State.{Application, Session, State}

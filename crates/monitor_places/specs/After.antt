@@ -1,5 +1,5 @@
 -- After a step of one service a state is consistent where that service is placed, and holds nothing that another held.
-use Rattle.std.specs.Prelude.{◌≡◌, refl, ℕ, ◌+◌, ◌-◌, ◌≤◌, Bool, true, false, cond, List, slice_get, slice_set, Option, Some, None, is_some}
+use Rattle.std.specs.Prelude.{◌≡◌, refl, ℕ, ◌+◌, ◌-◌, ◌≤◌, Bool, true, false, cond, slice_get, slice_set, Option, Some, None, is_some}
 use Rattle.std.proofs.Common.{sym, ap, ◌∙◌, subst, inl, true≢false, arith}
 use Rattle.std.specs.FinMap.{find}
 use Rattle.kdcs_types.specs.declared.key.ServiceId.{ServiceId}
@@ -12,8 +12,8 @@ use Rattle.monitor_semantics.specs.Bytes.{Bytes}
 use Rattle.monitor_semantics.specs.Locks.{Waiting, touched_by}
 use Rattle.monitor_semantics.specs.Sessions.{in_place}
 use Rattle.monitor_semantics.specs.State.{Application, OpenTransaction, State}
-use Rattle.monitor_semantics.specs.Turns.{with_task, last_told, message_sent, told_user, pterm_of_user}
-use Rattle.monitor_laws.specs.Facts.{IsOpen, IsConsistent}
+use Rattle.monitor_semantics.specs.Turns.{with_task, last_told, message_sent, pterm_of_user}
+use Rattle.monitor_laws.specs.Facts.{IsConsistent}
 use Rattle.monitor_laws.specs.Transactions.{HasOwnJob, IsRooted}
 use Rattle.monitor_places.specs.Counts.{times, times_set}
 use Rattle.monitor_places.specs.Places.{times_ready, times_held, is_signed_for, IsPlaced, IsLeft, lists_of, placed_of, consistent_from, left_placed}

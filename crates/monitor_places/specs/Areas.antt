@@ -1,5 +1,5 @@
 -- No area is touched by two open transactions, before and after a step of one service.
-use Rattle.std.specs.Prelude.{◌≡◌, refl, ℕ, Bool, true, false, cond, ◌||◌, ◌⊎◌, IsTrue, List, [], ◌∷◌, ◌++◌, map, flat_map, is_some, nat_le, ◌+◌, Option, Some, None}
+use Rattle.std.specs.Prelude.{◌≡◌, refl, ℕ, Bool, true, false, cond, ◌||◌, ◌⊎◌, IsTrue, List, [], ◌∷◌, ◌++◌, map, is_some, Option, Some, None}
 use Rattle.std.proofs.Common.{sym, ap, ◌∙◌, subst, inl, inr, ⊎_elim, true≢false}
 use Rattle.std.specs.Cmp.{eq_by_cmp_equiv}
 use Rattle.std.specs.FinMap.{find, is_sorted}
@@ -9,13 +9,12 @@ use Rattle.kd_base.specs.Tools.{both_true}
 use Rattle.kdcs_types.specs.declared.key.Area.{Area}
 use Rattle.kdcs_types.specs.declared.key.ServiceId.{ServiceId}
 use Rattle.kdcs_types.specs.Keys.{area_cmp, area_eq, id_cmp, id_eq}
-use Rattle.kdcs_types.specs.KeyLaws.{area_total, id_total, id_eq-same, id_eq-itself}
-use Rattle.kdcs_types.specs.Tables.{TableRows}
+use Rattle.kdcs_types.specs.KeyLaws.{area_total, id_eq-same, id_eq-itself}
 use Rattle.monitor_semantics.specs.declared.answer.LockAnswer.{LockAnswer}
-use Rattle.monitor_semantics.specs.declared.answer.LockAnswer.TheVariants.{Granted, Wait, Busy, Deadlock}
-use Rattle.monitor_semantics.specs.Calls.{Told, touches}
-use Rattle.monitor_semantics.specs.Locks.{Active, Locks, holder, held_by, held_areas, holds, Holds, touched_by, IsExclusive, refused_by, answer_of_held, answer_by_holder, answer_of, told_now, locks_of, since, is_deadlocked}
-use Rattle.monitor_semantics.specs.State.{Application, OpenTransaction, State}
+use Rattle.monitor_semantics.specs.declared.answer.LockAnswer.TheVariants.{Granted}
+use Rattle.monitor_semantics.specs.Calls.{touches}
+use Rattle.monitor_semantics.specs.Locks.{Active, Locks, held_areas, holds, Holds, touched_by, IsExclusive, refused_by, answer_of_held, answer_by_holder, answer_of, told_now, locks_of}
+use Rattle.monitor_semantics.specs.State.{OpenTransaction, State}
 use Rattle.monitor_places.specs.Entries.{none_below}
 use Rattle.monitor_places.specs.Kept.{HoldsNoMore, IsGranted}
 
@@ -104,7 +103,7 @@ pub granted_free : (s : State) (reswait : ℕ) (id : ServiceId) (x : OpenTransac
     → IsTrue (is_sorted id_cmp s.active) → find id_cmp id s.active ≡ Some x → IsGranted (told_now (locks_of s) reswait s.tables id of) of x area → IsFree s.active area
 unfolding told_now answer_of
 granted_free s reswait id x None area sorted is granted = absurd (true≢false (sym (ap is_some granted.0)))
-granted_free s reswait id x (Some a) area sorted is granted = 
+granted_free s reswait id x (Some a) area sorted is granted =
     subst
     (IsFree s.active)
     same

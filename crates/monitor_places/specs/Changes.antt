@@ -1,10 +1,9 @@
 -- Steps change a state by few operations, each of one service; what one of them does to the other services, and to the order of lists.
-use Rattle.std.specs.Prelude.{◌≡◌, refl, ℕ, suc, ◌+◌, ◌-◌, ◌≤◌, Bool, true, false, cond, not, IsTrue, List, [], ◌∷◌, ◌++◌, map, filter, length, bytes_eq, slice_get, slice_set, Option, Some, None, is_some}
+use Rattle.std.specs.Prelude.{◌≡◌, refl, ℕ, suc, ◌+◌, ◌-◌, ◌≤◌, Bool, true, false, cond, not, IsTrue, [], ◌∷◌, ◌++◌, map, filter, length, bytes_eq, slice_get, slice_set, Option, Some, None, is_some}
 use Rattle.std.proofs.Common.{sym, ap, ◌∙◌, subst, true≢false, arith, length-set}
 use Rattle.std.proofs.lemmas.List.{length-map}
-use Rattle.std.specs.Cmp.{eq_by_cmp_equiv}
 use Rattle.std.specs.FinMap.{find, put, is_sorted}
-use Rattle.std.specs.FinMap.Entries.{where_key, find-put, find-where_key, is_sorted-put, is_sorted-where_key}
+use Rattle.std.specs.FinMap.Entries.{where_key}
 use Rattle.std.specs.List.{list_any}
 use Rattle.kd_base.specs.Tools.{some_is}
 use Rattle.kdcs_types.specs.declared.key.Area.{Area}
@@ -12,19 +11,19 @@ use Rattle.kdcs_types.specs.declared.key.ServiceId.{ServiceId}
 use Rattle.kdcs_types.specs.declared.key.ServiceId.TheVariants.{Dialogue, Asynchronous}
 use Rattle.kdcs_types.specs.declared.service.Service.{Service}
 use Rattle.kdcs_types.specs.Keys.{id_cmp, id_eq}
-use Rattle.kdcs_types.specs.KeyLaws.{id_total, same_id, id_eq-same, id_eq-itself}
+use Rattle.kdcs_types.specs.KeyLaws.{id_eq-itself}
 use Rattle.kdcs_types.specs.Tables.{TableRows, service_of}
 use Rattle.monitor_semantics.specs.Bytes.{Bytes, bytes_cmp}
 use Rattle.monitor_semantics.specs.Commands.{no_place, with_session, without_session, withdrawn}
 use Rattle.monitor_semantics.specs.Sessions.{has_user, in_place}
-use Rattle.monitor_semantics.specs.State.{Application, OpenTransaction, Session, State}
-use Rattle.monitor_semantics.specs.Turns.{pterm_of_user, with_open, without_wait, without_open, with_task, queued, without_work, noted_last, with_last, last_told}
+use Rattle.monitor_semantics.specs.State.{OpenTransaction, Session, State}
+use Rattle.monitor_semantics.specs.Turns.{pterm_of_user, with_open, without_wait, without_open, with_task, queued, without_work, noted_last, last_told}
 use Rattle.monitor_laws.specs.Facts.{IsOpen}
 use Rattle.monitor_laws.specs.Transactions.{HasOwnJob}
-use Rattle.monitor_places.specs.Counts.{times, times_push, times_set, times_without_itself, times_without_other, times_freed_itself, times_freed_other, any_counted, counted_any, none_counted, counted_none}
-use Rattle.monitor_places.specs.Entries.{found_put, other_put, found_without, other_without, sorted_put, sorted_without}
+use Rattle.monitor_places.specs.Counts.{times, times_push, times_set, times_without_other, times_freed_other, any_counted, counted_any, none_counted, counted_none}
+use Rattle.monitor_places.specs.Entries.{other_put, other_without, sorted_put, sorted_without}
 use Rattle.monitor_places.specs.Terminals.{Signed, same_bytes, signed_any, signed_sorted, left_sorted, signed_more, signed_same, signed_less, fewer}
-use Rattle.monitor_places.specs.Places.{times_ready, times_held, is_signed_for, IsLeft, left_itself, left_then}
+use Rattle.monitor_places.specs.Places.{is_signed_for, IsLeft, left_itself, left_then}
 
 -- sessions in the order of their terminals, and each user in one of them at most
 pub record AreSessions (signed : Signed) : Type 0 where
@@ -116,7 +115,14 @@ pub ready_alters : (s : State) (id : ServiceId) → Alters s (with_ready s id) i
 ready_alters s id = record {
   others = λ i apart. record {
     ready = times_push (id_eq i) s.ready id ∙ ap (λ b. cond b (suc (times (id_eq i) s.ready)) (times (id_eq i) s.ready)) apart;
-    held = refl; opened = refl; waits = refl; row = refl; signed = signed i; job = λ began o h. h; clock = same_clock s };
+    held = refl;
+    opened = refl;
+    waits = refl;
+    row = refl;
+    signed = signed i;
+    job = λ began o h. h;
+    clock = same_clock s;
+  };
   tasks = refl;
   sessions = λ h. h;
   active = λ h. h;
@@ -159,7 +165,13 @@ task_alters s task id old new is none = record {
   others = λ i apart. record {
     ready = refl;
     held = even i (none i apart) (times_set (in_place i) s.tasks (task - 1) old new is);
-    opened = refl; waits = refl; row = refl; signed = signed i; job = λ began o h. h; clock = same_clock s };
+    opened = refl;
+    waits = refl;
+    row = refl;
+    signed = signed i;
+    job = λ began o h. h;
+    clock = same_clock s;
+  };
   tasks = length-set s.tasks (task - 1) new;
   sessions = λ h. h;
   active = λ h. h;

@@ -1,14 +1,12 @@
 -- How often an item stands in a list.
-use Rattle.std.specs.Prelude.{◌≡◌, refl, ℕ, zero, suc, ◌+◌, ◌≤◌, Bool, true, false, cond, not, ◌||◌, IsTrue, List, [], ◌∷◌, ◌++◌, map, filter, filter_map, count_by, slice_get, slice_set, length, Option, Some, None}
+use Rattle.std.specs.Prelude.{◌≡◌, refl, ℕ, zero, suc, ◌+◌, ◌≤◌, Bool, true, false, cond, not, ◌||◌, List, [], ◌∷◌, ◌++◌, map, filter, filter_map, count_by, slice_get, slice_set, Option, Some, None}
 use Rattle.std.proofs.Common.{sym, ap, ◌∙◌, subst, true≢false, arith}
 use Rattle.std.proofs.lemmas.List.Recursion.{is_count_by}
-use Rattle.std.proofs.lemmas.List.Sums.{sum_by-append}
 use Rattle.std.specs.List.{list_any}
-use Rattle.std.specs.FinMap.{find, put, is_sorted}
 use Rattle.kd_base.specs.Tools.{some_is}
 use Rattle.kdcs_types.specs.declared.key.ServiceId.{ServiceId}
 use Rattle.kdcs_types.specs.Keys.{id_eq}
-use Rattle.kdcs_types.specs.KeyLaws.{id_eq-same, id_eq-itself}
+use Rattle.kdcs_types.specs.KeyLaws.{id_eq-same}
 use Rattle.monitor_semantics.specs.Sessions.{in_place}
 use Rattle.monitor_semantics.specs.Commands.{no_place}
 

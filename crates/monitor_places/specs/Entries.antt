@@ -1,5 +1,5 @@
 -- What is found in entries in the order of their keys, after one was put in or taken out.
-use Rattle.std.specs.Prelude.{◌≡◌, refl, Bool, true, false, cond, not, ◌&&◌, T, IsTrue, List, [], ◌∷◌, Option, Some, None}
+use Rattle.std.specs.Prelude.{◌≡◌, refl, Bool, true, false, cond, not, T, IsTrue, List, [], ◌∷◌, Some, None}
 use Rattle.std.proofs.Common.{sym, ap, ◌∙◌, true≢false}
 use Rattle.std.specs.Cmp.{IsTotalOrder, eq_by_cmp_equiv}
 use Rattle.std.specs.FinMap.{find, put, is_sorted}

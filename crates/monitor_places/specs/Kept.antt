@@ -1,5 +1,5 @@
 -- What a statement keeps of its open transaction: the row with which it began, and the areas that it holds but for one that was granted. And a PEND KP is one whatever it is told.
-use Rattle.std.specs.Prelude.{◌≡◌, refl, ℕ, ◌+◌, Bool, true, false, cond, ◌||◌, ◌&&◌, not, ◌⊎◌, IsTrue, List, [], ◌∷◌, ◌++◌, filter, length, sum_by, nat_le, nat_lt, is_some, Option, Some, None, Result, Ok, Err, option_map, option_and_then}
+use Rattle.std.specs.Prelude.{◌≡◌, refl, ℕ, ◌+◌, Bool, true, false, cond, ◌||◌, ◌&&◌, not, ◌⊎◌, IsTrue, List, [], ◌∷◌, ◌++◌, filter, length, sum_by, nat_le, nat_lt, is_some, Option, Some, None, Result, Ok, Err, option_map}
 use Rattle.std.proofs.Common.{sym, ap, ◌∙◌, subst, inl, inr, ⊎_elim, true≢false}
 use Rattle.std.specs.List.{list_any}
 use Rattle.std.specs.FinMap.{find, put}
@@ -23,12 +23,12 @@ use Rattle.monitor_semantics.specs.declared.answer.LockAnswer.TheVariants.{Grant
 use Rattle.monitor_semantics.specs.declared.answer.Called.{Called}
 use Rattle.monitor_semantics.specs.declared.answer.Called.TheVariants.{Replied, Waits, Abnormal, Pends}
 use Rattle.monitor_semantics.specs.declared.answer.Happened.{Happened}
-use Rattle.monitor_semantics.specs.declared.answer.Happened.TheVariants.{Went, Queued, Waited, Held, Settles, Breaks, Returns}
+use Rattle.monitor_semantics.specs.declared.answer.Happened.TheVariants.{Held, Settles, Breaks, Returns}
 use Rattle.monitor_semantics.specs.declared.draft.Due.{Due}
 use Rattle.monitor_semantics.specs.declared.outcome.Outcome.{Outcome}
 use Rattle.monitor_semantics.specs.declared.outcome.Outcome.TheVariants.{Stay, Queue, Hold, Wait as WaitOutcome, Point, Finish, Follow, Break, Back}
 use Rattle.monitor_semantics.specs.Bytes.{Bytes, bytes_cmp}
-use Rattle.monitor_semantics.specs.Calls.{Told, Performed, touches, touching, answer_by, on_answer, locked, for_kind, within_length, with_name, declared, name_in_operand, name_by, read_or, replied, got_by, drafted, put_job, job_target, deleted, seen, unlocked_by, read_away_by, delete_local_by, has_message, pended, pend, called, first_call, called_by, call_outcome}
+use Rattle.monitor_semantics.specs.Calls.{Told, Performed, touches, touching, answer_by, on_answer, locked, for_kind, within_length, with_name, declared, name_in_operand, read_or, replied, got_by, drafted, put_job, job_target, deleted, seen, unlocked_by, read_away_by, delete_local_by, pended, called, first_call, called_by, call_outcome}
 use Rattle.monitor_semantics.specs.Endings.{followed}
 use Rattle.monitor_semantics.specs.State.{Application, OpenTransaction, unit_of}
 use Rattle.monitor_semantics.specs.Statements.{Stated, area_of_call, area_of_step, area_in_unit, area_of, by_outcome, by_call, by_performed, by_step, in_unit, statement}

@@ -7,3 +7,5 @@ pub mod Rows
 pub mod Areas
 pub mod Entries
 pub mod After
+pub mod Along
+pub mod Laws

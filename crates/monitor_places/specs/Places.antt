@@ -1,5 +1,5 @@
 -- What holds of one service in a state, apart from what holds of the lists as a whole; and when a step leaves a service as it was.
-use Rattle.std.specs.Prelude.{◌≡◌, refl, ℕ, zero, suc, ◌+◌, ◌≤◌, Bool, true, false, cond, not, ◌||◌, IsTrue, List, ◌++◌, length, bytes_eq, count_by, filter_map, Option, Some, None, IsSome, is_some}
+use Rattle.std.specs.Prelude.{◌≡◌, refl, ℕ, ◌+◌, ◌≤◌, Bool, true, false, ◌||◌, IsTrue, length, count_by, filter_map, Option, Some, None, is_some}
 use Rattle.std.proofs.Common.{sym, ap, ◌∙◌, subst, true≢false, arith}
 use Rattle.std.specs.FinMap.{find, is_sorted}
 use Rattle.std.specs.List.{list_any}
@@ -8,17 +8,16 @@ use Rattle.kdcs_types.specs.declared.key.ServiceId.{ServiceId}
 use Rattle.kdcs_types.specs.declared.key.ServiceId.TheVariants.{Dialogue, Asynchronous}
 use Rattle.kdcs_types.specs.declared.service.Service.{Service}
 use Rattle.kdcs_types.specs.Keys.{id_cmp, id_eq}
-use Rattle.kdcs_types.specs.Tables.{TableRows, service_of}
+use Rattle.kdcs_types.specs.Tables.{service_of}
 use Rattle.monitor_semantics.specs.Bytes.{Bytes, bytes_cmp}
 use Rattle.monitor_semantics.specs.Endings.{is_asynchronous}
 use Rattle.monitor_semantics.specs.Locks.{IsExclusive, Waiting}
 use Rattle.monitor_semantics.specs.Sessions.{has_user, in_place, is_running}
-use Rattle.monitor_semantics.specs.State.{Application, OpenTransaction, Session, State}
+use Rattle.monitor_semantics.specs.State.{Application, OpenTransaction, State}
 use Rattle.monitor_semantics.specs.Turns.{pterm_of_user}
-use Rattle.monitor_laws.specs.Facts.{placed, IsSignedOn, IsOpen, StandsAtKeep, IsWaiting, IsConsistent}
+use Rattle.monitor_laws.specs.Facts.{placed, IsOpen, StandsAtKeep, IsConsistent}
 use Rattle.monitor_laws.specs.Transactions.{HasOwnJob, IsRooted}
-use Rattle.monitor_places.specs.Counts.{times, times_counts, times_append, held_services, any_counted, counted_any, none_counted, counted_none}
-use Rattle.monitor_places.specs.Terminals.{signed_any}
+use Rattle.monitor_places.specs.Counts.{times, times_counts, times_append, held_services, any_counted, counted_any, none_counted}
 
 -- how often the service is ready
 abbrev pub times_ready : State → ServiceId → ℕ
@@ -157,15 +156,15 @@ left_placed app s u id l p = record {
   goes_on = λ row d on is awaits. open_now (p.goes_on row d (sym l.signed ∙ on) (sym l.row ∙ is) awaits);
   kept = λ x is h. p.kept x (sym l.opened ∙ is) (sym count ∙ h);
   rooted = λ x is.
-    let was : find id_cmp id s.active ≡ Some x = sym l.opened ∙ is in
-    let r = p.rooted x was in
-    record { began = l.row ∙ r.began; job = l.job x.began (ap is_some was) r.job };
+      let was : find id_cmp id s.active ≡ Some x = sym l.opened ∙ is in
+      let r = p.rooted x was in
+      record { began = l.row ∙ r.began; job = l.job x.began (ap is_some was) r.job };
   waiting = λ w is.
-    let k = p.waiting w (sym l.waits ∙ is) in
-    let a : 1 ≤ times_held s id = k.0 in
-    let b : w.1 ≤ s.tables.clock = k.1 in
-    let c : s.tables.clock ≤ u.tables.clock = l.clock in
-    (subst (λ n. 1 ≤ n) (sym l.held) a, omega arith);
+      let k = p.waiting w (sym l.waits ∙ is) in
+      let a : 1 ≤ times_held s id = k.0 in
+      let b : w.1 ≤ s.tables.clock = k.1 in
+      let c : s.tables.clock ≤ u.tables.clock = l.clock in
+      (subst (λ n. 1 ≤ n) (sym l.held) a, omega arith);
 }
   where
     count : times_ready u id + times_held u id ≡ times_ready s id + times_held s id

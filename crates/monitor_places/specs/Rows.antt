@@ -1,6 +1,6 @@
 -- What steps make of the rows that services look at: their own, and their job's.
-use Rattle.std.specs.Prelude.{◌≡◌, refl, ℕ, ◌+◌, ◌≤◌, Bool, true, false, cond, not, ◌&&◌, IsTrue, List, [], ◌∷◌, ◌++◌, filter, Option, Some, None, is_some, option_map, if◌then◌else◌}
-use Rattle.std.proofs.Common.{sym, ap, ◌∙◌, subst, true≢false, arith}
+use Rattle.std.specs.Prelude.{◌≡◌, refl, ℕ, Bool, true, false, cond, IsTrue, List, [], ◌∷◌, ◌++◌, filter, Option, Some, None, is_some, option_map, if◌then◌else◌}
+use Rattle.std.proofs.Common.{sym, ap, ◌∙◌, subst, true≢false}
 use Rattle.std.specs.FinMap.{is_sorted}
 use Rattle.std.specs.FinMap.Entries.{where_key, is_sorted-where_key}
 use Rattle.std.specs.List.{list_all}
@@ -14,14 +14,14 @@ use Rattle.kdcs_types.specs.declared.service.Service.{Service}
 use Rattle.kdcs_types.specs.Keyed.{keyed, ascends, item_at, without_item}
 use Rattle.kdcs_types.specs.KeyedLaws.{item_at-without}
 use Rattle.kdcs_types.specs.Keys.{id_eq, key_cmp, key_eq}
-use Rattle.kdcs_types.specs.KeyLaws.{id_eq-itself, id_eq-same, key_eq-same, key_eq-itself}
+use Rattle.kdcs_types.specs.KeyLaws.{id_eq-itself, id_eq-same, key_eq-same}
 use Rattle.kdcs_types.specs.Tables.{TableRows, job_key, service_key, job_of, service_of}
 use Rattle.kdcdef_types.specs.Generation.{Generated}
 use Rattle.monitor_semantics.specs.declared.outcome.Outcome.{Outcome}
 use Rattle.monitor_semantics.specs.Bytes.{Bytes}
-use Rattle.monitor_semantics.specs.Commands.{shown_tables, rolled_tables}
+use Rattle.monitor_semantics.specs.Commands.{rolled_tables}
 use Rattle.monitor_semantics.specs.Endings.{is_durable, durable, row_after, synchronised, broken}
-use Rattle.monitor_semantics.specs.Picks.{earlier_of, is_earlier, least_job, due_job, is_free, free_jobs}
+use Rattle.monitor_semantics.specs.Picks.{earlier_of, is_earlier, least_job}
 use Rattle.monitor_semantics.specs.State.{Application, OpenTransaction}
 use Rattle.monitor_laws.proofs.Jobs.{points_number, ends_draw_none}
 use Rattle.monitor_laws.proofs.OwnRows.{points_set, ends_remove}
