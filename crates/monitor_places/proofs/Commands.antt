@@ -1,8 +1,7 @@
 -- Each command keeps a state consistent.
-use Rattle.std.specs.Prelude.{◌≡◌, refl, ℕ, zero, suc, ◌+◌, ◌≤◌, Bool, true, false, cond, not, ◌||◌, IsTrue, [], bytes_eq, Option, Some, None, is_some}
+use Rattle.std.specs.Prelude.{◌≡◌, refl, ℕ, zero, suc, ◌+◌, ◌≤◌, Bool, true, false, cond, not, ◌||◌, IsTrue, [], Option, Some, None, is_some}
 use Rattle.std.proofs.Common.{sym, ap, ◌∙◌, subst, inl, true≢false, arith}
-use Rattle.std.specs.FinMap.{find, put}
-use Rattle.std.specs.FinMap.Entries.{where_key}
+use Rattle.std.specs.FinMap.{find}
 use Rattle.std.specs.List.{list_any}
 use Rattle.kd_base.specs.Tools.{some_is}
 use Rattle.kdcs_types.specs.declared.key.ServiceId.{ServiceId}
@@ -28,12 +27,12 @@ use Rattle.monitor_laws.specs.Keeping.{HasFacts}
 use Rattle.monitor_laws.specs.Transactions.{HasOwnJob, IsRooted}
 use Rattle.monitor_places.specs.Counts.{times, none_counted, times_without_itself, times_freed_itself}
 use Rattle.monitor_places.specs.Entries.{found_put, found_without}
-use Rattle.monitor_places.specs.Terminals.{Signed, bytes_itself, signed_more, signed_fewer}
-use Rattle.monitor_places.specs.Places.{times_ready, times_held, is_signed_for, IsPlaced, IsLeft, placed_of, rests_placed, placed_running, placed_closed}
+use Rattle.monitor_places.specs.Terminals.{signed_at, left_at, Signed, bytes_itself, signed_more, signed_fewer}
+use Rattle.monitor_places.specs.Places.{still_signed, times_ready, times_held, is_signed_for, IsPlaced, IsLeft, placed_of, rests_placed, placed_running, placed_closed}
 use Rattle.monitor_places.specs.Changes.{KeepsRows, alters_then, queued_alters, withdrawn_alters, tables_alter, session_alters, off_alters, counted_signed, signed_counted}
 use Rattle.monitor_places.specs.Rows.{job_stays, job_there, rolled_other, kept_ascends}
 use Rattle.monitor_places.specs.Areas.{HoldsNew, closed_holds, new_holds, same_holds}
-use Rattle.monitor_places.specs.After.{consistent_after, consistent_left, sessions_of, still_signed, no_wait, rooted_still, rooted_row}
+use Rattle.monitor_places.specs.After.{consistent_after, consistent_left, sessions_of, no_wait, rooted_still, rooted_row}
 use Rattle.monitor_places.proofs.Turns.{times_queued}
 use Rattle.monitor_places.proofs.Taking.{IsFreeJob, due_free, turns_consistent}
 use Rattle.monitor_places.proofs.Starts.{started_consistent}
@@ -73,9 +72,9 @@ module _ (app : Application) (s : State) (c : IsConsistent app s) (pterm user : 
   now_signed : (last : Option Bytes) → is_signed_for (with_session s pterm user last) (Dialogue user) ≡ true
   now_signed last =
       let v : Session = record { user = user; last = last } in
-      let more : times (has_user user) (put bytes_cmp pterm v s.signed) ≡ suc (times (has_user user) s.signed) =
+      let more : times (has_user user) (signed_at pterm v s.signed) ≡ suc (times (has_user user) s.signed) =
       signed_more (has_user user) pterm v s.signed free ∙ ap (λ b. cond b (suc (times (has_user user) s.signed)) (times (has_user user) s.signed)) (bytes_itself user) in
-      counted_signed (put bytes_cmp pterm v s.signed) user (omega arith)
+      counted_signed (signed_at pterm v s.signed) user (omega arith)
 
   -- no row goes on without an input
   signs : (last : Option Bytes) → ((row : Service) → service_of s.tables (Dialogue user) ≡ Some row → row.awaits ≡ false → ⊥) → IsConsistent app (with_session s pterm user last)
@@ -122,7 +121,7 @@ module _ (app : Application) (s : State) (c : IsConsistent app s) (pterm : Bytes
 
   is_on : is_signed_for s (Dialogue v.user) ≡ true
   is_on =
-      let k : suc (times (has_user v.user) (where_key bytes_cmp (λ p. not (bytes_eq pterm p)) s.signed)) ≤ times (has_user v.user) s.signed = signed_fewer pterm v s.signed on in
+      let k : suc (times (has_user v.user) (left_at pterm s.signed)) ≤ times (has_user v.user) s.signed = signed_fewer pterm v s.signed on in
       counted_signed s.signed v.user (omega arith)
 
   rolled_keeps : (signed : Signed) (b : Bool) → KeepsRows (record (without_session (withdrawn s (Dialogue v.user)) pterm) { signed = signed }) (rolled_tables app s.tables v.user b) (Dialogue v.user)
@@ -149,10 +148,10 @@ module _ (app : Application) (s : State) (c : IsConsistent app s) (pterm : Bytes
       (placed_closed app u id (omega arith) (found_without id s.active) (λ row d h r q. gone h) (found_without id s.waits))
       (closed_holds s.active u.active id (found_without id s.active))
     where
-      gone : is_some (pterm_of_user (where_key bytes_cmp (λ p. not (bytes_eq pterm p)) s.signed) v.user) ≡ true → ⊥
+      gone : is_some (pterm_of_user (left_at pterm s.signed) v.user) ≡ true → ⊥
       gone h =
-          let k : suc (times (has_user v.user) (where_key bytes_cmp (λ p. not (bytes_eq pterm p)) s.signed)) ≤ times (has_user v.user) s.signed = signed_fewer pterm v s.signed on in
-          let l : 1 ≤ times (has_user v.user) (where_key bytes_cmp (λ p. not (bytes_eq pterm p)) s.signed) = signed_counted _ v.user h in
+          let k : suc (times (has_user v.user) (left_at pterm s.signed)) ≤ times (has_user v.user) s.signed = signed_fewer pterm v s.signed on in
+          let l : 1 ≤ times (has_user v.user) (left_at pterm s.signed) = signed_counted _ v.user h in
           let m : times (has_user v.user) s.signed ≤ 1 = (sessions_of app s c).once v.user in
           absurd (omega arith)
 

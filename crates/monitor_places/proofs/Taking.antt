@@ -29,11 +29,11 @@ use Rattle.monitor_laws.specs.Keeping.{HasFacts}
 use Rattle.monitor_laws.specs.Suits.{Suits}
 use Rattle.monitor_places.specs.Counts.{times, times_set, times_without_itself, any_counted}
 use Rattle.monitor_places.specs.Entries.{found_put}
-use Rattle.monitor_places.specs.Places.{times_ready, times_held, IsPlaced, placed_of, placed_running}
+use Rattle.monitor_places.specs.Places.{still_signed, times_ready, times_held, IsPlaced, placed_of, placed_running}
 use Rattle.monitor_places.specs.Changes.{alters_then, without_ready, open_alters, taken_alters, unready_alters}
 use Rattle.monitor_places.specs.Rows.{least_passes, all_filtered, filtered_pass, durable_service}
 use Rattle.monitor_places.specs.Areas.{new_holds}
-use Rattle.monitor_places.specs.After.{consistent_after, still_signed}
+use Rattle.monitor_places.specs.After.{consistent_after}
 use Rattle.monitor_places.proofs.Turns.{worked_consistent}
 
 -- ---- what is picked

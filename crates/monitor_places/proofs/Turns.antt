@@ -30,12 +30,12 @@ use Rattle.monitor_laws.specs.Transactions.{IsRooted}
 use Rattle.monitor_laws.proofs.Jobs.{points_number, ends_draw_none}
 use Rattle.monitor_places.specs.Counts.{times, times_push}
 use Rattle.monitor_places.specs.Entries.{found_put, found_without}
-use Rattle.monitor_places.specs.Places.{times_ready, times_held, is_signed_for, IsPlaced, placed_of, placed_running, placed_kept, placed_closed}
+use Rattle.monitor_places.specs.Places.{still_signed, times_ready, times_held, is_signed_for, IsPlaced, placed_of, placed_running, placed_kept, placed_closed}
 use Rattle.monitor_places.specs.Changes.{KeepsRows, alters_then, open_alters, unwaiting_alters, wait_alters, freed_alters, queued_alters, work_alters, tables_alter}
 use Rattle.monitor_places.specs.Kept.{StatementKeeps, statement_keeps, held_alike}
 use Rattle.monitor_places.specs.Rows.{synchronised_jobs, broken_jobs, synchronised_other, synchronised_own, broken_other, broken_own}
 use Rattle.monitor_places.specs.Areas.{closed_holds, new_holds, statement_holds}
-use Rattle.monitor_places.specs.After.{consistent_after, still_signed, no_wait, IsInTask, in_task, rooted_still, rooted_row, last_consistent, sent_consistent}
+use Rattle.monitor_places.specs.After.{consistent_after, no_wait, IsInTask, in_task, rooted_still, rooted_row, last_consistent, sent_consistent}
 
 row-new : (app : Application) (id : ServiceId) (row : Service) (lterm : Bytes) → (opened_by_row app.generation id row lterm).touched ≡ []
 unfolding opened

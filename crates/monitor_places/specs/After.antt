@@ -16,7 +16,7 @@ use Rattle.monitor_semantics.specs.Turns.{with_task, last_told, message_sent, pt
 use Rattle.monitor_laws.specs.Facts.{IsConsistent}
 use Rattle.monitor_laws.specs.Transactions.{HasOwnJob, IsRooted}
 use Rattle.monitor_places.specs.Counts.{times, times_set}
-use Rattle.monitor_places.specs.Places.{times_ready, times_held, is_signed_for, IsPlaced, IsLeft, lists_of, placed_of, consistent_from, left_placed}
+use Rattle.monitor_places.specs.Places.{times_ready, times_held, IsPlaced, IsLeft, lists_of, placed_of, consistent_from, left_placed}
 use Rattle.monitor_places.specs.Changes.{AreSessions, Alters, last_alters, last_left}
 use Rattle.monitor_places.specs.Areas.{HoldsNew, exclusive_after}
 
@@ -45,10 +45,6 @@ consistent_left app s u id c a l =
     consistent_after app s u id c a (left_placed app s u id l (placed_of app s c id)) (λ area h. inl (ap (λ o. touched_by o area) (sym l.opened) ∙ h))
 
 -- ---- the service of the step
-
-pub still_signed : (s u : State) (id : ServiceId) → u.signed ≡ s.signed → is_signed_for u id ≡ is_signed_for s id
-still_signed s u (Dialogue user) e = ap (λ es. is_some (pterm_of_user es user)) e
-still_signed s u (Asynchronous number) e = refl
 
 -- nothing waits
 pub no_wait : (s : State) (id : ServiceId) → find id_cmp id s.waits ≡ None → (w : Waiting) → find id_cmp id s.waits ≡ Some w → (1 ≤ times_held s id) × (w.1 ≤ s.tables.clock)

@@ -3,7 +3,6 @@ use Rattle.std.specs.Prelude.{◌≡◌, refl, ℕ, suc, ◌+◌, ◌-◌, ◌�
 use Rattle.std.proofs.Common.{sym, ap, ◌∙◌, subst, true≢false, arith, length-set}
 use Rattle.std.proofs.lemmas.List.{length-map}
 use Rattle.std.specs.FinMap.{find, put, is_sorted}
-use Rattle.std.specs.FinMap.Entries.{where_key}
 use Rattle.std.specs.List.{list_any}
 use Rattle.kd_base.specs.Tools.{some_is}
 use Rattle.kdcs_types.specs.declared.key.Area.{Area}
@@ -22,8 +21,8 @@ use Rattle.monitor_laws.specs.Facts.{IsOpen}
 use Rattle.monitor_laws.specs.Transactions.{HasOwnJob}
 use Rattle.monitor_places.specs.Counts.{times, times_push, times_set, times_without_other, times_freed_other, any_counted, counted_any, none_counted, counted_none}
 use Rattle.monitor_places.specs.Entries.{other_put, other_without, sorted_put, sorted_without}
-use Rattle.monitor_places.specs.Terminals.{Signed, same_bytes, signed_any, signed_sorted, left_sorted, signed_more, signed_same, signed_less, fewer}
-use Rattle.monitor_places.specs.Places.{is_signed_for, IsLeft, left_itself, left_then}
+use Rattle.monitor_places.specs.Terminals.{Signed, signed_at, left_at, same_bytes, signed_any, signed_sorted, left_sorted, signed_more, signed_same, signed_less, fewer}
+use Rattle.monitor_places.specs.Places.{is_signed_for, IsLeft, still_signed, left_where, left_itself, left_then}
 
 -- sessions in the order of their terminals, and each user in one of them at most
 pub record AreSessions (signed : Signed) : Type 0 where
@@ -57,55 +56,39 @@ same_clock s = omega arith
 
 pub open_alters : (s : State) (id : ServiceId) (x : OpenTransaction) → Alters s (with_open s id x) id
 open_alters s id x = record {
-  others = λ i apart. record { ready = refl; held = refl; opened = other_put i id x s.active apart; waits = refl; row = refl; signed = signed i; job = λ began o h. h; clock = same_clock s };
+  others = λ i apart. left_where s (with_open s id x) i refl refl (other_put i id x s.active apart) refl refl refl;
   tasks = refl;
   sessions = λ h. h;
   active = sorted_put id x s.active;
   waits = λ h. h;
 }
-  where
-    signed : (i : ServiceId) → is_signed_for (with_open s id x) i ≡ is_signed_for s i
-    signed (Dialogue user) = refl
-    signed (Asynchronous number) = refl
 
 pub unwaiting_alters : (s : State) (id : ServiceId) → Alters s (without_wait s id) id
 unwaiting_alters s id = record {
-  others = λ i apart. record { ready = refl; held = refl; opened = refl; waits = other_without i id s.waits apart; row = refl; signed = signed i; job = λ began o h. h; clock = same_clock s };
+  others = λ i apart. left_where s (without_wait s id) i refl refl refl (other_without i id s.waits apart) refl refl;
   tasks = refl;
   sessions = λ h. h;
   active = λ h. h;
   waits = sorted_without id s.waits;
 }
-  where
-    signed : (i : ServiceId) → is_signed_for (without_wait s id) i ≡ is_signed_for s i
-    signed (Dialogue user) = refl
-    signed (Asynchronous number) = refl
 
 pub wait_alters : (s : State) (id : ServiceId) (w : Area × ℕ) → Alters s (record s { waits = put id_cmp id w s.waits }) id
 wait_alters s id w = record {
-  others = λ i apart. record { ready = refl; held = refl; opened = refl; waits = other_put i id w s.waits apart; row = refl; signed = signed i; job = λ began o h. h; clock = same_clock s };
+  others = λ i apart. left_where s (record s { waits = put id_cmp id w s.waits }) i refl refl refl (other_put i id w s.waits apart) refl refl;
   tasks = refl;
   sessions = λ h. h;
   active = λ h. h;
   waits = sorted_put id w s.waits;
 }
-  where
-    signed : (i : ServiceId) → is_signed_for (record s { waits = put id_cmp id w s.waits }) i ≡ is_signed_for s i
-    signed (Dialogue user) = refl
-    signed (Asynchronous number) = refl
 
 pub closed_alters : (s : State) (id : ServiceId) → Alters s (without_open s id) id
 closed_alters s id = alters_then s (without_wait s id) (without_open s id) id (unwaiting_alters s id) (record {
-  others = λ i apart. record { ready = refl; held = refl; opened = other_without i id s.active apart; waits = refl; row = refl; signed = signed i; job = λ began o h. h; clock = same_clock s };
+  others = λ i apart. left_where (without_wait s id) (without_open s id) i refl refl (other_without i id s.active apart) refl refl refl;
   tasks = refl;
   sessions = λ h. h;
   active = sorted_without id s.active;
   waits = λ h. h;
 })
-  where
-    signed : (i : ServiceId) → is_signed_for (without_open s id) i ≡ is_signed_for s i
-    signed (Dialogue user) = refl
-    signed (Asynchronous number) = refl
 
 -- at the back of the ready list
 abbrev pub with_ready : State → ServiceId → State
@@ -113,25 +96,12 @@ with_ready s id = record s { ready = s.ready ++ id ∷ [] }
 
 pub ready_alters : (s : State) (id : ServiceId) → Alters s (with_ready s id) id
 ready_alters s id = record {
-  others = λ i apart. record {
-    ready = times_push (id_eq i) s.ready id ∙ ap (λ b. cond b (suc (times (id_eq i) s.ready)) (times (id_eq i) s.ready)) apart;
-    held = refl;
-    opened = refl;
-    waits = refl;
-    row = refl;
-    signed = signed i;
-    job = λ began o h. h;
-    clock = same_clock s;
-  };
+  others = λ i apart. left_where s (with_ready s id) i (times_push (id_eq i) s.ready id ∙ ap (λ b. cond b (suc (times (id_eq i) s.ready)) (times (id_eq i) s.ready)) apart) refl refl refl refl refl;
   tasks = refl;
   sessions = λ h. h;
   active = λ h. h;
   waits = λ h. h;
 }
-  where
-    signed : (i : ServiceId) → is_signed_for (with_ready s id) i ≡ is_signed_for s i
-    signed (Dialogue user) = refl
-    signed (Asynchronous number) = refl
 
 -- no more in the ready list
 abbrev pub without_ready : State → ServiceId → State
@@ -139,16 +109,12 @@ without_ready s id = record s { ready = filter (λ (i : ServiceId). not (id_eq i
 
 pub unready_alters : (s : State) (id : ServiceId) → Alters s (without_ready s id) id
 unready_alters s id = record {
-  others = λ i apart. record { ready = times_without_other i id s.ready apart; held = refl; opened = refl; waits = refl; row = refl; signed = signed i; job = λ began o h. h; clock = same_clock s };
+  others = λ i apart. left_where s (without_ready s id) i (times_without_other i id s.ready apart) refl refl refl refl refl;
   tasks = refl;
   sessions = λ h. h;
   active = λ h. h;
   waits = λ h. h;
 }
-  where
-    signed : (i : ServiceId) → is_signed_for (without_ready s id) i ≡ is_signed_for s i
-    signed (Dialogue user) = refl
-    signed (Asynchronous number) = refl
 
 pub queued_alters : (s : State) (id : ServiceId) (x : OpenTransaction) → Alters s (queued s id x) id
 queued_alters s id x = alters_then s (with_open s id x) (queued s id x) id (open_alters s id x) (ready_alters (with_open s id x) id)
@@ -162,16 +128,7 @@ place_of i place = cond (in_place i place) 1 0
 pub task_alters : (s : State) (task : ℕ) (id : ServiceId) (old new : Option ServiceId) → slice_get s.tasks (task - 1) ≡ Some old
     → ((i : ServiceId) → id_eq i id ≡ false → (in_place i old ≡ false) × (in_place i new ≡ false)) → Alters s (with_task s task new) id
 task_alters s task id old new is none = record {
-  others = λ i apart. record {
-    ready = refl;
-    held = even i (none i apart) (times_set (in_place i) s.tasks (task - 1) old new is);
-    opened = refl;
-    waits = refl;
-    row = refl;
-    signed = signed i;
-    job = λ began o h. h;
-    clock = same_clock s;
-  };
+  others = λ i apart. left_where s (with_task s task new) i refl (even i (none i apart) (times_set (in_place i) s.tasks (task - 1) old new is)) refl refl refl refl;
   tasks = length-set s.tasks (task - 1) new;
   sessions = λ h. h;
   active = λ h. h;
@@ -186,10 +143,6 @@ task_alters s task id old new is none = record {
         let g : place_of i new ≡ 0 = ap {B = ℕ} (λ b. cond b 1 0) a.1 in
         omega arith
 
-    signed : (i : ServiceId) → is_signed_for (with_task s task new) i ≡ is_signed_for s i
-    signed (Dialogue user) = refl
-    signed (Asynchronous number) = refl
-
 pub freed_alters : (s : State) (task : ℕ) (id : ServiceId) → slice_get s.tasks (task - 1) ≡ Some (Some id) → Alters s (with_task s task None) id
 freed_alters s task id is = task_alters s task id (Some id) None is (λ i apart. (apart, refl))
 
@@ -202,16 +155,12 @@ without_place s id = record s { tasks = map (no_place id) s.tasks }
 
 pub unplaced_alters : (s : State) (id : ServiceId) → Alters s (without_place s id) id
 unplaced_alters s id = record {
-  others = λ i apart. record { ready = refl; held = times_freed_other i id s.tasks apart; opened = refl; waits = refl; row = refl; signed = signed i; job = λ began o h. h; clock = same_clock s };
+  others = λ i apart. left_where s (without_place s id) i refl (times_freed_other i id s.tasks apart) refl refl refl refl;
   tasks = length-map s.tasks (no_place id);
   sessions = λ h. h;
   active = λ h. h;
   waits = λ h. h;
 }
-  where
-    signed : (i : ServiceId) → is_signed_for (without_place s id) i ≡ is_signed_for s i
-    signed (Dialogue user) = refl
-    signed (Asynchronous number) = refl
 
 pub withdrawn_alters : (s : State) (id : ServiceId) → Alters s (withdrawn s id) id
 withdrawn_alters s id =
@@ -231,16 +180,12 @@ pub record KeepsRows (s : State) (t : TableRows) (id : ServiceId) : Type 0 where
 
 pub tables_alter : (s : State) (t : TableRows) (id : ServiceId) → KeepsRows s t id → Alters s (record s { tables = t }) id
 tables_alter s t id k = record {
-  others = λ i apart. record { ready = refl; held = refl; opened = refl; waits = refl; row = k.rows i apart; signed = signed i; job = λ began o h. k.jobs i began apart o h; clock = k.clock };
+  others = λ i apart. record { ready = refl; held = refl; opened = refl; waits = refl; row = k.rows i apart; signed = still_signed s (record s { tables = t }) i refl; job = λ began o h. k.jobs i began apart o h; clock = k.clock };
   tasks = refl;
   sessions = λ h. h;
   active = λ h. h;
   waits = λ h. h;
 }
-  where
-    signed : (i : ServiceId) → is_signed_for (record s { tables = t }) i ≡ is_signed_for s i
-    signed (Dialogue user) = refl
-    signed (Asynchronous number) = refl
 
 -- ---- sessions
 
@@ -276,49 +221,44 @@ sessions_alter s fs id same sessions = record {
     signed (Asynchronous number) apart = refl
 
 -- a session of a user who has none, at a terminal that has none
-pub session_alters : (s : State) (pterm user : Bytes) (last : Option Bytes) → find bytes_cmp pterm s.signed ≡ None → times (has_user user) s.signed ≡ 0 → Alters s (with_session s pterm user last) (Dialogue user)
-session_alters s pterm user last free none = sessions_alter s (put bytes_cmp pterm v s.signed) (Dialogue user) same sessions
+session_alters_by : (s : State) (pterm : Bytes) (v : Session) → find bytes_cmp pterm s.signed ≡ None → times (has_user v.user) s.signed ≡ 0 → Alters s (record s { signed = signed_at pterm v s.signed }) (Dialogue v.user)
+session_alters_by s pterm v free none = sessions_alter s (signed_at pterm v s.signed) (Dialogue v.user) (λ u apart. same u apart (bytes_eq v.user u) refl (more u)) sessions
   where
-    v : Session
-    v = record { user = user; last = last }
+    more : (u : Bytes) → times (has_user u) (signed_at pterm v s.signed) ≡ cond (bytes_eq v.user u) (suc (times (has_user u) s.signed)) (times (has_user u) s.signed)
+    more u = signed_more (has_user u) pterm v s.signed free
 
-    more : (u : Bytes) → times (has_user u) (put bytes_cmp pterm (record { user = user; last = last }) s.signed) ≡ cond (bytes_eq user u) (suc (times (has_user u) s.signed)) (times (has_user u) s.signed)
-    more u = signed_more (has_user u) pterm (record { user = user; last = last }) s.signed free
+    same : (u : Bytes) → id_eq (Dialogue u) (Dialogue v.user) ≡ false → (b : Bool) → bytes_eq v.user u ≡ b
+        → times (has_user u) (signed_at pterm v s.signed) ≡ cond b (suc (times (has_user u) s.signed)) (times (has_user u) s.signed) → times (has_user u) (signed_at pterm v s.signed) ≡ times (has_user u) s.signed
+    same u apart true e h = absurd (true≢false (sym (id_eq-itself (Dialogue v.user)) ∙ ap (λ n. id_eq (Dialogue n) (Dialogue v.user)) (same_bytes v.user u e) ∙ apart))
+    same u apart false e h = h
 
-    same : (u : Bytes) → id_eq (Dialogue u) (Dialogue user) ≡ false → times (has_user u) (put bytes_cmp pterm (record { user = user; last = last }) s.signed) ≡ times (has_user u) s.signed
-    same u apart = by (bytes_eq user u) refl (more u)
-      where
-        by : (b : Bool) → bytes_eq user u ≡ b → times (has_user u) (put bytes_cmp pterm (record { user = user; last = last }) s.signed) ≡ cond b (suc (times (has_user u) s.signed)) (times (has_user u) s.signed)
-            → times (has_user u) (put bytes_cmp pterm (record { user = user; last = last }) s.signed) ≡ times (has_user u) s.signed
-        by true e h = absurd (true≢false (sym (id_eq-itself (Dialogue user)) ∙ ap (λ n. id_eq (Dialogue n) (Dialogue user)) (same_bytes user u e) ∙ apart))
-        by false e h = h
+    once : (u : Bytes) (b : Bool) → bytes_eq v.user u ≡ b → times (has_user u) (signed_at pterm v s.signed) ≡ cond b (suc (times (has_user u) s.signed)) (times (has_user u) s.signed)
+        → times (has_user u) s.signed ≤ 1 → times (has_user u) (signed_at pterm v s.signed) ≤ 1
+    once u true e h o = let z : times (has_user u) s.signed ≡ 0 = ap (λ n. times (has_user n) s.signed) (sym (same_bytes v.user u e)) ∙ none in omega arith
+    once u false e h o = omega arith
 
-    sessions : AreSessions s.signed → AreSessions (put bytes_cmp pterm (record { user = user; last = last }) s.signed)
-    sessions a = record { sorted = signed_sorted pterm (record { user = user; last = last }) s.signed a.sorted; once = λ u. by u (bytes_eq user u) refl (more u) (a.once u) }
-      where
-        by : (u : Bytes) (b : Bool) → bytes_eq user u ≡ b → times (has_user u) (put bytes_cmp pterm (record { user = user; last = last }) s.signed) ≡ cond b (suc (times (has_user u) s.signed)) (times (has_user u) s.signed)
-            → times (has_user u) s.signed ≤ 1 → times (has_user u) (put bytes_cmp pterm (record { user = user; last = last }) s.signed) ≤ 1
-        by u true e h o =
-            let z : times (has_user u) s.signed ≡ 0 = ap (λ n. times (has_user n) s.signed) (sym (same_bytes user u e)) ∙ none in
-            omega arith
-        by u false e h o = omega arith
+    sessions : AreSessions s.signed → AreSessions (signed_at pterm v s.signed)
+    sessions a = record { sorted = signed_sorted pterm v s.signed a.sorted; once = λ u. once u (bytes_eq v.user u) refl (more u) (a.once u) }
+
+pub session_alters : (s : State) (pterm user : Bytes) (last : Option Bytes) → find bytes_cmp pterm s.signed ≡ None → times (has_user user) s.signed ≡ 0 → Alters s (with_session s pterm user last) (Dialogue user)
+session_alters s pterm user last free none = session_alters_by s pterm (record { user = user; last = last }) free none
 
 -- the terminal of a user is left
 pub off_alters : (s : State) (pterm : Bytes) (v : Session) → IsTrue (is_sorted bytes_cmp s.signed) → find bytes_cmp pterm s.signed ≡ Some v → Alters s (without_session s pterm) (Dialogue v.user)
-off_alters s pterm v sorted is = sessions_alter s (where_key bytes_cmp (λ p. not (bytes_eq pterm p)) s.signed) (Dialogue v.user) same sessions
+off_alters s pterm v sorted is = sessions_alter s (left_at pterm s.signed) (Dialogue v.user) same sessions
   where
-    same : (u : Bytes) → id_eq (Dialogue u) (Dialogue v.user) ≡ false → times (has_user u) (where_key bytes_cmp (λ p. not (bytes_eq pterm p)) s.signed) ≡ times (has_user u) s.signed
+    same : (u : Bytes) → id_eq (Dialogue u) (Dialogue v.user) ≡ false → times (has_user u) (left_at pterm s.signed) ≡ times (has_user u) s.signed
     same u apart = signed_less u pterm s.signed sorted (λ w h. by w (bytes_eq w.user u) refl (ap (λ (x : Session). x.user) (some_is w v (sym h ∙ is))))
       where
         by : (w : Session) (b : Bool) → bytes_eq w.user u ≡ b → w.user ≡ v.user → bytes_eq w.user u ≡ false
         by w true e q = absurd (true≢false (sym (id_eq-itself (Dialogue v.user)) ∙ ap (λ n. id_eq (Dialogue n) (Dialogue v.user)) (sym q ∙ same_bytes w.user u e) ∙ apart))
         by w false e q = e
 
-    sessions : AreSessions s.signed → AreSessions (where_key bytes_cmp (λ p. not (bytes_eq pterm p)) s.signed)
+    sessions : AreSessions s.signed → AreSessions (left_at pterm s.signed)
     sessions a = record { sorted = left_sorted pterm s.signed a.sorted; once = λ u. at_most u (fewer pterm (has_user u) s.signed) (a.once u) }
       where
-        at_most : (u : Bytes) → times (has_user u) (where_key bytes_cmp (λ q. not (bytes_eq pterm q)) s.signed) ≤ times (has_user u) s.signed → times (has_user u) s.signed ≤ 1
-            → times (has_user u) (where_key bytes_cmp (λ q. not (bytes_eq pterm q)) s.signed) ≤ 1
+        at_most : (u : Bytes) → times (has_user u) (left_at pterm s.signed) ≤ times (has_user u) s.signed → times (has_user u) s.signed ≤ 1
+            → times (has_user u) (left_at pterm s.signed) ≤ 1
         at_most u h k = omega arith
 
 -- the last message of a session leaves every service as it was
@@ -342,8 +282,7 @@ last_alters s (Some pterm) message id sorted = by (find bytes_cmp pterm s.signed
     by : (o : Option Session) → find bytes_cmp pterm s.signed ≡ o → Alters s (noted_last s pterm message o) id
     by None e = still s id
     by (Some v) e =
-        let w : Session = record v { last = Some message } in
-        sessions_alter s (put bytes_cmp pterm (record v { last = Some message }) s.signed) id
+        sessions_alter s (signed_at pterm (record v { last = Some message }) s.signed) id
         (λ user apart. signed_same user pterm v (record v { last = Some message }) s.signed sorted e refl)
         (λ a. record {
           sorted = signed_sorted pterm (record v { last = Some message }) s.signed a.sorted;

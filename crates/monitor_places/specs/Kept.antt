@@ -33,6 +33,16 @@ use Rattle.monitor_semantics.specs.Endings.{followed}
 use Rattle.monitor_semantics.specs.State.{Application, OpenTransaction, unit_of}
 use Rattle.monitor_semantics.specs.Statements.{Stated, area_of_call, area_of_step, area_in_unit, area_of, by_outcome, by_call, by_performed, by_step, in_unit, statement}
 
+-- ---- areas held
+
+-- the area is one of these
+abbrev has_area : Area → List Area → Bool
+has_area area areas = list_any (λ (held : Area). area_eq held area) areas
+
+-- without this one
+abbrev without_area : Area → List Area → List Area
+without_area area areas = filter (λ (held : Area). not (area_eq held area)) areas
+
 -- ---- calls
 
 -- the call is no PEND that goes through
@@ -68,7 +78,7 @@ pub record IsKept (v : Told) (of : Option Area) (x : OpenTransaction) (p : Perfo
 
 quiet-kept : (v : Told) (of : Option Area) (x : OpenTransaction) (p : Performed) → IsQuiet x p → IsKept v of x p
 quiet-kept v of x p q = record {
-  touched = λ area h. inl (subst (λ l. IsTrue (list_any (λ (held : Area). area_eq held area) l)) q.touched h);
+  touched = λ area h. inl (subst (λ l. IsTrue (has_area area l)) q.touched h);
   began = q.began;
   pends_not = q.pends_not;
 }
@@ -125,17 +135,17 @@ local-quiet x name bytes false = record { touched = refl; began = refl; pends_no
 
 -- ---- locks
 
-pushed : (l : List Area) (new a : Area) → IsTrue (list_any (λ (held : Area). area_eq held a) (l ++ new ∷ [])) → IsTrue (list_any (λ (held : Area). area_eq held a) l) ⊎ (new ≡ a)
+pushed : (l : List Area) (new a : Area) → IsTrue (has_area a (l ++ new ∷ [])) → IsTrue (has_area a l) ⊎ (new ≡ a)
 pushed [] new a h = by (area_eq new a) refl h
   where
-    by : (b : Bool) → area_eq new a ≡ b → (b || false) ≡ true → IsTrue (list_any (λ (held : Area). area_eq held a) []) ⊎ (new ≡ a)
+    by : (b : Bool) → area_eq new a ≡ b → (b || false) ≡ true → IsTrue (has_area a []) ⊎ (new ≡ a)
     by true e t = inr (area_eq-same new a e)
     by false e t = inl t
 pushed (y ∷ l) new a h = by (area_eq y a) h (pushed l new a)
   where
-    by : (b : Bool) → (b || list_any (λ (held : Area). area_eq held a) (l ++ new ∷ [])) ≡ true
-        → (IsTrue (list_any (λ (held : Area). area_eq held a) (l ++ new ∷ [])) → IsTrue (list_any (λ (held : Area). area_eq held a) l) ⊎ (new ≡ a))
-        → ((b || list_any (λ (held : Area). area_eq held a) l) ≡ true) ⊎ (new ≡ a)
+    by : (b : Bool) → (b || has_area a (l ++ new ∷ [])) ≡ true
+        → (IsTrue (has_area a (l ++ new ∷ [])) → IsTrue (has_area a l) ⊎ (new ≡ a))
+        → ((b || has_area a l) ≡ true) ⊎ (new ≡ a)
     by true t later = inl refl
     by false t later = later t
 
@@ -162,7 +172,7 @@ locked-kept v x area go quiet = by (answer_by v (touches x area)) refl
         let y = touching x area (touches x area) in
         let g = quiet y in
         record {
-          touched = λ a h. touching-kept v x area (touches x area) refl (granted (touches x area) refl q) a (subst (λ l. IsTrue (list_any (λ (held : Area). area_eq held a) l)) g.touched h);
+          touched = λ a h. touching-kept v x area (touches x area) refl (granted (touches x area) refl q) a (subst (λ l. IsTrue (has_area a l)) g.touched h);
           began = g.began ∙ touching-began x area (touches x area);
           pends_not = g.pends_not;
         }
@@ -172,24 +182,21 @@ locked-kept v x area go quiet = by (answer_by v (touches x area)) refl
 
 -- ---- UNLK
 
-without_touched : (area a : Area) (l : List Area) → IsTrue (list_any (λ (held : Area). area_eq held a) (filter (λ (held : Area). not (area_eq held area)) l)) → IsTrue (list_any (λ (held : Area). area_eq held a) l)
+without_touched : (area a : Area) (l : List Area) → IsTrue (has_area a (without_area area l)) → IsTrue (has_area a l)
 without_touched area a [] h = h
 without_touched area a (b ∷ l) h = by (not (area_eq b area)) (area_eq b a) h (without_touched area a l)
   where
-    left : List Area
-    left = filter (λ (held : Area). not (area_eq held area)) l
-
-    by : (c d : Bool) → IsTrue (list_any (λ (held : Area). area_eq held a) (cond c (b ∷ filter (λ (held : Area). not (area_eq held area)) l) (filter (λ (held : Area). not (area_eq held area)) l)))
-        → (IsTrue (list_any (λ (held : Area). area_eq held a) (filter (λ (held : Area). not (area_eq held area)) l)) → IsTrue (list_any (λ (held : Area). area_eq held a) l)) → IsTrue (area_eq b a || list_any (λ (held : Area). area_eq held a) l)
+    by : (c d : Bool) → IsTrue (has_area a (cond c (b ∷ without_area area l) (without_area area l)))
+        → (IsTrue (has_area a (without_area area l)) → IsTrue (has_area a l)) → IsTrue (area_eq b a || has_area a l)
     by true d t f = either (area_eq b a) t f
       where
-        either : (e : Bool) → IsTrue (e || list_any (λ (held : Area). area_eq held a) (filter (λ (held : Area). not (area_eq held area)) l))
-            → (IsTrue (list_any (λ (held : Area). area_eq held a) (filter (λ (held : Area). not (area_eq held area)) l)) → IsTrue (list_any (λ (held : Area). area_eq held a) l)) → IsTrue (e || list_any (λ (held : Area). area_eq held a) l)
+        either : (e : Bool) → IsTrue (e || has_area a (without_area area l))
+            → (IsTrue (has_area a (without_area area l)) → IsTrue (has_area a l)) → IsTrue (e || has_area a l)
         either true t f = refl
         either false t f = f t
     by false d t f = later (area_eq b a) (f t)
       where
-        later : (e : Bool) → IsTrue (list_any (λ (held : Area). area_eq held a) l) → IsTrue (e || list_any (λ (held : Area). area_eq held a) l)
+        later : (e : Bool) → IsTrue (has_area a l) → IsTrue (e || has_area a l)
         later true t = refl
         later false t = t
 

@@ -8,7 +8,7 @@ use Rattle.kdcs_types.specs.declared.key.ServiceId.{ServiceId}
 use Rattle.kdcs_types.specs.declared.key.ServiceId.TheVariants.{Dialogue, Asynchronous}
 use Rattle.kdcs_types.specs.declared.service.Service.{Service}
 use Rattle.kdcs_types.specs.Keys.{id_cmp, id_eq}
-use Rattle.kdcs_types.specs.Tables.{service_of}
+use Rattle.kdcs_types.specs.Tables.{TableRows, service_of}
 use Rattle.monitor_semantics.specs.Bytes.{Bytes, bytes_cmp}
 use Rattle.monitor_semantics.specs.Endings.{is_asynchronous}
 use Rattle.monitor_semantics.specs.Locks.{IsExclusive, Waiting}
@@ -178,6 +178,25 @@ left_placed app s u id l p = record {
 
 pub left_itself : (s : State) (id : ServiceId) → IsLeft s s id
 left_itself s id = record { ready = refl; held = refl; opened = refl; waits = refl; row = refl; signed = refl; job = λ began o h. h; clock = omega arith }
+
+-- the sessions are the same
+pub still_signed : (s u : State) (id : ServiceId) → u.signed ≡ s.signed → is_signed_for u id ≡ is_signed_for s id
+still_signed s u (Dialogue user) e = ap (λ es. is_some (pterm_of_user es user)) e
+still_signed s u (Asynchronous number) e = refl
+
+-- sessions and tables are the same, and so is what stands there for the service
+pub left_where : (s u : State) (id : ServiceId) → times_ready u id ≡ times_ready s id → times_held u id ≡ times_held s id → find id_cmp id u.active ≡ find id_cmp id s.active
+    → find id_cmp id u.waits ≡ find id_cmp id s.waits → u.signed ≡ s.signed → u.tables ≡ s.tables → IsLeft s u id
+left_where s u id ready held opened waits signed tables = record {
+  ready = ready;
+  held = held;
+  opened = opened;
+  waits = waits;
+  row = ap (λ t. service_of t id) tables;
+  signed = still_signed s u id signed;
+  job = λ began o h. subst (λ t. HasOwnJob t id began) (sym tables) h;
+  clock = subst (λ (t : TableRows). s.tables.clock ≤ t.clock) (sym tables) (omega arith);
+}
 
 pub left_then : (s u v : State) (id : ServiceId) → IsLeft s u id → IsLeft u v id → IsLeft s v id
 left_then s u v id a b = record {
