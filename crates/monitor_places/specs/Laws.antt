@@ -1,0 +1,26 @@
+-- What a step keeps: from a state with both kinds of facts each turn and each command comes to a consistent one, and so does a start.
+use Rattle.std.specs.Prelude.{ℕ}
+use Rattle.kdcs_types.specs.Tables.{TableRows, IsSortedTables}
+use Rattle.kdcdef_types.specs.Statements.{IsWithin}
+use Rattle.monitor_semantics.specs.Commands.{Command, started, command_of}
+use Rattle.monitor_semantics.specs.State.{Application, State}
+use Rattle.monitor_semantics.specs.Turns.{turn_of}
+use Rattle.monitor_laws.specs.Applications.{IsApplication, IsCommandOf}
+use Rattle.monitor_laws.specs.Facts.{IsConsistent, IsSoundState}
+use Rattle.monitor_laws.specs.Keeping.{Leads, HasFacts, HoldsAlong}
+use Rattle.monitor_laws.specs.Suits.{Suits}
+
+abbrev pub TurnsStayConsistent : Type 0
+TurnsStayConsistent =
+    (app : Application) (s : State) (task : ℕ) → IsApplication app → IsWithin 1 app.generation.limits.tasks task → HasFacts app s → IsConsistent app (turn_of app s task).after
+
+abbrev pub CommandsStayConsistent : Type 0
+CommandsStayConsistent =
+    (app : Application) (s : State) (c : Command) → IsApplication app → IsCommandOf app.generation c → HasFacts app s → IsConsistent app (command_of app s c).after
+
+abbrev pub StartsAreConsistent : Type 0
+StartsAreConsistent = (app : Application) (t : TableRows) → IsApplication app → IsSortedTables t → Suits app.generation t → IsConsistent app (started app t)
+
+-- the steps that keep the tables and transactions sound keep both kinds of facts
+abbrev pub SoundStepsKeepFacts : Type 0
+SoundStepsKeepFacts = Leads HasFacts (λ app s. IsSoundState app s) → HoldsAlong HasFacts

@@ -1,0 +1,11 @@
+pub mod Counts
+pub mod Terminals
+pub mod Places
+pub mod Changes
+pub mod Kept
+pub mod Rows
+pub mod Areas
+pub mod Entries
+pub mod After
+pub mod Along
+pub mod Laws
