@@ -4,11 +4,20 @@
 //! which all crates above may cite.
 #![tactic(auto)]
 
-ghost use Rattle.monitor_tables.specs.OpenLaws.{RunsAreReady, OpensHaveUnits, OperandsAreShort};
+ghost use Rattle.monitor_tables.specs.OpenLaws.{RunsAreReady, OpensHaveUnits, OperandsAreShort, CallsKeep, StatementsKeep, FurtherRunsGoOn, OpeningsGoOn};
 
 /// An open transaction has a unit, its unit run can be stepped, and no operand of a call is longer than 32,767 bytes.
 pub fn runs_are_ready()
     ensures units { OpensHaveUnits }
     ensures ready { RunsAreReady }
     ensures operands { OperandsAreShort }
+{}
+
+/// Calls, statements, further unit runs and openings leave transactions that can go on, and a call's reply can be
+/// stored.
+pub fn transactions_go_on()
+    ensures calls { CallsKeep }
+    ensures statements { StatementsKeep }
+    ensures runs { FurtherRunsGoOn }
+    ensures openings { OpeningsGoOn }
 {}
