@@ -4,3 +4,7 @@ pub mod Calls
 pub mod Stated
 pub mod RowParts
 pub mod Openings
+pub mod Items
+pub mod Rows
+pub mod Points
+pub mod Ends

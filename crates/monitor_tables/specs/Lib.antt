@@ -1,2 +1,3 @@
 pub mod OpenLaws
+pub mod PointLaws
 pub mod Ready

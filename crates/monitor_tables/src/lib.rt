@@ -5,6 +5,7 @@
 #![tactic(auto)]
 
 ghost use Rattle.monitor_tables.specs.OpenLaws.{RunsAreReady, OpensHaveUnits, OperandsAreShort, CallsKeep, StatementsKeep, FurtherRunsGoOn, OpeningsGoOn};
+ghost use Rattle.monitor_tables.specs.PointLaws.{PointsStaySound, EndsStaySound, SignOffsStaySound, ShowsStaySound, TicksStaySound, StartsAreSound};
 
 /// An open transaction has a unit, its unit run can be stepped, and no operand of a call is longer than 32,767 bytes.
 pub fn runs_are_ready()
@@ -20,4 +21,15 @@ pub fn transactions_go_on()
     ensures statements { StatementsKeep }
     ensures runs { FurtherRunsGoOn }
     ensures openings { OpeningsGoOn }
+{}
+
+/// Synchronisation points that are not refused, abnormal ends, signing off, shown messages, ticks and starts leave
+/// tables in order that suit the generation; all but the points take no more pages.
+pub fn points_and_ends_suit()
+    ensures points { PointsStaySound }
+    ensures ends { EndsStaySound }
+    ensures sign_offs { SignOffsStaySound }
+    ensures shows { ShowsStaySound }
+    ensures ticks { TicksStaySound }
+    ensures starts { StartsAreSound }
 {}
