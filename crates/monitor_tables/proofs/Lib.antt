@@ -8,3 +8,7 @@ pub mod Items
 pub mod Rows
 pub mod Points
 pub mod Ends
+pub mod Uses
+pub mod States
+pub mod Turned
+pub mod Commanded

@@ -82,7 +82,7 @@ opened-can g id began h unread inputs w = record {
   drafts = refl;
 }
 
-starts-can : (g : Generated) (user lterm tac input : Bytes) → IsTrue (is_user g user) → IsTrue (is_lterm g lterm) → IsTrue (has_kind g tac false) → IsTrue (fits_message g input)
+pub starts-can : (g : Generated) (user lterm tac input : Bytes) → IsTrue (is_user g user) → IsTrue (is_lterm g lterm) → IsTrue (has_kind g tac false) → IsTrue (fits_message g input)
     → CanGoOn g (Dialogue user) (opened_by_start g user lterm tac input)
 starts-can g user lterm tac input u l kind fits =
     opened-can g (Dialogue user) None (header_of user lterm tac tac) (input ∷ []) (input ∷ [])
@@ -109,13 +109,13 @@ row-opens g row lterm unread r l message =
       lssbs = r.lssbs;
     }
 
-inputs-can : (g : Generated) (user : Bytes) (row : Service) (lterm input : Bytes) → IsTrue (service_suits g row) → row.id ≡ Dialogue user → IsTrue (is_lterm g lterm) → IsTrue (fits_message g input)
+pub inputs-can : (g : Generated) (user : Bytes) (row : Service) (lterm input : Bytes) → IsTrue (service_suits g row) → row.id ≡ Dialogue user → IsTrue (is_lterm g lterm) → IsTrue (fits_message g input)
     → CanGoOn g (Dialogue user) (opened_by_input g (Dialogue user) row lterm input)
 inputs-can g user row lterm input suits same l fits =
     subst (λ (i : ServiceId). CanGoOn g i (opened_by_input g i row lterm input)) same
     (opened-can g row.id (Some row) (header_of (user_in_row row.id row) lterm row.first row.next) (input ∷ []) (input ∷ []) (row-opens g row lterm (input ∷ []) (row_parts g row suits) l (one_message g input fits)))
 
-rows-can : (g : Generated) (id : ServiceId) (row : Service) (lterm : Bytes) → IsTrue (service_suits g row) → row.id ≡ id → IsTrue (is_lterm g lterm) → CanGoOn g id (opened_by_row g id row lterm)
+pub rows-can : (g : Generated) (id : ServiceId) (row : Service) (lterm : Bytes) → IsTrue (service_suits g row) → row.id ≡ id → IsTrue (is_lterm g lterm) → CanGoOn g id (opened_by_row g id row lterm)
 rows-can g id row lterm suits same l =
     let r = row_parts g row suits in
     let message : IsMessage g row.handed = record { count = leb-true (length row.handed) 16 r.handed_count; bytes = leb-true (sum_by length row.handed) g.limits.nb r.handed } in
@@ -161,7 +161,7 @@ job_whole g j s =
     let a : IsTrue (value_suits g j.value && fits_message g j.value.message) = true_both (value_suits g j.value) (fits_message g j.value.message) b s.message in
     true_both (value_suits g j.value && fits_message g j.value.message) (target_suits g j.value.to (job_target g (target_name j.value.to))) a s.target
 
-jobs-can : (g : Generated) (job : Job) (tac : Bytes) → IsTrue (job_suits g job) → job.value.to ≡ Tac tac → CanGoOn g (Asynchronous job.number) (opened_by_job g job.value tac)
+pub jobs-can : (g : Generated) (job : Job) (tac : Bytes) → IsTrue (job_suits g job) → job.value.to ≡ Tac tac → CanGoOn g (Asynchronous job.number) (opened_by_job g job.value tac)
 jobs-can g job tac suits to =
     let s = job_parts g job suits in
     let kind = tac-kind g tac (subst (λ (t : Target). IsTrue (target_suits g t (job_target g (target_name t)))) to s.target) in

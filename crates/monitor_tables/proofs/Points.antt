@@ -462,3 +462,10 @@ not_refused g t h = by (nat_lt g.limits.gssbs (length t.gssbs)) refl (nat_lt las
 pub points_stay_sound : PointsStaySound
 points_stay_sound g t id x o stands fits h =
     sound g (synchronised g t id x o) (point-good g t id x o (good g t stands.sound) stands.can stands.rooted fits) (not_refused g (durable g (synchronised g t id x o)) h)
+
+-- the row behind a point suits
+pub next_row : (g : Generated) (t : TableRows) (id : ServiceId) (x : OpenTransaction) (o : Outcome) → Stands g t id x → OutcomeFits g (is_asynchronous id) o → (row : Service) → row_after g id x o ≡ Some row → IsTrue (service_suits g row) × (row.id ≡ id)
+next_row g t id x o stands fits row e =
+    let row_fits : RowFits g id row =
+        subst (λ (r : Option Service). IfSome r (λ (s : Service). RowFits g id s)) e (row-fits g id x o stands.can (began-suits g t id x.began (good g t stands.sound) stands.rooted.began) fits) in
+    (row_fits.suits, row_fits.own)

@@ -6,6 +6,7 @@
 
 ghost use Rattle.monitor_tables.specs.OpenLaws.{RunsAreReady, OpensHaveUnits, OperandsAreShort, CallsKeep, StatementsKeep, FurtherRunsGoOn, OpeningsGoOn};
 ghost use Rattle.monitor_tables.specs.PointLaws.{PointsStaySound, EndsStaySound, SignOffsStaySound, ShowsStaySound, TicksStaySound, StartsAreSound};
+ghost use Rattle.monitor_tables.specs.StateLaws.{StatesStaySound};
 
 /// An open transaction has a unit, its unit run can be stepped, and no operand of a call is longer than 32,767 bytes.
 pub fn runs_are_ready()
@@ -32,4 +33,10 @@ pub fn points_and_ends_suit()
     ensures shows { ShowsStaySound }
     ensures ticks { TicksStaySound }
     ensures starts { StartsAreSound }
+{}
+
+/// Each turn and each command keeps what holds of tables, sessions and open transactions, where all else that holds of
+/// a state does too; and each start from tables that suit begins with it.
+pub fn states_stay_sound()
+    ensures { StatesStaySound }
 {}
