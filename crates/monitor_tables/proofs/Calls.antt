@@ -1,24 +1,22 @@
 -- A call that is performed leaves an open transaction that can go on, and its reply can be stored.
-use Rattle.std.specs.Prelude.{◌≡◌, refl, ℕ, zero, suc, ◌+◌, ◌*◌, ◌≤◌, ◌<◌, Bool, true, false, cond, ◌&&◌, ◌||◌, not, IsTrue, IsSome, IfSome, List, [], ◌∷◌, ◌++◌, length, filter, sum_by, count_by, Option, None, Some, Result, Ok, Err, is_some, nat_le, nat_lt, bytes_eq, if◌then◌else◌, option_and_then}
+use Rattle.std.specs.Prelude.{◌≡◌, refl, ℕ, ◌+◌, ◌*◌, ◌≤◌, ◌<◌, Bool, true, false, cond, ◌&&◌, ◌||◌, not, IsTrue, IsSome, IfSome, List, [], ◌∷◌, ◌++◌, length, filter, sum_by, count_by, Option, None, Some, Result, Ok, Err, is_some, nat_le, nat_lt, bytes_eq, if◌then◌else◌, option_and_then}
 use Rattle.std.proofs.Common.{sym, ap, subst, ◌∙◌, arith, true≢false, length-append}
 use Rattle.std.proofs.lemmas.Bool.{leb-true, le-leb, ltb-true, leb-false}
 use Rattle.std.proofs.lemmas.List.Sums.{sum_by-cons, sum_by_push}
 use Rattle.std.specs.List.{list_all, list_any}
 use Rattle.std.specs.Cmp.{IsTotalOrder, eq_by_cmp_equiv}
 use Rattle.std.specs.Cmp.Lexicographic.{nat_list_cmp_total}
-use Rattle.std.specs.FinMap.{find, put, is_sorted, IsAntisymmetric, slice_cmp-IsAntisymmetric, nat_cmp-IsAntisymmetric}
-use Rattle.std.specs.FinMap.Entries.{where_key}
+use Rattle.std.specs.FinMap.{find, put, IsAntisymmetric, slice_cmp-IsAntisymmetric, nat_cmp-IsAntisymmetric}
 use Rattle.kd_base.specs.declared.words.Variant.{Variant}
 use Rattle.kd_base.specs.declared.words.Variant.TheVariants.{Kp, Pr, Pa, Re, Sp, Fi, Fc, Fr, Er, Rs}
 use Rattle.kd_base.specs.declared.words.Mode.{Mode}
 use Rattle.kd_base.specs.declared.words.Mode.TheVariants.{Relative, Absolute}
-use Rattle.kd_base.specs.Tools.{both_true, true_both, some_is, ok_is, err_of}
+use Rattle.kd_base.specs.Tools.{both_true, true_both, some_is, ok_is}
 use Rattle.kdcs_types.specs.declared.call.Call.{Call}
 use Rattle.kdcs_types.specs.declared.call.Call.TheVariants.{Init, Mget, Mput, Fget, Fput, Dput, SgetGb, SputGb, SrelGb, SgetKp, SgetRl, SputMs, SrelLb, SgetUs, SputUs, Gtda, Ptda, UnlkGb, UnlkUs, UnlkDa, Pend}
 use Rattle.kdcs_types.specs.declared.call.Cause.{Cause}
 use Rattle.kdcs_types.specs.declared.call.Code.{Code}
 use Rattle.kdcs_types.specs.declared.call.Code.TheVariants.{Done, K03, K04, K05, K06, K07, K09}
-use Rattle.kdcs_types.specs.declared.call.Reply.{Reply}
 use Rattle.kdcs_types.specs.declared.key.Area.{Area}
 use Rattle.kdcs_types.specs.declared.key.Area.TheVariants.{Gssb, Tls, Uls}
 use Rattle.kdcs_types.specs.declared.key.ServiceId.{ServiceId}
@@ -39,19 +37,18 @@ use Rattle.monitor_semantics.specs.declared.answer.LockAnswer.TheVariants.{Grant
 use Rattle.monitor_semantics.specs.declared.answer.Called.{Called}
 use Rattle.monitor_semantics.specs.declared.answer.Called.TheVariants.{Replied, Waits, Abnormal, Pends}
 use Rattle.monitor_semantics.specs.declared.outcome.Outcome.{Outcome}
-use Rattle.monitor_semantics.specs.declared.outcome.Outcome.TheVariants.{Stay, Queue, Hold, Wait, Point, Finish, Follow, Break, Back}
 use Rattle.monitor_semantics.specs.declared.draft.Due.{Due}
-use Rattle.monitor_semantics.specs.declared.draft.Due.TheVariants.{After, At}
+use Rattle.monitor_semantics.specs.declared.draft.Due.TheVariants.{After}
 use Rattle.monitor_semantics.specs.declared.draft.Draft.{Draft}
 use Rattle.monitor_semantics.specs.Bytes.{Bytes, bytes_cmp}
 use Rattle.monitor_semantics.specs.State.{OpenTransaction}
 use Rattle.monitor_semantics.specs.Outcomes.{same_kind, goes_within, goes_first, is_for_kind, may_follow, takes_follow_up, needs_message, fits_follow_up, goes_by, name_or_empty, pend_by, pend_outcome}
-use Rattle.monitor_semantics.specs.Calls.{Told, Performed, replied, read_answer, refused, read_or, for_kind, within_length, with_name, declared, name_in_operand, touches, touching, noted, on_answer, answer_by, locked, shown_by, seen, got_by, got, put_part, target_by, job_target, due_in, moment_of, moment_by, drafted, put_job, wrote, deleted, read_gssb, write_gssb, delete_gssb, or_empty, read_block, write_block, unlocked_by, unlocked, without_local, write_local, read_away_by, read_away, delete_local_by, delete_local, has_message, pended, name_by, pend, called, first_call, called_by, call_outcome}
+use Rattle.monitor_semantics.specs.Calls.{Told, Performed, replied, read_answer, refused, read_or, for_kind, within_length, with_name, declared, name_in_operand, touches, touching, noted, on_answer, answer_by, locked, shown_by, seen, got_by, got, put_part, target_by, job_target, due_in, moment_of, moment_by, drafted, put_job, wrote, deleted, or_empty, read_block, write_block, unlocked_by, unlocked, without_local, write_local, read_away_by, delete_local_by, has_message, pended, name_by, called, first_call, called_by, call_outcome}
 use Rattle.monitor_semantics.specs.Endings.{is_asynchronous}
-use Rattle.monitor_laws.specs.Suits.{fits_content, fits_message, is_user, is_lterm, has_kind, has_kind_by, target_suits, target_name}
+use Rattle.monitor_laws.specs.Suits.{fits_content, fits_message, is_user, is_lterm, has_kind_by, target_suits, target_name}
 use Rattle.monitor_laws.specs.Transactions.{IsMessage, PutsNone, area_is_declared, fits_if_there, written_fits, last_moment, due_fits, draft_fits, CanGoOn}
 use Rattle.monitor_tables.specs.OpenLaws.{reads, has_short_operands, ToldFits, OutcomeFits}
-use Rattle.monitor_tables.proofs.Lists.{bytes_same_eq, bytes_eq_itself, not_true, all_imply, all_both, all_filter, filter_passes, all_append, any_append, any_last, any_filter, length_filter, sum_filter, count_none, found_passes, missing_apart, all_put, sorted_put, sorted_where, length_put}
+use Rattle.monitor_tables.proofs.Lists.{bytes_eq_itself, all_imply, all_both, all_filter, all_append, any_append, any_last, any_filter, length_filter, sum_filter, count_none, found_passes, missing_apart, all_put, sorted_put, sorted_where, length_put}
 use Rattle.monitor_tables.proofs.Updates.{with_inited, with_unread, with_parts, with_notes, with_written, with_touched, with_lssbs, with_drafts}
 
 -- ---- what a performed call keeps

@@ -1,9 +1,9 @@
 -- Each command and each start keeps a sound state.
-use Rattle.std.specs.Prelude.{◌≡◌, refl, ℕ, ◌+◌, Bool, true, false, cond, ◌&&◌, ◌||◌, not, IsTrue, IsSome, IfSome, List, [], ◌∷◌, map, filter, Option, None, Some, is_some, nat_le}
-use Rattle.std.proofs.Common.{sym, ap, subst, ◌∙◌, true≢false}
+use Rattle.std.specs.Prelude.{◌≡◌, refl, ℕ, ◌+◌, Bool, true, false, cond, IsTrue, IfSome, List, [], ◌∷◌, map, Option, None, Some, nat_le}
+use Rattle.std.proofs.Common.{sym, ap, subst, true≢false}
 use Rattle.std.proofs.lemmas.Bool.{leb-true}
-use Rattle.std.specs.List.{list_all, list_any}
-use Rattle.std.specs.FinMap.{find, put}
+use Rattle.std.specs.List.{list_all}
+use Rattle.std.specs.FinMap.{find}
 use Rattle.kd_base.specs.Tools.{both_true, some_is}
 use Rattle.kdcs_types.specs.declared.key.ServiceId.{ServiceId}
 use Rattle.kdcs_types.specs.declared.key.ServiceId.TheVariants.{Dialogue, Asynchronous}
@@ -13,28 +13,25 @@ use Rattle.kdcs_types.specs.declared.service.Service.{Service}
 use Rattle.kdcs_types.specs.Keys.{id_cmp, id_eq}
 use Rattle.kdcs_types.specs.KeyLaws.{id_eq-same}
 use Rattle.kdcs_types.specs.Limits.{last_clock}
-use Rattle.kdcs_types.specs.Tables.{TableRows, IsSortedTables, has_its_lterm, lterm_fits, service_of, shown_of}
+use Rattle.kdcs_types.specs.Tables.{TableRows, has_its_lterm, lterm_fits, service_of, shown_of}
 use Rattle.kdcdef_types.specs.Generation.{Generated}
-use Rattle.kdcdef_types.specs.Statements.{IsWithin}
 use Rattle.monitor_semantics.specs.declared.answer.Happened.{Happened}
 use Rattle.monitor_semantics.specs.declared.answer.Happened.TheVariants.{Held}
-use Rattle.monitor_semantics.specs.declared.input_use.ServiceState.{ServiceState}
-use Rattle.monitor_semantics.specs.declared.input_use.ServiceState.TheVariants.{NoService, Awaits, Running}
+use Rattle.monitor_semantics.specs.declared.input_use.ServiceState.TheVariants.{Awaits}
 use Rattle.monitor_semantics.specs.declared.input_use.Use.{Use}
 use Rattle.monitor_semantics.specs.declared.input_use.Use.TheVariants.{Sign, SignRefused, SignFirst, AlreadySigned, Off, Display, Output, Again, Busy, TooLong, Next, Start, TacRefused}
 use Rattle.monitor_semantics.specs.Bytes.{Bytes, bytes_cmp}
 use Rattle.monitor_semantics.specs.State.{Application, OpenTransaction, Session, State}
 use Rattle.monitor_semantics.specs.Calls.{nothing_told}
-use Rattle.monitor_semantics.specs.Endings.{is_asynchronous, lterm_of_row, opened_by_start, opened_by_input, opened_by_row, followed_by_input, with_service, durable, restarts}
-use Rattle.monitor_semantics.specs.Sessions.{in_place, is_running, is_awaiting, service_state_by, service_state, use_of}
+use Rattle.monitor_semantics.specs.Endings.{is_asynchronous, lterm_of_row, opened_by_start, opened_by_input, opened_by_row, followed_by_input, durable, restarts}
+use Rattle.monitor_semantics.specs.Sessions.{is_running, is_awaiting, service_state_by, service_state, use_of}
 use Rattle.monitor_semantics.specs.Statements.{statement}
-use Rattle.monitor_semantics.specs.Turns.{queued, turn_of}
-use Rattle.monitor_semantics.specs.Commands.{Command, Input, Tick, Run, Turn, Drop, Print, PrintLast, Restart, asynchronous_rows, opened_row, started, lterm_at, user_at, with_session, resumed_by, signed_on_by, signed_on, withdrawn, rolled_tables, signed_off, due_for, show_by, show_next, show_again_by, last_by, display, follow_up_of, held_tac, next_by, next_input, start_service, used, use_now, tick_by, drop_by, command_of}
+use Rattle.monitor_semantics.specs.Turns.{turn_of}
+use Rattle.monitor_semantics.specs.Commands.{Command, Input, Tick, Run, Turn, Drop, Print, PrintLast, Restart, asynchronous_rows, opened_row, started, lterm_at, user_at, with_session, resumed_by, signed_on_by, signed_on, rolled_tables, signed_off, due_for, show_by, show_next, show_again_by, last_by, display, follow_up_of, held_tac, next_by, next_input, start_service, used, use_now, tick_by, drop_by, command_of}
 use Rattle.monitor_laws.specs.Applications.{IsApplication, IsCommandOf, is_pterm}
-use Rattle.monitor_laws.specs.Suits.{Suits, is_user, is_lterm, has_kind, fits_message, lterm_suits, service_suits}
+use Rattle.monitor_laws.specs.Suits.{is_user, is_lterm, has_kind, fits_message, lterm_suits, service_suits}
 use Rattle.monitor_laws.specs.Transactions.{CanGoOn}
-use Rattle.monitor_laws.specs.Facts.{IsSessionOf, StandsAtKeep, IsConsistent, IsSoundState}
-use Rattle.monitor_laws.specs.Keeping.{HasFacts, Leads}
+use Rattle.monitor_laws.specs.Facts.{IsSessionOf, StandsAtKeep, IsConsistent}
 use Rattle.monitor_tables.specs.OpenLaws.{HappenedFits}
 use Rattle.monitor_tables.specs.PointLaws.{AreSound}
 use Rattle.monitor_tables.specs.StateLaws.{StatesStaySound}
@@ -43,8 +40,8 @@ use Rattle.monitor_tables.proofs.Stated.{statements_keep}
 use Rattle.monitor_tables.proofs.RowParts.{row_parts}
 use Rattle.monitor_tables.proofs.Openings.{starts-can, inputs-can, rows-can, further_by_input}
 use Rattle.monitor_tables.proofs.Ends.{sign_offs_stay_sound, shows_stay_sound, ticks_stay_sound, starts_are_sound}
-use Rattle.monitor_tables.proofs.Uses.{NextFits, StartFits, UseFits, use-fits}
-use Rattle.monitor_tables.proofs.States.{Sessions, Opens, Parts, parts_of, sound_state, opens-put, opens-without, sessions-put, sessions-without, session_found, lterm_declared, row_found}
+use Rattle.monitor_tables.proofs.Uses.{StartFits, UseFits, use-fits}
+use Rattle.monitor_tables.proofs.States.{Opens, Parts, parts_of, sound_state, opens-put, opens-without, sessions-put, sessions-without, lterm_declared, row_found}
 use Rattle.monitor_tables.proofs.Turned.{turn-parts}
 
 -- ---- starts

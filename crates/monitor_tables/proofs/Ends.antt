@@ -1,10 +1,9 @@
 -- Abnormal ends, signing off, shown messages, ticks and starts leave sound tables, which take no more pages.
-use Rattle.std.specs.Prelude.{◌≡◌, refl, ℕ, ◌+◌, ◌≤◌, Bool, true, false, cond, ◌&&◌, ◌||◌, not, IsTrue, IsSome, List, [], ◌∷◌, length, filter, sum_by, Option, None, Some, is_some, nat_lt, nat_le, bytes_eq, ◌==◌, if◌then◌else◌}
+use Rattle.std.specs.Prelude.{◌≡◌, refl, ◌≤◌, Bool, true, false, cond, ◌&&◌, not, IsTrue, IsSome, List, [], ◌∷◌, length, filter, Option, None, Some, nat_le, if◌then◌else◌}
 use Rattle.std.proofs.Common.{inl, inr, sym, ap, subst, ◌∙◌, arith, true≢false}
-use Rattle.std.proofs.lemmas.List.Sums.{sum_by-cons}
 use Rattle.std.specs.List.{list_all}
 use Rattle.kd_base.specs.Tools.{both_true, true_both, some_is}
-use Rattle.kdcs_types.specs.declared.key.Key.TheVariants.{Service as ServiceKey, Job as JobKey, Shown as ShownKey}
+use Rattle.kdcs_types.specs.declared.key.Key.TheVariants.{Service as ServiceKey, Job as JobKey}
 use Rattle.kdcs_types.specs.declared.key.ServiceId.{ServiceId}
 use Rattle.kdcs_types.specs.declared.key.ServiceId.TheVariants.{Dialogue, Asynchronous}
 use Rattle.kdcs_types.specs.declared.key.Target.{Target}
@@ -13,10 +12,10 @@ use Rattle.kdcs_types.specs.declared.service.Job.{Job}
 use Rattle.kdcs_types.specs.declared.service.JobValue.{JobValue}
 use Rattle.kdcs_types.specs.declared.service.Service.{Service}
 use Rattle.kdcs_types.specs.Keys.{key_eq}
-use Rattle.kdcs_types.specs.Keyed.{with_item, without_item}
+use Rattle.kdcs_types.specs.Keyed.{with_item}
 use Rattle.kdcs_types.specs.KeyLaws.{key_eq-itself}
 use Rattle.kdcs_types.specs.KeyedLaws.{ascends-with, all-with}
-use Rattle.kdcs_types.specs.Limits.{last_clock, last_next_job}
+use Rattle.kdcs_types.specs.Limits.{last_next_job}
 use Rattle.kdcs_types.specs.Same.{target_eq}
 use Rattle.kdcs_types.specs.Tables.{TableRows, service_key, job_key, shown_key}
 use Rattle.kdcdef_types.specs.declared.entry.TacEntry.{TacEntry}
@@ -26,16 +25,16 @@ use Rattle.monitor_semantics.specs.Bytes.{Bytes}
 use Rattle.monitor_semantics.specs.Calls.{target_by, job_target}
 use Rattle.monitor_semantics.specs.Charges.{charge_of, service_length, job_length, total_charge}
 use Rattle.monitor_semantics.specs.Outcomes.{goes_first}
-use Rattle.monitor_semantics.specs.Endings.{with_service, without_job, without_own_job, broken, is_durable, durable}
+use Rattle.monitor_semantics.specs.Endings.{with_service, without_job, without_own_job, broken, durable}
 use Rattle.monitor_semantics.specs.Picks.{is_free, free_jobs, is_earlier, earlier_of, least_job}
 use Rattle.monitor_semantics.specs.Commands.{is_for, due_for, shown_tables}
-use Rattle.monitor_semantics.specs.State.{OpenTransaction, State}
+use Rattle.monitor_semantics.specs.State.{State}
 use Rattle.monitor_laws.specs.Suits.{Suits, is_lterm, value_suits, target_suits, target_name, job_suits, shown_suits}
 use Rattle.monitor_tables.specs.PointLaws.{AreSound, TakesNoMore, EndSound, EndsStaySound, SignOffsStaySound, ShowsStaySound, TicksStaySound, StartsAreSound}
 use Rattle.monitor_tables.proofs.Items.{IsIn, in_passes, in_filter, sum_with, sum_without}
-use Rattle.monitor_tables.proofs.Lists.{bytes_same_eq, bytes_eq_itself, sum_filter, filter_passes, all_filter}
-use Rattle.monitor_tables.proofs.Openings.{JobSuits, job_parts}
-use Rattle.monitor_tables.proofs.Rows.{GoodRows, IsWithinLimits, durable_row, with_shown, with_clock, some_jobs, some_services, good-durable, sound, sound-within, good, sum_filters}
+use Rattle.monitor_tables.proofs.Lists.{bytes_same_eq, bytes_eq_itself, sum_filter, filter_passes}
+use Rattle.monitor_tables.proofs.Openings.{job_parts}
+use Rattle.monitor_tables.proofs.Rows.{GoodRows, durable_row, with_shown, with_clock, some_jobs, some_services, sound, sound-within, good, sum_filters}
 
 -- ---- fewer rows
 
@@ -168,7 +167,7 @@ shown-charge g t lterm job there = record {
   charge = omega (
     arith,
     sum_with shown_key (λ (r : Bytes × JobValue). charge_of g.limits.blksize (job_length r.1)) (lterm, job.value) t.shown,
-    sum_without job_key (λ (j : Job). charge_of g.limits.blksize (job_length j.value)) (JobKey job.number) job t.jobs (key_eq-itself (JobKey job.number)) there
+    sum_without job_key (λ (j : Job). charge_of g.limits.blksize (job_length j.value)) (JobKey job.number) job t.jobs (key_eq-itself (JobKey job.number)) there,
   );
 }
 
@@ -181,8 +180,8 @@ shows_stay_sound g s lterm job sound_now e =
     let shown = shown-suits g lterm job suits (for-lterm lterm job.value.to is.target) in
     let fewer = some_jobs g t r (λ (j : Job). not (key_eq (JobKey job.number) (job_key j))) in
     let rows =
-        with_shown g (without_job t job.number) fewer (with_item shown_key (lterm, job.value) t.shown)
-        (ascends-with shown_key (lterm, job.value) t.shown r.shown_order) (all-with shown_key (shown_suits g) (lterm, job.value) t.shown shown r.shown) in
+    with_shown g (without_job t job.number) fewer (with_item shown_key (lterm, job.value) t.shown)
+    (ascends-with shown_key (lterm, job.value) t.shown r.shown_order) (all-with shown_key (shown_suits g) (lterm, job.value) t.shown shown r.shown) in
     no_more-sound g t (shown_tables t lterm job) sound_now rows (shown-charge g t lterm job is.there)
 
 -- ---- ticks and starts

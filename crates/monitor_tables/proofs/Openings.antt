@@ -1,6 +1,6 @@
 -- Transactions that open can go on.
-use Rattle.std.specs.Prelude.{◌≡◌, refl, ℕ, ◌+◌, ◌≤◌, Bool, true, false, cond, ◌&&◌, IsTrue, List, [], ◌∷◌, length, sum_by, count_by, nat_le, bytes_eq, Option, None, Some, is_some}
-use Rattle.std.proofs.Common.{sym, ap, subst, ◌∙◌, arith, true≢false}
+use Rattle.std.specs.Prelude.{◌≡◌, refl, ◌≤◌, Bool, true, false, cond, ◌&&◌, IsTrue, List, [], ◌∷◌, length, sum_by, nat_le, Option, None, Some}
+use Rattle.std.proofs.Common.{sym, subst, arith, true≢false}
 use Rattle.std.proofs.lemmas.Bool.{leb-true}
 use Rattle.std.proofs.lemmas.Bool.Decides.{Decides-eqb}
 use Rattle.std.proofs.lemmas.List.{length-replicate}
@@ -11,13 +11,10 @@ use Rattle.kd_base.specs.Tools.{both_true, true_both}
 use Rattle.kdcs_types.specs.declared.key.ServiceId.{ServiceId}
 use Rattle.kdcs_types.specs.declared.key.ServiceId.TheVariants.{Dialogue, Asynchronous}
 use Rattle.kdcs_types.specs.declared.key.Target.{Target}
-use Rattle.kdcs_types.specs.declared.key.Target.TheVariants.{Tac, Lterm}
+use Rattle.kdcs_types.specs.declared.key.Target.TheVariants.{Tac}
 use Rattle.kdcs_types.specs.declared.run_state.Header.{Header}
 use Rattle.kdcs_types.specs.declared.service.Job.{Job}
-use Rattle.kdcs_types.specs.declared.service.JobValue.{JobValue}
 use Rattle.kdcs_types.specs.declared.service.Service.{Service}
-use Rattle.kdcs_types.specs.Limits.{last_clock}
-use Rattle.kdcs_types.specs.Same.{target_eq}
 use Rattle.kdcdef_types.specs.declared.entry.TacEntry.{TacEntry}
 use Rattle.kdcdef_types.specs.declared.entry.LtermEntry.{LtermEntry}
 use Rattle.kdcdef_types.specs.Generation.{Generated, tac_of, lterm_of}
@@ -25,11 +22,11 @@ use Rattle.monitor_semantics.specs.Bytes.{Bytes, bytes_cmp}
 use Rattle.monitor_semantics.specs.State.{OpenTransaction}
 use Rattle.monitor_semantics.specs.Outcomes.{goes_first}
 use Rattle.monitor_semantics.specs.Calls.{target_by, job_target}
-use Rattle.monitor_semantics.specs.Endings.{is_asynchronous, header_of, kb_of, lssbs_of, spaces, opened, user_in_row, opened_by_start, opened_by_input, opened_by_row, opened_by_job, followed_by_input}
+use Rattle.monitor_semantics.specs.Endings.{is_asynchronous, header_of, kb_of, lssbs_of, opened, user_in_row, opened_by_start, opened_by_input, opened_by_row, opened_by_job, followed_by_input}
 use Rattle.monitor_laws.specs.Suits.{fits_content, fits_message, has_kind, has_kind_by, is_user, is_lterm, owner_suits, service_suits, value_suits, target_suits, target_name, job_suits, last_due}
 use Rattle.monitor_laws.specs.Transactions.{IsMessage, IsOwner, CanGoOn}
 use Rattle.monitor_tables.specs.OpenLaws.{FurtherRunsGoOn, OpeningsGoOn}
-use Rattle.monitor_tables.proofs.Lists.{bytes_same_eq, not_true}
+use Rattle.monitor_tables.proofs.Lists.{bytes_same_eq}
 use Rattle.monitor_tables.proofs.RowParts.{RowSuits, row_parts}
 use Rattle.monitor_tables.proofs.Stated.{puts_none, next_run-can, followed-can}
 

@@ -1,15 +1,13 @@
 -- Synchronisation points that are not refused leave sound tables.
-use Rattle.std.specs.Prelude.{◌≡◌, refl, ℕ, suc, ◌+◌, ◌≤◌, ◌<◌, Bool, true, false, cond, ◌&&◌, not, max, IsTrue, IsSome, IfSome, List, [], ◌∷◌, ◌++◌, length, filter, sum_by, Option, None, Some, is_some, nat_lt, nat_le, bytes_eq, if◌then◌else◌}
+use Rattle.std.specs.Prelude.{◌≡◌, refl, ℕ, suc, ◌+◌, ◌≤◌, Bool, true, false, cond, ◌&&◌, not, IsTrue, IsSome, IfSome, List, [], ◌∷◌, ◌++◌, length, sum_by, Option, None, Some, is_some, nat_lt, nat_le, bytes_eq, if◌then◌else◌}
 use Rattle.std.proofs.Common.{sym, ap, subst, ◌∙◌, arith, true≢false, length-append}
 use Rattle.std.proofs.lemmas.Bool.{leb-true, le-leb, ltb-true, lt-ltb, ltb-false}
-use Rattle.std.proofs.lemmas.Bool.Decides.{nat_tests, Decides-eqb}
+use Rattle.std.proofs.lemmas.Bool.Decides.{Decides-eqb}
 use Rattle.std.proofs.lemmas.List.{length-replicate}
 use Rattle.std.proofs.lemmas.List.Sums.{sum_by-cons}
 use Rattle.std.specs.List.{list_all}
 use Rattle.std.specs.Option.{option_map}
-use Rattle.std.specs.FinMap.{is_sorted}
-use Rattle.kd_base.specs.Tools.{both_true, true_both, some_is, map_some}
-use Rattle.kdcs_types.specs.declared.call.Cause.{Cause}
+use Rattle.kd_base.specs.Tools.{both_true, true_both}
 use Rattle.kdcs_types.specs.declared.call.Cause.TheVariants.{E09, E10, E11}
 use Rattle.kdcs_types.specs.declared.key.Area.{Area}
 use Rattle.kdcs_types.specs.declared.key.Area.TheVariants.{Gssb, Tls, Uls}
@@ -18,33 +16,32 @@ use Rattle.kdcs_types.specs.declared.key.Key.TheVariants.{Gssb as GssbKey, Tls a
 use Rattle.kdcs_types.specs.declared.key.ServiceId.{ServiceId}
 use Rattle.kdcs_types.specs.declared.key.ServiceId.TheVariants.{Dialogue, Asynchronous}
 use Rattle.kdcs_types.specs.declared.service.Job.{Job}
-use Rattle.kdcs_types.specs.declared.service.JobValue.{JobValue}
 use Rattle.kdcs_types.specs.declared.service.Service.{Service}
-use Rattle.kdcs_types.specs.Keys.{key_eq, id_eq}
+use Rattle.kdcs_types.specs.Keys.{key_eq}
 use Rattle.kdcs_types.specs.Keyed.{ascends, item_at, with_item, without_item}
-use Rattle.kdcs_types.specs.KeyLaws.{key_eq-same, key_eq-itself, id_eq-same}
+use Rattle.kdcs_types.specs.KeyLaws.{key_eq-same, key_eq-itself}
 use Rattle.kdcs_types.specs.KeyedLaws.{item_at-with, ascends-with, ascends-without, all-with, all-without, found_key, found_passes}
 use Rattle.kdcs_types.specs.Limits.{last_clock, last_next_job}
-use Rattle.kdcs_types.specs.Tables.{TableRows, gssb_key, tls_key, uls_key, service_key, job_key, is_filled, has_its_lterm, lterm_fits, service_of, job_of, with_change}
-use Rattle.kdcdef_types.specs.Generation.{Generated, has_tls, has_uls}
+use Rattle.kdcs_types.specs.Tables.{TableRows, gssb_key, tls_key, uls_key, service_key, job_key, is_filled, has_its_lterm, lterm_fits, service_of, with_change}
+use Rattle.kdcdef_types.specs.Generation.{Generated}
 use Rattle.monitor_semantics.specs.declared.draft.Due.{Due}
 use Rattle.monitor_semantics.specs.declared.draft.Due.TheVariants.{After, At}
 use Rattle.monitor_semantics.specs.declared.draft.Draft.{Draft}
 use Rattle.monitor_semantics.specs.declared.outcome.Outcome.{Outcome}
 use Rattle.monitor_semantics.specs.declared.outcome.Outcome.TheVariants.{Stay, Queue, Hold, Wait, Point, Finish, Follow, Break, Back}
-use Rattle.monitor_semantics.specs.Bytes.{Bytes, bytes_cmp}
+use Rattle.monitor_semantics.specs.Bytes.{Bytes}
 use Rattle.monitor_semantics.specs.Calls.{job_target}
 use Rattle.monitor_semantics.specs.Charges.{total_charge}
 use Rattle.monitor_semantics.specs.State.{OpenTransaction}
-use Rattle.monitor_semantics.specs.Endings.{is_asynchronous, joined, spaces, area_change, with_areas, service_change, with_service, without_job, without_own_job, due_at, numbered, with_drafts, last_of, lterm_in_row, point_row, new_row, row_after, synchronised, durable, refusal}
+use Rattle.monitor_semantics.specs.Endings.{is_asynchronous, joined, spaces, area_change, with_areas, with_service, without_own_job, due_at, numbered, with_drafts, last_of, lterm_in_row, point_row, new_row, row_after, synchronised, durable, refusal}
 use Rattle.monitor_laws.specs.JobLaw.{jobs_left}
-use Rattle.monitor_laws.specs.Suits.{fits_content, fits_message, gssb_suits, tls_suits, uls_suits, is_user, is_lterm, has_kind, is_empty, last_fits, awaits_rightly, lterm_suits, owner_suits, service_suits, last_due, target_suits, target_name, job_suits, number_is_below}
-use Rattle.monitor_laws.specs.Transactions.{HasOwnJob, IsRooted, IsMessage, area_is_declared, fits_if_there, written_fits, last_moment, due_fits, draft_fits, IsOwner, PutsNone, CanGoOn}
+use Rattle.monitor_laws.specs.Suits.{fits_message, gssb_suits, tls_suits, uls_suits, is_user, is_lterm, is_empty, last_fits, lterm_suits, owner_suits, service_suits, last_due, target_suits, target_name, job_suits, number_is_below}
+use Rattle.monitor_laws.specs.Transactions.{HasOwnJob, IsRooted, written_fits, last_moment, due_fits, draft_fits, IsOwner, CanGoOn}
 use Rattle.monitor_tables.specs.OpenLaws.{OutcomeFits}
-use Rattle.monitor_tables.specs.PointLaws.{AreSound, Stands, PointsStaySound}
+use Rattle.monitor_tables.specs.PointLaws.{Stands, PointsStaySound}
 use Rattle.monitor_tables.proofs.Items.{ascends_append, ascends_behind}
-use Rattle.monitor_tables.proofs.Lists.{bytes_eq_itself, not_true, all_imply, all_both, all_filter, filter_passes, all_append}
-use Rattle.monitor_tables.proofs.Openings.{JobSuits, job_whole}
+use Rattle.monitor_tables.proofs.Lists.{bytes_eq_itself, all_imply, all_both, filter_passes, all_append}
+use Rattle.monitor_tables.proofs.Openings.{job_whole}
 use Rattle.monitor_tables.proofs.RowParts.{RowSuits, row_parts, row_suits}
 use Rattle.monitor_tables.proofs.Rows.{GoodRows, IsWithinLimits, with_gssbs, with_tlss, with_ulss, some_jobs, some_services, sound, good}
 
@@ -467,5 +464,5 @@ points_stay_sound g t id x o stands fits h =
 pub next_row : (g : Generated) (t : TableRows) (id : ServiceId) (x : OpenTransaction) (o : Outcome) → Stands g t id x → OutcomeFits g (is_asynchronous id) o → (row : Service) → row_after g id x o ≡ Some row → IsTrue (service_suits g row) × (row.id ≡ id)
 next_row g t id x o stands fits row e =
     let row_fits : RowFits g id row =
-        subst (λ (r : Option Service). IfSome r (λ (s : Service). RowFits g id s)) e (row-fits g id x o stands.can (began-suits g t id x.began (good g t stands.sound) stands.rooted.began) fits) in
+    subst (λ (r : Option Service). IfSome r (λ (s : Service). RowFits g id s)) e (row-fits g id x o stands.can (began-suits g t id x.began (good g t stands.sound) stands.rooted.began) fits) in
     (row_fits.suits, row_fits.own)

@@ -1,5 +1,5 @@
 -- A row that suits, part by part.
-use Rattle.std.specs.Prelude.{◌≡◌, ℕ, Bool, true, ◌&&◌, IsTrue, List, length, sum_by, nat_le, ◌==◌}
+use Rattle.std.specs.Prelude.{◌&&◌, IsTrue, length, sum_by, nat_le, ◌==◌}
 use Rattle.std.specs.List.{list_all}
 use Rattle.std.specs.FinMap.{is_sorted}
 use Rattle.kd_base.specs.Tools.{both_true, true_both}

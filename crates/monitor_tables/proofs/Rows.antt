@@ -1,11 +1,9 @@
 -- What holds of all rows of sound tables, apart from the limits, and which changes of rows keep it.
-use Rattle.std.specs.Prelude.{◌≡◌, refl, ℕ, ◌+◌, ◌≤◌, ◌<◌, Bool, true, false, cond, ◌&&◌, not, IsTrue, IsSome, IfSome, List, [], ◌∷◌, ◌++◌, length, filter, sum_by, Option, None, Some, is_some, nat_lt, nat_le, if◌then◌else◌}
-use Rattle.std.proofs.Common.{sym, ap, subst, ◌∙◌, arith, true≢false}
-use Rattle.std.proofs.lemmas.Bool.{leb-true, le-leb, ltb-true, lt-ltb}
+use Rattle.std.specs.Prelude.{◌≡◌, refl, ℕ, ◌≤◌, Bool, true, false, cond, not, IsTrue, List, [], ◌∷◌, length, filter, sum_by, Option, is_some, nat_lt}
+use Rattle.std.proofs.Common.{sym, subst, ◌∙◌, arith, true≢false}
 use Rattle.std.proofs.lemmas.List.Sums.{sum_by-cons}
 use Rattle.std.specs.List.{list_all}
 use Rattle.kd_base.specs.Tools.{both_true, true_both}
-use Rattle.kdcs_types.specs.declared.key.Key.{Key}
 use Rattle.kdcs_types.specs.declared.key.Key.TheVariants.{Service as ServiceKey}
 use Rattle.kdcs_types.specs.declared.key.ServiceId.{ServiceId}
 use Rattle.kdcs_types.specs.declared.key.ServiceId.TheVariants.{Dialogue, Asynchronous}
@@ -19,12 +17,12 @@ use Rattle.kdcs_types.specs.Limits.{last_clock, last_next_job}
 use Rattle.kdcs_types.specs.Tables.{TableRows, IsSortedTables, gssb_key, tls_key, uls_key, service_key, job_key, shown_key, is_filled, has_its_lterm, service_of}
 use Rattle.kdcdef_types.specs.Generation.{Generated}
 use Rattle.monitor_semantics.specs.Bytes.{Bytes}
-use Rattle.monitor_semantics.specs.Charges.{charge_of, service_length, job_length, total_charge}
+use Rattle.monitor_semantics.specs.Charges.{charge_of, service_length, total_charge}
 use Rattle.monitor_semantics.specs.Endings.{is_durable, durable}
 use Rattle.monitor_laws.specs.Suits.{Suits, gssb_suits, tls_suits, uls_suits, service_suits, job_suits, shown_suits, number_is_below}
 use Rattle.monitor_tables.specs.PointLaws.{AreSound}
 use Rattle.monitor_tables.proofs.Items.{ascends_filter, none_filter, found_filter}
-use Rattle.monitor_tables.proofs.Lists.{not_true, all_imply, all_both, all_filter, filter_passes, sum_filter}
+use Rattle.monitor_tables.proofs.Lists.{all_imply, all_filter, filter_passes}
 
 -- every row suits, whether a stop keeps it or not
 pub record GoodRows (g : Generated) (t : TableRows) : Type 0 where

@@ -1,9 +1,8 @@
 -- A statement that is done leaves an open transaction that can go on.
-use Rattle.std.specs.Prelude.{◌≡◌, refl, ℕ, ◌+◌, ◌≤◌, Bool, true, false, IsTrue, IsSome, IfSome, List, [], ◌∷◌, ◌++◌, length, Option, None, Some, is_some}
-use Rattle.std.proofs.Common.{sym, ap, subst, ◌∙◌, arith, true≢false}
+use Rattle.std.specs.Prelude.{◌≡◌, refl, ◌+◌, ◌≤◌, Bool, true, false, IsTrue, IsSome, IfSome, List, [], Option, None, Some}
+use Rattle.std.proofs.Common.{sym, ap, subst, arith}
 use Rattle.std.proofs.lemmas.List.{length-replicate}
 use Rattle.kd_base.specs.declared.words.Variant.{Variant}
-use Rattle.kdcs_types.specs.declared.call.Call.{Call}
 use Rattle.kdcs_types.specs.declared.call.Reply.{Reply}
 use Rattle.kdcs_types.specs.declared.key.ServiceId.{ServiceId}
 use Rattle.kdcs_types.specs.declared.key.ServiceId.TheVariants.{Dialogue, Asynchronous}
@@ -12,7 +11,7 @@ use Rattle.kdcs_types.specs.declared.run_state.RunState.{RunState}
 use Rattle.kdcdef_types.specs.Generation.{Generated}
 use Rattle.unit_types.specs.UnitText.{UnitText}
 use Rattle.unit_semantics.specs.KeepsReady.{SameLengths, StaysReady, steps_stay_ready, answers_stay_ready}
-use Rattle.unit_semantics.specs.Ready.{IsReady, IsAsking, CanAnswer}
+use Rattle.unit_semantics.specs.Ready.{IsReady, IsAsking}
 use Rattle.unit_semantics.specs.Statement.{Meaning, Plain, Asks, Ends, step, next_target, read_into, answered}
 use Rattle.monitor_semantics.specs.declared.answer.Called.{Called}
 use Rattle.monitor_semantics.specs.declared.answer.Called.TheVariants.{Replied, Waits, Abnormal, Pends}
@@ -20,15 +19,15 @@ use Rattle.monitor_semantics.specs.declared.outcome.Outcome.{Outcome}
 use Rattle.monitor_semantics.specs.declared.outcome.Outcome.TheVariants.{Stay, Queue, Hold, Wait, Point, Finish, Follow, Break, Back}
 use Rattle.monitor_semantics.specs.Bytes.{Bytes}
 use Rattle.monitor_semantics.specs.State.{Application, OpenTransaction, unit_of}
-use Rattle.monitor_semantics.specs.Calls.{Told, Performed, call_outcome}
-use Rattle.monitor_semantics.specs.Endings.{is_asynchronous, header_of, spaces, handed_on, next_run, followed, followed_by_input}
-use Rattle.monitor_semantics.specs.Statements.{Stated, counted, by_outcome, by_call, by_performed, by_step, in_unit, statement}
-use Rattle.monitor_laws.specs.Applications.{IsFittedUnit, IsApplication}
+use Rattle.monitor_semantics.specs.Calls.{Told, call_outcome}
+use Rattle.monitor_semantics.specs.Endings.{is_asynchronous, header_of, handed_on, next_run, followed}
+use Rattle.monitor_semantics.specs.Statements.{Stated, by_outcome, by_call, by_step, in_unit, statement}
+use Rattle.monitor_laws.specs.Applications.{IsApplication}
 use Rattle.monitor_laws.specs.Suits.{has_kind}
 use Rattle.monitor_laws.specs.Transactions.{IsMessage, PutsNone, CanGoOn}
-use Rattle.monitor_tables.specs.OpenLaws.{reads, StandsIn, ToldFits, OutcomeFits, CalledFits, CallKeeps, CallsKeep, HappenedFits, StatementKeeps, StatementsKeep}
+use Rattle.monitor_tables.specs.OpenLaws.{reads, StandsIn, ToldFits, OutcomeFits, CalledFits, CallsKeep, StatementKeeps, StatementsKeep}
 use Rattle.monitor_tables.specs.Ready.{AskFits, StepFits, next-fits, fitted_unit, runs_are_ready, stored-header}
-use Rattle.monitor_tables.proofs.Calls.{ReplyFits, Keeps, call-keeps}
+use Rattle.monitor_tables.proofs.Calls.{ReplyFits, call-keeps}
 use Rattle.monitor_tables.proofs.Updates.{with_run}
 
 -- ---- calls

@@ -1,9 +1,8 @@
 -- Parts of a sound state, one after another: tables, sessions and open transactions.
-use Rattle.std.specs.Prelude.{◌≡◌, refl, ℕ, ◌≤◌, Bool, true, false, cond, ◌&&◌, not, IsTrue, IsSome, IfSome, List, [], ◌∷◌, map, filter, Option, None, Some, is_some, bytes_eq}
+use Rattle.std.specs.Prelude.{◌≡◌, refl, ℕ, Bool, true, false, cond, ◌&&◌, not, IsTrue, IsSome, IfSome, List, Option, None, Some, bytes_eq}
 use Rattle.std.proofs.Common.{sym, ap, subst, ◌∙◌, true≢false}
-use Rattle.std.specs.List.{list_all}
 use Rattle.std.specs.Option.{option_map}
-use Rattle.std.specs.Ordering.{eq_by_cmp, is_eq}
+use Rattle.std.specs.Ordering.{eq_by_cmp}
 use Rattle.std.specs.declared.cmp.Ordering.TheVariants.{Equal}
 use Rattle.std.specs.Cmp.Lexicographic.{nat_list_cmp_total}
 use Rattle.std.specs.FinMap.{find, put, slice_cmp-IsAntisymmetric, nat_cmp-IsAntisymmetric}
@@ -13,7 +12,6 @@ use Rattle.kdcs_types.specs.declared.key.Area.{Area}
 use Rattle.kdcs_types.specs.declared.key.Area.TheVariants.{Gssb, Tls, Uls}
 use Rattle.kdcs_types.specs.declared.key.Key.TheVariants.{Gssb as GssbKey, Tls as TlsKey, Uls as UlsKey, Service as ServiceKey, Job as JobKey}
 use Rattle.kdcs_types.specs.declared.key.ServiceId.{ServiceId}
-use Rattle.kdcs_types.specs.declared.key.ServiceId.TheVariants.{Dialogue, Asynchronous}
 use Rattle.kdcs_types.specs.declared.service.Job.{Job}
 use Rattle.kdcs_types.specs.declared.service.JobValue.{JobValue}
 use Rattle.kdcs_types.specs.declared.service.Service.{Service}
@@ -26,8 +24,7 @@ use Rattle.kdcdef_types.specs.declared.entry.PtermEntry.{PtermEntry}
 use Rattle.kdcdef_types.specs.Generation.{Generated, pterm_of, has_tls, has_uls}
 use Rattle.monitor_semantics.specs.Bytes.{Bytes, bytes_cmp}
 use Rattle.monitor_semantics.specs.State.{Application, OpenTransaction, Session, State}
-use Rattle.monitor_semantics.specs.Endings.{durable}
-use Rattle.monitor_semantics.specs.Locks.{Active, Locks, told_now, answer_of}
+use Rattle.monitor_semantics.specs.Locks.{Active, Locks, told_now}
 use Rattle.monitor_semantics.specs.Commands.{lterm_by, lterm_at}
 use Rattle.monitor_laws.specs.Applications.{IsApplication, is_pterm}
 use Rattle.monitor_laws.specs.Suits.{gssb_suits, tls_suits, uls_suits, is_user, is_lterm, fits_content, service_suits, job_suits}
@@ -35,7 +32,6 @@ use Rattle.monitor_laws.specs.Transactions.{fits_if_there, CanGoOn}
 use Rattle.monitor_laws.specs.Facts.{IsSessionOf, IsSoundState}
 use Rattle.monitor_tables.specs.OpenLaws.{ToldFits}
 use Rattle.monitor_tables.specs.PointLaws.{AreSound}
-use Rattle.monitor_tables.proofs.Lists.{bytes_same_eq}
 use Rattle.monitor_tables.proofs.Rows.{good}
 
 -- sessions are of declared PTERMs and users

@@ -1,6 +1,6 @@
 -- Each turn keeps a sound state.
-use Rattle.std.specs.Prelude.{◌≡◌, refl, ℕ, ◌-◌, Bool, true, false, cond, IsTrue, IsSome, IfSome, List, [], ◌∷◌, slice_get, Option, None, Some, is_some}
-use Rattle.std.proofs.Common.{sym, ap, subst, ◌∙◌, true≢false}
+use Rattle.std.specs.Prelude.{◌≡◌, refl, ℕ, ◌-◌, Bool, true, false, slice_get, Option, None, Some}
+use Rattle.std.proofs.Common.{sym, ap, subst, ◌∙◌}
 use Rattle.std.specs.FinMap.{find, put}
 use Rattle.kdcs_types.specs.declared.act.Act.{Act}
 use Rattle.kdcs_types.specs.declared.call.Cause.{Cause}
@@ -11,7 +11,6 @@ use Rattle.kdcs_types.specs.declared.key.Target.{Target}
 use Rattle.kdcs_types.specs.declared.key.Target.TheVariants.{Tac, Lterm}
 use Rattle.kdcs_types.specs.declared.service.Ending.{Ending}
 use Rattle.kdcs_types.specs.declared.service.Ending.TheVariants.{Broken}
-use Rattle.kdcs_types.specs.declared.service.Job.{Job}
 use Rattle.kdcs_types.specs.declared.service.JobValue.{JobValue}
 use Rattle.kdcs_types.specs.declared.service.Service.{Service}
 use Rattle.kdcs_types.specs.declared.service.Settled.{Settled}
@@ -25,23 +24,21 @@ use Rattle.monitor_semantics.specs.declared.work.Work.{Work}
 use Rattle.monitor_semantics.specs.declared.work.Work.TheVariants as work
 use Rattle.monitor_semantics.specs.Bytes.{Bytes, bytes_cmp}
 use Rattle.monitor_semantics.specs.State.{Application, OpenTransaction, Session, State}
-use Rattle.monitor_semantics.specs.Endings.{is_asynchronous, joined, opened_by_row, opened_by_job, row_after, synchronised, broken, durable, refusal}
+use Rattle.monitor_semantics.specs.Endings.{is_asynchronous, opened_by_row, opened_by_job, row_after, synchronised, broken, durable, refusal}
 use Rattle.monitor_semantics.specs.Statements.{area_of}
 use Rattle.monitor_semantics.specs.Locks.{locks_of}
 use Rattle.monitor_semantics.specs.Picks.{pick}
-use Rattle.monitor_semantics.specs.Turns.{Turned, unmoved, moved_to, commit_of, with_open, without_wait, without_open, with_task, queued, without_work, pterm_of_user, noted_last, with_last, last_told, told_user, abnormal, message_sent, goes_on, after_point, settled_by, settled, last_again, back_by, back, waiting, waiting_for, happens, told_here, statement_now, worked, took_job_for, took_job, took, turn_by, turn_of}
+use Rattle.monitor_semantics.specs.Turns.{without_wait, with_task, queued, without_work, pterm_of_user, noted_last, last_told, abnormal, message_sent, goes_on, after_point, settled_by, settled, last_again, back_by, back, waiting_for, happens, told_here, statement_now, worked, took_job_for, took_job, took, turn_by, turn_of}
 use Rattle.monitor_laws.specs.Applications.{IsApplication}
-use Rattle.monitor_laws.specs.Suits.{is_lterm, job_suits}
 use Rattle.monitor_laws.specs.Transactions.{IsRooted, CanGoOn}
-use Rattle.monitor_laws.specs.Facts.{IsSessionOf, IsConsistent, IsSoundState}
-use Rattle.monitor_laws.specs.Keeping.{HasFacts}
-use Rattle.monitor_tables.specs.OpenLaws.{OutcomeFits, HappenedFits, StatementKeeps}
+use Rattle.monitor_laws.specs.Facts.{IsConsistent}
+use Rattle.monitor_tables.specs.OpenLaws.{OutcomeFits, HappenedFits}
 use Rattle.monitor_tables.specs.PointLaws.{AreSound}
 use Rattle.monitor_tables.proofs.Stated.{statements_keep}
 use Rattle.monitor_tables.proofs.Openings.{rows-can, jobs-can}
 use Rattle.monitor_tables.proofs.Points.{points_stay_sound, next_row}
 use Rattle.monitor_tables.proofs.Ends.{ends_stay_sound}
-use Rattle.monitor_tables.proofs.States.{Sessions, Opens, Parts, opens-put, opens-without, sessions-put, session_found, row_found, job_found, told-fits}
+use Rattle.monitor_tables.proofs.States.{Opens, Parts, opens-put, opens-without, sessions-put, session_found, row_found, job_found, told-fits}
 
 -- ---- messages to terminals
 
@@ -152,10 +149,10 @@ job-parts : (app : Application) (s : State) (task number : ℕ) (value : JobValu
 job-parts app s task number value p e (Tac tac) to =
     let found = job_found app.generation s.tables number value p.tables e in
     let opens : CanGoOn app.generation (Asynchronous found.job.number) (opened_by_job app.generation found.job.value tac) =
-        jobs-can app.generation found.job tac found.suits (ap (λ (v : JobValue). v.to) found.value_is ∙ to) in
+    jobs-can app.generation found.job tac found.suits (ap (λ (v : JobValue). v.to) found.value_is ∙ to) in
     let same : CanGoOn app.generation (Asynchronous number) (opened_by_job app.generation value tac) =
-        subst (λ (v : JobValue). CanGoOn app.generation (Asynchronous number) (opened_by_job app.generation v tac)) found.value_is
-        (subst (λ n. CanGoOn app.generation (Asynchronous n) (opened_by_job app.generation found.job.value tac)) found.number_is opens) in
+    subst (λ (v : JobValue). CanGoOn app.generation (Asynchronous number) (opened_by_job app.generation v tac)) found.value_is
+    (subst (λ n. CanGoOn app.generation (Asynchronous n) (opened_by_job app.generation found.job.value tac)) found.number_is opens) in
     record { tables = p.tables; sessions = p.sessions; opens = opens-put app s.active (Asynchronous number) (opened_by_job app.generation value tac) p.opens same }
 job-parts app s task number value p e (Lterm lterm) to = p
 

@@ -1,14 +1,13 @@
 -- What holds of an input's use: its user, TAC and text are declared and short.
-use Rattle.std.specs.Prelude.{◌≡◌, refl, ℕ, Bool, true, false, cond, ◌||◌, not, IsTrue, IsSome, IfSome, List, [], length, Option, None, Some, is_some, nat_lt, nat_le, bytes_eq, codes, if◌then◌else◌}
-use Rattle.std.proofs.Common.{sym, ap, subst, ◌∙◌, true≢false}
+use Rattle.std.specs.Prelude.{◌≡◌, refl, Bool, true, false, ◌||◌, not, IsTrue, IfSome, List, [], length, Option, None, Some, is_some, nat_lt, bytes_eq, codes, if◌then◌else◌}
+use Rattle.std.proofs.Common.{ap, ◌∙◌}
 use Rattle.std.proofs.lemmas.Bool.{le-leb, ltb-false}
 use Rattle.std.specs.List.{list_any}
 use Rattle.kdcdef_types.specs.declared.entry.TacEntry.{TacEntry}
 use Rattle.kdcdef_types.specs.declared.entry.UserEntry.{UserEntry}
 use Rattle.kdcdef_types.specs.Generation.{Generated, tac_of, user_of}
 use Rattle.kd_base.specs.Text.{name_of}
-use Rattle.monitor_semantics.specs.declared.input_use.SignFault.TheVariants.{BadForm, UnknownUser, WrongPassword, InUse}
-use Rattle.monitor_semantics.specs.declared.input_use.TacFault.TheVariants.{UnknownTac, NotAllowed, IsOff}
+use Rattle.monitor_semantics.specs.declared.input_use.TacFault.TheVariants.{NotAllowed, IsOff}
 use Rattle.monitor_semantics.specs.declared.input_use.ServiceState.{ServiceState}
 use Rattle.monitor_semantics.specs.declared.input_use.ServiceState.TheVariants.{NoService, Awaits, Running}
 use Rattle.monitor_semantics.specs.declared.input_use.Use.{Use}

@@ -1,5 +1,5 @@
 -- What an open transaction's next statement finds, and what each call, statement and opening keeps.
-use Rattle.std.specs.Prelude.{◌≡◌, ◌≤◌, Bool, true, false, IsTrue, IsSome, List, [], ◌∷◌, Option, None, Some}
+use Rattle.std.specs.Prelude.{◌≡◌, Bool, true, false, IsTrue, IsSome, List, [], ◌∷◌, Option, None, Some}
 use Rattle.std.specs.List.{list_all}
 use Rattle.kdcs_types.specs.declared.call.Call.{Call}
 use Rattle.kdcs_types.specs.declared.call.Call.TheVariants.{Init, Mget, Mput, Fget, Fput, Dput, SgetGb, SputGb, SrelGb, SgetKp, SgetRl, SputMs, SrelLb, SgetUs, SputUs, Gtda, Ptda, UnlkGb, UnlkUs, UnlkDa, Pend}
@@ -12,7 +12,7 @@ use Rattle.kdcs_types.specs.declared.run_state.RunState.{RunState}
 use Rattle.kdcdef_types.specs.Generation.{Generated}
 use Rattle.unit_types.specs.UnitText.{UnitText}
 use Rattle.unit_semantics.specs.Ready.{IsReady, CanAnswer}
-use Rattle.unit_semantics.specs.Statement.{Meaning, Plain, Asks, Ends, step}
+use Rattle.unit_semantics.specs.Statement.{Asks, step}
 use Rattle.monitor_semantics.specs.declared.answer.Called.{Called}
 use Rattle.monitor_semantics.specs.declared.answer.Called.TheVariants.{Replied, Waits, Abnormal, Pends}
 use Rattle.monitor_semantics.specs.declared.answer.Happened.{Happened}

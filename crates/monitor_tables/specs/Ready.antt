@@ -1,10 +1,10 @@
 -- An open transaction that can go on has a unit run that can be stepped, with short operands.
-use Rattle.std.specs.Prelude.{◌≡◌, refl, ℕ, suc, ◌+◌, ◌-◌, ◌≤◌, ◌<◌, Bool, true, false, cond, IsTrue, IsSome, IfSome, All, List, [], ◌∷◌, ◌++◌, length, map, take, drop, replicate, Option, None, Some, is_some, slice_index_or, slice_get, zero, ◌/◌, ◌%◌, nat_eq, find, bytes_eq, option_and_then}
+use Rattle.std.specs.Prelude.{◌≡◌, refl, ℕ, suc, ◌+◌, ◌-◌, ◌≤◌, Bool, true, false, cond, IsTrue, IsSome, IfSome, All, List, [], ◌∷◌, ◌++◌, length, map, drop, replicate, Option, None, Some, is_some, slice_index_or, slice_get, zero, ◌/◌, ◌%◌, nat_eq}
 use Rattle.std.proofs.Common.{inl, inr, sym, ap, subst, ◌∙◌, arith, length-append, length-take, length-drop, true≢false}
-use Rattle.std.proofs.lemmas.Bool.{cases_Bool, leb-true, le-leb}
+use Rattle.std.proofs.lemmas.Bool.{cases_Bool, le-leb}
 use Rattle.std.proofs.lemmas.List.{length-replicate}
 use Rattle.std.specs.List.{list_all, suffix_len}
-use Rattle.kd_base.specs.Text.{filled, padded, is_space}
+use Rattle.kd_base.specs.Text.{padded, is_space}
 use Rattle.kd_base.specs.Tools.{cases_option, some_is, true_both}
 use Rattle.kdcs_types.specs.declared.call.Call.{Call}
 use Rattle.kdcs_types.specs.declared.call.Code.{Code}
@@ -13,7 +13,7 @@ use Rattle.kdcs_types.specs.declared.key.ServiceId.{ServiceId}
 use Rattle.kdcs_types.specs.declared.run_state.Header.{Header}
 use Rattle.kdcs_types.specs.declared.run_state.RunState.{RunState}
 use Rattle.kdcdef_types.specs.declared.entry.TacEntry.{TacEntry}
-use Rattle.kdcdef_types.specs.Generation.{Generated, tac_of, user_of, lterm_of}
+use Rattle.kdcdef_types.specs.Generation.{tac_of, user_of, lterm_of}
 use Rattle.unit_types.specs.declared.action.Action.{Action}
 use Rattle.unit_types.specs.declared.action.Action.TheVariants as action
 use Rattle.unit_types.specs.declared.action.HeaderName.{HeaderName}
@@ -22,16 +22,16 @@ use Rattle.unit_types.specs.declared.action.Operand.{Operand}
 use Rattle.unit_types.specs.declared.action.Operand.TheVariants as read
 use Rattle.unit_types.specs.declared.action.UnitStatement.{UnitStatement}
 use Rattle.unit_types.specs.declared.unit.Field.{Field}
-use Rattle.unit_types.specs.UnitText.{UnitText, KnowsItsLabels, IsShortOperand, HasShortOperands, jump_of, operands_of, field_named, label_place, statement_at}
-use Rattle.unit_semantics.specs.Contents.{trim_end, in_digits, number_of, compared}
+use Rattle.unit_types.specs.UnitText.{UnitText, IsShortOperand, HasShortOperands, jump_of, operands_of, field_named, label_place, statement_at}
+use Rattle.unit_semantics.specs.Contents.{trim_end, in_digits, compared}
 use Rattle.unit_semantics.specs.Fields.{header_value, code_text, area_of, content_of, value_of, written, stored_in, stored}
-use Rattle.unit_semantics.specs.Ready.{IsInside, KnowsLabel, IsReady}
-use Rattle.unit_semantics.specs.Statement.{Meaning, Plain, Asks, Ends, moved_on, jumped, branched, relates, calculated, calculates, gets_result, sum_of, difference_of, product_of, quotient_of, done_by, step, target_of, next_target}
+use Rattle.unit_semantics.specs.Ready.{KnowsLabel}
+use Rattle.unit_semantics.specs.Statement.{Meaning, Plain, Asks, Ends, jumped, branched, relates, calculates, gets_result, sum_of, difference_of, product_of, quotient_of, done_by, step, target_of, next_target}
 use Rattle.monitor_semantics.specs.Bytes.{Bytes}
-use Rattle.monitor_semantics.specs.State.{Application, OpenTransaction, unit_of}
+use Rattle.monitor_semantics.specs.State.{Application, OpenTransaction}
 use Rattle.monitor_semantics.specs.Endings.{is_asynchronous}
-use Rattle.monitor_laws.specs.Applications.{LiesInside, IsFittedUnit, HasUnit, IsApplication, HasShortNames}
-use Rattle.monitor_laws.specs.Suits.{fits_content, has_kind, has_kind_by, is_user, is_lterm}
+use Rattle.monitor_laws.specs.Applications.{IsFittedUnit, HasUnit, IsApplication}
+use Rattle.monitor_laws.specs.Suits.{fits_content, has_kind_by}
 use Rattle.monitor_laws.specs.Transactions.{CanGoOn}
 use Rattle.monitor_tables.specs.OpenLaws.{has_short_operands, reads, StandsIn, RunsAreReady, OpensHaveUnits, OperandsAreShort}
 
