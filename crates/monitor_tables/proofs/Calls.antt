@@ -310,8 +310,8 @@ module _ (g : Generated) (id : ServiceId) (reading : Bool) (run : RunState) wher
       put_one : length (put bytes_cmp name bytes x.lssbs) ≤ g.limits.lssbs → KeepsOn (replied (record x { lssbs = put bytes_cmp name bytes x.lssbs }) Done)
       put_one h =
           keeps-code _ Done
-          (with_lssbs g id x can (put bytes_cmp name bytes x.lssbs) (sorted_put bytes_cmp bytes_total name bytes x.lssbs can.lssbs_order) h
-          (all_put bytes_cmp bytes_same (λ (l : Bytes × Bytes). fits_content l.1) name bytes x.lssbs fits can.lssbs))
+          (with_lssbs g id x can (put bytes_cmp name bytes x.lssbs)
+          (sorted_put bytes_cmp bytes_total name bytes x.lssbs can.lssbs_order, h, all_put bytes_cmp bytes_same (λ (l : Bytes × Bytes). fits_content l.1) name bytes x.lssbs fits can.lssbs))
           same
 
       long : length (put bytes_cmp name bytes x.lssbs) ≡ cond (is_some (find bytes_cmp name x.lssbs)) (length x.lssbs) (length x.lssbs + 1)
@@ -325,10 +325,9 @@ module _ (g : Generated) (id : ServiceId) (reading : Bool) (run : RunState) wher
 
   without_local-can : (x : OpenTransaction) (name : Bytes) → CanGoOn g id x → CanGoOn g id (record x { lssbs = without_local name x.lssbs })
   without_local-can x name can =
+      let count : length (without_local name x.lssbs) ≤ g.limits.lssbs = omega (arith, can.lssbs_count, length_filter (λ (l : Bytes × Bytes). not (bytes_eq name l.0)) x.lssbs) in
       with_lssbs g id x can (without_local name x.lssbs)
-      (sorted_where bytes_cmp (λ n. not (bytes_eq name n)) x.lssbs can.lssbs_order)
-      (omega (arith, can.lssbs_count, length_filter (λ (l : Bytes × Bytes). not (bytes_eq name l.0)) x.lssbs))
-      (all_filter (λ (l : Bytes × Bytes). fits_content l.1) (λ (l : Bytes × Bytes). not (bytes_eq name l.0)) x.lssbs can.lssbs)
+      (sorted_where bytes_cmp (λ n. not (bytes_eq name n)) x.lssbs can.lssbs_order, count, all_filter (λ (l : Bytes × Bytes). fits_content l.1) (λ (l : Bytes × Bytes). not (bytes_eq name l.0)) x.lssbs can.lssbs)
 
   local-fits : (x : OpenTransaction) (name bytes : Bytes) → CanGoOn g id x → find bytes_cmp name x.lssbs ≡ Some bytes → IsTrue (fits_content bytes)
   local-fits x name bytes can e = (found_passes bytes_cmp (λ (l : Bytes × Bytes). fits_content l.1) name x.lssbs bytes can.lssbs e).1

@@ -176,12 +176,12 @@ shows_stay_sound g s lterm job sound_now e =
     let t = s.tables in
     let r = good g t sound_now in
     let is = due-for s lterm job e in
-    let suits = in_passes (job_suits g) job t.jobs r.jobs is.there in
+    let suits = in_passes (job_suits g) job t.jobs r.jobs.1 is.there in
     let shown = shown-suits g lterm job suits (for-lterm lterm job.value.to is.target) in
     let fewer = some_jobs g t r (λ (j : Job). not (key_eq (JobKey job.number) (job_key j))) in
     let rows =
     with_shown g (without_job t job.number) fewer (with_item shown_key (lterm, job.value) t.shown)
-    (ascends-with shown_key (lterm, job.value) t.shown r.shown_order) (all-with shown_key (shown_suits g) (lterm, job.value) t.shown shown r.shown) in
+    (ascends-with shown_key (lterm, job.value) t.shown r.shown.0, all-with shown_key (shown_suits g) (lterm, job.value) t.shown shown r.shown.1) in
     no_more-sound g t (shown_tables t lterm job) sound_now rows (shown-charge g t lterm job is.there)
 
 -- ---- ticks and starts

@@ -43,43 +43,28 @@ use Rattle.monitor_tables.proofs.Items.{ascends_append, ascends_behind}
 use Rattle.monitor_tables.proofs.Lists.{bytes_eq_itself, all_imply, all_both, filter_passes, all_append}
 use Rattle.monitor_tables.proofs.Openings.{job_whole}
 use Rattle.monitor_tables.proofs.RowParts.{RowSuits, row_parts, row_suits}
-use Rattle.monitor_tables.proofs.Rows.{GoodRows, IsWithinLimits, with_gssbs, with_tlss, with_ulss, some_jobs, some_services, sound, good}
+use Rattle.monitor_tables.proofs.Rows.{BlockRows, ServiceRows, JobRows, has_no_service, NumbersFit, GoodRows, IsWithinLimits, with_gssbs, with_tlss, with_ulss, some_jobs, some_services, sound, good}
 
 -- ---- areas
 
-tls_without : (g : Generated) (t : TableRows) (block lterm : Bytes) → GoodRows g t → GoodRows g (record t { tlss = without_item tls_key (TlsKey block lterm) t.tlss })
-tls_without g t block lterm r =
-    with_tlss g t r (without_item tls_key (TlsKey block lterm) t.tlss)
-    (ascends-without tls_key (TlsKey block lterm) t.tlss r.tlss_order)
-    (all-without tls_key (λ (e : Bytes × Bytes × Bytes). is_filled e.2) (TlsKey block lterm) t.tlss r.tlss_filled)
-    (all-without tls_key (tls_suits g) (TlsKey block lterm) t.tlss r.tlss)
+module _ (key_of : Bytes × Bytes × Bytes → Key) (suits : Bytes × Bytes × Bytes → Bool) where
+  block_gone : (k : Key) (l : List (Bytes × Bytes × Bytes)) → BlockRows key_of suits l → BlockRows key_of suits (without_item key_of k l)
+  block_gone k l r = (ascends-without key_of k l r.0, all-without key_of (λ (e : Bytes × Bytes × Bytes). is_filled e.2) k l r.1, all-without key_of suits k l r.2)
 
-uls_without : (g : Generated) (t : TableRows) (block user : Bytes) → GoodRows g t → GoodRows g (record t { ulss = without_item uls_key (UlsKey block user) t.ulss })
-uls_without g t block user r =
-    with_ulss g t r (without_item uls_key (UlsKey block user) t.ulss)
-    (ascends-without uls_key (UlsKey block user) t.ulss r.ulss_order)
-    (all-without uls_key (λ (e : Bytes × Bytes × Bytes). is_filled e.2) (UlsKey block user) t.ulss r.ulss_filled)
-    (all-without uls_key (uls_suits g) (UlsKey block user) t.ulss r.ulss)
+  block_set : (e : Bytes × Bytes × Bytes) (l : List (Bytes × Bytes × Bytes)) → IsTrue (is_filled e.2) → IsTrue (suits e) → BlockRows key_of suits l → BlockRows key_of suits (with_item key_of e l)
+  block_set e l filled fit r = (ascends-with key_of e l r.0, all-with key_of (λ (b : Bytes × Bytes × Bytes). is_filled b.2) e l filled r.1, all-with key_of suits e l fit r.2)
 
 area-good : (g : Generated) (t : TableRows) (area : Area) (o : Option Bytes) → IsTrue (written_fits g (area, o)) → GoodRows g t → GoodRows g (with_change t (area_change area o))
 area-good g t (Gssb name) None h r =
-    with_gssbs g t r (without_item gssb_key (GssbKey name) t.gssbs) (ascends-without gssb_key (GssbKey name) t.gssbs r.gssbs_order) (all-without gssb_key gssb_suits (GssbKey name) t.gssbs r.gssbs)
+    with_gssbs g t r (without_item gssb_key (GssbKey name) t.gssbs) (ascends-without gssb_key (GssbKey name) t.gssbs r.gssbs.0, all-without gssb_key gssb_suits (GssbKey name) t.gssbs r.gssbs.1)
 area-good g t (Gssb name) (Some bytes) h r =
-    with_gssbs g t r (with_item gssb_key (name, bytes) t.gssbs) (ascends-with gssb_key (name, bytes) t.gssbs r.gssbs_order) (all-with gssb_key gssb_suits (name, bytes) t.gssbs h r.gssbs)
-area-good g t (Tls block lterm) None h r = tls_without g t block lterm r
-area-good g t (Tls block lterm) (Some []) h r = tls_without g t block lterm r
-area-good g t (Tls block lterm) (Some (c ∷ cs)) h r =
-    with_tlss g t r (with_item tls_key (block, lterm, c ∷ cs) t.tlss)
-    (ascends-with tls_key (block, lterm, c ∷ cs) t.tlss r.tlss_order)
-    (all-with tls_key (λ (e : Bytes × Bytes × Bytes). is_filled e.2) (block, lterm, c ∷ cs) t.tlss refl r.tlss_filled)
-    (all-with tls_key (tls_suits g) (block, lterm, c ∷ cs) t.tlss h r.tlss)
-area-good g t (Uls block user) None h r = uls_without g t block user r
-area-good g t (Uls block user) (Some []) h r = uls_without g t block user r
-area-good g t (Uls block user) (Some (c ∷ cs)) h r =
-    with_ulss g t r (with_item uls_key (block, user, c ∷ cs) t.ulss)
-    (ascends-with uls_key (block, user, c ∷ cs) t.ulss r.ulss_order)
-    (all-with uls_key (λ (e : Bytes × Bytes × Bytes). is_filled e.2) (block, user, c ∷ cs) t.ulss refl r.ulss_filled)
-    (all-with uls_key (uls_suits g) (block, user, c ∷ cs) t.ulss h r.ulss)
+    with_gssbs g t r (with_item gssb_key (name, bytes) t.gssbs) (ascends-with gssb_key (name, bytes) t.gssbs r.gssbs.0, all-with gssb_key gssb_suits (name, bytes) t.gssbs h r.gssbs.1)
+area-good g t (Tls block lterm) None h r = with_tlss g t r _ (block_gone tls_key (tls_suits g) (TlsKey block lterm) t.tlss r.tlss)
+area-good g t (Tls block lterm) (Some []) h r = with_tlss g t r _ (block_gone tls_key (tls_suits g) (TlsKey block lterm) t.tlss r.tlss)
+area-good g t (Tls block lterm) (Some (c ∷ cs)) h r = with_tlss g t r _ (block_set tls_key (tls_suits g) (block, lterm, c ∷ cs) t.tlss refl h r.tlss)
+area-good g t (Uls block user) None h r = with_ulss g t r _ (block_gone uls_key (uls_suits g) (UlsKey block user) t.ulss r.ulss)
+area-good g t (Uls block user) (Some []) h r = with_ulss g t r _ (block_gone uls_key (uls_suits g) (UlsKey block user) t.ulss r.ulss)
+area-good g t (Uls block user) (Some (c ∷ cs)) h r = with_ulss g t r _ (block_set uls_key (uls_suits g) (block, user, c ∷ cs) t.ulss refl h r.ulss)
 
 -- ---- the own service
 
@@ -131,8 +116,8 @@ rooted-own g t (Dialogue user) began r e job = record { rows = r; below = refl; 
     all_true (j ∷ js) = true_both (not_own (Dialogue user) j) (list_all (not_own (Dialogue user)) js) refl (all_true js)
 rooted-own g t (Asynchronous number) (Some row) r e job = record {
   rows = r;
-  below = subst (λ (i : ServiceId). IsTrue (number_is_below t.next_job i)) (own_id row (found_key service_key (ServiceKey (Asynchronous number)) t.services row e)) (found_passes service_key (λ (s : Service). number_is_below t.next_job s.id) (ServiceKey (Asynchronous number)) t.services row r.service_numbers e);
-  left = all_imply (λ (j : Job). not (is_some (service_of t (Asynchronous j.number)))) (not_own (Asynchronous number)) apart t.jobs r.apart;
+  below = subst (λ (i : ServiceId). IsTrue (number_is_below t.next_job i)) (own_id row (found_key service_key (ServiceKey (Asynchronous number)) t.services row e)) (found_passes service_key (λ (s : Service). number_is_below t.next_job s.id) (ServiceKey (Asynchronous number)) t.services row r.numbers.1 e);
+  left = all_imply (has_no_service t.services) (not_own (Asynchronous number)) apart t.jobs r.numbers.2;
 }
   where
     own_id : (s : Service) → ServiceKey s.id ≡ ServiceKey (Asynchronous number) → s.id ≡ Asynchronous number
@@ -150,7 +135,7 @@ rooted-own g t (Asynchronous number) None r e job =
     let found = number_found (item_at job_key (JobKey number) t.jobs) refl job in
     record {
       rows = r;
-      below = subst (λ n. IsTrue (nat_lt n t.next_job)) (own_number found.0 (found_key job_key (JobKey number) t.jobs found.0 found.1)) (found_passes job_key (λ (j : Job). nat_lt j.number t.next_job) (JobKey number) t.jobs found.0 r.job_numbers found.1);
+      below = subst (λ n. IsTrue (nat_lt n t.next_job)) (own_number found.0 (found_key job_key (JobKey number) t.jobs found.0 found.1)) (found_passes job_key (λ (j : Job). nat_lt j.number t.next_job) (JobKey number) t.jobs found.0 r.numbers.0 found.1);
       left = all_imply (λ (j : Job). not (key_eq (JobKey number) (job_key j))) (not_own (Asynchronous number)) other (without_item job_key (JobKey number) t.jobs) (filter_passes (λ (j : Job). not (key_eq (JobKey number) (job_key j))) t.jobs);
     }
   where
@@ -242,35 +227,19 @@ high-none next number high (s ∷ ss) below =
 
 -- the new jobs follow those that are left
 more-jobs : (g : Generated) (t : TableRows) (id : ServiceId) (n : ℕ) (js : List Job) → AreNew g t.next_job (t.next_job + n) js → NoOwnJob g t id → NoOwnJob g (record t { jobs = t.jobs ++ js; next_job = t.next_job + n }) id
-more-jobs g t id n js new r = record {
-  rows = record {
-    gssbs_order = r.rows.gssbs_order;
-    tlss_order = r.rows.tlss_order;
-    ulss_order = r.rows.ulss_order;
-    services_order = r.rows.services_order;
-    jobs_order = ascends_append t.next_job t.jobs js r.rows.jobs_order new.up r.rows.job_numbers new.low;
-    shown_order = r.rows.shown_order;
-    tlss_filled = r.rows.tlss_filled;
-    ulss_filled = r.rows.ulss_filled;
-    lterms = r.rows.lterms;
-    clock = r.rows.clock;
-    next_job = omega (arith, r.rows.next_job);
-    gssbs = r.rows.gssbs;
-    tlss = r.rows.tlss;
-    ulss = r.rows.ulss;
-    services = r.rows.services;
-    jobs = all_append (job_suits g) t.jobs js r.rows.jobs new.suit;
-    shown = r.rows.shown;
-    job_numbers = all_append (λ (j : Job). nat_lt j.number (t.next_job + n)) t.jobs js
-        (all_imply (λ (j : Job). nat_lt j.number t.next_job) (λ (j : Job). nat_lt j.number (t.next_job + n)) (λ j lt. lt-ltb j.number (t.next_job + n) (omega (arith, ltb-true j.number t.next_job lt))) t.jobs r.rows.job_numbers)
-        new.high;
-    service_numbers = all_imply (λ (s : Service). number_is_below t.next_job s.id) (λ (s : Service). number_is_below (t.next_job + n) s.id) (λ s h. below_more t.next_job (t.next_job + n) s.id (omega arith) h) t.services r.rows.service_numbers;
-    apart = all_append (λ (j : Job). not (is_some (service_of t (Asynchronous j.number)))) t.jobs js r.rows.apart
-        (all_imply (λ (j : Job). nat_le t.next_job j.number) (λ (j : Job). not (is_some (service_of t (Asynchronous j.number)))) (λ j high. high-none t.next_job j.number high t.services r.rows.service_numbers) js new.low);
-  };
-  below = below_more t.next_job (t.next_job + n) id (omega arith) r.below;
-  left = all_append (not_own id) t.jobs js r.left (all_imply (λ (j : Job). nat_le t.next_job j.number) (not_own id) (λ j high. high-apart t.next_job j.number id r.below high) js new.low);
-}
+more-jobs g t id n js new r =
+    let next = t.next_job in
+    let below : Job → Bool = λ (j : Job). nat_lt j.number (next + n) in
+    let from_next : Job → Bool = λ (j : Job). nat_le next j.number in
+    let jobs : JobRows g (t.jobs ++ js) = (ascends_append next t.jobs js r.rows.jobs.0 new.up r.rows.numbers.0 new.low, all_append (job_suits g) t.jobs js r.rows.jobs.1 new.suit) in
+    let job_numbers = all_append below t.jobs js (all_imply (λ (j : Job). nat_lt j.number next) below (λ j lt. lt-ltb j.number (next + n) (omega (arith, ltb-true j.number next lt))) t.jobs r.rows.numbers.0) new.high in
+    let service_numbers = all_imply (λ (s : Service). number_is_below next s.id) (λ (s : Service). number_is_below (next + n) s.id) (λ s h. below_more next (next + n) s.id (omega arith) h) t.services r.rows.numbers.1 in
+    let apart = all_append (has_no_service t.services) t.jobs js r.rows.numbers.2 (all_imply from_next (has_no_service t.services) (λ j high. high-none next j.number high t.services r.rows.numbers.1) js new.low) in
+    record {
+      rows = record { clock = r.rows.clock; next_job = omega (arith, r.rows.next_job); gssbs = r.rows.gssbs; tlss = r.rows.tlss; ulss = r.rows.ulss; services = r.rows.services; jobs = jobs; shown = r.rows.shown; numbers = (job_numbers, service_numbers, apart) };
+      below = below_more next (next + n) id (omega arith) r.below;
+      left = all_append (not_own id) t.jobs js r.left (all_imply from_next (not_own id) (λ j high. high-apart next j.number id r.below high) js new.low);
+    }
 
 drafts-good : (g : Generated) (t : TableRows) (id : ServiceId) (x : OpenTransaction) → CanGoOn g id x → NoOwnJob g t id → NoOwnJob g (with_drafts t x) id
 drafts-good g t id x can r =
@@ -286,30 +255,14 @@ record RowFits (g : Generated) (id : ServiceId) (row : Service) : Type 0 where
   lterm : IsTrue (has_its_lterm row)
 
 with_row-good : (g : Generated) (t : TableRows) (row : Service) → IsTrue (service_suits g row) → IsTrue (has_its_lterm row) → NoOwnJob g t row.id → GoodRows g (record t { services = with_item service_key row t.services })
-with_row-good g t row suits lterm r = record {
-  gssbs_order = r.rows.gssbs_order;
-  tlss_order = r.rows.tlss_order;
-  ulss_order = r.rows.ulss_order;
-  services_order = ascends-with service_key row t.services r.rows.services_order;
-  jobs_order = r.rows.jobs_order;
-  shown_order = r.rows.shown_order;
-  tlss_filled = r.rows.tlss_filled;
-  ulss_filled = r.rows.ulss_filled;
-  lterms = all-with service_key has_its_lterm row t.services lterm r.rows.lterms;
-  clock = r.rows.clock;
-  next_job = r.rows.next_job;
-  gssbs = r.rows.gssbs;
-  tlss = r.rows.tlss;
-  ulss = r.rows.ulss;
-  services = all-with service_key (service_suits g) row t.services suits r.rows.services;
-  jobs = r.rows.jobs;
-  shown = r.rows.shown;
-  job_numbers = r.rows.job_numbers;
-  service_numbers = all-with service_key (λ (s : Service). number_is_below t.next_job s.id) row t.services r.below r.rows.service_numbers;
-  apart = all_both (not_own row.id) (λ (j : Job). not (is_some (service_of t (Asynchronous j.number)))) (λ (j : Job). not (is_some (item_at service_key (ServiceKey (Asynchronous j.number)) (with_item service_key row t.services)))) still t.jobs r.left r.rows.apart;
-}
+with_row-good g t row suits lterm r =
+    let services : ServiceRows g (with_item service_key row t.services) =
+    (ascends-with service_key row t.services r.rows.services.0, all-with service_key has_its_lterm row t.services lterm r.rows.services.1, all-with service_key (service_suits g) row t.services suits r.rows.services.2) in
+    let numbers : NumbersFit t.next_job t.jobs (with_item service_key row t.services) =
+    (r.rows.numbers.0, all-with service_key (λ (s : Service). number_is_below t.next_job s.id) row t.services r.below r.rows.numbers.1, all_both (not_own row.id) (has_no_service t.services) (has_no_service (with_item service_key row t.services)) still t.jobs r.left r.rows.numbers.2) in
+    record { clock = r.rows.clock; next_job = r.rows.next_job; gssbs = r.rows.gssbs; tlss = r.rows.tlss; ulss = r.rows.ulss; services = services; jobs = r.rows.jobs; shown = r.rows.shown; numbers = numbers }
   where
-    still : (j : Job) → IsTrue (not_own row.id j) → IsTrue (not (is_some (service_of t (Asynchronous j.number)))) → IsTrue (not (is_some (item_at service_key (ServiceKey (Asynchronous j.number)) (with_item service_key row t.services))))
+    still : (j : Job) → IsTrue (not_own row.id j) → IsTrue (has_no_service t.services j) → IsTrue (has_no_service (with_item service_key row t.services) j)
     still j apart none =
         ap (λ (o : Option Service). not (is_some o)) (item_at-with service_key (ServiceKey (Asynchronous j.number)) row t.services)
         ∙ by (key_eq (ServiceKey (Asynchronous j.number)) (service_key row)) apart
@@ -428,7 +381,7 @@ row-fits g id x Back can began fits = tt
 
 began-suits : (g : Generated) (t : TableRows) (id : ServiceId) (began : Option Service) → GoodRows g t → service_of t id ≡ began → BeganSuits g id began
 began-suits g t id None r e = tt
-began-suits g t id (Some row) r e = (row_parts g row (found_passes service_key (service_suits g) (ServiceKey id) t.services row r.services e), own row (found_key service_key (ServiceKey id) t.services row e))
+began-suits g t id (Some row) r e = (row_parts g row (found_passes service_key (service_suits g) (ServiceKey id) t.services row r.services.2 e), own row (found_key service_key (ServiceKey id) t.services row e))
   where
     own : (s : Service) → ServiceKey s.id ≡ ServiceKey id → s.id ≡ id
     own s same = cc

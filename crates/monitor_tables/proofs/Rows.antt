@@ -4,6 +4,7 @@ use Rattle.std.proofs.Common.{sym, subst, ◌∙◌, arith, true≢false}
 use Rattle.std.proofs.lemmas.List.Sums.{sum_by-cons}
 use Rattle.std.specs.List.{list_all}
 use Rattle.kd_base.specs.Tools.{both_true, true_both}
+use Rattle.kdcs_types.specs.declared.key.Key.{Key}
 use Rattle.kdcs_types.specs.declared.key.Key.TheVariants.{Service as ServiceKey}
 use Rattle.kdcs_types.specs.declared.key.ServiceId.{ServiceId}
 use Rattle.kdcs_types.specs.declared.key.ServiceId.TheVariants.{Dialogue, Asynchronous}
@@ -24,28 +25,49 @@ use Rattle.monitor_tables.specs.PointLaws.{AreSound}
 use Rattle.monitor_tables.proofs.Items.{ascends_filter, none_filter, found_filter}
 use Rattle.monitor_tables.proofs.Lists.{all_imply, all_filter, filter_passes}
 
+-- what holds of the rows of each kind
+
+abbrev pub GssbRows : List (Bytes × Bytes) → Type 0
+GssbRows l = IsTrue (ascends gssb_key l) × IsTrue (list_all gssb_suits l)
+
+-- a block is not empty
+abbrev pub BlockRows : (Bytes × Bytes × Bytes → Key) → (Bytes × Bytes × Bytes → Bool) → List (Bytes × Bytes × Bytes) → Type 0
+BlockRows key_of suits l = IsTrue (ascends key_of l) × IsTrue (list_all (λ (r : Bytes × Bytes × Bytes). is_filled r.2) l) × IsTrue (list_all suits l)
+
+abbrev pub TlsRows : Generated → List (Bytes × Bytes × Bytes) → Type 0
+TlsRows g l = BlockRows tls_key (tls_suits g) l
+
+abbrev pub UlsRows : Generated → List (Bytes × Bytes × Bytes) → Type 0
+UlsRows g l = BlockRows uls_key (uls_suits g) l
+
+abbrev pub ServiceRows : Generated → List Service → Type 0
+ServiceRows g l = IsTrue (ascends service_key l) × IsTrue (list_all has_its_lterm l) × IsTrue (list_all (service_suits g) l)
+
+abbrev pub JobRows : Generated → List Job → Type 0
+JobRows g l = IsTrue (ascends job_key l) × IsTrue (list_all (job_suits g) l)
+
+abbrev pub ShownRows : Generated → List (Bytes × JobValue) → Type 0
+ShownRows g l = IsTrue (ascends shown_key l) × IsTrue (list_all (shown_suits g) l)
+
+-- no service has the number of a job
+abbrev pub has_no_service : List Service → Job → Bool
+has_no_service services j = not (is_some (item_at service_key (ServiceKey (Asynchronous j.number)) services))
+
+-- the numbers of jobs and of asynchronous services are below the next one, and none is both
+abbrev pub NumbersFit : ℕ → List Job → List Service → Type 0
+NumbersFit next jobs services = IsTrue (list_all (λ (j : Job). nat_lt j.number next) jobs) × IsTrue (list_all (λ (s : Service). number_is_below next s.id) services) × IsTrue (list_all (has_no_service services) jobs)
+
 -- every row suits, whether a stop keeps it or not
 pub record GoodRows (g : Generated) (t : TableRows) : Type 0 where
-  pub gssbs_order : IsTrue (ascends gssb_key t.gssbs)
-  pub tlss_order : IsTrue (ascends tls_key t.tlss)
-  pub ulss_order : IsTrue (ascends uls_key t.ulss)
-  pub services_order : IsTrue (ascends service_key t.services)
-  pub jobs_order : IsTrue (ascends job_key t.jobs)
-  pub shown_order : IsTrue (ascends shown_key t.shown)
-  pub tlss_filled : IsTrue (list_all (λ (r : Bytes × Bytes × Bytes). is_filled r.2) t.tlss)
-  pub ulss_filled : IsTrue (list_all (λ (r : Bytes × Bytes × Bytes). is_filled r.2) t.ulss)
-  pub lterms : IsTrue (list_all has_its_lterm t.services)
   pub clock : t.clock ≤ last_clock
   pub next_job : 1 ≤ t.next_job
-  pub gssbs : IsTrue (list_all gssb_suits t.gssbs)
-  pub tlss : IsTrue (list_all (tls_suits g) t.tlss)
-  pub ulss : IsTrue (list_all (uls_suits g) t.ulss)
-  pub services : IsTrue (list_all (service_suits g) t.services)
-  pub jobs : IsTrue (list_all (job_suits g) t.jobs)
-  pub shown : IsTrue (list_all (shown_suits g) t.shown)
-  pub job_numbers : IsTrue (list_all (λ (j : Job). nat_lt j.number t.next_job) t.jobs)
-  pub service_numbers : IsTrue (list_all (λ (s : Service). number_is_below t.next_job s.id) t.services)
-  pub apart : IsTrue (list_all (λ (j : Job). not (is_some (service_of t (Asynchronous j.number)))) t.jobs)
+  pub gssbs : GssbRows t.gssbs
+  pub tlss : TlsRows g t.tlss
+  pub ulss : UlsRows g t.ulss
+  pub services : ServiceRows g t.services
+  pub jobs : JobRows g t.jobs
+  pub shown : ShownRows g t.shown
+  pub numbers : NumbersFit t.next_job t.jobs t.services
 
 -- no more rows, jobs and pages than the generation allows
 pub record IsWithinLimits (g : Generated) (t : TableRows) : Type 0 where
@@ -56,177 +78,37 @@ pub record IsWithinLimits (g : Generated) (t : TableRows) : Type 0 where
 -- ---- a list is another
 
 module _ (g : Generated) (t : TableRows) (r : GoodRows g t) where
-  pub with_gssbs : (l : List (Bytes × Bytes)) → IsTrue (ascends gssb_key l) → IsTrue (list_all gssb_suits l) → GoodRows g (record t { gssbs = l })
-  with_gssbs l up suit = record {
-    gssbs_order = up;
-    tlss_order = r.tlss_order;
-    ulss_order = r.ulss_order;
-    services_order = r.services_order;
-    jobs_order = r.jobs_order;
-    shown_order = r.shown_order;
-    tlss_filled = r.tlss_filled;
-    ulss_filled = r.ulss_filled;
-    lterms = r.lterms;
-    clock = r.clock;
-    next_job = r.next_job;
-    gssbs = suit;
-    tlss = r.tlss;
-    ulss = r.ulss;
-    services = r.services;
-    jobs = r.jobs;
-    shown = r.shown;
-    job_numbers = r.job_numbers;
-    service_numbers = r.service_numbers;
-    apart = r.apart;
-  }
+  pub with_gssbs : (l : List (Bytes × Bytes)) → GssbRows l → GoodRows g (record t { gssbs = l })
+  with_gssbs l fit = record { clock = r.clock; next_job = r.next_job; gssbs = fit; tlss = r.tlss; ulss = r.ulss; services = r.services; jobs = r.jobs; shown = r.shown; numbers = r.numbers }
 
-  pub with_tlss : (l : List (Bytes × Bytes × Bytes)) → IsTrue (ascends tls_key l) → IsTrue (list_all (λ (e : Bytes × Bytes × Bytes). is_filled e.2) l) → IsTrue (list_all (tls_suits g) l) → GoodRows g (record t { tlss = l })
-  with_tlss l up filled suit = record {
-    gssbs_order = r.gssbs_order;
-    tlss_order = up;
-    ulss_order = r.ulss_order;
-    services_order = r.services_order;
-    jobs_order = r.jobs_order;
-    shown_order = r.shown_order;
-    tlss_filled = filled;
-    ulss_filled = r.ulss_filled;
-    lterms = r.lterms;
-    clock = r.clock;
-    next_job = r.next_job;
-    gssbs = r.gssbs;
-    tlss = suit;
-    ulss = r.ulss;
-    services = r.services;
-    jobs = r.jobs;
-    shown = r.shown;
-    job_numbers = r.job_numbers;
-    service_numbers = r.service_numbers;
-    apart = r.apart;
-  }
+  pub with_tlss : (l : List (Bytes × Bytes × Bytes)) → TlsRows g l → GoodRows g (record t { tlss = l })
+  with_tlss l fit = record { clock = r.clock; next_job = r.next_job; gssbs = r.gssbs; tlss = fit; ulss = r.ulss; services = r.services; jobs = r.jobs; shown = r.shown; numbers = r.numbers }
 
-  pub with_ulss : (l : List (Bytes × Bytes × Bytes)) → IsTrue (ascends uls_key l) → IsTrue (list_all (λ (e : Bytes × Bytes × Bytes). is_filled e.2) l) → IsTrue (list_all (uls_suits g) l) → GoodRows g (record t { ulss = l })
-  with_ulss l up filled suit = record {
-    gssbs_order = r.gssbs_order;
-    tlss_order = r.tlss_order;
-    ulss_order = up;
-    services_order = r.services_order;
-    jobs_order = r.jobs_order;
-    shown_order = r.shown_order;
-    tlss_filled = r.tlss_filled;
-    ulss_filled = filled;
-    lterms = r.lterms;
-    clock = r.clock;
-    next_job = r.next_job;
-    gssbs = r.gssbs;
-    tlss = r.tlss;
-    ulss = suit;
-    services = r.services;
-    jobs = r.jobs;
-    shown = r.shown;
-    job_numbers = r.job_numbers;
-    service_numbers = r.service_numbers;
-    apart = r.apart;
-  }
+  pub with_ulss : (l : List (Bytes × Bytes × Bytes)) → UlsRows g l → GoodRows g (record t { ulss = l })
+  with_ulss l fit = record { clock = r.clock; next_job = r.next_job; gssbs = r.gssbs; tlss = r.tlss; ulss = fit; services = r.services; jobs = r.jobs; shown = r.shown; numbers = r.numbers }
 
-  pub with_shown : (l : List (Bytes × JobValue)) → IsTrue (ascends shown_key l) → IsTrue (list_all (shown_suits g) l) → GoodRows g (record t { shown = l })
-  with_shown l up suit = record {
-    gssbs_order = r.gssbs_order;
-    tlss_order = r.tlss_order;
-    ulss_order = r.ulss_order;
-    services_order = r.services_order;
-    jobs_order = r.jobs_order;
-    shown_order = up;
-    tlss_filled = r.tlss_filled;
-    ulss_filled = r.ulss_filled;
-    lterms = r.lterms;
-    clock = r.clock;
-    next_job = r.next_job;
-    gssbs = r.gssbs;
-    tlss = r.tlss;
-    ulss = r.ulss;
-    services = r.services;
-    jobs = r.jobs;
-    shown = suit;
-    job_numbers = r.job_numbers;
-    service_numbers = r.service_numbers;
-    apart = r.apart;
-  }
+  pub with_shown : (l : List (Bytes × JobValue)) → ShownRows g l → GoodRows g (record t { shown = l })
+  with_shown l fit = record { clock = r.clock; next_job = r.next_job; gssbs = r.gssbs; tlss = r.tlss; ulss = r.ulss; services = r.services; jobs = r.jobs; shown = fit; numbers = r.numbers }
 
   pub with_clock : (clock : ℕ) → clock ≤ last_clock → GoodRows g (record t { clock = clock })
-  with_clock clock h = record {
-    gssbs_order = r.gssbs_order;
-    tlss_order = r.tlss_order;
-    ulss_order = r.ulss_order;
-    services_order = r.services_order;
-    jobs_order = r.jobs_order;
-    shown_order = r.shown_order;
-    tlss_filled = r.tlss_filled;
-    ulss_filled = r.ulss_filled;
-    lterms = r.lterms;
-    clock = h;
-    next_job = r.next_job;
-    gssbs = r.gssbs;
-    tlss = r.tlss;
-    ulss = r.ulss;
-    services = r.services;
-    jobs = r.jobs;
-    shown = r.shown;
-    job_numbers = r.job_numbers;
-    service_numbers = r.service_numbers;
-    apart = r.apart;
-  }
+  with_clock clock h = record { clock = h; next_job = r.next_job; gssbs = r.gssbs; tlss = r.tlss; ulss = r.ulss; services = r.services; jobs = r.jobs; shown = r.shown; numbers = r.numbers }
 
   pub some_jobs : (q : Job → Bool) → GoodRows g (record t { jobs = filter q t.jobs })
-  some_jobs q = record {
-    gssbs_order = r.gssbs_order;
-    tlss_order = r.tlss_order;
-    ulss_order = r.ulss_order;
-    services_order = r.services_order;
-    jobs_order = ascends_filter job_key q t.jobs r.jobs_order;
-    shown_order = r.shown_order;
-    tlss_filled = r.tlss_filled;
-    ulss_filled = r.ulss_filled;
-    lterms = r.lterms;
-    clock = r.clock;
-    next_job = r.next_job;
-    gssbs = r.gssbs;
-    tlss = r.tlss;
-    ulss = r.ulss;
-    services = r.services;
-    jobs = all_filter (job_suits g) q t.jobs r.jobs;
-    shown = r.shown;
-    job_numbers = all_filter (λ (j : Job). nat_lt j.number t.next_job) q t.jobs r.job_numbers;
-    service_numbers = r.service_numbers;
-    apart = all_filter (λ (j : Job). not (is_some (service_of t (Asynchronous j.number)))) q t.jobs r.apart;
-  }
+  some_jobs q =
+      let jobs : JobRows g (filter q t.jobs) = (ascends_filter job_key q t.jobs r.jobs.0, all_filter (job_suits g) q t.jobs r.jobs.1) in
+      let numbers : NumbersFit t.next_job (filter q t.jobs) t.services = (all_filter (λ (j : Job). nat_lt j.number t.next_job) q t.jobs r.numbers.0, r.numbers.1, all_filter (has_no_service t.services) q t.jobs r.numbers.2) in
+      record { clock = r.clock; next_job = r.next_job; gssbs = r.gssbs; tlss = r.tlss; ulss = r.ulss; services = r.services; jobs = jobs; shown = r.shown; numbers = numbers }
 
   pub some_services : (q : Service → Bool) → GoodRows g (record t { services = filter q t.services })
-  some_services q = record {
-    gssbs_order = r.gssbs_order;
-    tlss_order = r.tlss_order;
-    ulss_order = r.ulss_order;
-    services_order = ascends_filter service_key q t.services r.services_order;
-    jobs_order = r.jobs_order;
-    shown_order = r.shown_order;
-    tlss_filled = r.tlss_filled;
-    ulss_filled = r.ulss_filled;
-    lterms = all_filter has_its_lterm q t.services r.lterms;
-    clock = r.clock;
-    next_job = r.next_job;
-    gssbs = r.gssbs;
-    tlss = r.tlss;
-    ulss = r.ulss;
-    services = all_filter (service_suits g) q t.services r.services;
-    jobs = r.jobs;
-    shown = r.shown;
-    job_numbers = r.job_numbers;
-    service_numbers = all_filter (λ (s : Service). number_is_below t.next_job s.id) q t.services r.service_numbers;
-    apart = all_imply (λ (j : Job). not (is_some (service_of t (Asynchronous j.number)))) (λ (j : Job). not (is_some (item_at service_key (ServiceKey (Asynchronous j.number)) (filter q t.services)))) (λ j h. none_filter service_key (ServiceKey (Asynchronous j.number)) q t.services h) t.jobs r.apart;
-  }
+  some_services q =
+      let services : ServiceRows g (filter q t.services) = (ascends_filter service_key q t.services r.services.0, all_filter has_its_lterm q t.services r.services.1, all_filter (service_suits g) q t.services r.services.2) in
+      let apart = all_imply (has_no_service t.services) (has_no_service (filter q t.services)) (λ j h. none_filter service_key (ServiceKey (Asynchronous j.number)) q t.services h) t.jobs r.numbers.2 in
+      let numbers : NumbersFit t.next_job t.jobs (filter q t.services) = (r.numbers.0, all_filter (λ (s : Service). number_is_below t.next_job s.id) q t.services r.numbers.1, apart) in
+      record { clock = r.clock; next_job = r.next_job; gssbs = r.gssbs; tlss = r.tlss; ulss = r.ulss; services = services; jobs = r.jobs; shown = r.shown; numbers = numbers }
 
   -- the order of the tables
   pub rows-order : IsSortedTables t
-  rows-order = record { gssbs = r.gssbs_order; tlss = r.tlss_order; ulss = r.ulss_order; services = r.services_order; jobs = r.jobs_order; shown = r.shown_order; tlss_filled = r.tlss_filled; ulss_filled = r.ulss_filled; lterms = r.lterms }
+  rows-order = record { gssbs = r.gssbs.0; tlss = r.tlss.0; ulss = r.ulss.0; services = r.services.0; jobs = r.jobs.0; shown = r.shown.0; tlss_filled = r.tlss.1; ulss_filled = r.ulss.1; lterms = r.services.1 }
 
   -- good rows of durable services alone, within the limits, suit
   rows-suit : IsWithinLimits g t → IsTrue (list_all (λ (s : Service). is_durable g s.id) t.services) → Suits g t
@@ -236,16 +118,16 @@ module _ (g : Generated) (t : TableRows) (r : GoodRows g t) where
     next_job = within.next_job;
     charge = within.charge;
     count = within.count;
-    gssbs = r.gssbs;
-    tlss = r.tlss;
-    ulss = r.ulss;
-    services = r.services;
+    gssbs = r.gssbs.1;
+    tlss = r.tlss.2;
+    ulss = r.ulss.2;
+    services = r.services.2;
     durable = durable_all;
-    jobs = r.jobs;
-    shown = r.shown;
-    job_numbers = r.job_numbers;
-    service_numbers = r.service_numbers;
-    apart = r.apart;
+    jobs = r.jobs.1;
+    shown = r.shown.1;
+    job_numbers = r.numbers.0;
+    service_numbers = r.numbers.1;
+    apart = r.numbers.2;
   }
 
 -- ---- sound tables
@@ -262,7 +144,7 @@ unfolding durable
 sound g t r within = record {
   order = rows-order g t r;
   suits = rows-suit g (record t { services = filter (durable_row g) t.services }) (some_services g t r (durable_row g)) within (filter_passes (durable_row g) t.services);
-  rows = r.services;
+  rows = r.services.2;
 }
 
 within-limits : (g : Generated) (t : TableRows) → Suits g t → IsWithinLimits g t
@@ -308,28 +190,19 @@ durable-service g t number = found_filter service_key (ServiceKey (Asynchronous 
 
 pub good : (g : Generated) (t : TableRows) → AreSound g t → GoodRows g t
 unfolding durable
-good g t s = record {
-  gssbs_order = s.order.gssbs;
-  tlss_order = s.order.tlss;
-  ulss_order = s.order.ulss;
-  services_order = s.order.services;
-  jobs_order = s.order.jobs;
-  shown_order = s.order.shown;
-  tlss_filled = s.order.tlss_filled;
-  ulss_filled = s.order.ulss_filled;
-  lterms = s.order.lterms;
-  clock = s.suits.clock;
-  next_job = s.suits.next_job_from_one;
-  gssbs = s.suits.gssbs;
-  tlss = s.suits.tlss;
-  ulss = s.suits.ulss;
-  services = s.rows;
-  jobs = s.suits.jobs;
-  shown = s.suits.shown;
-  job_numbers = s.suits.job_numbers;
-  service_numbers = durable-numbers g t.next_job t.services s.suits.service_numbers;
-  apart = all_imply (λ (j : Job). not (is_some (service_of (durable g t) (Asynchronous j.number)))) (λ (j : Job). not (is_some (service_of t (Asynchronous j.number)))) (λ j h. subst (λ (o : Option Service). IsTrue (not (is_some o))) (durable-service g t j.number) h) t.jobs s.suits.apart;
-}
+good g t s =
+    let apart = all_imply (has_no_service (durable g t).services) (has_no_service t.services) (λ j h. subst (λ (o : Option Service). IsTrue (not (is_some o))) (durable-service g t j.number) h) t.jobs s.suits.apart in
+    record {
+      clock = s.suits.clock;
+      next_job = s.suits.next_job_from_one;
+      gssbs = (s.order.gssbs, s.suits.gssbs);
+      tlss = (s.order.tlss, s.order.tlss_filled, s.suits.tlss);
+      ulss = (s.order.ulss, s.order.ulss_filled, s.suits.ulss);
+      services = (s.order.services, s.order.lterms, s.rows);
+      jobs = (s.order.jobs, s.suits.jobs);
+      shown = (s.order.shown, s.suits.shown);
+      numbers = (s.suits.job_numbers, durable-numbers g t.next_job t.services s.suits.service_numbers, apart);
+    }
 
 -- ---- charges
 

@@ -1,5 +1,5 @@
 -- A statement that is done leaves an open transaction that can go on.
-use Rattle.std.specs.Prelude.{◌≡◌, refl, ◌+◌, ◌≤◌, Bool, true, false, IsTrue, IsSome, IfSome, List, [], Option, None, Some}
+use Rattle.std.specs.Prelude.{◌≡◌, ℕ, refl, ◌+◌, ◌≤◌, Bool, true, false, IsTrue, IsSome, IfSome, List, [], Option, None, Some}
 use Rattle.std.proofs.Common.{sym, ap, subst, arith}
 use Rattle.std.proofs.lemmas.List.{length-replicate}
 use Rattle.kd_base.specs.declared.words.Variant.{Variant}
@@ -28,7 +28,7 @@ use Rattle.monitor_laws.specs.Transactions.{IsMessage, PutsNone, CanGoOn}
 use Rattle.monitor_tables.specs.OpenLaws.{reads, StandsIn, ToldFits, OutcomeFits, CalledFits, CallsKeep, StatementKeeps, StatementsKeep}
 use Rattle.monitor_tables.specs.Ready.{AskFits, StepFits, next-fits, fitted_unit, runs_are_ready, stored-header}
 use Rattle.monitor_tables.proofs.Calls.{ReplyFits, call-keeps}
-use Rattle.monitor_tables.proofs.Updates.{with_run}
+use Rattle.monitor_tables.proofs.Updates.{can_from, areas, lssb_part, with_run}
 
 -- ---- calls
 
@@ -71,30 +71,16 @@ puts_none (Dialogue user) = tt
 puts_none (Asynchronous number) = refl
 
 pub next_run-can : (g : Generated) (id : ServiceId) (x : OpenTransaction) (tac : Bytes) (unread inputs : List Bytes) → IsTrue (has_kind g tac (is_asynchronous id)) → IsMessage g unread → CanGoOn g id x → CanGoOn g id (next_run g x tac unread inputs)
-next_run-can g id x tac unread inputs kind message can = record {
-  owner = can.owner;
-  user = can.user;
-  lterm = can.lterm;
-  first = can.first;
-  current = kind;
-  header = ap (λ (h : Header). header_of h.benid h.logter h.tacvg tac) can.header;
-  place = omega arith;
-  read_length = omega arith;
-  time = omega arith;
-  kb = can.kb;
-  spab = length-replicate g.limits.spab 32;
-  unread = message;
-  parts = record { count = omega arith; bytes = omega arith };
-  puts = puts_none id;
-  written_order = can.written_order;
-  written = can.written;
-  written_held = can.written_held;
-  held_once = can.held_once;
-  lssbs_order = can.lssbs_order;
-  lssbs_count = can.lssbs_count;
-  lssbs = can.lssbs;
-  drafts = can.drafts;
-}
+next_run-can g id x tac unread inputs kind message can =
+    let one : 1 ≤ 1 = omega arith in
+    let no_length : 0 ≤ 99999 = omega arith in
+    let no_time : (n : ℕ) → 0 ≤ n = λ n. omega arith in
+    let none : IsMessage g [] = record { count = omega arith; bytes = omega arith } in
+    can_from g id (next_run g x tac unread inputs)
+    (can.owner, can.user, can.lterm, can.first, kind, ap (λ (h : Header). header_of h.benid h.logter h.tacvg tac) can.header)
+    (one, no_length, no_time _, can.kb, length-replicate g.limits.spab 32)
+    (message, none, puts_none id)
+    (areas g id x can) (lssb_part g id x can) can.drafts
 
 pub followed-can : (g : Generated) (id : ServiceId) (x : OpenTransaction) (tac : Bytes) → IsTrue (has_kind g tac (is_asynchronous id)) → CanGoOn g id x → CanGoOn g id (followed g (is_asynchronous id) x tac)
 unfolding followed

@@ -140,7 +140,7 @@ job_found g t number value s e = by (item_at job_key (JobKey number) t.jobs) ref
     by None is f = absurd cc
     by (Some j) is f = record {
       job = j;
-      suits = found_passes job_key (job_suits g) (JobKey number) t.jobs j (good g t s).jobs is;
+      suits = found_passes job_key (job_suits g) (JobKey number) t.jobs j (good g t s).jobs.1 is;
       number_is = same j.number (found_key job_key (JobKey number) t.jobs j is);
       value_is = some_is j.value value f;
     }
@@ -151,17 +151,17 @@ content-fits g t (Gssb name) s = by (item_at gssb_key (GssbKey name) t.gssbs) re
   where
     by : (o : Option (Bytes × Bytes)) → item_at gssb_key (GssbKey name) t.gssbs ≡ o → IsTrue (fits_if_there (option_map (λ (r : Bytes × Bytes). r.1) o))
     by None e = refl
-    by (Some r) e = found_passes gssb_key gssb_suits (GssbKey name) t.gssbs r (good g t s).gssbs e
+    by (Some r) e = found_passes gssb_key gssb_suits (GssbKey name) t.gssbs r (good g t s).gssbs.1 e
 content-fits g t (Tls block lterm) s = by (item_at tls_key (TlsKey block lterm) t.tlss) refl
   where
     by : (o : Option (Bytes × Bytes × Bytes)) → item_at tls_key (TlsKey block lterm) t.tlss ≡ o → IsTrue (fits_if_there (option_map (λ (r : Bytes × Bytes × Bytes). r.2) o))
     by None e = refl
-    by (Some r) e = (both_true (has_tls g r.0 && is_lterm g r.1) (fits_content r.2) (found_passes tls_key (tls_suits g) (TlsKey block lterm) t.tlss r (good g t s).tlss e)).1
+    by (Some r) e = (both_true (has_tls g r.0 && is_lterm g r.1) (fits_content r.2) (found_passes tls_key (tls_suits g) (TlsKey block lterm) t.tlss r (good g t s).tlss.2 e)).1
 content-fits g t (Uls block user) s = by (item_at uls_key (UlsKey block user) t.ulss) refl
   where
     by : (o : Option (Bytes × Bytes × Bytes)) → item_at uls_key (UlsKey block user) t.ulss ≡ o → IsTrue (fits_if_there (option_map (λ (r : Bytes × Bytes × Bytes). r.2) o))
     by None e = refl
-    by (Some r) e = (both_true (has_uls g r.0 && is_user g r.1) (fits_content r.2) (found_passes uls_key (uls_suits g) (UlsKey block user) t.ulss r (good g t s).ulss e)).1
+    by (Some r) e = (both_true (has_uls g r.0 && is_user g r.1) (fits_content r.2) (found_passes uls_key (uls_suits g) (UlsKey block user) t.ulss r (good g t s).ulss.2 e)).1
 
 pub told-fits : (g : Generated) (t : TableRows) (l : Locks) (reswait : ℕ) (id : ServiceId) (o : Option Area) → AreSound g t → ToldFits (told_now l reswait t id o)
 unfolding told_now
