@@ -1,0 +1,4 @@
+pub mod OpenLaws
+pub mod PointLaws
+pub mod StateLaws
+pub mod Ready

@@ -1,0 +1,42 @@
+//! What holds of the monitor's tables, sessions and open transactions between two steps.
+//!
+//! It stands on the definitions of the monitor and of its facts. The functions do nothing: their contracts are laws,
+//! which all crates above may cite.
+#![tactic(auto)]
+
+ghost use Rattle.monitor_tables.specs.OpenLaws.{RunsAreReady, OpensHaveUnits, OperandsAreShort, CallsKeep, StatementsKeep, FurtherRunsGoOn, OpeningsGoOn};
+ghost use Rattle.monitor_tables.specs.PointLaws.{PointsStaySound, EndsStaySound, SignOffsStaySound, ShowsStaySound, TicksStaySound, StartsAreSound};
+ghost use Rattle.monitor_tables.specs.StateLaws.{StatesStaySound};
+
+/// An open transaction has a unit, its unit run can be stepped, and no operand of a call is longer than 32,767 bytes.
+pub fn runs_are_ready()
+    ensures units { OpensHaveUnits }
+    ensures ready { RunsAreReady }
+    ensures operands { OperandsAreShort }
+{}
+
+/// Calls, statements, further unit runs and openings leave transactions that can go on, and a call's reply can be
+/// stored.
+pub fn transactions_go_on()
+    ensures calls { CallsKeep }
+    ensures statements { StatementsKeep }
+    ensures runs { FurtherRunsGoOn }
+    ensures openings { OpeningsGoOn }
+{}
+
+/// Synchronisation points that are not refused, abnormal ends, signing off, shown messages, ticks and starts leave
+/// tables in order that suit the generation; all but the points take no more pages.
+pub fn points_and_ends_suit()
+    ensures points { PointsStaySound }
+    ensures ends { EndsStaySound }
+    ensures sign_offs { SignOffsStaySound }
+    ensures shows { ShowsStaySound }
+    ensures ticks { TicksStaySound }
+    ensures starts { StartsAreSound }
+{}
+
+/// Each turn and each command keeps what holds of tables, sessions and open transactions, where all else that holds of
+/// a state does too; and each start from tables that suit begins with it.
+pub fn states_stay_sound()
+    ensures { StatesStaySound }
+{}
