@@ -3,7 +3,7 @@ use Rattle.std.specs.Prelude.{◌≡◌, refl, ℕ, ◌+◌, Bool, true, false, 
 use Rattle.std.proofs.Common.{sym, ap, subst, true≢false}
 use Rattle.std.proofs.lemmas.Bool.{leb-true}
 use Rattle.std.specs.List.{list_all}
-use Rattle.std.specs.FinMap.{find}
+use Rattle.std.specs.FinMap.{find, is_sorted}
 use Rattle.kd_base.specs.Tools.{both_true, some_is}
 use Rattle.kdcs_types.specs.declared.key.ServiceId.{ServiceId}
 use Rattle.kdcs_types.specs.declared.key.ServiceId.TheVariants.{Dialogue, Asynchronous}
@@ -13,7 +13,7 @@ use Rattle.kdcs_types.specs.declared.service.Service.{Service}
 use Rattle.kdcs_types.specs.Keys.{id_cmp, id_eq}
 use Rattle.kdcs_types.specs.KeyLaws.{id_eq-same}
 use Rattle.kdcs_types.specs.Limits.{last_clock}
-use Rattle.kdcs_types.specs.Tables.{TableRows, has_its_lterm, lterm_fits, service_of, shown_of}
+use Rattle.kdcs_types.specs.Tables.{TableRows, service_fits, lterm_fits, service_of, shown_of}
 use Rattle.kdcdef_types.specs.Generation.{Generated}
 use Rattle.monitor_semantics.specs.declared.answer.Happened.{Happened}
 use Rattle.monitor_semantics.specs.declared.answer.Happened.TheVariants.{Held}
@@ -52,14 +52,14 @@ row-lterm g (Dialogue user) o asynchronous fits suits = absurd (true≢false (sy
 row-lterm g (Asynchronous number) None asynchronous fits suits = absurd (true≢false (sym fits))
 row-lterm g (Asynchronous number) (Some lterm) asynchronous fits suits = suits
 
-started-opens : (app : Application) (rows : List Service) → IsTrue (list_all (λ (s : Service). is_asynchronous s.id) rows) → IsTrue (list_all has_its_lterm rows) → IsTrue (list_all (service_suits app.generation) rows) → Opens app (map (opened_row app) rows)
+started-opens : (app : Application) (rows : List Service) → IsTrue (list_all (λ (s : Service). is_asynchronous s.id) rows) → IsTrue (list_all service_fits rows) → IsTrue (list_all (service_suits app.generation) rows) → Opens app (map (opened_row app) rows)
 started-opens app [] a l h id x e = absurd cc
 started-opens app (row ∷ rows) a l h id x e =
     let asynchronous = both_true (is_asynchronous row.id) (list_all (λ (s : Service). is_asynchronous s.id) rows) a in
-    let lterms = both_true (has_its_lterm row) (list_all has_its_lterm rows) l in
+    let fits = both_true (service_fits row) (list_all service_fits rows) l in
     let suits = both_true (service_suits app.generation row) (list_all (service_suits app.generation) rows) h in
-    let lterm = row-lterm app.generation row.id row.lterm asynchronous.0 lterms.0 (row_parts app.generation row suits.0).lterm in
-    by (id_eq id row.id) refl (rows-can app.generation row.id row (lterm_of_row row.lterm) suits.0 refl lterm) (started-opens app rows asynchronous.1 lterms.1 suits.1 id x) e
+    let lterm = row-lterm app.generation row.id row.lterm asynchronous.0 (both_true (lterm_fits row.id row.lterm) (is_sorted bytes_cmp row.lssbs) fits.0).0 (row_parts app.generation row suits.0).lterm in
+    by (id_eq id row.id) refl (rows-can app.generation row.id row (lterm_of_row row.lterm) suits.0 refl lterm) (started-opens app rows asynchronous.1 fits.1 suits.1 id x) e
   where
     opens : OpenTransaction
     opens = opened_by_row app.generation row.id row (lterm_of_row row.lterm)
@@ -77,7 +77,7 @@ start-parts app t sound =
     record {
       tables = sound;
       sessions = λ pterm. tt;
-      opens = started-opens app (asynchronous_rows t) (filter_passes asynchronous t.services) (all_filter has_its_lterm asynchronous t.services sound.order.lterms) (all_filter (service_suits app.generation) asynchronous t.services sound.rows);
+      opens = started-opens app (asynchronous_rows t) (filter_passes asynchronous t.services) (all_filter service_fits asynchronous t.services sound.order.services_fit) (all_filter (service_suits app.generation) asynchronous t.services sound.rows);
     }
 
 -- ---- signing on and off

@@ -22,7 +22,7 @@ use Rattle.kdcs_types.specs.Keyed.{ascends, item_at, with_item, without_item}
 use Rattle.kdcs_types.specs.KeyLaws.{key_eq-same, key_eq-itself}
 use Rattle.kdcs_types.specs.KeyedLaws.{item_at-with, ascends-with, ascends-without, all-with, all-without, found_key, found_passes}
 use Rattle.kdcs_types.specs.Limits.{last_clock, last_next_job}
-use Rattle.kdcs_types.specs.Tables.{TableRows, gssb_key, tls_key, uls_key, service_key, job_key, is_filled, has_its_lterm, lterm_fits, service_of, with_change}
+use Rattle.kdcs_types.specs.Tables.{TableRows, gssb_key, tls_key, uls_key, service_key, job_key, is_filled, service_fits, lterm_fits, service_of, with_change}
 use Rattle.kdcdef_types.specs.Generation.{Generated}
 use Rattle.monitor_semantics.specs.declared.draft.Due.{Due}
 use Rattle.monitor_semantics.specs.declared.draft.Due.TheVariants.{After, At}
@@ -252,12 +252,12 @@ drafts-good g t id x can r =
 record RowFits (g : Generated) (id : ServiceId) (row : Service) : Type 0 where
   own : row.id ≡ id
   suits : IsTrue (service_suits g row)
-  lterm : IsTrue (has_its_lterm row)
+  fits : IsTrue (service_fits row)
 
-with_row-good : (g : Generated) (t : TableRows) (row : Service) → IsTrue (service_suits g row) → IsTrue (has_its_lterm row) → NoOwnJob g t row.id → GoodRows g (record t { services = with_item service_key row t.services })
-with_row-good g t row suits lterm r =
+with_row-good : (g : Generated) (t : TableRows) (row : Service) → IsTrue (service_suits g row) → IsTrue (service_fits row) → NoOwnJob g t row.id → GoodRows g (record t { services = with_item service_key row t.services })
+with_row-good g t row suits fits r =
     let services : ServiceRows g (with_item service_key row t.services) =
-    (ascends-with service_key row t.services r.rows.services.0, all-with service_key has_its_lterm row t.services lterm r.rows.services.1, all-with service_key (service_suits g) row t.services suits r.rows.services.2) in
+    (ascends-with service_key row t.services r.rows.services.0, all-with service_key service_fits row t.services fits r.rows.services.1, all-with service_key (service_suits g) row t.services suits r.rows.services.2) in
     let numbers : NumbersFit t.next_job t.jobs (with_item service_key row t.services) =
     (r.rows.numbers.0, all-with service_key (λ (s : Service). number_is_below t.next_job s.id) row t.services r.below r.rows.numbers.1, all_both (not_own row.id) (has_no_service t.services) (has_no_service (with_item service_key row t.services)) still t.jobs r.left r.rows.numbers.2) in
     record { clock = r.rows.clock; next_job = r.rows.next_job; gssbs = r.rows.gssbs; tlss = r.rows.tlss; ulss = r.rows.ulss; services = services; jobs = r.rows.jobs; shown = r.rows.shown; numbers = numbers }
@@ -273,7 +273,7 @@ with_row-good g t row suits lterm r =
 
 service-good : (g : Generated) (t : TableRows) (id : ServiceId) (o : Option Service) → IfSome o (λ (row : Service). RowFits g id row) → NoOwnJob g t id → GoodRows g (with_service t id o)
 service-good g t id None fits r = some_services g t r.rows (λ (s : Service). not (key_eq (ServiceKey id) (service_key s)))
-service-good g t id (Some row) fits r = with_row-good g t row fits.suits fits.lterm (subst (NoOwnJob g t) (sym fits.own) r)
+service-good g t id (Some row) fits r = with_row-good g t row fits.suits fits.fits (subst (NoOwnJob g t) (sym fits.own) r)
 
 length-joined : (parts : List Bytes) → length (joined parts) ≡ sum_by length parts
 length-joined [] = refl
@@ -330,7 +330,7 @@ row-fits g id x (Wait tac) can began fits = record {
     handed_count = le-leb 0 16 (omega arith);
     handed = le-leb 0 g.limits.nb (omega arith);
   });
-  lterm = lterm_row-there id x.lterm;
+  fits = true_both _ _ (lterm_row-there id x.lterm) can.lssbs_order;
 }
 row-fits g id x (Point tac) can began fits = record {
   own = refl;
@@ -349,7 +349,7 @@ row-fits g id x (Point tac) can began fits = record {
     handed_count = le-leb (length x.parts) 16 can.parts.count;
     handed = le-leb (sum_by length x.parts) g.limits.nb can.parts.bytes;
   });
-  lterm = lterm_row-there id x.lterm;
+  fits = true_both _ _ (lterm_row-there id x.lterm) can.lssbs_order;
 }
 row-fits g id x (Follow tac) can began fits = record {
   own = refl;
@@ -368,7 +368,7 @@ row-fits g id x (Follow tac) can began fits = record {
     handed_count = le-leb (length x.parts) 16 can.parts.count;
     handed = le-leb (sum_by length x.parts) g.limits.nb can.parts.bytes;
   });
-  lterm = lterm_row-there id x.lterm;
+  fits = true_both _ _ (lterm_row-there id x.lterm) refl;
 }
 row-fits g id x Finish can began fits = tt
 row-fits g id x (Hold tac) can began fits = tt

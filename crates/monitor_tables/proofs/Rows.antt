@@ -15,7 +15,7 @@ use Rattle.kdcs_types.specs.Keys.{key_eq}
 use Rattle.kdcs_types.specs.Keyed.{ascends, item_at}
 use Rattle.kdcs_types.specs.KeyLaws.{key_eq-same}
 use Rattle.kdcs_types.specs.Limits.{last_clock, last_next_job}
-use Rattle.kdcs_types.specs.Tables.{TableRows, IsSortedTables, gssb_key, tls_key, uls_key, service_key, job_key, shown_key, is_filled, has_its_lterm, service_of}
+use Rattle.kdcs_types.specs.Tables.{TableRows, IsSortedTables, gssb_key, tls_key, uls_key, service_key, job_key, shown_key, is_filled, service_fits, service_of}
 use Rattle.kdcdef_types.specs.Generation.{Generated}
 use Rattle.monitor_semantics.specs.Bytes.{Bytes}
 use Rattle.monitor_semantics.specs.Charges.{charge_of, service_length, total_charge}
@@ -41,7 +41,7 @@ abbrev pub UlsRows : Generated → List (Bytes × Bytes × Bytes) → Type 0
 UlsRows g l = BlockRows uls_key (uls_suits g) l
 
 abbrev pub ServiceRows : Generated → List Service → Type 0
-ServiceRows g l = IsTrue (ascends service_key l) × IsTrue (list_all has_its_lterm l) × IsTrue (list_all (service_suits g) l)
+ServiceRows g l = IsTrue (ascends service_key l) × IsTrue (list_all service_fits l) × IsTrue (list_all (service_suits g) l)
 
 abbrev pub JobRows : Generated → List Job → Type 0
 JobRows g l = IsTrue (ascends job_key l) × IsTrue (list_all (job_suits g) l)
@@ -101,14 +101,14 @@ module _ (g : Generated) (t : TableRows) (r : GoodRows g t) where
 
   pub some_services : (q : Service → Bool) → GoodRows g (record t { services = filter q t.services })
   some_services q =
-      let services : ServiceRows g (filter q t.services) = (ascends_filter service_key q t.services r.services.0, all_filter has_its_lterm q t.services r.services.1, all_filter (service_suits g) q t.services r.services.2) in
+      let services : ServiceRows g (filter q t.services) = (ascends_filter service_key q t.services r.services.0, all_filter service_fits q t.services r.services.1, all_filter (service_suits g) q t.services r.services.2) in
       let apart = all_imply (has_no_service t.services) (has_no_service (filter q t.services)) (λ j h. none_filter service_key (ServiceKey (Asynchronous j.number)) q t.services h) t.jobs r.numbers.2 in
       let numbers : NumbersFit t.next_job t.jobs (filter q t.services) = (r.numbers.0, all_filter (λ (s : Service). number_is_below t.next_job s.id) q t.services r.numbers.1, apart) in
       record { clock = r.clock; next_job = r.next_job; gssbs = r.gssbs; tlss = r.tlss; ulss = r.ulss; services = services; jobs = r.jobs; shown = r.shown; numbers = numbers }
 
   -- the order of the tables
   pub rows-order : IsSortedTables t
-  rows-order = record { gssbs = r.gssbs.0; tlss = r.tlss.0; ulss = r.ulss.0; services = r.services.0; jobs = r.jobs.0; shown = r.shown.0; tlss_filled = r.tlss.1; ulss_filled = r.ulss.1; lterms = r.services.1 }
+  rows-order = record { gssbs = r.gssbs.0; tlss = r.tlss.0; ulss = r.ulss.0; services = r.services.0; jobs = r.jobs.0; shown = r.shown.0; tlss_filled = r.tlss.1; ulss_filled = r.ulss.1; services_fit = r.services.1 }
 
   -- good rows of durable services alone, within the limits, suit
   rows-suit : IsWithinLimits g t → IsTrue (list_all (λ (s : Service). is_durable g s.id) t.services) → Suits g t
@@ -198,7 +198,7 @@ good g t s =
       gssbs = (s.order.gssbs, s.suits.gssbs);
       tlss = (s.order.tlss, s.order.tlss_filled, s.suits.tlss);
       ulss = (s.order.ulss, s.order.ulss_filled, s.suits.ulss);
-      services = (s.order.services, s.order.lterms, s.rows);
+      services = (s.order.services, s.order.services_fit, s.rows);
       jobs = (s.order.jobs, s.suits.jobs);
       shown = (s.order.shown, s.suits.shown);
       numbers = (s.suits.job_numbers, durable-numbers g t.next_job t.services s.suits.service_numbers, apart);

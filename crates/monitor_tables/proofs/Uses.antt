@@ -1,12 +1,12 @@
 -- What holds of an input's use: its user, TAC and text are declared and short.
-use Rattle.std.specs.Prelude.{◌≡◌, refl, Bool, true, false, ◌||◌, not, IsTrue, IfSome, List, [], length, Option, None, Some, is_some, nat_lt, bytes_eq, codes, if◌then◌else◌}
+use Rattle.std.specs.Prelude.{◌≡◌, refl, Bool, true, false, ◌||◌, ◌&&◌, not, IsTrue, IfSome, List, [], length, Option, None, Some, is_some, nat_lt, nat_le, option_and_then, bytes_eq, codes, if◌then◌else◌}
 use Rattle.std.proofs.Common.{ap, ◌∙◌}
 use Rattle.std.proofs.lemmas.Bool.{le-leb, ltb-false}
-use Rattle.std.specs.List.{list_any}
+use Rattle.std.specs.List.{list_any, list_all}
 use Rattle.kdcdef_types.specs.declared.entry.TacEntry.{TacEntry}
 use Rattle.kdcdef_types.specs.declared.entry.UserEntry.{UserEntry}
 use Rattle.kdcdef_types.specs.Generation.{Generated, tac_of, user_of}
-use Rattle.kd_base.specs.Text.{name_of}
+use Rattle.kd_base.specs.Text.{name_of, is_name_byte}
 use Rattle.monitor_semantics.specs.declared.input_use.TacFault.TheVariants.{NotAllowed, IsOff}
 use Rattle.monitor_semantics.specs.declared.input_use.ServiceState.{ServiceState}
 use Rattle.monitor_semantics.specs.declared.input_use.ServiceState.TheVariants.{NoService, Awaits, Running}
@@ -15,7 +15,7 @@ use Rattle.monitor_semantics.specs.declared.input_use.Use.TheVariants.{Sign, Sig
 use Rattle.monitor_semantics.specs.Bytes.{Bytes}
 use Rattle.monitor_semantics.specs.State.{Session}
 use Rattle.monitor_semantics.specs.Outcomes.{goes_first}
-use Rattle.monitor_semantics.specs.Sessions.{Split, first_word, after_word, split_at, same_password, has_user, sign_by, sign_user, sign_name, sign_on_use, use_unsigned, start_by, use_of_text, off_use, use_signed, use_by}
+use Rattle.monitor_semantics.specs.Sessions.{Split, first_word, after_word, split_at, same_password, has_user, sign_by, sign_user, sign_name, sign_on_use, use_unsigned, start_by, tac_named, use_of_text, off_use, use_signed, use_by}
 use Rattle.monitor_semantics.specs.Commands.{user_by}
 use Rattle.monitor_laws.specs.Suits.{is_user, has_kind, has_kind_by, fits_message}
 
@@ -79,7 +79,15 @@ module _ (g : Generated) (user : Bytes) (state : ServiceState) where
       let split = split_at 44 (after_word r) in
       either (bytes_eq r.word (codes "KDCSIGN")) (sign_on_use g signed split) SignFirst (sign_name-fits signed split.rest (name_of split.word)) tt
 
-  start-fits : (tac text : Bytes) (o : Option TacEntry) → tac_of g tac ≡ o → IsTrue (is_user g user) → Fits (start_by g tac text o)
+  -- a word that names a TAC is its name
+  named-tac : (word : Bytes) (t : TacEntry) → tac_named g word ≡ Some t → tac_of g word ≡ Some t
+  named-tac word t e = by (nat_le 1 (length word) && nat_le (length word) 8 && list_all is_name_byte word) e
+    where
+      by : (b : Bool) → option_and_then (tac_of g) (if b then Some word else None) ≡ Some t → tac_of g word ≡ Some t
+      by true h = h
+      by false h = absurd cc
+
+  start-fits : (tac text : Bytes) (o : Option TacEntry) → tac_named g tac ≡ o → IsTrue (is_user g user) → Fits (start_by g tac text o)
   start-fits tac text None e is = tt
   start-fits tac text (Some t) e is = by t.asynchronous refl (not (goes_first t.call))
     where
@@ -88,12 +96,12 @@ module _ (g : Generated) (user : Bytes) (state : ServiceState) where
       by false d true = tt
       by false d false =
           either (not t.on) (TacRefused IsOff) (if nat_lt g.limits.nb (length text) then TooLong else Start tac text) tt
-          (short_or_too_long text (Start tac text) (λ fits. record { is = is; kind = ap (λ (o : Option TacEntry). has_kind_by o false) e ∙ ap not d; fits = fits }))
+          (short_or_too_long text (Start tac text) (λ fits. record { is = is; kind = ap (λ (o : Option TacEntry). has_kind_by o false) (named-tac tac t e) ∙ ap not d; fits = fits }))
 
   text-fits : (text : Bytes) (r : Split) (s : ServiceState) → state ≡ s → IsTrue (is_user g user) → Fits (use_of_text g text r s)
   text-fits text r Running e is = tt
   text-fits text r Awaits e is = short_or_too_long text (Next text) (λ fits. record { is = is; awaits = e; fits = fits })
-  text-fits text r NoService e is = start-fits r.word (after_word r) (tac_of g r.word) refl is
+  text-fits text r NoService e is = start-fits r.word (after_word r) (tac_named g r.word) refl is
 
   off-fits : (s : ServiceState) → Fits (off_use s)
   off-fits Running = tt
