@@ -6,7 +6,7 @@ use Rattle.kd_base.specs.Text.{name_of}
 use Rattle.kdcs_types.specs.declared.key.ServiceId.TheVariants.{Dialogue}
 use Rattle.kdcdef_types.specs.declared.entry.TacEntry.{TacEntry}
 use Rattle.kdcdef_types.specs.declared.entry.UserEntry.{UserEntry}
-use Rattle.kdcdef_types.specs.Generation.{Generated, tac_of, user_of}
+use Rattle.kdcdef_types.specs.Generation.{Generated, user_of}
 use Rattle.monitor_semantics.specs.declared.input_use.ServiceState.{ServiceState}
 use Rattle.monitor_semantics.specs.declared.input_use.ServiceState.TheVariants.{NoService, Awaits, Running}
 use Rattle.monitor_semantics.specs.declared.input_use.Use.{Use}
@@ -14,7 +14,7 @@ use Rattle.monitor_semantics.specs.declared.input_use.Use.TheVariants.{Sign, Sig
 use Rattle.monitor_semantics.specs.Bytes.{Bytes, bytes_cmp}
 use Rattle.monitor_semantics.specs.Commands.{user_by, use_now}
 use Rattle.monitor_semantics.specs.Outcomes.{goes_first}
-use Rattle.monitor_semantics.specs.Sessions.{Split, split_at, first_word, after_word, is_running, is_awaiting, service_state_by, service_state, same_password, has_user, sign_by, sign_user, sign_name, sign_on_use, use_unsigned, start_by, use_of_text, off_use, use_signed, use_by, use_of}
+use Rattle.monitor_semantics.specs.Sessions.{Split, split_at, first_word, after_word, is_running, is_awaiting, service_state_by, service_state, same_password, has_user, sign_by, sign_user, sign_name, sign_on_use, use_unsigned, start_by, tac_named, use_of_text, off_use, use_signed, use_by, use_of}
 use Rattle.monitor_semantics.specs.State.{Application, Session, State}
 
 -- the user is signed on at the terminal, and its service is neither ready nor in a task
@@ -68,7 +68,7 @@ module _ (s : State) (pterm : Bytes) (v : Session) (on : find bytes_cmp pterm s.
       → IsFor s pterm (use_of_text g text r (service_state_by running awaiting))
   text_fits g text r true awaiting e f = tt
   text_fits g text r false true e f = either s pterm (nat_lt g.limits.nb (length text)) TooLong (Next text) tt (v, record { signed = on; rests = e })
-  text_fits g text r false false e f = start_fits g r.word (after_word r) (tac_of g r.word) (record { signed = on; rests = e }) f
+  text_fits g text r false false e f = start_fits g r.word (after_word r) (tac_named g r.word) (record { signed = on; rests = e }) f
 
   off_fits : (state : ServiceState) → IsFor s pterm (off_use state)
   off_fits Running = tt
