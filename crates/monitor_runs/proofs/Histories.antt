@@ -1,0 +1,75 @@
+-- Steps one after another.
+use Rattle.std.specs.Prelude.{◌≡◌, refl, ℕ, zero, suc, ◌==◌, Bool, true, false, List, [], ◌∷◌, ◌++◌, All}
+use Rattle.std.proofs.Common.{ap, ◌∙◌}
+use Rattle.std.proofs.lemmas.List.Elements.{All-head, All-tail}
+use Rattle.kdcs_types.specs.declared.act.Act.{Act}
+use Rattle.kdcs_types.specs.declared.act.Act.TheVariants.{Commit, Emit}
+use Rattle.kdcs_types.specs.Tables.{TableRows, IsSortedTables, changed}
+use Rattle.monitor_semantics.specs.State.{Application, State}
+use Rattle.monitor_semantics.specs.Endings.{durable}
+use Rattle.monitor_semantics.specs.Turns.{turn_of}
+use Rattle.monitor_semantics.specs.Commands.{Command, Input, Tick, Run, Turn, Drop, Print, PrintLast, Restart, ScriptStep, rotated, next_task, in_a_row, steps_of, state_after, acts_of}
+use Rattle.monitor_semantics.specs.Trace.{history, tables_after}
+use Rattle.monitor_laws.specs.Keeping.{HasFacts}
+use Rattle.monitor_laws.specs.Steps.{CommitsOnce, TurnsCommitOnce, CommandsCommitOnce, StepsMakeTheirTables}
+use Rattle.monitor_runs.specs.RunLaws.{EachStep}
+
+-- ---- lists of steps
+
+after_both : (s : State) (xs ys : List ScriptStep) → state_after s (xs ++ ys) ≡ state_after (state_after s xs) ys
+unfolding state_after
+after_both s [] ys = refl
+after_both s (d ∷ ds) ys = after_both d.after ds ys
+
+each_both : (law : State → ScriptStep → Type 0) (s : State) (xs ys : List ScriptStep) → EachStep law s xs → EachStep law (state_after s xs) ys → EachStep law s (xs ++ ys)
+unfolding state_after
+each_both law s [] ys h k = k
+each_both law s (d ∷ ds) ys h k = (h.0, each_both law d.after ds ys h.1 k)
+
+module _ (turns : TurnsCommitOnce) (commands : CommandsCommitOnce) (app : Application) where
+  rotated-once : (n : ℕ) (ended : Bool) (s : State) (task row : ℕ) → EachStep (CommitsOnce app) s (rotated app n ended s task row)
+  unfolding rotated
+  rotated-once zero ended s task row = tt
+  rotated-once (suc n) true s task row = tt
+  rotated-once (suc n) false s task row =
+      let turned = turn_of app s task in
+      let more = in_a_row turned.moved row in
+      (turns app s task, rotated-once n (more == app.generation.limits.tasks) turned.after (next_task app task) more)
+
+  steps-once : (s : State) (c : Command) → EachStep (CommitsOnce app) s (steps_of app s c)
+  unfolding steps_of
+  steps-once s (Run n) = rotated-once n false s 1 0
+  steps-once s (Input pterm text) = (commands app s (Input pterm text), tt)
+  steps-once s (Tick ticks) = (commands app s (Tick ticks), tt)
+  steps-once s (Turn task) = (commands app s (Turn task), tt)
+  steps-once s (Drop pterm) = (commands app s (Drop pterm), tt)
+  steps-once s (Print pterm) = (commands app s (Print pterm), tt)
+  steps-once s (PrintLast pterm) = (commands app s (PrintLast pterm), tt)
+  steps-once s Restart = (commands app s Restart, tt)
+
+  pub history-once : (s : State) (script : List Command) → EachStep (CommitsOnce app) s (history app s script)
+  unfolding history
+  history-once s [] = tt
+  history-once s (c ∷ cs) = each_both (CommitsOnce app) s (steps_of app s c) _ (steps-once s c) (history-once (state_after s (steps_of app s c)) cs)
+
+-- ---- tables
+
+tables_both : (t : TableRows) (xs ys : List Act) → tables_after t (xs ++ ys) ≡ tables_after (tables_after t xs) ys
+unfolding tables_after
+tables_both t [] ys = refl
+tables_both t (Commit c ∷ xs) ys = tables_both (changed t c) xs ys
+tables_both t (Emit bytes ∷ xs) ys = tables_both t xs ys
+
+module _ (makes : StepsMakeTheirTables) (app : Application) where
+  abbrev Facts : ScriptStep → Type 0
+  Facts d = HasFacts app d.after
+
+  pub tables_made : (s : State) (steps : List ScriptStep) → IsSortedTables s.tables → EachStep (CommitsOnce app) s steps → All Facts steps
+      → tables_after (durable app.generation s.tables) (acts_of steps) ≡ durable app.generation (state_after s steps).tables
+  unfolding state_after tables_after
+  tables_made s [] sorted once facts = refl
+  tables_made s (d ∷ ds) sorted once facts =
+      let here = All-head Facts d ds facts in
+      tables_both (durable app.generation s.tables) d.acts (acts_of ds)
+      ∙ ap (λ t. tables_after t (acts_of ds)) (makes app s d sorted here.1.order once.0)
+      ∙ tables_made d.after ds here.1.order once.1 (All-tail Facts d ds facts)

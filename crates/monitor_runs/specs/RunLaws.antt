@@ -1,0 +1,34 @@
+-- What holds of every run of the abstract monitor: the facts of its states, and the tables that its commits make.
+use Rattle.std.specs.Prelude.{◌≡◌, List, [], ◌∷◌}
+use Rattle.kdcs_types.specs.Tables.{TableRows, IsSortedTables}
+use Rattle.monitor_semantics.specs.State.{Application, State}
+use Rattle.monitor_semantics.specs.Endings.{durable}
+use Rattle.monitor_semantics.specs.Commands.{Command, ScriptStep, started, state_after}
+use Rattle.monitor_semantics.specs.Trace.{history, trace, tables_after}
+use Rattle.monitor_laws.specs.Applications.{IsApplication}
+use Rattle.monitor_laws.specs.Keeping.{HasFacts, HoldsAlong, IsScriptOf}
+use Rattle.monitor_laws.specs.Steps.{CommitsOnce}
+use Rattle.monitor_laws.specs.Suits.{Suits}
+
+-- it holds of each step, with the state before it
+abbrev pub EachStep : (State → ScriptStep → Type 0) → State → List ScriptStep → Type 0
+EachStep law s [] = Unit {0}
+EachStep law s (d ∷ ds) = law s d × EachStep law d.after ds
+
+-- a start from tables that suit has the facts
+abbrev pub StartsHaveFacts : Type 0
+StartsHaveFacts = (app : Application) (t : TableRows) → IsApplication app → IsSortedTables t → Suits app.generation t → HasFacts app (started app t)
+
+-- and so has each state of a script
+abbrev pub ScriptsKeepFacts : Type 0
+ScriptsKeepFacts = HoldsAlong HasFacts
+
+-- each step of a script commits once at most
+abbrev pub HistoriesCommitOnce : Type 0
+HistoriesCommitOnce = (app : Application) (s : State) (script : List Command) → EachStep (CommitsOnce app) s (history app s script)
+
+-- the commits of a script make, one after another, the durable tables of the state that it comes to
+abbrev pub CommitsMakeTables : Type 0
+CommitsMakeTables =
+    (app : Application) (t : TableRows) (script : List Command) → IsApplication app → IsScriptOf app script → IsSortedTables t → Suits app.generation t
+    → tables_after (durable app.generation t) (trace app t script) ≡ durable app.generation (state_after (started app t) (history app (started app t) script)).tables
