@@ -1,5 +1,5 @@
 -- What a device is seen as, and what its calls do to it.
-use Rattle.std.specs.Prelude.{◌≡◌, ◌⊎◌, ◌<◌, ◌≤◌, ℕ, ◌+◌, ◌-◌, ◌^◌, min, max, Bool, IsTrue, List, ◌++◌, length, take, drop, replicate, Result, OnOk, OnErr}
+use Rattle.std.specs.Prelude.{◌≡◌, ◌⊎◌, ◌≤◌, ℕ, ◌+◌, ◌-◌, ◌^◌, min, max, Bool, List, ◌++◌, length, take, drop, replicate, Result, OnOk}
 
 -- a device at one moment, but for what a stop may leave
 pub record State : Type 0 where
@@ -48,6 +48,15 @@ pub record Frame (old new : State) : Type 0 where
   pub told : new.told ≡ old.told
   pub disk_faults : old.disk_faults ≤ new.disk_faults
   pub line_faults : old.line_faults ≤ new.line_faults
+  pub moment : old.moment ≤ new.moment
+
+-- no further call of the disk failed
+abbrev pub SameDiskFaults : State → State → Type 0
+SameDiskFaults old new = new.disk_faults ≡ old.disk_faults
+
+-- no further emit failed
+abbrev pub SameLineFaults : State → State → Type 0
+SameLineFaults old new = new.line_faults ≡ old.line_faults
 
 -- no further name was handed to attach
 abbrev pub SameNames : State → State → Type 0

@@ -1,8 +1,9 @@
 -- What holds of every history.
-use Rattle.std.specs.Prelude.{◌≡◌, ℕ, ◌+◌, min, true, false, List, [], ◌∷◌, ◌++◌, length, Result, Ok, Err, IsOk, OnErr, refl}
+use Rattle.std.specs.Prelude.{◌≡◌, ◌≤◌, ℕ, zero, suc, ◌+◌, min, true, false, List, [], ◌∷◌, ◌++◌, length, Result, Ok, Err, IsOk, OnErr, refl}
 use native.Mathlib.Omega.{arith}
+use Rattle.std.proofs.Common.{inr}
 use Rattle.kd_device.specs.Device.{Rose, Torn, Only}
-use Rattle.kd_device.specs.History.{Event, Wrote, Synced, Emitted, Disk, fresh, step, after, Torns, Since, now_to, now_from}
+use Rattle.kd_device.specs.History.{Event, Wrote, Synced, Emitted, Disk, fresh, step, after, Torns, Left, Since, now_to, now_from}
 use Rattle.kd_device.specs.declared.kind.CallKind.{CallKind}
 use Rattle.kd_device.specs.Tape.{blank}
 use Rattle.kd_device.specs.Memory.{unused, state_of, leaves_of}
@@ -32,6 +33,18 @@ bytes_now start es = now_to (fresh start) es _ _ (has_bytes (fresh start) es ref
 
 pub sent_is : (start : List ℕ) (es : List Event) (c out : List ℕ) → Since (length es) (fresh start) es c out → out ≡ (after (fresh start) es).sent
 sent_is start es c out left = (now_from (fresh start) es c out left).1
+
+left_earlier : (u : ℕ) (s : Disk) (es : List Event) (c out : List ℕ) → Since u s es c out → Left s es c out
+left_earlier zero s es c out left = left
+left_earlier (suc u) s [] c out left = absurd left
+left_earlier (suc u) s (e ∷ es) c out left = inr (inr (left_earlier u (step s e) es c out left))
+
+-- a stop since a later call is one since an earlier call
+pub since_less : (t u : ℕ) (s : Disk) (es : List Event) (c out : List ℕ) → t ≤ u → Since u s es c out → Since t s es c out
+since_less zero u s es c out le left = left_earlier u s es c out left
+since_less (suc t) zero s es c out le left = absurd (omega (arith, le))
+since_less (suc t) (suc u) s [] c out le left = absurd left
+since_less (suc t) (suc u) s (e ∷ es) c out le left = since_less t u (step s e) es c out (omega (arith, le)) left
 
 -- a stop of a device of which no call was made leaves its file
 pub unused_only : (start : List ℕ) (failing : List (CallKind × ℕ)) → Only start (state_of (unused start failing)) (leaves_of (unused start failing))

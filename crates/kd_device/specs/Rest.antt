@@ -1,7 +1,7 @@
 -- Calls after which all stands as it did, and a stop leaves no more than it might have left before.
-use Rattle.std.specs.Prelude.{◌≡◌, ◌⊎◌, ◌≤◌, ℕ, List, refl}
-use Rattle.std.proofs.Common.{inl, inr, ⊎_elim, sym, subst, ◌∙◌, arith}
-use Rattle.kd_device.specs.Device.{State, LeavesOnly, Now, Only, Quiet}
+use Rattle.std.specs.Prelude.{◌≡◌, ℕ, List, refl}
+use Rattle.std.proofs.Common.{inl, sym, ◌∙◌, arith}
+use Rattle.kd_device.specs.Device.{State, LeavesOnly, Only, Quiet}
 use Rattle.kd_device.specs.Time.{leaves_weaker, leaves_then, quiet_leaves}
 
 -- what a stop at that moment may leave, with what was sent by then

@@ -1,6 +1,6 @@
 //! One disk file and one output line, under one clock: what a power cut leaves of both is told by one relation.
 ghost use Rattle.std.specs.Prelude.{◌≡◌, ◌≤◌, ◌+◌, ◌-◌, ◌++◌, ◌∷◌, [], List, ℕ, IsTrue, length, take, drop, min, IfOk, OnOk, OnErr};
-ghost use Rattle.kd_device.specs.Device.{State, Rose, Frame, SameNames, SameSpare, UsesSpare, HasSpare, Reserved, Quiet, Writes, Emits, Only};
+ghost use Rattle.kd_device.specs.Device.{State, Rose, Frame, SameDiskFaults, SameLineFaults, SameNames, SameSpare, UsesSpare, HasSpare, Reserved, Quiet, Writes, Emits, Only};
 
 use kd_base::OutOfMemory;
 use thiserror::Error;
@@ -11,7 +11,8 @@ use thiserror::Error;
 pub struct Failed;
 
 /// A disk file and an output line. Whoever implements it keeps the disk rules that its clauses state; where a device
-/// cannot tell its content, as one over a real file, those clauses say nothing and only the counts are kept.
+/// cannot tell its content, as one over a real file, those clauses say nothing and only the counts are kept. A count of
+/// faults rises where a call of its side failed, and only there; moments do not go back.
 pub trait Device {
     /// What is seen of it.
     ghost state: { Self → State };
@@ -23,6 +24,8 @@ pub trait Device {
     fn attach(&mut self, name: &[u8]) -> Result<(), Failed>
         requires { HasSpare (length name.now) (state self.old) }
         ensures failed { OnErr result (Rose (state self.old).disk_faults (state self.new).disk_faults) }
+        ensures fine { OnOk result (SameDiskFaults (state self.old) (state self.new)) }
+        ensures line { SameLineFaults (state self.old) (state self.new) }
         ensures frame { Frame (state self.old) (state self.new) }
         ensures spare { UsesSpare (length name.now) (state self.old) (state self.new) }
         ensures names { IsTrue (state self.old).told → (state self.new).names ≡ (state self.old).names ++ name.now ∷ [] }
@@ -32,6 +35,8 @@ pub trait Device {
     /// no memory.
     fn reserve(&mut self, calls: u64, bytes: u64, end: u64) -> Result<(), OutOfMemory>
         ensures spare { OnOk result (Reserved calls bytes end (state self.new)) }
+        ensures disk { SameDiskFaults (state self.old) (state self.new) }
+        ensures line { SameLineFaults (state self.old) (state self.new) }
         ensures frame { Frame (state self.old) (state self.new) }
         ensures names { SameNames (state self.old) (state self.new) }
         ensures content { IsTrue (state self.old).told → Quiet (state self.old) (state self.new) (leaves self.old) (leaves self.new) };
@@ -40,6 +45,8 @@ pub trait Device {
     fn size(&mut self) -> Result<u64, Failed>
         ensures value { IfOk result (λ n. IsTrue (state self.old).told → n ≡ length (state self.old).holds) }
         ensures failed { OnErr result (Rose (state self.old).disk_faults (state self.new).disk_faults) }
+        ensures fine { OnOk result (SameDiskFaults (state self.old) (state self.new)) }
+        ensures line { SameLineFaults (state self.old) (state self.new) }
         ensures frame { Frame (state self.old) (state self.new) }
         ensures spare { SameSpare (state self.old) (state self.new) }
         ensures names { SameNames (state self.old) (state self.new) }
@@ -51,6 +58,8 @@ pub trait Device {
         ensures bytes { IfOk result (λ n. IsTrue (state self.old).told → into.new ≡ take n (drop at (state self.old).holds) ++ drop n into.old) }
         ensures bound { IfOk result (λ n. n ≤ length into.old) }
         ensures failed { OnErr result (Rose (state self.old).disk_faults (state self.new).disk_faults) }
+        ensures fine { OnOk result (SameDiskFaults (state self.old) (state self.new)) }
+        ensures line { SameLineFaults (state self.old) (state self.new) }
         ensures frame { Frame (state self.old) (state self.new) }
         ensures spare { SameSpare (state self.old) (state self.new) }
         ensures names { SameNames (state self.old) (state self.new) }
@@ -61,6 +70,8 @@ pub trait Device {
         requires room { HasSpare (length bytes.now) (state self.old) }
         requires inside { at + length bytes.now ≤ (state self.old).spare_end }
         ensures failed { OnErr result (Rose (state self.old).disk_faults (state self.new).disk_faults) }
+        ensures fine { OnOk result (SameDiskFaults (state self.old) (state self.new)) }
+        ensures line { SameLineFaults (state self.old) (state self.new) }
         ensures frame { Frame (state self.old) (state self.new) }
         ensures spare { UsesSpare (length bytes.now) (state self.old) (state self.new) }
         ensures names { SameNames (state self.old) (state self.new) }
@@ -70,6 +81,8 @@ pub trait Device {
     fn sync(&mut self) -> Result<(), Failed>
         requires { HasSpare 0 (state self.old) }
         ensures failed { OnErr result (Rose (state self.old).disk_faults (state self.new).disk_faults) }
+        ensures fine { OnOk result (SameDiskFaults (state self.old) (state self.new)) }
+        ensures line { SameLineFaults (state self.old) (state self.new) }
         ensures frame { Frame (state self.old) (state self.new) }
         ensures spare { UsesSpare 0 (state self.old) (state self.new) }
         ensures names { SameNames (state self.old) (state self.new) }
@@ -80,6 +93,8 @@ pub trait Device {
     fn emit(&mut self, piece: &[u8]) -> Result<(), Failed>
         requires { HasSpare (length piece.now) (state self.old) }
         ensures failed { OnErr result (Rose (state self.old).line_faults (state self.new).line_faults) }
+        ensures fine { OnOk result (SameLineFaults (state self.old) (state self.new)) }
+        ensures disk { SameDiskFaults (state self.old) (state self.new) }
         ensures frame { Frame (state self.old) (state self.new) }
         ensures spare { UsesSpare (length piece.now) (state self.old) (state self.new) }
         ensures names { SameNames (state self.old) (state self.new) }
@@ -90,4 +105,7 @@ pub trait Device {
 
     /// At a stop now just these bytes are sent.
     ghost sent_now: { (device : Self) (c out : List ℕ) → IsTrue (state device).told → leaves device (state device).moment c out → out ≡ (state device).sent };
+
+    /// What a stop since a later moment may leave, a stop since an earlier one may leave too.
+    ghost earlier: { (device : Self) (t u : ℕ) (c out : List ℕ) → IsTrue (state device).told → t ≤ u → leaves device u c out → leaves device t c out };
 }

@@ -1,11 +1,11 @@
 //! A device in memory, which fails the calls that it is told to fail, and can be stopped after each call.
 ghost use Rattle.std.specs.Prelude.{◌≡◌, ◌≤◌, ◌+◌, ◌-◌, ◌↔◌, [], ◌∷◌, ◌++◌, IsTrue, length, take, drop, min, IfOk, OnOk, OnErr, is_ok, IsErr, not, if◌then◌else◌};
 ghost use Rattle.std.specs.List.{Contains};
-ghost use Rattle.kd_device.specs.Device.{Rose, Frame, SameNames, SameSpare, UsesSpare, HasSpare, Reserved, Quiet, Writes, Emits, Only};
-ghost use Rattle.kd_device.specs.History.{AllDone};
+ghost use Rattle.kd_device.specs.Device.{Rose, Frame, SameDiskFaults, SameLineFaults, SameNames, SameSpare, UsesSpare, HasSpare, Reserved, Quiet, Writes, Emits, Only};
+ghost use Rattle.kd_device.specs.History.{AllDone, fresh};
 ghost use Rattle.kd_device.specs.Tape.{disk_at};
 ghost use Rattle.kd_device.specs.Memory.{Memory, unused, state_of, leaves_of, Fails, Counts, SameCalls, counted, disk_fault, line_fault};
-ghost use Rattle.kd_device.specs.Laws.{bytes_now, sent_is};
+ghost use Rattle.kd_device.specs.Laws.{bytes_now, sent_is, since_less};
 
 use crate::buffer::read_part;
 use crate::device::{Device, Failed};
@@ -144,6 +144,8 @@ impl Device for MemDevice {
     fn attach(&mut self, name: &[u8]) -> Result<(), Failed>
         requires { HasSpare (length name.now) (state_of self.old) }
         ensures failed { OnErr result (Rose (state_of self.old).disk_faults (state_of self.new).disk_faults) }
+        ensures fine { OnOk result (SameDiskFaults (state_of self.old) (state_of self.new)) }
+        ensures line { SameLineFaults (state_of self.old) (state_of self.new) }
         ensures frame { Frame (state_of self.old) (state_of self.new) }
         ensures spare { UsesSpare (length name.now) (state_of self.old) (state_of self.new) }
         ensures names { IsTrue (state_of self.old).told → (state_of self.new).names ≡ (state_of self.old).names ++ name.now ∷ [] }
@@ -158,6 +160,8 @@ impl Device for MemDevice {
 
     fn reserve(&mut self, calls: u64, bytes: u64, end: u64) -> Result<(), OutOfMemory>
         ensures spare { OnOk result (Reserved calls bytes end (state_of self.new)) }
+        ensures disk { SameDiskFaults (state_of self.old) (state_of self.new) }
+        ensures line { SameLineFaults (state_of self.old) (state_of self.new) }
         ensures frame { Frame (state_of self.old) (state_of self.new) }
         ensures names { SameNames (state_of self.old) (state_of self.new) }
         ensures content { IsTrue (state_of self.old).told → Quiet (state_of self.old) (state_of self.new) (leaves_of self.old) (leaves_of self.new) }
@@ -169,6 +173,8 @@ impl Device for MemDevice {
     fn size(&mut self) -> Result<u64, Failed>
         ensures value { IfOk result (λ n. IsTrue (state_of self.old).told → n ≡ length (state_of self.old).holds) }
         ensures failed { OnErr result (Rose (state_of self.old).disk_faults (state_of self.new).disk_faults) }
+        ensures fine { OnOk result (SameDiskFaults (state_of self.old) (state_of self.new)) }
+        ensures line { SameLineFaults (state_of self.old) (state_of self.new) }
         ensures frame { Frame (state_of self.old) (state_of self.new) }
         ensures spare { SameSpare (state_of self.old) (state_of self.new) }
         ensures names { SameNames (state_of self.old) (state_of self.new) }
@@ -187,6 +193,8 @@ impl Device for MemDevice {
         ensures bytes { IfOk result (λ n. IsTrue (state_of self.old).told → into.new ≡ take n (drop at (state_of self.old).holds) ++ drop n into.old) }
         ensures bound { IfOk result (λ n. n ≤ length into.old) }
         ensures failed { OnErr result (Rose (state_of self.old).disk_faults (state_of self.new).disk_faults) }
+        ensures fine { OnOk result (SameDiskFaults (state_of self.old) (state_of self.new)) }
+        ensures line { SameLineFaults (state_of self.old) (state_of self.new) }
         ensures frame { Frame (state_of self.old) (state_of self.new) }
         ensures spare { SameSpare (state_of self.old) (state_of self.new) }
         ensures names { SameNames (state_of self.old) (state_of self.new) }
@@ -204,6 +212,8 @@ impl Device for MemDevice {
         requires room { HasSpare (length bytes.now) (state_of self.old) }
         requires inside { at + length bytes.now ≤ (state_of self.old).spare_end }
         ensures failed { OnErr result (Rose (state_of self.old).disk_faults (state_of self.new).disk_faults) }
+        ensures fine { OnOk result (SameDiskFaults (state_of self.old) (state_of self.new)) }
+        ensures line { SameLineFaults (state_of self.old) (state_of self.new) }
         ensures frame { Frame (state_of self.old) (state_of self.new) }
         ensures spare { UsesSpare (length bytes.now) (state_of self.old) (state_of self.new) }
         ensures names { SameNames (state_of self.old) (state_of self.new) }
@@ -219,6 +229,8 @@ impl Device for MemDevice {
     fn sync(&mut self) -> Result<(), Failed>
         requires { HasSpare 0 (state_of self.old) }
         ensures failed { OnErr result (Rose (state_of self.old).disk_faults (state_of self.new).disk_faults) }
+        ensures fine { OnOk result (SameDiskFaults (state_of self.old) (state_of self.new)) }
+        ensures line { SameLineFaults (state_of self.old) (state_of self.new) }
         ensures frame { Frame (state_of self.old) (state_of self.new) }
         ensures spare { UsesSpare 0 (state_of self.old) (state_of self.new) }
         ensures names { SameNames (state_of self.old) (state_of self.new) }
@@ -235,6 +247,8 @@ impl Device for MemDevice {
     fn emit(&mut self, piece: &[u8]) -> Result<(), Failed>
         requires { HasSpare (length piece.now) (state_of self.old) }
         ensures failed { OnErr result (Rose (state_of self.old).line_faults (state_of self.new).line_faults) }
+        ensures fine { OnOk result (SameLineFaults (state_of self.old) (state_of self.new)) }
+        ensures disk { SameDiskFaults (state_of self.old) (state_of self.new) }
         ensures frame { Frame (state_of self.old) (state_of self.new) }
         ensures spare { UsesSpare (length piece.now) (state_of self.old) (state_of self.new) }
         ensures names { SameNames (state_of self.old) (state_of self.new) }
@@ -250,4 +264,6 @@ impl Device for MemDevice {
     ghost holds_now = { λ m told. bytes_now m.recording.start m.recording.events };
 
     ghost sent_now = { λ m c out told left. sent_is m.recording.start m.recording.events c out left };
+
+    ghost earlier = { λ m t u c out told le left. since_less t u (fresh m.recording.start) m.recording.events c out le left };
 }

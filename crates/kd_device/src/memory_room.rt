@@ -1,5 +1,5 @@
 //! A room of texts in memory, which fails the reads that it is told to fail.
-ghost use Rattle.std.specs.Prelude.{◌≡◌, ◌↔◌, ◌+◌, IsTrue, IfOk, IsOk, IsSome, IsErrOf, IsSomeAnd, take, option_copied, [], refl};
+ghost use Rattle.std.specs.Prelude.{◌≡◌, ◌↔◌, ◌+◌, IsTrue, IfOk, OnOk, IsOk, IsSome, IsErrOf, IsSomeAnd, take, option_copied, [], refl};
 ghost use Rattle.kd_device.specs.Count.{raised};
 ghost use Rattle.kd_device.specs.Device.{Rose};
 ghost use Rattle.kd_device.specs.Room.{text_of, SameRoom};
@@ -86,6 +86,8 @@ impl Room for MemRoom {
     fn read(&mut self, alloc: Global, name: &Vec<u8>, limit: u64) -> Result<Vec<u8>, RoomError>
         ensures value { IfOk result (λ text. IsTrue (room_of self.old).told → IsSomeAnd (text_of name.now.items (room_of self.old).texts) (λ whole. text.items ≡ take (limit + 1) whole)) }
         ensures failed { IsErrOf result RoomError.Failed → Rose (room_of self.old).faults (room_of self.new).faults }
+        ensures fine { OnOk result ((room_of self.new).faults ≡ (room_of self.old).faults) }
+        ensures memory { IsErrOf result RoomError.Memory → (room_of self.new).faults ≡ (room_of self.old).faults }
         ensures sure { IsTrue (room_of self.old).sure → IsSome (text_of name.now.items (room_of self.old).texts) → IsErrOf result RoomError.Failed → ⊥ }
         ensures same { SameRoom (room_of self.old) (room_of self.new) }
         ensures fails { IsErrOf result RoomError.Failed ↔ ReadFails name.now.items self.old }

@@ -1,5 +1,5 @@
 //! The texts that a program reads, by name.
-ghost use Rattle.std.specs.Prelude.{◌≡◌, ◌+◌, List, ℕ, IsTrue, IsSome, IfOk, IsErrOf, IsSomeAnd, take};
+ghost use Rattle.std.specs.Prelude.{◌≡◌, ◌+◌, List, ℕ, IsTrue, IsSome, IfOk, OnOk, IsErrOf, IsSomeAnd, take};
 ghost use Rattle.kd_device.specs.Device.{Rose};
 ghost use Rattle.kd_device.specs.Room.{RoomState, text_of, SameRoom};
 
@@ -29,6 +29,7 @@ impl From<OutOfMemory> for RoomError {
 }
 
 /// Texts by name, as the files of a folder are. Where a room cannot tell its texts, its clauses on content say nothing.
+/// The count of faults rises where a read failed, and only there.
 pub trait Room {
     /// What is seen of it.
     ghost room: { Self → RoomState };
@@ -37,6 +38,8 @@ pub trait Room {
     fn read(&mut self, alloc: Global, name: &Vec<u8>, limit: u64) -> Result<Vec<u8>, RoomError>
         ensures value { IfOk result (λ text. IsTrue (room self.old).told → IsSomeAnd (text_of name.now.items (room self.old).texts) (λ whole. text.items ≡ take (limit + 1) whole)) }
         ensures failed { IsErrOf result RoomError.Failed → Rose (room self.old).faults (room self.new).faults }
+        ensures fine { OnOk result ((room self.new).faults ≡ (room self.old).faults) }
+        ensures memory { IsErrOf result RoomError.Memory → (room self.new).faults ≡ (room self.old).faults }
         ensures sure { IsTrue (room self.old).sure → IsSome (text_of name.now.items (room self.old).texts) → IsErrOf result RoomError.Failed → ⊥ }
         ensures same { SameRoom (room self.old) (room self.new) };
 

@@ -1,9 +1,10 @@
 //! A device in memory of which no call fails.
 ghost use Rattle.std.specs.Prelude.{◌≡◌, [], IsTrue, length, IfOk};
 ghost use Rattle.kd_device.specs.Device.{Only};
+ghost use Rattle.kd_device.specs.History.{fresh};
 ghost use Rattle.kd_device.specs.Tape.{blank};
 ghost use Rattle.kd_device.specs.Sure.{sure_state, sure_leaves};
-ghost use Rattle.kd_device.specs.Laws.{bytes_now, sent_is};
+ghost use Rattle.kd_device.specs.Laws.{bytes_now, sent_is, since_less};
 
 use crate::buffer::read_part;
 use crate::device::{Device, Failed};
@@ -102,4 +103,6 @@ impl Device for SureDevice {
     ghost holds_now = { λ m told. bytes_now m.start m.events };
 
     ghost sent_now = { λ m c out told left. sent_is m.start m.events c out left };
+
+    ghost earlier = { λ m t u c out told le left. since_less t u (fresh m.start) m.events c out le left };
 }

@@ -176,4 +176,6 @@ impl<'a, R: Files + Print> Device for FileDevice<'a, R> {
     ghost holds_now = { λ d told. absurd (false≢true told) };
 
     ghost sent_now = { λ d c out told left. absurd left };
+
+    ghost earlier = { λ d t u c out told le left. absurd left };
 }

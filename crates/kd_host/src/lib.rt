@@ -2,16 +2,19 @@
 //!
 //! It stands on kd_base and kd_device. It is the trusted edge: no contract can say what a file, a power cut or a line
 //! really does, so its device and its room tell nothing of their content. What is proved of them is that each call that
-//! fails raises its count of faults. That a write reaches the file, that a sync makes it last, and that an emit is sent
-//! rests on this crate's few lines, the library and the system below it.
+//! fails raises its count of faults, and that no other call does. That a write reaches the file, that a sync makes it
+//! last, that an emit is sent, and that a descriptor which was closed is not given to a file of the user, rests on this
+//! crate's few lines, the library and the system below it.
 #![tactic(auto)]
 
 mod count;
 mod device;
 mod room;
+mod standard;
 
 pub use device::FileDevice;
 pub use room::FolderRoom;
+pub use standard::StandardDescriptors;
 
 #[cfg(test)]
 mod tests;

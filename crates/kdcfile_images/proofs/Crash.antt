@@ -11,7 +11,7 @@ use Rattle.kd_records.specs.Identity.{Identity}
 use Rattle.kdcfile_images.specs.declared.pages.PageWrite.{PageWrite}
 use Rattle.kdcfile_images.specs.File.{Stands, StandsFor, StandsAt, spelled, spelled_record, root, image_size, place, head, selector}
 use Rattle.kdcfile_images.specs.declared.image.Root.{Root}
-use Rattle.kdcfile_images.specs.Opened.{Opened, identity_of}
+use Rattle.kdcfile_images.specs.Opened.{Opened, identity_of, renewed}
 use Rattle.kdcfile_images.specs.Writes.{written_all, total, AllWithin}
 use Rattle.kdcfile_images.specs.Commit.{spelled_root, other_place, other_end, IsBehindRoot, staged, committed, Either, InImageOrSelector, Replaces}
 use Rattle.kdcfile_images.proofs.Several.{within_wider}
@@ -82,10 +82,10 @@ module _ (i : Identity) (x : Content) (h c : List ℕ) where
     stands_above 4096 4097 h c torn (place i second) (spelled i x) stands.image (omega (arith, past_selector i second)),
   )
 
-module _ (i : Identity) (x y : Content) where
+module _ (i : Identity) (print : List ℕ) (x y : Content) where
   -- whatever the selector, it names one of two whole images
-  chosen : (second : Bool) (h e c : List ℕ) → Stands i second x h → Stands i (not second) y e → StandsAt 0 (head i) c × StandsAt (place i second) (spelled i x) c → StandsAt 0 (head i) c × StandsAt (place i (not second)) (spelled i y) c
-      → Stands i second x c ⊎ Stands i (not second) y c
+  chosen : (second : Bool) (h e c : List ℕ) → Stands i second x h → Stands (record i { fingerprint = print }) (not second) y e → StandsAt 0 (head i) c × StandsAt (place i second) (spelled i x) c → StandsAt 0 (head (record i { fingerprint = print })) c × StandsAt (place (record i { fingerprint = print }) (not second)) (spelled (record i { fingerprint = print }) y) c
+      → Stands i second x c ⊎ Stands (record i { fingerprint = print }) (not second) y c
   chosen false h e c old new xs ys =
       ⊎_elim (λ even. inl (record { identity = old.identity; content = old.content; headed = xs.0; selected = even; image = xs.1; inside = old.inside }))
       (λ odd. inr (record { identity = new.identity; content = new.content; headed = ys.0; selected = odd; image = ys.1; inside = new.inside })) (one_of_two (get_or c 4096 0))
@@ -94,7 +94,7 @@ module _ (i : Identity) (x y : Content) where
       (λ odd. inl (record { identity = old.identity; content = old.content; headed = xs.0; selected = odd; image = xs.1; inside = old.inside })) (one_of_two (get_or c 4096 0))
 
   -- an image is written to m, and then selected
-  module _ (second : Bool) (h m : List ℕ) (old : Stands i second x h) (staged : Torn (min (place i (not second)) (length h)) (place i (not second) + image_size i) h m) (new : Stands i (not second) y (written m 4096 (selector (not second) ∷ []))) where
+  module _ (second : Bool) (h m : List ℕ) (old : Stands i second x h) (staged : Torn (min (place i (not second)) (length h)) (place i (not second) + image_size i) h m) (new : Stands (record i { fingerprint = print }) (not second) y (written m 4096 (selector (not second) ∷ []))) where
     old_in_m : Stands i second x m
     old_in_m = other_torn i x h m second old staged
 
@@ -109,26 +109,26 @@ module _ (i : Identity) (x y : Content) where
         let e = written m 4096 (selector (not second) ∷ []) in
         torn_then 4096 4097 e m c (torn_back 4096 4097 m e (at_selector e (torn_done m 4096 (selector (not second) ∷ []))) (omega (arith, length-written m 4096 (selector (not second) ∷ []), long))) torn
 
-    selector_torn : (c : List ℕ) → Torn 4096 4097 m c → Stands i second x c ⊎ Stands i (not second) y c
+    selector_torn : (c : List ℕ) → Torn 4096 4097 m c → Stands i second x c ⊎ Stands (record i { fingerprint = print }) (not second) y c
     selector_torn c torn =
         let e = written m 4096 (selector (not second) ∷ []) in
-        chosen second m e c old_in_m new (parts_kept i x m c second old_in_m torn) (parts_kept i y e c (not second) new (from_new c torn))
+        chosen second m e c old_in_m new (parts_kept i x m c second old_in_m torn) (parts_kept (record i { fingerprint = print }) y e c (not second) new (from_new c torn))
 
-    pub either : (c : List ℕ) → InImageOrSelector (place i (not second)) (place i (not second) + image_size i) m h c → StandsFor i x c ⊎ StandsFor i y c
+    pub either : (c : List ℕ) → InImageOrSelector (place i (not second)) (place i (not second) + image_size i) m h c → StandsFor i x c ⊎ StandsFor (record i { fingerprint = print }) y c
     either c (inl torn) = inl (second, other_torn i x h c second old torn)
     either c (inr torn) = ⊎_elim (λ s. inl (second, s)) (λ s. inr (not second, s)) (selector_torn c (at_selector c torn))
 
 -- the whole of a commit: reserve to r, all writes to b
-module _ (i : Identity) (second : Bool) (x y : Content) (a r b : State) (la lr lb : ℕ → List ℕ → List ℕ → Type 0) (only : Only a.holds a la) (quiet : Quiet a r la lr) (old : Stands i second x a.holds) where
-  pub in_reserve : LeavesOnly a r la lr (Either i x y a.sent)
-  in_reserve = leaves_weaker a r la lr (λ c out. (out ≡ a.sent) × (c ≡ a.holds)) (Either i x y a.sent) (quiet_leaves a r la lr (λ c. c ≡ a.holds) only quiet) (λ c out h. (h.0, inl (second, rw h.1 old)))
+module _ (i : Identity) (print : List ℕ) (second : Bool) (x y : Content) (a r b : State) (la lr lb : ℕ → List ℕ → List ℕ → Type 0) (only : Only a.holds a la) (quiet : Quiet a r la lr) (old : Stands i second x a.holds) where
+  pub in_reserve : LeavesOnly a r la lr (Either i x (record i { fingerprint = print }) y a.sent)
+  in_reserve = leaves_weaker a r la lr (λ c out. (out ≡ a.sent) × (c ≡ a.holds)) (Either i x (record i { fingerprint = print }) y a.sent) (quiet_leaves a r la lr (λ c. c ≡ a.holds) only quiet) (λ c out h. (h.0, inl (second, rw h.1 old)))
 
-  pub in_commit : (m : List ℕ) (n : ℕ) → Torn (min (place i (not second)) (length a.holds)) (place i (not second) + image_size i) a.holds m → Stands i (not second) y (written m 4096 (selector (not second) ∷ []))
-      → Replaces (place i (not second)) (place i (not second) + image_size i) m n r b lr lb → LeavesOnly a b la lb (Either i x y a.sent)
+  pub in_commit : (m : List ℕ) (n : ℕ) → Torn (min (place i (not second)) (length a.holds)) (place i (not second) + image_size i) a.holds m → Stands (record i { fingerprint = print }) (not second) y (written m 4096 (selector (not second) ∷ []))
+      → Replaces (place i (not second)) (place i (not second) + image_size i) m n r b lr lb → LeavesOnly a b la lb (Either i x (record i { fingerprint = print }) y a.sent)
   in_commit m n staged new replaces =
-      leaves_then a r la lr b lb (Either i x y a.sent) in_reserve
-      (leaves_weaker r b lr lb (λ c out. (out ≡ r.sent) × InImageOrSelector (place i (not second)) (place i (not second) + image_size i) m r.holds c) (Either i x y a.sent) replaces.leaves
-      (λ c out h. (h.0 ∙ quiet.sent, either i x y second a.holds m old staged new c (subst (λ (l : List ℕ). InImageOrSelector (place i (not second)) (place i (not second) + image_size i) m l c) quiet.holds h.1))))
+      leaves_then a r la lr b lb (Either i x (record i { fingerprint = print }) y a.sent) in_reserve
+      (leaves_weaker r b lr lb (λ c out. (out ≡ r.sent) × InImageOrSelector (place i (not second)) (place i (not second) + image_size i) m r.holds c) (Either i x (record i { fingerprint = print }) y a.sent) replaces.leaves
+      (λ c out h. (h.0 ∙ quiet.sent, either i print x y second a.holds m old staged new c (subst (λ (l : List ℕ). InImageOrSelector (place i (not second)) (place i (not second) + image_size i) m l c) quiet.holds h.1))))
 
 module _ (o : Opened) (ws : List PageWrite) (root : Root) (a r b : State) (la lr lb : ℕ → List ℕ → List ℕ → Type 0) (quiet : Quiet a r la lr) (at : ℕ) (vs : List PageWrite) (bytes : List ℕ) (at_is : at ≡ other_place o) (vs_are : vs ≡ ws) (bytes_are : bytes ≡ spelled_root root)
     (long : length bytes ≡ 64) (behind : IsBehindRoot o ws) (replaces : (upto : ℕ) → AllWithin at upto vs → at + length bytes ≤ upto → Replaces at upto (written (written_all r.holds vs) at bytes) (total vs + length bytes + 1) r b lr lb) where
@@ -152,6 +152,6 @@ module _ (o : Opened) (ws : List PageWrite) (root : Root) (a r b : State) (la lr
   pub sent : b.sent ≡ a.sent
   sent = replaced.sent ∙ quiet.sent
 
-  pub any_moment : Only a.holds a la → (x y : Content) → Stands (identity_of o) o.second x a.holds → Stands (identity_of o) (not o.second) y (committed o ws root a.holds) → LeavesOnly a b la lb (Either (identity_of o) x y a.sent)
+  pub any_moment : Only a.holds a la → (x y : Content) → Stands (identity_of o) o.second x a.holds → Stands (renewed o root) (not o.second) y (committed o ws root a.holds) → LeavesOnly a b la lb (Either (identity_of o) x (renewed o root) y a.sent)
   any_moment only x y old new =
-      in_commit (identity_of o) o.second x y a r b la lr lb only quiet old (staged o ws root a.holds) (total ws + 65) (all_torn_more (other_place o) (other_end o) ws a.holds (spelled_root root) within root_within) new replaced
+      in_commit (identity_of o) root.fingerprint o.second x y a r b la lr lb only quiet old (staged o ws root a.holds) (total ws + 65) (all_torn_more (other_place o) (other_end o) ws a.holds (spelled_root root) within root_within) new replaced

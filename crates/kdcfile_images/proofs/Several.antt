@@ -39,7 +39,7 @@ pub record Writing (ws : List PageWrite) (i : ℕ) (a b : State) (la lb : ℕ �
 
 pub writing_start : (ws : List PageWrite) (a : State) (la : ℕ → List ℕ → List ℕ → Type 0) → (IsTrue a.told → Only a.holds a la) → Writing ws 0 a a la la
 writing_start ws a la only = record {
-  frame = record { told = refl; disk_faults = omega arith; line_faults = omega arith };
+  frame = record { told = refl; disk_faults = omega arith; line_faults = omega arith; moment = omega arith };
   names = refl;
   spare = record { calls = omega arith; bytes = omega arith; end = refl };
   any = λ told from upto within. writes_none from upto 0 a la;
@@ -87,7 +87,7 @@ module _ (ws : List PageWrite) (i : ℕ) (w : PageWrite) (a b d : State) (la lb 
 
     pub writing_more : Frame b d → SameNames b d → UsesSpare (length w.bytes) b d → (IsTrue b.told → d.holds ≡ written b.holds w.at w.bytes) → Writing ws (i + 1) a d la ld
     writing_more frame names used holds = record {
-      frame = record { told = frame.told ∙ so_far.frame.told; disk_faults = omega (arith, frame.disk_faults, so_far.frame.disk_faults); line_faults = omega (arith, frame.line_faults, so_far.frame.line_faults) };
+      frame = record { told = frame.told ∙ so_far.frame.told; disk_faults = omega (arith, frame.disk_faults, so_far.frame.disk_faults); line_faults = omega (arith, frame.line_faults, so_far.frame.line_faults); moment = omega (arith, frame.moment, so_far.frame.moment) };
       names = names ∙ so_far.names;
       spare = record { calls = omega (arith, used.calls, so_far.spare.calls); bytes = omega (arith, used.bytes, so_far.spare.bytes, total_front); end = used.end ∙ so_far.spare.end };
       any = λ told from upto within. subst (λ (n : ℕ). WritesOnly from upto n a d la ld) (sym total_front) (any_next told from upto within);

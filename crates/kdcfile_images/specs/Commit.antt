@@ -34,9 +34,9 @@ staged i pages root h = written (written_all h pages) (other_place i) (spelled_r
 abbrev pub committed : Opened → List PageWrite → Root → List ℕ → List ℕ
 committed i pages root h = written (staged i pages root h) 4096 (selector (not i.second) ∷ [])
 
--- nothing more was sent, and the file stands for the one content or for the other
-abbrev pub Either : Identity → Content → Content → List ℕ → List ℕ → List ℕ → Type 0
-Either i x y sent c out = (out ≡ sent) × (StandsFor i x c ⊎ StandsFor i y c)
+-- nothing more was sent, and the file stands for the one content or for the other, each with what it was made with
+abbrev pub Either : Identity → Content → Identity → Content → List ℕ → List ℕ → List ℕ → Type 0
+Either i x j y sent c out = (out ≡ sent) × (StandsFor i x c ⊎ StandsFor j y c)
 
 -- what a stop leaves where an image is written between two places and then selected: any bytes in the one, or the
 -- new image with any selector

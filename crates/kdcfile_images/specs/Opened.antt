@@ -16,10 +16,9 @@ pub record Opened : Type 0 where
 abbrev pub identity_of : Opened → Identity
 identity_of i = record { block = i.blksize; pages = i.root.pgpool; fingerprint = i.root.fingerprint }
 
--- a root of the same file
-pub record SameFile (i : Opened) (root : Root) : Type 0 where
-  pub fingerprint : root.fingerprint ≡ i.root.fingerprint
-  pub pgpool : root.pgpool ≡ i.root.pgpool
+-- what the file is made with once this root stands in it: its sizes, and the fingerprint of the root
+abbrev pub renewed : Opened → Root → Identity
+renewed i root = record (identity_of i) { fingerprint = root.fingerprint }
 
 -- a record without its place in the image
 abbrev pub record_of : ImageRecord → Record

@@ -5,7 +5,7 @@ ghost use Rattle.kd_device.specs.Rest.{Rests};
 ghost use Rattle.kd_records.specs.declared.content.Content.{Content};
 ghost use Rattle.kd_records.specs.Identity.{IsIdentity};
 ghost use Rattle.kdcfile_images.specs.File.{Stands, place as place_of, image_size as image_size_of, selector as selector_of};
-ghost use Rattle.kdcfile_images.specs.Opened.{identity_of, SameFile};
+ghost use Rattle.kdcfile_images.specs.Opened.{identity_of, renewed};
 ghost use Rattle.kdcfile_images.specs.Writes.{total, written_all, AllWithin, WritesOnly, IsSynced};
 ghost use Rattle.kdcfile_images.specs.Commit.{spelled_root, other_place, other_end, IsBehindRoot, staged, committed, Either, Replaces};
 
@@ -95,7 +95,7 @@ fn replace<D: Device>(
 }
 
 /// Writes the pages and the root of the unselected image, and then selects it. `Memory` comes before the first
-/// write. After `Failed` the file is loaded again.
+/// write. After `Failed` the file is loaded again. The root may have another fingerprint than the file had.
 pub fn commit_image<D: Device>(
     alloc: Global,
     device: &mut D,
@@ -103,11 +103,11 @@ pub fn commit_image<D: Device>(
     pages: &PageWrites,
     root: &Root,
 ) -> Result<(), ImageError>
-    requires same_file { SameFile image.old root.now }
+    requires same_sizes { root.now.pgpool ≡ image.old.root.pgpool }
     requires no_directory { root.now.directory ≡ [] }
     requires behind_root { IsBehindRoot image.old pages.now }
     requires stands { IsTrue (D.state device.old).told → (x : Content) × Stands (identity_of image.old) image.old.second x (D.state device.old).holds }
-    requires would_stand { IsTrue (D.state device.old).told → (y : Content) × Stands (identity_of image.old) (not image.old.second) y (committed image.old pages.now root.now (D.state device.old).holds) }
+    requires would_stand { IsTrue (D.state device.old).told → (y : Content) × Stands (renewed image.old root.now) (not image.old.second) y (committed image.old pages.now root.now (D.state device.old).holds) }
     requires settled { IsTrue (D.state device.old).told → Only (D.state device.old).holds (D.state device.old) (D.leaves device.old) }
 
     // At `Ok` the image is the other one with this root, and the file has it on the disk.
@@ -118,8 +118,8 @@ pub fn commit_image<D: Device>(
 
     // A stop at any moment of the call leaves the old content or the new one.
     ensures any_moment { IsTrue (D.state device.old).told → (x y : Content) → Stands (identity_of image.old) image.old.second x (D.state device.old).holds
-        → Stands (identity_of image.old) (not image.old.second) y (committed image.old pages.now root.now (D.state device.old).holds)
-        → LeavesOnly (D.state device.old) (D.state device.new) (D.leaves device.old) (D.leaves device.new) (Either (identity_of image.old) x y (D.state device.old).sent) }
+        → Stands (renewed image.old root.now) (not image.old.second) y (committed image.old pages.now root.now (D.state device.old).holds)
+        → LeavesOnly (D.state device.old) (D.state device.new) (D.leaves device.old) (D.leaves device.new) (Either (identity_of image.old) x (renewed image.old root.now) y (D.state device.old).sent) }
 
     // The bytes written are those of the pages, 64 of the root and 1 of the selector.
     ensures put { OnOk result (IsTrue (D.state device.old).told → (D.state device.new).put ≡ (D.state device.old).put + total pages.now + 65) }

@@ -1,7 +1,7 @@
 //! What is known of a file that was made or loaded: its selected image.
 ghost use Rattle.std.specs.Prelude.{◌≡◌, not, IfOk, OnOk};
 ghost use Rattle.kd_records.specs.Identity.{IsIdentity};
-ghost use Rattle.kdcfile_images.specs.Opened.{identity_of, SameFile};
+ghost use Rattle.kdcfile_images.specs.Opened.{identity_of};
 
 use crate::pages::{Directory, ImageRecords};
 use kd_base::OutOfMemory;
@@ -91,7 +91,7 @@ impl Image {
 
     /// From now on the other image is the selected one.
     pub(crate) fn turn(&mut self, root: Root)
-        requires { SameFile self.old root }
+        requires { root.pgpool ≡ self.old.root.pgpool }
         ensures { self.new ≡ record self.old { root = root; second = not self.old.second } }
     {
         self.root = root;

@@ -1,4 +1,5 @@
 pub mod FirstLine
 pub mod Words
 pub mod Ticks
+pub mod Spelled
 pub mod FirstFaults

@@ -1,15 +1,15 @@
 -- The line of a TICK.
-use Rattle.std.proofs.Common.{◌≡◌, ℕ, zero, suc, ◌<◌, Bool, true, false, ◌&&◌, List, [], ◌∷◌, ◌++◌, length, refl, ap, ◌∙◌, arith, append-nil, append_assoc}
+use Rattle.std.proofs.Common.{◌≡◌, inl, inr, ℕ, zero, suc, ◌<◌, ◌≤◌, Bool, true, false, ◌&&◌, List, [], ◌∷◌, ◌++◌, length, refl, ap, ◌∙◌, arith, append-nil, append_assoc}
 use Rattle.std.specs.Prelude.{filter, replicate, nat_lt, nat_le, codes}
 use Rattle.std.specs.List.{slice_split, list_all, All}
+use Rattle.std.proofs.lemmas.Bool.{cases_Bool}
 use Rattle.std.proofs.lemmas.Bool.Decides.{nat_tests}
 use Rattle.std.proofs.lemmas.List.Elements.{All-nil, All-cons}
 use Rattle.std.proofs.lemmas.List.Splits.{slice_split_at}
 use Rattle.kdcs_types.specs.Limits.{last_clock}
-use Rattle.kdcs_types.specs.declared.command.Command.TheVariants.{Tick}
 use Rattle.kd_base.specs.Text.{is_space, is_digit, decimal_value}
-use Rattle.script_read.specs.Script.{Says, words, line_of, line_of_words}
-use Rattle.script_read.specs.Laws.{IsTickCount, TicksAreSaid}
+use Rattle.script_read.specs.Script.{words, line_of, line_of_words, tick_in}
+use Rattle.script_read.specs.Laws.{IsTickOf, IsTickCount, TicksAreSaid, RangesAreTested}
 use Rattle.script_read.proofs.Words.{kept, words_behind_space, one_word}
 
 -- spaces behind which nothing stands
@@ -52,15 +52,39 @@ two_words digits between behind some h =
     ∙ word_then (codes "TICK") (replicate between 32 ++ (digits ++ replicate behind 32)) (omega arith) tick
     ∙ ap (λ (ws : List (List ℕ)). codes "TICK" ∷ ws) (spaces_before between (digits ++ replicate behind 32) ∙ word_last digits behind some (no_spaces digits h))
 
-in_range : (digits : List ℕ) → IsTickCount digits → (nat_le (length digits) 18 && nat_le (decimal_value digits) last_clock) ≡ true
-in_range digits t = let few = t.few in let value = t.value in grind (arith, nat_tests)
+pub counts : (digits : List ℕ) → IsTickCount digits → (nat_le (length digits) 18 && nat_le (decimal_value digits) last_clock) ≡ true
+counts digits t = let few = t.few in let value = t.value in grind (arith, nat_tests)
 
-says : (digits : List ℕ) → IsTickCount digits → line_of_words (codes "TICK" ∷ digits ∷ []) ≡ Says (Tick (decimal_value digits))
-says digits t = rw (t.digits, in_range digits t) refl
+pub counts_so : (digits : List ℕ) → (nat_le (length digits) 18 && nat_le (decimal_value digits) last_clock) ≡ true → IsTickCount digits
+counts_so digits h =
+    let e = both_true (nat_le (length digits) 18) (nat_le (decimal_value digits) last_clock) h in
+    record { few = le_so (length digits) 18 e.0; value = le_so (decimal_value digits) last_clock e.1 }
+  where
+    le_so : (m n : ℕ) → nat_le m n ≡ true → m ≤ n
+    le_so m n h = grind (arith, nat_tests)
 
-tick_said : (digits : List ℕ) (between behind : ℕ) → IsTickCount digits → line_of (codes "TICK" ++ replicate (suc between) 32 ++ digits ++ replicate behind 32) ≡ Says (Tick (decimal_value digits))
-tick_said digits between behind t = ap line_of_words (two_words digits between behind t.some t.digits) ∙ says digits t
+counts_not : (digits : List ℕ) → (IsTickCount digits → ⊥) → (nat_le (length digits) 18 && nat_le (decimal_value digits) last_clock) ≡ false
+counts_not digits none =
+    elim (cases_Bool (nat_le (length digits) 18 && nat_le (decimal_value digits) last_clock)) [
+      | inl h ↦ absurd (none (counts_so digits h))
+      | inr h ↦ h
+    ]
+
+-- the line of a TICK, by the test of its number
+spelled : (digits : List ℕ) (between behind : ℕ) → 1 ≤ length digits → list_all is_digit digits ≡ true
+    → line_of (codes "TICK" ++ replicate (suc between) 32 ++ digits ++ replicate behind 32) ≡ tick_in (nat_le (length digits) 18 && nat_le (decimal_value digits) last_clock) (decimal_value digits)
+spelled digits between behind some h = ap line_of_words (two_words digits between behind some h) ∙ rw h refl
+
+parted : (digits : List ℕ) (between behind : ℕ) → 1 ≤ between → 1 ≤ length digits → list_all is_digit digits ≡ true
+    → line_of (codes "TICK" ++ replicate between 32 ++ digits ++ replicate behind 32) ≡ tick_in (nat_le (length digits) 18 && nat_le (decimal_value digits) last_clock) (decimal_value digits)
+parted digits zero behind le some h = absurd (omega arith)
+parted digits (suc between) behind le some h = spelled digits between behind some h
+
+tick_line : (line digits : List ℕ) → IsTickOf line digits → line_of line ≡ tick_in (nat_le (length digits) 18 && nat_le (decimal_value digits) last_clock) (decimal_value digits)
+tick_line line digits t = ap line_of t.spelled ∙ parted digits t.between t.behind t.parted t.some t.all_digits
 
 pub ticks_said : TicksAreSaid
-ticks_said digits zero behind t some = absurd (omega arith)
-ticks_said digits (suc between) behind t some = tick_said digits between behind t
+ticks_said line digits t count = tick_line line digits t ∙ ap (λ (b : Bool). tick_in b (decimal_value digits)) (counts digits count)
+
+pub ranges_tested : RangesAreTested
+ranges_tested line digits t none = tick_line line digits t ∙ ap (λ (b : Bool). tick_in b (decimal_value digits)) (counts_not digits none)

@@ -11,10 +11,10 @@ use Rattle.std.proofs.lemmas.List.Sums.{fails_before_first, passes_at_first, pre
 use Rattle.kd_base.specs.Text.{is_space}
 use Rattle.script_read.specs.Script.{words}
 
-one_add : (n : ℕ) → 1 + n ≡ suc n
+pub one_add : (n : ℕ) → 1 + n ≡ suc n
 one_add n = omega arith
 
-no_space : (b : ℕ) (line : List ℕ) → is_space b ≡ false → prefix_len is_space (b ∷ line) ≡ 0
+pub no_space : (b : ℕ) (line : List ℕ) → is_space b ≡ false → prefix_len is_space (b ∷ line) ≡ 0
 no_space b line h = rw h refl
 
 -- a space in front parts nothing
@@ -92,7 +92,7 @@ pub record IsNextWord (line word rest : List ℕ) : Type 0 where
   pub words : words line ≡ word ∷ words rest
   pub some : 0 < length word
 
-word_there : (line front : List ℕ) → front ≡ drop (prefix_len is_space line) line → 0 < length front → IsNextWord line (take (position_or_len is_space front) front) (drop (position_or_len is_space front) front)
+pub word_there : (line front : List ℕ) → front ≡ drop (prefix_len is_space line) line → 0 < length front → IsNextWord line (take (position_or_len is_space front) front) (drop (position_or_len is_space front) front)
 word_there line front at some =
     let n = position_or_len is_space front in
     let none : prefix_len is_space front ≡ 0 = ap (prefix_len is_space) at ∙ behind_spaces line in

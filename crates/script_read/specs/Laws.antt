@@ -9,17 +9,33 @@ use Rattle.kdcs_types.specs.declared.command.Command.TheVariants.{Tick}
 use Rattle.script_read.specs.declared.fault.ScriptFault.TheVariants.{BadLine, OutOfRange}
 use Rattle.script_read.specs.Script.{Line, Nothing, Says, IsBad, IsOutOfRange, line_of, script}
 
--- 1 to 18 digits with a value that a clock may have
-pub record IsTickCount (bytes : List ℕ) : Type 0 where
-  pub digits : IsTrue (list_all is_digit bytes)
-  pub some : 1 ≤ length bytes
-  pub few : length bytes ≤ 18
-  pub value : decimal_value bytes ≤ last_clock
+-- TICK, one or more spaces, digits, and spaces behind them
+pub record IsTickOf (line digits : List ℕ) : Type 0 where
+  pub between : ℕ
+  pub behind : ℕ
+  pub parted : 1 ≤ between
+  pub some : 1 ≤ length digits
+  pub all_digits : IsTrue (list_all is_digit digits)
+  pub spelled : line ≡ codes "TICK" ++ replicate between 32 ++ digits ++ replicate behind 32
+
+-- 18 digits at most, with a value that a clock may have
+pub record IsTickCount (digits : List ℕ) : Type 0 where
+  pub few : length digits ≤ 18
+  pub value : decimal_value digits ≤ last_clock
 
 abbrev pub TicksAreSaid : Type 0
-TicksAreSaid =
-    (digits : List ℕ) (between behind : ℕ) → IsTickCount digits → 1 ≤ between
-    → line_of (codes "TICK" ++ replicate between 32 ++ digits ++ replicate behind 32) ≡ Says (Tick (decimal_value digits))
+TicksAreSaid = (line digits : List ℕ) → IsTickOf line digits → IsTickCount digits → line_of line ≡ Says (Tick (decimal_value digits))
+
+-- no other line says a command
+abbrev pub TicksOnly : Type 0
+TicksOnly = (line : List ℕ) (command : Command) → line_of line ≡ Says command → (digits : List ℕ) × IsTickOf line digits × IsTickCount digits × (command ≡ Tick (decimal_value digits))
+
+abbrev pub RangesAreTested : Type 0
+RangesAreTested = (line digits : List ℕ) → IsTickOf line digits → (IsTickCount digits → ⊥) → line_of line ≡ IsOutOfRange
+
+-- no other line is out of range
+abbrev pub RangesOnly : Type 0
+RangesOnly = (line : List ℕ) → line_of line ≡ IsOutOfRange → (digits : List ℕ) × IsTickOf line digits × (IsTickCount digits → ⊥)
 
 -- a line that is no fault
 abbrev pub IsRight : Line → Type 0

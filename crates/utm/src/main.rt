@@ -3,13 +3,13 @@
 //! It stands on utm_cli, whose call `utm` carries all promises, and on kd_host, the trusted edge.
 #![tactic(auto)]
 
-use kd_host::{FileDevice, FolderRoom};
+use kd_host::{FileDevice, FolderRoom, StandardDescriptors};
 use std::env;
 use std::process::ExitCode;
 use utm_cli::utm;
 
-/// The exit status where the words of the call could not be had.
-const NO_WORDS: u8 = 9;
+/// The exit status where descriptors 0 to 2 could not be kept from the files, or the words of the call could not be had.
+const NO_ANSWER: u8 = 9;
 
 /// The words after the program's name.
 fn words(rt: &(impl env::Env + AllocGlobal)) -> Option<Vec<String>> {
@@ -21,12 +21,16 @@ fn words(rt: &(impl env::Env + AllocGlobal)) -> Option<Vec<String>> {
 }
 
 fn main(rt: HostRuntime) -> ExitCode {
+    let Ok(standard) = StandardDescriptors::take(&rt) else {
+        return ExitCode::from(NO_ANSWER);
+    };
     let Some(words) = words(&rt) else {
-        return ExitCode::from(NO_WORDS);
+        return ExitCode::from(NO_ANSWER);
     };
     let mut room = FolderRoom::new(&rt);
     let mut device = FileDevice::new(&rt);
     let status = utm(rt.alloc(), &words, &mut room, &mut device);
+    drop(standard);
     ExitCode::from(status.code)
 }
 

@@ -10,7 +10,7 @@ use Rattle.utm_cli.specs.Performing.{Performs, Performed}
 -- nothing was performed
 pub performs_none : (stands : Tables → List ℕ → Type 0) (t : Tables) (acts : List Act) (a : State) (la : ℕ → List ℕ → List ℕ → Type 0) → Performs stands t acts a a la la
 performs_none stands t acts a la = record {
-  frame = record { told = refl; disk_faults = omega arith; line_faults = omega arith };
+  frame = record { told = refl; disk_faults = omega arith; line_faults = omega arith; moment = omega arith };
   names = refl;
   any_moment = λ told. record { later = omega arith; only = λ u c out le left. inl left };
   quiet = λ told lines. record { holds = refl; put = refl };

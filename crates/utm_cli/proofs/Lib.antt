@@ -5,6 +5,7 @@ pub mod Refused
 pub mod Opened
 pub mod Ran
 pub mod Doing
+pub mod Ends
 pub mod TextsSaid
 pub mod Asking
 pub mod Codes

@@ -63,7 +63,7 @@ module _ (i : Identity) (acts : Tables → List Act) (t : Tables) (a : State) (l
     where
       made_cut : IsBeingMade i a image → IsCutOfRun i acts t a image out
       made_cut made =
-          ⊎_elim (λ none. inr (record { empty = made.empty; silent = o.silent; unmade = inr (λ k u stands. none k (content_of u) stands) })) (λ stands. new_file image out starts made.empty o.silent stands) made.image_is
+          ⊎_elim (λ none. inr (record { empty = made.empty; silent = o.silent; unmade = inr none })) (λ stands. new_file image out starts made.empty o.silent stands) made.image_is
 
   -- the opening alone
   pub opening_cut : (b : State) (lb : ℕ → List ℕ → List ℕ → Type 0) → StartsFrom i a.holds t → LeavesOnly a b la lb (IsOpening i a la) → LeavesOnly a b la lb (IsCutOfRun i acts t a)

@@ -68,7 +68,7 @@ pub record Running (stands : Tables → List ℕ → Type 0) (file : List ℕ �
 
 pub running_start : (stands : Tables → List ℕ → Type 0) (file : List ℕ → Type 0) (x : Content) (all : List Act) (a : State) (la : ℕ → List ℕ → List ℕ → Type 0) → x ≡ content_of (tables_in x) → (IsTrue a.told → IsKept file a la) → Running stands file x (tables_in x) all [] a a la la
 running_start stands file x all a la is kept = record {
-  performs = record { frame = record { told = refl; disk_faults = omega arith; line_faults = omega arith }; names = refl; any_moment = λ told. record { later = omega arith; only = λ u c out le left. inl left }; quiet = λ told lines. record { holds = refl; put = refl } };
+  performs = record { frame = record { told = refl; disk_faults = omega arith; line_faults = omega arith; moment = omega arith }; names = refl; any_moment = λ told. record { later = omega arith; only = λ u c out le left. inl left }; quiet = λ told lines. record { holds = refl; put = refl } };
   performed = record { tables = is; rows = refl; rest = kept; sent = λ told. sym (append-nil a.sent) };
 }
 
@@ -92,7 +92,7 @@ module _ (stands : Tables → List ℕ → Type 0) (file : List ℕ → Type 0) 
 
   pub running_performs : Performs stands t all a d la ld
   running_performs = record {
-    frame = record { told = step.frame.told ∙ run.performs.frame.told; disk_faults = omega (arith, step.frame.disk_faults, run.performs.frame.disk_faults); line_faults = omega (arith, step.frame.line_faults, run.performs.frame.line_faults) };
+    frame = record { told = step.frame.told ∙ run.performs.frame.told; disk_faults = omega (arith, step.frame.disk_faults, run.performs.frame.disk_faults); line_faults = omega (arith, step.frame.line_faults, run.performs.frame.line_faults); moment = omega (arith, step.frame.moment, run.performs.frame.moment) };
     names = step.names ∙ run.performs.names;
     any_moment = λ told. leaves_then a b la lb d ld (IsCutSince stands t all a.sent) (run.performs.any_moment told) (leaves_weaker b d lb ld (IsCutSince stands (tables_in x) here b.sent) (IsCutSince stands t all a.sent) (step.any_moment (told_then told)) (part_cut told));
     quiet = λ told lines.

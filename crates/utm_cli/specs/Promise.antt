@@ -1,5 +1,5 @@
 -- The words in which the top call promises.
-use Rattle.std.specs.Prelude.{◌≡◌, ◌⊎◌, ℕ, nat_eq, IsTrue, List, [], ◌∷◌, ◌++◌, Some, None}
+use Rattle.std.specs.Prelude.{◌≡◌, ◌⊎◌, ℕ, nat_eq, IsTrue, List, [], ◌∷◌, ◌++◌, take, Some, None}
 use Rattle.std.specs.List.{list_any}
 use Rattle.kd_device.specs.Device.{State, Only}
 use Rattle.kd_device.specs.Room.{RoomState, text_of}
@@ -60,6 +60,15 @@ pub record LeavesUnmade (a : State) (image out : List ℕ) : Type 0 where
 -- what was sent and what a stop leaves are a cut of these acts from these tables
 abbrev pub IsCutOfRun : Identity → (Tables → List Act) → Tables → State → List ℕ → List ℕ → Type 0
 IsCutOfRun i acts t a image out = IsCutSince (StandsForTables i) t (acts t) a.sent image out ⊎ LeavesUnmade a image out
+
+-- a front of these bytes was sent, perhaps none of them or all
+abbrev pub SentFront : List ℕ → State → State → Type 0
+SentFront bytes a b = (n : ℕ) × (b.sent ≡ a.sent ++ take n bytes)
+
+-- what was sent and what the file has, as the call left them, are a cut of these acts, and the lines a front of all theirs
+pub record EndsInCut (i : Identity) (acts : Tables → List Act) (t : Tables) (a b : State) : Type 0 where
+  pub cut : IsCutOfRun i acts t a b.holds b.sent
+  pub front : SentFront (bytes_of (acts t)) a b
 
 -- the file of this BASE, and no other, was handed to attach
 abbrev pub Attached : List ℕ → State → State → Type 0

@@ -5,7 +5,7 @@ use Rattle.kdcdef_types.specs.Generation.{Generated}
 use Rattle.kdcfile_store.specs.declared.store.StoreLimits.{StoreLimits}
 use Rattle.kdcfile_store.specs.Whole.{identity_with}
 use Rattle.kd_records.specs.declared.content.Content.{Content}
-use Rattle.kdcfile_images.specs.File.{StandsFor}
+use Rattle.kdcfile_images.specs.File.{StandsFor, IsNoImage}
 use Rattle.kdcs_types.specs.declared.tables.Tables.{Tables}
 use Rattle.kdcs_types.specs.Limits.{IsInRange}
 use Rattle.utm_cli.specs.Asking.{Errand}
@@ -50,6 +50,6 @@ StartsFrom i bytes t = ((bytes ≡ []) × (t ≡ empty_tables)) ⊎ (StandsForTa
 abbrev pub IsRefused : Identity → List ℕ → Type 0
 IsRefused i bytes = (bytes ≡ [] → ⊥) × ((t : Tables) → StandsForTables i t bytes → IsInRange t → ⊥)
 
--- a file that a stop left unmade: it is empty, or stands for no tables of any generation
+-- a file that a stop left unmade: it is empty, or stands for no content of any identity, and so for no tables
 abbrev pub IsUnmade : List ℕ → Type 0
-IsUnmade bytes = (bytes ≡ []) ⊎ ((i : Identity) (t : Tables) → StandsForTables i t bytes → ⊥)
+IsUnmade bytes = (bytes ≡ []) ⊎ IsNoImage bytes

@@ -12,7 +12,7 @@ ghost use Rattle.utm_cli.specs.declared.words.Word.{Word};
 ghost use Rattle.utm_cli.specs.Asking.{Errand};
 ghost use Rattle.utm_cli.specs.Doing.{acts_of};
 ghost use Rattle.utm_cli.specs.Performing.{commits_nothing};
-ghost use Rattle.utm_cli.specs.Promise.{IsOneOf, Request, Reads, Misses, Ran, IsCutOfRun, Attached};
+ghost use Rattle.utm_cli.specs.Promise.{IsOneOf, Request, Reads, Misses, Ran, IsCutOfRun, EndsInCut, Attached};
 
 use crate::error::TextError;
 use crate::refuse::{refuse, refuse_texts};
@@ -68,6 +68,7 @@ pub fn utm<R: Room, D: Device>(
     ensures room_sure { result.code ≡ 6 → IsTrue (R.room room.old).sure → Misses (map string_bytes words.now.items) (R.room room.old) }
     ensures room_said { result.code ≡ 6 → IsTrue (D.state device.old).told → Said [] (D.state device.old) (D.state device.new) }
     ensures missing { IsTrue (R.room room.old).told → Misses (map string_bytes words.now.items) (R.room room.old) → IsOneOf (6 ∷ 7 ∷ []) result.code }
+    ensures missing_said { IsTrue (R.room room.old).told → IsTrue (D.state device.old).told → Misses (map string_bytes words.now.items) (R.room room.old) → Said [] (D.state device.old) (D.state device.new) }
 
     // 0: all was done. The lines of all acts were sent, and the file stands for the tables after them.
     ensures done { result.code ≡ 0 → IsTrue (R.room room.old).told → IsTrue (D.state device.old).told
@@ -84,6 +85,12 @@ pub fn utm<R: Room, D: Device>(
     ensures cut { IsTrue (R.room room.old).told → IsTrue (D.state device.old).told → Only (D.state device.old).holds (D.state device.old) (D.leaves device.old)
         → (e : Errand) (t : Tables) → Reads (map string_bytes words.now.items) (R.room room.old) (Ok e) → StartsFrom (identity_of e) (D.state device.old).holds t
         → (image out : List ℕ) → D.leaves device.new (D.state device.old).moment image out → IsCutOfRun (identity_of e) (acts_of e) t (D.state device.old) image out }
+
+    // As the call left them, whatever its status, the bytes sent and the file are such a cut too. The lines are a front of
+    // those of all acts, so those of `gen` are a front of its report.
+    ensures ended { IsTrue (R.room room.old).told → IsTrue (D.state device.old).told → Only (D.state device.old).holds (D.state device.old) (D.leaves device.old)
+        → (e : Errand) (t : Tables) → Reads (map string_bytes words.now.items) (R.room room.old) (Ok e) → StartsFrom (identity_of e) (D.state device.old).holds t
+        → EndsInCut (identity_of e) (acts_of e) t (D.state device.old) (D.state device.new) }
 
     // A file that is there keeps its bytes, whatever the status, where the acts commit nothing, as those of `gen`.
     ensures left { IsTrue (R.room room.old).told → IsTrue (D.state device.old).told → (e : Errand) (t : Tables) → Reads (map string_bytes words.now.items) (R.room room.old) (Ok e) → StartsFrom (identity_of e) (D.state device.old).holds t

@@ -1,11 +1,12 @@
 use Rattle.std.proofs.Common.{◌≡◌, ◌∙◌, [], not, sym, ap, subst, ℕ, List}
 use Rattle.std.specs.Prelude.{IsTrue, length, sum_by}
 use Rattle.std.specs.List.{flat_map}
+use Rattle.kd_device.specs.Device.{LeavesOnly}
 use Rattle.kd_records.specs.declared.content.Content.{Content}
 use Rattle.kd_records.specs.ChargeLaws.{room_of}
 use Rattle.kdcfile_images.specs.File.{Stands, spelled_record}
-use Rattle.kdcfile_images.specs.Opened.{identity_of}
-use Rattle.kdcfile_images.specs.Commit.{committed, IsBehindRoot}
+use Rattle.kdcfile_images.specs.Opened.{identity_of, renewed}
+use Rattle.kdcfile_images.specs.Commit.{committed, IsBehindRoot, Either}
 use Rattle.kdcfile_images.specs.declared.image.Root.{Root}
 use Rattle.kdcfile_images.specs.declared.pages.PageWrite.{PageWrite}
 use Rattle.kdcfile_store.specs.Whole.{root_with, pages_with}
@@ -42,7 +43,12 @@ returns-in_err-commit_image-clause-any_moment g c = λ told x old.
     let h = (g.D.Device.state c.args.device.now).holds in
     let long : length body ≡ sum_by room_of y.items = c.in_ok-body.ensures.length ∙ ap (λ l. sum_by room_of l) c.as_slice.ensures in
     let is : body ≡ flat_map spelled_record y.items = c.in_ok-body.ensures.bytes ∙ ap (λ l. flat_map spelled_record l) c.as_slice.ensures in
-    c.commit_image.ensures.any_moment told x y old (rw (c.in_ok-pages.ensures, c.next_root-root.ensures) (would_stand o y body c.requires.identity c.requires.charge x h long is (c.requires.fits told) old))
+    let a = g.D.Device.state c.args.device.now in
+    let d = g.D.Device.state c.commit_image.new.device in
+    let la = g.D.Device.leaves c.args.device.now in
+    let ld = g.D.Device.leaves c.commit_image.new.device in
+    subst (λ (r : Root). LeavesOnly a d la ld (Either (identity_of o) x (renewed o r) y a.sent)) c.next_root-root.ensures
+    (c.commit_image.ensures.any_moment told x y old (rw (c.in_ok-pages.ensures, c.next_root-root.ensures) (would_stand o y body c.requires.identity c.requires.charge x h long is (c.requires.fits told) old)))
 
 pub returns-clause-stands : goal.returns-clause-stands
 returns-clause-stands g c = λ told.
@@ -63,4 +69,9 @@ returns-clause-any_moment g c = λ told x old.
     let h = (g.D.Device.state c.args.device.now).holds in
     let long : length body ≡ sum_by room_of y.items = c.in_ok-body.ensures.length ∙ ap (λ l. sum_by room_of l) c.as_slice.ensures in
     let is : body ≡ flat_map spelled_record y.items = c.in_ok-body.ensures.bytes ∙ ap (λ l. flat_map spelled_record l) c.as_slice.ensures in
-    c.commit_image.ensures.any_moment told x y old (rw (c.in_ok-pages.ensures, c.next_root-root.ensures) (would_stand o y body c.requires.identity c.requires.charge x h long is (c.requires.fits told) old))
+    let a = g.D.Device.state c.args.device.now in
+    let d = g.D.Device.state c.commit_image.new.device in
+    let la = g.D.Device.leaves c.args.device.now in
+    let ld = g.D.Device.leaves c.commit_image.new.device in
+    subst (λ (r : Root). LeavesOnly a d la ld (Either (identity_of o) x (renewed o r) y a.sent)) c.next_root-root.ensures
+    (c.commit_image.ensures.any_moment told x y old (rw (c.in_ok-pages.ensures, c.next_root-root.ensures) (would_stand o y body c.requires.identity c.requires.charge x h long is (c.requires.fits told) old)))

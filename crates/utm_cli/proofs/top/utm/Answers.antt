@@ -11,6 +11,7 @@ use Rattle.utm_cli.specs.Doing.{acts_of}
 use Rattle.utm_cli.specs.Performing.{commits_nothing}
 use Rattle.utm_cli.specs.Promise.{IsOneOf, Request, IsCutOfRun}
 use Rattle.utm_cli.proofs.Asking.{reads_of, one_reading, not_missed, misses_of, ok_not, moved, err_not, err_same, cut_at_call, cut_since}
+use Rattle.utm_cli.proofs.Ends.{ends}
 use Rattle.utm_cli.proofs.Codes.{of_run, of_file, of_done, of_refused, not_refused, not_device}
 use Rattle.utm_cli.proofs.top.utm.Given.{Over}
 use Rattle.utm_cli.proofs.top.utm.Goals as goal
@@ -87,6 +88,15 @@ returns-in-Ok-clause-missing g c = λ told misses.
     let asked : Request words word base = ap (λ l. request_of (map string_bytes l)) (sym c.deref.ensures.value) ∙ c.in-Some.ensures in
     absurd (not_missed words room word base asked (Ok c.in-Ok.asked) (c.in-Ok.ensures.found told) misses)
 
+pub returns-in-Ok-clause-missing_said : goal.returns-in-Ok-clause-missing_said
+returns-in-Ok-clause-missing_said g c = λ told told_device misses.
+    let words = map string_bytes c.args.words.now.items in
+    let room = g.R.Room.room c.args.room.now in
+    let word = c.in-Some.word in
+    let base = c.in-Some.base.now in
+    let asked : Request words word base = ap (λ l. request_of (map string_bytes l)) (sym c.deref.ensures.value) ∙ c.in-Some.ensures in
+    absurd (not_missed words room word base asked (Ok c.in-Ok.asked) (c.in-Ok.ensures.found told) misses)
+
 pub returns-in-Ok-clause-done : goal.returns-in-Ok-clause-done
 returns-in-Ok-clause-done g c = λ code told told_device.
     let words = map string_bytes c.args.words.now.items in
@@ -137,6 +147,14 @@ returns-in-Ok-clause-cut g c = λ told told_device only f t said.
     let ld = g.D.Device.leaves c.run.new.device in
     moved words room e one (λ x. StartsFrom (identity_of x) a.holds t → (image out : List ℕ) → ld a.moment image out → IsCutOfRun (identity_of x) (acts_of x) t a image out) f said
     (λ starts image out left. cut_since (identity_of e) (acts_of e) t a d la ld only starts (λ m o past. g.met.D.Device.sent_now c.args.device.now m o told_device past) (c.run.ensures.any_moment told_device only t starts) image out left)
+
+pub returns-in-Ok-clause-ended : goal.returns-in-Ok-clause-ended
+returns-in-Ok-clause-ended g c = λ told told_device only f t said starts.
+    let a = g.D.Device.state c.args.device.now in
+    let d = g.D.Device.state c.run.new.device in
+    let told_d : IsTrue d.told = rw c.run.ensures.frame.told told_device in
+    let left = g.met.D.Device.earlier c.run.new.device a.moment d.moment d.holds d.sent told_d c.run.ensures.frame.moment (g.met.D.Device.holds_now c.run.new.device told_d) in
+    ends (identity_of f) (acts_of f) t a d (returns-in-Ok-clause-cut g c told told_device only f t said starts d.holds d.sent left)
 
 pub returns-in-Ok-clause-left : goal.returns-in-Ok-clause-left
 returns-in-Ok-clause-left g c = λ told told_device f t said.
@@ -241,6 +259,17 @@ returns-in-Err-Refused-clause-missing g c = λ told misses.
     let is = ap (λ (e : TextError). Err e) c.in-Err-Refused.field-0-is in
     absurd (not_missed words room word base asked (Err why) (c.in-Err-Refused.ensures.refused why is told) misses)
 
+pub returns-in-Err-Refused-clause-missing_said : goal.returns-in-Err-Refused-clause-missing_said
+returns-in-Err-Refused-clause-missing_said g c = λ told told_device misses.
+    let words = map string_bytes c.args.words.now.items in
+    let room = g.R.Room.room c.args.room.now in
+    let word = c.in-Some.word in
+    let base = c.in-Some.base.now in
+    let asked : Request words word base = ap (λ l. request_of (map string_bytes l)) (sym c.deref.ensures.value) ∙ c.in-Some.ensures in
+    let why = c.in-Err-Refused.why in
+    let is = ap (λ (e : TextError). Err e) c.in-Err-Refused.field-0-is in
+    absurd (not_missed words room word base asked (Err why) (c.in-Err-Refused.ensures.refused why is told) misses)
+
 pub returns-in-Err-Refused-clause-accepted : goal.returns-in-Err-Refused-clause-accepted
 returns-in-Err-Refused-clause-accepted g c = λ told told_device f t said.
     let words = map string_bytes c.args.words.now.items in
@@ -267,6 +296,18 @@ returns-in-Err-Refused-clause-complete g c = λ told told_device f t said.
 
 pub returns-in-Err-Refused-clause-cut : goal.returns-in-Err-Refused-clause-cut
 returns-in-Err-Refused-clause-cut g c = λ told told_device only f t said.
+    let words = map string_bytes c.args.words.now.items in
+    let room = g.R.Room.room c.args.room.now in
+    let word = c.in-Some.word in
+    let base = c.in-Some.base.now in
+    let asked : Request words word base = ap (λ l. request_of (map string_bytes l)) (sym c.deref.ensures.value) ∙ c.in-Some.ensures in
+    let why = c.in-Err-Refused.why in
+    let is = ap (λ (e : TextError). Err e) c.in-Err-Refused.field-0-is in
+    let one = one_reading words room word base asked (Err why) (c.in-Err-Refused.ensures.refused_one why is told) in
+    absurd (err_not words room why one f said)
+
+pub returns-in-Err-Refused-clause-ended : goal.returns-in-Err-Refused-clause-ended
+returns-in-Err-Refused-clause-ended g c = λ told told_device only f t said.
     let words = map string_bytes c.args.words.now.items in
     let room = g.R.Room.room c.args.room.now in
     let word = c.in-Some.word in
@@ -317,8 +358,18 @@ returns-in-Err-Room-clause-cut g c = λ told told_device only f t said starts im
     let la = g.D.Device.leaves c.args.device.now in
     cut_at_call (identity_of f) (acts_of f) t a a la la only starts (λ m o past. g.met.D.Device.sent_now c.args.device.now m o told_device past) image out left
 
+pub returns-in-Err-Room-clause-ended : goal.returns-in-Err-Room-clause-ended
+returns-in-Err-Room-clause-ended g c = λ told told_device only f t said starts.
+    let a = g.D.Device.state c.args.device.now in
+    ends (identity_of f) (acts_of f) t a a (returns-in-Err-Room-clause-cut g c told told_device only f t said starts a.holds a.sent (g.met.D.Device.holds_now c.args.device.now told_device))
+
 pub returns-in-Err-Memory-clause-cut : goal.returns-in-Err-Memory-clause-cut
 returns-in-Err-Memory-clause-cut g c = λ told told_device only f t said starts image out left.
     let a = g.D.Device.state c.args.device.now in
     let la = g.D.Device.leaves c.args.device.now in
     cut_at_call (identity_of f) (acts_of f) t a a la la only starts (λ m o past. g.met.D.Device.sent_now c.args.device.now m o told_device past) image out left
+
+pub returns-in-Err-Memory-clause-ended : goal.returns-in-Err-Memory-clause-ended
+returns-in-Err-Memory-clause-ended g c = λ told told_device only f t said starts.
+    let a = g.D.Device.state c.args.device.now in
+    ends (identity_of f) (acts_of f) t a a (returns-in-Err-Memory-clause-cut g c told told_device only f t said starts a.holds a.sent (g.met.D.Device.holds_now c.args.device.now told_device))
