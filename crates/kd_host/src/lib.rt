@@ -12,6 +12,3 @@ mod room;
 
 pub use device::FileDevice;
 pub use room::FolderRoom;
-
-#[cfg(test)]
-mod tests;

@@ -1,7 +1,7 @@
 use Rattle.std.proofs.Common.{ℕ, ◌<◌, get_or}
 use Rattle.unit_types.specs.declared.action.UnitStatement.{UnitStatement}
 use Rattle.unit_semantics.specs.Ready.{KnowsLabel}
-use Rattle.unit_step.proofs.tests.know_labels.Given as goal
+use Rattle.low_tests.proofs.tests.steps.know_labels.Given as goal
 
 abbrev pub invariant-loop-statement : goal.invariant-loop-statement
 invariant-loop-statement l =
