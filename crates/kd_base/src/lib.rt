@@ -25,6 +25,3 @@ pub use reader::Reader;
 pub use text::{decimal_of, escape};
 pub use words::{Mode, Variant};
 pub use writer::Writer;
-
-#[cfg(test)]
-mod tests;

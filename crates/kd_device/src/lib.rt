@@ -22,6 +22,3 @@ pub use memory::MemDevice;
 pub use memory_room::MemRoom;
 pub use room::{Room, RoomError};
 pub use sure::SureDevice;
-
-#[cfg(test)]
-mod tests;

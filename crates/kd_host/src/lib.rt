@@ -15,6 +15,3 @@ mod standard;
 pub use device::FileDevice;
 pub use room::FolderRoom;
 pub use standard::StandardDescriptors;
-
-#[cfg(test)]
-mod tests;

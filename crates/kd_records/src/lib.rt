@@ -16,6 +16,3 @@ pub use content::{Content, Patch, PatchItems, Records};
 pub use key::RecordKey;
 pub use laws::{charged_records_fit, patches_keep_contents, patches_say_what_is_found};
 pub use pages::charge;
-
-#[cfg(test)]
-mod tests;

@@ -27,6 +27,3 @@ pub use loading::{load, one_meaning};
 pub use making::create;
 pub use pages::{Directory, ImageRecord, ImageRecords, PageWrite, PageWrites, Pages};
 pub use synced::write_synced;
-
-#[cfg(test)]
-mod writing_tests;

@@ -12,6 +12,3 @@ mod whole;
 pub use kdcfile_images::LoadError;
 pub use store::{CommitError, Store, StoreLimits};
 pub use whole::WholeStore;
-
-#[cfg(test)]
-mod tests;

@@ -27,6 +27,3 @@ pub use lists::{Areas, Notes, Parts};
 pub use run_state::{Header, RunState};
 pub use service::{Ending, Job, JobValue, Note, Service, Settled};
 pub use tables::Tables;
-
-#[cfg(test)]
-mod tests;

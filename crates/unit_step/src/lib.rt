@@ -21,6 +21,3 @@ pub use answer::answered;
 pub use laws::runs_stay_ready;
 pub use outcome::Stepped;
 pub use stepping::step;
-
-#[cfg(test)]
-mod tests;

@@ -11,6 +11,3 @@ mod unit;
 
 pub use action::{Action, HeaderName, Operand, Relation, UnitStatement};
 pub use unit::{Field, Unit};
-
-#[cfg(test)]
-mod tests;

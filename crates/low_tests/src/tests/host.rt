@@ -1,0 +1,48 @@
+//! kd_host: a real file, and the files of the current folder.
+
+use kd_device::{Device, Room};
+use kd_host::{FileDevice, FolderRoom};
+use std::fs;
+use std::test::Fail;
+
+const FILE: &[u8] = b"low_tests_device.tmp";
+
+// Writes with a gap, and a sync.
+fn write<D: Device>(device: &mut D) -> Result<(), Fail> {
+    device.reserve(4, 100, 100)?;
+    device.attach(FILE)?;
+    device.write_at(0, b"abc")?;
+    device.write_at(5, b"z")?;
+    device.sync()?;
+    Ok(())
+}
+
+// The front of what is there, and how many bytes a read of 8 bytes gives.
+fn read<D: Device>(device: &mut D) -> Result<([u8; 8], usize), Fail> {
+    device.reserve(1, 100, 0)?;
+    device.attach(FILE)?;
+    let mut bytes = [b'-'; 8];
+    let count = device.read_at(0, &mut bytes)?;
+    Ok((bytes, count))
+}
+
+#[test]
+fn a_file_keeps_what_was_written(rt: HostRuntime) -> Result<(), Fail> {
+    assert!(rt; FileDevice::new(&rt).size().is_err());
+    write(&mut FileDevice::new(&rt))?;
+    let found = read(&mut FileDevice::new(&rt))?;
+    assert!(rt; found == (*b"abc\0\0z--", 6));
+    fs::remove_file(&rt, "low_tests_device.tmp")?;
+    Ok(())
+}
+
+#[test]
+fn a_folder_gives_its_texts(rt: HostRuntime) -> Result<(), Fail> {
+    let name = Vec::from_slice(rt.alloc(), b"low_tests_room.tmp")?;
+    fs::write(&rt, "low_tests_room.tmp", b"abcdef")?;
+    let text = FolderRoom::new(&rt).read(rt.alloc(), &name, 3)?;
+    assert!(rt; text.as_slice() == b"abcd".as_slice());
+    fs::remove_file(&rt, "low_tests_room.tmp")?;
+    assert!(rt; FolderRoom::new(&rt).read(rt.alloc(), &name, 3).is_err());
+    Ok(())
+}
