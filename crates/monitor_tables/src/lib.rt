@@ -1,7 +1,9 @@
-//! What holds of the monitor's tables, sessions and open transactions between two steps.
+//! What holds of the monitor's tables, sessions and open transactions: that it holds at each start, and that each call,
+//! statement, turn and command keeps it.
 //!
-//! It stands on the definitions of the monitor and of its facts. The functions do nothing: their contracts are laws,
-//! which all crates above may cite.
+//! It stands on the definitions of the monitor and on what is to hold of its states. The functions do nothing: their
+//! contracts are laws on the definitions, which all crates above may cite. `specs/` has the lemmas on a transaction's
+//! unit run (`Ready`) and on the entries of a generation (`Entries`).
 #![tactic(auto)]
 
 ghost use Rattle.monitor_tables.specs.OpenLaws.{RunsAreReady, OpensHaveUnits, OperandsAreShort, CallsKeep, StatementsKeep, FurtherRunsGoOn, OpeningsGoOn};
