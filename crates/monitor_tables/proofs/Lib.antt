@@ -12,3 +12,4 @@ pub mod Uses
 pub mod States
 pub mod Turned
 pub mod Commanded
+pub mod Made

@@ -8,7 +8,7 @@
 
 ghost use Rattle.monitor_tables.specs.OpenLaws.{RunsAreReady, OpensHaveUnits, OperandsAreShort, CallsKeep, StatementsKeep, FurtherRunsGoOn, OpeningsGoOn};
 ghost use Rattle.monitor_tables.specs.PointLaws.{PointsStaySound, EndsStaySound, SignOffsStaySound, ShowsStaySound, TicksStaySound, StartsAreSound};
-ghost use Rattle.monitor_tables.specs.StateLaws.{StatesStaySound};
+ghost use Rattle.monitor_tables.specs.StateLaws.{StatesStaySound, MadeIsApplication, MadeStartIsSound};
 
 /// An open transaction has a unit, its unit run can be stepped, and no operand of a call is longer than 32,767 bytes.
 pub fn runs_are_ready()
@@ -41,4 +41,10 @@ pub fn points_and_ends_suit()
 /// a state does too; and each start from tables that suit begins with it.
 pub fn states_stay_sound()
     ensures { StatesStaySound }
+{}
+
+/// The laws speak of something: the made application is one that they take, and its start from empty tables is sound.
+pub fn the_made_application_is_taken()
+    ensures application { MadeIsApplication }
+    ensures start { MadeStartIsSound }
 {}
