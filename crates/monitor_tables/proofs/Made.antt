@@ -25,7 +25,7 @@ use Rattle.monitor_semantics.specs.Commands.{started}
 use Rattle.monitor_laws.specs.Facts.{IsSoundState}
 use Rattle.monitor_laws.specs.Suits.{Suits, is_lterm}
 use Rattle.monitor_tables.specs.Entries.{entries_have, short_names}
-use Rattle.monitor_tables.proofs.Commanded.{states_stay_sound}
+use Rattle.monitor_tables.specs.Commanded.{states_stay_sound}
 
 -- what a test says of each item
 all_by : {X : Type 0} (P : X → Type 0) (test : X → Bool) → ((x : X) → test x ≡ true → P x) → (xs : List X) → list_all test xs ≡ true → All P xs

@@ -2,8 +2,9 @@
 //! statement, turn and command keeps it.
 //!
 //! It stands on the definitions of the monitor and on what is to hold of its states. The functions do nothing: their
-//! contracts are laws on the definitions, which all crates above may cite. `specs/` has the lemmas on a transaction's
-//! unit run (`Ready`) and on the entries of a generation (`Entries`).
+//! contracts are laws on the definitions, which all crates above may cite. `specs/` has their proofs, step by step: the
+//! unit run of a transaction (`Ready`), calls and statements (`Calls`, `Stated`), openings (`Openings`), what becomes of
+//! the tables (`Rows`, `Points`, `Ends`), and turns and commands (`Turned`, `Commanded`).
 #![tactic(auto)]
 
 ghost use Rattle.monitor_tables.specs.OpenLaws.{RunsAreReady, OpensHaveUnits, OperandsAreShort, CallsKeep, StatementsKeep, FurtherRunsGoOn, OpeningsGoOn};

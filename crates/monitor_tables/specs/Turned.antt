@@ -34,11 +34,11 @@ use Rattle.monitor_laws.specs.Transactions.{IsRooted, CanGoOn}
 use Rattle.monitor_laws.specs.Facts.{IsConsistent}
 use Rattle.monitor_tables.specs.OpenLaws.{OutcomeFits, HappenedFits}
 use Rattle.monitor_tables.specs.PointLaws.{AreSound}
-use Rattle.monitor_tables.proofs.Stated.{statements_keep}
-use Rattle.monitor_tables.proofs.Openings.{rows-can, jobs-can}
-use Rattle.monitor_tables.proofs.Points.{points_stay_sound, next_row}
-use Rattle.monitor_tables.proofs.Ends.{ends_stay_sound}
-use Rattle.monitor_tables.proofs.States.{Parts, opens-put, opens-without, sessions-put, session_found, row_found, job_found, told-fits}
+use Rattle.monitor_tables.specs.Stated.{statements_keep}
+use Rattle.monitor_tables.specs.Openings.{rows-can, jobs-can}
+use Rattle.monitor_tables.specs.Points.{points_stay_sound, next_row}
+use Rattle.monitor_tables.specs.Ends.{ends_stay_sound}
+use Rattle.monitor_tables.specs.States.{Parts, opens-put, opens-without, sessions-put, session_found, row_found, job_found, told-fits}
 
 -- ---- messages to terminals
 

@@ -22,8 +22,8 @@ use Rattle.monitor_semantics.specs.Charges.{total_charge}
 use Rattle.monitor_semantics.specs.Endings.{is_durable, durable}
 use Rattle.monitor_laws.specs.Suits.{Suits, gssb_suits, tls_suits, uls_suits, service_suits, job_suits, shown_suits, number_is_below}
 use Rattle.monitor_tables.specs.PointLaws.{AreSound}
-use Rattle.monitor_tables.proofs.Items.{ascends_filter, none_filter, found_filter}
-use Rattle.monitor_tables.proofs.Lists.{all_imply, all_filter, filter_passes}
+use Rattle.monitor_tables.specs.Items.{ascends_filter, none_filter, found_filter}
+use Rattle.monitor_tables.specs.Lists.{all_imply, all_filter, filter_passes}
 
 -- what holds of the rows of each kind
 
