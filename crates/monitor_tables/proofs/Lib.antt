@@ -1,14 +1,1 @@
-pub mod Lists
-pub mod Updates
-pub mod Calls
-pub mod Stated
-pub mod RowParts
-pub mod Openings
-pub mod Items
-pub mod Rows
-pub mod Points
-pub mod Ends
-pub mod Uses
-pub mod States
-pub mod Turned
-pub mod Commanded
+pub mod Made

@@ -1,12 +1,15 @@
-//! What holds of the monitor's tables, sessions and open transactions between two steps.
+//! What holds of the monitor's tables, sessions and open transactions: that it holds at each start, and that each call,
+//! statement, turn and command keeps it.
 //!
-//! It stands on the definitions of the monitor and of its facts. The functions do nothing: their contracts are laws,
-//! which all crates above may cite.
+//! It stands on the definitions of the monitor and on what is to hold of its states. The functions do nothing: their
+//! contracts are laws on the definitions, which all crates above may cite. `specs/` has their proofs, step by step: the
+//! unit run of a transaction (`Ready`), calls and statements (`Calls`, `Stated`), openings (`Openings`), what becomes of
+//! the tables (`Rows`, `Points`, `Ends`), and turns and commands (`Turned`, `Commanded`).
 #![tactic(auto)]
 
 ghost use Rattle.monitor_tables.specs.OpenLaws.{RunsAreReady, OpensHaveUnits, OperandsAreShort, CallsKeep, StatementsKeep, FurtherRunsGoOn, OpeningsGoOn};
 ghost use Rattle.monitor_tables.specs.PointLaws.{PointsStaySound, EndsStaySound, SignOffsStaySound, ShowsStaySound, TicksStaySound, StartsAreSound};
-ghost use Rattle.monitor_tables.specs.StateLaws.{StatesStaySound};
+ghost use Rattle.monitor_tables.specs.StateLaws.{StatesStaySound, MadeIsApplication, MadeStartIsSound};
 
 /// An open transaction has a unit, its unit run can be stepped, and no operand of a call is longer than 32,767 bytes.
 pub fn runs_are_ready()
@@ -39,4 +42,10 @@ pub fn points_and_ends_suit()
 /// a state does too; and each start from tables that suit begins with it.
 pub fn states_stay_sound()
     ensures { StatesStaySound }
+{}
+
+/// The laws speak of something: the made application is one that they take, and its start from empty tables is sound.
+pub fn the_made_application_is_taken()
+    ensures application { MadeIsApplication }
+    ensures start { MadeStartIsSound }
 {}

@@ -1,5 +1,5 @@
-use Rattle.monitor_tables.proofs.Points.{points_stay_sound}
-use Rattle.monitor_tables.proofs.Ends.{ends_stay_sound, sign_offs_stay_sound, shows_stay_sound, ticks_stay_sound, starts_are_sound}
+use Rattle.monitor_tables.specs.Points.{points_stay_sound}
+use Rattle.monitor_tables.specs.Ends.{ends_stay_sound, sign_offs_stay_sound, shows_stay_sound, ticks_stay_sound, starts_are_sound}
 use Rattle.monitor_tables.proofs.points_and_ends_suit.Goals as goal
 
 pub returns-clause-points : goal.returns-clause-points

@@ -1,4 +1,4 @@
-use Rattle.monitor_tables.proofs.Commanded.{states_stay_sound}
+use Rattle.monitor_tables.specs.Commanded.{states_stay_sound}
 use Rattle.monitor_tables.proofs.states_stay_sound.Goals as goal
 
 pub returns : goal.returns

@@ -1,5 +1,5 @@
-use Rattle.monitor_tables.proofs.Stated.{calls_keep, statements_keep}
-use Rattle.monitor_tables.proofs.Openings.{further_runs_go_on, openings_go_on}
+use Rattle.monitor_tables.specs.Stated.{calls_keep, statements_keep}
+use Rattle.monitor_tables.specs.Openings.{further_runs_go_on, openings_go_on}
 use Rattle.monitor_tables.proofs.transactions_go_on.Goals as goal
 
 pub returns-clause-calls : goal.returns-clause-calls

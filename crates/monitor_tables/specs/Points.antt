@@ -39,11 +39,11 @@ use Rattle.monitor_laws.specs.Suits.{fits_message, gssb_suits, tls_suits, uls_su
 use Rattle.monitor_laws.specs.Transactions.{HasOwnJob, IsRooted, written_fits, last_moment, due_fits, draft_fits, IsOwner, CanGoOn}
 use Rattle.monitor_tables.specs.OpenLaws.{OutcomeFits}
 use Rattle.monitor_tables.specs.PointLaws.{Stands, PointsStaySound}
-use Rattle.monitor_tables.proofs.Items.{ascends_append, ascends_behind}
-use Rattle.monitor_tables.proofs.Lists.{bytes_eq_itself, all_imply, all_both, filter_passes, all_append}
-use Rattle.monitor_tables.proofs.Openings.{job_whole}
-use Rattle.monitor_tables.proofs.RowParts.{RowSuits, row_parts, row_suits}
-use Rattle.monitor_tables.proofs.Rows.{BlockRows, ServiceRows, JobRows, has_no_service, NumbersFit, GoodRows, IsWithinLimits, with_gssbs, with_tlss, with_ulss, some_jobs, some_services, sound, good}
+use Rattle.monitor_tables.specs.Items.{ascends_append, ascends_behind}
+use Rattle.monitor_tables.specs.Lists.{bytes_eq_itself, all_imply, all_both, filter_passes, all_append}
+use Rattle.monitor_tables.specs.Openings.{job_whole}
+use Rattle.monitor_tables.specs.RowParts.{RowSuits, row_parts, row_suits}
+use Rattle.monitor_tables.specs.Rows.{BlockRows, ServiceRows, JobRows, has_no_service, NumbersFit, GoodRows, IsWithinLimits, with_gssbs, with_tlss, with_ulss, some_jobs, some_services, sound, good}
 
 -- ---- areas
 

@@ -35,14 +35,14 @@ use Rattle.monitor_laws.specs.Facts.{IsSessionOf, StandsAtKeep, IsConsistent}
 use Rattle.monitor_tables.specs.OpenLaws.{HappenedFits}
 use Rattle.monitor_tables.specs.PointLaws.{AreSound}
 use Rattle.monitor_tables.specs.StateLaws.{StatesStaySound}
-use Rattle.monitor_tables.proofs.Lists.{filter_passes, all_filter}
-use Rattle.monitor_tables.proofs.Stated.{statements_keep}
-use Rattle.monitor_tables.proofs.RowParts.{row_parts}
-use Rattle.monitor_tables.proofs.Openings.{starts-can, inputs-can, rows-can, further_by_input}
-use Rattle.monitor_tables.proofs.Ends.{sign_offs_stay_sound, shows_stay_sound, ticks_stay_sound, starts_are_sound}
-use Rattle.monitor_tables.proofs.Uses.{StartFits, UseFits, use-fits}
-use Rattle.monitor_tables.proofs.States.{Opens, Parts, parts_of, sound_state, opens-put, opens-without, sessions-put, sessions-without, lterm_declared, row_found}
-use Rattle.monitor_tables.proofs.Turned.{turn-parts}
+use Rattle.monitor_tables.specs.Lists.{filter_passes, all_filter}
+use Rattle.monitor_tables.specs.Stated.{statements_keep}
+use Rattle.monitor_tables.specs.RowParts.{row_parts}
+use Rattle.monitor_tables.specs.Openings.{starts-can, inputs-can, rows-can, further_by_input}
+use Rattle.monitor_tables.specs.Ends.{sign_offs_stay_sound, shows_stay_sound, ticks_stay_sound, starts_are_sound}
+use Rattle.monitor_tables.specs.Uses.{StartFits, UseFits, use-fits}
+use Rattle.monitor_tables.specs.States.{Opens, Parts, parts_of, sound_state, opens-put, opens-without, sessions-put, sessions-without, lterm_declared, row_found}
+use Rattle.monitor_tables.specs.Turned.{turn-parts}
 
 -- ---- starts
 

@@ -32,7 +32,7 @@ use Rattle.monitor_laws.specs.Transactions.{fits_if_there, CanGoOn}
 use Rattle.monitor_laws.specs.Facts.{IsSessionOf, IsSoundState}
 use Rattle.monitor_tables.specs.OpenLaws.{ToldFits}
 use Rattle.monitor_tables.specs.PointLaws.{AreSound}
-use Rattle.monitor_tables.proofs.Rows.{good}
+use Rattle.monitor_tables.specs.Rows.{good}
 
 -- sessions are of declared PTERMs and users
 abbrev pub Sessions : Application → List (Bytes × Session) → Type 0

@@ -17,7 +17,7 @@ use Rattle.kdcs_types.specs.Keys.{key_cmp, key_eq}
 use Rattle.kdcs_types.specs.Keyed.{keyed, ascends, item_at, with_item, without_item}
 use Rattle.kdcs_types.specs.KeyedLaws.{items_back}
 use Rattle.kdcs_types.specs.Tables.{job_key}
-use Rattle.monitor_tables.proofs.Lists.{sum_filter}
+use Rattle.monitor_tables.specs.Lists.{sum_filter}
 
 -- ---- membership
 

@@ -48,8 +48,8 @@ use Rattle.monitor_semantics.specs.Endings.{is_asynchronous}
 use Rattle.monitor_laws.specs.Suits.{fits_content, fits_message, is_user, is_lterm, has_kind_by, target_suits, target_name}
 use Rattle.monitor_laws.specs.Transactions.{IsMessage, PutsNone, area_is_declared, fits_if_there, written_fits, last_moment, due_fits, draft_fits, CanGoOn}
 use Rattle.monitor_tables.specs.OpenLaws.{reads, has_short_operands, ToldFits, OutcomeFits}
-use Rattle.monitor_tables.proofs.Lists.{bytes_eq_itself, all_imply, all_both, all_filter, all_append, any_append, any_last, any_filter, length_filter, sum_filter, count_none, found_passes, missing_apart, all_put, sorted_put, sorted_where, length_put}
-use Rattle.monitor_tables.proofs.Updates.{with_inited, with_unread, with_parts, with_notes, with_written, with_touched, with_lssbs, with_drafts}
+use Rattle.monitor_tables.specs.Lists.{bytes_eq_itself, all_imply, all_both, all_filter, all_append, any_append, any_last, any_filter, length_filter, sum_filter, count_none, found_passes, missing_apart, all_put, sorted_put, sorted_where, length_put}
+use Rattle.monitor_tables.specs.Updates.{with_inited, with_unread, with_parts, with_notes, with_written, with_touched, with_lssbs, with_drafts}
 
 -- ---- what a performed call keeps
 

@@ -27,8 +27,8 @@ use Rattle.monitor_laws.specs.Suits.{has_kind}
 use Rattle.monitor_laws.specs.Transactions.{IsMessage, PutsNone, CanGoOn}
 use Rattle.monitor_tables.specs.OpenLaws.{reads, StandsIn, ToldFits, OutcomeFits, CalledFits, CallsKeep, StatementKeeps, StatementsKeep}
 use Rattle.monitor_tables.specs.Ready.{AskFits, StepFits, next-fits, fitted_unit, runs_are_ready, stored-header}
-use Rattle.monitor_tables.proofs.Calls.{ReplyFits, call-keeps}
-use Rattle.monitor_tables.proofs.Updates.{can_from, areas, lssb_part, with_run}
+use Rattle.monitor_tables.specs.Calls.{ReplyFits, call-keeps}
+use Rattle.monitor_tables.specs.Updates.{can_from, areas, lssb_part, with_run}
 
 -- ---- calls
 

@@ -18,12 +18,12 @@ use Rattle.kdcs_types.specs.Limits.{last_clock, last_next_job}
 use Rattle.kdcs_types.specs.Tables.{TableRows, IsSortedTables, gssb_key, tls_key, uls_key, service_key, job_key, shown_key, is_filled, service_fits, service_of}
 use Rattle.kdcdef_types.specs.Generation.{Generated}
 use Rattle.monitor_semantics.specs.Bytes.{Bytes}
-use Rattle.monitor_semantics.specs.Charges.{charge_of, service_length, total_charge}
+use Rattle.monitor_semantics.specs.Charges.{total_charge}
 use Rattle.monitor_semantics.specs.Endings.{is_durable, durable}
 use Rattle.monitor_laws.specs.Suits.{Suits, gssb_suits, tls_suits, uls_suits, service_suits, job_suits, shown_suits, number_is_below}
 use Rattle.monitor_tables.specs.PointLaws.{AreSound}
-use Rattle.monitor_tables.proofs.Items.{ascends_filter, none_filter, found_filter}
-use Rattle.monitor_tables.proofs.Lists.{all_imply, all_filter, filter_passes}
+use Rattle.monitor_tables.specs.Items.{ascends_filter, none_filter, found_filter}
+use Rattle.monitor_tables.specs.Lists.{all_imply, all_filter, filter_passes}
 
 -- what holds of the rows of each kind
 
@@ -135,10 +135,6 @@ module _ (g : Generated) (t : TableRows) (r : GoodRows g t) where
 abbrev pub durable_row : Generated → Service → Bool
 durable_row g s = is_durable g s.id
 
-pub good-durable : (g : Generated) (t : TableRows) → GoodRows g t → GoodRows g (durable g t)
-unfolding durable
-good-durable g t r = some_services g t r (durable_row g)
-
 pub sound : (g : Generated) (t : TableRows) → GoodRows g t → IsWithinLimits g (durable g t) → AreSound g t
 unfolding durable
 sound g t r within = record {
@@ -162,9 +158,6 @@ durable-numbers : (g : Generated) (next : ℕ) (ss : List Service) → IsTrue (l
 durable-numbers g next [] h = refl
 durable-numbers g next (s ∷ ss) h = by (is_durable g s.id) refl h (durable-numbers g next ss)
   where
-    below : Service → Bool
-    below s = number_is_below next s.id
-
     by : (b : Bool) → is_durable g s.id ≡ b → IsTrue (list_all (λ (u : Service). number_is_below next u.id) (cond b (s ∷ filter (durable_row g) ss) (filter (durable_row g) ss)))
         → (IsTrue (list_all (λ (u : Service). number_is_below next u.id) (filter (durable_row g) ss)) → IsTrue (list_all (λ (u : Service). number_is_below next u.id) ss))
         → IsTrue (list_all (λ (u : Service). number_is_below next u.id) (s ∷ ss))
@@ -205,9 +198,6 @@ good g t s =
     }
 
 -- ---- charges
-
-charge_service : Generated → Service → ℕ
-charge_service g s = charge_of g.limits.blksize (service_length s)
 
 -- fewer services and jobs take no more pages
 pub sum_filters : {X : Type 0} (f : X → ℕ) (d q : X → Bool) (xs : List X) → sum_by f (filter d (filter q xs)) ≤ sum_by f (filter d xs)

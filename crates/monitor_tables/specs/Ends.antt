@@ -31,10 +31,10 @@ use Rattle.monitor_semantics.specs.Commands.{is_for, due_for, shown_tables}
 use Rattle.monitor_semantics.specs.State.{State}
 use Rattle.monitor_laws.specs.Suits.{Suits, is_lterm, value_suits, target_suits, target_name, job_suits, shown_suits}
 use Rattle.monitor_tables.specs.PointLaws.{AreSound, TakesNoMore, EndSound, EndsStaySound, SignOffsStaySound, ShowsStaySound, TicksStaySound, StartsAreSound}
-use Rattle.monitor_tables.proofs.Items.{IsIn, in_passes, in_filter, sum_with, sum_without}
-use Rattle.monitor_tables.proofs.Lists.{bytes_same_eq, bytes_eq_itself, sum_filter, filter_passes}
-use Rattle.monitor_tables.proofs.Openings.{job_parts}
-use Rattle.monitor_tables.proofs.Rows.{GoodRows, durable_row, with_shown, with_clock, some_jobs, some_services, sound, sound-within, good, sum_filters}
+use Rattle.monitor_tables.specs.Items.{IsIn, in_passes, in_filter, sum_with, sum_without}
+use Rattle.monitor_tables.specs.Lists.{bytes_same_eq, bytes_eq_itself, sum_filter, filter_passes}
+use Rattle.monitor_tables.specs.Openings.{job_parts}
+use Rattle.monitor_tables.specs.Rows.{GoodRows, durable_row, with_shown, with_clock, some_jobs, some_services, sound, sound-within, good, sum_filters}
 
 -- ---- fewer rows
 

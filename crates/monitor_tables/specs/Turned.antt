@@ -1,7 +1,7 @@
 -- Each turn keeps a sound state.
 use Rattle.std.specs.Prelude.{◌≡◌, refl, ℕ, ◌-◌, Bool, true, false, slice_get, Option, None, Some}
-use Rattle.std.proofs.Common.{sym, ap, subst, ◌∙◌}
-use Rattle.std.specs.FinMap.{find, put}
+use Rattle.std.proofs.Common.{ap, subst, ◌∙◌}
+use Rattle.std.specs.FinMap.{find}
 use Rattle.kdcs_types.specs.declared.act.Act.{Act}
 use Rattle.kdcs_types.specs.declared.call.Cause.{Cause}
 use Rattle.kdcs_types.specs.declared.key.Area.{Area}
@@ -34,11 +34,11 @@ use Rattle.monitor_laws.specs.Transactions.{IsRooted, CanGoOn}
 use Rattle.monitor_laws.specs.Facts.{IsConsistent}
 use Rattle.monitor_tables.specs.OpenLaws.{OutcomeFits, HappenedFits}
 use Rattle.monitor_tables.specs.PointLaws.{AreSound}
-use Rattle.monitor_tables.proofs.Stated.{statements_keep}
-use Rattle.monitor_tables.proofs.Openings.{rows-can, jobs-can}
-use Rattle.monitor_tables.proofs.Points.{points_stay_sound, next_row}
-use Rattle.monitor_tables.proofs.Ends.{ends_stay_sound}
-use Rattle.monitor_tables.proofs.States.{Opens, Parts, opens-put, opens-without, sessions-put, session_found, row_found, job_found, told-fits}
+use Rattle.monitor_tables.specs.Stated.{statements_keep}
+use Rattle.monitor_tables.specs.Openings.{rows-can, jobs-can}
+use Rattle.monitor_tables.specs.Points.{points_stay_sound, next_row}
+use Rattle.monitor_tables.specs.Ends.{ends_stay_sound}
+use Rattle.monitor_tables.specs.States.{Parts, opens-put, opens-without, sessions-put, session_found, row_found, job_found, told-fits}
 
 -- ---- messages to terminals
 
@@ -62,11 +62,7 @@ again-parts app s id None p = p
 again-parts app s (Dialogue user) (Some message) p = last_told-parts app s (pterm_of_user s.signed user) message p
 again-parts app s (Asynchronous number) (Some message) p = p
 
--- ---- the state's parts under other places
-
--- an open transaction of the service
-with_open-parts : (app : Application) (s u : State) (id : ServiceId) (y : OpenTransaction) → u.tables ≡ s.tables → u.signed ≡ s.signed → u.active ≡ s.active → Parts app s → CanGoOn app.generation id y → Opens app (put id_cmp id y u.active)
-with_open-parts app s u id y t n a p can = opens-put app u.active id y (subst (Opens app) (sym a) p.opens) can
+-- ---- one service
 
 module _ (app : Application) (application : IsApplication app) (s : State) (p : Parts app s) (task : ℕ) (id : ServiceId) (x : OpenTransaction) (can : CanGoOn app.generation id x) (rooted : IsRooted s.tables id x) where
   -- without the transaction, over other tables

@@ -26,9 +26,9 @@ use Rattle.monitor_semantics.specs.Endings.{is_asynchronous, header_of, kb_of, l
 use Rattle.monitor_laws.specs.Suits.{fits_content, fits_message, has_kind, has_kind_by, is_user, is_lterm, owner_suits, service_suits, value_suits, target_suits, target_name, job_suits, last_due}
 use Rattle.monitor_laws.specs.Transactions.{IsMessage, IsOwner, CanGoOn}
 use Rattle.monitor_tables.specs.OpenLaws.{FurtherRunsGoOn, OpeningsGoOn}
-use Rattle.monitor_tables.proofs.Lists.{bytes_same_eq}
-use Rattle.monitor_tables.proofs.RowParts.{RowSuits, row_parts}
-use Rattle.monitor_tables.proofs.Stated.{puts_none, next_run-can, followed-can}
+use Rattle.monitor_tables.specs.Lists.{bytes_same_eq}
+use Rattle.monitor_tables.specs.RowParts.{RowSuits, row_parts}
+use Rattle.monitor_tables.specs.Stated.{puts_none, next_run-can, followed-can}
 
 -- one part
 pub one_message : (g : Generated) (input : Bytes) → IsTrue (fits_message g input) → IsMessage g (input ∷ [])
