@@ -1,7 +1,7 @@
 -- The steps of a script keep both kinds of facts, where they keep the tables and transactions sound.
 use Rattle.monitor_laws.specs.Keeping.{HasFacts}
 use Rattle.monitor_places.specs.Along.{holds_along}
-use Rattle.monitor_places.specs.Laws.{TurnsStayConsistent, CommandsStayConsistent, StartsAreConsistent, SoundStepsKeepFacts}
+use Rattle.monitor_places.specs.Laws.{TurnsStayConsistent, CommandsStayConsistent, StartsAreConsistent, SoundStepsKeepFacts, FactsHoldAlong}
 use Rattle.monitor_places.proofs.Commands.{commands_consistent}
 use Rattle.monitor_places.proofs.Starts.{started_consistent}
 use Rattle.monitor_places.proofs.Taking.{turns_consistent}
@@ -16,11 +16,11 @@ pub starts_are : StartsAreConsistent
 starts_are app t is_app order suits = started_consistent app t order.services
 
 pub sound_steps_keep : SoundStepsKeepFacts
-sound_steps_keep sound =
-    holds_along
-    HasFacts
-    (record {
-      turns = λ app s task is_app within facts. (turns_stay app s task is_app within facts, sound.turns app s task is_app within facts);
-      commands = λ app s c is_app fits facts. (commands_stay app s c is_app fits facts, sound.commands app s c is_app fits facts);
-      starts = λ app t is_app order suits. (starts_are app t is_app order suits, sound.starts app t is_app order suits);
-    })
+sound_steps_keep sound = record {
+  turns = λ app s task is_app within facts. (turns_stay app s task is_app within facts, sound.turns app s task is_app within facts);
+  commands = λ app s c is_app fits facts. (commands_stay app s c is_app fits facts, sound.commands app s c is_app fits facts);
+  starts = λ app t is_app order suits. (starts_are app t is_app order suits, sound.starts app t is_app order suits);
+}
+
+pub facts_hold : FactsHoldAlong
+facts_hold = holds_along HasFacts

@@ -21,6 +21,10 @@ CommandsStayConsistent =
 abbrev pub StartsAreConsistent : Type 0
 StartsAreConsistent = (app : Application) (t : TableRows) → IsApplication app → IsSortedTables t → Suits app.generation t → IsConsistent app (started app t)
 
--- the steps that keep the tables and transactions sound keep both kinds of facts
+-- where each step and each start makes tables and transactions sound, each has both kinds of facts
 abbrev pub SoundStepsKeepFacts : Type 0
-SoundStepsKeepFacts = Leads HasFacts (λ app s. IsSoundState app s) → HoldsAlong HasFacts
+SoundStepsKeepFacts = Leads HasFacts (λ app s. IsSoundState app s) → Leads HasFacts HasFacts
+
+-- and then so has each state of a script
+abbrev pub FactsHoldAlong : Type 0
+FactsHoldAlong = Leads HasFacts HasFacts → HoldsAlong HasFacts

@@ -6,7 +6,7 @@
 //! of a state, on the operations that a step is made of, on what a statement keeps, and on scripts (`holds_along`).
 #![tactic(auto)]
 
-ghost use Rattle.monitor_places.specs.Laws.{TurnsStayConsistent, CommandsStayConsistent, StartsAreConsistent, SoundStepsKeepFacts};
+ghost use Rattle.monitor_places.specs.Laws.{TurnsStayConsistent, CommandsStayConsistent, StartsAreConsistent, SoundStepsKeepFacts, FactsHoldAlong};
 
 /// From a state that is consistent, and whose tables and open transactions are sound, each turn of a task and each
 /// command of a script comes to a consistent state; and a start from tables that suit the generation does.
@@ -16,7 +16,9 @@ pub fn states_stay_consistent()
     ensures starts { StartsAreConsistent }
 {}
 
-/// Where each step keeps tables and open transactions sound, each state of a script has both kinds of facts.
+/// Where each step makes tables and open transactions sound, each step keeps both kinds of facts; and then each state
+/// of a script from a state with both has both.
 pub fn facts_hold_along()
-    ensures { SoundStepsKeepFacts }
+    ensures steps { SoundStepsKeepFacts }
+    ensures scripts { FactsHoldAlong }
 {}
