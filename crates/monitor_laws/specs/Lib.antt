@@ -12,3 +12,5 @@ pub mod Cut
 pub mod DeadlockLaw
 pub mod JobLaw
 pub mod RowLaw
+pub mod JobLaws
+pub mod OwnRowLaws

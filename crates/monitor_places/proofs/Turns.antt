@@ -27,7 +27,7 @@ use Rattle.monitor_semantics.specs.Statements.{area_of}
 use Rattle.monitor_semantics.specs.Turns.{with_open, without_wait, with_task, queued, without_work, abnormal, after_point, settled_by, settled, last_again, pterm_of_user, back_by, back, waiting, waiting_for, happens, told_here, statement_now, worked}
 use Rattle.monitor_laws.specs.Facts.{IsConsistent}
 use Rattle.monitor_laws.specs.Transactions.{IsRooted}
-use Rattle.monitor_laws.proofs.Jobs.{points_number, ends_draw_none}
+use Rattle.monitor_laws.specs.JobLaws.{points_number, ends_draw_none}
 use Rattle.monitor_places.specs.Counts.{times, times_push}
 use Rattle.monitor_places.specs.Entries.{found_put, found_without}
 use Rattle.monitor_places.specs.Places.{still_signed, times_ready, times_held, is_signed_for, IsPlaced, placed_of, placed_running, placed_kept, placed_closed}

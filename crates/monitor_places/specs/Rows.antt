@@ -23,8 +23,8 @@ use Rattle.monitor_semantics.specs.Commands.{rolled_tables}
 use Rattle.monitor_semantics.specs.Endings.{is_durable, durable, row_after, synchronised, broken}
 use Rattle.monitor_semantics.specs.Picks.{earlier_of, is_earlier, least_job}
 use Rattle.monitor_semantics.specs.State.{Application, OpenTransaction}
-use Rattle.monitor_laws.proofs.Jobs.{points_number, ends_draw_none}
-use Rattle.monitor_laws.proofs.OwnRows.{points_set, ends_remove}
+use Rattle.monitor_laws.specs.JobLaws.{points_number, ends_draw_none}
+use Rattle.monitor_laws.specs.OwnRowLaws.{points_set, ends_remove}
 use Rattle.monitor_laws.specs.JobLaw.{jobs_left, new_jobs}
 use Rattle.monitor_laws.specs.Transactions.{HasOwnJob}
 use Rattle.monitor_places.specs.Entries.{holds, is_true}

@@ -110,7 +110,7 @@ made_is_application =
 -- ---- its start from empty tables
 
 empty-order : IsSortedTables empty_tables
-empty-order = record { gssbs = refl; tlss = refl; ulss = refl; services = refl; jobs = refl; shown = refl; tlss_filled = refl; ulss_filled = refl; lterms = refl }
+empty-order = record { gssbs = refl; tlss = refl; ulss = refl; services = refl; jobs = refl; shown = refl; tlss_filled = refl; ulss_filled = refl; services_fit = refl }
 
 empty-suit : Suits made_generation empty_tables
 unfolding total_charge

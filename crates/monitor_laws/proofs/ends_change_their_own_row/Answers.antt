@@ -1,4 +1,4 @@
-use Rattle.monitor_laws.proofs.OwnRows.{points_set, ends_remove}
+use Rattle.monitor_laws.specs.OwnRowLaws.{points_set, ends_remove}
 use Rattle.monitor_laws.proofs.ends_change_their_own_row.Goals as goal
 
 pub returns-clause-points : goal.returns-clause-points

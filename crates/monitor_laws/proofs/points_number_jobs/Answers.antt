@@ -1,4 +1,4 @@
-use Rattle.monitor_laws.proofs.Jobs.{points_number, ends_draw_none}
+use Rattle.monitor_laws.specs.JobLaws.{points_number, ends_draw_none}
 use Rattle.monitor_laws.proofs.points_number_jobs.Goals as goal
 
 pub returns-clause-points : goal.returns-clause-points
