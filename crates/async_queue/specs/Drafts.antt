@@ -2,17 +2,9 @@
 use Rattle.std.specs.Prelude.{◌≤◌, ℕ, List, [], ◌∷◌}
 use Rattle.kdcs_types.specs.declared.service.Job.{Job}
 use Rattle.monitor_semantics.specs.declared.draft.Due.{Due}
-use Rattle.monitor_semantics.specs.declared.draft.Due.TheVariants.{After, At}
 use Rattle.monitor_semantics.specs.declared.draft.Draft.{Draft}
 use Rattle.monitor_semantics.specs.Endings.{due_at}
-
--- 9,999 days, 23 hours, 59 minutes and 59 seconds
-abbrev pub last_ticks : ℕ
-last_ticks = 863999999
-
-abbrev pub ticks_of : Due → ℕ
-ticks_of (After ticks) = ticks
-ticks_of (At ticks) = ticks
+use Rattle.timer_queue.specs.Ticks.{ticks_of, last_ticks}
 
 -- the ticks are those that days, hours, minutes and seconds give
 abbrev pub IsInTicks : Due → Type 0

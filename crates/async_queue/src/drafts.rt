@@ -1,7 +1,7 @@
 //! The jobs of a transaction before its synchronisation point.
 ghost use Rattle.std.specs.Prelude.{◌≡◌, ◌+◌, ◌≤◌, [], ◌∷◌, ◌++◌, length, IfOk, OnOk, OnErr};
 ghost use Rattle.kdcs_types.specs.Limits.{last_clock, last_next_job};
-ghost use Rattle.monitor_semantics.specs.Endings.{due_at, numbered};
+ghost use Rattle.monitor_semantics.specs.Endings.{numbered};
 ghost use Rattle.async_queue.specs.Drafts.{IsInTicks, job_of};
 
 use kd_base::{Bytes, Name, OutOfMemory};
@@ -9,6 +9,7 @@ use kdcs_types::{Job, JobValue, Target};
 use monitor_semantics::{Draft, Due};
 use std::alloc::Global;
 use std::marker::Model;
+use timer_queue::due_at;
 
 /// The jobs that FPUT and DPUT made since the last synchronisation point, in order. They have no numbers yet. Contracts
 /// see the list.
@@ -28,17 +29,6 @@ impl Model for DraftJobs {
     ghost view = { λ d. d.items.items };
 
     ghost invariant = { λ d. AreInTicks d.items.items };
-}
-
-fn due_at(due: Due, clock: u64) -> u64
-    requires due { IsInTicks due }
-    requires clock { clock ≤ last_clock }
-    ensures { result ≡ due_at due clock }
-{
-    match due {
-        Due::After(ticks) => clock + ticks,
-        Due::At(ticks) => ticks.max(clock),
-    }
 }
 
 fn numbered_job(

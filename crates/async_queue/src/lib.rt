@@ -1,10 +1,10 @@
 //! Asynchronous messages: the jobs of the tables with a mark on those that an open service has taken, and the jobs of a
 //! transaction that has no synchronisation point yet.
 //!
-//! It stands on the data types, and on the definitions of the monitor, which say which job is due first and which numbers
-//! jobs get. To the layers above, its contract says that the first due job is exactly the one of the definitions, that
-//! a job that is taken stays where it is until it is removed, and that drafts become jobs in order, numbered from the
-//! number that the caller names.
+//! It stands on the data types, on the clock at which a job is due, and on the definitions of the monitor, which say which
+//! job is due first and which numbers jobs get. To the layers above, its contract says that the first due job is exactly
+//! the one of the definitions, that a job that is taken stays where it is until it is removed, and that drafts become
+//! jobs in order, numbered from the number that the caller names.
 #![tactic(auto)]
 
 mod allows;

@@ -1,5 +1,5 @@
 -- The ready list and the tasks, and what becomes of them.
-use Rattle.std.specs.Prelude.{ℕ, ◌-◌, ◌≤◌, Bool, not, List, [], ◌∷◌, ◌++◌, length, find, filter, replicate, Option, Some, None, slice_get, slice_set, option_map}
+use Rattle.std.specs.Prelude.{ℕ, ◌-◌, ◌≤◌, Bool, ◌||◌, not, List, [], ◌∷◌, ◌++◌, length, find, filter, replicate, Option, Some, None, slice_get, slice_set, map, option_map, if◌then◌else◌}
 use Rattle.std.specs.List.{list_any}
 use Rattle.kdcs_types.specs.declared.key.ServiceId.{ServiceId}
 use Rattle.kdcs_types.specs.declared.key.ServiceId.TheVariants.{Asynchronous}
@@ -8,7 +8,7 @@ use Rattle.kdcs_types.specs.declared.key.Target.TheVariants.{Tac, Lterm}
 use Rattle.kdcs_types.specs.declared.service.Job.{Job}
 use Rattle.kdcs_types.specs.Keys.{id_eq}
 use Rattle.kdcdef_types.specs.Generation.{Generated}
-use Rattle.monitor_semantics.specs.Picks.{Classed, class_of, due_job, service_is_allowed, target_is_allowed}
+use Rattle.monitor_semantics.specs.Picks.{Classed, class_of, due_job, place_passes, service_is_allowed, target_is_allowed}
 
 -- services with the classes of their current TACs
 pub record Schedule : Type 0 where
@@ -59,6 +59,22 @@ with_class class place = option_map (λ (e : Classed). (e.0, class)) place
 -- the task holds this, or nothing
 abbrev pub with_place : (task : ℕ) → Option Classed → Schedule → Schedule
 with_place task place s = record s { places = slice_set s.places (task - 1) place }
+
+-- the place holds the service
+abbrev pub holds : ServiceId → Option Classed → Bool
+holds id place = place_passes (λ (e : Classed). id_eq id e.0) place
+
+-- the service is ready or in a task
+abbrev pub is_running : ServiceId → Schedule → Bool
+is_running id s = is_ready id s || list_any (holds id) s.places
+
+-- a place that held the service is free
+abbrev pub left_by : ServiceId → Option Classed → Option Classed
+left_by id place = if holds id place then None else place
+
+-- no task holds the service
+abbrev pub released : ServiceId → Schedule → Schedule
+released id s = record s { places = map (left_by id) s.places }
 
 -- ---- what a free task takes
 

@@ -1,9 +1,10 @@
 //! The ready list and the tasks.
 ghost use Rattle.std.specs.Prelude.{◌≡◌, ◌-◌, IsTrue, is_some, IfOk, OnOk, OnErr, None};
 ghost use Rattle.std.specs.List.{list_any};
+ghost use Rattle.kdcs_types.specs.Keys.{id_eq};
 ghost use Rattle.monitor_semantics.specs.Picks.{pick_work};
 ghost use Rattle.async_queue.specs.Queue.{free};
-ghost use Rattle.step_scheduler.specs.Schedule.{all_free, is_ready, with_ready, without_ready, IsTask, place_of, service_in, with_class, with_place, took_service, took_job, picked};
+ghost use Rattle.step_scheduler.specs.Schedule.{all_free, is_ready, is_running, holds, left_by, released, with_ready, without_ready, IsTask, place_of, service_in, with_class, with_place, took_service, took_job, picked};
 
 use crate::room::{Classed, Room, class_of_target, first_allowed};
 use async_queue::Jobs;
@@ -39,6 +40,33 @@ fn service_in(place: &Option<Classed>) -> Option<ServiceId>
     }
 }
 
+fn stands_in(ready: &[Classed], id: &ServiceId) -> bool
+    ensures { result ≡ list_any (λ e. id_eq id.now e.0) ready.now }
+{
+    ready.iter().any(|entry| *id == entry.0)
+}
+
+fn holds(place: &Option<Classed>, id: &ServiceId) -> bool
+    ensures { result ≡ holds id.now place.now }
+{
+    match place {
+        Some(entry) => *id == entry.0,
+        None => false,
+    }
+}
+
+fn is_held(places: &[Option<Classed>], id: &ServiceId) -> bool
+    ensures { result ≡ list_any (holds id.now) places.now }
+{
+    places.iter().any(|place| holds(place, id))
+}
+
+fn left_by(place: &Option<Classed>, id: &ServiceId) -> Option<Classed>
+    ensures { result ≡ left_by id.now place.now }
+{
+    if holds(place, id) { None } else { *place }
+}
+
 fn with_class(place: &Option<Classed>, class: u8) -> Option<Classed>
     ensures { result ≡ with_class class place.now }
 {
@@ -67,13 +95,20 @@ impl Scheduler {
         Ok(self.ready.push((id, class))?)
     }
 
+    /// Whether the service is ready or in a task. It takes no memory.
+    pub fn is_running(&self, id: ServiceId) -> bool
+        ensures { result ≡ is_running id self.now }
+    {
+        stands_in(&self.ready, &id) || is_held(&self.places, &id)
+    }
+
     /// Takes a service out of the ready list. It answers false exactly where the service is not in the list. A task that
-    /// holds the service keeps it. It takes no memory.
+    /// holds the service keeps it until `release`. It takes no memory.
     pub fn withdraw(&mut self, id: ServiceId) -> bool
         ensures result { result ≡ is_ready id self.old }
         ensures left { self.new ≡ without_ready id self.old }
     {
-        let is_ready = self.ready.iter().any(|entry| id == entry.0);
+        let is_ready = stands_in(&self.ready, &id);
         self.ready.retain(|entry| id != entry.0);
         is_ready
     }
@@ -128,7 +163,7 @@ impl Scheduler {
         Work::Job(job.number)
     }
 
-    /// The task holds no service from now on.
+    /// The task holds no service from now on. It takes no memory.
     pub fn free(&mut self, task: u16)
         requires { IsTask task self.old }
         ensures { self.new ≡ with_place task None self.old }
@@ -136,7 +171,17 @@ impl Scheduler {
         self.places[task as usize - 1] = None;
     }
 
-    /// The service that the task holds has this class from now on, as PEND PR asks, which looks at no limit.
+    /// Frees the task that holds this service, if one does, as where its user signs off. It takes no memory.
+    pub fn release(&mut self, id: ServiceId)
+        ensures { self.new ≡ released id self.old }
+    {
+        for place in self.places.iter_mut() {
+            *place = left_by(place, &id);
+        }
+    }
+
+    /// The service that the task holds has this class from now on, as PEND PR asks, which looks at no limit. It takes no
+    /// memory.
     pub fn stay(&mut self, task: u16, class: u8)
         requires task { IsTask task self.old }
         requires held { IsTrue (is_some (place_of task self.old)) }
@@ -146,7 +191,7 @@ impl Scheduler {
         self.places[at] = with_class(&self.places[at], class);
     }
 
-    /// The service that the task holds, if it holds one.
+    /// The service that the task holds, if it holds one. It takes no memory.
     pub fn held_by(&self, task: u16) -> Option<ServiceId>
         requires { IsTask task self.now }
         ensures { result ≡ service_in (place_of task self.now) }
