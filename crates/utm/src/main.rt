@@ -29,6 +29,3 @@ fn main(rt: HostRuntime) -> ExitCode {
     let status = utm(rt.alloc(), &words, &mut room, &mut device);
     ExitCode::from(status.code)
 }
-
-#[cfg(test)]
-mod tests;
