@@ -10,6 +10,3 @@ mod text;
 
 pub use fault::DefinitionFault;
 pub use text::generate;
-
-#[cfg(test)]
-mod tests;

@@ -18,6 +18,3 @@ pub use fault::LexFault;
 pub use laws::plain_text_spells;
 pub use read::lines;
 pub use statement::{Items, Operands, RawItem, RawOperand, RawStatement, RawValue};
-
-#[cfg(test)]
-mod tests;

@@ -17,6 +17,3 @@ mod words;
 
 pub use fault::ReadFault;
 pub use reading::read;
-
-#[cfg(test)]
-mod tests;

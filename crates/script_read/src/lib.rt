@@ -13,6 +13,3 @@ mod word;
 pub use fault::ScriptFault;
 pub use laws::{faults_are_first, says_what_its_lines_say, ticks_are_said};
 pub use read::read_script;
-
-#[cfg(test)]
-mod tests;

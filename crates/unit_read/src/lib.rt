@@ -22,6 +22,3 @@ mod word;
 
 pub use fault::UnitFault;
 pub use read::read_units;
-
-#[cfg(test)]
-mod tests;

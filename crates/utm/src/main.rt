@@ -33,6 +33,3 @@ fn main(rt: HostRuntime) -> ExitCode {
     drop(standard);
     ExitCode::from(status.code)
 }
-
-#[cfg(test)]
-mod tests;

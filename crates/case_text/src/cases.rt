@@ -1,0 +1,86 @@
+//! The lines of texts of cases, one after another.
+
+use crate::line::Line;
+use crate::program::Program;
+use crate::stage::Stage;
+use kd_base::OutOfMemory;
+use std::alloc::Global;
+
+/// The reading of texts of cases: what their lines have said so far, and how many of them were wrong.
+#[derive(Drop)]
+pub struct Cases {
+    stage: Stage,
+    /// The title of the case.
+    title: String,
+    /// The number of the last line in its text.
+    number: u64,
+    /// How many lines of the text were wrong.
+    wrong: u64,
+}
+
+impl Cases {
+    pub fn new(alloc: Global) -> Cases {
+        Cases {
+            stage: Stage::new(alloc),
+            title: String::new(alloc),
+            number: 0,
+            wrong: 0,
+        }
+    }
+
+    /// How many cases there were in all texts.
+    pub fn cases(&self) -> u64 {
+        self.stage.cases()
+    }
+
+    /// How many calls there were in all texts, each try of a call counted.
+    pub fn calls(&self) -> u64 {
+        self.stage.calls()
+    }
+
+    /// Does what the next line says. Where it is wrong, what is to be printed: its number in the text, the title of the
+    /// case, the line, and what is there in its place.
+    pub fn line<P: Program>(
+        &mut self,
+        alloc: Global,
+        program: &P,
+        text: &str,
+    ) -> Result<Option<String>, OutOfMemory> {
+        self.number = self.number.saturating_add(1);
+        let line = Line::of(text);
+        let found = match line {
+            Some(line) => self.stage.obey(alloc, program, line)?,
+            None => Some(String::from_str(alloc, "no such line")?),
+        };
+        let said = match found {
+            Some(found) => Some(self.said(alloc, text, found.as_str())?),
+            None => None,
+        };
+        if let Some(Line::Case(title)) = line {
+            self.title = String::from_str(alloc, title)?;
+        }
+        Ok(said)
+    }
+
+    /// Ends a text. Where its last call did more than was said, what is to be printed.
+    pub fn end(&mut self, alloc: Global) -> Result<Option<String>, OutOfMemory> {
+        let found = self.stage.settle(alloc)?;
+        match found {
+            Some(found) => Ok(Some(self.said(alloc, "the end", found.as_str())?)),
+            None => Ok(None),
+        }
+    }
+
+    /// How many lines of the text that has ended were wrong. The next text begins with line 1.
+    pub fn take_wrong(&mut self) -> u64 {
+        let wrong = self.wrong;
+        self.wrong = 0;
+        self.number = 0;
+        wrong
+    }
+
+    fn said(&mut self, alloc: Global, text: &str, found: &str) -> Result<String, OutOfMemory> {
+        self.wrong = self.wrong.saturating_add(1);
+        Ok(format!(in alloc; "{}, {}: {text}: {found}", self.number, self.title)?)
+    }
+}

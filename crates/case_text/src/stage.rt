@@ -1,0 +1,361 @@
+//! What the lines of a text of cases have said so far.
+
+use crate::call::{Call, Tries, failing_name};
+use crate::escapes::unescaped;
+use crate::line::{Failing, Line};
+use crate::outcome::Outcome;
+use crate::program::Program;
+use crate::texts::{Texts, words_of};
+use kd_base::OutOfMemory;
+use kd_device::{CallKind, MemDevice};
+use std::alloc::Global;
+
+/// The choices that each stop is tried with: the old bytes of each write that is not synced, the new ones, and two
+/// mixtures.
+const CHOICES: [u64; 4] = [0, 1, 2, 6];
+
+/// The texts, the KDCFILE and the failing calls of a case, and what its last call did.
+#[derive(Drop)]
+pub struct Stage {
+    texts: Texts,
+    failing: Vec<(CallKind, u64)>,
+    failing_texts: Vec<u64>,
+    tries: Tries,
+    /// The KDCFILE of the case.
+    file: Vec<u8>,
+    /// What the last call did, at each of its tries.
+    outcomes: Vec<Outcome>,
+    /// Whether the status of the last call is still to be said.
+    unsaid: bool,
+    /// The device of the last plain call.
+    device: Option<MemDevice>,
+    cases: u64,
+    calls: u64,
+}
+
+fn complaint(alloc: Global, text: &str) -> Result<Option<String>, OutOfMemory> {
+    Ok(Some(String::from_str(alloc, text)?))
+}
+
+/// A complaint, or nothing where it holds.
+fn unless(alloc: Global, holds: bool, text: &str) -> Result<Option<String>, OutOfMemory> {
+    if holds {
+        return Ok(None);
+    }
+    complaint(alloc, text)
+}
+
+impl Stage {
+    pub fn new(alloc: Global) -> Stage {
+        Stage {
+            texts: Texts::new(alloc),
+            failing: Vec::new(alloc),
+            failing_texts: Vec::new(alloc),
+            tries: Tries::Plain,
+            file: Vec::new(alloc),
+            outcomes: Vec::new(alloc),
+            unsaid: false,
+            device: None,
+            cases: 0,
+            calls: 0,
+        }
+    }
+
+    /// How many cases there were.
+    pub fn cases(&self) -> u64 {
+        self.cases
+    }
+
+    /// How many calls there were, each try counted.
+    pub fn calls(&self) -> u64 {
+        self.calls
+    }
+
+    /// Does what the line says, and answers what is wrong.
+    pub fn obey<P: Program>(
+        &mut self,
+        alloc: Global,
+        program: &P,
+        line: Line<'_>,
+    ) -> Result<Option<String>, OutOfMemory> {
+        match line {
+            Line::Empty => Ok(None),
+            Line::Case(_) => self.begin_case(alloc),
+            Line::Call(words) => self.call(alloc, program, words),
+            Line::Fail(kind, number) => self.fail(kind, number),
+            Line::Fails(kind, from, to) => self.try_with(alloc, Tries::Fails(kind, from, to)),
+            Line::Stop(call, choice) => self.try_with(alloc, Tries::Stop(call, choice)),
+            Line::Stops(from, to) => self.try_with(alloc, Tries::Stops(from, to)),
+            Line::Sure => self.try_with(alloc, Tries::Sure),
+            Line::NoFile => {
+                self.file.clear();
+                Ok(None)
+            }
+            Line::Put(at, bytes) => self.put(alloc, at, bytes),
+            Line::Cut(length) => self.cut(alloc, length),
+            Line::Shared(_)
+            | Line::File(_)
+            | Line::Uses(_, _)
+            | Line::Whole(_)
+            | Line::Piece(_)
+            | Line::Fill(_, _) => self.write(alloc, line),
+            _ => self.judge(alloc, line),
+        }
+    }
+
+    /// Does what a line about texts says.
+    fn write(&mut self, alloc: Global, line: Line<'_>) -> Result<Option<String>, OutOfMemory> {
+        let done = match line {
+            Line::Shared(name) => {
+                self.texts.begin(alloc, name, true)?;
+                true
+            }
+            Line::File(name) => {
+                self.texts.begin(alloc, name, false)?;
+                true
+            }
+            Line::Uses(name, shared) => self.texts.take_shared(alloc, name, shared)?,
+            Line::Whole(text) => self.texts.append(alloc, text, 1, "\n")?,
+            Line::Piece(text) => self.texts.append(alloc, text, 1, "")?,
+            Line::Fill(times, text) => self.texts.append(alloc, text, times, "")?,
+            _ => false,
+        };
+        unless(alloc, done, "no such text")
+    }
+
+    fn begin_case(&mut self, alloc: Global) -> Result<Option<String>, OutOfMemory> {
+        let found = self.settle(alloc)?;
+        self.cases = self.cases.saturating_add(1);
+        self.texts.begin_case();
+        self.failing.clear();
+        self.failing_texts.clear();
+        self.tries = Tries::Plain;
+        self.file.clear();
+        self.device = None;
+        Ok(found)
+    }
+
+    /// What no line has said of the last call, which is then done with.
+    pub fn settle(&mut self, alloc: Global) -> Result<Option<String>, OutOfMemory> {
+        let unsaid = self.unsaid;
+        self.unsaid = false;
+        let mut found = None;
+        for outcome in &self.outcomes {
+            if let Some(line) = outcome.next_line() {
+                found = Some(format!(in alloc; "the call before sent too: {line}")?);
+            }
+        }
+        self.outcomes.clear();
+        if unsaid {
+            return complaint(alloc, "the call before has no status line");
+        }
+        Ok(found)
+    }
+
+    fn fail(&mut self, kind: Failing, number: u64) -> Result<Option<String>, OutOfMemory> {
+        match kind {
+            Failing::Text => self.failing_texts.push(number)?,
+            Failing::Device(kind) => self.failing.push((kind, number))?,
+        }
+        Ok(None)
+    }
+
+    fn try_with(&mut self, alloc: Global, tries: Tries) -> Result<Option<String>, OutOfMemory> {
+        let first = matches!(self.tries, Tries::Plain);
+        self.tries = tries;
+        unless(alloc, first, "the next call is tried otherwise already")
+    }
+
+    fn put(&mut self, alloc: Global, at: u64, text: &str) -> Result<Option<String>, OutOfMemory> {
+        let Some(bytes) = unescaped(alloc, text, 0)? else {
+            return complaint(alloc, "no such bytes");
+        };
+        let mut place = at as usize;
+        for byte in bytes.as_slice() {
+            let Some(there) = self.file.get_mut(place) else {
+                return complaint(alloc, "past the end of the KDCFILE");
+            };
+            *there = *byte;
+            place = place.saturating_add(1);
+        }
+        Ok(None)
+    }
+
+    fn cut(&mut self, alloc: Global, length: u64) -> Result<Option<String>, OutOfMemory> {
+        let fits = length <= self.file.len() as u64;
+        self.file.truncate(length as usize);
+        unless(alloc, fits, "past the end of the KDCFILE")
+    }
+
+    /// Makes the call that the line asks for, at each of its tries.
+    fn call<P: Program>(
+        &mut self,
+        alloc: Global,
+        program: &P,
+        words: &str,
+    ) -> Result<Option<String>, OutOfMemory> {
+        let left = self.settle(alloc)?;
+        let call = Call {
+            words: words_of(alloc, words)?,
+            texts: self.texts.copied(alloc)?,
+            failing: self.failing.clone()?,
+            failing_texts: self.failing_texts.clone()?,
+        };
+        let tries = self.tries;
+        self.tries = Tries::Plain;
+        self.failing.clear();
+        self.failing_texts.clear();
+        self.unsaid = true;
+        let found = match tries {
+            Tries::Plain => self.call_once(alloc, program, &call)?,
+            Tries::Sure => self.call_surely(alloc, program, &call)?,
+            Tries::Fails(kind, from, to) => {
+                self.call_failing(alloc, program, &call, kind, from, to)?
+            }
+            Tries::Stop(stop, choice) => {
+                self.call_after_one(alloc, program, &call, stop, choice)?
+            }
+            Tries::Stops(from, to) => self.call_after_each(alloc, program, &call, from, to)?,
+        };
+        Ok(left.or(found))
+    }
+
+    /// Counts a try of the last call, and keeps what it did.
+    fn keep(&mut self, outcome: Outcome) -> Result<(), OutOfMemory> {
+        self.calls = self.calls.saturating_add(1);
+        self.outcomes.push(outcome)?;
+        Ok(())
+    }
+
+    fn call_once<P: Program>(
+        &mut self,
+        alloc: Global,
+        program: &P,
+        call: &Call,
+    ) -> Result<Option<String>, OutOfMemory> {
+        let at = String::new(alloc);
+        let (outcome, device) = call.over(alloc, program, &self.file, None, at)?;
+        self.file = outcome.file().clone()?;
+        self.device = Some(device);
+        self.keep(outcome)?;
+        Ok(None)
+    }
+
+    fn call_surely<P: Program>(
+        &mut self,
+        alloc: Global,
+        program: &P,
+        call: &Call,
+    ) -> Result<Option<String>, OutOfMemory> {
+        let outcome = call.over_sure(alloc, program, &self.file)?;
+        self.file = outcome.file().clone()?;
+        self.device = None;
+        self.keep(outcome)?;
+        Ok(None)
+    }
+
+    /// The call with each of these numbers failing. The KDCFILE stays.
+    fn call_failing<P: Program>(
+        &mut self,
+        alloc: Global,
+        program: &P,
+        call: &Call,
+        kind: Failing,
+        from: u64,
+        to: u64,
+    ) -> Result<Option<String>, OutOfMemory> {
+        for number in from..=to {
+            let at = format!(in alloc; "{} {number}", failing_name(kind))?;
+            let also = Some((kind, number));
+            let (outcome, _) = call.over(alloc, program, &self.file, also, at)?;
+            self.keep(outcome)?;
+        }
+        unless(alloc, from <= to, "no number")
+    }
+
+    /// The call over what a stop of the last plain call leaves; what this leaves, or nothing where there is no such stop.
+    fn call_after_stop<P: Program>(
+        &mut self,
+        alloc: Global,
+        program: &P,
+        call: &Call,
+        stop: u64,
+        choice: u64,
+    ) -> Result<Option<Vec<u8>>, OutOfMemory> {
+        let Some(device) = &self.device else {
+            return Ok(None);
+        };
+        if stop > device.calls() {
+            return Ok(None);
+        }
+        let stopped = device.after_stop(alloc, stop, choice)?;
+        let at = format!(in alloc; "stop {stop} {choice}")?;
+        let (outcome, _) = call.over(alloc, program, stopped.holds(), None, at)?;
+        let left = outcome.file().clone()?;
+        self.keep(outcome)?;
+        Ok(Some(left))
+    }
+
+    fn call_after_one<P: Program>(
+        &mut self,
+        alloc: Global,
+        program: &P,
+        call: &Call,
+        stop: u64,
+        choice: u64,
+    ) -> Result<Option<String>, OutOfMemory> {
+        match self.call_after_stop(alloc, program, call, stop, choice)? {
+            Some(left) => {
+                self.file = left;
+                Ok(None)
+            }
+            None => complaint(alloc, "there is no such stop"),
+        }
+    }
+
+    /// The call over what each of these stops leaves. The KDCFILE stays.
+    fn call_after_each<P: Program>(
+        &mut self,
+        alloc: Global,
+        program: &P,
+        call: &Call,
+        from: u64,
+        to: u64,
+    ) -> Result<Option<String>, OutOfMemory> {
+        for stop in from..=to {
+            for choice in CHOICES {
+                let left = self.call_after_stop(alloc, program, call, stop, choice)?;
+                if left.is_none() {
+                    return complaint(alloc, "there is no such stop");
+                }
+            }
+        }
+        unless(alloc, from <= to, "no number")
+    }
+
+    /// What the last call did otherwise than this line says, at the first try that did so.
+    fn judge(&mut self, alloc: Global, line: Line<'_>) -> Result<Option<String>, OutOfMemory> {
+        if self.outcomes.is_empty() {
+            return complaint(alloc, "no call before");
+        }
+        if matches!(line, Line::Status(_)) {
+            self.unsaid = false;
+        }
+        let mut first = None;
+        for outcome in &mut self.outcomes {
+            let found = outcome.judge(alloc, line)?;
+            if first.is_none() {
+                first = located(alloc, found, outcome.at())?;
+            }
+        }
+        Ok(first)
+    }
+}
+
+/// The complaint with the try that it is about.
+fn located(alloc: Global, found: Option<String>, at: &str) -> Result<Option<String>, OutOfMemory> {
+    match found {
+        Some(found) if !at.is_empty() => Ok(Some(format!(in alloc; "{found}, at {at}")?)),
+        found => Ok(found),
+    }
+}

@@ -1,0 +1,154 @@
+//! The texts of a case, and the words of a call.
+
+use crate::escapes::{has_number, unescaped};
+use kd_base::{Bytes, OutOfMemory};
+use std::alloc::{AllocError, Global};
+
+/// The words of a call, of which `''` is the empty one.
+pub fn words_of(alloc: Global, text: &str) -> Result<Vec<String>, AllocError> {
+    let mut words = Vec::new(alloc);
+    for word in text.split_ascii_whitespace() {
+        let word = if word == "''" { "" } else { word };
+        words.push(String::from_str(alloc, word)?)?;
+    }
+    Ok(words)
+}
+
+/// Texts by name, as a room has them.
+pub type NamedTexts = Vec<(Bytes, Bytes)>;
+
+/// The text of this name, if it is there.
+fn text_named<'a>(texts: &'a [(Bytes, Bytes)], name: &str) -> Option<&'a Bytes> {
+    for (key, text) in texts {
+        if key.as_slice() == name.as_bytes() {
+            return Some(text);
+        }
+    }
+    None
+}
+
+fn forget(texts: &mut NamedTexts, name: &str) {
+    texts.retain(|(key, _)| key.as_slice() != name.as_bytes());
+}
+
+/// The texts of the case, and those that all later cases may use.
+#[derive(Drop)]
+pub struct Texts {
+    shared: NamedTexts,
+    own: NamedTexts,
+    /// Whether the last text that was begun is a shared one.
+    sharing: bool,
+}
+
+impl Texts {
+    pub fn new(alloc: Global) -> Texts {
+        Texts {
+            shared: Vec::new(alloc),
+            own: Vec::new(alloc),
+            sharing: false,
+        }
+    }
+
+    /// A new case has no texts of its own.
+    pub fn begin_case(&mut self) {
+        self.own.clear();
+        self.sharing = false;
+    }
+
+    /// Begins the text of this name, in place of an earlier one of the case or of the shared ones.
+    pub fn begin(&mut self, alloc: Global, name: &str, sharing: bool) -> Result<(), OutOfMemory> {
+        self.sharing = sharing;
+        let texts = if sharing {
+            &mut self.shared
+        } else {
+            &mut self.own
+        };
+        forget(texts, name);
+        let name = Bytes::from_slice(alloc, name.as_bytes())?;
+        texts.push((name, Bytes::new(alloc)))?;
+        Ok(())
+    }
+
+    /// Takes the shared text for the one of this name; whether there is a shared one.
+    pub fn take_shared(
+        &mut self,
+        alloc: Global,
+        name: &str,
+        shared: &str,
+    ) -> Result<bool, OutOfMemory> {
+        let Some(text) = text_named(&self.shared, shared) else {
+            return Ok(false);
+        };
+        let text = text.clone()?;
+        self.sharing = false;
+        forget(&mut self.own, name);
+        let name = Bytes::from_slice(alloc, name.as_bytes())?;
+        self.own.push((name, text))?;
+        Ok(true)
+    }
+
+    /// Adds a piece to the text that was begun last, so many times, and an end behind it; whether there is such a text
+    /// and such a piece.
+    pub fn append(
+        &mut self,
+        alloc: Global,
+        piece: &str,
+        times: u64,
+        end: &str,
+    ) -> Result<bool, OutOfMemory> {
+        let texts = if self.sharing {
+            &mut self.shared
+        } else {
+            &mut self.own
+        };
+        append_to_last(alloc, texts, piece, times, end)
+    }
+
+    /// The texts of the case again.
+    pub fn copied(&self, alloc: Global) -> Result<NamedTexts, OutOfMemory> {
+        let mut all = Vec::new(alloc);
+        for (name, text) in &self.own {
+            all.push((name.clone()?, text.clone()?))?;
+        }
+        Ok(all)
+    }
+}
+
+fn append_to_last(
+    alloc: Global,
+    texts: &mut NamedTexts,
+    piece: &str,
+    times: u64,
+    end: &str,
+) -> Result<bool, OutOfMemory> {
+    let Some(bytes) = unescaped(alloc, piece, 1)? else {
+        return Ok(false);
+    };
+    let Some((_, whole)) = texts.last_mut() else {
+        return Ok(false);
+    };
+    if has_number(piece) {
+        append_numbered(alloc, whole, piece, times)?;
+    } else {
+        for _ in 0..times {
+            whole.append(bytes.as_slice())?;
+        }
+    }
+    whole.append(end.as_bytes())?;
+    Ok(true)
+}
+
+/// Adds the piece with the number 1 in it, then 2, up to the last one.
+fn append_numbered(
+    alloc: Global,
+    whole: &mut Bytes,
+    piece: &str,
+    last: u64,
+) -> Result<(), OutOfMemory> {
+    for number in 1..=last {
+        if let Some(bytes) = unescaped(alloc, piece, number)? {
+            whole.append(bytes.as_slice())?;
+        }
+    }
+    Ok(())
+}

@@ -1,0 +1,46 @@
+//! Tries `utm` on cases: the words are the names of texts of cases, of which `docs/cases.md` says the form.
+//!
+//! It stands on case_text, which reads the texts, and on utm_cli, whose call `utm` it makes. Each line that is not met
+//! is printed, and at the end of each text how many lines of it were wrong. What must be printed stands in `stdout`, so
+//! that the gate fails where a line is not met. The last text is wrong on purpose: a wrong line is seen.
+#![tactic(auto)]
+
+use case_text::{Cases, Program};
+use kd_device::{Device, MemRoom};
+use std::alloc::Global;
+use std::{env, fs};
+use utm_cli::utm;
+
+/// The program `utm`.
+struct Utm;
+
+impl Program for Utm {
+    fn call<D: Device>(
+        &self,
+        alloc: Global,
+        words: &Vec<String>,
+        room: &mut MemRoom,
+        device: &mut D,
+    ) -> u8 {
+        utm(alloc, words, room, device).code
+    }
+}
+
+fn main(rt: HostRuntime) -> anyhow::Result<()> {
+    let alloc = rt.alloc();
+    let mut cases = Cases::new(alloc);
+    for name in env::args(&rt)?.skip(1) {
+        let text = fs::read_to_string(&rt, name.as_str())?;
+        for line in text.as_str().lines() {
+            if let Some(said) = cases.line(alloc, &Utm, line)? {
+                println!(rt; "{name}, {said}")?;
+            }
+        }
+        if let Some(said) = cases.end(alloc)? {
+            println!(rt; "{name}, {said}")?;
+        }
+        println!(rt; "{name}: {} wrong", cases.take_wrong())?;
+    }
+    eprintln!(rt; "{} cases, {} calls", cases.cases(), cases.calls())?;
+    Ok(())
+}
