@@ -1,10 +1,9 @@
 -- The lines of a cut are a front of all lines.
-use Rattle.std.proofs.Common.{◌≡◌, inl, inr, ℕ, List, ◌∷◌, ◌++◌, length, take, drop, refl, sym, ap, ◌∙◌, append_assoc}
+use Rattle.std.proofs.Common.{◌≡◌, inl, inr, ℕ, List, ◌++◌, length, take, drop, refl, sym, ap, ◌∙◌, append_assoc}
 use Rattle.std.proofs.lemmas.List.{append-nil, take_at, take-append-drop}
 use Rattle.kd_device.specs.Device.{State}
 use Rattle.kd_records.specs.Identity.{Identity}
 use Rattle.kdcs_types.specs.declared.act.Act.{Act}
-use Rattle.kdcs_types.specs.declared.act.Act.TheVariants.{Emit}
 use Rattle.kdcs_types.specs.declared.tables.Tables.{Tables}
 use Rattle.monitor_core.specs.Trace.{bytes_of}
 use Rattle.monitor_core.specs.Cut.{SentBy, IsCutSince}
