@@ -1,10 +1,9 @@
 -- The lines of a cut are a front of all lines.
-use Rattle.std.proofs.Common.{◌≡◌, inl, inr, ℕ, List, ◌∷◌, ◌++◌, length, take, drop, refl, sym, ap, ◌∙◌, append_assoc}
+use Rattle.std.proofs.Common.{◌≡◌, inl, inr, ℕ, List, ◌++◌, length, take, drop, refl, sym, ap, ◌∙◌, append_assoc}
 use Rattle.std.proofs.lemmas.List.{append-nil, take_at, take-append-drop}
 use Rattle.kd_device.specs.Device.{State}
 use Rattle.kd_records.specs.Identity.{Identity}
 use Rattle.kdcs_types.specs.declared.act.Act.{Act}
-use Rattle.kdcs_types.specs.declared.act.Act.TheVariants.{Emit}
 use Rattle.kdcs_types.specs.declared.tables.Tables.{Tables}
 use Rattle.monitor_core.specs.Trace.{bytes_of}
 use Rattle.monitor_core.specs.Cut.{SentBy, IsCutSince}
@@ -20,9 +19,9 @@ behind done left out (inl is) = (bytes_of left, bytes_joined done left ∙ ap (�
 behind done left out (inr (line, rest, next, n, is)) = (
   drop n line ++ bytes_of rest,
   bytes_joined done left
-  ∙ ap (λ (l : List ℕ). bytes_of done ++ l) (ap bytes_of next ∙ ap (λ (l : List ℕ). l ++ bytes_of rest) (sym (take-append-drop n line)) ∙ append_assoc (take n line) (drop n line) (bytes_of rest))
-  ∙ sym (append_assoc (bytes_of done) (take n line) (drop n line ++ bytes_of rest))
-  ∙ ap (λ (l : List ℕ). l ++ (drop n line ++ bytes_of rest)) (sym is),
+      ∙ ap (λ (l : List ℕ). bytes_of done ++ l) (ap bytes_of next ∙ ap (λ (l : List ℕ). l ++ bytes_of rest) (sym (take-append-drop n line)) ∙ append_assoc (take n line) (drop n line) (bytes_of rest))
+      ∙ sym (append_assoc (bytes_of done) (take n line) (drop n line ++ bytes_of rest))
+      ∙ ap (λ (l : List ℕ). l ++ (drop n line ++ bytes_of rest)) (sym is),
 )
 
 front_of_cut : (stands : Tables → List ℕ → Type 0) (t : Tables) (all : List Act) (sent image out : List ℕ) → IsCutSince stands t all sent image out → (n : ℕ) × (out ≡ sent ++ take n (bytes_of all))
