@@ -1,3 +1,5 @@
 mod Doings
 mod Queues
 mod Numbers
+mod Resuming
+mod Cuts
