@@ -5,7 +5,7 @@
 //! program above it cite.
 #![tactic(auto)]
 
-ghost use Rattle.monitor_queues.specs.QueueLaws.{TurnsDoSo, CommandsDoSo, TurnsKeepQueues, CommandsKeepQueues, HistoriesKeepQueues, NumbersAreDrawnOnce, JobsAreDoneOnce};
+ghost use Rattle.monitor_queues.specs.QueueLaws.{TurnsDoSo, CommandsDoSo, TurnsKeepQueues, CommandsKeepQueues, HistoriesKeepQueues, HistoriesSendAtPoints, NumbersAreDrawnOnce, JobsAreDoneOnce};
 ghost use Rattle.monitor_queues.specs.ResumeLaws.{StartsResume, SignOnsResume, CutsResume};
 
 use monitor_laws::steps_commit_once;
@@ -28,12 +28,15 @@ pub fn commits_keep_queues()
     makers_say_what_commits_do();
 }
 
-/// Along every script from a state with its facts, each step that commits meets both laws.
+/// Along every script from a state with its facts, each step that commits meets both laws; and a point that awaits an
+/// input of its user sends, behind its commit, the message that its row keeps.
 pub fn runs_keep_queues()
-    ensures { HistoriesKeepQueues }
+    ensures laws { HistoriesKeepQueues }
+    ensures messages { HistoriesSendAtPoints }
 {
     facts_hold_along();
     states_stay_sound();
+    makers_say_what_commits_do();
     commits_keep_queues();
 }
 
