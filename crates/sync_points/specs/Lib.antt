@@ -1,0 +1,5 @@
+pub mod PointChanges
+pub mod Laws
+pub mod RealChanges
+pub mod Ascending
+pub mod Made
