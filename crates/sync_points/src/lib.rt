@@ -5,7 +5,14 @@
 //! what the transaction wrote, and that a point is refused exactly where the definitions refuse it.
 #![tactic(auto)]
 
+mod ends;
+mod kept;
+mod real;
+mod writes;
+
 ghost use Rattle.sync_points.specs.Laws.{PointsChangeWhatWasWritten, EndsChangeTheirOwnRows};
+
+pub use ends::broken;
 
 /// What a synchronisation point or an abnormal end changes in the durable tables is what the transaction wrote, where
 /// that is another row than stood there.
