@@ -1,0 +1,3 @@
+mod Doings
+mod Queues
+mod Numbers
