@@ -1,0 +1,4 @@
+pub mod Shapes
+pub mod Steps
+pub mod Openings
+pub mod Frames
