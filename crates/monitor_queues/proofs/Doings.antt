@@ -1,5 +1,5 @@
 -- What each commit does.
-use Rattle.std.specs.Prelude.{◌≡◌, ◌⊎◌, refl, ℕ, ◌+◌, ◌-◌, Bool, true, false, Option, Some, None, slice_get, nat_le}
+use Rattle.std.specs.Prelude.{◌≡◌, ◌⊎◌, refl, ℕ, ◌+◌, ◌-◌, Bool, true, false, Option, Some, None, slice_get, nat_le, List, ◌∷◌}
 use Rattle.std.proofs.Common.{sym, ap, subst, ◌∙◌, inl, inr}
 use Rattle.std.specs.FinMap.{find}
 use Rattle.kdcs_types.specs.declared.act.Act.{Act}
@@ -27,14 +27,14 @@ use Rattle.monitor_semantics.specs.declared.work.Work.{Work}
 use Rattle.monitor_semantics.specs.declared.work.Work.TheVariants as work
 use Rattle.monitor_semantics.specs.Bytes.{Bytes, bytes_cmp}
 use Rattle.monitor_semantics.specs.State.{Application, OpenTransaction, Session, State}
-use Rattle.monitor_semantics.specs.Endings.{durable, synchronised, broken, refusal, row_after}
+use Rattle.monitor_semantics.specs.Endings.{joined, durable, synchronised, refusal, row_after}
 use Rattle.monitor_semantics.specs.Lines.{asy_line, prt_line, no_message_line}
 use Rattle.monitor_semantics.specs.Picks.{pick}
 use Rattle.monitor_semantics.specs.Statements.{kept_record}
-use Rattle.monitor_semantics.specs.Turns.{Turned, without_work, pterm_of_user, noted_last, last_told, message_sent, goes_on, after_point, settled_by, settled, abnormal, last_again, back_by, back, happens, statement_now, worked, took_job_for, took_job, took, turn_by, turn_of, commit_of}
+use Rattle.monitor_semantics.specs.Turns.{out_acts, message_acts, Turned, without_work, pterm_of_user, noted_last, last_told, message_sent, goes_on, after_point, settled_by, settled, abnormal, last_again, back_by, back, happens, statement_now, worked, took_job_for, took_job, took, turn_by, turn_of, commit_of}
 use Rattle.monitor_semantics.specs.Commands.{Input, Tick, Run, Turn, Drop, Print, PrintLast, Restart, signed_on_by, show_next, show_by, show_again_by, due_for, display, last_by, used, use_now, tick_by, drop_by, command_of, lterm_at, maker_of, turned_step}
 use Rattle.monitor_laws.specs.Commits.{EndsSo, ending_by}
-use Rattle.monitor_queues.specs.Doings.{tables_by, Settling, StepMakes}
+use Rattle.monitor_queues.specs.Doings.{tables_by, point_lines, lines_by, Settling, StepMakes}
 use Rattle.monitor_queues.specs.QueueLaws.{TurnsDoSo, CommandsDoSo}
 
 -- ---- states whose tables stay
@@ -58,37 +58,56 @@ goes-tables app s id x (Some row) = refl
 -- ---- a turn
 
 -- a turn makes a commit as its record says, or none
-abbrev TurnMakes : Application → State → TableRows → Option Settled → Type 0
-TurnMakes app s after None = Unit {0}
-TurnMakes app s after (Some kept) = Settling app s kept after
+abbrev TurnMakes : Application → State → TableRows → List Act → Option Settled → Type 0
+TurnMakes app s after acts None = Unit {0}
+TurnMakes app s after acts (Some kept) = Settling app s kept after acts
 
 abbrev Fine : Application → State → Turned → Type 0
-Fine app s t = TurnMakes app s t.after.tables t.settled
+Fine app s t = TurnMakes app s t.after.tables t.acts t.settled
+
+message_same : (u s : State) (id : ServiceId) (x : OpenTransaction) → u.signed ≡ s.signed → message_acts u id x ≡ message_acts s id x
+message_same u s (Dialogue user) x e = ap (λ (signed : List (Bytes × Session)). out_acts (pterm_of_user signed user) (joined x.parts)) e
+message_same u s (Asynchronous number) x e = refl
 
 module _ (app : Application) (s : State) (task : ℕ) (id : ServiceId) (x : OpenTransaction) (is_open : find id_cmp id s.active ≡ Some x) where
-  ending : (h : Happened) → (statement_now app s id x).1 ≡ h → (e : Ending) → EndsSo app s.tables id x h e → Settling app s (kept_record id x e) (tables_by app s.tables id x h e)
+  abbrev Ends : Happened → Ending → Type 0
+  Ends h e = Settling app s (kept_record id x e) (tables_by app s.tables id x h e) (commit_of app s.tables (tables_by app s.tables id x h e) ∷ lines_by s id x h e)
+
+  ending : (h : Happened) → (statement_now app s id x).1 ≡ h → (e : Ending) → EndsSo app s.tables id x h e → Ends h e
   ending h is e ends = record {
     own = x;
     was_open = is_open;
     kept_is = refl;
     ends = subst (λ (k : Happened). EndsSo app s.tables id x k e) (sym is) ends;
     gives = ap (λ (k : Happened). tables_by app s.tables id x k e) (sym is);
+    sends = ap (λ (k : Happened). commit_of app s.tables (tables_by app s.tables id x h e) ∷ lines_by s id x k e) (sym is);
   }
 
-  broken-fine : (h : Happened) → (statement_now app s id x).1 ≡ h → (e : Ending) → EndsSo app s.tables id x h e → tables_by app s.tables id x h e ≡ broken s.tables id x → Fine app s (abnormal app s task id x e)
-  unfolding abnormal
-  broken-fine h is e ends same = subst (λ (t : TableRows). Settling app s (kept_record id x e) t) same (ending h is e ends)
+  abbrev point : TableRows → Outcome → List Act
+  point new o = commit_of app s.tables new ∷ point_lines s id x o
 
-  point-fine : (u : State) (new : TableRows) (kept : Settled) → Settling app s kept new → u.tables ≡ new → (o : Outcome) (row : Option Service) (commit : Act) → Fine app s (after_point app u id x o row commit kept)
-  point-fine u new kept made e (Wait tac) row commit = subst (λ (t : TableRows). Settling app s kept t) (sym (sent-tables u id x ∙ e)) made
-  point-fine u new kept made e Finish row commit = subst (λ (t : TableRows). Settling app s kept t) (sym (sent-tables u id x ∙ e)) made
-  point-fine u new kept made e (Point tac) row commit = subst (λ (t : TableRows). Settling app s kept t) (sym (goes-tables app u id x row ∙ e)) made
-  point-fine u new kept made e (Follow tac) row commit = subst (λ (t : TableRows). Settling app s kept t) (sym (goes-tables app u id x row ∙ e)) made
-  point-fine u new kept made e (Hold tac) row commit = subst (λ (t : TableRows). Settling app s kept t) (sym e) made
-  point-fine u new kept made e (Stay tac) row commit = subst (λ (t : TableRows). Settling app s kept t) (sym e) made
-  point-fine u new kept made e (Queue tac) row commit = subst (λ (t : TableRows). Settling app s kept t) (sym e) made
-  point-fine u new kept made e Break row commit = subst (λ (t : TableRows). Settling app s kept t) (sym e) made
-  point-fine u new kept made e Back row commit = subst (λ (t : TableRows). Settling app s kept t) (sym e) made
+  -- the same in a state with these tables, and with these lines
+  moved : (kept : Settled) (new after : TableRows) (acts lines : List Act) → after ≡ new → lines ≡ acts → Settling app s kept new acts → Settling app s kept after lines
+  moved kept new after acts lines e f made = subst (λ (t : TableRows). Settling app s kept t lines) (sym e) (subst (λ (l : List Act). Settling app s kept new l) (sym f) made)
+
+  point-fine : (u : State) (new : TableRows) (kept : Settled) → u.tables ≡ new → u.signed ≡ s.signed → (o : Outcome) (row : Option Service) → Settling app s kept new (point new o) → Fine app s (after_point app u id x o row (commit_of app s.tables new) kept)
+  point-fine u new kept e f (Wait tac) row made = moved kept new _ _ _ (sent-tables u id x ∙ e) (ap (λ (l : List Act). commit_of app s.tables new ∷ l) (message_same u s id x f)) made
+  point-fine u new kept e f Finish row made = moved kept new _ _ _ (sent-tables u id x ∙ e) (ap (λ (l : List Act). commit_of app s.tables new ∷ l) (message_same u s id x f)) made
+  point-fine u new kept e f (Point tac) row made = moved kept new _ _ _ (goes-tables app u id x row ∙ e) refl made
+  point-fine u new kept e f (Follow tac) row made = moved kept new _ _ _ (goes-tables app u id x row ∙ e) refl made
+  point-fine u new kept e f (Hold tac) row made = moved kept new _ _ _ e refl made
+  point-fine u new kept e f (Stay tac) row made = moved kept new _ _ _ e refl made
+  point-fine u new kept e f (Queue tac) row made = moved kept new _ _ _ e refl made
+  point-fine u new kept e f Break row made = moved kept new _ _ _ e refl made
+  point-fine u new kept e f Back row made = moved kept new _ _ _ e refl made
+
+  refused-fine : (o : Outcome) → (statement_now app s id x).1 ≡ Settles o → (cause : Cause) → EndsSo app s.tables id x (Settles o) (Broken cause) → Fine app s (abnormal app s task id x (Broken cause))
+  unfolding abnormal
+  refused-fine o is cause ends = ending (Settles o) is (Broken cause) ends
+
+  broken-fine : (e : Ending) → (statement_now app s id x).1 ≡ Breaks e → Fine app s (abnormal app s task id x e)
+  unfolding abnormal
+  broken-fine e is = ending (Breaks e) is e refl
 
   settled-fine : (o : Outcome) → (statement_now app s id x).1 ≡ Settles o → Fine app s (settled app s task id x o)
   unfolding settled
@@ -98,10 +117,8 @@ module _ (app : Application) (s : State) (task : ℕ) (id : ServiceId) (x : Open
       new = synchronised app.generation s.tables id x o
 
       by : (c : Option Cause) → refusal app.generation (durable app.generation new) ≡ c → Fine app s (settled_by app s task id x o new c)
-      by (Some cause) e = broken-fine (Settles o) is (Broken cause) (ap ending_by (sym e)) refl
-      by None e =
-          point-fine (record (without_work s task id) { tables = new }) new (kept_record id x Synced) (ending (Settles o) is Synced (ap ending_by (sym e))) refl
-          o (row_after app.generation id x o) (commit_of app s.tables new)
+      by (Some cause) e = refused-fine o is cause (ap ending_by (sym e))
+      by None e = point-fine (record (without_work s task id) { tables = new }) new (kept_record id x Synced) refl refl o (row_after app.generation id x o) (ending (Settles o) is Synced (ap ending_by (sym e)))
 
   again-fine : (u : State) (last : Option Bytes) → Fine app s (last_again u id last)
   again-fine u None = tt
@@ -126,7 +143,7 @@ module _ (app : Application) (s : State) (task : ℕ) (id : ServiceId) (x : Open
   happens-fine y Waited is = tt
   happens-fine y (Held tac) is = tt
   happens-fine y (Settles o) is = settled-fine o is
-  happens-fine y (Breaks e) is = broken-fine (Breaks e) is e refl refl
+  happens-fine y (Breaks e) is = broken-fine e is
   happens-fine y Returns is = back-fine (without_work s task id) x.began
 
 worked-fine : (app : Application) (s : State) (task : ℕ) (id : ServiceId) (o : Option OpenTransaction) → find id_cmp id s.active ≡ o → Fine app s (worked app s task id o)
@@ -158,7 +175,7 @@ turn-fine app s task = by (slice_get s.tasks (task - 1))
 pub turns_do_so : TurnsDoSo
 turns_do_so app s task = by (turn_of app s task).settled (turn-fine app s task)
   where
-    by : (o : Option Settled) → TurnMakes app s (turn_of app s task).after.tables o → StepMakes app s (turned_step (turn_of app s task)) (maker_of o)
+    by : (o : Option Settled) → TurnMakes app s (turn_of app s task).after.tables (turn_of app s task).acts o → StepMakes app s (turned_step (turn_of app s task)) (maker_of o)
     by None h = tt
     by (Some kept) h = h
 

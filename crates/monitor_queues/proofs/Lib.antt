@@ -1,3 +1,6 @@
 mod Doings
 mod Queues
+mod Sent
 mod Numbers
+mod Resuming
+mod Cuts

@@ -117,7 +117,7 @@ module _ (app : Application) (t : TableRows) (id : ServiceId) (x : OpenTransacti
 
   -- ---- the rows of services
 
-  own_row : (h : Happened) (e : Ending) → service_of (tables_by app t id x h e) id ≡ row_by_ending app id x h e
+  pub own_row : (h : Happened) (e : Ending) → service_of (tables_by app t id x h e) id ≡ row_by_ending app id x h e
   own_row (Settles o) Synced = synchronised_own app.generation t id x o
   own_row (Settles o) (Broken cause) = broken_own t id x
   own_row (Settles o) BrokenFr = broken_own t id x
@@ -176,15 +176,15 @@ services-law app s after by own others = record {
 
 -- ---- the commits
 
-module _ (app : Application) (s : State) (after : TableRows) (kept : Settled) (m : Settling app s kept after) where
+module _ (app : Application) (s : State) (after : TableRows) (kept : Settled) (acts : List Act) (m : Settling app s kept after acts) where
   abbrev h : Happened
   h = (statement_now app s kept.service m.own).1
 
   began_same : m.own.began ≡ kept.began
   began_same = sym (ap (λ (k : Settled). k.began) m.kept_is)
 
-  transaction_queue : IsRooted s.tables kept.service m.own → (acts : List Act) → QueueLaw app s.tables after (ByTransaction kept) acts
-  transaction_queue rooted acts =
+  transaction_queue : IsRooted s.tables kept.service m.own → QueueLaw app s.tables after (ByTransaction kept) acts
+  transaction_queue rooted =
       let g = goes s.tables kept.service m.own.began rooted.job in
       let d = drawn app s.tables kept.service m.own h kept.ending m.ends in
       record {
@@ -254,8 +254,8 @@ meets app s d facts None m = tt
 meets app s d facts (Some (ByTick ticks)) m = (durable_queue app s.tables d.after.tables (ByTick ticks) d.acts (tick_queue app s ticks d m), tick_services app s ticks d m)
 meets app s d facts (Some (ByShow lterm)) m = (durable_queue app s.tables d.after.tables (ByShow lterm) d.acts (show_queue app s lterm d m), show_services app s lterm d m)
 meets app s d facts (Some (ByTransaction kept)) m = (
-  durable_queue app s.tables d.after.tables (ByTransaction kept) d.acts (transaction_queue app s d.after.tables kept m (facts.0.rooted kept.service m.own m.was_open) d.acts),
-  transaction_services app s d.after.tables kept m,
+  durable_queue app s.tables d.after.tables (ByTransaction kept) d.acts (transaction_queue app s d.after.tables kept d.acts m (facts.0.rooted kept.service m.own m.was_open)),
+  transaction_services app s d.after.tables kept d.acts m,
 )
 
 pub turns_keep_queues : TurnsDoSo → TurnsKeepQueues

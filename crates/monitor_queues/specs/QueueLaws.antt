@@ -1,11 +1,15 @@
 -- That each commit of a run meets the laws on jobs and on services' rows, and that no job number is drawn twice.
-use Rattle.std.specs.Prelude.{◌≡◌, ◌⊎◌, ◌<◌, ◌≤◌, ℕ, List, ◌++◌, Option, Some, None}
-use Rattle.kdcs_types.specs.declared.key.ServiceId.TheVariants.{Asynchronous}
+use Rattle.std.specs.Prelude.{true, ◌≡◌, ◌⊎◌, ◌<◌, ◌≤◌, ℕ, List, [], ◌∷◌, ◌++◌, Option, Some, None}
+use Rattle.kdcs_types.specs.declared.act.Act.TheVariants.{Emit}
+use Rattle.kdcs_types.specs.declared.key.ServiceId.TheVariants.{Dialogue, Asynchronous}
+use Rattle.kdcs_types.specs.declared.service.Service.{Service}
 use Rattle.kdcs_types.specs.Tables.{TableRows, job_of, service_of}
+use Rattle.monitor_semantics.specs.Bytes.{Bytes}
+use Rattle.monitor_semantics.specs.Lines.{out_line}
 use Rattle.monitor_semantics.specs.State.{Application, State}
 use Rattle.monitor_semantics.specs.Endings.{durable}
-use Rattle.monitor_semantics.specs.Turns.{turn_of}
-use Rattle.monitor_semantics.specs.Commands.{Command, ScriptStep, Maker, turned_step, command_of, state_after}
+use Rattle.monitor_semantics.specs.Turns.{commit_of, pterm_of_user, turn_of}
+use Rattle.monitor_semantics.specs.Commands.{Command, ScriptStep, Maker, ByTick, ByShow, ByTransaction, turned_step, command_of, state_after}
 use Rattle.monitor_semantics.specs.Trace.{history}
 use Rattle.monitor_laws.specs.Applications.{IsApplication}
 use Rattle.monitor_laws.specs.Commits.{QueueLaw, ServiceLaw}
@@ -36,7 +40,30 @@ TurnsKeepQueues = (app : Application) (s : State) (task : ℕ) → HasFacts app 
 abbrev pub CommandsKeepQueues : Type 0
 CommandsKeepQueues = (app : Application) (s : State) (c : Command) → HasFacts app s → KeepsQueues app s (command_of app s c)
 
+-- the row keeps the message that is sent behind the commit, to the terminal of the user
+pub record IsMessageSent (app : Application) (s : State) (user : Bytes) (row : Service) (d : ScriptStep) : Type 0 where
+  pub pterm : Bytes
+  pub message : Bytes
+  pub at : pterm_of_user s.signed user ≡ Some pterm
+  pub last : row.last ≡ Some message
+  pub acts : d.acts ≡ commit_of app s.tables d.after.tables ∷ Emit (out_line pterm message) ∷ []
+
+-- a point that awaits the user's input sends its message and keeps it
+abbrev pub AwaitingSends : Application → State → ScriptStep → Option Maker → Type 0
+AwaitingSends app s d None = Unit {0}
+AwaitingSends app s d (Some (ByTick ticks)) = Unit {0}
+AwaitingSends app s d (Some (ByShow lterm)) = Unit {0}
+AwaitingSends app s d (Some (ByTransaction kept)) =
+    (user : Bytes) (row : Service) → kept.service ≡ Dialogue user → service_of d.after.tables (Dialogue user) ≡ Some row → row.awaits ≡ true → IsMessageSent app s user row d
+
+abbrev pub SendsAtPoints : Application → State → ScriptStep → Type 0
+SendsAtPoints app s d = AwaitingSends app s d d.by
+
 -- ---- whole runs
+
+-- each such point of a run does
+abbrev pub HistoriesSendAtPoints : Type 0
+HistoriesSendAtPoints = MeetsAlong SendsAtPoints
 
 -- each step of a script that commits meets both laws
 abbrev pub HistoriesKeepQueues : Type 0
