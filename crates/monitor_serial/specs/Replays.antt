@@ -122,7 +122,7 @@ replays_counted app t other id x inputs notes m h alike =
 
 -- ---- the present tables
 
-same_job : (t : TableRows) (id : ServiceId) (began : Option Service) → HasSameJob t t id began
+pub same_job : (t : TableRows) (id : ServiceId) (began : Option Service) → HasSameJob t t id began
 same_job t (Dialogue user) began = tt
 same_job t (Asynchronous number) (Some row) = tt
 same_job t (Asynchronous number) None = refl

@@ -8,11 +8,15 @@ use Rattle.kdcs_types.specs.declared.service.Service.{Service}
 use Rattle.kdcs_types.specs.Tables.{TableRows, content_of, job_of}
 use Rattle.monitor_semantics.specs.declared.answer.Happened.TheVariants.{Held}
 use Rattle.monitor_semantics.specs.Bytes.{Bytes}
-use Rattle.monitor_semantics.specs.State.{Application, OpenTransaction}
+use Rattle.monitor_semantics.specs.State.{Application, OpenTransaction, State}
 use Rattle.monitor_semantics.specs.Calls.{Told}
 use Rattle.monitor_semantics.specs.Endings.{is_asynchronous, opened_by_start, opened_by_input, opened_by_row, opened_by_job, lterm_of_row, followed_by_input}
 use Rattle.monitor_semantics.specs.Statements.{area_of, statement}
-use Rattle.monitor_serial.specs.Replays.{GoesOnAtOnce, SeesTheSame, ReplaysToItself}
+use Rattle.monitor_semantics.specs.Turns.{turn_of}
+use Rattle.monitor_laws.specs.Facts.{IsConsistent}
+use Rattle.monitor_laws.specs.Keeping.{Fact, Leads, HasFacts, HoldsAlong}
+use Rattle.monitor_laws.specs.Replay.{IsReplayable, SettlesAs}
+use Rattle.monitor_serial.specs.Replays.{GoesOnAtOnce, SeesTheSame, ReplaysToItself, AllReplay}
 
 -- each way to open a transaction gives one that replays to itself
 pub record OpeningsReplay (app : Application) (t : TableRows) : Type 0 where
@@ -45,3 +49,27 @@ InputsReplay =
 -- other tables in which the transaction sees the same
 abbrev pub OtherTablesReplay : Type 0
 OtherTablesReplay = (app : Application) (t u : TableRows) (id : ServiceId) (x : OpenTransaction) → SeesTheSame t u id x → ReplaysToItself app t id x → ReplaysToItself app u id x
+
+-- ---- steps and scripts
+
+-- the facts of a state, and that its open transactions replay to themselves
+abbrev pub HasReplays : Fact
+HasReplays app s = HasFacts app s × AllReplay app s
+
+-- each turn and each command keeps it for all open transactions, and each start has it
+abbrev pub StepsKeepReplays : Type 0
+StepsKeepReplays = Leads HasReplays HasReplays
+
+-- so it holds of each state of a script
+abbrev pub ScriptsKeepReplays : Type 0
+ScriptsKeepReplays = HoldsAlong HasReplays
+
+-- over the present tables, with nothing more gained, each is the replay of its record
+abbrev pub ReplaysAreRecords : Type 0
+ReplaysAreRecords = (app : Application) (s : State) → AllReplay app s → IsReplayable app s
+
+-- ---- ends
+
+-- where each open transaction is the replay of its record, a turn that ends one comes to the tables and the ending that its record, run in one go, makes of the tables before; and the record determines that replay
+abbrev pub TurnsEndSerially : Type 0
+TurnsEndSerially = (app : Application) (s : State) (task : ℕ) → IsConsistent app s → IsReplayable app s → SettlesAs app s.tables (turn_of app s task).after.tables (turn_of app s task).settled
