@@ -1,0 +1,10 @@
+pub mod Shapes
+pub mod Steps
+pub mod Openings
+pub mod Frames
+pub mod Ends
+pub mod Turns
+pub mod Settling
+pub mod Uses
+pub mod Commands
+pub mod Along

@@ -1,0 +1,75 @@
+-- Serial equivalence, step by step: each open transaction replays to itself, and each that ends does so as its record.
+use Rattle.std.specs.Prelude.{◌≡◌, ℕ, true, false, Some}
+use Rattle.kdcs_types.specs.declared.key.Area.{Area}
+use Rattle.kdcs_types.specs.declared.key.ServiceId.{ServiceId}
+use Rattle.kdcs_types.specs.declared.key.ServiceId.TheVariants.{Dialogue, Asynchronous}
+use Rattle.kdcs_types.specs.declared.service.JobValue.{JobValue}
+use Rattle.kdcs_types.specs.declared.service.Service.{Service}
+use Rattle.kdcs_types.specs.Tables.{TableRows, content_of, job_of}
+use Rattle.monitor_semantics.specs.declared.answer.Happened.TheVariants.{Held}
+use Rattle.monitor_semantics.specs.Bytes.{Bytes}
+use Rattle.monitor_semantics.specs.State.{Application, OpenTransaction, State}
+use Rattle.monitor_semantics.specs.Calls.{Told}
+use Rattle.monitor_semantics.specs.Endings.{is_asynchronous, opened_by_start, opened_by_input, opened_by_row, opened_by_job, lterm_of_row, followed_by_input}
+use Rattle.monitor_semantics.specs.Statements.{area_of, statement}
+use Rattle.monitor_semantics.specs.Turns.{turn_of}
+use Rattle.monitor_laws.specs.Facts.{IsConsistent}
+use Rattle.monitor_laws.specs.Keeping.{Fact, Leads, HasFacts, HoldsAlong}
+use Rattle.monitor_laws.specs.Replay.{IsReplayable, SettlesAs}
+use Rattle.monitor_serial.specs.Replays.{GoesOnAtOnce, SeesTheSame, ReplaysToItself, AllReplay}
+
+-- each way to open a transaction gives one that replays to itself
+pub record OpeningsReplay (app : Application) (t : TableRows) : Type 0 where
+  -- an input starts a service
+  pub starts : (user lterm tac input : Bytes) → ReplaysToItself app t (Dialogue user) (opened_by_start app.generation user lterm tac input)
+  -- an input reaches a row that awaits it
+  pub inputs : (user : Bytes) (row : Service) (lterm input : Bytes) → row.awaits ≡ true → ReplaysToItself app t (Dialogue user) (opened_by_input app.generation (Dialogue user) row lterm input)
+  -- a service goes on from its row
+  pub rows : (user : Bytes) (row : Service) (lterm : Bytes) → row.awaits ≡ false → ReplaysToItself app t (Dialogue user) (opened_by_row app.generation (Dialogue user) row lterm)
+  pub asynchronous_rows : (number : ℕ) (row : Service) → ReplaysToItself app t (Asynchronous number) (opened_by_row app.generation (Asynchronous number) row (lterm_of_row row.lterm))
+  -- a task takes a job
+  pub jobs : (number : ℕ) (job : JobValue) (tac : Bytes) → job_of t number ≡ Some job → ReplaysToItself app t (Asynchronous number) (opened_by_job app.generation job tac)
+
+abbrev pub AllOpeningsReplay : Type 0
+AllOpeningsReplay = (app : Application) (t : TableRows) → OpeningsReplay app t
+
+-- a statement that goes on at once, told of the content of its area in the tables and of any answer: plain ones, calls, locked reads and writes, UNLK, K04 and K05, PEND PR and PA
+abbrev pub StatementsReplay : Type 0
+StatementsReplay =
+    (app : Application) (t : TableRows) (id : ServiceId) (x : OpenTransaction) (v : Told)
+    → ReplaysToItself app t id x → ((area : Area) → area_of app x ≡ Some area → v.content ≡ content_of t area)
+    → GoesOnAtOnce (statement app v (is_asynchronous id) x).1 → ReplaysToItself app t id (statement app v (is_asynchronous id) x).0
+
+-- the input after a PEND KP
+abbrev pub InputsReplay : Type 0
+InputsReplay =
+    (app : Application) (t : TableRows) (id : ServiceId) (x : OpenTransaction) (tac text : Bytes)
+    → ReplaysToItself app t id x → ((v : Told) → statement app v (is_asynchronous id) x ≡ (x, Held tac)) → ReplaysToItself app t id (followed_by_input app.generation x tac text)
+
+-- other tables in which the transaction sees the same
+abbrev pub OtherTablesReplay : Type 0
+OtherTablesReplay = (app : Application) (t u : TableRows) (id : ServiceId) (x : OpenTransaction) → SeesTheSame t u id x → ReplaysToItself app t id x → ReplaysToItself app u id x
+
+-- ---- steps and scripts
+
+-- the facts of a state, and that its open transactions replay to themselves
+abbrev pub HasReplays : Fact
+HasReplays app s = HasFacts app s × AllReplay app s
+
+-- each turn and each command keeps it for all open transactions, and each start has it
+abbrev pub StepsKeepReplays : Type 0
+StepsKeepReplays = Leads HasReplays HasReplays
+
+-- so it holds of each state of a script
+abbrev pub ScriptsKeepReplays : Type 0
+ScriptsKeepReplays = HoldsAlong HasReplays
+
+-- over the present tables, with nothing more gained, each is the replay of its record
+abbrev pub ReplaysAreRecords : Type 0
+ReplaysAreRecords = (app : Application) (s : State) → AllReplay app s → IsReplayable app s
+
+-- ---- ends
+
+-- where each open transaction is the replay of its record, a turn that ends one comes to the tables and the ending that its record, run in one go, makes of the tables before; and the record determines that replay
+abbrev pub TurnsEndSerially : Type 0
+TurnsEndSerially = (app : Application) (s : State) (task : ℕ) → IsConsistent app s → IsReplayable app s → SettlesAs app s.tables (turn_of app s task).after.tables (turn_of app s task).settled

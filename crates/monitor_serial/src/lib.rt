@@ -1,0 +1,39 @@
+//! Serial equivalence of the abstract monitor: an open transaction is the replay of what it has kept, whatever other
+//! services did meanwhile; so a transaction that ends does so as its record, run in one go.
+//!
+//! It stands on the definitions of the monitor, and on the laws of single steps and of runs. The functions do nothing:
+//! their contracts are laws on the definitions, which the monitor and the program above it cite. `specs/Replays.antt`
+//! says what replays to itself.
+#![tactic(auto)]
+
+ghost use Rattle.monitor_serial.specs.SerialLaws.{AllOpeningsReplay, StatementsReplay, InputsReplay, OtherTablesReplay};
+ghost use Rattle.monitor_serial.specs.SerialLaws.{StepsKeepReplays, ScriptsKeepReplays, ReplaysAreRecords, TurnsEndSerially};
+
+use monitor_places::facts_hold_along;
+use monitor_tables::states_stay_sound;
+
+/// A transaction replays to itself when it opens, and after each statement that leaves it open, whatever the request for
+/// an area is answered; after the input that a PEND KP awaits; and over all tables in which it sees the same.
+pub fn transactions_replay_to_themselves()
+    ensures openings { AllOpeningsReplay }
+    ensures statements { StatementsReplay }
+    ensures inputs { InputsReplay }
+    ensures others { OtherTablesReplay }
+{}
+
+/// In each state of a script all open transactions replay to themselves, so each is the replay of what it has kept: each
+/// turn and each command keeps it, and a start has it.
+pub fn replays_hold_along_every_script()
+    ensures steps { StepsKeepReplays }
+    ensures scripts { ScriptsKeepReplays }
+    ensures records { ReplaysAreRecords }
+{
+    states_stay_sound();
+    facts_hold_along();
+}
+
+/// A turn that ends a transaction ends it as its record, run in one go on the tables before the turn: with the same
+/// tables and the same ending, and each statement, input and note of the record used.
+pub fn turns_end_serially()
+    ensures { TurnsEndSerially }
+{}
