@@ -6,6 +6,7 @@
 #![tactic(auto)]
 
 ghost use Rattle.monitor_queues.specs.QueueLaws.{TurnsDoSo, CommandsDoSo, TurnsKeepQueues, CommandsKeepQueues, HistoriesKeepQueues, HistoriesSendAtPoints, NumbersAreDrawnOnce, NoJobIsLost, JobsAreDoneOnce};
+ghost use Rattle.monitor_queues.specs.Lawful.{LawfulWhereSerial};
 ghost use Rattle.monitor_queues.specs.ResumeLaws.{StartsResume, SignOnsResume, CutsResume};
 
 use monitor_laws::steps_commit_once;
@@ -38,6 +39,13 @@ pub fn runs_keep_queues()
     states_stay_sound();
     makers_say_what_commits_do();
     commits_keep_queues();
+}
+
+/// Where the commits of a script also are those that their records, run in one go, make, the script meets all three laws.
+pub fn serial_runs_are_lawful()
+    ensures { LawfulWhereSerial }
+{
+    runs_keep_queues();
 }
 
 /// Between any two states of a run no job number is drawn twice: the next number does not fall, and a number that was
