@@ -45,13 +45,13 @@ other_number n m less = by (key_eq (JobKey n) (JobKey m)) refl
     by true e = let same = same_number n m (key_eq-same (JobKey n) (JobKey m) e) in absurd (omega arith)
 
 -- a number below the first new one is none of theirs
-not_made : (made : List Job) (n m : ℕ) → AreNumberedFrom m made → n < m → at n made ≡ None
+pub not_made : (made : List Job) (n m : ℕ) → AreNumberedFrom m made → n < m → at n made ≡ None
 not_made [] n m h less = refl
 not_made (j ∷ js) n m h less =
     ap (λ (b : Bool). cond b (Some j) (at n js)) (ap (λ k. key_eq (JobKey n) (JobKey k)) h.0 ∙ other_number n m less)
     ∙ not_made js n (m + 1) h.1 (omega arith)
 
-at_both : (n : ℕ) (js ks : List Job) → at n ks ≡ None → at n (js ++ ks) ≡ at n js
+pub at_both : (n : ℕ) (js ks : List Job) → at n ks ≡ None → at n (js ++ ks) ≡ at n js
 at_both n [] ks h = h
 at_both n (j ∷ js) ks h = ap (λ (o : Option Job). cond (key_eq (JobKey n) (job_key j)) (Some j) o) (at_both n js ks h)
 
