@@ -1,5 +1,5 @@
 -- What is known of a file, and the content that a root has with its records.
-use Rattle.std.specs.Prelude.{◌≡◌, ℕ, Bool, List, map}
+use Rattle.std.specs.Prelude.{ℕ, Bool, List, map}
 use Rattle.kd_records.specs.declared.content.Content.{Content}
 use Rattle.kd_records.specs.Contents.{Record}
 use Rattle.kd_records.specs.Identity.{Identity}

@@ -1,12 +1,13 @@
 -- The laws on one commit of a history: what becomes of jobs, of services' rows, and of all tables.
-use Rattle.std.specs.Prelude.{◌≡◌, ◌⊎◌, ℕ, ◌+◌, Bool, true, false, ◌&&◌, List, [], ◌∷◌, ◌++◌, length, Option, Some, None, IfSome, Contains, bytes_eq, ◌==◌}
+use Rattle.std.specs.Prelude.{◌≡◌, ◌⊎◌, ℕ, ◌+◌, Bool, true, false, cond, ◌&&◌, List, [], ◌∷◌, ◌++◌, length, Option, Some, None, IfSome, Contains, bytes_eq, ◌==◌}
 use Rattle.std.specs.FinMap.{find}
 use Rattle.kdcs_types.specs.declared.act.Act.{Act}
 use Rattle.kdcs_types.specs.declared.act.Act.TheVariants.{Commit, Emit}
 use Rattle.kdcs_types.specs.declared.act.Change.{Change}
+use Rattle.kdcs_types.specs.declared.call.Cause.{Cause}
 use Rattle.kdcs_types.specs.declared.key.Key.TheVariants.{Job as JobKey}
 use Rattle.kdcs_types.specs.declared.key.ServiceId.{ServiceId}
-use Rattle.kdcs_types.specs.declared.key.ServiceId.TheVariants.{Asynchronous}
+use Rattle.kdcs_types.specs.declared.key.ServiceId.TheVariants.{Dialogue, Asynchronous}
 use Rattle.kdcs_types.specs.declared.key.Target.TheVariants.{Lterm}
 use Rattle.kdcs_types.specs.declared.service.Ending.{Ending}
 use Rattle.kdcs_types.specs.declared.service.Ending.TheVariants.{Synced, Broken, BrokenFr}
@@ -15,14 +16,14 @@ use Rattle.kdcs_types.specs.declared.service.Service.{Service}
 use Rattle.kdcs_types.specs.declared.service.Settled.{Settled}
 use Rattle.kdcs_types.specs.Difference.{difference}
 use Rattle.kdcs_types.specs.Keyed.{without_item}
-use Rattle.kdcs_types.specs.Keys.{id_cmp}
+use Rattle.kdcs_types.specs.Keys.{id_cmp, id_eq}
 use Rattle.kdcs_types.specs.Tables.{TableRows, job_key, service_of, shown_of}
 use Rattle.monitor_semantics.specs.Bytes.{Bytes}
 use Rattle.monitor_semantics.specs.State.{Application, OpenTransaction, State}
-use Rattle.monitor_semantics.specs.Endings.{row_after, durable}
+use Rattle.monitor_semantics.specs.Endings.{row_after, synchronised, is_durable, durable, refusal}
 use Rattle.monitor_semantics.specs.declared.answer.Happened.{Happened}
 use Rattle.monitor_semantics.specs.declared.answer.Happened.TheVariants.{Went, Queued, Waited, Held, Settles, Breaks, Returns}
-use Rattle.monitor_semantics.specs.Statements.{kept_of}
+use Rattle.monitor_semantics.specs.Statements.{kept_record, kept_of}
 use Rattle.monitor_semantics.specs.Lines.{asy_line, prt_line, cause_text}
 use Rattle.monitor_semantics.specs.Turns.{statement_now}
 use Rattle.monitor_semantics.specs.Commands.{ScriptStep, Maker, ByTick, ByShow, ByTransaction, lterm_at}
@@ -49,13 +50,32 @@ SendsNext app lterm message (Commit changes ∷ Commit more ∷ acts) = ⊥
 SendsNext app lterm message (Commit changes ∷ Emit bytes ∷ acts) =
     (pterm : Bytes) × ((lterm_at app pterm ≡ lterm) × ((bytes ≡ asy_line pterm message) ⊎ (bytes ≡ prt_line pterm message)))
 
--- who may take a job out of the tables: its own service before its first synchronisation point, or KDCOUT and PRINT, which show it and send it next
-abbrev pub MayTake : Application → Maker → Job → TableRows → List Act → Type 0
-MayTake app (ByTick ticks) job after acts = ⊥
-MayTake app (ByShow lterm) job after acts = (job.value.to ≡ Lterm lterm) × (shown_of after lterm ≡ Some job.value) × SendsNext app lterm job.value.message acts
-MayTake app (ByTransaction kept) job after acts = (kept.service ≡ Asynchronous job.number) × (kept.began ≡ None)
+-- an asynchronous service takes its own job away at its first synchronisation point or its abnormal end before one; no other transaction takes any
+abbrev pub TakesOwn : ServiceId → Option Service → Option Job → Type 0
+TakesOwn (Dialogue user) began gone = gone ≡ None
+TakesOwn (Asynchronous number) (Some row) gone = gone ≡ None
+TakesOwn (Asynchronous number) None gone = (job : Job) × ((gone ≡ Some job) × (job.number ≡ number))
 
--- jobs keep their values; at most one goes, and new ones are numbered from the next job number
+-- which job leaves the tables, if one does: that of an asynchronous service's first transaction, or the one that KDCOUT and PRINT show and send next
+abbrev pub Takes : Application → Maker → Option Job → TableRows → List Act → Type 0
+Takes app (ByTick ticks) gone after acts = gone ≡ None
+Takes app (ByShow lterm) gone after acts =
+    (job : Job) × ((gone ≡ Some job) × ((job.value.to ≡ Lterm lterm) × ((shown_of after lterm ≡ Some job.value) × SendsNext app lterm job.value.message acts)))
+Takes app (ByTransaction kept) gone after acts = TakesOwn kept.service kept.began gone
+
+-- an abnormal end makes no jobs
+abbrev pub MakesAtEnd : Ending → List Job → Type 0
+MakesAtEnd Synced made = Unit {0}
+MakesAtEnd (Broken cause) made = made ≡ []
+MakesAtEnd BrokenFr made = made ≡ []
+
+-- jobs are made at synchronisation points alone
+abbrev pub Makes : Maker → List Job → Type 0
+Makes (ByTick ticks) made = made ≡ []
+Makes (ByShow lterm) made = made ≡ []
+Makes (ByTransaction kept) made = MakesAtEnd kept.ending made
+
+-- jobs keep their values; the one that is taken goes, and no other; new ones are numbered from the next job number
 pub record QueueLaw (app : Application) (before after : TableRows) (by : Maker) (acts : List Act) : Type 0 where
   pub gone : Option Job
   pub made : List Job
@@ -63,7 +83,8 @@ pub record QueueLaw (app : Application) (before after : TableRows) (by : Maker) 
   pub numbers : AreNumberedFrom before.next_job made
   pub next : after.next_job ≡ before.next_job + length made
   pub was_there : IfSome gone (λ (job : Job). Contains before.jobs job)
-  pub taken : IfSome gone (λ (job : Job). MayTake app by job after acts)
+  pub taken : Takes app by gone after acts
+  pub makes : Makes by made
 
 -- ---- services
 
@@ -79,19 +100,47 @@ row_by_ending app id x (Held tac) ending = None
 row_by_ending app id x Waited ending = None
 row_by_ending app id x Returns ending = None
 
--- the service's own open transaction ended here, and the row is what its end gives
-pub record IsOwnRow (app : Application) (before : State) (by : Maker) (id : ServiceId) (row : Option Service) : Type 0 where
-  pub kept : Settled
-  pub own : OpenTransaction
-  pub maker : by ≡ ByTransaction kept
-  pub service : kept.service ≡ id
-  pub was_open : find id_cmp id before.active ≡ Some own
-  pub gives : row ≡ row_by_ending app id own (statement_now app before id own).1 kept.ending
+-- a point is refused with this cause, or not at all
+abbrev pub ending_by : Option Cause → Ending
+ending_by None = Synced
+ending_by (Some cause) = Broken cause
 
--- a service's row is changed by its own transaction alone
-abbrev pub ServiceLaw : Application → State → TableRows → Maker → Type 0
-ServiceLaw app before after by =
-    (id : ServiceId) → (service_of after id ≡ service_of before.tables id) ⊎ IsOwnRow app before by id (service_of after id)
+-- the statement ends the transaction, and so: a point that nothing refuses, one that a cause refuses, or an abnormal end
+abbrev pub EndsSo : Application → TableRows → ServiceId → OpenTransaction → Happened → Ending → Type 0
+EndsSo app t id x (Settles o) ending = ending ≡ ending_by (refusal app.generation (durable app.generation (synchronised app.generation t id x o)))
+EndsSo app t id x (Breaks by) ending = ending ≡ by
+EndsSo app t id x Went ending = ⊥
+EndsSo app t id x Queued ending = ⊥
+EndsSo app t id x (Held tac) ending = ⊥
+EndsSo app t id x Waited ending = ⊥
+EndsSo app t id x Returns ending = ⊥
+
+-- the next statement of the service's own open transaction, of which this is the record, ended it, and the row is what its end gives
+pub record IsOwnRow (app : Application) (before : State) (kept : Settled) (row : Option Service) : Type 0 where
+  pub own : OpenTransaction
+  pub was_open : find id_cmp kept.service before.active ≡ Some own
+  pub kept_is : kept ≡ kept_record kept.service own kept.ending
+  pub ends : EndsSo app before.tables kept.service own (statement_now app before kept.service own).1 kept.ending
+  pub gives : row ≡ row_by_ending app kept.service own (statement_now app before kept.service own).1 kept.ending
+
+-- TICK, KDCOUT and PRINT have no service
+abbrev pub HasOwnRow : Application → State → TableRows → Maker → Type 0
+HasOwnRow app before after (ByTick ticks) = Unit {0}
+HasOwnRow app before after (ByShow lterm) = Unit {0}
+HasOwnRow app before after (ByTransaction kept) = IsOwnRow app before kept (service_of after kept.service)
+
+-- the commit is not by a transaction of this service
+abbrev pub IsByAnother : Maker → ServiceId → Type 0
+IsByAnother (ByTick ticks) id = Unit {0}
+IsByAnother (ByShow lterm) id = Unit {0}
+IsByAnother (ByTransaction kept) id = id_eq id kept.service ≡ false
+
+-- a service's row is changed by its own transaction alone, and then as the end of it says; durable tables have the rows of services that outlive a stop
+pub record ServiceLaw (app : Application) (before : State) (after : TableRows) (by : Maker) : Type 0 where
+  pub own : HasOwnRow app before after by
+  pub others : (id : ServiceId) → IsByAnother by id → service_of after id ≡ service_of before.tables id
+  pub durable_rows : (id : ServiceId) → service_of (durable app.generation after) id ≡ cond (is_durable app.generation id) (service_of after id) None
+  pub durable_others : (id : ServiceId) → IsByAnother by id → service_of (durable app.generation after) id ≡ service_of (durable app.generation before.tables) id
 
 -- ---- all tables
 

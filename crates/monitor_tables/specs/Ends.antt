@@ -120,11 +120,11 @@ least_job-in (j ∷ js) job e = by (least_job js) refl e (least_job-in js)
         pick false f = inl (some_is j job f)
 
 -- a due job of an LTERM is one of the tables', and goes to it
-record IsJobFor (lterm : Bytes) (jobs : List Job) (job : Job) : Type 0 where
-  there : IsIn job jobs
-  target : IsTrue (is_for lterm job.value.to)
+pub record IsJobFor (lterm : Bytes) (jobs : List Job) (job : Job) : Type 0 where
+  pub there : IsIn job jobs
+  pub target : IsTrue (is_for lterm job.value.to)
 
-due-for : (s : State) (lterm : Bytes) (job : Job) → due_for s lterm ≡ Some job → IsJobFor lterm s.tables.jobs job
+pub due-for : (s : State) (lterm : Bytes) (job : Job) → due_for s lterm ≡ Some job → IsJobFor lterm s.tables.jobs job
 due-for s lterm job e =
     let free = free_jobs s.active s.tables.jobs in
     let due : Job → Bool = λ (j : Job). nat_le j.value.due s.tables.clock && is_for lterm j.value.to in
@@ -134,7 +134,7 @@ due-for s lterm job e =
       target = (both_true (nat_le job.value.due s.tables.clock) (is_for lterm job.value.to) (in_passes due job (filter due free) (filter_passes due free) in_due)).1;
     }
 
-for-lterm : (lterm : Bytes) (to : Target) → IsTrue (is_for lterm to) → to ≡ Lterm lterm
+pub for-lterm : (lterm : Bytes) (to : Target) → IsTrue (is_for lterm to) → to ≡ Lterm lterm
 for-lterm lterm (Tac tac) h = absurd (true≢false (sym h))
 for-lterm lterm (Lterm other) h = ap (λ (n : Bytes). Lterm n) (sym (bytes_same_eq lterm other h))
 

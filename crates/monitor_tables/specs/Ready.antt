@@ -24,7 +24,7 @@ use Rattle.unit_types.specs.declared.action.UnitStatement.{UnitStatement}
 use Rattle.unit_types.specs.declared.unit.Field.{Field}
 use Rattle.unit_types.specs.UnitText.{UnitText, IsShortOperand, HasShortOperands, jump_of, operands_of, field_named, label_place, statement_at}
 use Rattle.unit_semantics.specs.Contents.{trim_end, in_digits, compared}
-use Rattle.unit_semantics.specs.Fields.{header_value, code_text, area_of, content_of, value_of, written, stored_in, stored}
+use Rattle.unit_semantics.specs.Fields.{header_value, code_text, run_area, field_bytes, value_of, written, stored_in, stored}
 use Rattle.unit_semantics.specs.Ready.{KnowsLabel}
 use Rattle.unit_semantics.specs.Statement.{Meaning, Plain, Asks, Ends, jumped, branched, relates, calculates, gets_result, sum_of, difference_of, product_of, quotient_of, done_by, step, target_of, next_target}
 use Rattle.monitor_semantics.specs.Bytes.{Bytes}
@@ -65,7 +65,7 @@ knows unit (action.If x relation y label) h = h
 knows unit (action.Jump label) h = h
 knows unit _ h = tt
 
-inside : (run : RunState) (kb spab : ℕ) (f : Field) → length run.kb ≡ kb → length run.spab ≡ spab → (b : Bool) → f.offset + f.length ≤ cond b spab kb → f.offset + f.length ≤ length (area_of run b)
+inside : (run : RunState) (kb spab : ℕ) (f : Field) → length run.kb ≡ kb → length run.spab ≡ spab → (b : Bool) → f.offset + f.length ≤ cond b spab kb → f.offset + f.length ≤ length (run_area run b)
 inside run kb spab f k s true h = subst (λ n. f.offset + f.length ≤ n) (sym s) h
 inside run kb spab f k s false h = subst (λ n. f.offset + f.length ≤ n) (sym k) h
 
@@ -142,14 +142,14 @@ length-header run short Tacal = length-padded run.header.tacal short.tacal
 length-header run short Crccc = length-code run.code
 length-header run short Rlm = omega (arith, length-in_digits 5 run.length)
 
-length-area : (run : RunState) → IsShortRun run → (spab : Bool) → length (area_of run spab) ≤ 32767
+length-area : (run : RunState) → IsShortRun run → (spab : Bool) → length (run_area run spab) ≤ 32767
 length-area run short true = short.spab
 length-area run short false = short.kb
 
-length-content : (run : RunState) → IsShortRun run → (o : Option Field) → length (content_of run o) ≤ 32767
+length-content : (run : RunState) → IsShortRun run → (o : Option Field) → length (field_bytes run o) ≤ 32767
 length-content run short None = omega arith
 length-content run short (Some f) =
-    let area = area_of run f.spab in
+    let area = run_area run f.spab in
     omega (arith, length-area run short f.spab, length-drop f.offset area, length-take f.length (drop f.offset area))
 
 length-trimmed : (bytes : List ℕ) → length (trim_end bytes) ≤ length bytes
@@ -163,7 +163,7 @@ length-value unit run short (read.Literal bytes) h = h
 length-value unit run short (read.Digits bytes) h = omega arith
 length-value unit run short (read.Header name) h = length-header run short name
 length-value unit run short (read.Trim name) h =
-    omega (arith, length-trimmed (content_of run (field_named unit name)), length-content run short (field_named unit name))
+    omega (arith, length-trimmed (field_bytes run (field_named unit name)), length-content run short (field_named unit name))
 
 -- ---- what a statement keeps and asks
 

@@ -1,11 +1,11 @@
 -- What an open transaction of the code stands for.
-use Rattle.std.specs.Prelude.{◌≡◌, ◌<◌, ◌^◌, ℕ, Bool, true, false, IsTrue, List, [], Option, Some, None, IfSome}
+use Rattle.std.specs.Prelude.{Bool, true, false, IsTrue, List, [], Option, Some, None, IfSome}
 use Rattle.std.specs.FinMap.{is_sorted}
 use Rattle.kdcs_types.specs.declared.service.Service.{Service}
 use Rattle.kdcdef_types.specs.Generation.{Generated}
 use Rattle.monitor_semantics.specs.Bytes.{Bytes, bytes_cmp}
 use Rattle.monitor_semantics.specs.State.{OpenTransaction as Work}
-use Rattle.monitor_semantics.specs.Endings.{followed, followed_by_input, is_asynchronous}
+use Rattle.monitor_semantics.specs.Endings.{followed, followed_by_input}
 use Rattle.open_transaction.specs.declared.open.OpenTransaction.{OpenTransaction}
 
 -- the definition's open transaction

@@ -1,16 +1,26 @@
 //! How a transaction opens, and goes on in a further unit run.
-ghost use Rattle.std.specs.Prelude.{◌≡◌, ◌+◌, ◌<◌, ◌^◌, IfOk, OnOk, OnErr, replicate};
-ghost use Rattle.monitor_semantics.specs.Endings.{joined, opened, spaces, budget_by, is_asynchronous};
+ghost use Rattle.std.specs.Prelude.{◌≡◌, ◌+◌, ◌<◌, ◌^◌, ◌∷◌, [], ◌++◌, IfOk, IsTrue, OnOk, OnErr};
+ghost use Rattle.std.specs.FinMap.{is_sorted};
+ghost use Rattle.kdcdef_types.specs.Generation.{tac_of};
+ghost use Rattle.kdcs_types.specs.declared.call.Code.TheVariants as code;
+ghost use Rattle.monitor_semantics.specs.Bytes.{bytes_cmp};
+ghost use Rattle.monitor_semantics.specs.Endings.{joined, opened, spaces, budget_by, is_asynchronous, fresh_run, kb_of, lssbs_of, handed_on};
+ghost use Rattle.monitor_semantics.specs.Statements.{counted};
+ghost use Rattle.unit_semantics.specs.Ready.{CanAnswer, IsReady};
 ghost use Rattle.open_transaction.specs.Work.{work_of, accepted_of, followed_with, HasOrder};
 
 use crate::held::HeldAreas;
 use async_queue::DraftJobs;
 use kd_base::{Bytes, Name, OutOfMemory};
 use kdcdef_check::Generation;
-use kdcs_types::{Areas, Code, FixedBytes, Header, Notes, Parts, RunState, Service, ServiceId};
+use kdcs_types::{
+    Areas, Code, FixedBytes, Header, Notes, Parts, Reply, RunState, Service, ServiceId,
+};
 use message_area::MessageArea;
 use std::alloc::Global;
 use storage_areas::Overlay;
+use unit_step::answered;
+use unit_types::Unit;
 
 /// All that a service has done since its last synchronisation point. Contracts see all fields.
 #[derive(Drop)]
@@ -41,4 +51,213 @@ pub struct OpenTransaction {
     pub notes: Notes,
     /// How many statements it has done.
     pub statements: u64,
+}
+
+fn spaces(alloc: Global, count: u32) -> Result<Bytes, OutOfMemory>
+    ensures { IfOk result (λ bytes. bytes ≡ spaces count) }
+{
+    Ok(Bytes::from_vec(vec![in alloc; b' '; count as usize]?))
+}
+
+// TIME of a TAC.
+fn budget(generation: &Generation, tac: Name) -> u32
+    ensures { result ≡ budget_by (tac_of generation.now tac) }
+{
+    match generation.tac(tac) {
+        Some(entry) => entry.time,
+        None => 0,
+    }
+}
+
+// The KB of the row, or a new one.
+fn kb_of(
+    alloc: Global,
+    generation: &Generation,
+    began: &Option<Service>,
+) -> Result<Bytes, OutOfMemory>
+    ensures { IfOk result (λ kb. kb ≡ kb_of generation.now began.now) }
+{
+    match began {
+        Some(row) => Ok(row.kb.clone()?),
+        None => spaces(alloc, generation.max().kb),
+    }
+}
+
+// The LSSBs of the row, or none.
+fn lssbs_of(alloc: Global, began: &Option<Service>) -> Result<Areas, OutOfMemory>
+    requires { HasOrder began.now }
+    ensures lssbs { IfOk result (λ lssbs. lssbs ≡ lssbs_of began.now) }
+    ensures ascending { IfOk result (λ lssbs. IsTrue (is_sorted bytes_cmp lssbs)) }
+{
+    match began {
+        Some(row) => Ok(row.lssbs.clone()?),
+        None => Ok(Areas::new(alloc)),
+    }
+}
+
+// A unit run before its first statement.
+fn fresh_run(
+    alloc: Global,
+    generation: &Generation,
+    kb: FixedBytes,
+    header: Header,
+) -> Result<RunState, OutOfMemory>
+    ensures { IfOk result (λ run. run ≡ fresh_run generation.now kb header) }
+{
+    Ok(RunState {
+        place: 1,
+        count: 0,
+        budget: budget(generation, header.tacal),
+        kb,
+        spab: FixedBytes::from_bytes(spaces(alloc, generation.max().spab)?),
+        code: Code::Done,
+        length: 0,
+        header,
+    })
+}
+
+// The same run begins anew, for this TAC. It keeps the KB.
+fn restart(run: &mut RunState, budget: u32, tac: Name, spab: Bytes)
+    ensures { run.new ≡ record { place = 1; count = 0; budget = budget; kb = run.old.kb; spab = spab; code = code.Done; length = 0; header = record run.old.header { tacal = tac } } }
+{
+    run.place = 1;
+    run.count = 0;
+    run.budget = budget;
+    run.spab = FixedBytes::from_bytes(spab);
+    run.code = Code::Done;
+    run.length = 0;
+    run.header.tacal = tac;
+}
+
+// The inputs accepted: the message to read, if it is one.
+fn accepted_of(alloc: Global, accepted: bool, handed: &Parts) -> Result<Parts, OutOfMemory>
+    ensures { IfOk result (λ inputs. inputs ≡ accepted_of accepted handed.now) }
+{
+    if accepted {
+        Ok(handed.clone()?)
+    } else {
+        Ok(Parts::new(alloc))
+    }
+}
+
+impl OpenTransaction {
+    /// A transaction of a service opens, from its row if it has one. Its unit run has the parts `handed` to read, which
+    /// are an input that it accepted, or a message that was handed on or is a job's.
+    #[tactic(auto, unfolding(monitor_semantics::specs::Endings::opened))]
+    pub fn begin(
+        alloc: Global,
+        generation: &Generation,
+        id: ServiceId,
+        began: Option<Service>,
+        header: Header,
+        handed: Parts,
+        accepted: bool,
+    ) -> Result<OpenTransaction, OutOfMemory>
+        requires { HasOrder began }
+        ensures exact { IfOk result (λ work. work_of work ≡ opened generation.now began header handed (accepted_of accepted handed)) }
+        ensures id { IfOk result (λ work. work.id ≡ id) }
+        ensures nb { IfOk result (λ work. work.messages.nb ≡ generation.now.limits.nb) }
+    {
+        let inputs = accepted_of(alloc, accepted, &handed)?;
+        let kb = kb_of(alloc, generation, &began)?;
+        let lssbs = lssbs_of(alloc, &began)?;
+        Ok(OpenTransaction {
+            id,
+            began,
+            first: header.tacvg,
+            user: header.benid,
+            lterm: header.logter,
+            inputs,
+            current: header.tacal,
+            run: fresh_run(alloc, generation, FixedBytes::from_bytes(kb), header)?,
+            inited: false,
+            messages: MessageArea::new(alloc, handed, generation.max().nb),
+            areas: Overlay::new(alloc, lssbs),
+            drafts: DraftJobs::new(alloc),
+            touched: HeldAreas::new(alloc),
+            notes: Notes::new(alloc),
+            statements: 0,
+        })
+    }
+
+    /// The message that was put, its parts joined.
+    pub fn message(&self, alloc: Global) -> Result<Bytes, OutOfMemory>
+        ensures { IfOk result (λ message. message ≡ joined self.now.messages.parts) }
+    {
+        let mut message = Bytes::new(alloc);
+        for part in self.messages.parts() {
+            message.append(part.as_slice())?;
+        }
+        Ok(message)
+    }
+
+    /// A unit run of this TAC begins in the same transaction. With an input, which is accepted, that is the message to
+    /// read, and the parts put are dropped. Without one the parts put are handed on; but an asynchronous service goes on
+    /// reading its job's message. On an error nothing changes. Fewer than 2^64 - 1 statements were done.
+    #[tactic(auto, unfolding(monitor_semantics::specs::Endings::followed, monitor_semantics::specs::Endings::followed_by_input))]
+    pub fn follow(
+        &mut self,
+        alloc: Global,
+        generation: &Generation,
+        tac: Name,
+        input: Option<Bytes>,
+    ) -> Result<(), OutOfMemory>
+        requires { self.old.statements + 1 < 2 ^ 64 }
+        ensures ok { OnOk result (work_of self.new ≡ followed_with generation.now (is_asynchronous self.old.id) (work_of self.old) tac input) }
+        ensures err { OnErr result (self.new ≡ self.old) }
+        ensures id { self.new.id ≡ self.old.id }
+        ensures nb { self.old.messages.nb ≡ generation.now.limits.nb → self.new.messages.nb ≡ generation.now.limits.nb }
+    {
+        let spab = spaces(alloc, generation.max().spab)?;
+        match input {
+            Some(input) => self.accept(alloc, generation.max().nb, input)?,
+            None => self.hand_on(alloc, generation.max().nb),
+        }
+        self.current = tac;
+        self.inited = false;
+        self.statements += 1;
+        restart(&mut self.run, budget(generation, tac), tac, spab);
+        Ok(())
+    }
+
+    /// A call is answered: its statement is counted, and the unit run has code, length and content of the answer. Fewer
+    /// than 2^64 - 1 statements were done. It takes no memory.
+    pub fn count(&mut self, unit: &Unit, reply: &Reply)
+        requires ready { IsReady unit.now self.old.run }
+        requires can { CanAnswer unit.now self.old.run reply.now }
+        requires statements { self.old.statements + 1 < 2 ^ 64 }
+        ensures exact { work_of self.new ≡ counted unit.now (work_of self.old) reply.now }
+        ensures id { self.new.id ≡ self.old.id }
+        ensures nb { self.new.messages.nb ≡ self.old.messages.nb }
+    {
+        answered(unit, &mut self.run, reply);
+        self.statements += 1;
+    }
+
+    // The input is accepted, and is the message to read.
+    fn accept(&mut self, alloc: Global, nb: u32, input: Bytes) -> Result<(), OutOfMemory>
+        ensures ok { OnOk result (self.new ≡ record self.old { inputs = self.old.inputs ++ input ∷ []; messages = record { unread = input ∷ []; parts = []; nb = nb } }) }
+        ensures err { OnErr result (self.new ≡ self.old) }
+    {
+        let mut unread = Parts::new(alloc);
+        unread.push(input.clone()?)?;
+        self.inputs.push(input)?;
+        self.messages = MessageArea::new(alloc, unread, nb);
+        Ok(())
+    }
+
+    // The parts put are the message to read, but the message of a job stays to be read.
+    fn hand_on(&mut self, alloc: Global, nb: u32)
+        ensures exact { (work_of self.new) ≡ record (work_of self.old) { unread = handed_on (is_asynchronous self.old.id) (work_of self.old); parts = [] } }
+        ensures id { self.new.id ≡ self.old.id }
+        ensures nb { self.old.messages.nb ≡ nb → self.new.messages.nb ≡ nb }
+    {
+        match self.id {
+            ServiceId::Asynchronous(_) => self.messages.clear(),
+            ServiceId::Dialogue(_) => {
+                let parts = self.messages.take();
+                self.messages = MessageArea::new(alloc, parts, nb);
+            }
+        }
+    }
 }

@@ -1,0 +1,4 @@
+mod Eight
+mod Grown
+mod Room
+mod Short

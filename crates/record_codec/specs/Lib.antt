@@ -1,3 +1,4 @@
 pub mod Values
 pub mod Records
 pub mod Order
+pub mod Patches

@@ -1,8 +1,7 @@
 -- Tables as a content of records, and back.
-use Rattle.std.specs.Prelude.{◌≡◌, ◌<◌, ◌^◌, ℕ, List, ◌++◌, map, All}
+use Rattle.std.specs.Prelude.{◌≡◌, List, ◌++◌, map, All}
 use Rattle.kd_records.specs.declared.content.Content.{Content}
 use Rattle.kd_records.specs.declared.content.Patch.{Patch}
-use Rattle.kd_records.specs.Contents.{Record}
 use Rattle.kdcs_types.specs.declared.act.Changes.{Changes}
 use Rattle.kdcs_types.specs.declared.act.Row.{Row}
 use Rattle.kdcs_types.specs.Tables.{TableRows, gssb_row, tls_row, uls_row, service_row, job_row, shown_row, IsSortedTables}

@@ -1,5 +1,5 @@
 -- The bytes of keys and values: how a row of the tables is written as a record.
-use Rattle.std.specs.Prelude.{◌<◌, ◌^◌, ℕ, ◌-◌, Bool, true, false, List, [], ◌∷◌, ◌++◌, length, map, flat_map, replicate, Option, Some, None}
+use Rattle.std.specs.Prelude.{◌<◌, ◌^◌, ⊤, ℕ, ◌-◌, Bool, true, false, List, [], ◌∷◌, ◌++◌, length, flat_map, replicate, Option, Some, None}
 use Rattle.std.specs.Int.{w32, w64, to_be_bytes}
 use Rattle.kd_base.specs.Field.{list}
 use Rattle.kd_base.specs.Text.{padded}
@@ -104,3 +104,8 @@ record_change (Remove k) = (record_key k, None)
 -- the value's length has four bytes
 abbrev pub HasShortValue : Row → Type 0
 HasShortValue r = length (value_bytes r) < 2 ^ 32
+
+-- the same of the row that a change sets
+abbrev pub HasShortChange : Change → Type 0
+HasShortChange (Set r) = HasShortValue r
+HasShortChange (Remove k) = ⊤

@@ -1,2 +1,10 @@
 //! Rows of the tables as records of a KDCFILE, and back; how long their values are, and which tables suit a generation.
 #![tactic(auto)]
+
+mod encode;
+mod keys;
+mod laws;
+mod values;
+
+pub use encode::{difference, records};
+pub use laws::{keys_keep_their_order, patches_follow_changes};

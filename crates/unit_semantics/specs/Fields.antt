@@ -37,14 +37,14 @@ header_value run Crccc = code_text run.code
 header_value run Rlm = in_digits 5 run.length
 
 -- KB, or SPAB
-abbrev pub area_of : RunState → Bool → List ℕ
-area_of run true = run.spab
-area_of run false = run.kb
+abbrev pub run_area : RunState → Bool → List ℕ
+run_area run true = run.spab
+run_area run false = run.kb
 
 -- the bytes of a field
-abbrev pub content_of : RunState → Option Field → List ℕ
-content_of run None = []
-content_of run (Some f) = take f.length (drop f.offset (area_of run f.spab))
+abbrev pub field_bytes : RunState → Option Field → List ℕ
+field_bytes run None = []
+field_bytes run (Some f) = take f.length (drop f.offset (run_area run f.spab))
 
 -- the length of a field
 abbrev pub room_of : Option Field → ℕ
@@ -53,11 +53,11 @@ room_of (Some f) = f.length
 
 -- the bytes of an operand
 unfoldable pub value_of : UnitText → RunState → Operand → List ℕ
-value_of unit run (read.Field name) = content_of run (field_named unit name)
+value_of unit run (read.Field name) = field_bytes run (field_named unit name)
 value_of unit run (read.Literal bytes) = bytes
 value_of unit run (read.Digits bytes) = bytes
 value_of unit run (read.Header name) = header_value run name
-value_of unit run (read.Trim name) = trim_end (content_of run (field_named unit name))
+value_of unit run (read.Trim name) = trim_end (field_bytes run (field_named unit name))
 
 -- one of the two areas with bytes put over it from a place on
 abbrev pub written : RunState → Bool → ℕ → List ℕ → RunState

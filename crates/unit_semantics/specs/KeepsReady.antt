@@ -13,7 +13,7 @@ use Rattle.unit_types.specs.declared.action.Operand.{Operand}
 use Rattle.unit_types.specs.declared.unit.Field.{Field}
 use Rattle.unit_types.specs.UnitText.{UnitText, LabelsFromOne, field_named, label_place, statement_at}
 use Rattle.unit_semantics.specs.Contents.{number_of, fitted, overlaid, compared}
-use Rattle.unit_semantics.specs.Fields.{area_of, content_of, value_of, written, stored_in, stored}
+use Rattle.unit_semantics.specs.Fields.{run_area, field_bytes, value_of, written, stored_in, stored}
 use Rattle.unit_semantics.specs.Statement.{Meaning, Plain, Asks, Ends, moved_on, jumped, branched, relates, calculated, calculates, gets_result, sum_of, difference_of, product_of, quotient_of, done_by, step, read_into, next_target, answered}
 use Rattle.unit_semantics.specs.Ready.{IsInside, IsReady, IsAsking, CanAnswer}
 
@@ -60,7 +60,7 @@ keeps_all : (run : RunState) → Keeps run run
 keeps_all run =
     record { place = refl; count = refl; budget = refl; read_length = refl; lengths = record { kb = refl; spab = refl } }
 
-written_keeps : (run : RunState) (spab : Bool) (at : ℕ) (bytes : List ℕ) → at + length bytes ≤ length (area_of run spab) → Keeps run (written run spab at bytes)
+written_keeps : (run : RunState) (spab : Bool) (at : ℕ) (bytes : List ℕ) → at + length bytes ≤ length (run_area run spab) → Keeps run (written run spab at bytes)
 written_keeps run true at bytes h =
     record {
       place = refl;
@@ -88,7 +88,7 @@ found_passes {X} P test (y ∷ xs) x all e =
 
 in_field_keeps : (run : RunState) (f : Field) (bytes : List ℕ) → IsInside run f → Keeps run (stored_in run (Some f) bytes)
 in_field_keeps run f bytes inside =
-    let h : f.offset + length (fitted f.length bytes) ≤ length (area_of run f.spab) = omega (arith, length-fitted f.length bytes) in
+    let h : f.offset + length (fitted f.length bytes) ≤ length (run_area run f.spab) = omega (arith, length-fitted f.length bytes) in
     written_keeps run f.spab f.offset (fitted f.length bytes) h
 
 stored_keeps : (unit : UnitText) (run : RunState) (name bytes : List ℕ) → All (IsInside run) unit.fields → Keeps run (stored unit run name bytes)
@@ -103,7 +103,7 @@ stored_keeps unit run name bytes inside =
 
 -- ---- ready again
 
-area_lengths : (old new : RunState) → SameLengths old new → (spab : Bool) → length (area_of new spab) ≡ length (area_of old spab)
+area_lengths : (old new : RunState) → SameLengths old new → (spab : Bool) → length (run_area new spab) ≡ length (run_area old spab)
 area_lengths old new same true = same.spab
 area_lengths old new same false = same.kb
 
@@ -147,7 +147,7 @@ calculates_ready unit run name x calculation ready left =
           let f = found.0 in
           let inside = found_passes (IsInside run) (λ (g : Field). bytes_eq name g.name) unit.fields f ready.fields found.1 in
           rw (found.1)
-          (result_ready unit run f (calculated f.length calculation (number_of (content_of run (Some f))) (number_of (value_of unit run x))) inside ready left)
+          (result_ready unit run f (calculated f.length calculation (number_of (field_bytes run (Some f))) (number_of (value_of unit run x))) inside ready left)
     ]
 
 done_ready : (unit : UnitText) (run : RunState) (says : Action) → LabelsFromOne unit → IsReady unit run → run.count < run.budget → StaysReady unit run (done_by unit run says)

@@ -7,12 +7,12 @@ use Rattle.unit_types.specs.declared.action.Action.TheVariants as action
 use Rattle.unit_types.specs.declared.action.UnitStatement.{UnitStatement}
 use Rattle.unit_types.specs.declared.unit.Field.{Field}
 use Rattle.unit_types.specs.UnitText.{UnitText, label_place}
-use Rattle.unit_semantics.specs.Fields.{area_of}
+use Rattle.unit_semantics.specs.Fields.{run_area}
 use Rattle.unit_semantics.specs.Statement.{Meaning, Asks, step, next_target}
 
 -- a field lies inside its area
 abbrev pub IsInside : RunState → Field → Type 0
-IsInside run f = f.offset + f.length ≤ length (area_of run f.spab)
+IsInside run f = f.offset + f.length ≤ length (run_area run f.spab)
 
 -- a label that the statement may jump to is one of the unit's
 abbrev pub KnowsLabel : UnitText → Action → Type 0

@@ -18,7 +18,7 @@ use Rattle.unit_types.specs.declared.action.UnitStatement.{UnitStatement}
 use Rattle.unit_types.specs.declared.unit.Field.{Field}
 use Rattle.unit_types.specs.UnitText.{UnitText, field_named, label_place, statement_at}
 use Rattle.unit_semantics.specs.Contents.{number_of, number_in, compared}
-use Rattle.unit_semantics.specs.Fields.{content_of, room_of, value_of, stored, stored_in}
+use Rattle.unit_semantics.specs.Fields.{field_bytes, room_of, value_of, stored, stored_in}
 
 -- a plain statement was done and leads to this state, this call comes next, or the run ends with this cause
 pub data Meaning : Type 0 where
@@ -83,7 +83,7 @@ gets_result run f (Some bytes) = Plain (moved_on (stored_in run (Some f) bytes))
 abbrev pub calculates : UnitText → RunState → Option Field → Operand → (ℕ → ℕ → Option ℕ) → Meaning
 calculates unit run None operand calculation = Plain (moved_on run)
 calculates unit run (Some f) operand calculation =
-    gets_result run f (calculated f.length calculation (number_of (content_of run (Some f))) (number_of (value_of unit run operand)))
+    gets_result run f (calculated f.length calculation (number_of (field_bytes run (Some f))) (number_of (value_of unit run operand)))
 
 -- the length of a target field
 abbrev pub target_room : UnitText → List ℕ → ℕ

@@ -1,11 +1,10 @@
 -- Fields that were found, and what is stored in them.
-use Rattle.std.proofs.Common.{◌≡◌, ℕ, zero, suc, ◌+◌, ◌-◌, ◌≤◌, ◌<◌, Bool, true, false, cond, inl, inr, min, List, [], ◌∷◌, ◌++◌, length, take, drop, replicate, refl, arith, sym, ◌∙◌, ap, subst, append_assoc, length-append, length-take, Option, Some, None}
+use Rattle.std.proofs.Common.{◌≡◌, ℕ, suc, ◌≤◌, ◌<◌, Bool, inl, inr, min, List, [], ◌∷◌, ◌++◌, length, take, drop, refl, arith, sym, ◌∙◌, ap, subst, append_assoc, length-append, length-take, Some, None}
 use Rattle.std.specs.Prelude.{find, All, bytes_eq}
 use Rattle.std.proofs.lemmas.Bool.{cases_lt}
 use Rattle.std.proofs.lemmas.List.{take_all, take_at, take-append-le, take-append-drop}
 use Rattle.unit_step.proofs.Writing.{is_cut}
 use Rattle.kd_base.specs.Tools.{chosen, some_is}
-use Rattle.kd_base.specs.Text.{filled}
 use Rattle.kdcs_types.specs.declared.run_state.RunState.{RunState}
 use Rattle.unit_types.specs.declared.unit.Field.{Field}
 use Rattle.unit_types.specs.UnitText.{UnitText, field_named}

@@ -1,11 +1,11 @@
 -- Results that fit a field, and those that do not.
-use Rattle.std.proofs.Common.{◌≡◌, ◌≢◌, ℕ, zero, suc, ◌+◌, ◌-◌, ◌*◌, ◌/◌, ◌%◌, ◌^◌, ◌≤◌, ◌<◌, Bool, true, false, cond, inl, inr, min, nat_lt, List, [], ◌∷◌, ◌++◌, length, take, drop, replicate, refl, arith, sym, ◌∙◌, ap, append_assoc, length-append, length-take, add-one, Option, Some, None}
+use Rattle.std.proofs.Common.{◌≡◌, ◌≢◌, ℕ, zero, suc, ◌+◌, ◌-◌, ◌*◌, ◌/◌, ◌%◌, ◌^◌, ◌≤◌, ◌<◌, true, inl, inr, min, nat_lt, List, [], ◌∷◌, ◌++◌, length, take, replicate, refl, arith, sym, ◌∙◌, ap, append_assoc, length-take, add-one, Option, Some, None}
 use Rattle.std.specs.Prelude.{option_and_then}
 use Rattle.std.proofs.lemmas.Bool.{cases_Bool, cases_lt, le-ltb}
 use Rattle.std.proofs.lemmas.Bool.Decides.{nat_tests}
 use Rattle.std.proofs.lemmas.List.{append-nil, replicate-append-replicate, take_at}
 use Rattle.std.proofs.Math.Nat.{add-suc, add-zero, pow-zero, pow-suc, pow-le-pow_right, div-eq_of_lt, div-div-eq-div-mul, lt-div-mul-add}
-use Rattle.kd_base.specs.Tools.{chosen, some_is}
+use Rattle.kd_base.specs.Tools.{chosen}
 use Rattle.unit_semantics.specs.Contents.{in_digits, number_in, fitted}
 use Rattle.unit_semantics.specs.Statement.{calculated}
 use Rattle.kdcs_types.specs.declared.run_state.RunState.{RunState}

@@ -1,9 +1,8 @@
 -- Bytes put over others, one piece behind another.
-use Rattle.std.proofs.Common.{◌≡◌, ℕ, zero, ◌+◌, ◌-◌, ◌≤◌, ◌<◌, inl, inr, min, List, [], ◌++◌, length, take, drop, replicate, refl, arith, sym, ◌∙◌, ap, append_assoc, length-append, length-take}
+use Rattle.std.proofs.Common.{◌≡◌, ℕ, ◌+◌, ◌-◌, ◌≤◌, inl, inr, min, List, ◌++◌, length, take, drop, replicate, arith, sym, ◌∙◌, ap, append_assoc, length-append, length-take}
 use Rattle.std.proofs.lemmas.List.{take_at, drop_at, drop-drop, take-append-le, take_all, length-replicate, append-nil}
 use Rattle.std.proofs.lemmas.Bool.{cases_lt}
 use Rattle.unit_semantics.specs.Contents.{fitted, overlaid}
-use Rattle.kd_base.specs.Text.{filled}
 
 -- a piece is put behind the one before
 pub one_behind : (at : ℕ) (a b under : List ℕ) → at + length a + length b ≤ length under → overlaid (at + length a) b (overlaid at a under) ≡ overlaid at (a ++ b) under

@@ -1,5 +1,5 @@
 -- Cells that hold a header name's bytes.
-use Rattle.std.specs.Prelude.{◌≡◌, ◌≤◌, ℕ, take}
+use Rattle.std.specs.Prelude.{◌≡◌, ◌≤◌, take}
 use Rattle.kdcs_types.specs.declared.run_state.RunState.{RunState}
 use Rattle.unit_types.specs.declared.action.Operand.{Operand}
 use Rattle.unit_types.specs.declared.action.Operand.TheVariants as read

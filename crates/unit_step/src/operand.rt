@@ -3,7 +3,7 @@ ghost use Rattle.std.specs.Prelude.{◌≡◌, ◌≤◌, All, IfOk, Some, take}
 ghost use Rattle.std.specs.Option.{option_copied};
 ghost use Rattle.unit_types.specs.UnitText.{field_named};
 ghost use Rattle.unit_semantics.specs.Contents.{in_digits};
-ghost use Rattle.unit_semantics.specs.Fields.{code_text, content_of, header_value, value_of};
+ghost use Rattle.unit_semantics.specs.Fields.{code_text, field_bytes, header_value, value_of};
 ghost use Rattle.unit_semantics.specs.Ready.{IsInside};
 ghost use Rattle.unit_semantics.specs.Statement.{target_room};
 ghost use Rattle.unit_step.specs.Header.{HoldsHeader};
@@ -81,7 +81,7 @@ pub fn operand_cells(run: &RunState, operand: &Operand) -> Cells
 /// The bytes of a field.
 pub fn content<'a>(run: &'a RunState, field: &Field) -> &'a [u8]
     requires { IsInside run.now field.now }
-    ensures { result.now ≡ content_of run.now (Some field.now) }
+    ensures { result.now ≡ field_bytes run.now (Some field.now) }
 {
     let area = if field.spab {
         run.spab.as_slice()
@@ -95,7 +95,7 @@ pub fn content<'a>(run: &'a RunState, field: &Field) -> &'a [u8]
 // The bytes of the field of this name.
 fn named<'a>(unit: &Unit, run: &'a RunState, name: &Bytes) -> &'a [u8]
     requires { All (IsInside run.now) unit.now.fields }
-    ensures { result.now ≡ content_of run.now (field_named unit.now name.now) }
+    ensures { result.now ≡ field_bytes run.now (field_named unit.now name.now) }
 {
     match unit.field(name.as_slice()) {
         Some(field) => content(run, field),

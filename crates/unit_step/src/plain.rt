@@ -2,7 +2,7 @@
 ghost use Rattle.std.specs.Prelude.{◌≡◌, ◌+◌, ◌<◌, ◌^◌, ◌++◌, All, OnErr, OnOk, Some, is_some, length, min, take};
 ghost use Rattle.unit_types.specs.UnitText.{field_named, label_place};
 ghost use Rattle.unit_semantics.specs.Contents.{compared, number_in, number_of};
-ghost use Rattle.unit_semantics.specs.Fields.{content_of, stored, stored_in, value_of};
+ghost use Rattle.unit_semantics.specs.Fields.{field_bytes, stored, stored_in, value_of};
 ghost use Rattle.unit_semantics.specs.Ready.{IsInside};
 ghost use Rattle.unit_semantics.specs.Statement.{branched, calculated, calculates, jumped, moved_on, relates};
 ghost use Rattle.unit_step.specs.Answers.{meaning_of, OnlyPlainMoves};
@@ -122,8 +122,8 @@ fn calculate(
 ) -> bool
     requires inside { All (IsInside run.old) unit.now.fields }
     requires field { IsInside run.old field.now }
-    ensures stored { run.new ≡ with_result run.old field.now (calculated field.now.length (calculation_of calculation) (number_of (content_of run.old (Some field.now))) (number_of (value_of unit.now run.old operand.now))) }
-    ensures fits { result ≡ is_some (calculated field.now.length (calculation_of calculation) (number_of (content_of run.old (Some field.now))) (number_of (value_of unit.now run.old operand.now))) }
+    ensures stored { run.new ≡ with_result run.old field.now (calculated field.now.length (calculation_of calculation) (number_of (field_bytes run.old (Some field.now))) (number_of (value_of unit.now run.old operand.now))) }
+    ensures fits { result ≡ is_some (calculated field.now.length (calculation_of calculation) (number_of (field_bytes run.old (Some field.now))) (number_of (value_of unit.now run.old operand.now))) }
     ensures place { run.new.place ≡ run.old.place }
     ensures count { run.new.count ≡ run.old.count }
 {

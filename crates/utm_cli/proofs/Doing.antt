@@ -4,7 +4,7 @@ use Rattle.kd_device.specs.Device.{State}
 use Rattle.kd_records.specs.declared.content.Content.{Content}
 use Rattle.kdcs_types.specs.declared.act.Act.{Act}
 use Rattle.kdcs_types.specs.declared.tables.Tables.{Tables}
-use Rattle.utm_cli.specs.Stored.{content_of, tables_in, HasNoRows}
+use Rattle.utm_cli.specs.Stored.{content_without_rows, tables_in, HasNoRows}
 use Rattle.utm_cli.specs.Performing.{Performs, Performed}
 
 -- nothing was performed
@@ -16,7 +16,7 @@ performs_none stands t acts a la = record {
   quiet = λ told lines. record { holds = refl; put = refl };
 }
 
-module _ (x : Content) (t : Tables) (is : x ≡ content_of t) (rows : HasNoRows t) (acts all : List Act) (same : acts ≡ all) (a b : State) (lb : ℕ → List ℕ → List ℕ → Type 0) where
+module _ (x : Content) (t : Tables) (is : x ≡ content_without_rows t) (rows : HasNoRows t) (acts all : List Act) (same : acts ≡ all) (a b : State) (lb : ℕ → List ℕ → List ℕ → Type 0) where
   kept_tables : tables_in x ≡ t
   kept_tables = ap tables_in is ∙ sym rows
 

@@ -13,7 +13,7 @@ use Rattle.kdcs_types.specs.Limits.{IsInRange}
 use Rattle.kdcfile_images.specs.File.{OneMeaning}
 use Rattle.kdcfile_store.specs.Whole.{Whole, HasFile, identity_with}
 use Rattle.kdcfile_store.specs.declared.store.StoreLimits.{StoreLimits}
-use Rattle.utm_cli.specs.Stored.{no_print, content_of, tables_in, HasNoRows, StandsForTables}
+use Rattle.utm_cli.specs.Stored.{no_print, content_without_rows, tables_in, HasNoRows, StandsForTables}
 use Rattle.utm_cli.specs.Opening.{KeepsTables}
 
 not_false : (b : Bool) → not b ≡ false → b ≡ true
@@ -35,7 +35,7 @@ identity_is i l block pages print =
     let with_print : List ℕ → Identity = λ f. record { block = l.blksize; pages = l.pgpool; fingerprint = f } in
     ap with_block block ∙ ap with_pages pages ∙ ap with_print print
 
-content_is : (x : Content) → x.items ≡ [] → x ≡ content_of (tables_in x)
+content_is : (x : Content) → x.items ≡ [] → x ≡ content_without_rows (tables_in x)
 content_is x none =
     let with_items : List Record → Content = λ l. record { clock = x.clock; next_job = x.next_job; items = l } in
     ap with_items none
@@ -50,10 +50,10 @@ keeps l s x is block pages print none clock some most = record {
 }
 
 -- where the bytes stand for tables, and for what a store holds, the store keeps these tables
-pub keeps_meant : OneMeaning → (i : Identity) (s : Whole) (t : Tables) (bytes : List ℕ) → HasFile s bytes → StandsForTables i t bytes → IsInRange t → KeepsTables i s (tables_in (content_of t))
+pub keeps_meant : OneMeaning → (i : Identity) (s : Whole) (t : Tables) (bytes : List ℕ) → HasFile s bytes → StandsForTables i t bytes → IsInRange t → KeepsTables i s (tables_in (content_without_rows t))
 keeps_meant one i s t bytes file stands range =
-    let same = one s.identity i s.content (content_of t) bytes (s.second, file) stands in
+    let same = one s.identity i s.content (content_without_rows t) bytes (s.second, file) stands in
     record { identity_is = same.0; content = same.1; range = record { clock = range.clock; next_job_from_one = range.next_job_from_one; next_job = range.next_job }; rows = refl }
 
-pub tables_are : (t u : Tables) → HasNoRows t → HasNoRows u → content_of t ≡ content_of u → t ≡ u
+pub tables_are : (t u : Tables) → HasNoRows t → HasNoRows u → content_without_rows t ≡ content_without_rows u → t ≡ u
 tables_are t u none none_either same = none ∙ ap tables_in same ∙ sym none_either

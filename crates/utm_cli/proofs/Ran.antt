@@ -14,15 +14,15 @@ use Rattle.kdcs_types.specs.declared.tables.Tables.{Tables}
 use Rattle.monitor_core.specs.Cut.{IsCutSince}
 use Rattle.monitor_core.specs.Laws.{cut_none}
 use Rattle.utm_cli.specs.Said.{Said, SaidPart}
-use Rattle.utm_cli.specs.Stored.{content_of, empty_tables, StandsForTables, StartsFrom, IsRefused}
+use Rattle.utm_cli.specs.Stored.{content_without_rows, empty_tables, StandsForTables, StartsFrom, IsRefused}
 use Rattle.utm_cli.specs.Opening.{IsOpening, IsBeingMade}
 use Rattle.utm_cli.specs.Performing.{Performs, Performed}
 use Rattle.utm_cli.specs.Promise.{Ran, IsCutOfRun}
 use Rattle.utm_cli.proofs.KeptTables.{tables_are}
 
 -- the acts are performed in a file of this application
-pub performs_here : (i k : Identity) → i ≡ k → (t : Tables) (acts : List Act) (a b : State) (la lb : ℕ → List ℕ → List ℕ → Type 0) → Performs (λ u image. StandsFor i (content_of u) image) t acts a b la lb → Performs (StandsForTables k) t acts a b la lb
-performs_here i k is t acts a b la lb h = subst (λ (j : Identity). Performs (λ u image. StandsFor j (content_of u) image) t acts a b la lb) is h
+pub performs_here : (i k : Identity) → i ≡ k → (t : Tables) (acts : List Act) (a b : State) (la lb : ℕ → List ℕ → List ℕ → Type 0) → Performs (λ u image. StandsFor i (content_without_rows u) image) t acts a b la lb → Performs (StandsForTables k) t acts a b la lb
+performs_here i k is t acts a b la lb h = subst (λ (j : Identity). Performs (λ u image. StandsFor j (content_without_rows u) image) t acts a b la lb) is h
 
 -- all acts were performed
 pub ran : (s : Whole) (i : Identity) → s.identity ≡ i → (acts : Tables → List Act) (t : Tables) (a b : State) (lb : ℕ → List ℕ → List ℕ → Type 0) → Performed (HasFile s) s.content t (acts t) a b lb → IsTrue a.told → Ran i acts t a b lb
@@ -45,7 +45,7 @@ pub one_start : OneMeaning → (i : Identity) (h : List ℕ) (t u : Tables) → 
 one_start one i h t u (inl (empty, is)) (inl (empty2, is2)) = is ∙ sym is2
 one_start one i h t u (inl (empty, is)) (inr (stands, range, rows)) = absurd (nothing_stands i u (subst (λ (l : List ℕ). StandsForTables i u l) empty stands))
 one_start one i h t u (inr (stands, range, rows)) (inl (empty, is)) = absurd (nothing_stands i t (subst (λ (l : List ℕ). StandsForTables i t l) empty stands))
-one_start one i h t u (inr (stands, range, rows)) (inr (stands2, range2, rows2)) = tables_are t u rows rows2 (one i i (content_of t) (content_of u) h stands stands2).1
+one_start one i h t u (inr (stands, range, rows)) (inr (stands2, range2, rows2)) = tables_are t u rows rows2 (one i i (content_without_rows t) (content_without_rows u) h stands stands2).1
 
 module _ (i : Identity) (acts : Tables → List Act) (t : Tables) (a : State) (la : ℕ → List ℕ → List ℕ → Type 0) (only : Only a.holds a la) where
   pub as_it_was : (image out : List ℕ) → StartsFrom i a.holds t → image ≡ a.holds → out ≡ a.sent → IsCutOfRun i acts t a image out

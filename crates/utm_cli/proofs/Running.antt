@@ -25,31 +25,31 @@ use Rattle.kdcs_types.specs.RowLaws.{numbers_changed}
 use Rattle.monitor_core.specs.Trace.{trace, state_after, tables_after, bytes_of}
 use Rattle.monitor_core.specs.Cut.{IsCutSince}
 use Rattle.monitor_core.specs.Laws.{tables_joined, bytes_joined, trace_joined, state_joined, cut_none, cut_after, cut_of_part}
-use Rattle.utm_cli.specs.Stored.{content_of, tables_in, HasNoRows}
+use Rattle.utm_cli.specs.Stored.{content_without_rows, tables_in, HasNoRows}
 use Rattle.utm_cli.specs.Performing.{ChangesNoRow, is_line, commits_nothing, Performs, Performed}
 
 -- a commit that was whole or absent
-pub commit_cut : (st : Content → List ℕ → Type 0) (x : Content) (ch : Changes) (sent c out : List ℕ) → x ≡ content_of (tables_in x) → OldOrNew st x (content_of (changed (tables_in x) ch)) sent c out
-    → IsCutSince (λ t image. st (content_of t) image) (tables_in x) (Commit ch ∷ []) sent c out
+pub commit_cut : (st : Content → List ℕ → Type 0) (x : Content) (ch : Changes) (sent c out : List ℕ) → x ≡ content_without_rows (tables_in x) → OldOrNew st x (content_without_rows (changed (tables_in x) ch)) sent c out
+    → IsCutSince (λ t image. st (content_without_rows t) image) (tables_in x) (Commit ch ∷ []) sent c out
 commit_cut st x ch sent c out is (same, inl old) =
-    subst (λ (o : List ℕ). IsCutSince (λ t image. st (content_of t) image) (tables_in x) (Commit ch ∷ []) sent c o) (sym same) (cut_none (λ t image. st (content_of t) image) (tables_in x) (Commit ch ∷ []) sent c (subst (λ (y : Content). st y c) is old))
-commit_cut st x ch sent c out is (same, inr new) = cut_after (λ t image. st (content_of t) image) (tables_in x) (Commit ch ∷ []) [] sent c out new (same ∙ sym (append-nil sent))
+    subst (λ (o : List ℕ). IsCutSince (λ t image. st (content_without_rows t) image) (tables_in x) (Commit ch ∷ []) sent c o) (sym same) (cut_none (λ t image. st (content_without_rows t) image) (tables_in x) (Commit ch ∷ []) sent c (subst (λ (y : Content). st y c) is old))
+commit_cut st x ch sent c out is (same, inr new) = cut_after (λ t image. st (content_without_rows t) image) (tables_in x) (Commit ch ∷ []) [] sent c out new (same ∙ sym (append-nil sent))
 
-pub committing : (st : Content → List ℕ → Type 0) (x : Content) (ch : Changes) (a b : State) (la lb : ℕ → List ℕ → List ℕ → Type 0) → x ≡ content_of (tables_in x) → LeavesOnly a b la lb (OldOrNew st x (content_of (changed (tables_in x) ch)) a.sent)
-    → LeavesOnly a b la lb (IsCutSince (λ t image. st (content_of t) image) (tables_in x) (Commit ch ∷ []) a.sent)
-committing st x ch a b la lb is h = leaves_weaker a b la lb (OldOrNew st x (content_of (changed (tables_in x) ch)) a.sent) (IsCutSince (λ t image. st (content_of t) image) (tables_in x) (Commit ch ∷ []) a.sent) h (λ c out old. commit_cut st x ch a.sent c out is old)
+pub committing : (st : Content → List ℕ → Type 0) (x : Content) (ch : Changes) (a b : State) (la lb : ℕ → List ℕ → List ℕ → Type 0) → x ≡ content_without_rows (tables_in x) → LeavesOnly a b la lb (OldOrNew st x (content_without_rows (changed (tables_in x) ch)) a.sent)
+    → LeavesOnly a b la lb (IsCutSince (λ t image. st (content_without_rows t) image) (tables_in x) (Commit ch ∷ []) a.sent)
+committing st x ch a b la lb is h = leaves_weaker a b la lb (OldOrNew st x (content_without_rows (changed (tables_in x) ch)) a.sent) (IsCutSince (λ t image. st (content_without_rows t) image) (tables_in x) (Commit ch ∷ []) a.sent) h (λ c out old. commit_cut st x ch a.sent c out is old)
 
 -- a commit is no line
 pub not_lines : (changes : Changes) (act : Act) → act ≡ Commit changes → commits_nothing (act ∷ []) ≡ true → ⊥
 not_lines changes act is lines = let no_line = ap (λ (x : Act). commits_nothing (x ∷ [])) (sym is) ∙ lines in cc
 
 -- a patch with no records changes the clock and the next job number alone
-pub patched_is : (x : Content) (p : Patch) (ch : Changes) → x ≡ content_of (tables_in x) → p ≡ record { clock = ch.clock; next_job = ch.next_job; items = [] } → patched x p ≡ content_of (changed (tables_in x) ch)
+pub patched_is : (x : Content) (p : Patch) (ch : Changes) → x ≡ content_without_rows (tables_in x) → p ≡ record { clock = ch.clock; next_job = ch.next_job; items = [] } → patched x p ≡ content_without_rows (changed (tables_in x) ch)
 patched_is x p ch is same =
     let rows : x.items ≡ [] = ap (λ (y : Content). y.items) is in
     let with_rows : List Record → Content = λ rows. record { clock = ch.clock; next_job = ch.next_job; items = rows } in
     let numbers = numbers_changed (tables_in x) ch in
-    let with_numbers : content_of (changed (tables_in x) ch) ≡ record { clock = ch.clock; next_job = ch.next_job; items = [] } = λ i. record { clock = numbers.0 i; next_job = numbers.1 i; items = [] } in
+    let with_numbers : content_without_rows (changed (tables_in x) ch) ≡ record { clock = ch.clock; next_job = ch.next_job; items = [] } = λ i. record { clock = numbers.0 i; next_job = numbers.1 i; items = [] } in
     ap (λ (q : Patch). patched x q) same ∙ ap with_rows rows ∙ sym with_numbers
 
 -- a commit that changes no row leaves none
@@ -57,8 +57,8 @@ pub no_row_after : (x : Content) (ch : Changes) → ch.items ≡ [] → HasNoRow
 no_row_after x ch none =
     subst (λ (items : List Change). HasNoRows (with_changes (record (tables_in x) { clock = ch.clock; next_job = ch.next_job }) items)) (sym none) refl
 
-pub committing_patch : (st : Content → List ℕ → Type 0) (x : Content) (p : Patch) (ch : Changes) (a b : State) (la lb : ℕ → List ℕ → List ℕ → Type 0) → x ≡ content_of (tables_in x) → p ≡ record { clock = ch.clock; next_job = ch.next_job; items = [] } → LeavesOnly a b la lb (OldOrNew st x (patched x p) a.sent)
-    → LeavesOnly a b la lb (IsCutSince (λ t image. st (content_of t) image) (tables_in x) (Commit ch ∷ []) a.sent)
+pub committing_patch : (st : Content → List ℕ → Type 0) (x : Content) (p : Patch) (ch : Changes) (a b : State) (la lb : ℕ → List ℕ → List ℕ → Type 0) → x ≡ content_without_rows (tables_in x) → p ≡ record { clock = ch.clock; next_job = ch.next_job; items = [] } → LeavesOnly a b la lb (OldOrNew st x (patched x p) a.sent)
+    → LeavesOnly a b la lb (IsCutSince (λ t image. st (content_without_rows t) image) (tables_in x) (Commit ch ∷ []) a.sent)
 committing_patch st x p ch a b la lb is same h = committing st x ch a b la lb is (subst (λ (y : Content). LeavesOnly a b la lb (OldOrNew st x y a.sent)) (patched_is x p ch is same) h)
 
 -- some first acts of all are done: a is the device at the start, and b the device now
@@ -66,7 +66,7 @@ pub record Running (stands : Tables → List ℕ → Type 0) (file : List ℕ �
   pub performs : Performs stands t all a b la lb
   pub performed : Performed file x t done a b lb
 
-pub running_start : (stands : Tables → List ℕ → Type 0) (file : List ℕ → Type 0) (x : Content) (all : List Act) (a : State) (la : ℕ → List ℕ → List ℕ → Type 0) → x ≡ content_of (tables_in x) → (IsTrue a.told → IsKept file a la) → Running stands file x (tables_in x) all [] a a la la
+pub running_start : (stands : Tables → List ℕ → Type 0) (file : List ℕ → Type 0) (x : Content) (all : List Act) (a : State) (la : ℕ → List ℕ → List ℕ → Type 0) → x ≡ content_without_rows (tables_in x) → (IsTrue a.told → IsKept file a la) → Running stands file x (tables_in x) all [] a a la la
 running_start stands file x all a la is kept = record {
   performs = record { frame = record { told = refl; disk_faults = omega arith; line_faults = omega arith; moment = omega arith }; names = refl; any_moment = λ told. record { later = omega arith; only = λ u c out le left. inl left }; quiet = λ told lines. record { holds = refl; put = refl } };
   performed = record { tables = is; rows = refl; rest = kept; sent = λ told. sym (append-nil a.sent) };
@@ -105,7 +105,7 @@ module _ (stands : Tables → List ℕ → Type 0) (file : List ℕ → Type 0) 
   running_more file' x' h = record {
     performs = running_performs;
     performed = record {
-      tables = h.tables ∙ ap (λ (u : Tables). content_of (tables_after u here)) here_tables ∙ ap content_of (sym (tables_joined t done here));
+      tables = h.tables ∙ ap (λ (u : Tables). content_without_rows (tables_after u here)) here_tables ∙ ap content_without_rows (sym (tables_joined t done here));
       rows = subst HasNoRows (ap (λ (u : Tables). tables_after u here) here_tables ∙ sym (tables_joined t done here)) h.rows;
       rest = λ told. h.rest (told_then told);
       sent = λ told. h.sent (told_then told) ∙ ap (λ (s : List ℕ). s ++ bytes_of here) (run.performed.sent told) ∙ append_assoc a.sent (bytes_of done) (bytes_of here) ∙ ap (λ (s : List ℕ). a.sent ++ s) (sym (bytes_joined done here));

@@ -6,7 +6,7 @@ use Rattle.kdcfile_images.specs.File.{StandsFor, IsNoImage, fresh}
 use Rattle.kdcs_types.specs.declared.tables.Tables.{Tables}
 use Rattle.kdcs_types.specs.Limits.{IsInRange}
 use Rattle.kdcfile_store.specs.Whole.{Whole}
-use Rattle.utm_cli.specs.Stored.{content_of, HasNoRows}
+use Rattle.utm_cli.specs.Stored.{content_without_rows, HasNoRows}
 
 -- within the making of an empty file: it is no image yet, or has the empty tables
 pub record IsBeingMade (i : Identity) (a : State) (image : List ℕ) : Type 0 where
@@ -21,7 +21,7 @@ pub record IsOpening (i : Identity) (a : State) (la : ℕ → List ℕ → List 
 -- the store keeps these tables, in a file that was made with this
 pub record KeepsTables (i : Identity) (store : Whole) (t : Tables) : Type 0 where
   pub identity_is : store.identity ≡ i
-  pub content : store.content ≡ content_of t
+  pub content : store.content ≡ content_without_rows t
   pub range : IsInRange t
   pub rows : HasNoRows t
 

@@ -10,7 +10,7 @@ use Rattle.kdcs_types.specs.declared.tables.Tables.{Tables}
 use Rattle.monitor_core.specs.Trace.{tables_after, bytes_of}
 use Rattle.monitor_core.specs.Cut.{IsCutSince}
 use Rattle.utm_cli.specs.Said.{SameDisk}
-use Rattle.utm_cli.specs.Stored.{content_of, HasNoRows}
+use Rattle.utm_cli.specs.Stored.{content_without_rows, HasNoRows}
 
 -- the act changes no row, as all acts yet
 abbrev pub ChangesNoRow : Act → Type 0
@@ -34,7 +34,7 @@ pub record Performs (stands : Tables → List ℕ → Type 0) (t : Tables) (acts
 
 -- all acts are done: the store keeps the tables after them, and their lines were sent
 pub record Performed (file : List ℕ → Type 0) (kept : Content) (t : Tables) (acts : List Act) (a b : State) (lb : ℕ → List ℕ → List ℕ → Type 0) : Type 0 where
-  pub tables : kept ≡ content_of (tables_after t acts)
+  pub tables : kept ≡ content_without_rows (tables_after t acts)
   pub rows : HasNoRows (tables_after t acts)
   pub rest : IsTrue a.told → IsKept file b lb
   pub sent : IsTrue a.told → b.sent ≡ a.sent ++ bytes_of acts

@@ -27,8 +27,8 @@ abbrev pub identity_of : Errand → Identity
 identity_of e = identity_for e.application.generation
 
 -- tables as records: the clock and the next job number, and no rows yet
-abbrev pub content_of : Tables → Content
-content_of t = record { clock = t.clock; next_job = t.next_job; items = [] }
+abbrev pub content_without_rows : Tables → Content
+content_without_rows t = record { clock = t.clock; next_job = t.next_job; items = [] }
 
 -- the tables of a content
 abbrev pub tables_in : Content → Tables
@@ -36,11 +36,11 @@ tables_in x = record empty_tables { clock = x.clock; next_job = x.next_job }
 
 -- the tables have no rows, as all that are stored yet
 abbrev pub HasNoRows : Tables → Type 0
-HasNoRows t = t ≡ tables_in (content_of t)
+HasNoRows t = t ≡ tables_in (content_without_rows t)
 
 -- the bytes are a KDCFILE that was made with this, with these tables
 abbrev pub StandsForTables : Identity → Tables → List ℕ → Type 0
-StandsForTables i t bytes = StandsFor i (content_of t) bytes
+StandsForTables i t bytes = StandsFor i (content_without_rows t) bytes
 
 -- a call on these bytes starts from these tables: an empty file is made with the empty ones
 abbrev pub StartsFrom : Identity → List ℕ → Tables → Type 0

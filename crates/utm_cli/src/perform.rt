@@ -6,7 +6,7 @@ ghost use Rattle.kdcfile_store.specs.Kept.{IsKept};
 ghost use Rattle.kdcs_types.specs.Limits.{IsInRange};
 ghost use Rattle.monitor_core.specs.Monitor.{started};
 ghost use Rattle.monitor_core.specs.Trace.{trace};
-ghost use Rattle.utm_cli.specs.Stored.{content_of, tables_in, HasNoRows};
+ghost use Rattle.utm_cli.specs.Stored.{content_without_rows, tables_in, HasNoRows};
 ghost use Rattle.utm_cli.specs.Performing.{ChangesNoRow, Performs, Performed};
 ghost use Rattle.utm_cli.specs.Doing.{acts_of};
 
@@ -42,9 +42,9 @@ fn perform_act<D: Device, S: Store<D>>(
 ) -> Result<(), RunError>
     requires rows { ChangesNoRow act.now }
     requires kept { IsTrue (D.state device.old).told → IsKept (S.file store.old) (D.state device.old) (D.leaves device.old) }
-    requires tables { S.kept store.old ≡ content_of (tables_in (S.kept store.old)) }
+    requires tables { S.kept store.old ≡ content_without_rows (tables_in (S.kept store.old)) }
     ensures identity { S.identity store.new ≡ S.identity store.old }
-    ensures any { Performs (λ t c. S.stands (S.identity store.old) (content_of t) c) (tables_in (S.kept store.old)) (act.now ∷ []) (D.state device.old) (D.state device.new) (D.leaves device.old) (D.leaves device.new) }
+    ensures any { Performs (λ t c. S.stands (S.identity store.old) (content_without_rows t) c) (tables_in (S.kept store.old)) (act.now ∷ []) (D.state device.old) (D.state device.new) (D.leaves device.old) (D.leaves device.new) }
     ensures done { OnOk result (Performed (S.file store.new) (S.kept store.new) (tables_in (S.kept store.old)) (act.now ∷ []) (D.state device.old) (D.state device.new) (D.leaves device.new)) }
     ensures failed { IsErrOf result RunError.Failed → Rose (D.state device.old).disk_faults (D.state device.new).disk_faults ⊎ Rose (D.state device.old).line_faults (D.state device.new).line_faults }
 {
@@ -67,9 +67,9 @@ fn perform_acts<D: Device, S: Store<D>>(
 ) -> Result<(), RunError>
     requires rows { All ChangesNoRow acts.now }
     requires kept { IsTrue (D.state device.old).told → IsKept (S.file store.old) (D.state device.old) (D.leaves device.old) }
-    requires tables { S.kept store.old ≡ content_of (tables_in (S.kept store.old)) }
+    requires tables { S.kept store.old ≡ content_without_rows (tables_in (S.kept store.old)) }
     ensures identity { S.identity store.new ≡ S.identity store.old }
-    ensures any { Performs (λ t c. S.stands (S.identity store.old) (content_of t) c) (tables_in (S.kept store.old)) acts.now (D.state device.old) (D.state device.new) (D.leaves device.old) (D.leaves device.new) }
+    ensures any { Performs (λ t c. S.stands (S.identity store.old) (content_without_rows t) c) (tables_in (S.kept store.old)) acts.now (D.state device.old) (D.state device.new) (D.leaves device.old) (D.leaves device.new) }
     ensures done { OnOk result (Performed (S.file store.new) (S.kept store.new) (tables_in (S.kept store.old)) acts.now (D.state device.old) (D.state device.new) (D.leaves device.new)) }
     ensures failed { IsErrOf result RunError.Failed → Rose (D.state device.old).disk_faults (D.state device.new).disk_faults ⊎ Rose (D.state device.old).line_faults (D.state device.new).line_faults }
 {
@@ -89,10 +89,10 @@ fn perform_script<D: Device, S: Store<D>>(
 ) -> Result<(), RunError>
     requires range { IsInRange tables }
     requires kept { IsTrue (D.state device.old).told → IsKept (S.file store.old) (D.state device.old) (D.leaves device.old) }
-    requires tables { S.kept store.old ≡ content_of tables }
+    requires tables { S.kept store.old ≡ content_without_rows tables }
     requires rows { HasNoRows tables }
     ensures identity { S.identity store.new ≡ S.identity store.old }
-    ensures any { Performs (λ t c. S.stands (S.identity store.old) (content_of t) c) tables (trace (started tables) commands.now) (D.state device.old) (D.state device.new) (D.leaves device.old) (D.leaves device.new) }
+    ensures any { Performs (λ t c. S.stands (S.identity store.old) (content_without_rows t) c) tables (trace (started tables) commands.now) (D.state device.old) (D.state device.new) (D.leaves device.old) (D.leaves device.new) }
     ensures done { OnOk result (Performed (S.file store.new) (S.kept store.new) tables (trace (started tables) commands.now) (D.state device.old) (D.state device.new) (D.leaves device.new)) }
     ensures failed { IsErrOf result RunError.Failed → Rose (D.state device.old).disk_faults (D.state device.new).disk_faults ⊎ Rose (D.state device.old).line_faults (D.state device.new).line_faults }
 {
@@ -115,10 +115,10 @@ pub(crate) fn perform<D: Device, S: Store<D>>(
 ) -> Result<(), RunError>
     requires range { IsInRange tables }
     requires kept { IsTrue (D.state device.old).told → IsKept (S.file store.old) (D.state device.old) (D.leaves device.old) }
-    requires tables { S.kept store.old ≡ content_of tables }
+    requires tables { S.kept store.old ≡ content_without_rows tables }
     requires rows { HasNoRows tables }
     ensures identity { S.identity store.new ≡ S.identity store.old }
-    ensures any { Performs (λ t c. S.stands (S.identity store.old) (content_of t) c) tables (acts_of asked.now tables) (D.state device.old) (D.state device.new) (D.leaves device.old) (D.leaves device.new) }
+    ensures any { Performs (λ t c. S.stands (S.identity store.old) (content_without_rows t) c) tables (acts_of asked.now tables) (D.state device.old) (D.state device.new) (D.leaves device.old) (D.leaves device.new) }
     ensures done { OnOk result (Performed (S.file store.new) (S.kept store.new) tables (acts_of asked.now tables) (D.state device.old) (D.state device.new) (D.leaves device.new)) }
     ensures failed { IsErrOf result RunError.Failed → Rose (D.state device.old).disk_faults (D.state device.new).disk_faults ⊎ Rose (D.state device.old).line_faults (D.state device.new).line_faults }
 {

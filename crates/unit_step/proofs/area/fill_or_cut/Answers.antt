@@ -1,4 +1,3 @@
-use Rattle.std.proofs.Common.{arith}
 use Rattle.unit_step.proofs.Writing.{put_and_filled}
 use Rattle.unit_step.proofs.area.fill_or_cut.Goals as goal
 

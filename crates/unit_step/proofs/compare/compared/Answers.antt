@@ -1,4 +1,4 @@
-use Rattle.std.proofs.Common.{rules, ◌≡◌, arith, ◌∙◌}
+use Rattle.std.proofs.Common.{arith, ◌∙◌}
 use Rattle.unit_semantics.specs.Contents.{compared}
 use Rattle.unit_step.proofs.Comparing.{decided, goes_on}
 use Rattle.unit_step.proofs.compare.compared.Goals as goal

@@ -1,6 +1,5 @@
 use Rattle.unit_semantics.specs.Contents.{in_digits}
-use Rattle.std.proofs.Common.{ℕ, ◌≡◌, ◌+◌, ◌-◌, ◌%◌, ◌≤◌, length, arith, ◌∙◌, ap, length-set}
-use Rattle.std.proofs.Math.ListN.{set}
+use Rattle.std.proofs.Common.{ℕ, length, arith, ◌∙◌, ap, length-set}
 use Rattle.unit_step.proofs.Digits.{written_down, left_down, all_written}
 use Rattle.unit_step.proofs.number.last_digits.Goals as goal
 

@@ -1,7 +1,7 @@
 use Rattle.std.proofs.Common.{refl, sym, ap, ◌∙◌}
 use Rattle.unit_semantics.specs.Contents.{number_of}
 use Rattle.unit_step.specs.Calculation.{calculation_of}
-use Rattle.unit_step.proofs.Results.{no_result, one_result}
+use Rattle.unit_step.proofs.Results.{no_result}
 use Rattle.unit_step.proofs.plain.calculate.Goals as goal
 
 pub returns-in_default-result_of-clause-stored : goal.returns-in_default-result_of-clause-stored

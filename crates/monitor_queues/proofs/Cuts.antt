@@ -1,0 +1,181 @@
+-- A stop leaves the durable tables of a state between two steps, and a start from them goes on there.
+use Rattle.std.specs.Prelude.{◌≡◌, ◌⊎◌, refl, IsTrue, ℕ, Bool, cond, List, [], ◌∷◌, ◌++◌, Some, None, All}
+use Rattle.std.proofs.Common.{sym, ap, subst, ◌∙◌, inl, inr, true≢false}
+use Rattle.std.proofs.lemmas.List.Elements.{All-head, All-tail}
+use Rattle.kdcs_types.specs.declared.act.Act.{Act}
+use Rattle.kdcs_types.specs.declared.act.Act.TheVariants.{Commit, Emit}
+use Rattle.kdcs_types.specs.declared.key.ServiceId.TheVariants.{Dialogue, Asynchronous}
+use Rattle.kdcs_types.specs.declared.service.Service.{Service}
+use Rattle.kdcs_types.specs.Tables.{TableRows, service_of, changed}
+use Rattle.monitor_semantics.specs.Bytes.{Bytes}
+use Rattle.monitor_semantics.specs.Endings.{is_durable, durable, restarts, lterm_of_row}
+use Rattle.monitor_semantics.specs.State.{Application, State}
+use Rattle.monitor_semantics.specs.Trace.{history, trace, tables_after}
+use Rattle.monitor_semantics.specs.Turns.{pterm_of_user}
+use Rattle.monitor_semantics.specs.Commands.{ScriptStep, started, signed_on, state_after, acts_of}
+use Rattle.monitor_laws.specs.Applications.{IsApplication}
+use Rattle.monitor_laws.specs.DurableLaws.{durable_sorted}
+use Rattle.monitor_laws.specs.Facts.{IsSignedOn}
+use Rattle.monitor_laws.specs.Keeping.{HasFacts}
+use Rattle.monitor_laws.specs.Steps.{AreLines, CommitsOnce, StepsMakeTheirTables}
+use Rattle.monitor_places.specs.Rows.{kept_at, durable_service}
+use Rattle.monitor_runs.specs.RunLaws.{EachStep, HistoriesCommitOnce, StartsHaveFacts, ScriptsKeepFacts}
+use Rattle.monitor_queues.specs.ResumeLaws.{IsReadyAt, StartsResume, SignOnResumes, SignOnsResume, CutsResume}
+
+-- ---- lists of acts
+
+cons_head : {A : Type 0} (x y : A) (xs ys : List A) → x ∷ xs ≡ y ∷ ys → x ≡ y
+cons_head x y xs ys e = cc
+
+cons_tail : {A : Type 0} (x y : A) (xs ys : List A) → x ∷ xs ≡ y ∷ ys → xs ≡ ys
+cons_tail x y xs ys e = cc
+
+cons_both : {A : Type 0} (x y : A) (xs ys : List A) → x ≡ y → xs ≡ ys → x ∷ xs ≡ y ∷ ys
+cons_both x y xs ys e f = cc
+
+none_done : {A : Type 0} (done left : List A) → [] ≡ done ++ left → done ≡ []
+none_done [] left e = refl
+none_done (d ∷ ds) left e = absurd cc
+
+-- of two lists one after another, some first items end within the first, or reach into the second
+record EndsWithin {A : Type 0} (xs done : List A) : Type 0 where
+  over : List A
+  whole : xs ≡ done ++ over
+
+record ReachesInto {A : Type 0} (xs ys done left : List A) : Type 0 where
+  more : List A
+  is : done ≡ xs ++ more
+  rest : ys ≡ more ++ left
+
+parted : {A : Type 0} (xs ys done left : List A) → xs ++ ys ≡ done ++ left → EndsWithin xs done ⊎ ReachesInto xs ys done left
+parted [] ys done left e = inr (record { more = done; is = refl; rest = e })
+parted (x ∷ xs) ys [] left e = inl (record { over = x ∷ xs; whole = refl })
+parted (x ∷ xs) ys (d ∷ ds) left e = by (parted xs ys ds left (cons_tail x d (xs ++ ys) (ds ++ left) e))
+  where
+    same : x ≡ d
+    same = cons_head x d (xs ++ ys) (ds ++ left) e
+
+    by : EndsWithin xs ds ⊎ ReachesInto xs ys ds left → EndsWithin (x ∷ xs) (d ∷ ds) ⊎ ReachesInto (x ∷ xs) ys (d ∷ ds) left
+    by (inl w) = inl (record { over = w.over; whole = cons_both x d xs (ds ++ w.over) same w.whole })
+    by (inr r) = inr (record { more = r.more; is = cons_both d x ds (xs ++ r.more) (sym same) r.is; rest = r.rest })
+
+tables_both : (t : TableRows) (xs ys : List Act) → tables_after t (xs ++ ys) ≡ tables_after (tables_after t xs) ys
+unfolding tables_after
+tables_both t [] ys = refl
+tables_both t (Commit c ∷ xs) ys = tables_both (changed t c) xs ys
+tables_both t (Emit bytes ∷ xs) ys = tables_both t xs ys
+
+-- lines change nothing
+lines_keep : (t : TableRows) (acts : List Act) → AreLines acts → tables_after t acts ≡ t
+unfolding tables_after
+lines_keep t [] are = refl
+lines_keep t (Commit c ∷ acts) are = absurd are
+lines_keep t (Emit bytes ∷ acts) are = lines_keep t acts are
+
+first_lines : (xs ys : List Act) → AreLines (xs ++ ys) → AreLines xs
+first_lines [] ys are = tt
+first_lines (Commit c ∷ xs) ys are = absurd are
+first_lines (Emit bytes ∷ xs) ys are = first_lines xs ys are
+
+-- a commit and lines make what the commit makes
+commit_makes : (t : TableRows) (commit : Act) (xs ys : List Act) → AreLines xs → AreLines ys → tables_after t (commit ∷ xs) ≡ tables_after t (commit ∷ ys)
+unfolding tables_after
+commit_makes t (Commit c) xs ys a b = lines_keep (changed t c) xs a ∙ sym (lines_keep (changed t c) ys b)
+commit_makes t (Emit bytes) xs ys a b = lines_keep t xs a ∙ sym (lines_keep t ys b)
+
+-- some first acts of a step make nothing, or all that the step makes
+within_step : (app : Application) (s : State) (d : ScriptStep) (t : TableRows) (done over : List Act) → CommitsOnce app s d → d.acts ≡ done ++ over → (tables_after t done ≡ t) ⊎ (tables_after t done ≡ tables_after t d.acts)
+within_step app s d t done over (inl none) e = inl (lines_keep t done (first_lines done over (subst AreLines e none.lines)))
+within_step app s d t [] over (inr one) e = inl (lines_keep t [] tt)
+within_step app s d t (a ∷ more) over (inr one) e =
+    let same : _ ∷ one.rest ≡ a ∷ more ++ over = sym one.acts ∙ e in
+    let lines : AreLines more = first_lines more over (subst AreLines (cons_tail _ a one.rest (more ++ over) same) one.lines) in
+    inr (commit_makes t a more one.rest lines one.lines ∙ ap (λ (act : Act). tables_after t (act ∷ one.rest)) (sym (cons_head _ a one.rest (more ++ over) same)) ∙ ap (tables_after t) (sym one.acts))
+
+-- ---- between two steps
+
+record Between (app : Application) (s : State) (steps : List ScriptStep) (done : List Act) : Type 0 where
+  first : List ScriptStep
+  rest : List ScriptStep
+  whole : steps ≡ first ++ rest
+  stored : tables_after (durable app.generation s.tables) done ≡ durable app.generation (state_after s first).tables
+  facts : HasFacts app (state_after s first)
+
+module _ (makes : StepsMakeTheirTables) (app : Application) where
+  abbrev Facts : ScriptStep → Type 0
+  Facts d = HasFacts app d.after
+
+  no_step : (s : State) (steps : List ScriptStep) (done : List Act) → HasFacts app s → tables_after (durable app.generation s.tables) done ≡ durable app.generation s.tables → Between app s steps done
+  unfolding state_after
+  no_step s steps done facts e = record { first = []; rest = steps; whole = refl; stored = e; facts = facts }
+
+  one_step : (s : State) (d : ScriptStep) (ds : List ScriptStep) (done : List Act) → HasFacts app d.after → tables_after (durable app.generation s.tables) done ≡ durable app.generation d.after.tables → Between app s (d ∷ ds) done
+  unfolding state_after
+  one_step s d ds done facts e = record { first = d ∷ []; rest = ds; whole = refl; stored = e; facts = facts }
+
+  later_steps : (s : State) (d : ScriptStep) (ds : List ScriptStep) (done more : List Act) → tables_after (durable app.generation s.tables) done ≡ tables_after (durable app.generation d.after.tables) more → Between app d.after ds more → Between app s (d ∷ ds) done
+  unfolding state_after
+  later_steps s d ds done more e b =
+      record { first = d ∷ b.first; rest = b.rest; whole = ap (λ (l : List ScriptStep). d ∷ l) b.whole; stored = e ∙ b.stored; facts = b.facts }
+
+  cut : (s : State) (steps : List ScriptStep) → HasFacts app s → EachStep (CommitsOnce app) s steps → All Facts steps → (done left : List Act) → acts_of steps ≡ done ++ left → Between app s steps done
+  cut s [] facts once all done left e = no_step s [] done facts (lines_keep (durable app.generation s.tables) done (subst AreLines (sym (none_done done left e)) tt))
+  cut s (d ∷ ds) facts once all done left e = by (parted d.acts (acts_of ds) done left e) (λ more rest. cut d.after ds (All-head Facts d ds all) once.1 (All-tail Facts d ds all) more left rest)
+    where
+      here : HasFacts app d.after
+      here = All-head Facts d ds all
+
+      made : tables_after (durable app.generation s.tables) d.acts ≡ durable app.generation d.after.tables
+      made = makes app s d facts.1.order here.1.order once.0
+
+      inside : (tables_after (durable app.generation s.tables) done ≡ durable app.generation s.tables) ⊎ (tables_after (durable app.generation s.tables) done ≡ tables_after (durable app.generation s.tables) d.acts) → Between app s (d ∷ ds) done
+      inside (inl before) = no_step s (d ∷ ds) done facts before
+      inside (inr after) = one_step s d ds done here (after ∙ made)
+
+      by : EndsWithin d.acts done ⊎ ReachesInto d.acts (acts_of ds) done left → ((more : List Act) → acts_of ds ≡ more ++ left → Between app d.after ds more) → Between app s (d ∷ ds) done
+      by (inl w) later = inside (within_step app s d (durable app.generation s.tables) done w.over once.0 w.whole)
+      by (inr r) later =
+          later_steps s d ds done r.more
+          (ap (tables_after (durable app.generation s.tables)) r.is ∙ tables_both (durable app.generation s.tables) d.acts r.more ∙ ap (λ (u : TableRows). tables_after u r.more) made)
+          (later r.more r.rest)
+
+-- ---- going on
+
+nobody : (app : Application) (t : TableRows) (user : Bytes) → IsSignedOn (started app t) user → ⊥
+unfolding started pterm_of_user
+nobody app t user h = true≢false (sym h)
+
+module _ (starts : StartsResume) (sign_ons : SignOnsResume) (starts_facts : StartsHaveFacts) (app : Application) (is_app : IsApplication app) (u : State) (facts : HasFacts app u) (found : TableRows) (is : found ≡ durable app.generation u.tables) where
+  from_facts : HasFacts app (started app found)
+  from_facts = subst (λ (t : TableRows). HasFacts app (started app t)) (sym is) (starts_facts app (durable app.generation u.tables) is_app (durable_sorted app.generation u.tables facts.1.order) facts.1.suits)
+
+  from_asynchronous : (number : ℕ) (row : Service) → service_of u.tables (Asynchronous number) ≡ Some row → IsReadyAt (started app found) (Asynchronous number) row (lterm_of_row row.lterm)
+  from_asynchronous number row e =
+      (starts app found).asynchronous number row (ap (λ (t : TableRows). service_of t (Asynchronous number)) is ∙ durable_service app.generation u.tables number ∙ e)
+
+  durable_dialogue : (user : Bytes) → service_of (durable app.generation u.tables) (Dialogue user) ≡ cond (restarts app.generation user) (service_of u.tables (Dialogue user)) None
+  unfolding durable
+  durable_dialogue user = kept_at (is_durable app.generation) (Dialogue user) u.tables.services
+
+  from_dialogue : (pterm user : Bytes) (row : Service) → IsTrue (restarts app.generation user) → service_of u.tables (Dialogue user) ≡ Some row → SignOnResumes app (started app found) pterm user row (signed_on app (started app found) pterm user)
+  from_dialogue pterm user row restart e =
+      sign_ons app (started app found) pterm user row from_facts (nobody app found user)
+      (ap (λ (t : TableRows). service_of t (Dialogue user)) ((starts app found).tables ∙ is) ∙ durable_dialogue user ∙ ap (λ (b : Bool). cond b (service_of u.tables (Dialogue user)) None) restart ∙ e)
+
+pub cuts_resume : StepsMakeTheirTables → HistoriesCommitOnce → StartsHaveFacts → ScriptsKeepFacts → StartsResume → SignOnsResume → CutsResume
+unfolding started trace
+cuts_resume makes once starts_facts scripts starts sign_ons app t script is_app names order suits done left e =
+    let s = started app t in
+    let facts = starts_facts app t is_app order suits in
+    let b = cut makes app s (history app s script) facts (once app s script) (scripts app s script is_app names facts) done left e in
+    let u = state_after s b.first in
+    let found = tables_after (durable app.generation t) done in
+    record {
+      first = b.first;
+      rest = b.rest;
+      whole = b.whole;
+      stored = b.stored;
+      facts = from_facts starts sign_ons starts_facts app is_app u b.facts found b.stored;
+      asynchronous = from_asynchronous starts sign_ons starts_facts app is_app u b.facts found b.stored;
+      dialogue = from_dialogue starts sign_ons starts_facts app is_app u b.facts found b.stored;
+    }

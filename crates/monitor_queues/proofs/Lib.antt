@@ -1,0 +1,6 @@
+mod Doings
+mod Queues
+mod Sent
+mod Numbers
+mod Resuming
+mod Cuts

@@ -1,0 +1,4 @@
+pub mod Along
+pub mod Doings
+pub mod QueueLaws
+pub mod ResumeLaws

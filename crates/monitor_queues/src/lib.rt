@@ -1,0 +1,73 @@
+//! No message doubled or lost: what each commit of the abstract monitor makes of jobs and of services' rows.
+//!
+//! It stands on the definitions of the monitor, on the laws of single steps, and on the facts of every state that a
+//! script comes to. The functions do nothing: their contracts are laws on the definitions, which the monitor and the
+//! program above it cite.
+#![tactic(auto)]
+
+ghost use Rattle.monitor_queues.specs.QueueLaws.{TurnsDoSo, CommandsDoSo, TurnsKeepQueues, CommandsKeepQueues, HistoriesKeepQueues, HistoriesSendAtPoints, NumbersAreDrawnOnce, JobsAreDoneOnce};
+ghost use Rattle.monitor_queues.specs.ResumeLaws.{StartsResume, SignOnsResume, CutsResume};
+
+use monitor_laws::steps_commit_once;
+use monitor_places::facts_hold_along;
+use monitor_runs::{commits_make_the_tables, facts_hold_along_every_script};
+use monitor_tables::states_stay_sound;
+
+/// What made a commit says what it does: a tick moves the clock, KDCOUT and PRINT show the due job of their LTERM and
+/// send its message next, and a transaction ends by its next statement.
+pub fn makers_say_what_commits_do()
+    ensures turns { TurnsDoSo }
+    ensures commands { CommandsDoSo }
+{}
+
+/// From a state with its facts, the commit of each step meets the law on jobs and the law on services' rows.
+pub fn commits_keep_queues()
+    ensures turns { TurnsKeepQueues }
+    ensures commands { CommandsKeepQueues }
+{
+    makers_say_what_commits_do();
+}
+
+/// Along every script from a state with its facts, each step that commits meets both laws; and a point that awaits an
+/// input of its user sends, behind its commit, the message that its row keeps.
+pub fn runs_keep_queues()
+    ensures laws { HistoriesKeepQueues }
+    ensures messages { HistoriesSendAtPoints }
+{
+    facts_hold_along();
+    states_stay_sound();
+    makers_say_what_commits_do();
+    commits_keep_queues();
+}
+
+/// Between any two states of a run no job number is drawn twice: the next number does not fall, and a number that was
+/// drawn stands for the same job or for none. So a job that is gone, and whose service is over, is never done again.
+pub fn jobs_are_done_once()
+    ensures numbers { NumbersAreDrawnOnce }
+    ensures jobs { JobsAreDoneOnce }
+{
+    facts_hold_along();
+    states_stay_sound();
+    steps_commit_once();
+    commits_keep_queues();
+}
+
+/// A start has each asynchronous service ready at its last synchronisation point, and no other. A user who signs on
+/// sees the last message of their service's point again; where it awaits no input the service is ready there, else the
+/// next input goes to it.
+pub fn services_resume()
+    ensures starts { StartsResume }
+    ensures sign_ons { SignOnsResume }
+{}
+
+/// What is stored after some first acts of a run are the durable tables of a state between two of its steps. A start
+/// from them has the facts of a state, and goes on where that state stood: each asynchronous service at its last
+/// synchronisation point, and that of each user with RESTART=YES when the user signs on.
+pub fn cuts_resume()
+    ensures { CutsResume }
+{
+    steps_commit_once();
+    commits_make_the_tables();
+    facts_hold_along_every_script();
+    services_resume();
+}

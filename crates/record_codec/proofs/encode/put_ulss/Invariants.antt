@@ -1,0 +1,8 @@
+use Rattle.std.proofs.Common.{◌≡◌, ◌++◌, take}
+use Rattle.std.specs.Prelude.{map}
+use Rattle.kdcs_types.specs.Tables.{uls_row}
+use Rattle.record_codec.specs.Values.{record_of}
+use Rattle.record_codec.proofs.encode.put_ulss.Given as goal
+
+abbrev pub invariant-loop-row : goal.invariant-loop-row
+invariant-loop-row l = l.records ≡ l.initial.records ++ map record_of (map uls_row (take l.row-index l.rows))

@@ -1,0 +1,5 @@
+use Rattle.record_codec.specs.Order.{keys_keep_their_order}
+use Rattle.record_codec.proofs.laws.keys_keep_their_order.Goals as goal
+
+pub returns : goal.returns
+returns c = keys_keep_their_order

@@ -1,0 +1,13 @@
+//! Laws on the definitions, which all crates above may cite. The functions do nothing.
+ghost use Rattle.record_codec.specs.Order.{KeysKeepTheirOrder};
+ghost use Rattle.record_codec.specs.Patches.{PatchesFollowChanges};
+
+/// The keys of records ascend as the keys of rows do.
+pub fn keys_keep_their_order()
+    ensures { KeysKeepTheirOrder }
+{}
+
+/// The patch of some changes makes the records of the changed tables.
+pub fn patches_follow_changes()
+    ensures { PatchesFollowChanges }
+{}

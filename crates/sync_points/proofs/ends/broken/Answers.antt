@@ -1,0 +1,8 @@
+use Rattle.std.proofs.Common.{sym, ◌∙◌}
+use Rattle.open_transaction.specs.Work.{work_of}
+use Rattle.sync_points.specs.Made.{ends_change}
+use Rattle.sync_points.proofs.ends.broken.Goals as goal
+
+pub returns-clause-changes : goal.returns-clause-changes
+returns-clause-changes c =
+    c.in_ok-changes.ensures ∙ sym (ends_change c.args.generation.now c.args.tables.now c.args.work.id (work_of c.args.work) c.requires.stands)

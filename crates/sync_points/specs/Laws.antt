@@ -1,0 +1,23 @@
+-- The differences that ends of transactions make are what the transactions wrote.
+use Rattle.std.specs.Prelude.{◌≡◌}
+use Rattle.kdcs_types.specs.declared.key.ServiceId.{ServiceId}
+use Rattle.kdcs_types.specs.Difference.{difference}
+use Rattle.kdcs_types.specs.Tables.{TableRows}
+use Rattle.kdcdef_types.specs.Generation.{Generated}
+use Rattle.monitor_semantics.specs.declared.outcome.Outcome.{Outcome}
+use Rattle.monitor_semantics.specs.Endings.{broken, durable, synchronised}
+use Rattle.monitor_semantics.specs.State.{OpenTransaction}
+use Rattle.monitor_tables.specs.PointLaws.{Stands}
+use Rattle.sync_points.specs.PointChanges.{end_changes, point_changes}
+
+-- a synchronisation point
+abbrev pub PointsChangeWhatWasWritten : Type 0
+PointsChangeWhatWasWritten =
+    (g : Generated) (t : TableRows) (id : ServiceId) (x : OpenTransaction) (o : Outcome) → Stands g t id x
+    → difference (durable g t) (durable g (synchronised g t id x o)) ≡ point_changes g t id x o
+
+-- an abnormal end
+abbrev pub EndsChangeTheirOwnRows : Type 0
+EndsChangeTheirOwnRows =
+    (g : Generated) (t : TableRows) (id : ServiceId) (x : OpenTransaction) → Stands g t id x
+    → difference (durable g t) (durable g (broken t id x)) ≡ end_changes g t id x

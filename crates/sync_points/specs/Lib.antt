@@ -1,0 +1,6 @@
+pub mod PointChanges
+pub mod Laws
+pub mod Rows
+pub mod RealChanges
+pub mod Ascending
+pub mod Made

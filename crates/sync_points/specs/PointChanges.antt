@@ -1,0 +1,58 @@
+-- What a synchronisation point and an abnormal end write, and which of it changes a row.
+use Rattle.std.specs.Prelude.{◌+◌, not, Bool, cond, List, [], ◌∷◌, ◌++◌, map, filter, length, Option, Some, None}
+use Rattle.kdcs_types.specs.declared.act.Change.{Change}
+use Rattle.kdcs_types.specs.declared.act.Change.TheVariants.{Set, Remove}
+use Rattle.kdcs_types.specs.declared.act.Changes.{Changes}
+use Rattle.kdcs_types.specs.declared.act.Row.{Row}
+use Rattle.kdcs_types.specs.declared.key.Key.TheVariants.{Job as JobKey}
+use Rattle.kdcs_types.specs.declared.key.ServiceId.{ServiceId}
+use Rattle.kdcs_types.specs.declared.key.ServiceId.TheVariants.{Dialogue, Asynchronous}
+use Rattle.kdcs_types.specs.declared.service.Job.{Job}
+use Rattle.kdcs_types.specs.declared.service.Service.{Service}
+use Rattle.kdcs_types.specs.Same.{row_same}
+use Rattle.kdcs_types.specs.Tables.{TableRows, change_key, job_row, row_at}
+use Rattle.kdcdef_types.specs.Generation.{Generated}
+use Rattle.monitor_semantics.specs.declared.outcome.Outcome.{Outcome}
+use Rattle.monitor_semantics.specs.Endings.{is_durable, row_after, service_change}
+use Rattle.monitor_semantics.specs.State.{OpenTransaction}
+use Rattle.monitor_laws.specs.JobLaw.{new_jobs}
+use Rattle.storage_areas.specs.Areas.{changes_of}
+
+-- the row that a change leaves
+abbrev pub row_left : Change → Option Row
+row_left (Set r) = Some r
+row_left (Remove k) = None
+
+-- the change leaves another row than stands there
+abbrev pub is_real : TableRows → Change → Bool
+is_real t c = not (row_same (row_left c) (row_at t (change_key c)))
+
+-- the row of the service, where it outlives a stop
+abbrev pub service_changes : Generated → ServiceId → Option Service → List Change
+service_changes g id row = cond (is_durable g id) (service_change id row ∷ []) []
+
+-- the own job goes, where an asynchronous service has no row
+abbrev pub own_job_changes : ServiceId → Option Service → List Change
+own_job_changes (Dialogue user) began = []
+own_job_changes (Asynchronous number) (Some row) = []
+own_job_changes (Asynchronous number) None = Remove (JobKey number) ∷ []
+
+-- new jobs
+abbrev pub job_changes : List Job → List Change
+job_changes jobs = map (λ (j : Job). Set (job_row j)) jobs
+
+-- what a synchronisation point writes, in ascending order of the keys: areas, the service's row, jobs
+abbrev pub point_writes : Generated → TableRows → ServiceId → OpenTransaction → Outcome → List Change
+point_writes g t id x o = changes_of x.written ++ service_changes g id (row_after g id x o) ++ own_job_changes id x.began ++ job_changes (new_jobs t x)
+
+-- what an abnormal end writes
+abbrev pub end_writes : Generated → ServiceId → OpenTransaction → List Change
+end_writes g id x = service_changes g id None ++ own_job_changes id x.began
+
+-- what a synchronisation point changes
+abbrev pub point_changes : Generated → TableRows → ServiceId → OpenTransaction → Outcome → Changes
+point_changes g t id x o = record { clock = t.clock; next_job = t.next_job + length x.drafts; items = filter (is_real t) (point_writes g t id x o) }
+
+-- what an abnormal end changes
+abbrev pub end_changes : Generated → TableRows → ServiceId → OpenTransaction → Changes
+end_changes g t id x = record { clock = t.clock; next_job = t.next_job; items = filter (is_real t) (end_writes g id x) }

@@ -1,0 +1,53 @@
+//! Abnormal ends.
+ghost use Rattle.std.specs.Prelude.{◌≡◌, IfOk};
+ghost use Rattle.kdcs_types.specs.Difference.{difference};
+ghost use Rattle.monitor_semantics.specs.Endings.{broken, durable};
+ghost use Rattle.monitor_semantics.specs.Statements.{kept_record};
+ghost use Rattle.monitor_tables.specs.PointLaws.{Stands};
+ghost use Rattle.open_transaction.specs.Work.{work_of};
+ghost use Rattle.sync_points.specs.PointChanges.{end_changes};
+
+use crate::kept::kept_record;
+use crate::writes::{real_of, write_own_job, write_service};
+use kd_base::OutOfMemory;
+use kdcdef_check::Generation;
+use kdcs_types::{Changes, Ending, RowChanges, Settled, Tables};
+use open_transaction::OpenTransaction;
+use std::alloc::Global;
+
+fn end_changes(
+    alloc: Global,
+    generation: &Generation,
+    tables: &Tables,
+    work: &OpenTransaction,
+) -> Result<Changes, OutOfMemory>
+    ensures { IfOk result (λ changes. changes ≡ end_changes generation.now tables.now work.now.id (work_of work.now)) }
+{
+    let mut changes = RowChanges::new(alloc);
+    write_service(&mut changes, generation, work.id, &None)?;
+    write_own_job(&mut changes, work.id, &work.began)?;
+    Ok(Changes {
+        clock: tables.clock(),
+        next_job: tables.next_job(),
+        items: real_of(tables, changes),
+    })
+}
+
+/// The changes of the durable tables by an abnormal end, by PEND ER or by PEND FR, and what the transaction keeps for
+/// its replay: what it wrote is dropped, the service's row goes, and the own job of an asynchronous service without a row.
+/// The changes cost what they are, and a look-up for each. The transaction is lost where memory runs out.
+pub fn broken(
+    work: OpenTransaction,
+    alloc: Global,
+    generation: &Generation,
+    tables: &Tables,
+    ending: Ending,
+) -> Result<(Changes, Settled), OutOfMemory>
+    requires stands { Stands generation.now tables.now work.id (work_of work) }
+    ensures changes { IfOk result (λ ended. ended.0 ≡ difference (durable generation.now tables.now) (durable generation.now (broken tables.now work.id (work_of work)))) }
+    ensures kept { IfOk result (λ ended. ended.1 ≡ kept_record work.id (work_of work) ending) }
+{
+    let changes = end_changes(alloc, generation, tables, &work)?;
+    let kept = kept_record(alloc, work, ending)?;
+    Ok((changes, kept))
+}

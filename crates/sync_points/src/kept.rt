@@ -1,0 +1,41 @@
+//! What a transaction keeps for its replay.
+ghost use Rattle.std.specs.Prelude.{◌≡◌, ◌∷◌, IfOk};
+ghost use Rattle.monitor_semantics.specs.Statements.{kept_record};
+ghost use Rattle.open_transaction.specs.Work.{work_of};
+
+use kd_base::{Bytes, Name, OutOfMemory};
+use kdcs_types::{Ending, Parts, Settled};
+use open_transaction::OpenTransaction;
+use std::alloc::Global;
+
+fn inputs_behind(
+    alloc: Global,
+    first: Name,
+    lterm: Name,
+    inputs: Parts,
+) -> Result<Parts, OutOfMemory>
+    ensures { IfOk result (λ kept. kept ≡ first ∷ lterm ∷ inputs) }
+{
+    let mut kept = inputs.into_vec();
+    kept.insert(0, Bytes::from_slice(alloc, lterm.as_slice())?)?;
+    kept.insert(0, Bytes::from_slice(alloc, first.as_slice())?)?;
+    Ok(Parts::from_vec(kept))
+}
+
+pub(crate) fn kept_record(
+    alloc: Global,
+    work: OpenTransaction,
+    ending: Ending,
+) -> Result<Settled, OutOfMemory>
+    ensures { IfOk result (λ kept. kept ≡ kept_record work.id (work_of work) ending) }
+{
+    let inputs = inputs_behind(alloc, work.first, work.lterm, work.inputs)?;
+    Ok(Settled {
+        service: work.id,
+        began: work.began,
+        inputs,
+        notes: work.notes,
+        statements: work.statements,
+        ending,
+    })
+}

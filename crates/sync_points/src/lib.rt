@@ -1,0 +1,22 @@
+//! Synchronisation points and abnormal ends: what an open transaction changes in the durable tables.
+//!
+//! It stands on open transactions and on the definitions of the monitor. To the core above, its contract says that the
+//! changes of a point or an end are the difference of the durable tables before and after it, though they are made of
+//! what the transaction wrote, and that a point is refused exactly where the definitions refuse it.
+#![tactic(auto)]
+
+mod ends;
+mod kept;
+mod real;
+mod writes;
+
+ghost use Rattle.sync_points.specs.Laws.{PointsChangeWhatWasWritten, EndsChangeTheirOwnRows};
+
+pub use ends::broken;
+
+/// What a synchronisation point or an abnormal end changes in the durable tables is what the transaction wrote, where
+/// that is another row than stood there.
+pub fn points_change_what_was_written()
+    ensures points { PointsChangeWhatWasWritten }
+    ensures ends { EndsChangeTheirOwnRows }
+{}

@@ -1,0 +1,87 @@
+//! Whether a change leaves another row than stands there.
+ghost use Rattle.std.specs.Prelude.{◌≡◌, Some, bytes_eq, is_some};
+ghost use Rattle.std.specs.Option.{option_eq};
+ghost use Rattle.kdcs_types.specs.Same.{job_value_eq, row_same, service_eq};
+ghost use Rattle.kdcs_types.specs.Tables.{content_of, row_at, row_key};
+ghost use Rattle.sync_points.specs.PointChanges.{is_real};
+
+use kd_base::Bytes;
+use kdcs_types::{Area, Change, JobValue, Key, Row, Service, Tables};
+
+fn same_service(a: &Service, b: &Service) -> bool
+    ensures { result ≡ service_eq a.now b.now }
+{
+    a.id == b.id
+        && a.first == b.first
+        && a.next == b.next
+        && a.awaits == b.awaits
+        && a.user == b.user
+        && a.lterm == b.lterm
+        && a.kb == b.kb
+        && a.handed.as_slice() == b.handed.as_slice()
+        && a.last == b.last
+        && a.lssbs.as_slice() == b.lssbs.as_slice()
+}
+
+fn same_value(a: &JobValue, b: &JobValue) -> bool
+    ensures { result ≡ job_value_eq a.now b.now }
+{
+    a.to == b.to
+        && a.due == b.due
+        && a.user == b.user
+        && a.lterm == b.lterm
+        && a.message == b.message
+}
+
+fn has_content(tables: &Tables, area: &Area, content: &Bytes) -> bool
+    ensures { result ≡ option_eq bytes_eq (Some content.now) (content_of tables.now area.now) }
+{
+    match tables.content(area) {
+        Some(old) => content == old,
+        None => false,
+    }
+}
+
+fn has_row(tables: &Tables, row: &Row) -> bool
+    ensures { result ≡ row_same (Some row.now) (row_at tables.now (row_key row.now)) }
+{
+    match row {
+        Row::Gssb(name, content) => has_content(tables, &Area::Gssb(*name), content),
+        Row::Tls(block, lterm, content) => has_content(tables, &Area::Tls(*block, *lterm), content),
+        Row::Uls(block, user, content) => has_content(tables, &Area::Uls(*block, *user), content),
+        Row::Service(id, service) => match tables.service(*id) {
+            Some(old) => same_service(service, old),
+            None => false,
+        },
+        Row::Job(number, value) => match tables.job(*number) {
+            Some(old) => same_value(value, old),
+            None => false,
+        },
+        Row::Shown(lterm, value) => match tables.shown_at(*lterm) {
+            Some(old) => same_value(value, old),
+            None => false,
+        },
+    }
+}
+
+fn has_key(tables: &Tables, key: &Key) -> bool
+    ensures { result ≡ is_some (row_at tables.now key.now) }
+{
+    match key {
+        Key::Gssb(name) => tables.content(&Area::Gssb(*name)).is_some(),
+        Key::Tls(block, lterm) => tables.content(&Area::Tls(*block, *lterm)).is_some(),
+        Key::Uls(block, user) => tables.content(&Area::Uls(*block, *user)).is_some(),
+        Key::Service(id) => tables.service(*id).is_some(),
+        Key::Job(number) => tables.job(*number).is_some(),
+        Key::Shown(lterm) => tables.shown_at(*lterm).is_some(),
+    }
+}
+
+pub(crate) fn is_real(tables: &Tables, change: &Change) -> bool
+    ensures { result ≡ is_real tables.now change.now }
+{
+    match change {
+        Change::Set(row) => !has_row(tables, row),
+        Change::Remove(key) => has_key(tables, key),
+    }
+}
