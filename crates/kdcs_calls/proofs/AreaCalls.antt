@@ -31,7 +31,6 @@ module _ (g : Generated) (t : TableRows) (l : Locks) (id : ServiceId) (x : Work)
   uls_call None = refl
   uls_call (Some name) = by (has_uls g name)
     where
-
       by : (b : Bool) → in_area x (if b then Ok (Uls name x.user) else Err K08) (λ a. go (told_of g t l id a) a) ≡ declared x b (go (told_of g t l id (Uls name x.user)) (Uls name x.user))
       by true = refl
       by false = refl

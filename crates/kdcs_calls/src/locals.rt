@@ -36,11 +36,7 @@ pub(crate) fn read_local(
 }
 
 // What was read away, once it is deleted.
-fn read_away_name(
-    work: &mut OpenTransaction,
-    name: Name,
-    room: u32,
-) -> Result<Called, OutOfMemory>
+fn read_away_name(work: &mut OpenTransaction, name: Name, room: u32) -> Result<Called, OutOfMemory>
     requires { IfSome (find bytes_cmp name work.old.areas.lssbs) IsShort }
     ensures exact { IfOk result (λ called. (work_of work.new, called) ≡ read_away (work_of work.old) name room) }
     ensures id { work.new.id ≡ work.old.id }
