@@ -8,3 +8,5 @@ pub mod Settling
 pub mod Uses
 pub mod Commands
 pub mod Along
+pub mod Durable
+pub mod Committed

@@ -1,20 +1,26 @@
 -- Serial equivalence, step by step: each open transaction replays to itself, and each that ends does so as its record.
-use Rattle.std.specs.Prelude.{◌≡◌, ℕ, true, false, Some}
+use Rattle.std.specs.Prelude.{◌≡◌, ℕ, true, false, List, Option, Some, None}
 use Rattle.kdcs_types.specs.declared.key.Area.{Area}
 use Rattle.kdcs_types.specs.declared.key.ServiceId.{ServiceId}
 use Rattle.kdcs_types.specs.declared.key.ServiceId.TheVariants.{Dialogue, Asynchronous}
 use Rattle.kdcs_types.specs.declared.service.JobValue.{JobValue}
 use Rattle.kdcs_types.specs.declared.service.Service.{Service}
-use Rattle.kdcs_types.specs.Tables.{TableRows, content_of, job_of}
+use Rattle.kdcs_types.specs.Tables.{TableRows, IsSortedTables, content_of, job_of}
 use Rattle.monitor_semantics.specs.declared.answer.Happened.TheVariants.{Held}
 use Rattle.monitor_semantics.specs.Bytes.{Bytes}
 use Rattle.monitor_semantics.specs.State.{Application, OpenTransaction, State}
 use Rattle.monitor_semantics.specs.Calls.{Told}
-use Rattle.monitor_semantics.specs.Endings.{is_asynchronous, opened_by_start, opened_by_input, opened_by_row, opened_by_job, lterm_of_row, followed_by_input}
+use Rattle.monitor_semantics.specs.Commands.{Command, ScriptStep, Maker, started, turned_step, command_of}
+use Rattle.monitor_semantics.specs.Trace.{history}
+use Rattle.monitor_semantics.specs.Endings.{is_asynchronous, durable, opened_by_start, opened_by_input, opened_by_row, opened_by_job, lterm_of_row, followed_by_input}
 use Rattle.monitor_semantics.specs.Statements.{area_of, statement}
 use Rattle.monitor_semantics.specs.Turns.{turn_of}
 use Rattle.monitor_laws.specs.Facts.{IsConsistent}
-use Rattle.monitor_laws.specs.Keeping.{Fact, Leads, HasFacts, HoldsAlong}
+use Rattle.monitor_laws.specs.Keeping.{Fact, Leads, HasFacts, HoldsAlong, IsScriptOf}
+use Rattle.monitor_laws.specs.Applications.{IsApplication}
+use Rattle.monitor_laws.specs.Commits.{AtomicLaw}
+use Rattle.monitor_laws.specs.Suits.{Suits}
+use Rattle.monitor_runs.specs.RunLaws.{EachStep}
 use Rattle.monitor_laws.specs.Replay.{IsReplayable, SettlesAs}
 use Rattle.monitor_serial.specs.Replays.{GoesOnAtOnce, SeesTheSame, ReplaysToItself, AllReplay}
 
@@ -73,3 +79,30 @@ ReplaysAreRecords = (app : Application) (s : State) → AllReplay app s → IsRe
 -- where each open transaction is the replay of its record, a turn that ends one comes to the tables and the ending that its record, run in one go, makes of the tables before; and the record determines that replay
 abbrev pub TurnsEndSerially : Type 0
 TurnsEndSerially = (app : Application) (s : State) (task : ℕ) → IsConsistent app s → IsReplayable app s → SettlesAs app s.tables (turn_of app s task).after.tables (turn_of app s task).settled
+
+-- ---- commits
+
+-- a commit that a transaction made is that of its record, run in one go on the durable tables before it
+abbrev pub IsSerialBy : Application → State → (after : TableRows) → Option Maker → Type 0
+IsSerialBy app s after None = Unit {0}
+IsSerialBy app s after (Some by) = AtomicLaw app (durable app.generation s.tables) (durable app.generation after) by
+
+abbrev pub IsSerialStep : Application → State → ScriptStep → Type 0
+IsSerialStep app s d = IsSerialBy app s d.after.tables d.by
+
+abbrev pub TurnsCommitSerially : Type 0
+TurnsCommitSerially = (app : Application) (s : State) (task : ℕ) → HasReplays app s → IsSerialStep app s (turned_step (turn_of app s task))
+
+abbrev pub CommandsCommitSerially : Type 0
+CommandsCommitSerially = (app : Application) (s : State) (c : Command) → HasReplays app s → IsSerialStep app s (command_of app s c)
+
+-- each commit of a script, from a state whose transactions replay to themselves
+abbrev pub HistoriesAreSerial : Type 0
+HistoriesAreSerial =
+    (app : Application) (s : State) (script : List Command) → IsApplication app → IsScriptOf app script → HasReplays app s → EachStep (IsSerialStep app) s (history app s script)
+
+-- and so each of a run from tables that suit
+abbrev pub RunsAreSerial : Type 0
+RunsAreSerial =
+    (app : Application) (t : TableRows) (script : List Command) → IsApplication app → IsScriptOf app script → IsSortedTables t → Suits app.generation t
+    → EachStep (IsSerialStep app) (started app t) (history app (started app t) script)

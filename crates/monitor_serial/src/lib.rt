@@ -8,6 +8,7 @@
 
 ghost use Rattle.monitor_serial.specs.SerialLaws.{AllOpeningsReplay, StatementsReplay, InputsReplay, OtherTablesReplay};
 ghost use Rattle.monitor_serial.specs.SerialLaws.{StepsKeepReplays, ScriptsKeepReplays, ReplaysAreRecords, TurnsEndSerially};
+ghost use Rattle.monitor_serial.specs.SerialLaws.{TurnsCommitSerially, CommandsCommitSerially, HistoriesAreSerial, RunsAreSerial};
 
 use monitor_places::facts_hold_along;
 use monitor_tables::states_stay_sound;
@@ -37,3 +38,14 @@ pub fn replays_hold_along_every_script()
 pub fn turns_end_serially()
     ensures { TurnsEndSerially }
 {}
+
+/// Each commit of a transaction is what its record, run in one go on the durable tables before the commit, makes of
+/// them; so the commits of a script, one after another, are its transactions one after another.
+pub fn commits_are_serial()
+    ensures turns { TurnsCommitSerially }
+    ensures commands { CommandsCommitSerially }
+    ensures histories { HistoriesAreSerial }
+    ensures runs { RunsAreSerial }
+{
+    replays_hold_along_every_script();
+}

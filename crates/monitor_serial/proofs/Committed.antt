@@ -1,0 +1,222 @@
+-- Each commit of a transaction is that of its record, run in one go on the durable tables.
+use Rattle.std.specs.Prelude.{◌≡◌, refl, ℕ, zero, suc, ◌+◌, ◌≤◌, Bool, true, false, List, [], ◌∷◌, ◌++◌, ◌==◌, if◌then◌else◌, Option, Some, None}
+use Rattle.std.proofs.Common.{sym, ap, ◌∙◌, arith}
+use Rattle.std.proofs.lemmas.List.Elements.{All-head, All-tail}
+use Rattle.std.specs.FinMap.{find}
+use Rattle.kdcs_types.specs.declared.call.Cause.{Cause}
+use Rattle.kdcs_types.specs.declared.key.ServiceId.{ServiceId}
+use Rattle.kdcs_types.specs.declared.key.ServiceId.TheVariants.{Dialogue}
+use Rattle.kdcs_types.specs.declared.service.Ending.{Ending}
+use Rattle.kdcs_types.specs.declared.service.Job.{Job}
+use Rattle.kdcs_types.specs.declared.service.JobValue.{JobValue}
+use Rattle.kdcs_types.specs.declared.service.Service.{Service}
+use Rattle.kdcs_types.specs.declared.service.Settled.{Settled}
+use Rattle.kdcs_types.specs.Keys.{id_cmp}
+use Rattle.kdcs_types.specs.Tables.{TableRows, service_of, shown_of}
+use Rattle.kdcdef_types.specs.Statements.{IsWithin}
+use Rattle.monitor_semantics.specs.declared.answer.Happened.TheVariants.{Settles, Breaks}
+use Rattle.monitor_semantics.specs.declared.answer.LockAnswer.TheVariants.{Granted}
+use Rattle.monitor_semantics.specs.declared.input_use.Use.{Use}
+use Rattle.monitor_semantics.specs.declared.input_use.Use.TheVariants.{Sign, SignRefused, SignFirst, AlreadySigned, Off, Display, Output, Again, Busy, TooLong, Next, Start, TacRefused}
+use Rattle.monitor_semantics.specs.declared.outcome.Outcome.{Outcome}
+use Rattle.monitor_semantics.specs.Bytes.{Bytes, bytes_cmp}
+use Rattle.monitor_semantics.specs.Calls.{Told}
+use Rattle.monitor_semantics.specs.Commands.{Command, Input, Tick, Run, Turn, Drop, Print, PrintLast, Restart, ScriptStep, maker_of, next_task, in_a_row, rotated, state_after, steps_of, lterm_at, user_at, signed_on_by, show_by, show_next, show_again_by, due_for, display, last_by, used, use_now, tick_by, drop_by, command_of}
+use Rattle.monitor_semantics.specs.Endings.{synchronised, broken, durable, refusal}
+use Rattle.monitor_semantics.specs.State.{Application, OpenTransaction, Session, State}
+use Rattle.monitor_semantics.specs.Statements.{kept_record}
+use Rattle.monitor_semantics.specs.Trace.{history}
+use Rattle.monitor_semantics.specs.Turns.{told_here, statement_now, turn_of}
+use Rattle.monitor_laws.specs.Applications.{IsApplication, IsCommandOf}
+use Rattle.monitor_laws.specs.Commits.{IsAtomicCommit}
+use Rattle.monitor_laws.specs.Keeping.{IsScriptOf}
+use Rattle.monitor_laws.specs.Replay.{settled_as, IsReplayed}
+use Rattle.monitor_runs.specs.RunLaws.{EachStep}
+use Rattle.monitor_serial.specs.Replays.{LookAlike}
+use Rattle.monitor_serial.specs.SerialLaws.{HasReplays, StepsKeepReplays, IsSerialBy, IsSerialStep, TurnsCommitSerially, CommandsCommitSerially, HistoriesAreSerial}
+use Rattle.monitor_serial.proofs.Along.{replayed_over}
+use Rattle.monitor_serial.proofs.Durable.{base, base_sorted, base_durable, base_service, base_content, base_job, synchronised_alike, broken_alike}
+use Rattle.monitor_serial.proofs.Ends.{breaks_atomic, settles_atomic}
+use Rattle.monitor_serial.proofs.Settling.{IfSettled, turn_ends_so}
+
+-- ---- one transaction
+
+module _ (app : Application) (s : State) (h : HasReplays app s) (id : ServiceId) (x : OpenTransaction) (is : find id_cmp id s.active ≡ Some x) where
+  abbrev lasting : TableRows → TableRows
+  lasting t = durable app.generation t
+
+  -- the tables from which its record starts
+  abbrev before : TableRows
+  before = base app.generation s.tables h.0.1.order (x.first ∷ x.lterm ∷ x.inputs) x.notes x.statements id x.began
+
+  began : service_of s.tables id ≡ x.began
+  began = (h.0.0.rooted id x is).began
+
+  began_before : service_of before id ≡ x.began
+  began_before = base_service app.generation s.tables h.0.1.order (x.first ∷ x.lterm ∷ x.inputs) x.notes x.statements id x.began began
+
+  same_part : lasting s.tables ≡ lasting before
+  same_part = sym (base_durable app.generation s.tables h.0.1.order (x.first ∷ x.lterm ∷ x.inputs) x.notes x.statements id x.began began)
+
+  alike : LookAlike s.tables before id x []
+  alike = record {
+    areas = λ area held. ap granted (base_content app.generation s.tables h.0.1.order (x.first ∷ x.lterm ∷ x.inputs) x.notes x.statements id x.began area);
+    job = base_job app.generation s.tables h.0.1.order (x.first ∷ x.lterm ∷ x.inputs) x.notes x.statements id x.began;
+  }
+    where
+      granted : Option Bytes → Told
+      granted c = record { answer = Granted; content = c }
+
+  replayed : IsReplayed app before id x
+  replayed = replayed_over app s.tables before id x (h.1 id x is) alike
+
+  broken_same : lasting (broken s.tables id x) ≡ lasting (broken before id x)
+  broken_same =
+      broken_alike app.generation s.tables before id x h.0.1.order
+      (base_sorted app.generation s.tables h.0.1.order (x.first ∷ x.lterm ∷ x.inputs) x.notes x.statements id x.began began) same_part
+
+  point_same : (o : Outcome) → lasting (synchronised app.generation s.tables id x o) ≡ lasting (synchronised app.generation before id x o)
+  point_same o =
+      synchronised_alike app.generation s.tables before id x o h.0.1.order
+      (base_sorted app.generation s.tables h.0.1.order (x.first ∷ x.lterm ∷ x.inputs) x.notes x.statements id x.began began)
+      (h.0.1.transactions id x is).lssbs_order same_part
+
+  breaks_commits : (ending : Ending) → (statement_now app s id x).1 ≡ Breaks ending → IsAtomicCommit app (lasting s.tables) (lasting (broken s.tables id x)) (kept_record id x ending)
+  breaks_commits ending now = record { whole = broken before id x; atomic = breaks_atomic app before id x replayed began_before (told_here app s id x) ending now; kept_part = broken_same }
+
+  settles_commits : (o : Outcome) (cause : Option Cause) → (statement_now app s id x).1 ≡ Settles o → refusal app.generation (lasting (synchronised app.generation s.tables id x o)) ≡ cause
+      → (let e = settled_as app s.tables id x (synchronised app.generation s.tables id x o) cause in IsAtomicCommit app (lasting s.tables) (lasting e.tables) (kept_record id x e.ending))
+  settles_commits o None now refused = record {
+    whole = synchronised app.generation before id x o;
+    atomic = settles_atomic app before id x replayed began_before (told_here app s id x) o None now (ap (refusal app.generation) (sym (point_same o)) ∙ refused);
+    kept_part = point_same o;
+  }
+  settles_commits o (Some cause) now refused = record {
+    whole = broken before id x;
+    atomic = settles_atomic app before id x replayed began_before (told_here app s id x) o (Some cause) now (ap (refusal app.generation) (sym (point_same o)) ∙ refused);
+    kept_part = broken_same;
+  }
+
+-- ---- one step
+
+pub turns_commit : TurnsCommitSerially
+turns_commit app s task h =
+    as_law (turn_of app s task).after.tables (turn_of app s task).settled
+    (turn_ends_so app s task (λ t kept. IsAtomicCommit app (durable app.generation s.tables) (durable app.generation t) kept)
+    (λ id x ending is now. breaks_commits app s h id x is ending now)
+    (λ id x o cause is now refused. settles_commits app s h id x is o cause now refused))
+  where
+    as_law : (t : TableRows) (o : Option Settled) → IfSettled (λ u kept. IsAtomicCommit app (durable app.generation s.tables) (durable app.generation u) kept) t o → IsSerialBy app s t (maker_of o)
+    as_law t None k = tt
+    as_law t (Some kept) k = k
+
+shows_commit : (app : Application) (s : State) (lterm no_message : Bytes) (line_of : Bytes → Bytes) → IsSerialStep app s (show_next app s lterm no_message line_of)
+unfolding show_next
+shows_commit app s lterm no_message line_of = by (due_for s lterm)
+  where
+    by : (o : Option Job) → IsSerialStep app s (show_by app s lterm no_message line_of o)
+    by None = tt
+    by (Some job) = tt
+
+again_commits : (app : Application) (s : State) (no_message : Bytes) (line_of : Bytes → Bytes) (o : Option JobValue) → IsSerialStep app s (show_again_by s no_message line_of o)
+again_commits app s no_message line_of None = tt
+again_commits app s no_message line_of (Some value) = tt
+
+display_commits : (app : Application) (s : State) (pterm : Bytes) (o : Option Bytes) → IsSerialStep app s (display s pterm o)
+display_commits app s pterm None = tt
+display_commits app s pterm (Some message) = tt
+
+sign_commits : (app : Application) (s : State) (pterm user lterm : Bytes) (o : Option Service) → IsSerialStep app s (signed_on_by app s pterm user lterm o)
+sign_commits app s pterm user lterm None = tt
+sign_commits app s pterm user lterm (Some row) = tt
+
+drop_commits : (app : Application) (s : State) (pterm : Bytes) (o : Option Session) → IsSerialStep app s (drop_by app s pterm o)
+drop_commits app s pterm None = tt
+drop_commits app s pterm (Some v) = tt
+
+tick_commits : (app : Application) (s : State) (ticks clock : ℕ) (within : Bool) → IsSerialStep app s (tick_by app s ticks clock within)
+tick_commits app s ticks clock true = tt
+tick_commits app s ticks clock false = tt
+
+use_commits : (app : Application) (s : State) (pterm : Bytes) (u : Use) → IsSerialStep app s (used app s pterm (lterm_at app pterm) (user_at s pterm) u)
+unfolding used
+use_commits app s pterm (Sign name) = sign_commits app s pterm name (lterm_at app pterm) (service_of s.tables (Dialogue name))
+use_commits app s pterm (SignRefused fault) = tt
+use_commits app s pterm SignFirst = tt
+use_commits app s pterm AlreadySigned = tt
+use_commits app s pterm Off = tt
+use_commits app s pterm Display = display_commits app s pterm (last_by (find bytes_cmp pterm s.signed))
+use_commits app s pterm Output = shows_commit app s (lterm_at app pterm) _ _
+use_commits app s pterm Again = again_commits app s _ _ (shown_of s.tables (lterm_at app pterm))
+use_commits app s pterm Busy = tt
+use_commits app s pterm TooLong = tt
+use_commits app s pterm (Next text) = tt
+use_commits app s pterm (Start tac text) = tt
+use_commits app s pterm (TacRefused fault) = tt
+
+pub commands_commit : CommandsCommitSerially
+unfolding command_of
+commands_commit app s (Input pterm text) h = use_commits app s pterm (use_now app s pterm text)
+commands_commit app s (Tick ticks) h = tick_commits app s ticks _ _
+commands_commit app s (Run turns) h = tt
+commands_commit app s (Turn task) h = turns_commit app s task h
+commands_commit app s (Drop pterm) h = drop_commits app s pterm (find bytes_cmp pterm s.signed)
+commands_commit app s (Print pterm) h = shows_commit app s (lterm_at app pterm) _ _
+commands_commit app s (PrintLast pterm) h = again_commits app s _ _ (shown_of s.tables (lterm_at app pterm))
+commands_commit app s Restart h = tt
+
+-- ---- scripts
+
+each_both : (law : State → ScriptStep → Type 0) (s : State) (xs ys : List ScriptStep) → EachStep law s xs → EachStep law (state_after s xs) ys → EachStep law s (xs ++ ys)
+unfolding state_after
+each_both law s [] ys h k = k
+each_both law s (d ∷ ds) ys h k = (h.0, each_both law d.after ds ys h.1 k)
+
+module _ (keeps : StepsKeepReplays) (app : Application) (is_app : IsApplication app) where
+  -- the steps are serial, and the state behind them has the facts
+  abbrev Serial : State → List ScriptStep → Type 0
+  Serial s steps = EachStep (IsSerialStep app) s steps × HasReplays app (state_after s steps)
+
+  next_within : (task : ℕ) → IsWithin 1 app.generation.limits.tasks task → IsWithin 1 app.generation.limits.tasks (next_task app task)
+  next_within task w = by (task == app.generation.limits.tasks) refl
+    where
+      by : (b : Bool) → (task == app.generation.limits.tasks) ≡ b → IsWithin 1 app.generation.limits.tasks (if b then 1 else task + 1)
+      by true e = (omega arith, is_app.tasks)
+      by false e = let a : task ≤ app.generation.limits.tasks = w.1 in (omega arith, grind arith)
+
+  turns_serial : (n : ℕ) (ended : Bool) (s : State) (task row : ℕ) → IsWithin 1 app.generation.limits.tasks task → HasReplays app s → Serial s (rotated app n ended s task row)
+  unfolding rotated state_after
+  turns_serial zero ended s task row w h = (tt, h)
+  turns_serial (suc n) true s task row w h = (tt, h)
+  turns_serial (suc n) false s task row w h =
+      let turned = turn_of app s task in
+      let more = in_a_row turned.moved row in
+      let rest = turns_serial n (more == app.generation.limits.tasks) turned.after (next_task app task) more (next_within task w) (keeps.turns app s task is_app w h) in
+      ((turns_commit app s task h, rest.0), rest.1)
+
+  one_serial : (s : State) (c : Command) → IsCommandOf app.generation c → HasReplays app s → Serial s (command_of app s c ∷ [])
+  unfolding state_after
+  one_serial s c w h = ((commands_commit app s c h, tt), keeps.commands app s c is_app w h)
+
+  steps_serial : (s : State) (c : Command) → IsCommandOf app.generation c → HasReplays app s → Serial s (steps_of app s c)
+  unfolding steps_of
+  steps_serial s (Run turns) w h = turns_serial turns false s 1 0 (omega arith, is_app.tasks) h
+  steps_serial s (Input pterm text) w h = one_serial s (Input pterm text) w h
+  steps_serial s (Tick ticks) w h = one_serial s (Tick ticks) w h
+  steps_serial s (Turn task) w h = one_serial s (Turn task) w h
+  steps_serial s (Drop pterm) w h = one_serial s (Drop pterm) w h
+  steps_serial s (Print pterm) w h = one_serial s (Print pterm) w h
+  steps_serial s (PrintLast pterm) w h = one_serial s (PrintLast pterm) w h
+  steps_serial s Restart w h = one_serial s Restart w h
+
+  pub script_serial : (script : List Command) (s : State) → IsScriptOf app script → HasReplays app s → EachStep (IsSerialStep app) s (history app s script)
+  unfolding history
+  script_serial [] s w h = tt
+  script_serial (c ∷ cs) s w h =
+      let steps = steps_of app s c in
+      let here = steps_serial s c (All-head (IsCommandOf app.generation) c cs w) h in
+      each_both (IsSerialStep app) s steps (history app (state_after s steps) cs) here.0
+      (script_serial cs (state_after s steps) (All-tail (IsCommandOf app.generation) c cs w) here.1)
+
+pub histories_are_serial : StepsKeepReplays → HistoriesAreSerial
+histories_are_serial keeps app s script is_app fits h = script_serial keeps app is_app script s fits h
