@@ -40,7 +40,7 @@ use Rattle.monitor_semantics.specs.Picks.{free_jobs}
 use Rattle.kd_base.specs.Tools.{both_true}
 use Rattle.std.proofs.lemmas.Bool.{leb-true}
 use Rattle.monitor_serial.specs.Replays.{LookAlike}
-use Rattle.monitor_serial.specs.SerialRuns.{Shows, MakeInTurn, makers_of, MakesBy, MakesItsCommit, TurnsMakeTheirCommits, CommandsMakeTheirCommits, ScriptsAreSerialRuns}
+use Rattle.monitor_serial.specs.SerialRuns.{Shows, MakeInTurn, makers_of, MakesBy, MakesItsCommit, TurnsMakeTheirCommits, CommandsMakeTheirCommits, ScriptsAreSerialRuns, StopsLeaveSerialRuns}
 use Rattle.monitor_serial.specs.SerialLaws.{HasReplays, StepsKeepReplays, IsSerialBy, IsSerialStep, TurnsCommitSerially, CommandsCommitSerially, HistoriesAreSerial}
 use Rattle.monitor_serial.proofs.Along.{replayed_over}
 use Rattle.monitor_serial.proofs.Durable.{base, base_sorted, base_durable, base_service, base_content, base_job, synchronised_alike, broken_alike}
@@ -290,3 +290,16 @@ pub scripts_are_serial_runs : StepsKeepReplays → HistoriesCommitOnce → Scrip
 unfolding started
 scripts_are_serial_runs keeps once app t script is_app fits order suits = made_in_turn app (started app t) (history app (started app t) script) (once app (started app t) script)
     (script_serial keeps app is_app script (started app t) fits (keeps.starts app t is_app order suits))
+
+-- what holds of each step holds of each of the first ones
+each_first : (law : State → ScriptStep → Type 0) (s : State) (first rest : List ScriptStep) → EachStep law s (first ++ rest) → EachStep law s first
+each_first law s [] rest h = tt
+each_first law s (d ∷ ds) rest h = (h.0, each_first law d.after ds rest h.1)
+
+pub stops_leave_serial_runs : StepsKeepReplays → HistoriesCommitOnce → StopsLeaveSerialRuns
+unfolding started
+stops_leave_serial_runs keeps once app t script is_app fits order suits first rest whole =
+    let s = started app t in
+    made_in_turn app s first
+    (each_first (CommitsOnce app) s first rest (subst (EachStep (CommitsOnce app) s) whole (once app s script)))
+    (each_first (MakesItsCommit app) s first rest (subst (EachStep (MakesItsCommit app) s) whole (script_serial keeps app is_app script s fits (keeps.starts app t is_app order suits))))

@@ -1,5 +1,5 @@
 -- A serial run: makers that change the durable tables one after another, with no services and no states between them.
-use Rattle.std.specs.Prelude.{◌≡◌, ℕ, ◌+◌, ◌≤◌, List, [], ◌∷◌, filter_map, Option, Some, None, Contains}
+use Rattle.std.specs.Prelude.{◌≡◌, ℕ, ◌+◌, ◌≤◌, List, [], ◌∷◌, ◌++◌, filter_map, Option, Some, None, Contains}
 use Rattle.kdcs_types.specs.declared.key.Target.TheVariants.{Lterm}
 use Rattle.kdcs_types.specs.declared.service.Job.{Job}
 use Rattle.kdcs_types.specs.Tables.{TableRows, IsSortedTables}
@@ -59,3 +59,10 @@ ScriptsAreSerialRuns =
     (app : Application) (t : TableRows) (script : List Command) → IsApplication app → IsScriptOf app script → IsSortedTables t → Suits app.generation t
     → (let steps = history app (started app t) script in
     MakeInTurn app (durable app.generation t) (durable app.generation (state_after (started app t) steps).tables) (makers_of steps))
+
+-- and so are those that the first steps of it leave: a stop behind any step leaves a serial run too
+abbrev pub StopsLeaveSerialRuns : Type 0
+StopsLeaveSerialRuns =
+    (app : Application) (t : TableRows) (script : List Command) → IsApplication app → IsScriptOf app script → IsSortedTables t → Suits app.generation t
+    → (first rest : List ScriptStep) → history app (started app t) script ≡ first ++ rest
+    → MakeInTurn app (durable app.generation t) (durable app.generation (state_after (started app t) first).tables) (makers_of first)

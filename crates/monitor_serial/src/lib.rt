@@ -9,7 +9,7 @@
 ghost use Rattle.monitor_serial.specs.SerialLaws.{AllOpeningsReplay, StatementsReplay, InputsReplay, OtherTablesReplay};
 ghost use Rattle.monitor_serial.specs.SerialLaws.{StepsKeepReplays, ScriptsKeepReplays, ReplaysAreRecords, TurnsEndSerially};
 ghost use Rattle.monitor_serial.specs.SerialLaws.{TurnsCommitSerially, CommandsCommitSerially, HistoriesAreSerial, RunsAreSerial};
-ghost use Rattle.monitor_serial.specs.SerialRuns.{TurnsMakeTheirCommits, CommandsMakeTheirCommits, ScriptsAreSerialRuns};
+ghost use Rattle.monitor_serial.specs.SerialRuns.{TurnsMakeTheirCommits, CommandsMakeTheirCommits, ScriptsAreSerialRuns, StopsLeaveSerialRuns};
 
 use monitor_places::facts_hold_along;
 use monitor_runs::commits_make_the_tables;
@@ -53,11 +53,13 @@ pub fn commits_are_serial()
 }
 
 /// Serial equivalence: however its services interleave, the durable tables that a script leaves are those of a serial
-/// run, in which what made its commits comes one after another, each transaction as its record in one go.
+/// run, in which what made its commits comes one after another, each transaction as its record in one go. So are those
+/// that the first steps of a script leave.
 pub fn scripts_are_serial_runs()
     ensures turns { TurnsMakeTheirCommits }
     ensures commands { CommandsMakeTheirCommits }
     ensures scripts { ScriptsAreSerialRuns }
+    ensures stops { StopsLeaveSerialRuns }
 {
     replays_hold_along_every_script();
     commits_make_the_tables();
