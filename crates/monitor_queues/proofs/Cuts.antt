@@ -1,5 +1,5 @@
 -- A stop leaves the durable tables of a state between two steps, and a start from them goes on there.
-use Rattle.std.specs.Prelude.{◌≡◌, ◌⊎◌, refl, IsTrue, ℕ, Bool, cond, List, [], ◌∷◌, ◌++◌, Some, None, All}
+use Rattle.std.specs.Prelude.{false, ◌≡◌, ◌⊎◌, refl, IsTrue, ℕ, Bool, cond, List, [], ◌∷◌, ◌++◌, Some, None, All}
 use Rattle.std.proofs.Common.{sym, ap, subst, ◌∙◌, inl, inr, true≢false}
 use Rattle.std.proofs.lemmas.List.Elements.{All-head, All-tail}
 use Rattle.kdcs_types.specs.declared.act.Act.{Act}
@@ -162,6 +162,14 @@ module _ (starts : StartsResume) (sign_ons : SignOnsResume) (starts_facts : Star
       sign_ons app (started app found) pterm user row from_facts (nobody app found user)
       (ap (λ (t : TableRows). service_of t (Dialogue user)) ((starts app found).tables ∙ is) ∙ durable_dialogue user ∙ ap (λ (b : Bool). cond b (service_of u.tables (Dialogue user)) None) restart ∙ e)
 
+  from_jobs : (started app found).tables.jobs ≡ u.tables.jobs
+  unfolding durable
+  from_jobs = ap (λ (t : TableRows). t.jobs) ((starts app found).tables ∙ is)
+
+  from_over : (user : Bytes) → restarts app.generation user ≡ false → service_of (started app found).tables (Dialogue user) ≡ None
+  from_over user over =
+      ap (λ (t : TableRows). service_of t (Dialogue user)) ((starts app found).tables ∙ is) ∙ durable_dialogue user ∙ ap (λ (b : Bool). cond b (service_of u.tables (Dialogue user)) None) over
+
 pub cuts_resume : StepsMakeTheirTables → HistoriesCommitOnce → StartsHaveFacts → ScriptsKeepFacts → StartsResume → SignOnsResume → CutsResume
 unfolding started trace
 cuts_resume makes once starts_facts scripts starts sign_ons app t script is_app names order suits done left e =
@@ -177,5 +185,7 @@ cuts_resume makes once starts_facts scripts starts sign_ons app t script is_app 
       stored = b.stored;
       facts = from_facts starts sign_ons starts_facts app is_app u b.facts found b.stored;
       asynchronous = from_asynchronous starts sign_ons starts_facts app is_app u b.facts found b.stored;
+      jobs = from_jobs starts sign_ons starts_facts app is_app u b.facts found b.stored;
+      over = from_over starts sign_ons starts_facts app is_app u b.facts found b.stored;
       dialogue = from_dialogue starts sign_ons starts_facts app is_app u b.facts found b.stored;
     }

@@ -2,5 +2,6 @@ mod Doings
 mod Queues
 mod Sent
 mod Numbers
+mod Kept
 mod Resuming
 mod Cuts

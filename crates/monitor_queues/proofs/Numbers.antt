@@ -28,13 +28,13 @@ use Rattle.monitor_queues.specs.QueueLaws.{MeetsBoth, TurnsKeepQueues, CommandsK
 
 -- ---- jobs by number
 
-abbrev at : ℕ → List Job → Option Job
+abbrev pub at : ℕ → List Job → Option Job
 at n jobs = item_at job_key (JobKey n) jobs
 
 abbrev no_job : Option Job
 no_job = None
 
-same_number : (n m : ℕ) → JobKey n ≡ JobKey m → n ≡ m
+pub same_number : (n m : ℕ) → JobKey n ≡ JobKey m → n ≡ m
 same_number n m e = cc
 
 other_number : (n m : ℕ) → n < m → key_eq (JobKey n) (JobKey m) ≡ false
@@ -64,7 +64,7 @@ at_left (Some j) n js = by (key_eq (JobKey n) (JobKey j.number)) (item_at-withou
     by true e = inr e
     by false e = inl e
 
-abbrev value : Option Job → Option JobValue
+abbrev pub value : Option Job → Option JobValue
 value o = option_map (λ (j : Job). j.value) o
 
 -- ---- one step
@@ -136,7 +136,7 @@ module _ (app : Application) (s : State) (d : ScriptStep) where
 
 -- ---- whole runs
 
-each_split : (law : State → ScriptStep → Type 0) (s : State) (xs ys : List ScriptStep) → EachStep law s (xs ++ ys) → EachStep law s xs × EachStep law (state_after s xs) ys
+pub each_split : (law : State → ScriptStep → Type 0) (s : State) (xs ys : List ScriptStep) → EachStep law s (xs ++ ys) → EachStep law s xs × EachStep law (state_after s xs) ys
 unfolding state_after
 each_split law s [] ys h = (tt, h)
 each_split law s (d ∷ ds) ys h = let rest = each_split law d.after ds ys h.1 in ((h.0, rest.0), rest.1)

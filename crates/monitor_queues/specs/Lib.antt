@@ -2,3 +2,4 @@ pub mod Along
 pub mod Doings
 pub mod QueueLaws
 pub mod ResumeLaws
+pub mod Lawful

@@ -2,6 +2,8 @@
 use Rattle.std.specs.Prelude.{true, ◌≡◌, ◌⊎◌, ◌<◌, ◌≤◌, ℕ, List, [], ◌∷◌, ◌++◌, Option, Some, None}
 use Rattle.kdcs_types.specs.declared.act.Act.TheVariants.{Emit}
 use Rattle.kdcs_types.specs.declared.key.ServiceId.TheVariants.{Dialogue, Asynchronous}
+use Rattle.kdcs_types.specs.declared.service.Job.{Job}
+use Rattle.kdcs_types.specs.declared.service.JobValue.{JobValue}
 use Rattle.kdcs_types.specs.declared.service.Service.{Service}
 use Rattle.kdcs_types.specs.Tables.{TableRows, job_of, service_of}
 use Rattle.monitor_semantics.specs.Bytes.{Bytes}
@@ -12,7 +14,7 @@ use Rattle.monitor_semantics.specs.Turns.{commit_of, pterm_of_user, turn_of}
 use Rattle.monitor_semantics.specs.Commands.{Command, ScriptStep, Maker, ByTick, ByShow, ByTransaction, turned_step, command_of, state_after}
 use Rattle.monitor_semantics.specs.Trace.{history}
 use Rattle.monitor_laws.specs.Applications.{IsApplication}
-use Rattle.monitor_laws.specs.Commits.{QueueLaw, ServiceLaw}
+use Rattle.monitor_laws.specs.Commits.{Takes, QueueLaw, ServiceLaw}
 use Rattle.monitor_laws.specs.Keeping.{HasFacts, IsScriptOf}
 use Rattle.monitor_queues.specs.Along.{MeetsAlong}
 use Rattle.monitor_queues.specs.Doings.{StepMakes}
@@ -93,3 +95,20 @@ JobsAreDoneOnce =
     (app : Application) (s : State) (script : List Command) → IsApplication app → IsScriptOf app script → HasFacts app s
     → (first more rest : List ScriptStep) → history app s script ≡ first ++ more ++ rest
     → (number : ℕ) → IsOver (state_after s first).tables number → IsOver (state_after s (first ++ more)).tables number
+
+-- the commit of this step takes the job
+abbrev pub IsTakenAt : Application → ScriptStep → Job → Type 0
+IsTakenAt app d job = (by : Maker) × ((d.by ≡ Some by) × Takes app by (Some job) (durable app.generation d.after.tables) d.acts)
+
+-- one of these steps does
+abbrev pub IsTakenIn : Application → Job → List ScriptStep → Type 0
+IsTakenIn app job [] = ⊥
+IsTakenIn app job (d ∷ ds) = IsTakenAt app d job ⊎ IsTakenIn app job ds
+
+-- between any two states of a run a job stands with its value, or was taken by its own service or shown at its LTERM
+abbrev pub NoJobIsLost : Type 0
+NoJobIsLost =
+    (app : Application) (s : State) (script : List Command) → IsApplication app → IsScriptOf app script → HasFacts app s
+    → (first more rest : List ScriptStep) → history app s script ≡ first ++ more ++ rest
+    → (number : ℕ) (value : JobValue) → job_of (state_after s first).tables number ≡ Some value
+    → (job_of (state_after s (first ++ more)).tables number ≡ Some value) ⊎ IsTakenIn app (record { number = number; value = value }) more

@@ -87,17 +87,20 @@ SignOnsResume =
 
 -- ---- cuts
 
--- what is stored after some first acts of a run are the durable tables of a state between two of its steps; a start from them has its facts, and each service goes on at its last point in that state
+-- what is stored after some first acts of a run are the durable tables of a state between two of its steps; a start from them has its facts and all jobs of that state, and each service goes on at its last point there
 pub record CutResumes (app : Application) (t : TableRows) (script : List Command) (done : List Act) : Type 0 where
   pub first : List ScriptStep
   pub rest : List ScriptStep
   pub whole : history app (started app t) script ≡ first ++ rest
   pub stored : tables_after (durable app.generation t) done ≡ durable app.generation (state_after (started app t) first).tables
   pub facts : HasFacts app (started app (tables_after (durable app.generation t) done))
+  pub jobs : (started app (tables_after (durable app.generation t) done)).tables.jobs ≡ (state_after (started app t) first).tables.jobs
   pub asynchronous : (number : ℕ) (row : Service) → service_of (state_after (started app t) first).tables (Asynchronous number) ≡ Some row
       → IsReadyAt (started app (tables_after (durable app.generation t) done)) (Asynchronous number) row (lterm_of_row row.lterm)
   pub dialogue : (pterm user : Bytes) (row : Service) → IsTrue (restarts app.generation user) → service_of (state_after (started app t) first).tables (Dialogue user) ≡ Some row
       → SignOnResumes app (started app (tables_after (durable app.generation t) done)) pterm user row (signed_on app (started app (tables_after (durable app.generation t) done)) pterm user)
+  -- a service of a user with RESTART=NO is over
+  pub over : (user : Bytes) → restarts app.generation user ≡ false → service_of (started app (tables_after (durable app.generation t) done)).tables (Dialogue user) ≡ None
 
 abbrev pub CutsResume : Type 0
 CutsResume =

@@ -5,7 +5,8 @@
 //! program above it cite.
 #![tactic(auto)]
 
-ghost use Rattle.monitor_queues.specs.QueueLaws.{TurnsDoSo, CommandsDoSo, TurnsKeepQueues, CommandsKeepQueues, HistoriesKeepQueues, HistoriesSendAtPoints, NumbersAreDrawnOnce, JobsAreDoneOnce};
+ghost use Rattle.monitor_queues.specs.QueueLaws.{TurnsDoSo, CommandsDoSo, TurnsKeepQueues, CommandsKeepQueues, HistoriesKeepQueues, HistoriesSendAtPoints, NumbersAreDrawnOnce, NoJobIsLost, JobsAreDoneOnce};
+ghost use Rattle.monitor_queues.specs.Lawful.{LawfulWhereSerial};
 ghost use Rattle.monitor_queues.specs.ResumeLaws.{StartsResume, SignOnsResume, CutsResume};
 
 use monitor_laws::steps_commit_once;
@@ -40,11 +41,21 @@ pub fn runs_keep_queues()
     commits_keep_queues();
 }
 
+/// Where the commits of a script also are those that their records, run in one go, make, the script meets all three laws.
+pub fn serial_runs_are_lawful()
+    ensures { LawfulWhereSerial }
+{
+    runs_keep_queues();
+}
+
 /// Between any two states of a run no job number is drawn twice: the next number does not fall, and a number that was
-/// drawn stands for the same job or for none. So a job that is gone, and whose service is over, is never done again.
+/// drawn stands for the same job or for none. A job stands with its value until a commit takes it: that of the first
+/// point or the abnormal end of its own service, or that of KDCOUT or PRINT, which show it. A job that is gone, and
+/// whose service is over, is never done again.
 pub fn jobs_are_done_once()
     ensures numbers { NumbersAreDrawnOnce }
-    ensures jobs { JobsAreDoneOnce }
+    ensures lost { NoJobIsLost }
+    ensures doubled { JobsAreDoneOnce }
 {
     facts_hold_along();
     states_stay_sound();

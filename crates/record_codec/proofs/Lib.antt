@@ -1,4 +1,6 @@
 mod Eight
 mod Grown
+mod Neighbours
 mod Room
 mod Short
+mod SoMany

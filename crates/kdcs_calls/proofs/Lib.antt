@@ -1,0 +1,2 @@
+pub mod AreaCalls
+pub mod Locking

@@ -1,0 +1,90 @@
+-- A KDCS call as the running system performs it: what it may be asked on, what it answers, and what becomes of the locks.
+use Rattle.std.specs.Prelude.{◌≡◌, ◌≤◌, IsTrue, ℕ, Bool, true, false, ◌&&◌, not, List, All, length, Option, Some, None, IfSome, is_some, if◌then◌else◌}
+use Rattle.std.specs.FinMap.{find}
+use Rattle.kdcs_types.specs.declared.call.Call.{Call}
+use Rattle.kdcs_types.specs.declared.call.Call.TheVariants.{Init, Mget, Mput, Fget, Fput, Dput, SgetGb, SputGb, SrelGb, SgetKp, SgetRl, SputMs, SrelLb, SgetUs, SputUs, Gtda, Ptda, UnlkGb, UnlkUs, UnlkDa, Pend}
+use Rattle.kdcs_types.specs.declared.key.Area.{Area}
+use Rattle.kdcs_types.specs.declared.key.Area.TheVariants.{Gssb, Tls, Uls}
+use Rattle.kdcs_types.specs.declared.key.ServiceId.{ServiceId}
+use Rattle.kdcs_types.specs.Keys.{area_cmp}
+use Rattle.kdcs_types.specs.Tables.{TableRows, content_of}
+use Rattle.kdcdef_types.specs.Generation.{Generated, has_tls, has_uls}
+use Rattle.area_locks.specs.Asked.{asked, holds_area, unlocked}
+use Rattle.monitor_semantics.specs.Bytes.{Bytes, bytes_cmp}
+use Rattle.monitor_semantics.specs.Calls.{Told, Performed, call_outcome, shown_by, touches}
+use Rattle.monitor_semantics.specs.Endings.{is_asynchronous}
+use Rattle.monitor_semantics.specs.Locks.{Locks, told_now}
+use Rattle.monitor_semantics.specs.Statements.{area_of_call}
+use Rattle.monitor_semantics.specs.State.{OpenTransaction as Work}
+
+-- ---- when a call may be performed
+
+-- the locks give the service exactly the areas that its transaction touches
+abbrev pub HoldsJust : Locks → ServiceId → Work → Type 0
+HoldsJust l id x = (area : Area) → holds_area l id area ≡ touches x area
+
+-- a content that a call may read
+abbrev pub IsShort : Bytes → Type 0
+IsShort bytes = length bytes ≤ 32767
+
+-- each part, area and LSSB that the transaction may read is short
+pub record CanRead (t : TableRows) (x : Work) : Type 0 where
+  pub parts : All IsShort x.unread
+  pub areas : (area : Area) → IfSome (shown_by (find area_cmp area x.written) (content_of t area)) IsShort
+  pub lssbs : (name : Bytes) → IfSome (find bytes_cmp name x.lssbs) IsShort
+
+-- ---- what it answers
+
+-- the call, told what the locks and the tables say now
+abbrev pub performed_now : Generated → TableRows → Locks → ServiceId → Work → Call → Performed
+performed_now g t l id x call = call_outcome g (told_now l g.limits.reswait t id (area_of_call x call)) (is_asynchronous id) x call
+
+-- ---- what becomes of the locks
+
+-- no area is asked of where no block of this name is declared
+abbrev pub is_declared : Generated → Area → Bool
+is_declared g (Gssb name) = true
+is_declared g (Tls block lterm) = has_tls g block
+is_declared g (Uls block user) = has_uls g block
+
+-- a call that reads or writes an area asks for its lock
+abbrev pub after_request : Generated → (now : ℕ) → Locks → ServiceId → Option Area → Locks
+after_request g now l id None = l
+after_request g now l id (Some area) = if is_declared g area then asked l g.limits.reswait now id area else l
+
+-- the transaction holds the area, and has not written or deleted it
+abbrev pub may_release : Work → Area → Bool
+may_release x area = touches x area && not (is_some (find area_cmp area x.written))
+
+-- UNLK gives back an area that may be released
+abbrev pub after_release : Generated → Locks → ServiceId → Work → Option Area → Locks
+after_release g l id x None = l
+after_release g l id x (Some area) = if is_declared g area && may_release x area then unlocked l id area else l
+
+-- the locks after a call, once INIT is done
+abbrev pub locks_by_call : Generated → (now : ℕ) → Locks → ServiceId → Work → Call → Locks
+locks_by_call g now l id x Init = l
+locks_by_call g now l id x (Mget room) = l
+locks_by_call g now l id x (Mput bytes) = l
+locks_by_call g now l id x (Fget room) = l
+locks_by_call g now l id x (Fput to message) = l
+locks_by_call g now l id x (Dput to mode d h m s message) = l
+locks_by_call g now l id x (SgetGb name room) = after_request g now l id (area_of_call x (SgetGb name room))
+locks_by_call g now l id x (SputGb name bytes) = after_request g now l id (area_of_call x (SputGb name bytes))
+locks_by_call g now l id x (SrelGb name) = after_request g now l id (area_of_call x (SrelGb name))
+locks_by_call g now l id x (SgetKp name room) = l
+locks_by_call g now l id x (SgetRl name room) = l
+locks_by_call g now l id x (SputMs name bytes) = l
+locks_by_call g now l id x (SrelLb name) = l
+locks_by_call g now l id x (SgetUs name room) = after_request g now l id (area_of_call x (SgetUs name room))
+locks_by_call g now l id x (SputUs name bytes) = after_request g now l id (area_of_call x (SputUs name bytes))
+locks_by_call g now l id x (Gtda name room) = after_request g now l id (area_of_call x (Gtda name room))
+locks_by_call g now l id x (Ptda name bytes) = after_request g now l id (area_of_call x (Ptda name bytes))
+locks_by_call g now l id x (UnlkGb name) = after_release g l id x (area_of_call x (UnlkGb name))
+locks_by_call g now l id x (UnlkUs name) = after_release g l id x (area_of_call x (UnlkUs name))
+locks_by_call g now l id x (UnlkDa name) = after_release g l id x (area_of_call x (UnlkDa name))
+locks_by_call g now l id x (Pend variant op) = l
+
+-- the locks after a call; before INIT is done, no lock is asked for
+abbrev pub locks_after_call : Generated → (now : ℕ) → Locks → ServiceId → Work → Call → Locks
+locks_after_call g now l id x call = if x.inited then locks_by_call g now l id x call else l

@@ -1,0 +1,50 @@
+//! Answers of calls.
+ghost use Rattle.std.specs.Prelude.{◌≡◌, ◌≤◌, IfSome, length};
+ghost use Rattle.monitor_semantics.specs.State.{OpenTransaction as Work};
+ghost use Rattle.monitor_semantics.specs.Calls.{plain_reply, read_or, read_reply};
+ghost use Rattle.monitor_semantics.specs.declared.answer.Called.TheVariants as called;
+ghost use Rattle.kdcs_calls.specs.Calling.{IsShort};
+
+use kd_base::Bytes;
+use kdcs_types::{Code, Reply};
+use monitor_semantics::Called;
+
+/// A code alone, with KCRLM 0.
+pub(crate) fn replied(code: Code) -> Called
+    ensures { result ≡ called.Replied (plain_reply code) }
+{
+    Called::Replied(Reply {
+        code,
+        length: 0,
+        content: None,
+    })
+}
+
+/// A content that was read into a field of `room` bytes: K02 where it is longer.
+pub(crate) fn read_reply(room: u32, bytes: Bytes) -> Called
+    requires { IsShort bytes }
+    ensures { result ≡ called.Replied (read_reply room bytes) }
+{
+    let length = bytes.len();
+    let code = if (room as usize) < length {
+        Code::K02
+    } else {
+        Code::Done
+    };
+    Called::Replied(Reply {
+        code,
+        length: length as u32,
+        content: Some(bytes),
+    })
+}
+
+/// What was read, or this code where there is nothing.
+pub(crate) fn read_or(code: Code, room: u32, found: Option<Bytes>) -> Called
+    requires { IfSome found IsShort }
+    ensures { (x : Work) → (x, result) ≡ read_or code x room found }
+{
+    match found {
+        None => replied(code),
+        Some(bytes) => read_reply(room, bytes),
+    }
+}

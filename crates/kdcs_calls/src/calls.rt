@@ -1,0 +1,125 @@
+//! All calls.
+ghost use Rattle.std.specs.Prelude.{◌≡◌, IfOk, OnOk};
+ghost use Rattle.monitor_semantics.specs.Calls.{called, call_outcome, first_call};
+ghost use Rattle.monitor_semantics.specs.Endings.{is_asynchronous};
+ghost use Rattle.monitor_semantics.specs.Locks.{told_now};
+ghost use Rattle.monitor_semantics.specs.Statements.{area_of_call};
+ghost use Rattle.open_transaction.specs.Work.{work_of};
+ghost use Rattle.kdcs_calls.specs.Calling.{CanRead, HoldsJust, locks_after_call, locks_by_call, performed_now};
+
+use crate::answer::replied;
+use crate::areas::{delete_area, read_area, read_block, unlock, write_area};
+use crate::jobs::{moment_in, put_job};
+use crate::locals::{delete_local, read_away, read_local, write_local};
+use crate::messages::{get, put};
+use crate::operand::{gssb_in, tls_in, uls_in};
+use crate::outside::Outside;
+use crate::pend::pend;
+use area_locks::LockTable;
+use kd_base::OutOfMemory;
+use kdcdef_check::Generation;
+use kdcs_types::{Call, Cause, Code, ServiceId, Tables};
+use monitor_semantics::{Called, Due};
+use open_transaction::OpenTransaction;
+use std::alloc::Global;
+
+fn is_asynchronous(id: ServiceId) -> bool
+    ensures { result ≡ is_asynchronous id }
+{
+    matches!(id, ServiceId::Asynchronous(_))
+}
+
+// Before INIT is done, INIT alone is answered.
+fn first_call(work: &mut OpenTransaction, call: &Call) -> Called
+    ensures exact { (work_of work.new, result) ≡ first_call (work_of work.old) call.now }
+    ensures id { work.new.id ≡ work.old.id }
+    ensures nb { work.new.messages.nb ≡ work.old.messages.nb }
+{
+    match call {
+        Call::Init => {
+            work.inited = true;
+            replied(Code::Done)
+        }
+        _ => Called::Abnormal(Cause::E01),
+    }
+}
+
+// A call, once INIT is done.
+#[tactic(auto, unfolding(monitor_semantics::specs::Calls::called))]
+fn later_call(
+    outside: &Outside,
+    locks: &mut LockTable,
+    work: &mut OpenTransaction,
+    call: &Call,
+) -> Result<Called, OutOfMemory>
+    requires holds { HoldsJust locks.old work.old.id (work_of work.old) }
+    requires short { CanRead outside.now.tables.now (work_of work.old) }
+    requires nb { work.old.messages.nb ≡ outside.now.generation.now.limits.nb }
+    ensures exact { IfOk result (λ c. (work_of work.new, c) ≡ called outside.now.generation.now (told_now locks.old outside.now.generation.now.limits.reswait outside.now.tables.now work.old.id (area_of_call (work_of work.old) call.now)) (is_asynchronous work.old.id) (work_of work.old) call.now) }
+    ensures locks { OnOk result (locks.new ≡ locks_by_call outside.now.generation.now outside.now.tables.now.clock locks.old work.old.id (work_of work.old) call.now) }
+    ensures id { work.new.id ≡ work.old.id }
+    ensures nb { work.new.messages.nb ≡ work.old.messages.nb }
+{
+    let g = outside.generation;
+    let user = work.user;
+    let lterm = work.lterm;
+    let asynchronous = is_asynchronous(work.id);
+    match call {
+        Call::Init => Ok(Called::Abnormal(Cause::E01)),
+        Call::Mget(room) => Ok(get(work, !asynchronous, *room)),
+        Call::Mput(part) => put(work, !asynchronous, part),
+        Call::Fget(room) => Ok(get(work, asynchronous, *room)),
+        Call::Fput(to, message) => put_job(g, work, to, Some(Due::After(0)), message),
+        Call::Dput(to, mode, d, h, m, s, message) => {
+            put_job(g, work, to, moment_in(*mode, d, h, m, s), message)
+        }
+        Call::SgetGb(name, room) => read_area(outside, locks, work, gssb_in(name), *room),
+        Call::SputGb(name, bytes) => write_area(outside, locks, work, gssb_in(name), bytes),
+        Call::SrelGb(name) => delete_area(outside, locks, work, gssb_in(name)),
+        Call::SgetKp(name, room) => read_local(work, name, *room),
+        Call::SgetRl(name, room) => read_away(work, name, *room),
+        Call::SputMs(name, bytes) => write_local(g, work, name, bytes),
+        Call::SrelLb(name) => Ok(delete_local(work, name)),
+        Call::SgetUs(name, room) => read_block(outside, locks, work, uls_in(g, user, name), *room),
+        Call::SputUs(name, bytes) => write_area(outside, locks, work, uls_in(g, user, name), bytes),
+        Call::Gtda(name, room) => read_block(outside, locks, work, tls_in(g, lterm, name), *room),
+        Call::Ptda(name, bytes) => write_area(outside, locks, work, tls_in(g, lterm, name), bytes),
+        Call::UnlkGb(name) => unlock(outside, locks, work, gssb_in(name)),
+        Call::UnlkUs(name) => unlock(outside, locks, work, uls_in(g, user, name)),
+        Call::UnlkDa(name) => unlock(outside, locks, work, tls_in(g, lterm, name)),
+        Call::Pend(variant, operand) => Ok(pend(g, asynchronous, work, *variant, operand)),
+    }
+}
+
+/// Performs a KDCS call of an open transaction at the clock of the tables: what it answers, or that its request for an
+/// area waits, that the service ends abnormally, or that a PEND is not refused. A request that waits changes nothing but
+/// the wait, and is repeated as it stands. `locks` gives the service exactly the areas that its transaction holds. No
+/// part, area or LSSB that it may read is longer than 32,767 bytes. When memory runs out, the transaction and the locks
+/// are of no use any more.
+#[tactic(auto, unfolding(monitor_semantics::specs::Calls::call_outcome))]
+pub fn perform(
+    alloc: Global,
+    generation: &Generation,
+    tables: &Tables,
+    locks: &mut LockTable,
+    open_work: &mut OpenTransaction,
+    call: &Call,
+) -> Result<Called, OutOfMemory>
+    requires holds { HoldsJust locks.old open_work.old.id (work_of open_work.old) }
+    requires short { CanRead tables.now (work_of open_work.old) }
+    requires nb { open_work.old.messages.nb ≡ generation.now.limits.nb }
+    ensures exact { IfOk result (λ c. (work_of open_work.new, c) ≡ performed_now generation.now tables.now locks.old open_work.old.id (work_of open_work.old) call.now) }
+    ensures locks { OnOk result (locks.new ≡ locks_after_call generation.now tables.now.clock locks.old open_work.old.id (work_of open_work.old) call.now) }
+    ensures id { open_work.new.id ≡ open_work.old.id }
+    ensures nb { open_work.new.messages.nb ≡ open_work.old.messages.nb }
+{
+    if !open_work.inited {
+        return Ok(first_call(open_work, call));
+    }
+    let outside = Outside {
+        alloc,
+        generation,
+        tables,
+    };
+    later_call(&outside, locks, open_work, call)
+}

@@ -1,0 +1,19 @@
+//! The KDCS calls of an open transaction, but for what becomes of it at the end of a unit run.
+//!
+//! It stands on the open transaction, the locks, and the crates of messages, areas, jobs and PEND. To the layers above its
+//! contract says that a call answers, and changes the transaction, exactly as the abstract monitor defines it for what
+//! the locks and the tables say at that moment, and what becomes of the locks.
+#![tactic(auto)]
+
+mod answer;
+mod areas;
+mod calls;
+mod jobs;
+mod locals;
+mod lock;
+mod messages;
+mod operand;
+mod outside;
+mod pend;
+
+pub use calls::perform;

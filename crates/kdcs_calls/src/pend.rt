@@ -1,0 +1,42 @@
+//! PEND.
+ghost use Rattle.std.specs.Prelude.{◌≡◌, option_and_then};
+ghost use Rattle.std.specs.Option.{option_copied};
+ghost use Rattle.kdcdef_types.specs.Generation.{tac_of};
+ghost use Rattle.monitor_semantics.specs.Calls.{pend};
+ghost use Rattle.open_transaction.specs.Work.{work_of};
+
+use crate::operand::name_if_given;
+use kd_base::{Bytes, Name, Variant};
+use kdcdef_check::Generation;
+use kdcdef_types::TacEntry;
+use monitor_semantics::Called;
+use open_transaction::OpenTransaction;
+use pend_rules::outcome;
+
+fn follow_up<'a>(generation: &'a Generation, name: &Option<Name>) -> Option<&'a TacEntry>
+    ensures { option_copied result ≡ option_and_then (tac_of generation.now) name.now }
+{
+    match name {
+        Some(name) => generation.tac(*name),
+        None => None,
+    }
+}
+
+/// PEND with its operand, if it has one. It takes no memory.
+pub(crate) fn pend(
+    generation: &Generation,
+    asynchronous: bool,
+    work: &OpenTransaction,
+    variant: Variant,
+    operand: &Option<Bytes>,
+) -> Called
+    ensures { (work_of work.now, result) ≡ pend generation.now asynchronous (work_of work.now) variant operand.now }
+{
+    let name = name_if_given(operand);
+    let entry = follow_up(generation, &name);
+    let has_message = work.messages.has_message();
+    match outcome(asynchronous, variant, has_message, entry, name) {
+        Ok(outcome) => Called::Pends(variant, outcome),
+        Err(cause) => Called::Abnormal(cause),
+    }
+}

@@ -1,0 +1,165 @@
+-- A job stands until a commit takes it.
+use Rattle.std.specs.Prelude.{◌≡◌, ◌⊎◌, refl, ℕ, zero, suc, ◌<◌, Bool, true, false, cond, IsTrue, IfSome, List, [], ◌∷◌, ◌++◌, length, Option, Some, None, Contains, slice_index_or}
+use Rattle.std.specs.Option.{option_map}
+use Rattle.std.specs.Ordering.{is_eq, is_lt}
+use Rattle.std.specs.declared.cmp.Ordering.{Ordering}
+use Rattle.std.specs.declared.cmp.Ordering.TheVariants.{Less, Equal, Greater}
+use Rattle.std.proofs.Common.{sym, ap, subst, ◌∙◌, inl, inr, arith, true≢false}
+use Rattle.std.specs.FinMap.Entries.{below_all}
+use Rattle.kd_base.specs.Tools.{both_true, map_some}
+use Rattle.kdcs_types.specs.declared.act.Act.{Act}
+use Rattle.kdcs_types.specs.declared.key.Key.{Key}
+use Rattle.kdcs_types.specs.declared.key.Key.TheVariants.{Job as JobKey}
+use Rattle.kdcs_types.specs.declared.service.Job.{Job}
+use Rattle.kdcs_types.specs.declared.service.JobValue.{JobValue}
+use Rattle.kdcs_types.specs.Keyed.{keyed, ascends, without_item}
+use Rattle.kdcs_types.specs.KeyedLaws.{found_key, item_at-without}
+use Rattle.kdcs_types.specs.KeyLaws.{key_eq-same, key_eq-itself}
+use Rattle.kdcs_types.specs.Keys.{key_cmp, key_eq}
+use Rattle.kdcs_types.specs.Tables.{TableRows, job_key, job_of}
+use Rattle.monitor_semantics.specs.State.{Application, State}
+use Rattle.monitor_semantics.specs.Endings.{durable}
+use Rattle.monitor_semantics.specs.Turns.{turn_of}
+use Rattle.monitor_semantics.specs.Commands.{ScriptStep, Maker, turned_step, command_of, state_after}
+use Rattle.monitor_laws.specs.Commits.{without_gone, Takes, QueueLaw}
+use Rattle.monitor_laws.specs.Keeping.{Leads, HasFacts}
+use Rattle.monitor_laws.specs.Steps.{CommitsOnce, TurnsCommitOnce, CommandsCommitOnce}
+use Rattle.monitor_tables.specs.Items.{IsIn}
+use Rattle.monitor_runs.specs.RunLaws.{EachStep}
+use Rattle.monitor_queues.specs.Along.{StepLaw, EachMeets, meets_along, after_both}
+use Rattle.monitor_queues.specs.QueueLaws.{MeetsBoth, TurnsKeepQueues, CommandsKeepQueues, IsTakenAt, IsTakenIn, NoJobIsLost}
+use Rattle.monitor_queues.proofs.Numbers.{at, value as value_of, same_number, each_split}
+
+-- ---- jobs by number
+
+abbrev value_at : ℕ → List Job → Option JobValue
+value_at n jobs = value_of (at n jobs)
+
+is_in : (g : Job) (js : List Job) (k : ℕ) → k < length js → slice_index_or js k g ≡ g → IsIn g js
+is_in g [] k less e = absurd (omega arith)
+is_in g (x ∷ xs) zero less e = inl e
+is_in g (x ∷ xs) (suc k) less e = inr (is_in g xs k (omega arith) e)
+
+-- the key is below those of all that follow
+below_in : (k : Key) (g : Job) (js : List Job) → below_all key_cmp k (keyed job_key js) ≡ true → IsIn g js → is_lt (key_cmp k (job_key g)) ≡ true
+below_in k g [] h i = absurd i
+below_in k g (x ∷ xs) h (inl same) = ap (λ (j : Job). is_lt (key_cmp k (job_key j))) (sym same) ∙ (both_true (is_lt (key_cmp k (job_key x))) (below_all key_cmp k (keyed job_key xs)) h).0
+below_in k g (x ∷ xs) h (inr later) = below_in k g xs (both_true (is_lt (key_cmp k (job_key x))) (below_all key_cmp k (keyed job_key xs)) h).1 later
+
+not_below : (k : Key) → is_lt (key_cmp k k) ≡ true → ⊥
+not_below k h = by (key_cmp k k) h (key_eq-itself k)
+  where
+    by : (r : Ordering) → is_lt r ≡ true → is_eq r ≡ true → ⊥
+    by Less h e = true≢false (sym e)
+    by Equal h e = true≢false (sym h)
+    by Greater h e = true≢false (sym h)
+
+other_key : (k q : Key) → is_lt (key_cmp k q) ≡ true → key_eq q k ≡ false
+other_key k q h = by (key_eq q k) refl
+  where
+    by : (b : Bool) → key_eq q k ≡ b → key_eq q k ≡ false
+    by false e = e
+    by true e = absurd (not_below k (ap (λ (p : Key). is_lt (key_cmp k p)) (sym (key_eq-same q k e)) ∙ h))
+
+-- a job in a list in order is the one of its number
+in_found : (g : Job) (js : List Job) → IsTrue (ascends job_key js) → IsIn g js → at g.number js ≡ Some g
+in_found g [] h i = absurd i
+in_found g (x ∷ xs) h (inl same) =
+    ap (λ (b : Bool). cond b (Some x) (at g.number xs)) (ap (λ (j : Job). key_eq (JobKey g.number) (job_key j)) same ∙ key_eq-itself (JobKey g.number)) ∙ ap (λ (j : Job). Some j) same
+in_found g (x ∷ xs) h (inr later) =
+    let parts = both_true (below_all key_cmp (job_key x) (keyed job_key xs)) (ascends job_key xs) h in
+    ap (λ (b : Bool). cond b (Some x) (at g.number xs)) (other_key (job_key x) (job_key g) (below_in (job_key x) g xs parts.0 later)) ∙ in_found g xs parts.1 later
+
+at_first : (n : ℕ) (js ks : List Job) (j : Job) → at n js ≡ Some j → at n (js ++ ks) ≡ Some j
+at_first n [] ks j e = absurd cc
+at_first n (x ∷ xs) ks j e = by (key_eq (JobKey n) (job_key x)) e (at_first n xs ks j)
+  where
+    by : (b : Bool) → cond b (Some x) (at n xs) ≡ Some j → (at n xs ≡ Some j → at n (xs ++ ks) ≡ Some j) → cond b (Some x) (at n (xs ++ ks)) ≡ Some j
+    by true is later = is
+    by false is later = later is
+
+-- ---- one step
+
+stays_or_gone : (jobs : List Job) (gone : Option Job) → IsTrue (ascends job_key jobs) → IfSome gone (λ (job : Job). Contains jobs job) → (n : ℕ) (j : Job) → at n jobs ≡ Some j
+    → (at n (without_gone gone jobs) ≡ Some j) ⊎ (gone ≡ Some j)
+stays_or_gone jobs None sorted there n j e = inl e
+stays_or_gone jobs (Some g) sorted there n j e = by (key_eq (JobKey n) (JobKey g.number)) refl (item_at-without job_key (JobKey n) (JobKey g.number) jobs)
+  where
+    by : (b : Bool) → key_eq (JobKey n) (JobKey g.number) ≡ b → at n (without_item job_key (JobKey g.number) jobs) ≡ cond b None (at n jobs) → (at n (without_item job_key (JobKey g.number) jobs) ≡ Some j) ⊎ (Some g ≡ Some j)
+    by false other is = inl (is ∙ e)
+    by true same is =
+        let here : at g.number jobs ≡ Some g = in_found g jobs sorted (is_in g jobs there.0 there.1 there.2) in
+        inr (sym here ∙ ap (λ m. at m jobs) (sym (same_number n g.number (key_eq-same (JobKey n) (JobKey g.number) same))) ∙ e)
+
+module _ (app : Application) (t u : TableRows) (by : Maker) (acts : List Act) (q : QueueLaw app t u by acts) (sorted : IsTrue (ascends job_key t.jobs)) (number : ℕ) (value : JobValue) where
+  whole : (j : Job) → at number t.jobs ≡ Some j → j.value ≡ value → Some j ≡ Some (record { number = number; value = value })
+  whole j e v =
+      let n : j.number ≡ number = same_number j.number number (found_key job_key (JobKey number) t.jobs j e) in
+      ap (λ (m : ℕ). Some (record { number = m; value = j.value })) n ∙ ap (λ (w : JobValue). Some (record { number = number; value = w })) v
+
+  stays_or_taken : value_at number t.jobs ≡ Some value → (value_at number u.jobs ≡ Some value) ⊎ Takes app by (Some (record { number = number; value = value })) u acts
+  stays_or_taken e = step (map_some (λ (j : Job). j.value) (at number t.jobs) value e)
+    where
+      step : (j : Job) × (at number t.jobs ≡ Some j) × (j.value ≡ value) → (value_at number u.jobs ≡ Some value) ⊎ Takes app by (Some (record { number = number; value = value })) u acts
+      step found = either (stays_or_gone t.jobs q.gone sorted q.was_there number found.0 found.1)
+        where
+          either : (at number (without_gone q.gone t.jobs) ≡ Some found.0) ⊎ (q.gone ≡ Some found.0) → (value_at number u.jobs ≡ Some value) ⊎ Takes app by (Some (record { number = number; value = value })) u acts
+          either (inl kept) =
+              inl (ap (value_at number) q.jobs ∙ ap (option_map (λ (j : Job). j.value)) (at_first number (without_gone q.gone t.jobs) q.made found.0 kept) ∙ ap (λ (w : JobValue). Some w) found.2)
+          either (inr gone) = inr (subst (λ (o : Option Job). Takes app by o u acts) (gone ∙ whole found.0 found.1 found.2) q.taken)
+
+-- a job stands behind a step, or the step takes it
+abbrev StaysLaw : StepLaw
+StaysLaw app s d = (number : ℕ) (value : JobValue) → job_of s.tables number ≡ Some value → (job_of d.after.tables number ≡ Some value) ⊎ IsTakenAt app d (record { number = number; value = value })
+
+module _ (app : Application) (s : State) (d : ScriptStep) (facts : HasFacts app s) where
+  same_job : durable app.generation d.after.tables ≡ durable app.generation s.tables → (number : ℕ) → job_of d.after.tables number ≡ job_of s.tables number
+  unfolding durable
+  same_job e number = ap (λ (t : TableRows). job_of t number) e
+
+  committed_stays : (by : Maker) → d.by ≡ Some by → QueueLaw app (durable app.generation s.tables) (durable app.generation d.after.tables) by d.acts → StaysLaw app s d
+  unfolding durable
+  committed_stays by is q number value e = either (stays_or_taken app (durable app.generation s.tables) (durable app.generation d.after.tables) by d.acts q facts.1.order.jobs number value e)
+    where
+      either : (value_at number d.after.tables.jobs ≡ Some value) ⊎ Takes app by (Some (record { number = number; value = value })) (durable app.generation d.after.tables) d.acts
+          → (job_of d.after.tables number ≡ Some value) ⊎ IsTakenAt app d (record { number = number; value = value })
+      either (inl stays) = inl stays
+      either (inr taken) = inr (by, (is, taken))
+
+  step_stays : CommitsOnce app s d → MeetsBoth app s d d.by → StaysLaw app s d
+  step_stays (inl none) both = λ number value e. inl (same_job none.tables number ∙ e)
+  step_stays (inr one) both = committed_stays one.maker one.by (subst (λ (o : Option Maker). MeetsBoth app s d o) one.by both).0
+
+-- ---- whole runs
+
+module _ (app : Application) (number : ℕ) (value : JobValue) where
+  abbrev job : Job
+  job = record { number = number; value = value }
+
+  all_stay : (s : State) (steps : List ScriptStep) → EachStep (StaysLaw app) s steps → job_of s.tables number ≡ Some value → (job_of (state_after s steps).tables number ≡ Some value) ⊎ IsTakenIn app job steps
+  unfolding state_after
+  all_stay s [] h e = inl e
+  all_stay s (d ∷ ds) h e = by (h.0 number value e) (λ k. all_stay d.after ds h.1 k)
+    where
+      later : (job_of (state_after d.after ds).tables number ≡ Some value) ⊎ IsTakenIn app job ds → (job_of (state_after d.after ds).tables number ≡ Some value) ⊎ (IsTakenAt app d job ⊎ IsTakenIn app job ds)
+      later (inl stays) = inl stays
+      later (inr taken) = inr (inr taken)
+
+      by : (job_of d.after.tables number ≡ Some value) ⊎ IsTakenAt app d job → (job_of d.after.tables number ≡ Some value → (job_of (state_after d.after ds).tables number ≡ Some value) ⊎ IsTakenIn app job ds)
+          → (job_of (state_after d.after ds).tables number ≡ Some value) ⊎ (IsTakenAt app d job ⊎ IsTakenIn app job ds)
+      by (inl stays) rest = later (rest stays)
+      by (inr taken) rest = inr (inl taken)
+
+module _ (kept : Leads HasFacts HasFacts) (turns_once : TurnsCommitOnce) (commands_once : CommandsCommitOnce) (turns : TurnsKeepQueues) (commands : CommandsKeepQueues) where
+  stays_each : EachMeets StaysLaw
+  stays_each = record {
+    turns = λ app s task facts. step_stays app s (turned_step (turn_of app s task)) facts (turns_once app s task) (turns app s task facts);
+    commands = λ app s c facts. step_stays app s (command_of app s c) facts (commands_once app s c) (commands app s c facts);
+  }
+
+  pub no_job_is_lost : NoJobIsLost
+  no_job_is_lost app s script is_app names facts first more rest e number value there =
+      let all = meets_along StaysLaw kept stays_each app s script is_app names facts in
+      let sooner = (each_split (StaysLaw app) s (first ++ more) rest (subst (λ (l : List ScriptStep). EachStep (StaysLaw app) s l) e all)).0 in
+      let middle = (each_split (StaysLaw app) s first more sooner).1 in
+      subst (λ (u : State). (job_of u.tables number ≡ Some value) ⊎ IsTakenIn app (record { number = number; value = value }) more) (sym (after_both s first more)) (all_stay app number value (state_after s first) more middle there)
