@@ -1,6 +1,6 @@
 -- Each commit of a transaction is that of its record, run in one go on the durable tables.
-use Rattle.std.specs.Prelude.{◌≡◌, refl, ℕ, zero, suc, ◌+◌, ◌≤◌, Bool, true, false, List, [], ◌∷◌, ◌++◌, ◌==◌, if◌then◌else◌, Option, Some, None}
-use Rattle.std.proofs.Common.{sym, ap, ◌∙◌, arith}
+use Rattle.std.specs.Prelude.{◌≡◌, refl, ℕ, zero, suc, ◌+◌, ◌≤◌, Bool, true, false, List, [], ◌∷◌, ◌++◌, ◌==◌, if◌then◌else◌, ◌&&◌, nat_le, filter, filter_map, is_some, Contains, Option, Some, None}
+use Rattle.std.proofs.Common.{sym, ap, ◌∙◌, subst, inl, inr, ⊎_elim, true≢false, arith}
 use Rattle.std.proofs.lemmas.List.Elements.{All-head, All-tail}
 use Rattle.std.specs.FinMap.{find}
 use Rattle.kdcs_types.specs.declared.call.Cause.{Cause}
@@ -21,7 +21,7 @@ use Rattle.monitor_semantics.specs.declared.input_use.Use.TheVariants.{Sign, Sig
 use Rattle.monitor_semantics.specs.declared.outcome.Outcome.{Outcome}
 use Rattle.monitor_semantics.specs.Bytes.{Bytes, bytes_cmp}
 use Rattle.monitor_semantics.specs.Calls.{Told}
-use Rattle.monitor_semantics.specs.Commands.{Command, Input, Tick, Run, Turn, Drop, Print, PrintLast, Restart, ScriptStep, maker_of, next_task, in_a_row, rotated, state_after, steps_of, lterm_at, user_at, signed_on_by, show_by, show_next, show_again_by, due_for, display, last_by, used, use_now, tick_by, drop_by, command_of}
+use Rattle.monitor_semantics.specs.Commands.{Command, Input, Tick, Run, Turn, Drop, Print, PrintLast, Restart, ScriptStep, maker_of, next_task, in_a_row, rotated, state_after, steps_of, lterm_at, user_at, signed_on_by, show_by, show_next, show_again_by, due_for, display, last_by, used, use_now, tick_by, drop_by, command_of, Maker, ByTick, ByShow, ByTransaction, is_for, shown_tables, started, turned_step}
 use Rattle.monitor_semantics.specs.Endings.{synchronised, broken, durable, refusal}
 use Rattle.monitor_semantics.specs.State.{Application, OpenTransaction, Session, State}
 use Rattle.monitor_semantics.specs.Statements.{kept_record}
@@ -31,8 +31,16 @@ use Rattle.monitor_laws.specs.Applications.{IsApplication, IsCommandOf}
 use Rattle.monitor_laws.specs.Commits.{IsAtomicCommit}
 use Rattle.monitor_laws.specs.Keeping.{IsScriptOf}
 use Rattle.monitor_laws.specs.Replay.{settled_as, IsReplayed}
-use Rattle.monitor_runs.specs.RunLaws.{EachStep}
+use Rattle.monitor_runs.specs.RunLaws.{EachStep, HistoriesCommitOnce}
+use Rattle.monitor_laws.specs.Steps.{CommitsOnce, MakesNoCommit, MakesOneCommit}
+use Rattle.monitor_tables.specs.Items.{IsIn}
+use Rattle.monitor_tables.specs.Ends.{due-for, for-lterm}
+use Rattle.monitor_places.specs.Rows.{least_passes, filtered_pass}
+use Rattle.monitor_semantics.specs.Picks.{free_jobs}
+use Rattle.kd_base.specs.Tools.{both_true}
+use Rattle.std.proofs.lemmas.Bool.{leb-true}
 use Rattle.monitor_serial.specs.Replays.{LookAlike}
+use Rattle.monitor_serial.specs.SerialRuns.{Shows, MakeInTurn, makers_of, MakesBy, MakesItsCommit, TurnsMakeTheirCommits, CommandsMakeTheirCommits, ScriptsAreSerialRuns, StopsLeaveSerialRuns}
 use Rattle.monitor_serial.specs.SerialLaws.{HasReplays, StepsKeepReplays, IsSerialBy, IsSerialStep, TurnsCommitSerially, CommandsCommitSerially, HistoriesAreSerial}
 use Rattle.monitor_serial.proofs.Along.{replayed_over}
 use Rattle.monitor_serial.proofs.Durable.{base, base_sorted, base_durable, base_service, base_content, base_job, synchronised_alike, broken_alike}
@@ -99,46 +107,69 @@ module _ (app : Application) (s : State) (h : HasReplays app s) (id : ServiceId)
 
 -- ---- one step
 
-pub turns_commit : TurnsCommitSerially
-turns_commit app s task h =
+pub turns_make : TurnsMakeTheirCommits
+turns_make app s task h =
     as_law (turn_of app s task).after.tables (turn_of app s task).settled
     (turn_ends_so app s task (λ t kept. IsAtomicCommit app (durable app.generation s.tables) (durable app.generation t) kept)
     (λ id x ending is now. breaks_commits app s h id x is ending now)
     (λ id x o cause is now refused. settles_commits app s h id x is o cause now refused))
   where
-    as_law : (t : TableRows) (o : Option Settled) → IfSettled (λ u kept. IsAtomicCommit app (durable app.generation s.tables) (durable app.generation u) kept) t o → IsSerialBy app s t (maker_of o)
+    as_law : (t : TableRows) (o : Option Settled) → IfSettled (λ u kept. IsAtomicCommit app (durable app.generation s.tables) (durable app.generation u) kept) t o → MakesBy app s t (maker_of o)
     as_law t None k = tt
     as_law t (Some kept) k = k
 
-shows_commit : (app : Application) (s : State) (lterm no_message : Bytes) (line_of : Bytes → Bytes) → IsSerialStep app s (show_next app s lterm no_message line_of)
-unfolding show_next
-shows_commit app s lterm no_message line_of = by (due_for s lterm)
-  where
-    by : (o : Option Job) → IsSerialStep app s (show_by app s lterm no_message line_of o)
-    by None = tt
-    by (Some job) = tt
+contains_later : {E : Type 0} (x e : E) (xs : List E) → Contains xs e → Contains (x ∷ xs) e
+contains_later x e xs c = let lt = c.1 in (suc c.0, omega arith, c.2)
 
-again_commits : (app : Application) (s : State) (no_message : Bytes) (line_of : Bytes → Bytes) (o : Option JobValue) → IsSerialStep app s (show_again_by s no_message line_of o)
+contains : {E : Type 0} (e : E) (xs : List E) → IsIn e xs → Contains xs e
+contains e [] i = absurd i
+contains e (x ∷ xs) (inl same) = (zero, omega arith, same)
+contains e (x ∷ xs) (inr later) = contains_later x e xs (contains e xs later)
+
+-- what is shown is a due job of its LTERM
+due_is_shown : (app : Application) (s : State) (lterm : Bytes) (job : Job) → due_for s lterm ≡ Some job
+    → Shows (durable app.generation s.tables) (durable app.generation (shown_tables s.tables lterm job)) lterm
+unfolding durable
+due_is_shown app s lterm job is =
+    let found = due-for s lterm job is in
+    record { job = job; there = contains job s.tables.jobs found.there; target = for-lterm lterm job.value.to found.target; due = leb-true job.value.due s.tables.clock (both_true _ _ passes).0; shown = refl }
+  where
+    is_due : Job → Bool
+    is_due j = nat_le j.value.due s.tables.clock && is_for lterm j.value.to
+
+    passes : is_due job ≡ true
+    passes = least_passes is_due (filter is_due (free_jobs s.active s.tables.jobs)) job (filtered_pass is_due (free_jobs s.active s.tables.jobs)) is
+
+shows_commit : (app : Application) (s : State) (lterm no_message : Bytes) (line_of : Bytes → Bytes) → MakesItsCommit app s (show_next app s lterm no_message line_of)
+unfolding show_next
+shows_commit app s lterm no_message line_of = by (due_for s lterm) (λ j e. e)
+  where
+    by : (o : Option Job) → ((j : Job) → o ≡ Some j → due_for s lterm ≡ Some j) → MakesItsCommit app s (show_by app s lterm no_message line_of o)
+    by None is = tt
+    by (Some job) is = due_is_shown app s lterm job (is job refl)
+
+again_commits : (app : Application) (s : State) (no_message : Bytes) (line_of : Bytes → Bytes) (o : Option JobValue) → MakesItsCommit app s (show_again_by s no_message line_of o)
 again_commits app s no_message line_of None = tt
 again_commits app s no_message line_of (Some value) = tt
 
-display_commits : (app : Application) (s : State) (pterm : Bytes) (o : Option Bytes) → IsSerialStep app s (display s pterm o)
+display_commits : (app : Application) (s : State) (pterm : Bytes) (o : Option Bytes) → MakesItsCommit app s (display s pterm o)
 display_commits app s pterm None = tt
 display_commits app s pterm (Some message) = tt
 
-sign_commits : (app : Application) (s : State) (pterm user lterm : Bytes) (o : Option Service) → IsSerialStep app s (signed_on_by app s pterm user lterm o)
+sign_commits : (app : Application) (s : State) (pterm user lterm : Bytes) (o : Option Service) → MakesItsCommit app s (signed_on_by app s pterm user lterm o)
 sign_commits app s pterm user lterm None = tt
 sign_commits app s pterm user lterm (Some row) = tt
 
-drop_commits : (app : Application) (s : State) (pterm : Bytes) (o : Option Session) → IsSerialStep app s (drop_by app s pterm o)
+drop_commits : (app : Application) (s : State) (pterm : Bytes) (o : Option Session) → MakesItsCommit app s (drop_by app s pterm o)
 drop_commits app s pterm None = tt
 drop_commits app s pterm (Some v) = tt
 
-tick_commits : (app : Application) (s : State) (ticks clock : ℕ) (within : Bool) → IsSerialStep app s (tick_by app s ticks clock within)
-tick_commits app s ticks clock true = tt
-tick_commits app s ticks clock false = tt
+tick_commits : (app : Application) (s : State) (ticks : ℕ) (within : Bool) → MakesItsCommit app s (tick_by app s ticks (s.tables.clock + ticks) within)
+unfolding durable
+tick_commits app s ticks true = refl
+tick_commits app s ticks false = tt
 
-use_commits : (app : Application) (s : State) (pterm : Bytes) (u : Use) → IsSerialStep app s (used app s pterm (lterm_at app pterm) (user_at s pterm) u)
+use_commits : (app : Application) (s : State) (pterm : Bytes) (u : Use) → MakesItsCommit app s (used app s pterm (lterm_at app pterm) (user_at s pterm) u)
 unfolding used
 use_commits app s pterm (Sign name) = sign_commits app s pterm name (lterm_at app pterm) (service_of s.tables (Dialogue name))
 use_commits app s pterm (SignRefused fault) = tt
@@ -154,16 +185,29 @@ use_commits app s pterm (Next text) = tt
 use_commits app s pterm (Start tac text) = tt
 use_commits app s pterm (TacRefused fault) = tt
 
-pub commands_commit : CommandsCommitSerially
+pub commands_make : CommandsMakeTheirCommits
 unfolding command_of
-commands_commit app s (Input pterm text) h = use_commits app s pterm (use_now app s pterm text)
-commands_commit app s (Tick ticks) h = tick_commits app s ticks _ _
-commands_commit app s (Run turns) h = tt
-commands_commit app s (Turn task) h = turns_commit app s task h
-commands_commit app s (Drop pterm) h = drop_commits app s pterm (find bytes_cmp pterm s.signed)
-commands_commit app s (Print pterm) h = shows_commit app s (lterm_at app pterm) _ _
-commands_commit app s (PrintLast pterm) h = again_commits app s _ _ (shown_of s.tables (lterm_at app pterm))
-commands_commit app s Restart h = tt
+commands_make app s (Input pterm text) h = use_commits app s pterm (use_now app s pterm text)
+commands_make app s (Tick ticks) h = tick_commits app s ticks _
+commands_make app s (Run turns) h = tt
+commands_make app s (Turn task) h = turns_make app s task h
+commands_make app s (Drop pterm) h = drop_commits app s pterm (find bytes_cmp pterm s.signed)
+commands_make app s (Print pterm) h = shows_commit app s (lterm_at app pterm) _ _
+commands_make app s (PrintLast pterm) h = again_commits app s _ _ (shown_of s.tables (lterm_at app pterm))
+commands_make app s Restart h = tt
+
+-- and so it meets the law on all tables
+serial_by : (app : Application) (s : State) (t : TableRows) (o : Option Maker) → MakesBy app s t o → IsSerialBy app s t o
+serial_by app s t None k = tt
+serial_by app s t (Some (ByTick ticks)) k = tt
+serial_by app s t (Some (ByShow lterm)) k = tt
+serial_by app s t (Some (ByTransaction kept)) k = k
+
+pub turns_commit : TurnsCommitSerially
+turns_commit app s task h = let d = turned_step (turn_of app s task) in serial_by app s d.after.tables d.by (turns_make app s task h)
+
+pub commands_commit : CommandsCommitSerially
+commands_commit app s c h = let d = command_of app s c in serial_by app s d.after.tables d.by (commands_make app s c h)
 
 -- ---- scripts
 
@@ -175,7 +219,7 @@ each_both law s (d ∷ ds) ys h k = (h.0, each_both law d.after ds ys h.1 k)
 module _ (keeps : StepsKeepReplays) (app : Application) (is_app : IsApplication app) where
   -- the steps are serial, and the state behind them has the facts
   abbrev Serial : State → List ScriptStep → Type 0
-  Serial s steps = EachStep (IsSerialStep app) s steps × HasReplays app (state_after s steps)
+  Serial s steps = EachStep (MakesItsCommit app) s steps × HasReplays app (state_after s steps)
 
   next_within : (task : ℕ) → IsWithin 1 app.generation.limits.tasks task → IsWithin 1 app.generation.limits.tasks (next_task app task)
   next_within task w = by (task == app.generation.limits.tasks) refl
@@ -192,11 +236,11 @@ module _ (keeps : StepsKeepReplays) (app : Application) (is_app : IsApplication 
       let turned = turn_of app s task in
       let more = in_a_row turned.moved row in
       let rest = turns_serial n (more == app.generation.limits.tasks) turned.after (next_task app task) more (next_within task w) (keeps.turns app s task is_app w h) in
-      ((turns_commit app s task h, rest.0), rest.1)
+      ((turns_make app s task h, rest.0), rest.1)
 
   one_serial : (s : State) (c : Command) → IsCommandOf app.generation c → HasReplays app s → Serial s (command_of app s c ∷ [])
   unfolding state_after
-  one_serial s c w h = ((commands_commit app s c h, tt), keeps.commands app s c is_app w h)
+  one_serial s c w h = ((commands_make app s c h, tt), keeps.commands app s c is_app w h)
 
   steps_serial : (s : State) (c : Command) → IsCommandOf app.generation c → HasReplays app s → Serial s (steps_of app s c)
   unfolding steps_of
@@ -209,14 +253,53 @@ module _ (keeps : StepsKeepReplays) (app : Application) (is_app : IsApplication 
   steps_serial s (PrintLast pterm) w h = one_serial s (PrintLast pterm) w h
   steps_serial s Restart w h = one_serial s Restart w h
 
-  pub script_serial : (script : List Command) (s : State) → IsScriptOf app script → HasReplays app s → EachStep (IsSerialStep app) s (history app s script)
+  pub script_serial : (script : List Command) (s : State) → IsScriptOf app script → HasReplays app s → EachStep (MakesItsCommit app) s (history app s script)
   unfolding history
   script_serial [] s w h = tt
   script_serial (c ∷ cs) s w h =
       let steps = steps_of app s c in
       let here = steps_serial s c (All-head (IsCommandOf app.generation) c cs w) h in
-      each_both (IsSerialStep app) s steps (history app (state_after s steps) cs) here.0
+      each_both (MakesItsCommit app) s steps (history app (state_after s steps) cs) here.0
       (script_serial cs (state_after s steps) (All-tail (IsCommandOf app.generation) c cs w) here.1)
 
+each_serial : (app : Application) (s : State) (steps : List ScriptStep) → EachStep (MakesItsCommit app) s steps → EachStep (IsSerialStep app) s steps
+each_serial app s [] h = tt
+each_serial app s (d ∷ ds) h = (serial_by app s d.after.tables d.by h.0, each_serial app d.after ds h.1)
+
 pub histories_are_serial : StepsKeepReplays → HistoriesAreSerial
-histories_are_serial keeps app s script is_app fits h = script_serial keeps app is_app script s fits h
+histories_are_serial keeps app s script is_app fits h = each_serial app s (history app s script) (script_serial keeps app is_app script s fits h)
+
+-- ---- serial runs
+
+-- the steps make their commits one after another, and the others make none
+made_in_turn : (app : Application) (s : State) (steps : List ScriptStep) → EachStep (CommitsOnce app) s steps → EachStep (MakesItsCommit app) s steps
+    → MakeInTurn app (durable app.generation s.tables) (durable app.generation (state_after s steps).tables) (makers_of steps)
+unfolding state_after
+made_in_turn app s [] once makes = refl
+made_in_turn app s (d ∷ ds) once makes = by d.by refl makes.0 (made_in_turn app d.after ds once.1 makes.1)
+  where
+    later : TableRows → Type 0
+    later t = MakeInTurn app t (durable app.generation (state_after d.after ds).tables) (makers_of ds)
+
+    by : (o : Option Maker) → d.by ≡ o → MakesBy app s d.after.tables o → later (durable app.generation d.after.tables)
+        → MakeInTurn app (durable app.generation s.tables) (durable app.generation (state_after d.after ds).tables) (filter_map (λ (d : ScriptStep). d.by) (record d { by = o } ∷ ds))
+    by (Some maker) e m rest = (durable app.generation d.after.tables, (m, rest))
+    by None e m rest = subst later (⊎_elim (λ (k : MakesNoCommit app s d). k.tables) (λ (k : MakesOneCommit app s d). absurd (true≢false (sym (ap is_some (sym e ∙ k.by))))) once.0) rest
+
+pub scripts_are_serial_runs : StepsKeepReplays → HistoriesCommitOnce → ScriptsAreSerialRuns
+unfolding started
+scripts_are_serial_runs keeps once app t script is_app fits order suits = made_in_turn app (started app t) (history app (started app t) script) (once app (started app t) script)
+    (script_serial keeps app is_app script (started app t) fits (keeps.starts app t is_app order suits))
+
+-- what holds of each step holds of each of the first ones
+each_first : (law : State → ScriptStep → Type 0) (s : State) (first rest : List ScriptStep) → EachStep law s (first ++ rest) → EachStep law s first
+each_first law s [] rest h = tt
+each_first law s (d ∷ ds) rest h = (h.0, each_first law d.after ds rest h.1)
+
+pub stops_leave_serial_runs : StepsKeepReplays → HistoriesCommitOnce → StopsLeaveSerialRuns
+unfolding started
+stops_leave_serial_runs keeps once app t script is_app fits order suits first rest whole =
+    let s = started app t in
+    made_in_turn app s first
+    (each_first (CommitsOnce app) s first rest (subst (EachStep (CommitsOnce app) s) whole (once app s script)))
+    (each_first (MakesItsCommit app) s first rest (subst (EachStep (MakesItsCommit app) s) whole (script_serial keeps app is_app script s fits (keeps.starts app t is_app order suits))))

@@ -1,2 +1,3 @@
 pub mod Replays
 pub mod SerialLaws
+pub mod SerialRuns

@@ -9,8 +9,10 @@
 ghost use Rattle.monitor_serial.specs.SerialLaws.{AllOpeningsReplay, StatementsReplay, InputsReplay, OtherTablesReplay};
 ghost use Rattle.monitor_serial.specs.SerialLaws.{StepsKeepReplays, ScriptsKeepReplays, ReplaysAreRecords, TurnsEndSerially};
 ghost use Rattle.monitor_serial.specs.SerialLaws.{TurnsCommitSerially, CommandsCommitSerially, HistoriesAreSerial, RunsAreSerial};
+ghost use Rattle.monitor_serial.specs.SerialRuns.{TurnsMakeTheirCommits, CommandsMakeTheirCommits, ScriptsAreSerialRuns, StopsLeaveSerialRuns};
 
 use monitor_places::facts_hold_along;
+use monitor_runs::commits_make_the_tables;
 use monitor_tables::states_stay_sound;
 
 /// A transaction replays to itself when it opens, and after each statement that leaves it open, whatever the request for
@@ -40,7 +42,7 @@ pub fn turns_end_serially()
 {}
 
 /// Each commit of a transaction is what its record, run in one go on the durable tables before the commit, makes of
-/// them; so the commits of a script, one after another, are its transactions one after another.
+/// them.
 pub fn commits_are_serial()
     ensures turns { TurnsCommitSerially }
     ensures commands { CommandsCommitSerially }
@@ -48,4 +50,17 @@ pub fn commits_are_serial()
     ensures runs { RunsAreSerial }
 {
     replays_hold_along_every_script();
+}
+
+/// Serial equivalence: however its services interleave, the durable tables that a script leaves are those of a serial
+/// run, in which what made its commits comes one after another, each transaction as its record in one go. So are those
+/// that the first steps of a script leave.
+pub fn scripts_are_serial_runs()
+    ensures turns { TurnsMakeTheirCommits }
+    ensures commands { CommandsMakeTheirCommits }
+    ensures scripts { ScriptsAreSerialRuns }
+    ensures stops { StopsLeaveSerialRuns }
+{
+    replays_hold_along_every_script();
+    commits_make_the_tables();
 }
