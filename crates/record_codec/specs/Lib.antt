@@ -2,3 +2,9 @@ pub mod Values
 pub mod Records
 pub mod Order
 pub mod Patches
+pub mod Fields
+pub mod Reads
+pub mod Readings
+pub mod WholeValues
+pub mod RowReadings
+pub mod TableReadings

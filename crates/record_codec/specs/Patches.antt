@@ -36,7 +36,7 @@ use Rattle.record_codec.specs.Order.{IsProperKey, keys_keep_their_order}
 -- ---- lists of records
 
 module _ (k : RecordKey) (v : List ℕ) where
-  put_in_front : (xs ys : List Record) → Each (λ (r : Record). record_cmp k r.0 ≡ Greater) xs → put record_cmp k v (xs ++ ys) ≡ xs ++ put record_cmp k v ys
+  pub put_in_front : (xs ys : List Record) → Each (λ (r : Record). record_cmp k r.0 ≡ Greater) xs → put record_cmp k v (xs ++ ys) ≡ xs ++ put record_cmp k v ys
   put_in_front [] ys h = refl
   put_in_front (x ∷ xs) ys h =
       ap (λ o. by_order o ((k, v) ∷ x ∷ (xs ++ ys)) ((x.0, v) ∷ (xs ++ ys)) (x ∷ put record_cmp k v (xs ++ ys))) h.0
@@ -69,7 +69,7 @@ module _ (k : RecordKey) where
   without_none (x ∷ xs) h = ap (λ b. cond b (x ∷ without k xs) (without k xs)) h.0 ∙ ap (λ (l : List Record). x ∷ l) (without_none xs h.1)
 
 module _ {X : Type 0} (P : X → Type 0) where
-  each_both : (xs ys : List X) → Each P xs → Each P ys → Each P (xs ++ ys)
+  pub each_both : (xs ys : List X) → Each P xs → Each P ys → Each P (xs ++ ys)
   each_both [] ys h k = k
   each_both (x ∷ xs) ys h k = (h.0, each_both xs ys h.1 k)
 

@@ -1,4 +1,5 @@
 //! Laws on the definitions, which all crates above may cite. The functions do nothing.
+ghost use Rattle.record_codec.specs.RowReadings.{RecordsAreOneToOne};
 ghost use Rattle.record_codec.specs.Order.{KeysKeepTheirOrder};
 ghost use Rattle.record_codec.specs.Patches.{PatchesFollowChanges};
 
@@ -10,4 +11,9 @@ pub fn keys_keep_their_order()
 /// The patch of some changes makes the records of the changed tables.
 pub fn patches_follow_changes()
     ensures { PatchesFollowChanges }
+{}
+
+/// Rows with one record are one row.
+pub fn records_are_one_to_one()
+    ensures { RecordsAreOneToOne }
 {}
