@@ -73,14 +73,14 @@ module _ {X : Type 0} (P : X → Type 0) where
   each_both [] ys h k = k
   each_both (x ∷ xs) ys h k = (h.0, each_both xs ys h.1 k)
 
-  each_mapped : {A : Type 0} (f : A → X) → ((a : A) → P (f a)) → (xs : List A) → Each P (map f xs)
+  pub each_mapped : {A : Type 0} (f : A → X) → ((a : A) → P (f a)) → (xs : List A) → Each P (map f xs)
   each_mapped f all [] = tt
   each_mapped f all (x ∷ xs) = (all x, each_mapped f all xs)
 
 -- ---- the rows of one kind
 
 module _ {E : Type 0} (key_of : E → Key) (value_of : E → List ℕ) where
-  abbrev record_at : E → Record
+  abbrev pub record_at : E → Record
   record_at e = (record_key (key_of e), value_of e)
 
   abbrev HasKey : E → Type 0
@@ -145,26 +145,26 @@ pub record EachRow (P : Row → Type 0) (t : TableRows) : Type 0 where
 abbrev pub HasProperKey : Row → Type 0
 HasProperKey r = IsProperKey (row_key r)
 
-abbrev gssb_records : List (List ℕ × List ℕ) → List Record
+abbrev pub gssb_records : List (List ℕ × List ℕ) → List Record
 gssb_records xs = map (record_at gssb_key (λ r. r.1)) xs
 
-abbrev tls_records : List (List ℕ × List ℕ × List ℕ) → List Record
+abbrev pub tls_records : List (List ℕ × List ℕ × List ℕ) → List Record
 tls_records xs = map (record_at tls_key (λ r. r.2)) xs
 
-abbrev uls_records : List (List ℕ × List ℕ × List ℕ) → List Record
+abbrev pub uls_records : List (List ℕ × List ℕ × List ℕ) → List Record
 uls_records xs = map (record_at uls_key (λ r. r.2)) xs
 
-abbrev service_records : List Service → List Record
+abbrev pub service_records : List Service → List Record
 service_records xs = map (record_at service_key service_bytes) xs
 
-abbrev job_records : List Job → List Record
+abbrev pub job_records : List Job → List Record
 job_records xs = map (record_at job_key (λ (j : Job). job_bytes j.value)) xs
 
-abbrev shown_records : List (List ℕ × JobValue) → List Record
+abbrev pub shown_records : List (List ℕ × JobValue) → List Record
 shown_records xs = map (record_at shown_key (λ (r : List ℕ × JobValue). job_bytes r.1)) xs
 
 -- the records, kind by kind
-abbrev by_kinds : TableRows → List Record
+abbrev pub by_kinds : TableRows → List Record
 by_kinds t = gssb_records t.gssbs ++ (tls_records t.tlss ++ (uls_records t.ulss ++ (service_records t.services ++ (job_records t.jobs ++ shown_records t.shown))))
 
 module _ {A B C : Type 0} (f : A → B) (g : B → C) where
@@ -175,7 +175,7 @@ module _ {A B C : Type 0} (f : A → B) (g : B → C) where
 onto_both : {A B C : Type 0} (f : A → B) (g : B → C) (xs : List A) (rest : List B) (there : List C) → map g rest ≡ there → map g (map f xs ++ rest) ≡ map (λ a. g (f a)) xs ++ there
 onto_both {C = C} f g xs rest there e = map-append g (map f xs) rest ∙ (λ i. ◌++◌ {A = C} (twice f g xs i) (e i))
 
-kinds_are : (t : TableRows) → map record_of (rows_of t) ≡ by_kinds t
+pub kinds_are : (t : TableRows) → map record_of (rows_of t) ≡ by_kinds t
 kinds_are t =
     onto_both gssb_row record_of t.gssbs _ _
     (onto_both tls_row record_of t.tlss _ _
@@ -185,7 +185,7 @@ kinds_are t =
 
 -- ---- one change
 
-abbrev Above : RecordKey → Record → Type 0
+abbrev pub Above : RecordKey → Record → Type 0
 Above k r = record_cmp k r.0 ≡ Less
 
 abbrev Below : RecordKey → Record → Type 0
@@ -208,19 +208,19 @@ here key_of value_of e es rest h hs above =
     ∙ ap (λ (l : List Record). l ++ rest) (section_put key_of value_of e es h hs)
 
 -- all keys of a list are greater
-above_all : {E : Type 0} (key_of : E → Key) (value_of : E → List ℕ) (k : Key) → ((e : E) → record_cmp (record_key k) (record_key (key_of e)) ≡ Less) → (es : List E) → Each (Above (record_key k)) (map (record_at key_of value_of) es)
+pub above_all : {E : Type 0} (key_of : E → Key) (value_of : E → List ℕ) (k : Key) → ((e : E) → record_cmp (record_key k) (record_key (key_of e)) ≡ Less) → (es : List E) → Each (Above (record_key k)) (map (record_at key_of value_of) es)
 above_all key_of value_of k less es = each_mapped (Above (record_key k)) (record_at key_of value_of) less es
 
-above_more : {E : Type 0} (key_of : E → Key) (value_of : E → List ℕ) (k : Key) → ((e : E) → record_cmp (record_key k) (record_key (key_of e)) ≡ Less) → (es : List E) (rest : List Record) → Each (Above (record_key k)) rest → Each (Above (record_key k)) (map (record_at key_of value_of) es ++ rest)
+pub above_more : {E : Type 0} (key_of : E → Key) (value_of : E → List ℕ) (k : Key) → ((e : E) → record_cmp (record_key k) (record_key (key_of e)) ≡ Less) → (es : List E) (rest : List Record) → Each (Above (record_key k)) rest → Each (Above (record_key k)) (map (record_at key_of value_of) es ++ rest)
 above_more key_of value_of k less es rest h = each_both (Above (record_key k)) (map (record_at key_of value_of) es) rest (above_all key_of value_of k less es) h
 
-abbrev second : {A B C : Type 0} → A × B × C → C
+abbrev pub second : {A B C : Type 0} → A × B × C → C
 second r = r.2
 
-abbrev value_of_job : Job → List ℕ
+abbrev pub value_of_job : Job → List ℕ
 value_of_job j = job_bytes j.value
 
-abbrev value_of_shown : List ℕ × JobValue → List ℕ
+abbrev pub value_of_shown : List ℕ × JobValue → List ℕ
 value_of_shown r = job_bytes r.1
 
 set_follows : (t : TableRows) (r : Row) → EachRow HasProperKey t → HasProperKey r → IsTrue (row_fits r) → put record_cmp (record_key (row_key r)) (value_bytes r) (by_kinds t) ≡ by_kinds (with_row t r)

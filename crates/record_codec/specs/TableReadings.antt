@@ -1,5 +1,5 @@
 -- How a content is read as tables.
-use Rattle.std.specs.Prelude.{◌≡◌, refl, Bool, IsTrue, List, [], ◌∷◌, ◌++◌, map, Option, Some, option_and_then, All}
+use Rattle.std.specs.Prelude.{◌≡◌, refl, ℕ, Bool, true, false, IsTrue, List, [], ◌∷◌, ◌++◌, map, Option, Some, None, option_and_then, All}
 use Rattle.std.proofs.Common.{sym, ap, subst, ◌∙◌, append_assoc, true≢false}
 use Rattle.std.proofs.lemmas.List.Elements.{All-nil, All-from_recursion, recursion_from_All}
 use Rattle.std.specs.Option.{option_map}
@@ -20,16 +20,18 @@ use Rattle.kdcs_types.specs.declared.act.Change.{Change}
 use Rattle.kdcs_types.specs.declared.act.Change.TheVariants.{Set}
 use Rattle.kdcs_types.specs.declared.act.Changes.{Changes}
 use Rattle.kdcs_types.specs.declared.key.Key.{Key}
-use Rattle.kdcs_types.specs.Keys.{key_cmp}
+use Rattle.kdcs_types.specs.declared.service.Service.{Service}
+use Rattle.kdcs_types.specs.Keys.{key_cmp, id_eq}
+use Rattle.kdcs_types.specs.KeyLaws.{id_eq-itself}
 use Rattle.kdcs_types.specs.Keyed.{keyed, ascends}
-use Rattle.kdcs_types.specs.Tables.{empty_tables, row_key, row_fits, change_fits, change_key, changed, AreChanges, IsSortedTables}
+use Rattle.kdcs_types.specs.Tables.{TableRows, empty_tables, gssb_key, tls_key, uls_key, service_key, job_key, shown_key, gssb_row, tls_row, uls_row, service_row, job_row, shown_row, is_filled, service_fits, row_key, row_fits, change_fits, change_key, changed, AreChanges, IsSortedTables}
 use Rattle.kdcs_types.specs.RowLaws.{changed_sorted}
-use Rattle.record_codec.specs.Values.{record_key, record_change}
-use Rattle.record_codec.specs.Records.{content_of_tables, patch_of, AreTablesOf}
+use Rattle.record_codec.specs.Values.{record_key, service_bytes, record_of, record_change}
+use Rattle.record_codec.specs.Records.{rows_of, content_of_tables, patch_of, AreTablesOf}
 use Rattle.record_codec.specs.Order.{IsProperKey, keys_keep_their_order}
-use Rattle.record_codec.specs.Patches.{put_in_front, each_both, patches_follow_changes}
+use Rattle.record_codec.specs.Patches.{put_in_front, each_both, each_mapped, record_at, Above, above_all, above_more, second, value_of_job, value_of_shown, by_kinds, kinds_are, EachRow, HasProperKey, each_row, patches_follow_changes}
 use Rattle.record_codec.specs.Fields.{AreBytes}
-use Rattle.record_codec.specs.RowReadings.{row_read, row_there}
+use Rattle.record_codec.specs.RowReadings.{IsProperRow, row_read, row_back, row_there}
 
 -- each record as the change that sets its row
 abbrev pub sets_read : List Record → Option (List Change)
@@ -45,9 +47,6 @@ abbrev pub AreRecordBytes : Record → Type 0
 AreRecordBytes x = AreBytes x.0.bytes × AreBytes x.1
 
 -- ---- records put one behind another
-
-Behind : Record → Record → Type 0
-Behind x a = record_cmp x.0 a.0 ≡ Greater
 
 reversed : (x a : Record) → IsTrue (is_lt (record_cmp a.0 x.0)) → record_cmp x.0 a.0 ≡ Greater
 reversed x a h = key_total.antisymm x.0 a.0 ∙ by (record_cmp a.0 x.0) h
@@ -158,3 +157,94 @@ tables_there x c clock next_job are h e =
       sorted = changed_sorted empty_tables c empty_sorted changes;
       records = (λ i. record { clock = sym clock i; next_job = sym next_job i; items = sym items i }) ∙ made;
     }
+
+-- ---- tables whose records the content has
+
+sets_back : (rs : List Row) → Each IsProperRow rs → Each (λ (r : Row). IsTrue (row_fits r)) rs → sets_read (map record_of rs) ≡ Some (map (λ (r : Row). Set r) rs)
+sets_back [] hs fits = refl
+sets_back (r ∷ rs) hs fits =
+    ap (option_and_then (λ (q : Row). option_map (λ (cs : List Change). Set q ∷ cs) (sets_read (map record_of rs)))) (row_back r hs.0 fits.0)
+    ∙ ap (option_map (λ (cs : List Change). Set r ∷ cs)) (sets_back rs hs.1 fits.1)
+
+abbrev FitsThere : Row → Type 0
+FitsThere r = IsTrue (row_fits r)
+
+fit_each : {A : Type 0} (f : A → Row) (test : A → Bool) → ((a : A) → IsTrue (test a) → FitsThere (f a)) → (xs : List A) → IsTrue (list_all test xs) → Each FitsThere (map f xs)
+fit_each f test to [] h = tt
+fit_each f test to (x ∷ xs) h = let parts = both_true (test x) (list_all test xs) h in (to x parts.0, fit_each f test to xs parts.1)
+
+rows_fit : (t : TableRows) → IsSortedTables t → Each FitsThere (rows_of t)
+rows_fit t h =
+    each_both FitsThere (map gssb_row t.gssbs) _ (each_mapped FitsThere gssb_row (λ e. refl) t.gssbs)
+    (each_both FitsThere (map tls_row t.tlss) _ (fit_each tls_row (λ r. is_filled r.2) (λ e k. k) t.tlss h.tlss_filled)
+    (each_both FitsThere (map uls_row t.ulss) _ (fit_each uls_row (λ r. is_filled r.2) (λ e k. k) t.ulss h.ulss_filled)
+    (each_both FitsThere (map service_row t.services) _ (fit_each service_row service_fits (λ (s : Service) k. true_both (id_eq s.id s.id) (service_fits s) (id_eq-itself s.id) k) t.services h.services_fit)
+    (each_both FitsThere (map job_row t.jobs) _ (each_mapped FitsThere job_row (λ e. refl) t.jobs)
+    (each_mapped FitsThere shown_row (λ e. refl) t.shown)))))
+
+module _ {E : Type 0} (key_of : E → Key) (value_of : E → List ℕ) where
+  below_there : (k : Key) (es : List E) → IsProperKey k → Each (λ e. IsProperKey (key_of e)) es → IsTrue (below_all key_cmp k (keyed key_of es)) → IsTrue (below_all record_cmp (record_key k) (map (record_at key_of value_of) es))
+  below_there k [] h hs below = refl
+  below_there k (e ∷ es) h hs below =
+      let parts = both_true (is_lt (key_cmp k (key_of e))) (below_all key_cmp k (keyed key_of es)) below in
+      true_both (is_lt (record_cmp (record_key k) (record_key (key_of e)))) (below_all record_cmp (record_key k) (map (record_at key_of value_of) es))
+      (ap is_lt (keys_keep_their_order k (key_of e) h hs.0) ∙ parts.0) (below_there k es h hs.1 parts.1)
+
+  section_sorted : (es : List E) → Each (λ e. IsProperKey (key_of e)) es → IsTrue (ascends key_of es) → IsTrue (is_sorted record_cmp (map (record_at key_of value_of) es))
+  section_sorted [] hs h = refl
+  section_sorted (e ∷ es) hs h =
+      let parts = both_true (below_all key_cmp (key_of e) (keyed key_of es)) (ascends key_of es) h in
+      true_both (below_all record_cmp (record_key (key_of e)) (map (record_at key_of value_of) es)) (is_sorted record_cmp (map (record_at key_of value_of) es))
+      (below_there (key_of e) es hs.0 hs.1 parts.0) (section_sorted es hs.1 parts.1)
+
+below_both : (k : RecordKey) (xs ys : List Record) → IsTrue (below_all record_cmp k xs) → Each (Above k) ys → IsTrue (below_all record_cmp k (xs ++ ys))
+below_both k [] [] h above = refl
+below_both k [] (y ∷ ys) h above = true_both (is_lt (record_cmp k y.0)) (below_all record_cmp k ys) (ap is_lt above.0) (below_both k [] ys h above.1)
+below_both k (x ∷ xs) ys h above =
+    let parts = both_true (is_lt (record_cmp k x.0)) (below_all record_cmp k xs) h in
+    true_both (is_lt (record_cmp k x.0)) (below_all record_cmp k (xs ++ ys)) parts.0 (below_both k xs ys parts.1 above)
+
+sorted_both : (xs ys : List Record) → IsTrue (is_sorted record_cmp xs) → Each (λ (x : Record). Each (Above x.0) ys) xs → IsTrue (is_sorted record_cmp ys) → IsTrue (is_sorted record_cmp (xs ++ ys))
+sorted_both [] ys h above k = k
+sorted_both (x ∷ xs) ys h above k =
+    let parts = both_true (below_all record_cmp x.0 xs) (is_sorted record_cmp xs) h in
+    true_both (below_all record_cmp x.0 (xs ++ ys)) (is_sorted record_cmp (xs ++ ys)) (below_both x.0 xs ys parts.0 above.0) (sorted_both xs ys parts.1 above.1 k)
+
+-- the rows of one kind, before those of the kinds behind
+sorted_more : {E : Type 0} (key_of : E → Key) (value_of : E → List ℕ) (es : List E) (rest : List Record) → Each (λ e. IsProperKey (key_of e)) es → IsTrue (ascends key_of es) → ((e : E) → Each (Above (record_key (key_of e))) rest) → IsTrue (is_sorted record_cmp rest) → IsTrue (is_sorted record_cmp (map (record_at key_of value_of) es ++ rest))
+sorted_more key_of value_of es rest hs h above k =
+    sorted_both (map (record_at key_of value_of) es) rest (section_sorted key_of value_of es hs h)
+    (each_mapped (λ (x : Record). Each (Above x.0) rest) (record_at key_of value_of) above es) k
+
+kinds_sorted : (t : TableRows) → EachRow HasProperKey t → IsSortedTables t → IsTrue (is_sorted record_cmp (by_kinds t))
+kinds_sorted t h s =
+    sorted_more gssb_key (λ r. r.1) t.gssbs _ h.gssbs s.gssbs (λ e. above_more tls_key second (gssb_key e) (λ f. refl) t.tlss _ (above_more uls_key second (gssb_key e) (λ f. refl) t.ulss _ (above_more service_key service_bytes (gssb_key e) (λ f. refl) t.services _ (above_more job_key value_of_job (gssb_key e) (λ f. refl) t.jobs _ (above_all shown_key value_of_shown (gssb_key e) (λ f. refl) t.shown)))))
+    (sorted_more tls_key second t.tlss _ h.tlss s.tlss (λ e. above_more uls_key second (tls_key e) (λ f. refl) t.ulss _ (above_more service_key service_bytes (tls_key e) (λ f. refl) t.services _ (above_more job_key value_of_job (tls_key e) (λ f. refl) t.jobs _ (above_all shown_key value_of_shown (tls_key e) (λ f. refl) t.shown))))
+    (sorted_more uls_key second t.ulss _ h.ulss s.ulss (λ e. above_more service_key service_bytes (uls_key e) (λ f. refl) t.services _ (above_more job_key value_of_job (uls_key e) (λ f. refl) t.jobs _ (above_all shown_key value_of_shown (uls_key e) (λ f. refl) t.shown)))
+    (sorted_more service_key service_bytes t.services _ h.services s.services (λ e. above_more job_key value_of_job (service_key e) (λ f. refl) t.jobs _ (above_all shown_key value_of_shown (service_key e) (λ f. refl) t.shown))
+    (sorted_more job_key value_of_job t.jobs _ h.jobs s.jobs (λ e. above_all shown_key value_of_shown (job_key e) (λ f. refl) t.shown)
+    (section_sorted shown_key value_of_shown t.shown h.shown s.shown)))))
+
+-- each row's names are names, and its numbers and lengths have their bytes
+abbrev pub AreProperTables : TableRows → Type 0
+AreProperTables t = All IsProperRow (rows_of t)
+
+proper_keys : (t : TableRows) → AreProperTables t → EachRow HasProperKey t
+proper_keys t h = each_row HasProperKey t (λ k d i. (h k d i).key)
+
+pub tables_read : (x : Content) (t : TableRows) → AreProperTables t → AreTablesOf x t → sets_read x.items ≡ Some (map (λ (r : Row). Set r) (rows_of t))
+tables_read x t h are = ap (λ (y : Content). sets_read y.items) are.records ∙ sets_back (rows_of t) (recursion_from_All IsProperRow (rows_of t) h) (rows_fit t are.sorted)
+
+pub records_ascend : (x : Content) (t : TableRows) → AreProperTables t → AreTablesOf x t → is_sorted record_cmp x.items ≡ true
+records_ascend x t h are = ap (λ (y : Content). is_sorted record_cmp y.items) are.records ∙ ap (is_sorted record_cmp) (kinds_are t) ∙ kinds_sorted t (proper_keys t h) are.sorted
+
+-- no tables where a record is no row, or where the keys do not ascend
+pub no_tables_unread : (x : Content) → sets_read x.items ≡ None → (t : TableRows) → AreProperTables t → AreTablesOf x t → ⊥
+no_tables_unread x none t h are = cc (sym (tables_read x t h are) ∙ none)
+
+pub no_tables_unsorted : (x : Content) → is_sorted record_cmp x.items ≡ false → (t : TableRows) → AreProperTables t → AreTablesOf x t → ⊥
+no_tables_unsorted x none t h are = true≢false (sym (records_ascend x t h are) ∙ none)
+
+-- a clock, a next job number and changes of rows
+abbrev pub changes_of : ℕ → ℕ → List Change → Changes
+changes_of clock next_job items = record { clock = clock; next_job = next_job; items = items }

@@ -1,9 +1,9 @@
 //! Contents, read as tables.
 ghost use Rattle.std.specs.Prelude.{◌≡◌, None, IfOk, IfSome, OnOk, All};
-ghost use Rattle.kdcs_types.specs.Tables.{TableRows};
+ghost use Rattle.kdcs_types.specs.Tables.{TableRows, empty_tables, changed, AreChanges};
 ghost use Rattle.record_codec.specs.Records.{AreTablesOf};
 ghost use Rattle.record_codec.specs.Reads.{ReadsWhole};
-ghost use Rattle.record_codec.specs.TableReadings.{AreRecordBytes, sets_read};
+ghost use Rattle.record_codec.specs.TableReadings.{AreRecordBytes, sets_read, AreProperTables, changes_of};
 
 use crate::ascending::ascend;
 use crate::reading::Unread;
@@ -24,4 +24,39 @@ fn sets_in(alloc: Global, records: &[(RecordKey, Bytes)]) -> Result<RowChanges, 
         sets.push(Change::Set(row))?;
     }
     Ok(sets)
+}
+
+fn tables_with(
+    alloc: Global,
+    clock: u64,
+    next_job: u64,
+    items: RowChanges,
+) -> Result<Tables, OutOfMemory>
+    requires { AreChanges items }
+    ensures { IfOk result (λ t. t ≡ changed empty_tables (changes_of clock next_job items)) }
+{
+    let mut tables = Tables::empty(alloc);
+    tables.change(&Changes {
+        clock,
+        next_job,
+        items,
+    })?;
+    Ok(tables)
+}
+
+/// The tables whose records a content has, in time in proportion to its bytes. `None` exactly where there are no such
+/// tables: where a record is no row's, or the keys do not ascend without repeats.
+pub fn tables_of(alloc: Global, content: &Content) -> Result<Option<Tables>, OutOfMemory>
+    ensures found { IfOk result (λ tables. IfSome tables (λ t. AreTablesOf content.now t)) }
+    ensures none { IfOk result (λ tables. tables ≡ None → (t : TableRows) → AreProperTables t → AreTablesOf content.now t → ⊥) }
+{
+    let records = content.items.as_slice();
+    if !ascend(records) {
+        return Ok(None);
+    }
+    match sets_in(alloc, records) {
+        Ok(items) => Ok(Some(tables_with(alloc, content.clock, content.next_job, items)?)),
+        Err(Unread::NoRow) => Ok(None),
+        Err(Unread::Memory) => Err(OutOfMemory),
+    }
 }
