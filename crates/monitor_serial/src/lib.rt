@@ -1,9 +1,9 @@
 //! Serial equivalence of the abstract monitor: an open transaction is the replay of what it has kept, whatever other
 //! services did meanwhile; so a transaction that ends does so as its record, run in one go.
 //!
-//! It stands on the definitions of the monitor, and on the laws of single steps, of runs, and of jobs and services' rows. The functions do nothing:
-//! their contracts are laws on the definitions, which the monitor and the program above it cite. `specs/Replays.antt`
-//! says what replays to itself.
+//! It stands on the definitions of the monitor, and on the laws of single steps, of runs, and of jobs and services' rows.
+//! The functions do nothing: their contracts are laws on the definitions, which the monitor and the program above it
+//! cite. `specs/Replays.antt` says what replays to itself, `specs/SerialRuns.antt` what a serial run is.
 #![tactic(auto)]
 
 ghost use Rattle.monitor_serial.specs.SerialLaws.{AllOpeningsReplay, StatementsReplay, InputsReplay, OtherTablesReplay};
