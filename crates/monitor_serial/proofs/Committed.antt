@@ -39,10 +39,9 @@ use Rattle.monitor_places.specs.Rows.{least_passes, filtered_pass}
 use Rattle.monitor_semantics.specs.Picks.{free_jobs}
 use Rattle.kd_base.specs.Tools.{both_true}
 use Rattle.std.proofs.lemmas.Bool.{leb-true}
-use Rattle.monitor_queues.specs.Lawful.{IsSerialBy, IsSerialStep}
 use Rattle.monitor_serial.specs.Replays.{LookAlike}
 use Rattle.monitor_serial.specs.SerialRuns.{Shows, MakeInTurn, makers_of, MakesBy, MakesItsCommit, TurnsMakeTheirCommits, CommandsMakeTheirCommits, ScriptsAreSerialRuns, StopsLeaveSerialRuns}
-use Rattle.monitor_serial.specs.SerialLaws.{HasReplays, StepsKeepReplays, TurnsCommitSerially, CommandsCommitSerially, HistoriesAreSerial}
+use Rattle.monitor_serial.specs.SerialLaws.{HasReplays, StepsKeepReplays, IsSerialBy, IsSerialStep, TurnsCommitSerially, CommandsCommitSerially, HistoriesAreSerial}
 use Rattle.monitor_serial.proofs.Along.{replayed_over}
 use Rattle.monitor_serial.proofs.Durable.{base, base_sorted, base_durable, base_service, base_content, base_job, synchronised_alike, broken_alike}
 use Rattle.monitor_serial.proofs.Ends.{breaks_atomic, settles_atomic}
@@ -198,17 +197,17 @@ commands_make app s (PrintLast pterm) h = again_commits app s _ _ (shown_of s.ta
 commands_make app s Restart h = tt
 
 -- and so it meets the law on all tables
-serial_by : (app : Application) (s : State) (d : ScriptStep) (o : Option Maker) → MakesBy app s d.after.tables o → IsSerialBy app s d o
-serial_by app s d None k = tt
-serial_by app s d (Some (ByTick ticks)) k = tt
-serial_by app s d (Some (ByShow lterm)) k = tt
-serial_by app s d (Some (ByTransaction kept)) k = k
+serial_by : (app : Application) (s : State) (t : TableRows) (o : Option Maker) → MakesBy app s t o → IsSerialBy app s t o
+serial_by app s t None k = tt
+serial_by app s t (Some (ByTick ticks)) k = tt
+serial_by app s t (Some (ByShow lterm)) k = tt
+serial_by app s t (Some (ByTransaction kept)) k = k
 
 pub turns_commit : TurnsCommitSerially
-turns_commit app s task h = let d = turned_step (turn_of app s task) in serial_by app s d d.by (turns_make app s task h)
+turns_commit app s task h = let d = turned_step (turn_of app s task) in serial_by app s d.after.tables d.by (turns_make app s task h)
 
 pub commands_commit : CommandsCommitSerially
-commands_commit app s c h = let d = command_of app s c in serial_by app s d d.by (commands_make app s c h)
+commands_commit app s c h = let d = command_of app s c in serial_by app s d.after.tables d.by (commands_make app s c h)
 
 -- ---- scripts
 
@@ -265,7 +264,7 @@ module _ (keeps : StepsKeepReplays) (app : Application) (is_app : IsApplication 
 
 each_serial : (app : Application) (s : State) (steps : List ScriptStep) → EachStep (MakesItsCommit app) s steps → EachStep (IsSerialStep app) s steps
 each_serial app s [] h = tt
-each_serial app s (d ∷ ds) h = (serial_by app s d d.by h.0, each_serial app d.after ds h.1)
+each_serial app s (d ∷ ds) h = (serial_by app s d.after.tables d.by h.0, each_serial app d.after ds h.1)
 
 pub histories_are_serial : StepsKeepReplays → HistoriesAreSerial
 histories_are_serial keeps app s script is_app fits h = each_serial app s (history app s script) (script_serial keeps app is_app script s fits h)

@@ -1,5 +1,5 @@
 -- Serial equivalence, step by step: each open transaction replays to itself, and each that ends does so as its record.
-use Rattle.std.specs.Prelude.{◌≡◌, ℕ, true, false, List, Some}
+use Rattle.std.specs.Prelude.{◌≡◌, ℕ, true, false, List, Option, Some, None}
 use Rattle.kdcs_types.specs.declared.key.Area.{Area}
 use Rattle.kdcs_types.specs.declared.key.ServiceId.{ServiceId}
 use Rattle.kdcs_types.specs.declared.key.ServiceId.TheVariants.{Dialogue, Asynchronous}
@@ -10,17 +10,17 @@ use Rattle.monitor_semantics.specs.declared.answer.Happened.TheVariants.{Held}
 use Rattle.monitor_semantics.specs.Bytes.{Bytes}
 use Rattle.monitor_semantics.specs.State.{Application, OpenTransaction, State}
 use Rattle.monitor_semantics.specs.Calls.{Told}
-use Rattle.monitor_semantics.specs.Commands.{Command, started, turned_step, command_of}
+use Rattle.monitor_semantics.specs.Commands.{Command, ScriptStep, Maker, started, turned_step, command_of}
 use Rattle.monitor_semantics.specs.Trace.{history}
-use Rattle.monitor_semantics.specs.Endings.{is_asynchronous, opened_by_start, opened_by_input, opened_by_row, opened_by_job, lterm_of_row, followed_by_input}
+use Rattle.monitor_semantics.specs.Endings.{is_asynchronous, durable, opened_by_start, opened_by_input, opened_by_row, opened_by_job, lterm_of_row, followed_by_input}
 use Rattle.monitor_semantics.specs.Statements.{area_of, statement}
 use Rattle.monitor_semantics.specs.Turns.{turn_of}
 use Rattle.monitor_laws.specs.Facts.{IsConsistent}
 use Rattle.monitor_laws.specs.Keeping.{Fact, Leads, HasFacts, HoldsAlong, IsScriptOf}
 use Rattle.monitor_laws.specs.Applications.{IsApplication}
+use Rattle.monitor_laws.specs.Commits.{AtomicLaw}
 use Rattle.monitor_laws.specs.Suits.{Suits}
 use Rattle.monitor_runs.specs.RunLaws.{EachStep}
-use Rattle.monitor_queues.specs.Lawful.{IsSerialStep}
 use Rattle.monitor_laws.specs.Replay.{IsReplayable, SettlesAs}
 use Rattle.monitor_serial.specs.Replays.{GoesOnAtOnce, SeesTheSame, ReplaysToItself, AllReplay}
 
@@ -80,7 +80,15 @@ ReplaysAreRecords = (app : Application) (s : State) → AllReplay app s → IsRe
 abbrev pub TurnsEndSerially : Type 0
 TurnsEndSerially = (app : Application) (s : State) (task : ℕ) → IsConsistent app s → IsReplayable app s → SettlesAs app s.tables (turn_of app s task).after.tables (turn_of app s task).settled
 
--- ---- commits: each that a transaction made is that of its record, run in one go on the durable tables before it
+-- ---- commits
+
+-- a commit that a transaction made is that of its record, run in one go on the durable tables before it
+abbrev pub IsSerialBy : Application → State → (after : TableRows) → Option Maker → Type 0
+IsSerialBy app s after None = Unit {0}
+IsSerialBy app s after (Some by) = AtomicLaw app (durable app.generation s.tables) (durable app.generation after) by
+
+abbrev pub IsSerialStep : Application → State → ScriptStep → Type 0
+IsSerialStep app s d = IsSerialBy app s d.after.tables d.by
 
 abbrev pub TurnsCommitSerially : Type 0
 TurnsCommitSerially = (app : Application) (s : State) (task : ℕ) → HasReplays app s → IsSerialStep app s (turned_step (turn_of app s task))

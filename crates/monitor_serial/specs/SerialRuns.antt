@@ -1,16 +1,15 @@
 -- A serial run: makers that change the durable tables one after another, with no services and no states between them.
 use Rattle.std.specs.Prelude.{◌≡◌, ℕ, ◌+◌, ◌≤◌, List, [], ◌∷◌, ◌++◌, filter_map, Option, Some, None, Contains}
-use Rattle.kdcs_types.specs.declared.act.Act.{Act}
 use Rattle.kdcs_types.specs.declared.key.Target.TheVariants.{Lterm}
 use Rattle.kdcs_types.specs.declared.service.Job.{Job}
 use Rattle.kdcs_types.specs.Tables.{TableRows, IsSortedTables}
 use Rattle.monitor_semantics.specs.Commands.{Command, ScriptStep, Maker, ByTick, ByShow, ByTransaction, shown_tables, started, state_after, command_of, turned_step}
 use Rattle.monitor_semantics.specs.Endings.{durable}
 use Rattle.monitor_semantics.specs.State.{Application, State}
-use Rattle.monitor_semantics.specs.Trace.{history, trace, tables_after}
+use Rattle.monitor_semantics.specs.Trace.{history}
 use Rattle.monitor_semantics.specs.Turns.{turn_of}
 use Rattle.monitor_laws.specs.Applications.{IsApplication}
-use Rattle.monitor_laws.specs.Commits.{IsAtomicCommit, IsLawful}
+use Rattle.monitor_laws.specs.Commits.{IsAtomicCommit}
 use Rattle.monitor_laws.specs.Keeping.{IsScriptOf}
 use Rattle.monitor_laws.specs.Suits.{Suits}
 use Rattle.monitor_serial.specs.SerialLaws.{HasReplays}
@@ -67,24 +66,3 @@ StopsLeaveSerialRuns =
     (app : Application) (t : TableRows) (script : List Command) → IsApplication app → IsScriptOf app script → IsSortedTables t → Suits app.generation t
     → (first rest : List ScriptStep) → history app (started app t) script ≡ first ++ rest
     → MakeInTurn app (durable app.generation t) (durable app.generation (state_after (started app t) first).tables) (makers_of first)
-
--- ---- cuts, and all laws
-
--- what is stored after some first acts of a run is what the makers of its first commits make one after another
-pub record IsSerialCut (app : Application) (t : TableRows) (script : List Command) (done : List Act) : Type 0 where
-  pub first : List ScriptStep
-  pub rest : List ScriptStep
-  pub whole : history app (started app t) script ≡ first ++ rest
-  pub run : MakeInTurn app (durable app.generation t) (tables_after (durable app.generation t) done) (makers_of first)
-
--- whatever a stop leaves
-abbrev pub CutsAreSerial : Type 0
-CutsAreSerial =
-    (app : Application) (t : TableRows) (script : List Command) → IsApplication app → IsScriptOf app script → IsSortedTables t → Suits app.generation t
-    → (done left : List Act) → trace app t script ≡ done ++ left → IsSerialCut app t script done
-
--- each commit of a run meets the law on jobs, the law on services' rows and the serial law
-abbrev pub RunsAreLawful : Type 0
-RunsAreLawful =
-    (app : Application) (t : TableRows) (script : List Command) → IsApplication app → IsScriptOf app script → IsSortedTables t → Suits app.generation t
-    → IsLawful app (started app t) (history app (started app t) script)

@@ -1,18 +1,17 @@
 //! Serial equivalence of the abstract monitor: an open transaction is the replay of what it has kept, whatever other
 //! services did meanwhile; so a transaction that ends does so as its record, run in one go.
 //!
-//! It stands on the definitions of the monitor, and on the laws of single steps, of runs, and of jobs and services' rows.
-//! The functions do nothing: their contracts are laws on the definitions, which the monitor and the program above it
-//! cite. `specs/Replays.antt` says what replays to itself, `specs/SerialRuns.antt` what a serial run is.
+//! It stands on the definitions of the monitor, and on the laws of single steps and of runs. The functions do nothing:
+//! their contracts are laws on the definitions, which the monitor and the program above it cite. `specs/Replays.antt`
+//! says what replays to itself, `specs/SerialRuns.antt` what a serial run is.
 #![tactic(auto)]
 
 ghost use Rattle.monitor_serial.specs.SerialLaws.{AllOpeningsReplay, StatementsReplay, InputsReplay, OtherTablesReplay};
 ghost use Rattle.monitor_serial.specs.SerialLaws.{StepsKeepReplays, ScriptsKeepReplays, ReplaysAreRecords, TurnsEndSerially};
 ghost use Rattle.monitor_serial.specs.SerialLaws.{TurnsCommitSerially, CommandsCommitSerially, HistoriesAreSerial, RunsAreSerial};
-ghost use Rattle.monitor_serial.specs.SerialRuns.{TurnsMakeTheirCommits, CommandsMakeTheirCommits, ScriptsAreSerialRuns, StopsLeaveSerialRuns, CutsAreSerial, RunsAreLawful};
+ghost use Rattle.monitor_serial.specs.SerialRuns.{TurnsMakeTheirCommits, CommandsMakeTheirCommits, ScriptsAreSerialRuns, StopsLeaveSerialRuns};
 
 use monitor_places::facts_hold_along;
-use monitor_queues::{cuts_resume, serial_runs_are_lawful};
 use monitor_runs::commits_make_the_tables;
 use monitor_tables::states_stay_sound;
 
@@ -64,17 +63,4 @@ pub fn scripts_are_serial_runs()
 {
     replays_hold_along_every_script();
     commits_make_the_tables();
-}
-
-/// What a stop leaves, wherever it comes, is stored by a serial run of the first commits; and each commit of a run meets
-/// the law on jobs, the law on services' rows and the serial law.
-pub fn runs_are_lawful()
-    ensures cuts { CutsAreSerial }
-    ensures laws { RunsAreLawful }
-{
-    replays_hold_along_every_script();
-    commits_are_serial();
-    scripts_are_serial_runs();
-    cuts_resume();
-    serial_runs_are_lawful();
 }
