@@ -1,2 +1,4 @@
 pub mod AreaCalls
+pub mod CallHolders
+pub mod Holders
 pub mod Locking

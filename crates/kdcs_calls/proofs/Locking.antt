@@ -24,7 +24,7 @@ unfolding answer_of
 granted_if_held l reswait now id area e = granted_by l reswait now id area (holder l area) e
 
 -- so what the call is told is what the locks answer, held or not
-same_answer : (g : Generated) (t : TableRows) (l : Locks) (id : ServiceId) (x : Work) (area : Area) → HoldsJust l id x → answer_by (told_of g t l id area) (touches x area) ≡ answer_of l g.limits.reswait t.clock id area
+pub same_answer : (g : Generated) (t : TableRows) (l : Locks) (id : ServiceId) (x : Work) (area : Area) → HoldsJust l id x → answer_by (told_of g t l id area) (touches x area) ≡ answer_of l g.limits.reswait t.clock id area
 same_answer g t l id x area h = by (touches x area) refl
   where
     by : (b : Bool) → touches x area ≡ b → answer_by (told_of g t l id area) b ≡ answer_of l g.limits.reswait t.clock id area

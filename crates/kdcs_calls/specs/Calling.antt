@@ -1,5 +1,5 @@
 -- A KDCS call as the running system performs it: what it may be asked on, what it answers, and what becomes of the locks.
-use Rattle.std.specs.Prelude.{◌≡◌, ◌≤◌, IsTrue, ℕ, Bool, true, false, ◌&&◌, not, List, All, length, Option, Some, None, IfSome, is_some, if◌then◌else◌}
+use Rattle.std.specs.Prelude.{◌≡◌, ◌≤◌, ℕ, Bool, true, ◌&&◌, not, All, length, Option, Some, None, IfSome, is_some, if◌then◌else◌}
 use Rattle.std.specs.FinMap.{find}
 use Rattle.kdcs_types.specs.declared.call.Call.{Call}
 use Rattle.kdcs_types.specs.declared.call.Call.TheVariants.{Init, Mget, Mput, Fget, Fput, Dput, SgetGb, SputGb, SrelGb, SgetKp, SgetRl, SputMs, SrelLb, SgetUs, SputUs, Gtda, Ptda, UnlkGb, UnlkUs, UnlkDa, Pend}
@@ -9,11 +9,11 @@ use Rattle.kdcs_types.specs.declared.key.ServiceId.{ServiceId}
 use Rattle.kdcs_types.specs.Keys.{area_cmp}
 use Rattle.kdcs_types.specs.Tables.{TableRows, content_of}
 use Rattle.kdcdef_types.specs.Generation.{Generated, has_tls, has_uls}
-use Rattle.area_locks.specs.Asked.{asked, holds_area, unlocked}
+use Rattle.area_locks.specs.Asked.{asked, holds_area, other_than, unlocked}
 use Rattle.monitor_semantics.specs.Bytes.{Bytes, bytes_cmp}
-use Rattle.monitor_semantics.specs.Calls.{Told, Performed, call_outcome, shown_by, touches}
+use Rattle.monitor_semantics.specs.Calls.{Performed, call_outcome, shown_by, touches}
 use Rattle.monitor_semantics.specs.Endings.{is_asynchronous}
-use Rattle.monitor_semantics.specs.Locks.{Locks, told_now}
+use Rattle.monitor_semantics.specs.Locks.{Locks, holder, told_now}
 use Rattle.monitor_semantics.specs.Statements.{area_of_call}
 use Rattle.monitor_semantics.specs.State.{OpenTransaction as Work}
 
@@ -32,6 +32,14 @@ pub record CanRead (t : TableRows) (x : Work) : Type 0 where
   pub parts : All IsShort x.unread
   pub areas : (area : Area) → IfSome (shown_by (find area_cmp area x.written) (content_of t area)) IsShort
   pub lssbs : (name : Bytes) → IfSome (find bytes_cmp name x.lssbs) IsShort
+
+-- the service holds what its transaction touches, and no other area changes hands
+abbrev pub holder_then : ServiceId → Work → Area → (before : Option ServiceId) → Option ServiceId
+holder_then id x area before = if touches x area then Some id else other_than id before
+
+-- so it is with each area, from these locks to those
+abbrev pub HoldersFollow : (before after : Locks) → ServiceId → Work → Type 0
+HoldersFollow l m id x = (area : Area) → holder m area ≡ holder_then id x area (holder l area)
 
 -- ---- what it answers
 

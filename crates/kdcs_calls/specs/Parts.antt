@@ -1,5 +1,5 @@
 -- Parts of a call: the area in its operand, and how it goes on once its lock is answered.
-use Rattle.std.specs.Prelude.{ℕ, Bool, true, false, Option, Some, None, Result, Ok, Err, if◌then◌else◌}
+use Rattle.std.specs.Prelude.{ℕ, Option, Some, None, Result, Ok, Err, if◌then◌else◌}
 use Rattle.kdcs_types.specs.declared.call.Code.{Code}
 use Rattle.kdcs_types.specs.declared.call.Code.TheVariants.{K03, K08, K11}
 use Rattle.kdcs_types.specs.declared.key.Area.{Area}

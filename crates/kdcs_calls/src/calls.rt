@@ -5,7 +5,7 @@ ghost use Rattle.monitor_semantics.specs.Endings.{is_asynchronous};
 ghost use Rattle.monitor_semantics.specs.Locks.{told_now};
 ghost use Rattle.monitor_semantics.specs.Statements.{area_of_call};
 ghost use Rattle.open_transaction.specs.Work.{work_of};
-ghost use Rattle.kdcs_calls.specs.Calling.{CanRead, HoldsJust, locks_after_call, locks_by_call, performed_now};
+ghost use Rattle.kdcs_calls.specs.Calling.{CanRead, HoldersFollow, HoldsJust, locks_after_call, locks_by_call, performed_now};
 
 use crate::answer::replied;
 use crate::areas::{delete_area, read_area, read_block, unlock, write_area};
@@ -110,6 +110,8 @@ pub fn perform(
     requires nb { open_work.old.messages.nb ≡ generation.now.limits.nb }
     ensures exact { IfOk result (λ c. (work_of open_work.new, c) ≡ performed_now generation.now tables.now locks.old open_work.old.id (work_of open_work.old) call.now) }
     ensures locks { OnOk result (locks.new ≡ locks_after_call generation.now tables.now.clock locks.old open_work.old.id (work_of open_work.old) call.now) }
+    ensures holders { OnOk result (HoldersFollow locks.old locks.new open_work.old.id (work_of open_work.new)) }
+    ensures holds { OnOk result (HoldsJust locks.new open_work.old.id (work_of open_work.new)) }
     ensures id { open_work.new.id ≡ open_work.old.id }
     ensures nb { open_work.new.messages.nb ≡ open_work.old.messages.nb }
 {

@@ -20,6 +20,7 @@ use Rattle.monitor_laws.specs.Keeping.{HasFacts}
 use Rattle.monitor_laws.specs.Steps.{AreLines, CommitsOnce, StepsMakeTheirTables}
 use Rattle.monitor_places.specs.Rows.{kept_at, durable_service}
 use Rattle.monitor_runs.specs.RunLaws.{EachStep, HistoriesCommitOnce, StartsHaveFacts, ScriptsKeepFacts}
+use Rattle.monitor_runs.specs.Lists.{tables_both}
 use Rattle.monitor_queues.specs.ResumeLaws.{IsReadyAt, StartsResume, SignOnResumes, SignOnsResume, CutsResume}
 
 -- ---- lists of acts
@@ -58,12 +59,6 @@ parted (x ∷ xs) ys (d ∷ ds) left e = by (parted xs ys ds left (cons_tail x d
     by : EndsWithin xs ds ⊎ ReachesInto xs ys ds left → EndsWithin (x ∷ xs) (d ∷ ds) ⊎ ReachesInto (x ∷ xs) ys (d ∷ ds) left
     by (inl w) = inl (record { over = w.over; whole = cons_both x d xs (ds ++ w.over) same w.whole })
     by (inr r) = inr (record { more = r.more; is = cons_both d x ds (xs ++ r.more) (sym same) r.is; rest = r.rest })
-
-tables_both : (t : TableRows) (xs ys : List Act) → tables_after t (xs ++ ys) ≡ tables_after (tables_after t xs) ys
-unfolding tables_after
-tables_both t [] ys = refl
-tables_both t (Commit c ∷ xs) ys = tables_both (changed t c) xs ys
-tables_both t (Emit bytes ∷ xs) ys = tables_both t xs ys
 
 -- lines change nothing
 lines_keep : (t : TableRows) (acts : List Act) → AreLines acts → tables_after t acts ≡ t

@@ -1,9 +1,10 @@
 -- A job stands until a commit takes it.
-use Rattle.std.specs.Prelude.{◌≡◌, ◌⊎◌, refl, ℕ, zero, suc, ◌<◌, Bool, true, false, cond, IsTrue, IfSome, List, [], ◌∷◌, ◌++◌, length, Option, Some, None, Contains, slice_index_or}
-use Rattle.std.specs.Option.{option_map}
+use Rattle.std.specs.Prelude.{nat_lt, ◌≡◌, ◌⊎◌, refl, ℕ, zero, suc, ◌<◌, Bool, true, false, cond, IsTrue, IfSome, List, [], ◌∷◌, ◌++◌, length, Option, Some, None, Contains, slice_index_or}
 use Rattle.std.specs.Ordering.{is_eq, is_lt}
 use Rattle.std.specs.declared.cmp.Ordering.{Ordering}
 use Rattle.std.specs.declared.cmp.Ordering.TheVariants.{Less, Equal, Greater}
+use Rattle.std.proofs.lemmas.Bool.{ltb-true}
+use Rattle.std.specs.List.{list_all}
 use Rattle.std.proofs.Common.{sym, ap, subst, ◌∙◌, inl, inr, arith, true≢false}
 use Rattle.std.specs.FinMap.Entries.{below_all}
 use Rattle.kd_base.specs.Tools.{both_true, map_some}
@@ -13,7 +14,7 @@ use Rattle.kdcs_types.specs.declared.key.Key.TheVariants.{Job as JobKey}
 use Rattle.kdcs_types.specs.declared.service.Job.{Job}
 use Rattle.kdcs_types.specs.declared.service.JobValue.{JobValue}
 use Rattle.kdcs_types.specs.Keyed.{keyed, ascends, without_item}
-use Rattle.kdcs_types.specs.KeyedLaws.{found_key, item_at-without}
+use Rattle.kdcs_types.specs.KeyedLaws.{found_key, found_passes, item_at-without}
 use Rattle.kdcs_types.specs.KeyLaws.{key_eq-same, key_eq-itself}
 use Rattle.kdcs_types.specs.Keys.{key_cmp, key_eq}
 use Rattle.kdcs_types.specs.Tables.{TableRows, job_key, job_of}
@@ -26,9 +27,10 @@ use Rattle.monitor_laws.specs.Keeping.{Leads, HasFacts}
 use Rattle.monitor_laws.specs.Steps.{CommitsOnce, TurnsCommitOnce, CommandsCommitOnce}
 use Rattle.monitor_tables.specs.Items.{IsIn}
 use Rattle.monitor_runs.specs.RunLaws.{EachStep}
-use Rattle.monitor_queues.specs.Along.{StepLaw, EachMeets, meets_along, after_both}
+use Rattle.monitor_runs.specs.Lists.{after_both, each_split}
+use Rattle.monitor_queues.specs.Along.{StepLaw, EachMeets, meets_along}
 use Rattle.monitor_queues.specs.QueueLaws.{MeetsBoth, TurnsKeepQueues, CommandsKeepQueues, IsTakenAt, IsTakenIn, NoJobIsLost}
-use Rattle.monitor_queues.proofs.Numbers.{at, value as value_of, same_number, each_split}
+use Rattle.monitor_queues.proofs.Numbers.{at, value as value_of, same_number, not_made, at_both}
 
 -- ---- jobs by number
 
@@ -91,22 +93,39 @@ stays_or_gone jobs (Some g) sorted there n j e = by (key_eq (JobKey n) (JobKey g
         let here : at g.number jobs ≡ Some g = in_found g jobs sorted (is_in g jobs there.0 there.1 there.2) in
         inr (sym here ∙ ap (λ m. at m jobs) (sym (same_number n g.number (key_eq-same (JobKey n) (JobKey g.number) same))) ∙ e)
 
-module _ (app : Application) (t u : TableRows) (by : Maker) (acts : List Act) (q : QueueLaw app t u by acts) (sorted : IsTrue (ascends job_key t.jobs)) (number : ℕ) (value : JobValue) where
-  whole : (j : Job) → at number t.jobs ≡ Some j → j.value ≡ value → Some j ≡ Some (record { number = number; value = value })
-  whole j e v =
-      let n : j.number ≡ number = same_number j.number number (found_key job_key (JobKey number) t.jobs j e) in
-      ap (λ (m : ℕ). Some (record { number = m; value = j.value })) n ∙ ap (λ (w : JobValue). Some (record { number = number; value = w })) v
+module _ (app : Application) (t u : TableRows) (by : Maker) (acts : List Act) (q : QueueLaw app t u by acts) (sorted : IsTrue (ascends job_key t.jobs)) (below : IsTrue (list_all (λ (j : Job). nat_lt j.number t.next_job) t.jobs)) (number : ℕ) (value : JobValue) where
+  -- it is taken, and gone
+  abbrev Goes : Type 0
+  Goes = Takes app by (Some (record { number = number; value = value })) u acts × (value_at number u.jobs ≡ None)
 
-  stays_or_taken : value_at number t.jobs ≡ Some value → (value_at number u.jobs ≡ Some value) ⊎ Takes app by (Some (record { number = number; value = value })) u acts
-  stays_or_taken e = step (map_some (λ (j : Job). j.value) (at number t.jobs) value e)
-    where
-      step : (j : Job) × (at number t.jobs ≡ Some j) × (j.value ≡ value) → (value_at number u.jobs ≡ Some value) ⊎ Takes app by (Some (record { number = number; value = value })) u acts
-      step found = either (stays_or_gone t.jobs q.gone sorted q.was_there number found.0 found.1)
-        where
-          either : (at number (without_gone q.gone t.jobs) ≡ Some found.0) ⊎ (q.gone ≡ Some found.0) → (value_at number u.jobs ≡ Some value) ⊎ Takes app by (Some (record { number = number; value = value })) u acts
-          either (inl kept) =
-              inl (ap (value_at number) q.jobs ∙ ap (option_map (λ (j : Job). j.value)) (at_first number (without_gone q.gone t.jobs) q.made found.0 kept) ∙ ap (λ (w : JobValue). Some w) found.2)
-          either (inr gone) = inr (subst (λ (o : Option Job). Takes app by o u acts) (gone ∙ whole found.0 found.1 found.2) q.taken)
+  module _ (j : Job) (found : at number t.jobs ≡ Some j) (is : j.value ≡ value) where
+    own : j.number ≡ number
+    own = same_number j.number number (found_key job_key (JobKey number) t.jobs j found)
+
+    drawn : number < t.next_job
+    drawn = subst (λ (n : ℕ). n < t.next_job) own (ltb-true j.number t.next_job (found_passes job_key (λ (k : Job). nat_lt k.number t.next_job) (JobKey number) t.jobs j below found))
+
+    whole : Some j ≡ Some (record { number = number; value = value })
+    whole = ap (λ (m : ℕ). Some (record { number = m; value = j.value })) own ∙ ap (λ (w : JobValue). Some (record { number = number; value = w })) is
+
+    left : at number (without_item job_key (JobKey j.number) t.jobs) ≡ None
+    left =
+        item_at-without job_key (JobKey number) (JobKey j.number) t.jobs
+        ∙ ap (λ (b : Bool). cond b None (at number t.jobs)) (ap (λ (m : ℕ). key_eq (JobKey number) (JobKey m)) own ∙ key_eq-itself (JobKey number))
+
+    gone-from : q.gone ≡ Some j → value_at number u.jobs ≡ None
+    gone-from gone =
+        ap (value_at number) q.jobs
+        ∙ ap value_of (at_both number (without_gone q.gone t.jobs) q.made (not_made q.made number t.next_job q.numbers drawn) ∙ ap (λ (o : Option Job). at number (without_gone o t.jobs)) gone ∙ left)
+
+    either : (at number (without_gone q.gone t.jobs) ≡ Some j) ⊎ (q.gone ≡ Some j) → (value_at number u.jobs ≡ Some value) ⊎ Goes
+    either (inl kept) = inl (ap (value_at number) q.jobs ∙ ap value_of (at_first number (without_gone q.gone t.jobs) q.made j kept) ∙ ap (λ (w : JobValue). Some w) is)
+    either (inr gone) = inr (subst (λ (o : Option Job). Takes app by o u acts) (gone ∙ whole) q.taken, gone-from gone)
+
+  stays_or_taken : value_at number t.jobs ≡ Some value → (value_at number u.jobs ≡ Some value) ⊎ Goes
+  stays_or_taken e =
+      let found = map_some (λ (j : Job). j.value) (at number t.jobs) value e in
+      either found.0 found.1 found.2 (stays_or_gone t.jobs q.gone sorted q.was_there number found.0 found.1)
 
 -- a job stands behind a step, or the step takes it
 abbrev StaysLaw : StepLaw
@@ -119,12 +138,13 @@ module _ (app : Application) (s : State) (d : ScriptStep) (facts : HasFacts app 
 
   committed_stays : (by : Maker) → d.by ≡ Some by → QueueLaw app (durable app.generation s.tables) (durable app.generation d.after.tables) by d.acts → StaysLaw app s d
   unfolding durable
-  committed_stays by is q number value e = either (stays_or_taken app (durable app.generation s.tables) (durable app.generation d.after.tables) by d.acts q facts.1.order.jobs number value e)
+  committed_stays by is q number value e =
+      either (stays_or_taken app (durable app.generation s.tables) (durable app.generation d.after.tables) by d.acts q facts.1.order.jobs facts.1.suits.job_numbers number value e)
     where
-      either : (value_at number d.after.tables.jobs ≡ Some value) ⊎ Takes app by (Some (record { number = number; value = value })) (durable app.generation d.after.tables) d.acts
+      either : (value_at number d.after.tables.jobs ≡ Some value) ⊎ (Takes app by (Some (record { number = number; value = value })) (durable app.generation d.after.tables) d.acts × (value_at number d.after.tables.jobs ≡ None))
           → (job_of d.after.tables number ≡ Some value) ⊎ IsTakenAt app d (record { number = number; value = value })
       either (inl stays) = inl stays
-      either (inr taken) = inr (by, (is, taken))
+      either (inr goes) = inr (record { by = by; is = is; taken = goes.0; gone = goes.1 })
 
   step_stays : CommitsOnce app s d → MeetsBoth app s d d.by → StaysLaw app s d
   step_stays (inl none) both = λ number value e. inl (same_job none.tables number ∙ e)

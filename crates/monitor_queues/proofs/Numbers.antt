@@ -23,7 +23,8 @@ use Rattle.monitor_laws.specs.Steps.{CommitsOnce, TurnsCommitOnce, CommandsCommi
 use Rattle.monitor_laws.specs.Transactions.{HasOwnJob}
 use Rattle.monitor_places.specs.Rows.{durable_service}
 use Rattle.monitor_runs.specs.RunLaws.{EachStep}
-use Rattle.monitor_queues.specs.Along.{StepLaw, EachMeets, meets_along, after_both}
+use Rattle.monitor_runs.specs.Lists.{after_both, each_split}
+use Rattle.monitor_queues.specs.Along.{StepLaw, EachMeets, meets_along}
 use Rattle.monitor_queues.specs.QueueLaws.{MeetsBoth, TurnsKeepQueues, CommandsKeepQueues, KeepsNumbers, NumbersAreDrawnOnce, IsOver, JobsAreDoneOnce}
 
 -- ---- jobs by number
@@ -45,13 +46,13 @@ other_number n m less = by (key_eq (JobKey n) (JobKey m)) refl
     by true e = let same = same_number n m (key_eq-same (JobKey n) (JobKey m) e) in absurd (omega arith)
 
 -- a number below the first new one is none of theirs
-not_made : (made : List Job) (n m : ℕ) → AreNumberedFrom m made → n < m → at n made ≡ None
+pub not_made : (made : List Job) (n m : ℕ) → AreNumberedFrom m made → n < m → at n made ≡ None
 not_made [] n m h less = refl
 not_made (j ∷ js) n m h less =
     ap (λ (b : Bool). cond b (Some j) (at n js)) (ap (λ k. key_eq (JobKey n) (JobKey k)) h.0 ∙ other_number n m less)
     ∙ not_made js n (m + 1) h.1 (omega arith)
 
-at_both : (n : ℕ) (js ks : List Job) → at n ks ≡ None → at n (js ++ ks) ≡ at n js
+pub at_both : (n : ℕ) (js ks : List Job) → at n ks ≡ None → at n (js ++ ks) ≡ at n js
 at_both n [] ks h = h
 at_both n (j ∷ js) ks h = ap (λ (o : Option Job). cond (key_eq (JobKey n) (job_key j)) (Some j) o) (at_both n js ks h)
 
@@ -135,11 +136,6 @@ module _ (app : Application) (s : State) (d : ScriptStep) where
         }
 
 -- ---- whole runs
-
-pub each_split : (law : State → ScriptStep → Type 0) (s : State) (xs ys : List ScriptStep) → EachStep law s (xs ++ ys) → EachStep law s xs × EachStep law (state_after s xs) ys
-unfolding state_after
-each_split law s [] ys h = (tt, h)
-each_split law s (d ∷ ds) ys h = let rest = each_split law d.after ds ys h.1 in ((h.0, rest.0), rest.1)
 
 -- what each step makes of tables and what composes, all of them make
 module _ (R : TableRows → TableRows → Type 0) (same : (t : TableRows) → R t t) (joined : (t u w : TableRows) → R t u → R u w → R t w) where

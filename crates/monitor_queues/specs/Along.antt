@@ -1,5 +1,5 @@
 -- What each step from a state with its facts meets, each step of a script meets.
-use Rattle.std.specs.Prelude.{◌≡◌, refl, ℕ, zero, suc, ◌+◌, ◌≤◌, ◌==◌, if◌then◌else◌, Bool, true, false, List, [], ◌∷◌, ◌++◌}
+use Rattle.std.specs.Prelude.{◌≡◌, refl, ℕ, zero, suc, ◌+◌, ◌≤◌, ◌==◌, if◌then◌else◌, Bool, true, false, List, [], ◌∷◌}
 use Rattle.std.proofs.Common.{arith}
 use Rattle.std.proofs.lemmas.List.Elements.{All-head, All-tail}
 use Rattle.kdcdef_types.specs.Statements.{IsWithin}
@@ -10,6 +10,7 @@ use Rattle.monitor_semantics.specs.Trace.{history}
 use Rattle.monitor_laws.specs.Applications.{IsApplication, IsCommandOf}
 use Rattle.monitor_laws.specs.Keeping.{Leads, HasFacts, IsScriptOf}
 use Rattle.monitor_runs.specs.RunLaws.{EachStep}
+use Rattle.monitor_runs.specs.Lists.{each_both}
 
 -- a law on a step, with the state before it
 abbrev pub StepLaw : Type 1
@@ -23,18 +24,6 @@ pub record EachMeets (law : StepLaw) : Type 0 where
 -- each step of a script from such a state does
 abbrev pub MeetsAlong : StepLaw → Type 0
 MeetsAlong law = (app : Application) (s : State) (script : List Command) → IsApplication app → IsScriptOf app script → HasFacts app s → EachStep (law app) s (history app s script)
-
--- ---- lists of steps
-
-pub after_both : (s : State) (xs ys : List ScriptStep) → state_after s (xs ++ ys) ≡ state_after (state_after s xs) ys
-unfolding state_after
-after_both s [] ys = refl
-after_both s (d ∷ ds) ys = after_both d.after ds ys
-
-each_both : (law : State → ScriptStep → Type 0) (s : State) (xs ys : List ScriptStep) → EachStep law s xs → EachStep law (state_after s xs) ys → EachStep law s (xs ++ ys)
-unfolding state_after
-each_both law s [] ys h k = k
-each_both law s (d ∷ ds) ys h k = (h.0, each_both law d.after ds ys h.1 k)
 
 -- ---- along a script
 

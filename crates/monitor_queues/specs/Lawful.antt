@@ -1,30 +1,28 @@
--- With the serial law, the commits of a history meet all three laws.
+-- Every commit of a run meets all three laws: on jobs, on services' rows, and that it is what its record, run in one go, makes.
 use Rattle.std.specs.Prelude.{List, [], ◌∷◌, Option, Some, None}
+use Rattle.kdcs_types.specs.Tables.{TableRows, IsSortedTables}
 use Rattle.monitor_semantics.specs.State.{Application, State}
-use Rattle.monitor_semantics.specs.Endings.{durable}
-use Rattle.monitor_semantics.specs.Commands.{Command, ScriptStep, Maker}
+use Rattle.monitor_semantics.specs.Commands.{Command, ScriptStep, Maker, started}
 use Rattle.monitor_semantics.specs.Trace.{history}
 use Rattle.monitor_laws.specs.Applications.{IsApplication}
-use Rattle.monitor_laws.specs.Commits.{AtomicLaw, CommitIsLawful, IsLawful}
-use Rattle.monitor_laws.specs.Keeping.{HasFacts, IsScriptOf}
+use Rattle.monitor_laws.specs.Commits.{CommitIsLawful, IsLawful}
+use Rattle.monitor_laws.specs.Keeping.{IsScriptOf}
+use Rattle.monitor_laws.specs.Suits.{Suits}
 use Rattle.monitor_runs.specs.RunLaws.{EachStep}
+use Rattle.monitor_serial.specs.SerialLaws.{HasReplays, IsSerialBy, IsSerialStep}
 use Rattle.monitor_queues.specs.QueueLaws.{MeetsBoth, KeepsQueues}
 
--- the commit of a step is the one that its record, run in one go, makes
-abbrev pub IsSerialBy : Application → State → ScriptStep → Option Maker → Type 0
-IsSerialBy app s d None = Unit {0}
-IsSerialBy app s d (Some by) = AtomicLaw app (durable app.generation s.tables) (durable app.generation d.after.tables) by
+-- from a state whose transactions replay to themselves
+abbrev pub HistoriesAreLawful : Type 0
+HistoriesAreLawful = (app : Application) (s : State) (script : List Command) → IsApplication app → IsScriptOf app script → HasReplays app s → IsLawful app s (history app s script)
 
-abbrev pub IsSerialStep : Application → State → ScriptStep → Type 0
-IsSerialStep app s d = IsSerialBy app s d d.by
+-- and so from tables that suit
+abbrev pub RunsAreLawful : Type 0
+RunsAreLawful =
+    (app : Application) (t : TableRows) (script : List Command) → IsApplication app → IsScriptOf app script → IsSortedTables t → Suits app.generation t
+    → IsLawful app (started app t) (history app (started app t) script)
 
--- a script whose steps meet the serial law is lawful
-abbrev pub LawfulWhereSerial : Type 0
-LawfulWhereSerial =
-    (app : Application) (s : State) (script : List Command) → IsApplication app → IsScriptOf app script → HasFacts app s
-    → EachStep (IsSerialStep app) s (history app s script) → IsLawful app s (history app s script)
-
-commit-lawful : (app : Application) (s : State) (d : ScriptStep) (o : Option Maker) → MeetsBoth app s d o → IsSerialBy app s d o → CommitIsLawful app s d o
+commit-lawful : (app : Application) (s : State) (d : ScriptStep) (o : Option Maker) → MeetsBoth app s d o → IsSerialBy app s d.after.tables o → CommitIsLawful app s d o
 commit-lawful app s d None both serial = tt
 commit-lawful app s d (Some by) both serial = (both.0, both.1, serial)
 

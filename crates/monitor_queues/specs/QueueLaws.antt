@@ -96,9 +96,12 @@ JobsAreDoneOnce =
     → (first more rest : List ScriptStep) → history app s script ≡ first ++ more ++ rest
     → (number : ℕ) → IsOver (state_after s first).tables number → IsOver (state_after s (first ++ more)).tables number
 
--- the commit of this step takes the job
-abbrev pub IsTakenAt : Application → ScriptStep → Job → Type 0
-IsTakenAt app d job = (by : Maker) × ((d.by ≡ Some by) × Takes app by (Some job) (durable app.generation d.after.tables) d.acts)
+-- the commit of this step takes the job, which is gone behind it
+pub record IsTakenAt (app : Application) (d : ScriptStep) (job : Job) : Type 0 where
+  pub by : Maker
+  pub is : d.by ≡ Some by
+  pub taken : Takes app by (Some job) (durable app.generation d.after.tables) d.acts
+  pub gone : job_of d.after.tables job.number ≡ None
 
 -- one of these steps does
 abbrev pub IsTakenIn : Application → Job → List ScriptStep → Type 0

@@ -6,12 +6,13 @@
 #![tactic(auto)]
 
 ghost use Rattle.monitor_queues.specs.QueueLaws.{TurnsDoSo, CommandsDoSo, TurnsKeepQueues, CommandsKeepQueues, HistoriesKeepQueues, HistoriesSendAtPoints, NumbersAreDrawnOnce, NoJobIsLost, JobsAreDoneOnce};
-ghost use Rattle.monitor_queues.specs.Lawful.{LawfulWhereSerial};
+ghost use Rattle.monitor_queues.specs.Lawful.{HistoriesAreLawful, RunsAreLawful};
 ghost use Rattle.monitor_queues.specs.ResumeLaws.{StartsResume, SignOnsResume, CutsResume};
 
 use monitor_laws::steps_commit_once;
 use monitor_places::facts_hold_along;
 use monitor_runs::{commits_make_the_tables, facts_hold_along_every_script};
+use monitor_serial::commits_are_serial;
 use monitor_tables::states_stay_sound;
 
 /// What made a commit says what it does: a tick moves the clock, KDCOUT and PRINT show the due job of their LTERM and
@@ -41,10 +42,14 @@ pub fn runs_keep_queues()
     commits_keep_queues();
 }
 
-/// Where the commits of a script also are those that their records, run in one go, make, the script meets all three laws.
-pub fn serial_runs_are_lawful()
-    ensures { LawfulWhereSerial }
+/// Every commit of a run meets all three laws: on jobs, on services' rows, and that it is what its transaction's record,
+/// run in one go on the durable tables before it, makes of them.
+pub fn runs_are_lawful()
+    ensures histories { HistoriesAreLawful }
+    ensures runs { RunsAreLawful }
 {
+    facts_hold_along_every_script();
+    commits_are_serial();
     runs_keep_queues();
 }
 

@@ -1,10 +1,8 @@
 -- Steps one after another.
-use Rattle.std.specs.Prelude.{◌≡◌, refl, ℕ, zero, suc, ◌==◌, Bool, true, false, List, [], ◌∷◌, ◌++◌, All}
+use Rattle.std.specs.Prelude.{◌≡◌, refl, ℕ, zero, suc, ◌==◌, Bool, true, false, List, [], ◌∷◌, All}
 use Rattle.std.proofs.Common.{ap, ◌∙◌}
 use Rattle.std.proofs.lemmas.List.Elements.{All-head, All-tail}
-use Rattle.kdcs_types.specs.declared.act.Act.{Act}
-use Rattle.kdcs_types.specs.declared.act.Act.TheVariants.{Commit, Emit}
-use Rattle.kdcs_types.specs.Tables.{TableRows, IsSortedTables, changed}
+use Rattle.kdcs_types.specs.Tables.{IsSortedTables}
 use Rattle.monitor_semantics.specs.State.{Application, State}
 use Rattle.monitor_semantics.specs.Endings.{durable}
 use Rattle.monitor_semantics.specs.Turns.{turn_of}
@@ -13,18 +11,7 @@ use Rattle.monitor_semantics.specs.Trace.{history, tables_after}
 use Rattle.monitor_laws.specs.Keeping.{HasFacts}
 use Rattle.monitor_laws.specs.Steps.{CommitsOnce, TurnsCommitOnce, CommandsCommitOnce, StepsMakeTheirTables}
 use Rattle.monitor_runs.specs.RunLaws.{EachStep}
-
--- ---- lists of steps
-
-after_both : (s : State) (xs ys : List ScriptStep) → state_after s (xs ++ ys) ≡ state_after (state_after s xs) ys
-unfolding state_after
-after_both s [] ys = refl
-after_both s (d ∷ ds) ys = after_both d.after ds ys
-
-each_both : (law : State → ScriptStep → Type 0) (s : State) (xs ys : List ScriptStep) → EachStep law s xs → EachStep law (state_after s xs) ys → EachStep law s (xs ++ ys)
-unfolding state_after
-each_both law s [] ys h k = k
-each_both law s (d ∷ ds) ys h k = (h.0, each_both law d.after ds ys h.1 k)
+use Rattle.monitor_runs.specs.Lists.{each_both, tables_both}
 
 module _ (turns : TurnsCommitOnce) (commands : CommandsCommitOnce) (app : Application) where
   rotated-once : (n : ℕ) (ended : Bool) (s : State) (task row : ℕ) → EachStep (CommitsOnce app) s (rotated app n ended s task row)
@@ -53,12 +40,6 @@ module _ (turns : TurnsCommitOnce) (commands : CommandsCommitOnce) (app : Applic
   history-once s (c ∷ cs) = each_both (CommitsOnce app) s (steps_of app s c) _ (steps-once s c) (history-once (state_after s (steps_of app s c)) cs)
 
 -- ---- tables
-
-tables_both : (t : TableRows) (xs ys : List Act) → tables_after t (xs ++ ys) ≡ tables_after (tables_after t xs) ys
-unfolding tables_after
-tables_both t [] ys = refl
-tables_both t (Commit c ∷ xs) ys = tables_both (changed t c) xs ys
-tables_both t (Emit bytes ∷ xs) ys = tables_both t xs ys
 
 module _ (makes : StepsMakeTheirTables) (app : Application) where
   abbrev Facts : ScriptStep → Type 0

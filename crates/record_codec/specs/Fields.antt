@@ -1,6 +1,6 @@
 -- How values are read: readers of what stands in front of some bytes, each with what was written for it to read.
-use Rattle.std.specs.Prelude.{◌≡◌, refl, ℕ, zero, suc, ◌+◌, ◌-◌, ◌^◌, ◌<◌, ◌≤◌, Bool, true, false, cond, List, [], ◌∷◌, ◌++◌, length, take, drop, get_or, flat_map, replicate, ⊤, Option, Some, None, option_and_then, ◌==◌, if◌then◌else◌, nat_lt}
-use Rattle.std.proofs.Common.{sym, ap, subst, ◌∙◌, inl, inr, arith, append_assoc, length-append, length-drop, ⊎_elim}
+use Rattle.std.specs.Prelude.{◌≡◌, refl, ℕ, zero, suc, ◌+◌, ◌^◌, ◌<◌, ◌≤◌, cond, List, [], ◌∷◌, ◌++◌, length, take, drop, get_or, flat_map, Option, Some, None, option_and_then, ◌==◌, if◌then◌else◌, nat_lt}
+use Rattle.std.proofs.Common.{sym, ap, subst, ◌∙◌, inl, inr, arith, append_assoc, ⊎_elim}
 use Rattle.std.proofs.lemmas.Bool.{cases_lt, ltb-false, eqb-true}
 use Rattle.std.proofs.lemmas.List.{take-append-drop, get_or-take, get_or-drop, get_or_past, length-take, length-take-le}
 use Rattle.std.proofs.lemmas.Nat.{be_bytes_4, be_bytes_8}
@@ -78,9 +78,9 @@ pub names_are_read : IsReading name_field padded IsName
 names_are_read = record {
   comes_back = λ x rest fits. is_field name_at after_name (padded x ++ rest) x rest (name_comes_back x rest fits).0 (name_comes_back x rest fits).1;
   stands_there = λ x bytes rest are e.
-    let h = found_field name_at after_name x bytes rest e in
-    let s = name_stands_there x bytes h.0 in
-    (s.1 ∙ ap (λ (l : List ℕ). padded x ++ l) h.1, s.0);
+      let h = found_field name_at after_name x bytes rest e in
+      let s = name_stands_there x bytes h.0 in
+      (s.1 ∙ ap (λ (l : List ℕ). padded x ++ l) h.1, s.0);
 }
 
 -- a number in front
@@ -99,16 +99,16 @@ pub u64s_are_read : IsReading (number_field w64) (to_be_bytes w64) (λ n. n < 2 
 u64s_are_read = record {
   comes_back = λ x rest fits. is_field (number_at w64) (after_number w64) (to_be_bytes w64 x ++ rest) x rest (u64_comes_back x rest fits).0 (u64_comes_back x rest fits).1;
   stands_there = λ x bytes rest are e.
-    let h = number_there w64 x bytes rest e in
-    (parted 8 bytes (to_be_bytes w64 x) rest (be_bytes_8 (take 8 bytes) x (length-take-le 8 bytes h.0) (bytes_front 8 bytes are) (sym h.1)) h.2, subst (λ (n : ℕ). n < 2 ^ 64) h.1 (small_8 bytes are));
+      let h = number_there w64 x bytes rest e in
+      (parted 8 bytes (to_be_bytes w64 x) rest (be_bytes_8 (take 8 bytes) x (length-take-le 8 bytes h.0) (bytes_front 8 bytes are) (sym h.1)) h.2, subst (λ (n : ℕ). n < 2 ^ 64) h.1 (small_8 bytes are));
 }
 
 pub u32s_are_read : IsReading (number_field w32) (to_be_bytes w32) (λ n. n < 2 ^ 32)
 u32s_are_read = record {
   comes_back = λ x rest fits. is_field (number_at w32) (after_number w32) (to_be_bytes w32 x ++ rest) x rest (u32_comes_back x rest fits).0 (u32_comes_back x rest fits).1;
   stands_there = λ x bytes rest are e.
-    let h = number_there w32 x bytes rest e in
-    (parted 4 bytes (to_be_bytes w32 x) rest (be_bytes_4 (take 4 bytes) x (length-take-le 4 bytes h.0) (bytes_front 4 bytes are) (sym h.1)) h.2, subst (λ (n : ℕ). n < 2 ^ 32) h.1 (small_4 bytes are));
+      let h = number_there w32 x bytes rest e in
+      (parted 4 bytes (to_be_bytes w32 x) rest (be_bytes_4 (take 4 bytes) x (length-take-le 4 bytes h.0) (bytes_front 4 bytes are) (sym h.1)) h.2, subst (λ (n : ℕ). n < 2 ^ 32) h.1 (small_4 bytes are));
 }
 
 -- a byte
@@ -123,8 +123,8 @@ pub u8s_are_read : IsReading (number_field w8) one_byte (λ n. n < 256)
 u8s_are_read = record {
   comes_back = λ x rest fits. is_field (number_at w8) (after_number w8) (x ∷ rest) x rest (u8_comes_back x rest fits).0 (u8_comes_back x rest fits).1;
   stands_there = λ x bytes rest are e.
-    let h = number_there w8 x bytes rest e in
-    (parted 1 bytes (one_byte x) rest (ap one_byte (sym h.1) ∙ first_byte bytes h.0) h.2, subst (λ (n : ℕ). n < 256) h.1 (small_1 bytes are));
+      let h = number_there w8 x bytes rest e in
+      (parted 1 bytes (one_byte x) rest (ap one_byte (sym h.1) ∙ first_byte bytes h.0) h.2, subst (λ (n : ℕ). n < 256) h.1 (small_1 bytes are));
 }
 
 -- a list
@@ -170,18 +170,18 @@ pub both_are_read : {A B : Type 0} (one : List ℕ → Option (A × List ℕ)) (
     → IsReading one of_one F → IsReading two of_two G → IsReading (both one two) (λ p. of_one p.0 ++ of_two p.1) (λ p. F p.0 × G p.1)
 both_are_read {A} {B} one two of_one of_two F G h k = record {
   comes_back = λ x rest fits.
-    ap (both one two) (append_assoc (of_one x.0) (of_two x.1) rest)
-    ∙ ap (option_and_then (λ p. option_map (λ q. ((p.0, q.0), q.1)) (two p.1))) (h.comes_back x.0 (of_two x.1 ++ rest) fits.0)
-    ∙ ap (option_map (λ q. ((x.0, q.0), q.1))) (k.comes_back x.1 rest fits.1);
+      ap (both one two) (append_assoc (of_one x.0) (of_two x.1) rest)
+      ∙ ap (option_and_then (λ p. option_map (λ q. ((p.0, q.0), q.1)) (two p.1))) (h.comes_back x.0 (of_two x.1 ++ rest) fits.0)
+      ∙ ap (option_map (λ q. ((x.0, q.0), q.1))) (k.comes_back x.1 rest fits.1);
   stands_there = λ x bytes rest are e.
-    let a = and_some (λ (p : A × List ℕ). option_map (λ (q : B × List ℕ). ((p.0, q.0), q.1)) (two p.1)) (one bytes) (x, rest) e in
-    let p : A × List ℕ = a.0 in
-    let b = map_some (λ (q : B × List ℕ). ((p.0, q.0), q.1)) (two p.1) (x, rest) a.2 in
-    let q : B × List ℕ = b.0 in
-    let f = h.stands_there p.0 bytes p.1 are a.1 in
-    let g = k.stands_there q.0 p.1 q.1 (bytes_behind (of_one p.0) p.1 bytes f.0 are) b.1 in
-    let whole : bytes ≡ (of_one p.0 ++ of_two q.0) ++ q.1 = f.0 ∙ ap (λ (l : List ℕ). of_one p.0 ++ l) g.0 ∙ sym (append_assoc (of_one p.0) (of_two q.0) q.1) in
-    subst (λ (z : (A × B) × List ℕ). (bytes ≡ (of_one z.0.0 ++ of_two z.0.1) ++ z.1) × (F z.0.0 × G z.0.1)) b.2 (whole, (f.1, g.1));
+      let a = and_some (λ (p : A × List ℕ). option_map (λ (q : B × List ℕ). ((p.0, q.0), q.1)) (two p.1)) (one bytes) (x, rest) e in
+      let p : A × List ℕ = a.0 in
+      let b = map_some (λ (q : B × List ℕ). ((p.0, q.0), q.1)) (two p.1) (x, rest) a.2 in
+      let q : B × List ℕ = b.0 in
+      let f = h.stands_there p.0 bytes p.1 are a.1 in
+      let g = k.stands_there q.0 p.1 q.1 (bytes_behind (of_one p.0) p.1 bytes f.0 are) b.1 in
+      let whole : bytes ≡ (of_one p.0 ++ of_two q.0) ++ q.1 = f.0 ∙ ap (λ (l : List ℕ). of_one p.0 ++ l) g.0 ∙ sym (append_assoc (of_one p.0) (of_two q.0) q.1) in
+      subst (λ (z : (A × B) × List ℕ). (bytes ≡ (of_one z.0.0 ++ of_two z.0.1) ++ z.1) × (F z.0.0 × G z.0.1)) b.2 (whole, (f.1, g.1));
 }
 
 -- so many items
@@ -232,15 +232,15 @@ FitAll F xs = (length xs < 2 ^ 32) × Each F xs
 pub counted_are_read : {A : Type 0} (one : List ℕ → Option (A × List ℕ)) (of_one : A → List ℕ) (F : A → Type 0) → IsReading one of_one F → IsReading (counted_items one) (λ xs. to_be_bytes w32 (length xs) ++ flat_map of_one xs) (FitAll F)
 counted_are_read {A} one of_one F h = record {
   comes_back = λ xs rest fits.
-    ap (counted_items one) (append_assoc (to_be_bytes w32 (length xs)) (flat_map of_one xs) rest)
-    ∙ ap (option_and_then (λ p. items one p.0 p.1)) (u32s_are_read.comes_back (length xs) (flat_map of_one xs ++ rest) fits.0)
-    ∙ items_back one of_one F h xs rest fits.1;
+      ap (counted_items one) (append_assoc (to_be_bytes w32 (length xs)) (flat_map of_one xs) rest)
+      ∙ ap (option_and_then (λ p. items one p.0 p.1)) (u32s_are_read.comes_back (length xs) (flat_map of_one xs ++ rest) fits.0)
+      ∙ items_back one of_one F h xs rest fits.1;
   stands_there = λ xs bytes rest are e.
-    let a = and_some (λ (p : ℕ × List ℕ). items one p.0 p.1) (number_field w32 bytes) (xs, rest) e in
-    let p : ℕ × List ℕ = a.0 in
-    let f = u32s_are_read.stands_there p.0 bytes p.1 are a.1 in
-    let g = items_there one of_one F h p.0 xs p.1 rest (bytes_behind (to_be_bytes w32 p.0) p.1 bytes f.0 are) a.2 in
-    (f.0 ∙ (λ i. to_be_bytes w32 (sym g.many i) ++ g.whole i) ∙ sym (append_assoc (to_be_bytes w32 (length xs)) (flat_map of_one xs) rest), (subst (λ (n : ℕ). n < 2 ^ 32) (sym g.many) f.1, g.fits));
+      let a = and_some (λ (p : ℕ × List ℕ). items one p.0 p.1) (number_field w32 bytes) (xs, rest) e in
+      let p : ℕ × List ℕ = a.0 in
+      let f = u32s_are_read.stands_there p.0 bytes p.1 are a.1 in
+      let g = items_there one of_one F h p.0 xs p.1 rest (bytes_behind (to_be_bytes w32 p.0) p.1 bytes f.0 are) a.2 in
+      (f.0 ∙ (λ i. to_be_bytes w32 (sym g.many i) ++ g.whole i) ∙ sym (append_assoc (to_be_bytes w32 (length xs)) (flat_map of_one xs) rest), (subst (λ (n : ℕ). n < 2 ^ 32) (sym g.many) f.1, g.fits));
 }
 
 -- ---- what a byte says

@@ -7,3 +7,4 @@ pub mod Reads
 pub mod Readings
 pub mod WholeValues
 pub mod RowReadings
+pub mod TableReadings

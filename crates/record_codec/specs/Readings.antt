@@ -1,8 +1,8 @@
 -- How the values of services and jobs are read.
-use Rattle.std.specs.Prelude.{◌≡◌, refl, ℕ, ◌^◌, ◌<◌, Bool, true, false, IsTrue, List, [], ◌∷◌, ◌++◌, length, flat_map, replicate, ⊤, Option, Some, None, option_and_then, ◌==◌, if◌then◌else◌}
-use Rattle.std.proofs.Common.{sym, ap, subst, ◌∙◌, inl, inr, append_assoc, arith}
+use Rattle.std.specs.Prelude.{◌≡◌, ℕ, Bool, true, false, List, ◌∷◌, ◌++◌, ⊤, Option, Some, None, option_and_then, ◌==◌, if◌then◌else◌}
+use Rattle.std.proofs.Common.{ap, subst, ◌∙◌, inl, inr, arith}
 use Rattle.std.proofs.lemmas.Bool.{eqb-true}
-use Rattle.std.specs.Int.{w8, w32, w64, to_be_bytes}
+use Rattle.std.specs.Int.{w64, to_be_bytes}
 use Rattle.std.specs.Option.{option_map}
 use Rattle.kd_base.specs.Text.{IsName, padded}
 use Rattle.kd_base.specs.Field.{list}
@@ -11,10 +11,8 @@ use Rattle.kdcs_types.specs.declared.key.ServiceId.{ServiceId}
 use Rattle.kdcs_types.specs.declared.key.ServiceId.TheVariants.{Dialogue, Asynchronous}
 use Rattle.kdcs_types.specs.declared.key.Target.{Target}
 use Rattle.kdcs_types.specs.declared.key.Target.TheVariants.{Tac, Lterm}
-use Rattle.kdcs_types.specs.declared.service.JobValue.{JobValue}
-use Rattle.kdcs_types.specs.declared.service.Service.{Service}
-use Rattle.record_codec.specs.Values.{counted, last_bytes, flag, lterm_bytes, lssb_bytes, service_bytes, target_bytes, job_bytes}
-use Rattle.record_codec.specs.Fields.{AreBytes, IsReading, IsShort, FitAll, name_field, number_field, list_field, both, counted_items, chosen_by, either, either_there, by_byte, names_are_read, u64s_are_read, lists_are_read, both_are_read, counted_are_read}
+use Rattle.record_codec.specs.Values.{last_bytes, flag, lterm_bytes, target_bytes}
+use Rattle.record_codec.specs.Fields.{AreBytes, IsReading, IsShort, name_field, number_field, list_field, chosen_by, either, either_there, by_byte, names_are_read, u64s_are_read, lists_are_read}
 
 -- ---- flags, last messages and targets
 
@@ -91,11 +89,11 @@ lasts_are_read = record { comes_back = back; stands_there = there }
     there x bytes rest are e =
         either_there 0 (always no_message) 1 (turned some_message list_field) x bytes rest ((bytes ≡ last_bytes x ++ rest) × LastFits x)
         (λ left is _ f.
-          let same : (no_message, left) ≡ (x, rest) = some_is (no_message, left) (x, rest) f in
-          subst (λ (p : Option (List ℕ) × List ℕ). (bytes ≡ last_bytes p.0 ++ p.1) × LastFits p.0) same (is, tt))
+        let same : (no_message, left) ≡ (x, rest) = some_is (no_message, left) (x, rest) f in
+        subst (λ (p : Option (List ℕ) × List ℕ). (bytes ≡ last_bytes p.0 ++ p.1) × LastFits p.0) same (is, tt))
         (λ left is bytes_there f.
-          let t = turned_there some_message list_field list IsShort lists_are_read x left rest bytes_there f in
-          subst (λ (o : Option (List ℕ)). (bytes ≡ last_bytes o ++ rest) × LastFits o) t.1 (is ∙ ap (λ (l : List ℕ). 1 ∷ l) t.2, t.3))
+        let t = turned_there some_message list_field list IsShort lists_are_read x left rest bytes_there f in
+        subst (λ (o : Option (List ℕ)). (bytes ≡ last_bytes o ++ rest) × LastFits o) t.1 (is ∙ ap (λ (l : List ℕ). 1 ∷ l) t.2, t.3))
         are e
 
 abbrev pub TargetFits : Target → Type 0
@@ -117,11 +115,11 @@ targets_are_read = record { comes_back = back; stands_there = there }
     there x bytes rest are e =
         either_there 84 (turned to_tac name_field) 76 (turned to_lterm name_field) x bytes rest ((bytes ≡ target_bytes x ++ rest) × TargetFits x)
         (λ left is bytes_there f.
-          let t = turned_there to_tac name_field padded IsName names_are_read x left rest bytes_there f in
-          subst (λ (o : Target). (bytes ≡ target_bytes o ++ rest) × TargetFits o) t.1 (is ∙ ap (λ (l : List ℕ). 84 ∷ l) t.2, t.3))
+        let t = turned_there to_tac name_field padded IsName names_are_read x left rest bytes_there f in
+        subst (λ (o : Target). (bytes ≡ target_bytes o ++ rest) × TargetFits o) t.1 (is ∙ ap (λ (l : List ℕ). 84 ∷ l) t.2, t.3))
         (λ left is bytes_there f.
-          let t = turned_there to_lterm name_field padded IsName names_are_read x left rest bytes_there f in
-          subst (λ (o : Target). (bytes ≡ target_bytes o ++ rest) × TargetFits o) t.1 (is ∙ ap (λ (l : List ℕ). 76 ∷ l) t.2, t.3))
+        let t = turned_there to_lterm name_field padded IsName names_are_read x left rest bytes_there f in
+        subst (λ (o : Target). (bytes ≡ target_bytes o ++ rest) × TargetFits o) t.1 (is ∙ ap (λ (l : List ℕ). 76 ∷ l) t.2, t.3))
         are e
 
 -- ---- the LTERM of a service

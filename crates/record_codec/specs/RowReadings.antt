@@ -1,5 +1,5 @@
 -- How a record is read as a row.
-use Rattle.std.specs.Prelude.{◌≡◌, refl, ℕ, ◌^◌, ◌<◌, Bool, true, false, IsTrue, List, [], ◌∷◌, ◌++◌, length, replicate, ◌-◌, ⊤, Option, Some, None, option_and_then, ◌==◌, if◌then◌else◌}
+use Rattle.std.specs.Prelude.{◌≡◌, refl, ℕ, ◌^◌, ◌<◌, IsTrue, List, ◌++◌, length, replicate, ◌-◌, ⊤, Option, Some, None, option_and_then, ◌==◌, if◌then◌else◌}
 use Rattle.std.proofs.Common.{sym, ap, subst, ◌∙◌, inl, inr, arith}
 use Rattle.std.specs.Int.{w64, to_be_bytes}
 use Rattle.std.specs.Option.{option_map}
@@ -22,7 +22,7 @@ use Rattle.kdcs_types.specs.declared.service.Service.{Service}
 use Rattle.kdcs_types.specs.Keys.{key_kind, id_eq}
 use Rattle.kdcs_types.specs.KeyLaws.{id_eq-same, is_equal}
 use Rattle.kdcs_types.specs.Tables.{row_key, row_fits, service_fits}
-use Rattle.record_codec.specs.Values.{filled, id_bytes, key_bytes, record_key, service_bytes, job_bytes, value_bytes, record_of}
+use Rattle.record_codec.specs.Values.{id_bytes, key_bytes, record_key, service_bytes, job_bytes, value_bytes, record_of}
 use Rattle.record_codec.specs.Order.{IsProperKey}
 use Rattle.record_codec.specs.Fields.{AreBytes, IsReading, name_field, number_field, both, chosen_by, either, either_there, by_byte, names_are_read, u64s_are_read, both_are_read}
 use Rattle.record_codec.specs.Readings.{turned, turned_back, turned_there}

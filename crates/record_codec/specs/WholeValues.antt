@@ -1,8 +1,7 @@
 -- Whole values: a job's and a service's.
-use Rattle.std.specs.Prelude.{◌≡◌, refl, ℕ, ◌^◌, ◌<◌, Bool, true, false, List, [], ◌∷◌, ◌++◌, length, flat_map, ⊤, Option, Some, None, option_and_then}
+use Rattle.std.specs.Prelude.{◌≡◌, refl, ℕ, ◌^◌, ◌<◌, Bool, List, [], ◌∷◌, ◌++◌, Option, Some, None, option_and_then}
 use Rattle.std.proofs.Common.{sym, ap, subst, ◌∙◌, append_assoc}
-use Rattle.std.specs.Int.{w32, w64, to_be_bytes}
-use Rattle.std.specs.Option.{option_map}
+use Rattle.std.specs.Int.{w64, to_be_bytes}
 use Rattle.kd_base.specs.Text.{IsName, padded}
 use Rattle.kd_base.specs.Field.{list}
 use Rattle.kd_base.specs.Tools.{some_is, and_some}
@@ -57,12 +56,12 @@ job_parted p =
 pub jobs_are_read : IsReading job_reading job_bytes JobFits
 jobs_are_read = record {
   comes_back = λ v rest fits.
-    ap (λ (l : List ℕ). job_reading (l ++ rest)) (job_parted (part_of_job v))
-    ∙ turned_back job_of job_part job_part_bytes JobPartFits job_parts_are_read (part_of_job v) rest (fits.to, (fits.due, (fits.user, (fits.lterm, fits.message))));
+      ap (λ (l : List ℕ). job_reading (l ++ rest)) (job_parted (part_of_job v))
+      ∙ turned_back job_of job_part job_part_bytes JobPartFits job_parts_are_read (part_of_job v) rest (fits.to, (fits.due, (fits.user, (fits.lterm, fits.message))));
   stands_there = λ v bytes rest are e.
-    let t = turned_there job_of job_part job_part_bytes JobPartFits job_parts_are_read v bytes rest are e in
-    let f = t.3 in
-    subst (λ (w : JobValue). (bytes ≡ job_bytes w ++ rest) × JobFits w) t.1 (t.2 ∙ ap (λ (l : List ℕ). l ++ rest) (sym (job_parted t.0)), record { to = f.0; due = f.1.0; user = f.1.1.0; lterm = f.1.1.1.0; message = f.1.1.1.1 });
+      let t = turned_there job_of job_part job_part_bytes JobPartFits job_parts_are_read v bytes rest are e in
+      let f = t.3 in
+      subst (λ (w : JobValue). (bytes ≡ job_bytes w ++ rest) × JobFits w) t.1 (t.2 ∙ ap (λ (l : List ℕ). l ++ rest) (sym (job_parted t.0)), record { to = f.0; due = f.1.0; user = f.1.1.0; lterm = f.1.1.1.0; message = f.1.1.1.1 });
 }
 
 -- ---- services
@@ -108,8 +107,16 @@ service_part id = both name_field (both name_field (both flag_reading (both name
 abbrev pub service_of : ServiceId → ServicePart → Service
 service_of id p =
     record {
-      id = id; first = p.0; next = p.1.0; awaits = p.1.1.0; user = p.1.1.1.0; lterm = p.1.1.1.1.0; kb = p.1.1.1.1.1.0;
-      handed = p.1.1.1.1.1.1.0; last = p.1.1.1.1.1.1.1.0; lssbs = p.1.1.1.1.1.1.1.1;
+      id = id;
+      first = p.0;
+      next = p.1.0;
+      awaits = p.1.1.0;
+      user = p.1.1.1.0;
+      lterm = p.1.1.1.1.0;
+      kb = p.1.1.1.1.1.0;
+      handed = p.1.1.1.1.1.1.0;
+      last = p.1.1.1.1.1.1.1.0;
+      lssbs = p.1.1.1.1.1.1.1.1;
     }
 
 abbrev part_of_service : Service → ServicePart
@@ -166,16 +173,16 @@ service_parted id p =
 pub services_are_read : (id : ServiceId) → IsReading (service_reading id) service_bytes (IsServiceOf id)
 services_are_read id = record {
   comes_back = λ s rest is.
-    let fits = is.1 in
-    ap (λ (l : List ℕ). service_reading id (l ++ rest)) (service_parted s.id (part_of_service s))
-    ∙ turned_back (service_of id) (service_part id) service_part_bytes (ServicePartFits id) (service_parts_are_read id) (part_of_service s) rest
-    (fits.first, (fits.next, (tt, (fits.user, (subst (λ i. LtermFits i s.lterm) is.0 fits.lterm, (fits.kb, (fits.handed, (fits.last, fits.lssbs))))))))
-    ∙ ap (λ i. Some (service_of i (part_of_service s), rest)) (sym is.0);
+      let fits = is.1 in
+      ap (λ (l : List ℕ). service_reading id (l ++ rest)) (service_parted s.id (part_of_service s))
+      ∙ turned_back (service_of id) (service_part id) service_part_bytes (ServicePartFits id) (service_parts_are_read id) (part_of_service s) rest
+      (fits.first, (fits.next, (tt, (fits.user, (subst (λ i. LtermFits i s.lterm) is.0 fits.lterm, (fits.kb, (fits.handed, (fits.last, fits.lssbs))))))))
+      ∙ ap (λ i. Some (service_of i (part_of_service s), rest)) (sym is.0);
   stands_there = λ s bytes rest are e.
-    let t = turned_there (service_of id) (service_part id) service_part_bytes (ServicePartFits id) (service_parts_are_read id) s bytes rest are e in
-    let f = t.3 in
-    subst (λ (w : Service). (bytes ≡ service_bytes w ++ rest) × IsServiceOf id w) t.1
-    (t.2 ∙ ap (λ (l : List ℕ). l ++ rest) (sym (service_parted id t.0)), (refl, record { first = f.0; next = f.1.0; user = f.1.1.1.0; lterm = f.1.1.1.1.0; kb = f.1.1.1.1.1.0; handed = f.1.1.1.1.1.1.0; last = f.1.1.1.1.1.1.1.0; lssbs = f.1.1.1.1.1.1.1.1 }));
+      let t = turned_there (service_of id) (service_part id) service_part_bytes (ServicePartFits id) (service_parts_are_read id) s bytes rest are e in
+      let f = t.3 in
+      subst (λ (w : Service). (bytes ≡ service_bytes w ++ rest) × IsServiceOf id w) t.1
+      (t.2 ∙ ap (λ (l : List ℕ). l ++ rest) (sym (service_parted id t.0)), (refl, record { first = f.0; next = f.1.0; user = f.1.1.1.0; lterm = f.1.1.1.1.0; kb = f.1.1.1.1.1.0; handed = f.1.1.1.1.1.1.0; last = f.1.1.1.1.1.1.1.0; lssbs = f.1.1.1.1.1.1.1.1 }));
 }
 
 -- ---- nothing is left

@@ -1,8 +1,8 @@
 //! Rows of the tables as records of a KDCFILE, and back; how long their values are, and which tables suit a generation.
 #![tactic(auto)]
 
-
 mod ascending;
+mod decode;
 mod encode;
 mod keys;
 mod laws;

@@ -181,7 +181,11 @@ fn each_lssb_in(alloc: Global, count: u32, reader: &mut Reader) -> Result<Areas,
     Ok(lssbs)
 }
 
-pub(crate) fn service_in(alloc: Global, id: &ServiceId, reader: &mut Reader) -> Result<Service, Unread>
+pub(crate) fn service_in(
+    alloc: Global,
+    id: &ServiceId,
+    reader: &mut Reader,
+) -> Result<Service, Unread>
     ensures { Reads result reader.new (service_reading id.now reader.old) }
 {
     let first = name_in(reader)?;

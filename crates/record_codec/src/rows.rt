@@ -10,7 +10,7 @@ ghost use Rattle.record_codec.specs.RowReadings.{id_reading, two_names, key_read
 
 use crate::ascending::ascend;
 use crate::keys::record_key;
-use crate::reading::{job_in, name_in, service_in, u64_in, u8_in, Unread};
+use crate::reading::{Unread, job_in, name_in, service_in, u8_in, u64_in};
 use kd_base::{Bytes, Name, OutOfMemory, Reader};
 use kd_records::RecordKey;
 use kdcs_types::{JobValue, Key, Row, Service, ServiceId};

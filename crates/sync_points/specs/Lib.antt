@@ -1,6 +1,11 @@
 pub mod PointChanges
 pub mod Laws
 pub mod Rows
+pub mod Weights
+pub mod Refusals
+pub mod Pages
+pub mod Short
+pub mod Answers
 pub mod RealChanges
 pub mod Ascending
 pub mod Made

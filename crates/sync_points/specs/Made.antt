@@ -19,11 +19,12 @@ use Rattle.kdcs_types.specs.declared.key.ServiceId.TheVariants.{Dialogue, Asynch
 use Rattle.kdcs_types.specs.declared.service.Job.{Job}
 use Rattle.kdcs_types.specs.declared.service.Service.{Service}
 use Rattle.kdcs_types.specs.Difference.{difference}
+use Rattle.kdcs_types.specs.DifferenceLaws.{difference_makes_new}
 use Rattle.kdcs_types.specs.Keyed.{item_at, with_item}
 use Rattle.kdcs_types.specs.KeyedLaws.{all-without, found_key, found_passes}
 use Rattle.kdcs_types.specs.KeyLaws.{id_eq-itself}
-use Rattle.kdcs_types.specs.RowLaws.{sorted_with_changes}
-use Rattle.kdcs_types.specs.Tables.{AreChanges, IsSortedTables, TableRows, change_fits, changed, job_key, lterm_fits, with_change, with_changes}
+use Rattle.kdcs_types.specs.RowLaws.{changed_sorted, sorted_with_changes}
+use Rattle.kdcs_types.specs.Tables.{AreChanges, IsSortedTables, TableRows, change_fits, change_key, changed, job_key, lterm_fits, with_change, with_changes}
 use Rattle.kdcdef_types.specs.Generation.{Generated}
 use Rattle.monitor_semantics.specs.declared.outcome.Outcome.{Outcome}
 use Rattle.monitor_semantics.specs.declared.outcome.Outcome.TheVariants.{Wait, Point, Follow, Finish, Hold, Stay, Queue, Break, Back}
@@ -35,12 +36,13 @@ use Rattle.monitor_laws.specs.DurableLaws.{durable_follows, durable_sorted}
 use Rattle.monitor_laws.specs.JobLaw.{new_jobs}
 use Rattle.monitor_laws.specs.JobLaws.{points_number}
 use Rattle.monitor_laws.specs.Transactions.{HasOwnJob}
-use Rattle.monitor_tables.specs.Lists.{all_append, all_imply}
+use Rattle.monitor_tables.specs.Items.{ascends_filter}
+use Rattle.monitor_tables.specs.Lists.{all_append, all_filter, all_imply}
 use Rattle.monitor_tables.specs.PointLaws.{Stands}
 use Rattle.storage_areas.specs.Areas.{changes_of}
 use Rattle.sync_points.specs.Ascending.{OwnIsBelow, areas_fit, ends_ascend, ends_durable, new_fits, own_fits, points_ascend, points_durable}
 use Rattle.sync_points.specs.Laws.{EndsChangeTheirOwnRows, PointsChangeWhatWasWritten}
-use Rattle.sync_points.specs.PointChanges.{end_writes, job_changes, own_job_changes, point_writes, service_changes}
+use Rattle.sync_points.specs.PointChanges.{end_writes, is_real, job_changes, own_job_changes, point_changes, point_writes, service_changes}
 use Rattle.sync_points.specs.RealChanges.{difference_is_real, real_in_durable}
 
 changes_append : (t : TableRows) (xs ys : List Change) → with_changes t (xs ++ ys) ≡ with_changes (with_changes t xs) ys
@@ -72,7 +74,7 @@ unfolding with_areas
 areas_made g n [] u = refl
 areas_made g n (w ∷ ws) u = ap (λ v. with_changes v (changes_of ws)) (one_area g n u w.0 w.1) ∙ areas_made g n ws (with_change u (area_change w.0 w.1))
 
-written_made : (ws : Written) (u : TableRows) → with_changes u (changes_of ws) ≡ with_areas u ws
+pub written_made : (ws : Written) (u : TableRows) → with_changes u (changes_of ws) ≡ with_areas u ws
 unfolding with_areas
 written_made [] u = refl
 written_made (w ∷ ws) u = written_made ws (with_change u (area_change w.0 w.1))
@@ -355,3 +357,18 @@ ends_change g t id x s =
     ap (difference (durable g t)) (sym (end_made g t id x s))
     ∙ difference_is_real (durable g t) written (durable_sorted g t s.sound.order) (end_are g t id x s)
     ∙ ap (λ (cs : List Change). record written { items = cs }) (real_in_durable g t (end_writes g id x) (ends_durable g id None x.began))
+
+-- ---- what the changes are
+
+-- the tables behind a synchronisation point are the durable ones with its changes
+pub points_make : (g : Generated) (t : TableRows) (id : ServiceId) (x : OpenTransaction) (o : Outcome) → Stands g t id x → durable g (synchronised g t id x o) ≡ changed (durable g t) (point_changes g t id x o)
+points_make g t id x o s =
+    let order = durable_sorted g t s.sound.order in
+    let after : IsSortedTables (durable g (synchronised g t id x o)) =
+    subst (λ (u : TableRows). IsSortedTables u) (point_made g t id x s o) (changed_sorted (durable g t) (point_written g t id x s o) order (point_are g t id x s o)) in
+    sym (difference_makes_new (durable g t) (durable g (synchronised g t id x o)) order after) ∙ ap (changed (durable g t)) (points_change g t id x o s)
+
+pub points_are : (g : Generated) (t : TableRows) (id : ServiceId) (x : OpenTransaction) (o : Outcome) → Stands g t id x → AreChanges (point_changes g t id x o).items
+points_are g t id x o s =
+    let are = point_are g t id x s o in
+    record { ascending = ascends_filter change_key (is_real t) (point_writes g t id x o) are.ascending; fit = all_filter change_fits (is_real t) (point_writes g t id x o) are.fit }

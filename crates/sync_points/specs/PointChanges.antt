@@ -41,17 +41,24 @@ own_job_changes (Asynchronous number) None = Remove (JobKey number) ∷ []
 abbrev pub job_changes : List Job → List Change
 job_changes jobs = map (λ (j : Job). Set (job_row j)) jobs
 
--- what a synchronisation point writes, in ascending order of the keys: areas, the service's row, jobs
+-- what a synchronisation point with this row of the service writes, in ascending order of the keys: areas, the service's row, jobs
+abbrev pub writes_with : Generated → TableRows → ServiceId → OpenTransaction → Option Service → List Change
+writes_with g t id x row = changes_of x.written ++ service_changes g id row ++ own_job_changes id x.began ++ job_changes (new_jobs t x)
+
 abbrev pub point_writes : Generated → TableRows → ServiceId → OpenTransaction → Outcome → List Change
-point_writes g t id x o = changes_of x.written ++ service_changes g id (row_after g id x o) ++ own_job_changes id x.began ++ job_changes (new_jobs t x)
+point_writes g t id x o = writes_with g t id x (row_after g id x o)
 
 -- what an abnormal end writes
 abbrev pub end_writes : Generated → ServiceId → OpenTransaction → List Change
 end_writes g id x = service_changes g id None ++ own_job_changes id x.began
 
+-- what it changes
+abbrev pub changes_with : Generated → TableRows → ServiceId → OpenTransaction → Option Service → Changes
+changes_with g t id x row = record { clock = t.clock; next_job = t.next_job + length x.drafts; items = filter (is_real t) (writes_with g t id x row) }
+
 -- what a synchronisation point changes
 abbrev pub point_changes : Generated → TableRows → ServiceId → OpenTransaction → Outcome → Changes
-point_changes g t id x o = record { clock = t.clock; next_job = t.next_job + length x.drafts; items = filter (is_real t) (point_writes g t id x o) }
+point_changes g t id x o = changes_with g t id x (row_after g id x o)
 
 -- what an abnormal end changes
 abbrev pub end_changes : Generated → TableRows → ServiceId → OpenTransaction → Changes

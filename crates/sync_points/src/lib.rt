@@ -5,14 +5,21 @@
 //! what the transaction wrote, and that a point is refused exactly where the definitions refuse it.
 #![tactic(auto)]
 
+mod charges;
 mod ends;
+mod gssbs;
 mod kept;
+mod pages;
+mod points;
+mod pool;
 mod real;
+mod row;
 mod writes;
 
 ghost use Rattle.sync_points.specs.Laws.{PointsChangeWhatWasWritten, EndsChangeTheirOwnRows};
 
 pub use ends::broken;
+pub use points::{SettleAnswer, settle};
 
 /// What a synchronisation point or an abnormal end changes in the durable tables is what the transaction wrote, where
 /// that is another row than stood there.

@@ -1,4 +1,3 @@
-use Rattle.std.specs.Prelude.{◌≡◌}
 use Rattle.std.proofs.Common.{ap, ◌∙◌}
 use Rattle.kdcs_types.specs.declared.key.Area.{Area}
 use Rattle.monitor_semantics.specs.Calls.{Told, called, name_in_operand, read_block, unlocked, write_block}

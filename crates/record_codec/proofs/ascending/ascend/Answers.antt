@@ -1,5 +1,4 @@
-use Rattle.std.proofs.Common.{◌≡◌, refl, rules, sym, ap, ◌∙◌, arith, ℕ, drop}
-use Rattle.std.specs.Ordering.{is_lt}
+use Rattle.std.proofs.Common.{refl, rules, sym, ap, ◌∙◌, arith, ℕ, drop}
 use Rattle.record_codec.proofs.Neighbours.{rises, both_there, falls, all_rise}
 use Rattle.record_codec.proofs.ascending.ascend.Goals as goal
 

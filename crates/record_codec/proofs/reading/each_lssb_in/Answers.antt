@@ -1,9 +1,8 @@
-use Rattle.std.proofs.Common.{◌≡◌, sym, subst, rules, ◌++◌, ◌∷◌, [], arith}
-use Rattle.std.specs.Prelude.{List, ℕ, ◌+◌, ◌-◌}
+use Rattle.std.proofs.Common.{◌≡◌, sym, subst, arith}
+use Rattle.std.specs.Prelude.{◌+◌, ◌-◌}
 use Rattle.kd_base.specs.Tools.{onto_first}
 use Rattle.record_codec.specs.Fields.{items}
 use Rattle.record_codec.specs.WholeValues.{lssb_reading}
-use Rattle.record_codec.specs.Reads.{Reads}
 use Rattle.record_codec.proofs.SoMany.{one_more, all_read, fails_as}
 use Rattle.record_codec.proofs.reading.each_lssb_in.Goals as goal
 

@@ -1,0 +1,28 @@
+-- What a synchronisation point answers.
+use Rattle.std.specs.Prelude.{Option, Some, None}
+use Rattle.kdcs_types.specs.declared.call.Cause.{Cause}
+use Rattle.kdcs_types.specs.declared.service.Ending.TheVariants as ending
+use Rattle.kdcs_types.specs.Difference.{difference}
+use Rattle.kdcs_types.specs.Tables.{TableRows}
+use Rattle.kdcdef_types.specs.Generation.{Generated}
+use Rattle.monitor_semantics.specs.declared.outcome.Outcome.{Outcome}
+use Rattle.monitor_semantics.specs.Endings.{durable, row_after, synchronised}
+use Rattle.monitor_semantics.specs.Statements.{kept_record}
+use Rattle.open_transaction.specs.declared.open.OpenTransaction.{OpenTransaction}
+use Rattle.open_transaction.specs.Work.{work_of}
+use Rattle.sync_points.specs.declared.points.Point.{Point}
+use Rattle.sync_points.specs.declared.points.Point.TheVariants.{Passed}
+use Rattle.sync_points.specs.declared.points.Point.TheVariants as point
+use Rattle.sync_points.specs.declared.points.SettleAnswer.{SettleAnswer}
+use Rattle.sync_points.specs.declared.points.SettleAnswer.TheVariants.{Refused, Synced}
+
+-- refused for a cause, or the difference of the durable tables and the service's row
+abbrev pub point_by : Generated → TableRows → OpenTransaction → Outcome → Option Cause → Point
+point_by g t w o None = Passed (difference (durable g t) (durable g (synchronised g t w.id (work_of w) o))) (row_after g w.id (work_of w) o)
+point_by g t w o (Some cause) = point.Refused cause
+
+-- refused for a cause, with the transaction as it was; or the difference of the durable tables, the service's row, and the kept record
+abbrev pub answer_by : Generated → TableRows → OpenTransaction → Outcome → Option Cause → SettleAnswer
+answer_by g t w o None =
+    Synced (difference (durable g t) (durable g (synchronised g t w.id (work_of w) o))) (row_after g w.id (work_of w) o) (kept_record w.id (work_of w) ending.Synced)
+answer_by g t w o (Some cause) = Refused cause w

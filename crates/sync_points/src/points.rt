@@ -1,0 +1,136 @@
+//! Synchronisation points.
+ghost use Rattle.std.specs.Prelude.{◌≡◌, ◌++◌, ◌+◌, ◌≤◌, IfOk, OnOk, length, nat_lt};
+ghost use Rattle.kdcs_types.specs.Limits.{last_clock, last_next_job};
+ghost use Rattle.monitor_semantics.specs.Endings.{durable, numbered, refusal, row_after, synchronised};
+ghost use Rattle.monitor_tables.specs.PointLaws.{Stands};
+ghost use Rattle.open_transaction.specs.Work.{work_of};
+ghost use Rattle.storage_areas.specs.Areas.{changes_of};
+ghost use Rattle.sync_points.specs.Answers.{answer_by, point_by};
+ghost use Rattle.sync_points.specs.PointChanges.{changes_with, job_changes};
+
+use crate::gssbs::has_too_many_gssbs;
+use crate::kept::kept_record;
+use crate::pool::is_pool_full;
+use crate::row::row_after;
+use crate::writes::{real_of, write_own_job, write_service};
+use kd_base::OutOfMemory;
+use kdcdef_check::Generation;
+use kdcs_types::{Cause, Change, Changes, Ending, Job, Row, RowChanges, Service, Settled, Tables};
+use monitor_semantics::Outcome;
+use open_transaction::OpenTransaction;
+use std::alloc::Global;
+
+// The greatest next job number.
+const LAST_NEXT_JOB: u64 = 1_000_000_000_000;
+
+/// What a synchronisation point comes to.
+#[derive(Drop)]
+pub enum SettleAnswer {
+    /// The changes of the durable tables, the row of the service behind the point, also for a user with RESTART=NO, and
+    /// what the transaction keeps for its replay.
+    Synced(Changes, Option<Service>, Settled),
+    /// E10, E11 or E09, and the transaction as it was.
+    Refused(Cause, OpenTransaction),
+}
+
+// The same, before the transaction is taken apart.
+#[derive(Drop)]
+enum Point {
+    Passed(Changes, Option<Service>),
+    Refused(Cause),
+}
+
+fn write_jobs(changes: &mut RowChanges, jobs: Vec<Job>) -> Result<(), OutOfMemory>
+    ensures { OnOk result (changes.new ≡ changes.old ++ job_changes jobs.items) }
+{
+    for job in jobs {
+        changes.push(Change::Set(Row::Job(job.number, job.value)))?;
+    }
+    Ok(())
+}
+
+// The last number of a job would be too great.
+fn spends_numbers(tables: &Tables, work: &OpenTransaction) -> bool
+    requires { tables.now.next_job ≤ last_next_job }
+    ensures { result ≡ nat_lt last_next_job (tables.now.next_job + length (work_of work.now).drafts) }
+{
+    work.drafts.len() as u64 > LAST_NEXT_JOB - tables.next_job()
+}
+
+fn point_changes(
+    alloc: Global,
+    generation: &Generation,
+    tables: &Tables,
+    work: &OpenTransaction,
+    areas: RowChanges,
+    row: &Option<Service>,
+) -> Result<Changes, OutOfMemory>
+    requires areas { areas ≡ changes_of (work_of work.now).written }
+    requires clock { tables.now.clock ≤ last_clock }
+    requires next { tables.now.next_job + length (work_of work.now).drafts ≤ last_next_job }
+    ensures { IfOk result (λ changes. changes ≡ changes_with generation.now tables.now work.now.id (work_of work.now) row.now) }
+{
+    let mut changes = areas;
+    let clock = tables.clock();
+    let next = tables.next_job();
+    let jobs = work
+        .drafts
+        .numbered(next, clock, work.user, work.lterm, alloc)?;
+    write_service(&mut changes, generation, work.id, row)?;
+    write_own_job(&mut changes, work.id, &work.began)?;
+    write_jobs(&mut changes, jobs)?;
+    Ok(Changes {
+        clock,
+        next_job: next + work.drafts.len() as u64,
+        items: real_of(tables, changes),
+    })
+}
+
+fn point_of(
+    alloc: Global,
+    generation: &Generation,
+    tables: &Tables,
+    work: &OpenTransaction,
+    outcome: Outcome,
+) -> Result<Point, OutOfMemory>
+    requires stands { Stands generation.now tables.now work.now.id (work_of work.now) }
+    ensures { IfOk result (λ point. point ≡ point_by generation.now tables.now work.now outcome (refusal generation.now (durable generation.now (synchronised generation.now tables.now work.now.id (work_of work.now) outcome)))) }
+{
+    let limits = generation.max();
+    let areas = work.areas.changes(alloc)?;
+    if has_too_many_gssbs(tables, &areas, limits.gssbs) {
+        return Ok(Point::Refused(Cause::E10));
+    }
+    if spends_numbers(tables, work) {
+        return Ok(Point::Refused(Cause::E11));
+    }
+    let row = row_after(alloc, generation, work, outcome)?;
+    let changes = point_changes(alloc, generation, tables, work, areas, &row)?;
+    if is_pool_full(generation, tables, &changes) {
+        return Ok(Point::Refused(Cause::E09));
+    }
+    Ok(Point::Passed(changes, row))
+}
+
+/// A synchronisation point by PEND RE, SP, FI or FC. Where it is refused, the tests are in this order: E10 where there
+/// would be more than GSSBS GSSBs, E11 where a job's number would pass 999,999,999,999, and E09 where the page pool would
+/// be full. The changes cost what they are, and a look-up for each; the test for E09 goes over all rows. The transaction
+/// is lost where memory runs out.
+pub fn settle(
+    work: OpenTransaction,
+    alloc: Global,
+    generation: &Generation,
+    tables: &Tables,
+    outcome: Outcome,
+) -> Result<SettleAnswer, OutOfMemory>
+    requires stands { Stands generation.now tables.now work.id (work_of work) }
+    ensures { IfOk result (λ answer. answer ≡ answer_by generation.now tables.now work outcome (refusal generation.now (durable generation.now (synchronised generation.now tables.now work.id (work_of work) outcome)))) }
+{
+    match point_of(alloc, generation, tables, &work, outcome)? {
+        Point::Refused(cause) => Ok(SettleAnswer::Refused(cause, work)),
+        Point::Passed(changes, row) => {
+            let kept = kept_record(alloc, work, Ending::Synced)?;
+            Ok(SettleAnswer::Synced(changes, row, kept))
+        }
+    }
+}
