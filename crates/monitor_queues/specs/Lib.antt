@@ -3,3 +3,4 @@ pub mod Doings
 pub mod QueueLaws
 pub mod ResumeLaws
 pub mod Lawful
+pub mod SerialCuts

@@ -8,11 +8,12 @@
 ghost use Rattle.monitor_queues.specs.QueueLaws.{TurnsDoSo, CommandsDoSo, TurnsKeepQueues, CommandsKeepQueues, HistoriesKeepQueues, HistoriesSendAtPoints, NumbersAreDrawnOnce, NoJobIsLost, JobsAreDoneOnce};
 ghost use Rattle.monitor_queues.specs.Lawful.{HistoriesAreLawful, RunsAreLawful};
 ghost use Rattle.monitor_queues.specs.ResumeLaws.{StartsResume, SignOnsResume, CutsResume};
+ghost use Rattle.monitor_queues.specs.SerialCuts.{CutsAreSerial};
 
 use monitor_laws::steps_commit_once;
 use monitor_places::facts_hold_along;
 use monitor_runs::{commits_make_the_tables, facts_hold_along_every_script};
-use monitor_serial::commits_are_serial;
+use monitor_serial::{commits_are_serial, scripts_are_serial_runs};
 use monitor_tables::states_stay_sound;
 
 /// What made a commit says what it does: a tick moves the clock, KDCOUT and PRINT show the due job of their LTERM and
@@ -86,4 +87,12 @@ pub fn cuts_resume()
     commits_make_the_tables();
     facts_hold_along_every_script();
     services_resume();
+}
+
+/// What a stop leaves, wherever it comes, is stored by a serial run of the first commits.
+pub fn cuts_are_serial()
+    ensures { CutsAreSerial }
+{
+    cuts_resume();
+    scripts_are_serial_runs();
 }

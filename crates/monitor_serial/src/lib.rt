@@ -3,7 +3,7 @@
 //!
 //! It stands on the definitions of the monitor, and on the laws of single steps and of runs. The functions do nothing:
 //! their contracts are laws on the definitions, which the monitor and the program above it cite. `specs/Replays.antt`
-//! says what replays to itself.
+//! says what replays to itself, `specs/SerialRuns.antt` what a serial run is.
 #![tactic(auto)]
 
 ghost use Rattle.monitor_serial.specs.SerialLaws.{AllOpeningsReplay, StatementsReplay, InputsReplay, OtherTablesReplay};

@@ -1,0 +1,14 @@
+use Rattle.std.proofs.Common.{sym, subst}
+use Rattle.monitor_semantics.specs.Endings.{durable}
+use Rattle.monitor_serial.specs.SerialRuns.{MakeInTurn, makers_of}
+use Rattle.monitor_queues.proofs.cuts_are_serial.Goals as goal
+
+pub returns : goal.returns
+returns c = λ app t script application names order suits done left whole.
+    let k = c.cuts_resume.ensures app t script application names order suits done left whole in
+    record {
+      first = k.first;
+      rest = k.rest;
+      whole = k.whole;
+      run = subst (λ u. MakeInTurn app (durable app.generation t) u (makers_of k.first)) (sym k.stored) (c.scripts_are_serial_runs.ensures.stops app t script application names order suits k.first k.rest k.whole);
+    }

@@ -1,0 +1,24 @@
+-- Whatever a stop leaves is stored by a serial run of the first commits.
+use Rattle.std.specs.Prelude.{◌≡◌, List, ◌++◌}
+use Rattle.kdcs_types.specs.declared.act.Act.{Act}
+use Rattle.kdcs_types.specs.Tables.{TableRows, IsSortedTables}
+use Rattle.monitor_semantics.specs.Commands.{Command, ScriptStep, started}
+use Rattle.monitor_semantics.specs.Endings.{durable}
+use Rattle.monitor_semantics.specs.State.{Application}
+use Rattle.monitor_semantics.specs.Trace.{history, trace, tables_after}
+use Rattle.monitor_laws.specs.Applications.{IsApplication}
+use Rattle.monitor_laws.specs.Keeping.{IsScriptOf}
+use Rattle.monitor_laws.specs.Suits.{Suits}
+use Rattle.monitor_serial.specs.SerialRuns.{MakeInTurn, makers_of}
+
+-- what is stored after some first acts of a run is what the makers of its first commits make one after another
+pub record IsSerialCut (app : Application) (t : TableRows) (script : List Command) (done : List Act) : Type 0 where
+  pub first : List ScriptStep
+  pub rest : List ScriptStep
+  pub whole : history app (started app t) script ≡ first ++ rest
+  pub run : MakeInTurn app (durable app.generation t) (tables_after (durable app.generation t) done) (makers_of first)
+
+abbrev pub CutsAreSerial : Type 0
+CutsAreSerial =
+    (app : Application) (t : TableRows) (script : List Command) → IsApplication app → IsScriptOf app script → IsSortedTables t → Suits app.generation t
+    → (done left : List Act) → trace app t script ≡ done ++ left → IsSerialCut app t script done
