@@ -26,7 +26,6 @@ use Rattle.monitor_semantics.specs.declared.answer.Happened.TheVariants.{Went, Q
 use Rattle.monitor_semantics.specs.Calls.{Told, nothing_told, or_empty}
 use Rattle.monitor_semantics.specs.Endings.{is_asynchronous, opened, header_of, opened_by_start, opened_by_input, opened_by_row, opened_by_job, lterm_of_row, followed_by_input, with_service, synchronised, broken, durable, refusal}
 use Rattle.monitor_semantics.specs.Statements.{Stated, statement, area_of, Kept, kept_so_far, kept_of}
-use Rattle.monitor_semantics.specs.Turns.{turn_of}
 
 -- ---- notes
 
@@ -216,10 +215,6 @@ pub record IsAtomic (app : Application) (before after : TableRows) (r : Settled)
 abbrev pub SettlesAs : Application → TableRows → TableRows → Option Settled → Type 0
 SettlesAs app before after None = Unit {0}
 SettlesAs app before after (Some r) = IsAtomic app before after r
-
--- a turn that settles a transaction settles it as its record does
-abbrev pub TurnsAreAtomic : Application → State → Type 0
-TurnsAreAtomic app s = (task : ℕ) → IsReplayable app s → SettlesAs app s.tables (turn_of app s task).after.tables (turn_of app s task).settled
 
 -- durable tables, with the row at the beginning of a dialogue service that is not durable
 abbrev pub with_began : TableRows → Kept → TableRows
