@@ -35,7 +35,9 @@ fn end_changes(
 
 /// The changes of the durable tables by an abnormal end, by PEND ER or by PEND FR, and what the transaction keeps for
 /// its replay: what it wrote is dropped, the service's row goes, and the own job of an asynchronous service without a row.
-/// The changes cost what they are, and a look-up for each. The transaction is lost where memory runs out.
+/// The changes cost what they are, and a look-up for each; there may be none, and the clock and the next job number stay.
+/// The transaction can go on, and its service's row stands in the tables as it began; their durable part suits the
+/// generation. The transaction is lost where memory runs out.
 pub fn broken(
     work: OpenTransaction,
     alloc: Global,

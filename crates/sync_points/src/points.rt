@@ -112,10 +112,11 @@ fn point_of(
     Ok(Point::Passed(changes, row))
 }
 
-/// A synchronisation point by PEND RE, SP, FI or FC. Where it is refused, the tests are in this order: E10 where there
-/// would be more than GSSBS GSSBs, E11 where a job's number would pass 999,999,999,999, and E09 where the page pool would
-/// be full. The changes cost what they are, and a look-up for each; the test for E09 goes over all rows. The transaction
-/// is lost where memory runs out.
+/// A synchronisation point by PEND RE, SP, FI or FC, whose outcomes are Wait, Point, Finish and Follow. Where it is
+/// refused, the tests are in this order: E10 where there would be more than GSSBS GSSBs, E11 where a job's number would
+/// pass 999,999,999,999, and E09 where the page pool would be full. The changes cost what they are, and a look-up for
+/// each; the test for E09 goes over all rows. The transaction can go on, and its service's row stands in the tables as it
+/// began; their durable part suits the generation. The transaction is lost where memory runs out.
 pub fn settle(
     work: OpenTransaction,
     alloc: Global,
