@@ -9,7 +9,9 @@ use Rattle.kdcs_types.specs.declared.key.Area.TheVariants.{Gssb}
 use Rattle.kdcs_types.specs.declared.service.Note.{Note}
 use Rattle.kdcs_types.specs.declared.service.Note.TheVariants.{Released}
 use Rattle.kdcs_types.specs.Tables.{empty_tables}
-use Rattle.monitor_semantics.specs.Commands.{Command, Tick, Run, Turn, Drop, Print, PrintLast, Restart, ScriptStep, Maker, ByTick, ByShow, ByTransaction, started}
+use Rattle.monitor_semantics.specs.declared.command.Command.{Command}
+use Rattle.monitor_semantics.specs.declared.command.Command.TheVariants.{Tick, Run, Turn, Drop, Print, PrintLast, Restart}
+use Rattle.monitor_semantics.specs.Commands.{ScriptStep, Maker, ByTick, ByShow, ByTransaction, started}
 use Rattle.monitor_semantics.specs.Trace.{history}
 use Rattle.monitor_semantics.specs.Listing.{listing}
 use Rattle.monitor_semantics.specs.Made.{made_lines, made_application, made_script}

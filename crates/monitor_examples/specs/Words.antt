@@ -3,7 +3,8 @@ use Rattle.std.specs.Prelude.{List, ◌++◌, codes}
 use Rattle.kdcs_types.specs.Tables.{TableRows, empty_tables}
 use Rattle.monitor_semantics.specs.Bytes.{Bytes}
 use Rattle.monitor_semantics.specs.State.{Application}
-use Rattle.monitor_semantics.specs.Commands.{Command, Input}
+use Rattle.monitor_semantics.specs.declared.command.Command.{Command}
+use Rattle.monitor_semantics.specs.declared.command.Command.TheVariants.{Input}
 use Rattle.monitor_semantics.specs.Trace.{trace, tables_after, bytes_of}
 use Rattle.monitor_semantics.specs.Listing.{listing}
 use Rattle.monitor_examples.specs.Sample.{shop}

@@ -34,7 +34,8 @@ use Rattle.monitor_semantics.specs.Statements.{area_of, kept_record}
 use Rattle.monitor_semantics.specs.Lines.{sys_line}
 use Rattle.monitor_semantics.specs.Picks.{pick}
 use Rattle.monitor_semantics.specs.Turns.{Turned, commit_of, committed, without_work, with_task, without_wait, waiting_for, pterm_of_user, out_acts, ended_at, ended_acts, dump_acts, noted_last, last_told, message_sent, message_acts, goes_on, after_point, settled_by, settled, abnormal, last_again, back_by, back, happens, worked, took_job_for, took_job, took, turn_by, turn_of}
-use Rattle.monitor_semantics.specs.Commands.{Input, Tick, Run, Turn, Drop, Print, PrintLast, Restart, Maker, ByTransaction, started, signed_on_by, resumed_by, with_session, signed_off, rolled_tables, show_next, show_by, show_again_by, due_for, display, last_by, next_by, used, use_now, tick_by, drop_by, command_of, turned_step, lterm_at, uncommitted, says, committing, maker_of, out_again, restarted}
+use Rattle.monitor_semantics.specs.declared.command.Command.TheVariants.{Input, Tick, Run, Turn, Drop, Print, PrintLast, Restart}
+use Rattle.monitor_semantics.specs.Commands.{Maker, ByTransaction, started, signed_on_by, resumed_by, with_session, signed_off, rolled_tables, show_next, show_by, show_again_by, due_for, display, last_by, next_by, used, use_now, tick_by, drop_by, command_of, turned_step, lterm_at, uncommitted, says, committing, maker_of, out_again, restarted}
 use Rattle.monitor_semantics.specs.Trace.{tables_after}
 use Rattle.monitor_laws.specs.DurableLaws.{durable_sorted, durable_again, durable_without}
 use Rattle.monitor_laws.specs.Steps.{AreLines, CommitsOnce, TurnsCommitOnce, CommandsCommitOnce, StepsMakeTheirTables}

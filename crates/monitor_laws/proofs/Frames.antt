@@ -38,7 +38,8 @@ use Rattle.monitor_semantics.specs.Endings.{durable, synchronised, broken, refus
 use Rattle.monitor_semantics.specs.Statements.{area_of, kept_record}
 use Rattle.monitor_semantics.specs.Picks.{pick}
 use Rattle.monitor_semantics.specs.Turns.{without_work, with_task, without_wait, without_open, with_open, queued, waiting_for, pterm_of_user, noted_last, last_told, message_sent, goes_on, after_point, settled_by, settled, abnormal, last_again, back_by, back, happens, worked, took_job_for, took_job, took, turn_by, turn_of}
-use Rattle.monitor_semantics.specs.Commands.{Input, Tick, Run, Turn, Drop, Print, PrintLast, Restart, signed_on_by, resumed_by, with_session, signed_off, rolled_tables, show_next, show_by, show_again_by, due_for, display, last_by, next_by, used, use_now, tick_by, drop_by, command_of, lterm_at}
+use Rattle.monitor_semantics.specs.declared.command.Command.TheVariants.{Input, Tick, Run, Turn, Drop, Print, PrintLast, Restart}
+use Rattle.monitor_semantics.specs.Commands.{signed_on_by, resumed_by, with_session, signed_off, rolled_tables, show_next, show_by, show_again_by, due_for, display, last_by, next_by, used, use_now, tick_by, drop_by, command_of, lterm_at}
 use Rattle.monitor_laws.specs.Frames.{LeavesOthers, TurnsLeaveOthers, TouchesOne, CommandsTouchOne}
 use Rattle.monitor_laws.specs.OwnRowLaws.{points_set, ends_remove}
 

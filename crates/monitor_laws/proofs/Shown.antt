@@ -15,7 +15,8 @@ use Rattle.monitor_semantics.specs.Bytes.{Bytes, bytes_cmp}
 use Rattle.monitor_semantics.specs.Lines.{asy_line, prt_line, no_message_line}
 use Rattle.monitor_semantics.specs.State.{Application, Session, State}
 use Rattle.monitor_semantics.specs.Turns.{turn_of}
-use Rattle.monitor_semantics.specs.Commands.{Input, Tick, Run, Turn, Drop, Print, PrintLast, Restart, ScriptStep, Maker, ByTick, ByShow, ByTransaction, signed_on_by, show_next, show_by, show_again_by, due_for, display, last_by, used, use_now, tick_by, drop_by, command_of, lterm_at, maker_of}
+use Rattle.monitor_semantics.specs.declared.command.Command.TheVariants.{Input, Tick, Run, Turn, Drop, Print, PrintLast, Restart}
+use Rattle.monitor_semantics.specs.Commands.{ScriptStep, Maker, ByTick, ByShow, ByTransaction, signed_on_by, show_next, show_by, show_again_by, due_for, display, last_by, used, use_now, tick_by, drop_by, command_of, lterm_at, maker_of}
 use Rattle.monitor_laws.specs.Commits.{SendsNext}
 use Rattle.monitor_laws.specs.Frames.{ShowsAtItsTerminal}
 

@@ -11,7 +11,8 @@ use Rattle.unit_types.specs.declared.unit.Field.{Field}
 use Rattle.unit_types.specs.UnitText.{UnitText, KnowsItsLabels, LabelsFromOne, HasShortOperands}
 use Rattle.monitor_semantics.specs.Bytes.{Bytes}
 use Rattle.monitor_semantics.specs.State.{Application, unit_of}
-use Rattle.monitor_semantics.specs.Commands.{Command, Input, Tick, Run, Turn, Drop, Print, PrintLast, Restart}
+use Rattle.monitor_semantics.specs.declared.command.Command.{Command}
+use Rattle.monitor_semantics.specs.declared.command.Command.TheVariants.{Input, Tick, Run, Turn, Drop, Print, PrintLast, Restart}
 use Rattle.monitor_laws.specs.Suits.{is_lterm}
 
 -- a field lies inside KB or SPAB of these lengths

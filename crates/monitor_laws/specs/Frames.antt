@@ -8,7 +8,9 @@ use Rattle.kdcs_types.specs.Tables.{service_of}
 use Rattle.monitor_semantics.specs.Bytes.{Bytes}
 use Rattle.monitor_semantics.specs.State.{Application, State}
 use Rattle.monitor_semantics.specs.Turns.{turn_of}
-use Rattle.monitor_semantics.specs.Commands.{Command, Input, Tick, Run, Turn, Drop, Print, PrintLast, Restart, ByShow, command_of, due_for}
+use Rattle.monitor_semantics.specs.declared.command.Command.{Command}
+use Rattle.monitor_semantics.specs.declared.command.Command.TheVariants.{Input, Tick, Run, Turn, Drop, Print, PrintLast, Restart}
+use Rattle.monitor_semantics.specs.Commands.{ByShow, command_of, due_for}
 use Rattle.monitor_laws.specs.Commits.{SendsNext}
 
 -- every other service keeps its open transaction, its row and its request

@@ -4,7 +4,8 @@ use Rattle.kdcs_types.specs.Tables.{TableRows, IsSortedTables}
 use Rattle.kdcdef_types.specs.Statements.{IsWithin}
 use Rattle.monitor_semantics.specs.State.{Application, State}
 use Rattle.monitor_semantics.specs.Turns.{turn_of}
-use Rattle.monitor_semantics.specs.Commands.{Command, ScriptStep, started, command_of}
+use Rattle.monitor_semantics.specs.declared.command.Command.{Command}
+use Rattle.monitor_semantics.specs.Commands.{ScriptStep, started, command_of}
 use Rattle.monitor_semantics.specs.Trace.{history}
 use Rattle.monitor_laws.specs.Applications.{IsApplication, IsCommandOf}
 use Rattle.monitor_laws.specs.Facts.{IsConsistent, IsSoundState}

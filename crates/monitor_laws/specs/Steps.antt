@@ -6,7 +6,8 @@ use Rattle.kdcs_types.specs.Tables.{IsSortedTables}
 use Rattle.monitor_semantics.specs.State.{Application, State}
 use Rattle.monitor_semantics.specs.Endings.{durable}
 use Rattle.monitor_semantics.specs.Turns.{commit_of, turn_of}
-use Rattle.monitor_semantics.specs.Commands.{Command, ScriptStep, Maker, turned_step, command_of}
+use Rattle.monitor_semantics.specs.declared.command.Command.{Command}
+use Rattle.monitor_semantics.specs.Commands.{ScriptStep, Maker, turned_step, command_of}
 use Rattle.monitor_semantics.specs.Trace.{tables_after}
 
 -- lines alone

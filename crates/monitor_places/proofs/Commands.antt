@@ -16,7 +16,9 @@ use Rattle.kdcs_types.specs.Tables.{service_key, service_of, shown_of}
 use Rattle.monitor_semantics.specs.declared.input_use.Use.{Use}
 use Rattle.monitor_semantics.specs.declared.input_use.Use.TheVariants.{Sign, SignRefused, SignFirst, AlreadySigned, Off, Display, Output, Again, Busy, TooLong, Next, Start, TacRefused}
 use Rattle.monitor_semantics.specs.Bytes.{Bytes, bytes_cmp}
-use Rattle.monitor_semantics.specs.Commands.{Command, Input, Tick, Run, Turn, Drop, Print, PrintLast, Restart, lterm_at, user_by, user_at, with_session, without_session, resumed_by, signed_on_by, signed_on, withdrawn, rolled_tables, signed_off, is_for, due_for, shown_tables, show_by, show_next, show_again_by, last_by, display, held_tac, next_by, next_input, start_service, used, use_now, tick_by, drop_by, command_of}
+use Rattle.monitor_semantics.specs.declared.command.Command.{Command}
+use Rattle.monitor_semantics.specs.declared.command.Command.TheVariants.{Input, Tick, Run, Turn, Drop, Print, PrintLast, Restart}
+use Rattle.monitor_semantics.specs.Commands.{lterm_at, user_by, user_at, with_session, without_session, resumed_by, signed_on_by, signed_on, withdrawn, rolled_tables, signed_off, is_for, due_for, shown_tables, show_by, show_next, show_again_by, last_by, display, held_tac, next_by, next_input, start_service, used, use_now, tick_by, drop_by, command_of}
 use Rattle.monitor_semantics.specs.Endings.{is_durable, durable, restarts, opened, opened_by_start, opened_by_input, opened_by_row, followed_by_input}
 use Rattle.monitor_semantics.specs.Locks.{Waiting}
 use Rattle.monitor_semantics.specs.Sessions.{has_user, awaits_by, is_awaiting}

@@ -3,7 +3,9 @@ use Rattle.std.specs.Prelude.{◌≡◌, refl, ℕ, zero, suc, ◌+◌, ◌≤�
 use Rattle.std.proofs.Common.{arith}
 use Rattle.std.proofs.lemmas.List.Elements.{All-nil, All-cons, All-head, All-tail, All-append}
 use Rattle.kdcdef_types.specs.Statements.{IsWithin}
-use Rattle.monitor_semantics.specs.Commands.{Command, Input, Tick, Run, Turn, Drop, Print, PrintLast, Restart, ScriptStep, next_task, in_a_row, turned_step, rotated, state_after, command_of, steps_of}
+use Rattle.monitor_semantics.specs.declared.command.Command.{Command}
+use Rattle.monitor_semantics.specs.declared.command.Command.TheVariants.{Input, Tick, Run, Turn, Drop, Print, PrintLast, Restart}
+use Rattle.monitor_semantics.specs.Commands.{ScriptStep, next_task, in_a_row, turned_step, rotated, state_after, command_of, steps_of}
 use Rattle.monitor_semantics.specs.State.{Application, State}
 use Rattle.monitor_semantics.specs.Trace.{history}
 use Rattle.monitor_semantics.specs.Turns.{turn_of}

@@ -2,7 +2,8 @@
 use Rattle.std.specs.Prelude.{ℕ}
 use Rattle.kdcs_types.specs.Tables.{TableRows, IsSortedTables}
 use Rattle.kdcdef_types.specs.Statements.{IsWithin}
-use Rattle.monitor_semantics.specs.Commands.{Command, started, command_of}
+use Rattle.monitor_semantics.specs.declared.command.Command.{Command}
+use Rattle.monitor_semantics.specs.Commands.{started, command_of}
 use Rattle.monitor_semantics.specs.State.{Application, State}
 use Rattle.monitor_semantics.specs.Turns.{turn_of}
 use Rattle.monitor_laws.specs.Applications.{IsApplication, IsCommandOf}

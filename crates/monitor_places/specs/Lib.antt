@@ -9,3 +9,4 @@ pub mod Entries
 pub mod After
 pub mod Along
 pub mod Laws
+pub mod Shapes

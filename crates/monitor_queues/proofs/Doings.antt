@@ -32,7 +32,8 @@ use Rattle.monitor_semantics.specs.Lines.{asy_line, prt_line, no_message_line}
 use Rattle.monitor_semantics.specs.Picks.{pick}
 use Rattle.monitor_semantics.specs.Statements.{kept_record}
 use Rattle.monitor_semantics.specs.Turns.{out_acts, message_acts, Turned, without_work, pterm_of_user, noted_last, last_told, message_sent, goes_on, after_point, settled_by, settled, abnormal, last_again, back_by, back, happens, statement_now, worked, took_job_for, took_job, took, turn_by, turn_of, commit_of}
-use Rattle.monitor_semantics.specs.Commands.{Input, Tick, Run, Turn, Drop, Print, PrintLast, Restart, signed_on_by, show_next, show_by, show_again_by, due_for, display, last_by, used, use_now, tick_by, drop_by, command_of, lterm_at, maker_of, turned_step}
+use Rattle.monitor_semantics.specs.declared.command.Command.TheVariants.{Input, Tick, Run, Turn, Drop, Print, PrintLast, Restart}
+use Rattle.monitor_semantics.specs.Commands.{signed_on_by, show_next, show_by, show_again_by, due_for, display, last_by, used, use_now, tick_by, drop_by, command_of, lterm_at, maker_of, turned_step}
 use Rattle.monitor_laws.specs.Commits.{EndsSo, ending_by}
 use Rattle.monitor_queues.specs.Doings.{tables_by, point_lines, lines_by, Settling, StepMakes}
 use Rattle.monitor_queues.specs.QueueLaws.{TurnsDoSo, CommandsDoSo}

@@ -2,7 +2,8 @@
 use Rattle.std.specs.Prelude.{List, [], ◌∷◌, Option, Some, None}
 use Rattle.kdcs_types.specs.Tables.{TableRows, IsSortedTables}
 use Rattle.monitor_semantics.specs.State.{Application, State}
-use Rattle.monitor_semantics.specs.Commands.{Command, ScriptStep, Maker, started}
+use Rattle.monitor_semantics.specs.declared.command.Command.{Command}
+use Rattle.monitor_semantics.specs.Commands.{ScriptStep, Maker, started}
 use Rattle.monitor_semantics.specs.Trace.{history}
 use Rattle.monitor_laws.specs.Applications.{IsApplication}
 use Rattle.monitor_laws.specs.Commits.{CommitIsLawful, IsLawful}

@@ -11,7 +11,8 @@ use Rattle.monitor_semantics.specs.Lines.{out_line}
 use Rattle.monitor_semantics.specs.State.{Application, State}
 use Rattle.monitor_semantics.specs.Endings.{durable}
 use Rattle.monitor_semantics.specs.Turns.{commit_of, pterm_of_user, turn_of}
-use Rattle.monitor_semantics.specs.Commands.{Command, ScriptStep, Maker, ByTick, ByShow, ByTransaction, turned_step, command_of, state_after}
+use Rattle.monitor_semantics.specs.declared.command.Command.{Command}
+use Rattle.monitor_semantics.specs.Commands.{ScriptStep, Maker, ByTick, ByShow, ByTransaction, turned_step, command_of, state_after}
 use Rattle.monitor_semantics.specs.Trace.{history}
 use Rattle.monitor_laws.specs.Applications.{IsApplication}
 use Rattle.monitor_laws.specs.Commits.{Takes, QueueLaw, ServiceLaw}

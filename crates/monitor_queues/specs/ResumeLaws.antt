@@ -17,7 +17,8 @@ use Rattle.monitor_semantics.specs.Sessions.{service_state}
 use Rattle.monitor_semantics.specs.State.{Application, OpenTransaction, State}
 use Rattle.monitor_semantics.specs.Trace.{history, trace, tables_after}
 use Rattle.monitor_semantics.specs.Turns.{queued}
-use Rattle.monitor_semantics.specs.Commands.{Command, ScriptStep, started, lterm_at, out_again, signed_on, next_input, state_after}
+use Rattle.monitor_semantics.specs.declared.command.Command.{Command}
+use Rattle.monitor_semantics.specs.Commands.{ScriptStep, started, lterm_at, out_again, signed_on, next_input, state_after}
 use Rattle.monitor_laws.specs.Applications.{IsApplication}
 use Rattle.monitor_laws.specs.Facts.{IsSignedOn}
 use Rattle.monitor_laws.specs.Keeping.{HasFacts, IsScriptOf}

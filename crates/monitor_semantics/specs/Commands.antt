@@ -21,6 +21,8 @@ use Rattle.kdcs_types.specs.Tables.{TableRows, service_of, shown_of, with_change
 use Rattle.kdcs_types.specs.Keys.{id_cmp, id_eq}
 use Rattle.monitor_semantics.specs.declared.answer.Happened.{Happened}
 use Rattle.monitor_semantics.specs.declared.answer.Happened.TheVariants.{Went, Queued, Waited, Held, Settles, Breaks, Returns}
+use Rattle.monitor_semantics.specs.declared.command.Command.{Command}
+use Rattle.monitor_semantics.specs.declared.command.Command.TheVariants.{Input, Tick, Run, Turn, Drop, Print, PrintLast, Restart}
 use Rattle.monitor_semantics.specs.declared.input_use.SignFault.{SignFault}
 use Rattle.monitor_semantics.specs.declared.input_use.SignFault.TheVariants.{BadForm, UnknownUser, WrongPassword, InUse}
 use Rattle.monitor_semantics.specs.declared.input_use.TacFault.{TacFault}
@@ -36,19 +38,6 @@ use Rattle.monitor_semantics.specs.Lines.{sys_line, out_line, asy_line, prt_line
 use Rattle.monitor_semantics.specs.Picks.{free_jobs, due_job}
 use Rattle.monitor_semantics.specs.Turns.{Turned, commit_of, queued, without_open, turn_of}
 use Rattle.monitor_semantics.specs.Sessions.{in_place, service_state, use_of}
-
--- the commands of a script
-pub data Command : Type 0 where
-  -- IN: a terminal input
-  Input : (pterm text : Bytes) → Command
-  Tick : (ticks : ℕ) → Command
-  -- at most so many turns, of the tasks in rotation
-  Run : (turns : ℕ) → Command
-  Turn : (task : ℕ) → Command
-  -- the connection of a terminal is lost
-  Drop : (pterm : Bytes) → Command
-  Print PrintLast : (pterm : Bytes) → Command
-  Restart : Command
 
 -- what made a commit
 pub data Maker : Type 0 where

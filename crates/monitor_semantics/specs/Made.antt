@@ -21,7 +21,8 @@ use Rattle.monitor_semantics.specs.Bytes.{Bytes}
 use Rattle.monitor_semantics.specs.State.{Application}
 use Rattle.monitor_semantics.specs.Calls.{or_empty}
 use Rattle.monitor_semantics.specs.Lines.{line}
-use Rattle.monitor_semantics.specs.Commands.{Command, Input, Tick, Run}
+use Rattle.monitor_semantics.specs.declared.command.Command.{Command}
+use Rattle.monitor_semantics.specs.declared.command.Command.TheVariants.{Input, Tick, Run}
 use Rattle.monitor_semantics.specs.Trace.{trace, tables_after}
 
 -- ---- the application

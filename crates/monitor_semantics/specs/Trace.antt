@@ -5,7 +5,8 @@ use Rattle.kdcs_types.specs.declared.act.Act.TheVariants.{Commit, Emit}
 use Rattle.kdcs_types.specs.Tables.{TableRows, changed}
 use Rattle.monitor_semantics.specs.Bytes.{Bytes}
 use Rattle.monitor_semantics.specs.State.{Application, State}
-use Rattle.monitor_semantics.specs.Commands.{Command, ScriptStep, started, steps_of, state_after, acts_of}
+use Rattle.monitor_semantics.specs.declared.command.Command.{Command}
+use Rattle.monitor_semantics.specs.Commands.{ScriptStep, started, steps_of, state_after, acts_of}
 
 -- the steps of a script from a state
 unfoldable pub history : Application → State → List Command → List ScriptStep

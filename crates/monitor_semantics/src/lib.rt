@@ -7,12 +7,14 @@
 #![tactic(auto)]
 
 mod answer;
+mod command;
 mod draft;
 mod input_use;
 mod outcome;
 mod work;
 
 pub use answer::{Called, Happened, LockAnswer};
+pub use command::Command;
 pub use draft::{Draft, Due};
 pub use input_use::{ServiceState, SignFault, TacFault, Use};
 pub use outcome::Outcome;

@@ -17,7 +17,9 @@ use Rattle.monitor_semantics.specs.declared.input_use.Use.{Use}
 use Rattle.monitor_semantics.specs.declared.input_use.Use.TheVariants.{Sign, SignRefused, SignFirst, AlreadySigned, Off, Display, Output, Again, Busy, TooLong, Next, Start, TacRefused}
 use Rattle.monitor_semantics.specs.Bytes.{Bytes, bytes_cmp}
 use Rattle.monitor_semantics.specs.Calls.{nothing_told}
-use Rattle.monitor_semantics.specs.Commands.{Command, Input, Tick, Run, Turn, Drop, Print, PrintLast, Restart, opened_row, started, lterm_at, user_at, with_session, without_session, resumed_by, signed_on_by, withdrawn, rolled_tables, signed_off, due_for, shown_tables, show_by, show_next, show_again_by, last_by, display, follow_up_of, held_tac, next_by, next_input, used, use_now, tick_by, drop_by, command_of}
+use Rattle.monitor_semantics.specs.declared.command.Command.{Command}
+use Rattle.monitor_semantics.specs.declared.command.Command.TheVariants.{Input, Tick, Run, Turn, Drop, Print, PrintLast, Restart}
+use Rattle.monitor_semantics.specs.Commands.{opened_row, started, lterm_at, user_at, with_session, without_session, resumed_by, signed_on_by, withdrawn, rolled_tables, signed_off, due_for, shown_tables, show_by, show_next, show_again_by, last_by, display, follow_up_of, held_tac, next_by, next_input, used, use_now, tick_by, drop_by, command_of}
 use Rattle.monitor_semantics.specs.Endings.{is_asynchronous, durable, restarts, opened_by_start, opened_by_input, opened_by_row, lterm_of_row, with_service, followed_by_input}
 use Rattle.monitor_semantics.specs.Picks.{free_jobs, is_free}
 use Rattle.monitor_semantics.specs.Sessions.{awaits_by, is_running, is_awaiting}

@@ -28,7 +28,7 @@ use Rattle.monitor_semantics.specs.Endings.{is_asynchronous, opened, durable, br
 use Rattle.monitor_semantics.specs.Statements.{Kept, Stated, area_of, kept_so_far, kept_record, by_call, by_performed, statement}
 use Rattle.monitor_laws.specs.Replay.{noted_area, notes_on, notes_suffice, all_notes_used, dialogue_from, job_from, opened_from, went_on, replay_told, replay_statement, replay_step, replay, Ended, settled_as, ended_by, atomic, GoesOn, IsReplayed, IsAtomic}
 use Rattle.monitor_serial.specs.Replays.{GoesOnAtOnce, kept_and, told_of, told_rest}
-use Rattle.monitor_serial.proofs.Shapes.{IsAnswered, AnsweredBy, StatementLeaves, StatementLooks, StatementAlone, StatementLocks, StatementUnlocks, statement_looks}
+use Rattle.monitor_places.specs.Shapes.{IsAnswered, AnsweredBy, StatementLeaves, StatementLooks, StatementAlone, StatementLocks, StatementUnlocks, statement_looks}
 
 -- ---- an end looks at nothing
 

@@ -1,4 +1,3 @@
-pub mod Shapes
 pub mod Steps
 pub mod Openings
 pub mod Frames

@@ -26,7 +26,7 @@ use Rattle.monitor_semantics.specs.Endings.{is_asynchronous, followed_by_input}
 use Rattle.monitor_semantics.specs.Statements.{Kept, Stated, area_of, by_call, by_performed, statement}
 use Rattle.monitor_laws.specs.Replay.{noted_area, notes_on, answer_by_note, content_by_note, went_on, replay_step, replay}
 use Rattle.monitor_tables.specs.Lists.{any_last, any_append, any_filter}
-use Rattle.monitor_serial.proofs.Shapes.{Becomes, IsCounted, IsAnswered, AnsweredBy, StatementLeaves, StatementLooks, StatementAlone, StatementLocks, StatementUnlocks, statement_looks}
+use Rattle.monitor_places.specs.Shapes.{Becomes, IsCounted, IsAnswered, AnsweredBy, StatementLeaves, StatementLooks, StatementAlone, StatementLocks, StatementUnlocks, statement_looks}
 use Rattle.monitor_serial.specs.Replays.{GoesOnAtOnce, kept_and, told_by, told_of, HasSameJob, LookAlike, ReplaysToItself, told_rest, replay_next, replays_counted}
 
 -- y is x with one statement more, and these inputs and notes

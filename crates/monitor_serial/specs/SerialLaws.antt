@@ -10,7 +10,8 @@ use Rattle.monitor_semantics.specs.declared.answer.Happened.TheVariants.{Held}
 use Rattle.monitor_semantics.specs.Bytes.{Bytes}
 use Rattle.monitor_semantics.specs.State.{Application, OpenTransaction, State}
 use Rattle.monitor_semantics.specs.Calls.{Told}
-use Rattle.monitor_semantics.specs.Commands.{Command, ScriptStep, Maker, started, turned_step, command_of}
+use Rattle.monitor_semantics.specs.declared.command.Command.{Command}
+use Rattle.monitor_semantics.specs.Commands.{ScriptStep, Maker, started, turned_step, command_of}
 use Rattle.monitor_semantics.specs.Trace.{history}
 use Rattle.monitor_semantics.specs.Endings.{is_asynchronous, durable, opened_by_start, opened_by_input, opened_by_row, opened_by_job, lterm_of_row, followed_by_input}
 use Rattle.monitor_semantics.specs.Statements.{area_of, statement}

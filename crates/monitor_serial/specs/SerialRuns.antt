@@ -3,7 +3,8 @@ use Rattle.std.specs.Prelude.{◌≡◌, ℕ, ◌+◌, ◌≤◌, List, [], ◌�
 use Rattle.kdcs_types.specs.declared.key.Target.TheVariants.{Lterm}
 use Rattle.kdcs_types.specs.declared.service.Job.{Job}
 use Rattle.kdcs_types.specs.Tables.{TableRows, IsSortedTables}
-use Rattle.monitor_semantics.specs.Commands.{Command, ScriptStep, Maker, ByTick, ByShow, ByTransaction, shown_tables, started, state_after, command_of, turned_step}
+use Rattle.monitor_semantics.specs.declared.command.Command.{Command}
+use Rattle.monitor_semantics.specs.Commands.{ScriptStep, Maker, ByTick, ByShow, ByTransaction, shown_tables, started, state_after, command_of, turned_step}
 use Rattle.monitor_semantics.specs.Endings.{durable}
 use Rattle.monitor_semantics.specs.State.{Application, State}
 use Rattle.monitor_semantics.specs.Trace.{history}
