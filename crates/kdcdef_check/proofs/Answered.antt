@@ -17,7 +17,7 @@ use Rattle.kdcdef_check.specs.declared.tally.Tally.{Tally}
 use Rattle.kdcdef_check.specs.Soundness.{IsSound}
 use Rattle.kdcdef_check.specs.Generating.{generated, max_given, with_defaults, counts_of}
 use Rattle.kdcdef_check.specs.Faults.{HasFault, Stands, line_of, number_of, AreFaultless, IsFirstFault, Gives}
-use Rattle.kdcdef_check.specs.Steps.{earlier, IsFirstOf, AmongFirst, is_own, OwnFault, OuterFault, AreFilled, IsTallyOf, counts_in, made_of}
+use Rattle.kdcdef_check.specs.Steps.{earlier, IsFirstOf, AmongFirst, is_own, OwnFault, OuterFault, AreFilled, AllNamed, IsTallyOf, counts_in, made_of}
 use Rattle.kdcdef_check.proofs.FirstOfFaults.{first_of_both}
 use Rattle.kdcdef_check.proofs.Counting.{program_count, tac_count, user_count, pterm_count, lterm_count, passed_statements}
 use Rattle.kdcdef_check.proofs.Faultless.{few, appliname_said}
@@ -159,5 +159,5 @@ all_made ss tables t m passed limits counts filled tally max is_passed is_limits
     ap (λ (l : Limits). made_of tables l counts) (is_limits ∙ ap with_defaults max)
     ∙ made_exactly tables ss counts filled free (is_counts ∙ counted ss t passed tally is_passed)
 
-pub all_sound : (ss : List Statement) (g : Generated) → g ≡ generated ss → AreRead ss → AreFaultless ss → IsSound g
-all_sound ss g is read free = rw is (sound ss read free)
+pub all_sound : (ss : List Statement) (g : Generated) → g ≡ generated ss → AreRead ss → AllNamed ss → AreFaultless ss → IsSound g
+all_sound ss g is read named free = rw is (sound ss read named free)

@@ -2,6 +2,7 @@
 use Rattle.std.proofs.Common.{◌≡◌, ◌+◌, ◌<◌, ◌||◌, ℕ, refl, sym, ◌∙◌, ap, Bool, nat_eq, bytes_eq, is_some, List, [], ◌∷◌, ◌++◌, length, take, get_or, Option, filter_map}
 use Rattle.std.specs.List.{cons_option, list_any}
 use Rattle.std.specs.Map.{lookup}
+use Rattle.std.proofs.lemmas.List.Elements.{All-push}
 use Rattle.std.proofs.lemmas.List.Sums.{fold-append}
 use Rattle.kdcdef_types.specs.declared.entry.PtermEntry.{PtermEntry}
 use Rattle.kdcdef_types.specs.declared.statement.Said.{Said}
@@ -9,7 +10,7 @@ use Rattle.kdcdef_types.specs.declared.statement.Said.TheVariants.{Pterm}
 use Rattle.kdcdef_types.specs.declared.statement.Statement.{Statement}
 use Rattle.kdcdef_check.specs.declared.tables.Tables.{Tables}
 use Rattle.kdcdef_check.specs.Generating.{as_program, as_tac, as_user, as_pterm, as_lterm, as_tls, as_uls, as_class, said_as, generated}
-use Rattle.kdcdef_check.specs.Steps.{put, put_key, table_of, keys_table, lterm_said, IsAdded, AreFilled, HaveNames}
+use Rattle.kdcdef_check.specs.Steps.{put, put_key, table_of, keys_table, lterm_said, IsAdded, AreFilled, HaveNames, IsNamed, AllNamed}
 use Rattle.kdcdef_check.proofs.Names.{exact_numbers, exact_bytes, there-table_of, among-keys_table}
 use Rattle.kdcdef_check.proofs.Passing.{next_taken}
 
@@ -42,6 +43,10 @@ filled_further ss s old new was added = record {
 -- the tables of the loop, one statement further
 pub next_filled : (ss : List Statement) (i : ℕ) (s : Statement) (old new : Tables) → i < length ss → s ≡ get_or ss i s → AreFilled old (take i ss) → IsAdded old new s.line s.said → AreFilled new (take (i + 1) ss)
 next_filled ss i s old new within is was added = rw (next_taken ss i s within is) (filled_further (take i ss) s old new was added)
+
+-- the statements of the loop, one further
+pub next_named : (ss : List Statement) (i : ℕ) (s : Statement) → i < length ss → s ≡ get_or ss i s → AllNamed (take i ss) → IsNamed s.said → AllNamed (take (i + 1) ss)
+next_named ss i s within is was named = rw (next_taken ss i s within is) (All-push (λ (t : Statement). IsNamed t.said) (take i ss) s was named)
 
 -- an LTERM is among those of the PTERMs
 served_so : (said : Said) (name : List ℕ) (ks : List (List ℕ)) (ps : List (List ℕ × PtermEntry)) → list_any (bytes_eq name) ks ≡ list_any (λ (p : List ℕ × PtermEntry). bytes_eq name p.1.lterm) ps → list_any (bytes_eq name) (cons_option (lterm_said said) ks) ≡ list_any (λ (p : List ℕ × PtermEntry). bytes_eq name p.1.lterm) (cons_option (as_pterm said) ps)

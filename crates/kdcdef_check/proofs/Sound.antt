@@ -5,21 +5,24 @@ use Rattle.std.specs.List.{All, cons_option}
 use Rattle.std.specs.Map.{values_of}
 use Rattle.std.specs.Option.{option_or}
 use Rattle.std.proofs.lemmas.Bool.Decides.{nat_tests}
-use Rattle.std.proofs.lemmas.List.Elements.{All-cons, All-nil}
+use Rattle.std.proofs.lemmas.List.Elements.{All-cons, All-nil, All-map}
+use Rattle.kd_base.specs.Text.{IsName}
 use Rattle.kd_base.specs.Tools.{some_is}
 use Rattle.kdcdef_types.specs.declared.entry.TacEntry.{TacEntry}
 use Rattle.kdcdef_types.specs.declared.entry.UserEntry.{UserEntry}
+use Rattle.kdcdef_types.specs.declared.entry.LtermEntry.{LtermEntry}
 use Rattle.kdcdef_types.specs.declared.entry.PtermEntry.{PtermEntry}
 use Rattle.kdcdef_types.specs.declared.statement.MaxOperands.{MaxOperands}
 use Rattle.kdcdef_types.specs.declared.statement.Said.{Said}
-use Rattle.kdcdef_types.specs.declared.statement.Said.TheVariants.{Max, Tac, User, Pterm, TacClass}
+use Rattle.kdcdef_types.specs.declared.statement.Said.TheVariants.{Max, Tac, User, Pterm, Lterm, TacClass}
 use Rattle.kdcdef_types.specs.declared.statement.Statement.{Statement}
 use Rattle.kdcdef_types.specs.Statements.{IsWithin, IsBlksize, IsMaxInRange, IsTacInRange, IsUserInRange, IsInRange, AreRead}
 use Rattle.kdcdef_types.specs.Generation.{Generated, entry_of, lterm_of}
 use Rattle.kdcdef_check.specs.declared.fault.CheckFault.TheVariants.{NoProgram, NoLterm, ClassOfWrongKind}
-use Rattle.kdcdef_check.specs.Soundness.{AreLimits, IsSound, AreCounted, fits_kind}
+use Rattle.kdcdef_check.specs.Soundness.{AreLimits, IsSound, AreNamed, AreCounted, fits_kind}
 use Rattle.kdcdef_check.specs.Generating.{as_tac, as_user, as_pterm, as_lterm, as_class, said_as, programs_said, nothing_given, operands_said, both_given, max_given, with_defaults, generated}
 use Rattle.kdcdef_check.specs.Faults.{lacks_program, lacks_lterm, has_other_class, AreFaultless}
+use Rattle.kdcdef_check.specs.Steps.{IsNamed, AllNamed}
 use Rattle.kdcdef_check.proofs.Counting.{program_count, tac_count, user_count, pterm_count, lterm_count, passed_statements}
 use Rattle.kdcdef_check.proofs.Faultless.{not_shown, all_at, few, some_user_said, pool_said}
 use Rattle.kdcdef_check.proofs.Apart.{names_apart}
@@ -32,14 +35,18 @@ all_head P x xs h = h 0 x (omega arith)
 all_tail : {A : Type 0} (P : A → Type 0) (x : A) (xs : List A) → All P (x ∷ xs) → All P xs
 all_tail P x xs h = λ k d below. h (suc k) d (omega (arith, below))
 
-values_cons : {K V : Type 0} (Q : V → Type 0) (o : Option (K × V)) (es : List (K × V)) → ((p : K × V) → o ≡ Some p → Q p.1) → All Q (values_of es) → All Q (values_of (cons_option o es))
-values_cons Q None es h rest = rest
-values_cons Q (Some p) es h rest = All-cons Q p.1 (values_of es) (h p refl) rest
+one_more : {A : Type 0} (Q : A → Type 0) (o : Option A) (xs : List A) → ((x : A) → o ≡ Some x → Q x) → All Q xs → All Q (cons_option o xs)
+one_more Q None xs h rest = rest
+one_more Q (Some x) xs h rest = All-cons Q x xs (h x refl) rest
 
--- what holds of the statements holds of the entries that they make
+-- what holds of the statements holds of what they make
+all_keep : {A : Type 0} (P : Statement → Type 0) (Q : A → Type 0) (f : Statement → Option A) → ((s : Statement) (x : A) → f s ≡ Some x → P s → Q x) → (ss : List Statement) → All P ss → All Q (filter_map f ss)
+all_keep P Q f h [] all = All-nil Q
+all_keep P Q f h (s ∷ ss) all = one_more Q (f s) (filter_map f ss) (λ x e. h s x e (all_head P s ss all)) (all_keep P Q f h ss (all_tail P s ss all))
+
+-- and of the values in their entries
 values_keep : {K V : Type 0} (P : Statement → Type 0) (Q : V → Type 0) (f : Statement → Option (K × V)) → ((s : Statement) (p : K × V) → f s ≡ Some p → P s → Q p.1) → (ss : List Statement) → All P ss → All Q (values_of (filter_map f ss))
-values_keep P Q f h [] all = All-nil Q
-values_keep P Q f h (s ∷ ss) all = values_cons Q (f s) (filter_map f ss) (λ p e. h s p e (all_head P s ss all)) (values_keep P Q f h ss (all_tail P s ss all))
+values_keep {K} {V} P Q f h ss all = All-map Q (λ (p : K × V). p.1) (filter_map f ss) (all_keep P (λ (p : K × V). Q p.1) f h ss all)
 
 -- ---- the limits
 
@@ -90,6 +97,37 @@ limits_in_range m h = record {
   reswait = (or_default (IsWithin 0 32767) m.reswait 60 h.reswait (omega arith, omega arith)).1;
   blksize = or_default IsBlksize m.blksize 4096 h.blksize (inr (inl refl));
 }
+
+-- ---- the names
+
+abbrev IsNameOf : {A : Type 0} → List ℕ × A → Type 0
+IsNameOf p = IsName p.0
+
+tac_name : (said : Said) (p : List ℕ × TacEntry) → as_tac said ≡ Some p → IsNamed said → IsNameOf p
+tac_name (Tac name entry) p e h = subst IsNameOf (some_is _ p e) h
+tac_name _ p e h = absurd cc
+
+user_name : (said : Said) (p : List ℕ × UserEntry) → as_user said ≡ Some p → IsNamed said → IsNameOf p
+user_name (User name entry) p e h = subst IsNameOf (some_is _ p e) h
+user_name _ p e h = absurd cc
+
+pterm_name : (said : Said) (p : List ℕ × PtermEntry) → as_pterm said ≡ Some p → IsNamed said → IsNameOf p
+pterm_name (Pterm name entry) p e h = subst IsNameOf (some_is _ p e) h
+pterm_name _ p e h = absurd cc
+
+lterm_name : (said : Said) (p : List ℕ × LtermEntry) → as_lterm said ≡ Some p → IsNamed said → IsNameOf p
+lterm_name (Lterm name entry) p e h = subst IsNameOf (some_is _ p e) h
+lterm_name _ p e h = absurd cc
+
+names_kept : (ss : List Statement) → AllNamed ss → AreNamed (generated ss)
+names_kept ss named =
+    let P : Statement → Type 0 = λ (s : Statement). IsNamed s.said in
+    record {
+      tacs = all_keep P IsNameOf (λ (s : Statement). as_tac s.said) (λ s p e h. tac_name s.said p e h) ss named;
+      users = all_keep P IsNameOf (λ (s : Statement). as_user s.said) (λ s p e h. user_name s.said p e h) ss named;
+      pterms = all_keep P IsNameOf (λ (s : Statement). as_pterm s.said) (λ s p e h. pterm_name s.said p e h) ss named;
+      lterms = all_keep P IsNameOf (λ (s : Statement). as_lterm s.said) (λ s p e h. lterm_name s.said p e h) ss named;
+    }
 
 -- ---- the entries
 
@@ -144,9 +182,10 @@ one_or_more n h = grind (arith, nat_tests, h)
 not_less : (m n : ℕ) → nat_lt m n ≡ false → n ≤ m
 not_less m n h = grind (arith, nat_tests, h)
 
-pub sound : (ss : List Statement) → AreRead ss → AreFaultless ss → IsSound (generated ss)
-sound ss read free = record {
+pub sound : (ss : List Statement) → AreRead ss → AllNamed ss → AreFaultless ss → IsSound (generated ss)
+sound ss read named free = record {
   limits = limits_in_range (max_given ss) (max_in_range ss read.ranges);
+  names = names_kept ss named;
   tacs = values_keep (λ (s : Statement). IsInRange s.said) IsTacInRange (λ (s : Statement). as_tac s.said) (λ s p e h. tac_ranges s.said p e h) ss read.ranges;
   users = values_keep (λ (s : Statement). IsInRange s.said) IsUserInRange (λ (s : Statement). as_user s.said) (λ s p e h. user_ranges s.said p e h) ss read.ranges;
   classes = values_keep (λ (s : Statement). IsInRange s.said) (λ (tasks : ℕ). tasks ≤ 240) (λ (s : Statement). as_class s.said) (λ s p e h. class_ranges s.said p e h) ss read.ranges;

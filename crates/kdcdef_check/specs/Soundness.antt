@@ -2,6 +2,7 @@
 use Rattle.std.specs.Prelude.{◌≡◌, ℕ, ◌+◌, ◌≤◌, Bool, false, ◌||◌, ◌==◌, List, length, IsTrue, is_some, count_by, if◌then◌else◌, nat_le}
 use Rattle.std.specs.List.{All}
 use Rattle.std.specs.Map.{keys_of, values_of}
+use Rattle.kd_base.specs.Text.{IsName}
 use Rattle.kdcdef_types.specs.declared.entry.TacEntry.{TacEntry}
 use Rattle.kdcdef_types.specs.declared.entry.UserEntry.{UserEntry}
 use Rattle.kdcdef_types.specs.declared.entry.PtermEntry.{PtermEntry}
@@ -44,9 +45,21 @@ pub record AreCounted (g : Generated) : Type 0 where
   pub passed_statements : g.counts.passed_statements ≤ 20000
   pub passed_operands : g.counts.passed_operands ≤ 16777216
 
+-- the names of a table are names: of 1 to 8 bytes
+abbrev pub HaveProperNames : {A : Type 0} → List (List ℕ × A) → Type 0
+HaveProperNames {A} entries = All (λ (e : List ℕ × A). IsName e.0) entries
+
+-- the names of the TACs, users and terminals
+pub record AreNamed (g : Generated) : Type 0 where
+  pub tacs : HaveProperNames g.tacs
+  pub users : HaveProperNames g.users
+  pub pterms : HaveProperNames g.pterms
+  pub lterms : HaveProperNames g.lterms
+
 -- what every generation keeps
 pub record IsSound (g : Generated) : Type 0 where
   pub limits : AreLimits g.limits
+  pub names : AreNamed g
   -- the numbers of each entry lie in their ranges
   pub tacs : All IsTacInRange (values_of g.tacs)
   pub users : All IsUserInRange (values_of g.users)

@@ -1,14 +1,15 @@
 -- What the passes over the statements have, one statement after another.
 use Rattle.std.specs.Prelude.{◌≡◌, ℕ, ◌<◌, ◌≤◌, ◌&&◌, ◌==◌, Bool, true, false, IsTrue, nat_eq, bytes_eq, is_some, is_none, List, [], length, take, slice_get, Option, Some, None, fold, slice_index, if◌then◌else◌}
-use Rattle.std.specs.List.{list_any}
+use Rattle.std.specs.List.{All, list_any}
 use Rattle.std.specs.Map.{lookup}
 use Rattle.indexmap.specs.IndexMap.{insert_entry}
 use Rattle.indexmap.specs.IndexSet.{insert_key}
+use Rattle.kd_base.specs.Text.{IsName}
 use Rattle.kdcdef_types.specs.declared.entry.PtermEntry.{PtermEntry}
 use Rattle.kdcdef_types.specs.declared.limits.Limits.{Limits}
 use Rattle.kdcdef_types.specs.declared.limits.Counts.{Counts}
 use Rattle.kdcdef_types.specs.declared.statement.Said.{Said}
-use Rattle.kdcdef_types.specs.declared.statement.Said.TheVariants.{User, Pterm}
+use Rattle.kdcdef_types.specs.declared.statement.Said.TheVariants.{Tac, User, Pterm, Lterm}
 use Rattle.kdcdef_types.specs.declared.statement.Statement.{Statement}
 use Rattle.kdcdef_types.specs.Generation.{Generated, entry_of, tac_of, user_of, pterm_of, lterm_of, has_tls, has_uls, class_limit}
 use Rattle.kdcdef_check.specs.Generating.{as_program, as_tac, as_user, as_pterm, as_lterm, as_tls, as_uls, as_class, said_as, max_given, generated}
@@ -136,6 +137,17 @@ pub record AreFilled (t : Tables) (ss : List Statement) : Type 0 where
   pub uls : t.uls.keys ≡ keys_table bytes_eq (λ (s : Statement). as_uls s.said) ss
   pub classes : t.classes.entries ≡ table_of nat_eq (λ (s : Statement). as_class s.said) ss
   pub served : t.served.keys ≡ keys_table bytes_eq (λ (s : Statement). lterm_said s.said) ss
+
+-- the name of a TAC, a user, a PTERM or an LTERM is one
+abbrev pub IsNamed : Said → Type 0
+IsNamed (Tac name entry) = IsName name
+IsNamed (User name entry) = IsName name
+IsNamed (Pterm name entry) = IsName name
+IsNamed (Lterm name entry) = IsName name
+IsNamed _ = Unit {0}
+
+abbrev pub AllNamed : List Statement → Type 0
+AllNamed ss = All (λ (s : Statement). IsNamed s.said) ss
 
 -- the tables have the names of a generation
 pub record HaveNames (t : Tables) (g : Generated) : Type 0 where

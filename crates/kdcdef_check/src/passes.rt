@@ -1,7 +1,7 @@
 //! The two passes over the statements: one fills the tables, the other tests what needs all of them.
 ghost use Rattle.std.specs.Prelude.{length, IfOk};
 ghost use Rattle.kdcdef_check.specs.Generating.{generated};
-ghost use Rattle.kdcdef_check.specs.Steps.{AreFilled, IsTallyOf, IsFirstOf, AmongFirst, OwnFault, OuterFault, HaveNames, IsWhole};
+ghost use Rattle.kdcdef_check.specs.Steps.{AreFilled, IsTallyOf, IsFirstOf, AmongFirst, OwnFault, OuterFault, HaveNames, IsNamed, AllNamed, IsWhole};
 
 use crate::fault::{CheckFault, earlier};
 use crate::hashing::NameHashing;
@@ -10,7 +10,7 @@ use crate::tables::Tables;
 use crate::tally::{Kind, Tally};
 use crate::whole::Whole;
 use kd_base::OutOfMemory;
-use kdcdef_types::Statement;
+use kdcdef_types::{Said, Statement};
 use std::alloc::Global;
 
 /// What the first pass gives.
@@ -22,10 +22,23 @@ pub(crate) struct Filled {
     pub(crate) first: Option<CheckFault>,
 }
 
+// That the name of a TAC, a user or a terminal is one: its type keeps that, and its calls say it.
+fn know_name(said: &Said)
+    ensures { IsNamed said.now }
+{
+    match said {
+        Said::Tac(name, _) | Said::User(name, _) | Said::Pterm(name, _) | Said::Lterm(name, _) => {
+            let _bytes = name.as_slice();
+        }
+        _ => {}
+    }
+}
+
 /// Fills the tables and finds the first of the statements' own faults.
 pub(crate) fn fill(alloc: Global, statements: &[Statement]) -> Result<Filled, OutOfMemory>
     ensures tables { IfOk result (λ f. AreFilled f.tables statements.now) }
     ensures tally { IfOk result (λ f. IsTallyOf f.tally statements.now) }
+    ensures named { IfOk result (λ _. AllNamed statements.now) }
     ensures first { IfOk result (λ f. IsFirstOf (AmongFirst statements.now (OwnFault statements.now) (length statements.now)) f.first) }
 {
     let mut tables = Tables::new(alloc, NameHashing::of(statements));
@@ -34,6 +47,7 @@ pub(crate) fn fill(alloc: Global, statements: &[Statement]) -> Result<Filled, Ou
     for statement in statements {
         let kind = Kind::of(&statement.said);
         first = earlier(first, own_fault(&tables, tally.count(kind), statement));
+        know_name(&statement.said);
         tables.add(statement)?;
         tally.add(kind);
     }

@@ -72,6 +72,11 @@ pub record AreFittedTo (g : Generated) (all : List UnitText) (fitted : FittedUni
   pub programs : All (λ (p : List ℕ × ℕ). IsSome (unit_named all p.0)) g.programs
   pub fit : AreFit g.limits g.tacs all
 
+-- these units were fitted to this generation
+pub record IsFit (g : Generated) (fitted : FittedUnits) : Type 0 where
+  pub limits : fitted.limits ≡ g.limits
+  pub tacs : fitted.tacs ≡ g.tacs
+
 -- the name has this place, unless it had one before, and other names have what they had
 abbrev pub PutsPlace : BTreeMap (List ℕ) ℕ → BTreeMap (List ℕ) ℕ → List ℕ → ℕ → Type 0
 PutsPlace old new name place = (wanted : List ℕ) → get_by (slice_cmp nat_cmp wanted) new ≡ or_first (get_by (slice_cmp nat_cmp wanted) old) name place wanted

@@ -2,7 +2,7 @@
 ghost use Rattle.std.specs.Prelude.{◌≡◌, ◌↔◌, IfSome, IsSome};
 ghost use Rattle.std.specs.Option.{option_copied};
 ghost use Rattle.kdcdef_types.specs.Generation.{entry_of};
-ghost use Rattle.unit_check.specs.Fitted.{unit_named, unit_of, IsFitted};
+ghost use Rattle.unit_check.specs.Fitted.{unit_named, unit_of, IsFitted, AreFit};
 
 use indexmap::IndexMap;
 use kd_base::{Name, ProgName};
@@ -35,6 +35,14 @@ impl Model for Units {
 }
 
 impl Units {
+    /// The units, in their order.
+    pub fn all(&self) -> &[Unit]
+        ensures all { result.now ≡ self.now.units }
+        ensures fit { AreFit self.now.limits self.now.tacs self.now.units }
+    {
+        self.units.as_slice()
+    }
+
     /// The unit that a TAC runs, in a time that grows only with the logarithm of the number of units; none where the
     /// generation has no such TAC.
     pub fn unit_of(&self, tac: Name) -> Option<&Unit>

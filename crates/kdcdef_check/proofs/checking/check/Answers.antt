@@ -40,7 +40,7 @@ of-requires c =
     all_sound c.as_slice-statements.result.now _
     (all_made c.as_slice-statements.result.now c.in_ok-filled.filled.tables c.in_ok-filled.filled.tally c.of-whole.result.max c.passed_operands.result c.limits_of.result c.counts-counts.result
     c.in_ok-filled.ensures.tables c.in_ok-filled.ensures.tally c.of-whole.ensures.max c.passed_operands.ensures c.limits_of.ensures c.counts-counts.ensures free)
-    read free
+    read c.in_ok-filled.ensures.named free
 
 pub returns-clause-found : goal.returns-clause-found
 returns-clause-found c =

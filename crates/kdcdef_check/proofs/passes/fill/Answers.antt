@@ -1,9 +1,10 @@
-use Rattle.std.proofs.Common.{ℕ, ◌∙◌, ap, arith, take}
+use Rattle.std.proofs.Common.{ℕ, ◌∙◌, ap, arith, subst, take}
+use Rattle.std.proofs.lemmas.List.{take_all}
 use Rattle.kdcdef_check.specs.Generating.{generated}
 use Rattle.kdcdef_check.specs.Faults.{kind_count}
-use Rattle.kdcdef_check.specs.Steps.{place_of, own_fault, OwnFault}
+use Rattle.kdcdef_check.specs.Steps.{place_of, own_fault, OwnFault, AllNamed}
 use Rattle.kdcdef_check.proofs.Tallies.{place_within, count_within, next_tally}
-use Rattle.kdcdef_check.proofs.Filling.{next_filled, filled_names}
+use Rattle.kdcdef_check.proofs.Filling.{next_filled, filled_names, next_named}
 use Rattle.kdcdef_check.proofs.FirstOfFaults.{next_first}
 use Rattle.kdcdef_check.proofs.Chains.{own_first}
 use Rattle.kdcdef_check.proofs.passes.fill.Goals as goal
@@ -27,5 +28,9 @@ loop-statement-preserved c =
     record {
       tables = next_filled ss i s c.loop-statement.tables c.add.new.self within is was.tables c.in_ok-add.ensures;
       tally = next_tally ss i s c.loop-statement.tally c.add-in-loop-statement.new.self kind within is c.of-kind.ensures (place_within c.of-kind.result) was.tally c.add-in-loop-statement.ensures;
+      named = next_named ss i s within is was.named c.know_name.ensures;
       first = rw c.earlier-first.ensures (next_first ss (OwnFault ss) i s c.loop-statement.first c.own_fault.result within is was.first (rw fault (own_first ss i s)));
     }
+
+pub returns-clause-named : goal.returns-clause-named
+returns-clause-named c = subst AllNamed (take_all c.loop-statement.statement-index c.args.statements.now (omega (arith, c.loop-statement-test.false))) c.loop-statement.invariant.named
