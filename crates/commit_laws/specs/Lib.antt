@@ -1,0 +1,5 @@
+pub mod CommitLaws
+pub mod Making
+pub mod Ends
+pub mod Shows
+pub mod Numbers
