@@ -6,7 +6,7 @@ ghost use Rattle.kdcs_types.specs.declared.key.ServiceId.{ServiceId};
 ghost use Rattle.kdcs_types.specs.Keys.{area_cmp, area_eq, id_eq};
 ghost use Rattle.monitor_semantics.specs.declared.answer.LockAnswer.TheVariants as lock_answer;
 ghost use Rattle.monitor_semantics.specs.Locks.{holder, waits_for, since, is_deadlocked, answer_of, refused_by, IsDeadlocked};
-ghost use Rattle.area_locks.specs.Asked.{no_locks, asked, locks_after, holder_after, holds_area, unlocked, freed, other_than};
+ghost use Rattle.area_locks.specs.Asked.{no_locks, asked, locks_after, holder_after, holds_area, unlocked, without_wait, freed, other_than};
 
 use kd_base::OutOfMemory;
 use kdcs_types::{Area, ServiceId};
@@ -82,6 +82,13 @@ impl LockTable {
         }
         self.holders.remove(area);
         true
+    }
+
+    /// Ends the wait of a service. It takes no memory.
+    pub fn end_wait(&mut self, who: ServiceId)
+        ensures { self.new ≡ without_wait self.old who }
+    {
+        self.waits.remove(&who);
     }
 
     /// Gives back all that a service holds, and ends its wait. It takes no memory.

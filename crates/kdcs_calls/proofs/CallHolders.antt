@@ -29,7 +29,8 @@ use Rattle.monitor_semantics.specs.State.{OpenTransaction as Work}
 use Rattle.monitor_semantics.specs.Statements.{area_of_call}
 use Rattle.kdcs_calls.specs.Calling.{HoldersFollow, HoldsJust, after_release, after_request, is_declared, locks_by_call, may_release}
 use Rattle.kdcs_calls.specs.Parts.{delete_area, read_area, told_of}
-use Rattle.kdcs_calls.proofs.Holders.{IsQuiet, follow_holds, locked_follows, quiet_follows, unlocked_follows}
+use Rattle.kdcs_calls.specs.Holding.{follow_holds, quiet_follows}
+use Rattle.kdcs_calls.proofs.Holders.{IsQuiet, locked_follows, unlocked_follows}
 
 -- ---- calls that touch no other area
 

@@ -11,8 +11,8 @@ use Rattle.std.specs.List.{list_any}
 use Rattle.kdcs_types.specs.declared.call.Code.TheVariants.{K04, K05}
 use Rattle.kdcs_types.specs.declared.key.Area.{Area}
 use Rattle.kdcs_types.specs.declared.key.ServiceId.{ServiceId}
-use Rattle.kdcs_types.specs.KeyLaws.{area_total, same_area, area_eq-same, id_eq-itself, id_eq-same}
-use Rattle.kdcs_types.specs.Keys.{area_cmp, area_eq, id_eq}
+use Rattle.kdcs_types.specs.KeyLaws.{area_total, same_area, area_eq-same}
+use Rattle.kdcs_types.specs.Keys.{area_cmp, area_eq}
 use Rattle.kdcs_types.specs.Tables.{TableRows}
 use Rattle.kdcdef_types.specs.Generation.{Generated}
 use Rattle.area_locks.specs.Asked.{asked, given_back, holds_area, is_holder, locks_after, other_than, with_holder, without_holder, without_wait, unlocked as unlocked_locks}
@@ -22,6 +22,7 @@ use Rattle.monitor_semantics.specs.Calls.{Told, Performed, locked, noted, on_ans
 use Rattle.monitor_semantics.specs.Locks.{Locks, answer_of, holder}
 use Rattle.monitor_semantics.specs.State.{OpenTransaction as Work}
 use Rattle.kdcs_calls.specs.Calling.{HoldersFollow, HoldsJust, holder_then, may_release}
+use Rattle.kdcs_calls.specs.Holding.{kept, quiet_follows}
 use Rattle.kdcs_calls.specs.Parts.{told_of}
 use Rattle.kdcs_calls.proofs.Locking.{same_answer}
 
@@ -40,33 +41,7 @@ or_false false = refl
 area_eq-sym : (a b : Area) → area_eq a b ≡ area_eq b a
 area_eq-sym a b = (eq_by_cmp_equiv area_total).symm a b
 
--- HoldsJust again
-pub follow_holds : (l m : Locks) (id : ServiceId) (x : Work) → HoldersFollow l m id x → HoldsJust m id x
-follow_holds l m id x follow area = ap (λ (o : Option ServiceId). is_holder o id) (follow area) ∙ by (holder l area) (touches x area)
-  where
-    other : (o : ServiceId) (b : Bool) → id_eq o id ≡ b → is_holder (if b then None else Some o) id ≡ false
-    other o true e = refl
-    other o false e = e
-
-    by : (o : Option ServiceId) (b : Bool) → is_holder (if b then Some id else other_than id o) id ≡ b
-    by o true = id_eq-itself id
-    by None false = refl
-    by (Some o) false = other o (id_eq o id) refl
-
 module _ (l : Locks) (id : ServiceId) (x : Work) (h : HoldsJust l id x) where
-  kept : (area : Area) → holder l area ≡ holder_then id x area (holder l area)
-  kept area = by (holder l area) (touches x area) (h area)
-    where
-      by : (o : Option ServiceId) (b : Bool) → is_holder o id ≡ b → o ≡ (if b then Some id else other_than id o)
-      by None true e = absurd (true≢false (sym e))
-      by None false e = refl
-      by (Some other) true e = ap (λ (i : ServiceId). Some i) (id_eq-same other id e)
-      by (Some other) false e = sym (ap (λ (b : Bool). if b then None else Some other) e)
-
-  pub quiet_follows : (y : Work) → y.touched ≡ x.touched → HoldersFollow l l id y
-  quiet_follows y e area =
-      kept area ∙ ap (λ (held : List Area). if list_any (λ (k : Area). area_eq k area) held then Some id else other_than id (holder l area)) (sym e)
-
   -- ---- a request
 
   module _ (area : Area) where
@@ -85,7 +60,7 @@ module _ (l : Locks) (id : ServiceId) (x : Work) (h : HoldsJust l id x) where
     granted_follows : (y : Work) → y.touched ≡ (touching x area (touches x area)).touched → HoldersFollow l (without_wait (with_holder l id area) id) id y
     granted_follows y e a =
         find-put area_cmp area_total a area id l.holders
-        ∙ by (area_eq a area) (kept a)
+        ∙ by (area_eq a area) (kept l id x h a)
         ∙ ap (λ (b : Bool). if b then Some id else other_than id (holder l a)) (sym (touched_then (touches x area) refl a (area_eq a area) refl))
         ∙ ap (λ (held : List Area). if list_any (λ (k : Area). area_eq k a) held then Some id else other_than id (holder l a)) (sym e)
       where
@@ -95,9 +70,9 @@ module _ (l : Locks) (id : ServiceId) (x : Work) (h : HoldsJust l id x) where
 
     answer_follows : (now : ℕ) (go : Work → Performed) → ((y : Work) → IsQuiet y (go y)) → (answer : LockAnswer) → HoldersFollow l (locks_after answer l now id area) id (on_answer x area answer go).0
     answer_follows now go still Granted = granted_follows (go (touching x area (touches x area))).0 (still (touching x area (touches x area)))
-    answer_follows now go still Wait = quiet_follows x refl
-    answer_follows now go still Busy = quiet_follows (noted x area K04) refl
-    answer_follows now go still Deadlock = quiet_follows (noted x area K05) refl
+    answer_follows now go still Wait = quiet_follows l id x h x refl
+    answer_follows now go still Busy = quiet_follows l id x h (noted x area K04) refl
+    answer_follows now go still Deadlock = quiet_follows l id x h (noted x area K05) refl
 
     pub locked_follows : (g : Generated) (t : TableRows) (go : Work → Performed) → ((y : Work) → IsQuiet y (go y)) → HoldersFollow l (asked l g.limits.reswait t.clock id area) id (locked (told_of g t l id area) x area go).0
     locked_follows g t go still =
@@ -128,7 +103,7 @@ module _ (l : Locks) (id : ServiceId) (x : Work) (h : HoldsJust l id x) where
 
         by : (a : Area) (same : Bool) → area_eq area a ≡ same → cond (not same) (holder l a) None ≡ (if not same && touches x a then Some id else other_than id (holder l a))
         by a true same = none_else (holder l a) (ap (λ (i : Area). holds_area l id i) (sym (area_eq-same area a same)) ∙ h area ∙ held)
-        by a false same = kept a
+        by a false same = kept l id x h a
 
         left : HoldersFollow l (without_holder l area) id y
         left a =
@@ -141,7 +116,7 @@ module _ (l : Locks) (id : ServiceId) (x : Work) (h : HoldsJust l id x) where
     unlocked_follows v = by (touches x area) (is_some (find area_cmp area x.written)) refl
       where
         by : (held written : Bool) → touches x area ≡ held → HoldersFollow l (if held && not written then unlocked_locks l id area else l) id (unlocked_by v x area held written).0
-        by true true e = quiet_follows x refl
+        by true true e = quiet_follows l id x h x refl
         by true false e = released_follows (unlocked_by v x area true false).0 refl e
-        by false true e = quiet_follows x refl
-        by false false e = quiet_follows x refl
+        by false true e = quiet_follows l id x h x refl
+        by false false e = quiet_follows l id x h x refl

@@ -1,4 +1,5 @@
 pub mod AreaCalls
 pub mod CallHolders
+pub mod CallWaits
 pub mod Holders
 pub mod Locking

@@ -1,5 +1,5 @@
 -- A KDCS call as the running system performs it: what it may be asked on, what it answers, and what becomes of the locks.
-use Rattle.std.specs.Prelude.{◌≡◌, ◌≤◌, ℕ, Bool, true, ◌&&◌, not, All, length, Option, Some, None, IfSome, is_some, if◌then◌else◌}
+use Rattle.std.specs.Prelude.{◌≡◌, ◌≤◌, ℕ, Bool, true, ◌&&◌, not, All, List, length, Option, Some, None, IfSome, is_some, if◌then◌else◌}
 use Rattle.std.specs.FinMap.{find}
 use Rattle.kdcs_types.specs.declared.call.Call.{Call}
 use Rattle.kdcs_types.specs.declared.call.Call.TheVariants.{Init, Mget, Mput, Fget, Fput, Dput, SgetGb, SputGb, SrelGb, SgetKp, SgetRl, SputMs, SrelLb, SgetUs, SputUs, Gtda, Ptda, UnlkGb, UnlkUs, UnlkDa, Pend}
@@ -9,11 +9,13 @@ use Rattle.kdcs_types.specs.declared.key.ServiceId.{ServiceId}
 use Rattle.kdcs_types.specs.Keys.{area_cmp}
 use Rattle.kdcs_types.specs.Tables.{TableRows, content_of}
 use Rattle.kdcdef_types.specs.Generation.{Generated, has_tls, has_uls}
-use Rattle.area_locks.specs.Asked.{asked, holds_area, other_than, unlocked}
+use Rattle.area_locks.specs.Asked.{asked, holds_area, other_than, unlocked, with_wait, without_wait}
+use Rattle.monitor_semantics.specs.declared.answer.Called.{Called}
+use Rattle.monitor_semantics.specs.declared.answer.Called.TheVariants.{Replied, Waits, Abnormal, Pends}
 use Rattle.monitor_semantics.specs.Bytes.{Bytes, bytes_cmp}
 use Rattle.monitor_semantics.specs.Calls.{Performed, call_outcome, shown_by, touches}
 use Rattle.monitor_semantics.specs.Endings.{is_asynchronous}
-use Rattle.monitor_semantics.specs.Locks.{Locks, holder, told_now}
+use Rattle.monitor_semantics.specs.Locks.{Locks, Waiting, holder, told_now}
 use Rattle.monitor_semantics.specs.Statements.{area_of_call}
 use Rattle.monitor_semantics.specs.State.{OpenTransaction as Work}
 
@@ -40,6 +42,18 @@ holder_then id x area before = if touches x area then Some id else other_than id
 -- so it is with each area, from these locks to those
 abbrev pub HoldersFollow : (before after : Locks) → ServiceId → Work → Type 0
 HoldersFollow l m id x = (area : Area) → holder m area ≡ holder_then id x area (holder l area)
+
+-- only a call that asks of an area waits: since the first request of this wait
+abbrev pub waits_for_area : Locks → ServiceId → (now : ℕ) → Option Area → List (ServiceId × Waiting)
+waits_for_area l id now None = l.waits
+waits_for_area l id now (Some area) = (with_wait l id area now).waits
+
+-- an answered call changes no wait of another service, one that waits has its wait, and the others leave the waits as they were
+abbrev pub WaitsFollow : (before after : Locks) → ServiceId → (now : ℕ) → Option Area → Called → Type 0
+WaitsFollow l m id now area (Replied reply) = (without_wait m id).waits ≡ (without_wait l id).waits
+WaitsFollow l m id now area Waits = m.waits ≡ waits_for_area l id now area
+WaitsFollow l m id now area (Abnormal cause) = m.waits ≡ l.waits
+WaitsFollow l m id now area (Pends variant o) = m.waits ≡ l.waits
 
 -- ---- what it answers
 

@@ -32,6 +32,7 @@ pub(crate) fn read_area(
     ensures exact { IfOk result (λ called. (work_of work.new, called) ≡ in_area (work_of work.old) area (λ a. read_area (told_of outside.now.generation.now outside.now.tables.now locks.old work.old.id a) (work_of work.old) a room)) }
     ensures locks { OnOk result (locks.new ≡ asked_in outside.now.generation.now outside.now.tables.now.clock locks.old work.old.id area) }
     ensures id { work.new.id ≡ work.old.id }
+    ensures statements { work.new.statements ≡ work.old.statements }
     ensures nb { work.new.messages.nb ≡ work.old.messages.nb }
 {
     let area = match area {
@@ -70,6 +71,7 @@ pub(crate) fn read_block(
     ensures exact { IfOk result (λ called. (work_of work.new, called) ≡ in_area (work_of work.old) area (λ a. read_block (told_of outside.now.generation.now outside.now.tables.now locks.old work.old.id a) (work_of work.old) a room)) }
     ensures locks { OnOk result (locks.new ≡ asked_in outside.now.generation.now outside.now.tables.now.clock locks.old work.old.id area) }
     ensures id { work.new.id ≡ work.old.id }
+    ensures statements { work.new.statements ≡ work.old.statements }
     ensures nb { work.new.messages.nb ≡ work.old.messages.nb }
 {
     let area = match area {
@@ -97,6 +99,7 @@ pub(crate) fn write_area(
     ensures exact { IfOk result (λ called. (work_of work.new, called) ≡ in_area (work_of work.old) area (λ a. write_block (told_of outside.now.generation.now outside.now.tables.now locks.old work.old.id a) (work_of work.old) a bytes.now)) }
     ensures locks { OnOk result (locks.new ≡ asked_in outside.now.generation.now outside.now.tables.now.clock locks.old work.old.id area) }
     ensures id { work.new.id ≡ work.old.id }
+    ensures statements { work.new.statements ≡ work.old.statements }
     ensures nb { work.new.messages.nb ≡ work.old.messages.nb }
 {
     let area = match area {
@@ -123,6 +126,7 @@ pub(crate) fn delete_area(
     ensures exact { IfOk result (λ called. (work_of work.new, called) ≡ in_area (work_of work.old) area (λ a. delete_area (told_of outside.now.generation.now outside.now.tables.now locks.old work.old.id a) (work_of work.old) a)) }
     ensures locks { OnOk result (locks.new ≡ asked_in outside.now.generation.now outside.now.tables.now.clock locks.old work.old.id area) }
     ensures id { work.new.id ≡ work.old.id }
+    ensures statements { work.new.statements ≡ work.old.statements }
     ensures nb { work.new.messages.nb ≡ work.old.messages.nb }
 {
     let area = match area {
@@ -161,6 +165,7 @@ pub(crate) fn unlock(
     ensures exact { IfOk result (λ called. (work_of work.new, called) ≡ in_area (work_of work.old) area (λ a. unlocked (told_of outside.now.generation.now outside.now.tables.now locks.old work.old.id a) (work_of work.old) a)) }
     ensures locks { OnOk result (locks.new ≡ released_in locks.old work.old.id (work_of work.old) area) }
     ensures id { work.new.id ≡ work.old.id }
+    ensures statements { work.new.statements ≡ work.old.statements }
     ensures nb { work.new.messages.nb ≡ work.old.messages.nb }
 {
     let area = match area {

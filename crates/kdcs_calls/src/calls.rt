@@ -5,7 +5,7 @@ ghost use Rattle.monitor_semantics.specs.Endings.{is_asynchronous};
 ghost use Rattle.monitor_semantics.specs.Locks.{told_now};
 ghost use Rattle.monitor_semantics.specs.Statements.{area_of_call};
 ghost use Rattle.open_transaction.specs.Work.{work_of};
-ghost use Rattle.kdcs_calls.specs.Calling.{CanRead, HoldersFollow, HoldsJust, locks_after_call, locks_by_call, performed_now};
+ghost use Rattle.kdcs_calls.specs.Calling.{CanRead, HoldersFollow, HoldsJust, WaitsFollow, locks_after_call, locks_by_call, performed_now};
 
 use crate::answer::replied;
 use crate::areas::{delete_area, read_area, read_block, unlock, write_area};
@@ -33,6 +33,7 @@ fn is_asynchronous(id: ServiceId) -> bool
 fn first_call(work: &mut OpenTransaction, call: &Call) -> Called
     ensures exact { (work_of work.new, result) ≡ first_call (work_of work.old) call.now }
     ensures id { work.new.id ≡ work.old.id }
+    ensures statements { work.new.statements ≡ work.old.statements }
     ensures nb { work.new.messages.nb ≡ work.old.messages.nb }
 {
     match call {
@@ -58,6 +59,7 @@ fn later_call(
     ensures exact { IfOk result (λ c. (work_of work.new, c) ≡ called outside.now.generation.now (told_now locks.old outside.now.generation.now.limits.reswait outside.now.tables.now work.old.id (area_of_call (work_of work.old) call.now)) (is_asynchronous work.old.id) (work_of work.old) call.now) }
     ensures locks { OnOk result (locks.new ≡ locks_by_call outside.now.generation.now outside.now.tables.now.clock locks.old work.old.id (work_of work.old) call.now) }
     ensures id { work.new.id ≡ work.old.id }
+    ensures statements { work.new.statements ≡ work.old.statements }
     ensures nb { work.new.messages.nb ≡ work.old.messages.nb }
 {
     let g = outside.generation;
@@ -112,7 +114,9 @@ pub fn perform(
     ensures locks { OnOk result (locks.new ≡ locks_after_call generation.now tables.now.clock locks.old open_work.old.id (work_of open_work.old) call.now) }
     ensures holders { OnOk result (HoldersFollow locks.old locks.new open_work.old.id (work_of open_work.new)) }
     ensures holds { OnOk result (HoldsJust locks.new open_work.old.id (work_of open_work.new)) }
+    ensures waits { IfOk result (λ c. WaitsFollow locks.old locks.new open_work.old.id tables.now.clock (area_of_call (work_of open_work.old) call.now) c) }
     ensures id { open_work.new.id ≡ open_work.old.id }
+    ensures statements { open_work.new.statements ≡ open_work.old.statements }
     ensures nb { open_work.new.messages.nb ≡ open_work.old.messages.nb }
 {
     if !open_work.inited {

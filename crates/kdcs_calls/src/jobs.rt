@@ -60,6 +60,7 @@ fn draft(
     requires { IfSome due IsInTicks }
     ensures exact { IfOk result (λ called. (work_of work.new, called) ≡ drafted (work_of work.old) to due message.now) }
     ensures id { work.new.id ≡ work.old.id }
+    ensures statements { work.new.statements ≡ work.old.statements }
     ensures nb { work.new.messages.nb ≡ work.old.messages.nb }
 {
     let Some(to) = to else {
@@ -83,6 +84,7 @@ pub(crate) fn put_job(
     requires { IfSome due IsInTicks }
     ensures exact { IfOk result (λ called. (work_of work.new, called) ≡ put_job generation.now (work_of work.old) to.now due message.now) }
     ensures id { work.new.id ≡ work.old.id }
+    ensures statements { work.new.statements ≡ work.old.statements }
     ensures nb { work.new.messages.nb ≡ work.old.messages.nb }
 {
     if message.len() > generation.max().nb as usize {

@@ -24,6 +24,7 @@ pub(crate) fn read_local(
     requires { (name : Bytes) → IfSome (find bytes_cmp name work.old.areas.lssbs) IsShort }
     ensures exact { IfOk result (λ called. (work_of work.new, called) ≡ with_name (work_of work.old) (name_in_operand operand.now) (λ n. read_or code.K03 (work_of work.old) room (find bytes_cmp n (work_of work.old).lssbs))) }
     ensures id { work.new.id ≡ work.old.id }
+    ensures statements { work.new.statements ≡ work.old.statements }
     ensures nb { work.new.messages.nb ≡ work.old.messages.nb }
 {
     match name_in(operand) {
@@ -40,6 +41,7 @@ fn read_away_name(work: &mut OpenTransaction, name: Name, room: u32) -> Result<C
     requires { IfSome (find bytes_cmp name work.old.areas.lssbs) IsShort }
     ensures exact { IfOk result (λ called. (work_of work.new, called) ≡ read_away (work_of work.old) name room) }
     ensures id { work.new.id ≡ work.old.id }
+    ensures statements { work.new.statements ≡ work.old.statements }
     ensures nb { work.new.messages.nb ≡ work.old.messages.nb }
 {
     match work.areas.read_local(name)? {
@@ -60,6 +62,7 @@ pub(crate) fn read_away(
     requires { (name : Bytes) → IfSome (find bytes_cmp name work.old.areas.lssbs) IsShort }
     ensures exact { IfOk result (λ called. (work_of work.new, called) ≡ with_name (work_of work.old) (name_in_operand operand.now) (λ n. read_away (work_of work.old) n room)) }
     ensures id { work.new.id ≡ work.old.id }
+    ensures statements { work.new.statements ≡ work.old.statements }
     ensures nb { work.new.messages.nb ≡ work.old.messages.nb }
 {
     match name_in(operand) {
@@ -77,6 +80,7 @@ pub(crate) fn write_local(
 ) -> Result<Called, OutOfMemory>
     ensures exact { IfOk result (λ called. (work_of work.new, called) ≡ with_name (work_of work.old) (name_in_operand operand.now) (λ n. write_local generation.now (work_of work.old) n bytes.now)) }
     ensures id { work.new.id ≡ work.old.id }
+    ensures statements { work.new.statements ≡ work.old.statements }
     ensures nb { work.new.messages.nb ≡ work.old.messages.nb }
 {
     match name_in(operand) {
@@ -93,6 +97,7 @@ pub(crate) fn write_local(
 pub(crate) fn delete_local(work: &mut OpenTransaction, operand: &Bytes) -> Called
     ensures exact { (work_of work.new, result) ≡ with_name (work_of work.old) (name_in_operand operand.now) (λ n. delete_local (work_of work.old) n) }
     ensures id { work.new.id ≡ work.old.id }
+    ensures statements { work.new.statements ≡ work.old.statements }
     ensures nb { work.new.messages.nb ≡ work.old.messages.nb }
 {
     match name_in(operand) {

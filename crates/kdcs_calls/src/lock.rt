@@ -24,6 +24,7 @@ fn take_answer(
     ensures exact { IfOk result (λ called. (go : Work → Performed) → after_lock called (work_of work.new) go ≡ on_answer (work_of work.old) area.now answer go) }
     ensures areas { work.new.areas ≡ work.old.areas }
     ensures id { work.new.id ≡ work.old.id }
+    ensures statements { work.new.statements ≡ work.old.statements }
     ensures messages { work.new.messages ≡ work.old.messages }
 {
     match answer {
@@ -56,6 +57,7 @@ pub(crate) fn lock(
     ensures locks { OnOk result (locks.new ≡ asked locks.old outside.now.generation.now.limits.reswait outside.now.tables.now.clock work.old.id area.now) }
     ensures areas { work.new.areas ≡ work.old.areas }
     ensures id { work.new.id ≡ work.old.id }
+    ensures statements { work.new.statements ≡ work.old.statements }
     ensures messages { work.new.messages ≡ work.old.messages }
 {
     let reswait = outside.generation.max().reswait;

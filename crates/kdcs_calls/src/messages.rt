@@ -17,6 +17,7 @@ pub(crate) fn get(work: &mut OpenTransaction, allowed: bool, room: u32) -> Calle
     requires { All IsShort work.old.messages.unread }
     ensures exact { (work_of work.new, result) ≡ for_kind (work_of work.old) allowed (got (work_of work.old) room) }
     ensures id { work.new.id ≡ work.old.id }
+    ensures statements { work.new.statements ≡ work.old.statements }
     ensures nb { work.new.messages.nb ≡ work.old.messages.nb }
 {
     if !allowed {
@@ -36,6 +37,7 @@ pub(crate) fn put(
 ) -> Result<Called, OutOfMemory>
     ensures exact { IfOk result (λ called. (g : Generated) → work.old.messages.nb ≡ g.limits.nb → (work_of work.new, called) ≡ for_kind (work_of work.old) allowed (put_part g (work_of work.old) part.now)) }
     ensures id { work.new.id ≡ work.old.id }
+    ensures statements { work.new.statements ≡ work.old.statements }
     ensures nb { work.new.messages.nb ≡ work.old.messages.nb }
 {
     if !allowed {

@@ -1,0 +1,40 @@
+-- While the locks give a service just what its transaction touches, no area changes hands by what touches no other.
+use Rattle.std.specs.Prelude.{◌≡◌, refl, Bool, true, false, List, Option, Some, None, if◌then◌else◌}
+use Rattle.std.proofs.Common.{ap, sym, ◌∙◌, true≢false}
+use Rattle.std.specs.List.{list_any}
+use Rattle.kdcs_types.specs.declared.key.Area.{Area}
+use Rattle.kdcs_types.specs.declared.key.ServiceId.{ServiceId}
+use Rattle.kdcs_types.specs.KeyLaws.{id_eq-itself, id_eq-same}
+use Rattle.kdcs_types.specs.Keys.{area_eq, id_eq}
+use Rattle.area_locks.specs.Asked.{is_holder, other_than}
+use Rattle.monitor_semantics.specs.Calls.{touches}
+use Rattle.monitor_semantics.specs.Locks.{Locks, holder}
+use Rattle.monitor_semantics.specs.State.{OpenTransaction as Work}
+use Rattle.kdcs_calls.specs.Calling.{HoldersFollow, HoldsJust, holder_then}
+
+-- HoldsJust again
+pub follow_holds : (l m : Locks) (id : ServiceId) (x : Work) → HoldersFollow l m id x → HoldsJust m id x
+follow_holds l m id x follow area = ap (λ (o : Option ServiceId). is_holder o id) (follow area) ∙ by (holder l area) (touches x area)
+  where
+    other : (o : ServiceId) (b : Bool) → id_eq o id ≡ b → is_holder (if b then None else Some o) id ≡ false
+    other o true e = refl
+    other o false e = e
+
+    by : (o : Option ServiceId) (b : Bool) → is_holder (if b then Some id else other_than id o) id ≡ b
+    by o true = id_eq-itself id
+    by None false = refl
+    by (Some o) false = other o (id_eq o id) refl
+
+module _ (l : Locks) (id : ServiceId) (x : Work) (h : HoldsJust l id x) where
+  pub kept : (area : Area) → holder l area ≡ holder_then id x area (holder l area)
+  kept area = by (holder l area) (touches x area) (h area)
+    where
+      by : (o : Option ServiceId) (b : Bool) → is_holder o id ≡ b → o ≡ (if b then Some id else other_than id o)
+      by None true e = absurd (true≢false (sym e))
+      by None false e = refl
+      by (Some other) true e = ap (λ (i : ServiceId). Some i) (id_eq-same other id e)
+      by (Some other) false e = sym (ap (λ (b : Bool). if b then None else Some other) e)
+
+  pub quiet_follows : (y : Work) → y.touched ≡ x.touched → HoldersFollow l l id y
+  quiet_follows y e area =
+      kept area ∙ ap (λ (held : List Area). if list_any (λ (k : Area). area_eq k area) held then Some id else other_than id (holder l area)) (sym e)

@@ -1,0 +1,124 @@
+-- A statement that is a call: what its answer finds, and what becomes of the transaction and of the locks.
+use Rattle.std.specs.Prelude.{◌≡◌, refl, ◌≤◌, ◌+◌, ℕ, Bool, List, Option, None, Result, Ok, Err, IfOk, OnOk}
+use Rattle.std.proofs.Common.{ap, sym, subst, ◌∙◌, arith}
+use Rattle.kd_base.specs.declared.words.Variant.{Variant}
+use Rattle.kdcs_types.specs.declared.call.Call.{Call}
+use Rattle.kdcs_types.specs.declared.key.Area.{Area}
+use Rattle.kdcs_types.specs.declared.key.ServiceId.{ServiceId}
+use Rattle.kdcs_types.specs.Tables.{TableRows}
+use Rattle.kdcdef_types.specs.Generation.{Generated}
+use Rattle.unit_types.specs.UnitText.{UnitText}
+use Rattle.unit_semantics.specs.Ready.{IsReady}
+use Rattle.unit_semantics.specs.Statement.{Asks, step}
+use Rattle.area_locks.specs.Asked.{without_wait}
+use Rattle.kdcs_calls.specs.Calling.{CanRead, HoldersFollow, WaitsFollow, performed_now}
+use Rattle.monitor_semantics.specs.declared.answer.Called.{Called}
+use Rattle.monitor_semantics.specs.declared.answer.Called.TheVariants.{Replied, Waits, Abnormal, Pends}
+use Rattle.monitor_semantics.specs.declared.answer.Happened.{Happened}
+use Rattle.monitor_semantics.specs.declared.outcome.Outcome.{Outcome}
+use Rattle.monitor_semantics.specs.declared.outcome.Outcome.TheVariants.{Hold, Stay, Queue, Wait, Point, Follow, Finish, Break, Back}
+use Rattle.monitor_semantics.specs.Endings.{followed, is_asynchronous}
+use Rattle.monitor_semantics.specs.Locks.{Locks, Waiting, told_now}
+use Rattle.monitor_semantics.specs.State.{Application, OpenTransaction as Work}
+use Rattle.monitor_semantics.specs.Statements.{area_of_call, by_call, by_outcome, by_performed}
+use Rattle.monitor_tables.specs.OpenLaws.{CallKeeps, CalledFits, StandsIn}
+use Rattle.monitor_tables.specs.PointLaws.{AreSound}
+use Rattle.monitor_tables.specs.Ready.{runs_are_ready}
+use Rattle.monitor_tables.specs.Stated.{calls_keep}
+use Rattle.monitor_tables.specs.States.{told-fits}
+use Rattle.monitor_semantics.specs.Bytes.{Bytes}
+use Rattle.open_transaction.specs.Work.{followed_with}
+use Rattle.service_statement.specs.Stating.{wait_ended, waits_by}
+use Rattle.service_statement.proofs.Reading.{can_read}
+
+-- ---- what the answer finds
+
+module _ (app : Application) (t : TableRows) (l : Locks) (id : ServiceId) (x : Work) (unit : UnitText) (call : Call) (stands : StandsIn app id x unit) (sound : AreSound app.generation t) where
+  pub reads : CanRead t x
+  reads = can_read app.generation t id x (omega (arith, stands.application.nb)) sound stands.can
+
+  abbrev performed : Work × Called
+  performed = performed_now app.generation t l id x call
+
+  module _ (asks : step unit x.run ≡ Asks call) (y : Work) (c : Called) (exact : (y, c) ≡ performed) where
+    kept : CallKeeps app.generation id x unit (y, c)
+    kept =
+        subst (CallKeeps app.generation id x unit) (sym exact)
+        (calls_keep app id x unit (told_now l app.generation.limits.reswait t id (area_of_call x call)) call stands (told-fits app.generation t l app.generation.limits.reswait id (area_of_call x call) sound) asks)
+
+    pub ready_then : IsReady unit y.run
+    ready_then = subst (IsReady unit) (sym kept.same_run) (runs_are_ready app id x unit stands)
+
+    pub fits_then : (i : ServiceId) → i ≡ id → CalledFits app.generation (is_asynchronous i) unit y.run c
+    fits_then i same = subst (λ (k : ServiceId). CalledFits app.generation (is_asynchronous k) unit y.run c) (sym same) kept.fits
+
+  -- ---- what the statement does
+
+  pub performs : (y : Work) (c : Called) → (y, c) ≡ performed → (i : ServiceId) → i ≡ id → (z : Work) (h : Happened)
+      → (z, h) ≡ by_call app (is_asynchronous i) unit y c → (z, h) ≡ by_performed app (is_asynchronous id) unit performed
+  performs y c exact i same z h e =
+      e ∙ ap (λ (k : ServiceId). by_call app (is_asynchronous k) unit y c) same ∙ ap (by_performed app (is_asynchronous id) unit) exact
+
+-- a further unit run counts one statement
+pub followed_counts : (g : Generated) (asynchronous : Bool) (x y : Work) (tac : Bytes) → y ≡ followed_with g asynchronous x tac None → y.statements ≤ x.statements + 1
+unfolding followed
+followed_counts g asynchronous x y tac e = let counts : y.statements ≡ x.statements + 1 = ap (λ (w : Work). w.statements) e in omega arith
+
+-- ---- what becomes of the locks
+
+module _ (app : Application) (asynchronous : Bool) (unit : UnitText) (y : Work) where
+  touched_by_outcome : (variant : Variant) (o : Outcome) → (by_outcome app asynchronous y variant o).0.touched ≡ y.touched
+  unfolding followed
+  touched_by_outcome variant (Stay tac) = refl
+  touched_by_outcome variant (Queue tac) = refl
+  touched_by_outcome variant (Hold tac) = refl
+  touched_by_outcome variant (Wait tac) = refl
+  touched_by_outcome variant (Point tac) = refl
+  touched_by_outcome variant (Follow tac) = refl
+  touched_by_outcome variant Finish = refl
+  touched_by_outcome variant Break = refl
+  touched_by_outcome variant Back = refl
+
+  touched_by_call : (c : Called) → (by_call app asynchronous unit y c).0.touched ≡ y.touched
+  touched_by_call (Replied reply) = refl
+  touched_by_call Waits = refl
+  touched_by_call (Abnormal cause) = refl
+  touched_by_call (Pends variant o) = touched_by_outcome variant o
+
+  -- what follows the call touches no other area
+  holders_stay : (l m : Locks) (id : ServiceId) (z : Work) (h : Happened) (c : Called) → HoldersFollow l m id y → (z, h) ≡ by_call app asynchronous unit y c → HoldersFollow l m id z
+  holders_stay l m id z h c follow e =
+      subst (λ (held : List Area). HoldersFollow l m id (record z { touched = held }))
+      (sym (ap (λ (s : Work × Happened). s.0.touched) e ∙ touched_by_call c)) follow
+
+  pub holders_done : {E : Type 0} (l m : Locks) (id : ServiceId) (z : Work) (c : Called) (r : Result Happened E) → HoldersFollow l m id y
+      → IfOk r (λ (h : Happened). (z, h) ≡ by_call app asynchronous unit y c) → OnOk r (HoldersFollow l m id z)
+  holders_done l m id z c (Ok h) follow e = holders_stay l m id z h c follow e
+  holders_done l m id z c (Err e) follow is = tt
+
+  module _ (l m : Locks) (id : ServiceId) (now : ℕ) (area : Option Area) where
+    abbrev Come : Happened → Type 0
+    Come h = (wait_ended m id h).waits ≡ waits_by l id now area h
+
+    abbrev ended : List (ServiceId × Waiting) → List (ServiceId × Waiting)
+    ended waits = (without_wait (record l { waits = waits }) id).waits
+
+    waits_by_outcome : (variant : Variant) (o : Outcome) → m.waits ≡ l.waits → Come (by_outcome app asynchronous y variant o).1
+    waits_by_outcome variant (Stay tac) e = ap ended e
+    waits_by_outcome variant (Queue tac) e = ap ended e
+    waits_by_outcome variant (Hold tac) e = ap ended e
+    waits_by_outcome variant (Wait tac) e = e
+    waits_by_outcome variant (Point tac) e = e
+    waits_by_outcome variant (Follow tac) e = e
+    waits_by_outcome variant Finish e = e
+    waits_by_outcome variant Break e = e
+    waits_by_outcome variant Back e = e
+
+    waits_by_call : (c : Called) → WaitsFollow l m id now area c → Come (by_call app asynchronous unit y c).1
+    waits_by_call (Replied reply) follow = follow
+    waits_by_call Waits follow = follow
+    waits_by_call (Abnormal cause) follow = follow
+    waits_by_call (Pends variant o) follow = waits_by_outcome variant o follow
+
+    pub waits_come : (z : Work) (h : Happened) (c : Called) → WaitsFollow l m id now area c → (z, h) ≡ by_call app asynchronous unit y c → Come h
+    waits_come z h c follow e = subst (λ (s : Work × Happened). Come s.1) (sym e) (waits_by_call c follow)

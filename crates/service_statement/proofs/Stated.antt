@@ -1,0 +1,112 @@
+-- The next statement of an open transaction, from the step of its unit.
+use Rattle.std.specs.Prelude.{◌≡◌, Option, Some, Result, Ok, Err, IfOk}
+use Rattle.std.proofs.Common.{ap, sym, subst, ◌∙◌}
+use Rattle.kdcs_types.specs.declared.call.Call.{Call}
+use Rattle.kdcs_types.specs.declared.call.Cause.{Cause}
+use Rattle.kdcs_types.specs.declared.key.Area.{Area}
+use Rattle.kdcs_types.specs.declared.key.ServiceId.{ServiceId}
+use Rattle.kdcs_types.specs.Tables.{TableRows}
+use Rattle.unit_types.specs.UnitText.{UnitText}
+use Rattle.unit_semantics.specs.Statement.{Meaning, Plain, Asks, Ends, step}
+use Rattle.unit_step.specs.Answers.{meaning_of}
+use Rattle.unit_step.specs.declared.outcome.Stepped.{Stepped}
+use Rattle.unit_step.specs.declared.outcome.Stepped.TheVariants as stepped
+use Rattle.kdcs_calls.specs.Calling.{HoldersFollow, HoldsJust, performed_now}
+use Rattle.kdcs_calls.specs.Holding.{follow_holds, quiet_follows}
+use Rattle.kdcs_types.specs.declared.service.Ending.TheVariants.{Broken}
+use Rattle.monitor_semantics.specs.declared.answer.Happened.{Happened}
+use Rattle.monitor_semantics.specs.declared.answer.Happened.TheVariants.{Went, Queued, Waited, Held, Settles, Breaks, Returns}
+use Rattle.monitor_semantics.specs.Calls.{Told}
+use Rattle.monitor_semantics.specs.Endings.{is_asynchronous}
+use Rattle.monitor_semantics.specs.Locks.{Locks, told_now}
+use Rattle.monitor_semantics.specs.State.{Application, OpenTransaction as Work, unit_of}
+use Rattle.monitor_semantics.specs.Statements.{Stated, area_in_unit, area_of, area_of_call, area_of_step, by_performed, by_step, in_unit, statement}
+use Rattle.monitor_tables.specs.OpenLaws.{StandsIn}
+use Rattle.open_transaction.specs.declared.open.OpenTransaction.{OpenTransaction}
+use Rattle.open_transaction.specs.Work.{work_of}
+use Rattle.service_statement.specs.Stating.{StepLeaves, wait_ended, waits_after, waits_by}
+
+module _ (app : Application) (t : TableRows) (l : Locks) (id : ServiceId) (x : Work) where
+  abbrev told_by : Option Area → Told
+  told_by area = told_now l app.generation.limits.reswait t id area
+
+  -- what the next statement does, as the system stands
+  abbrev statement_now : Stated
+  statement_now = statement app (told_by (area_of app x)) (is_asynchronous id) x
+
+  module _ (unit : UnitText) (m : Meaning) (found : Some unit ≡ unit_of app x.current) (is : m ≡ step unit x.run) where
+    stated : by_step app (told_by (area_of_step x m)) (is_asynchronous id) x unit m ≡ statement_now
+    unfolding statement area_of
+    stated =
+        ap (λ (n : Meaning). by_step app (told_by (area_of_step x n)) (is_asynchronous id) x unit n) is
+        ∙ ap (λ (o : Option UnitText). in_unit app (told_by (area_in_unit x o)) (is_asynchronous id) x o) found
+
+    area_stated : area_of_step x m ≡ area_of app x
+    unfolding area_of
+    area_stated = ap (area_of_step x) is ∙ ap (area_in_unit x) found
+
+-- ---- once the unit is stepped
+
+module _ (app : Application) (t : TableRows) (l : Locks) (x y : OpenTransaction) (unit : UnitText) (found : Some unit ≡ unit_of app x.current) (s : Stepped) (meaning : meaning_of s y.run ≡ step unit x.run) (leaves : StepLeaves x y s) where
+  abbrev now : Stated
+  now = statement_now app t l x.id (work_of x)
+
+  left : (r : Stepped) → s ≡ r → StepLeaves x y r
+  left r is = subst (StepLeaves x y) is leaves
+
+  means : (r : Stepped) → s ≡ r → meaning_of r y.run ≡ step unit x.run
+  means r is = subst (λ (k : Stepped). meaning_of k y.run ≡ step unit x.run) is meaning
+
+  module _ (is : s ≡ stepped.Plain) where
+    pub plain_exact : (work_of y, Went) ≡ now
+    plain_exact =
+        ap (λ (w : OpenTransaction). (work_of w, Went)) (left stepped.Plain is)
+        ∙ stated app t l x.id (work_of x) unit (Plain y.run) found (means stepped.Plain is)
+
+    pub plain_holders : HoldsJust l x.id (work_of x) → HoldersFollow l l x.id (work_of y)
+    plain_holders holds = quiet_follows l x.id (work_of x) holds (work_of y) (ap (λ (w : OpenTransaction). w.touched) (left stepped.Plain is))
+
+  module _ (cause : Cause) (is : s ≡ stepped.Ends cause) where
+    pub ends_exact : (work_of y, Breaks (Broken cause)) ≡ now
+    ends_exact =
+        ap (λ (w : OpenTransaction). (work_of w, Breaks (Broken cause))) (left (stepped.Ends cause) is)
+        ∙ stated app t l x.id (work_of x) unit (Ends cause) found (means (stepped.Ends cause) is)
+
+    pub ends_holders : HoldsJust l x.id (work_of x) → HoldersFollow l l x.id (work_of y)
+    ends_holders holds = quiet_follows l x.id (work_of x) holds (work_of y) (ap (λ (w : OpenTransaction). w.touched) (left (stepped.Ends cause) is))
+
+  module _ (call : Call) (is : s ≡ stepped.Asks call) where
+    pub asks_stands : StandsIn app x.id (work_of x) unit → StandsIn app y.id (work_of y) unit
+    asks_stands stands = subst (λ (w : OpenTransaction). StandsIn app w.id (work_of w) unit) (sym (left (stepped.Asks call) is)) stands
+
+    pub asks_exact : {E : Type 0} (z : Work) (r : Result Happened E)
+        → IfOk r (λ (h : Happened). (z, h) ≡ by_performed app (is_asynchronous y.id) unit (performed_now app.generation t l y.id (work_of y) call))
+        → IfOk r (λ (h : Happened). (z, h) ≡ now)
+    asks_exact z (Ok h) e =
+        e
+        ∙ ap (λ (w : OpenTransaction). by_performed app (is_asynchronous w.id) unit (performed_now app.generation t l w.id (work_of w) call)) (left (stepped.Asks call) is)
+        ∙ stated app t l x.id (work_of x) unit (Asks call) found (means (stepped.Asks call) is)
+    asks_exact z (Err e) is_none = tt
+
+    pub asks_waits : {E : Type 0} (m : Locks) (r : Result Happened E)
+        → IfOk r (λ (h : Happened). (wait_ended m y.id h).waits ≡ waits_by l y.id t.clock (area_of_call (work_of y) call) h)
+        → IfOk r (λ (h : Happened). (wait_ended m x.id h).waits ≡ waits_after app t l x.id (work_of x) h)
+    asks_waits m (Ok h) e =
+        subst (λ (area : Option Area). (wait_ended m x.id h).waits ≡ waits_by l x.id t.clock area h)
+        (area_stated app t l x.id (work_of x) unit (Asks call) found (means (stepped.Asks call) is))
+        (subst (λ (w : OpenTransaction). (wait_ended m w.id h).waits ≡ waits_by l w.id t.clock (area_of_call (work_of w) call) h) (left (stepped.Asks call) is) e)
+    asks_waits m (Err e) is_none = tt
+
+-- the end of a wait moves no area
+ended_follow : (l m : Locks) (id : ServiceId) (y : Work) (h : Happened) → HoldersFollow l m id y → HoldersFollow l (wait_ended m id h) id y
+ended_follow l m id y Went follow = follow
+ended_follow l m id y Queued follow = follow
+ended_follow l m id y Waited follow = follow
+ended_follow l m id y (Held tac) follow = follow
+ended_follow l m id y (Settles o) follow = follow
+ended_follow l m id y (Breaks ending) follow = follow
+ended_follow l m id y Returns follow = follow
+
+pub ended_holds : (l m new : Locks) (id i : ServiceId) (y : Work) (h : Happened) → i ≡ id → HoldersFollow l m id y → new ≡ wait_ended m i h → HoldsJust new id y
+ended_holds l m new id i y h same follow e =
+    follow_holds l new id y (subst (λ (k : Locks). HoldersFollow l k id y) (sym (e ∙ ap (λ (k : ServiceId). wait_ended m k h) same)) (ended_follow l m id y h follow))

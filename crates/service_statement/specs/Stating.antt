@@ -1,0 +1,46 @@
+-- What one statement of a service does to its transaction and to the requests that wait.
+use Rattle.std.specs.Prelude.{◌≡◌, ℕ, ◌+◌, List, Option}
+use Rattle.kdcs_types.specs.declared.key.Area.{Area}
+use Rattle.kdcs_types.specs.declared.key.ServiceId.{ServiceId}
+use Rattle.kdcs_types.specs.Tables.{TableRows}
+use Rattle.open_transaction.specs.declared.open.OpenTransaction.{OpenTransaction}
+use Rattle.unit_step.specs.declared.outcome.Stepped.{Stepped}
+use Rattle.unit_step.specs.declared.outcome.Stepped.TheVariants as stepped
+use Rattle.area_locks.specs.Asked.{without_wait}
+use Rattle.kdcs_calls.specs.Calling.{waits_for_area}
+use Rattle.monitor_semantics.specs.declared.answer.Happened.{Happened}
+use Rattle.monitor_semantics.specs.declared.answer.Happened.TheVariants.{Went, Queued, Waited, Held, Settles, Breaks, Returns}
+use Rattle.monitor_semantics.specs.Locks.{Locks, Waiting}
+use Rattle.monitor_semantics.specs.Statements.{area_of}
+use Rattle.monitor_semantics.specs.State.{Application, OpenTransaction as Work}
+
+-- a plain statement gives another unit run and is counted; a call, and an end, change nothing yet
+abbrev pub StepLeaves : (before after : OpenTransaction) → Stepped → Type 0
+StepLeaves x y stepped.Plain = y ≡ record x { run = y.run; statements = x.statements + 1 }
+StepLeaves x y (stepped.Asks call) = y ≡ x
+StepLeaves x y (stepped.Ends cause) = y ≡ x
+
+-- a statement that is done, and PEND KP, end the wait of their service; a request waits since it was made first; and an end of the
+-- transaction leaves the wait to those who free all that the service holds
+abbrev pub waits_by : Locks → ServiceId → (now : ℕ) → Option Area → Happened → List (ServiceId × Waiting)
+waits_by l id now area Went = (without_wait l id).waits
+waits_by l id now area Queued = (without_wait l id).waits
+waits_by l id now area Waited = waits_for_area l id now area
+waits_by l id now area (Held tac) = (without_wait l id).waits
+waits_by l id now area (Settles o) = l.waits
+waits_by l id now area (Breaks ending) = l.waits
+waits_by l id now area Returns = l.waits
+
+-- the waits after the next statement of a service
+abbrev pub waits_after : Application → TableRows → Locks → ServiceId → Work → Happened → List (ServiceId × Waiting)
+waits_after app t l id x h = waits_by l id t.clock (area_of app x) h
+
+-- a statement that is done, and PEND KP, leave no wait of their service
+abbrev pub wait_ended : Locks → ServiceId → Happened → Locks
+wait_ended l id Went = without_wait l id
+wait_ended l id Queued = without_wait l id
+wait_ended l id Waited = l
+wait_ended l id (Held tac) = without_wait l id
+wait_ended l id (Settles o) = l
+wait_ended l id (Breaks ending) = l
+wait_ended l id Returns = l

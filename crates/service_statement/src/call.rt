@@ -1,0 +1,80 @@
+//! A statement that is a KDCS call.
+ghost use Rattle.std.specs.Prelude.{◌≡◌, ◌+◌, ◌≤◌, ◌<◌, ◌^◌, IfOk, OnOk};
+ghost use Rattle.kdcs_calls.specs.Calling.{HoldersFollow, HoldsJust, performed_now};
+ghost use Rattle.monitor_semantics.specs.Endings.{is_asynchronous};
+ghost use Rattle.monitor_semantics.specs.Statements.{area_of_call, by_call, by_performed};
+ghost use Rattle.monitor_tables.specs.OpenLaws.{CalledFits, StandsIn};
+ghost use Rattle.monitor_tables.specs.PointLaws.{AreSound};
+ghost use Rattle.open_transaction.specs.Work.{work_of};
+ghost use Rattle.unit_semantics.specs.Ready.{IsReady};
+ghost use Rattle.unit_semantics.specs.Statement.{Asks, step};
+ghost use Rattle.application_facts.specs.Applied.{applied};
+ghost use Rattle.service_statement.specs.Stating.{wait_ended, waits_by};
+
+use crate::outside::Outside;
+use crate::pend::pend;
+use area_locks::LockTable;
+use kd_base::OutOfMemory;
+use kdcs_calls::perform;
+use kdcs_types::{Call, Ending};
+use monitor_semantics::{Called, Happened};
+use open_transaction::OpenTransaction;
+use unit_types::Unit;
+
+// What the answer of a call does: a reply is stored, and its statement is counted.
+fn after_call(
+    outside: &Outside,
+    unit: &Unit,
+    work: &mut OpenTransaction,
+    called: Called,
+) -> Result<Happened, OutOfMemory>
+    requires ready { IsReady unit.now work.old.run }
+    requires fits { CalledFits outside.now.generation.now (is_asynchronous work.old.id) unit.now work.old.run called }
+    requires statements { work.old.statements + 1 < 2 ^ 64 }
+    ensures exact { IfOk result (λ h. (work_of work.new, h) ≡ by_call (applied outside.now.generation.now outside.now.units.now) (is_asynchronous work.old.id) unit.now (work_of work.old) called) }
+    ensures id { work.new.id ≡ work.old.id }
+    ensures counted { OnOk result (work.new.statements ≤ work.old.statements + 1) }
+    ensures nb { work.old.messages.nb ≡ outside.now.generation.now.limits.nb → work.new.messages.nb ≡ outside.now.generation.now.limits.nb }
+{
+    match called {
+        Called::Replied(reply) => {
+            work.count(unit, &reply);
+            Ok(Happened::Went)
+        }
+        Called::Waits => Ok(Happened::Waited),
+        Called::Abnormal(cause) => Ok(Happened::Breaks(Ending::Broken(cause))),
+        Called::Pends(variant, outcome) => pend(outside, work, variant, outcome),
+    }
+}
+
+/// Performs the call that a statement asks for, and what its answer does.
+pub(crate) fn perform_call(
+    outside: &Outside,
+    unit: &Unit,
+    locks: &mut LockTable,
+    work: &mut OpenTransaction,
+    call: &Call,
+) -> Result<Happened, OutOfMemory>
+    requires stands { StandsIn (applied outside.now.generation.now outside.now.units.now) work.old.id (work_of work.old) unit.now }
+    requires sound { AreSound outside.now.generation.now outside.now.tables.now }
+    requires asks { step unit.now work.old.run ≡ Asks call.now }
+    requires holds { HoldsJust locks.old work.old.id (work_of work.old) }
+    requires nb { work.old.messages.nb ≡ outside.now.generation.now.limits.nb }
+    requires statements { work.old.statements + 1 < 2 ^ 64 }
+    ensures exact { IfOk result (λ h. (work_of work.new, h) ≡ by_performed (applied outside.now.generation.now outside.now.units.now) (is_asynchronous work.old.id) unit.now (performed_now outside.now.generation.now outside.now.tables.now locks.old work.old.id (work_of work.old) call.now)) }
+    ensures waits { IfOk result (λ h. (wait_ended locks.new work.old.id h).waits ≡ waits_by locks.old work.old.id outside.now.tables.now.clock (area_of_call (work_of work.old) call.now) h) }
+    ensures holders { OnOk result (HoldersFollow locks.old locks.new work.old.id (work_of work.new)) }
+    ensures id { work.new.id ≡ work.old.id }
+    ensures counted { OnOk result (work.new.statements ≤ work.old.statements + 1) }
+    ensures nb { work.new.messages.nb ≡ work.old.messages.nb }
+{
+    let called = perform(
+        outside.alloc,
+        outside.generation,
+        outside.tables,
+        locks,
+        work,
+        call,
+    )?;
+    after_call(outside, unit, work, called)
+}

@@ -1,0 +1,15 @@
+//! One statement of a service, as the running system does it.
+//!
+//! It puts the step of a unit run, the KDCS calls and what a PEND does within a transaction together. To the layers
+//! above, which take turns and end transactions, its contract says that a statement does to its transaction, and
+//! answers, exactly what the abstract monitor defines for what the locks and the tables say at that moment, and what
+//! becomes of the locks and of the requests that wait.
+#![tactic(auto)]
+
+mod call;
+mod outside;
+mod pend;
+mod statement;
+mod waits;
+
+pub use statement::perform_statement;

@@ -1,0 +1,53 @@
+//! What a PEND does that is not refused.
+ghost use Rattle.std.specs.Prelude.{◌≡◌, ◌+◌, ◌≤◌, ◌<◌, ◌^◌, IfOk, OnOk};
+ghost use Rattle.monitor_semantics.specs.Endings.{is_asynchronous};
+ghost use Rattle.monitor_semantics.specs.Statements.{break_ending, by_outcome};
+ghost use Rattle.open_transaction.specs.Work.{work_of};
+ghost use Rattle.application_facts.specs.Applied.{applied};
+
+use crate::outside::Outside;
+use kd_base::{OutOfMemory, Variant};
+use kdcs_types::{Cause, Ending};
+use monitor_semantics::{Happened, Outcome};
+use open_transaction::OpenTransaction;
+
+// PEND FR and PEND ER both break the transaction.
+fn break_ending(variant: Variant) -> Ending
+    ensures { result ≡ break_ending variant }
+{
+    match variant {
+        Variant::Fr => Ending::BrokenFr,
+        _ => Ending::Broken(Cause::Er),
+    }
+}
+
+/// PR goes on and PA is queued in a further unit run of the same transaction; the others leave the transaction as it is.
+pub(crate) fn pend(
+    outside: &Outside,
+    work: &mut OpenTransaction,
+    variant: Variant,
+    outcome: Outcome,
+) -> Result<Happened, OutOfMemory>
+    requires { work.old.statements + 1 < 2 ^ 64 }
+    ensures exact { IfOk result (λ h. (work_of work.new, h) ≡ by_outcome (applied outside.now.generation.now outside.now.units.now) (is_asynchronous work.old.id) (work_of work.old) variant outcome) }
+    ensures id { work.new.id ≡ work.old.id }
+    ensures counted { OnOk result (work.new.statements ≤ work.old.statements + 1) }
+    ensures nb { work.old.messages.nb ≡ outside.now.generation.now.limits.nb → work.new.messages.nb ≡ outside.now.generation.now.limits.nb }
+{
+    match outcome {
+        Outcome::Stay(tac) => {
+            work.follow(outside.alloc, outside.generation, tac, None)?;
+            Ok(Happened::Went)
+        }
+        Outcome::Queue(tac) => {
+            work.follow(outside.alloc, outside.generation, tac, None)?;
+            Ok(Happened::Queued)
+        }
+        Outcome::Hold(tac) => Ok(Happened::Held(tac)),
+        Outcome::Wait(_) | Outcome::Point(_) | Outcome::Follow(_) | Outcome::Finish => {
+            Ok(Happened::Settles(outcome))
+        }
+        Outcome::Break => Ok(Happened::Breaks(break_ending(variant))),
+        Outcome::Back => Ok(Happened::Returns),
+    }
+}

@@ -1,0 +1,114 @@
+//! The next statement of a service.
+ghost use Rattle.std.specs.Prelude.{◌≡◌, ◌+◌, ◌≤◌, ◌<◌, ◌^◌, IfOk, OnOk};
+ghost use Rattle.kdcs_calls.specs.Calling.{HoldersFollow, HoldsJust};
+ghost use Rattle.monitor_laws.specs.Applications.{IsApplication};
+ghost use Rattle.monitor_laws.specs.Transactions.{CanGoOn};
+ghost use Rattle.monitor_semantics.specs.Endings.{is_asynchronous};
+ghost use Rattle.monitor_semantics.specs.Locks.{told_now};
+ghost use Rattle.monitor_semantics.specs.Statements.{area_of, statement};
+ghost use Rattle.monitor_tables.specs.PointLaws.{AreSound};
+ghost use Rattle.open_transaction.specs.Work.{work_of};
+ghost use Rattle.unit_semantics.specs.Ready.{IsReady};
+ghost use Rattle.unit_semantics.specs.Statement.{step};
+ghost use Rattle.unit_step.specs.Answers.{meaning_of};
+ghost use Rattle.application_facts.specs.Applied.{applied};
+ghost use Rattle.unit_check.specs.Fitted.{IsFit};
+ghost use Rattle.service_statement.specs.Stating.{StepLeaves, wait_ended, waits_after};
+
+use crate::call::perform_call;
+use crate::outside::Outside;
+use crate::waits::end_wait;
+use area_locks::LockTable;
+use kd_base::OutOfMemory;
+use kdcdef_check::Generation;
+use kdcs_types::{Ending, Tables};
+use monitor_semantics::Happened;
+use open_transaction::OpenTransaction;
+use std::alloc::Global;
+use unit_check::Units;
+use unit_step::{Stepped, step};
+use unit_types::Unit;
+
+// A plain statement is done and counted; else nothing changes.
+fn step_unit(alloc: Global, unit: &Unit, work: &mut OpenTransaction) -> Result<Stepped, OutOfMemory>
+    requires ready { IsReady unit.now work.old.run }
+    requires statements { work.old.statements + 1 < 2 ^ 64 }
+    ensures meaning { IfOk result (λ stepped. meaning_of stepped work.new.run ≡ step unit.now work.old.run) }
+    ensures leaves { IfOk result (λ stepped. StepLeaves work.old work.new stepped) }
+    ensures id { work.new.id ≡ work.old.id }
+    ensures nb { work.new.messages.nb ≡ work.old.messages.nb }
+{
+    let stepped = step(alloc, unit, &mut work.run)?;
+    if let Stepped::Plain = &stepped {
+        work.statements += 1;
+    }
+    Ok(stepped)
+}
+
+// The next statement, but for the end of a wait.
+fn next_statement(
+    outside: &Outside,
+    locks: &mut LockTable,
+    work: &mut OpenTransaction,
+) -> Result<Happened, OutOfMemory>
+    requires fit { IsFit outside.now.generation.now outside.now.units.now }
+    requires application { IsApplication (applied outside.now.generation.now outside.now.units.now) }
+    requires can { CanGoOn outside.now.generation.now work.old.id (work_of work.old) }
+    requires sound { AreSound outside.now.generation.now outside.now.tables.now }
+    requires holds { HoldsJust locks.old work.old.id (work_of work.old) }
+    requires nb { work.old.messages.nb ≡ outside.now.generation.now.limits.nb }
+    requires statements { work.old.statements + 1 < 2 ^ 64 }
+    ensures exact { IfOk result (λ h. (work_of work.new, h) ≡ statement (applied outside.now.generation.now outside.now.units.now) (told_now locks.old outside.now.generation.now.limits.reswait outside.now.tables.now work.old.id (area_of (applied outside.now.generation.now outside.now.units.now) (work_of work.old))) (is_asynchronous work.old.id) (work_of work.old)) }
+    ensures waits { IfOk result (λ h. (wait_ended locks.new work.old.id h).waits ≡ waits_after (applied outside.now.generation.now outside.now.units.now) outside.now.tables.now locks.old work.old.id (work_of work.old) h) }
+    ensures holders { OnOk result (HoldersFollow locks.old locks.new work.old.id (work_of work.new)) }
+    ensures id { work.new.id ≡ work.old.id }
+    ensures nb { work.new.messages.nb ≡ work.old.messages.nb }
+    ensures counted { OnOk result (work.new.statements ≤ work.old.statements + 1) }
+{
+    let Some(unit) = outside.units.unit_of(work.current) else {
+        return Ok(Happened::Returns);
+    };
+    match step_unit(outside.alloc, unit, work)? {
+        Stepped::Plain => Ok(Happened::Went),
+        Stepped::Asks(call) => perform_call(outside, unit, locks, work, &call),
+        Stepped::Ends(cause) => Ok(Happened::Breaks(Ending::Broken(cause))),
+    }
+}
+
+/// Does the next statement of a service, at the clock of the tables, and says what became of it. A statement that waits
+/// changes nothing but the wait, and is repeated as it stands. `locks` gives the service exactly the areas that its
+/// transaction holds. Fewer than 2^64 - 1 statements were done. When memory runs out, the transaction and the locks
+/// are of no use any more.
+pub fn perform_statement<'a>(
+    alloc: Global,
+    generation: &'a Generation,
+    units: &'a Units,
+    tables: &'a Tables,
+    locks: &mut LockTable,
+    work: &mut OpenTransaction,
+) -> Result<Happened, OutOfMemory>
+    requires fit { IsFit generation.now units.now }
+    requires application { IsApplication (applied generation.now units.now) }
+    requires can { CanGoOn generation.now work.old.id (work_of work.old) }
+    requires sound { AreSound generation.now tables.now }
+    requires holds { HoldsJust locks.old work.old.id (work_of work.old) }
+    requires nb { work.old.messages.nb ≡ generation.now.limits.nb }
+    requires statements { work.old.statements + 1 < 2 ^ 64 }
+    ensures exact { IfOk result (λ h. (work_of work.new, h) ≡ statement (applied generation.now units.now) (told_now locks.old generation.now.limits.reswait tables.now work.old.id (area_of (applied generation.now units.now) (work_of work.old))) (is_asynchronous work.old.id) (work_of work.old)) }
+    ensures waits { IfOk result (λ h. locks.new.waits ≡ waits_after (applied generation.now units.now) tables.now locks.old work.old.id (work_of work.old) h) }
+    ensures holders { OnOk result (HoldersFollow locks.old locks.new work.old.id (work_of work.new)) }
+    ensures holds { OnOk result (HoldsJust locks.new work.old.id (work_of work.new)) }
+    ensures id { work.new.id ≡ work.old.id }
+    ensures nb { work.new.messages.nb ≡ work.old.messages.nb }
+    ensures counted { OnOk result (work.new.statements ≤ work.old.statements + 1) }
+{
+    let outside = Outside {
+        alloc,
+        generation,
+        units,
+        tables,
+    };
+    let happened = next_statement(&outside, locks, work)?;
+    end_wait(locks, work.id, &happened);
+    Ok(happened)
+}
