@@ -8,3 +8,4 @@ pub mod Readings
 pub mod WholeValues
 pub mod RowReadings
 pub mod TableReadings
+pub mod OneToOne

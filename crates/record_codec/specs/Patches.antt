@@ -1,8 +1,8 @@
 -- The patch of some changes makes the records of the changed tables.
-use Rattle.std.specs.Prelude.{◌≡◌, refl, ℕ, Bool, true, false, cond, not, IsTrue, List, [], ◌∷◌, ◌++◌, map, All}
+use Rattle.std.specs.Prelude.{◌≡◌, refl, ℕ, Bool, true, false, cond, not, IsTrue, List, [], ◌∷◌, ◌++◌, map, All, ⊤}
 use Rattle.std.proofs.Common.{sym, ap, subst, ◌∙◌}
 use Rattle.std.proofs.lemmas.List.{map-append}
-use Rattle.std.proofs.lemmas.List.Elements.{recursion_from_All}
+use Rattle.std.proofs.lemmas.List.Elements.{All-from_recursion, recursion_from_All}
 use Rattle.std.specs.List.{filter, list_all, AllByRecursion as Each}
 use Rattle.std.specs.Ordering.{is_eq, eq_by_cmp}
 use Rattle.std.specs.declared.cmp.Ordering.{Ordering}
@@ -332,7 +332,19 @@ remove_keeps P t (key.Service id) h = record { gssbs = h.gssbs; tlss = h.tlss; u
 remove_keeps P t (key.Job number) h = record { gssbs = h.gssbs; tlss = h.tlss; ulss = h.ulss; services = h.services; jobs = each_left job_key value_of_job (λ r. P (job_row r)) _ t.jobs h.jobs; shown = h.shown }
 remove_keeps P t (key.Shown lterm) h = record { gssbs = h.gssbs; tlss = h.tlss; ulss = h.ulss; services = h.services; jobs = h.jobs; shown = each_left shown_key value_of_shown (λ r. P (shown_row r)) _ t.shown h.shown }
 
+-- what holds of a row that the change sets
+abbrev pub OfSet : (Row → Type 0) → Change → Type 0
+OfSet P (Set r) = P r
+OfSet P (Remove q) = ⊤
+
 -- ---- all changes
+
+pub changes_keep : (P : Row → Type 0) (cs : List Change) (t : TableRows) → EachRow P t → Each (OfSet P) cs → IsTrue (list_all change_fits cs) → EachRow P (with_changes t cs)
+changes_keep P [] t h ks fits = h
+changes_keep P (Set r ∷ cs) t h ks fits =
+    let parts = both_true (row_fits r) (list_all change_fits cs) fits in
+    changes_keep P cs (with_row t r) (set_keeps P t r h ks.0 parts.0) ks.1 parts.1
+changes_keep P (Remove q ∷ cs) t h ks fits = changes_keep P cs (without_row t q) (remove_keeps P t q h) ks.1 fits
 
 follow : (cs : List Change) (t : TableRows) → EachRow HasProperKey t → Each (λ (c : Change). IsProperKey (change_key c)) cs → IsTrue (list_all change_fits cs) → changed_all (by_kinds t) (map record_change cs) ≡ by_kinds (with_changes t cs)
 follow [] t h ks fits = refl
@@ -353,7 +365,7 @@ module _ {X : Type 0} (P : X → Type 0) where
   each_behind [] ys h = h
   each_behind (x ∷ xs) ys h = each_behind xs ys h.1
 
-  each_unmapped : {A : Type 0} (f : A → X) (xs : List A) → Each P (map f xs) → Each (λ a. P (f a)) xs
+  pub each_unmapped : {A : Type 0} (f : A → X) (xs : List A) → Each P (map f xs) → Each (λ a. P (f a)) xs
   each_unmapped f [] h = tt
   each_unmapped f (x ∷ xs) h = (h.0, each_unmapped f xs h.1)
 
@@ -375,6 +387,21 @@ by_lists P t h =
 -- what holds of each row of tables, by the rows of each kind
 pub each_row : (P : Row → Type 0) (t : TableRows) → All P (rows_of t) → EachRow P t
 each_row P t h = by_lists P t (recursion_from_All P (rows_of t) h)
+
+each_listed : {A : Type 0} (P : Row → Type 0) (f : A → Row) (xs : List A) → Each (λ a. P (f a)) xs → Each P (map f xs)
+each_listed P f [] h = tt
+each_listed P f (x ∷ xs) h = (h.0, each_listed P f xs h.1)
+
+-- what holds of the rows of each kind holds of all
+pub all_rows : (P : Row → Type 0) (t : TableRows) → EachRow P t → All P (rows_of t)
+all_rows P t h =
+    All-from_recursion P (rows_of t)
+    (each_both P (map gssb_row t.gssbs) _ (each_listed P gssb_row t.gssbs h.gssbs)
+    (each_both P (map tls_row t.tlss) _ (each_listed P tls_row t.tlss h.tlss)
+    (each_both P (map uls_row t.ulss) _ (each_listed P uls_row t.ulss h.ulss)
+    (each_both P (map service_row t.services) _ (each_listed P service_row t.services h.services)
+    (each_both P (map job_row t.jobs) _ (each_listed P job_row t.jobs h.jobs)
+    (each_listed P shown_row t.shown h.shown))))))
 
 -- the keys of all rows are proper
 abbrev pub HasProperKeys : TableRows → Type 0

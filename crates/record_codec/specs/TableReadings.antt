@@ -29,7 +29,7 @@ use Rattle.kdcs_types.specs.RowLaws.{changed_sorted}
 use Rattle.record_codec.specs.Values.{record_key, service_bytes, record_of, record_change}
 use Rattle.record_codec.specs.Records.{rows_of, content_of_tables, patch_of, AreTablesOf}
 use Rattle.record_codec.specs.Order.{IsProperKey, keys_keep_their_order}
-use Rattle.record_codec.specs.Patches.{put_in_front, each_both, each_mapped, record_at, Above, above_all, above_more, second, value_of_job, value_of_shown, by_kinds, kinds_are, EachRow, HasProperKey, each_row, patches_follow_changes}
+use Rattle.record_codec.specs.Patches.{put_in_front, each_both, each_mapped, record_at, Above, above_all, above_more, second, value_of_job, value_of_shown, by_kinds, kinds_are, EachRow, HasProperKey, OfSet, each_row, all_rows, changes_keep, patches_follow_changes}
 use Rattle.record_codec.specs.Fields.{AreBytes}
 use Rattle.record_codec.specs.RowReadings.{IsProperRow, row_read, row_back, row_there}
 
@@ -92,10 +92,11 @@ record SetsThere (xs : List Record) (cs : List Change) : Type 0 where
   records : map record_change cs ≡ map set_record xs
   keys : map (λ (c : Change). record_key (change_key c)) cs ≡ map (λ (x : Record). x.0) xs
   proper : Each (λ (c : Change). IsProperKey (change_key c)) cs
+  rows : Each (OfSet IsProperRow) cs
   fit : IsTrue (list_all change_fits cs)
 
 sets_there : (xs : List Record) (cs : List Change) → Each AreRecordBytes xs → sets_read xs ≡ Some cs → SetsThere xs cs
-sets_there [] cs are e = subst (SetsThere []) (some_is [] cs e) (record { records = refl; keys = refl; proper = tt; fit = refl })
+sets_there [] cs are e = subst (SetsThere []) (some_is [] cs e) (record { records = refl; keys = refl; proper = tt; rows = tt; fit = refl })
 sets_there (x ∷ xs) cs are e =
     let a = and_some (λ (r : Row). option_map (λ (cs : List Change). Set r ∷ cs) (sets_read xs)) (row_read x) cs e in
     let r : Row = a.0 in
@@ -106,6 +107,7 @@ sets_there (x ∷ xs) cs are e =
       records = λ i. set_record (sym t.record_is i) ∷ s.records i;
       keys = λ i. (sym t.record_is i).0 ∷ s.keys i;
       proper = (t.proper.key, s.proper);
+      rows = (t.proper, s.rows);
       fit = true_both (row_fits r) (list_all change_fits b.0) t.fits s.fit;
     })
 
@@ -158,6 +160,18 @@ tables_there x c clock next_job are h e =
       records = (λ i. record { clock = sym clock i; next_job = sym next_job i; items = sym items i }) ∙ made;
     }
 
+-- each row's names are names, and its numbers and lengths have their bytes
+abbrev pub AreProperTables : TableRows → Type 0
+AreProperTables t = All IsProperRow (rows_of t)
+
+-- so are the tables that are read
+pub tables_proper : (xs : List Record) (c : Changes) → All AreRecordBytes xs → sets_read xs ≡ Some c.items → AreProperTables (changed empty_tables c)
+tables_proper xs c are e =
+    let s = sets_there xs c.items (recursion_from_All AreRecordBytes xs are) e in
+    all_rows IsProperRow (changed empty_tables c)
+    (changes_keep IsProperRow c.items (record empty_tables { clock = c.clock; next_job = c.next_job })
+    (record { gssbs = tt; tlss = tt; ulss = tt; services = tt; jobs = tt; shown = tt }) s.rows s.fit)
+
 -- ---- tables whose records the content has
 
 sets_back : (rs : List Row) → Each IsProperRow rs → Each (λ (r : Row). IsTrue (row_fits r)) rs → sets_read (map record_of rs) ≡ Some (map (λ (r : Row). Set r) rs)
@@ -166,14 +180,14 @@ sets_back (r ∷ rs) hs fits =
     ap (option_and_then (λ (q : Row). option_map (λ (cs : List Change). Set q ∷ cs) (sets_read (map record_of rs)))) (row_back r hs.0 fits.0)
     ∙ ap (option_map (λ (cs : List Change). Set r ∷ cs)) (sets_back rs hs.1 fits.1)
 
-abbrev FitsThere : Row → Type 0
+abbrev pub FitsThere : Row → Type 0
 FitsThere r = IsTrue (row_fits r)
 
 fit_each : {A : Type 0} (f : A → Row) (test : A → Bool) → ((a : A) → IsTrue (test a) → FitsThere (f a)) → (xs : List A) → IsTrue (list_all test xs) → Each FitsThere (map f xs)
 fit_each f test to [] h = tt
 fit_each f test to (x ∷ xs) h = let parts = both_true (test x) (list_all test xs) h in (to x parts.0, fit_each f test to xs parts.1)
 
-rows_fit : (t : TableRows) → IsSortedTables t → Each FitsThere (rows_of t)
+pub rows_fit : (t : TableRows) → IsSortedTables t → Each FitsThere (rows_of t)
 rows_fit t h =
     each_both FitsThere (map gssb_row t.gssbs) _ (each_mapped FitsThere gssb_row (λ e. refl) t.gssbs)
     (each_both FitsThere (map tls_row t.tlss) _ (fit_each tls_row (λ r. is_filled r.2) (λ e k. k) t.tlss h.tlss_filled)
@@ -224,10 +238,6 @@ kinds_sorted t h s =
     (sorted_more service_key service_bytes t.services _ h.services s.services (λ e. above_more job_key value_of_job (service_key e) (λ f. refl) t.jobs _ (above_all shown_key value_of_shown (service_key e) (λ f. refl) t.shown))
     (sorted_more job_key value_of_job t.jobs _ h.jobs s.jobs (λ e. above_all shown_key value_of_shown (job_key e) (λ f. refl) t.shown)
     (section_sorted shown_key value_of_shown t.shown h.shown s.shown)))))
-
--- each row's names are names, and its numbers and lengths have their bytes
-abbrev pub AreProperTables : TableRows → Type 0
-AreProperTables t = All IsProperRow (rows_of t)
 
 proper_keys : (t : TableRows) → AreProperTables t → EachRow HasProperKey t
 proper_keys t h = each_row HasProperKey t (λ k d i. (h k d i).key)

@@ -3,7 +3,7 @@ ghost use Rattle.std.specs.Prelude.{◌≡◌};
 ghost use Rattle.std.specs.FinMap.{is_sorted};
 
 /// Whether the keys ascend without repeats. It takes no memory.
-pub(crate) fn ascend<K: Ord, V>(pairs: &[(K, V)]) -> bool
+pub fn ascend<K: Ord, V>(pairs: &[(K, V)]) -> bool
     ensures { result ≡ is_sorted K.cmp pairs.now }
 {
     for i in 1..pairs.len() {

@@ -48,6 +48,7 @@ fn tables_with(
 /// tables: where a record is no row's, or the keys do not ascend without repeats.
 pub fn tables_of(alloc: Global, content: &Content) -> Result<Option<Tables>, OutOfMemory>
     ensures found { IfOk result (λ tables. IfSome tables (λ t. AreTablesOf content.now t)) }
+    ensures proper { IfOk result (λ tables. IfSome tables (λ t. AreProperTables t)) }
     ensures none { IfOk result (λ tables. tables ≡ None → (t : TableRows) → AreProperTables t → AreTablesOf content.now t → ⊥) }
 {
     let records = content.items.as_slice();

@@ -1,5 +1,6 @@
 //! Laws on the definitions, which all crates above may cite. The functions do nothing.
 ghost use Rattle.record_codec.specs.RowReadings.{RecordsAreOneToOne};
+ghost use Rattle.record_codec.specs.OneToOne.{TablesAreOneToOne};
 ghost use Rattle.record_codec.specs.Order.{KeysKeepTheirOrder};
 ghost use Rattle.record_codec.specs.Patches.{PatchesFollowChanges};
 
@@ -13,7 +14,8 @@ pub fn patches_follow_changes()
     ensures { PatchesFollowChanges }
 {}
 
-/// Rows with one record are one row.
+/// Rows with one record are one row, and tables with one content are one.
 pub fn records_are_one_to_one()
-    ensures { RecordsAreOneToOne }
+    ensures rows { RecordsAreOneToOne }
+    ensures tables { TablesAreOneToOne }
 {}

@@ -2,9 +2,10 @@
 //!
 //! It stands on kd_base, kd_records and kdcs_types. To the crates that open and commit to a KDCFILE, its definitions say
 //! which bytes a row's key and value are. Its contract says that `records` and `difference` answer just the content and
-//! the patch of tables and changes, that `tables_of` answers the tables whose records a content has and `None` only
-//! where no tables have them, that keys of records ascend as keys of rows do, and that the patch of some changes makes
-//! the records of the changed tables.
+//! the patch of tables and changes; that `tables_of` answers proper tables whose records a content has, and `None` only
+//! where no tables have them; that tables with one content are one, and rows with one record; that keys of records ascend
+//! as keys of rows do; and that the patch of some changes makes the records of the changed tables. Which tables suit a
+//! generation, and what they are charged, is said by table_fit.
 #![tactic(auto)]
 
 mod ascending;
@@ -16,6 +17,7 @@ mod reading;
 mod rows;
 mod values;
 
+pub use ascending::ascend;
 pub use decode::tables_of;
 pub use encode::{difference, records};
 pub use laws::{keys_keep_their_order, patches_follow_changes, records_are_one_to_one};

@@ -5,7 +5,7 @@ ghost use Rattle.kdcs_types.specs.Tables.{lterm_fits, service_fits, row_fits};
 ghost use Rattle.record_codec.specs.Values.{record_of};
 ghost use Rattle.record_codec.specs.Reads.{Reads, ReadsWhole};
 ghost use Rattle.record_codec.specs.Fields.{AreBytes};
-ghost use Rattle.record_codec.specs.WholeValues.{job_reading, service_reading, whole};
+ghost use Rattle.record_codec.specs.WholeValues.{job_reading, service_reading, ended, whole};
 ghost use Rattle.record_codec.specs.RowReadings.{id_reading, two_names, key_reading, key_read, value_read, row_read, IsProperRow, RowThere};
 
 use crate::ascending::ascend;
@@ -75,16 +75,23 @@ fn key_in(key: &RecordKey) -> Result<Key, Unread>
     }
 }
 
+// What was read, where nothing is left behind it.
+fn ended<T: Drop>(reader: &Reader, read: T) -> Result<T, Unread>
+    ensures { ReadsWhole result (ended read reader.now) }
+{
+    if reader.rest() == 0 {
+        Ok(read)
+    } else {
+        Err(Unread::NoRow)
+    }
+}
+
 fn whole_service(alloc: Global, id: &ServiceId, bytes: &[u8]) -> Result<Service, Unread>
     ensures { ReadsWhole result (whole (service_reading id.now) bytes.now) }
 {
     let mut reader = Reader::new(bytes);
     let service = service_in(alloc, id, &mut reader)?;
-    if reader.rest() == 0 {
-        Ok(service)
-    } else {
-        Err(Unread::NoRow)
-    }
+    ended(&reader, service)
 }
 
 fn whole_job(alloc: Global, bytes: &[u8]) -> Result<JobValue, Unread>
@@ -92,11 +99,7 @@ fn whole_job(alloc: Global, bytes: &[u8]) -> Result<JobValue, Unread>
 {
     let mut reader = Reader::new(bytes);
     let value = job_in(alloc, &mut reader)?;
-    if reader.rest() == 0 {
-        Ok(value)
-    } else {
-        Err(Unread::NoRow)
-    }
+    ended(&reader, value)
 }
 
 fn value_in(alloc: Global, key: &Key, bytes: &[u8]) -> Result<Row, Unread>

@@ -25,7 +25,8 @@ use Rattle.monitor_semantics.specs.Bytes.{Bytes}
 use Rattle.monitor_semantics.specs.Charges.{charge_of, job_length, service_length, total_charge}
 use Rattle.monitor_semantics.specs.Endings.{durable, is_durable}
 use Rattle.monitor_laws.specs.DurableLaws.{durable_sorted, key_is_durable, row_at-durable}
-use Rattle.sync_points.specs.Refusals.{pages_after, row_charge, row_length}
+use Rattle.table_fit.specs.Lengths.{value_length}
+use Rattle.sync_points.specs.Refusals.{pages_after, row_charge}
 use Rattle.sync_points.specs.Weights.{made_weight, replaced_weight, row_weight}
 
 -- no value that fits into the pool is as long
@@ -35,7 +36,7 @@ longest = 4294967296
 -- the value of the row, if there is one, is short
 abbrev pub is_short : Option Row → Bool
 is_short None = true
-is_short (Some r) = nat_lt (row_length r) longest
+is_short (Some r) = nat_lt (value_length r) longest
 
 -- the greatest number of pages
 abbrev pub most_pages : ℕ
@@ -103,11 +104,11 @@ module _ {E : Type 0} (key_of : E → Key) (row_of : E → Row) (b : ℕ) (block
       by true is rest = omega (arith, sum_by-cons f x xs, ap f (some_is x e is))
       by false is rest = omega (arith, sum_by-cons f x xs, rest is)
 
-  found_short : (es : List E) → sum_by (λ (e : E). charge_of b (row_length (row_of e))) es ≤ most_pages → (o : Option E) → item_at key_of k es ≡ o → IsTrue (is_short (option_map row_of o))
+  found_short : (es : List E) → sum_by (λ (e : E). charge_of b (value_length (row_of e))) es ≤ most_pages → (o : Option E) → item_at key_of k es ≡ o → IsTrue (is_short (option_map row_of o))
   found_short es few None e = refl
   found_short es few (Some x) e =
-      let one : charge_of b (row_length (row_of x)) ≤ most_pages = omega (arith, few, found_within (λ (y : E). charge_of b (row_length (row_of y))) es x e) in
-      lt-ltb (row_length (row_of x)) longest (few_pages b (row_length (row_of x)) block one)
+      let one : charge_of b (value_length (row_of x)) ≤ most_pages = omega (arith, few, found_within (λ (y : E). charge_of b (value_length (row_of y))) es x e) in
+      lt-ltb (value_length (row_of x)) longest (few_pages b (value_length (row_of x)) block one)
 
 row_short : (b : ℕ) (u : TableRows) → IsBlockSize b → total_charge b u ≤ most_pages → (k : Key) → IsTrue (is_short (row_at u k))
 unfolding total_charge

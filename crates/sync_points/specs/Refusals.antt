@@ -16,13 +16,14 @@ use Rattle.kdcs_types.specs.RowLaws.{numbers_changed}
 use Rattle.kdcs_types.specs.Tables.{AreChanges, IsSortedTables, TableRows, changed, gssb_row, job_row, service_row, shown_row, tls_row, uls_row, with_changes}
 use Rattle.kdcdef_types.specs.Generation.{Generated}
 use Rattle.monitor_semantics.specs.declared.outcome.Outcome.{Outcome}
-use Rattle.monitor_semantics.specs.Charges.{charge_of, job_length, service_length, total_charge}
+use Rattle.monitor_semantics.specs.Charges.{charge_of, total_charge}
 use Rattle.monitor_semantics.specs.Endings.{durable, refusal, row_after, synchronised, with_areas, with_drafts, with_service, without_own_job}
 use Rattle.monitor_semantics.specs.State.{OpenTransaction}
 use Rattle.monitor_tables.specs.PointLaws.{Stands}
 use Rattle.storage_areas.specs.Areas.{changes_of}
 use Rattle.sync_points.specs.PointChanges.{point_changes}
 use Rattle.sync_points.specs.Made.{points_make, written_made}
+use Rattle.table_fit.specs.Lengths.{value_length}
 use Rattle.sync_points.specs.Weights.{changes_weigh, made_weight, replaced_weight, weight}
 
 -- a GSSB counts once, and no other row does
@@ -34,18 +35,9 @@ gssb_weight (ServiceRow id row) = 0
 gssb_weight (JobRow number value) = 0
 gssb_weight (ShownRow lterm value) = 0
 
--- the length of the value of a row
-abbrev pub row_length : Row → ℕ
-row_length (GssbRow name content) = length content
-row_length (TlsRow block lterm content) = length content
-row_length (UlsRow block user content) = length content
-row_length (ServiceRow id row) = service_length row
-row_length (JobRow number value) = job_length value
-row_length (ShownRow lterm value) = job_length value
-
 -- the pages that a row takes
 abbrev pub row_charge : ℕ → Row → ℕ
-row_charge blksize r = charge_of blksize (row_length r)
+row_charge blksize r = charge_of blksize (value_length r)
 
 -- ---- GSSBs
 

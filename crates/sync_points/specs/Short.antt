@@ -1,5 +1,5 @@
 -- What a synchronisation point writes is short.
-use Rattle.std.specs.Prelude.{◌≡◌, refl, ℕ, ◌+◌, ◌*◌, ◌≤◌, Bool, true, false, cond, ◌&&◌, IsTrue, List, [], ◌∷◌, ◌++◌, length, sum_by, Option, Some, None, nat_lt}
+use Rattle.std.specs.Prelude.{◌≡◌, refl, ℕ, ◌+◌, ◌≤◌, Bool, true, false, cond, ◌&&◌, IsTrue, List, [], ◌∷◌, ◌++◌, length, sum_by, Option, Some, None, nat_lt}
 use Rattle.std.proofs.Common.{arith, length-append}
 use Rattle.std.proofs.lemmas.Bool.{lt-ltb, leb-true}
 use Rattle.std.proofs.lemmas.List.{length-replicate}
@@ -32,6 +32,7 @@ use Rattle.monitor_laws.specs.Transactions.{area_is_declared, draft_fits, due_fi
 use Rattle.monitor_tables.specs.Lists.{all_append, all_filter}
 use Rattle.monitor_tables.specs.PointLaws.{Stands}
 use Rattle.monitor_tables.specs.RowParts.{row_parts}
+use Rattle.table_fit.specs.Small.{IsSmall, small_short}
 use Rattle.storage_areas.specs.Areas.{changes_of}
 use Rattle.sync_points.specs.Ascending.{points_durable}
 use Rattle.sync_points.specs.Pages.{is_short, longest}
@@ -63,32 +64,12 @@ areas_short g (w ∷ ws) h =
 
 -- ---- the service's row
 
-parts_sum : (ps : List Bytes) → sum_by list_length ps ≡ 4 * length ps + sum_by length ps
-parts_sum [] = refl
-parts_sum (p ∷ ps) = omega (arith, parts_sum ps, sum_by-cons list_length p ps, sum_by-cons (λ (q : Bytes). length q) p ps)
-
-lssbs_sum : (ls : List (Bytes × Bytes)) → IsTrue (list_all (λ (l : Bytes × Bytes). fits_content l.1) ls) → sum_by (λ (l : Bytes × Bytes). 8 + list_length l.1) ls ≤ 32779 * length ls
-lssbs_sum [] h = omega arith
-lssbs_sum (l ∷ ls) h =
-    let parts = both_true (fits_content l.1) (list_all (λ (k : Bytes × Bytes). fits_content k.1) ls) h in
-    omega (arith, lssbs_sum ls parts.1, leb-true (length l.1) 32767 parts.0, sum_by-cons (λ (k : Bytes × Bytes). 8 + list_length k.1) l ls)
-
 joined_length : (ps : List Bytes) → length (joined ps) ≡ sum_by length ps
 joined_length [] = refl
 joined_length (p ∷ ps) = omega (arith, joined_length ps, length-append p (joined ps), sum_by-cons (λ (q : Bytes). length q) p ps)
 
--- what a row may have at most
-record IsSmall (s : Service) : Type 0 where
-  kb : length s.kb ≤ 32767
-  count : length s.handed ≤ 16
-  handed : sum_by length s.handed ≤ 32700
-  last : last_length s.last ≤ 32705
-  lssbs_count : length s.lssbs ≤ 1000
-  lssbs : IsTrue (list_all (λ (l : Bytes × Bytes). fits_content l.1) s.lssbs)
-
-small_short : (s : Service) → IsSmall s → IsTrue (nat_lt (service_length s) longest)
-small_short s h =
-    lt-ltb (service_length s) longest (omega (arith, h.kb, h.count, h.handed, h.last, h.lssbs_count, parts_sum s.handed, lssbs_sum s.lssbs h.lssbs))
+small : (s : Service) → IsSmall s → IsTrue (nat_lt (service_length s) longest)
+small s h = lt-ltb (service_length s) longest (small_short s h)
 
 module _ (g : Generated) (limits : AreLimits g.limits) (t : TableRows) (id : ServiceId) (x : OpenTransaction) (s : Stands g t id x) where
   last-small : (message : Bytes) → length message ≤ g.limits.nb → last_length (Some message) ≤ 32705
@@ -114,11 +95,11 @@ module _ (g : Generated) (limits : AreLimits g.limits) (t : TableRows) (id : Ser
   row-short : (o : Outcome) → IsTrue (leaves_short (service_change id (row_after g id x o)))
   unfolding row_after
   row-short (Wait tac) =
-      small_short (point_row id x tac true [] (Some (joined x.parts))) (record { kb = kb-small; count = omega arith; handed = omega arith; last = last-small (joined x.parts) (omega (arith, joined_length x.parts, s.can.parts.bytes)); lssbs_count = lssbs-few; lssbs = s.can.lssbs })
+      small (point_row id x tac true [] (Some (joined x.parts))) (record { kb = kb-small; count = omega arith; handed = omega arith; last = last-small (joined x.parts) (omega (arith, joined_length x.parts, s.can.parts.bytes)); lssbs_count = lssbs-few; lssbs = s.can.lssbs })
   row-short (Point tac) =
-      small_short (point_row id x tac false x.parts (last_of x.began)) (record { kb = kb-small; count = s.can.parts.count; handed = handed-small; last = began-last x.began s.rooted.began; lssbs_count = lssbs-few; lssbs = s.can.lssbs })
+      small (point_row id x tac false x.parts (last_of x.began)) (record { kb = kb-small; count = s.can.parts.count; handed = handed-small; last = began-last x.began s.rooted.began; lssbs_count = lssbs-few; lssbs = s.can.lssbs })
   row-short (Follow tac) =
-      small_short (new_row g id x tac) (record { kb = omega (arith, length-replicate {A = ℕ} g.limits.kb 32, limits.kb); count = s.can.parts.count; handed = handed-small; last = omega arith; lssbs_count = omega arith; lssbs = refl })
+      small (new_row g id x tac) (record { kb = omega (arith, length-replicate {A = ℕ} g.limits.kb 32, limits.kb); count = s.can.parts.count; handed = handed-small; last = omega arith; lssbs_count = omega arith; lssbs = refl })
   row-short Finish = refl
   row-short (Hold tac) = refl
   row-short (Stay tac) = refl

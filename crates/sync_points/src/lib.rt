@@ -5,7 +5,6 @@
 //! what the transaction wrote, and that a point is refused exactly where the definitions refuse it.
 #![tactic(auto)]
 
-mod charges;
 mod ends;
 mod gssbs;
 mod kept;
@@ -20,6 +19,7 @@ ghost use Rattle.sync_points.specs.Laws.{PointsChangeWhatWasWritten, EndsChangeT
 
 pub use ends::broken;
 pub use points::{SettleAnswer, settle};
+pub use real::is_real;
 
 /// What a synchronisation point or an abnormal end changes in the durable tables is what the transaction wrote, where
 /// that is another row than stood there.

@@ -5,12 +5,11 @@ ghost use Rattle.monitor_semantics.specs.Charges.{total_charge};
 ghost use Rattle.monitor_semantics.specs.Endings.{durable};
 ghost use Rattle.sync_points.specs.Pages.{content_pages, job_pages, most_pages, pages_of, service_pages};
 
-use crate::charges::{job_length, service_length};
-use crate::writes::is_durable;
 use kd_base::{Bytes, Name};
 use kd_records::charge;
 use kdcdef_check::Generation;
 use kdcs_types::{Job, JobValue, Service, Tables};
+use table_fit::{is_durable, job_length, service_length};
 
 /// A row of the tables, with the pages that it takes.
 pub(crate) trait Paged {

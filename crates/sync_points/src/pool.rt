@@ -11,30 +11,18 @@ ghost use Rattle.monitor_semantics.specs.Endings.{durable};
 ghost use Rattle.monitor_tables.specs.PointLaws.{AreSound};
 ghost use Rattle.sync_points.specs.Pages.{is_short};
 ghost use Rattle.sync_points.specs.PointChanges.{row_left};
-ghost use Rattle.sync_points.specs.Refusals.{row_charge, row_length};
+ghost use Rattle.sync_points.specs.Refusals.{row_charge};
 ghost use Rattle.sync_points.specs.Short.{leaves_short};
 ghost use Rattle.sync_points.specs.Weights.{row_weight};
+ghost use Rattle.table_fit.specs.Lengths.{value_length};
 
-use crate::charges::{job_length, service_length};
 use crate::gssbs::key_of;
 use crate::pages::durable_pages;
 use kd_base::Bytes;
 use kd_records::charge;
 use kdcdef_check::Generation;
 use kdcs_types::{Area, Change, Changes, JobValue, Key, Row, Service, Tables};
-
-fn row_length(row: &Row) -> u64
-    requires { row_length row.now < 2 ^ 32 }
-    ensures { result ≡ row_length row.now }
-{
-    match row {
-        Row::Gssb(_, content) | Row::Tls(_, _, content) | Row::Uls(_, _, content) => {
-            content.len() as u64
-        }
-        Row::Service(_, service) => service_length(service),
-        Row::Job(_, value) | Row::Shown(_, value) => job_length(value),
-    }
-}
+use table_fit::{job_length, service_length, value_length};
 
 // The pages of the row that the change makes.
 fn made(change: &Change, blksize: u32) -> u64
@@ -43,7 +31,7 @@ fn made(change: &Change, blksize: u32) -> u64
     ensures { result ≡ row_weight (row_charge blksize) (row_left change.now) }
 {
     match change {
-        Change::Set(row) => charge(row_length(row), blksize),
+        Change::Set(row) => charge(value_length(row), blksize),
         Change::Remove(_) => 0,
     }
 }
@@ -51,7 +39,7 @@ fn made(change: &Change, blksize: u32) -> u64
 // How long the value at a key is, if there is one.
 fn length_at(tables: &Tables, key: Key) -> Option<u64>
     requires { IsTrue (is_short (row_at tables.now key)) }
-    ensures { result ≡ option_map row_length (row_at tables.now key) }
+    ensures { result ≡ option_map value_length (row_at tables.now key) }
 {
     match key {
         Key::Gssb(name) => content_length(tables.content(&Area::Gssb(name))),

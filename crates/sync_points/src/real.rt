@@ -77,7 +77,8 @@ fn has_key(tables: &Tables, key: &Key) -> bool
     }
 }
 
-pub(crate) fn is_real(tables: &Tables, change: &Change) -> bool
+/// Whether the change leaves another row in the tables than stands there. It takes no memory.
+pub fn is_real(tables: &Tables, change: &Change) -> bool
     ensures { result ≡ is_real tables.now change.now }
 {
     match change {

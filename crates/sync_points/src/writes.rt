@@ -1,24 +1,12 @@
 //! What ends of transactions write, one kind of row after another.
 ghost use Rattle.std.specs.Prelude.{◌≡◌, ◌++◌, OnOk, option_copied, filter};
-ghost use Rattle.monitor_semantics.specs.Endings.{is_durable};
 ghost use Rattle.sync_points.specs.PointChanges.{is_real, own_job_changes, service_changes};
 
 use crate::real::is_real;
 use kd_base::OutOfMemory;
 use kdcdef_check::Generation;
 use kdcs_types::{Change, Key, Row, RowChanges, Service, ServiceId, Tables};
-
-pub(crate) fn is_durable(generation: &Generation, id: ServiceId) -> bool
-    ensures { result ≡ is_durable generation.now id }
-{
-    match id {
-        ServiceId::Dialogue(user) => match generation.user(user) {
-            Some(entry) => entry.restart,
-            None => false,
-        },
-        ServiceId::Asynchronous(_) => true,
-    }
-}
+use table_fit::is_durable;
 
 pub(crate) fn write_service(
     changes: &mut RowChanges,

@@ -4,7 +4,7 @@ use Rattle.std.specs.FinMap.{is_sorted}
 use Rattle.kd_records.specs.Contents.{Record}
 use Rattle.kd_records.specs.Keys.{key_cmp}
 use Rattle.record_codec.specs.Records.{AreTablesOf}
-use Rattle.record_codec.specs.TableReadings.{AreRecordBytes, sets_read, changes_of, changes_are, tables_there, no_tables_unread, no_tables_unsorted}
+use Rattle.record_codec.specs.TableReadings.{AreRecordBytes, sets_read, changes_of, changes_are, tables_there, tables_proper, AreProperTables, no_tables_unread, no_tables_unsorted}
 use Rattle.record_codec.proofs.Failed.{not_read}
 use Rattle.record_codec.proofs.decode.tables_of.Goals as goal
 
@@ -31,3 +31,10 @@ pub returns-in-Err-NoRow-clause-none : goal.returns-in-Err-NoRow-clause-none
 returns-in-Err-NoRow-clause-none c =
     let none : sets_read c.as_slice-records.result.now ≡ None = not_read c.in-Err-NoRow.field-0 _ c.in-Err-NoRow.field-0-is c.in-Err-NoRow.ensures.read in
     λ _ t h are. no_tables_unread c.args.content.now (subst (λ (xs : List Record). sets_read xs ≡ None) c.as_slice-records.ensures none) t h are
+
+pub returns-in_ok-tables_with-in-Ok-clause-proper : goal.returns-in_ok-tables_with-in-Ok-clause-proper
+returns-in_ok-tables_with-in-Ok-clause-proper c =
+    subst AreProperTables (sym c.in_ok-tables_with-in-Ok.ensures)
+    (tables_proper c.args.content.now.items (changes_of c.args.content.now.clock c.args.content.now.next_job c.in-Ok.items)
+    (subst (All AreRecordBytes) c.as_slice-records.ensures c.in-Ok.ensures.bytes)
+    (subst (λ (xs : List Record). sets_read xs ≡ Some c.in-Ok.items) c.as_slice-records.ensures c.in-Ok.ensures.read))

@@ -1,0 +1,6 @@
+pub mod Lengths
+pub mod ServiceParts
+pub mod Small
+pub mod Charging
+pub mod Suiting
+pub mod Short

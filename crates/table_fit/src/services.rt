@@ -1,0 +1,161 @@
+//! Which services suit.
+ghost use Rattle.std.specs.Prelude.{◌≡◌, ◌&&◌, length, nat_le, sum_by, Bool};
+ghost use Rattle.std.specs.List.{list_all};
+ghost use Rattle.monitor_semantics.specs.Bytes.{Bytes as Content};
+ghost use Rattle.monitor_semantics.specs.Endings.{is_asynchronous, is_durable};
+ghost use Rattle.monitor_laws.specs.Suits.{awaits_rightly, fits_content, last_fits, lterm_suits, owner_suits, service_suits};
+ghost use Rattle.kdcs_types.specs.declared.service.Service.{Service as Row};
+ghost use Rattle.table_fit.specs.ServiceParts.{areas_suit, handed_suits, message_suits, tacs_suit};
+
+use crate::names::{fits_content, fits_message, has_kind, is_lterm, is_user};
+use kd_base::{Bytes, Name};
+use kdcdef_check::Generation;
+use kdcs_types::{Service, ServiceId};
+use record_codec::ascend;
+
+/// The greatest number of handed parts.
+const MOST_PARTS: usize = 16;
+
+// The LTERM of an asynchronous service is declared.
+fn lterm_suits(generation: &Generation, lterm: &Option<Name>) -> bool
+    ensures { result ≡ lterm_suits generation.now lterm.now }
+{
+    match lterm {
+        Some(name) => is_lterm(generation, *name),
+        None => true,
+    }
+}
+
+// A dialogue service is of its user; an asynchronous one awaits nothing, and has no handed part and no last message.
+fn owner_suits(service: &Service) -> bool
+    ensures { result ≡ owner_suits service.now.id service.now }
+{
+    match service.id {
+        ServiceId::Dialogue(user) => user == service.user,
+        ServiceId::Asynchronous(_) => {
+            !service.awaits && service.handed.as_slice().is_empty() && service.last.is_none()
+        }
+    }
+}
+
+fn is_asynchronous(id: &ServiceId) -> bool
+    ensures { result ≡ is_asynchronous id.now }
+{
+    matches!(id, ServiceId::Asynchronous(_))
+}
+
+// First and next TAC have the service's kind.
+fn tacs_suit(generation: &Generation, service: &Service) -> bool
+    ensures { result ≡ tacs_suit generation.now service.now }
+{
+    let asynchronous = is_asynchronous(&service.id);
+    has_kind(generation, service.first, asynchronous)
+        && has_kind(generation, service.next, asynchronous)
+}
+
+fn lssbs_fit(lssbs: &[(Name, Bytes)]) -> bool
+    ensures { result ≡ list_all (λ (l : Content × Content). fits_content l.1) lssbs.now }
+{
+    lssbs.iter().all(|lssb| fits_content(&lssb.1))
+}
+
+// KB has MAX KB bytes, and there are at most LSSBS LSSBs, in order and none too long.
+fn areas_suit(generation: &Generation, service: &Service) -> bool
+    ensures { result ≡ areas_suit generation.now service.now }
+{
+    let limits = generation.max();
+    let lssbs = service.lssbs.as_slice();
+    service.kb.len() as u64 == u64::from(limits.kb)
+        && lssbs.len() as u64 <= u64::from(limits.lssbs)
+        && ascend(lssbs)
+        && lssbs_fit(lssbs)
+}
+
+// An awaiting service has a last message and no handed part.
+fn awaits_rightly(service: &Service) -> bool
+    ensures { result ≡ awaits_rightly service.now service.now.awaits }
+{
+    !service.awaits || service.last.is_some() && service.handed.as_slice().is_empty()
+}
+
+fn last_fits(generation: &Generation, last: &Option<Bytes>) -> bool
+    ensures { result ≡ last_fits generation.now last.now }
+{
+    match last {
+        Some(message) => fits_message(generation, message),
+        None => true,
+    }
+}
+
+// The parts have at most so many bytes together.
+fn parts_fit(parts: &[Bytes], nb: u32) -> bool
+    ensures { result ≡ nat_le (sum_by length parts.now) nb }
+{
+    let mut room = nb as usize;
+    for part in parts {
+        match room.checked_sub(part.len()) {
+            Some(left) => room = left,
+            None => return false,
+        }
+    }
+    true
+}
+
+// At most 16 handed parts, which have at most NB bytes together.
+fn handed_suits(generation: &Generation, parts: &[Bytes]) -> bool
+    ensures { result ≡ handed_suits generation.now parts.now }
+{
+    parts.len() <= MOST_PARTS && parts_fit(parts, generation.max().nb)
+}
+
+// What a service awaits, has sent and hands on.
+fn message_suits(generation: &Generation, service: &Service) -> bool
+    ensures { result ≡ message_suits generation.now service.now }
+{
+    awaits_rightly(service)
+        && last_fits(generation, &service.last)
+        && handed_suits(generation, service.handed.as_slice())
+}
+
+// Every condition on a service's row but RESTART=YES.
+fn service_suits(generation: &Generation, service: &Service) -> bool
+    ensures { result ≡ service_suits generation.now service.now }
+{
+    is_user(generation, service.user)
+        && lterm_suits(generation, &service.lterm)
+        && owner_suits(service)
+        && tacs_suit(generation, service)
+        && areas_suit(generation, service)
+        && message_suits(generation, service)
+}
+
+/// Each service's row suits, whether it outlives a stop or not.
+pub(crate) fn services_suit(generation: &Generation, services: &[Service]) -> bool
+    ensures { result ≡ list_all (service_suits generation.now) services.now }
+{
+    services
+        .iter()
+        .all(|service| service_suits(generation, service))
+}
+
+/// Whether the service outlives a stop: not a dialogue service of a user with RESTART=NO.
+pub fn is_durable(generation: &Generation, id: ServiceId) -> bool
+    ensures { result ≡ is_durable generation.now id }
+{
+    match id {
+        ServiceId::Dialogue(user) => match generation.user(user) {
+            Some(entry) => entry.restart,
+            None => false,
+        },
+        ServiceId::Asynchronous(_) => true,
+    }
+}
+
+/// Each dialogue service is of a user with RESTART=YES.
+pub(crate) fn services_are_durable(generation: &Generation, services: &[Service]) -> bool
+    ensures { result ≡ list_all (λ (s : Row). is_durable generation.now s.id) services.now }
+{
+    services
+        .iter()
+        .all(|service| is_durable(generation, service.id))
+}
