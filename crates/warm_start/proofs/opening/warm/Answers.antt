@@ -1,0 +1,13 @@
+use Rattle.warm_start.proofs.Kept.{no_tables, stands_none}
+use Rattle.warm_start.proofs.Opened.{load_refused, tables_refused}
+use Rattle.warm_start.proofs.opening.warm.Goals as goal
+
+pub returns-in_err-store-clause-refused : goal.returns-in_err-store-clause-refused
+returns-in_err-store-clause-refused g c = λ is told.
+    no_tables c.args.generation.now c.args.fingerprint.now (g.D.Device.state c.args.device.now).holds
+    (c.in_err-store.ensures.none (load_refused _ _ c.from_residual.result c.in_err-store.field-0.0 c.from_residual.ensures.1 is) told)
+
+pub returns-in_err-tables-clause-refused : goal.returns-in_err-tables-clause-refused
+returns-in_err-tables-clause-refused g c = λ is told.
+    stands_none c.in_ok-store.store (g.D.Device.state c.args.device.now).holds (c.in_ok-store.ensures.stands told) c.args.generation.now c.args.fingerprint.now
+    (c.in_err-tables.ensures.refused (tables_refused _ _ c.from_residual-in_err-tables.result c.in_err-tables.field-0.0 c.from_residual-in_err-tables.ensures.1 is))

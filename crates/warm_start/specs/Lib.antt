@@ -1,0 +1,7 @@
+pub mod Fingerprints
+pub mod TextLaws
+pub mod Stands
+pub mod Kept
+pub mod Opening
+pub mod Meaning
+pub mod Causes

@@ -1,0 +1,64 @@
+//! Why a KDCFILE was not opened.
+ghost use Rattle.std.specs.Prelude.{◌≡◌};
+ghost use Rattle.warm_start.specs.declared.error.OpenError.TheVariants as errors;
+ghost use Rattle.warm_start.specs.Causes.{of_create, of_load};
+
+use kd_base::OutOfMemory;
+use kd_device::Failed;
+use kdcfile_store::{CommitError, LoadError};
+use thiserror::Error;
+
+/// Why a KDCFILE was not opened.
+#[derive(Clone, Copy, Debug, PartialEq, Eq, Error)]
+pub enum OpenError {
+    /// It is not empty, and stands for no tables, or for tables of these texts that do not suit the generation.
+    #[error("not a KDCFILE")]
+    NotKdcfile,
+    /// It was made with other texts, which have this fingerprint.
+    #[error("a KDCFILE of another generation")]
+    OtherGeneration([u8; 32]),
+    /// A disk call failed.
+    #[error("the disk failed")]
+    Failed,
+    #[error("out of memory")]
+    Memory,
+}
+
+impl From<OutOfMemory> for OpenError {
+    ghost from_gives = { λ _ e. e ≡ errors.Memory };
+
+    fn from(_: OutOfMemory) -> Self {
+        OpenError::Memory
+    }
+}
+
+impl From<Failed> for OpenError {
+    ghost from_gives = { λ _ e. e ≡ errors.Failed };
+
+    fn from(_: Failed) -> Self {
+        OpenError::Failed
+    }
+}
+
+impl From<CommitError> for OpenError {
+    ghost from_gives = { λ e r. r ≡ of_create e };
+
+    fn from(e: CommitError) -> Self {
+        match e {
+            CommitError::Failed => OpenError::Failed,
+            CommitError::Memory => OpenError::Memory,
+        }
+    }
+}
+
+impl From<LoadError> for OpenError {
+    ghost from_gives = { λ e r. r ≡ of_load e };
+
+    fn from(e: LoadError) -> Self {
+        match e {
+            LoadError::NotKdcfile => OpenError::NotKdcfile,
+            LoadError::Failed => OpenError::Failed,
+            LoadError::Memory => OpenError::Memory,
+        }
+    }
+}

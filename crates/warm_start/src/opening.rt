@@ -1,0 +1,166 @@
+//! The KDCFILE is made where it is empty, and else opened warm.
+ghost use Rattle.std.specs.Prelude.{◌≡◌, ◌≤◌, [], List, ℕ, IsTrue, length, IfOk, OnOk, IsErrOf};
+ghost use Rattle.kd_device.specs.Device.{State, Rose, Frame, SameNames, LeavesOnly, Only};
+ghost use Rattle.kd_device.specs.Rest.{Rests};
+ghost use Rattle.kd_records.specs.Charge.{total_charge};
+ghost use Rattle.kdcdef_types.specs.Statements.{IsBlksize, IsWithin};
+ghost use Rattle.kdcs_types.specs.Tables.{empty_tables};
+ghost use Rattle.kdcfile_store.specs.Kept.{IsKept};
+ghost use Rattle.kdcfile_store.specs.Whole.{HasFile, Made};
+ghost use Rattle.monitor_laws.specs.Suits.{Suits};
+ghost use Rattle.warm_start.specs.Stands.{KeepsTables, StandsForTables, identity_for, limits_of};
+ghost use Rattle.warm_start.specs.Kept.{KeepsNoneFor, KeepsOthers};
+ghost use Rattle.warm_start.specs.Opening.{StartsFrom, HasNoTablesFor, IsRefused, IsOfOtherTexts, IsOpening};
+
+use crate::error::OpenError;
+use kd_device::Device;
+use kdcdef_check::Generation;
+use kdcfile_store::{StoreLimits, WholeStore};
+use kdcs_types::Tables;
+use record_codec::tables_of;
+use std::alloc::Global;
+use table_fit::suits;
+
+/// The length of the file. Nothing is pending then.
+fn settled_size<D: Device>(device: &mut D) -> Result<u64, OpenError>
+    ensures size { IfOk result (λ n. IsTrue (D.state device.old).told → n ≡ length (D.state device.old).holds) }
+    ensures settled { OnOk result (IsTrue (D.state device.old).told → Only (D.state device.new).holds (D.state device.new) (D.leaves device.new)) }
+    ensures rests { IsTrue (D.state device.old).told → Rests (D.state device.old) (D.state device.new) (D.leaves device.old) (D.leaves device.new) }
+    ensures refused { IsErrOf result OpenError.NotKdcfile → ⊥ }
+    ensures other { (stored : List ℕ) → IsErrOf result (OpenError.OtherGeneration stored) → ⊥ }
+    ensures failed { IsErrOf result OpenError.Failed → Rose (D.state device.old).disk_faults (D.state device.new).disk_faults }
+    ensures frame { Frame (D.state device.old) (D.state device.new) }
+    ensures names { SameNames (D.state device.old) (D.state device.new) }
+{
+    device.reserve(1, 0, 0)?;
+    device.sync()?;
+    Ok(device.size()?)
+}
+
+/// BLKSIZE and PGPOOL of the generation.
+fn limits_of(generation: &Generation) -> StoreLimits
+    ensures limits { result ≡ limits_of generation.now }
+    ensures blksize { IsBlksize result.blksize }
+    ensures pgpool { IsWithin 16 30000 result.pgpool }
+{
+    let max = generation.max();
+    StoreLimits {
+        blksize: max.blksize,
+        pgpool: max.pgpool,
+    }
+}
+
+/// The tables that a store keeps, where they are of the texts with this fingerprint and suit the generation.
+fn tables_in(
+    alloc: Global,
+    store: &WholeStore,
+    generation: &Generation,
+    fingerprint: &[u8; 32],
+) -> Result<Tables, OpenError>
+    ensures tables { IfOk result (λ t. KeepsTables (identity_for generation.now fingerprint.now) store.now t) }
+    ensures suits { IfOk result (λ t. Suits generation.now t) }
+    ensures refused { IsErrOf result OpenError.NotKdcfile → KeepsNoneFor generation.now fingerprint.now store.now }
+    ensures other { (stored : List ℕ) → IsErrOf result (OpenError.OtherGeneration stored) → KeepsOthers stored fingerprint.now store.now }
+    ensures never { IsErrOf result OpenError.Failed → ⊥ }
+{
+    let Some(tables) = tables_of(alloc, store.kept())? else {
+        return Err(OpenError::NotKdcfile);
+    };
+    let stored = *store.fingerprint();
+    if stored != *fingerprint {
+        return Err(OpenError::OtherGeneration(stored));
+    }
+    let limits = store.limits();
+    if !suits(generation, &tables, limits.blksize, limits.pgpool) {
+        return Err(OpenError::NotKdcfile);
+    }
+    Ok(tables)
+}
+
+/// Makes the empty file, with the empty tables.
+fn make<D: Device>(
+    alloc: Global,
+    device: &mut D,
+    generation: &Generation,
+    fingerprint: &[u8; 32],
+) -> Result<(WholeStore, Tables), OpenError>
+    requires empty { IsTrue (D.state device.old).told → (D.state device.old).holds ≡ [] }
+    requires settled { IsTrue (D.state device.old).told → Only (D.state device.old).holds (D.state device.old) (D.leaves device.old) }
+    ensures empty { IfOk result (λ o. o.1 ≡ empty_tables) }
+    ensures tables { IfOk result (λ o. KeepsTables (identity_for generation.now fingerprint.now) o.0 o.1) }
+    ensures suits { IfOk result (λ o. Suits generation.now o.1) }
+    ensures kept { IfOk result (λ o. IsTrue (D.state device.old).told → IsKept (HasFile o.0) (D.state device.new) (D.leaves device.new)) }
+    ensures sent { IsTrue (D.state device.old).told → (D.state device.new).sent ≡ (D.state device.old).sent }
+    ensures any_moment { IsTrue (D.state device.old).told
+        → LeavesOnly (D.state device.old) (D.state device.new) (D.leaves device.old) (D.leaves device.new) (Made (identity_for generation.now fingerprint.now) (D.state device.old).sent) }
+    ensures refused { IsErrOf result OpenError.NotKdcfile → ⊥ }
+    ensures other { (stored : List ℕ) → IsErrOf result (OpenError.OtherGeneration stored) → ⊥ }
+    ensures failed { IsErrOf result OpenError.Failed → Rose (D.state device.old).disk_faults (D.state device.new).disk_faults }
+    ensures frame { Frame (D.state device.old) (D.state device.new) }
+    ensures names { SameNames (D.state device.old) (D.state device.new) }
+{
+    let limits = limits_of(generation);
+    let store = WholeStore::create(alloc, device, &limits, fingerprint)?;
+    Ok((store, Tables::empty(alloc)))
+}
+
+/// Opens the file that is there.
+fn warm<D: Device>(
+    alloc: Global,
+    device: &mut D,
+    generation: &Generation,
+    fingerprint: &[u8; 32],
+) -> Result<(WholeStore, Tables), OpenError>
+    ensures tables { IfOk result (λ o. KeepsTables (identity_for generation.now fingerprint.now) o.0 o.1) }
+    ensures suits { IfOk result (λ o. Suits generation.now o.1) }
+    ensures stands { IfOk result (λ o. IsTrue (D.state device.old).told → StandsForTables (identity_for generation.now fingerprint.now) o.1 (D.state device.old).holds) }
+    ensures kept { IfOk result (λ o. IsTrue (D.state device.old).told → IsKept (HasFile o.0) (D.state device.new) (D.leaves device.new)) }
+    ensures refused { IsErrOf result OpenError.NotKdcfile → IsTrue (D.state device.old).told → HasNoTablesFor generation.now fingerprint.now (D.state device.old).holds }
+    ensures other { (stored : List ℕ) → IsErrOf result (OpenError.OtherGeneration stored) → IsTrue (D.state device.old).told → IsOfOtherTexts stored fingerprint.now (D.state device.old).holds }
+    ensures rests { IsTrue (D.state device.old).told → Rests (D.state device.old) (D.state device.new) (D.leaves device.old) (D.leaves device.new) }
+    ensures failed { IsErrOf result OpenError.Failed → Rose (D.state device.old).disk_faults (D.state device.new).disk_faults }
+    ensures frame { Frame (D.state device.old) (D.state device.new) }
+    ensures names { SameNames (D.state device.old) (D.state device.new) }
+{
+    let store = WholeStore::load(alloc, device)?;
+    let tables = tables_in(alloc, &store, generation, fingerprint)?;
+    Ok((store, tables))
+}
+
+/// Opens the KDCFILE that the device has: makes it for this generation and the texts with this fingerprint where it is
+/// empty, and else starts warm from the tables that it keeps. That its bytes stand for tables is tested first, then the
+/// fingerprint, then whether the tables suit.
+pub fn open_tables<D: Device>(
+    alloc: Global,
+    device: &mut D,
+    generation: &Generation,
+    fingerprint: &[u8; 32],
+) -> Result<(WholeStore, Tables), OpenError>
+    ensures tables { IfOk result (λ o. KeepsTables (identity_for generation.now fingerprint.now) o.0 o.1) }
+    ensures suits { IfOk result (λ o. Suits generation.now o.1) }
+
+    // There are pages for what the store keeps, as a commit asks.
+    ensures room { IfOk result (λ o. total_charge o.0.identity.block o.0.content.items ≤ o.0.identity.pages) }
+
+    ensures starts { IfOk result (λ o. IsTrue (D.state device.old).told → StartsFrom generation.now fingerprint.now (D.state device.old).holds o.1) }
+    ensures kept { IfOk result (λ o. IsTrue (D.state device.old).told → IsKept (HasFile o.0) (D.state device.new) (D.leaves device.new)) }
+    ensures refused { IsErrOf result OpenError.NotKdcfile → IsTrue (D.state device.old).told → IsRefused generation.now fingerprint.now (D.state device.old).holds }
+    ensures other { (stored : List ℕ) → IsErrOf result (OpenError.OtherGeneration stored) → IsTrue (D.state device.old).told → IsOfOtherTexts stored fingerprint.now (D.state device.old).holds }
+
+    // A file that is not empty stays as it is.
+    ensures still { IsTrue (D.state device.old).told → ((D.state device.old).holds ≡ [] → ⊥) → Rests (D.state device.old) (D.state device.new) (D.leaves device.old) (D.leaves device.new) }
+    ensures sent { IsTrue (D.state device.old).told → (D.state device.new).sent ≡ (D.state device.old).sent }
+    ensures any_moment { IsTrue (D.state device.old).told
+        → LeavesOnly (D.state device.old) (D.state device.new) (D.leaves device.old) (D.leaves device.new) (IsOpening (identity_for generation.now fingerprint.now) (D.state device.old) (D.leaves device.old)) }
+
+    ensures failed { IsErrOf result OpenError.Failed → Rose (D.state device.old).disk_faults (D.state device.new).disk_faults }
+    ensures frame { Frame (D.state device.old) (D.state device.new) }
+    ensures names { SameNames (D.state device.old) (D.state device.new) }
+{
+    let size = settled_size(device)?;
+    if size == 0 {
+        make(alloc, device, generation, fingerprint)
+    } else {
+        warm(alloc, device, generation, fingerprint)
+    }
+}
