@@ -1,5 +1,15 @@
 pub mod FirstLine
 pub mod Words
+pub mod SameBytes
+pub mod Parted
+pub mod Numbers
+pub mod Shapes
 pub mod Ticks
+pub mod Names
+pub mod Inputs
+pub mod Keyed
 pub mod Spelled
+pub mod Passed
 pub mod FirstFaults
+pub mod Fitting
+pub mod Examples

@@ -1,90 +1,112 @@
--- The line of a TICK.
-use Rattle.std.proofs.Common.{◌≡◌, inl, inr, ℕ, zero, suc, ◌<◌, ◌≤◌, Bool, true, false, ◌&&◌, List, [], ◌∷◌, ◌++◌, length, refl, ap, ◌∙◌, arith, append-nil, append_assoc}
-use Rattle.std.specs.Prelude.{filter, replicate, nat_lt, nat_le, codes}
-use Rattle.std.specs.List.{slice_split, list_all, All}
-use Rattle.std.proofs.lemmas.Bool.{cases_Bool}
-use Rattle.std.proofs.lemmas.Bool.Decides.{nat_tests}
-use Rattle.std.proofs.lemmas.List.Elements.{All-nil, All-cons}
-use Rattle.std.proofs.lemmas.List.Splits.{slice_split_at}
+-- The lines of a script of TICKs.
+use Rattle.std.proofs.Common.{◌≡◌, ℕ, ◌≤◌, Bool, true, false, List, [], ◌∷◌, ◌++◌, length, refl, sym, ap, subst, ◌∙◌, arith, append_assoc}
+use Rattle.std.specs.Prelude.{IsTrue, replicate, codes}
+use Rattle.std.specs.List.{list_all}
+use Rattle.kd_base.specs.Text.{is_digit, decimal_value}
 use Rattle.kdcs_types.specs.Limits.{last_clock}
-use Rattle.kd_base.specs.Text.{is_space, is_digit, decimal_value}
-use Rattle.script_read.specs.Script.{words, line_of, line_of_words, tick_in}
-use Rattle.script_read.specs.Laws.{IsTickOf, IsTickCount, TicksAreSaid, RangesAreTested}
-use Rattle.script_read.proofs.Words.{kept, words_behind_space, one_word}
+use Rattle.kdcs_types.specs.declared.command.Command.{Command}
+use Rattle.kdcs_types.specs.declared.command.Command.TheVariants.{Tick}
+use Rattle.script_read.specs.Script.{Line, Nothing, Says, IsBad, IsOutOfRange, as_command, words, same, is_passed, begins_with_space, numbered, tick_by, line_of_words, line_of}
+use Rattle.script_read.specs.Spelling.{AreParted, IsNumber}
+use Rattle.script_read.specs.Laws.{IsTickOf, IsTickCount, TicksAreSaid, TicksOnly, RangesAreTested, RangesOnly}
+use Rattle.script_read.proofs.SameBytes.{same_bytes}
+use Rattle.script_read.proofs.Parted.{AreSome, parted_words, words_parted, words_some}
+use Rattle.script_read.proofs.Numbers.{word_of, digits_word, number_said, number_only, outside_said, outside_only}
+use Rattle.script_read.proofs.Shapes.{by_front, as_said, as_out, front_of}
 
--- spaces behind which nothing stands
-spaces_alone : (n : ℕ) → words (replicate n 32) ≡ []
-spaces_alone zero = refl
-spaces_alone (suc n) = words_behind_space 32 (replicate n 32) refl ∙ spaces_alone n
+parted : (line digits : List ℕ) → IsTickOf line digits → AreParted (codes "TICK" ∷ digits ∷ []) line
+parted line digits t =
+    (t.between, digits ++ replicate t.behind 32, t.parted, t.spelled ∙ append_assoc (codes "TICK" ++ replicate t.between 32) digits (replicate t.behind 32), (t.behind, refl))
 
-spaces_before : (n : ℕ) (rest : List ℕ) → words (replicate n 32 ++ rest) ≡ words rest
-spaces_before zero rest = refl
-spaces_before (suc n) rest = words_behind_space 32 (replicate n 32 ++ rest) refl ∙ spaces_before n rest
+tick_of : (line digits : List ℕ) → 1 ≤ length digits → IsTrue (list_all is_digit digits) → AreParted (codes "TICK" ∷ digits ∷ []) line → IsTickOf line digits
+tick_of line digits some all p = record {
+  between = p.0;
+  behind = p.4.0;
+  parted = p.2;
+  some = some;
+  all_digits = all;
+  spelled =
+      p.3
+      ∙ ap (λ (rest : List ℕ). codes "TICK" ++ replicate p.0 32 ++ rest) p.4.1
+      ∙ sym (append_assoc (codes "TICK" ++ replicate p.0 32) digits (replicate p.4.0 32));
+}
 
--- a word before a space
-pub word_then : (word rest : List ℕ) → 0 < length word → All (λ b. is_space b ≡ false) word → words (word ++ 32 ∷ rest) ≡ word ∷ words rest
-word_then word rest some none = ap (filter (λ (w : List ℕ). nat_lt 0 (length w))) (slice_split_at is_space word 32 rest none refl) ∙ kept word (slice_split is_space rest) some
+-- the line of a TICK, by its number
+tick_line : (line digits : List ℕ) → IsTickOf line digits → line_of line ≡ as_command Tick (numbered 0 last_clock digits)
+tick_line line digits t =
+    let p = parted line digits t in
+    let f = front_of (codes "TICK") (digits ∷ []) line p in
+    let at : line_of (codes "TICK" ++ f.0) ≡ line_of_words (words (codes "TICK" ++ f.0)) = refl in
+    ap line_of f.1
+    ∙ at
+    ∙ ap line_of_words (ap words (sym f.1) ∙ parted_words (codes "TICK" ∷ digits ∷ []) line (word_of (codes "TICK") refl, (digits_word digits t.some t.all_digits, tt)) p)
 
--- a word before spaces alone
-word_last : (word : List ℕ) (n : ℕ) → 0 < length word → All (λ b. is_space b ≡ false) word → words (word ++ replicate n 32) ≡ word ∷ []
-word_last word zero some none = ap words (append-nil word) ∙ one_word word some none
-word_last word (suc n) some none = word_then word (replicate n 32) some none ∙ ap (λ (ws : List (List ℕ)). word ∷ ws) (spaces_alone n)
-
-no_space : (b : ℕ) → is_digit b ≡ true → is_space b ≡ false
-no_space b h = grind (arith, nat_tests)
-
-both_true : (a b : Bool) → (a && b) ≡ true → (a ≡ true) × (b ≡ true)
-both_true true b h = (refl, h)
-both_true false b h = absurd cc
-
-no_spaces : (digits : List ℕ) → list_all is_digit digits ≡ true → All (λ b. is_space b ≡ false) digits
-no_spaces [] h = All-nil (λ b. is_space b ≡ false)
-no_spaces (b ∷ digits) h =
-    let e = both_true (is_digit b) (list_all is_digit digits) h in
-    All-cons (λ b. is_space b ≡ false) b digits (no_space b e.0) (no_spaces digits e.1)
-
--- TICK and its number
-two_words : (digits : List ℕ) (between behind : ℕ) → 0 < length digits → list_all is_digit digits ≡ true → words (codes "TICK" ++ replicate (suc between) 32 ++ digits ++ replicate behind 32) ≡ codes "TICK" ∷ digits ∷ []
-two_words digits between behind some h =
-    let tick : All (λ b. is_space b ≡ false) (codes "TICK") =
-    All-cons (λ b. is_space b ≡ false) 84 (73 ∷ 67 ∷ 75 ∷ []) refl (All-cons (λ b. is_space b ≡ false) 73 (67 ∷ 75 ∷ []) refl (All-cons (λ b. is_space b ≡ false) 67 (75 ∷ []) refl (All-cons (λ b. is_space b ≡ false) 75 [] refl (All-nil (λ b. is_space b ≡ false))))) in
-    ap words (append_assoc (codes "TICK" ++ replicate (suc between) 32) digits (replicate behind 32))
-    ∙ word_then (codes "TICK") (replicate between 32 ++ (digits ++ replicate behind 32)) (omega arith) tick
-    ∙ ap (λ (ws : List (List ℕ)). codes "TICK" ∷ ws) (spaces_before between (digits ++ replicate behind 32) ∙ word_last digits behind some (no_spaces digits h))
-
-pub counts : (digits : List ℕ) → IsTickCount digits → (nat_le (length digits) 18 && nat_le (decimal_value digits) last_clock) ≡ true
-counts digits t = let few = t.few in let value = t.value in grind (arith, nat_tests)
-
-pub counts_so : (digits : List ℕ) → (nat_le (length digits) 18 && nat_le (decimal_value digits) last_clock) ≡ true → IsTickCount digits
-counts_so digits h =
-    let e = both_true (nat_le (length digits) 18) (nat_le (decimal_value digits) last_clock) h in
-    record { few = le_so (length digits) 18 e.0; value = le_so (decimal_value digits) last_clock e.1 }
-  where
-    le_so : (m n : ℕ) → nat_le m n ≡ true → m ≤ n
-    le_so m n h = grind (arith, nat_tests)
-
-counts_not : (digits : List ℕ) → (IsTickCount digits → ⊥) → (nat_le (length digits) 18 && nat_le (decimal_value digits) last_clock) ≡ false
-counts_not digits none =
-    elim (cases_Bool (nat_le (length digits) 18 && nat_le (decimal_value digits) last_clock)) [
-      | inl h ↦ absurd (none (counts_so digits h))
-      | inr h ↦ h
-    ]
-
--- the line of a TICK, by the test of its number
-spelled : (digits : List ℕ) (between behind : ℕ) → 1 ≤ length digits → list_all is_digit digits ≡ true
-    → line_of (codes "TICK" ++ replicate (suc between) 32 ++ digits ++ replicate behind 32) ≡ tick_in (nat_le (length digits) 18 && nat_le (decimal_value digits) last_clock) (decimal_value digits)
-spelled digits between behind some h = ap line_of_words (two_words digits between behind some h) ∙ rw h refl
-
-parted : (digits : List ℕ) (between behind : ℕ) → 1 ≤ between → 1 ≤ length digits → list_all is_digit digits ≡ true
-    → line_of (codes "TICK" ++ replicate between 32 ++ digits ++ replicate behind 32) ≡ tick_in (nat_le (length digits) 18 && nat_le (decimal_value digits) last_clock) (decimal_value digits)
-parted digits zero behind le some h = absurd (omega arith)
-parted digits (suc between) behind le some h = spelled digits between behind some h
-
-tick_line : (line digits : List ℕ) → IsTickOf line digits → line_of line ≡ tick_in (nat_le (length digits) 18 && nat_le (decimal_value digits) last_clock) (decimal_value digits)
-tick_line line digits t = ap line_of t.spelled ∙ parted digits t.between t.behind t.parted t.some t.all_digits
+is_number : (digits : List ℕ) → 1 ≤ length digits → IsTrue (list_all is_digit digits) → IsTickCount digits → IsNumber 0 last_clock (decimal_value digits) digits
+is_number digits some all count = record { some = some; few = count.few; all_digits = all; value = refl; range = (omega arith, count.value) }
 
 pub ticks_said : TicksAreSaid
-ticks_said line digits t count = tick_line line digits t ∙ ap (λ (b : Bool). tick_in b (decimal_value digits)) (counts digits count)
+ticks_said line digits t count =
+    tick_line line digits t ∙ ap (λ (x : Line ℕ). as_command Tick x) (number_said 0 last_clock (decimal_value digits) digits (is_number digits t.some t.all_digits count))
 
 pub ranges_tested : RangesAreTested
-ranges_tested line digits t none = tick_line line digits t ∙ ap (λ (b : Bool). tick_in b (decimal_value digits)) (counts_not digits none)
+ranges_tested line digits t none =
+    tick_line line digits t
+    ∙ ap (λ (x : Line ℕ). as_command Tick x) (outside_said 0 last_clock digits t.some t.all_digits (λ n is. none (count_of n is)))
+  where
+    count_of : (n : ℕ) → IsNumber 0 last_clock n digits → IsTickCount digits
+    count_of n is = record { few = is.few; value = subst (λ (v : ℕ). v ≤ last_clock) is.value is.range.1 }
+
+-- ---- and nothing else
+
+-- words that are not bad
+record HasTick (ws : List (List ℕ)) (what : Line Command) : Type 0 where
+  pub digits : List ℕ
+  pub are : ws ≡ codes "TICK" ∷ digits ∷ []
+  pub is : as_command Tick (numbered 0 last_clock digits) ≡ what
+
+by_key : (key : Bool) (keyword digits : List ℕ) (what : Line Command) → same keyword (codes "TICK") ≡ key → (what ≡ IsBad → ⊥) → tick_by key digits ≡ what → HasTick (keyword ∷ digits ∷ []) what
+by_key true keyword digits what e good h =
+    record { digits = digits; are = ap (λ (w : List ℕ). w ∷ digits ∷ []) (same_bytes keyword (codes "TICK") e); is = h }
+by_key false keyword digits what e good h = absurd (good (sym h))
+
+has_tick : (ws : List (List ℕ)) (what : Line Command) → (what ≡ IsBad → ⊥) → line_of_words ws ≡ what → HasTick ws what
+has_tick [] what good h = absurd (good (sym h))
+has_tick (keyword ∷ []) what good h = absurd (good (sym h))
+has_tick (keyword ∷ digits ∷ []) what good h = by_key (same keyword (codes "TICK")) keyword digits what refl good h
+has_tick (keyword ∷ digits ∷ more ∷ rest) what good h = absurd (good (sym h))
+
+-- a line that is not passed over and not bad is a TICK with a word
+record IsKeyed (line : List ℕ) (what : Line Command) : Type 0 where
+  pub digits : List ℕ
+  pub some : 1 ≤ length digits
+  pub parted : AreParted (codes "TICK" ∷ digits ∷ []) line
+  pub is : as_command Tick (numbered 0 last_clock digits) ≡ what
+
+keyed : (line : List ℕ) (what : Line Command) → (what ≡ Nothing → ⊥) → (what ≡ IsBad → ⊥) → line_of line ≡ what → IsKeyed line what
+keyed line what some good h =
+    let f = by_front (is_passed line) (begins_with_space line) (line_of_words (words line)) what some good h in
+    let t = has_tick (words line) what good f.2 in
+    let all : AreSome (codes "TICK" ∷ t.digits ∷ []) = subst AreSome t.are (words_some line) in
+    record { digits = t.digits; some = all.1.0; parted = words_parted (codes "TICK" ∷ t.digits ∷ []) line f.1 t.are; is = t.is }
+
+pub ticks_only : TicksOnly
+ticks_only line command h =
+    let k = keyed line (Says command) (λ e. cc) (λ e. cc) h in
+    let s = as_said Tick (numbered 0 last_clock k.digits) command k.is in
+    let n = number_only 0 last_clock s.0 k.digits k.some s.1 in
+    let value = n.value in
+    let range = n.range in (
+      k.digits,
+      tick_of line k.digits n.some n.all_digits k.parted,
+      record { few = n.few; value = omega arith },
+      s.2 ∙ ap (λ (v : ℕ). let c : Command = Tick v in c) n.value,
+    )
+
+pub ranges_only : RangesOnly
+ranges_only line h =
+    let k = keyed line IsOutOfRange (λ e. cc) (λ e. cc) h in
+    let o = outside_only 0 last_clock k.digits (as_out Tick (numbered 0 last_clock k.digits) k.is) in (
+      k.digits,
+      tick_of line k.digits k.some o.all_digits k.parted,
+      λ count. o.outside (decimal_value k.digits) (is_number k.digits k.some o.all_digits count),
+    )

@@ -7,7 +7,9 @@ use Rattle.kdcs_types.specs.Limits.{last_clock}
 use Rattle.kdcs_types.specs.declared.command.Command.{Command}
 use Rattle.kdcs_types.specs.declared.command.Command.TheVariants.{Tick}
 use Rattle.script_read.specs.declared.fault.ScriptFault.TheVariants.{BadLine, OutOfRange}
-use Rattle.script_read.specs.Script.{Line, Nothing, Says, IsBad, IsOutOfRange, line_of, script}
+use Rattle.kdcdef_types.specs.Generation.{Generated}
+use Rattle.script_read.specs.Script.{Line, Nothing, Says, IsBad, IsOutOfRange, line_of, script_of}
+use Rattle.script_read.specs.Commands.{line_in}
 
 -- TICK, one or more spaces, digits, and spaces behind them
 pub record IsTickOf (line digits : List ℕ) : Type 0 where
@@ -38,44 +40,54 @@ abbrev pub RangesOnly : Type 0
 RangesOnly = (line : List ℕ) → line_of line ≡ IsOutOfRange → (digits : List ℕ) × IsTickOf line digits × (IsTickCount digits → ⊥)
 
 -- a line that is no fault
-abbrev pub IsRight : Line → Type 0
+abbrev pub IsRight : {C : Type 0} → Line C → Type 0
 IsRight Nothing = Unit {0}
 IsRight (Says command) = Unit {0}
 IsRight IsBad = ⊥
 IsRight IsOutOfRange = ⊥
 
-abbrev pub AreRight : List (List ℕ) → Type 0
-AreRight [] = Unit {0}
-AreRight (line ∷ rest) = IsRight (line_of line) × AreRight rest
+abbrev pub AreRight : {C : Type 0} → (List ℕ → Line C) → List (List ℕ) → Type 0
+AreRight reads [] = Unit {0}
+AreRight reads (line ∷ rest) = IsRight (reads line) × AreRight reads rest
 
 -- of these lines, the one with this number has the fault, and none before it has any
-pub record IsFirstFault (n : ℕ) (what : Line) (all : List (List ℕ)) : Type 0 where
+pub record IsFirstFault {C : Type 0} (reads : List ℕ → Line C) (n : ℕ) (what : Line C) (all : List (List ℕ)) : Type 0 where
   pub before : List (List ℕ)
   pub line : List ℕ
   pub behind : List (List ℕ)
   pub parts : all ≡ before ++ line ∷ behind
   pub number : n ≡ length before + 1
-  pub right : AreRight before
-  pub fault : line_of line ≡ what
+  pub right : AreRight reads before
+  pub fault : reads line ≡ what
 
-pub record IsFirstOf (text : List ℕ) : Type 0 where
-  pub bad : (number : ℕ) → script text ≡ Err (BadLine number) → IsFirstFault number IsBad (lines text)
-  pub out_of_range : (number : ℕ) → script text ≡ Err (OutOfRange number) → IsFirstFault number IsOutOfRange (lines text)
+pub record IsFirstOf {C : Type 0} (reads : List ℕ → Line C) (text : List ℕ) : Type 0 where
+  pub bad : (number : ℕ) → script_of reads text ≡ Err (BadLine number) → IsFirstFault reads number IsBad (lines text)
+  pub out_of_range : (number : ℕ) → script_of reads text ≡ Err (OutOfRange number) → IsFirstFault reads number IsOutOfRange (lines text)
 
 abbrev pub FaultsAreFirst : Type 0
-FaultsAreFirst = (text : List ℕ) → IsFirstOf text
+FaultsAreFirst = (text : List ℕ) → IsFirstOf line_of text
+
+abbrev pub CommandFaultsAreFirst : Type 0
+CommandFaultsAreFirst = (g : Generated) (text : List ℕ) → IsFirstOf (line_in g) text
 
 -- the command of a line, where it says one
-abbrev pub said : Line → List Command
+abbrev pub said : {C : Type 0} → Line C → List C
 said Nothing = []
 said (Says command) = command ∷ []
 said IsBad = []
 said IsOutOfRange = []
 
-abbrev pub all_said : List (List ℕ) → List Command
-all_said [] = []
-all_said (line ∷ rest) = said (line_of line) ++ all_said rest
+abbrev pub all_said : {C : Type 0} → (List ℕ → Line C) → List (List ℕ) → List C
+all_said reads [] = []
+all_said reads (line ∷ rest) = said (reads line) ++ all_said reads rest
+
+-- what a script says that is no fault
+abbrev pub SaysItsLines : {C : Type 0} → (List ℕ → Line C) → Type 0
+SaysItsLines {C} reads =
+    (text : List ℕ) (commands : List C) → script_of reads text ≡ Ok commands → AreRight reads (lines text) × (commands ≡ all_said reads (lines text))
 
 abbrev pub SaysWhatItsLinesSay : Type 0
-SaysWhatItsLinesSay =
-    (text : List ℕ) (commands : List Command) → script text ≡ Ok commands → AreRight (lines text) × (commands ≡ all_said (lines text))
+SaysWhatItsLinesSay = SaysItsLines line_of
+
+abbrev pub CommandsAreThoseOfItsLines : Type 0
+CommandsAreThoseOfItsLines = (g : Generated) → SaysItsLines (line_in g)

@@ -1,3 +1,6 @@
 pub mod Script
 pub mod Reading
+pub mod Commands
+pub mod Spelling
 pub mod Laws
+pub mod Examples

@@ -20,11 +20,18 @@ abbrev pub same : List ℕ → List ℕ → Bool
 same a b = eq_by_cmp (slice_cmp nat_cmp) a b
 
 -- what one line is: nothing, a command, or one of the two faults
-pub data Line : Type 0 where
-  Nothing : Line
-  Says : (command : Command) → Line
-  IsBad : Line
-  IsOutOfRange : Line
+pub data Line (C : Type 0) : Type 0 where
+  Nothing : Line C
+  Says : (command : C) → Line C
+  IsBad : Line C
+  IsOutOfRange : Line C
+
+-- the command that is made of what a line says
+abbrev pub as_command : {A C : Type 0} → (A → C) → Line A → Line C
+as_command say Nothing = Nothing
+as_command say (Says a) = Says (say a)
+as_command say IsBad = IsBad
+as_command say IsOutOfRange = IsOutOfRange
 
 abbrev pub is_comment : List ℕ → Bool
 is_comment [] = false
@@ -38,50 +45,43 @@ abbrev pub begins_with_space : List ℕ → Bool
 begins_with_space [] = false
 begins_with_space (b ∷ rest) = is_space b
 
--- the number of a TICK, of digits alone: 1 to 18 of them, with a value that a clock may have
-abbrev pub tick_in : Bool → ℕ → Line
-tick_in true n = Says (Tick n)
-tick_in false n = IsOutOfRange
-
-abbrev pub tick_of : Bool → List ℕ → Line
-tick_of true digits = tick_in (nat_le (length digits) 18 && nat_le (decimal_value digits) last_clock) (decimal_value digits)
-tick_of false digits = IsBad
-
-abbrev pub keyed : Bool → List ℕ → Line
-keyed true number = tick_of (list_all is_digit number) number
-keyed false number = IsBad
-
--- `TICK n`
-abbrev pub line_of_words : List (List ℕ) → Line
-line_of_words [] = IsBad
-line_of_words (keyword ∷ []) = IsBad
-line_of_words (keyword ∷ number ∷ []) = keyed (same keyword (codes "TICK")) number
-line_of_words (keyword ∷ number ∷ more ∷ rest) = IsBad
-
-abbrev pub line_by : Bool → Bool → List ℕ → Line
-line_by true spaced line = Nothing
-line_by false true line = IsBad
-line_by false false line = line_of_words (words line)
-
 -- what a line is: trailing spaces are passed over, leading ones are not
-abbrev pub line_of : List ℕ → Line
-line_of line = line_by (is_passed line) (begins_with_space line) line
+abbrev pub line_by : {C : Type 0} → (passed spaced : Bool) → Line C → Line C
+line_by true spaced said = Nothing
+line_by false true said = IsBad
+line_by false false said = said
+
+-- 18 digits at most, whose value lies from low to high
+abbrev pub is_count : ℕ → ℕ → List ℕ → Bool
+is_count low high digits = nat_le (length digits) 18 && (nat_le low (decimal_value digits) && nat_le (decimal_value digits) high)
+
+abbrev pub number_in : Bool → ℕ → Line ℕ
+number_in true n = Says n
+number_in false n = IsOutOfRange
+
+abbrev pub number_by : Bool → ℕ → ℕ → List ℕ → Line ℕ
+number_by true low high digits = number_in (is_count low high digits) (decimal_value digits)
+number_by false low high word = IsBad
+
+-- what a word says where a number from low to high is wanted: a number of digits outside its range is no bad line
+abbrev pub numbered : ℕ → ℕ → List ℕ → Line ℕ
+numbered low high word = number_by (list_all is_digit word) low high word
 
 -- a line before the commands of the lines behind it
-abbrev pub before : Command → Result (List Command) ScriptFault → Result (List Command) ScriptFault
+abbrev pub before : {C : Type 0} → C → Result (List C) ScriptFault → Result (List C) ScriptFault
 before c (Ok commands) = Ok (c ∷ commands)
 before c (Err fault) = Err fault
 
-abbrev pub line_then : ℕ → Line → Result (List Command) ScriptFault → Result (List Command) ScriptFault
+abbrev pub line_then : {C : Type 0} → ℕ → Line C → Result (List C) ScriptFault → Result (List C) ScriptFault
 line_then number Nothing rest = rest
 line_then number (Says c) rest = before c rest
 line_then number IsBad rest = Err (BadLine number)
 line_then number IsOutOfRange rest = Err (OutOfRange number)
 
 -- the commands of lines numbered from this one, or the fault of the first line that has one
-abbrev pub script_from : ℕ → List (List ℕ) → Result (List Command) ScriptFault
-script_from number [] = Ok []
-script_from number (line ∷ rest) = line_then number (line_of line) (script_from (number + 1) rest)
+abbrev pub script_from : {C : Type 0} → (List ℕ → Line C) → ℕ → List (List ℕ) → Result (List C) ScriptFault
+script_from reads number [] = Ok []
+script_from reads number (line ∷ rest) = line_then number (reads line) (script_from reads (number + 1) rest)
 
 -- the lines that are neither empty nor comments
 abbrev pub command_lines : List (List ℕ) → ℕ
@@ -91,10 +91,30 @@ command_lines ls = count_by (λ line. not (is_passed line)) ls
 abbrev pub is_too_long : List ℕ → Bool
 is_too_long text = nat_lt 16777216 (length text) || nat_lt 1000000 (command_lines (lines text))
 
-abbrev pub script_by : Bool → List ℕ → Result (List Command) ScriptFault
-script_by true text = Err TooLong
-script_by false text = script_from 1 (lines text)
+abbrev pub script_by : {C : Type 0} → Bool → (List ℕ → Line C) → List ℕ → Result (List C) ScriptFault
+script_by true reads text = Err TooLong
+script_by false reads text = script_from reads 1 (lines text)
+
+-- the commands of a script whose lines say so, or its first fault
+abbrev pub script_of : {C : Type 0} → (List ℕ → Line C) → List ℕ → Result (List C) ScriptFault
+script_of reads text = script_by (is_too_long text) reads text
+
+-- ---- scripts of TICKs
+
+abbrev pub tick_by : Bool → List ℕ → Line Command
+tick_by true word = as_command Tick (numbered 0 last_clock word)
+tick_by false word = IsBad
+
+-- `TICK n`
+abbrev pub line_of_words : List (List ℕ) → Line Command
+line_of_words [] = IsBad
+line_of_words (keyword ∷ []) = IsBad
+line_of_words (keyword ∷ number ∷ []) = tick_by (same keyword (codes "TICK")) number
+line_of_words (keyword ∷ number ∷ more ∷ rest) = IsBad
+
+abbrev pub line_of : List ℕ → Line Command
+line_of line = line_by (is_passed line) (begins_with_space line) (line_of_words (words line))
 
 -- the commands of a script, or its first fault
 abbrev pub script : List ℕ → Result (List Command) ScriptFault
-script text = script_by (is_too_long text) text
+script text = script_of line_of text

@@ -1,15 +1,25 @@
 //! Scripts: a text of commands, a line each.
 //!
-//! It stands on kd_base and kdcs_types. To the top call, its contract says that a text is read exactly as the commands that its
-//! lines say, or refused with the first line that says none.
+//! It stands on kd_base, kdcs_types, kdcdef_types, kdcdef_check and monitor_semantics. To the top call, its contract says
+//! that a text is read exactly as the commands that its lines say in a generation, or refused with the first line that
+//! says none; and that the PTERMs and tasks of these commands are those of the generation.
 #![tactic(auto)]
 
+mod command;
+mod commands;
 mod fault;
+mod keyword;
 mod laws;
 mod line;
+mod number;
 mod read;
+mod reading;
+mod terminal;
 mod word;
 
+pub use commands::read_commands;
 pub use fault::ScriptFault;
-pub use laws::{faults_are_first, says_what_its_lines_say, ticks_are_said};
+pub use laws::{
+    commands_are_said, faults_are_first, says_what_its_lines_say, ticks_are_said, worked_lines,
+};
 pub use read::read_script;

@@ -1,8 +1,15 @@
 //! The words of a line.
 ghost use Rattle.std.specs.Prelude.{◌≡◌, ◌<◌, ◌∷◌, [], false, length, IfSome, MatchOption};
-ghost use Rattle.std.specs.List.{prefix_len, position_or_len};
+ghost use Rattle.std.specs.List.{prefix_len, position_or_len, before_first, after_first};
 ghost use Rattle.kd_base.specs.Text.{is_space};
-ghost use Rattle.script_read.specs.Script.{begins_with_space, words};
+ghost use Rattle.script_read.specs.Script.{words, same};
+
+#[tactic(auto, using(crate::proofs::SameBytes::same_texts))]
+pub(crate) fn same(a: &[u8], b: &[u8]) -> bool
+    ensures { result ≡ same a.now b.now }
+{
+    a == b
+}
 
 // How many spaces stand in front.
 fn spaces_len(line: &[u8]) -> usize
@@ -36,4 +43,17 @@ pub(crate) fn next_word(line: &[u8]) -> Option<(&[u8], &[u8])>
         return None;
     }
     Some(front.split_at(word_len(front)))
+}
+
+// The bytes before the first space, and those behind it.
+pub(crate) fn split_at_space(line: &[u8]) -> (&[u8], &[u8])
+    ensures before { result.0.now ≡ before_first is_space line.now }
+    ensures behind { result.1.now ≡ after_first is_space line.now }
+{
+    let n = word_len(line);
+    let (before, rest) = line.split_at(n);
+    if rest.is_empty() {
+        return (before, &[]);
+    }
+    (before, &line[n + 1..])
 }

@@ -1,5 +1,4 @@
-use Rattle.script_read.proofs.Ticks.{ticks_said, ranges_tested}
-use Rattle.script_read.proofs.Spelled.{ticks_only, ranges_only}
+use Rattle.script_read.proofs.Ticks.{ticks_said, ticks_only, ranges_tested, ranges_only}
 use Rattle.script_read.proofs.laws.ticks_are_said.Goals as goal
 
 pub returns-clause-ticks : goal.returns-clause-ticks

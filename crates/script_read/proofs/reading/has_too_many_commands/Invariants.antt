@@ -1,7 +1,7 @@
 use Rattle.std.proofs.Common.{◌≡◌, ◌+◌, ◌≤◌, length}
 use Rattle.std.specs.Str.Lines.{lines}
 use Rattle.script_read.specs.Script.{command_lines}
-use Rattle.script_read.proofs.read.has_too_many_commands.Given as goal
+use Rattle.script_read.proofs.reading.has_too_many_commands.Given as goal
 
 abbrev pub invariant-loop-rest : goal.invariant-loop-rest
 invariant-loop-rest l = record {

@@ -1,0 +1,156 @@
+//! The command of a line.
+ghost use Rattle.std.specs.Prelude.{◌≡◌, ◌<◌, length};
+ghost use Rattle.std.specs.List.{list_all};
+ghost use Rattle.script_read.specs.Script.{words, is_passed, begins_with_space};
+ghost use Rattle.script_read.specs.Commands.{is_text_byte, input, alone, with_one, with_two, line_of_words, command_by, begins_with_in, line_in};
+ghost use Rattle.script_read.specs.Reading.{outcome, found_of, Gives};
+
+use crate::fault::ScriptFault;
+use crate::keyword::{Keyword, keyword_of};
+use crate::line::is_passed;
+use crate::number::number_of;
+use crate::read::LAST_CLOCK;
+use crate::reading::LineReader;
+use crate::terminal::pterm_of;
+use crate::word::{next_word, same, split_at_space};
+use kd_base::Bytes;
+use kdcdef_check::Generation;
+use monitor_semantics::Command;
+use std::alloc::Global;
+
+/// The greatest number of a RUN.
+const LAST_TURNS: u64 = 1_000_000;
+
+fn is_text(bytes: &[u8]) -> bool
+    ensures { result ≡ list_all is_text_byte bytes.now }
+{
+    bytes.iter().all(|b| b' ' <= *b && *b <= b'~')
+}
+
+// What stands behind `IN` and its space: the name up to the first space, and behind that space the text.
+fn input_of(
+    alloc: Global,
+    generation: &Generation,
+    line: u32,
+    rest: &[u8],
+) -> Result<Command, ScriptFault>
+    ensures { Gives (found_of result) (outcome line (input generation.now rest.now)) }
+{
+    let (name, text) = split_at_space(rest);
+    if !is_text(text) {
+        return Err(ScriptFault::BadLine(line));
+    }
+    let pterm = pterm_of(generation, line, false, name)?;
+    Ok(Command::Input(pterm, Bytes::from_slice(alloc, text)?))
+}
+
+// A keyword alone.
+fn alone(line: u32, keyword: Keyword) -> Result<Command, ScriptFault>
+    ensures { found_of result ≡ outcome line (alone keyword) }
+{
+    match keyword {
+        Keyword::Restart => Ok(Command::Restart),
+        _ => Err(ScriptFault::BadLine(line)),
+    }
+}
+
+// A keyword and a word.
+fn with_one(
+    generation: &Generation,
+    line: u32,
+    keyword: Keyword,
+    word: &[u8],
+) -> Result<Command, ScriptFault>
+    requires { 0 < length word.now }
+    ensures { found_of result ≡ outcome line (with_one generation.now keyword word.now) }
+{
+    let tasks = generation.max().tasks;
+    match keyword {
+        Keyword::Tick => Ok(Command::Tick(number_of(line, 0, LAST_CLOCK, word)?)),
+        Keyword::Run => Ok(Command::Run(number_of(line, 0, LAST_TURNS, word)?)),
+        Keyword::Turn => Ok(Command::Turn(number_of(line, 1, u64::from(tasks), word)? as u16)),
+        Keyword::Drop => Ok(Command::Drop(pterm_of(generation, line, false, word)?)),
+        Keyword::Print => Ok(Command::Print(pterm_of(generation, line, true, word)?)),
+        Keyword::Restart => Err(ScriptFault::BadLine(line)),
+    }
+}
+
+// A keyword and two words.
+fn with_two(
+    generation: &Generation,
+    line: u32,
+    keyword: Keyword,
+    word: &[u8],
+    last: &[u8],
+) -> Result<Command, ScriptFault>
+    ensures { found_of result ≡ outcome line (with_two generation.now keyword word.now last.now) }
+{
+    match keyword {
+        Keyword::Print if same(last, b"LAST") => {
+            Ok(Command::PrintLast(pterm_of(generation, line, true, word)?))
+        }
+        _ => Err(ScriptFault::BadLine(line)),
+    }
+}
+
+// What the words of this line say.
+fn command_of_words(
+    generation: &Generation,
+    number: u32,
+    line: &[u8],
+) -> Result<Command, ScriptFault>
+    ensures { found_of result ≡ outcome number (line_of_words generation.now (words line.now)) }
+{
+    let Some((first, rest)) = next_word(line) else {
+        return Err(ScriptFault::BadLine(number));
+    };
+    let Some(keyword) = keyword_of(first) else {
+        return Err(ScriptFault::BadLine(number));
+    };
+    let Some((word, rest)) = next_word(rest) else {
+        return alone(number, keyword);
+    };
+    let Some((last, rest)) = next_word(rest) else {
+        return with_one(generation, number, keyword, word);
+    };
+    if next_word(rest).is_some() {
+        return Err(ScriptFault::BadLine(number));
+    }
+    with_two(generation, number, keyword, word, last)
+}
+
+// The command of a line that is not passed over and begins with no space.
+fn command_on(
+    alloc: Global,
+    generation: &Generation,
+    number: u32,
+    line: &[u8],
+) -> Result<Command, ScriptFault>
+    ensures { Gives (found_of result) (outcome number (command_by (begins_with_in line.now) generation.now line.now)) }
+{
+    match line.strip_prefix(b"IN ") {
+        Some(rest) => input_of(alloc, generation, number, rest),
+        None => command_of_words(generation, number, line),
+    }
+}
+
+impl LineReader for Generation {
+    type Command = Command;
+
+    ghost line_of = { line_in };
+
+    fn command_of(
+        &self,
+        alloc: Global,
+        number: u32,
+        line: &[u8],
+    ) -> Result<Option<Command>, ScriptFault> {
+        if is_passed(line) {
+            return Ok(None);
+        }
+        if line[0] == b' ' {
+            return Err(ScriptFault::BadLine(number));
+        }
+        Ok(Some(command_on(alloc, self, number, line)?))
+    }
+}

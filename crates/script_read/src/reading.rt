@@ -1,0 +1,79 @@
+//! Reading a text line by line, whatever its lines say.
+ghost use Rattle.std.specs.Prelude.{◌≡◌, ◌<◌, ◌-◌, ◌^◌, List, ℕ, length, nat_lt};
+ghost use Rattle.std.specs.Str.Lines.{lines};
+ghost use Rattle.script_read.specs.Script.{Line, command_lines, is_too_long};
+ghost use Rattle.script_read.specs.Reading.{outcome, Gives, items_of, commands_of};
+
+use crate::fault::ScriptFault;
+use crate::line::{is_passed, next_line};
+use std::alloc::Global;
+
+/// The greatest length of a script in bytes.
+const MAX_SCRIPT_LEN: usize = 16_777_216;
+
+/// The greatest number of lines that are neither empty nor comments.
+const MAX_COMMANDS: u32 = 1_000_000;
+
+/// What reads one line.
+pub(crate) trait LineReader {
+    type Command: Drop;
+
+    /// What a line says.
+    ghost line_of: { Self → List ℕ → Line Self.Command };
+
+    /// The command of this line, if it has one.
+    fn command_of(
+        &self,
+        alloc: Global,
+        number: u32,
+        line: &[u8],
+    ) -> Result<Option<Self::Command>, ScriptFault>
+        ensures { Gives result (outcome number (line_of self.now line.now)) };
+}
+
+fn has_too_many_commands(text: &[u8]) -> bool
+    ensures { result ≡ nat_lt 1000000 (command_lines (lines text.now)) }
+{
+    let mut count: u32 = 0;
+    let mut rest = text;
+    while !rest.is_empty() {
+        let (line, after) = next_line(rest);
+        if !is_passed(line) {
+            if count >= MAX_COMMANDS {
+                return true;
+            }
+            count += 1;
+        }
+        rest = after;
+    }
+    false
+}
+
+pub(crate) fn is_too_long(text: &[u8]) -> bool
+    ensures { result ≡ is_too_long text.now }
+{
+    text.len() > MAX_SCRIPT_LEN || has_too_many_commands(text)
+}
+
+// The commands of a text whose lines can be numbered, or its first fault.
+pub(crate) fn commands_of<R: LineReader>(
+    alloc: Global,
+    reader: &R,
+    text: &[u8],
+) -> Result<Vec<R::Command>, ScriptFault>
+    requires { length text.now < 2 ^ 32 - 1 }
+    ensures { Gives (items_of result) (commands_of (R.line_of reader.now) text.now) }
+{
+    let mut commands = Vec::new(alloc);
+    let mut number: u32 = 1;
+    let mut rest = text;
+    while !rest.is_empty() {
+        let (line, after) = next_line(rest);
+        if let Some(command) = reader.command_of(alloc, number, line)? {
+            commands.push(command)?;
+        }
+        number += 1;
+        rest = after;
+    }
+    Ok(commands)
+}

@@ -1,0 +1,38 @@
+//! The PTERMs of a generation, by the USAGE of their LTERMs.
+ghost use Rattle.std.specs.Prelude.{◌≡◌, Some};
+ghost use Rattle.script_read.specs.Commands.{lterm_at, pterm_in};
+ghost use Rattle.script_read.specs.Reading.{outcome, found_of};
+
+use crate::fault::ScriptFault;
+use kd_base::Name;
+use kdcdef_check::Generation;
+use kdcdef_types::LtermEntry;
+
+// The LTERM of the PTERM with this name, if there is one.
+fn lterm_at(generation: &Generation, name: Name) -> Option<LtermEntry>
+    ensures { result ≡ lterm_at generation.now (Some name) }
+{
+    let pterm = generation.pterm(name)?;
+    generation.lterm(pterm.lterm).copied()
+}
+
+// The PTERM that a word on this line names, whose LTERM has USAGE=O (a printer), or else USAGE=D.
+pub(crate) fn pterm_of(
+    generation: &Generation,
+    line: u32,
+    printer: bool,
+    word: &[u8],
+) -> Result<Name, ScriptFault>
+    ensures { found_of result ≡ outcome line (pterm_in generation.now printer word.now) }
+{
+    let Some(name) = Name::from_bytes(word) else {
+        return Err(ScriptFault::BadLine(line));
+    };
+    let Some(lterm) = lterm_at(generation, name) else {
+        return Err(ScriptFault::BadLine(line));
+    };
+    if lterm.printer != printer {
+        return Err(ScriptFault::BadLine(line));
+    }
+    Ok(name)
+}
