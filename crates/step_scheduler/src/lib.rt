@@ -8,4 +8,5 @@
 mod room;
 mod scheduler;
 
+pub use room::class_of;
 pub use scheduler::Scheduler;

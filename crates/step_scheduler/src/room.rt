@@ -65,7 +65,8 @@ fn asynchronous_tasks(places: &[Option<Classed>]) -> usize
         .count()
 }
 
-pub(crate) fn class_of(generation: &Generation, tac: Name) -> u8
+/// The class of a TAC: 1 to 16, and 0 for none.
+pub fn class_of(generation: &Generation, tac: Name) -> u8
     ensures { result ≡ class_of generation.now tac }
 {
     match generation.tac(tac) {

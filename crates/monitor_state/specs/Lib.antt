@@ -1,0 +1,5 @@
+pub mod Queue
+pub mod Standing
+pub mod Changes
+pub mod Kept
+pub mod Whole
