@@ -1,0 +1,247 @@
+-- What becomes of the state when a transaction is over, step by step.
+use Rattle.std.specs.Prelude.{◌≡◌, refl, ℕ, List, ◌++◌, Option, Some, None, IfSome, IsTrue, option_map, IsSome}
+use Rattle.std.proofs.Common.{ap, sym, subst, ◌∙◌}
+use Rattle.std.specs.FinMap.{find}
+use Rattle.kd_base.specs.Tools.{both_true}
+use Rattle.kdcs_types.specs.declared.act.Act.{Act}
+use Rattle.kdcs_types.specs.declared.act.Act.TheVariants.{Commit}
+use Rattle.kdcs_types.specs.declared.act.Changes.{Changes}
+use Rattle.kdcs_types.specs.declared.call.Cause.{Cause}
+use Rattle.kdcs_types.specs.declared.key.Key.TheVariants as key
+use Rattle.kdcs_types.specs.declared.key.ServiceId.{ServiceId}
+use Rattle.kdcs_types.specs.declared.key.ServiceId.TheVariants.{Dialogue, Asynchronous}
+use Rattle.kdcs_types.specs.declared.service.Ending.{Ending}
+use Rattle.kdcs_types.specs.declared.service.Ending.TheVariants as ending
+use Rattle.kdcs_types.specs.declared.service.Service.{Service}
+use Rattle.kdcs_types.specs.declared.service.Settled.{Settled}
+use Rattle.kdcs_types.specs.Keys.{id_cmp, id_eq}
+use Rattle.kdcs_types.specs.KeyedLaws.{found_passes}
+use Rattle.kdcs_types.specs.Tables.{TableRows, IsSortedTables, change_fits, changed, lterm_fits, service_fits, service_key, service_of}
+use Rattle.kdcdef_types.specs.Generation.{Generated}
+use Rattle.monitor_semantics.specs.declared.outcome.Outcome.{Outcome}
+use Rattle.monitor_semantics.specs.declared.outcome.Outcome.TheVariants.{Hold, Stay, Queue, Wait, Point, Follow, Finish, Break, Back}
+use Rattle.monitor_semantics.specs.Bytes.{Bytes, bytes_cmp}
+use Rattle.std.specs.FinMap.{is_sorted}
+use Rattle.monitor_semantics.specs.Endings.{broken, durable, joined, refusal, row_after, service_change, synchronised, with_service}
+use Rattle.monitor_semantics.specs.Sessions.{is_running}
+use Rattle.monitor_semantics.specs.State.{Application, OpenTransaction, State}
+use Rattle.monitor_semantics.specs.Statements.{kept_record}
+use Rattle.monitor_semantics.specs.Turns.{abnormal, after_point, back, committed, dump_acts, ended_acts, message_acts, message_sent, moved_to, settled, settled_by, told_user, user_acts, with_open, with_task, without_open, without_work}
+use Rattle.monitor_places.specs.Entries.{found_put, found_without}
+use Rattle.monitor_tables.specs.PointLaws.{Stands}
+use Rattle.open_transaction.specs.declared.open.OpenTransaction.{OpenTransaction as Work}
+use Rattle.open_transaction.specs.Work.{work_of, HasOrder}
+use Rattle.monitor_state.specs.declared.parts.MonitorParts.{MonitorParts}
+use Rattle.monitor_state.specs.Kept.{found_work}
+use Rattle.monitor_state.specs.Standing.{IsOwned, SameApplication, state_of}
+use Rattle.sync_points.specs.declared.points.SettleAnswer.TheVariants.{Refused, Synced}
+use Rattle.sync_points.specs.Answers.{answer_by}
+use Rattle.commit_laws.specs.CommitLaws.{durable_difference}
+use Rattle.commit_laws.specs.Ends.{end_made, point_made}
+use Rattle.service_ends.specs.Ending.{IsClosed, Works, app_of, behind_end, behind_point, broken_to, emitted, settled_to}
+
+-- ---- the parts behind a step
+
+-- an application that is the same
+pub same_app : (p q : MonitorParts) → SameApplication p q → app_of q ≡ app_of p
+same_app p q same = λ i. record { generation = same.generation i; units = (same.units i).units }
+
+pub same_behind : (p q r : MonitorParts) → SameApplication p q → SameApplication q r → SameApplication p r
+same_behind p q r a b = record { generation = b.generation ∙ a.generation; units = b.units ∙ a.units; steps = b.steps ∙ a.steps }
+
+pub found_one : (o : Option Work) (work : Work) (found : Option OpenTransaction) (x : OpenTransaction) → o ≡ Some work → option_map work_of o ≡ found → found ≡ Some x → work_of work ≡ x
+found_one o work found x is found_is x_is = under (sym (ap (option_map work_of) is) ∙ found_is ∙ x_is)
+  where
+    under : {A : Type 0} {a b : A} → Some a ≡ Some b → a ≡ b
+    under e = cc
+
+pub found_none : (o : Option Work) (found : Option OpenTransaction) (x : OpenTransaction) → o ≡ None → option_map work_of o ≡ found → found ≡ Some x → ⊥
+found_none o found x is found_is x_is = absurd (none_some (sym (ap (option_map work_of) is) ∙ found_is ∙ x_is))
+  where
+    none_some : {A : Type 0} {a : A} → None ≡ Some a → ⊥
+    none_some e = cc
+
+stands_as : (g h : Generated) (t u : TableRows) (i j : ServiceId) (x y : OpenTransaction) → h ≡ g → u ≡ t → j ≡ i → y ≡ x → Stands g t i x → Stands h u j y
+stands_as g h t u i j x y a b c d s =
+    subst (λ k. Stands k u j y) (sym a) (subst (λ k. Stands g k j y) (sym b) (subst (λ k. Stands g t k y) (sym c) (subst (λ k. Stands g t i k) (sym d) s)))
+
+-- the transaction that was closed
+pub closed_work : (p q : MonitorParts) (task : ℕ) (id : ServiceId) (x : OpenTransaction) (work : Work) → Works p task id x → SameApplication p q
+    → state_of q ≡ without_work (state_of p) task id → work.id ≡ id → work_of work ≡ x → IsClosed q work
+closed_work p q task id x work works same state own is = record {
+  closed = (λ i. find id_cmp (own i) (state i).active) ∙ found_without id (state_of p).active;
+  unplaced = (λ i. is_running (state i) (own i)) ∙ works.alone;
+  stands = stands_as p.generation q.generation p.tables q.tables id work.id x (work_of work) same.generation (ap (λ (s : State). s.tables) state) own is works.stands;
+}
+
+own_of : (g : Generated) (steps : ℕ) (id : ServiceId) (o : Option Work) → IfSome o (λ (work : Work). IsOwned g steps (id, work)) → IfSome o (λ (work : Work). work.id ≡ id)
+own_of g steps id None h = tt
+own_of g steps id (Some work) h = h.id
+
+pub closed_result : (p m q : MonitorParts) (task : ℕ) (id : ServiceId) (o : Option Work) → ((x : OpenTransaction) × Works p task id x) → SameApplication p m → SameApplication m q
+    → state_of m ≡ with_task (state_of p) task None → state_of q ≡ without_open (state_of m) id → option_map work_of o ≡ find id_cmp id (state_of m).active
+    → IfSome o (λ (work : Work). IsOwned m.generation m.steps (id, work)) → IfSome o (λ (work : Work). IsClosed q work)
+closed_result p m q task id None works a b s t found own = tt
+closed_result p m q task id (Some work) works a b s t found own =
+    closed_work p q task id works.0 work works.1 (same_behind p m q a b) (t ∙ ap (λ (u : State). without_open u id) s) own.id
+    (found_one (Some work) work _ works.0 refl (found ∙ ap (λ (u : State). find id_cmp id u.active) s) works.1.is_open)
+
+-- LSSBs of a row that stands in the tables ascend
+row_order : (t : TableRows) (id : ServiceId) (o : Option Service) → IsSortedTables t → service_of t id ≡ o → HasOrder o
+row_order t id None h e = tt
+row_order t id (Some row) h e = (both_true (lterm_fits row.id row.lterm) (is_sorted bytes_cmp row.lssbs) (found_passes service_key service_fits (key.Service id) t.services row h.services_fit e)).1
+
+pub began_order : (p : MonitorParts) (work : Work) → IsClosed p work → HasOrder work.began
+began_order p work h = row_order p.tables work.id work.began h.stands.sound.order h.stands.rooted.began
+
+-- a service that opened a transaction has it
+pub opened_open : (p q : MonitorParts) (id : ServiceId) (x : OpenTransaction) → state_of q ≡ with_open (state_of p) id x → IsSome (find id_cmp id (state_of q).active)
+opened_open p q id x e = subst (λ (o : Option OpenTransaction). IsSome o) (sym (ap (λ (s : State). find id_cmp id s.active) e ∙ found_put id x (state_of p).active)) refl
+
+-- ---- ends
+
+-- an abnormal end of a transaction that was closed
+breaks : (app : Application) (s : State) (task : ℕ) (id : ServiceId) (x : OpenTransaction) (e : Ending) → broken_to app (without_work s task id) id x e ≡ abnormal app s task id x e
+unfolding abnormal
+breaks app s task (Dialogue user) x e = refl
+breaks app s task (Asynchronous number) x e = refl
+
+pub ends_as : (p q : MonitorParts) (task : ℕ) (id own : ServiceId) (x y : OpenTransaction) (e : Ending) → SameApplication p q → state_of q ≡ without_work (state_of p) task id → own ≡ id → y ≡ x
+    → broken_to (app_of q) (state_of q) own y e ≡ abnormal (app_of p) (state_of p) task id x e
+ends_as p q task id own x y e same state i z = (λ k. broken_to (same_app p q same k) (state k) (i k) (z k) e) ∙ breaks (app_of p) (state_of p) task id x e
+
+settles : (app : Application) (s : State) (task : ℕ) (id : ServiceId) (x : OpenTransaction) (o : Outcome) (new : TableRows) (r : Option Cause) → new ≡ synchronised app.generation s.tables id x o
+    → settled_to app (without_work s task id) id x o r ≡ settled_by app s task id x o new r
+settles app s task id x o new None e = ap (λ (t : TableRows). settled_by app s task id x o t None) (sym e)
+settles app s task id x o new (Some cause) e = breaks app s task id x (ending.Broken cause)
+
+pub settles_as : (p q : MonitorParts) (task : ℕ) (id own : ServiceId) (x y : OpenTransaction) (o : Outcome) → SameApplication p q → state_of q ≡ without_work (state_of p) task id → own ≡ id → y ≡ x
+    → settled_to (app_of q) (state_of q) own y o (refusal q.generation (durable q.generation (synchronised q.generation q.tables own y o))) ≡ settled (app_of p) (state_of p) task id x o
+unfolding settled
+settles_as p q task id own x y o same state i z =
+    (λ k. settled_to (same_app p q same k) (state k) (i k) (z k) o (refusal (same.generation k) (durable (same.generation k) (synchronised (same.generation k) (state k).tables (i k) (z k) o))))
+    ∙ settles (app_of p) (state_of p) task id x o (synchronised p.generation p.tables id x o) _ refl
+
+pub backs_as : (p q : MonitorParts) (task : ℕ) (id own : ServiceId) (x y : OpenTransaction) → SameApplication p q → state_of q ≡ without_work (state_of p) task id → own ≡ id → y ≡ x
+    → back (app_of q) (state_of q) own y y.began ≡ back (app_of p) (without_work (state_of p) task id) id x x.began
+backs_as p q task id own x y same state i z = λ k. back (same_app p q same k) (state k) (i k) (z k) (z k).began
+
+-- an abnormal end behind its commit
+pub breaks_as : (p : MonitorParts) (w : Work) (e : Ending) (id : ServiceId) (dump : Option (List ℕ)) (changes : Changes) (kept : Settled) → changes ≡ durable_difference p.generation p.tables (broken p.tables w.id (work_of w))
+    → kept ≡ kept_record w.id (work_of w) e → emitted dump ≡ dump_acts w.id (work_of w) e → id ≡ w.id → Stands p.generation p.tables w.id (work_of w)
+    → behind_end (record (state_of p) { tables = with_service (changed p.tables changes) id None }) id dump (Commit changes) kept ≡ broken_to (app_of p) (state_of p) w.id (work_of w) e
+breaks_as p w e id dump changes kept c k d i stands =
+    (λ j. committed (record (state_of p) { tables = with_service (changed p.tables (c j)) (i j) None }) (Commit (c j)) (k j) (d j ++ ended_acts (record (state_of p) { tables = with_service (changed p.tables (c j)) (i j) None }) (i j)))
+    ∙ ap (λ (t : TableRows). committed (record (state_of p) { tables = t }) (Commit (durable_difference p.generation p.tables (broken p.tables w.id (work_of w)))) (kept_record w.id (work_of w) e) (dump_acts w.id (work_of w) e ++ ended_acts (record (state_of p) { tables = t }) w.id))
+    (end_made p.generation p.tables w.id (work_of w) stands.sound.order).tables
+    ∙ by w.id
+  where
+    by : (id : ServiceId) → committed (record (state_of p) { tables = broken p.tables id (work_of w) }) (Commit (durable_difference p.generation p.tables (broken p.tables id (work_of w)))) (kept_record id (work_of w) e) (dump_acts id (work_of w) e ++ ended_acts (record (state_of p) { tables = broken p.tables id (work_of w) }) id) ≡ broken_to (app_of p) (state_of p) id (work_of w) e
+    by (Dialogue user) = refl
+    by (Asynchronous number) = refl
+
+-- ---- points
+
+-- what a point that passes answers
+pub record IsPassed (g : Generated) (t : TableRows) (w : Work) (o : Outcome) (r : Option Cause) (changes : Changes) (row : Option Service) (kept : Settled) : Type 0 where
+  pub none : r ≡ None
+  pub changes_are : changes ≡ durable_difference g t (synchronised g t w.id (work_of w) o)
+  pub row_is : row ≡ row_after g w.id (work_of w) o
+  pub kept_is : kept ≡ kept_record w.id (work_of w) ending.Synced
+
+pub passed_as : (g : Generated) (t : TableRows) (w : Work) (o : Outcome) (r : Option Cause) (changes : Changes) (row : Option Service) (kept : Settled)
+    → Synced changes row kept ≡ answer_by g t w o r → IsPassed g t w o r changes row kept
+passed_as g t w o None changes row kept e = record { none = refl; changes_are = first _ _ _ _ _ _ e; row_is = second _ _ _ _ _ _ e; kept_is = third _ _ _ _ _ _ e }
+  where
+    first : (a b : Changes) (c d : Option Service) (k l : Settled) → Synced a c k ≡ Synced b d l → a ≡ b
+    first a b c d k l e = cc
+
+    second : (a b : Changes) (c d : Option Service) (k l : Settled) → Synced a c k ≡ Synced b d l → c ≡ d
+    second a b c d k l e = cc
+
+    third : (a b : Changes) (c d : Option Service) (k l : Settled) → Synced a c k ≡ Synced b d l → k ≡ l
+    third a b c d k l e = cc
+passed_as g t w o (Some cause) changes row kept e = absurd (apart e)
+  where
+    apart : Synced changes row kept ≡ Refused cause w → ⊥
+    apart e = cc
+
+-- what a point that is refused answers
+pub refused_as : (g : Generated) (t : TableRows) (w v : Work) (o : Outcome) (r : Option Cause) (cause : Cause) → Refused cause v ≡ answer_by g t w o r → (r ≡ Some cause) × (v ≡ w)
+refused_as g t w v o None cause e = absurd (apart _ _ _ e)
+  where
+    apart : (a : Changes) (c : Option Service) (k : Settled) → Refused cause v ≡ Synced a c k → ⊥
+    apart a c k e = cc
+refused_as g t w v o (Some other) cause e = (ap Some (first other cause (sym e)), second other cause e)
+  where
+    first : (a b : Cause) → Refused a w ≡ Refused b v → a ≡ b
+    first a b e = cc
+
+    second : (a b : Cause) → Refused b v ≡ Refused a w → v ≡ w
+    second a b e = cc
+
+pub row_after_order : (id : ServiceId) (o : Option Service) → IsTrue (change_fits (service_change id o)) → HasOrder o
+row_after_order id None h = tt
+row_after_order id (Some row) h = (both_true (lterm_fits row.id row.lterm) (is_sorted bytes_cmp row.lssbs) (both_true (id_eq row.id id) (service_fits row) h).1).1
+
+-- the abnormal end that refuses a point
+pub refuses_as : (p : MonitorParts) (w v : Work) (o : Outcome) (r : Option Cause) (cause : Cause) → Refused cause v ≡ answer_by p.generation p.tables w o r
+    → broken_to (app_of p) (state_of p) v.id (work_of v) (ending.Broken cause) ≡ settled_to (app_of p) (state_of p) w.id (work_of w) o r
+refuses_as p w v o r cause e =
+    let is = refused_as p.generation p.tables w v o r cause e in
+    (λ k. broken_to (app_of p) (state_of p) (is.1 k).id (work_of (is.1 k)) (ending.Broken cause)) ∙ sym (ap (settled_to (app_of p) (state_of p) w.id (work_of w) o) is.0)
+
+-- behind its commit a point goes on as it does
+goes_as : (app : Application) (s : State) (id : ServiceId) (x : OpenTransaction) (row : Option Service) (o : Outcome) (commit : Act) (kept : Settled)
+    → behind_point app s id row o (joined x.parts) x.lterm commit kept ≡ after_point app s id x o row commit kept
+goes_as app s (Dialogue user) x row (Wait tac) commit kept = refl
+goes_as app s (Asynchronous number) x row (Wait tac) commit kept = refl
+goes_as app s (Dialogue user) x row Finish commit kept = refl
+goes_as app s (Asynchronous number) x row Finish commit kept = refl
+goes_as app s id x None (Point tac) commit kept = refl
+goes_as app s id x (Some row) (Point tac) commit kept = refl
+goes_as app s id x None (Follow tac) commit kept = refl
+goes_as app s id x (Some row) (Follow tac) commit kept = refl
+goes_as app s id x row (Hold tac) commit kept = refl
+goes_as app s id x row (Stay tac) commit kept = refl
+goes_as app s id x row (Queue tac) commit kept = refl
+goes_as app s id x row Break commit kept = refl
+goes_as app s id x row Back commit kept = refl
+
+-- a point that passes
+pub points_as : (p : MonitorParts) (w : Work) (o : Outcome) (r : Option Cause) (id : ServiceId) (outcome : Outcome) (changes : Changes) (row : Option Service) (kept : Settled) (message lterm : Bytes)
+    → IsPassed p.generation p.tables w o r changes row kept → Stands p.generation p.tables w.id (work_of w) → id ≡ w.id → outcome ≡ o → message ≡ joined (work_of w).parts → lterm ≡ (work_of w).lterm
+    → behind_point (app_of p) (record (state_of p) { tables = with_service (changed p.tables changes) id row }) id row outcome message lterm (Commit changes) kept
+    ≡ settled_to (app_of p) (state_of p) w.id (work_of w) o r
+points_as p w o r id outcome changes row kept message lterm passed stands i out m l =
+    let new = synchronised p.generation p.tables w.id (work_of w) o in
+    (λ k. behind_point (app_of p) (record (state_of p) { tables = with_service (changed p.tables (passed.changes_are k)) (i k) (passed.row_is k) }) (i k) (passed.row_is k) (out k) (m k) (l k) (Commit (passed.changes_are k)) (passed.kept_is k))
+    ∙ ap (λ (t : TableRows). behind_point (app_of p) (record (state_of p) { tables = t }) w.id (row_after p.generation w.id (work_of w) o) o (joined (work_of w).parts) (work_of w).lterm (Commit (durable_difference p.generation p.tables new)) (kept_record w.id (work_of w) ending.Synced))
+    (point_made p.generation p.tables w.id (work_of w) o stands).tables
+    ∙ goes_as (app_of p) (record (state_of p) { tables = new }) w.id (work_of w) (row_after p.generation w.id (work_of w) o) o (Commit (durable_difference p.generation p.tables new)) (kept_record w.id (work_of w) ending.Synced)
+    ∙ sym (ap (settled_to (app_of p) (state_of p) w.id (work_of w) o) passed.none)
+
+-- ---- PEND KP
+
+same_acts : (s : State) (task : ℕ) (id : ServiceId) (x : OpenTransaction) → message_acts (with_task s task None) id x ≡ message_acts s id x
+same_acts s task (Dialogue user) x = refl
+same_acts s task (Asynchronous number) x = refl
+
+pub holds_as : (s q r : State) (task : ℕ) (id : ServiceId) (x : OpenTransaction) (acts : List Act) → q ≡ with_task s task None → r ≡ message_sent q id x → acts ≡ message_acts q id x
+    → moved_to r acts ≡ moved_to (message_sent (with_task s task None) id x) (message_acts s id x)
+holds_as s q r task id x acts e f a =
+    (λ k. moved_to ((f ∙ ap (λ u. message_sent u id x) e) k) ((a ∙ ap (λ u. message_acts u id x) e ∙ same_acts s task id x) k))
+
+-- the message of the transaction that is found
+pub found_is : (p : MonitorParts) (id : ServiceId) (work : Work) (x : OpenTransaction) → Some work ≡ find id_cmp id p.active → find id_cmp id (state_of p).active ≡ Some x → work_of work ≡ x
+found_is p id work x e f = found_one (Some work) work _ x refl (found_work p id (Some work) e) f
+
+pub sends_as : (p q : MonitorParts) (id : ServiceId) (user message : Bytes) (work : Work) (x : OpenTransaction) → id ≡ Dialogue user → message ≡ joined work.messages.parts → Some work ≡ find id_cmp id p.active
+    → find id_cmp id (state_of p).active ≡ Some x → state_of q ≡ told_user (state_of p) user message → state_of q ≡ message_sent (state_of p) id x
+sends_as p q id user message work x is m found f e =
+    e ∙ ap (told_user (state_of p) user) m ∙ sym (ap (λ i. message_sent (state_of p) i (work_of work)) is) ∙ ap (message_sent (state_of p) id) (found_is p id work x found f)
+
+pub sends_acts : (p : MonitorParts) (id : ServiceId) (user message : Bytes) (work : Work) (x : OpenTransaction) (before after : List Act) → id ≡ Dialogue user → message ≡ joined work.messages.parts → Some work ≡ find id_cmp id p.active
+    → find id_cmp id (state_of p).active ≡ Some x → after ≡ before ++ user_acts (state_of p) user message → after ≡ before ++ message_acts (state_of p) id x
+sends_acts p id user message work x before after is m found f e =
+    e ∙ ap (λ l. before ++ l) (ap (user_acts (state_of p) user) m ∙ sym (ap (λ i. message_acts (state_of p) i (work_of work)) is) ∙ ap (message_acts (state_of p) id) (found_is p id work x found f))

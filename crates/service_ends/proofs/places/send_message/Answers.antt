@@ -1,0 +1,21 @@
+use Rattle.std.specs.Prelude.{Option, IsSome}
+use Rattle.std.proofs.Common.{refl, subst, sym}
+use Rattle.std.proofs.lemmas.Result.{on_ok_weaker}
+use Rattle.monitor_semantics.specs.State.{OpenTransaction}
+use Rattle.monitor_state.specs.Kept.{none_found}
+use Rattle.service_ends.proofs.Ended.{sends_as, sends_acts}
+use Rattle.service_ends.proofs.places.send_message.Goals as goal
+
+pub returns-in-None-clause-state : goal.returns-in-None-clause-state
+returns-in-None-clause-state c = λ x e. absurd (none_found c.args.parts.now c.args.id.now c.in-None.ensures.value (subst (λ (o : Option OpenTransaction). IsSome o) (sym e) refl))
+
+pub returns-in-None-clause-acts : goal.returns-in-None-clause-acts
+returns-in-None-clause-acts c = λ x e. absurd (none_found c.args.parts.now c.args.id.now c.in-None.ensures.value (subst (λ (o : Option OpenTransaction). IsSome o) (sym e) refl))
+
+pub returns-in_ok-message-in-Some-clause-state : goal.returns-in_ok-message-in-Some-clause-state
+returns-in_ok-message-in-Some-clause-state c =
+    on_ok_weaker c.tell.result (λ e x f. sends_as c.args.parts.now c.tell.new.parts c.args.id.now _ _ c.in-Some.work.now x c.in-Dialogue.is c.in_ok-message-in-Some.ensures c.in-Some.ensures.value f e) c.tell.ensures.state
+
+pub returns-in_ok-message-in-Some-clause-acts : goal.returns-in_ok-message-in-Some-clause-acts
+returns-in_ok-message-in-Some-clause-acts c =
+    on_ok_weaker c.tell.result (λ e x f. sends_acts c.args.parts.now c.args.id.now _ _ c.in-Some.work.now x c.args.acts.now _ c.in-Dialogue.is c.in_ok-message-in-Some.ensures c.in-Some.ensures.value f e) c.tell.ensures.acts

@@ -1,0 +1,63 @@
+use Rattle.std.specs.Prelude.{◌≡◌, false, [], ◌∷◌, Option}
+use Rattle.std.proofs.Common.{ap, subst, sym, ◌∙◌}
+use Rattle.std.proofs.lemmas.Result.{IfOk-weaker}
+use Rattle.kdcs_types.specs.declared.act.Changes.{Changes}
+use Rattle.kdcs_types.specs.declared.key.ServiceId.{ServiceId}
+use Rattle.kdcs_types.specs.declared.service.Service.{Service}
+use Rattle.kdcs_types.specs.Tables.{AreChanges}
+use Rattle.commit_laws.specs.Ends.{point_made, point_row-fits}
+use Rattle.monitor_semantics.specs.Endings.{service_change}
+use Rattle.monitor_semantics.specs.Sessions.{is_running}
+use Rattle.monitor_state.specs.Standing.{state_of}
+use Rattle.open_transaction.specs.declared.open.OpenTransaction.{OpenTransaction}
+use Rattle.open_transaction.specs.Work.{work_of, HasOrder}
+use Rattle.service_ends.specs.declared.point.Ended.{Ended}
+use Rattle.service_ends.specs.Ending.{IsClosed}
+use Rattle.service_ends.proofs.Ended.{passed_as, points_as, refused_as, refuses_as, row_after_order}
+use Rattle.service_ends.proofs.point.settle_work.Goals as goal
+
+pub end_work-requires-clause-closed : goal.end_work-requires-clause-closed
+end_work-requires-clause-closed c =
+    let p = c.args.parts.now in
+    subst (λ (w : OpenTransaction). IsClosed p w) (sym (refused_as p.generation p.tables c.args.work c.in-Refused.work c.args.outcome _ c.in-Refused.cause (sym c.in-Refused.is ∙ c.in_ok-cause.ensures)).1) c.requires.closed
+
+pub synchronise-requires-clause-changes : goal.synchronise-requires-clause-changes
+synchronise-requires-clause-changes c =
+    let p = c.args.parts.now in
+    let passed = passed_as p.generation p.tables c.args.work c.args.outcome _ c.in-Synced.changes c.in-Synced.row c.in-Synced.kept (sym c.in-Synced.is ∙ c.in_ok-cause.ensures) in
+    subst (λ (cs : Changes). AreChanges cs.items) (sym passed.changes_are) (point_made p.generation p.tables c.args.work.id (work_of c.args.work) c.args.outcome c.requires.closed.stands).changes
+
+pub synchronise-requires-clause-own : goal.synchronise-requires-clause-own
+synchronise-requires-clause-own c =
+    let p = c.args.parts.now in
+    let passed = passed_as p.generation p.tables c.args.work c.args.outcome _ c.in-Synced.changes c.in-Synced.row c.in-Synced.kept (sym c.in-Synced.is ∙ c.in_ok-cause.ensures) in
+    subst (λ (i : ServiceId). AreChanges (service_change i c.in-Synced.row ∷ [])) (sym (ap (λ (e : Ended). e.id) c.in_ok-ended.ensures))
+    (subst (λ (row : Option Service). AreChanges (service_change c.args.work.id row ∷ [])) (sym passed.row_is) (point_made p.generation p.tables c.args.work.id (work_of c.args.work) c.args.outcome c.requires.closed.stands).own)
+
+pub synchronise-requires-clause-order : goal.synchronise-requires-clause-order
+synchronise-requires-clause-order c =
+    let p = c.args.parts.now in
+    let passed = passed_as p.generation p.tables c.args.work c.args.outcome _ c.in-Synced.changes c.in-Synced.row c.in-Synced.kept (sym c.in-Synced.is ∙ c.in_ok-cause.ensures) in
+    subst HasOrder (sym passed.row_is) (row_after_order c.args.work.id _ (point_row-fits p.generation c.args.work.id (work_of c.args.work) c.args.outcome c.requires.closed.stands.can.lssbs_order))
+
+pub synchronise-requires-clause-unplaced : goal.synchronise-requires-clause-unplaced
+synchronise-requires-clause-unplaced c =
+    subst (λ (i : ServiceId). is_running (state_of c.args.parts.now) i ≡ false) (sym (ap (λ (e : Ended). e.id) c.in_ok-ended.ensures)) c.requires.closed.unplaced
+
+pub returns-in-Refused-clause-exact : goal.returns-in-Refused-clause-exact
+returns-in-Refused-clause-exact c =
+    IfOk-weaker c.end_work.result _ _
+    (λ did e. e ∙ refuses_as c.args.parts.now c.args.work c.in-Refused.work c.args.outcome _ c.in-Refused.cause (sym c.in-Refused.is ∙ c.in_ok-cause.ensures))
+    c.end_work.ensures.exact
+
+pub returns-in-Synced-clause-exact : goal.returns-in-Synced-clause-exact
+returns-in-Synced-clause-exact c =
+    let p = c.args.parts.now in
+    let ended = c.in_ok-ended.ended in
+    let passed = passed_as p.generation p.tables c.args.work c.args.outcome _ c.in-Synced.changes c.in-Synced.row c.in-Synced.kept (sym c.in-Synced.is ∙ c.in_ok-cause.ensures) in
+    IfOk-weaker c.synchronise.result _ _
+    (λ did e.
+    e
+    ∙ points_as p c.args.work c.args.outcome _ ended.id ended.outcome c.in-Synced.changes c.in-Synced.row c.in-Synced.kept ended.message ended.lterm passed c.requires.closed.stands
+    (ap (λ (e : Ended). e.id) c.in_ok-ended.ensures) (ap (λ (e : Ended). e.outcome) c.in_ok-ended.ensures) (ap (λ (e : Ended). e.message) c.in_ok-ended.ensures) (ap (λ (e : Ended). e.lterm) c.in_ok-ended.ensures))
+    c.synchronise.ensures.exact

@@ -1,0 +1,125 @@
+//! The way back to the last synchronisation point.
+ghost use Rattle.std.specs.Prelude.{◌≡◌, false, true, Some, None, IfOk, OnOk};
+ghost use Rattle.std.specs.FinMap.{find};
+ghost use Rattle.kdcs_types.specs.Keys.{id_cmp};
+ghost use Rattle.monitor_semantics.specs.Sessions.{is_running};
+ghost use Rattle.monitor_semantics.specs.State.{OpenTransaction as Work};
+ghost use Rattle.monitor_semantics.specs.Turns.{back, back_by, ended_acts, last_again, moved_to, without_work};
+ghost use Rattle.open_transaction.specs.Work.{work_of, HasOrder};
+ghost use Rattle.service_ends.specs.Ending.{app_of, turned_to, IsClosed, Works};
+ghost use Rattle.monitor_state.specs.Standing.{IsIndexed, SameApplication, state_of};
+
+use crate::closed::close_work;
+use crate::row::go_on;
+use crate::terminal::{say_ended, tell};
+use crate::turned::Turned;
+use kd_base::{Bytes, Name, OutOfMemory};
+use kdcs_types::{Acts, Service, ServiceId};
+use monitor_state::MonitorParts;
+use open_transaction::OpenTransaction;
+use std::alloc::Global;
+
+fn without_commit(acts: Acts) -> Turned
+    ensures { result ≡ record { moved = true; acts = acts; settled = None } }
+{
+    Turned {
+        moved: true,
+        acts,
+        settled: None,
+    }
+}
+
+// The last dialogue message is sent again.
+fn send_again(
+    parts: &mut MonitorParts,
+    alloc: Global,
+    id: &ServiceId,
+    last: Option<Bytes>,
+) -> Result<Turned, OutOfMemory>
+    requires indexed { IsIndexed parts.old }
+    ensures exact { IfOk result (λ did. turned_to (state_of parts.new) did ≡ last_again (state_of parts.old) id.now last) }
+    ensures indexed { OnOk result (IsIndexed parts.new) }
+    ensures same { OnOk result (SameApplication parts.old parts.new) }
+{
+    let mut acts = Acts::new(alloc);
+    match (id, last) {
+        (ServiceId::Dialogue(user), Some(message)) => {
+            tell(parts, alloc, user, message, &mut acts)?;
+        }
+        _ => {}
+    }
+    Ok(without_commit(acts))
+}
+
+// The service is back at its row, at this LTERM.
+fn back_at(
+    parts: &mut MonitorParts,
+    alloc: Global,
+    id: &ServiceId,
+    row: Service,
+    lterm: &Name,
+) -> Result<Turned, OutOfMemory>
+    requires indexed { IsIndexed parts.old }
+    requires order { HasOrder (Some row) }
+    requires closed { find id_cmp id.now (state_of parts.old).active ≡ None }
+    requires unplaced { is_running (state_of parts.old) id.now ≡ false }
+    ensures exact { IfOk result (λ did. (x : Work) → x.lterm ≡ lterm.now → turned_to (state_of parts.new) did ≡ back_by (app_of parts.old) (state_of parts.old) id.now x row row.awaits) }
+    ensures indexed { OnOk result (IsIndexed parts.new) }
+    ensures same { OnOk result (SameApplication parts.old parts.new) }
+{
+    if row.awaits {
+        return send_again(parts, alloc, id, row.last);
+    }
+    go_on(parts, alloc, id, row, lterm)?;
+    Ok(Turned::quiet(alloc, true))
+}
+
+// A service without a row is over.
+fn over(parts: &MonitorParts, alloc: Global, id: &ServiceId) -> Result<Turned, OutOfMemory>
+    ensures { IfOk result (λ did. turned_to (state_of parts.now) did ≡ moved_to (state_of parts.now) (ended_acts (state_of parts.now) id.now)) }
+{
+    let mut acts = Acts::new(alloc);
+    say_ended(parts, alloc, id, &mut acts)?;
+    Ok(without_commit(acts))
+}
+
+// The transaction, which is closed, is back at the row of its service, if there is one.
+fn back_from(
+    parts: &mut MonitorParts,
+    alloc: Global,
+    work: OpenTransaction,
+) -> Result<Turned, OutOfMemory>
+    requires indexed { IsIndexed parts.old }
+    requires closed { IsClosed parts.old work }
+    ensures exact { IfOk result (λ did. turned_to (state_of parts.new) did ≡ back (app_of parts.old) (state_of parts.old) work.id (work_of work) work.began) }
+    ensures indexed { OnOk result (IsIndexed parts.new) }
+    ensures same { OnOk result (SameApplication parts.old parts.new) }
+{
+    let id = work.id;
+    let lterm = work.lterm;
+    let began = work.began;
+    match began {
+        None => over(parts, alloc, &id),
+        Some(row) => back_at(parts, alloc, &id, row, &lterm),
+    }
+}
+
+/// PEND RS: the task is free, the transaction is rolled back, and the service is back at its last synchronisation point. A
+/// point that awaits an input has its last message sent again, and from another the service is at the back of the ready
+/// list; a service without a point is over.
+pub fn go_back(
+    parts: &mut MonitorParts,
+    alloc: Global,
+    task: u16,
+    id: &ServiceId,
+) -> Result<Turned, OutOfMemory>
+    requires works { (x : Work) × Works parts.old task id.now x }
+    ensures exact { IfOk result (λ did. (x : Work) → find id_cmp id.now (state_of parts.old).active ≡ Some x → turned_to (state_of parts.new) did ≡ back (app_of parts.old) (without_work (state_of parts.old) task id.now) id.now x x.began) }
+    ensures indexed { OnOk result (IsIndexed parts.new) }
+    ensures same { OnOk result (SameApplication parts.old parts.new) }
+{
+    match close_work(parts, task, id) {
+        Some(work) => back_from(parts, alloc, work),
+        None => Ok(Turned::quiet(alloc, true)),
+    }
+}

@@ -1,0 +1,119 @@
+//! Abnormal ends.
+ghost use Rattle.std.specs.Prelude.{◌≡◌, ◌++◌, ◌∷◌, [], Some, None, IfOk, OnOk};
+ghost use Rattle.std.specs.FinMap.{find};
+ghost use Rattle.kdcs_types.specs.Keys.{id_cmp};
+ghost use Rattle.kdcs_types.specs.Tables.{changed, AreChanges};
+ghost use Rattle.kdcs_types.specs.declared.act.Act.TheVariants.{Commit};
+ghost use Rattle.monitor_semantics.specs.Endings.{service_change, with_service};
+ghost use Rattle.monitor_semantics.specs.State.{OpenTransaction as Work};
+ghost use Rattle.monitor_semantics.specs.Turns.{abnormal, dump_acts};
+ghost use Rattle.open_transaction.specs.Work.{work_of};
+ghost use Rattle.service_ends.specs.Ending.{app_of, behind_end, broken_to, emitted, turned_to, IsClosed, Works};
+ghost use Rattle.monitor_state.specs.Standing.{IsIndexed, SameApplication, state_of};
+
+use crate::closed::close_work;
+use crate::row::commit;
+use crate::terminal::say_ended;
+use crate::turned::Turned;
+use kd_base::{Bytes, OutOfMemory};
+use kdcs_types::{Act, Acts, Changes, Ending, ServiceId, Settled};
+use monitor_lines::dump_line;
+use monitor_state::MonitorParts;
+use open_transaction::OpenTransaction;
+use std::alloc::Global;
+use sync_points::broken;
+
+// The dump line of an abnormal end; PEND FR has none.
+fn dump_of(
+    alloc: Global,
+    work: &OpenTransaction,
+    ending: Ending,
+) -> Result<Option<Bytes>, OutOfMemory>
+    ensures { IfOk result (λ dump. emitted dump ≡ dump_acts work.now.id (work_of work.now) ending) }
+{
+    match ending {
+        Ending::Broken(cause) => Ok(Some(dump_line(
+            alloc,
+            work.id,
+            work.current,
+            cause,
+            work.run.place,
+        )?)),
+        Ending::Synced | Ending::BrokenFr => Ok(None),
+    }
+}
+
+fn send(acts: &mut Acts, line: Option<Bytes>) -> Result<(), OutOfMemory>
+    ensures { OnOk result (acts.new ≡ acts.old ++ emitted line) }
+{
+    if let Some(line) = line {
+        acts.push(Act::Emit(line))?;
+    }
+    Ok(())
+}
+
+// The commit of an abnormal end, and its lines.
+fn break_off(
+    parts: &mut MonitorParts,
+    alloc: Global,
+    id: &ServiceId,
+    dump: Option<Bytes>,
+    changes: Changes,
+    kept: Settled,
+) -> Result<Turned, OutOfMemory>
+    requires indexed { IsIndexed parts.old }
+    requires changes { AreChanges changes.items }
+    requires own { AreChanges (service_change id.now None ∷ []) }
+    ensures exact { IfOk result (λ did. turned_to (state_of parts.new) did ≡ behind_end (record (state_of parts.old) { tables = with_service (changed parts.old.tables changes) id.now None }) id.now dump (Commit changes) kept) }
+    ensures indexed { OnOk result (IsIndexed parts.new) }
+    ensures same { OnOk result (SameApplication parts.old parts.new) }
+{
+    let mut acts = Acts::new(alloc);
+    commit(parts, alloc, id, &None, changes, &mut acts)?;
+    send(&mut acts, dump)?;
+    say_ended(parts, alloc, id, &mut acts)?;
+    Ok(Turned {
+        moved: true,
+        acts,
+        settled: Some(kept),
+    })
+}
+
+// The transaction, which is closed, ends abnormally.
+pub(crate) fn end_work(
+    parts: &mut MonitorParts,
+    alloc: Global,
+    work: OpenTransaction,
+    ending: Ending,
+) -> Result<Turned, OutOfMemory>
+    requires indexed { IsIndexed parts.old }
+    requires closed { IsClosed parts.old work }
+    ensures exact { IfOk result (λ did. turned_to (state_of parts.new) did ≡ broken_to (app_of parts.old) (state_of parts.old) work.id (work_of work) ending) }
+    ensures indexed { OnOk result (IsIndexed parts.new) }
+    ensures same { OnOk result (SameApplication parts.old parts.new) }
+{
+    let id = work.id;
+    let dump = dump_of(alloc, &work, ending)?;
+    let (changes, kept) = broken(work, alloc, &parts.generation, &parts.tables, ending)?;
+    break_off(parts, alloc, &id, dump, changes, kept)
+}
+
+/// An abnormal end, PEND ER or PEND FR: the task is free, the transaction is over, one commit is made, and its lines are
+/// sent.
+pub fn end(
+    parts: &mut MonitorParts,
+    alloc: Global,
+    task: u16,
+    id: &ServiceId,
+    ending: Ending,
+) -> Result<Turned, OutOfMemory>
+    requires works { (x : Work) × Works parts.old task id.now x }
+    ensures exact { IfOk result (λ did. (x : Work) → find id_cmp id.now (state_of parts.old).active ≡ Some x → turned_to (state_of parts.new) did ≡ abnormal (app_of parts.old) (state_of parts.old) task id.now x ending) }
+    ensures indexed { OnOk result (IsIndexed parts.new) }
+    ensures same { OnOk result (SameApplication parts.old parts.new) }
+{
+    match close_work(parts, task, id) {
+        Some(work) => end_work(parts, alloc, work, ending),
+        None => Ok(Turned::quiet(alloc, true)),
+    }
+}

@@ -1,0 +1,156 @@
+//! Synchronisation points.
+ghost use Rattle.std.specs.Prelude.{◌≡◌, ◌++◌, ◌∷◌, [], false, Some, None, IfOk, OnOk};
+ghost use Rattle.std.specs.FinMap.{find};
+ghost use Rattle.kdcs_types.specs.Keys.{id_cmp};
+ghost use Rattle.kdcs_types.specs.Tables.{changed, AreChanges};
+ghost use Rattle.kdcs_types.specs.declared.act.Act.TheVariants.{Commit};
+ghost use Rattle.monitor_semantics.specs.Endings.{durable, joined, refusal, service_change, synchronised, with_service};
+ghost use Rattle.monitor_semantics.specs.Sessions.{is_running};
+ghost use Rattle.monitor_semantics.specs.State.{OpenTransaction as Work};
+ghost use Rattle.monitor_semantics.specs.Turns.{settled};
+ghost use Rattle.open_transaction.specs.Work.{work_of, HasOrder};
+ghost use Rattle.service_ends.specs.Ending.{app_of, behind_point, goes_on_from, sent_by, settled_to, turned_to, IsClosed, Works};
+ghost use Rattle.monitor_state.specs.Standing.{IsIndexed, SameApplication, state_of};
+
+use crate::broken::end_work;
+use crate::closed::close_work;
+use crate::row::{commit, go_on};
+use crate::terminal::tell;
+use crate::turned::Turned;
+use kd_base::{Bytes, Name, OutOfMemory};
+use kdcs_types::{Acts, Changes, Ending, Service, ServiceId, Settled};
+use monitor_semantics::Outcome;
+use monitor_state::MonitorParts;
+use open_transaction::OpenTransaction;
+use std::alloc::Global;
+use sync_points::SettleAnswer;
+
+/// What is left of a transaction that comes to a point.
+#[derive(Drop)]
+struct Ended {
+    id: ServiceId,
+    outcome: Outcome,
+    lterm: Name,
+    /// The parts that it put, joined.
+    message: Bytes,
+}
+
+fn ended_by(alloc: Global, work: &OpenTransaction, outcome: &Outcome) -> Result<Ended, OutOfMemory>
+    ensures { IfOk result (λ ended. ended ≡ record { id = work.now.id; outcome = outcome.now; lterm = (work_of work.now).lterm; message = joined (work_of work.now).parts }) }
+{
+    Ok(Ended {
+        id: work.id,
+        outcome: *outcome,
+        lterm: work.lterm,
+        message: work.message(alloc)?,
+    })
+}
+
+// After RE and FI the message of a dialogue service is sent; after SP and FC the service goes on from its row.
+fn go_behind(
+    parts: &mut MonitorParts,
+    alloc: Global,
+    ended: Ended,
+    row: Option<Service>,
+    acts: &mut Acts,
+) -> Result<(), OutOfMemory>
+    requires indexed { IsIndexed parts.old }
+    requires order { HasOrder row }
+    requires closed { find id_cmp ended.id (state_of parts.old).active ≡ None }
+    requires unplaced { is_running (state_of parts.old) ended.id ≡ false }
+    ensures indexed { OnOk result (IsIndexed parts.new) }
+    ensures same { OnOk result (SameApplication parts.old parts.new) }
+    ensures state { OnOk result (state_of parts.new ≡ goes_on_from (app_of parts.old) (state_of parts.old) ended.id row ended.outcome ended.message ended.lterm) }
+    ensures acts { OnOk result (acts.new ≡ acts.old ++ sent_by (state_of parts.old) ended.id ended.outcome ended.message) }
+{
+    let Ended {
+        id,
+        outcome,
+        lterm,
+        message,
+    } = ended;
+    match outcome {
+        Outcome::Wait(_) | Outcome::Finish => match &id {
+            ServiceId::Dialogue(user) => tell(parts, alloc, user, message, acts),
+            ServiceId::Asynchronous(_) => Ok(()),
+        },
+        Outcome::Point(_) | Outcome::Follow(_) => match row {
+            Some(row) => go_on(parts, alloc, &id, row, &lterm),
+            None => Ok(()),
+        },
+        Outcome::Hold(_) | Outcome::Stay(_) | Outcome::Queue(_) | Outcome::Break | Outcome::Back =>
+            Ok(()),
+    }
+}
+
+// The commit of a point, and what follows it.
+fn synchronise(
+    parts: &mut MonitorParts,
+    alloc: Global,
+    ended: Ended,
+    changes: Changes,
+    row: Option<Service>,
+    kept: Settled,
+) -> Result<Turned, OutOfMemory>
+    requires indexed { IsIndexed parts.old }
+    requires changes { AreChanges changes.items }
+    requires own { AreChanges (service_change ended.id row ∷ []) }
+    requires order { HasOrder row }
+    requires closed { find id_cmp ended.id (state_of parts.old).active ≡ None }
+    requires unplaced { is_running (state_of parts.old) ended.id ≡ false }
+    ensures exact { IfOk result (λ did. turned_to (state_of parts.new) did ≡ behind_point (app_of parts.old) (record (state_of parts.old) { tables = with_service (changed parts.old.tables changes) ended.id row }) ended.id row ended.outcome ended.message ended.lterm (Commit changes) kept) }
+    ensures indexed { OnOk result (IsIndexed parts.new) }
+    ensures same { OnOk result (SameApplication parts.old parts.new) }
+{
+    let id = ended.id;
+    let mut acts = Acts::new(alloc);
+    commit(parts, alloc, &id, &row, changes, &mut acts)?;
+    go_behind(parts, alloc, ended, row, &mut acts)?;
+    Ok(Turned {
+        moved: true,
+        acts,
+        settled: Some(kept),
+    })
+}
+
+// The transaction, which is closed, comes to a synchronisation point, or to the abnormal end that refuses it.
+fn settle_work(
+    parts: &mut MonitorParts,
+    alloc: Global,
+    work: OpenTransaction,
+    outcome: Outcome,
+) -> Result<Turned, OutOfMemory>
+    requires indexed { IsIndexed parts.old }
+    requires closed { IsClosed parts.old work }
+    ensures exact { IfOk result (λ did. turned_to (state_of parts.new) did ≡ settled_to (app_of parts.old) (state_of parts.old) work.id (work_of work) outcome (refusal parts.old.generation (durable parts.old.generation (synchronised parts.old.generation parts.old.tables work.id (work_of work) outcome)))) }
+    ensures indexed { OnOk result (IsIndexed parts.new) }
+    ensures same { OnOk result (SameApplication parts.old parts.new) }
+{
+    let ended = ended_by(alloc, &work, &outcome)?;
+    match sync_points::settle(work, alloc, &parts.generation, &parts.tables, outcome)? {
+        SettleAnswer::Refused(cause, work) => end_work(parts, alloc, work, Ending::Broken(cause)),
+        SettleAnswer::Synced(changes, row, kept) => {
+            synchronise(parts, alloc, ended, changes, row, kept)
+        }
+    }
+}
+
+/// PEND RE, SP, FI or FC: the task is free, the transaction is over, and one commit is made, of the synchronisation point or
+/// of the abnormal end with the cause that refuses it.
+pub fn settle(
+    parts: &mut MonitorParts,
+    alloc: Global,
+    task: u16,
+    id: &ServiceId,
+    outcome: Outcome,
+) -> Result<Turned, OutOfMemory>
+    requires works { (x : Work) × Works parts.old task id.now x }
+    ensures exact { IfOk result (λ did. (x : Work) → find id_cmp id.now (state_of parts.old).active ≡ Some x → turned_to (state_of parts.new) did ≡ settled (app_of parts.old) (state_of parts.old) task id.now x outcome) }
+    ensures indexed { OnOk result (IsIndexed parts.new) }
+    ensures same { OnOk result (SameApplication parts.old parts.new) }
+{
+    match close_work(parts, task, id) {
+        Some(work) => settle_work(parts, alloc, work, outcome),
+        None => Ok(Turned::quiet(alloc, true)),
+    }
+}

@@ -1,0 +1,116 @@
+//! Rows of services, and services that go on from them.
+ghost use Rattle.std.specs.Prelude.{◌≡◌, ◌++◌, ◌∷◌, [], false, Some, None, IfOk, OnOk};
+ghost use Rattle.std.specs.FinMap.{find};
+ghost use Rattle.kdcs_types.specs.Keys.{id_cmp};
+ghost use Rattle.kdcs_types.specs.declared.act.Act.TheVariants.{Commit};
+ghost use Rattle.kdcs_types.specs.Tables.{changed, AreChanges};
+ghost use Rattle.monitor_semantics.specs.Endings.{header_of_row, opened_by_row, service_change, user_in_row, with_service};
+ghost use Rattle.monitor_semantics.specs.Sessions.{is_running};
+ghost use Rattle.monitor_semantics.specs.Turns.{queued};
+ghost use Rattle.open_transaction.specs.Work.{HasOrder};
+ghost use Rattle.monitor_state.specs.Standing.{IsIndexed, SameApplication, state_of};
+
+use kd_base::{Name, OutOfMemory};
+use kdcs_types::{Act, Acts, Change, Changes, Header, Key, Row, RowChanges, Service, ServiceId};
+use monitor_state::MonitorParts;
+use std::alloc::Global;
+
+fn service_change(id: &ServiceId, row: &Option<Service>) -> Result<Change, OutOfMemory>
+    ensures { IfOk result (λ change. change ≡ service_change id.now row.now) }
+{
+    match row {
+        Some(row) => Ok(Change::Set(Row::Service(*id, row.clone()?))),
+        None => Ok(Change::Remove(Key::Service(*id))),
+    }
+}
+
+/// The service has this row in the tables, or none.
+pub fn set_row(
+    parts: &mut MonitorParts,
+    alloc: Global,
+    id: &ServiceId,
+    row: &Option<Service>,
+) -> Result<(), OutOfMemory>
+    requires indexed { IsIndexed parts.old }
+    requires fits { AreChanges (service_change id.now row.now ∷ []) }
+    ensures indexed { OnOk result (IsIndexed parts.new) }
+    ensures same { OnOk result (SameApplication parts.old parts.new) }
+    ensures state { OnOk result (state_of parts.new ≡ record (state_of parts.old) { tables = with_service parts.old.tables id.now row.now }) }
+{
+    let mut items = RowChanges::new(alloc);
+    items.push(service_change(id, row)?)?;
+    let changes = Changes {
+        clock: parts.tables.clock(),
+        next_job: parts.tables.next_job(),
+        items,
+    };
+    parts.change(&changes)
+}
+
+/// A commit: the changes of the durable tables, and the row of its service, which is also in the tables where no stop leaves
+/// it.
+pub(crate) fn commit(
+    parts: &mut MonitorParts,
+    alloc: Global,
+    id: &ServiceId,
+    row: &Option<Service>,
+    changes: Changes,
+    acts: &mut Acts,
+) -> Result<(), OutOfMemory>
+    requires indexed { IsIndexed parts.old }
+    requires changes { AreChanges changes.items }
+    requires own { AreChanges (service_change id.now row.now ∷ []) }
+    ensures indexed { OnOk result (IsIndexed parts.new) }
+    ensures same { OnOk result (SameApplication parts.old parts.new) }
+    ensures state { OnOk result (state_of parts.new ≡ record (state_of parts.old) { tables = with_service (changed parts.old.tables changes) id.now row.now }) }
+    ensures acts { OnOk result (acts.new ≡ acts.old ++ Commit changes ∷ []) }
+{
+    parts.change(&changes)?;
+    set_row(parts, alloc, id, row)?;
+    acts.push(Act::Commit(changes))?;
+    Ok(())
+}
+
+// A dialogue service has the user of its id.
+fn user_in_row(id: &ServiceId, row: &Service) -> Name
+    ensures { result ≡ user_in_row id.now row.now }
+{
+    match id {
+        ServiceId::Dialogue(user) => *user,
+        ServiceId::Asynchronous(_) => row.user,
+    }
+}
+
+/// The header of a service that goes on from its row, at this LTERM.
+pub fn header_of_row(id: &ServiceId, row: &Service, lterm: &Name) -> Header
+    ensures { result ≡ header_of_row id.now row.now lterm.now }
+{
+    Header {
+        benid: user_in_row(id, row),
+        logter: *lterm,
+        tacvg: row.first,
+        tacal: row.next,
+    }
+}
+
+/// A service without an open transaction goes on from its row, at this LTERM, and is at the back of the ready list.
+pub fn go_on(
+    parts: &mut MonitorParts,
+    alloc: Global,
+    id: &ServiceId,
+    row: Service,
+    lterm: &Name,
+) -> Result<(), OutOfMemory>
+    requires indexed { IsIndexed parts.old }
+    requires order { HasOrder (Some row) }
+    requires closed { find id_cmp id.now (state_of parts.old).active ≡ None }
+    requires unplaced { is_running (state_of parts.old) id.now ≡ false }
+    ensures indexed { OnOk result (IsIndexed parts.new) }
+    ensures same { OnOk result (SameApplication parts.old parts.new) }
+    ensures state { OnOk result (state_of parts.new ≡ queued (state_of parts.old) id.now (opened_by_row parts.old.generation id.now row lterm.now)) }
+{
+    let header = header_of_row(id, &row, lterm);
+    let handed = row.handed.clone()?;
+    parts.open(alloc, id, Some(row), header, handed, false)?;
+    parts.make_ready(id)
+}

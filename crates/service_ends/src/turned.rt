@@ -1,0 +1,28 @@
+//! What a turn did.
+ghost use Rattle.std.specs.Prelude.{◌≡◌, [], None};
+
+use kdcs_types::{Acts, Settled};
+use std::alloc::Global;
+
+/// What a turn of a task did.
+#[derive(Drop)]
+pub struct Turned {
+    /// False where a free task found no work, or a request waits.
+    pub moved: bool,
+    pub acts: Acts,
+    /// What a transaction that made a commit keeps for its replay.
+    pub settled: Option<Settled>,
+}
+
+impl Turned {
+    /// A turn without acts. It takes no memory.
+    pub fn quiet(alloc: Global, moved: bool) -> Turned
+        ensures { result ≡ record { moved = moved; acts = []; settled = None } }
+    {
+        Turned {
+            moved,
+            acts: Acts::new(alloc),
+            settled: None,
+        }
+    }
+}
