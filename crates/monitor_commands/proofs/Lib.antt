@@ -1,0 +1,4 @@
+mod Entering
+mod Shows
+mod Signs
+mod Ticks
