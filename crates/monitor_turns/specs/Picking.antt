@@ -29,7 +29,7 @@ use Rattle.monitor_state.specs.declared.parts.MonitorParts.{MonitorParts}
 use Rattle.monitor_state.specs.Changes.{each_set, each_where, map_set, ready_without}
 use Rattle.monitor_state.specs.Kept.{scheduled, with_schedule}
 use Rattle.monitor_state.specs.Standing.{Each, HasClass, IsIndexed, PlaceHasClass, active_of, id_of, state_of}
-use Rattle.service_ends.specs.Ending.{app_of}
+use Rattle.monitor_state.specs.Whole.{app_of}
 
 -- ---- the lists with classes
 

@@ -28,7 +28,7 @@ use Rattle.monitor_state.specs.declared.parts.MonitorParts.{MonitorParts}
 use Rattle.monitor_state.specs.Changes.{each_found}
 use Rattle.monitor_state.specs.Kept.{with_schedule}
 use Rattle.monitor_state.specs.Standing.{IsIndexed, IsOwned, active_of, state_of}
-use Rattle.service_ends.specs.Ending.{app_of}
+use Rattle.monitor_state.specs.Whole.{app_of}
 use Rattle.monitor_turns.specs.Locking.{same_holder, same_told}
 use Rattle.monitor_turns.specs.Stepping.{ChangesNone, changes_none, stepped, stepped_indexed, stepped_state, unchanged_active}
 use Rattle.monitor_turns.specs.Turning.{IsHeldBy, state_then}

@@ -39,8 +39,8 @@ use Rattle.monitor_state.specs.declared.parts.MonitorParts.{MonitorParts}
 use Rattle.monitor_state.specs.Changes.{SameHolds, each_put, each_set, map_set, places_stay, put_others, ready_stay}
 use Rattle.monitor_state.specs.Queue.{kept_queue}
 use Rattle.monitor_state.specs.Standing.{Each, HasClass, IsIndexed, IsOwned, PlaceHasClass, active_of, id_of, state_of}
+use Rattle.monitor_state.specs.Whole.{app_of}
 use Rattle.monitor_turns.specs.Locking.{FollowsAreas, put_same, stated_holds}
-use Rattle.service_ends.specs.Ending.{app_of}
 
 -- ---- a statement that is not done leaves its transaction as it was
 

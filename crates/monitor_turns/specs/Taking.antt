@@ -27,7 +27,7 @@ use Rattle.monitor_state.specs.declared.parts.MonitorParts.{MonitorParts}
 use Rattle.monitor_state.specs.Changes.{each_set, map_set, opened_fresh}
 use Rattle.monitor_state.specs.Kept.{opened_indexed, opened_state, scheduled, with_active, with_schedule}
 use Rattle.monitor_state.specs.Standing.{HasClass, IsIndexed, PlaceHasClass, active_of, state_of}
-use Rattle.service_ends.specs.Ending.{app_of}
+use Rattle.monitor_state.specs.Whole.{app_of}
 use Rattle.monitor_turns.specs.Picking.{IsTakeable, Picked, pick_of, picked_so, picks, took_indexed, took_state}
 use Rattle.monitor_turns.specs.Turning.{Begun, BegunBy, BegunFor}
 

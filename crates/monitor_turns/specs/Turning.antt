@@ -7,10 +7,7 @@ use Rattle.kdcs_types.specs.declared.key.Target.{Target}
 use Rattle.kdcs_types.specs.declared.key.Target.TheVariants.{Tac, Lterm}
 use Rattle.kdcs_types.specs.declared.service.JobValue.{JobValue}
 use Rattle.kdcs_types.specs.Keys.{id_cmp}
-use Rattle.unit_check.specs.Fitted.{IsFit}
 use Rattle.async_queue.specs.Queue.{with_mark}
-use Rattle.monitor_laws.specs.Applications.{IsApplication}
-use Rattle.monitor_laws.specs.Keeping.{HasFacts}
 use Rattle.monitor_semantics.specs.declared.answer.Happened.{Happened}
 use Rattle.monitor_semantics.specs.declared.answer.Happened.TheVariants.{Went, Queued, Waited, Held, Settles, Breaks, Returns}
 use Rattle.monitor_semantics.specs.Bytes.{Bytes}
@@ -23,14 +20,6 @@ use Rattle.open_transaction.specs.Work.{work_of}
 use Rattle.monitor_state.specs.declared.parts.MonitorParts.{MonitorParts}
 use Rattle.monitor_state.specs.Kept.{with_active}
 use Rattle.monitor_state.specs.Standing.{IsIndexed, state_of}
-use Rattle.service_ends.specs.Ending.{app_of}
-
--- the indexes are those of the state, the state has its facts, and the units were fitted to the generation
-pub record IsWhole (p : MonitorParts) : Type 0 where
-  pub indexed : IsIndexed p
-  pub fit : IsFit p.generation p.units
-  pub application : IsApplication (app_of p)
-  pub facts : HasFacts (app_of p) (state_of p)
 
 -- the task holds the service
 abbrev pub IsHeldBy : State → (task : ℕ) → ServiceId → Type 0

@@ -31,12 +31,13 @@ use Rattle.monitor_tables.specs.PointLaws.{Stands}
 use Rattle.monitor_tables.specs.StateLaws.{StatesStaySound}
 use Rattle.monitor_state.specs.declared.parts.MonitorParts.{MonitorParts}
 use Rattle.monitor_state.specs.Standing.{IsIndexed, state_of}
+use Rattle.monitor_state.specs.Whole.{IsWhole, app_of}
 use Rattle.service_ends.specs.declared.turned.Turned.{Turned as Did}
-use Rattle.service_ends.specs.Ending.{Works, app_of, turned_to}
+use Rattle.service_ends.specs.Ending.{Works, turned_to}
 use Rattle.monitor_turns.specs.Alone.{alone_of}
 use Rattle.monitor_turns.specs.Stated.{sound_tables}
 use Rattle.monitor_turns.specs.Stepping.{one_more}
-use Rattle.monitor_turns.specs.Turning.{IsHeldBy, IsWhole, state_then}
+use Rattle.monitor_turns.specs.Turning.{IsHeldBy, state_then}
 
 -- one turn or command more
 pub more_steps : (p : MonitorParts) → IsIndexed p → IsIndexed (record p { steps = p.steps + 1 })

@@ -6,9 +6,9 @@ ghost use Rattle.monitor_semantics.specs.Sessions.{is_running};
 ghost use Rattle.monitor_semantics.specs.State.{OpenTransaction as Work};
 ghost use Rattle.monitor_semantics.specs.Turns.{statement_now, with_task};
 ghost use Rattle.step_scheduler.specs.Schedule.{IsTask};
-ghost use Rattle.service_ends.specs.Ending.{app_of};
 ghost use Rattle.monitor_state.specs.Standing.{IsIndexed, state_of};
-ghost use Rattle.monitor_turns.specs.Turning.{state_then, IsHeldBy, IsWhole};
+ghost use Rattle.monitor_state.specs.Whole.{IsWhole, app_of};
+ghost use Rattle.monitor_turns.specs.Turning.{state_then, IsHeldBy};
 
 use kd_base::OutOfMemory;
 use kdcs_types::ServiceId;

@@ -4,9 +4,10 @@ ghost use Rattle.kdcs_types.specs.Tables.{job_of};
 ghost use Rattle.monitor_semantics.specs.Picks.{pick};
 ghost use Rattle.monitor_semantics.specs.Turns.{took};
 ghost use Rattle.step_scheduler.specs.Schedule.{IsTask};
-ghost use Rattle.service_ends.specs.Ending.{app_of, turned_to};
+ghost use Rattle.service_ends.specs.Ending.{turned_to};
 ghost use Rattle.monitor_state.specs.Standing.{IsIndexed, SameApplication, state_of};
-ghost use Rattle.monitor_turns.specs.Turning.{BegunBy, IsWhole};
+ghost use Rattle.monitor_state.specs.Whole.{IsWhole, app_of};
+ghost use Rattle.monitor_turns.specs.Turning.{BegunBy};
 
 use kd_base::OutOfMemory;
 use kdcs_types::{Header, Parts, ServiceId, Target};

@@ -4,9 +4,10 @@ ghost use Rattle.std.specs.FinMap.{find};
 ghost use Rattle.kdcdef_types.specs.Statements.{IsWithin};
 ghost use Rattle.kdcs_types.specs.Keys.{id_cmp};
 ghost use Rattle.monitor_semantics.specs.Turns.{turn_of, worked};
-ghost use Rattle.service_ends.specs.Ending.{app_of, turned_to};
+ghost use Rattle.service_ends.specs.Ending.{turned_to};
 ghost use Rattle.monitor_state.specs.Standing.{IsIndexed, state_of};
-ghost use Rattle.monitor_turns.specs.Turning.{IsHeldBy, IsWhole};
+ghost use Rattle.monitor_state.specs.Whole.{IsWhole, app_of};
+ghost use Rattle.monitor_turns.specs.Turning.{IsHeldBy};
 
 use crate::statement::perform;
 use crate::take::take;

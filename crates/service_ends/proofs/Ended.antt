@@ -34,11 +34,12 @@ use Rattle.open_transaction.specs.Work.{work_of, HasOrder}
 use Rattle.monitor_state.specs.declared.parts.MonitorParts.{MonitorParts}
 use Rattle.monitor_state.specs.Kept.{found_work}
 use Rattle.monitor_state.specs.Standing.{IsOwned, SameApplication, state_of}
+use Rattle.monitor_state.specs.Whole.{app_of}
 use Rattle.sync_points.specs.declared.points.SettleAnswer.TheVariants.{Refused, Synced}
 use Rattle.sync_points.specs.Answers.{answer_by}
 use Rattle.commit_laws.specs.CommitLaws.{durable_difference}
 use Rattle.commit_laws.specs.Ends.{end_made, point_made}
-use Rattle.service_ends.specs.Ending.{IsClosed, Works, app_of, behind_end, behind_point, broken_to, emitted, settled_to}
+use Rattle.service_ends.specs.Ending.{IsClosed, Works, behind_end, behind_point, broken_to, emitted, settled_to}
 
 -- ---- the parts behind a step
 

@@ -27,10 +27,6 @@ use Rattle.service_ends.specs.declared.turned.Turned.{Turned as Did}
 use Rattle.monitor_state.specs.declared.parts.MonitorParts.{MonitorParts}
 use Rattle.monitor_state.specs.Standing.{IsIndexed, state_of}
 
--- the application of the parts
-abbrev pub app_of : MonitorParts → Application
-app_of p = record { generation = p.generation; units = p.units.units }
-
 -- a message to the user of a dialogue service
 abbrev pub told_by : State → ServiceId → (message : Bytes) → State
 told_by s (Dialogue user) message = told_user s user message

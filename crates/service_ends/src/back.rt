@@ -6,8 +6,9 @@ ghost use Rattle.monitor_semantics.specs.Sessions.{is_running};
 ghost use Rattle.monitor_semantics.specs.State.{OpenTransaction as Work};
 ghost use Rattle.monitor_semantics.specs.Turns.{back, back_by, ended_acts, last_again, moved_to, without_work};
 ghost use Rattle.open_transaction.specs.Work.{work_of, HasOrder};
-ghost use Rattle.service_ends.specs.Ending.{app_of, turned_to, IsClosed, Works};
+ghost use Rattle.service_ends.specs.Ending.{turned_to, IsClosed, Works};
 ghost use Rattle.monitor_state.specs.Standing.{IsIndexed, SameApplication, state_of};
+ghost use Rattle.monitor_state.specs.Whole.{app_of};
 
 use crate::closed::close_work;
 use crate::row::go_on;

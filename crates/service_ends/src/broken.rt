@@ -8,8 +8,9 @@ ghost use Rattle.monitor_semantics.specs.Endings.{service_change, with_service};
 ghost use Rattle.monitor_semantics.specs.State.{OpenTransaction as Work};
 ghost use Rattle.monitor_semantics.specs.Turns.{abnormal, dump_acts};
 ghost use Rattle.open_transaction.specs.Work.{work_of};
-ghost use Rattle.service_ends.specs.Ending.{app_of, behind_end, broken_to, emitted, turned_to, IsClosed, Works};
+ghost use Rattle.service_ends.specs.Ending.{behind_end, broken_to, emitted, turned_to, IsClosed, Works};
 ghost use Rattle.monitor_state.specs.Standing.{IsIndexed, SameApplication, state_of};
+ghost use Rattle.monitor_state.specs.Whole.{app_of};
 
 use crate::closed::close_work;
 use crate::row::commit;

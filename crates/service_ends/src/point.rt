@@ -9,8 +9,9 @@ ghost use Rattle.monitor_semantics.specs.Sessions.{is_running};
 ghost use Rattle.monitor_semantics.specs.State.{OpenTransaction as Work};
 ghost use Rattle.monitor_semantics.specs.Turns.{settled};
 ghost use Rattle.open_transaction.specs.Work.{work_of, HasOrder};
-ghost use Rattle.service_ends.specs.Ending.{app_of, behind_point, goes_on_from, sent_by, settled_to, turned_to, IsClosed, Works};
+ghost use Rattle.service_ends.specs.Ending.{behind_point, goes_on_from, sent_by, settled_to, turned_to, IsClosed, Works};
 ghost use Rattle.monitor_state.specs.Standing.{IsIndexed, SameApplication, state_of};
+ghost use Rattle.monitor_state.specs.Whole.{app_of};
 
 use crate::broken::end_work;
 use crate::closed::close_work;

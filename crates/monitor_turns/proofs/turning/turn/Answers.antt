@@ -1,8 +1,9 @@
 use Rattle.std.specs.Prelude.{None, Some, refl}
 use Rattle.std.proofs.Common.{◌+◌, ◌∙◌}
 use Rattle.std.proofs.lemmas.Result.{IfOk-weaker}
-use Rattle.service_ends.specs.Ending.{app_of, turned_to}
+use Rattle.service_ends.specs.Ending.{turned_to}
 use Rattle.monitor_state.specs.Standing.{state_of}
+use Rattle.monitor_state.specs.Whole.{app_of}
 use Rattle.monitor_turns.specs.Whole.{is_task, more_steps, seat_of, turned_free, turned_held, whole_after, whole_worked}
 use Rattle.monitor_turns.proofs.turning.turn.Goals as goal
 
