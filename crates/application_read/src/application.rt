@@ -1,5 +1,6 @@
 //! From the texts to the application.
 ghost use Rattle.std.specs.Prelude.{◌≢◌, Ok, Err, IfOk, IfErr};
+ghost use Rattle.unit_check.specs.Fitted.{IsFit};
 ghost use Rattle.application_read.specs.Texts.{TextsGenerate, TextsHaveFault, Gives};
 ghost use Rattle.application_read.specs.declared.fault.ApplicationFault.{ApplicationFault as Fault};
 ghost use Rattle.application_read.specs.declared.fault.ApplicationFault.TheVariants.{Memory};
@@ -30,6 +31,8 @@ pub fn read_application(
 ) -> Result<Application, ApplicationFault>
     // The texts generate what is answered.
     ensures found { IfOk result (λ a. TextsGenerate definition.now units.now a) }
+    // The units were fitted to the generation.
+    ensures fitted { IfOk result (λ a. IsFit a.generation a.units) }
     // What the texts generate is answered, unless memory runs out.
     ensures only { (a : Generated) → TextsGenerate definition.now units.now a → Gives result (Ok a) }
     // The fault that is answered stands there.

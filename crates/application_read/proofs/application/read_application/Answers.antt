@@ -16,6 +16,7 @@ returns-in_err-generation c =
     let gives = made_of (Stands definition units) r (of_definition e) is (without_definition definition units e refused.only refused.refused) in
     record {
       found = search rules;
+      fitted = search rules;
       only = λ a. gives (Ok a);
       fault = stands_in (TextsHaveFault definition units) r (of_definition e) is ((definition_handed e).stands (TextsHaveFault definition units) refused.fault);
       refused = λ f. gives (Err f);
@@ -34,6 +35,7 @@ returns-in_err-read c =
     let gives = made_of (Stands definition units) r (of_units e) is (without_units definition units g made.only made.refused e refused.only refused.refused) in
     record {
       found = search rules;
+      fitted = search rules;
       only = λ a. gives (Ok a);
       fault = stands_in (TextsHaveFault definition units) r (of_units e) is
           ((units_handed e).stands (TextsHaveFault definition units) (λ some. ((g, made.found), refused.fault some)));
@@ -55,6 +57,7 @@ returns-in_err-units c =
     let gives = made_of (Stands definition units) r (of_fit e) is (without_fit definition units g made.only made.refused us spelled.only spelled.refused e refused.only refused.refused) in
     record {
       found = search rules;
+      fitted = search rules;
       only = λ a. gives (Ok a);
       fault = stands_in (TextsHaveFault definition units) r (of_fit e) is
           ((fit_handed e).stands (TextsHaveFault definition units) (λ some. (g, us, made.found, spelled.found, refused.fault some)));
@@ -69,6 +72,7 @@ returns c =
     let gives = with_all c.args.definition.now c.args.units.now c.in_ok-generation.generation made.only made.refused c.in_ok-read.read.items spelled.only spelled.refused c.in_ok-units.units fitted.only fitted.refused in
     record {
       found = (made.found, (c.in_ok-read.read.items, spelled.found, fitted.found));
+      fitted = record { limits = fitted.found.limits; tacs = fitted.found.tacs };
       only = λ a. gives (Ok a);
       fault = search rules;
       refused = λ f. gives (Err f);
