@@ -1,4 +1,6 @@
 mod Entering
 mod Shows
 mod Signs
+mod Starts
 mod Ticks
+mod Uses

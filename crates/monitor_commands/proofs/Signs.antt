@@ -113,10 +113,10 @@ drops app s t pterm user (Some v) e came acts done = record { state = came ∙ a
 pub awaits_is : (p : MonitorParts) (id : ServiceId) (has b : Bool) → has ≡ is_some (find id_cmp id p.active) → has ≡ b → (b || awaits_by (service_of p.tables id)) ≡ is_awaiting (state_of p) id
 awaits_is p id has b e so = ap (λ c. c || awaits_by (service_of p.tables id)) (sym so ∙ e ∙ found_open p.active id)
 
-abbrev user_in : Session → Bytes
+abbrev pub user_in : Session → Bytes
 user_in v = v.user
 
-user_is : (user : Bytes) (o : Option Session) → Some user ≡ option_map user_in o → user ≡ user_by o
+pub user_is : (user : Bytes) (o : Option Session) → Some user ≡ option_map user_in o → user ≡ user_by o
 user_is user None e = absurd cc
 user_is user (Some v) e = cc
 

@@ -66,8 +66,8 @@ fn resume(
     go_on(parts, alloc, &ServiceId::Dialogue(*user), row, lterm)
 }
 
-// The row of the user's dialogue service.
-fn row_of(tables: &Tables, user: &Name) -> Result<Option<Service>, OutOfMemory>
+/// The row of the user's dialogue service.
+pub(crate) fn row_of(tables: &Tables, user: &Name) -> Result<Option<Service>, OutOfMemory>
     ensures { IfOk result (λ row. row ≡ service_of tables.now (Dialogue user.now)) }
 {
     match tables.service(ServiceId::Dialogue(*user)) {
