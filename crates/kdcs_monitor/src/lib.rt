@@ -1,0 +1,12 @@
+//! The monitor as one value: its start, one turn of a task, one command of a script.
+//!
+//! It stands on the start, the turns and the commands over the parts of a monitor. To the top call, its contract says that
+//! a core starts as the abstract monitor does, and that each turn and each command gives the abstract monitor's next state
+//! and acts; what the laws of the abstract monitor say of every state holds of a core at any time. It knows no bytes of a
+//! file and no device.
+#![tactic(auto)]
+
+mod core_state;
+
+pub use core_state::Core;
+pub use monitor_turns::Turned;
