@@ -1,0 +1,5 @@
+pub mod Said
+pub mod Performing
+pub mod Causes
+pub mod Acting
+pub mod Contents

@@ -1,0 +1,14 @@
+//! Acts of the monitor over a store and a device: commits that are stored and lines that are sent, in their order.
+//!
+//! It stands on kdcfile_store, which keeps each commit whole or not at all, on kd_device, and on record_codec, whose patch a
+//! commit's changes are. It knows no core and no command. To the run of a script, its contract says that at each moment what
+//! was sent and what the file stands for are a cut of the acts, and that after `Ok` all of them are done.
+#![tactic(auto)]
+
+mod acts;
+mod error;
+mod saying;
+
+pub use acts::perform_acts;
+pub use error::ActError;
+pub use saying::say;
