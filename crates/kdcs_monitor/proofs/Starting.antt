@@ -1,4 +1,4 @@
--- The parts of a monitor that starts are whole, and those of one that goes on have the same application.
+-- The parts of a monitor that starts are sound.
 use Rattle.std.specs.Prelude.{◌≡◌}
 use Rattle.std.proofs.Common.{sym, subst}
 use Rattle.kdcdef_types.specs.Generation.{Generated}
@@ -7,28 +7,28 @@ use Rattle.unit_check.specs.Fitted.{FittedUnits, IsFit}
 use Rattle.application_facts.specs.Applied.{applied}
 use Rattle.monitor_semantics.specs.Commands.{started}
 use Rattle.monitor_laws.specs.Applications.{IsApplication}
-use Rattle.monitor_laws.specs.Keeping.{HasFacts}
 use Rattle.monitor_laws.specs.Suits.{Suits}
-use Rattle.monitor_places.specs.Laws.{StartsAreConsistent}
-use Rattle.monitor_tables.specs.StateLaws.{StatesStaySound}
+use Rattle.monitor_serial.specs.SerialLaws.{HasReplays, StepsKeepReplays}
 use Rattle.monitor_state.specs.declared.parts.MonitorParts.{MonitorParts}
 use Rattle.monitor_state.specs.Standing.{IsIndexed, state_of}
-use Rattle.monitor_state.specs.Whole.{IsWhole, app_of}
+use Rattle.monitor_state.specs.Whole.{app_of}
+use Rattle.kdcs_monitor.specs.Sound.{IsSound}
 
 -- parts of the same generation and units are of the same application
 pub same_application : (p : MonitorParts) (g : Generated) (u : FittedUnits) → p.generation ≡ g → p.units ≡ u → app_of p ≡ applied g u
 same_application p g u generation units = λ i. record { generation = generation i; units = (units i).units }
 
-pub whole_start : (p : MonitorParts) (g : Generated) (u : FittedUnits) (t : TableRows) → StartsAreConsistent → StatesStaySound
+pub sound_start : (p : MonitorParts) (g : Generated) (u : FittedUnits) (t : TableRows) → StepsKeepReplays
     → IsFit g u → IsApplication (applied g u) → IsSortedTables t → Suits g t
-    → p.generation ≡ g → p.units ≡ u → IsIndexed p → state_of p ≡ started (app_of p) t → IsWhole p
-whole_start p g u t consistent sound fit application order suits generation units indexed state = record {
-  indexed = indexed;
-  fit = subst (λ (x : Generated). IsFit x p.units) (sym generation) (subst (IsFit g) (sym units) fit);
-  application = is_application;
-  facts =
-      subst (HasFacts (app_of p)) (sym state)
-      (consistent (app_of p) t is_application order suits_it, sound.starts (app_of p) t is_application order suits_it);
+    → p.generation ≡ g → p.units ≡ u → IsIndexed p → state_of p ≡ started (app_of p) t → IsSound p
+sound_start p g u t steps fit application order suits generation units indexed state = record {
+  whole = record {
+    indexed = indexed;
+    fit = subst (λ (x : Generated). IsFit x p.units) (sym generation) (subst (IsFit g) (sym units) fit);
+    application = is_application;
+    facts = replays.0;
+  };
+  replays = replays.1;
 }
   where
     is_application : IsApplication (app_of p)
@@ -36,3 +36,6 @@ whole_start p g u t consistent sound fit application order suits generation unit
 
     suits_it : Suits p.generation t
     suits_it = subst (λ (x : Generated). Suits x t) (sym generation) suits
+
+    replays : HasReplays (app_of p) (state_of p)
+    replays = subst (HasReplays (app_of p)) (sym state) (steps.starts (app_of p) t is_application order suits_it)

@@ -1,1 +1,3 @@
 pub mod CoreValue
+pub mod Sound
+pub mod Steps

@@ -7,24 +7,29 @@ ghost use Rattle.unit_check.specs.Fitted.{IsFit};
 ghost use Rattle.application_facts.specs.Applied.{applied};
 ghost use Rattle.monitor_laws.specs.Applications.{IsApplication, IsCommandOf};
 ghost use Rattle.monitor_laws.specs.Keeping.{HasFacts};
+ghost use Rattle.monitor_laws.specs.Replay.{SettlesAs};
 ghost use Rattle.monitor_laws.specs.Suits.{Suits};
-ghost use Rattle.monitor_semantics.specs.Commands.{command_of, started, use_now};
+ghost use Rattle.monitor_queues.specs.QueueLaws.{KeepsQueues};
+ghost use Rattle.monitor_semantics.specs.Commands.{command_of, started, turned_step, use_now};
 ghost use Rattle.monitor_semantics.specs.Endings.{durable};
 ghost use Rattle.monitor_semantics.specs.Turns.{turn_of};
+ghost use Rattle.monitor_serial.specs.Replays.{AllReplay};
+ghost use Rattle.monitor_serial.specs.SerialLaws.{IsSerialStep};
 ghost use Rattle.service_ends.specs.Ending.{turned_to};
 ghost use Rattle.monitor_commands.specs.Commanding.{Comes, IsSingle};
 ghost use Rattle.kdcs_monitor.specs.CoreValue.{OneStep};
+ghost use Rattle.kdcs_monitor.specs.Steps.{came_to};
 
 use application_facts::fitted_units_make_an_application;
 use kd_base::{Name, OutOfMemory};
 use kdcdef_check::Generation;
 use kdcs_types::{Acts, Tables};
 use monitor_commands::{apply, use_of};
-use monitor_places::states_stay_consistent;
+use monitor_queues::commits_keep_queues;
 use monitor_semantics::{Command, Use};
+use monitor_serial::{commits_are_serial, replays_hold_along_every_script, turns_end_serially};
 use monitor_start::parts_of;
 use monitor_state::MonitorParts;
-use monitor_tables::states_stay_sound;
 use monitor_turns::{Turned, turn};
 use std::alloc::Global;
 use std::marker::Model;
@@ -34,23 +39,23 @@ use unit_check::Units;
 /// it has done. It is gone where memory runs out.
 #[derive(Drop)]
 pub struct Core {
-    parts: MonitorParts,
+    parts: Box<MonitorParts, Global>,
 }
 
 impl Model for Core {
     ghost use Rattle.kdcs_monitor.specs.CoreValue.{CoreValue, core_value};
-    ghost use Rattle.monitor_state.specs.Whole.{IsWhole};
+    ghost use Rattle.kdcs_monitor.specs.Sound.{IsSound};
 
     ghost Value = { CoreValue };
 
-    ghost view = { λ c. core_value c.parts };
+    ghost view = { λ c. core_value c.parts.value };
 
-    ghost invariant = { λ c. IsWhole c.parts };
+    ghost invariant = { λ c. IsSound c.parts.value };
 }
 
 impl Core {
     /// A warm or cold start from tables that suit the generation: nobody is signed on, all tasks are free, and every
-    /// asynchronous service is ready, in the order of the numbers.
+    /// asynchronous service is ready, in the order of the numbers. Each open transaction is the replay of what it has kept.
     pub fn start(
         alloc: Global,
         generation: Generation,
@@ -63,22 +68,24 @@ impl Core {
         ensures application_is { IfOk result (λ core. IsApplication core.application) }
         ensures state { IfOk result (λ core. core.state ≡ started core.application tables) }
         ensures facts { IfOk result (λ core. HasFacts core.application core.state) }
+        ensures replays { IfOk result (λ core. AllReplay core.application core.state) }
         ensures limits { IfOk result (λ core. AreLimits core.application.generation.limits) }
         ensures steps { IfOk result (λ core. core.steps ≡ 0) }
     {
         fitted_units_make_an_application(&generation, &units);
-        states_stay_consistent();
-        states_stay_sound();
+        replays_hold_along_every_script();
         // The tables are in order, and the limits in their ranges.
         let _clock = tables.clock();
         let _limits = generation.max();
+        let parts = parts_of(alloc, generation, units, tables)?;
         Ok(Core {
-            parts: parts_of(alloc, generation, units, tables)?,
+            parts: Box::new(alloc, parts)?,
         })
     }
 
     /// A command that is no RUN, TURN or RESTART, and names what the generation has. Fewer than 10^18 turns and commands
-    /// were done.
+    /// were done. Its commit meets the laws on jobs and on services' rows, and one of a transaction is what its record, run
+    /// in one go, makes of the durable tables.
     pub fn apply(self, alloc: Global, command: &Command) -> Result<(Core, Acts), OutOfMemory>
         requires single { IsSingle command.now }
         requires names { IsCommandOf self.application.generation command.now }
@@ -86,20 +93,35 @@ impl Core {
         ensures exact { IfOk result (λ done. Comes done.0.state done.1 (command_of self.application self.state command.now)) }
         ensures one { IfOk result (λ done. OneStep self done.0) }
         ensures facts { IfOk result (λ done. HasFacts done.0.application done.0.state) }
+        ensures replays { IfOk result (λ done. AllReplay done.0.application done.0.state) }
+        ensures serial { IfOk result (λ done. IsSerialStep self.application self.state (came_to done.0.state done.1 (command_of self.application self.state command.now).by)) }
+        ensures queues { IfOk result (λ done. KeepsQueues self.application self.state (came_to done.0.state done.1 (command_of self.application self.state command.now).by)) }
     {
+        replays_hold_along_every_script();
+        commits_are_serial();
+        commits_keep_queues();
         let mut parts = self.parts;
         let acts = apply(&mut parts, alloc, command)?;
         Ok((Core { parts }, acts))
     }
 
-    /// One turn of a task, from 1 to TASKS. Fewer than 10^18 turns and commands were done.
+    /// One turn of a task, from 1 to TASKS. Fewer than 10^18 turns and commands were done. Its commit meets the same laws,
+    /// and a transaction that it ends comes to the tables and the ending of its record, run in one go on the tables before.
     pub fn turn(self, alloc: Global, task: u16) -> Result<(Core, Turned), OutOfMemory>
         requires task { IsWithin 1 self.application.generation.limits.tasks task }
         requires steps { self.steps < 10 ^ 18 }
         ensures exact { IfOk result (λ done. turned_to done.0.state done.1 ≡ turn_of self.application self.state task) }
         ensures one { IfOk result (λ done. OneStep self done.0) }
         ensures facts { IfOk result (λ done. HasFacts done.0.application done.0.state) }
+        ensures replays { IfOk result (λ done. AllReplay done.0.application done.0.state) }
+        ensures serial { IfOk result (λ done. IsSerialStep self.application self.state (turned_step (turned_to done.0.state done.1))) }
+        ensures ends { IfOk result (λ done. SettlesAs self.application self.state.tables done.0.state.tables done.1.settled) }
+        ensures queues { IfOk result (λ done. KeepsQueues self.application self.state (turned_step (turned_to done.0.state done.1))) }
     {
+        replays_hold_along_every_script();
+        commits_are_serial();
+        turns_end_serially();
+        commits_keep_queues();
         let mut parts = self.parts;
         let did = turn(&mut parts, alloc, task)?;
         Ok((Core { parts }, did))
@@ -133,6 +155,7 @@ impl Core {
         ensures application { self.application ≡ applied result.0 result.1 }
         ensures fit { IsFit result.0 result.1 }
     {
-        (self.parts.generation, self.parts.units)
+        let parts = Box::into_inner(self.parts);
+        (parts.generation, parts.units)
     }
 }
