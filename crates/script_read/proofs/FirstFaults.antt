@@ -3,9 +3,9 @@ use Rattle.std.proofs.Common.{◌≡◌, ◌⊎◌, inl, inr, subst, suc, ℕ, �
 use Rattle.std.specs.Str.Lines.{lines}
 use Rattle.script_read.specs.declared.fault.ScriptFault.{ScriptFault}
 use Rattle.script_read.specs.declared.fault.ScriptFault.TheVariants.{BadLine, OutOfRange, TooLong}
-use Rattle.script_read.specs.Script.{Line, Nothing, Says, IsBad, IsOutOfRange, before, line_of, line_then, script_from, script_by, is_too_long, script_of}
+use Rattle.script_read.specs.Script.{Line, Nothing, Says, IsBad, IsOutOfRange, before, line_then, script_from, script_by, is_too_long, script_of}
 use Rattle.script_read.specs.Commands.{line_in}
-use Rattle.script_read.specs.Laws.{IsRight, AreRight, IsFirstFault, IsFirstOf, FaultsAreFirst, CommandFaultsAreFirst, said, all_said, SaysItsLines, SaysWhatItsLinesSay, CommandsAreThoseOfItsLines}
+use Rattle.script_read.specs.Laws.{IsRight, AreRight, IsFirstFault, IsFirstOf, FaultsAreFirst, said, all_said, SaysItsLines, SaysWhatItsLinesSay}
 
 -- the fault that a line with this number has
 abbrev IsFaultOf : {C : Type 0} → ℕ → Line C → ScriptFault → Type 0
@@ -100,10 +100,7 @@ first_of reads text = record {
 }
 
 pub faults_first : FaultsAreFirst
-faults_first text = first_of line_of text
-
-pub command_faults_first : CommandFaultsAreFirst
-command_faults_first g text = first_of (line_in g) text
+faults_first g text = first_of (line_in g) text
 
 -- ---- commands
 
@@ -147,7 +144,4 @@ says_lines reads text commands h =
     (s.right, s.said)
 
 pub says_its_lines : SaysWhatItsLinesSay
-says_its_lines = says_lines line_of
-
-pub commands_are_those : CommandsAreThoseOfItsLines
-commands_are_those g = says_lines (line_in g)
+says_its_lines g = says_lines (line_in g)

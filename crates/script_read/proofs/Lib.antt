@@ -4,7 +4,6 @@ pub mod SameBytes
 pub mod Parted
 pub mod Numbers
 pub mod Shapes
-pub mod Ticks
 pub mod Names
 pub mod Inputs
 pub mod Keyed

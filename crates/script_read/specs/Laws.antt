@@ -1,43 +1,10 @@
 -- What holds of every script.
-use Rattle.std.specs.Prelude.{◌≡◌, ℕ, ◌+◌, ◌≤◌, IsTrue, List, [], ◌∷◌, ◌++◌, length, replicate, codes, Ok, Err}
-use Rattle.std.specs.List.{list_all}
+use Rattle.std.specs.Prelude.{◌≡◌, ℕ, ◌+◌, List, [], ◌∷◌, ◌++◌, length, Ok, Err}
 use Rattle.std.specs.Str.Lines.{lines}
-use Rattle.kd_base.specs.Text.{is_digit, decimal_value}
-use Rattle.kdcs_types.specs.Limits.{last_clock}
-use Rattle.kdcs_types.specs.declared.command.Command.{Command}
-use Rattle.kdcs_types.specs.declared.command.Command.TheVariants.{Tick}
 use Rattle.script_read.specs.declared.fault.ScriptFault.TheVariants.{BadLine, OutOfRange}
 use Rattle.kdcdef_types.specs.Generation.{Generated}
-use Rattle.script_read.specs.Script.{Line, Nothing, Says, IsBad, IsOutOfRange, line_of, script_of}
+use Rattle.script_read.specs.Script.{Line, Nothing, Says, IsBad, IsOutOfRange, script_of}
 use Rattle.script_read.specs.Commands.{line_in}
-
--- TICK, one or more spaces, digits, and spaces behind them
-pub record IsTickOf (line digits : List ℕ) : Type 0 where
-  pub between : ℕ
-  pub behind : ℕ
-  pub parted : 1 ≤ between
-  pub some : 1 ≤ length digits
-  pub all_digits : IsTrue (list_all is_digit digits)
-  pub spelled : line ≡ codes "TICK" ++ replicate between 32 ++ digits ++ replicate behind 32
-
--- 18 digits at most, with a value that a clock may have
-pub record IsTickCount (digits : List ℕ) : Type 0 where
-  pub few : length digits ≤ 18
-  pub value : decimal_value digits ≤ last_clock
-
-abbrev pub TicksAreSaid : Type 0
-TicksAreSaid = (line digits : List ℕ) → IsTickOf line digits → IsTickCount digits → line_of line ≡ Says (Tick (decimal_value digits))
-
--- no other line says a command
-abbrev pub TicksOnly : Type 0
-TicksOnly = (line : List ℕ) (command : Command) → line_of line ≡ Says command → (digits : List ℕ) × IsTickOf line digits × IsTickCount digits × (command ≡ Tick (decimal_value digits))
-
-abbrev pub RangesAreTested : Type 0
-RangesAreTested = (line digits : List ℕ) → IsTickOf line digits → (IsTickCount digits → ⊥) → line_of line ≡ IsOutOfRange
-
--- no other line is out of range
-abbrev pub RangesOnly : Type 0
-RangesOnly = (line : List ℕ) → line_of line ≡ IsOutOfRange → (digits : List ℕ) × IsTickOf line digits × (IsTickCount digits → ⊥)
 
 -- a line that is no fault
 abbrev pub IsRight : {C : Type 0} → Line C → Type 0
@@ -65,10 +32,7 @@ pub record IsFirstOf {C : Type 0} (reads : List ℕ → Line C) (text : List ℕ
   pub out_of_range : (number : ℕ) → script_of reads text ≡ Err (OutOfRange number) → IsFirstFault reads number IsOutOfRange (lines text)
 
 abbrev pub FaultsAreFirst : Type 0
-FaultsAreFirst = (text : List ℕ) → IsFirstOf line_of text
-
-abbrev pub CommandFaultsAreFirst : Type 0
-CommandFaultsAreFirst = (g : Generated) (text : List ℕ) → IsFirstOf (line_in g) text
+FaultsAreFirst = (g : Generated) (text : List ℕ) → IsFirstOf (line_in g) text
 
 -- the command of a line, where it says one
 abbrev pub said : {C : Type 0} → Line C → List C
@@ -87,7 +51,4 @@ SaysItsLines {C} reads =
     (text : List ℕ) (commands : List C) → script_of reads text ≡ Ok commands → AreRight reads (lines text) × (commands ≡ all_said reads (lines text))
 
 abbrev pub SaysWhatItsLinesSay : Type 0
-SaysWhatItsLinesSay = SaysItsLines line_of
-
-abbrev pub CommandsAreThoseOfItsLines : Type 0
-CommandsAreThoseOfItsLines = (g : Generated) → SaysItsLines (line_in g)
+SaysWhatItsLinesSay = (g : Generated) → SaysItsLines (line_in g)

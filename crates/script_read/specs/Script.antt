@@ -1,13 +1,10 @@
 -- What a script says.
-use Rattle.std.specs.Prelude.{ℕ, ◌+◌, Bool, true, false, not, ◌&&◌, ◌||◌, ◌==◌, nat_le, nat_lt, List, [], ◌∷◌, length, filter, count_by, codes, Result, Ok, Err}
+use Rattle.std.specs.Prelude.{ℕ, ◌+◌, Bool, true, false, not, ◌&&◌, ◌||◌, ◌==◌, nat_le, nat_lt, List, [], ◌∷◌, length, filter, count_by, Result, Ok, Err}
 use Rattle.std.specs.List.{slice_split, list_all}
 use Rattle.std.specs.Ordering.{nat_cmp, eq_by_cmp}
 use Rattle.std.specs.Cmp.Lexicographic.{slice_cmp}
 use Rattle.std.specs.Str.Lines.{lines}
 use Rattle.kd_base.specs.Text.{is_digit, is_space, decimal_value}
-use Rattle.kdcs_types.specs.Limits.{last_clock}
-use Rattle.kdcs_types.specs.declared.command.Command.{Command}
-use Rattle.kdcs_types.specs.declared.command.Command.TheVariants.{Tick}
 use Rattle.script_read.specs.declared.fault.ScriptFault.{ScriptFault}
 use Rattle.script_read.specs.declared.fault.ScriptFault.TheVariants.{BadLine, OutOfRange, TooLong}
 
@@ -98,23 +95,3 @@ script_by false reads text = script_from reads 1 (lines text)
 -- the commands of a script whose lines say so, or its first fault
 abbrev pub script_of : {C : Type 0} → (List ℕ → Line C) → List ℕ → Result (List C) ScriptFault
 script_of reads text = script_by (is_too_long text) reads text
-
--- ---- scripts of TICKs
-
-abbrev pub tick_by : Bool → List ℕ → Line Command
-tick_by true word = as_command Tick (numbered 0 last_clock word)
-tick_by false word = IsBad
-
--- `TICK n`
-abbrev pub line_of_words : List (List ℕ) → Line Command
-line_of_words [] = IsBad
-line_of_words (keyword ∷ []) = IsBad
-line_of_words (keyword ∷ number ∷ []) = tick_by (same keyword (codes "TICK")) number
-line_of_words (keyword ∷ number ∷ more ∷ rest) = IsBad
-
-abbrev pub line_of : List ℕ → Line Command
-line_of line = line_by (is_passed line) (begins_with_space line) (line_of_words (words line))
-
--- the commands of a script, or its first fault
-abbrev pub script : List ℕ → Result (List Command) ScriptFault
-script text = script_of line_of text

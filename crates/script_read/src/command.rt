@@ -9,7 +9,6 @@ use crate::fault::ScriptFault;
 use crate::keyword::{Keyword, keyword_of};
 use crate::line::is_passed;
 use crate::number::number_of;
-use crate::read::LAST_CLOCK;
 use crate::reading::LineReader;
 use crate::terminal::pterm_of;
 use crate::word::{next_word, same, split_at_space};
@@ -17,6 +16,9 @@ use kd_base::Bytes;
 use kdcdef_check::Generation;
 use monitor_semantics::Command;
 use std::alloc::Global;
+
+/// The greatest number of a TICK.
+const LAST_CLOCK: u64 = 999_999_999_999;
 
 /// The greatest number of a RUN.
 const LAST_TURNS: u64 = 1_000_000;

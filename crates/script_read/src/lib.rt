@@ -6,20 +6,15 @@
 #![tactic(auto)]
 
 mod command;
-mod commands;
 mod fault;
 mod keyword;
 mod laws;
 mod line;
 mod number;
-mod read;
 mod reading;
 mod terminal;
 mod word;
 
-pub use commands::read_commands;
 pub use fault::ScriptFault;
-pub use laws::{
-    commands_are_said, faults_are_first, says_what_its_lines_say, ticks_are_said, worked_lines,
-};
-pub use read::read_script;
+pub use laws::{commands_are_said, faults_are_first, says_what_its_lines_say, worked_lines};
+pub use reading::read_script;

@@ -1,11 +1,16 @@
-//! Reading a text line by line, whatever its lines say.
-ghost use Rattle.std.specs.Prelude.{◌≡◌, ◌<◌, ◌-◌, ◌^◌, List, ℕ, length, nat_lt};
+//! Reading a script.
+ghost use Rattle.std.specs.Prelude.{◌≡◌, ◌≢◌, ◌<◌, ◌-◌, ◌^◌, List, ℕ, length, nat_lt, Ok, Err, IfOk, IfErr};
+ghost use Rattle.std.specs.List.{All};
 ghost use Rattle.std.specs.Str.Lines.{lines};
+ghost use Rattle.script_read.specs.declared.fault.ScriptFault.TheVariants.{Memory};
 ghost use Rattle.script_read.specs.Script.{Line, command_lines, is_too_long};
+ghost use Rattle.script_read.specs.Commands.{script_in, IsCommandOf};
 ghost use Rattle.script_read.specs.Reading.{outcome, Gives, items_of, commands_of};
 
 use crate::fault::ScriptFault;
 use crate::line::{is_passed, next_line};
+use kdcdef_check::Generation;
+use monitor_semantics::Command;
 use std::alloc::Global;
 
 /// The greatest length of a script in bytes.
@@ -49,14 +54,14 @@ fn has_too_many_commands(text: &[u8]) -> bool
     false
 }
 
-pub(crate) fn is_too_long(text: &[u8]) -> bool
+fn is_too_long(text: &[u8]) -> bool
     ensures { result ≡ is_too_long text.now }
 {
     text.len() > MAX_SCRIPT_LEN || has_too_many_commands(text)
 }
 
 // The commands of a text whose lines can be numbered, or its first fault.
-pub(crate) fn commands_of<R: LineReader>(
+fn commands_of<R: LineReader>(
     alloc: Global,
     reader: &R,
     text: &[u8],
@@ -76,4 +81,25 @@ pub(crate) fn commands_of<R: LineReader>(
         rest = after;
     }
     Ok(commands)
+}
+
+/// The commands of a script in the order of its lines, or its first fault: `IN`, `TICK`, `RUN`, `TURN`, `DROP`, `PRINT`
+/// and `RESTART`, whose PTERMs and tasks are those of the generation. Lines end in LF, or in CR and LF; the last may lack
+/// its end.
+pub fn read_script(
+    alloc: Global,
+    generation: &Generation,
+    text: &[u8],
+) -> Result<Vec<Command>, ScriptFault>
+    // What was read is what the text says.
+    ensures found { IfOk result (λ commands. script_in generation.now text.now ≡ Ok commands.items) }
+    // A fault that is answered is the one that the text has.
+    ensures refused { IfErr result (λ fault. fault ≢ Memory → script_in generation.now text.now ≡ Err fault) }
+    // The PTERMs and tasks are those of the generation.
+    ensures names { IfOk result (λ commands. All (IsCommandOf generation.now) commands.items) }
+{
+    if is_too_long(text) {
+        return Err(ScriptFault::TooLong);
+    }
+    commands_of(alloc, generation, text)
 }

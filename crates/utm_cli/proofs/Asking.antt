@@ -3,15 +3,13 @@ use Rattle.std.proofs.Common.{◌≡◌, ◌⊎◌, inl, inr, ⊎_elim, ℕ, Lis
 use Rattle.kd_base.specs.Tools.{cases_option}
 use Rattle.kd_device.specs.Device.{State, LeavesOnly, Only}
 use Rattle.kd_device.specs.Room.{RoomState, text_of}
-use Rattle.kd_records.specs.Identity.{Identity}
-use Rattle.kdcs_types.specs.declared.act.Act.{Act}
-use Rattle.kdcs_types.specs.declared.tables.Tables.{Tables}
+use Rattle.kdcs_types.specs.Tables.{TableRows}
 use Rattle.utm_cli.specs.declared.error.Refusal.{Refusal}
 use Rattle.utm_cli.specs.declared.words.Word.{Word}
 use Rattle.utm_cli.specs.declared.words.Word.TheVariants.{Gen, Run}
 use Rattle.utm_cli.specs.Words.{definition_name, units_name, script_name}
 use Rattle.utm_cli.specs.Asking.{Errand, Reading, AreThere, ReadsFor}
-use Rattle.utm_cli.specs.Stored.{StartsFrom}
+use Rattle.utm_cli.specs.Doing.{Starts, identity_of, acts_of}
 use Rattle.utm_cli.specs.Promise.{Request, Reads, Lacks, Misses, IsCutOfRun}
 use Rattle.utm_cli.proofs.Ran.{as_it_was}
 
@@ -93,11 +91,11 @@ module _ (words : List (List ℕ)) (room : RoomState) (why : Refusal) (one : (sa
 
 -- ---- what a stop leaves
 
-module _ (i : Identity) (acts : Tables → List Act) (t : Tables) (a d : State) (la ld : ℕ → List ℕ → List ℕ → Type 0) (only : Only a.holds a la) (starts : StartsFrom i a.holds t) (silent : (c out : List ℕ) → la a.moment c out → out ≡ a.sent) where
-  pub cut_at_call : (image out : List ℕ) → la a.moment image out → IsCutOfRun i acts t a image out
+module _ (e : Errand) (t : TableRows) (a d : State) (la ld : ℕ → List ℕ → List ℕ → Type 0) (only : Only a.holds a la) (starts : Starts e a.holds t) (silent : (c out : List ℕ) → la a.moment c out → out ≡ a.sent) where
+  pub cut_at_call : (image out : List ℕ) → la a.moment image out → IsCutOfRun (identity_of e) (acts_of e) t a image out
   cut_at_call image out left =
       let same = silent image out left in
-      as_it_was i acts t a la only image out starts (only image (subst (λ (o : List ℕ). la a.moment image o) same left)) same
+      as_it_was e t a la only starts image out (only image (subst (λ (o : List ℕ). la a.moment image o) same left)) same
 
-  pub cut_since : LeavesOnly a d la ld (IsCutOfRun i acts t a) → (image out : List ℕ) → ld a.moment image out → IsCutOfRun i acts t a image out
-  cut_since h image out left = ⊎_elim (λ past. cut_at_call image out past) (λ cut. cut) (h.only a.moment image out (omega arith) left)
+  pub cut_since_call : LeavesOnly a d la ld (IsCutOfRun (identity_of e) (acts_of e) t a) → (image out : List ℕ) → ld a.moment image out → IsCutOfRun (identity_of e) (acts_of e) t a image out
+  cut_since_call h image out left = ⊎_elim (λ past. cut_at_call image out past) (λ cut. cut) (h.only a.moment image out (omega arith) left)

@@ -1,27 +1,144 @@
--- Acts that are performed from tables that a store keeps.
-use Rattle.std.proofs.Common.{◌≡◌, ℕ, List, refl, sym, ap, subst, ◌∙◌, arith, inl}
+-- The acts of an errand, from tables that a store keeps.
+use Rattle.std.proofs.Common.{◌≡◌, true, ℕ, List, ◌++◌, sym, ap, subst, ◌∙◌}
+use Rattle.std.specs.Prelude.{IsTrue}
+use Rattle.kdcdef_check.specs.Soundness.{AreLimits}
 use Rattle.kd_device.specs.Device.{State}
+use Rattle.kd_records.specs.Identity.{Identity}
 use Rattle.kd_records.specs.declared.content.Content.{Content}
+use Rattle.kdcfile_images.specs.File.{StandsFor}
+use Rattle.kdcfile_store.specs.Whole.{Whole, HasFile}
+use Rattle.kdcdef_types.specs.Generation.{Generated}
 use Rattle.kdcs_types.specs.declared.act.Act.{Act}
-use Rattle.kdcs_types.specs.declared.tables.Tables.{Tables}
-use Rattle.utm_cli.specs.Stored.{content_without_rows, tables_in, HasNoRows}
-use Rattle.utm_cli.specs.Performing.{Performs, Performed}
+use Rattle.kdcs_types.specs.Tables.{TableRows}
+use Rattle.monitor_semantics.specs.State.{Application}
+use Rattle.monitor_semantics.specs.declared.command.Command.{Command}
+use Rattle.monitor_semantics.specs.Commands.{started, acts_of as acts_in}
+use Rattle.monitor_semantics.specs.Endings.{durable}
+use Rattle.monitor_semantics.specs.Trace.{history, tables_after, bytes_of, trace}
+use Rattle.monitor_laws.specs.Applications.{IsApplication}
+use Rattle.monitor_laws.specs.Keeping.{HasFacts, IsScriptOf}
+use Rattle.monitor_laws.specs.Suits.{Suits}
+use Rattle.warm_start.specs.Stands.{StandsForTables, KeepsTables, identity_for}
+use Rattle.kdcs_monitor.specs.CoreValue.{CoreValue}
+use Rattle.monitor_acts.specs.Performing.{commits_nothing, content_after, AreCommittable, Performs, Sent}
+use Rattle.monitor_run.specs.Running.{IsRunning, PerformsSteps, Ran as RanSteps}
+use Rattle.utm_cli.specs.declared.words.Word.{Word}
+use Rattle.utm_cli.specs.declared.words.Word.TheVariants.{Gen, Run}
+use Rattle.utm_cli.specs.Asking.{Errand, CanRun, app_of}
+use Rattle.utm_cli.specs.Doing.{identity_of, acts_by, acts_of}
+use Rattle.utm_cli.specs.Report.{report}
+use Rattle.utm_cli.specs.Promise.{Ran}
+use Rattle.utm_cli.proofs.Cuts.{tables_same, kept_content, lines_performed}
+use Rattle.monitor_run.specs.Durable.{durable_same, started_tables}
 
--- nothing was performed
-pub performs_none : (stands : Tables → List ℕ → Type 0) (t : Tables) (acts : List Act) (a : State) (la : ℕ → List ℕ → List ℕ → Type 0) → Performs stands t acts a a la la
-performs_none stands t acts a la = record {
-  frame = record { told = refl; disk_faults = omega arith; line_faults = omega arith; moment = omega arith };
-  names = refl;
-  any_moment = λ told. record { later = omega arith; only = λ u c out le left. inl left };
-  quiet = λ told lines. record { holds = refl; put = refl };
-}
+-- what a store of this content has stands for the tables that it keeps
+keeps_means : (i : Identity) (store : Whole) (t : TableRows) → KeepsTables i store t → (bytes : List ℕ) → StandsFor store.identity store.content bytes → StandsForTables i t bytes
+keeps_means i store t keeps bytes stands =
+    record { tables = keeps.tables; content = subst (λ (x : Content). StandsFor i x bytes) keeps.content (subst (λ (j : Identity). StandsFor j store.content bytes) keeps.identity_is stands) }
 
-module _ (x : Content) (t : Tables) (is : x ≡ content_without_rows t) (rows : HasNoRows t) (acts all : List Act) (same : acts ≡ all) (a b : State) (lb : ℕ → List ℕ → List ℕ → Type 0) where
-  kept_tables : tables_in x ≡ t
-  kept_tables = ap tables_in is ∙ sym rows
+-- ---- the report
 
-  pub performs_as : (stands : Tables → List ℕ → Type 0) (la : ℕ → List ℕ → List ℕ → Type 0) → Performs stands (tables_in x) acts a b la lb → Performs stands t all a b la lb
-  performs_as stands la h = subst (λ (u : Tables). Performs stands u all a b la lb) kept_tables (subst (λ (l : List Act). Performs stands (tables_in x) l a b la lb) same h)
+-- lines ask nothing of a store
+pub report_can : (g : Generated) (store : Whole) (acts : List Act) → acts ≡ report g → AreCommittable store.identity store.content acts
+report_can g store acts made = subst (λ (l : List Act). AreCommittable store.identity store.content l) (sym made) tt
 
-  pub performed_as : (file : List ℕ → Type 0) (kept : Content) → Performed file kept (tables_in x) acts a b lb → Performed file kept t all a b lb
-  performed_as file kept h = subst (λ (u : Tables). Performed file kept u all a b lb) kept_tables (subst (λ (l : List Act). Performed file kept (tables_in x) l a b lb) same h)
+module _ (e : Errand) (t : TableRows) (acts : List Act) (gen : e.word ≡ Gen) (made : acts ≡ report e.application.generation) where
+  pub report_is : acts ≡ acts_of e t
+  report_is = made ∙ sym (ap (λ (word : Word). acts_by word (app_of e) e.commands t) gen)
+
+  report_lines : commits_nothing acts ≡ true
+  report_lines = ap commits_nothing made
+
+  module _ (store : Whole) (keeps : KeepsTables (identity_of e) store t) (a b : State) (la lb : ℕ → List ℕ → List ℕ → Type 0) where
+    pub report_performs : Performs content_after (StandsFor store.identity) store.content acts a b la lb → Performs tables_after (StandsForTables (identity_of e)) t (acts_of e t) a b la lb
+    report_performs h =
+        subst (λ (l : List Act). Performs tables_after (StandsForTables (identity_of e)) t l a b la lb) report_is
+        (lines_performed (StandsFor store.identity) store.content (StandsForTables (identity_of e)) t (keeps_means (identity_of e) store t keeps) acts report_lines a b la lb h)
+
+    pub report_ran : (after : Whole) → after.identity ≡ store.identity → after.content ≡ content_after store.content acts → Sent (HasFile after) acts a b lb → IsTrue a.told → Ran (identity_of e) (acts_of e) t a b lb
+    report_ran after identity content sent told =
+        let file : StandsFor after.identity after.content b.holds = (after.second, (sent.rest told).bytes) in
+        let here : StandsFor store.identity store.content b.holds = subst (λ (x : Content). StandsFor store.identity x b.holds) (kept_content acts store.content after.content report_lines content) (subst (λ (j : Identity). StandsFor j after.content b.holds) identity file) in
+        let holds = subst (λ (u : TableRows). StandsForTables (identity_of e) u b.holds) (sym (tables_same acts t report_lines)) (keeps_means (identity_of e) store t keeps b.holds here) in
+        record {
+          sent = subst (λ (l : List Act). b.sent ≡ a.sent ++ bytes_of l) report_is (sent.sent told);
+          holds = subst (λ (l : List Act). StandsForTables (identity_of e) (tables_after t l) b.holds) report_is holds;
+          settled = (sent.rest told).settled;
+        }
+
+-- ---- the script
+
+-- a monitor that starts from these tables
+abbrev fresh : Errand → TableRows → CoreValue
+fresh e t = record { application = app_of e; state = started (app_of e) t; steps = 0 }
+
+module _ (e : Errand) (t : TableRows) (core : CoreValue) (application : core.application ≡ app_of e) (state : core.state ≡ started core.application t) (steps : core.steps ≡ 0) where
+  core_is : core ≡ fresh e t
+  core_is =
+      let here : core.state ≡ started (app_of e) t = state ∙ ap (λ (app : Application). started app t) application in
+      λ i. record { application = application i; state = here i; steps = steps i }
+
+  durable_is : Suits e.application.generation t → durable e.application.generation (started (app_of e) t).tables ≡ t
+  durable_is suits = ap (durable e.application.generation) (started_tables (app_of e) t) ∙ durable_same e.application.generation t suits
+
+  pub core_runs : CanRun e → Suits e.application.generation t → HasFacts core.application core.state → AreLimits core.application.generation.limits → (store : Whole) → KeepsTables (identity_of e) store t → IsRunning e.fingerprint core store
+  core_runs can suits facts limits store keeps = record {
+    application = subst IsApplication (sym application) can.applies;
+    limits = limits;
+    facts = facts;
+    keeps = subst (λ (c : CoreValue). KeepsTables (identity_for c.application.generation e.fingerprint) store (durable c.application.generation c.state.tables)) (sym core_is)
+        (subst (λ (u : TableRows). KeepsTables (identity_of e) store u) (sym (durable_is suits)) keeps);
+  }
+
+  pub core_script : CanRun e → IsScriptOf core.application e.commands
+  core_script can = subst (λ (app : Application). IsScriptOf app e.commands) (sym application) can.names
+
+  module _ (run : e.word ≡ Run) (suits : Suits e.application.generation t) (a b : State) (la lb : ℕ → List ℕ → List ℕ → Type 0) where
+    script_is : acts_in (history (app_of e) (started (app_of e) t) e.commands) ≡ acts_of e t
+    unfolding trace
+    script_is = sym (ap (λ (word : Word). acts_by word (app_of e) e.commands t) run)
+
+    pub script_performs : PerformsSteps e.fingerprint core (history core.application core.state e.commands) a b la lb → Performs tables_after (StandsForTables (identity_of e)) t (acts_of e t) a b la lb
+    script_performs h =
+        let here = subst (λ (c : CoreValue). PerformsSteps e.fingerprint c (history c.application c.state e.commands) a b la lb) core_is h in
+        subst (λ (u : TableRows). Performs tables_after (StandsForTables (identity_of e)) u (acts_of e t) a b la lb) (durable_is suits)
+        (subst (λ (l : List Act). Performs tables_after (StandsForTables (identity_of e)) (durable e.application.generation (started (app_of e) t).tables) l a b la lb) script_is here)
+
+    pub script_ran : RanSteps e.fingerprint core (history core.application core.state e.commands) a b lb → Ran (identity_of e) (acts_of e) t a b lb
+    script_ran h =
+        let here = subst (λ (c : CoreValue). RanSteps e.fingerprint c (history c.application c.state e.commands) a b lb) core_is h in
+        record {
+          sent = subst (λ (l : List Act). b.sent ≡ a.sent ++ bytes_of l) script_is here.sent;
+          holds = subst (λ (u : TableRows). StandsForTables (identity_of e) (tables_after u (acts_of e t)) b.holds) (durable_is suits)
+              (subst (λ (l : List Act). StandsForTables (identity_of e) (tables_after (durable e.application.generation (started (app_of e) t).tables) l) b.holds) script_is here.holds);
+          settled = here.settled;
+        }
+
+-- ---- an errand, and what its parts make
+
+module _ (e v : Errand) (same : e ≡ v) (t : TableRows) (core : CoreValue) (application : core.application ≡ app_of v) (state : core.state ≡ started core.application t) (steps : core.steps ≡ 0) (can : CanRun e) (suits : Suits e.application.generation t) where
+  can_too : CanRun v
+  can_too = subst CanRun same can
+
+  suits_too : Suits v.application.generation t
+  suits_too = subst (λ (x : Errand). Suits x.application.generation t) same suits
+
+  pub parts_run : HasFacts core.application core.state → AreLimits core.application.generation.limits → (store : Whole) → KeepsTables (identity_of e) store t → IsRunning v.fingerprint core store
+  parts_run facts limits store keeps = core_runs v t core application state steps can_too suits_too facts limits store (subst (λ (x : Errand). KeepsTables (identity_of x) store t) same keeps)
+
+  pub parts_script : (commands : List Command) → commands ≡ v.commands → IsScriptOf core.application commands
+  parts_script commands is = subst (λ (l : List Command). IsScriptOf core.application l) (sym is) (core_script v t core application state steps can_too)
+
+  module _ (run : e.word ≡ Run) (commands : List Command) (is : commands ≡ v.commands) (a b : State) (la lb : ℕ → List ℕ → List ℕ → Type 0) where
+    run_too : v.word ≡ Run
+    run_too = sym (ap (λ (x : Errand). x.word) same) ∙ run
+
+    pub parts_perform : PerformsSteps v.fingerprint core (history core.application core.state commands) a b la lb → Performs tables_after (StandsForTables (identity_of e)) t (acts_of e t) a b la lb
+    parts_perform h =
+        subst (λ (x : Errand). Performs tables_after (StandsForTables (identity_of x)) t (acts_of x t) a b la lb) (sym same)
+        (script_performs v t core application state steps run_too suits_too a b la lb (subst (λ (l : List Command). PerformsSteps v.fingerprint core (history core.application core.state l) a b la lb) is h))
+
+    pub parts_ran : RanSteps v.fingerprint core (history core.application core.state commands) a b lb → Ran (identity_of e) (acts_of e) t a b lb
+    parts_ran h =
+        subst (λ (x : Errand). Ran (identity_of x) (acts_of x) t a b lb) (sym same)
+        (script_ran v t core application state steps run_too suits_too a b la lb (subst (λ (l : List Command). RanSteps v.fingerprint core (history core.application core.state l) a b lb) is h))

@@ -3,12 +3,13 @@ use Rattle.std.proofs.Common.{◌≡◌, inl, inr, ℕ, List, ◌++◌, length, 
 use Rattle.std.proofs.lemmas.List.{append-nil, take_at, take-append-drop}
 use Rattle.kd_device.specs.Device.{State}
 use Rattle.kd_records.specs.Identity.{Identity}
+use Rattle.kdcs_types.specs.Tables.{TableRows}
 use Rattle.kdcs_types.specs.declared.act.Act.{Act}
-use Rattle.kdcs_types.specs.declared.tables.Tables.{Tables}
-use Rattle.monitor_core.specs.Trace.{bytes_of}
-use Rattle.monitor_core.specs.Cut.{SentBy, IsCutSince}
-use Rattle.monitor_core.specs.Laws.{bytes_joined}
+use Rattle.monitor_semantics.specs.Trace.{bytes_of}
+use Rattle.monitor_laws.specs.Cut.{SentBy}
+use Rattle.monitor_run.specs.Running.{IsCutSince}
 use Rattle.utm_cli.specs.Promise.{IsCutOfRun, EndsInCut}
+use Rattle.utm_cli.proofs.Cuts.{bytes_joined, bytes_of_line}
 
 front_of : (whole first rest : List ℕ) → whole ≡ first ++ rest → (n : ℕ) × (first ≡ take n whole)
 front_of whole first rest e = (length first, sym (ap (λ (l : List ℕ). take (length first) l) e ∙ take_at first rest (length first) refl))
@@ -19,20 +20,20 @@ behind done left out (inl is) = (bytes_of left, bytes_joined done left ∙ ap (�
 behind done left out (inr (line, rest, next, n, is)) = (
   drop n line ++ bytes_of rest,
   bytes_joined done left
-      ∙ ap (λ (l : List ℕ). bytes_of done ++ l) (ap bytes_of next ∙ ap (λ (l : List ℕ). l ++ bytes_of rest) (sym (take-append-drop n line)) ∙ append_assoc (take n line) (drop n line) (bytes_of rest))
+      ∙ ap (λ (l : List ℕ). bytes_of done ++ l) (ap bytes_of next ∙ bytes_of_line line rest ∙ ap (λ (l : List ℕ). l ++ bytes_of rest) (sym (take-append-drop n line)) ∙ append_assoc (take n line) (drop n line) (bytes_of rest))
       ∙ sym (append_assoc (bytes_of done) (take n line) (drop n line ++ bytes_of rest))
       ∙ ap (λ (l : List ℕ). l ++ (drop n line ++ bytes_of rest)) (sym is),
 )
 
-front_of_cut : (stands : Tables → List ℕ → Type 0) (t : Tables) (all : List Act) (sent image out : List ℕ) → IsCutSince stands t all sent image out → (n : ℕ) × (out ≡ sent ++ take n (bytes_of all))
+front_of_cut : (stands : TableRows → List ℕ → Type 0) (t : TableRows) (all : List Act) (sent image out : List ℕ) → IsCutSince stands t all sent image out → (n : ℕ) × (out ≡ sent ++ take n (bytes_of all))
 front_of_cut stands t all sent image out h =
     let rest = behind h.cut.done h.cut.left h.since h.cut.bytes in
     let front = front_of (bytes_of all) h.since rest.0 (ap bytes_of h.cut.whole ∙ rest.1) in
     (front.0, h.more ∙ ap (λ (l : List ℕ). sent ++ l) front.1)
 
-front_of_run : (i : Identity) (acts : Tables → List Act) (t : Tables) (a : State) (image out : List ℕ) → IsCutOfRun i acts t a image out → (n : ℕ) × (out ≡ a.sent ++ take n (bytes_of (acts t)))
+front_of_run : (i : Identity) (acts : TableRows → List Act) (t : TableRows) (a : State) (image out : List ℕ) → IsCutOfRun i acts t a image out → (n : ℕ) × (out ≡ a.sent ++ take n (bytes_of (acts t)))
 front_of_run i acts t a image out (inl cut) = front_of_cut _ t (acts t) a.sent image out cut
 front_of_run i acts t a image out (inr unmade) = (0, unmade.silent ∙ sym (append-nil a.sent))
 
-pub ends : (i : Identity) (acts : Tables → List Act) (t : Tables) (a d : State) → IsCutOfRun i acts t a d.holds d.sent → EndsInCut i acts t a d
+pub ends : (i : Identity) (acts : TableRows → List Act) (t : TableRows) (a d : State) → IsCutOfRun i acts t a d.holds d.sent → EndsInCut i acts t a d
 ends i acts t a d cut = record { cut = cut; front = front_of_run i acts t a d.holds d.sent cut }

@@ -1,11 +1,12 @@
-pub mod Running
 pub mod Asked
-pub mod KeptTables
-pub mod Refused
+pub mod Cuts
+pub mod Scripts
+pub mod TextsSaid
+pub mod Started
+pub mod Results
 pub mod Opened
 pub mod Ran
 pub mod Doing
 pub mod Ends
-pub mod TextsSaid
 pub mod Asking
 pub mod Codes

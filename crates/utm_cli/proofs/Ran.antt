@@ -1,91 +1,108 @@
--- A run over an opened KDCFILE.
-use Rattle.std.proofs.Common.{◌≡◌, inl, inr, ⊎_elim, ℕ, List, [], ◌++◌, length, take, sym, ap, subst, ◌∙◌, arith}
-use Rattle.std.specs.Prelude.{IsTrue}
-use Rattle.std.proofs.lemmas.List.{length-take}
-use Rattle.kd_device.specs.Device.{State, LeavesOnly, Only}
+-- A call over its KDCFILE: the opening, and what is done then.
+use Rattle.std.proofs.Common.{◌≡◌, ◌⊎◌, inl, inr, ⊎_elim, ℕ, List, [], ◌++◌, take, refl, sym, ap, subst, ◌∙◌, arith}
+use Rattle.std.proofs.lemmas.List.{append-nil}
+use Rattle.kd_device.specs.Device.{State, Frame, Rose, LeavesOnly, Only}
 use Rattle.kd_device.specs.Time.{leaves_weaker, leaves_then}
 use Rattle.kd_device.specs.Rest.{Rests}
-use Rattle.kd_records.specs.Identity.{Identity}
-use Rattle.kd_records.specs.declared.content.Content.{Content}
-use Rattle.kdcfile_images.specs.File.{OneMeaning, StandsFor}
-use Rattle.kdcfile_store.specs.Whole.{Whole, HasFile}
-use Rattle.kdcs_types.specs.declared.act.Act.{Act}
-use Rattle.kdcs_types.specs.declared.tables.Tables.{Tables}
-use Rattle.monitor_core.specs.Cut.{IsCutSince}
-use Rattle.monitor_core.specs.Laws.{cut_none}
-use Rattle.utm_cli.specs.Said.{Said, SaidPart}
-use Rattle.utm_cli.specs.Stored.{content_without_rows, empty_tables, StandsForTables, StartsFrom, IsRefused}
-use Rattle.utm_cli.specs.Opening.{IsOpening, IsBeingMade}
-use Rattle.utm_cli.specs.Performing.{Performs, Performed}
-use Rattle.utm_cli.specs.Promise.{Ran, IsCutOfRun}
-use Rattle.utm_cli.proofs.KeptTables.{tables_are}
+use Rattle.kdcs_types.specs.Tables.{TableRows, empty_tables}
+use Rattle.monitor_semantics.specs.Trace.{tables_after}
+use Rattle.warm_start.specs.Stands.{StandsForTables}
+use Rattle.warm_start.specs.Opening.{IsOpening, IsBeingMade}
+use Rattle.warm_start.specs.Meaning.{nothing_stands, answers_exclude_each_other}
+use Rattle.monitor_acts.specs.Said.{Said, SaidPart}
+use Rattle.monitor_acts.specs.Performing.{IsCutOf}
+use Rattle.monitor_run.specs.Running.{IsCutSince}
+use Rattle.utm_cli.specs.Asking.{Errand}
+use Rattle.utm_cli.specs.Doing.{Starts, Refuses, IsOfOthers, identity_of, acts_of}
+use Rattle.utm_cli.specs.Promise.{IsCutOfRun}
+use Rattle.utm_cli.proofs.Cuts.{cut_none, cut_since}
 
--- the acts are performed in a file of this application
-pub performs_here : (i k : Identity) → i ≡ k → (t : Tables) (acts : List Act) (a b : State) (la lb : ℕ → List ℕ → List ℕ → Type 0) → Performs (λ u image. StandsFor i (content_without_rows u) image) t acts a b la lb → Performs (StandsForTables k) t acts a b la lb
-performs_here i k is t acts a b la lb h = subst (λ (j : Identity). Performs (λ u image. StandsFor j (content_without_rows u) image) t acts a b la lb) is h
+-- ---- a file is answered in one way
 
--- all acts were performed
-pub ran : (s : Whole) (i : Identity) → s.identity ≡ i → (acts : Tables → List Act) (t : Tables) (a b : State) (lb : ℕ → List ℕ → List ℕ → Type 0) → Performed (HasFile s) s.content t (acts t) a b lb → IsTrue a.told → Ran i acts t a b lb
-ran s i is acts t a b lb h told =
-    let file : StandsFor s.identity s.content b.holds = (s.second, (h.rest told).bytes) in
-    let here : StandsFor i s.content b.holds = subst (λ (j : Identity). StandsFor j s.content b.holds) is file in
-    record { sent = h.sent told; holds = subst (λ (x : Content). StandsFor i x b.holds) h.tables here; settled = (h.rest told).settled }
+module _ (e : Errand) (bytes : List ℕ) where
+  pub one_start : (t u : TableRows) → Starts e bytes t → Starts e bytes u → t ≡ u
+  one_start = (answers_exclude_each_other e.application.generation e.fingerprint bytes).started_once
 
--- a file is not both accepted and refused
-pub not_both : (i : Identity) (h : List ℕ) (t : Tables) → StartsFrom i h t → IsRefused i h → ⊥
-not_both i h t (inl (empty, is)) refused = refused.0 empty
-not_both i h t (inr (stands, range, rows)) refused = refused.1 t stands range
+  pub not_both : (t : TableRows) → Starts e bytes t → Refuses e bytes → ⊥
+  not_both = (answers_exclude_each_other e.application.generation e.fingerprint bytes).started_or_refused
 
--- an empty file stands for nothing
-nothing_stands : (i : Identity) (t : Tables) → StandsForTables i t [] → ⊥
-nothing_stands i t (second, stands) = absurd (omega (arith, ap (λ (l : List ℕ). length l) stands.headed, length-take {A = ℕ} 17 []))
+  pub not_of_others : (t : TableRows) (stored : List ℕ) → Starts e bytes t → IsOfOthers stored e bytes → ⊥
+  not_of_others = (answers_exclude_each_other e.application.generation e.fingerprint bytes).started_or_other
 
--- a call starts from one list of tables
-pub one_start : OneMeaning → (i : Identity) (h : List ℕ) (t u : Tables) → StartsFrom i h t → StartsFrom i h u → t ≡ u
-one_start one i h t u (inl (empty, is)) (inl (empty2, is2)) = is ∙ sym is2
-one_start one i h t u (inl (empty, is)) (inr (stands, range, rows)) = absurd (nothing_stands i u (subst (λ (l : List ℕ). StandsForTables i u l) empty stands))
-one_start one i h t u (inr (stands, range, rows)) (inl (empty, is)) = absurd (nothing_stands i t (subst (λ (l : List ℕ). StandsForTables i t l) empty stands))
-one_start one i h t u (inr (stands, range, rows)) (inr (stands2, range2, rows2)) = tables_are t u rows rows2 (one i i (content_without_rows t) (content_without_rows u) h stands stands2).1
+  pub refused_or_other : (stored : List ℕ) → Refuses e bytes → IsOfOthers stored e bytes → ⊥
+  refused_or_other = (answers_exclude_each_other e.application.generation e.fingerprint bytes).refused_or_other
 
-module _ (i : Identity) (acts : Tables → List Act) (t : Tables) (a : State) (la : ℕ → List ℕ → List ℕ → Type 0) (only : Only a.holds a la) where
-  pub as_it_was : (image out : List ℕ) → StartsFrom i a.holds t → image ≡ a.holds → out ≡ a.sent → IsCutOfRun i acts t a image out
-  as_it_was image out (inl (empty, is)) same silent = inr (record { empty = empty; silent = silent; unmade = inl (same ∙ empty) })
-  as_it_was image out (inr (stands, range, rows)) same silent =
-      inl (subst (λ (o : List ℕ). IsCutSince (StandsForTables i) t (acts t) a.sent image o) (sym silent) (cut_none (StandsForTables i) t (acts t) a.sent image (subst (λ (l : List ℕ). StandsForTables i t l) (sym same) stands)))
+  pub one_other : (stored again : List ℕ) → IsOfOthers stored e bytes → IsOfOthers again e bytes → stored ≡ again
+  one_other = (answers_exclude_each_other e.application.generation e.fingerprint bytes).other_once
 
-  new_file : (image out : List ℕ) → StartsFrom i a.holds t → a.holds ≡ [] → out ≡ a.sent → StandsForTables i empty_tables image → IsCutOfRun i acts t a image out
-  new_file image out (inl (empty, is)) none silent stands =
-      inl (subst (λ (o : List ℕ). IsCutSince (StandsForTables i) t (acts t) a.sent image o) (sym silent) (cut_none (StandsForTables i) t (acts t) a.sent image (subst (λ (u : Tables). StandsForTables i u image) (sym is) stands)))
-  new_file image out (inr (old, range, rows)) none silent stands = absurd (nothing_stands i t (subst (λ (l : List ℕ). StandsForTables i t l) none old))
+  -- a file that is not started from is not empty
+  pub not_empty : ((t : TableRows) → Starts e bytes t → ⊥) → bytes ≡ [] → ⊥
+  not_empty none empty = none empty_tables (inl (empty, refl))
 
-  in_opening : (image out : List ℕ) → StartsFrom i a.holds t → IsOpening i a la image out → IsCutOfRun i acts t a image out
-  in_opening image out starts o = ⊎_elim (λ left. as_it_was image out starts (only image left) o.silent) (λ made. made_cut made) o.file
+-- ---- what a stop leaves
+
+module _ (e : Errand) (t : TableRows) (a : State) (la : ℕ → List ℕ → List ℕ → Type 0) (only : Only a.holds a la) (starts : Starts e a.holds t) where
+  pub as_it_was : (image out : List ℕ) → image ≡ a.holds → out ≡ a.sent → IsCutOfRun (identity_of e) (acts_of e) t a image out
+  as_it_was image out same silent = by starts
     where
-      made_cut : IsBeingMade i a image → IsCutOfRun i acts t a image out
+      by : Starts e a.holds t → IsCutOfRun (identity_of e) (acts_of e) t a image out
+      by (inl (empty, is)) = inr (record { empty = empty; silent = silent; unmade = inl (same ∙ empty) })
+      by (inr (stands, suits)) =
+          inl (subst (λ (o : List ℕ). IsCutSince (StandsForTables (identity_of e)) t (acts_of e t) a.sent image o) (sym silent)
+          (cut_none (StandsForTables (identity_of e)) t (acts_of e t) a.sent image (subst (λ (l : List ℕ). StandsForTables (identity_of e) t l) (sym same) stands)))
+
+  new_file : (image out : List ℕ) → a.holds ≡ [] → out ≡ a.sent → StandsForTables (identity_of e) empty_tables image → IsCutOfRun (identity_of e) (acts_of e) t a image out
+  new_file image out none silent made = by starts
+    where
+      by : Starts e a.holds t → IsCutOfRun (identity_of e) (acts_of e) t a image out
+      by (inl (empty, is)) =
+          inl (subst (λ (o : List ℕ). IsCutSince (StandsForTables (identity_of e)) t (acts_of e t) a.sent image o) (sym silent)
+          (cut_none (StandsForTables (identity_of e)) t (acts_of e t) a.sent image (subst (λ (u : TableRows). StandsForTables (identity_of e) u image) (sym is) made)))
+      by (inr (old, suits)) = absurd (nothing_stands (identity_of e) t (subst (λ (l : List ℕ). StandsForTables (identity_of e) t l) none old))
+
+  in_opening : (image out : List ℕ) → IsOpening (identity_of e) a la image out → IsCutOfRun (identity_of e) (acts_of e) t a image out
+  in_opening image out o = ⊎_elim (λ left. as_it_was image out (only image left) o.silent) (λ made. made_cut made) o.file
+    where
+      made_cut : IsBeingMade (identity_of e) a image → IsCutOfRun (identity_of e) (acts_of e) t a image out
       made_cut made =
-          ⊎_elim (λ none. inr (record { empty = made.empty; silent = o.silent; unmade = inr none })) (λ stands. new_file image out starts made.empty o.silent stands) made.image_is
+          ⊎_elim (λ none. inr (record { empty = made.empty; silent = o.silent; unmade = inr none })) (λ stands. new_file image out made.empty o.silent stands) made.image_is
 
   -- the opening alone
-  pub opening_cut : (b : State) (lb : ℕ → List ℕ → List ℕ → Type 0) → StartsFrom i a.holds t → LeavesOnly a b la lb (IsOpening i a la) → LeavesOnly a b la lb (IsCutOfRun i acts t a)
-  opening_cut b lb starts h = leaves_weaker a b la lb (IsOpening i a la) (IsCutOfRun i acts t a) h (λ c out o. in_opening c out starts o)
+  pub opening_cut : (b : State) (lb : ℕ → List ℕ → List ℕ → Type 0) → LeavesOnly a b la lb (IsOpening (identity_of e) a la) → LeavesOnly a b la lb (IsCutOfRun (identity_of e) (acts_of e) t a)
+  opening_cut b lb h = leaves_weaker a b la lb (IsOpening (identity_of e) a la) (IsCutOfRun (identity_of e) (acts_of e) t a) h in_opening
 
-  -- the opening and the run
-  pub run_cut : OneMeaning → (u : Tables) (b d : State) (lb ld : ℕ → List ℕ → List ℕ → Type 0) → StartsFrom i a.holds t → StartsFrom i a.holds u → LeavesOnly a b la lb (IsOpening i a la) → b.sent ≡ a.sent → LeavesOnly b d lb ld (IsCutSince (StandsForTables i) u (acts u) b.sent)
-      → LeavesOnly a d la ld (IsCutOfRun i acts t a)
-  run_cut one u b d lb ld starts from first silent h =
-      leaves_then a b la lb d ld (IsCutOfRun i acts t a) (opening_cut b lb starts first)
-      (leaves_weaker b d lb ld (IsCutSince (StandsForTables i) u (acts u) b.sent) (IsCutOfRun i acts t a) h
-      (λ c out cut. inl (subst (λ (v : Tables). IsCutSince (StandsForTables i) v (acts v) a.sent c out) (one_start one i a.holds u t from starts) (subst (λ (s : List ℕ). IsCutSince (StandsForTables i) u (acts u) s c out) silent cut))))
+  -- the opening, and the acts from the tables that it answers
+  pub run_cut : (u : TableRows) (b d : State) (lb ld : ℕ → List ℕ → List ℕ → Type 0) → Starts e a.holds u → LeavesOnly a b la lb (IsOpening (identity_of e) a la) → b.sent ≡ a.sent
+      → LeavesOnly b d lb ld (IsCutOf tables_after (StandsForTables (identity_of e)) u (acts_of e u) b.sent) → LeavesOnly a d la ld (IsCutOfRun (identity_of e) (acts_of e) t a)
+  run_cut u b d lb ld from first silent h =
+      leaves_then a b la lb d ld (IsCutOfRun (identity_of e) (acts_of e) t a) (opening_cut b lb first)
+      (leaves_weaker b d lb ld (IsCutOf tables_after (StandsForTables (identity_of e)) u (acts_of e u) b.sent) (IsCutOfRun (identity_of e) (acts_of e) t a) h (λ c out cut. inl (here c out cut)))
+    where
+      here : (c out : List ℕ) → IsCutOf tables_after (StandsForTables (identity_of e)) u (acts_of e u) b.sent c out → IsCutSince (StandsForTables (identity_of e)) t (acts_of e t) a.sent c out
+      here c out cut =
+          subst (λ (v : TableRows). IsCutSince (StandsForTables (identity_of e)) v (acts_of e v) a.sent c out) (one_start e a.holds u t from starts)
+          (subst (λ (s : List ℕ). IsCutSince (StandsForTables (identity_of e)) u (acts_of e u) s c out) silent (cut_since (StandsForTables (identity_of e)) u (acts_of e u) b.sent c out cut))
 
--- what was said after calls that changed nothing
-pub said_then : (line : List ℕ) (a b d : State) (la lb : ℕ → List ℕ → List ℕ → Type 0) → Rests a b la lb → Said line b d → Said line a d
-said_then line a b d la lb rests said = record {
-  disk = record { holds = said.disk.holds ∙ rests.holds; put = said.disk.put ∙ rests.put };
-  sent = said.sent ∙ ap (λ (s : List ℕ). s ++ line) rests.sent;
-}
+-- ---- what was said after calls that changed nothing
 
-pub part_then : (line : List ℕ) (a b d : State) (la lb : ℕ → List ℕ → List ℕ → Type 0) → Rests a b la lb → SaidPart line b d → SaidPart line a d
-part_then line a b d la lb rests said = record {
-  disk = record { holds = said.disk.holds ∙ rests.holds; put = said.disk.put ∙ rests.put };
-  sent = (said.sent.0, said.sent.1 ∙ ap (λ (s : List ℕ). s ++ take said.sent.0 line) rests.sent);
-}
+module _ (line : List ℕ) (a b d : State) (la lb : ℕ → List ℕ → List ℕ → Type 0) (rests : Rests a b la lb) where
+  pub said_then : Said line b d → Said line a d
+  said_then said = record {
+    disk = record { holds = said.disk.holds ∙ rests.holds; put = said.disk.put ∙ rests.put };
+    sent = said.sent ∙ ap (λ (s : List ℕ). s ++ line) rests.sent;
+  }
+
+  pub part_then : SaidPart line b d → SaidPart line a d
+  part_then said = record {
+    disk = record { holds = said.disk.holds ∙ rests.holds; put = said.disk.put ∙ rests.put };
+    sent = (said.sent.0, said.sent.1 ∙ ap (λ (s : List ℕ). s ++ take said.sent.0 line) rests.sent);
+  }
+
+-- nothing was said
+pub nothing_said : (line : List ℕ) (a b : State) (la lb : ℕ → List ℕ → List ℕ → Type 0) → Rests a b la lb → SaidPart line a b
+nothing_said line a b la lb rests = record { disk = record { holds = rests.holds; put = rests.put }; sent = (0, rests.sent ∙ sym (append-nil a.sent)) }
+
+-- counts that rose after calls that lowered none
+pub rose_either : (a b d : State) → Frame a b → Rose b.disk_faults d.disk_faults ⊎ Rose b.line_faults d.line_faults → Rose a.disk_faults d.disk_faults ⊎ Rose a.line_faults d.line_faults
+rose_either a b d frame (inl h) = inl (omega (arith, frame.disk_faults, h))
+rose_either a b d frame (inr h) = inr (omega (arith, frame.line_faults, h))

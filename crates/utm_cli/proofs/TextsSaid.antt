@@ -9,7 +9,7 @@ use Rattle.kd_device.specs.declared.room.RoomError.{RoomError}
 use Rattle.kd_device.specs.declared.room.RoomError.TheVariants as room
 use Rattle.kdcdef_lex.specs.declared.fault.LexFault.TheVariants as lex
 use Rattle.kdcdef_types.specs.Generation.{Generated}
-use Rattle.kdcs_types.specs.declared.command.Command.{Command}
+use Rattle.monitor_semantics.specs.declared.command.Command.{Command}
 use Rattle.generation_read.specs.declared.fault.DefinitionFault.{DefinitionFault}
 use Rattle.generation_read.specs.declared.fault.DefinitionFault.TheVariants as definition
 use Rattle.generation_read.specs.Definition.{Generates, HasFault}
@@ -21,9 +21,11 @@ use Rattle.application_read.specs.declared.application.Application.{Application 
 use Rattle.application_read.specs.declared.fault.ApplicationFault.{ApplicationFault}
 use Rattle.application_read.specs.declared.fault.ApplicationFault.TheVariants as application
 use Rattle.application_read.specs.Texts.{TextsGenerate, TextsHaveFault, Gives}
+use Rattle.unit_check.specs.Fitted.{IsFit}
+use Rattle.warm_start.specs.Fingerprints.{fingerprint as print_of}
 use Rattle.script_read.specs.declared.fault.ScriptFault.{ScriptFault}
 use Rattle.script_read.specs.declared.fault.ScriptFault.TheVariants as fault
-use Rattle.script_read.specs.Script.{script}
+use Rattle.script_read.specs.Commands.{script_in}
 use Rattle.utm_cli.specs.declared.error.Refusal.{Refusal}
 use Rattle.utm_cli.specs.declared.error.Refusal.TheVariants.{Application, Script}
 use Rattle.utm_cli.specs.declared.error.TextError.{TextError}
@@ -59,12 +61,12 @@ alike_back d e (inr long) = inr (long.1, long.0)
 
 -- ---- alike texts say the same
 
-long_script : (text : List ℕ) → IsLong text → script text ≡ Err fault.TooLong
-long_script text h = let e : nat_lt 16777216 (length text) ≡ true = too_long (length text) h in rw e refl
+long_script : (g : Generated) (text : List ℕ) → IsLong text → script_in g text ≡ Err fault.TooLong
+long_script g text h = let e : nat_lt 16777216 (length text) ≡ true = too_long (length text) h in rw e refl
 
-alike_script : (s t : List ℕ) → AreAlike s t → script s ≡ script t
-alike_script s t (inl same) = ap script same
-alike_script s t (inr long) = long_script s long.0 ∙ sym (long_script t long.1)
+alike_script : (g : Generated) (s t : List ℕ) → AreAlike s t → script_in g s ≡ script_in g t
+alike_script g s t (inl same) = ap (script_in g) same
+alike_script g s t (inr long) = long_script g s long.0 ∙ sym (long_script g t long.1)
 
 long_generates : (text : List ℕ) (g : Generated) → IsLong text → Generates text g → ⊥
 long_generates text g long h = absurd (omega (arith, long, h.1.1.0))
@@ -108,10 +110,19 @@ module _ (d e u v : List ℕ) (alike : AreAlike d e) (alike_too : AreAlike u v) 
   alike_refused (application.Fit f) h = (h.0, h.1, alike_generate d e h.0 alike h.2, alike_units u v h.1 alike_too h.3, h.4)
   alike_refused application.Memory h = absurd h
 
+  -- texts that make an application are not too long, so the alike ones are the same
+  alike_print : (a : Made) → TextsGenerate d u a → print_of e v ≡ print_of d u
+  alike_print a h = λ i. print_of (sym (same d e alike (λ long. long_generates d a.generation long h.0)) i) (sym (same u v alike_too (λ long. absurd (omega (arith, long, h.1.1.0)))) i)
+    where
+      same : (s t : List ℕ) → AreAlike s t → (IsLong s → ⊥) → s ≡ t
+      same s t (inl is) short = is
+      same s t (inr long) short = absurd (short long.0)
+
   ask_alike : (word : Word) (s t : List ℕ) → AreAlike s t → (said : Reading) → AskFor word d u s said → AskFor word e v t said
-  ask_alike word s t same (Ok errand) h = (h.0, alike_made errand.application h.1, sym (alike_script s t same) ∙ h.2)
+  ask_alike word s t same (Ok errand) h =
+      (h.0, alike_made errand.application h.1, h.2 ∙ sym (alike_print errand.application h.1), sym (alike_script errand.application.generation s t same) ∙ h.3)
   ask_alike word s t same (Err (Application f)) h = alike_refused f h
-  ask_alike word s t same (Err (Script f)) h = ((h.0.0, alike_made h.0.0 h.0.1), sym (alike_script s t same) ∙ h.1)
+  ask_alike word s t same (Err (Script f)) h = (h.0, alike_made h.0 h.1, sym (alike_script h.0.generation s t same) ∙ h.2)
 
 ask_whole : (word : Word) (d u s : List ℕ) (said : Reading) → AskFor word (shown_of d) (shown_of u) (shown_of s) said → AskFor word d u s said
 ask_whole word d u s said h = ask_alike (shown_of d) d (shown_of u) u (shown_alike d) (shown_alike u) word (shown_of s) s (shown_alike s) said h
@@ -130,9 +141,9 @@ same_some : {X : Type 0} (x y : X) → Some x ≡ Some y → x ≡ y
 same_some x y e = cc
 
 -- the script of a word, in a room with the same texts
-pub script_in : (word : Word) (base : List ℕ) (r k : RoomState) (s : List ℕ) → k.texts ≡ r.texts → ScriptIs word base k s → ScriptIs word base r s
-script_in Gen base r k s same h = h
-script_in Run base r k s same h = subst (λ (texts : List (List ℕ × List ℕ)). text_of (script_name base) texts ≡ Some s) same h
+pub script_there : (word : Word) (base : List ℕ) (r k : RoomState) (s : List ℕ) → k.texts ≡ r.texts → ScriptIs word base k s → ScriptIs word base r s
+script_there Gen base r k s same h = h
+script_there Run base r k s same h = subst (λ (texts : List (List ℕ × List ℕ)). text_of (script_name base) texts ≡ Some s) same h
 
 one_script : (word : Word) (base : List ℕ) (r : RoomState) (s t : List ℕ) → ScriptIs word base r s → ScriptIs word base r t → s ≡ t
 one_script Gen base r s t h k = h ∙ sym k
@@ -161,7 +172,7 @@ were_read word base r k l d u s same same_too definition units text =
       there = record {
         definition_is = whole.1;
         units_is = subst (λ (texts : List (List ℕ × List ℕ)). text_of (units_name base) texts ≡ Some whole_too.0) same whole_too.1;
-        script_is = script_in word base r l text.0 (same_too ∙ same) text.1;
+        script_is = script_there word base r l text.0 (same_too ∙ same) text.1;
       };
       definition_is = whole.2;
       units_are = whole_too.2;
@@ -240,34 +251,43 @@ module _ (word : Word) (d u s : List ℕ) (e : ApplicationFault) (some : e ≢ a
   application_one (Err (Application f)) h =
       let is : f ≡ e = err_is Made f e (refused_as e some (Err f) (refused f h)) in
       ap (λ (k : ApplicationFault). said_refused (Application k)) is
-  application_one (Err (Script f)) h = absurd (not_generated h.0.0 h.0.1)
+  application_one (Err (Script f)) h = absurd (not_generated h.0 h.1)
 
 -- ---- they make an application
 
-pub script_refused : (word : Word) (d u s : List ℕ) (made : Made) → TextsGenerate d u made → (e : ScriptFault) (why : Refusal) → Script e ≡ why → script s ≡ Err e → AskFor word d u s (Err why)
-script_refused word d u s made generates e why same is = subst (λ (w : Refusal). AskFor word d u s (Err w)) same ((made, generates), is)
+-- and its units were fitted to its generation
+pub made_fit : (d u : List ℕ) (a : Made) → TextsGenerate d u a → IsFit a.generation a.units
+made_fit d u a h = record { limits = h.1.2.limits; tacs = h.1.2.tacs }
+
+pub script_refused : (word : Word) (d u s : List ℕ) (made : Made) → TextsGenerate d u made → (e : ScriptFault) (why : Refusal) → Script e ≡ why → script_in made.generation s ≡ Err e → AskFor word d u s (Err why)
+script_refused word d u s made generates e why same is = subst (λ (w : Refusal). AskFor word d u s (Err w)) same (made, generates, is)
 
 module _ (word : Word) (d u s : List ℕ) (made : Made) (only : (a : Made) → TextsGenerate d u a → Gives (Ok made) (Ok a)) (refused : (f : ApplicationFault) → TextsHaveFault d u f → Gives (Ok made) (Err f)) where
   not_refused : (f : ApplicationFault) → TextsHaveFault d u f → ⊥
   not_refused f h = let no = refused f h in cc
 
-  pub script_one : (e : ScriptFault) → script s ≡ Err e → (said : Reading) → AskFor word d u s said → said ≡ Err (Script e)
-  script_one e is (Ok errand) h = absurd (let no = sym is ∙ h.2 in cc)
+  -- what a script says in the one application
+  said_here : (a : Made) → TextsGenerate d u a → (said : Result (List Command) ScriptFault) → script_in a.generation s ≡ said → script_in made.generation s ≡ said
+  said_here a h said is = let same = only a h in let a_is : a ≡ made = cc in subst (λ (b : Made). script_in b.generation s ≡ said) a_is is
+
+  pub script_one : (e : ScriptFault) → script_in made.generation s ≡ Err e → (said : Reading) → AskFor word d u s said → said ≡ Err (Script e)
+  script_one e is (Ok errand) h = absurd (let no = sym is ∙ said_here errand.application h.1 (Ok errand.commands) h.3 in cc)
   script_one e is (Err (Application f)) h = absurd (not_refused f h)
   script_one e is (Err (Script f)) h =
-      let same = sym h.1 ∙ is in
+      let same = sym (said_here h.0 h.1 (Err f) h.2) ∙ is in
       let here : f ≡ e = cc in
       ap (λ (k : ScriptFault). said_refused (Script k)) here
 
-  pub asked_one : (commands : List Command) → script s ≡ Ok commands → (said : Reading) → AskFor word d u s said → said ≡ Ok (record { word = word; application = made; commands = commands })
-  asked_one commands is (Ok errand) h =
+  pub asked_one : (print : List ℕ) → print ≡ print_of d u → (commands : List Command) → script_in made.generation s ≡ Ok commands → (said : Reading) → AskFor word d u s said → said ≡ Ok (record { word = word; application = made; fingerprint = print; commands = commands })
+  asked_one print told commands is (Ok errand) h =
       let first = only errand.application h.1 in
-      let second = sym h.2 ∙ is in
+      let second = sym (said_here errand.application h.1 (Ok errand.commands) h.3) ∙ is in
       let a_is : errand.application ≡ made = cc in
       let c_is : errand.commands ≡ commands = cc in
-      λ i. Ok (record { word = h.0 i; application = a_is i; commands = c_is i })
-  asked_one commands is (Err (Application f)) h = absurd (not_refused f h)
-  asked_one commands is (Err (Script f)) h = absurd (let no = sym h.1 ∙ is in cc)
+      let p_is : errand.fingerprint ≡ print = h.2 ∙ sym told in
+      λ i. Ok (record { word = h.0 i; application = a_is i; fingerprint = p_is i; commands = c_is i })
+  asked_one print told commands is (Err (Application f)) h = absurd (not_refused f h)
+  asked_one print told commands is (Err (Script f)) h = absurd (let no = sym (said_here h.0 h.1 (Err f) h.2) ∙ is in cc)
 
 -- ---- results
 

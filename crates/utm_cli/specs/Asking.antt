@@ -1,10 +1,17 @@
 -- What the texts of a call ask for.
-use Rattle.std.specs.Prelude.{◌≡◌, ℕ, List, [], take, Some, Result, Ok, Err}
+use Rattle.std.specs.Prelude.{◌≡◌, ◌≤◌, ◌^◌, ℕ, List, [], take, sum_by, Some, Result, Ok, Err}
 use Rattle.kd_device.specs.Room.{RoomState, text_of}
-use Rattle.kdcs_types.specs.declared.command.Command.{Command}
+use Rattle.unit_check.specs.Fitted.{IsFit}
 use Rattle.application_read.specs.declared.application.Application.{Application as Made}
 use Rattle.application_read.specs.Texts.{TextsGenerate, TextsHaveFault}
-use Rattle.script_read.specs.Script.{script}
+use Rattle.application_facts.specs.Applied.{applied}
+use Rattle.monitor_semantics.specs.State.{Application as Monitored}
+use Rattle.monitor_semantics.specs.declared.command.Command.{Command}
+use Rattle.monitor_laws.specs.Applications.{IsApplication}
+use Rattle.monitor_laws.specs.Keeping.{IsScriptOf}
+use Rattle.script_read.specs.Commands.{script_in}
+use Rattle.warm_start.specs.Fingerprints.{fingerprint as print_of}
+use Rattle.monitor_run.specs.Running.{turns_of}
 use Rattle.utm_cli.specs.declared.error.Refusal.{Refusal}
 use Rattle.utm_cli.specs.declared.error.Refusal.TheVariants.{Application, Script}
 use Rattle.utm_cli.specs.declared.words.Word.{Word}
@@ -15,21 +22,23 @@ use Rattle.utm_cli.specs.Words.{definition_name, units_name, script_name}
 abbrev pub shown_of : List ℕ → List ℕ
 shown_of text = take 16777217 text
 
--- what is to be done: the word, the application that the texts make, and the commands of the script
+-- what is to be done: the word, the application that the texts make with their fingerprint, and the commands of the script
 pub record Errand : Type 0 where
   pub word : Word
   pub application : Made
+  pub fingerprint : List ℕ
   pub commands : List Command
 
 -- an errand, or why there is none
 abbrev pub Reading : Type 0
 Reading = Result Errand Refusal
 
--- what the texts of a word say: the faults of the definition and the units come before those of the script
+-- what the texts of a word say: the faults of the definition and the units come before those of the script, whose terminals and tasks are those of the definition
 abbrev pub AskFor : Word → (definition units text : List ℕ) → Reading → Type 0
-AskFor word definition units text (Ok e) = (e.word ≡ word) × TextsGenerate definition units e.application × (script text ≡ Ok e.commands)
+AskFor word definition units text (Ok e) =
+    (e.word ≡ word) × TextsGenerate definition units e.application × (e.fingerprint ≡ print_of definition units) × (script_in e.application.generation text ≡ Ok e.commands)
 AskFor word definition units text (Err (Application fault)) = TextsHaveFault definition units fault
-AskFor word definition units text (Err (Script fault)) = ((a : Made) × TextsGenerate definition units a) × (script text ≡ Err fault)
+AskFor word definition units text (Err (Script fault)) = (a : Made) × TextsGenerate definition units a × (script_in a.generation text ≡ Err fault)
 
 -- the text of the script; `gen` reads none
 abbrev pub ScriptIs : Word → List ℕ → RoomState → List ℕ → Type 0
@@ -49,3 +58,17 @@ pub record ReadsFor (word : Word) (base : List ℕ) (room : RoomState) (said : R
   pub text : List ℕ
   pub there : AreThere word base room definition units text
   pub says : AskFor word definition units text said
+
+-- ---- what is known of an errand that was read
+
+-- the application as the monitor's definitions have it
+abbrev pub app_of : Errand → Monitored
+app_of e = applied e.application.generation e.application.units
+
+-- what a monitor asks of its application and its script
+pub record CanRun (e : Errand) : Type 0 where
+  pub fit : IsFit e.application.generation e.application.units
+  pub applies : IsApplication (app_of e)
+  pub names : IsScriptOf (app_of e) e.commands
+  -- no more turns and commands than a monitor counts
+  pub turns : sum_by turns_of e.commands ≤ 10 ^ 18

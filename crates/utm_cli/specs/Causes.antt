@@ -1,12 +1,4 @@
 -- How an error is handed on.
-use Rattle.utm_cli.specs.declared.error.RunError.{RunError}
-use Rattle.utm_cli.specs.declared.error.RunError.TheVariants as to
-use Rattle.kdcfile_store.specs.declared.store.CommitError.{CommitError}
-use Rattle.kdcfile_store.specs.declared.store.CommitError.TheVariants as from
-use Rattle.utm_cli.specs.declared.error.OpenError.{OpenError}
-use Rattle.utm_cli.specs.declared.error.OpenError.TheVariants as opening
-use Rattle.kdcfile_images.specs.declared.fault.LoadError.{LoadError}
-use Rattle.kdcfile_images.specs.declared.fault.LoadError.TheVariants as load
 use Rattle.utm_cli.specs.declared.error.Refusal.TheVariants as refusal
 use Rattle.utm_cli.specs.declared.error.TextError.{TextError}
 use Rattle.utm_cli.specs.declared.error.TextError.TheVariants as text
@@ -16,10 +8,6 @@ use Rattle.application_read.specs.declared.fault.ApplicationFault.{ApplicationFa
 use Rattle.application_read.specs.declared.fault.ApplicationFault.TheVariants as application
 use Rattle.script_read.specs.declared.fault.ScriptFault.{ScriptFault}
 use Rattle.script_read.specs.declared.fault.ScriptFault.TheVariants as fault
-
-abbrev pub of_commit : CommitError → RunError
-of_commit from.Failed = to.Failed
-of_commit from.Memory = to.Memory
 
 abbrev pub of_room : RoomError → TextError
 of_room room.Failed = text.Room
@@ -37,12 +25,3 @@ of_fault (fault.BadLine line) = text.Refused (refusal.Script (fault.BadLine line
 of_fault (fault.OutOfRange line) = text.Refused (refusal.Script (fault.OutOfRange line))
 of_fault fault.TooLong = text.Refused (refusal.Script fault.TooLong)
 of_fault fault.Memory = text.Memory
-
-abbrev pub of_create : CommitError → OpenError
-of_create from.Failed = opening.Failed
-of_create from.Memory = opening.Memory
-
-abbrev pub of_load : LoadError → OpenError
-of_load load.NotKdcfile = opening.NotKdcfile
-of_load load.Failed = opening.Failed
-of_load load.Memory = opening.Memory

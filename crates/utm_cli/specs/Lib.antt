@@ -1,10 +1,6 @@
 pub mod Words
 pub mod Report
-pub mod Doing
 pub mod Asking
-pub mod Stored
-pub mod Said
-pub mod Performing
+pub mod Doing
 pub mod Causes
 pub mod Promise
-pub mod Opening

@@ -1,6 +1,7 @@
 -- What the words of a call ask for, and the lines of its refusals.
 use Rattle.std.specs.Prelude.{ℕ, Bool, true, false, ◌&&◌, nat_le, List, [], ◌∷◌, ◌++◌, length, codes, Option, Some, None}
 use Rattle.std.specs.Fmt.{decimal}
+use Rattle.hex.specs.Hex.{encode_lower}
 use Rattle.application_read.specs.declared.fault.ApplicationFault.{ApplicationFault}
 use Rattle.application_read.specs.Faults.{text_of, line_of, name_of}
 use Rattle.script_read.specs.Script.{same}
@@ -76,6 +77,10 @@ abbrev pub refusal_line : Refusal → List ℕ
 refusal_line (Application fault) = application_line fault
 refusal_line (Script fault) = fault_line fault
 
--- status 4
+-- status 4: the file is no KDCFILE of this application
 abbrev pub not_a_kdcfile_line : List ℕ
 not_a_kdcfile_line = codes "KDCFILE NOT A KDCFILE\n"
+
+-- status 4: the file was made with other texts, which have this fingerprint; each of its bytes as two digits
+abbrev pub other_generation_line : List ℕ → List ℕ
+other_generation_line stored = codes "KDCFILE OTHER GENERATION " ++ encode_lower stored ++ 10 ∷ []

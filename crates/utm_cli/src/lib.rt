@@ -4,12 +4,11 @@
 #![tactic(auto)]
 
 mod error;
+mod lawful;
 mod opening;
-mod perform;
 mod refuse;
 mod report;
 mod run;
-mod say;
 mod status;
 mod text;
 mod texts;

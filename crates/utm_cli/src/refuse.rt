@@ -1,16 +1,16 @@
 //! A call that is refused sends one line, and does nothing else.
-ghost use Rattle.std.specs.Prelude.{◌≡◌, ◌∷◌, [], List, ℕ, IsTrue, IfOk};
+ghost use Rattle.std.specs.Prelude.{◌≡◌, ◌∷◌, [], IsTrue, IfOk};
 ghost use Rattle.std.specs.String.{string_bytes};
-ghost use Rattle.kd_device.specs.Device.{State, Rose, Frame, SameNames};
-ghost use Rattle.utm_cli.specs.Said.{Said, SaidPart};
+ghost use Rattle.kd_device.specs.Device.{Rose, Frame, SameNames};
+ghost use Rattle.monitor_acts.specs.Said.{Said, SaidPart};
 ghost use Rattle.utm_cli.specs.Promise.{IsOneOf};
-ghost use Rattle.utm_cli.specs.Words.{fault_line, application_line, refusal_line, status_of};
+ghost use Rattle.utm_cli.specs.Words.{fault_line, application_line, refusal_line, status_of, other_generation_line};
 
-use crate::error::{Refusal, RunError};
-use crate::say::say;
+use crate::error::Refusal;
 use crate::status::Status;
 use application_read::ApplicationFault;
 use kd_device::Device;
+use monitor_acts::{ActError, say};
 use script_read::ScriptFault;
 use std::alloc::{AllocError, Global};
 
@@ -26,8 +26,8 @@ pub(crate) fn refuse<D: Device>(device: &mut D, line: &[u8], status: Status) -> 
 {
     match say(device, line) {
         Ok(()) => status,
-        Err(RunError::Failed) => Status::DEVICE,
-        Err(RunError::Memory) => Status::MEMORY,
+        Err(ActError::Failed) => Status::DEVICE,
+        Err(ActError::Memory) => Status::MEMORY,
     }
 }
 
@@ -88,4 +88,30 @@ pub(crate) fn refuse_texts<D: Device>(alloc: Global, device: &mut D, why: Refusa
         return Status::MEMORY;
     };
     refuse(device, &line, status_of(why))
+}
+
+/// The line of a file that was made with other texts.
+fn other_generation_line(alloc: Global, stored: &[u8; 32]) -> Result<Vec<u8>, AllocError>
+    ensures { IfOk result (λ line. line.items ≡ other_generation_line stored.now) }
+{
+    let digits = hex::encode(alloc, stored.as_slice())?;
+    let mut line = Vec::from_slice(alloc, b"KDCFILE OTHER GENERATION ")?;
+    line.extend_from_slice(digits.as_bytes())?;
+    line.extend_from_slice(b"\n")?;
+    Ok(line)
+}
+
+/// Refuses a file that was made with other texts, which have this fingerprint.
+pub(crate) fn refuse_other<D: Device>(alloc: Global, device: &mut D, stored: &[u8; 32]) -> Status
+    ensures code { IsOneOf (4 ∷ 5 ∷ 7 ∷ []) result.code }
+    ensures said { result.code ≡ 4 → IsTrue (D.state device.old).told → Said (other_generation_line stored.now) (D.state device.old) (D.state device.new) }
+    ensures part { IsTrue (D.state device.old).told → SaidPart (other_generation_line stored.now) (D.state device.old) (D.state device.new) }
+    ensures failed { result.code ≡ 5 → Rose (D.state device.old).line_faults (D.state device.new).line_faults }
+    ensures frame { Frame (D.state device.old) (D.state device.new) }
+    ensures names { SameNames (D.state device.old) (D.state device.new) }
+{
+    let Ok(line) = other_generation_line(alloc, stored) else {
+        return Status::MEMORY;
+    };
+    refuse(device, &line, Status::FILE)
 }

@@ -1,84 +1,158 @@
 //! What a call does over the KDCFILE.
-ghost use Rattle.std.specs.Prelude.{◌≡◌, ◌⊎◌, ◌++◌, ◌∷◌, [], List, ℕ, IsTrue, true};
-ghost use Rattle.kd_device.specs.Device.{State, Rose, Frame, LeavesOnly, Only};
+ghost use Rattle.std.specs.Prelude.{◌≡◌, ◌⊎◌, ◌++◌, ◌∷◌, [], List, ℕ, IsTrue, true, OnOk, IsErrOf};
+ghost use Rattle.kd_device.specs.Device.{Rose, Frame, LeavesOnly, Only};
+ghost use Rattle.kd_device.specs.Rest.{Rests};
 ghost use Rattle.kdcfile_store.specs.Kept.{IsKept};
 ghost use Rattle.kdcfile_store.specs.Whole.{HasFile};
-ghost use Rattle.kdcs_types.specs.declared.tables.Tables.{Tables};
-ghost use Rattle.kd_records.specs.Identity.{IsIdentity};
-ghost use Rattle.utm_cli.specs.Words.{file_name, not_a_kdcfile_line};
-ghost use Rattle.utm_cli.specs.Said.{SameDisk, Said, SaidPart};
-ghost use Rattle.utm_cli.specs.Stored.{StandsForTables, StartsFrom, IsRefused, identity_of, limits_of as limits_in};
-ghost use Rattle.utm_cli.specs.Opening.{KeepsTables, MayAttach};
-ghost use Rattle.utm_cli.specs.Performing.{Performs, commits_nothing};
-ghost use Rattle.utm_cli.specs.Promise.{IsOneOf, Ran, IsCutOfRun, Attached};
-ghost use Rattle.utm_cli.specs.Doing.{acts_of};
+ghost use Rattle.kdcs_types.specs.Tables.{TableRows};
+ghost use Rattle.monitor_laws.specs.Suits.{Suits};
+ghost use Rattle.monitor_semantics.specs.Trace.{tables_after};
+ghost use Rattle.warm_start.specs.Stands.{StandsForTables, KeepsTables};
+ghost use Rattle.utm_cli.specs.Words.{file_name, not_a_kdcfile_line, other_generation_line};
+ghost use Rattle.monitor_acts.specs.Said.{SameDisk, Said, SaidPart};
+ghost use Rattle.utm_cli.specs.declared.words.Word.TheVariants.{Gen, Run};
+ghost use Rattle.utm_cli.specs.Asking.{CanRun};
+ghost use Rattle.utm_cli.specs.Doing.{Starts, Refuses, IsOfOthers, identity_of, acts_of};
+ghost use Rattle.monitor_acts.specs.Performing.{Performs, commits_nothing};
+ghost use Rattle.utm_cli.specs.Promise.{IsOneOf, Ran, IsCutOfRun, MayAttach, Attached};
 
-use crate::error::{OpenError, RunError};
 use crate::opening::open;
-use crate::perform::perform;
-use crate::refuse::refuse;
+use crate::refuse::{refuse, refuse_other};
+use crate::report::report;
 use crate::status::Status;
 use crate::text::named;
 use crate::texts::Asked;
+use crate::words::Word;
 use kd_device::Device;
-use kdcfile_store::{StoreLimits, WholeStore};
+use kdcfile_store::WholeStore;
+use kdcs_monitor::Core;
 use kdcs_types::Tables;
+use monitor_acts::{ActError, perform_acts};
+use monitor_run::{RunError, run_script};
 use std::alloc::Global;
 
 /// What is sent where the file is no KDCFILE of this application.
 const NOT_A_KDCFILE: &[u8] = b"KDCFILE NOT A KDCFILE\n";
 
-/// BLKSIZE and PGPOOL of the generation.
-fn limits_of(asked: &Asked) -> StoreLimits
-    ensures limits { result ≡ limits_in asked.now.application.generation }
-    ensures identity { IsIdentity (identity_of asked.now) }
-{
-    let max = asked.application.generation.max();
-    StoreLimits {
-        blksize: max.blksize,
-        pgpool: max.pgpool,
-    }
-}
-
-/// What is asked for, from the tables that an opened store keeps.
-fn do_opened<D: Device>(
+/// The report of the generation, over an opened store.
+fn perform_report<D: Device>(
     alloc: Global,
     device: &mut D,
     mut store: WholeStore,
-    tables: Tables,
     asked: &Asked,
-) -> Status
-    requires tables { KeepsTables (identity_of asked.now) store tables }
+) -> Result<(), ActError>
+    requires word { asked.now.word ≡ Gen }
     requires kept { IsTrue (D.state device.old).told → IsKept (HasFile store) (D.state device.old) (D.leaves device.old) }
-    ensures code { IsOneOf (0 ∷ 5 ∷ 7 ∷ []) result.code }
-    ensures done { result.code ≡ 0 → IsTrue (D.state device.old).told → Ran (identity_of asked.now) (acts_of asked.now) tables (D.state device.old) (D.state device.new) (D.leaves device.new) }
-    ensures any { Performs (StandsForTables (identity_of asked.now)) tables (acts_of asked.now tables) (D.state device.old) (D.state device.new) (D.leaves device.old) (D.leaves device.new) }
-    ensures failed { result.code ≡ 5 → Rose (D.state device.old).disk_faults (D.state device.new).disk_faults ⊎ Rose (D.state device.old).line_faults (D.state device.new).line_faults }
+    ensures any { (t : TableRows) → KeepsTables (identity_of asked.now) store t → Performs tables_after (StandsForTables (identity_of asked.now)) t (acts_of asked.now t) (D.state device.old) (D.state device.new) (D.leaves device.old) (D.leaves device.new) }
+    ensures done { OnOk result ((t : TableRows) → KeepsTables (identity_of asked.now) store t → IsTrue (D.state device.old).told → Ran (identity_of asked.now) (acts_of asked.now) t (D.state device.old) (D.state device.new) (D.leaves device.new)) }
+    ensures failed { IsErrOf result ActError.Failed → Rose (D.state device.old).disk_faults (D.state device.new).disk_faults ⊎ Rose (D.state device.old).line_faults (D.state device.new).line_faults }
 {
-    match perform(alloc, device, &mut store, tables, asked) {
-        Ok(()) => Status::DONE,
-        Err(RunError::Failed) => Status::DEVICE,
-        Err(RunError::Memory) => Status::MEMORY,
+    let acts = report(alloc, &asked.application.generation)?;
+    perform_acts(alloc, device, &mut store, acts.as_slice())
+}
+
+/// The script, from the tables that an opened store keeps.
+fn perform_script<D: Device>(
+    alloc: Global,
+    device: &mut D,
+    store: WholeStore,
+    tables: Tables,
+    asked: Asked,
+) -> Result<(), RunError>
+    requires word { asked.word ≡ Run }
+    requires can { CanRun asked }
+    requires tables { KeepsTables (identity_of asked) store tables }
+    requires suits { Suits asked.application.generation tables }
+    requires kept { IsTrue (D.state device.old).told → IsKept (HasFile store) (D.state device.old) (D.leaves device.old) }
+    ensures any { Performs tables_after (StandsForTables (identity_of asked)) tables (acts_of asked tables) (D.state device.old) (D.state device.new) (D.leaves device.old) (D.leaves device.new) }
+    ensures done { OnOk result (IsTrue (D.state device.old).told → Ran (identity_of asked) (acts_of asked) tables (D.state device.old) (D.state device.new) (D.leaves device.new)) }
+    ensures failed { IsErrOf result RunError.Failed → Rose (D.state device.old).disk_faults (D.state device.new).disk_faults ⊎ Rose (D.state device.old).line_faults (D.state device.new).line_faults }
+    ensures refused { IsErrOf result RunError.NotKdcfile → IsTrue (D.state device.old).told → ⊥ }
+    ensures other { (stored : List ℕ) → IsErrOf result (RunError.OtherGeneration stored) → IsTrue (D.state device.old).told → ⊥ }
+{
+    let Asked {
+        word: _word,
+        application,
+        fingerprint,
+        commands,
+    } = asked;
+    let core = Core::start(alloc, application.generation, application.units, tables)?;
+    run_script(alloc, device, store, core, &fingerprint, &commands)
+}
+
+/// What is asked for, from the tables that an opened store keeps: the report of the generation, or the script.
+fn perform<D: Device>(
+    alloc: Global,
+    device: &mut D,
+    store: WholeStore,
+    tables: Tables,
+    asked: Asked,
+) -> Result<(), RunError>
+    requires can { CanRun asked }
+    requires tables { KeepsTables (identity_of asked) store tables }
+    requires suits { Suits asked.application.generation tables }
+    requires kept { IsTrue (D.state device.old).told → IsKept (HasFile store) (D.state device.old) (D.leaves device.old) }
+    ensures any { Performs tables_after (StandsForTables (identity_of asked)) tables (acts_of asked tables) (D.state device.old) (D.state device.new) (D.leaves device.old) (D.leaves device.new) }
+    ensures done { OnOk result (IsTrue (D.state device.old).told → Ran (identity_of asked) (acts_of asked) tables (D.state device.old) (D.state device.new) (D.leaves device.new)) }
+    ensures failed { IsErrOf result RunError.Failed → Rose (D.state device.old).disk_faults (D.state device.new).disk_faults ⊎ Rose (D.state device.old).line_faults (D.state device.new).line_faults }
+    ensures refused { IsErrOf result RunError.NotKdcfile → IsTrue (D.state device.old).told → ⊥ }
+    ensures other { (stored : List ℕ) → IsErrOf result (RunError.OtherGeneration stored) → IsTrue (D.state device.old).told → ⊥ }
+{
+    match asked.word {
+        Word::Gen => Ok(perform_report(alloc, device, store, &asked)?),
+        Word::Run => perform_script(alloc, device, store, tables, asked),
     }
 }
 
+/// What is asked for, over the KDCFILE of this name.
+fn run_over<D: Device>(
+    alloc: Global,
+    device: &mut D,
+    name: &[u8],
+    asked: Asked,
+) -> Result<(), RunError>
+    requires can { CanRun asked }
+    ensures done { OnOk result (IsTrue (D.state device.old).told → (t : TableRows) × Starts asked (D.state device.old).holds t × Ran (identity_of asked) (acts_of asked) t (D.state device.old) (D.state device.new) (D.leaves device.new)) }
+    ensures refused { IsErrOf result RunError.NotKdcfile → IsTrue (D.state device.old).told → Refuses asked (D.state device.old).holds }
+    ensures other { (stored : List ℕ) → IsErrOf result (RunError.OtherGeneration stored) → IsTrue (D.state device.old).told → IsOfOthers stored asked (D.state device.old).holds }
+    ensures failed { IsErrOf result RunError.Failed → Rose (D.state device.old).disk_faults (D.state device.new).disk_faults ⊎ Rose (D.state device.old).line_faults (D.state device.new).line_faults }
+
+    // A file that the call does not start from stays as it is.
+    ensures still { IsTrue (D.state device.old).told → ((t : TableRows) → Starts asked (D.state device.old).holds t → ⊥) → Rests (D.state device.old) (D.state device.new) (D.leaves device.old) (D.leaves device.new) }
+
+    ensures any_moment { IsTrue (D.state device.old).told → Only (D.state device.old).holds (D.state device.old) (D.leaves device.old) → (t : TableRows) → Starts asked (D.state device.old).holds t
+        → LeavesOnly (D.state device.old) (D.state device.new) (D.leaves device.old) (D.leaves device.new) (IsCutOfRun (identity_of asked) (acts_of asked) t (D.state device.old)) }
+    ensures left { IsTrue (D.state device.old).told → (t : TableRows) → Starts asked (D.state device.old).holds t → ((D.state device.old).holds ≡ [] → ⊥) → commits_nothing (acts_of asked t) ≡ true → SameDisk (D.state device.old) (D.state device.new) }
+    ensures names { IsTrue (D.state device.old).told → MayAttach name.now (D.state device.old) (D.state device.new) }
+    ensures named { OnOk result (IsTrue (D.state device.old).told → (D.state device.new).names ≡ (D.state device.old).names ++ name.now ∷ []) }
+    ensures frame { Frame (D.state device.old) (D.state device.new) }
+{
+    let generation = &asked.application.generation;
+    let (store, tables) = open(alloc, device, name, generation, &asked.fingerprint)?;
+    perform(alloc, device, store, tables, asked)
+}
+
 /// Does what is asked for over the KDCFILE of this BASE.
-pub(crate) fn run<D: Device>(alloc: Global, device: &mut D, base: &[u8], asked: &Asked) -> Status
+pub(crate) fn run<D: Device>(alloc: Global, device: &mut D, base: &[u8], asked: Asked) -> Status
+    requires can { CanRun asked }
     ensures code { IsOneOf (0 ∷ 4 ∷ 5 ∷ 7 ∷ []) result.code }
 
     // A file that is refused.
-    ensures refused { IsTrue (D.state device.old).told → IsRefused (identity_of asked.now) (D.state device.old).holds → IsOneOf (4 ∷ 5 ∷ 7 ∷ []) result.code }
-    ensures refused_only { result.code ≡ 4 → IsTrue (D.state device.old).told → IsRefused (identity_of asked.now) (D.state device.old).holds × Said not_a_kdcfile_line (D.state device.old) (D.state device.new) }
-    ensures refused_part { IsTrue (D.state device.old).told → IsRefused (identity_of asked.now) (D.state device.old).holds → SaidPart not_a_kdcfile_line (D.state device.old) (D.state device.new) }
+    ensures refused { IsTrue (D.state device.old).told → Refuses asked (D.state device.old).holds → IsOneOf (4 ∷ 5 ∷ 7 ∷ []) result.code }
+    ensures other { IsTrue (D.state device.old).told → (stored : List ℕ) → IsOfOthers stored asked (D.state device.old).holds → IsOneOf (4 ∷ 5 ∷ 7 ∷ []) result.code }
+    ensures refused_only { result.code ≡ 4 → IsTrue (D.state device.old).told → (Refuses asked (D.state device.old).holds × Said not_a_kdcfile_line (D.state device.old) (D.state device.new))
+        ⊎ ((stored : List ℕ) × IsOfOthers stored asked (D.state device.old).holds × Said (other_generation_line stored) (D.state device.old) (D.state device.new)) }
+    ensures refused_part { IsTrue (D.state device.old).told → Refuses asked (D.state device.old).holds → SaidPart not_a_kdcfile_line (D.state device.old) (D.state device.new) }
+    ensures other_part { IsTrue (D.state device.old).told → (stored : List ℕ) → IsOfOthers stored asked (D.state device.old).holds → SaidPart (other_generation_line stored) (D.state device.old) (D.state device.new) }
 
     // A file that is accepted.
-    ensures accepted { IsTrue (D.state device.old).told → (t : Tables) → StartsFrom (identity_of asked.now) (D.state device.old).holds t → IsOneOf (0 ∷ 5 ∷ 7 ∷ []) result.code }
-    ensures done { result.code ≡ 0 → IsTrue (D.state device.old).told → (t : Tables) × StartsFrom (identity_of asked.now) (D.state device.old).holds t × Ran (identity_of asked.now) (acts_of asked.now) t (D.state device.old) (D.state device.new) (D.leaves device.new) }
-    ensures any_moment { IsTrue (D.state device.old).told → Only (D.state device.old).holds (D.state device.old) (D.leaves device.old) → (t : Tables) → StartsFrom (identity_of asked.now) (D.state device.old).holds t
-        → LeavesOnly (D.state device.old) (D.state device.new) (D.leaves device.old) (D.leaves device.new) (IsCutOfRun (identity_of asked.now) (acts_of asked.now) t (D.state device.old)) }
+    ensures accepted { IsTrue (D.state device.old).told → (t : TableRows) → Starts asked (D.state device.old).holds t → IsOneOf (0 ∷ 5 ∷ 7 ∷ []) result.code }
+    ensures done { result.code ≡ 0 → IsTrue (D.state device.old).told → (t : TableRows) × Starts asked (D.state device.old).holds t × Ran (identity_of asked) (acts_of asked) t (D.state device.old) (D.state device.new) (D.leaves device.new) }
+    ensures any_moment { IsTrue (D.state device.old).told → Only (D.state device.old).holds (D.state device.old) (D.leaves device.old) → (t : TableRows) → Starts asked (D.state device.old).holds t
+        → LeavesOnly (D.state device.old) (D.state device.new) (D.leaves device.old) (D.leaves device.new) (IsCutOfRun (identity_of asked) (acts_of asked) t (D.state device.old)) }
 
     // A file that is there stays as it is where nothing is committed.
-    ensures left { IsTrue (D.state device.old).told → (t : Tables) → StartsFrom (identity_of asked.now) (D.state device.old).holds t → ((D.state device.old).holds ≡ [] → ⊥) → commits_nothing (acts_of asked.now t) ≡ true → SameDisk (D.state device.old) (D.state device.new) }
+    ensures left { IsTrue (D.state device.old).told → (t : TableRows) → Starts asked (D.state device.old).holds t → ((D.state device.old).holds ≡ [] → ⊥) → commits_nothing (acts_of asked t) ≡ true → SameDisk (D.state device.old) (D.state device.new) }
 
     ensures names { IsTrue (D.state device.old).told → MayAttach (file_name base.now) (D.state device.old) (D.state device.new) }
     ensures attached { result.code ≡ 0 → IsTrue (D.state device.old).told → Attached base.now (D.state device.old) (D.state device.new) }
@@ -88,11 +162,11 @@ pub(crate) fn run<D: Device>(alloc: Global, device: &mut D, base: &[u8], asked: 
     let Ok(name) = named(alloc, base, b".KDCA") else {
         return Status::MEMORY;
     };
-    let limits = limits_of(asked);
-    match open(alloc, device, &name, &limits) {
-        Ok((store, tables)) => do_opened(alloc, device, store, tables, asked),
-        Err(OpenError::NotKdcfile) => refuse(device, NOT_A_KDCFILE, Status::FILE),
-        Err(OpenError::Failed) => Status::DEVICE,
-        Err(OpenError::Memory) => Status::MEMORY,
+    match run_over(alloc, device, &name, asked) {
+        Ok(()) => Status::DONE,
+        Err(RunError::Failed) => Status::DEVICE,
+        Err(RunError::Memory) => Status::MEMORY,
+        Err(RunError::NotKdcfile) => refuse(device, NOT_A_KDCFILE, Status::FILE),
+        Err(RunError::OtherGeneration(stored)) => refuse_other(alloc, device, &stored),
     }
 }

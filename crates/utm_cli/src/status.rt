@@ -16,7 +16,7 @@ impl Status {
     pub const APPLICATION: Status = Status { code: 2 };
     /// The script was refused; nothing was run.
     pub const SCRIPT: Status = Status { code: 3 };
-    /// The KDCFILE is not empty, and stands for no tables of this application.
+    /// The KDCFILE is not empty, and stands for no tables that this application starts from.
     pub const FILE: Status = Status { code: 4 };
     /// The disk or the line failed.
     pub const DEVICE: Status = Status { code: 5 };

@@ -1,19 +1,21 @@
 //! The texts of a call, read from the room, and what they say.
-ghost use Rattle.std.specs.Prelude.{◌≡◌, ◌++◌, List, ℕ, IsTrue, IfOk, IsErrOf, IsSome, IsSomeAnd, [], Ok, Err};
+ghost use Rattle.std.specs.Prelude.{◌≡◌, ◌++◌, List, ℕ, IsTrue, IfOk, IsErrOf, IsSome, IsSomeAnd, Ok, Err};
 ghost use Rattle.kd_device.specs.Device.{Rose};
-ghost use Rattle.kd_device.specs.Room.{RoomState, SameRoom, text_of};
-ghost use Rattle.utm_cli.specs.Asking.{Errand, Reading, AskFor, ScriptIs, ReadsFor, AreThere, shown_of};
+ghost use Rattle.kd_device.specs.Room.{SameRoom, text_of};
+ghost use Rattle.utm_cli.specs.Asking.{Errand, Reading, AskFor, CanRun, ScriptIs, ReadsFor, AreThere, shown_of};
 ghost use Rattle.utm_cli.specs.declared.error.Refusal.{Refusal};
 
 use crate::error::TextError;
 use crate::text::named;
 use crate::words::Word;
+use application_facts::fitted_units_make_an_application;
 use application_read::{Application, read_application};
 use kd_device::{Room, RoomError};
-use kdcs_types::Command;
-use script_read::read_script;
+use monitor_semantics::Command;
+use script_read::{commands_are_said, read_script};
 use std::alloc::Global;
 use std::marker::Model;
+use warm_start::fingerprint_of;
 
 /// The greatest length of a text, in bytes.
 const TEXT_LIMIT: u64 = 16_777_216;
@@ -23,6 +25,8 @@ const TEXT_LIMIT: u64 = 16_777_216;
 pub(crate) struct Asked {
     pub word: Word,
     pub application: Application,
+    /// That of the definition and the units.
+    pub fingerprint: [u8; 32],
     /// The commands of the script; `gen` has none.
     pub commands: Vec<Command>,
 }
@@ -32,7 +36,7 @@ impl Model for Asked {
 
     ghost Value = { Errand };
 
-    ghost view = { λ a. record { word = a.word; application = a.application; commands = a.commands.items } };
+    ghost view = { λ a. record { word = a.word; application = a.application; fingerprint = a.fingerprint; commands = a.commands.items } };
 }
 
 /// The text of this BASE with this ending, up to one byte past the limit.
@@ -80,16 +84,20 @@ fn asked_of(
     script: &[u8],
 ) -> Result<Asked, TextError>
     ensures found { IfOk result (λ e. AskFor word definition.now units.now script.now (Ok e)) }
+    ensures can { IfOk result CanRun }
     ensures found_one { IfOk result (λ e. (said : Reading) → AskFor word definition.now units.now script.now said → said ≡ Ok e) }
     ensures refused { (why : Refusal) → IsErrOf result (TextError.Refused why) → AskFor word definition.now units.now script.now (Err why) }
     ensures refused_one { (why : Refusal) → IsErrOf result (TextError.Refused why) → (said : Reading) → AskFor word definition.now units.now script.now said → said ≡ Err why }
     ensures never { IsErrOf result TextError.Room → ⊥ }
 {
     let application = read_application(alloc, definition, units)?;
-    let commands = read_script(alloc, script)?;
+    let commands = read_script(alloc, &application.generation, script)?;
+    fitted_units_make_an_application(&application.generation, &application.units);
+    commands_are_said();
     Ok(Asked {
         word,
         application,
+        fingerprint: fingerprint_of(definition, units),
         commands,
     })
 }
@@ -102,6 +110,7 @@ pub(crate) fn read_texts<R: Room>(
     base: &[u8],
 ) -> Result<Asked, TextError>
     ensures found { IfOk result (λ e. IsTrue (R.room room.old).told → ReadsFor word base.now (R.room room.old) (Ok e)) }
+    ensures can { IfOk result CanRun }
     ensures found_one { IfOk result (λ e. IsTrue (R.room room.old).told → (said : Reading) → ReadsFor word base.now (R.room room.old) said → said ≡ Ok e) }
     ensures refused { (why : Refusal) → IsErrOf result (TextError.Refused why) → IsTrue (R.room room.old).told → ReadsFor word base.now (R.room room.old) (Err why) }
     ensures refused_one { (why : Refusal) → IsErrOf result (TextError.Refused why) → IsTrue (R.room room.old).told → (said : Reading) → ReadsFor word base.now (R.room room.old) said → said ≡ Err why }

@@ -1,20 +1,20 @@
 //! The top call: what the words ask for is done, and answered as a status.
-ghost use Rattle.std.specs.Prelude.{◌≡◌, ◌⊎◌, ◌++◌, ◌∷◌, [], List, ℕ, IsTrue, true, map, Some, None, Ok, Err};
+ghost use Rattle.std.specs.Prelude.{◌≡◌, ◌⊎◌, ◌∷◌, [], List, ℕ, IsTrue, true, map, Some, None, Ok, Err};
 ghost use Rattle.std.specs.String.{string_bytes};
-ghost use Rattle.kd_device.specs.Device.{State, Rose, Frame, LeavesOnly, Only};
+ghost use Rattle.kd_device.specs.Device.{Rose, Frame, Only};
 ghost use Rattle.kd_device.specs.Room.{SameRoom};
-ghost use Rattle.kdcs_types.specs.declared.tables.Tables.{Tables};
-ghost use Rattle.utm_cli.specs.Words.{request_of as request, usage_line, status_of, refusal_line, not_a_kdcfile_line};
-ghost use Rattle.utm_cli.specs.Said.{SameDisk, Said, SaidPart};
-ghost use Rattle.utm_cli.specs.Stored.{StartsFrom, IsRefused, identity_of};
+ghost use Rattle.kdcs_types.specs.Tables.{TableRows};
+ghost use Rattle.utm_cli.specs.Words.{request_of as request, usage_line, status_of, refusal_line, not_a_kdcfile_line, other_generation_line};
+ghost use Rattle.monitor_acts.specs.Said.{SameDisk, Said, SaidPart};
 ghost use Rattle.utm_cli.specs.declared.error.Refusal.{Refusal};
 ghost use Rattle.utm_cli.specs.declared.words.Word.{Word};
-ghost use Rattle.utm_cli.specs.Asking.{Errand};
-ghost use Rattle.utm_cli.specs.Doing.{acts_of};
-ghost use Rattle.utm_cli.specs.Performing.{commits_nothing};
-ghost use Rattle.utm_cli.specs.Promise.{IsOneOf, Request, Reads, Misses, Ran, IsCutOfRun, EndsInCut, Attached};
+ghost use Rattle.utm_cli.specs.Asking.{Errand, app_of};
+ghost use Rattle.utm_cli.specs.Doing.{Starts, Refuses, IsOfOthers, identity_of, acts_of};
+ghost use Rattle.monitor_acts.specs.Performing.{commits_nothing};
+ghost use Rattle.utm_cli.specs.Promise.{IsOneOf, Request, Reads, Misses, Ran, IsCutOfRun, EndsInCut, RunsLawfully, Attached};
 
 use crate::error::TextError;
+use crate::lawful::scripts_run_lawfully;
 use crate::refuse::{refuse, refuse_texts};
 use crate::run::run;
 use crate::status::Status;
@@ -53,12 +53,16 @@ pub fn utm<R: Room, D: Device>(
         → (why : Refusal) × Reads (map string_bytes words.now.items) (R.room room.old) (Err why) × (result.code ≡ status_of why) × (IsTrue (D.state device.old).told → Said (refusal_line why) (D.state device.old) (D.state device.new)) }
     ensures texts_part { IsTrue (R.room room.old).told → (why : Refusal) → Reads (map string_bytes words.now.items) (R.room room.old) (Err why) → IsTrue (D.state device.old).told → SaidPart (refusal_line why) (D.state device.old) (D.state device.new) }
 
-    // 4: the file is refused. Nothing is done but the line that says so.
-    ensures file { IsTrue (R.room room.old).told → IsTrue (D.state device.old).told → (e : Errand) → Reads (map string_bytes words.now.items) (R.room room.old) (Ok e) → IsRefused (identity_of e) (D.state device.old).holds → IsOneOf (4 ∷ 6 ∷ 5 ∷ 7 ∷ []) result.code }
+    // 4: the file is refused, for its bytes or for its other texts. Nothing is done but the line that says which.
+    ensures file { IsTrue (R.room room.old).told → IsTrue (D.state device.old).told → (e : Errand) → Reads (map string_bytes words.now.items) (R.room room.old) (Ok e) → Refuses e (D.state device.old).holds → IsOneOf (4 ∷ 6 ∷ 5 ∷ 7 ∷ []) result.code }
+    ensures other { IsTrue (R.room room.old).told → IsTrue (D.state device.old).told → (e : Errand) → Reads (map string_bytes words.now.items) (R.room room.old) (Ok e) → (stored : List ℕ) → IsOfOthers stored e (D.state device.old).holds → IsOneOf (4 ∷ 6 ∷ 5 ∷ 7 ∷ []) result.code }
     ensures file_only { result.code ≡ 4 → (e : Errand) × (IsTrue (R.room room.old).told → Reads (map string_bytes words.now.items) (R.room room.old) (Ok e))
-        × (IsTrue (D.state device.old).told → IsRefused (identity_of e) (D.state device.old).holds × Said not_a_kdcfile_line (D.state device.old) (D.state device.new)) }
-    ensures file_part { IsTrue (R.room room.old).told → IsTrue (D.state device.old).told → (e : Errand) → Reads (map string_bytes words.now.items) (R.room room.old) (Ok e) → IsRefused (identity_of e) (D.state device.old).holds
+        × (IsTrue (D.state device.old).told → (Refuses e (D.state device.old).holds × Said not_a_kdcfile_line (D.state device.old) (D.state device.new))
+        ⊎ ((stored : List ℕ) × IsOfOthers stored e (D.state device.old).holds × Said (other_generation_line stored) (D.state device.old) (D.state device.new))) }
+    ensures file_part { IsTrue (R.room room.old).told → IsTrue (D.state device.old).told → (e : Errand) → Reads (map string_bytes words.now.items) (R.room room.old) (Ok e) → Refuses e (D.state device.old).holds
         → SaidPart not_a_kdcfile_line (D.state device.old) (D.state device.new) }
+    ensures other_part { IsTrue (R.room room.old).told → IsTrue (D.state device.old).told → (e : Errand) → Reads (map string_bytes words.now.items) (R.room room.old) (Ok e) → (stored : List ℕ) → IsOfOthers stored e (D.state device.old).holds
+        → SaidPart (other_generation_line stored) (D.state device.old) (D.state device.new) }
 
     // 5: a call of the device failed.
     ensures device { result.code ≡ 5 → Rose (D.state device.old).disk_faults (D.state device.new).disk_faults ⊎ Rose (D.state device.old).line_faults (D.state device.new).line_faults }
@@ -72,29 +76,34 @@ pub fn utm<R: Room, D: Device>(
 
     // 0: all was done. The lines of all acts were sent, and the file stands for the tables after them.
     ensures done { result.code ≡ 0 → IsTrue (R.room room.old).told → IsTrue (D.state device.old).told
-        → (e : Errand) × Reads (map string_bytes words.now.items) (R.room room.old) (Ok e) × (t : Tables) × StartsFrom (identity_of e) (D.state device.old).holds t × Ran (identity_of e) (acts_of e) t (D.state device.old) (D.state device.new) (D.leaves device.new) }
-    ensures accepted { IsTrue (R.room room.old).told → IsTrue (D.state device.old).told → (e : Errand) (t : Tables) → Reads (map string_bytes words.now.items) (R.room room.old) (Ok e) → StartsFrom (identity_of e) (D.state device.old).holds t
+        → (e : Errand) × Reads (map string_bytes words.now.items) (R.room room.old) (Ok e) × (t : TableRows) × Starts e (D.state device.old).holds t × Ran (identity_of e) (acts_of e) t (D.state device.old) (D.state device.new) (D.leaves device.new) }
+    ensures accepted { IsTrue (R.room room.old).told → IsTrue (D.state device.old).told → (e : Errand) (t : TableRows) → Reads (map string_bytes words.now.items) (R.room room.old) (Ok e) → Starts e (D.state device.old).holds t
         → IsOneOf (0 ∷ 6 ∷ 5 ∷ 7 ∷ []) result.code }
 
     // Where the words, the texts and the file are accepted and no count of faults rose, all was done or memory ran out.
-    ensures complete { IsTrue (R.room room.old).told → IsTrue (D.state device.old).told → (e : Errand) (t : Tables) → Reads (map string_bytes words.now.items) (R.room room.old) (Ok e) → StartsFrom (identity_of e) (D.state device.old).holds t
+    ensures complete { IsTrue (R.room room.old).told → IsTrue (D.state device.old).told → (e : Errand) (t : TableRows) → Reads (map string_bytes words.now.items) (R.room room.old) (Ok e) → Starts e (D.state device.old).holds t
         → (Rose (D.state device.old).disk_faults (D.state device.new).disk_faults → ⊥) → (Rose (D.state device.old).line_faults (D.state device.new).line_faults → ⊥)
         → (Rose (R.room room.old).faults (R.room room.new).faults → ⊥) ⊎ IsTrue (R.room room.old).sure → IsOneOf (0 ∷ 7 ∷ []) result.code }
 
     // At a stop since the call, whatever its status, the bytes sent and the file are a cut of the acts.
     ensures cut { IsTrue (R.room room.old).told → IsTrue (D.state device.old).told → Only (D.state device.old).holds (D.state device.old) (D.leaves device.old)
-        → (e : Errand) (t : Tables) → Reads (map string_bytes words.now.items) (R.room room.old) (Ok e) → StartsFrom (identity_of e) (D.state device.old).holds t
+        → (e : Errand) (t : TableRows) → Reads (map string_bytes words.now.items) (R.room room.old) (Ok e) → Starts e (D.state device.old).holds t
         → (image out : List ℕ) → D.leaves device.new (D.state device.old).moment image out → IsCutOfRun (identity_of e) (acts_of e) t (D.state device.old) image out }
 
     // As the call left them, whatever its status, the bytes sent and the file are such a cut too. The lines are a front of
     // those of all acts, so those of `gen` are a front of its report.
     ensures ended { IsTrue (R.room room.old).told → IsTrue (D.state device.old).told → Only (D.state device.old).holds (D.state device.old) (D.leaves device.old)
-        → (e : Errand) (t : Tables) → Reads (map string_bytes words.now.items) (R.room room.old) (Ok e) → StartsFrom (identity_of e) (D.state device.old).holds t
+        → (e : Errand) (t : TableRows) → Reads (map string_bytes words.now.items) (R.room room.old) (Ok e) → Starts e (D.state device.old).holds t
         → EndsInCut (identity_of e) (acts_of e) t (D.state device.old) (D.state device.new) }
 
     // A file that is there keeps its bytes, whatever the status, where the acts commit nothing, as those of `gen`.
-    ensures left { IsTrue (R.room room.old).told → IsTrue (D.state device.old).told → (e : Errand) (t : Tables) → Reads (map string_bytes words.now.items) (R.room room.old) (Ok e) → StartsFrom (identity_of e) (D.state device.old).holds t
+    ensures left { IsTrue (R.room room.old).told → IsTrue (D.state device.old).told → (e : Errand) (t : TableRows) → Reads (map string_bytes words.now.items) (R.room room.old) (Ok e) → Starts e (D.state device.old).holds t
         → ((D.state device.old).holds ≡ [] → ⊥) → commits_nothing (acts_of e t) ≡ true → SameDisk (D.state device.old) (D.state device.new) }
+
+    // Where a file was attached, as before anything is done: every commit of the script is lawful, and every cut of it can
+    // be gone on from and is what a serial run of its first commits stores.
+    ensures laws { IsTrue (R.room room.old).told → ((D.state device.new).names ≡ (D.state device.old).names → ⊥) → (e : Errand) (bytes : List ℕ) (t : TableRows) → Reads (map string_bytes words.now.items) (R.room room.old) (Ok e) → Starts e bytes t
+        → RunsLawfully (app_of e) t e.commands }
 
     // The file BASE.KDCA, and no other, was attached.
     ensures names { IsTrue (D.state device.old).told → ((D.state device.new).names ≡ (D.state device.old).names) ⊎ ((word : Word) × ((base : List ℕ) × Request (map string_bytes words.now.items) word base × Attached base (D.state device.old) (D.state device.new))) }
@@ -107,7 +116,10 @@ pub fn utm<R: Room, D: Device>(
         return refuse(device, USAGE, Status::USAGE);
     };
     match read_texts(alloc, room, word, base) {
-        Ok(asked) => run(alloc, device, base, &asked),
+        Ok(asked) => {
+            scripts_run_lawfully(&asked);
+            run(alloc, device, base, asked)
+        }
         Err(TextError::Refused(why)) => refuse_texts(alloc, device, why),
         Err(TextError::Room) => Status::ROOM,
         Err(TextError::Memory) => Status::MEMORY,

@@ -1,7 +1,6 @@
 //! What the words of a call ask for.
-ghost use Rattle.std.specs.Prelude.{◌≡◌, map, codes, MatchOption, None, Some};
+ghost use Rattle.std.specs.Prelude.{◌≡◌, map, MatchOption, None, Some};
 ghost use Rattle.std.specs.String.{string_bytes};
-ghost use Rattle.script_read.specs.Script.{same};
 ghost use Rattle.utm_cli.specs.Words.{request_of as request, word_of as word_spelled, is_base};
 
 /// The greatest length of BASE, in bytes.

@@ -1,13 +1,13 @@
 use Rattle.std.proofs.Common.{◌∙◌, Ok, Err, sym}
 use Rattle.std.specs.Prelude.{IsTrue}
-use Rattle.utm_cli.proofs.TextsSaid.{WereRead, ok_weaker, room_failed, script_in, were_read, reads_for, asked_for}
+use Rattle.utm_cli.proofs.TextsSaid.{WereRead, ok_weaker, room_failed, script_there, were_read, reads_for, asked_for}
 use Rattle.utm_cli.proofs.texts.read_texts.Goals as goal
 
 pub returns-in_err-script-clause-sure : goal.returns-in_err-script-clause-sure
 returns-in_err-script-clause-sure g c = λ sure d u s there is.
     let r = g.R.Room.room c.args.room.now in
     let l = g.R.Room.room c.text-2.new.room in
-    c.in_err-script.ensures.sure (rw c.text-2.ensures.same.sure (rw c.text.ensures.same.sure sure)) s (script_in c.args.word c.args.base.now l r s (sym c.text.ensures.same.texts ∙ sym c.text-2.ensures.same.texts) there.script_is)
+    c.in_err-script.ensures.sure (rw c.text-2.ensures.same.sure (rw c.text.ensures.same.sure sure)) s (script_there c.args.word c.args.base.now l r s (sym c.text.ensures.same.texts ∙ sym c.text-2.ensures.same.texts) there.script_is)
     (room_failed _ _ c.from_residual-in_err-script.result c.in_err-script.field-0.0 c.from_residual-in_err-script.ensures.1 is)
 
 pub returns-clause-found : goal.returns-clause-found

@@ -3,14 +3,13 @@ use Rattle.std.specs.Prelude.{IsTrue, true}
 use Rattle.std.specs.String.{string_bytes}
 use Rattle.utm_cli.specs.declared.error.Refusal.{Refusal}
 use Rattle.utm_cli.specs.declared.error.TextError.{TextError}
-use Rattle.utm_cli.specs.Words.{request_of, status_of, refusal_line, not_a_kdcfile_line}
-use Rattle.utm_cli.specs.Said.{SameDisk, Said, SaidPart}
-use Rattle.utm_cli.specs.Stored.{StartsFrom, IsRefused, identity_of}
-use Rattle.utm_cli.specs.Asking.{Errand, AreThere}
-use Rattle.utm_cli.specs.Doing.{acts_of}
-use Rattle.utm_cli.specs.Performing.{commits_nothing}
-use Rattle.utm_cli.specs.Promise.{IsOneOf, Request, IsCutOfRun}
-use Rattle.utm_cli.proofs.Asking.{reads_of, one_reading, not_missed, misses_of, ok_not, moved, err_not, err_same, cut_at_call, cut_since}
+use Rattle.utm_cli.specs.Words.{request_of, status_of, refusal_line, not_a_kdcfile_line, other_generation_line}
+use Rattle.monitor_acts.specs.Said.{SameDisk, Said, SaidPart}
+use Rattle.utm_cli.specs.Asking.{Errand, AreThere, app_of}
+use Rattle.utm_cli.specs.Doing.{Starts, Refuses, IsOfOthers, identity_of, acts_of}
+use Rattle.monitor_acts.specs.Performing.{commits_nothing}
+use Rattle.utm_cli.specs.Promise.{IsOneOf, Request, IsCutOfRun, RunsLawfully}
+use Rattle.utm_cli.proofs.Asking.{reads_of, one_reading, not_missed, misses_of, ok_not, moved, err_not, err_same, cut_at_call, cut_since_call}
 use Rattle.utm_cli.proofs.Ends.{ends}
 use Rattle.utm_cli.proofs.Codes.{of_run, of_file, of_done, of_refused, not_refused, not_device}
 use Rattle.utm_cli.proofs.top.utm.Given.{Over}
@@ -55,7 +54,7 @@ returns-in-Ok-clause-file g c = λ told told_device f said.
     let one = one_reading words room word base asked (Ok e) (c.in-Ok.ensures.found_one told) in
     let a = g.D.Device.state c.args.device.now in
     let d = g.D.Device.state c.run.new.device in
-    moved words room e one (λ x. IsRefused (identity_of x) a.holds → IsOneOf (4 ∷ 6 ∷ 5 ∷ 7 ∷ []) c.run.result.code) f said (λ refused. of_file c.run.result.code (c.run.ensures.refused told_device refused))
+    moved words room e one (λ x. Refuses x a.holds → IsOneOf (4 ∷ 6 ∷ 5 ∷ 7 ∷ []) c.run.result.code) f said (λ refused. of_file c.run.result.code (c.run.ensures.refused told_device refused))
 
 pub returns-in-Ok-clause-file_only : goal.returns-in-Ok-clause-file_only
 returns-in-Ok-clause-file_only g c = λ code.
@@ -77,7 +76,43 @@ returns-in-Ok-clause-file_part g c = λ told told_device f said.
     let one = one_reading words room word base asked (Ok e) (c.in-Ok.ensures.found_one told) in
     let a = g.D.Device.state c.args.device.now in
     let d = g.D.Device.state c.run.new.device in
-    moved words room e one (λ x. IsRefused (identity_of x) a.holds → SaidPart not_a_kdcfile_line a d) f said (λ refused. c.run.ensures.refused_part told_device refused)
+    moved words room e one (λ x. Refuses x a.holds → SaidPart not_a_kdcfile_line a d) f said (λ refused. c.run.ensures.refused_part told_device refused)
+
+pub returns-in-Ok-clause-other : goal.returns-in-Ok-clause-other
+returns-in-Ok-clause-other g c = λ told told_device f said stored.
+    let words = map string_bytes c.args.words.now.items in
+    let room = g.R.Room.room c.args.room.now in
+    let word = c.in-Some.word in
+    let base = c.in-Some.base.now in
+    let asked : Request words word base = ap (λ l. request_of (map string_bytes l)) (sym c.deref.ensures.value) ∙ c.in-Some.ensures in
+    let e : Errand = c.in-Ok.asked in
+    let one = one_reading words room word base asked (Ok e) (c.in-Ok.ensures.found_one told) in
+    let a = g.D.Device.state c.args.device.now in
+    moved words room e one (λ x. IsOfOthers stored x a.holds → IsOneOf (4 ∷ 6 ∷ 5 ∷ 7 ∷ []) c.run.result.code) f said (λ other. of_file c.run.result.code (c.run.ensures.other told_device stored other))
+
+pub returns-in-Ok-clause-other_part : goal.returns-in-Ok-clause-other_part
+returns-in-Ok-clause-other_part g c = λ told told_device f said stored.
+    let words = map string_bytes c.args.words.now.items in
+    let room = g.R.Room.room c.args.room.now in
+    let word = c.in-Some.word in
+    let base = c.in-Some.base.now in
+    let asked : Request words word base = ap (λ l. request_of (map string_bytes l)) (sym c.deref.ensures.value) ∙ c.in-Some.ensures in
+    let e : Errand = c.in-Ok.asked in
+    let one = one_reading words room word base asked (Ok e) (c.in-Ok.ensures.found_one told) in
+    let a = g.D.Device.state c.args.device.now in
+    let d = g.D.Device.state c.run.new.device in
+    moved words room e one (λ x. IsOfOthers stored x a.holds → SaidPart (other_generation_line stored) a d) f said (λ other. c.run.ensures.other_part told_device stored other)
+
+pub returns-in-Ok-clause-laws : goal.returns-in-Ok-clause-laws
+returns-in-Ok-clause-laws g c = λ told attached f bytes t said.
+    let words = map string_bytes c.args.words.now.items in
+    let room = g.R.Room.room c.args.room.now in
+    let word = c.in-Some.word in
+    let base = c.in-Some.base.now in
+    let asked : Request words word base = ap (λ l. request_of (map string_bytes l)) (sym c.deref.ensures.value) ∙ c.in-Some.ensures in
+    let e : Errand = c.in-Ok.asked in
+    let one = one_reading words room word base asked (Ok e) (c.in-Ok.ensures.found_one told) in
+    moved words room e one (λ x. Starts x bytes t → RunsLawfully (app_of x) t x.commands) f said (λ starts. c.scripts_run_lawfully.ensures bytes t starts)
 
 pub returns-in-Ok-clause-missing : goal.returns-in-Ok-clause-missing
 returns-in-Ok-clause-missing g c = λ told misses.
@@ -117,7 +152,7 @@ returns-in-Ok-clause-accepted g c = λ told told_device f t said.
     let one = one_reading words room word base asked (Ok e) (c.in-Ok.ensures.found_one told) in
     let a = g.D.Device.state c.args.device.now in
     let d = g.D.Device.state c.run.new.device in
-    moved words room e one (λ x. StartsFrom (identity_of x) a.holds t → IsOneOf (0 ∷ 6 ∷ 5 ∷ 7 ∷ []) c.run.result.code) f said (λ starts. of_done c.run.result.code (c.run.ensures.accepted told_device t starts))
+    moved words room e one (λ x. Starts x a.holds t → IsOneOf (0 ∷ 6 ∷ 5 ∷ 7 ∷ []) c.run.result.code) f said (λ starts. of_done c.run.result.code (c.run.ensures.accepted told_device t starts))
 
 pub returns-in-Ok-clause-complete : goal.returns-in-Ok-clause-complete
 returns-in-Ok-clause-complete g c = λ told told_device f t said starts disk line texts.
@@ -130,7 +165,7 @@ returns-in-Ok-clause-complete g c = λ told told_device f t said starts disk lin
     let one = one_reading words room word base asked (Ok e) (c.in-Ok.ensures.found_one told) in
     let a = g.D.Device.state c.args.device.now in
     let d = g.D.Device.state c.run.new.device in
-    not_device c.run.result.code (moved words room e one (λ x. StartsFrom (identity_of x) a.holds t → IsOneOf (0 ∷ 5 ∷ 7 ∷ []) c.run.result.code) f said (λ from. c.run.ensures.accepted told_device t from) starts) (λ five. ⊎_elim (λ rose. disk rose) (λ rose. line rose) (c.run.ensures.failed five))
+    not_device c.run.result.code (moved words room e one (λ x. Starts x a.holds t → IsOneOf (0 ∷ 5 ∷ 7 ∷ []) c.run.result.code) f said (λ from. c.run.ensures.accepted told_device t from) starts) (λ five. ⊎_elim (λ rose. disk rose) (λ rose. line rose) (c.run.ensures.failed five))
 
 pub returns-in-Ok-clause-cut : goal.returns-in-Ok-clause-cut
 returns-in-Ok-clause-cut g c = λ told told_device only f t said.
@@ -145,8 +180,8 @@ returns-in-Ok-clause-cut g c = λ told told_device only f t said.
     let d = g.D.Device.state c.run.new.device in
     let la = g.D.Device.leaves c.args.device.now in
     let ld = g.D.Device.leaves c.run.new.device in
-    moved words room e one (λ x. StartsFrom (identity_of x) a.holds t → (image out : List ℕ) → ld a.moment image out → IsCutOfRun (identity_of x) (acts_of x) t a image out) f said
-    (λ starts image out left. cut_since (identity_of e) (acts_of e) t a d la ld only starts (λ m o past. g.met.D.Device.sent_now c.args.device.now m o told_device past) (c.run.ensures.any_moment told_device only t starts) image out left)
+    moved words room e one (λ x. Starts x a.holds t → (image out : List ℕ) → ld a.moment image out → IsCutOfRun (identity_of x) (acts_of x) t a image out) f said
+    (λ starts image out left. cut_since_call e t a d la ld only starts (λ m o past. g.met.D.Device.sent_now c.args.device.now m o told_device past) (c.run.ensures.any_moment told_device only t starts) image out left)
 
 pub returns-in-Ok-clause-ended : goal.returns-in-Ok-clause-ended
 returns-in-Ok-clause-ended g c = λ told told_device only f t said starts.
@@ -167,7 +202,7 @@ returns-in-Ok-clause-left g c = λ told told_device f t said.
     let one = one_reading words room word base asked (Ok e) (c.in-Ok.ensures.found_one told) in
     let a = g.D.Device.state c.args.device.now in
     let d = g.D.Device.state c.run.new.device in
-    moved words room e one (λ x. StartsFrom (identity_of x) a.holds t → (a.holds ≡ [] → ⊥) → commits_nothing (acts_of x t) ≡ true → SameDisk a d) f said (λ starts some lines. c.run.ensures.left told_device t starts some lines)
+    moved words room e one (λ x. Starts x a.holds t → (a.holds ≡ [] → ⊥) → commits_nothing (acts_of x t) ≡ true → SameDisk a d) f said (λ starts some lines. c.run.ensures.left told_device t starts some lines)
 
 pub returns-in-Ok-clause-names : goal.returns-in-Ok-clause-names
 returns-in-Ok-clause-names g c = λ told_device.
@@ -238,6 +273,42 @@ returns-in-Err-Refused-clause-file g c = λ told told_device f said.
 
 pub returns-in-Err-Refused-clause-file_part : goal.returns-in-Err-Refused-clause-file_part
 returns-in-Err-Refused-clause-file_part g c = λ told told_device f said.
+    let words = map string_bytes c.args.words.now.items in
+    let room = g.R.Room.room c.args.room.now in
+    let word = c.in-Some.word in
+    let base = c.in-Some.base.now in
+    let asked : Request words word base = ap (λ l. request_of (map string_bytes l)) (sym c.deref.ensures.value) ∙ c.in-Some.ensures in
+    let why = c.in-Err-Refused.why in
+    let is = ap (λ (e : TextError). Err e) c.in-Err-Refused.field-0-is in
+    let one = one_reading words room word base asked (Err why) (c.in-Err-Refused.ensures.refused_one why is told) in
+    absurd (err_not words room why one f said)
+
+pub returns-in-Err-Refused-clause-other : goal.returns-in-Err-Refused-clause-other
+returns-in-Err-Refused-clause-other g c = λ told told_device f said.
+    let words = map string_bytes c.args.words.now.items in
+    let room = g.R.Room.room c.args.room.now in
+    let word = c.in-Some.word in
+    let base = c.in-Some.base.now in
+    let asked : Request words word base = ap (λ l. request_of (map string_bytes l)) (sym c.deref.ensures.value) ∙ c.in-Some.ensures in
+    let why = c.in-Err-Refused.why in
+    let is = ap (λ (e : TextError). Err e) c.in-Err-Refused.field-0-is in
+    let one = one_reading words room word base asked (Err why) (c.in-Err-Refused.ensures.refused_one why is told) in
+    absurd (err_not words room why one f said)
+
+pub returns-in-Err-Refused-clause-other_part : goal.returns-in-Err-Refused-clause-other_part
+returns-in-Err-Refused-clause-other_part g c = λ told told_device f said.
+    let words = map string_bytes c.args.words.now.items in
+    let room = g.R.Room.room c.args.room.now in
+    let word = c.in-Some.word in
+    let base = c.in-Some.base.now in
+    let asked : Request words word base = ap (λ l. request_of (map string_bytes l)) (sym c.deref.ensures.value) ∙ c.in-Some.ensures in
+    let why = c.in-Err-Refused.why in
+    let is = ap (λ (e : TextError). Err e) c.in-Err-Refused.field-0-is in
+    let one = one_reading words room word base asked (Err why) (c.in-Err-Refused.ensures.refused_one why is told) in
+    absurd (err_not words room why one f said)
+
+pub returns-in-Err-Refused-clause-laws : goal.returns-in-Err-Refused-clause-laws
+returns-in-Err-Refused-clause-laws g c = λ told attached f bytes t said.
     let words = map string_bytes c.args.words.now.items in
     let room = g.R.Room.room c.args.room.now in
     let word = c.in-Some.word in
@@ -356,7 +427,7 @@ pub returns-in-Err-Room-clause-cut : goal.returns-in-Err-Room-clause-cut
 returns-in-Err-Room-clause-cut g c = λ told told_device only f t said starts image out left.
     let a = g.D.Device.state c.args.device.now in
     let la = g.D.Device.leaves c.args.device.now in
-    cut_at_call (identity_of f) (acts_of f) t a a la la only starts (λ m o past. g.met.D.Device.sent_now c.args.device.now m o told_device past) image out left
+    cut_at_call f t a a la la only starts (λ m o past. g.met.D.Device.sent_now c.args.device.now m o told_device past) image out left
 
 pub returns-in-Err-Room-clause-ended : goal.returns-in-Err-Room-clause-ended
 returns-in-Err-Room-clause-ended g c = λ told told_device only f t said starts.
@@ -367,7 +438,7 @@ pub returns-in-Err-Memory-clause-cut : goal.returns-in-Err-Memory-clause-cut
 returns-in-Err-Memory-clause-cut g c = λ told told_device only f t said starts image out left.
     let a = g.D.Device.state c.args.device.now in
     let la = g.D.Device.leaves c.args.device.now in
-    cut_at_call (identity_of f) (acts_of f) t a a la la only starts (λ m o past. g.met.D.Device.sent_now c.args.device.now m o told_device past) image out left
+    cut_at_call f t a a la la only starts (λ m o past. g.met.D.Device.sent_now c.args.device.now m o told_device past) image out left
 
 pub returns-in-Err-Memory-clause-ended : goal.returns-in-Err-Memory-clause-ended
 returns-in-Err-Memory-clause-ended g c = λ told told_device only f t said starts.

@@ -1,5 +1,0 @@
-pub mod Lines
-pub mod Monitor
-pub mod Trace
-pub mod Cut
-pub mod Laws
