@@ -1,12 +1,11 @@
 //! The data types of the monitor: tables and their changes, areas, services, jobs, KDCS calls and their answers, the run
-//! of a program unit, acts and script commands.
+//! of a program unit, and acts.
 //!
 //! It stands on kd_base. Every crate of the monitor speaks of these types, and so do the definitions in specs/.
 #![tactic(auto)]
 
 mod act;
 mod call;
-mod command;
 mod fixed;
 mod key;
 mod laws;
@@ -19,7 +18,6 @@ mod tables;
 
 pub use act::{Act, Acts, Change, Changes, Row, RowChanges};
 pub use call::{Call, Cause, Code, Reply};
-pub use command::Command;
 pub use fixed::FixedBytes;
 pub use key::{Area, Key, ServiceId, Target};
 pub use laws::{changes_set_and_remove, tables_change_by_their_difference};
