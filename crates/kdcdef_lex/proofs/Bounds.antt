@@ -10,13 +10,13 @@ use Rattle.kdcdef_lex.specs.declared.fault.LexFault.{LexFault}
 use Rattle.kdcdef_lex.specs.declared.token.Token.{Token}
 use Rattle.kdcdef_lex.specs.declared.group.Group.{Group}
 use Rattle.kdcdef_lex.specs.declared.statement.RawStatement.{RawStatement}
-use Rattle.kdcdef_lex.specs.Lines.{is_blank, is_mark, up_to_last, continued}
-use Rattle.kdcdef_lex.specs.Groups.{is_lf}
+use Rattle.texts.specs.Blanks.{is_blank}
+use Rattle.kdcdef_lex.specs.Lines.{is_mark, up_to_last, continued}
 use Rattle.kdcdef_lex.specs.Grammar.{written, AreTokens, IsStatement}
 use Rattle.kdcdef_lex.specs.Spelling.{Joins, BeginsStatement, Cut, AllSay, SpellsStatements}
 use Rattle.kdcdef_lex.specs.Bounds.{LinesUpTo, operand_count, AreWithinBounds}
 use Rattle.kd_base.specs.Tools.{chosen, some_is}
-use Rattle.kdcdef_lex.proofs.FirstLine.{first_line, last_line}
+use Rattle.texts.specs.Lines.{is_line_feed, first_line, last_line}
 use Rattle.kdcdef_lex.proofs.Words.{starts}
 use Rattle.kdcdef_lex.proofs.Statements.{operands_fit}
 
@@ -50,7 +50,7 @@ lines_fit zero (b ∷ text) le = absurd (omega arith)
 lines_fit (suc n) [] le = (omega arith, omega arith)
 lines_fit (suc n) (b ∷ text) le =
     let all = b ∷ text in
-    let p = position_or_len is_lf all in
+    let p = position_or_len is_line_feed all in
     elim (cases_Bool (ltb p (length all))) [
       | inl h ↦
           let lt : p < length all = ltb-true p (length all) h in

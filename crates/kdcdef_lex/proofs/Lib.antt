@@ -1,10 +1,6 @@
-pub mod FirstLine
 pub mod Onto
-pub mod Tokens
 pub mod Reading
-pub mod Quoted
 pub mod Words
-pub mod TokenLists
 pub mod Statements
 pub mod Spelling
 pub mod Quotes

@@ -6,14 +6,17 @@ use Rattle.std.proofs.lemmas.Bool.{cases_Bool, eqb-true, false≢true}
 use Rattle.std.proofs.lemmas.List.{take-append-drop}
 use Rattle.kdcdef_lex.specs.declared.token.Token.{Token}
 use Rattle.kdcdef_lex.specs.declared.token.Token.TheVariants.{Word, Quoted, Comma, Equals, Open, Close}
-use Rattle.kdcdef_lex.specs.Lines.{is_blank, is_word_byte, from_first}
-use Rattle.kdcdef_lex.specs.Tokens.{is_quote, quoted_at, mark_of, marked, word_at, token_at, token_step, tokens_within, tokens_of}
-use Rattle.kdcdef_lex.specs.Grammar.{doubled, written, IsToken, AreTokens}
+use Rattle.texts.specs.Blanks.{is_blank, from_first}
+use Rattle.texts.specs.Quotes.{is_quote, quoted_at, doubled}
+use Rattle.texts.specs.Quoted.{first_quote}
+use Rattle.texts.specs.Parts.{part_step, parts_within}
+use Rattle.kdcdef_lex.specs.Lines.{is_word_byte}
+use Rattle.kdcdef_lex.specs.Tokens.{mark_of, marked, word_at, token_at, tokens_of}
+use Rattle.kdcdef_lex.specs.Grammar.{written, IsToken, AreTokens}
 use Rattle.kdcdef_lex.specs.Faults.{odd_quotes}
-use Rattle.kdcdef_lex.proofs.Words.{token_takes, first_quote}
+use Rattle.kdcdef_lex.proofs.Words.{token_takes, tokens_are}
 use Rattle.kd_base.specs.Fronts.{begins, front_passes, stops}
 use Rattle.kd_base.specs.Tools.{chosen, both_true, map_some, map_none, and_none, onto, onto_first}
-use Rattle.kdcdef_lex.proofs.TokenLists.{tokens_are}
 
 twice : (b : Bool) → not (not b) ≡ b
 twice true = refl
@@ -121,21 +124,21 @@ first_even rest =
     let n = prefix_len is_blank rest in
     ap odd_quotes (sym (take-append-drop n rest)) ∙ even_then (take n rest) (drop n rest) (no_quotes is_blank (take n rest) blank_no_quote (front_passes is_blank rest))
 
-none_odd : (n : ℕ) (bytes : List ℕ) → begins is_blank bytes ≡ false → tokens_within n bytes ≡ None → odd_quotes bytes ≡ true
+none_odd : (n : ℕ) (bytes : List ℕ) → begins is_blank bytes ≡ false → parts_within token_at n bytes ≡ None → odd_quotes bytes ≡ true
 none_odd zero bytes start e = absurd cc
 none_odd (suc n) [] start e = absurd cc
 none_odd (suc n) (b ∷ bs) start e =
     let g = λ (t : Token × List ℕ). let x : Token × List ℕ = (t.0, from_first t.1) in x in
-    elim (and_none (λ (t : Token × List ℕ). onto (t.0 ∷ []) (tokens_within n t.1)) (token_step (b ∷ bs)) e) [
+    elim (and_none (λ (t : Token × List ℕ). onto (t.0 ∷ []) (parts_within token_at n t.1)) (part_step token_at (b ∷ bs)) e) [
       | inl h ↦ by_mark (mark_of b) (b ∷ bs) (map_none g (token_at (b ∷ bs)) h)
       | inr h ↦
           let s = map_some g (token_at (b ∷ bs)) h.0 h.1 in
           let t = s.0.0 in
           let rest = s.0.1 in
           let taken = token_takes (b ∷ bs) t rest start (omega arith) s.1 in
-          let failed : onto (t ∷ []) (tokens_within n (from_first rest)) ≡ None = subst (λ (x : Token × List ℕ). onto (x.0 ∷ []) (tokens_within n x.1) ≡ None) (sym s.2) h.2 in
-          ap odd_quotes taken.parts ∙ even_then (written t) rest (written_even t taken.token) ∙ first_even rest
-          ∙ none_odd n (from_first rest) (stops is_blank rest) (map_none (λ (us : List Token). t ∷ us) (tokens_within n (from_first rest)) failed)
+          let failed : onto (t ∷ []) (parts_within token_at n (from_first rest)) ≡ None = subst (λ (x : Token × List ℕ). onto (x.0 ∷ []) (parts_within token_at n x.1) ≡ None) (sym s.2) h.2 in
+          ap odd_quotes taken.parts ∙ even_then (written t) rest (written_even t taken.part) ∙ first_even rest
+          ∙ none_odd n (from_first rest) (stops is_blank rest) (map_none (λ (us : List Token). t ∷ us) (parts_within token_at n (from_first rest)) failed)
     ]
 
 pub open_quote : (bytes : List ℕ) → tokens_of bytes ≡ None → odd_quotes bytes ≡ true

@@ -8,10 +8,13 @@ use Rattle.std.proofs.lemmas.List.Folds.{length-prefix_len}
 use Rattle.std.proofs.lemmas.List.{take-append-drop, take_at, drop_at}
 use Rattle.kdcdef_lex.specs.declared.token.Token.{Token}
 use Rattle.kdcdef_lex.specs.declared.token.Token.TheVariants.{Word, Quoted, Comma, Equals, Open, Close}
-use Rattle.kdcdef_lex.specs.Lines.{is_blank, is_word_byte}
-use Rattle.kdcdef_lex.specs.Tokens.{is_quote, mark_of, marked, word_at, token_at, quoted_at}
-use Rattle.kdcdef_lex.specs.Grammar.{doubled, written, IsToken, Ends}
-use Rattle.kdcdef_lex.proofs.Quoted.{quoted_takes, quoted_again}
+use Rattle.texts.specs.Blanks.{is_blank}
+use Rattle.texts.specs.Quotes.{is_quote, quoted_at, doubled}
+use Rattle.texts.specs.Quoted.{quoted_takes, quoted_again, first_quote}
+use Rattle.texts.specs.Parted.{Taken as TakenSo, ReadsWritten, parts_are, are_parts}
+use Rattle.kdcdef_lex.specs.Lines.{is_word_byte}
+use Rattle.kdcdef_lex.specs.Tokens.{mark_of, marked, word_at, token_at, tokens_of}
+use Rattle.kdcdef_lex.specs.Grammar.{written, IsToken, Ends, AreTokens}
 use Rattle.kd_base.specs.Fronts.{begins, front_passes, stops, split_there}
 use Rattle.kd_base.specs.Tools.{map_some, chosen, some_is, both_true}
 
@@ -99,10 +102,8 @@ starts Close rest h = (refl, omega arith)
 
 -- ---- what is read is written
 
-pub record Taken (bytes : List ℕ) (t : Token) (rest : List ℕ) : Type 0 where
-  pub parts : bytes ≡ written t ++ rest
-  pub token : IsToken t
-  pub ends : Ends t rest
+abbrev pub Taken : List ℕ → Token → List ℕ → Type 0
+Taken bytes t rest = TakenSo written IsToken Ends bytes t rest
 
 abbrev IsMark : ℕ → Token → Type 0
 IsMark b t = (written t ≡ b ∷ []) × IsToken t × ((rest : List ℕ) → Ends t rest)
@@ -123,10 +124,6 @@ mark_is b t e =
       ]
     ]
 
-pub first_quote : (xs : List ℕ) → begins is_quote xs ≡ true → xs ≡ 39 ∷ drop 1 xs
-first_quote [] h = absurd cc
-first_quote (b ∷ xs) h = ap (λ (x : ℕ). x ∷ xs) (eqb-true b 39 h)
-
 quoted_taken : (bytes content rest : List ℕ) → begins is_quote (drop (prefix_len is_word_byte bytes) bytes) ≡ true → quoted_at (drop 1 (drop (prefix_len is_word_byte bytes) bytes)) ≡ Some (content, rest)
     → Taken bytes (Quoted (take_while is_word_byte bytes) content) rest
 quoted_taken bytes content rest h e =
@@ -135,7 +132,7 @@ quoted_taken bytes content rest h e =
     let behind : drop n bytes ≡ 39 ∷ (doubled content ++ 39 ∷ rest) = first_quote (drop n bytes) h ∙ ap (λ (x : List ℕ). 39 ∷ x) q.0 in
     record {
       parts = sym (take-append-drop n bytes) ∙ ap (λ (x : List ℕ). take n bytes ++ x) behind ∙ sym (regroup (take n bytes) content rest);
-      token = front_passes is_word_byte bytes;
+      part = front_passes is_word_byte bytes;
       ends = q.1;
     }
 
@@ -150,7 +147,7 @@ word_taken b bs blank mark h =
     ] in
     record {
       parts = sym (take-append-drop n (b ∷ bs));
-      token = (omega (arith, length-prefix_len is_word_byte (b ∷ bs)), front_passes is_word_byte (b ∷ bs));
+      part = (omega (arith, length-prefix_len is_word_byte (b ∷ bs)), front_passes is_word_byte (b ∷ bs));
       ends = (stops is_word_byte (b ∷ bs), h);
     }
 
@@ -171,8 +168,20 @@ by_mark None b bs t rest blank mark e = word_takes b bs t rest blank mark e
 by_mark (Some m) b bs t rest blank mark e =
     let is = mark_is b m mark in
     subst (λ (y : Token × List ℕ). Taken (b ∷ bs) y.0 y.1) (some_is (m, bs) (t, rest) e)
-    (record { parts = ap (λ (x : List ℕ). x ++ bs) (sym is.0); token = is.1; ends = is.2 bs })
+    (record { parts = ap (λ (x : List ℕ). x ++ bs) (sym is.0); part = is.1; ends = is.2 bs })
 
 pub token_takes : (bytes : List ℕ) (t : Token) (rest : List ℕ) → begins is_blank bytes ≡ false → 0 < length bytes → token_at bytes ≡ Some (t, rest) → Taken bytes t rest
 token_takes [] t rest blank some e = absurd (omega arith)
 token_takes (b ∷ bs) t rest blank some e = by_mark (mark_of b) b bs t rest blank refl e
+
+-- ---- all tokens of bytes
+
+reads : ReadsWritten token_at written IsToken Ends
+reads = record { starts = starts; takes = token_takes; again = token_again }
+
+-- the tokens of bytes are those, and no others
+pub tokens_are : (bytes : List ℕ) (ts : List Token) → tokens_of bytes ≡ Some ts → AreTokens ts bytes
+tokens_are bytes ts e = parts_are token_at written IsToken Ends reads bytes ts e
+
+pub are_tokens : (bytes : List ℕ) (ts : List Token) → AreTokens ts bytes → tokens_of bytes ≡ Some ts
+are_tokens bytes ts h = are_parts token_at written IsToken Ends reads bytes ts h

@@ -19,15 +19,15 @@ use Rattle.kdcdef_lex.specs.declared.statement.RawValue.{RawValue}
 use Rattle.kdcdef_lex.specs.declared.statement.RawValue.TheVariants as values
 use Rattle.kdcdef_lex.specs.declared.statement.RawOperand.{RawOperand}
 use Rattle.kdcdef_lex.specs.declared.statement.RawStatement.{RawStatement}
-use Rattle.kdcdef_lex.specs.Lines.{is_blank, is_word_byte}
-use Rattle.kdcdef_lex.specs.Groups.{is_lf}
-use Rattle.kdcdef_lex.specs.Tokens.{is_quote}
+use Rattle.texts.specs.Blanks.{is_blank}
+use Rattle.kdcdef_lex.specs.Lines.{is_word_byte}
+use Rattle.texts.specs.Quotes.{is_quote, doubled}
 use Rattle.kdcdef_lex.specs.Parsing.{hex_digit, hex_bytes, quoted_value}
 use Rattle.kdcdef_lex.specs.Reading.{is_text_byte}
-use Rattle.kdcdef_lex.specs.Grammar.{doubled, written, IsToken, Ends, AreTokens, IsItem, AreItems, IsValue, IsKeyed, AreOperands, IsStatement}
+use Rattle.kdcdef_lex.specs.Grammar.{written, IsToken, Ends, AreTokens, IsItem, AreItems, IsValue, IsKeyed, AreOperands, IsStatement}
 use Rattle.kdcdef_lex.specs.Spelling.{IsGroup, Cut, Spells, AllSay}
 use Rattle.kdcdef_lex.specs.Writing.{hex_written, quoted_token, item_tokens, items_tokens, value_tokens, keyed_tokens, operands_tokens, statement_tokens, with_blanks, plain_line, plain_text, is_byte, IsWord, ItemIsWritable, ItemsAreWritable, ValueIsWritable, KeyedIsWritable, OperandsAreWritable, IsWritable, AreWritable, PlainTextSpells}
-use Rattle.kdcdef_lex.proofs.FirstLine.{first_line}
+use Rattle.texts.specs.Lines.{is_line_feed, first_line}
 
 -- ---- hexadecimal digits
 
@@ -216,11 +216,11 @@ line_spells s h =
 -- ---- the lines of the text
 
 abbrev is_no_lf : ℕ → Bool
-is_no_lf b = not (is_lf b)
+is_no_lf b = not (is_line_feed b)
 
 text_no_lf : (b : ℕ) → is_text_byte b ≡ true → is_no_lf b ≡ true
 text_no_lf b h =
-    elim (cases_Bool (is_lf b)) [
+    elim (cases_Bool (is_line_feed b)) [
       | inl k ↦ absurd (cc (subst (λ (x : ℕ). is_text_byte x ≡ true) (eqb-true b 10 k) h))
       | inr k ↦ rw k refl
     ]
@@ -255,13 +255,13 @@ first_so text line rest p e front back h = rw (front, back, unstripped line h) r
 first_of_text : (line rest : List ℕ) → list_all is_text_byte line ≡ true → lines (line ++ 10 ∷ rest) ≡ line ∷ lines rest
 first_of_text line rest h =
     let text = line ++ 10 ∷ rest in
-    let at : position_or_len is_lf text ≡ length line = split_there is_no_lf line (10 ∷ rest) (no_lf line h) refl in
-    let lt : position_or_len is_lf text < length text = omega (arith, length-append line (10 ∷ rest)) in
-    let front : take (position_or_len is_lf text) text ≡ line = take_at line (10 ∷ rest) (position_or_len is_lf text) (sym at) in
-    let long : length (line ++ 10 ∷ []) ≡ position_or_len is_lf text + 1 = omega (arith, length-append line (10 ∷ [])) in
-    let back : drop (position_or_len is_lf text + 1) text ≡ rest =
-    ap (drop (position_or_len is_lf text + 1)) (sym (append_assoc line (10 ∷ []) rest)) ∙ drop_at (line ++ 10 ∷ []) rest (position_or_len is_lf text + 1) long in
-    first_line text lt ∙ first_so text line rest (position_or_len is_lf text) at front back h
+    let at : position_or_len is_line_feed text ≡ length line = split_there is_no_lf line (10 ∷ rest) (no_lf line h) refl in
+    let lt : position_or_len is_line_feed text < length text = omega (arith, length-append line (10 ∷ rest)) in
+    let front : take (position_or_len is_line_feed text) text ≡ line = take_at line (10 ∷ rest) (position_or_len is_line_feed text) (sym at) in
+    let long : length (line ++ 10 ∷ []) ≡ position_or_len is_line_feed text + 1 = omega (arith, length-append line (10 ∷ [])) in
+    let back : drop (position_or_len is_line_feed text + 1) text ≡ rest =
+    ap (drop (position_or_len is_line_feed text + 1)) (sym (append_assoc line (10 ∷ []) rest)) ∙ drop_at (line ++ 10 ∷ []) rest (position_or_len is_line_feed text + 1) long in
+    first_line text lt ∙ first_so text line rest (position_or_len is_line_feed text) at front back h
 
 -- ---- the statements of the text
 

@@ -7,7 +7,7 @@ use Rattle.kdcdef_lex.specs.declared.fault.LexFault.TheVariants.{NotAscii, OpenQ
 use Rattle.kdcdef_lex.specs.declared.token.Token.{Token}
 use Rattle.kdcdef_lex.specs.declared.group.Group.{Group}
 use Rattle.kdcdef_lex.specs.declared.statement.RawStatement.{RawStatement}
-use Rattle.kdcdef_lex.specs.Tokens.{is_quote}
+use Rattle.texts.specs.Quotes.{is_quote}
 use Rattle.kdcdef_lex.specs.Reading.{is_text_byte, leaves_open}
 use Rattle.kdcdef_lex.specs.Grammar.{AreTokens, IsStatement}
 use Rattle.kdcdef_lex.specs.Spelling.{Cut, Says}

@@ -1,5 +1,5 @@
 -- How statements are written.
-use Rattle.std.specs.Prelude.{◌≡◌, ℕ, ◌<◌, false, IsTrue, List, [], ◌∷◌, ◌++◌, length, Option, Some, None, if◌then◌else◌}
+use Rattle.std.specs.Prelude.{◌≡◌, ℕ, ◌<◌, false, IsTrue, List, [], ◌∷◌, ◌++◌, length, Option, Some, None}
 use Rattle.std.specs.List.{list_all}
 use Rattle.kd_base.specs.Fronts.{begins}
 use Rattle.kdcdef_lex.specs.declared.token.Token.{Token}
@@ -10,16 +10,12 @@ use Rattle.kdcdef_lex.specs.declared.statement.RawValue.{RawValue}
 use Rattle.kdcdef_lex.specs.declared.statement.RawValue.TheVariants as values
 use Rattle.kdcdef_lex.specs.declared.statement.RawOperand.{RawOperand}
 use Rattle.kdcdef_lex.specs.declared.statement.RawStatement.{RawStatement}
-use Rattle.kdcdef_lex.specs.Lines.{is_blank, is_word_byte}
-use Rattle.kdcdef_lex.specs.Tokens.{is_quote}
+use Rattle.texts.specs.Quotes.{is_quote, doubled}
+use Rattle.texts.specs.Parts.{AreParts}
+use Rattle.kdcdef_lex.specs.Lines.{is_word_byte}
 use Rattle.kdcdef_lex.specs.Parsing.{quoted_value}
 
 -- ---- tokens as bytes
-
--- each quote twice
-abbrev pub doubled : List ℕ → List ℕ
-doubled [] = []
-doubled (b ∷ bytes) = if is_quote b then 39 ∷ 39 ∷ doubled bytes else b ∷ doubled bytes
 
 -- the bytes of a token
 abbrev pub written : Token → List ℕ
@@ -50,8 +46,7 @@ Ends tokens.Close rest = Unit {0}
 
 -- the bytes are these tokens, with blanks before, between and after them
 abbrev pub AreTokens : List Token → List ℕ → Type 0
-AreTokens [] bytes = IsTrue (list_all is_blank bytes)
-AreTokens (t ∷ ts) bytes = (gap rest : List ℕ) × (bytes ≡ gap ++ (written t ++ rest)) × IsTrue (list_all is_blank gap) × IsToken t × Ends t rest × AreTokens ts rest
+AreTokens ts bytes = AreParts written IsToken Ends ts bytes
 
 -- ---- statements as tokens
 

@@ -1,24 +1,13 @@
 -- The tokens of a statement.
-use Rattle.std.specs.Prelude.{ℕ, zero, suc, Bool, ◌==◌, List, [], ◌∷◌, length, drop, Option, Some, None, if◌then◌else◌, slice_index, option_and_then}
+use Rattle.std.specs.Prelude.{ℕ, ◌==◌, List, drop, Option, Some, None, if◌then◌else◌, slice_index}
 use Rattle.kd_base.specs.Fronts.{begins}
 use Rattle.std.specs.Option.{option_map}
 use Rattle.std.specs.List.{prefix_len, take_while}
-use Rattle.kd_base.specs.Tools.{onto, onto_first}
+use Rattle.texts.specs.Quotes.{is_quote, quoted_at}
+use Rattle.texts.specs.Parts.{parts_of}
 use Rattle.kdcdef_lex.specs.declared.token.Token.{Token}
 use Rattle.kdcdef_lex.specs.declared.token.Token.TheVariants.{Word, Quoted, Comma, Equals, Open, Close}
-use Rattle.kdcdef_lex.specs.Lines.{is_word_byte, from_first}
-
-abbrev pub is_quote : ℕ → Bool
-is_quote b = b == 39
-
--- behind a quote: the bytes up to its end, where two quotes stand for one, and what follows
-abbrev pub quoted_at : List ℕ → Option (List ℕ × List ℕ)
-quoted_at [] = None
-quoted_at (b ∷ []) = if is_quote b then Some ([], []) else None
-quoted_at (b ∷ c ∷ bytes) =
-    if is_quote b
-    then (if is_quote c then onto_first (39 ∷ []) (quoted_at bytes) else Some ([], c ∷ bytes))
-    else onto_first (b ∷ []) (quoted_at (c ∷ bytes))
+use Rattle.kdcdef_lex.specs.Lines.{is_word_byte}
 
 abbrev pub mark_of : ℕ → Option Token
 mark_of b =
@@ -42,16 +31,6 @@ marked None bytes = word_at bytes
 abbrev pub token_at : List ℕ → Option (Token × List ℕ)
 token_at bytes = marked (mark_of (slice_index bytes 0)) bytes
 
--- the same, without the blanks behind the token
-abbrev pub token_step : List ℕ → Option (Token × List ℕ)
-token_step bytes = option_map (λ (t : Token × List ℕ). (t.0, from_first t.1)) (token_at bytes)
-
--- the tokens of bytes that begin with no blank, of which there are at most n; None where a quote has no end
-abbrev pub tokens_within : ℕ → List ℕ → Option (List Token)
-tokens_within zero bytes = Some []
-tokens_within (suc n) [] = Some []
-tokens_within (suc n) (b ∷ bytes) =
-    option_and_then (λ (t : Token × List ℕ). onto (t.0 ∷ []) (tokens_within n t.1)) (token_step (b ∷ bytes))
-
+-- the tokens of bytes; None where a quote has no end
 abbrev pub tokens_of : List ℕ → Option (List Token)
-tokens_of bytes = tokens_within (length (from_first bytes)) (from_first bytes)
+tokens_of bytes = parts_of token_at bytes

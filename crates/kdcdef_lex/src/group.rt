@@ -1,13 +1,13 @@
 //! Groups: the lines of one statement, joined where they are continued.
 ghost use Rattle.std.specs.Prelude.{◌≡◌, ◌+◌, ◌-◌, ◌<◌, ◌≤◌, ◌^◌, ◌∷◌, false, length, IfOk, None};
-ghost use Rattle.std.specs.List.{position_or_len};
-ghost use Rattle.std.specs.Str.Lines.{lines, strip_carriage_return};
+ghost use Rattle.std.specs.Str.Lines.{lines};
 ghost use Rattle.kdcdef_lex.specs.Lines.{is_passed, continued};
-ghost use Rattle.kdcdef_lex.specs.Groups.{is_lf, groups};
+ghost use Rattle.kdcdef_lex.specs.Groups.{groups};
 
 use crate::line::continued;
 use kd_base::{Bytes, OutOfMemory};
 use std::alloc::Global;
+use texts::next_line;
 
 /// The lines of one statement, joined, with the numbers of the first and the last.
 #[derive(Debug, Drop)]
@@ -17,43 +17,6 @@ pub(crate) struct Group {
     pub text: Bytes,
     /// No line follows the last one, which is continued.
     pub dangling: bool,
-}
-
-// The line without the carriage return before its LF.
-fn without_return(line: &[u8]) -> &[u8]
-    ensures { result.now ≡ strip_carriage_return line.now }
-{
-    if line.is_empty() || line[line.len() - 1] != b'\r' {
-        return line;
-    }
-    &line[..line.len() - 1]
-}
-
-// How many bytes stand before the first LF.
-fn line_len(text: &[u8]) -> usize
-    ensures { result ≡ position_or_len is_lf text.now }
-{
-    let mut n = 0;
-    while n < text.len() && text[n] != b'\n' {
-        n += 1;
-    }
-    n
-}
-
-// The first line, and the text after it.
-#[tactic(auto, using(crate::proofs::FirstLine::first_line, crate::proofs::FirstLine::last_line))]
-pub(crate) fn next_line(text: &[u8]) -> (&[u8], &[u8])
-    requires { 0 < length text.now }
-    ensures lines { lines text.now ≡ result.0.now ∷ lines result.1.now }
-    ensures shorter { length result.1.now < length text.now }
-{
-    let n = line_len(text);
-    if n >= text.len() {
-        return (text, &[]);
-    }
-    let (line, _) = text.split_at(n);
-    let (_, rest) = text.split_at(n + 1);
-    (without_return(line), rest)
 }
 
 // The lines that belong to a statement which begins at this line, and the text after them.

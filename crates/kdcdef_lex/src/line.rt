@@ -1,13 +1,10 @@
-//! Lines: blanks, words, comments, and the mark of a line that is continued.
+//! Lines: words, comments, and the mark of a line that is continued.
 ghost use Rattle.std.specs.Prelude.{◌≡◌, ◌<◌, ◌≤◌, ◌-◌, length, drop, option_copied};
 ghost use Rattle.std.specs.List.{prefix_len, suffix_len, take_while};
-ghost use Rattle.kdcdef_lex.specs.Lines.{is_blank, is_word_byte, is_mark, from_first, up_to_last, is_remark, is_comment, is_passed, continued};
+ghost use Rattle.texts.specs.Blanks.{is_blank, from_first};
+ghost use Rattle.kdcdef_lex.specs.Lines.{is_word_byte, is_mark, up_to_last, is_remark, is_comment, is_passed, continued};
 
-pub(crate) fn is_blank(b: u8) -> bool
-    ensures { result ≡ is_blank b }
-{
-    b == b' ' || b == b'\t'
-}
+use texts::{from_first, is_blank};
 
 pub(crate) fn is_word_byte(b: u8) -> bool
     ensures { result ≡ is_word_byte b }
@@ -20,17 +17,6 @@ fn is_mark(b: u8) -> bool
     ensures { result ≡ is_mark b }
 {
     b == b'-' || b == b'\\'
-}
-
-// The line from its first byte that is no blank.
-pub(crate) fn from_first(line: &[u8]) -> &[u8]
-    ensures { result.now ≡ from_first line.now }
-{
-    let mut n = 0;
-    while n < line.len() && is_blank(line[n]) {
-        n += 1;
-    }
-    &line[n..]
 }
 
 // The word at the front, and what follows it.

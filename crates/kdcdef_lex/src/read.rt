@@ -10,12 +10,13 @@ ghost use Rattle.kdcdef_lex.specs.declared.fault.LexFault.TheVariants.{Memory};
 ghost use Rattle.kdcdef_lex.specs.declared.statement.RawStatement.{RawStatement};
 
 use crate::fault::LexFault;
-use crate::group::{Group, group_of, next_line};
+use crate::group::{Group, group_of};
 use crate::line::is_passed;
 use crate::parse;
 use crate::statement::RawStatement;
-use crate::token::{Token, tokens_of};
+use crate::token::Token;
 use std::alloc::Global;
+use texts::{next_line, parts_of};
 
 /// The greatest length of a text, in bytes.
 const MAX_TEXT_LEN: usize = 16_777_216;
@@ -78,7 +79,7 @@ fn statement_of(alloc: Global, group: &Group) -> Result<RawStatement, LexFault>
     if !is_text(group.text.as_slice()) {
         return Err(LexFault::NotAscii(group.first));
     }
-    let Some(tokens) = tokens_of(alloc, group.text.as_slice())? else {
+    let Some(tokens) = parts_of::<Token>(alloc, group.text.as_slice())? else {
         return Err(LexFault::OpenQuote(group.first));
     };
     statement_of_tokens(alloc, group, &tokens)

@@ -1,4 +1,3 @@
-pub mod FirstLine
 pub mod Words
 pub mod SameBytes
 pub mod Parted

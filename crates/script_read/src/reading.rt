@@ -8,10 +8,11 @@ ghost use Rattle.script_read.specs.Commands.{script_in, IsCommandOf};
 ghost use Rattle.script_read.specs.Reading.{outcome, Gives, items_of, commands_of};
 
 use crate::fault::ScriptFault;
-use crate::line::{is_passed, next_line};
+use crate::line::is_passed;
 use kdcdef_check::Generation;
 use monitor_semantics::Command;
 use std::alloc::Global;
+use texts::next_line;
 
 /// The greatest length of a script in bytes.
 const MAX_SCRIPT_LEN: usize = 16_777_216;

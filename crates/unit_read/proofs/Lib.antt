@@ -1,8 +1,5 @@
-pub mod FirstLine
-pub mod WordSteps
 pub mod Kept
 pub mod OpenUnits
-pub mod Quoted
 pub mod WordLists
 pub mod Operands
 pub mod Shapes

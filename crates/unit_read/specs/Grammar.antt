@@ -1,5 +1,5 @@
 -- How the lines of units are written.
-use Rattle.std.specs.Prelude.{◌≡◌, ℕ, ◌<◌, ◌≤◌, Bool, true, false, IsTrue, List, [], ◌∷◌, ◌++◌, length, Some, None, if◌then◌else◌, codes}
+use Rattle.std.specs.Prelude.{◌≡◌, ℕ, ◌<◌, ◌≤◌, Bool, true, false, IsTrue, List, [], ◌∷◌, ◌++◌, length, Some, None, codes}
 use Rattle.std.specs.List.{list_all}
 use Rattle.kd_base.specs.Fronts.{begins}
 use Rattle.kd_base.specs.Text.{IsProgName, IsDecimal, decimal_value}
@@ -17,18 +17,14 @@ use Rattle.unit_read.specs.declared.word.Word.{Word}
 use Rattle.unit_read.specs.declared.word.Word.TheVariants.{Plain, Literal}
 use Rattle.unit_read.specs.declared.piece.Piece.{Piece}
 use Rattle.unit_read.specs.declared.piece.Piece.TheVariants as pieces
-use Rattle.unit_read.specs.Lines.{is_blank, is_word_byte, is_passed}
-use Rattle.unit_read.specs.Words.{is_quote}
+use Rattle.texts.specs.Quotes.{is_quote, doubled}
+use Rattle.texts.specs.Parts.{AreParts}
+use Rattle.unit_read.specs.Lines.{is_word_byte, is_passed}
 use Rattle.unit_read.specs.Operands.{is_name, header_of}
 use Rattle.unit_read.specs.Keys.{variant_keyword}
 use Rattle.unit_read.specs.Statements.{takes_follow_up}
 
 -- ---- words as bytes
-
--- each quote twice
-abbrev pub doubled : List ℕ → List ℕ
-doubled [] = []
-doubled (b ∷ bytes) = if is_quote b then 39 ∷ 39 ∷ doubled bytes else b ∷ doubled bytes
 
 -- the bytes of a word
 abbrev pub written : Word → List ℕ
@@ -40,10 +36,13 @@ abbrev pub IsWord : Word → Type 0
 IsWord (Plain word) = (0 < length word) × IsTrue (list_all is_word_byte word) × (begins is_quote word ≡ false)
 IsWord (Literal content) = Unit {0}
 
+-- no more of the word follows
+abbrev pub WordEnds : Word → List ℕ → Type 0
+WordEnds w rest = begins is_word_byte rest ≡ false
+
 -- the line is these words, with blanks before, between and after them
 abbrev pub AreWords : List Word → List ℕ → Type 0
-AreWords [] bytes = IsTrue (list_all is_blank bytes)
-AreWords (w ∷ ws) bytes = (gap rest : List ℕ) × (bytes ≡ gap ++ (written w ++ rest)) × IsTrue (list_all is_blank gap) × IsWord w × (begins is_word_byte rest ≡ false) × AreWords ws rest
+AreWords ws bytes = AreParts written IsWord WordEnds ws bytes
 
 -- ---- operands as words
 

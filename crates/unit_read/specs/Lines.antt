@@ -1,20 +1,9 @@
--- Lines, blanks and comments.
-use Rattle.std.specs.Prelude.{ℕ, Bool, ◌||◌, not, ◌==◌, List, length, drop, slice_index}
-use Rattle.std.specs.List.{prefix_len}
-
-abbrev pub is_line_feed : ℕ → Bool
-is_line_feed b = b == 10
-
--- a space or a tab
-abbrev pub is_blank : ℕ → Bool
-is_blank b = b == 32 || b == 9
+-- The bytes of words, and comments.
+use Rattle.std.specs.Prelude.{ℕ, Bool, ◌||◌, not, ◌==◌, List, length, slice_index}
+use Rattle.texts.specs.Blanks.{is_blank, from_first}
 
 abbrev pub is_word_byte : ℕ → Bool
 is_word_byte b = not (is_blank b)
-
--- the bytes from the first that is no blank
-abbrev pub from_first : List ℕ → List ℕ
-from_first line = drop (prefix_len is_blank line) line
 
 -- blanks alone, or a comment, which begins with `*`
 abbrev pub is_passed : List ℕ → Bool

@@ -9,11 +9,12 @@ ghost use Rattle.unit_read.specs.Outcomes.{Gives, after, units_of_result};
 ghost use Rattle.unit_read.specs.Reading.{line_step, read_text};
 
 use crate::fault::UnitFault;
-use crate::line::{is_passed, next_line};
+use crate::line::is_passed;
 use crate::piece::piece_of;
 use crate::reading::Reading;
-use crate::word::words_of;
+use crate::word::Word;
 use std::alloc::Global;
+use texts::{next_line, parts_of};
 use unit_types::Unit;
 
 /// The greatest length of a text in bytes.
@@ -33,7 +34,7 @@ fn line_step(
     if is_passed(line) {
         return Ok(());
     }
-    let Some(words) = words_of(alloc, line)? else {
+    let Some(words) = parts_of::<Word>(alloc, line)? else {
         return Err(UnitFault::BadStatement(number));
     };
     let Some(piece) = piece_of(alloc, &words)? else {

@@ -19,9 +19,9 @@ split_at-requires-2 c = omega (arith, prefix_len-le-length (λ b. not (is_space 
 pub returns-clause-words : goal.returns-clause-words
 returns-clause-words c =
     let some : 0 < length c.split_at.result.1.now = search rules in
-    (next_word _ _ _ _ _ _ c.spaces_len.ensures c.split_at.ensures.back some c.word_len.ensures c.split_at-2.ensures.front c.split_at-2.ensures.back).words
+    (next_word _ _ _ _ _ _ c.spaces_len.ensures c.split_at.ensures.back some c.len_before.ensures c.split_at-2.ensures.front c.split_at-2.ensures.back).words
 
 pub returns-clause-some : goal.returns-clause-some
 returns-clause-some c =
     let some : 0 < length c.split_at.result.1.now = search rules in
-    (next_word _ _ _ _ _ _ c.spaces_len.ensures c.split_at.ensures.back some c.word_len.ensures c.split_at-2.ensures.front c.split_at-2.ensures.back).some
+    (next_word _ _ _ _ _ _ c.spaces_len.ensures c.split_at.ensures.back some c.len_before.ensures c.split_at-2.ensures.front c.split_at-2.ensures.back).some

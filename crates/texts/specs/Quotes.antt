@@ -1,0 +1,20 @@
+-- Bytes between two quotes.
+use Rattle.std.specs.Prelude.{ℕ, Bool, ◌==◌, List, [], ◌∷◌, Option, Some, None, if◌then◌else◌}
+use Rattle.kd_base.specs.Tools.{onto_first}
+
+abbrev pub is_quote : ℕ → Bool
+is_quote b = b == 39
+
+-- behind a quote: the bytes up to its end, where two quotes stand for one, and what follows
+abbrev pub quoted_at : List ℕ → Option (List ℕ × List ℕ)
+quoted_at [] = None
+quoted_at (b ∷ []) = if is_quote b then Some ([], []) else None
+quoted_at (b ∷ c ∷ bytes) =
+    if is_quote b
+    then (if is_quote c then onto_first (39 ∷ []) (quoted_at bytes) else Some ([], c ∷ bytes))
+    else onto_first (b ∷ []) (quoted_at (c ∷ bytes))
+
+-- each quote twice
+abbrev pub doubled : List ℕ → List ℕ
+doubled [] = []
+doubled (b ∷ bytes) = if is_quote b then 39 ∷ 39 ∷ doubled bytes else b ∷ doubled bytes

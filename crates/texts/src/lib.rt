@@ -1,0 +1,16 @@
+//! Lines, blanks, quoted bytes, and the parts of a line, as every reader of a text takes them.
+//!
+//! It stands on kd_base. To the readers of definitions, of units and of scripts its contract says what the first line of a
+//! text is without its end, what a line is without the blanks in front, what stands between two quotes, and which parts
+//! a line has, whatever a part is.
+#![tactic(auto)]
+
+mod blank;
+mod line;
+mod part;
+mod quoted;
+
+pub use blank::{from_first, is_blank};
+pub use line::{len_before, next_line};
+pub use part::{Part, parts_of};
+pub use quoted::quoted_at;
