@@ -2,6 +2,7 @@ pub mod Applications
 pub mod Transactions
 pub mod Facts
 pub mod Suits
+pub mod EmptyTables
 pub mod Keeping
 pub mod Replay
 pub mod Commits

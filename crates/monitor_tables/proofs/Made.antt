@@ -20,10 +20,10 @@ use Rattle.monitor_semantics.specs.Bytes.{Bytes}
 use Rattle.monitor_semantics.specs.State.{unit_of}
 use Rattle.monitor_semantics.specs.Made.{made_tac, made_generation, add_unit, tally_unit, made_application}
 use Rattle.monitor_laws.specs.Applications.{LiesInside, IsFittedUnit, HasUnit, IsApplication}
-use Rattle.monitor_semantics.specs.Charges.{total_charge}
 use Rattle.monitor_semantics.specs.Commands.{started}
+use Rattle.monitor_laws.specs.EmptyTables.{empty_suit}
 use Rattle.monitor_laws.specs.Facts.{IsSoundState}
-use Rattle.monitor_laws.specs.Suits.{Suits, is_lterm}
+use Rattle.monitor_laws.specs.Suits.{is_lterm}
 use Rattle.monitor_tables.specs.Entries.{entries_have, short_names}
 use Rattle.monitor_tables.specs.Commanded.{states_stay_sound}
 
@@ -112,25 +112,5 @@ made_is_application =
 empty-order : IsSortedTables empty_tables
 empty-order = record { gssbs = refl; tlss = refl; ulss = refl; services = refl; jobs = refl; shown = refl; tlss_filled = refl; ulss_filled = refl; services_fit = refl }
 
-empty-suit : Suits made_generation empty_tables
-unfolding total_charge
-empty-suit = record {
-  clock = omega arith;
-  next_job_from_one = omega arith;
-  next_job = omega arith;
-  charge = omega arith;
-  count = omega arith;
-  gssbs = refl;
-  tlss = refl;
-  ulss = refl;
-  services = refl;
-  durable = refl;
-  jobs = refl;
-  shown = refl;
-  job_numbers = refl;
-  service_numbers = refl;
-  apart = refl;
-}
-
 pub made_start_is_sound : IsSoundState made_application (started made_application empty_tables)
-made_start_is_sound = states_stay_sound.starts made_application empty_tables made_is_application empty-order empty-suit
+made_start_is_sound = states_stay_sound.starts made_application empty_tables made_is_application empty-order (empty_suit made_generation)

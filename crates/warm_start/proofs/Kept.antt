@@ -1,5 +1,5 @@
 -- What a store keeps, and which tables its file stands for.
-use Rattle.std.proofs.Common.{◌≡◌, ℕ, ◌≤◌, Bool, true, false, not, List, refl, sym, ap, subst, ◌∙◌, arith, Result, Ok, Err}
+use Rattle.std.proofs.Common.{◌≡◌, ℕ, ◌≤◌, Bool, true, false, not, List, refl, sym, ap, subst, ◌∙◌, Result, Ok, Err}
 use Rattle.std.specs.Prelude.{nat_eq, IfOk}
 use Rattle.std.specs.Cmp.Lexicographic.{pointwise}
 use Rattle.std.proofs.lemmas.List.Elements.{All-nil}
@@ -12,7 +12,6 @@ use Rattle.kdcs_types.specs.Tables.{TableRows, empty_tables}
 use Rattle.kdcfile_images.specs.File.{IsNoImage}
 use Rattle.kdcfile_images.specs.ReadImages.{one_meaning}
 use Rattle.kdcfile_store.specs.Whole.{Whole, HasFile}
-use Rattle.monitor_semantics.specs.Charges.{total_charge}
 use Rattle.monitor_laws.specs.Suits.{Suits, SuitsFrom}
 use Rattle.record_codec.specs.Records.{content_of_tables, AreTablesOf}
 use Rattle.record_codec.specs.RowReadings.{IsProperRow}
@@ -80,26 +79,6 @@ pub empty_are_tables : AreTables empty_tables
 empty_are_tables = record {
   sorted = record { gssbs = refl; tlss = refl; ulss = refl; services = refl; jobs = refl; shown = refl; tlss_filled = refl; ulss_filled = refl; services_fit = refl };
   proper = All-nil IsProperRow;
-}
-
-pub empty_suit : (g : Generated) → Suits g empty_tables
-unfolding total_charge
-empty_suit g = record {
-  clock = omega arith;
-  next_job_from_one = omega arith;
-  next_job = omega arith;
-  charge = omega arith;
-  count = omega arith;
-  gssbs = refl;
-  tlss = refl;
-  ulss = refl;
-  services = refl;
-  durable = refl;
-  jobs = refl;
-  shown = refl;
-  job_numbers = refl;
-  service_numbers = refl;
-  apart = refl;
 }
 
 -- there are pages for what the store keeps, where one was opened

@@ -4,7 +4,8 @@
 //! of a file stand for and which files an application starts from. Its contract says that `fingerprint_of` is the
 //! SHA-256 digest of a definition and its units, and that `open_tables` makes an empty file, answers the tables of a file
 //! that is of the same texts and whose tables suit the generation, and refuses every other file, which then stays as it
-//! is. After `Ok` a stop leaves just the file that was opened.
+//! is. After `Ok` a stop leaves just the file that was opened. `read_tables` answers the same tables, and leaves each file
+//! as it is.
 #![tactic(auto)]
 
 mod error;
@@ -15,4 +16,4 @@ mod opening;
 pub use error::OpenError;
 pub use fingerprint::fingerprint_of;
 pub use laws::{answers_exclude_each_other, files_have_one_meaning, texts_are_told_apart};
-pub use opening::open_tables;
+pub use opening::{open_tables, read_tables};

@@ -1,4 +1,4 @@
-//! The KDCFILE is made where it is empty, and else opened warm.
+//! The KDCFILE is made where it is empty, and else opened warm; or its tables are read, and it stays as it is.
 ghost use Rattle.std.specs.Prelude.{◌≡◌, ◌≤◌, [], List, ℕ, IsTrue, length, IfOk, OnOk, IsErrOf};
 ghost use Rattle.kd_device.specs.Device.{State, Rose, Frame, SameNames, LeavesOnly, Only};
 ghost use Rattle.kd_device.specs.Rest.{Rests};
@@ -8,7 +8,7 @@ ghost use Rattle.kdcs_types.specs.Tables.{empty_tables};
 ghost use Rattle.kdcfile_store.specs.Kept.{IsKept};
 ghost use Rattle.kdcfile_store.specs.Whole.{HasFile, Made};
 ghost use Rattle.monitor_laws.specs.Suits.{Suits};
-ghost use Rattle.warm_start.specs.Stands.{KeepsTables, StandsForTables, identity_for, limits_of};
+ghost use Rattle.warm_start.specs.Stands.{AreTables, KeepsTables, StandsForTables, identity_for, limits_of};
 ghost use Rattle.warm_start.specs.Kept.{KeepsNoneFor, KeepsOthers};
 ghost use Rattle.warm_start.specs.Opening.{StartsFrom, HasNoTablesFor, IsRefused, IsOfOtherTexts, IsOpening};
 
@@ -162,5 +162,35 @@ pub fn open_tables<D: Device>(
         make(alloc, device, generation, fingerprint)
     } else {
         warm(alloc, device, generation, fingerprint)
+    }
+}
+
+/// The tables that an application starts from with the KDCFILE that the device has: the empty ones where it is empty.
+/// Nothing is made or written. The tests come in the order of `open_tables`.
+pub fn read_tables<D: Device>(
+    alloc: Global,
+    device: &mut D,
+    generation: &Generation,
+    fingerprint: &[u8; 32],
+) -> Result<Tables, OpenError>
+    ensures tables { IfOk result (λ t. AreTables t) }
+    ensures suits { IfOk result (λ t. Suits generation.now t) }
+    ensures starts { IfOk result (λ t. IsTrue (D.state device.old).told → StartsFrom generation.now fingerprint.now (D.state device.old).holds t) }
+    ensures refused { IsErrOf result OpenError.NotKdcfile → IsTrue (D.state device.old).told → IsRefused generation.now fingerprint.now (D.state device.old).holds }
+    ensures other { (stored : List ℕ) → IsErrOf result (OpenError.OtherGeneration stored) → IsTrue (D.state device.old).told → IsOfOtherTexts stored fingerprint.now (D.state device.old).holds }
+
+    // Whatever the file is, empty too, it stays as it is.
+    ensures rests { IsTrue (D.state device.old).told → Rests (D.state device.old) (D.state device.new) (D.leaves device.old) (D.leaves device.new) }
+
+    ensures failed { IsErrOf result OpenError.Failed → Rose (D.state device.old).disk_faults (D.state device.new).disk_faults }
+    ensures frame { Frame (D.state device.old) (D.state device.new) }
+    ensures names { SameNames (D.state device.old) (D.state device.new) }
+{
+    let size = settled_size(device)?;
+    if size == 0 {
+        Ok(Tables::empty(alloc))
+    } else {
+        let (_, tables) = warm(alloc, device, generation, fingerprint)?;
+        Ok(tables)
     }
 }
