@@ -20,13 +20,21 @@ pub record IsNamedJob (v : JobValue) : Type 0 where
   pub user : IsName v.user
   pub lterm : IsName v.lterm
 
+-- an area, by its name and its content, has a name that is one
+abbrev pub HasAreaName : List ℕ × List ℕ → Type 0
+HasAreaName a = IsName a.0
+
+-- a block of TLS or ULS has a name, and its LTERM or user has one
+abbrev pub HasBlockNames : List ℕ × List ℕ × List ℕ → Type 0
+HasBlockNames b = IsName b.0 × IsName b.1
+
 -- the names of a service are names
 pub record IsNamedService (s : Service) : Type 0 where
   pub first : IsName s.first
   pub next : IsName s.next
   pub user : IsName s.user
   pub lterm : IfSome s.lterm IsName
-  pub lssbs : All (λ (l : List ℕ × List ℕ). IsName l.0) s.lssbs
+  pub lssbs : All HasAreaName s.lssbs
 
 abbrev pub IsNamedValue : Row → Type 0
 IsNamedValue (row.Gssb name content) = ⊤

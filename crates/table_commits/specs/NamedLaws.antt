@@ -1,4 +1,4 @@
--- What named changes make of proper tables: named rows.
+-- Tables whose rows are named: those whose lists are, proper ones, and what named changes make of them.
 use Rattle.std.specs.Prelude.{ℕ, List, Option, Some, None, IfSome, All}
 use Rattle.std.proofs.lemmas.List.Elements.{All-from_recursion, All-weaker, recursion_from_All}
 use Rattle.kd_base.specs.Text.{IsName}
@@ -9,9 +9,10 @@ use Rattle.kdcs_types.specs.declared.act.Row.{Row}
 use Rattle.kdcs_types.specs.declared.act.Row.TheVariants as row
 use Rattle.kdcs_types.specs.declared.key.ServiceId.{ServiceId}
 use Rattle.kdcs_types.specs.declared.key.ServiceId.TheVariants.{Dialogue, Asynchronous}
+use Rattle.kdcs_types.specs.declared.service.Job.{Job}
 use Rattle.kdcs_types.specs.declared.service.JobValue.{JobValue}
 use Rattle.kdcs_types.specs.declared.service.Service.{Service}
-use Rattle.kdcs_types.specs.Tables.{TableRows, AreChanges, change_key, changed}
+use Rattle.kdcs_types.specs.Tables.{TableRows, AreChanges, change_key, changed, gssb_row, tls_row, uls_row, service_row, job_row, shown_row}
 use Rattle.record_codec.specs.Order.{IsProperKey}
 use Rattle.record_codec.specs.Patches.{EachRow, OfSet, all_rows, changes_keep, each_row}
 use Rattle.record_codec.specs.Readings.{LtermFits}
@@ -19,11 +20,24 @@ use Rattle.record_codec.specs.Records.{rows_of}
 use Rattle.record_codec.specs.RowReadings.{IsProperRow, ValueFits}
 use Rattle.record_codec.specs.TableReadings.{AreProperTables}
 use Rattle.record_codec.specs.WholeValues.{JobFits, LssbFits, ServiceFits}
-use Rattle.table_commits.specs.Named.{IsNamedChange, IsNamedJob, IsNamedRow, IsNamedService, IsNamedValue}
+use Rattle.table_commits.specs.Named.{HasAreaName, HasBlockNames, IsNamedChange, IsNamedJob, IsNamedRow, IsNamedService, IsNamedValue}
 
 -- the names of all rows are names
 abbrev pub AreNamedTables : TableRows → Type 0
 AreNamedTables t = All IsNamedRow (rows_of t)
+
+-- ---- lists
+
+pub lists_named : (t : TableRows) → All HasAreaName t.gssbs → All HasBlockNames t.tlss → All HasBlockNames t.ulss → All (λ (s : Service). IsNamedRow (service_row s)) t.services → All (λ (j : Job). IsNamedRow (job_row j)) t.jobs → All (λ (r : List ℕ × JobValue). IsNamedRow (shown_row r)) t.shown
+    → AreNamedTables t
+lists_named t gssbs tlss ulss services jobs shown = all_rows IsNamedRow t (record {
+  gssbs = recursion_from_All (λ (r : List ℕ × List ℕ). IsNamedRow (gssb_row r)) t.gssbs (All-weaker HasAreaName (λ (r : List ℕ × List ℕ). IsNamedRow (gssb_row r)) (λ r h. record { key = h; value = tt }) t.gssbs gssbs);
+  tlss = recursion_from_All (λ (r : List ℕ × List ℕ × List ℕ). IsNamedRow (tls_row r)) t.tlss (All-weaker HasBlockNames (λ (r : List ℕ × List ℕ × List ℕ). IsNamedRow (tls_row r)) (λ r h. record { key = h; value = tt }) t.tlss tlss);
+  ulss = recursion_from_All (λ (r : List ℕ × List ℕ × List ℕ). IsNamedRow (uls_row r)) t.ulss (All-weaker HasBlockNames (λ (r : List ℕ × List ℕ × List ℕ). IsNamedRow (uls_row r)) (λ r h. record { key = h; value = tt }) t.ulss ulss);
+  services = recursion_from_All (λ (s : Service). IsNamedRow (service_row s)) t.services services;
+  jobs = recursion_from_All (λ (j : Job). IsNamedRow (job_row j)) t.jobs jobs;
+  shown = recursion_from_All (λ (r : List ℕ × JobValue). IsNamedRow (shown_row r)) t.shown shown;
+})
 
 -- ---- proper rows
 
@@ -38,7 +52,7 @@ service_named s fits = record {
   next = fits.next;
   user = fits.user;
   lterm = lterm_named s.id s.lterm fits.lterm;
-  lssbs = All-weaker LssbFits (λ (l : List ℕ × List ℕ). IsName l.0) (λ l h. h.0) s.lssbs (All-from_recursion LssbFits s.lssbs fits.lssbs.1);
+  lssbs = All-weaker LssbFits HasAreaName (λ l h. h.0) s.lssbs (All-from_recursion LssbFits s.lssbs fits.lssbs.1);
 }
 
 job_named : (v : JobValue) → JobFits v → IsNamedJob v

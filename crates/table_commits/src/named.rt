@@ -1,13 +1,22 @@
-//! Names in acts are names, as their types say. The functions do nothing but to look at each name.
+//! Names in acts and in tables are names, as their types say. The functions do nothing but to look at each name.
 ghost use Rattle.std.specs.Prelude.{◌<◌, ◌^◌, List, ℕ, IfSome, All};
 ghost use Rattle.kd_base.specs.Text.{IsName};
 ghost use Rattle.kdcs_types.specs.declared.key.Key.TheVariants.{Service as ServiceKey};
+ghost use Rattle.kdcs_types.specs.declared.service.Job.{Job as JobIs};
+ghost use Rattle.kdcs_types.specs.declared.service.JobValue.{JobValue as JobValueIs};
+ghost use Rattle.kdcs_types.specs.declared.service.Service.{Service as ServiceIs};
+ghost use Rattle.kdcs_types.specs.Tables.{service_row, job_row, shown_row};
+ghost use Rattle.kdcdef_check.specs.Soundness.{AreLimits};
+ghost use Rattle.kdcdef_types.specs.Generation.{Generated};
+ghost use Rattle.monitor_laws.specs.Suits.{Suits};
 ghost use Rattle.record_codec.specs.Order.{IsProperKey};
 ghost use Rattle.record_codec.specs.Readings.{TargetFits};
-ghost use Rattle.table_commits.specs.Named.{IsNamedAct, IsNamedChange, IsNamedJob, IsNamedRow, IsNamedService};
+ghost use Rattle.record_codec.specs.TableReadings.{AreProperTables};
+ghost use Rattle.table_commits.specs.Named.{HasAreaName, HasBlockNames, IsNamedAct, IsNamedChange, IsNamedJob, IsNamedRow, IsNamedService};
+ghost use Rattle.table_commits.specs.NamedLaws.{AreNamedTables};
 
 use kd_base::{Bytes, Name};
-use kdcs_types::{Act, Change, JobValue, Key, Row, Service, ServiceId, Target};
+use kdcs_types::{Act, Change, Job, JobValue, Key, Row, Service, ServiceId, Tables, Target};
 
 fn is_name(name: &Name)
     ensures { IsName name.now }
@@ -42,11 +51,12 @@ fn lterm_is_named(lterm: &Option<Name>)
     }
 }
 
-fn lssbs_are_named(lssbs: &[(Name, Bytes)])
-    ensures { All (λ (l : List ℕ × List ℕ). IsName l.0) lssbs.now }
+/// The names of LSSBs or of GSSBs.
+fn areas_are_named(areas: &[(Name, Bytes)])
+    ensures { All HasAreaName areas.now }
 {
-    for lssb in lssbs {
-        is_name(&lssb.0);
+    for area in areas {
+        is_name(&area.0);
     }
 }
 
@@ -57,7 +67,7 @@ fn service_is_named(service: &Service)
     is_name(&service.next);
     is_name(&service.user);
     lterm_is_named(&service.lterm);
-    lssbs_are_named(service.lssbs.as_slice());
+    areas_are_named(service.lssbs.as_slice());
 }
 
 fn number_is_proper(number: &u64)
@@ -155,4 +165,56 @@ pub fn acts_are_named(acts: &[Act])
     for act in acts {
         act_is_named(act);
     }
+}
+
+/// The names of the blocks of TLS or of ULS.
+fn blocks_are_named(blocks: &[(Name, Name, Bytes)])
+    ensures { All HasBlockNames blocks.now }
+{
+    for block in blocks {
+        is_name(&block.0);
+        is_name(&block.1);
+    }
+}
+
+fn services_are_named(services: &[Service])
+    ensures { All (λ (s : ServiceIs). IsNamedRow (service_row s)) services.now }
+{
+    for service in services {
+        id_is_proper(&service.id);
+        service_is_named(service);
+    }
+}
+
+fn jobs_are_named(jobs: &[Job])
+    ensures { All (λ (j : JobIs). IsNamedRow (job_row j)) jobs.now }
+{
+    for job in jobs {
+        number_is_proper(&job.number);
+        job_is_named(&job.value);
+    }
+}
+
+fn shown_are_named(shown: &[(Name, JobValue)])
+    ensures { All (λ (r : List ℕ × JobValueIs). IsNamedRow (shown_row r)) shown.now }
+{
+    for row in shown {
+        is_name(&row.0);
+        job_is_named(&row.1);
+    }
+}
+
+/// The names in the rows of these tables are names; where the tables suit a generation, whose values are short, they are
+/// proper. It takes no memory.
+pub fn tables_are_named(tables: &Tables)
+    ensures named { AreNamedTables tables.now }
+    ensures proper { (g : Generated) → AreLimits g.limits → Suits g tables.now → AreProperTables tables.now }
+{
+    let _clock = tables.clock();
+    areas_are_named(tables.gssbs());
+    blocks_are_named(tables.tlss());
+    blocks_are_named(tables.ulss());
+    services_are_named(tables.services());
+    jobs_are_named(tables.jobs());
+    shown_are_named(tables.shown());
 }
