@@ -1,6 +1,8 @@
 //! A warm or cold start.
-ghost use Rattle.std.specs.Prelude.{◌≡◌, ◌++◌, ◌∷◌, [], IfOk, OnOk, filter};
-ghost use Rattle.monitor_semantics.specs.Commands.{started};
+ghost use Rattle.std.specs.Prelude.{◌≡◌, ◌++◌, ◌∷◌, [], IfOk, OnOk, filter, map};
+ghost use Rattle.async_queue.specs.Queue.{untaken};
+ghost use Rattle.step_scheduler.specs.Schedule.{all_free};
+ghost use Rattle.monitor_semantics.specs.Commands.{asynchronous_rows, started};
 ghost use Rattle.monitor_semantics.specs.Endings.{is_asynchronous};
 ghost use Rattle.monitor_state.specs.Standing.{IsIndexed, SameApplication, state_of};
 ghost use Rattle.monitor_state.specs.Whole.{app_of};
@@ -19,22 +21,38 @@ use std::alloc::Global;
 use step_scheduler::Scheduler;
 use unit_check::Units;
 
+// The ready list with all tasks free, and the jobs of the tables, of which none is taken.
+fn queues(
+    alloc: Global,
+    generation: &Generation,
+    tables: &Tables,
+) -> Result<(Scheduler, Jobs), OutOfMemory>
+    ensures scheduler { IfOk result (λ made. made.0 ≡ all_free generation.now.limits.tasks) }
+    ensures jobs { IfOk result (λ made. made.1 ≡ map untaken tables.now.jobs) }
+{
+    let scheduler = Scheduler::new(alloc, generation.max().tasks)?;
+    let jobs = Jobs::from_tables(alloc, tables)?;
+    Ok((scheduler, jobs))
+}
+
 // Nobody is signed on, all tasks are free, and no service is open.
 fn at_rest(
     alloc: Global,
     generation: Generation,
     units: Units,
     tables: Tables,
-) -> Result<MonitorParts, OutOfMemory>
-    ensures state { IfOk result (λ parts. state_of parts ≡ at_rest generation tables) }
-    ensures indexed { IfOk result (λ parts. IsIndexed parts) }
-    ensures generation { IfOk result (λ parts. parts.generation ≡ generation) }
-    ensures units { IfOk result (λ parts. parts.units ≡ units) }
-    ensures steps { IfOk result (λ parts. parts.steps ≡ 0) }
+    scheduler: Scheduler,
+    jobs: Jobs,
+) -> MonitorParts
+    requires scheduler { scheduler ≡ all_free generation.limits.tasks }
+    requires jobs { jobs ≡ map untaken tables.jobs }
+    ensures state { state_of result ≡ at_rest generation tables }
+    ensures indexed { IsIndexed result }
+    ensures generation { result.generation ≡ generation }
+    ensures units { result.units ≡ units }
+    ensures steps { result.steps ≡ 0 }
 {
-    let scheduler = Scheduler::new(alloc, generation.max().tasks)?;
-    let jobs = Jobs::from_tables(alloc, &tables)?;
-    Ok(MonitorParts {
+    MonitorParts {
         generation,
         units,
         steps: 0,
@@ -44,7 +62,7 @@ fn at_rest(
         active: SortedPairs::new(alloc),
         locks: LockTable::new(alloc),
         jobs,
-    })
+    }
 }
 
 fn is_asynchronous(row: &Service) -> bool
@@ -102,6 +120,18 @@ fn open_all(parts: &mut MonitorParts, alloc: Global, rows: Vec<Service>) -> Resu
     Ok(())
 }
 
+// Each asynchronous service of the tables goes on, in the order of the numbers.
+fn open_services(parts: &mut MonitorParts, alloc: Global) -> Result<(), OutOfMemory>
+    requires indexed { IsIndexed parts.old }
+    requires fresh { AreFresh (state_of parts.old) (asynchronous_rows parts.old.tables) }
+    ensures indexed { OnOk result (IsIndexed parts.new) }
+    ensures same { OnOk result (SameApplication parts.old parts.new) }
+    ensures state { OnOk result (state_of parts.new ≡ all_opened (app_of parts.old) (state_of parts.old) (asynchronous_rows parts.old.tables)) }
+{
+    let rows = asynchronous_rows(alloc, parts.tables.services())?;
+    open_all(parts, alloc, rows)
+}
+
 /// The parts of a monitor that starts from these tables: nobody is signed on, all tasks are free, and each asynchronous
 /// service is ready, in the order of the numbers. No turn and no command was done.
 pub fn parts_of(
@@ -118,8 +148,8 @@ pub fn parts_of(
 {
     // The tables are in order.
     let _clock = tables.clock();
-    let rows = asynchronous_rows(alloc, tables.services())?;
-    let mut parts = at_rest(alloc, generation, units, tables)?;
-    open_all(&mut parts, alloc, rows)?;
+    let (scheduler, jobs) = queues(alloc, &generation, &tables)?;
+    let mut parts = at_rest(alloc, generation, units, tables, scheduler, jobs);
+    open_services(&mut parts, alloc)?;
     Ok(parts)
 }

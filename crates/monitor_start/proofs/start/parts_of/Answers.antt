@@ -1,13 +1,14 @@
-use Rattle.std.specs.Prelude.{filter}
-use Rattle.kdcs_types.specs.declared.service.Service.{Service}
-use Rattle.monitor_semantics.specs.Endings.{is_asynchronous}
-use Rattle.std.proofs.Common.{ap, ◌∙◌}
+use Rattle.std.proofs.Common.{ap}
+use Rattle.monitor_semantics.specs.Commands.{asynchronous_rows}
+use Rattle.monitor_semantics.specs.State.{State}
 use Rattle.monitor_start.proofs.Opening.{fresh_there, started_there}
 use Rattle.monitor_start.proofs.start.parts_of.Goals as goal
 
-pub open_all-requires-clause-fresh : goal.open_all-requires-clause-fresh
-open_all-requires-clause-fresh c = fresh_there c.in_ok-parts.parts c.args.generation c.args.tables c.in_ok-rows.rows.items c.in_ok-parts.ensures.state (c.in_ok-rows.ensures ∙ ap (filter (λ (s : Service). is_asynchronous s.id)) c.services.ensures) c.clock-clock.ensures.sorted
+pub open_services-requires-clause-fresh : goal.open_services-requires-clause-fresh
+open_services-requires-clause-fresh c =
+    fresh_there c.at_rest-parts.result c.args.generation c.args.tables (asynchronous_rows c.at_rest-parts.result.tables) c.at_rest-parts.ensures.state (ap (λ (s : State). asynchronous_rows s.tables) c.at_rest-parts.ensures.state) c.clock-clock.ensures.sorted
 
 pub returns-clause-state : goal.returns-clause-state
 returns-clause-state c =
-    started_there c.in_ok-parts.parts c.open_all.new.parts c.args.generation c.args.tables c.in_ok-rows.rows.items c.in_ok-open_all.ensures.same c.in_ok-parts.ensures.generation c.in_ok-parts.ensures.state (c.in_ok-rows.ensures ∙ ap (filter (λ (s : Service). is_asynchronous s.id)) c.services.ensures) c.clock-clock.ensures.sorted c.in_ok-open_all.ensures.state
+    started_there c.at_rest-parts.result c.open_services.new.parts c.args.generation c.args.tables (asynchronous_rows c.at_rest-parts.result.tables) c.in_ok-open_services.ensures.same c.at_rest-parts.ensures.generation c.at_rest-parts.ensures.state
+    (ap (λ (s : State). asynchronous_rows s.tables) c.at_rest-parts.ensures.state) c.clock-clock.ensures.sorted c.in_ok-open_services.ensures.state
