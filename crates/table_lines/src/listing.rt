@@ -1,21 +1,19 @@
-//! All lines of tables, each as an act.
-ghost use Rattle.std.specs.Prelude.{◌≡◌, ◌++◌, map, flat_map, OnOk, IfOk};
-ghost use Rattle.monitor_semantics.specs.Listing.{gssb_line, block_line, lssb_line, job_line, shown_line, listing};
-ghost use Rattle.monitor_semantics.specs.Trace.{bytes_of};
-ghost use Rattle.table_lines.specs.Shown.{emits, lines_of_service, shown};
+//! All lines of tables, one behind the other.
+ghost use Rattle.std.specs.Prelude.{◌≡◌, ◌++◌, flat_map, OnOk, IfOk};
+ghost use Rattle.monitor_semantics.specs.Listing.{gssb_line, block_line, lssb_line, service_lines, job_line, shown_line, listing};
 
 use crate::row_lines::{
     block_line, gssb_line, job_line, kb_line, lssb_line, number_line, service_line, shown_line,
 };
 use kd_base::{Bytes, Name, OutOfMemory};
-use kdcs_types::{Act, Acts, Job, JobValue, Service, Tables};
+use kdcs_types::{Job, JobValue, Service, Tables};
 use std::alloc::Global;
 
-fn put_gssbs(alloc: Global, rows: &[(Name, Bytes)], acts: &mut Acts) -> Result<(), OutOfMemory>
-    ensures { OnOk result (acts.new ≡ acts.old ++ emits (map gssb_line rows.now)) }
+fn put_gssbs(alloc: Global, rows: &[(Name, Bytes)], text: &mut Bytes) -> Result<(), OutOfMemory>
+    ensures { OnOk result (text.new ≡ text.old ++ flat_map gssb_line rows.now) }
 {
     for row in rows {
-        acts.push(Act::Emit(gssb_line(alloc, row)?))?;
+        text.append(gssb_line(alloc, row)?.as_slice())?;
     }
     Ok(())
 }
@@ -25,75 +23,73 @@ fn put_blocks(
     alloc: Global,
     kind: &[u8],
     rows: &[(Name, Name, Bytes)],
-    acts: &mut Acts,
+    text: &mut Bytes,
 ) -> Result<(), OutOfMemory>
-    ensures { OnOk result (acts.new ≡ acts.old ++ emits (map (block_line kind.now) rows.now)) }
+    ensures { OnOk result (text.new ≡ text.old ++ flat_map (block_line kind.now) rows.now) }
 {
     for row in rows {
-        acts.push(Act::Emit(block_line(alloc, kind, row)?))?;
+        text.append(block_line(alloc, kind, row)?.as_slice())?;
     }
     Ok(())
 }
 
-fn put_lssbs(alloc: Global, service: &Service, acts: &mut Acts) -> Result<(), OutOfMemory>
-    ensures { OnOk result (acts.new ≡ acts.old ++ emits (map (lssb_line service.now) service.now.lssbs)) }
+fn put_lssbs(alloc: Global, service: &Service, text: &mut Bytes) -> Result<(), OutOfMemory>
+    ensures { OnOk result (text.new ≡ text.old ++ flat_map (lssb_line service.now) service.now.lssbs) }
 {
     for lssb in service.lssbs.as_slice() {
-        acts.push(Act::Emit(lssb_line(alloc, service, lssb)?))?;
+        text.append(lssb_line(alloc, service, lssb)?.as_slice())?;
     }
     Ok(())
 }
 
 // A service, its KB and its LSSBs.
-fn put_service(alloc: Global, service: &Service, acts: &mut Acts) -> Result<(), OutOfMemory>
-    ensures { OnOk result (acts.new ≡ acts.old ++ emits (lines_of_service service.now)) }
+fn put_service(alloc: Global, service: &Service, text: &mut Bytes) -> Result<(), OutOfMemory>
+    ensures { OnOk result (text.new ≡ text.old ++ service_lines service.now) }
 {
-    acts.push(Act::Emit(service_line(alloc, service)?))?;
-    acts.push(Act::Emit(kb_line(alloc, service)?))?;
-    put_lssbs(alloc, service, acts)
+    text.append(service_line(alloc, service)?.as_slice())?;
+    text.append(kb_line(alloc, service)?.as_slice())?;
+    put_lssbs(alloc, service, text)
 }
 
-fn put_services(alloc: Global, rows: &[Service], acts: &mut Acts) -> Result<(), OutOfMemory>
-    ensures { OnOk result (acts.new ≡ acts.old ++ emits (flat_map lines_of_service rows.now)) }
+fn put_services(alloc: Global, rows: &[Service], text: &mut Bytes) -> Result<(), OutOfMemory>
+    ensures { OnOk result (text.new ≡ text.old ++ flat_map service_lines rows.now) }
 {
     for row in rows {
-        put_service(alloc, row, acts)?;
+        put_service(alloc, row, text)?;
     }
     Ok(())
 }
 
-fn put_jobs(alloc: Global, rows: &[Job], acts: &mut Acts) -> Result<(), OutOfMemory>
-    ensures { OnOk result (acts.new ≡ acts.old ++ emits (map job_line rows.now)) }
+fn put_jobs(alloc: Global, rows: &[Job], text: &mut Bytes) -> Result<(), OutOfMemory>
+    ensures { OnOk result (text.new ≡ text.old ++ flat_map job_line rows.now) }
 {
     for row in rows {
-        acts.push(Act::Emit(job_line(alloc, row)?))?;
+        text.append(job_line(alloc, row)?.as_slice())?;
     }
     Ok(())
 }
 
-fn put_shown(alloc: Global, rows: &[(Name, JobValue)], acts: &mut Acts) -> Result<(), OutOfMemory>
-    ensures { OnOk result (acts.new ≡ acts.old ++ emits (map shown_line rows.now)) }
+fn put_shown(alloc: Global, rows: &[(Name, JobValue)], text: &mut Bytes) -> Result<(), OutOfMemory>
+    ensures { OnOk result (text.new ≡ text.old ++ flat_map shown_line rows.now) }
 {
     for row in rows {
-        acts.push(Act::Emit(shown_line(alloc, row)?))?;
+        text.append(shown_line(alloc, row)?.as_slice())?;
     }
     Ok(())
 }
 
-/// The lines of tables, each as one act: the clock, the next job number, and the rows in the order of kinds and keys, a
-/// service with its KB and its LSSBs behind it.
-pub fn table_lines(alloc: Global, tables: &Tables) -> Result<Acts, OutOfMemory>
-    ensures exact { IfOk result (λ acts. acts ≡ shown tables.now) }
-    ensures joined { IfOk result (λ acts. bytes_of acts ≡ listing tables.now) }
+/// The lines of tables, as `show` prints them: the clock, the next job number, and the rows in the order of kinds and
+/// keys, a service with its KB and its LSSBs behind it. Contents and messages stand by escape; each line ends with LF.
+pub fn table_lines(alloc: Global, tables: &Tables) -> Result<Bytes, OutOfMemory>
+    ensures { IfOk result (λ text. text ≡ listing tables.now) }
 {
-    let mut acts = Acts::new(alloc);
-    acts.push(Act::Emit(number_line(alloc, b"CLOCK", tables.clock())?))?;
-    acts.push(Act::Emit(number_line(alloc, b"NEXT", tables.next_job())?))?;
-    put_gssbs(alloc, tables.gssbs(), &mut acts)?;
-    put_blocks(alloc, b"TLS", tables.tlss(), &mut acts)?;
-    put_blocks(alloc, b"ULS", tables.ulss(), &mut acts)?;
-    put_services(alloc, tables.services(), &mut acts)?;
-    put_jobs(alloc, tables.jobs(), &mut acts)?;
-    put_shown(alloc, tables.shown(), &mut acts)?;
-    Ok(acts)
+    let mut text = number_line(alloc, b"CLOCK", tables.clock())?;
+    text.append(number_line(alloc, b"NEXT", tables.next_job())?.as_slice())?;
+    put_gssbs(alloc, tables.gssbs(), &mut text)?;
+    put_blocks(alloc, b"TLS", tables.tlss(), &mut text)?;
+    put_blocks(alloc, b"ULS", tables.ulss(), &mut text)?;
+    put_services(alloc, tables.services(), &mut text)?;
+    put_jobs(alloc, tables.jobs(), &mut text)?;
+    put_shown(alloc, tables.shown(), &mut text)?;
+    Ok(text)
 }

@@ -2,7 +2,7 @@
 ghost use Rattle.std.specs.Prelude.{◌≡◌, ◌∷◌, ◌++◌, [], codes, decimal, OnOk, IfOk};
 ghost use Rattle.kd_base.specs.Text.{escaped};
 ghost use Rattle.monitor_semantics.specs.Listing.{spaced, gssb_line, block_line, state_text, last_text, lssb_line, target_words, job_line, shown_line};
-ghost use Rattle.table_lines.specs.Shown.{number_line, service_line, kb_line};
+ghost use Rattle.table_lines.specs.Parts.{number_line, service_line, kb_line};
 
 use crate::words::{ended, put_escaped, put_number, put_owner, put_word};
 use kd_base::{Bytes, Name, OutOfMemory};
