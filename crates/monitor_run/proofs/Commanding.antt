@@ -1,5 +1,5 @@
 -- The steps of each command.
-use Rattle.std.proofs.Common.{◌≡◌, ◌⊎◌, inl, inr, ℕ, List, [], ◌∷◌, refl, sym, ap, subst, ◌∙◌}
+use Rattle.std.proofs.Common.{◌≡◌, ◌⊎◌, inl, inr, arith, ℕ, ◌+◌, List, [], ◌∷◌, refl, sym, ap, subst, ◌∙◌}
 use Rattle.std.specs.Prelude.{false}
 use Rattle.kd_device.specs.Device.{State}
 use Rattle.kdcfile_store.specs.Whole.{Whole}
@@ -10,7 +10,9 @@ use Rattle.monitor_semantics.specs.State.{Application, State as MonitorState}
 use Rattle.monitor_semantics.specs.Turns.{turn_of}
 use Rattle.kdcs_monitor.specs.CoreValue.{CoreValue}
 use Rattle.monitor_commands.specs.Commanding.{IsSingle}
-use Rattle.monitor_run.specs.Running.{turns_of, IsRunning, PerformsSteps, DidSteps}
+use Rattle.monitor_run.specs.Running.{commits_in, turns_of, IsRunning, PerformsSteps, DidSteps}
+use Rattle.monitor_run.proofs.Counting.{commits_by, commits_of_one}
+use Rattle.monitor_run.proofs.Restarting.{acts_again}
 use Rattle.monitor_run.proofs.Stepping.{fingerprint_is}
 
 run_steps : (app : Application) (s : MonitorState) (turns : ℕ) → steps_of app s (Run turns) ≡ rotated app turns false s 1 0
@@ -66,3 +68,15 @@ module _ (fingerprint : List ℕ) (c : CoreValue) (store : Whole) (running : IsR
 
   pub did_command : (a b : State) (lb : ℕ → List ℕ → List ℕ → Type 0) (d : CoreValue) (store' : Whole) → DidSteps store.identity.fingerprint c steps d store' a b lb → DidSteps fingerprint c (steps_of c.application c.state command) d store' a b lb
   did_command a b lb d store' h = subst (λ f. DidSteps f c (steps_of c.application c.state command) d store' a b lb) (fingerprint_is fingerprint c store running) (subst (λ (l : List ScriptStep). DidSteps store.identity.fingerprint c l d store' a b lb) (sym is) h)
+
+-- ---- its commits
+
+-- RESTART makes none
+pub restart_counts : (c : CoreValue) (command : Command) (n : ℕ) → command ≡ Restart → n ≡ n + commits_by (steps_of c.application c.state command)
+restart_counts c command n is =
+    let none : commits_by (steps_of c.application c.state command) ≡ 0 = ap commits_by (steps_of_restart c.application c.state command is) ∙ ap commits_in (acts_again c) in
+    omega (arith, none)
+
+-- a command of one step makes those of the step
+pub one_counts : (app : Application) (s : MonitorState) (command : Command) (step : ScriptStep) → steps_of app s command ≡ step ∷ [] → commits_by (steps_of app s command) ≡ commits_in step.acts
+one_counts app s command step is = ap commits_by is ∙ commits_of_one step

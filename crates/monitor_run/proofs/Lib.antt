@@ -1,6 +1,7 @@
 pub mod Errors
 pub mod Tables
 pub mod Stepping
+pub mod Counting
 pub mod Rotating
 pub mod Scripts
 pub mod Storables

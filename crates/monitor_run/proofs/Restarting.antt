@@ -47,7 +47,7 @@ kept_stands i store t bytes keeps file = record {
 abbrev pub again : CoreValue → ScriptStep
 again c = command_of c.application c.state Restart
 
-acts_again : (c : CoreValue) → acts_of (again c ∷ []) ≡ Emit restart_line ∷ []
+pub acts_again : (c : CoreValue) → acts_of (again c ∷ []) ≡ Emit restart_line ∷ []
 unfolding command_of
 acts_again c = refl
 

@@ -1,5 +1,5 @@
 -- A script up to one of its commands.
-use Rattle.std.proofs.Common.{◌≡◌, ℕ, ◌+◌, ◌<◌, ◌≤◌, subst, List, [], ◌∷◌, ◌++◌, length, take, drop, get_or, refl, sym, ap, ◌∙◌, append_assoc}
+use Rattle.std.proofs.Common.{◌≡◌, arith, ℕ, ◌+◌, ◌<◌, ◌≤◌, subst, List, [], ◌∷◌, ◌++◌, length, take, drop, get_or, refl, sym, ap, ◌∙◌, append_assoc}
 use Rattle.std.specs.Prelude.{IsTrue, sum_by}
 use Rattle.std.proofs.lemmas.List.{append-nil, drop_more, take_all}
 use Rattle.std.proofs.lemmas.List.Sums.{sum_by-cons}
@@ -8,8 +8,10 @@ use Rattle.kdcfile_store.specs.Kept.{IsKept}
 use Rattle.kdcfile_store.specs.Whole.{Whole, HasFile}
 use Rattle.monitor_laws.specs.Applications.{IsCommandOf}
 use Rattle.monitor_laws.specs.Keeping.{IsScriptOf}
+use Rattle.monitor_laws.specs.Steps.{TurnsCommitOnce, CommandsCommitOnce}
 use Rattle.kdcs_monitor.specs.CoreValue.{CoreValue}
 use Rattle.monitor_run.specs.Running.{turns_of, PerformsSteps, DidSteps}
+use Rattle.monitor_run.proofs.Counting.{commits_by, commits_both, command_commits}
 use Rattle.monitor_run.proofs.Stepping.{Stepping, stepping_performs, stepping_more}
 use Rattle.monitor_runs.specs.Lists.{after_both}
 use Rattle.monitor_semantics.specs.declared.command.Command.{Command}
@@ -53,6 +55,11 @@ module _ (app : Application) where
         ∙ ap (λ (u : State). history app s (take i cs) ++ history app u (c ∷ [])) (sym reached)
         ∙ ap (λ (l : List ScriptStep). history app s (take i cs) ++ l) (history_one now c)
 
+-- nothing is counted at the start
+pub nothing_counted : (app : Application) (s : State) → 0 ≡ commits_by (history app s [])
+unfolding history
+nothing_counted app s = refl
+
 -- ---- the commands so far
 
 module _ (fingerprint : List ℕ) (c d : CoreValue) (store : Whole) (cs : List Command) (i : ℕ) (a b : Device) (la lb : ℕ → List ℕ → List ℕ → Type 0) (run : Stepping fingerprint c d store (history c.application c.state cs) (history c.application c.state (take i cs)) a b la lb) where
@@ -62,6 +69,10 @@ module _ (fingerprint : List ℕ) (c d : CoreValue) (store : Whole) (cs : List C
   -- all commands are done
   pub script_over : length cs ≤ i → DidSteps fingerprint c (history c.application c.state cs) d store a b lb
   script_over over = subst (λ (l : List Command). DidSteps fingerprint c (history c.application c.state l) d store a b lb) (take_all i cs over) run.did
+
+  -- and all their commits counted
+  pub script_counted_over : length cs ≤ i → (commits : ℕ) → commits ≡ commits_by (history c.application c.state (take i cs)) → commits ≡ commits_by (history c.application c.state cs)
+  script_counted_over over commits counted = counted ∙ ap (λ (l : List Command). commits_by (history c.application c.state l)) (take_all i cs over)
 
   module _ (command : Command) (is : command ≡ get_or cs i command) (lt : i < length cs) where
     pub script_names : IsScriptOf c.application cs → IsCommandOf d.application.generation command
@@ -80,6 +91,22 @@ module _ (fingerprint : List ℕ) (c d : CoreValue) (store : Whole) (cs : List C
 
     more : IsTrue a.told → history c.application c.state (take (i + 1) cs) ≡ history c.application c.state (take i cs) ++ steps_of d.application d.state command
     more told = history_more c.application c.state d.state cs i command is lt (run.did.state told) ∙ ap (λ (l : List ScriptStep). history c.application c.state (take i cs) ++ l) same_steps
+
+    -- its commits are counted behind those before it
+    module _ (commits : ℕ) where
+      pub script_room : TurnsCommitOnce → CommandsCommitOnce → (most : ℕ) → commits + sum_by turns_of (drop i cs) ≤ most → commits + commits_by (steps_of d.application d.state command) ≤ most
+      script_room turns commands most room = omega (arith, room, script_turns, command_commits turns commands d.application d.state command)
+
+      module _ (commits' : ℕ) (counted : commits' ≡ commits + commits_by (steps_of d.application d.state command)) where
+        pub script_room_more : TurnsCommitOnce → CommandsCommitOnce → (most : ℕ) → commits + sum_by turns_of (drop i cs) ≤ most → commits' + sum_by turns_of (drop (i + 1) cs) ≤ most
+        script_room_more turns commands most room = omega (arith, room, counted, script_turns, command_commits turns commands d.application d.state command)
+
+        pub script_counted : IsTrue a.told → commits ≡ commits_by (history c.application c.state (take i cs)) → commits' ≡ commits_by (history c.application c.state (take (i + 1) cs))
+        script_counted told before =
+            counted
+            ∙ ap (λ n. n + commits_by (steps_of d.application d.state command)) before
+            ∙ sym (commits_both (history c.application c.state (take i cs)) (steps_of d.application d.state command))
+            ∙ ap commits_by (sym (more told))
 
     module _ (e : Device) (le : ℕ → List ℕ → List ℕ → Type 0) (step : PerformsSteps fingerprint d (steps_of d.application d.state command) b e lb le) where
       pub script_performs : PerformsSteps fingerprint c (history c.application c.state cs) a e la le

@@ -30,10 +30,10 @@ use Rattle.monitor_run.specs.Running.{identity_of, durable_of, IsRunning, Perfor
 use Rattle.monitor_acts.specs.Acting.{Running, running_start, running_performs, running_more}
 use Rattle.monitor_run.proofs.Tables.{tables_go, tables_stay, contents_are, committable, performs_tables}
 
-acts_both : (xs ys : List ScriptStep) → acts_of (xs ++ ys) ≡ acts_of xs ++ acts_of ys
+pub acts_both : (xs ys : List ScriptStep) → acts_of (xs ++ ys) ≡ acts_of xs ++ acts_of ys
 acts_both xs ys = flat_map-append (λ (d : ScriptStep). d.acts) xs ys
 
-acts_of_one : (d : ScriptStep) → acts_of (d ∷ []) ≡ d.acts
+pub acts_of_one : (d : ScriptStep) → acts_of (d ∷ []) ≡ d.acts
 acts_of_one d = append-nil d.acts
 
 after_one : (s : MonitorState) (d : ScriptStep) → state_after s (d ∷ []) ≡ d.after
@@ -50,47 +50,53 @@ fingerprint_is fingerprint c store h = ap (λ (i : Identity). i.fingerprint) h.k
 
 -- ---- one step whose acts are performed
 
-module _ (fingerprint : List ℕ) (c : CoreValue) (store : Whole) (step : ScriptStep) (acts : List Act) (running : IsRunning fingerprint c store) (same : acts ≡ step.acts) (storable : AreStorable c.application.generation.limits.blksize c.application.generation.limits.pgpool (durable_of c) step.acts) where
+-- a step of a core, whose acts these are, and which its store can take
+pub record CanStep (fingerprint : List ℕ) (c : CoreValue) (store : Whole) (step : ScriptStep) (acts : List Act) : Type 0 where
+  pub running : IsRunning fingerprint c store
+  pub same : acts ≡ step.acts
+  pub storable : AreStorable c.application.generation.limits.blksize c.application.generation.limits.pgpool (durable_of c) step.acts
+
+module _ (fingerprint : List ℕ) (c : CoreValue) (store : Whole) (step : ScriptStep) (acts : List Act) (can : CanStep fingerprint c store step acts) where
   kept_content : content_of_tables (durable_of c) ≡ store.content
-  kept_content = sym running.keeps.content
+  kept_content = sym can.running.keeps.content
 
   pub can_perform : AreCommittable store.identity store.content acts
   can_perform =
-      subst (λ (i : Identity). AreCommittable i store.content acts) (sym running.keeps.identity_is)
+      subst (λ (i : Identity). AreCommittable i store.content acts) (sym can.running.keeps.identity_is)
       (subst (λ (x : Content). AreCommittable (identity_of fingerprint c) x acts) kept_content
-      (subst (λ (l : List Act). AreCommittable (identity_of fingerprint c) (content_of_tables (durable_of c)) l) (sym same) (committable (identity_of fingerprint c) (durable_of c) step.acts storable)))
+      (subst (λ (l : List Act). AreCommittable (identity_of fingerprint c) (content_of_tables (durable_of c)) l) (sym can.same) (committable (identity_of fingerprint c) (durable_of c) step.acts can.storable)))
 
   pub performs_step : (a b : State) (la lb : ℕ → List ℕ → List ℕ → Type 0) → Performs content_after (StandsFor store.identity) store.content acts a b la lb → PerformsSteps fingerprint c (step ∷ []) a b la lb
   performs_step a b la lb p =
       let i = identity_of fingerprint c in
-      let at_identity = subst (λ (j : Identity). Performs content_after (StandsFor j) store.content acts a b la lb) running.keeps.identity_is p in
-      let at_content = subst (λ (x : Content). Performs content_after (StandsFor i) x acts a b la lb) running.keeps.content at_identity in
-      let at_acts = subst (λ (l : List Act). Performs content_after (StandsFor i) (content_of_tables (durable_of c)) l a b la lb) same at_content in
-      subst (λ (l : List Act). Performs tables_after (StandsForTables i) (durable_of c) l a b la lb) (sym (acts_of_one step)) (performs_tables i (durable_of c) step.acts a b la lb running.keeps.tables storable at_acts)
+      let at_identity = subst (λ (j : Identity). Performs content_after (StandsFor j) store.content acts a b la lb) can.running.keeps.identity_is p in
+      let at_content = subst (λ (x : Content). Performs content_after (StandsFor i) x acts a b la lb) can.running.keeps.content at_identity in
+      let at_acts = subst (λ (l : List Act). Performs content_after (StandsFor i) (content_of_tables (durable_of c)) l a b la lb) can.same at_content in
+      subst (λ (l : List Act). Performs tables_after (StandsForTables i) (durable_of c) l a b la lb) (sym (acts_of_one step)) (performs_tables i (durable_of c) step.acts a b la lb can.running.keeps.tables can.storable at_acts)
 
   pub did_step : StepsMakeTheirTables → CommitsOnce c.application c.state step → (d : CoreValue) (store' : Whole) (a b : State) (lb : ℕ → List ℕ → List ℕ → Type 0) → d.application ≡ c.application → HasFacts d.application d.state → d.state ≡ step.after
       → store'.identity ≡ store.identity → store'.content ≡ content_after store.content acts → Sent (HasFile store') acts a b lb → DidSteps fingerprint c (step ∷ []) d store' a b lb
   did_step make once d store' a b lb app facts after identity content sent =
       let i = identity_of fingerprint c in
-      let made = make c.application c.state step running.facts.1.order (subst (λ (s : MonitorState). IsSortedTables s.tables) after facts.1.order) once in
+      let made = make c.application c.state step can.running.facts.1.order (subst (λ (s : MonitorState). IsSortedTables s.tables) after facts.1.order) once in
       let now : durable_of d ≡ durable c.application.generation step.after.tables = λ k. durable (app k).generation (after k).tables in
       let tables_are : tables_after (durable_of c) step.acts ≡ durable_of d = made ∙ sym now in
-      let at_acts : store'.content ≡ content_after (content_of_tables (durable_of c)) step.acts = content ∙ (λ k. content_after (running.keeps.content k) (same k)) in
+      let at_acts : store'.content ≡ content_after (content_of_tables (durable_of c)) step.acts = content ∙ (λ k. content_after (can.running.keeps.content k) (can.same k)) in
       record {
         application = app;
         running = record {
-          application = subst IsApplication (sym app) running.application;
-          limits = subst (λ (x : Application). AreLimits x.generation.limits) (sym app) running.limits;
+          application = subst IsApplication (sym app) can.running.application;
+          limits = subst (λ (x : Application). AreLimits x.generation.limits) (sym app) can.running.limits;
           facts = facts;
           keeps = record {
-            identity_is = identity ∙ running.keeps.identity_is ∙ ap (λ (x : Application). identity_for x.generation fingerprint) (sym app);
-            tables = subst AreTables tables_are (tables_stay i (durable_of c) step.acts running.keeps.tables storable);
-            content = at_acts ∙ contents_are i (durable_of c) step.acts storable ∙ ap content_of_tables tables_are;
+            identity_is = identity ∙ can.running.keeps.identity_is ∙ ap (λ (x : Application). identity_for x.generation fingerprint) (sym app);
+            tables = subst AreTables tables_are (tables_stay i (durable_of c) step.acts can.running.keeps.tables can.storable);
+            content = at_acts ∙ contents_are i (durable_of c) step.acts can.storable ∙ ap content_of_tables tables_are;
           };
         };
         state = λ told. after ∙ sym (after_one c.state step);
         tables = λ told. sym tables_are ∙ ap (λ (l : List Act). tables_after (durable_of c) l) (sym (acts_of_one step));
-        acts = subst (λ (l : List Act). Sent (HasFile store') l a b lb) (same ∙ sym (acts_of_one step)) sent;
+        acts = subst (λ (l : List Act). Sent (HasFile store') l a b lb) (can.same ∙ sym (acts_of_one step)) sent;
       }
 
 -- ---- steps so far, of all

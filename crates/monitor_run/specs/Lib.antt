@@ -1,3 +1,4 @@
 pub mod Running
 pub mod Durable
 pub mod Causes
+pub mod HandedOn

@@ -3,9 +3,11 @@
 //! It stands on kdcs_monitor, whose core says what each turn and each command does, on monitor_acts, which stores commits
 //! and sends lines, on table_commits, by which each commit can be stored, and on warm_start, which a RESTART asks again. To
 //! the top call, its contract says that a run that ends well sends and stores all acts of the abstract monitor's history of
-//! the script, and that at each moment what was sent and what the file has are a cut of them.
+//! the script and tells how many commits are among them, and that at each moment what was sent and what the file has are a
+//! cut of them.
 #![tactic(auto)]
 
+mod commits;
 mod error;
 mod script;
 mod steps;

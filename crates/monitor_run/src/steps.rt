@@ -7,14 +7,15 @@ ghost use Rattle.kdcfile_store.specs.Whole.{HasFile};
 ghost use Rattle.kdcdef_types.specs.Statements.{IsWithin};
 ghost use Rattle.monitor_laws.specs.Applications.{IsCommandOf};
 ghost use Rattle.monitor_laws.specs.Suits.{Suits};
-ghost use Rattle.monitor_semantics.specs.Commands.{command_of, in_a_row, rotated, steps_of, turned_step};
+ghost use Rattle.monitor_semantics.specs.Commands.{acts_of, command_of, in_a_row, rotated, steps_of, turned_step};
 ghost use Rattle.monitor_semantics.specs.Turns.{turn_of};
 ghost use Rattle.monitor_commands.specs.Commanding.{IsSingle};
 ghost use Rattle.warm_start.specs.Opening.{StartsFrom, IsRefused, IsOfOtherTexts};
 ghost use Rattle.warm_start.specs.Stands.{KeepsTables, identity_for};
-ghost use Rattle.monitor_run.specs.Running.{turns_of, DidSteps, IsAgain, IsRunning, PerformsSteps};
+ghost use Rattle.monitor_run.specs.Running.{commits_in, turns_of, DidSteps, IsAgain, IsRunning, PerformsSteps};
 ghost use Rattle.monitor_semantics.specs.declared.command.Command.TheVariants.{Restart};
 
+use crate::commits::count_commits;
 use crate::error::RunError;
 use kd_device::Device;
 use kdcdef_check::Generation;
@@ -28,23 +29,26 @@ use std::alloc::Global;
 use table_commits::{acts_are_named, steps_can_be_stored};
 use warm_start::{OpenError, answers_exclude_each_other, open_tables};
 
-// One turn of a task, and whether it moved something.
+// One turn of a task, and whether it moved something. Its commit is counted.
 fn do_turn<D: Device>(
     alloc: Global,
     device: &mut D,
     store: &mut WholeStore,
     core: Core,
     task: u16,
+    commits: &mut u64,
 ) -> Result<(Core, bool), RunError>
     requires running { IsRunning store.old.identity.fingerprint core store.old }
     requires task { IsWithin 1 core.application.generation.limits.tasks task }
     requires steps { core.steps < 10 ^ 18 }
+    requires room { commits.old + commits_in (turn_of core.application core.state task).acts ≤ 10 ^ 18 }
     requires kept { IsTrue (D.state device.old).told → IsKept (HasFile store.old) (D.state device.old) (D.leaves device.old) }
     ensures any { PerformsSteps store.old.identity.fingerprint core (turned_step (turn_of core.application core.state task) ∷ []) (D.state device.old) (D.state device.new) (D.leaves device.old) (D.leaves device.new) }
     ensures done { IfOk result (λ next. DidSteps store.old.identity.fingerprint core (turned_step (turn_of core.application core.state task) ∷ []) next.0 store.new (D.state device.old) (D.state device.new) (D.leaves device.new)) }
     ensures moved { IfOk result (λ next. next.1 ≡ (turn_of core.application core.state task).moved) }
     ensures state { IfOk result (λ next. next.0.state ≡ (turn_of core.application core.state task).after) }
     ensures steps { IfOk result (λ next. next.0.steps ≡ core.steps + 1) }
+    ensures counted { OnOk result (commits.new ≡ commits.old + commits_in (turn_of core.application core.state task).acts) }
     ensures failed { IsErrOf result RunError.Failed → Rose (D.state device.old).disk_faults (D.state device.new).disk_faults ⊎ Rose (D.state device.old).line_faults (D.state device.new).line_faults }
     ensures refused { IsErrOf result RunError.NotKdcfile → ⊥ }
     ensures other { (stored : List ℕ) → IsErrOf result (RunError.OtherGeneration stored) → ⊥ }
@@ -55,6 +59,7 @@ fn do_turn<D: Device>(
     let acts = did.acts.as_slice();
     acts_are_named(acts);
     perform_acts(alloc, device, store, acts)?;
+    count_commits(commits, acts);
     Ok((next, did.moved))
 }
 
@@ -74,20 +79,23 @@ fn task_after(task: u16, tasks: u16) -> u16
     if task == tasks { 1 } else { task + 1 }
 }
 
-// RUN: turns of the tasks in rotation, ended by TASKS turns in a row that moved nothing.
+// RUN: turns of the tasks in rotation, ended by TASKS turns in a row that moved nothing. Their commits are counted.
 fn run_turns<D: Device>(
     alloc: Global,
     device: &mut D,
     store: &mut WholeStore,
     mut core: Core,
     turns: u64,
+    commits: &mut u64,
 ) -> Result<Core, RunError>
     requires running { IsRunning store.old.identity.fingerprint core store.old }
     requires steps { core.steps + turns ≤ 10 ^ 18 }
+    requires room { commits.old + commits_in (acts_of (rotated core.application turns false core.state 1 0)) ≤ 10 ^ 18 }
     requires kept { IsTrue (D.state device.old).told → IsKept (HasFile store.old) (D.state device.old) (D.leaves device.old) }
     ensures any { PerformsSteps store.old.identity.fingerprint core (rotated core.application turns false core.state 1 0) (D.state device.old) (D.state device.new) (D.leaves device.old) (D.leaves device.new) }
     ensures done { IfOk result (λ next. DidSteps store.old.identity.fingerprint core (rotated core.application turns false core.state 1 0) next store.new (D.state device.old) (D.state device.new) (D.leaves device.new)) }
     ensures steps { IfOk result (λ next. next.steps ≤ core.steps + turns) }
+    ensures counted { OnOk result (commits.new ≡ commits.old + commits_in (acts_of (rotated core.application turns false core.state 1 0))) }
     ensures failed { IsErrOf result RunError.Failed → Rose (D.state device.old).disk_faults (D.state device.new).disk_faults ⊎ Rose (D.state device.old).line_faults (D.state device.new).line_faults }
     ensures refused { IsErrOf result RunError.NotKdcfile → ⊥ }
     ensures other { (stored : List ℕ) → IsErrOf result (RunError.OtherGeneration stored) → ⊥ }
@@ -96,7 +104,7 @@ fn run_turns<D: Device>(
     let mut task = 1;
     let mut unmoved = 0;
     for _turn in 0..turns {
-        let (next, moved) = do_turn(alloc, device, store, core, task)?;
+        let (next, moved) = do_turn(alloc, device, store, core, task, commits)?;
         core = next;
         unmoved = row_with(moved, unmoved);
         if unmoved == tasks {
@@ -107,22 +115,25 @@ fn run_turns<D: Device>(
     Ok(core)
 }
 
-// A command that is no RUN, TURN or RESTART.
+// A command that is no RUN, TURN or RESTART. Its commit is counted.
 fn do_single<D: Device>(
     alloc: Global,
     device: &mut D,
     store: &mut WholeStore,
     core: Core,
     command: &Command,
+    commits: &mut u64,
 ) -> Result<Core, RunError>
     requires running { IsRunning store.old.identity.fingerprint core store.old }
     requires single { IsSingle command.now }
     requires names { IsCommandOf core.application.generation command.now }
     requires steps { core.steps < 10 ^ 18 }
+    requires room { commits.old + commits_in (command_of core.application core.state command.now).acts ≤ 10 ^ 18 }
     requires kept { IsTrue (D.state device.old).told → IsKept (HasFile store.old) (D.state device.old) (D.leaves device.old) }
     ensures any { PerformsSteps store.old.identity.fingerprint core (command_of core.application core.state command.now ∷ []) (D.state device.old) (D.state device.new) (D.leaves device.old) (D.leaves device.new) }
     ensures done { IfOk result (λ next. DidSteps store.old.identity.fingerprint core (command_of core.application core.state command.now ∷ []) next store.new (D.state device.old) (D.state device.new) (D.leaves device.new)) }
     ensures steps { IfOk result (λ next. next.steps ≡ core.steps + 1) }
+    ensures counted { OnOk result (commits.new ≡ commits.old + commits_in (command_of core.application core.state command.now).acts) }
     ensures failed { IsErrOf result RunError.Failed → Rose (D.state device.old).disk_faults (D.state device.new).disk_faults ⊎ Rose (D.state device.old).line_faults (D.state device.new).line_faults }
     ensures refused { IsErrOf result RunError.NotKdcfile → ⊥ }
     ensures other { (stored : List ℕ) → IsErrOf result (RunError.OtherGeneration stored) → ⊥ }
@@ -133,6 +144,7 @@ fn do_single<D: Device>(
     let acts = did.as_slice();
     acts_are_named(acts);
     perform_acts(alloc, device, store, acts)?;
+    count_commits(commits, acts);
     Ok(next)
 }
 
@@ -209,7 +221,7 @@ fn restart<D: Device>(
     Ok(next)
 }
 
-// One command of a script.
+// One command of a script. Its commits are counted; RESTART has none.
 pub(crate) fn do_command<D: Device>(
     alloc: Global,
     device: &mut D,
@@ -217,22 +229,25 @@ pub(crate) fn do_command<D: Device>(
     core: Core,
     fingerprint: &[u8; 32],
     command: &Command,
+    commits: &mut u64,
 ) -> Result<Core, RunError>
     requires running { IsRunning fingerprint.now core store.old }
     requires names { IsCommandOf core.application.generation command.now }
     requires steps { core.steps + turns_of command.now ≤ 10 ^ 18 }
+    requires room { commits.old + commits_in (acts_of (steps_of core.application core.state command.now)) ≤ 10 ^ 18 }
     requires kept { IsTrue (D.state device.old).told → IsKept (HasFile store.old) (D.state device.old) (D.leaves device.old) }
     ensures any { PerformsSteps fingerprint.now core (steps_of core.application core.state command.now) (D.state device.old) (D.state device.new) (D.leaves device.old) (D.leaves device.new) }
     ensures done { IfOk result (λ next. DidSteps fingerprint.now core (steps_of core.application core.state command.now) next store.new (D.state device.old) (D.state device.new) (D.leaves device.new)) }
     ensures steps { IfOk result (λ next. next.steps ≤ core.steps + turns_of command.now) }
+    ensures counted { OnOk result (commits.new ≡ commits.old + commits_in (acts_of (steps_of core.application core.state command.now))) }
     ensures failed { IsErrOf result RunError.Failed → Rose (D.state device.old).disk_faults (D.state device.new).disk_faults ⊎ Rose (D.state device.old).line_faults (D.state device.new).line_faults }
     ensures refused { IsErrOf result RunError.NotKdcfile → IsTrue (D.state device.old).told → ⊥ }
     ensures other { (stored : List ℕ) → IsErrOf result (RunError.OtherGeneration stored) → IsTrue (D.state device.old).told → ⊥ }
 {
     match command {
-        Command::Run(turns) => run_turns(alloc, device, store, core, *turns),
+        Command::Run(turns) => run_turns(alloc, device, store, core, *turns, commits),
         Command::Turn(task) => {
-            let (next, _) = do_turn(alloc, device, store, core, *task)?;
+            let (next, _) = do_turn(alloc, device, store, core, *task, commits)?;
             Ok(next)
         }
         Command::Restart => restart(alloc, device, store, core, fingerprint),
@@ -240,6 +255,6 @@ pub(crate) fn do_command<D: Device>(
         | Command::Tick(_)
         | Command::Drop(_)
         | Command::Print(_)
-        | Command::PrintLast(_) => do_single(alloc, device, store, core, command),
+        | Command::PrintLast(_) => do_single(alloc, device, store, core, command, commits),
     }
 }

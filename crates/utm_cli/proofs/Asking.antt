@@ -6,12 +6,13 @@ use Rattle.kd_device.specs.Room.{RoomState, text_of}
 use Rattle.kdcs_types.specs.Tables.{TableRows}
 use Rattle.utm_cli.specs.declared.error.Refusal.{Refusal}
 use Rattle.utm_cli.specs.declared.words.Word.{Word}
-use Rattle.utm_cli.specs.declared.words.Word.TheVariants.{Gen, Run}
+use Rattle.utm_cli.specs.declared.words.Word.TheVariants.{Gen, Run, Show, Make}
+use Rattle.made_run.specs.Input.{definition_text as made_definition, units_text as made_units, script_text as made_script}
 use Rattle.utm_cli.specs.Words.{definition_name, units_name, script_name}
 use Rattle.utm_cli.specs.Asking.{Errand, Reading, AreThere, ReadsFor}
-use Rattle.utm_cli.specs.Doing.{Starts, identity_of, acts_of}
+use Rattle.utm_cli.specs.Doing.{Starts}
 use Rattle.utm_cli.specs.Promise.{Request, Reads, Lacks, Misses, IsCutOfRun}
-use Rattle.utm_cli.proofs.Ran.{as_it_was}
+use Rattle.utm_cli.proofs.ByWord.{unchanged_cut}
 
 same_some : {X : Type 0} (x y : X) → Some x ≡ Some y → x ≡ y
 same_some x y e = cc
@@ -32,6 +33,9 @@ module _ (words : List (List ℕ)) (room : RoomState) (word : Word) (base : List
   lacked : (w : Word) (d u s : List ℕ) → AreThere w base room d u s → Lacks w base room → ⊥
   lacked Gen d u s there (inl none) = let differ = sym there.definition_is ∙ none in cc
   lacked Gen d u s there (inr none) = let differ = sym there.units_is ∙ none in cc
+  lacked Show d u s there (inl none) = let differ = sym there.definition_is ∙ none in cc
+  lacked Show d u s there (inr none) = let differ = sym there.units_is ∙ none in cc
+  lacked (Make n) d u s there none = none
   lacked Run d u s there (inl none) = let differ = sym there.definition_is ∙ none in cc
   lacked Run d u s there (inr (inl none)) = let differ = sym there.units_is ∙ none in cc
   lacked Run d u s there (inr (inr none)) = let differ = sym there.script_is ∙ none in cc
@@ -50,6 +54,11 @@ module _ (words : List (List ℕ)) (room : RoomState) (word : Word) (base : List
       ⊎_elim (λ none. inl none)
       (λ d. ⊎_elim (λ none. inr none) (λ u. absurd (none_there d.0 u.0 [] (record { definition_is = d.1; units_is = u.1; script_is = refl }))) (found (units_name base)))
       (found (definition_name base))
+  lacks Show none_there =
+      ⊎_elim (λ none. inl none)
+      (λ d. ⊎_elim (λ none. inr none) (λ u. absurd (none_there d.0 u.0 [] (record { definition_is = d.1; units_is = u.1; script_is = refl }))) (found (units_name base)))
+      (found (definition_name base))
+  lacks (Make n) none_there = none_there made_definition made_units (made_script n) (record { definition_is = refl; units_is = refl; script_is = refl })
   lacks Run none_there =
       ⊎_elim (λ none. inl none)
       (λ d.
@@ -92,10 +101,10 @@ module _ (words : List (List ℕ)) (room : RoomState) (why : Refusal) (one : (sa
 -- ---- what a stop leaves
 
 module _ (e : Errand) (t : TableRows) (a d : State) (la ld : ℕ → List ℕ → List ℕ → Type 0) (only : Only a.holds a la) (starts : Starts e a.holds t) (silent : (c out : List ℕ) → la a.moment c out → out ≡ a.sent) where
-  pub cut_at_call : (image out : List ℕ) → la a.moment image out → IsCutOfRun (identity_of e) (acts_of e) t a image out
+  pub cut_at_call : (image out : List ℕ) → la a.moment image out → IsCutOfRun e t a image out
   cut_at_call image out left =
       let same = silent image out left in
-      as_it_was e t a la only starts image out (only image (subst (λ (o : List ℕ). la a.moment image o) same left)) same
+      unchanged_cut e t a starts image out (only image (subst (λ (o : List ℕ). la a.moment image o) same left)) same
 
-  pub cut_since_call : LeavesOnly a d la ld (IsCutOfRun (identity_of e) (acts_of e) t a) → (image out : List ℕ) → ld a.moment image out → IsCutOfRun (identity_of e) (acts_of e) t a image out
+  pub cut_since_call : LeavesOnly a d la ld (IsCutOfRun e t a) → (image out : List ℕ) → ld a.moment image out → IsCutOfRun e t a image out
   cut_since_call h image out left = ⊎_elim (λ past. cut_at_call image out past) (λ cut. cut) (h.only a.moment image out (omega arith) left)

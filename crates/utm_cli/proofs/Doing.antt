@@ -27,7 +27,7 @@ use Rattle.utm_cli.specs.declared.words.Word.TheVariants.{Gen, Run}
 use Rattle.utm_cli.specs.Asking.{Errand, CanRun, app_of}
 use Rattle.utm_cli.specs.Doing.{identity_of, acts_by, acts_of}
 use Rattle.utm_cli.specs.Report.{report}
-use Rattle.utm_cli.specs.Promise.{Ran}
+use Rattle.utm_cli.specs.Promise.{RanOver}
 use Rattle.utm_cli.proofs.Cuts.{tables_same, kept_content, lines_performed}
 use Rattle.monitor_run.specs.Durable.{durable_same, started_tables}
 
@@ -55,7 +55,7 @@ module _ (e : Errand) (t : TableRows) (acts : List Act) (gen : e.word ≡ Gen) (
         subst (λ (l : List Act). Performs tables_after (StandsForTables (identity_of e)) t l a b la lb) report_is
         (lines_performed (StandsFor store.identity) store.content (StandsForTables (identity_of e)) t (keeps_means (identity_of e) store t keeps) acts report_lines a b la lb h)
 
-    pub report_ran : (after : Whole) → after.identity ≡ store.identity → after.content ≡ content_after store.content acts → Sent (HasFile after) acts a b lb → IsTrue a.told → Ran (identity_of e) (acts_of e) t a b lb
+    pub report_ran : (after : Whole) → after.identity ≡ store.identity → after.content ≡ content_after store.content acts → Sent (HasFile after) acts a b lb → IsTrue a.told → RanOver (identity_of e) (acts_of e) t a b lb
     report_ran after identity content sent told =
         let file : StandsFor after.identity after.content b.holds = (after.second, (sent.rest told).bytes) in
         let here : StandsFor store.identity store.content b.holds = subst (λ (x : Content). StandsFor store.identity x b.holds) (kept_content acts store.content after.content report_lines content) (subst (λ (j : Identity). StandsFor j after.content b.holds) identity file) in
@@ -104,7 +104,7 @@ module _ (e : Errand) (t : TableRows) (core : CoreValue) (application : core.app
         subst (λ (u : TableRows). Performs tables_after (StandsForTables (identity_of e)) u (acts_of e t) a b la lb) (durable_is suits)
         (subst (λ (l : List Act). Performs tables_after (StandsForTables (identity_of e)) (durable e.application.generation (started (app_of e) t).tables) l a b la lb) script_is here)
 
-    pub script_ran : RanSteps e.fingerprint core (history core.application core.state e.commands) a b lb → Ran (identity_of e) (acts_of e) t a b lb
+    pub script_ran : RanSteps e.fingerprint core (history core.application core.state e.commands) a b lb → RanOver (identity_of e) (acts_of e) t a b lb
     script_ran h =
         let here = subst (λ (c : CoreValue). RanSteps e.fingerprint c (history c.application c.state e.commands) a b lb) core_is h in
         record {
@@ -138,7 +138,7 @@ module _ (e v : Errand) (same : e ≡ v) (t : TableRows) (core : CoreValue) (app
         subst (λ (x : Errand). Performs tables_after (StandsForTables (identity_of x)) t (acts_of x t) a b la lb) (sym same)
         (script_performs v t core application state steps run_too suits_too a b la lb (subst (λ (l : List Command). PerformsSteps v.fingerprint core (history core.application core.state l) a b la lb) is h))
 
-    pub parts_ran : RanSteps v.fingerprint core (history core.application core.state commands) a b lb → Ran (identity_of e) (acts_of e) t a b lb
+    pub parts_ran : RanSteps v.fingerprint core (history core.application core.state commands) a b lb → RanOver (identity_of e) (acts_of e) t a b lb
     parts_ran h =
-        subst (λ (x : Errand). Ran (identity_of x) (acts_of x) t a b lb) (sym same)
+        subst (λ (x : Errand). RanOver (identity_of x) (acts_of x) t a b lb) (sym same)
         (script_ran v t core application state steps run_too suits_too a b la lb (subst (λ (l : List Command). RanSteps v.fingerprint core (history core.application core.state l) a b lb) is h))

@@ -8,7 +8,11 @@ use Rattle.kdcs_types.specs.declared.act.Act.{Act}
 use Rattle.monitor_semantics.specs.Trace.{bytes_of}
 use Rattle.monitor_laws.specs.Cut.{SentBy}
 use Rattle.monitor_run.specs.Running.{IsCutSince}
-use Rattle.utm_cli.specs.Promise.{IsCutOfRun, EndsInCut}
+use Rattle.utm_cli.specs.declared.words.Word.{Word}
+use Rattle.utm_cli.specs.declared.words.Word.TheVariants.{Gen, Run, Show, Make}
+use Rattle.utm_cli.specs.Asking.{Errand}
+use Rattle.utm_cli.specs.Doing.{identity_of, acts_of}
+use Rattle.utm_cli.specs.Promise.{IsCutOver, IsCutBy, IsCutOfRun, EndsInCut}
 use Rattle.utm_cli.proofs.Cuts.{bytes_joined, bytes_of_line}
 
 front_of : (whole first rest : List ℕ) → whole ≡ first ++ rest → (n : ℕ) × (first ≡ take n whole)
@@ -31,9 +35,15 @@ front_of_cut stands t all sent image out h =
     let front = front_of (bytes_of all) h.since rest.0 (ap bytes_of h.cut.whole ∙ rest.1) in
     (front.0, h.more ∙ ap (λ (l : List ℕ). sent ++ l) front.1)
 
-front_of_run : (i : Identity) (acts : TableRows → List Act) (t : TableRows) (a : State) (image out : List ℕ) → IsCutOfRun i acts t a image out → (n : ℕ) × (out ≡ a.sent ++ take n (bytes_of (acts t)))
-front_of_run i acts t a image out (inl cut) = front_of_cut _ t (acts t) a.sent image out cut
-front_of_run i acts t a image out (inr unmade) = (0, unmade.silent ∙ sym (append-nil a.sent))
+front_over : (i : Identity) (acts : TableRows → List Act) (t : TableRows) (a : State) (image out : List ℕ) → IsCutOver i acts t a image out → (n : ℕ) × (out ≡ a.sent ++ take n (bytes_of (acts t)))
+front_over i acts t a image out (inl cut) = front_of_cut _ t (acts t) a.sent image out cut
+front_over i acts t a image out (inr unmade) = (0, unmade.silent ∙ sym (append-nil a.sent))
 
-pub ends : (i : Identity) (acts : TableRows → List Act) (t : TableRows) (a d : State) → IsCutOfRun i acts t a d.holds d.sent → EndsInCut i acts t a d
-ends i acts t a d cut = record { cut = cut; front = front_of_run i acts t a d.holds d.sent cut }
+front_by : (word : Word) (i : Identity) (acts : TableRows → List Act) (t : TableRows) (a : State) (image out : List ℕ) → IsCutBy word i acts t a image out → (n : ℕ) × (out ≡ a.sent ++ take n (bytes_of (acts t)))
+front_by Gen i acts t a image out cut = front_over i acts t a image out cut
+front_by Run i acts t a image out cut = front_over i acts t a image out cut
+front_by Show i acts t a image out cut = cut.1
+front_by (Make n) i acts t a image out cut = cut.1
+
+pub ends : (e : Errand) (t : TableRows) (a d : State) → IsCutOfRun e t a d.holds d.sent → EndsInCut e t a d
+ends e t a d cut = record { cut = cut; front = front_by e.word (identity_of e) (acts_of e) t a d.holds d.sent cut }

@@ -6,6 +6,7 @@ pub mod Started
 pub mod Results
 pub mod Opened
 pub mod Ran
+pub mod ByWord
 pub mod Doing
 pub mod Ends
 pub mod Asking

@@ -1,16 +1,17 @@
 -- Tables that a call starts from, and the laws of its script.
-use Rattle.std.proofs.Common.{inl, inr, List, refl, sym, subst, arith}
+use Rattle.std.proofs.Common.{inl, inr, List, [], refl, sym, subst}
 use Rattle.std.specs.Prelude.{ℕ}
-use Rattle.kdcdef_types.specs.Generation.{Generated}
 use Rattle.kdcs_types.specs.Tables.{TableRows, IsSortedTables, empty_tables}
-use Rattle.monitor_semantics.specs.Charges.{total_charge}
+use Rattle.monitor_laws.specs.EmptyTables.{empty_suit}
 use Rattle.monitor_laws.specs.Suits.{Suits}
 use Rattle.monitor_queues.specs.Lawful.{RunsAreLawful}
 use Rattle.monitor_queues.specs.ResumeLaws.{CutsResume}
 use Rattle.monitor_queues.specs.SerialCuts.{CutsAreSerial}
 use Rattle.monitor_run.specs.Durable.{durable_same}
 use Rattle.utm_cli.specs.Asking.{Errand, CanRun, app_of}
-use Rattle.utm_cli.specs.Doing.{Starts}
+use Rattle.utm_cli.specs.Doing.{Opens, StartsBy, Starts}
+use Rattle.utm_cli.specs.declared.words.Word.{Word}
+use Rattle.utm_cli.specs.declared.words.Word.TheVariants.{Gen, Run, Show, Make}
 use Rattle.utm_cli.specs.Promise.{RunsLawfully}
 
 -- ---- the empty tables
@@ -18,35 +19,21 @@ use Rattle.utm_cli.specs.Promise.{RunsLawfully}
 empty_sorted : IsSortedTables empty_tables
 empty_sorted = record { gssbs = refl; tlss = refl; ulss = refl; services = refl; jobs = refl; shown = refl; tlss_filled = refl; ulss_filled = refl; services_fit = refl }
 
-empty_suit : (g : Generated) → Suits g empty_tables
-unfolding total_charge
-empty_suit g = record {
-  clock = omega arith;
-  next_job_from_one = omega arith;
-  next_job = omega arith;
-  charge = omega arith;
-  count = omega arith;
-  gssbs = refl;
-  tlss = refl;
-  ulss = refl;
-  services = refl;
-  durable = refl;
-  jobs = refl;
-  shown = refl;
-  job_numbers = refl;
-  service_numbers = refl;
-  apart = refl;
-}
-
 -- ---- a start
 
-pub suited : (e : Errand) (bytes : List ℕ) (t : TableRows) → Starts e bytes t → IsSortedTables t × Suits e.application.generation t
-suited e bytes t (inl (empty, is)) = (subst IsSortedTables (sym is) empty_sorted, subst (Suits e.application.generation) (sym is) (empty_suit e.application.generation))
-suited e bytes t (inr (stands, suits)) = (stands.tables.sorted, suits)
+opened : (e : Errand) (bytes : List ℕ) (t : TableRows) → Opens e bytes t → IsSortedTables t × Suits e.application.generation t
+opened e bytes t (inl (empty, is)) = (subst IsSortedTables (sym is) empty_sorted, subst (Suits e.application.generation) (sym is) (empty_suit e.application.generation))
+opened e bytes t (inr (stands, suits)) = (stands.tables.sorted, suits)
+
+suited_by : (word : Word) (e : Errand) (bytes : List ℕ) (t : TableRows) → StartsBy word e bytes t → IsSortedTables t × Suits e.application.generation t
+suited_by Gen e bytes t starts = opened e bytes t starts
+suited_by Run e bytes t starts = opened e bytes t starts
+suited_by Show e bytes t starts = opened e bytes t starts
+suited_by (Make n) e bytes t is = opened e [] t (inl (refl, is))
 
 pub runs_lawfully : (e : Errand) → CanRun e → RunsAreLawful → CutsResume → CutsAreSerial → (bytes : List ℕ) (t : TableRows) → Starts e bytes t → RunsLawfully (app_of e) t e.commands
 runs_lawfully e can lawful resume serial bytes t starts =
-    let there = suited e bytes t starts in
+    let there = suited_by e.word e bytes t starts in
     record {
       lasting = durable_same e.application.generation t there.1;
       commits = lawful (app_of e) t e.commands can.applies can.names there.0 there.1;

@@ -31,25 +31,20 @@ use Rattle.utm_cli.specs.declared.error.Refusal.TheVariants.{Application, Script
 use Rattle.utm_cli.specs.declared.error.TextError.{TextError}
 use Rattle.utm_cli.specs.declared.error.TextError.TheVariants as error
 use Rattle.utm_cli.specs.declared.words.Word.{Word}
-use Rattle.utm_cli.specs.declared.words.Word.TheVariants.{Gen, Run}
+use Rattle.utm_cli.specs.declared.words.Word.TheVariants.{Gen, Run, Show, Make}
 use Rattle.utm_cli.specs.Causes.{of_room, of_application, of_fault}
 use Rattle.utm_cli.specs.Words.{definition_name, units_name, script_name}
-use Rattle.utm_cli.specs.Asking.{shown_of, Reading, AskFor, ScriptIs, AreThere, ReadsFor}
+use Rattle.made_run.specs.Input.{definition_text as made_definition, units_text as made_units, script_text as made_script}
+use Rattle.utm_cli.specs.Doing.{IsOverFile}
+use Rattle.utm_cli.specs.Asking.{shown_of, IsLong, AreAlike, Reading, AskFor, TextIs, ScriptIs, WereRead, ReadsFor}
 
 -- ---- texts longer than the limit
-
-abbrev IsLong : List ℕ → Type 0
-IsLong text = 16777216 < length text
 
 too_long : (n : ℕ) → 16777216 < n → nat_lt 16777216 n ≡ true
 too_long n h = grind (arith, nat_tests)
 
--- the same text, or both are too long
-abbrev AreAlike : List ℕ → List ℕ → Type 0
-AreAlike d e = (d ≡ e) ⊎ (IsLong d × IsLong e)
-
 -- all of a text is shown, or the text and what is shown of it are too long
-shown_alike : (text : List ℕ) → AreAlike (shown_of text) text
+pub shown_alike : (text : List ℕ) → AreAlike (shown_of text) text
 shown_alike text = ⊎_elim (λ le. inl (take_all 16777217 text le)) (λ lt. inr (omega (arith, length-take 16777217 text, lt), omega (arith, lt))) (short_or_long (length text))
   where
     short_or_long : (n : ℕ) → (n ≤ 16777217) ⊎ (16777217 < n)
@@ -124,13 +119,6 @@ module _ (d e u v : List ℕ) (alike : AreAlike d e) (alike_too : AreAlike u v) 
   ask_alike word s t same (Err (Application f)) h = alike_refused f h
   ask_alike word s t same (Err (Script f)) h = (h.0, alike_made h.0 h.1, sym (alike_script h.0.generation s t same) ∙ h.2)
 
-ask_whole : (word : Word) (d u s : List ℕ) (said : Reading) → AskFor word (shown_of d) (shown_of u) (shown_of s) said → AskFor word d u s said
-ask_whole word d u s said h = ask_alike (shown_of d) d (shown_of u) u (shown_alike d) (shown_alike u) word (shown_of s) s (shown_alike s) said h
-
-ask_shown : (word : Word) (d u s : List ℕ) (said : Reading) → AskFor word d u s said → AskFor word (shown_of d) (shown_of u) (shown_of s) said
-ask_shown word d u s said h =
-    ask_alike d (shown_of d) u (shown_of u) (alike_back (shown_of d) d (shown_alike d)) (alike_back (shown_of u) u (shown_alike u)) word s (shown_of s) (alike_back (shown_of s) s (shown_alike s)) said h
-
 -- ---- texts in a room
 
 pub some_and : {X : Type 0} (o : Option X) (P : X → Type 0) → IsSomeAnd o P → (x : X) × (o ≡ Some x) × P x
@@ -143,26 +131,33 @@ same_some x y e = cc
 -- the script of a word, in a room with the same texts
 pub script_there : (word : Word) (base : List ℕ) (r k : RoomState) (s : List ℕ) → k.texts ≡ r.texts → ScriptIs word base k s → ScriptIs word base r s
 script_there Gen base r k s same h = h
+script_there Show base r k s same h = h
+script_there (Make n) base r k s same h = h
 script_there Run base r k s same h = subst (λ (texts : List (List ℕ × List ℕ)). text_of (script_name base) texts ≡ Some s) same h
 
 one_script : (word : Word) (base : List ℕ) (r : RoomState) (s t : List ℕ) → ScriptIs word base r s → ScriptIs word base r t → s ≡ t
 one_script Gen base r s t h k = h ∙ sym k
 one_script Run base r s t h k = same_some s t (sym h ∙ k)
+one_script Show base r s t h k = h ∙ sym k
+one_script (Make n) base r s t h k = h ∙ sym k
 
--- what was read of the texts that are there
-pub record WereRead (word : Word) (base : List ℕ) (r : RoomState) (d u s : List ℕ) : Type 0 where
-  pub definition : List ℕ
-  pub units : List ℕ
-  pub text : List ℕ
-  pub there : AreThere word base r definition units text
-  pub definition_is : d ≡ shown_of definition
-  pub units_are : u ≡ shown_of units
-  pub text_is : s ≡ shown_of text
+-- the other texts of a word, in the room
+text_is : (word : Word) → IsOverFile word → (r : RoomState) (name : List ℕ) (made : ℕ → List ℕ) (s : List ℕ) → text_of name r.texts ≡ Some s → TextIs word r name made s
+text_is Gen over r name made s h = h
+text_is Run over r name made s h = h
+text_is Show over r name made s h = h
+text_is (Make n) over r name made s h = absurd over
+
+one_text : (word : Word) (r : RoomState) (name : List ℕ) (made : ℕ → List ℕ) (s t : List ℕ) → TextIs word r name made s → TextIs word r name made t → s ≡ t
+one_text Gen r name made s t h k = same_some s t (sym h ∙ k)
+one_text Run r name made s t h k = same_some s t (sym h ∙ k)
+one_text Show r name made s t h k = same_some s t (sym h ∙ k)
+one_text (Make n) r name made s t h k = h ∙ sym k
 
 -- three reads after one another: k is the room after the first, l the one after the second
-pub were_read : (word : Word) (base : List ℕ) (r k l : RoomState) (d u s : List ℕ) → k.texts ≡ r.texts → l.texts ≡ k.texts → IsSomeAnd (text_of (definition_name base) r.texts) (λ whole. d ≡ shown_of whole) → IsSomeAnd (text_of (units_name base) k.texts) (λ whole. u ≡ shown_of whole)
+pub were_read : (word : Word) → IsOverFile word → (base : List ℕ) (r k l : RoomState) (d u s : List ℕ) → k.texts ≡ r.texts → l.texts ≡ k.texts → IsSomeAnd (text_of (definition_name base) r.texts) (λ whole. d ≡ shown_of whole) → IsSomeAnd (text_of (units_name base) k.texts) (λ whole. u ≡ shown_of whole)
     → (whole : List ℕ) × ScriptIs word base l whole × (s ≡ shown_of whole) → WereRead word base r d u s
-were_read word base r k l d u s same same_too definition units text =
+were_read word over base r k l d u s same same_too definition units text =
     let whole = some_and (text_of (definition_name base) r.texts) (λ whole. d ≡ shown_of whole) definition in
     let whole_too = some_and (text_of (units_name base) k.texts) (λ whole. u ≡ shown_of whole) units in
     record {
@@ -170,34 +165,60 @@ were_read word base r k l d u s same same_too definition units text =
       units = whole_too.0;
       text = text.0;
       there = record {
-        definition_is = whole.1;
-        units_is = subst (λ (texts : List (List ℕ × List ℕ)). text_of (units_name base) texts ≡ Some whole_too.0) same whole_too.1;
+        definition_is = text_is word over r (definition_name base) _ whole.0 whole.1;
+        units_is = text_is word over r (units_name base) _ whole_too.0 (subst (λ (texts : List (List ℕ × List ℕ)). text_of (units_name base) texts ≡ Some whole_too.0) same whole_too.1);
         script_is = script_there word base r l text.0 (same_too ∙ same) text.1;
       };
-      definition_is = whole.2;
-      units_are = whole_too.2;
-      text_is = text.2;
+      definition_is = read_alike d whole.0 whole.2;
+      units_are = read_alike u whole_too.0 whole_too.2;
+      text_is = read_alike s text.0 text.2;
     }
+  where
+    read_alike : (read whole : List ℕ) → read ≡ shown_of whole → AreAlike read whole
+    read_alike read whole is = subst (λ (l : List ℕ). AreAlike l whole) (sym is) (shown_alike whole)
+
+-- the same bytes were read
+pub read_same : (word : Word) (base : List ℕ) (r : RoomState) (d e u v s t : List ℕ) → e ≡ d → v ≡ u → t ≡ s → WereRead word base r d u s → WereRead word base r e v t
+read_same word base r d e u v s t definition units text read = record {
+  definition = read.definition;
+  units = read.units;
+  text = read.text;
+  there = read.there;
+  definition_is = subst (λ (l : List ℕ). AreAlike l read.definition) (sym definition) read.definition_is;
+  units_are = subst (λ (l : List ℕ). AreAlike l read.units) (sym units) read.units_are;
+  text_is = subst (λ (l : List ℕ). AreAlike l read.text) (sym text) read.text_is;
+}
+
+-- the made texts, which are read whole
+pub made_read : (n : ℕ) (base : List ℕ) (r : RoomState) (d u s : List ℕ) → d ≡ made_definition → u ≡ made_units → s ≡ made_script n → WereRead (Make n) base r d u s
+made_read n base r d u s definition units script = record {
+  definition = made_definition;
+  units = made_units;
+  text = made_script n;
+  there = record { definition_is = refl; units_is = refl; script_is = refl };
+  definition_is = inl definition;
+  units_are = inl units;
+  text_is = inl script;
+}
 
 module _ (word : Word) (base : List ℕ) (r : RoomState) (d u s : List ℕ) (read : WereRead word base r d u s) where
-  as_shown : (said : Reading) → AskFor word d u s said → AskFor word (shown_of read.definition) (shown_of read.units) (shown_of read.text) said
-  as_shown said h =
-      subst (λ (l : List ℕ). AskFor word l (shown_of read.units) (shown_of read.text) said) read.definition_is
-      (subst (λ (l : List ℕ). AskFor word d l (shown_of read.text) said) read.units_are (subst (λ (l : List ℕ). AskFor word d u l said) read.text_is h))
-
   -- what is said of the texts that were read is said of those that are there
   pub reads_for : (said : Reading) → AskFor word d u s said → ReadsFor word base r said
-  reads_for said h =
-      record { definition = read.definition; units = read.units; text = read.text; there = read.there; says = ask_whole word read.definition read.units read.text said (as_shown said h) }
+  reads_for said h = record {
+    definition = read.definition;
+    units = read.units;
+    text = read.text;
+    there = read.there;
+    says = ask_alike d read.definition u read.units read.definition_is read.units_are word s read.text read.text_is said h;
+  }
 
   pub asked_for : (said : Reading) → ReadsFor word base r said → AskFor word d u s said
   asked_for said h =
-      let definition : h.definition ≡ read.definition = same_some h.definition read.definition (sym h.there.definition_is ∙ read.there.definition_is) in
-      let units : h.units ≡ read.units = same_some h.units read.units (sym h.there.units_is ∙ read.there.units_is) in
-      let text : h.text ≡ read.text = one_script word base r h.text read.text h.there.script_is read.there.script_is in
-      subst (λ (l : List ℕ). AskFor word l u s said) (ap shown_of definition ∙ sym read.definition_is)
-      (subst (λ (l : List ℕ). AskFor word (shown_of h.definition) l s said) (ap shown_of units ∙ sym read.units_are)
-      (subst (λ (l : List ℕ). AskFor word (shown_of h.definition) (shown_of h.units) l said) (ap shown_of text ∙ sym read.text_is) (ask_shown word h.definition h.units h.text said h.says)))
+      let definition = one_text word r (definition_name base) _ h.definition read.definition h.there.definition_is read.there.definition_is in
+      let units = one_text word r (units_name base) _ h.units read.units h.there.units_is read.there.units_is in
+      let text = one_script word base r h.text read.text h.there.script_is read.there.script_is in
+      ask_alike h.definition d h.units u (alike_back d h.definition (subst (AreAlike d) (sym definition) read.definition_is)) (alike_back u h.units (subst (AreAlike u) (sym units) read.units_are)) word h.text s
+      (alike_back s h.text (subst (AreAlike s) (sym text) read.text_is)) said h.says
 
 -- ---- what was handed on
 
@@ -296,7 +317,11 @@ pub ok_weaker : {X E : Type 0} (r : Result X E) (P Q : X → Type 0) → ((x : X
 ok_weaker (Ok x) P Q h p = h x p
 ok_weaker (Err e) P Q h p = p
 
--- a read that failed
+-- a read that failed, as the error of the texts and as its own
+pub handed_room : (T U : Type 0) (r : Result T RoomError) (e : RoomError) → IsErrAnd r (λ x. x ≡ e) → IsErrOf r room.Failed → IsErrOf {T = U} (Err e) room.Failed
+handed_room T U (Ok x) e gives is = absurd gives
+handed_room T U (Err x) e gives is = let same : x ≡ room.Failed = cc in ap (λ (k : RoomError). Err k) (sym gives ∙ same)
+
 pub room_failed : (T U : Type 0) (r : Result T TextError) (e : RoomError) → IsErrAnd r (λ x. x ≡ of_room e) → IsErrOf r error.Room → IsErrOf {T = U} (Err e) room.Failed
 room_failed T U r room.Failed gives is = refl
 room_failed T U (Ok x) room.Memory gives is = absurd gives

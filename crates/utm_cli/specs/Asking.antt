@@ -1,5 +1,5 @@
 -- What the texts of a call ask for.
-use Rattle.std.specs.Prelude.{◌≡◌, ◌≤◌, ◌^◌, ℕ, List, [], take, sum_by, Some, Result, Ok, Err}
+use Rattle.std.specs.Prelude.{◌≡◌, ◌⊎◌, ◌≤◌, ◌<◌, ◌^◌, ℕ, List, [], length, take, sum_by, Some, Result, Ok, Err}
 use Rattle.kd_device.specs.Room.{RoomState, text_of}
 use Rattle.unit_check.specs.Fitted.{IsFit}
 use Rattle.application_read.specs.declared.application.Application.{Application as Made}
@@ -12,10 +12,11 @@ use Rattle.monitor_laws.specs.Keeping.{IsScriptOf}
 use Rattle.script_read.specs.Commands.{script_in}
 use Rattle.warm_start.specs.Fingerprints.{fingerprint as print_of}
 use Rattle.monitor_run.specs.Running.{turns_of}
+use Rattle.made_run.specs.Input.{definition_text as made_definition, units_text as made_units, script_text as made_script}
 use Rattle.utm_cli.specs.declared.error.Refusal.{Refusal}
 use Rattle.utm_cli.specs.declared.error.Refusal.TheVariants.{Application, Script}
 use Rattle.utm_cli.specs.declared.words.Word.{Word}
-use Rattle.utm_cli.specs.declared.words.Word.TheVariants.{Gen, Run}
+use Rattle.utm_cli.specs.declared.words.Word.TheVariants.{Gen, Run, Show, Make}
 use Rattle.utm_cli.specs.Words.{definition_name, units_name, script_name}
 
 -- what is read of a text: all of it, or one byte more than the limit
@@ -40,24 +41,51 @@ AskFor word definition units text (Ok e) =
 AskFor word definition units text (Err (Application fault)) = TextsHaveFault definition units fault
 AskFor word definition units text (Err (Script fault)) = (a : Made) × TextsGenerate definition units a × (script_in a.generation text ≡ Err fault)
 
--- the text of the script; `gen` reads none
+-- a text of a word: the room's of this name, or for `make` the made one
+abbrev pub TextIs : Word → RoomState → (name : List ℕ) → (made : ℕ → List ℕ) → List ℕ → Type 0
+TextIs Gen room name made text = text_of name room.texts ≡ Some text
+TextIs Run room name made text = text_of name room.texts ≡ Some text
+TextIs Show room name made text = text_of name room.texts ≡ Some text
+TextIs (Make n) room name made text = text ≡ made n
+
+-- the text of the script; `gen` and `show` read none
 abbrev pub ScriptIs : Word → List ℕ → RoomState → List ℕ → Type 0
 ScriptIs Gen base room text = text ≡ []
 ScriptIs Run base room text = text_of (script_name base) room.texts ≡ Some text
+ScriptIs Show base room text = text ≡ []
+ScriptIs (Make n) base room text = text ≡ made_script n
 
--- the texts of this BASE that the word reads are there
+-- the texts of a word are there: those of this BASE, or the made ones
 pub record AreThere (word : Word) (base : List ℕ) (room : RoomState) (definition units text : List ℕ) : Type 0 where
-  pub definition_is : text_of (definition_name base) room.texts ≡ Some definition
-  pub units_is : text_of (units_name base) room.texts ≡ Some units
+  pub definition_is : TextIs word room (definition_name base) (λ n. made_definition) definition
+  pub units_is : TextIs word room (units_name base) (λ n. made_units) units
   pub script_is : ScriptIs word base room text
 
--- the texts of this BASE that the word reads are there, and this is what they say
+-- the texts of the word are there, and this is what they say
 pub record ReadsFor (word : Word) (base : List ℕ) (room : RoomState) (said : Reading) : Type 0 where
   pub definition : List ℕ
   pub units : List ℕ
   pub text : List ℕ
   pub there : AreThere word base room definition units text
   pub says : AskFor word definition units text said
+
+-- longer than a text may be
+abbrev pub IsLong : List ℕ → Type 0
+IsLong text = 16777216 < length text
+
+-- the same text, or both are too long
+abbrev pub AreAlike : List ℕ → List ℕ → Type 0
+AreAlike d e = (d ≡ e) ⊎ (IsLong d × IsLong e)
+
+-- what was read of the texts of a word says what they say
+pub record WereRead (word : Word) (base : List ℕ) (room : RoomState) (definition_read units_read text_read : List ℕ) : Type 0 where
+  pub definition : List ℕ
+  pub units : List ℕ
+  pub text : List ℕ
+  pub there : AreThere word base room definition units text
+  pub definition_is : AreAlike definition_read definition
+  pub units_are : AreAlike units_read units
+  pub text_is : AreAlike text_read text
 
 -- ---- what is known of an errand that was read
 

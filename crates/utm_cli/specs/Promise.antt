@@ -1,7 +1,7 @@
 -- The words in which the top call promises.
-use Rattle.std.specs.Prelude.{◌≡◌, ◌⊎◌, ℕ, nat_eq, IsTrue, List, [], ◌∷◌, ◌++◌, take, Some, None}
+use Rattle.std.specs.Prelude.{◌≡◌, ⊤, ◌⊎◌, ℕ, nat_eq, IsTrue, List, [], ◌∷◌, ◌++◌, take, Some, None}
 use Rattle.std.specs.List.{list_any}
-use Rattle.kd_device.specs.Device.{State, Only}
+use Rattle.kd_device.specs.Device.{State, LeavesOnly, Only}
 use Rattle.kd_device.specs.Room.{RoomState, text_of}
 use Rattle.kd_records.specs.Identity.{Identity}
 use Rattle.kdcfile_images.specs.File.{IsNoImage}
@@ -16,11 +16,13 @@ use Rattle.monitor_laws.specs.Commits.{IsLawful}
 use Rattle.monitor_queues.specs.ResumeLaws.{CutResumes}
 use Rattle.monitor_queues.specs.SerialCuts.{IsSerialCut}
 use Rattle.warm_start.specs.Stands.{StandsForTables}
+use Rattle.monitor_acts.specs.Said.{Said, SaidPart}
 use Rattle.monitor_run.specs.Running.{IsCutSince}
 use Rattle.utm_cli.specs.declared.words.Word.{Word}
-use Rattle.utm_cli.specs.declared.words.Word.TheVariants.{Gen, Run}
+use Rattle.utm_cli.specs.declared.words.Word.TheVariants.{Gen, Run, Show, Make}
 use Rattle.utm_cli.specs.Words.{request_of, definition_name, units_name, script_name, file_name}
-use Rattle.utm_cli.specs.Asking.{Reading, ReadsFor}
+use Rattle.utm_cli.specs.Asking.{Errand, Reading, ReadsFor}
+use Rattle.utm_cli.specs.Doing.{identity_of, acts_of}
 
 -- the status is one of these
 abbrev pub IsOneOf : List ℕ → ℕ → Type 0
@@ -45,6 +47,8 @@ IsMissing name room = text_of name room.texts ≡ None
 abbrev pub Lacks : Word → List ℕ → RoomState → Type 0
 Lacks Gen base room = IsMissing (definition_name base) room ⊎ IsMissing (units_name base) room
 Lacks Run base room = IsMissing (definition_name base) room ⊎ IsMissing (units_name base) room ⊎ IsMissing (script_name base) room
+Lacks Show base room = IsMissing (definition_name base) room ⊎ IsMissing (units_name base) room
+Lacks (Make n) base room = ⊥
 
 -- the words ask for something, and a text that it reads is not there
 pub record Misses (words : List (List ℕ)) (room : RoomState) : Type 0 where
@@ -53,11 +57,22 @@ pub record Misses (words : List (List ℕ)) (room : RoomState) : Type 0 where
   pub asked : Request words word base
   pub not_there : Lacks word base room
 
--- all acts were done: their lines were sent, the file stands for the tables after them, and a stop leaves just it
-pub record Ran (i : Identity) (acts : TableRows → List Act) (t : TableRows) (a b : State) (lb : ℕ → List ℕ → List ℕ → Type 0) : Type 0 where
+-- all acts were done over the store: their lines were sent, the file stands for the tables after them, and a stop leaves just it
+pub record RanOver (i : Identity) (acts : TableRows → List Act) (t : TableRows) (a b : State) (lb : ℕ → List ℕ → List ℕ → Type 0) : Type 0 where
   pub sent : b.sent ≡ a.sent ++ bytes_of (acts t)
   pub holds : StandsForTables i (tables_after t (acts t)) b.holds
   pub settled : Only b.holds b lb
+
+-- all acts were done: `gen` and `run` over the store, while `show` and `make` send their lines and leave the file as it was
+abbrev pub RanBy : Word → Identity → (TableRows → List Act) → TableRows → State → State → (ℕ → List ℕ → List ℕ → Type 0) → Type 0
+RanBy Gen i acts t a b lb = RanOver i acts t a b lb
+RanBy Run i acts t a b lb = RanOver i acts t a b lb
+RanBy Show i acts t a b lb = Said (bytes_of (acts t)) a b
+RanBy (Make n) i acts t a b lb = Said (bytes_of (acts t)) a b
+
+-- all that was asked for was done, from these tables
+abbrev pub Ran : Errand → TableRows → State → State → (ℕ → List ℕ → List ℕ → Type 0) → Type 0
+Ran e t a b lb = RanBy e.word (identity_of e) (acts_of e) t a b lb
 
 -- a file that a stop left unmade: it is empty, or stands for no content of any identity, and so for no tables
 abbrev pub IsUnmade : List ℕ → Type 0
@@ -69,18 +84,40 @@ pub record LeavesUnmade (a : State) (image out : List ℕ) : Type 0 where
   pub silent : out ≡ a.sent
   pub unmade : IsUnmade image
 
--- what was sent and what a stop leaves are a cut of these acts from these tables
-abbrev pub IsCutOfRun : Identity → (TableRows → List Act) → TableRows → State → List ℕ → List ℕ → Type 0
-IsCutOfRun i acts t a image out = IsCutSince (StandsForTables i) t (acts t) a.sent image out ⊎ LeavesUnmade a image out
+-- what was sent and what a stop leaves are a cut of these acts over the store, from these tables
+abbrev pub IsCutOver : Identity → (TableRows → List Act) → TableRows → State → List ℕ → List ℕ → Type 0
+IsCutOver i acts t a image out = IsCutSince (StandsForTables i) t (acts t) a.sent image out ⊎ LeavesUnmade a image out
 
--- a front of these bytes was sent, perhaps none of them or all
-abbrev pub SentFront : List ℕ → State → State → Type 0
-SentFront bytes a b = (n : ℕ) × (b.sent ≡ a.sent ++ take n bytes)
+-- the file is as it was, and a front of these bytes was sent, perhaps none of them or all
+abbrev pub IsFront : List ℕ → State → List ℕ → List ℕ → Type 0
+IsFront bytes a image out = (image ≡ a.holds) × ((n : ℕ) × (out ≡ a.sent ++ take n bytes))
 
--- what was sent and what the file has, as the call left them, are a cut of these acts, and the lines a front of all theirs
-pub record EndsInCut (i : Identity) (acts : TableRows → List Act) (t : TableRows) (a b : State) : Type 0 where
-  pub cut : IsCutOfRun i acts t a b.holds b.sent
-  pub front : SentFront (bytes_of (acts t)) a b
+abbrev pub IsCutBy : Word → Identity → (TableRows → List Act) → TableRows → State → List ℕ → List ℕ → Type 0
+IsCutBy Gen i acts t a image out = IsCutOver i acts t a image out
+IsCutBy Run i acts t a image out = IsCutOver i acts t a image out
+IsCutBy Show i acts t a image out = IsFront (bytes_of (acts t)) a image out
+IsCutBy (Make n) i acts t a image out = IsFront (bytes_of (acts t)) a image out
+
+-- what was sent and what a stop leaves are a cut of what was asked for, from these tables
+abbrev pub IsCutOfRun : Errand → TableRows → State → List ℕ → List ℕ → Type 0
+IsCutOfRun e t a image out = IsCutBy e.word (identity_of e) (acts_of e) t a image out
+
+-- what was sent and what the file has, as the call left them, are such a cut, and the lines a front of all lines
+pub record EndsInCut (e : Errand) (t : TableRows) (a b : State) : Type 0 where
+  pub cut : IsCutOfRun e t a b.holds b.sent
+  pub front : (n : ℕ) × (b.sent ≡ a.sent ++ take n (bytes_of (acts_of e t)))
+
+-- whatever became of it, a front of these bytes was sent, and the file and what a stop leaves of it stay
+pub record SaysFront (bytes : List ℕ) (a b : State) (la lb : ℕ → List ℕ → List ℕ → Type 0) : Type 0 where
+  pub part : SaidPart bytes a b
+  pub any_moment : LeavesOnly a b la lb (λ c out. la a.moment c a.sent × ((n : ℕ) × (out ≡ a.sent ++ take n bytes)))
+
+-- this word makes the KDCFILE where it is empty
+abbrev pub MakesFile : Word → Type 0
+MakesFile Gen = ⊤
+MakesFile Run = ⊤
+MakesFile Show = ⊥
+MakesFile (Make n) = ⊥
 
 -- every commit of the script meets the laws of commits; wherever a stop cuts its acts, what is stored are tables from which all services go on, and a serial run of the first commits stores the same
 pub record RunsLawfully (app : Application) (t : TableRows) (script : List Command) : Type 0 where
@@ -94,6 +131,16 @@ pub record RunsLawfully (app : Application) (t : TableRows) (script : List Comma
 abbrev pub MayAttach : List ℕ → State → State → Type 0
 MayAttach name a b = (b.names ≡ a.names) ⊎ (b.names ≡ a.names ++ name ∷ [])
 
--- the file of this BASE, and no other, was handed to attach
-abbrev pub Attached : List ℕ → State → State → Type 0
-Attached base a b = b.names ≡ a.names ++ file_name base ∷ []
+-- this name was handed to attach; `make` hands on none
+abbrev pub HandsOn : Word → List ℕ → State → State → Type 0
+HandsOn Gen name a b = b.names ≡ a.names ++ name ∷ []
+HandsOn Run name a b = b.names ≡ a.names ++ name ∷ []
+HandsOn Show name a b = b.names ≡ a.names ++ name ∷ []
+HandsOn (Make n) name a b = b.names ≡ a.names
+
+abbrev pub MayHandOn : Word → List ℕ → State → State → Type 0
+MayHandOn word name a b = (b.names ≡ a.names) ⊎ HandsOn word name a b
+
+-- what was handed to attach where all is done: the file of the BASE, and for `make` none
+abbrev pub AttachedBy : Word → List ℕ → State → State → Type 0
+AttachedBy word base a b = HandsOn word (file_name base) a b

@@ -1,41 +1,72 @@
 -- What the words of a call ask for, and the lines of its refusals.
-use Rattle.std.specs.Prelude.{ℕ, Bool, true, false, ◌&&◌, nat_le, List, [], ◌∷◌, ◌++◌, length, codes, Option, Some, None}
+use Rattle.std.specs.Prelude.{⊤, ℕ, Bool, true, false, ◌&&◌, nat_le, List, [], ◌∷◌, ◌++◌, length, codes, Option, Some, None}
 use Rattle.std.specs.Fmt.{decimal}
 use Rattle.hex.specs.Hex.{encode_lower}
+use Rattle.kd_base.specs.Text.{decimal_of}
+use Rattle.kdcdef_types.specs.Statements.{IsWithin}
 use Rattle.application_read.specs.declared.fault.ApplicationFault.{ApplicationFault}
 use Rattle.application_read.specs.Faults.{text_of, line_of, name_of}
 use Rattle.script_read.specs.Script.{same}
 use Rattle.utm_cli.specs.declared.error.Refusal.{Refusal}
 use Rattle.utm_cli.specs.declared.error.Refusal.TheVariants.{Application, Script}
 use Rattle.utm_cli.specs.declared.words.Word.{Word}
-use Rattle.utm_cli.specs.declared.words.Word.TheVariants.{Gen, Run}
+use Rattle.utm_cli.specs.declared.words.Word.TheVariants.{Gen, Run, Show, Make}
 use Rattle.script_read.specs.declared.fault.ScriptFault.{ScriptFault}
 use Rattle.script_read.specs.declared.fault.ScriptFault.TheVariants.{BadLine, OutOfRange, TooLong, Memory}
 
-abbrev pub word_by : (gen run : Bool) → Option Word
-word_by true run = Some Gen
-word_by false true = Some Run
-word_by false false = None
+abbrev pub word_by : (gen run show : Bool) → Option Word
+word_by true run show = Some Gen
+word_by false true show = Some Run
+word_by false false true = Some Show
+word_by false false false = None
 
--- the word that is spelled so
+-- the word of a BASE that is spelled so
 abbrev pub word_of : List ℕ → Option Word
-word_of word = word_by (same word (codes "gen")) (same word (codes "run"))
+word_of word = word_by (same word (codes "gen")) (same word (codes "run")) (same word (codes "show"))
 
 -- a BASE has 1 to 200 bytes
 abbrev pub is_base : List ℕ → Bool
 is_base base = nat_le 1 (length base) && nat_le (length base) 200
 
-abbrev pub asked : Option Word → Bool → List ℕ → Option (Word × List ℕ)
-asked None fits base = None
-asked (Some word) true base = Some (word, base)
-asked (Some word) false base = None
+-- how many inputs `make` can make
+abbrev pub is_input_count : ℕ → Bool
+is_input_count n = nat_le 1 n && nat_le n 20000
 
--- the word and the BASE of `gen BASE` and `run BASE`; no other words are a form yet
+-- a word as a call has it: `make` with a number of inputs that it can make
+abbrev pub IsForm : Word → Type 0
+IsForm Gen = ⊤
+IsForm Run = ⊤
+IsForm Show = ⊤
+IsForm (Make n) = IsWithin 1 20000 n
+
+abbrev pub made_by : Bool → ℕ → Option Word
+made_by true n = Some (Make n)
+made_by false n = None
+
+-- `make` with this number, if it is one
+abbrev pub made_input : Option ℕ → Option Word
+made_input None = None
+made_input (Some n) = made_by (is_input_count n) n
+
+abbrev pub over_base : Bool → List ℕ → Option Word
+over_base true word = word_of word
+over_base false word = None
+
+-- the word before this operand: N of 1 to 18 digits behind `make`, and else a BASE
+abbrev pub word_with : (make : Bool) → (word operand : List ℕ) → Option Word
+word_with true word operand = made_input (decimal_of operand)
+word_with false word operand = over_base (is_base operand) word
+
+abbrev pub asked : Option Word → List ℕ → Option (Word × List ℕ)
+asked None operand = None
+asked (Some word) operand = Some (word, operand)
+
+-- the word and the operand of `gen BASE`, `run BASE`, `show BASE` and `make N`; no other words are a form
 abbrev pub request_of : List (List ℕ) → Option (Word × List ℕ)
 request_of [] = None
 request_of (word ∷ []) = None
-request_of (word ∷ base ∷ []) = asked (word_of word) (is_base base) base
-request_of (word ∷ base ∷ more ∷ rest) = None
+request_of (word ∷ operand ∷ []) = asked (word_with (same word (codes "make")) word operand) operand
+request_of (word ∷ operand ∷ more ∷ rest) = None
 
 -- the name of the definition's text
 abbrev pub definition_name : List ℕ → List ℕ

@@ -5,7 +5,7 @@ ghost use Rattle.utm_cli.specs.Asking.{CanRun, app_of};
 ghost use Rattle.utm_cli.specs.Doing.{Starts};
 ghost use Rattle.utm_cli.specs.Promise.{RunsLawfully};
 
-use crate::texts::Asked;
+use crate::reading::Asked;
 use monitor_queues::{cuts_are_serial, cuts_resume, runs_are_lawful};
 
 /// From the tables that a file stands for, the script meets the laws of commits, and each cut of it can be gone on from

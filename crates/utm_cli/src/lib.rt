@@ -6,12 +6,12 @@
 mod error;
 mod lawful;
 mod opening;
+mod reading;
 mod refuse;
 mod report;
 mod run;
 mod status;
 mod text;
-mod texts;
 mod top;
 mod words;
 

@@ -14,7 +14,7 @@ use kdcdef_check::Generation;
 use kdcfile_store::WholeStore;
 use kdcs_types::Tables;
 use std::alloc::Global;
-use warm_start::{OpenError, open_tables};
+use warm_start::{OpenError, open_tables, read_tables};
 
 /// Attaches the file of this name.
 fn attach<D: Device>(device: &mut D, name: &[u8]) -> Result<(), OpenError>
@@ -59,4 +59,25 @@ pub(crate) fn open<D: Device>(
 {
     attach(device, name)?;
     open_tables(alloc, device, generation, fingerprint)
+}
+
+/// Attaches the file of this name, and reads the tables that it stands for. It stays as it is, empty too.
+pub(crate) fn look<D: Device>(
+    alloc: Global,
+    device: &mut D,
+    name: &[u8],
+    generation: &Generation,
+    fingerprint: &[u8; 32],
+) -> Result<Tables, OpenError>
+    ensures starts { IfOk result (λ t. IsTrue (D.state device.old).told → StartsFrom generation.now fingerprint.now (D.state device.old).holds t) }
+    ensures refused { IsErrOf result OpenError.NotKdcfile → IsTrue (D.state device.old).told → IsRefused generation.now fingerprint.now (D.state device.old).holds }
+    ensures other { (stored : List ℕ) → IsErrOf result (OpenError.OtherGeneration stored) → IsTrue (D.state device.old).told → IsOfOtherTexts stored fingerprint.now (D.state device.old).holds }
+    ensures rests { IsTrue (D.state device.old).told → Rests (D.state device.old) (D.state device.new) (D.leaves device.old) (D.leaves device.new) }
+    ensures names { IsTrue (D.state device.old).told → MayAttach name.now (D.state device.old) (D.state device.new) }
+    ensures named { OnOk result (IsTrue (D.state device.old).told → (D.state device.new).names ≡ (D.state device.old).names ++ name.now ∷ []) }
+    ensures failed { IsErrOf result OpenError.Failed → Rose (D.state device.old).disk_faults (D.state device.new).disk_faults }
+    ensures frame { Frame (D.state device.old) (D.state device.new) }
+{
+    attach(device, name)?;
+    read_tables(alloc, device, generation, fingerprint)
 }

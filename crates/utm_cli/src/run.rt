@@ -1,35 +1,42 @@
 //! What a call does over the KDCFILE.
 ghost use Rattle.std.specs.Prelude.{◌≡◌, ◌⊎◌, ◌++◌, ◌∷◌, [], List, ℕ, IsTrue, true, OnOk, IsErrOf};
-ghost use Rattle.kd_device.specs.Device.{Rose, Frame, LeavesOnly, Only};
+ghost use Rattle.kd_device.specs.Device.{Rose, Frame, SameNames, LeavesOnly, Only};
 ghost use Rattle.kd_device.specs.Rest.{Rests};
 ghost use Rattle.kdcfile_store.specs.Kept.{IsKept};
 ghost use Rattle.kdcfile_store.specs.Whole.{HasFile};
 ghost use Rattle.kdcs_types.specs.Tables.{TableRows};
 ghost use Rattle.monitor_laws.specs.Suits.{Suits};
+ghost use Rattle.kdcdef_types.specs.Statements.{IsWithin};
+ghost use Rattle.monitor_semantics.specs.Listing.{listing};
 ghost use Rattle.monitor_semantics.specs.Trace.{tables_after};
+ghost use Rattle.warm_start.specs.Opening.{IsRefused, IsOfOtherTexts};
 ghost use Rattle.warm_start.specs.Stands.{StandsForTables, KeepsTables};
-ghost use Rattle.utm_cli.specs.Words.{file_name, not_a_kdcfile_line, other_generation_line};
+ghost use Rattle.utm_cli.specs.Words.{IsForm, file_name, not_a_kdcfile_line, other_generation_line};
 ghost use Rattle.monitor_acts.specs.Said.{SameDisk, Said, SaidPart};
 ghost use Rattle.utm_cli.specs.declared.words.Word.TheVariants.{Gen, Run};
-ghost use Rattle.utm_cli.specs.Asking.{CanRun};
-ghost use Rattle.utm_cli.specs.Doing.{Starts, Refuses, IsOfOthers, identity_of, acts_of};
+ghost use Rattle.utm_cli.specs.Asking.{CanRun, app_of};
+ghost use Rattle.utm_cli.specs.Doing.{Opens, Starts, Refuses, IsOfOthers, identity_of, acts_of};
 ghost use Rattle.monitor_acts.specs.Performing.{Performs, commits_nothing};
-ghost use Rattle.utm_cli.specs.Promise.{IsOneOf, Ran, IsCutOfRun, MayAttach, Attached};
+ghost use Rattle.made_run.specs.Report.{report_of};
+ghost use Rattle.utm_cli.specs.Promise.{IsOneOf, RanOver, Ran, IsCutOver, IsCutOfRun, SaysFront, MakesFile, MayAttach, MayHandOn, HandsOn, AttachedBy};
 
-use crate::opening::open;
+use crate::opening::{look, open};
+use crate::reading::Asked;
 use crate::refuse::{refuse, refuse_other};
 use crate::report::report;
 use crate::status::Status;
 use crate::text::named;
-use crate::texts::Asked;
 use crate::words::Word;
+use application_read::Application;
 use kd_device::Device;
 use kdcfile_store::WholeStore;
 use kdcs_monitor::Core;
 use kdcs_types::Tables;
-use monitor_acts::{ActError, perform_acts};
+use made_run::made_report;
+use monitor_acts::{ActError, perform_acts, say};
 use monitor_run::{RunError, run_script};
 use std::alloc::Global;
+use table_lines::table_lines;
 
 /// What is sent where the file is no KDCFILE of this application.
 const NOT_A_KDCFILE: &[u8] = b"KDCFILE NOT A KDCFILE\n";
@@ -44,28 +51,28 @@ fn perform_report<D: Device>(
     requires word { asked.now.word ≡ Gen }
     requires kept { IsTrue (D.state device.old).told → IsKept (HasFile store) (D.state device.old) (D.leaves device.old) }
     ensures any { (t : TableRows) → KeepsTables (identity_of asked.now) store t → Performs tables_after (StandsForTables (identity_of asked.now)) t (acts_of asked.now t) (D.state device.old) (D.state device.new) (D.leaves device.old) (D.leaves device.new) }
-    ensures done { OnOk result ((t : TableRows) → KeepsTables (identity_of asked.now) store t → IsTrue (D.state device.old).told → Ran (identity_of asked.now) (acts_of asked.now) t (D.state device.old) (D.state device.new) (D.leaves device.new)) }
+    ensures done { OnOk result ((t : TableRows) → KeepsTables (identity_of asked.now) store t → IsTrue (D.state device.old).told → RanOver (identity_of asked.now) (acts_of asked.now) t (D.state device.old) (D.state device.new) (D.leaves device.new)) }
     ensures failed { IsErrOf result ActError.Failed → Rose (D.state device.old).disk_faults (D.state device.new).disk_faults ⊎ Rose (D.state device.old).line_faults (D.state device.new).line_faults }
 {
     let acts = report(alloc, &asked.application.generation)?;
     perform_acts(alloc, device, &mut store, acts.as_slice())
 }
 
-/// The script, from the tables that an opened store keeps.
+/// The script, from the tables that an opened store keeps, and how many commits it made.
 fn perform_script<D: Device>(
     alloc: Global,
     device: &mut D,
     store: WholeStore,
     tables: Tables,
     asked: Asked,
-) -> Result<(), RunError>
+) -> Result<u64, RunError>
     requires word { asked.word ≡ Run }
     requires can { CanRun asked }
     requires tables { KeepsTables (identity_of asked) store tables }
     requires suits { Suits asked.application.generation tables }
     requires kept { IsTrue (D.state device.old).told → IsKept (HasFile store) (D.state device.old) (D.leaves device.old) }
     ensures any { Performs tables_after (StandsForTables (identity_of asked)) tables (acts_of asked tables) (D.state device.old) (D.state device.new) (D.leaves device.old) (D.leaves device.new) }
-    ensures done { OnOk result (IsTrue (D.state device.old).told → Ran (identity_of asked) (acts_of asked) tables (D.state device.old) (D.state device.new) (D.leaves device.new)) }
+    ensures done { OnOk result (IsTrue (D.state device.old).told → RanOver (identity_of asked) (acts_of asked) tables (D.state device.old) (D.state device.new) (D.leaves device.new)) }
     ensures failed { IsErrOf result RunError.Failed → Rose (D.state device.old).disk_faults (D.state device.new).disk_faults ⊎ Rose (D.state device.old).line_faults (D.state device.new).line_faults }
     ensures refused { IsErrOf result RunError.NotKdcfile → IsTrue (D.state device.old).told → ⊥ }
     ensures other { (stored : List ℕ) → IsErrOf result (RunError.OtherGeneration stored) → IsTrue (D.state device.old).told → ⊥ }
@@ -88,41 +95,47 @@ fn perform<D: Device>(
     tables: Tables,
     asked: Asked,
 ) -> Result<(), RunError>
+    requires stored { MakesFile asked.word }
     requires can { CanRun asked }
     requires tables { KeepsTables (identity_of asked) store tables }
     requires suits { Suits asked.application.generation tables }
     requires kept { IsTrue (D.state device.old).told → IsKept (HasFile store) (D.state device.old) (D.leaves device.old) }
     ensures any { Performs tables_after (StandsForTables (identity_of asked)) tables (acts_of asked tables) (D.state device.old) (D.state device.new) (D.leaves device.old) (D.leaves device.new) }
-    ensures done { OnOk result (IsTrue (D.state device.old).told → Ran (identity_of asked) (acts_of asked) tables (D.state device.old) (D.state device.new) (D.leaves device.new)) }
+    ensures done { OnOk result (IsTrue (D.state device.old).told → RanOver (identity_of asked) (acts_of asked) tables (D.state device.old) (D.state device.new) (D.leaves device.new)) }
     ensures failed { IsErrOf result RunError.Failed → Rose (D.state device.old).disk_faults (D.state device.new).disk_faults ⊎ Rose (D.state device.old).line_faults (D.state device.new).line_faults }
     ensures refused { IsErrOf result RunError.NotKdcfile → IsTrue (D.state device.old).told → ⊥ }
     ensures other { (stored : List ℕ) → IsErrOf result (RunError.OtherGeneration stored) → IsTrue (D.state device.old).told → ⊥ }
 {
     match asked.word {
         Word::Gen => Ok(perform_report(alloc, device, store, &asked)?),
-        Word::Run => perform_script(alloc, device, store, tables, asked),
+        Word::Run => {
+            perform_script(alloc, device, store, tables, asked)?;
+            Ok(())
+        }
+        Word::Show | Word::Make(_) => unreachable!(),
     }
 }
 
-/// What is asked for, over the KDCFILE of this name.
-fn run_over<D: Device>(
+/// The report of the generation or the script, over the KDCFILE of this name, which is made where it is empty.
+fn run_stored<D: Device>(
     alloc: Global,
     device: &mut D,
     name: &[u8],
     asked: Asked,
 ) -> Result<(), RunError>
+    requires stored { MakesFile asked.word }
     requires can { CanRun asked }
-    ensures done { OnOk result (IsTrue (D.state device.old).told → (t : TableRows) × Starts asked (D.state device.old).holds t × Ran (identity_of asked) (acts_of asked) t (D.state device.old) (D.state device.new) (D.leaves device.new)) }
-    ensures refused { IsErrOf result RunError.NotKdcfile → IsTrue (D.state device.old).told → Refuses asked (D.state device.old).holds }
-    ensures other { (stored : List ℕ) → IsErrOf result (RunError.OtherGeneration stored) → IsTrue (D.state device.old).told → IsOfOthers stored asked (D.state device.old).holds }
+    ensures done { OnOk result (IsTrue (D.state device.old).told → (t : TableRows) × Opens asked (D.state device.old).holds t × RanOver (identity_of asked) (acts_of asked) t (D.state device.old) (D.state device.new) (D.leaves device.new)) }
+    ensures refused { IsErrOf result RunError.NotKdcfile → IsTrue (D.state device.old).told → IsRefused asked.application.generation asked.fingerprint (D.state device.old).holds }
+    ensures other { (stored : List ℕ) → IsErrOf result (RunError.OtherGeneration stored) → IsTrue (D.state device.old).told → IsOfOtherTexts stored asked.fingerprint (D.state device.old).holds }
     ensures failed { IsErrOf result RunError.Failed → Rose (D.state device.old).disk_faults (D.state device.new).disk_faults ⊎ Rose (D.state device.old).line_faults (D.state device.new).line_faults }
 
     // A file that the call does not start from stays as it is.
-    ensures still { IsTrue (D.state device.old).told → ((t : TableRows) → Starts asked (D.state device.old).holds t → ⊥) → Rests (D.state device.old) (D.state device.new) (D.leaves device.old) (D.leaves device.new) }
+    ensures still { IsTrue (D.state device.old).told → ((t : TableRows) → Opens asked (D.state device.old).holds t → ⊥) → Rests (D.state device.old) (D.state device.new) (D.leaves device.old) (D.leaves device.new) }
 
-    ensures any_moment { IsTrue (D.state device.old).told → Only (D.state device.old).holds (D.state device.old) (D.leaves device.old) → (t : TableRows) → Starts asked (D.state device.old).holds t
-        → LeavesOnly (D.state device.old) (D.state device.new) (D.leaves device.old) (D.leaves device.new) (IsCutOfRun (identity_of asked) (acts_of asked) t (D.state device.old)) }
-    ensures left { IsTrue (D.state device.old).told → (t : TableRows) → Starts asked (D.state device.old).holds t → ((D.state device.old).holds ≡ [] → ⊥) → commits_nothing (acts_of asked t) ≡ true → SameDisk (D.state device.old) (D.state device.new) }
+    ensures any_moment { IsTrue (D.state device.old).told → Only (D.state device.old).holds (D.state device.old) (D.leaves device.old) → (t : TableRows) → Opens asked (D.state device.old).holds t
+        → LeavesOnly (D.state device.old) (D.state device.new) (D.leaves device.old) (D.leaves device.new) (IsCutOver (identity_of asked) (acts_of asked) t (D.state device.old)) }
+    ensures left { IsTrue (D.state device.old).told → (t : TableRows) → Opens asked (D.state device.old).holds t → ((D.state device.old).holds ≡ [] → ⊥) → commits_nothing (acts_of asked t) ≡ true → SameDisk (D.state device.old) (D.state device.new) }
     ensures names { IsTrue (D.state device.old).told → MayAttach name.now (D.state device.old) (D.state device.new) }
     ensures named { OnOk result (IsTrue (D.state device.old).told → (D.state device.new).names ≡ (D.state device.old).names ++ name.now ∷ []) }
     ensures frame { Frame (D.state device.old) (D.state device.new) }
@@ -132,8 +145,89 @@ fn run_over<D: Device>(
     perform(alloc, device, store, tables, asked)
 }
 
-/// Does what is asked for over the KDCFILE of this BASE.
+/// The list of the tables of the KDCFILE of this name, which stays as it is.
+fn show_over<D: Device>(
+    alloc: Global,
+    device: &mut D,
+    name: &[u8],
+    asked: &Asked,
+) -> Result<(), RunError>
+    ensures done { OnOk result (IsTrue (D.state device.old).told → (t : TableRows) × Opens asked.now (D.state device.old).holds t × Said (listing t) (D.state device.old) (D.state device.new)) }
+    ensures refused { IsErrOf result RunError.NotKdcfile → IsTrue (D.state device.old).told → IsRefused asked.now.application.generation asked.now.fingerprint (D.state device.old).holds }
+    ensures other { (stored : List ℕ) → IsErrOf result (RunError.OtherGeneration stored) → IsTrue (D.state device.old).told → IsOfOtherTexts stored asked.now.fingerprint (D.state device.old).holds }
+    ensures failed { IsErrOf result RunError.Failed → Rose (D.state device.old).disk_faults (D.state device.new).disk_faults ⊎ Rose (D.state device.old).line_faults (D.state device.new).line_faults }
+
+    // Nothing is said of a file that is not shown, and else a front of its list.
+    ensures still { IsTrue (D.state device.old).told → ((t : TableRows) → Opens asked.now (D.state device.old).holds t → ⊥) → Rests (D.state device.old) (D.state device.new) (D.leaves device.old) (D.leaves device.new) }
+    ensures front { IsTrue (D.state device.old).told → (t : TableRows) → Opens asked.now (D.state device.old).holds t → SaysFront (listing t) (D.state device.old) (D.state device.new) (D.leaves device.old) (D.leaves device.new) }
+
+    ensures names { IsTrue (D.state device.old).told → MayAttach name.now (D.state device.old) (D.state device.new) }
+    ensures named { OnOk result (IsTrue (D.state device.old).told → (D.state device.new).names ≡ (D.state device.old).names ++ name.now ∷ []) }
+    ensures frame { Frame (D.state device.old) (D.state device.new) }
+{
+    let generation = &asked.application.generation;
+    let tables = look(alloc, device, name, generation, &asked.fingerprint)?;
+    let lines = table_lines(alloc, &tables)?;
+    Ok(say(device, lines.as_slice())?)
+}
+
+/// The report of the made input, which is run on a device of its own.
+fn make<D: Device>(alloc: Global, device: &mut D, inputs: u32, asked: Asked) -> Result<(), RunError>
+    requires inputs { IsWithin 1 20000 inputs }
+    requires can { CanRun asked }
+    ensures done { OnOk result (IsTrue (D.state device.old).told → Said (report_of inputs (app_of asked) asked.commands) (D.state device.old) (D.state device.new)) }
+    ensures refused { IsErrOf result RunError.NotKdcfile → ⊥ }
+    ensures other { (stored : List ℕ) → IsErrOf result (RunError.OtherGeneration stored) → ⊥ }
+    ensures failed { IsErrOf result RunError.Failed → Rose (D.state device.old).line_faults (D.state device.new).line_faults }
+    ensures front { IsTrue (D.state device.old).told → SaysFront (report_of inputs (app_of asked) asked.commands) (D.state device.old) (D.state device.new) (D.leaves device.old) (D.leaves device.new) }
+    ensures frame { Frame (D.state device.old) (D.state device.new) }
+    ensures names { SameNames (D.state device.old) (D.state device.new) }
+{
+    let Asked {
+        word: _word,
+        application,
+        fingerprint,
+        commands,
+    } = asked;
+    let Application { generation, units } = application;
+    let lines = made_report(alloc, inputs, generation, units, &fingerprint, &commands)?;
+    Ok(say(device, lines.as_slice())?)
+}
+
+/// What is asked for: over the KDCFILE of this name, or aside of it.
+fn run_over<D: Device>(
+    alloc: Global,
+    device: &mut D,
+    name: &[u8],
+    asked: Asked,
+) -> Result<(), RunError>
+    requires form { IsForm asked.word }
+    requires can { CanRun asked }
+    ensures done { OnOk result (IsTrue (D.state device.old).told → (t : TableRows) × Starts asked (D.state device.old).holds t × Ran asked t (D.state device.old) (D.state device.new) (D.leaves device.new)) }
+    ensures refused { IsErrOf result RunError.NotKdcfile → IsTrue (D.state device.old).told → Refuses asked (D.state device.old).holds }
+    ensures other { (stored : List ℕ) → IsErrOf result (RunError.OtherGeneration stored) → IsTrue (D.state device.old).told → IsOfOthers stored asked (D.state device.old).holds }
+    ensures failed { IsErrOf result RunError.Failed → Rose (D.state device.old).disk_faults (D.state device.new).disk_faults ⊎ Rose (D.state device.old).line_faults (D.state device.new).line_faults }
+
+    // A file that the call does not start from stays as it is.
+    ensures still { IsTrue (D.state device.old).told → ((t : TableRows) → Starts asked (D.state device.old).holds t → ⊥) → Rests (D.state device.old) (D.state device.new) (D.leaves device.old) (D.leaves device.new) }
+
+    ensures any_moment { IsTrue (D.state device.old).told → Only (D.state device.old).holds (D.state device.old) (D.leaves device.old) → (t : TableRows) → Starts asked (D.state device.old).holds t
+        → LeavesOnly (D.state device.old) (D.state device.new) (D.leaves device.old) (D.leaves device.new) (IsCutOfRun asked t (D.state device.old)) }
+    ensures left { IsTrue (D.state device.old).told → (t : TableRows) → Starts asked (D.state device.old).holds t → (MakesFile asked.word → (D.state device.old).holds ≡ [] → ⊥) → commits_nothing (acts_of asked t) ≡ true → SameDisk (D.state device.old) (D.state device.new) }
+    ensures names { IsTrue (D.state device.old).told → MayHandOn asked.word name.now (D.state device.old) (D.state device.new) }
+    ensures named { OnOk result (IsTrue (D.state device.old).told → HandsOn asked.word name.now (D.state device.old) (D.state device.new)) }
+    ensures frame { Frame (D.state device.old) (D.state device.new) }
+{
+    match asked.word {
+        Word::Gen | Word::Run => run_stored(alloc, device, name, asked),
+        Word::Show => show_over(alloc, device, name, &asked),
+        Word::Make(inputs) => make(alloc, device, inputs, asked),
+    }
+}
+
+/// Does what is asked for, over the KDCFILE of this BASE where the word has one.
 pub(crate) fn run<D: Device>(alloc: Global, device: &mut D, base: &[u8], asked: Asked) -> Status
+    requires form { IsForm asked.word }
     requires can { CanRun asked }
     ensures code { IsOneOf (0 ∷ 4 ∷ 5 ∷ 7 ∷ []) result.code }
 
@@ -147,15 +241,15 @@ pub(crate) fn run<D: Device>(alloc: Global, device: &mut D, base: &[u8], asked: 
 
     // A file that is accepted.
     ensures accepted { IsTrue (D.state device.old).told → (t : TableRows) → Starts asked (D.state device.old).holds t → IsOneOf (0 ∷ 5 ∷ 7 ∷ []) result.code }
-    ensures done { result.code ≡ 0 → IsTrue (D.state device.old).told → (t : TableRows) × Starts asked (D.state device.old).holds t × Ran (identity_of asked) (acts_of asked) t (D.state device.old) (D.state device.new) (D.leaves device.new) }
+    ensures done { result.code ≡ 0 → IsTrue (D.state device.old).told → (t : TableRows) × Starts asked (D.state device.old).holds t × Ran asked t (D.state device.old) (D.state device.new) (D.leaves device.new) }
     ensures any_moment { IsTrue (D.state device.old).told → Only (D.state device.old).holds (D.state device.old) (D.leaves device.old) → (t : TableRows) → Starts asked (D.state device.old).holds t
-        → LeavesOnly (D.state device.old) (D.state device.new) (D.leaves device.old) (D.leaves device.new) (IsCutOfRun (identity_of asked) (acts_of asked) t (D.state device.old)) }
+        → LeavesOnly (D.state device.old) (D.state device.new) (D.leaves device.old) (D.leaves device.new) (IsCutOfRun asked t (D.state device.old)) }
 
-    // A file that is there stays as it is where nothing is committed.
-    ensures left { IsTrue (D.state device.old).told → (t : TableRows) → Starts asked (D.state device.old).holds t → ((D.state device.old).holds ≡ [] → ⊥) → commits_nothing (acts_of asked t) ≡ true → SameDisk (D.state device.old) (D.state device.new) }
+    // A file that is there stays as it is where nothing is committed, and under `show` and `make` any file does.
+    ensures left { IsTrue (D.state device.old).told → (t : TableRows) → Starts asked (D.state device.old).holds t → (MakesFile asked.word → (D.state device.old).holds ≡ [] → ⊥) → commits_nothing (acts_of asked t) ≡ true → SameDisk (D.state device.old) (D.state device.new) }
 
-    ensures names { IsTrue (D.state device.old).told → MayAttach (file_name base.now) (D.state device.old) (D.state device.new) }
-    ensures attached { result.code ≡ 0 → IsTrue (D.state device.old).told → Attached base.now (D.state device.old) (D.state device.new) }
+    ensures names { IsTrue (D.state device.old).told → MayHandOn asked.word (file_name base.now) (D.state device.old) (D.state device.new) }
+    ensures attached { result.code ≡ 0 → IsTrue (D.state device.old).told → AttachedBy asked.word base.now (D.state device.old) (D.state device.new) }
     ensures failed { result.code ≡ 5 → Rose (D.state device.old).disk_faults (D.state device.new).disk_faults ⊎ Rose (D.state device.old).line_faults (D.state device.new).line_faults }
     ensures frame { Frame (D.state device.old) (D.state device.new) }
 {

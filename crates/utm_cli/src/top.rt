@@ -9,16 +9,16 @@ ghost use Rattle.monitor_acts.specs.Said.{SameDisk, Said, SaidPart};
 ghost use Rattle.utm_cli.specs.declared.error.Refusal.{Refusal};
 ghost use Rattle.utm_cli.specs.declared.words.Word.{Word};
 ghost use Rattle.utm_cli.specs.Asking.{Errand, app_of};
-ghost use Rattle.utm_cli.specs.Doing.{Starts, Refuses, IsOfOthers, identity_of, acts_of};
+ghost use Rattle.utm_cli.specs.Doing.{Starts, Refuses, IsOfOthers, acts_of};
 ghost use Rattle.monitor_acts.specs.Performing.{commits_nothing};
-ghost use Rattle.utm_cli.specs.Promise.{IsOneOf, Request, Reads, Misses, Ran, IsCutOfRun, EndsInCut, RunsLawfully, Attached};
+ghost use Rattle.utm_cli.specs.Promise.{IsOneOf, Request, Reads, Misses, Ran, IsCutOfRun, EndsInCut, MakesFile, RunsLawfully, AttachedBy};
 
 use crate::error::TextError;
 use crate::lawful::scripts_run_lawfully;
+use crate::reading::read_texts;
 use crate::refuse::{refuse, refuse_texts};
 use crate::run::run;
 use crate::status::Status;
-use crate::texts::read_texts;
 use crate::words::request_of;
 use kd_device::{Device, Room};
 use std::alloc::Global;
@@ -28,7 +28,9 @@ const USAGE: &[u8] = b"USAGE: utm gen BASE, run BASE, show BASE, make N\n";
 
 /// Does what the words after the program's name ask for. `gen BASE` reads BASE.def and BASE.units from the room and
 /// reports the generation; `run BASE` reads BASE.script too and performs its commands, each of which is stored before
-/// its line is sent. Both make BASE.KDCA where it is empty, with BLKSIZE and PGPOOL of the generation, or open it.
+/// its line is sent. Both make BASE.KDCA where it is empty, with BLKSIZE and PGPOOL of the generation, or open it. `show
+/// BASE` lists the tables of BASE.KDCA, which stays as it is; an empty one is listed as the empty tables. `make N` runs the
+/// made application with N inputs, from 1 to 20,000, on a device of its own, and reports of that run.
 ///
 /// The status is 0 where all was done; 1 for words that are none of the forms; 2 for a definition or units that are
 /// refused; 3 for a script that is refused; 4 for a KDCFILE that is not one of this application; 5 where the disk or the
@@ -74,9 +76,9 @@ pub fn utm<R: Room, D: Device>(
     ensures missing { IsTrue (R.room room.old).told → Misses (map string_bytes words.now.items) (R.room room.old) → IsOneOf (6 ∷ 7 ∷ []) result.code }
     ensures missing_said { IsTrue (R.room room.old).told → IsTrue (D.state device.old).told → Misses (map string_bytes words.now.items) (R.room room.old) → Said [] (D.state device.old) (D.state device.new) }
 
-    // 0: all was done. The lines of all acts were sent, and the file stands for the tables after them.
+    // 0: all was done. The lines of all acts were sent, and the file stands for the tables after them, or is as it was.
     ensures done { result.code ≡ 0 → IsTrue (R.room room.old).told → IsTrue (D.state device.old).told
-        → (e : Errand) × Reads (map string_bytes words.now.items) (R.room room.old) (Ok e) × (t : TableRows) × Starts e (D.state device.old).holds t × Ran (identity_of e) (acts_of e) t (D.state device.old) (D.state device.new) (D.leaves device.new) }
+        → (e : Errand) × Reads (map string_bytes words.now.items) (R.room room.old) (Ok e) × (t : TableRows) × Starts e (D.state device.old).holds t × Ran e t (D.state device.old) (D.state device.new) (D.leaves device.new) }
     ensures accepted { IsTrue (R.room room.old).told → IsTrue (D.state device.old).told → (e : Errand) (t : TableRows) → Reads (map string_bytes words.now.items) (R.room room.old) (Ok e) → Starts e (D.state device.old).holds t
         → IsOneOf (0 ∷ 6 ∷ 5 ∷ 7 ∷ []) result.code }
 
@@ -88,26 +90,27 @@ pub fn utm<R: Room, D: Device>(
     // At a stop since the call, whatever its status, the bytes sent and the file are a cut of the acts.
     ensures cut { IsTrue (R.room room.old).told → IsTrue (D.state device.old).told → Only (D.state device.old).holds (D.state device.old) (D.leaves device.old)
         → (e : Errand) (t : TableRows) → Reads (map string_bytes words.now.items) (R.room room.old) (Ok e) → Starts e (D.state device.old).holds t
-        → (image out : List ℕ) → D.leaves device.new (D.state device.old).moment image out → IsCutOfRun (identity_of e) (acts_of e) t (D.state device.old) image out }
+        → (image out : List ℕ) → D.leaves device.new (D.state device.old).moment image out → IsCutOfRun e t (D.state device.old) image out }
 
     // As the call left them, whatever its status, the bytes sent and the file are such a cut too. The lines are a front of
     // those of all acts, so those of `gen` are a front of its report.
     ensures ended { IsTrue (R.room room.old).told → IsTrue (D.state device.old).told → Only (D.state device.old).holds (D.state device.old) (D.leaves device.old)
         → (e : Errand) (t : TableRows) → Reads (map string_bytes words.now.items) (R.room room.old) (Ok e) → Starts e (D.state device.old).holds t
-        → EndsInCut (identity_of e) (acts_of e) t (D.state device.old) (D.state device.new) }
+        → EndsInCut e t (D.state device.old) (D.state device.new) }
 
-    // A file that is there keeps its bytes, whatever the status, where the acts commit nothing, as those of `gen`.
+    // A file that is there keeps its bytes, whatever the status, where the acts commit nothing, as those of `gen`. Under
+    // `show` and `make` an empty one does too.
     ensures left { IsTrue (R.room room.old).told → IsTrue (D.state device.old).told → (e : Errand) (t : TableRows) → Reads (map string_bytes words.now.items) (R.room room.old) (Ok e) → Starts e (D.state device.old).holds t
-        → ((D.state device.old).holds ≡ [] → ⊥) → commits_nothing (acts_of e t) ≡ true → SameDisk (D.state device.old) (D.state device.new) }
+        → (MakesFile e.word → (D.state device.old).holds ≡ [] → ⊥) → commits_nothing (acts_of e t) ≡ true → SameDisk (D.state device.old) (D.state device.new) }
 
     // Where a file was attached, as before anything is done: every commit of the script is lawful, and every cut of it can
     // be gone on from and is what a serial run of its first commits stores.
     ensures laws { IsTrue (R.room room.old).told → ((D.state device.new).names ≡ (D.state device.old).names → ⊥) → (e : Errand) (bytes : List ℕ) (t : TableRows) → Reads (map string_bytes words.now.items) (R.room room.old) (Ok e) → Starts e bytes t
         → RunsLawfully (app_of e) t e.commands }
 
-    // The file BASE.KDCA, and no other, was attached.
-    ensures names { IsTrue (D.state device.old).told → ((D.state device.new).names ≡ (D.state device.old).names) ⊎ ((word : Word) × ((base : List ℕ) × Request (map string_bytes words.now.items) word base × Attached base (D.state device.old) (D.state device.new))) }
-    ensures attached { result.code ≡ 0 → IsTrue (D.state device.old).told → (word : Word) × ((base : List ℕ) × Request (map string_bytes words.now.items) word base × Attached base (D.state device.old) (D.state device.new)) }
+    // The file BASE.KDCA, and no other, was attached; none by `make`.
+    ensures names { IsTrue (D.state device.old).told → ((D.state device.new).names ≡ (D.state device.old).names) ⊎ ((word : Word) × ((base : List ℕ) × Request (map string_bytes words.now.items) word base × AttachedBy word base (D.state device.old) (D.state device.new))) }
+    ensures attached { result.code ≡ 0 → IsTrue (D.state device.old).told → (word : Word) × ((base : List ℕ) × Request (map string_bytes words.now.items) word base × AttachedBy word base (D.state device.old) (D.state device.new)) }
 
     ensures frame { Frame (D.state device.old) (D.state device.new) }
     ensures same_room { SameRoom (R.room room.old) (R.room room.new) }

@@ -1,10 +1,17 @@
 //! What the words of a call ask for.
-ghost use Rattle.std.specs.Prelude.{◌≡◌, map, MatchOption, None, Some};
+ghost use Rattle.std.specs.Prelude.{◌≡◌, map, codes, MatchOption, IfSome, None, Some};
 ghost use Rattle.std.specs.String.{string_bytes};
-ghost use Rattle.utm_cli.specs.Words.{request_of as request, word_of as word_spelled, is_base};
+ghost use Rattle.kd_base.specs.Text.{decimal_of};
+ghost use Rattle.script_read.specs.Script.{same};
+ghost use Rattle.utm_cli.specs.Words.{IsForm, request_of as request, word_of as word_spelled, word_with, is_base, made_input};
+
+use kd_base::decimal_of;
 
 /// The greatest length of BASE, in bytes.
 const LONGEST_BASE: usize = 200;
+
+/// The greatest number of made inputs.
+const MOST_INPUTS: u64 = 20_000;
 
 /// What a call may ask for.
 #[derive(Clone, Copy, Debug, PartialEq, Eq)]
@@ -13,16 +20,23 @@ pub(crate) enum Word {
     Gen,
     /// The run of the script.
     Run,
+    /// The list of the tables.
+    Show,
+    /// The run of the made application with so many inputs, from 1 to 20,000.
+    Make(u32),
 }
 
 #[tactic(auto, using(crate::proofs::Asked::same_texts))]
 fn word_of(word: &[u8]) -> Option<Word>
-    ensures { result ≡ word_spelled word.now }
+    ensures value { result ≡ word_spelled word.now }
+    ensures form { IfSome result IsForm }
 {
     if word == b"gen".as_slice() {
         Some(Word::Gen)
     } else if word == b"run".as_slice() {
         Some(Word::Run)
+    } else if word == b"show".as_slice() {
+        Some(Word::Show)
     } else {
         None
     }
@@ -34,16 +48,41 @@ fn is_base(base: &[u8]) -> bool
     !base.is_empty() && base.len() <= LONGEST_BASE
 }
 
-/// The word and the BASE of `gen BASE` and `run BASE`. All other words are no form.
+fn made_input(number: &[u8]) -> Option<Word>
+    ensures value { result ≡ made_input (decimal_of number.now) }
+    ensures form { IfSome result IsForm }
+{
+    match decimal_of(number) {
+        Some(n) if 1 <= n && n <= MOST_INPUTS => Some(Word::Make(n as u32)),
+        _ => None,
+    }
+}
+
+#[tactic(auto, using(crate::proofs::Asked::same_texts))]
+fn word_with(word: &[u8], operand: &[u8]) -> Option<Word>
+    ensures value { result ≡ word_with (same word.now (codes "make")) word.now operand.now }
+    ensures form { IfSome result IsForm }
+{
+    if word == b"make".as_slice() {
+        made_input(operand)
+    } else if is_base(operand) {
+        word_of(word)
+    } else {
+        None
+    }
+}
+
+/// The word and the operand of `gen BASE`, `run BASE`, `show BASE` and `make N`. All other words are no form.
 pub(crate) fn request_of(words: &[String]) -> Option<(Word, &[u8])>
-    ensures { MatchOption result (request (map string_bytes words.now) ≡ None) (λ r. request (map string_bytes words.now) ≡ Some (r.0, r.1.now)) }
+    ensures value { MatchOption result (request (map string_bytes words.now) ≡ None) (λ r. request (map string_bytes words.now) ≡ Some (r.0, r.1.now)) }
+    ensures form { IfSome result (λ r. IsForm r.0) }
 {
     match words {
-        [word, base] => {
-            let base = base.as_bytes();
-            match word_of(word.as_bytes()) {
-                Some(word) if is_base(base) => Some((word, base)),
-                _ => None,
+        [word, operand] => {
+            let operand = operand.as_bytes();
+            match word_with(word.as_bytes(), operand) {
+                Some(word) => Some((word, operand)),
+                None => None,
             }
         }
         _ => None,

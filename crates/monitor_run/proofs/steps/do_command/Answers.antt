@@ -1,12 +1,13 @@
-use Rattle.std.proofs.Common.{◌∷◌, [], sym, ap, subst, List, arith}
+use Rattle.std.proofs.Common.{◌+◌, ◌≤◌, ◌^◌, ◌∙◌, ◌∷◌, [], sym, ap, subst, List, arith}
 use Rattle.std.specs.Prelude.{false}
-use Rattle.std.proofs.lemmas.Result.{IfOk-weaker}
+use Rattle.std.proofs.lemmas.Result.{IfOk-weaker, on_ok_weaker}
 use Rattle.monitor_semantics.specs.Commands.{ScriptStep, command_of, rotated, turned_step}
 use Rattle.monitor_semantics.specs.Turns.{turn_of}
 use Rattle.monitor_semantics.specs.declared.command.Command.{Command}
 use Rattle.monitor_laws.specs.Applications.{IsCommandOf}
 use Rattle.monitor_run.specs.Running.{turns_of, PerformsSteps, DidSteps}
-use Rattle.monitor_run.proofs.Commanding.{own_running, steps_of_run, steps_of_turn, steps_of_restart, steps_of_single, single_of, performs_command, did_command}
+use Rattle.monitor_run.proofs.Counting.{commits_by}
+use Rattle.monitor_run.proofs.Commanding.{own_running, steps_of_run, steps_of_turn, steps_of_restart, steps_of_single, single_of, performs_command, did_command, one_counts, restart_counts}
 use Rattle.monitor_run.proofs.Errors.{error_same, err_is_no_value, no_error}
 use Rattle.monitor_run.proofs.steps.do_command.Goals as goal
 
@@ -15,6 +16,9 @@ run_turns-requires-clause-running g c = own_running c.args.fingerprint.now c.arg
 
 pub run_turns-requires-clause-steps : goal.run_turns-requires-clause-steps
 run_turns-requires-clause-steps g c = let e = ap turns_of c.in-Run.is in omega (arith, e, c.requires.steps)
+
+pub run_turns-requires-clause-room : goal.run_turns-requires-clause-room
+run_turns-requires-clause-room g c = subst (λ (l : List ScriptStep). c.args.commits.now + commits_by l ≤ 10 ^ 18) (steps_of_run c.args.core.application c.args.core.state c.args.command.now c.in-Run.turns c.in-Run.is) c.requires.room
 
 pub run_turns-requires-clause-kept : goal.run_turns-requires-clause-kept
 run_turns-requires-clause-kept g c = c.requires.kept
@@ -27,6 +31,9 @@ do_turn-requires-clause-task g c = subst (λ (x : Command). IsCommandOf c.args.c
 
 pub do_turn-requires-clause-steps : goal.do_turn-requires-clause-steps
 do_turn-requires-clause-steps g c = let e = ap turns_of c.in-Turn.is in omega (arith, e, c.requires.steps)
+
+pub do_turn-requires-clause-room : goal.do_turn-requires-clause-room
+do_turn-requires-clause-room g c = subst (λ n. c.args.commits.now + n ≤ 10 ^ 18) (one_counts c.args.core.application c.args.core.state c.args.command.now (turned_step (turn_of c.args.core.application c.args.core.state c.in-Turn.task)) (steps_of_turn c.args.core.application c.args.core.state c.args.command.now c.in-Turn.task c.in-Turn.is)) c.requires.room
 
 pub do_turn-requires-clause-kept : goal.do_turn-requires-clause-kept
 do_turn-requires-clause-kept g c = c.requires.kept
@@ -49,6 +56,9 @@ do_single-requires-clause-names g c = c.requires.names
 pub do_single-requires-clause-steps : goal.do_single-requires-clause-steps
 do_single-requires-clause-steps g c = let e = (single_of c.args.command.now c.in-Input.is).1 in omega (arith, e, c.requires.steps)
 
+pub do_single-requires-clause-room : goal.do_single-requires-clause-room
+do_single-requires-clause-room g c = subst (λ n. c.args.commits.now + n ≤ 10 ^ 18) (one_counts c.args.core.application c.args.core.state c.args.command.now (command_of c.args.core.application c.args.core.state c.args.command.now) (steps_of_single c.args.core.application c.args.core.state c.args.command.now (single_of c.args.command.now c.in-Input.is).0)) c.requires.room
+
 pub do_single-requires-clause-kept : goal.do_single-requires-clause-kept
 do_single-requires-clause-kept g c = c.requires.kept
 
@@ -70,6 +80,9 @@ returns-in-Run-clause-other g c = λ stored is told. c.run_turns.ensures.other s
 pub returns-in-Run-clause-steps : goal.returns-in-Run-clause-steps
 returns-in-Run-clause-steps g c = IfOk-weaker c.run_turns.result _ _ (λ next h. let e = ap turns_of c.in-Run.is in omega (arith, h, e)) c.run_turns.ensures.steps
 
+pub returns-in-Run-clause-counted : goal.returns-in-Run-clause-counted
+returns-in-Run-clause-counted g c = on_ok_weaker c.run_turns.result (λ h. h ∙ ap (λ (l : List ScriptStep). c.args.commits.now + commits_by l) (sym (steps_of_run c.args.core.application c.args.core.state c.args.command.now c.in-Run.turns c.in-Run.is))) c.run_turns.ensures.counted
+
 pub returns-in_err-next-in-Turn-clause-any : goal.returns-in_err-next-in-Turn-clause-any
 returns-in_err-next-in-Turn-clause-any g c = performs_command c.args.fingerprint.now c.args.core c.args.store.now c.requires.running c.args.command.now (turned_step (turn_of c.args.core.application c.args.core.state c.in-Turn.task) ∷ []) (steps_of_turn c.args.core.application c.args.core.state c.args.command.now c.in-Turn.task c.in-Turn.is) (g.D.Device.state c.args.device.now) (g.D.Device.state c.do_turn.new.device) (g.D.Device.leaves c.args.device.now) (g.D.Device.leaves c.do_turn.new.device) c.do_turn.ensures.any
 
@@ -81,6 +94,9 @@ returns-in_ok-next-in-Turn-clause-done g c = did_command c.args.fingerprint.now 
 
 pub returns-in_ok-next-in-Turn-clause-steps : goal.returns-in_ok-next-in-Turn-clause-steps
 returns-in_ok-next-in-Turn-clause-steps g c = let e = ap turns_of c.in-Turn.is in omega (arith, e, c.in_ok-next-in-Turn.ensures.steps)
+
+pub returns-in_ok-next-in-Turn-clause-counted : goal.returns-in_ok-next-in-Turn-clause-counted
+returns-in_ok-next-in-Turn-clause-counted g c = c.in_ok-next-in-Turn.ensures.counted ∙ ap (λ n. c.args.commits.now + n) (sym (one_counts c.args.core.application c.args.core.state c.args.command.now (turned_step (turn_of c.args.core.application c.args.core.state c.in-Turn.task)) (steps_of_turn c.args.core.application c.args.core.state c.args.command.now c.in-Turn.task c.in-Turn.is)))
 
 pub returns-in_ok-next-in-Turn-clause-failed : goal.returns-in_ok-next-in-Turn-clause-failed
 returns-in_ok-next-in-Turn-clause-failed g c = λ is. absurd (no_error _ _ is)
@@ -96,6 +112,9 @@ returns-in_err-next-in-Turn-clause-done g c = err_is_no_value _ _ c.from_residua
 
 pub returns-in_err-next-in-Turn-clause-steps : goal.returns-in_err-next-in-Turn-clause-steps
 returns-in_err-next-in-Turn-clause-steps g c = err_is_no_value _ _ c.from_residual.result c.from_residual.ensures.1
+
+pub returns-in_err-next-in-Turn-clause-counted : goal.returns-in_err-next-in-Turn-clause-counted
+returns-in_err-next-in-Turn-clause-counted g c = err_is_no_value _ _ c.from_residual.result c.from_residual.ensures.1
 
 pub returns-in_err-next-in-Turn-clause-failed : goal.returns-in_err-next-in-Turn-clause-failed
 returns-in_err-next-in-Turn-clause-failed g c = λ is. c.in_err-next-in-Turn.ensures.failed (error_same _ _ c.from_residual.result c.in_err-next-in-Turn.field-0.0 _ c.from_residual.ensures.1 is)
@@ -114,6 +133,9 @@ returns-in-Restart-clause-done g c = IfOk-weaker c.restart.result _ _ (λ next h
 
 pub returns-in-Restart-clause-steps : goal.returns-in-Restart-clause-steps
 returns-in-Restart-clause-steps g c = IfOk-weaker c.restart.result _ _ (λ next h. omega (arith, h)) c.restart.ensures.steps
+
+pub returns-in-Restart-clause-counted : goal.returns-in-Restart-clause-counted
+returns-in-Restart-clause-counted g c = IfOk-weaker c.restart.result _ _ (λ next h. restart_counts c.args.core c.args.command.now c.args.commits.now c.in-Restart.is) c.restart.ensures.steps
 
 pub returns-in-Restart-clause-failed : goal.returns-in-Restart-clause-failed
 returns-in-Restart-clause-failed g c = c.restart.ensures.failed
@@ -141,3 +163,6 @@ returns-in-Input-clause-other g c = λ stored is told. c.do_single.ensures.other
 
 pub returns-in-Input-clause-steps : goal.returns-in-Input-clause-steps
 returns-in-Input-clause-steps g c = IfOk-weaker c.do_single.result _ _ (λ next h. let e = (single_of c.args.command.now c.in-Input.is).1 in omega (arith, h, e)) c.do_single.ensures.steps
+
+pub returns-in-Input-clause-counted : goal.returns-in-Input-clause-counted
+returns-in-Input-clause-counted g c = on_ok_weaker c.do_single.result (λ h. h ∙ ap (λ n. c.args.commits.now + n) (sym (one_counts c.args.core.application c.args.core.state c.args.command.now (command_of c.args.core.application c.args.core.state c.args.command.now) (steps_of_single c.args.core.application c.args.core.state c.args.command.now (single_of c.args.command.now c.in-Input.is).0)))) c.do_single.ensures.counted

@@ -1,60 +1,45 @@
-use Rattle.std.proofs.Common.{◌≡◌, ◌∙◌, ◌∷◌, []}
+use Rattle.std.proofs.Common.{◌+◌, ◌≤◌, ◌^◌, List, ap, sym, subst, ◌∙◌, ◌∷◌, []}
+use Rattle.kdcs_types.specs.declared.act.Act.{Act}
 use Rattle.monitor_semantics.specs.Trace.{tables_after}
 use Rattle.monitor_semantics.specs.Commands.{acts_of, command_of}
 use Rattle.warm_start.specs.Stands.{StandsForTables}
-use Rattle.monitor_run.specs.Running.{identity_of, durable_of}
+use Rattle.monitor_run.specs.HandedOn.{act_failed, act_refuses_nothing, act_knows_no_other}
+use Rattle.monitor_run.specs.Running.{identity_of, durable_of, commits_in}
 use Rattle.monitor_acts.specs.Acting.{performs_none}
 use Rattle.monitor_run.proofs.Stepping.{can_perform, performs_step, did_step}
-use Rattle.monitor_run.proofs.Storables.{command_storable}
+use Rattle.monitor_run.proofs.Storables.{command_can}
 use Rattle.monitor_run.proofs.Tables.{tables_go}
-use Rattle.monitor_run.proofs.Errors.{act_failed, act_refuses_nothing, act_knows_no_other}
 use Rattle.monitor_run.proofs.steps.do_single.Goals as goal
 
 pub perform_acts-requires-clause-can : goal.perform_acts-requires-clause-can
 perform_acts-requires-clause-can g c =
-    let f = c.args.store.now.identity.fingerprint in
-    let s = c.args.store.now in
-    let step = command_of c.args.core.application c.args.core.state c.args.command.now in
-    let acts = c.as_slice-acts.result.now in
-    let same : acts ≡ step.acts = c.as_slice-acts.ensures ∙ c.in_ok-next.ensures.exact.acts in
-    let storable = command_storable f c.args.core s acts c.requires.running c.acts_are_named.ensures c.steps_can_be_stored.ensures.commands c.args.command.now c.requires.names same in
-    can_perform f c.args.core s step acts c.requires.running same storable
+    can_perform c.args.store.now.identity.fingerprint c.args.core c.args.store.now (command_of c.args.core.application c.args.core.state c.args.command.now) c.as_slice-acts.result.now (command_can c.args.store.now.identity.fingerprint c.args.core c.args.store.now c.requires.running c.as_slice-acts.result.now c.acts_are_named.ensures c.steps_can_be_stored.ensures.commands c.args.command.now c.requires.names (c.as_slice-acts.ensures ∙ c.in_ok-next.ensures.exact.acts))
 
 pub returns-in_err-next-clause-any : goal.returns-in_err-next-clause-any
 returns-in_err-next-clause-any g c =
-    let f = c.args.store.now.identity.fingerprint in
-    performs_none tables_after tables_go (StandsForTables (identity_of f c.args.core)) (durable_of c.args.core) (acts_of ((command_of c.args.core.application c.args.core.state c.args.command.now) ∷ [])) (g.D.Device.state c.args.device.now) (g.D.Device.leaves c.args.device.now)
+    performs_none tables_after tables_go (StandsForTables (identity_of c.args.store.now.identity.fingerprint c.args.core)) (durable_of c.args.core) (acts_of ((command_of c.args.core.application c.args.core.state c.args.command.now) ∷ [])) (g.D.Device.state c.args.device.now) (g.D.Device.leaves c.args.device.now)
 
 pub returns-in_err-perform_acts-clause-any : goal.returns-in_err-perform_acts-clause-any
 returns-in_err-perform_acts-clause-any g c =
-    let f = c.args.store.now.identity.fingerprint in
-    let s = c.args.store.now in
-    let step = command_of c.args.core.application c.args.core.state c.args.command.now in
-    let acts = c.as_slice-acts.result.now in
-    let same : acts ≡ step.acts = c.as_slice-acts.ensures ∙ c.in_ok-next.ensures.exact.acts in
-    let storable = command_storable f c.args.core s acts c.requires.running c.acts_are_named.ensures c.steps_can_be_stored.ensures.commands c.args.command.now c.requires.names same in
-    performs_step f c.args.core s step acts c.requires.running same storable (g.D.Device.state c.args.device.now) (g.D.Device.state c.perform_acts.new.device) (g.D.Device.leaves c.args.device.now) (g.D.Device.leaves c.perform_acts.new.device) c.perform_acts.ensures.any
+    performs_step c.args.store.now.identity.fingerprint c.args.core c.args.store.now (command_of c.args.core.application c.args.core.state c.args.command.now) c.as_slice-acts.result.now (command_can c.args.store.now.identity.fingerprint c.args.core c.args.store.now c.requires.running c.as_slice-acts.result.now c.acts_are_named.ensures c.steps_can_be_stored.ensures.commands c.args.command.now c.requires.names (c.as_slice-acts.ensures ∙ c.in_ok-next.ensures.exact.acts))
+    (g.D.Device.state c.args.device.now) (g.D.Device.state c.perform_acts.new.device) (g.D.Device.leaves c.args.device.now) (g.D.Device.leaves c.perform_acts.new.device) c.perform_acts.ensures.any
 
 pub returns-clause-any : goal.returns-clause-any
 returns-clause-any g c =
-    let f = c.args.store.now.identity.fingerprint in
-    let s = c.args.store.now in
-    let step = command_of c.args.core.application c.args.core.state c.args.command.now in
-    let acts = c.as_slice-acts.result.now in
-    let same : acts ≡ step.acts = c.as_slice-acts.ensures ∙ c.in_ok-next.ensures.exact.acts in
-    let storable = command_storable f c.args.core s acts c.requires.running c.acts_are_named.ensures c.steps_can_be_stored.ensures.commands c.args.command.now c.requires.names same in
-    performs_step f c.args.core s step acts c.requires.running same storable (g.D.Device.state c.args.device.now) (g.D.Device.state c.perform_acts.new.device) (g.D.Device.leaves c.args.device.now) (g.D.Device.leaves c.perform_acts.new.device) c.perform_acts.ensures.any
+    performs_step c.args.store.now.identity.fingerprint c.args.core c.args.store.now (command_of c.args.core.application c.args.core.state c.args.command.now) c.as_slice-acts.result.now (command_can c.args.store.now.identity.fingerprint c.args.core c.args.store.now c.requires.running c.as_slice-acts.result.now c.acts_are_named.ensures c.steps_can_be_stored.ensures.commands c.args.command.now c.requires.names (c.as_slice-acts.ensures ∙ c.in_ok-next.ensures.exact.acts))
+    (g.D.Device.state c.args.device.now) (g.D.Device.state c.perform_acts.new.device) (g.D.Device.leaves c.args.device.now) (g.D.Device.leaves c.perform_acts.new.device) c.perform_acts.ensures.any
 
 pub returns-clause-done : goal.returns-clause-done
 returns-clause-done g c =
-    let f = c.args.store.now.identity.fingerprint in
-    let s = c.args.store.now in
-    let step = command_of c.args.core.application c.args.core.state c.args.command.now in
-    let acts = c.as_slice-acts.result.now in
-    let same : acts ≡ step.acts = c.as_slice-acts.ensures ∙ c.in_ok-next.ensures.exact.acts in
-    let storable = command_storable f c.args.core s acts c.requires.running c.acts_are_named.ensures c.steps_can_be_stored.ensures.commands c.args.command.now c.requires.names same in
-    did_step f c.args.core s step acts c.requires.running same storable c.steps_commit_once.ensures.tables (c.steps_commit_once.ensures.commands c.args.core.application c.args.core.state c.args.command.now) c.in_ok-next.next c.perform_acts.new.store (g.D.Device.state c.args.device.now) (g.D.Device.state c.perform_acts.new.device) (g.D.Device.leaves c.perform_acts.new.device)
+    did_step c.args.store.now.identity.fingerprint c.args.core c.args.store.now (command_of c.args.core.application c.args.core.state c.args.command.now) c.as_slice-acts.result.now (command_can c.args.store.now.identity.fingerprint c.args.core c.args.store.now c.requires.running c.as_slice-acts.result.now c.acts_are_named.ensures c.steps_can_be_stored.ensures.commands c.args.command.now c.requires.names (c.as_slice-acts.ensures ∙ c.in_ok-next.ensures.exact.acts))
+    c.steps_commit_once.ensures.tables (c.steps_commit_once.ensures.commands c.args.core.application c.args.core.state c.args.command.now) c.in_ok-next.next c.perform_acts.new.store (g.D.Device.state c.args.device.now) (g.D.Device.state c.perform_acts.new.device) (g.D.Device.leaves c.perform_acts.new.device)
     c.in_ok-next.ensures.one.application c.in_ok-next.ensures.facts c.in_ok-next.ensures.exact.state c.perform_acts.ensures.identity c.in_ok-perform_acts.ensures.content c.in_ok-perform_acts.ensures.done
+
+pub count_commits-requires : goal.count_commits-requires
+count_commits-requires g c = subst (λ (l : List Act). c.args.commits.now + commits_in l ≤ 10 ^ 18) (sym (c.as_slice-acts.ensures ∙ c.in_ok-next.ensures.exact.acts)) c.requires.room
+
+pub returns-clause-counted : goal.returns-clause-counted
+returns-clause-counted g c = c.count_commits.ensures ∙ ap (λ (l : List Act). c.args.commits.now + commits_in l) (c.as_slice-acts.ensures ∙ c.in_ok-next.ensures.exact.acts)
 
 pub returns-in_err-perform_acts-clause-failed : goal.returns-in_err-perform_acts-clause-failed
 returns-in_err-perform_acts-clause-failed g c = λ is. c.in_err-perform_acts.ensures.failed (act_failed _ _ c.from_residual-in_err-perform_acts.result c.in_err-perform_acts.field-0.0 c.from_residual-in_err-perform_acts.ensures.1 is)

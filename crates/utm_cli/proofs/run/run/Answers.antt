@@ -1,9 +1,11 @@
-use Rattle.std.proofs.Common.{ap, subst, inl, inr, List, ℕ, Err}
+use Rattle.std.proofs.Common.{◌∙◌, ap, subst, inl, inr, List, ℕ, Err}
 use Rattle.std.specs.Prelude.{IsTrue}
 use Rattle.monitor_run.specs.declared.error.RunError.{RunError}
-use Rattle.utm_cli.specs.Words.{not_a_kdcfile_line, other_generation_line}
+use Rattle.utm_cli.specs.Words.{file_name, not_a_kdcfile_line, other_generation_line}
 use Rattle.monitor_acts.specs.Said.{SaidPart}
-use Rattle.utm_cli.proofs.Ran.{not_both, not_of_others, refused_or_other, one_other, said_then, part_then, nothing_said}
+use Rattle.utm_cli.proofs.ByWord.{not_both, not_of_others, refused_or_other, one_other, may_then}
+use Rattle.utm_cli.proofs.Ran.{said_then, part_then, nothing_said}
+use Rattle.utm_cli.specs.Promise.{MayHandOn}
 use Rattle.utm_cli.proofs.run.run.Goals as goal
 
 pub returns-in-Ok-run_over-clause-refused : goal.returns-in-Ok-run_over-clause-refused
@@ -146,3 +148,13 @@ pub returns-clause-left : goal.returns-clause-left
 returns-clause-left g c = λ told t starts some lines.
     let other = c.in-Err-OtherGeneration.ensures.other c.in-Err-OtherGeneration.stored (ap (λ (e : RunError). Err e) c.in-Err-OtherGeneration.field-0-is) told in
     absurd (not_of_others c.args.asked (g.D.Device.state c.args.device.now).holds t c.in-Err-OtherGeneration.stored starts other)
+
+pub returns-in-Err-NotKdcfile-clause-names : goal.returns-in-Err-NotKdcfile-clause-names
+returns-in-Err-NotKdcfile-clause-names g c = λ told.
+    may_then c.args.asked.word (file_name c.args.base.now) (g.D.Device.state c.args.device.now) (g.D.Device.state c.run_over.new.device) (g.D.Device.state c.refuse.new.device)
+    (subst (λ (name : List ℕ). MayHandOn c.args.asked.word name (g.D.Device.state c.args.device.now) (g.D.Device.state c.run_over.new.device)) (c.deref.ensures.value ∙ c.in-Ok.ensures) (c.run_over.ensures.names told)) c.refuse.ensures.names
+
+pub returns-clause-names : goal.returns-clause-names
+returns-clause-names g c = λ told.
+    may_then c.args.asked.word (file_name c.args.base.now) (g.D.Device.state c.args.device.now) (g.D.Device.state c.run_over.new.device) (g.D.Device.state c.refuse_other.new.device)
+    (subst (λ (name : List ℕ). MayHandOn c.args.asked.word name (g.D.Device.state c.args.device.now) (g.D.Device.state c.run_over.new.device)) (c.deref.ensures.value ∙ c.in-Ok.ensures) (c.run_over.ensures.names told)) c.refuse_other.ensures.names

@@ -1,84 +1,208 @@
-use Rattle.std.proofs.Common.{◌≡◌, ◌∙◌, ◌++◌, ap, subst, inl, List, ℕ}
-use Rattle.std.specs.Prelude.{IsTrue, true}
-use Rattle.kd_device.specs.Device.{LeavesOnly}
-use Rattle.kdcs_types.specs.Tables.{TableRows}
-use Rattle.monitor_semantics.specs.Trace.{bytes_of}
-use Rattle.warm_start.specs.Opening.{IsOpening}
-use Rattle.utm_cli.specs.Asking.{Errand}
-use Rattle.utm_cli.specs.Doing.{Starts, Refuses, IsOfOthers, identity_of, acts_of}
-use Rattle.monitor_acts.specs.Performing.{commits_nothing}
-use Rattle.utm_cli.proofs.Results.{on_ok, open_refused, open_other, open_failed}
-use Rattle.utm_cli.proofs.Ran.{one_start, not_empty, opening_cut, run_cut, rose_either}
+use Rattle.std.proofs.Common.{◌≡◌, ◌∙◌, sym, ap, subst, refl}
+use Rattle.kdcs_types.specs.Tables.{TableRows, empty_tables}
+use Rattle.monitor_semantics.specs.Listing.{listing}
+use Rattle.made_run.specs.Report.{report_of}
+use Rattle.utm_cli.specs.declared.words.Word.{Word}
+use Rattle.utm_cli.specs.declared.words.Word.TheVariants.{Show, Make}
+use Rattle.utm_cli.specs.Asking.{Errand, app_of}
+use Rattle.utm_cli.specs.Doing.{IsOverFile, StartsBy}
+use Rattle.utm_cli.specs.Promise.{MakesFile}
+use Rattle.utm_cli.proofs.Results.{on_ok}
+use Rattle.utm_cli.proofs.ByWord.{opens, starts, stored_word, stored_over, ran_stored, cut_stored, hands_on, may_hand_on, SendsAside, ran_aside, cut_aside}
 use Rattle.utm_cli.proofs.run.run_over.Goals as goal
 
-pub returns-in_err-store-clause-refused : goal.returns-in_err-store-clause-refused
-returns-in_err-store-clause-refused g c = λ is told.
-    subst (λ (e : Errand). Refuses e (g.D.Device.state c.args.device.now).holds) c.asked.view_is (c.in_err-store.ensures.refused (open_refused c.from_residual.result c.in_err-store.field-0.0 c.from_residual.ensures.1 is) told)
+-- ---- gen and run
 
-pub returns-in_err-store-clause-other : goal.returns-in_err-store-clause-other
-returns-in_err-store-clause-other g c = λ stored is told.
-    subst (λ (e : Errand). IsOfOthers stored e (g.D.Device.state c.args.device.now).holds) c.asked.view_is (c.in_err-store.ensures.other stored (open_other c.from_residual.result c.in_err-store.field-0.0 c.from_residual.ensures.1 stored is) told)
-
-pub returns-in_err-store-clause-failed : goal.returns-in_err-store-clause-failed
-returns-in_err-store-clause-failed g c = λ is. inl (c.in_err-store.ensures.failed (open_failed c.from_residual.result c.in_err-store.field-0.0 c.from_residual.ensures.1 is))
-
-pub returns-in_err-store-clause-still : goal.returns-in_err-store-clause-still
-returns-in_err-store-clause-still g c = λ told none. c.open.ensures.still told (not_empty c.args.asked (g.D.Device.state c.args.device.now).holds none)
-
-pub returns-in_err-store-clause-any_moment : goal.returns-in_err-store-clause-any_moment
-returns-in_err-store-clause-any_moment g c = λ told only t starts.
+pub returns-in-Gen-clause-done : goal.returns-in-Gen-clause-done
+returns-in-Gen-clause-done g c = on_ok c.run_stored.result _ _ (λ h told.
+    let e = c.args.asked in
     let a = g.D.Device.state c.args.device.now in
-    let b = g.D.Device.state c.open.new.device in
+    let b = g.D.Device.state c.run_stored.new.device in
     let la = g.D.Device.leaves c.args.device.now in
-    let lb = g.D.Device.leaves c.open.new.device in
-    opening_cut c.args.asked t a la only starts b lb (subst (λ (e : Errand). LeavesOnly a b la lb (IsOpening (identity_of e) a la)) c.asked.view_is (c.open.ensures.any_moment told))
+    let lb = g.D.Device.leaves c.run_stored.new.device in
+    let stored : MakesFile e.word = subst MakesFile (ap (λ (x : Errand). x.word) c.asked.view_is) (stored_word c.asked.inside.word c.in-Gen.is) in
+    let over = stored_over e stored in
+    let did = h told in
+    (did.0, starts e a.holds over did.0 did.1, ran_stored e stored did.0 a b lb did.2)) c.run_stored.ensures.done
 
-pub returns-clause-done : goal.returns-clause-done
-returns-clause-done g c = on_ok c.perform.result _ _ (λ ran told.
+pub returns-in-Gen-clause-other : goal.returns-in-Gen-clause-other
+returns-in-Gen-clause-other g c = λ print is told.
+    let e = c.args.asked in
     let a = g.D.Device.state c.args.device.now in
-    let b = g.D.Device.state c.open.new.device in
-    let t = c.in_ok-store.tables in
-    let told_b : IsTrue b.told = rw c.open.ensures.frame.told told in
-    let starts = subst (λ (e : Errand). Starts e a.holds t) c.asked.view_is (c.in_ok-store.ensures.starts told) in
-    let done = ran told_b in
-    (t, starts, record { sent = done.sent ∙ ap (λ (s : List ℕ). s ++ bytes_of (acts_of c.args.asked t)) (c.open.ensures.sent told); holds = done.holds; settled = done.settled })) c.perform.ensures.done
-
-pub returns-clause-other : goal.returns-clause-other
-returns-clause-other g c = λ stored is told.
-    let b = g.D.Device.state c.open.new.device in
-    let told_b : IsTrue b.told = rw c.open.ensures.frame.told told in
-    absurd (c.perform.ensures.other stored is told_b)
-
-pub returns-clause-still : goal.returns-clause-still
-returns-clause-still g c = λ told none.
-    absurd (none c.in_ok-store.tables (subst (λ (e : Errand). Starts e (g.D.Device.state c.args.device.now).holds c.in_ok-store.tables) c.asked.view_is (c.in_ok-store.ensures.starts told)))
-
-pub returns-clause-any_moment : goal.returns-clause-any_moment
-returns-clause-any_moment g c = λ told only t starts.
-    let a = g.D.Device.state c.args.device.now in
-    let b = g.D.Device.state c.open.new.device in
-    let d = g.D.Device.state c.perform.new.device in
+    let b = g.D.Device.state c.run_stored.new.device in
     let la = g.D.Device.leaves c.args.device.now in
-    let lb = g.D.Device.leaves c.open.new.device in
-    let ld = g.D.Device.leaves c.perform.new.device in
-    let u = c.in_ok-store.tables in
-    let told_b : IsTrue b.told = rw c.open.ensures.frame.told told in
-    let from = subst (λ (e : Errand). Starts e a.holds u) c.asked.view_is (c.in_ok-store.ensures.starts told) in
-    let first = subst (λ (e : Errand). LeavesOnly a b la lb (IsOpening (identity_of e) a la)) c.asked.view_is (c.open.ensures.any_moment told) in
-    run_cut c.args.asked t a la only starts u b d lb ld from first (c.open.ensures.sent told) (c.perform.ensures.any.any_moment told_b)
+    let lb = g.D.Device.leaves c.run_stored.new.device in
+    let stored : MakesFile e.word = subst MakesFile (ap (λ (x : Errand). x.word) c.asked.view_is) (stored_word c.asked.inside.word c.in-Gen.is) in
+    let over = stored_over e stored in
+    (over, c.run_stored.ensures.other print is told)
 
-pub returns-clause-left : goal.returns-clause-left
-returns-clause-left g c = λ told t starts some lines.
+pub returns-in-Gen-clause-still : goal.returns-in-Gen-clause-still
+returns-in-Gen-clause-still g c = λ told none.
+    let e = c.args.asked in
     let a = g.D.Device.state c.args.device.now in
-    let b = g.D.Device.state c.open.new.device in
-    let u = c.in_ok-store.tables in
-    let told_b : IsTrue b.told = rw c.open.ensures.frame.told told in
-    let from = subst (λ (e : Errand). Starts e a.holds u) c.asked.view_is (c.in_ok-store.ensures.starts told) in
-    let same = one_start c.args.asked a.holds t u starts from in
-    let rests = c.open.ensures.still told some in
-    let quiet = c.perform.ensures.any.quiet told_b (subst (λ (v : TableRows). commits_nothing (acts_of c.args.asked v) ≡ true) same lines) in
-    record { holds = quiet.holds ∙ rests.holds; put = quiet.put ∙ rests.put }
+    let b = g.D.Device.state c.run_stored.new.device in
+    let la = g.D.Device.leaves c.args.device.now in
+    let lb = g.D.Device.leaves c.run_stored.new.device in
+    let stored : MakesFile e.word = subst MakesFile (ap (λ (x : Errand). x.word) c.asked.view_is) (stored_word c.asked.inside.word c.in-Gen.is) in
+    let over = stored_over e stored in
+    c.run_stored.ensures.still told (λ t from. none t (starts e a.holds over t from))
 
-pub returns-clause-failed : goal.returns-clause-failed
-returns-clause-failed g c = λ is.
-    rose_either (g.D.Device.state c.args.device.now) (g.D.Device.state c.open.new.device) (g.D.Device.state c.perform.new.device) c.open.ensures.frame (c.perform.ensures.failed is)
+pub returns-in-Gen-clause-any_moment : goal.returns-in-Gen-clause-any_moment
+returns-in-Gen-clause-any_moment g c = λ told only t from.
+    let e = c.args.asked in
+    let a = g.D.Device.state c.args.device.now in
+    let b = g.D.Device.state c.run_stored.new.device in
+    let la = g.D.Device.leaves c.args.device.now in
+    let lb = g.D.Device.leaves c.run_stored.new.device in
+    let stored : MakesFile e.word = subst MakesFile (ap (λ (x : Errand). x.word) c.asked.view_is) (stored_word c.asked.inside.word c.in-Gen.is) in
+    let over = stored_over e stored in
+    cut_stored e stored t a b la lb (c.run_stored.ensures.any_moment told only t (opens e a.holds over t from))
+
+pub returns-in-Gen-clause-left : goal.returns-in-Gen-clause-left
+returns-in-Gen-clause-left g c = λ told t from some lines.
+    let e = c.args.asked in
+    let a = g.D.Device.state c.args.device.now in
+    let b = g.D.Device.state c.run_stored.new.device in
+    let la = g.D.Device.leaves c.args.device.now in
+    let lb = g.D.Device.leaves c.run_stored.new.device in
+    let stored : MakesFile e.word = subst MakesFile (ap (λ (x : Errand). x.word) c.asked.view_is) (stored_word c.asked.inside.word c.in-Gen.is) in
+    let over = stored_over e stored in
+    c.run_stored.ensures.left told t (opens e a.holds over t from) (some stored) lines
+
+pub returns-in-Gen-clause-names : goal.returns-in-Gen-clause-names
+returns-in-Gen-clause-names g c = λ told.
+    let e = c.args.asked in
+    let a = g.D.Device.state c.args.device.now in
+    let b = g.D.Device.state c.run_stored.new.device in
+    let la = g.D.Device.leaves c.args.device.now in
+    let lb = g.D.Device.leaves c.run_stored.new.device in
+    let stored : MakesFile e.word = subst MakesFile (ap (λ (x : Errand). x.word) c.asked.view_is) (stored_word c.asked.inside.word c.in-Gen.is) in
+    let over = stored_over e stored in
+    may_hand_on e over c.args.name.now a b (c.run_stored.ensures.names told)
+
+pub returns-in-Gen-clause-named : goal.returns-in-Gen-clause-named
+returns-in-Gen-clause-named g c = on_ok c.run_stored.result _ _ (λ h told.
+    let e = c.args.asked in
+    let a = g.D.Device.state c.args.device.now in
+    let b = g.D.Device.state c.run_stored.new.device in
+    let la = g.D.Device.leaves c.args.device.now in
+    let lb = g.D.Device.leaves c.run_stored.new.device in
+    let stored : MakesFile e.word = subst MakesFile (ap (λ (x : Errand). x.word) c.asked.view_is) (stored_word c.asked.inside.word c.in-Gen.is) in
+    let over = stored_over e stored in
+    hands_on e over c.args.name.now a b (h told)) c.run_stored.ensures.named
+
+-- ---- show
+
+pub returns-in-Show-clause-done : goal.returns-in-Show-clause-done
+returns-in-Show-clause-done g c = on_ok c.show_over.result _ _ (λ h told.
+    let e = c.args.asked in
+    let a = g.D.Device.state c.args.device.now in
+    let b = g.D.Device.state c.show_over.new.device in
+    let la = g.D.Device.leaves c.args.device.now in
+    let lb = g.D.Device.leaves c.show_over.new.device in
+    let is : e.word ≡ Show = sym (ap (λ (x : Errand). x.word) c.asked.view_is) ∙ c.in-Show.is in
+    let over : IsOverFile e.word = subst IsOverFile (sym is) tt in
+    let aside : (t : TableRows) → SendsAside e.word e t (listing t) = λ t. subst (λ (word : Word). SendsAside word e t (listing t)) (sym is) refl in
+    let did = h told in
+    (did.0, starts e a.holds over did.0 did.1, ran_aside e did.0 (listing did.0) (aside did.0) a b la lb did.2)) c.show_over.ensures.done
+
+pub returns-in-Show-clause-still : goal.returns-in-Show-clause-still
+returns-in-Show-clause-still g c = λ told none.
+    let e = c.args.asked in
+    let a = g.D.Device.state c.args.device.now in
+    let b = g.D.Device.state c.show_over.new.device in
+    let la = g.D.Device.leaves c.args.device.now in
+    let lb = g.D.Device.leaves c.show_over.new.device in
+    let is : e.word ≡ Show = sym (ap (λ (x : Errand). x.word) c.asked.view_is) ∙ c.in-Show.is in
+    let over : IsOverFile e.word = subst IsOverFile (sym is) tt in
+    let aside : (t : TableRows) → SendsAside e.word e t (listing t) = λ t. subst (λ (word : Word). SendsAside word e t (listing t)) (sym is) refl in
+    c.show_over.ensures.still told (λ t from. none t (starts e a.holds over t from))
+
+pub returns-in-Show-clause-any_moment : goal.returns-in-Show-clause-any_moment
+returns-in-Show-clause-any_moment g c = λ told only t from.
+    let e = c.args.asked in
+    let a = g.D.Device.state c.args.device.now in
+    let b = g.D.Device.state c.show_over.new.device in
+    let la = g.D.Device.leaves c.args.device.now in
+    let lb = g.D.Device.leaves c.show_over.new.device in
+    let is : e.word ≡ Show = sym (ap (λ (x : Errand). x.word) c.asked.view_is) ∙ c.in-Show.is in
+    let over : IsOverFile e.word = subst IsOverFile (sym is) tt in
+    let aside : (t : TableRows) → SendsAside e.word e t (listing t) = λ t. subst (λ (word : Word). SendsAside word e t (listing t)) (sym is) refl in
+    cut_aside e t (listing t) (aside t) a b la lb only (c.show_over.ensures.front told t (opens e a.holds over t from))
+
+pub returns-in-Show-clause-left : goal.returns-in-Show-clause-left
+returns-in-Show-clause-left g c = λ told t from some lines.
+    let e = c.args.asked in
+    let a = g.D.Device.state c.args.device.now in
+    let b = g.D.Device.state c.show_over.new.device in
+    let la = g.D.Device.leaves c.args.device.now in
+    let lb = g.D.Device.leaves c.show_over.new.device in
+    let is : e.word ≡ Show = sym (ap (λ (x : Errand). x.word) c.asked.view_is) ∙ c.in-Show.is in
+    let over : IsOverFile e.word = subst IsOverFile (sym is) tt in
+    let aside : (t : TableRows) → SendsAside e.word e t (listing t) = λ t. subst (λ (word : Word). SendsAside word e t (listing t)) (sym is) refl in
+    (c.show_over.ensures.front told t (opens e a.holds over t from)).part.disk
+
+pub returns-in-Show-clause-names : goal.returns-in-Show-clause-names
+returns-in-Show-clause-names g c = λ told.
+    let e = c.args.asked in
+    let a = g.D.Device.state c.args.device.now in
+    let b = g.D.Device.state c.show_over.new.device in
+    let la = g.D.Device.leaves c.args.device.now in
+    let lb = g.D.Device.leaves c.show_over.new.device in
+    let is : e.word ≡ Show = sym (ap (λ (x : Errand). x.word) c.asked.view_is) ∙ c.in-Show.is in
+    let over : IsOverFile e.word = subst IsOverFile (sym is) tt in
+    let aside : (t : TableRows) → SendsAside e.word e t (listing t) = λ t. subst (λ (word : Word). SendsAside word e t (listing t)) (sym is) refl in
+    may_hand_on e over c.args.name.now a b (c.show_over.ensures.names told)
+
+pub returns-in-Show-clause-named : goal.returns-in-Show-clause-named
+returns-in-Show-clause-named g c = on_ok c.show_over.result _ _ (λ h told.
+    let e = c.args.asked in
+    let a = g.D.Device.state c.args.device.now in
+    let b = g.D.Device.state c.show_over.new.device in
+    let la = g.D.Device.leaves c.args.device.now in
+    let lb = g.D.Device.leaves c.show_over.new.device in
+    let is : e.word ≡ Show = sym (ap (λ (x : Errand). x.word) c.asked.view_is) ∙ c.in-Show.is in
+    let over : IsOverFile e.word = subst IsOverFile (sym is) tt in
+    let aside : (t : TableRows) → SendsAside e.word e t (listing t) = λ t. subst (λ (word : Word). SendsAside word e t (listing t)) (sym is) refl in
+    hands_on e over c.args.name.now a b (h told)) c.show_over.ensures.named
+
+-- ---- make
+
+pub returns-in-Make-clause-done : goal.returns-in-Make-clause-done
+returns-in-Make-clause-done g c = on_ok c.make.result _ _ (λ h told.
+    let e = c.args.asked in
+    let a = g.D.Device.state c.args.device.now in
+    let b = g.D.Device.state c.make.new.device in
+    let la = g.D.Device.leaves c.args.device.now in
+    let lb = g.D.Device.leaves c.make.new.device in
+    let is : e.word ≡ Make c.in-Make.inputs = sym (ap (λ (x : Errand). x.word) c.asked.view_is) ∙ c.in-Make.is in
+    let line = report_of c.in-Make.inputs (app_of e) e.commands in
+    let aside : (t : TableRows) → SendsAside e.word e t line = λ t. subst (λ (word : Word). SendsAside word e t line) (sym is) refl in
+    let from : StartsBy e.word e a.holds empty_tables = subst (λ (word : Word). StartsBy word e a.holds empty_tables) (sym is) refl in
+    (empty_tables, from, ran_aside e empty_tables line (aside empty_tables) a b la lb (h told))) c.make.ensures.done
+
+pub returns-in-Make-clause-still : goal.returns-in-Make-clause-still
+returns-in-Make-clause-still g c = λ told none.
+    let e = c.args.asked in
+    let a = g.D.Device.state c.args.device.now in
+    let b = g.D.Device.state c.make.new.device in
+    let la = g.D.Device.leaves c.args.device.now in
+    let lb = g.D.Device.leaves c.make.new.device in
+    let is : e.word ≡ Make c.in-Make.inputs = sym (ap (λ (x : Errand). x.word) c.asked.view_is) ∙ c.in-Make.is in
+    let line = report_of c.in-Make.inputs (app_of e) e.commands in
+    let aside : (t : TableRows) → SendsAside e.word e t line = λ t. subst (λ (word : Word). SendsAside word e t line) (sym is) refl in
+    let from : StartsBy e.word e a.holds empty_tables = subst (λ (word : Word). StartsBy word e a.holds empty_tables) (sym is) refl in
+    absurd (none empty_tables from)
+
+pub returns-in-Make-clause-any_moment : goal.returns-in-Make-clause-any_moment
+returns-in-Make-clause-any_moment g c = λ told only t is.
+    let e = c.args.asked in
+    let a = g.D.Device.state c.args.device.now in
+    let b = g.D.Device.state c.make.new.device in
+    let la = g.D.Device.leaves c.args.device.now in
+    let lb = g.D.Device.leaves c.make.new.device in
+    let is : e.word ≡ Make c.in-Make.inputs = sym (ap (λ (x : Errand). x.word) c.asked.view_is) ∙ c.in-Make.is in
+    let line = report_of c.in-Make.inputs (app_of e) e.commands in
+    let aside : (t : TableRows) → SendsAside e.word e t line = λ t. subst (λ (word : Word). SendsAside word e t line) (sym is) refl in
+    let from : StartsBy e.word e a.holds empty_tables = subst (λ (word : Word). StartsBy word e a.holds empty_tables) (sym is) refl in
+    cut_aside e t line (aside t) a b la lb only (c.make.ensures.front told)

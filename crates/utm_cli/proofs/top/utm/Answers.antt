@@ -5,183 +5,116 @@ use Rattle.utm_cli.specs.declared.error.Refusal.{Refusal}
 use Rattle.utm_cli.specs.declared.error.TextError.{TextError}
 use Rattle.utm_cli.specs.Words.{request_of, status_of, refusal_line, not_a_kdcfile_line, other_generation_line}
 use Rattle.monitor_acts.specs.Said.{SameDisk, Said, SaidPart}
-use Rattle.utm_cli.specs.Asking.{Errand, AreThere, app_of}
-use Rattle.utm_cli.specs.Doing.{Starts, Refuses, IsOfOthers, identity_of, acts_of}
+use Rattle.utm_cli.specs.Asking.{Reading, AreThere, app_of}
+use Rattle.utm_cli.specs.Doing.{Starts, Refuses, IsOfOthers, acts_of}
 use Rattle.monitor_acts.specs.Performing.{commits_nothing}
-use Rattle.utm_cli.specs.Promise.{IsOneOf, Request, IsCutOfRun, RunsLawfully}
+use Rattle.utm_cli.specs.declared.words.Word.{Word}
+use Rattle.utm_cli.specs.Promise.{IsOneOf, Request, Reads, IsCutOfRun, MakesFile, RunsLawfully, AttachedBy}
 use Rattle.utm_cli.proofs.Asking.{reads_of, one_reading, not_missed, misses_of, ok_not, moved, err_not, err_same, cut_at_call, cut_since_call}
 use Rattle.utm_cli.proofs.Ends.{ends}
 use Rattle.utm_cli.proofs.Codes.{of_run, of_file, of_done, of_refused, not_refused, not_device}
 use Rattle.utm_cli.proofs.top.utm.Given.{Over}
 use Rattle.utm_cli.proofs.top.utm.Goals as goal
 
+-- ---- what the words and the texts say
+
+asked_ok : (g : Over) (c : goal.After-run g) → Request (map string_bytes c.args.words.now.items) c.in-Some.word c.in-Some.base.now
+asked_ok g c = ap (λ l. request_of (map string_bytes l)) (sym c.deref.ensures.value) ∙ c.in-Some.ensures.value
+
+one_said : (g : Over) (c : goal.After-run g) → IsTrue (g.R.Room.room c.args.room.now).told → (said : Reading) → Reads (map string_bytes c.args.words.now.items) (g.R.Room.room c.args.room.now) said → said ≡ Ok c.in-Ok.asked
+one_said g c told = one_reading _ _ _ _ (asked_ok g c) (Ok c.in-Ok.asked) (c.in-Ok.ensures.found_one told)
+
+asked_refused : (g : Over) (c : goal.After-refuse_texts g) → Request (map string_bytes c.args.words.now.items) c.in-Some.word c.in-Some.base.now
+asked_refused g c = ap (λ l. request_of (map string_bytes l)) (sym c.deref.ensures.value) ∙ c.in-Some.ensures.value
+
+one_refused : (g : Over) (c : goal.After-refuse_texts g) → IsTrue (g.R.Room.room c.args.room.now).told → (said : Reading) → Reads (map string_bytes c.args.words.now.items) (g.R.Room.room c.args.room.now) said → said ≡ Err c.in-Err-Refused.why
+one_refused g c told = one_reading _ _ _ _ (asked_refused g c) (Err c.in-Err-Refused.why) (c.in-Err-Refused.ensures.refused_one c.in-Err-Refused.why (ap (λ (e : TextError). Err e) c.in-Err-Refused.field-0-is) told)
+
+-- ---- they ask for something
+
 pub returns-in-Ok-clause-code : goal.returns-in-Ok-clause-code
 returns-in-Ok-clause-code g c = of_run c.run.result.code c.run.ensures.code
 
 pub returns-in-Ok-clause-texts : goal.returns-in-Ok-clause-texts
-returns-in-Ok-clause-texts g c = λ told why said.
-    let words = map string_bytes c.args.words.now.items in
-    let room = g.R.Room.room c.args.room.now in
-    let word = c.in-Some.word in
-    let base = c.in-Some.base.now in
-    let asked : Request words word base = ap (λ l. request_of (map string_bytes l)) (sym c.deref.ensures.value) ∙ c.in-Some.ensures in
-    let e : Errand = c.in-Ok.asked in
-    let one = one_reading words room word base asked (Ok e) (c.in-Ok.ensures.found_one told) in
-    absurd (ok_not words room e one why said)
+returns-in-Ok-clause-texts g c = λ told why said. absurd (ok_not _ _ _ (one_said g c told) why said)
 
 pub returns-in-Ok-clause-texts_part : goal.returns-in-Ok-clause-texts_part
-returns-in-Ok-clause-texts_part g c = λ told why said.
-    let words = map string_bytes c.args.words.now.items in
-    let room = g.R.Room.room c.args.room.now in
-    let word = c.in-Some.word in
-    let base = c.in-Some.base.now in
-    let asked : Request words word base = ap (λ l. request_of (map string_bytes l)) (sym c.deref.ensures.value) ∙ c.in-Some.ensures in
-    let e : Errand = c.in-Ok.asked in
-    let one = one_reading words room word base asked (Ok e) (c.in-Ok.ensures.found_one told) in
-    absurd (ok_not words room e one why said)
+returns-in-Ok-clause-texts_part g c = λ told why said. absurd (ok_not _ _ _ (one_said g c told) why said)
 
 pub returns-in-Ok-clause-texts_only : goal.returns-in-Ok-clause-texts_only
 returns-in-Ok-clause-texts_only g c = λ code. absurd (not_refused c.run.result.code c.run.ensures.code code)
 
 pub returns-in-Ok-clause-file : goal.returns-in-Ok-clause-file
 returns-in-Ok-clause-file g c = λ told told_device f said.
-    let words = map string_bytes c.args.words.now.items in
-    let room = g.R.Room.room c.args.room.now in
-    let word = c.in-Some.word in
-    let base = c.in-Some.base.now in
-    let asked : Request words word base = ap (λ l. request_of (map string_bytes l)) (sym c.deref.ensures.value) ∙ c.in-Some.ensures in
-    let e : Errand = c.in-Ok.asked in
-    let one = one_reading words room word base asked (Ok e) (c.in-Ok.ensures.found_one told) in
+    let one = one_said g c told in
     let a = g.D.Device.state c.args.device.now in
     let d = g.D.Device.state c.run.new.device in
-    moved words room e one (λ x. Refuses x a.holds → IsOneOf (4 ∷ 6 ∷ 5 ∷ 7 ∷ []) c.run.result.code) f said (λ refused. of_file c.run.result.code (c.run.ensures.refused told_device refused))
+    moved _ _ _ one (λ x. Refuses x a.holds → IsOneOf (4 ∷ 6 ∷ 5 ∷ 7 ∷ []) c.run.result.code) f said (λ refused. of_file c.run.result.code (c.run.ensures.refused told_device refused))
 
 pub returns-in-Ok-clause-file_only : goal.returns-in-Ok-clause-file_only
 returns-in-Ok-clause-file_only g c = λ code.
-    let words = map string_bytes c.args.words.now.items in
-    let room = g.R.Room.room c.args.room.now in
-    let word = c.in-Some.word in
-    let base = c.in-Some.base.now in
-    let asked : Request words word base = ap (λ l. request_of (map string_bytes l)) (sym c.deref.ensures.value) ∙ c.in-Some.ensures in
-    (c.in-Ok.asked, λ told. reads_of words room word base asked (Ok c.in-Ok.asked) (c.in-Ok.ensures.found told), λ told_device. c.run.ensures.refused_only code told_device)
+    (c.in-Ok.asked, λ told. reads_of _ _ _ _ (asked_ok g c) (Ok c.in-Ok.asked) (c.in-Ok.ensures.found told), λ told_device. c.run.ensures.refused_only code told_device)
 
 pub returns-in-Ok-clause-file_part : goal.returns-in-Ok-clause-file_part
 returns-in-Ok-clause-file_part g c = λ told told_device f said.
-    let words = map string_bytes c.args.words.now.items in
-    let room = g.R.Room.room c.args.room.now in
-    let word = c.in-Some.word in
-    let base = c.in-Some.base.now in
-    let asked : Request words word base = ap (λ l. request_of (map string_bytes l)) (sym c.deref.ensures.value) ∙ c.in-Some.ensures in
-    let e : Errand = c.in-Ok.asked in
-    let one = one_reading words room word base asked (Ok e) (c.in-Ok.ensures.found_one told) in
+    let one = one_said g c told in
     let a = g.D.Device.state c.args.device.now in
     let d = g.D.Device.state c.run.new.device in
-    moved words room e one (λ x. Refuses x a.holds → SaidPart not_a_kdcfile_line a d) f said (λ refused. c.run.ensures.refused_part told_device refused)
+    moved _ _ _ one (λ x. Refuses x a.holds → SaidPart not_a_kdcfile_line a d) f said (λ refused. c.run.ensures.refused_part told_device refused)
 
 pub returns-in-Ok-clause-other : goal.returns-in-Ok-clause-other
 returns-in-Ok-clause-other g c = λ told told_device f said stored.
-    let words = map string_bytes c.args.words.now.items in
-    let room = g.R.Room.room c.args.room.now in
-    let word = c.in-Some.word in
-    let base = c.in-Some.base.now in
-    let asked : Request words word base = ap (λ l. request_of (map string_bytes l)) (sym c.deref.ensures.value) ∙ c.in-Some.ensures in
-    let e : Errand = c.in-Ok.asked in
-    let one = one_reading words room word base asked (Ok e) (c.in-Ok.ensures.found_one told) in
+    let one = one_said g c told in
     let a = g.D.Device.state c.args.device.now in
-    moved words room e one (λ x. IsOfOthers stored x a.holds → IsOneOf (4 ∷ 6 ∷ 5 ∷ 7 ∷ []) c.run.result.code) f said (λ other. of_file c.run.result.code (c.run.ensures.other told_device stored other))
+    moved _ _ _ one (λ x. IsOfOthers stored x a.holds → IsOneOf (4 ∷ 6 ∷ 5 ∷ 7 ∷ []) c.run.result.code) f said (λ other. of_file c.run.result.code (c.run.ensures.other told_device stored other))
 
 pub returns-in-Ok-clause-other_part : goal.returns-in-Ok-clause-other_part
 returns-in-Ok-clause-other_part g c = λ told told_device f said stored.
-    let words = map string_bytes c.args.words.now.items in
-    let room = g.R.Room.room c.args.room.now in
-    let word = c.in-Some.word in
-    let base = c.in-Some.base.now in
-    let asked : Request words word base = ap (λ l. request_of (map string_bytes l)) (sym c.deref.ensures.value) ∙ c.in-Some.ensures in
-    let e : Errand = c.in-Ok.asked in
-    let one = one_reading words room word base asked (Ok e) (c.in-Ok.ensures.found_one told) in
+    let one = one_said g c told in
     let a = g.D.Device.state c.args.device.now in
     let d = g.D.Device.state c.run.new.device in
-    moved words room e one (λ x. IsOfOthers stored x a.holds → SaidPart (other_generation_line stored) a d) f said (λ other. c.run.ensures.other_part told_device stored other)
+    moved _ _ _ one (λ x. IsOfOthers stored x a.holds → SaidPart (other_generation_line stored) a d) f said (λ other. c.run.ensures.other_part told_device stored other)
 
 pub returns-in-Ok-clause-laws : goal.returns-in-Ok-clause-laws
 returns-in-Ok-clause-laws g c = λ told attached f bytes t said.
-    let words = map string_bytes c.args.words.now.items in
-    let room = g.R.Room.room c.args.room.now in
-    let word = c.in-Some.word in
-    let base = c.in-Some.base.now in
-    let asked : Request words word base = ap (λ l. request_of (map string_bytes l)) (sym c.deref.ensures.value) ∙ c.in-Some.ensures in
-    let e : Errand = c.in-Ok.asked in
-    let one = one_reading words room word base asked (Ok e) (c.in-Ok.ensures.found_one told) in
-    moved words room e one (λ x. Starts x bytes t → RunsLawfully (app_of x) t x.commands) f said (λ starts. c.scripts_run_lawfully.ensures bytes t starts)
+    let one = one_said g c told in
+    moved _ _ _ one (λ x. Starts x bytes t → RunsLawfully (app_of x) t x.commands) f said (λ starts. c.scripts_run_lawfully.ensures bytes t starts)
 
 pub returns-in-Ok-clause-missing : goal.returns-in-Ok-clause-missing
 returns-in-Ok-clause-missing g c = λ told misses.
-    let words = map string_bytes c.args.words.now.items in
-    let room = g.R.Room.room c.args.room.now in
-    let word = c.in-Some.word in
-    let base = c.in-Some.base.now in
-    let asked : Request words word base = ap (λ l. request_of (map string_bytes l)) (sym c.deref.ensures.value) ∙ c.in-Some.ensures in
-    absurd (not_missed words room word base asked (Ok c.in-Ok.asked) (c.in-Ok.ensures.found told) misses)
+    absurd (not_missed _ _ _ _ (asked_ok g c) (Ok c.in-Ok.asked) (c.in-Ok.ensures.found told) misses)
 
 pub returns-in-Ok-clause-missing_said : goal.returns-in-Ok-clause-missing_said
 returns-in-Ok-clause-missing_said g c = λ told told_device misses.
-    let words = map string_bytes c.args.words.now.items in
-    let room = g.R.Room.room c.args.room.now in
-    let word = c.in-Some.word in
-    let base = c.in-Some.base.now in
-    let asked : Request words word base = ap (λ l. request_of (map string_bytes l)) (sym c.deref.ensures.value) ∙ c.in-Some.ensures in
-    absurd (not_missed words room word base asked (Ok c.in-Ok.asked) (c.in-Ok.ensures.found told) misses)
+    absurd (not_missed _ _ _ _ (asked_ok g c) (Ok c.in-Ok.asked) (c.in-Ok.ensures.found told) misses)
 
 pub returns-in-Ok-clause-done : goal.returns-in-Ok-clause-done
 returns-in-Ok-clause-done g c = λ code told told_device.
-    let words = map string_bytes c.args.words.now.items in
-    let room = g.R.Room.room c.args.room.now in
-    let word = c.in-Some.word in
-    let base = c.in-Some.base.now in
-    let asked : Request words word base = ap (λ l. request_of (map string_bytes l)) (sym c.deref.ensures.value) ∙ c.in-Some.ensures in
-    let ran = c.run.ensures.done code told_device in (c.in-Ok.asked, reads_of words room word base asked (Ok c.in-Ok.asked) (c.in-Ok.ensures.found told), ran.0, ran.1, ran.2)
+    let ran = c.run.ensures.done code told_device in (c.in-Ok.asked, reads_of _ _ _ _ (asked_ok g c) (Ok c.in-Ok.asked) (c.in-Ok.ensures.found told), ran.0, ran.1, ran.2)
 
 pub returns-in-Ok-clause-accepted : goal.returns-in-Ok-clause-accepted
 returns-in-Ok-clause-accepted g c = λ told told_device f t said.
-    let words = map string_bytes c.args.words.now.items in
-    let room = g.R.Room.room c.args.room.now in
-    let word = c.in-Some.word in
-    let base = c.in-Some.base.now in
-    let asked : Request words word base = ap (λ l. request_of (map string_bytes l)) (sym c.deref.ensures.value) ∙ c.in-Some.ensures in
-    let e : Errand = c.in-Ok.asked in
-    let one = one_reading words room word base asked (Ok e) (c.in-Ok.ensures.found_one told) in
+    let one = one_said g c told in
     let a = g.D.Device.state c.args.device.now in
     let d = g.D.Device.state c.run.new.device in
-    moved words room e one (λ x. Starts x a.holds t → IsOneOf (0 ∷ 6 ∷ 5 ∷ 7 ∷ []) c.run.result.code) f said (λ starts. of_done c.run.result.code (c.run.ensures.accepted told_device t starts))
+    moved _ _ _ one (λ x. Starts x a.holds t → IsOneOf (0 ∷ 6 ∷ 5 ∷ 7 ∷ []) c.run.result.code) f said (λ starts. of_done c.run.result.code (c.run.ensures.accepted told_device t starts))
 
 pub returns-in-Ok-clause-complete : goal.returns-in-Ok-clause-complete
 returns-in-Ok-clause-complete g c = λ told told_device f t said starts disk line texts.
-    let words = map string_bytes c.args.words.now.items in
-    let room = g.R.Room.room c.args.room.now in
-    let word = c.in-Some.word in
-    let base = c.in-Some.base.now in
-    let asked : Request words word base = ap (λ l. request_of (map string_bytes l)) (sym c.deref.ensures.value) ∙ c.in-Some.ensures in
-    let e : Errand = c.in-Ok.asked in
-    let one = one_reading words room word base asked (Ok e) (c.in-Ok.ensures.found_one told) in
+    let one = one_said g c told in
     let a = g.D.Device.state c.args.device.now in
     let d = g.D.Device.state c.run.new.device in
-    not_device c.run.result.code (moved words room e one (λ x. Starts x a.holds t → IsOneOf (0 ∷ 5 ∷ 7 ∷ []) c.run.result.code) f said (λ from. c.run.ensures.accepted told_device t from) starts) (λ five. ⊎_elim (λ rose. disk rose) (λ rose. line rose) (c.run.ensures.failed five))
+    not_device c.run.result.code (moved _ _ _ one (λ x. Starts x a.holds t → IsOneOf (0 ∷ 5 ∷ 7 ∷ []) c.run.result.code) f said (λ from. c.run.ensures.accepted told_device t from) starts) (λ five. ⊎_elim (λ rose. disk rose) (λ rose. line rose) (c.run.ensures.failed five))
 
 pub returns-in-Ok-clause-cut : goal.returns-in-Ok-clause-cut
 returns-in-Ok-clause-cut g c = λ told told_device only f t said.
-    let words = map string_bytes c.args.words.now.items in
-    let room = g.R.Room.room c.args.room.now in
-    let word = c.in-Some.word in
-    let base = c.in-Some.base.now in
-    let asked : Request words word base = ap (λ l. request_of (map string_bytes l)) (sym c.deref.ensures.value) ∙ c.in-Some.ensures in
-    let e : Errand = c.in-Ok.asked in
-    let one = one_reading words room word base asked (Ok e) (c.in-Ok.ensures.found_one told) in
+    let one = one_said g c told in
     let a = g.D.Device.state c.args.device.now in
     let d = g.D.Device.state c.run.new.device in
     let la = g.D.Device.leaves c.args.device.now in
     let ld = g.D.Device.leaves c.run.new.device in
-    moved words room e one (λ x. Starts x a.holds t → (image out : List ℕ) → ld a.moment image out → IsCutOfRun (identity_of x) (acts_of x) t a image out) f said
-    (λ starts image out left. cut_since_call e t a d la ld only starts (λ m o past. g.met.D.Device.sent_now c.args.device.now m o told_device past) (c.run.ensures.any_moment told_device only t starts) image out left)
+    moved _ _ _ one (λ x. Starts x a.holds t → (image out : List ℕ) → ld a.moment image out → IsCutOfRun x t a image out) f said
+    (λ starts image out left. cut_since_call c.in-Ok.asked t a d la ld only starts (λ m o past. g.met.D.Device.sent_now c.args.device.now m o told_device past) (c.run.ensures.any_moment told_device only t starts) image out left)
 
 pub returns-in-Ok-clause-ended : goal.returns-in-Ok-clause-ended
 returns-in-Ok-clause-ended g c = λ told told_device only f t said starts.
@@ -189,239 +122,103 @@ returns-in-Ok-clause-ended g c = λ told told_device only f t said starts.
     let d = g.D.Device.state c.run.new.device in
     let told_d : IsTrue d.told = rw c.run.ensures.frame.told told_device in
     let left = g.met.D.Device.earlier c.run.new.device a.moment d.moment d.holds d.sent told_d c.run.ensures.frame.moment (g.met.D.Device.holds_now c.run.new.device told_d) in
-    ends (identity_of f) (acts_of f) t a d (returns-in-Ok-clause-cut g c told told_device only f t said starts d.holds d.sent left)
+    ends f t a d (returns-in-Ok-clause-cut g c told told_device only f t said starts d.holds d.sent left)
 
 pub returns-in-Ok-clause-left : goal.returns-in-Ok-clause-left
 returns-in-Ok-clause-left g c = λ told told_device f t said.
-    let words = map string_bytes c.args.words.now.items in
-    let room = g.R.Room.room c.args.room.now in
-    let word = c.in-Some.word in
-    let base = c.in-Some.base.now in
-    let asked : Request words word base = ap (λ l. request_of (map string_bytes l)) (sym c.deref.ensures.value) ∙ c.in-Some.ensures in
-    let e : Errand = c.in-Ok.asked in
-    let one = one_reading words room word base asked (Ok e) (c.in-Ok.ensures.found_one told) in
+    let one = one_said g c told in
     let a = g.D.Device.state c.args.device.now in
     let d = g.D.Device.state c.run.new.device in
-    moved words room e one (λ x. Starts x a.holds t → (a.holds ≡ [] → ⊥) → commits_nothing (acts_of x t) ≡ true → SameDisk a d) f said (λ starts some lines. c.run.ensures.left told_device t starts some lines)
+    moved _ _ _ one (λ x. Starts x a.holds t → (MakesFile x.word → a.holds ≡ [] → ⊥) → commits_nothing (acts_of x t) ≡ true → SameDisk a d) f said (λ starts some lines. c.run.ensures.left told_device t starts some lines)
 
 pub returns-in-Ok-clause-names : goal.returns-in-Ok-clause-names
 returns-in-Ok-clause-names g c = λ told_device.
-    let words = map string_bytes c.args.words.now.items in
-    let room = g.R.Room.room c.args.room.now in
-    let word = c.in-Some.word in
-    let base = c.in-Some.base.now in
-    let asked : Request words word base = ap (λ l. request_of (map string_bytes l)) (sym c.deref.ensures.value) ∙ c.in-Some.ensures in
-    ⊎_elim (λ same. inl same) (λ grown. inr (word, (base, asked, grown))) (c.run.ensures.names told_device)
+    ⊎_elim (λ same. inl same)
+    (λ named. inr (c.in-Some.word, (c.in-Some.base.now, asked_ok g c, subst (λ (word : Word). AttachedBy word c.in-Some.base.now (g.D.Device.state c.args.device.now) (g.D.Device.state c.run.new.device)) c.in-Ok.ensures.word named)))
+    (c.run.ensures.names told_device)
 
 pub returns-in-Ok-clause-attached : goal.returns-in-Ok-clause-attached
 returns-in-Ok-clause-attached g c = λ code told_device.
-    let words = map string_bytes c.args.words.now.items in
-    let room = g.R.Room.room c.args.room.now in
-    let word = c.in-Some.word in
-    let base = c.in-Some.base.now in
-    let asked : Request words word base = ap (λ l. request_of (map string_bytes l)) (sym c.deref.ensures.value) ∙ c.in-Some.ensures in
-    (word, (base, asked, c.run.ensures.attached code told_device))
+    (c.in-Some.word, (c.in-Some.base.now, asked_ok g c, subst (λ (word : Word). AttachedBy word c.in-Some.base.now (g.D.Device.state c.args.device.now) (g.D.Device.state c.run.new.device)) c.in-Ok.ensures.word (c.run.ensures.attached code told_device)))
+
+-- ---- they are refused
 
 pub returns-in-Err-Refused-clause-texts : goal.returns-in-Err-Refused-clause-texts
 returns-in-Err-Refused-clause-texts g c = λ told other said.
-    let words = map string_bytes c.args.words.now.items in
-    let room = g.R.Room.room c.args.room.now in
-    let word = c.in-Some.word in
-    let base = c.in-Some.base.now in
-    let asked : Request words word base = ap (λ l. request_of (map string_bytes l)) (sym c.deref.ensures.value) ∙ c.in-Some.ensures in
-    let why = c.in-Err-Refused.why in
-    let is = ap (λ (e : TextError). Err e) c.in-Err-Refused.field-0-is in
-    let one = one_reading words room word base asked (Err why) (c.in-Err-Refused.ensures.refused_one why is told) in
-    subst (λ (x : Refusal). IsOneOf (status_of x ∷ 6 ∷ 5 ∷ 7 ∷ []) c.refuse_texts.result.code) (c.in-Err-Refused.why-is ∙ sym (err_same words room why one other said)) (of_refused (status_of _) c.refuse_texts.result.code c.refuse_texts.ensures.code)
+    let one = one_refused g c told in
+    subst (λ (x : Refusal). IsOneOf (status_of x ∷ 6 ∷ 5 ∷ 7 ∷ []) c.refuse_texts.result.code) (c.in-Err-Refused.why-is ∙ sym (err_same _ _ _ one other said)) (of_refused (status_of _) c.refuse_texts.result.code c.refuse_texts.ensures.code)
 
 pub returns-in-Err-Refused-clause-texts_only : goal.returns-in-Err-Refused-clause-texts_only
 returns-in-Err-Refused-clause-texts_only g c = λ code told.
-    let words = map string_bytes c.args.words.now.items in
-    let room = g.R.Room.room c.args.room.now in
-    let word = c.in-Some.word in
-    let base = c.in-Some.base.now in
-    let asked : Request words word base = ap (λ l. request_of (map string_bytes l)) (sym c.deref.ensures.value) ∙ c.in-Some.ensures in
     let why = c.in-Err-Refused.why in
     let is = ap (λ (e : TextError). Err e) c.in-Err-Refused.field-0-is in
     let a = g.D.Device.state c.args.device.now in
     let d = g.D.Device.state c.refuse_texts.new.device in
-    let said = subst (λ (x : Refusal). (c.refuse_texts.result.code ≡ status_of x) × (IsTrue a.told → Said (refusal_line x) a d)) c.in-Err-Refused.why-is (c.refuse_texts.ensures.said code) in (why, reads_of words room word base asked (Err why) (c.in-Err-Refused.ensures.refused why is told), said.0, said.1)
+    let said = subst (λ (x : Refusal). (c.refuse_texts.result.code ≡ status_of x) × (IsTrue a.told → Said (refusal_line x) a d)) c.in-Err-Refused.why-is (c.refuse_texts.ensures.said code) in (why, reads_of _ _ _ _ (asked_refused g c) (Err why) (c.in-Err-Refused.ensures.refused why is told), said.0, said.1)
 
 pub returns-in-Err-Refused-clause-texts_part : goal.returns-in-Err-Refused-clause-texts_part
 returns-in-Err-Refused-clause-texts_part g c = λ told other said told_device.
-    let words = map string_bytes c.args.words.now.items in
-    let room = g.R.Room.room c.args.room.now in
-    let word = c.in-Some.word in
-    let base = c.in-Some.base.now in
-    let asked : Request words word base = ap (λ l. request_of (map string_bytes l)) (sym c.deref.ensures.value) ∙ c.in-Some.ensures in
-    let why = c.in-Err-Refused.why in
-    let is = ap (λ (e : TextError). Err e) c.in-Err-Refused.field-0-is in
-    let one = one_reading words room word base asked (Err why) (c.in-Err-Refused.ensures.refused_one why is told) in
-    subst (λ (x : Refusal). SaidPart (refusal_line x) (g.D.Device.state c.args.device.now) (g.D.Device.state c.refuse_texts.new.device)) (c.in-Err-Refused.why-is ∙ sym (err_same words room why one other said)) (c.refuse_texts.ensures.part told_device)
+    let one = one_refused g c told in
+    subst (λ (x : Refusal). SaidPart (refusal_line x) (g.D.Device.state c.args.device.now) (g.D.Device.state c.refuse_texts.new.device)) (c.in-Err-Refused.why-is ∙ sym (err_same _ _ _ one other said)) (c.refuse_texts.ensures.part told_device)
 
 pub returns-in-Err-Refused-clause-file : goal.returns-in-Err-Refused-clause-file
-returns-in-Err-Refused-clause-file g c = λ told told_device f said.
-    let words = map string_bytes c.args.words.now.items in
-    let room = g.R.Room.room c.args.room.now in
-    let word = c.in-Some.word in
-    let base = c.in-Some.base.now in
-    let asked : Request words word base = ap (λ l. request_of (map string_bytes l)) (sym c.deref.ensures.value) ∙ c.in-Some.ensures in
-    let why = c.in-Err-Refused.why in
-    let is = ap (λ (e : TextError). Err e) c.in-Err-Refused.field-0-is in
-    let one = one_reading words room word base asked (Err why) (c.in-Err-Refused.ensures.refused_one why is told) in
-    absurd (err_not words room why one f said)
+returns-in-Err-Refused-clause-file g c = λ told told_device f said. absurd (err_not _ _ _ (one_refused g c told) f said)
 
 pub returns-in-Err-Refused-clause-file_part : goal.returns-in-Err-Refused-clause-file_part
-returns-in-Err-Refused-clause-file_part g c = λ told told_device f said.
-    let words = map string_bytes c.args.words.now.items in
-    let room = g.R.Room.room c.args.room.now in
-    let word = c.in-Some.word in
-    let base = c.in-Some.base.now in
-    let asked : Request words word base = ap (λ l. request_of (map string_bytes l)) (sym c.deref.ensures.value) ∙ c.in-Some.ensures in
-    let why = c.in-Err-Refused.why in
-    let is = ap (λ (e : TextError). Err e) c.in-Err-Refused.field-0-is in
-    let one = one_reading words room word base asked (Err why) (c.in-Err-Refused.ensures.refused_one why is told) in
-    absurd (err_not words room why one f said)
+returns-in-Err-Refused-clause-file_part g c = λ told told_device f said. absurd (err_not _ _ _ (one_refused g c told) f said)
 
 pub returns-in-Err-Refused-clause-other : goal.returns-in-Err-Refused-clause-other
-returns-in-Err-Refused-clause-other g c = λ told told_device f said.
-    let words = map string_bytes c.args.words.now.items in
-    let room = g.R.Room.room c.args.room.now in
-    let word = c.in-Some.word in
-    let base = c.in-Some.base.now in
-    let asked : Request words word base = ap (λ l. request_of (map string_bytes l)) (sym c.deref.ensures.value) ∙ c.in-Some.ensures in
-    let why = c.in-Err-Refused.why in
-    let is = ap (λ (e : TextError). Err e) c.in-Err-Refused.field-0-is in
-    let one = one_reading words room word base asked (Err why) (c.in-Err-Refused.ensures.refused_one why is told) in
-    absurd (err_not words room why one f said)
+returns-in-Err-Refused-clause-other g c = λ told told_device f said. absurd (err_not _ _ _ (one_refused g c told) f said)
 
 pub returns-in-Err-Refused-clause-other_part : goal.returns-in-Err-Refused-clause-other_part
-returns-in-Err-Refused-clause-other_part g c = λ told told_device f said.
-    let words = map string_bytes c.args.words.now.items in
-    let room = g.R.Room.room c.args.room.now in
-    let word = c.in-Some.word in
-    let base = c.in-Some.base.now in
-    let asked : Request words word base = ap (λ l. request_of (map string_bytes l)) (sym c.deref.ensures.value) ∙ c.in-Some.ensures in
-    let why = c.in-Err-Refused.why in
-    let is = ap (λ (e : TextError). Err e) c.in-Err-Refused.field-0-is in
-    let one = one_reading words room word base asked (Err why) (c.in-Err-Refused.ensures.refused_one why is told) in
-    absurd (err_not words room why one f said)
+returns-in-Err-Refused-clause-other_part g c = λ told told_device f said. absurd (err_not _ _ _ (one_refused g c told) f said)
 
 pub returns-in-Err-Refused-clause-laws : goal.returns-in-Err-Refused-clause-laws
-returns-in-Err-Refused-clause-laws g c = λ told attached f bytes t said.
-    let words = map string_bytes c.args.words.now.items in
-    let room = g.R.Room.room c.args.room.now in
-    let word = c.in-Some.word in
-    let base = c.in-Some.base.now in
-    let asked : Request words word base = ap (λ l. request_of (map string_bytes l)) (sym c.deref.ensures.value) ∙ c.in-Some.ensures in
-    let why = c.in-Err-Refused.why in
-    let is = ap (λ (e : TextError). Err e) c.in-Err-Refused.field-0-is in
-    let one = one_reading words room word base asked (Err why) (c.in-Err-Refused.ensures.refused_one why is told) in
-    absurd (err_not words room why one f said)
+returns-in-Err-Refused-clause-laws g c = λ told attached f bytes t said. absurd (err_not _ _ _ (one_refused g c told) f said)
 
 pub returns-in-Err-Refused-clause-missing : goal.returns-in-Err-Refused-clause-missing
 returns-in-Err-Refused-clause-missing g c = λ told misses.
-    let words = map string_bytes c.args.words.now.items in
-    let room = g.R.Room.room c.args.room.now in
-    let word = c.in-Some.word in
-    let base = c.in-Some.base.now in
-    let asked : Request words word base = ap (λ l. request_of (map string_bytes l)) (sym c.deref.ensures.value) ∙ c.in-Some.ensures in
     let why = c.in-Err-Refused.why in
     let is = ap (λ (e : TextError). Err e) c.in-Err-Refused.field-0-is in
-    absurd (not_missed words room word base asked (Err why) (c.in-Err-Refused.ensures.refused why is told) misses)
+    absurd (not_missed _ _ _ _ (asked_refused g c) (Err why) (c.in-Err-Refused.ensures.refused why is told) misses)
 
 pub returns-in-Err-Refused-clause-missing_said : goal.returns-in-Err-Refused-clause-missing_said
 returns-in-Err-Refused-clause-missing_said g c = λ told told_device misses.
-    let words = map string_bytes c.args.words.now.items in
-    let room = g.R.Room.room c.args.room.now in
-    let word = c.in-Some.word in
-    let base = c.in-Some.base.now in
-    let asked : Request words word base = ap (λ l. request_of (map string_bytes l)) (sym c.deref.ensures.value) ∙ c.in-Some.ensures in
     let why = c.in-Err-Refused.why in
     let is = ap (λ (e : TextError). Err e) c.in-Err-Refused.field-0-is in
-    absurd (not_missed words room word base asked (Err why) (c.in-Err-Refused.ensures.refused why is told) misses)
+    absurd (not_missed _ _ _ _ (asked_refused g c) (Err why) (c.in-Err-Refused.ensures.refused why is told) misses)
 
 pub returns-in-Err-Refused-clause-accepted : goal.returns-in-Err-Refused-clause-accepted
-returns-in-Err-Refused-clause-accepted g c = λ told told_device f t said.
-    let words = map string_bytes c.args.words.now.items in
-    let room = g.R.Room.room c.args.room.now in
-    let word = c.in-Some.word in
-    let base = c.in-Some.base.now in
-    let asked : Request words word base = ap (λ l. request_of (map string_bytes l)) (sym c.deref.ensures.value) ∙ c.in-Some.ensures in
-    let why = c.in-Err-Refused.why in
-    let is = ap (λ (e : TextError). Err e) c.in-Err-Refused.field-0-is in
-    let one = one_reading words room word base asked (Err why) (c.in-Err-Refused.ensures.refused_one why is told) in
-    absurd (err_not words room why one f said)
+returns-in-Err-Refused-clause-accepted g c = λ told told_device f t said. absurd (err_not _ _ _ (one_refused g c told) f said)
 
 pub returns-in-Err-Refused-clause-complete : goal.returns-in-Err-Refused-clause-complete
-returns-in-Err-Refused-clause-complete g c = λ told told_device f t said.
-    let words = map string_bytes c.args.words.now.items in
-    let room = g.R.Room.room c.args.room.now in
-    let word = c.in-Some.word in
-    let base = c.in-Some.base.now in
-    let asked : Request words word base = ap (λ l. request_of (map string_bytes l)) (sym c.deref.ensures.value) ∙ c.in-Some.ensures in
-    let why = c.in-Err-Refused.why in
-    let is = ap (λ (e : TextError). Err e) c.in-Err-Refused.field-0-is in
-    let one = one_reading words room word base asked (Err why) (c.in-Err-Refused.ensures.refused_one why is told) in
-    absurd (err_not words room why one f said)
+returns-in-Err-Refused-clause-complete g c = λ told told_device f t said. absurd (err_not _ _ _ (one_refused g c told) f said)
 
 pub returns-in-Err-Refused-clause-cut : goal.returns-in-Err-Refused-clause-cut
-returns-in-Err-Refused-clause-cut g c = λ told told_device only f t said.
-    let words = map string_bytes c.args.words.now.items in
-    let room = g.R.Room.room c.args.room.now in
-    let word = c.in-Some.word in
-    let base = c.in-Some.base.now in
-    let asked : Request words word base = ap (λ l. request_of (map string_bytes l)) (sym c.deref.ensures.value) ∙ c.in-Some.ensures in
-    let why = c.in-Err-Refused.why in
-    let is = ap (λ (e : TextError). Err e) c.in-Err-Refused.field-0-is in
-    let one = one_reading words room word base asked (Err why) (c.in-Err-Refused.ensures.refused_one why is told) in
-    absurd (err_not words room why one f said)
+returns-in-Err-Refused-clause-cut g c = λ told told_device only f t said. absurd (err_not _ _ _ (one_refused g c told) f said)
 
 pub returns-in-Err-Refused-clause-ended : goal.returns-in-Err-Refused-clause-ended
-returns-in-Err-Refused-clause-ended g c = λ told told_device only f t said.
-    let words = map string_bytes c.args.words.now.items in
-    let room = g.R.Room.room c.args.room.now in
-    let word = c.in-Some.word in
-    let base = c.in-Some.base.now in
-    let asked : Request words word base = ap (λ l. request_of (map string_bytes l)) (sym c.deref.ensures.value) ∙ c.in-Some.ensures in
-    let why = c.in-Err-Refused.why in
-    let is = ap (λ (e : TextError). Err e) c.in-Err-Refused.field-0-is in
-    let one = one_reading words room word base asked (Err why) (c.in-Err-Refused.ensures.refused_one why is told) in
-    absurd (err_not words room why one f said)
+returns-in-Err-Refused-clause-ended g c = λ told told_device only f t said. absurd (err_not _ _ _ (one_refused g c told) f said)
 
 pub returns-in-Err-Refused-clause-left : goal.returns-in-Err-Refused-clause-left
-returns-in-Err-Refused-clause-left g c = λ told told_device f t said.
-    let words = map string_bytes c.args.words.now.items in
-    let room = g.R.Room.room c.args.room.now in
-    let word = c.in-Some.word in
-    let base = c.in-Some.base.now in
-    let asked : Request words word base = ap (λ l. request_of (map string_bytes l)) (sym c.deref.ensures.value) ∙ c.in-Some.ensures in
-    let why = c.in-Err-Refused.why in
-    let is = ap (λ (e : TextError). Err e) c.in-Err-Refused.field-0-is in
-    let one = one_reading words room word base asked (Err why) (c.in-Err-Refused.ensures.refused_one why is told) in
-    absurd (err_not words room why one f said)
+returns-in-Err-Refused-clause-left g c = λ told told_device f t said. absurd (err_not _ _ _ (one_refused g c told) f said)
 
--- over a sure room a text is not there
+-- ---- a text is not there
+
+asked_room : (g : Over) (c : goal.In-Err-Room g) → Request (map string_bytes c.args.words.now.items) c.in-Some.word c.in-Some.base.now
+asked_room g c = ap (λ l. request_of (map string_bytes l)) (sym c.deref.ensures.value) ∙ c.in-Some.ensures.value
+
+-- over a sure room
 missed : (g : Over) (c : goal.In-Err-Room g) → IsTrue (g.R.Room.room c.args.room.now).sure → (d u s : List ℕ) → AreThere c.in-Some.word c.in-Some.base.now (g.R.Room.room c.args.room.now) d u s → ⊥
 missed g c sure d u s there = c.in-Err-Room.ensures.sure sure d u s there (ap (λ (e : TextError). Err e) c.in-Err-Room.field-0-is)
 
 pub returns-in-Err-Room-clause-room_sure : goal.returns-in-Err-Room-clause-room_sure
 returns-in-Err-Room-clause-room_sure g c = λ code sure.
-    let words = map string_bytes c.args.words.now.items in
-    let room = g.R.Room.room c.args.room.now in
-    let word = c.in-Some.word in
-    let base = c.in-Some.base.now in
-    let asked : Request words word base = ap (λ l. request_of (map string_bytes l)) (sym c.deref.ensures.value) ∙ c.in-Some.ensures in
-    misses_of words room word base asked (missed g c sure)
+    misses_of _ _ _ _ (asked_room g c) (missed g c sure)
 
 pub returns-in-Err-Room-clause-complete : goal.returns-in-Err-Room-clause-complete
 returns-in-Err-Room-clause-complete g c = λ told told_device f t said starts disk line texts.
-    let words = map string_bytes c.args.words.now.items in
-    let room = g.R.Room.room c.args.room.now in
-    let word = c.in-Some.word in
-    let base = c.in-Some.base.now in
-    let asked : Request words word base = ap (λ l. request_of (map string_bytes l)) (sym c.deref.ensures.value) ∙ c.in-Some.ensures in
-    absurd (⊎_elim (λ none. none (c.in-Err-Room.ensures.room (ap (λ (e : TextError). Err e) c.in-Err-Room.field-0-is))) (λ sure. not_missed words room said.word said.base said.asked (Ok f) said.reads (misses_of words room word base asked (missed g c sure))) texts)
+    absurd (⊎_elim (λ none. none (c.in-Err-Room.ensures.room (ap (λ (e : TextError). Err e) c.in-Err-Room.field-0-is))) (λ sure. not_missed (map string_bytes c.args.words.now.items) (g.R.Room.room c.args.room.now) said.word said.base said.asked (Ok f) said.reads (misses_of _ _ _ _ (asked_room g c) (missed g c sure))) texts)
 
 pub returns-in-Err-Room-clause-cut : goal.returns-in-Err-Room-clause-cut
 returns-in-Err-Room-clause-cut g c = λ told told_device only f t said starts image out left.
@@ -432,7 +229,7 @@ returns-in-Err-Room-clause-cut g c = λ told told_device only f t said starts im
 pub returns-in-Err-Room-clause-ended : goal.returns-in-Err-Room-clause-ended
 returns-in-Err-Room-clause-ended g c = λ told told_device only f t said starts.
     let a = g.D.Device.state c.args.device.now in
-    ends (identity_of f) (acts_of f) t a a (returns-in-Err-Room-clause-cut g c told told_device only f t said starts a.holds a.sent (g.met.D.Device.holds_now c.args.device.now told_device))
+    ends f t a a (returns-in-Err-Room-clause-cut g c told told_device only f t said starts a.holds a.sent (g.met.D.Device.holds_now c.args.device.now told_device))
 
 pub returns-in-Err-Memory-clause-cut : goal.returns-in-Err-Memory-clause-cut
 returns-in-Err-Memory-clause-cut g c = λ told told_device only f t said starts image out left.
@@ -443,4 +240,4 @@ returns-in-Err-Memory-clause-cut g c = λ told told_device only f t said starts 
 pub returns-in-Err-Memory-clause-ended : goal.returns-in-Err-Memory-clause-ended
 returns-in-Err-Memory-clause-ended g c = λ told told_device only f t said starts.
     let a = g.D.Device.state c.args.device.now in
-    ends (identity_of f) (acts_of f) t a a (returns-in-Err-Memory-clause-cut g c told told_device only f t said starts a.holds a.sent (g.met.D.Device.holds_now c.args.device.now told_device))
+    ends f t a a (returns-in-Err-Memory-clause-cut g c told told_device only f t said starts a.holds a.sent (g.met.D.Device.holds_now c.args.device.now told_device))

@@ -2,7 +2,11 @@
 ghost use Rattle.std.specs.Prelude.{◌≡◌, ◌++◌, List, ℕ, IsTrue, IfOk, IsErrOf, IsSome, IsSomeAnd, Ok, Err};
 ghost use Rattle.kd_device.specs.Device.{Rose};
 ghost use Rattle.kd_device.specs.Room.{SameRoom, text_of};
-ghost use Rattle.utm_cli.specs.Asking.{Errand, Reading, AskFor, CanRun, ScriptIs, ReadsFor, AreThere, shown_of};
+ghost use Rattle.utm_cli.specs.Asking.{Errand, Reading, AskFor, CanRun, ScriptIs, ReadsFor, AreThere, WereRead, shown_of};
+ghost use Rattle.utm_cli.specs.Doing.{IsOverFile};
+ghost use Rattle.utm_cli.specs.Words.{IsForm};
+ghost use Rattle.made_run.specs.Input.{definition_text as made_definition, units_text as made_units, script_text as made_script};
+ghost use Rattle.kdcdef_types.specs.Statements.{IsWithin};
 ghost use Rattle.utm_cli.specs.declared.error.Refusal.{Refusal};
 
 use crate::error::TextError;
@@ -10,7 +14,9 @@ use crate::text::named;
 use crate::words::Word;
 use application_facts::fitted_units_make_an_application;
 use application_read::{Application, read_application};
+use kd_base::OutOfMemory;
 use kd_device::{Room, RoomError};
+use made_run::made;
 use monitor_semantics::Command;
 use script_read::{commands_are_said, read_script};
 use std::alloc::Global;
@@ -27,7 +33,7 @@ pub(crate) struct Asked {
     pub application: Application,
     /// That of the definition and the units.
     pub fingerprint: [u8; 32],
-    /// The commands of the script; `gen` has none.
+    /// The commands of the script; `gen` and `show` have none.
     pub commands: Vec<Command>,
 }
 
@@ -37,6 +43,14 @@ impl Model for Asked {
     ghost Value = { Errand };
 
     ghost view = { λ a. record { word = a.word; application = a.application; fingerprint = a.fingerprint; commands = a.commands.items } };
+}
+
+/// The texts of a word, as far as they were read.
+#[derive(Drop)]
+struct Texts {
+    definition: Vec<u8>,
+    units: Vec<u8>,
+    script: Vec<u8>,
 }
 
 /// The text of this BASE with this ending, up to one byte past the limit.
@@ -57,21 +71,82 @@ fn text<R: Room>(
     room.read(alloc, &name, TEXT_LIMIT)
 }
 
-/// The text of the script, which `gen` does not read.
+/// The text of the script, which `gen` and `show` do not read.
 fn script_text<R: Room>(
     alloc: Global,
     room: &mut R,
     word: Word,
     base: &[u8],
 ) -> Result<Vec<u8>, RoomError>
+    requires { IsOverFile word }
     ensures value { IfOk result (λ text. IsTrue (R.room room.old).told → (whole : List ℕ) × ScriptIs word base.now (R.room room.old) whole × (text.items ≡ shown_of whole)) }
     ensures room { IsErrOf result RoomError.Failed → Rose (R.room room.old).faults (R.room room.new).faults }
     ensures sure { IsTrue (R.room room.old).sure → (whole : List ℕ) → ScriptIs word base.now (R.room room.old) whole → IsErrOf result RoomError.Failed → ⊥ }
     ensures same { SameRoom (R.room room.old) (R.room room.new) }
 {
     match word {
-        Word::Gen => Ok(Vec::new(alloc)),
         Word::Run => text(alloc, room, base, b".script"),
+        Word::Gen | Word::Show | Word::Make(_) => Ok(Vec::new(alloc)),
+    }
+}
+
+/// The texts that a word reads from the room.
+fn room_texts<R: Room>(
+    alloc: Global,
+    room: &mut R,
+    word: Word,
+    base: &[u8],
+) -> Result<Texts, RoomError>
+    requires { IsOverFile word }
+    ensures read { IfOk result (λ t. IsTrue (R.room room.old).told → WereRead word base.now (R.room room.old) t.definition.items t.units.items t.script.items) }
+    ensures room { IsErrOf result RoomError.Failed → Rose (R.room room.old).faults (R.room room.new).faults }
+    ensures sure { IsTrue (R.room room.old).sure → (definition units text : List ℕ) → AreThere word base.now (R.room room.old) definition units text → IsErrOf result RoomError.Failed → ⊥ }
+    ensures same { SameRoom (R.room room.old) (R.room room.new) }
+{
+    let definition = text(alloc, room, base, b".def")?;
+    let units = text(alloc, room, base, b".units")?;
+    let script = script_text(alloc, room, word, base)?;
+    Ok(Texts {
+        definition,
+        units,
+        script,
+    })
+}
+
+/// The made texts with so many inputs.
+fn made_texts(alloc: Global, inputs: u32) -> Result<Texts, OutOfMemory>
+    requires { IsWithin 1 20000 inputs }
+    ensures definition { IfOk result (λ t. t.definition.items ≡ made_definition) }
+    ensures units { IfOk result (λ t. t.units.items ≡ made_units) }
+    ensures script { IfOk result (λ t. t.script.items ≡ made_script inputs) }
+{
+    let made = made(alloc, inputs)?;
+    Ok(Texts {
+        definition: made.definition.into_vec(),
+        units: made.units.into_vec(),
+        script: made.script.into_vec(),
+    })
+}
+
+/// The texts of a word: those of this BASE, or the made ones.
+fn texts_of<R: Room>(
+    alloc: Global,
+    room: &mut R,
+    word: Word,
+    base: &[u8],
+) -> Result<Texts, RoomError>
+    requires { IsForm word }
+    ensures read { IfOk result (λ t. IsTrue (R.room room.old).told → WereRead word base.now (R.room room.old) t.definition.items t.units.items t.script.items) }
+    ensures room { IsErrOf result RoomError.Failed → Rose (R.room room.old).faults (R.room room.new).faults }
+    ensures sure { IsTrue (R.room room.old).sure → (definition units text : List ℕ) → AreThere word base.now (R.room room.old) definition units text → IsErrOf result RoomError.Failed → ⊥ }
+    ensures same { SameRoom (R.room room.old) (R.room room.new) }
+{
+    match word {
+        Word::Gen | Word::Run | Word::Show => room_texts(alloc, room, word, base),
+        Word::Make(inputs) => match made_texts(alloc, inputs) {
+            Ok(texts) => Ok(texts),
+            Err(OutOfMemory) => Err(RoomError::Memory),
+        },
     }
 }
 
@@ -83,6 +158,7 @@ fn asked_of(
     units: &[u8],
     script: &[u8],
 ) -> Result<Asked, TextError>
+    ensures word { IfOk result (λ e. e.word ≡ word) }
     ensures found { IfOk result (λ e. AskFor word definition.now units.now script.now (Ok e)) }
     ensures can { IfOk result CanRun }
     ensures found_one { IfOk result (λ e. (said : Reading) → AskFor word definition.now units.now script.now said → said ≡ Ok e) }
@@ -102,13 +178,15 @@ fn asked_of(
     })
 }
 
-/// What the texts of this BASE say that the word reads. All of them are read before the first is looked into.
+/// What the texts of a word say. All of them are read before the first is looked into.
 pub(crate) fn read_texts<R: Room>(
     alloc: Global,
     room: &mut R,
     word: Word,
     base: &[u8],
 ) -> Result<Asked, TextError>
+    requires { IsForm word }
+    ensures word { IfOk result (λ e. e.word ≡ word) }
     ensures found { IfOk result (λ e. IsTrue (R.room room.old).told → ReadsFor word base.now (R.room room.old) (Ok e)) }
     ensures can { IfOk result CanRun }
     ensures found_one { IfOk result (λ e. IsTrue (R.room room.old).told → (said : Reading) → ReadsFor word base.now (R.room room.old) said → said ≡ Ok e) }
@@ -118,8 +196,6 @@ pub(crate) fn read_texts<R: Room>(
     ensures sure { IsTrue (R.room room.old).sure → (definition units text : List ℕ) → AreThere word base.now (R.room room.old) definition units text → IsErrOf result TextError.Room → ⊥ }
     ensures same { SameRoom (R.room room.old) (R.room room.new) }
 {
-    let definition = text(alloc, room, base, b".def")?;
-    let units = text(alloc, room, base, b".units")?;
-    let script = script_text(alloc, room, word, base)?;
-    asked_of(alloc, word, &definition, &units, &script)
+    let texts = texts_of(alloc, room, word, base)?;
+    asked_of(alloc, word, &texts.definition, &texts.units, &texts.script)
 }

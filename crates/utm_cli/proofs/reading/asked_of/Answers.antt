@@ -2,7 +2,7 @@ use Rattle.std.proofs.Common.{ap, ◌∙◌}
 use Rattle.utm_cli.specs.declared.error.Refusal.{Refusal}
 use Rattle.utm_cli.proofs.TextsSaid.{application_is, application_one, script_is, script_refused, script_one, script_never_room, asked_one, said_refused, made_fit}
 use Rattle.utm_cli.proofs.Scripts.{its_script, few_turns}
-use Rattle.utm_cli.proofs.texts.asked_of.Goals as goal
+use Rattle.utm_cli.proofs.reading.asked_of.Goals as goal
 
 pub returns-in_err-application-clause-refused_one : goal.returns-in_err-application-clause-refused_one
 returns-in_err-application-clause-refused_one c = λ why is said h.

@@ -4,7 +4,7 @@ use Rattle.utm_cli.specs.declared.words.Word.{Word}
 use Rattle.utm_cli.specs.Asking.{shown_of, ScriptIs}
 use Rattle.utm_cli.specs.Words.{script_name}
 use Rattle.utm_cli.proofs.TextsSaid.{ok_weaker, some_and}
-use Rattle.utm_cli.proofs.texts.script_text.Goals as goal
+use Rattle.utm_cli.proofs.reading.script_text.Goals as goal
 
 pub returns-in-Run-clause-value : goal.returns-in-Run-clause-value
 returns-in-Run-clause-value g c =

@@ -1,0 +1,4 @@
+pub mod Texts
+pub mod Examples
+pub mod ReadAgain
+pub mod Started
