@@ -1,7 +1,7 @@
 -- Small lemmas on `Option`, `Result`, `&&` and `cond`, for proofs about readers.
-use Rattle.std.specs.Prelude.{◌≡◌, ◌⊎◌, ℕ, ◌-◌, Bool, true, false, cond, ◌&&◌, List, ◌++◌, length, take, drop, Option, Some, None, Result, Ok, Err, refl, option_and_then}
+use Rattle.std.specs.Prelude.{◌≡◌, ◌⊎◌, ℕ, ◌-◌, Bool, true, false, cond, ◌&&◌, List, ◌++◌, length, take, drop, Option, Some, None, Result, Ok, Err, refl, option_and_then, find, [], ◌∷◌}
 use Rattle.std.specs.Option.{option_map}
-use Rattle.std.proofs.Common.{inl, inr, ap, arith, append_assoc, length-drop}
+use Rattle.std.proofs.Common.{inl, inr, sym, ◌∙◌, ap, arith, append_assoc, length-drop}
 use Rattle.std.proofs.lemmas.List.{take_all}
 
 -- ---- `cond` and `&&`
@@ -54,6 +54,15 @@ and_some f (Some x) y e = (x, refl, e)
 pub and_none : {A B : Type 0} (f : A → Option B) (o : Option A) → option_and_then f o ≡ None → (o ≡ None) ⊎ ((x : A) × (o ≡ Some x) × (f x ≡ None))
 and_none f None e = inl refl
 and_none f (Some x) e = inr (x, refl, e)
+
+-- what is found in a list passes the test
+pub find_passes : {X : Type 0} (p : X → Bool) (xs : List X) (x : X) → find p xs ≡ Some x → p x ≡ true
+find_passes p [] x e = absurd cc
+find_passes p (y ∷ xs) x e =
+    elim (chosen (p y) (Some y) (find p xs) (Some x) e) [
+      | inl h ↦ ap p (sym (some_is y x h.1)) ∙ h.0
+      | inr h ↦ find_passes p xs x h.1
+    ]
 
 -- what goes in front of what was found
 abbrev pub onto : {A : Type 0} → List A → Option (List A) → Option (List A)

@@ -1,9 +1,11 @@
-//! The pieces that every crate uses: names, decimal numbers, the printed form of bytes, lists of bytes, big-endian
-//! fields, and want of memory.
+//! The pieces that every crate uses: names, decimal numbers, the printed form of bytes, lists of bytes and of items,
+//! big-endian fields, and want of memory.
 //!
 //! It stands on no other crate. To all layers above, its contract says which bytes are a name or a number, that names
 //! compare as their bytes do, that a field reader answers exactly the field that the bytes begin with, or `None` and
-//! stays where it was, that a writer is unchanged by a call that fails, and that what was written is read again.
+//! stays where it was, that a writer is unchanged by a call that fails, and that what was written is read again. Its
+//! specs also say, for all that read texts, which of several faults comes first, and what an answer says that may be want
+//! of memory.
 #![tactic(auto)]
 
 mod bytes;
@@ -12,6 +14,7 @@ mod memory;
 mod name;
 mod prog_name;
 mod reader;
+mod sequence;
 mod text;
 mod words;
 mod writer;
@@ -22,6 +25,7 @@ pub use memory::OutOfMemory;
 pub use name::Name;
 pub use prog_name::ProgName;
 pub use reader::Reader;
+pub use sequence::Sequence;
 pub use text::{decimal_of, escape};
 pub use words::{Mode, Variant};
 pub use writer::Writer;
