@@ -28,26 +28,16 @@ pub record IsHandedOn (X E : Type 0) (given : Result X E → Type 0) (memory e :
   pub stands : (P : ApplicationFault → Type 0) → (e ≢ memory → P made) → handed ≢ Memory → P handed
 
 pub definition_handed : (e : DefinitionFault) → IsHandedOn Generated DefinitionFault (DefinitionGives (Err e)) definition.Memory e (Definition e) (of_definition e)
-definition_handed (definition.Lex f) = record { gives = λ read wanted h same. same h; stands = λ P h some. h (λ x. cc) }
-definition_handed (definition.Read f) = record { gives = λ read wanted h same. same h; stands = λ P h some. h (λ x. cc) }
-definition_handed (definition.Check f) = record { gives = λ read wanted h same. same h; stands = λ P h some. h (λ x. cc) }
 definition_handed definition.Memory = record { gives = λ read wanted h same. tt; stands = λ P h some. absurd (some refl) }
+definition_handed _ = record { gives = λ read wanted h same. same h; stands = λ P h some. h (λ x. cc) }
 
 pub units_handed : (e : UnitFault) → IsHandedOn (List UnitText) UnitFault (UnitsGive (Err e)) units.Memory e (Units e) (of_units e)
-units_handed (units.BadStatement n) = record { gives = λ read wanted h same. same h; stands = λ P h some. h (λ x. cc) }
-units_handed (units.BadField n) = record { gives = λ read wanted h same. same h; stands = λ P h some. h (λ x. cc) }
-units_handed (units.LabelTwice n) = record { gives = λ read wanted h same. same h; stands = λ P h some. h (λ x. cc) }
-units_handed (units.NoEnd n) = record { gives = λ read wanted h same. same h; stands = λ P h some. h (λ x. cc) }
-units_handed (units.UnitTwice n) = record { gives = λ read wanted h same. same h; stands = λ P h some. h (λ x. cc) }
-units_handed (units.TooLong n) = record { gives = λ read wanted h same. same h; stands = λ P h some. h (λ x. cc) }
 units_handed units.Memory = record { gives = λ read wanted h same. tt; stands = λ P h some. absurd (some refl) }
+units_handed _ = record { gives = λ read wanted h same. same h; stands = λ P h some. h (λ x. cc) }
 
 pub fit_handed : (e : FitFault) → IsHandedOn FittedUnits FitFault (FitGives (Err e)) fit.Memory e (Fit e) (of_fit e)
-fit_handed (fit.NoUnit n) = record { gives = λ read wanted h same. same h; stands = λ P h some. h (λ x. cc) }
-fit_handed (fit.NoLabel n) = record { gives = λ read wanted h same. same h; stands = λ P h some. h (λ x. cc) }
-fit_handed (fit.FieldPastArea n) = record { gives = λ read wanted h same. same h; stands = λ P h some. h (λ x. cc) }
-fit_handed (fit.LiteralFollowUp n) = record { gives = λ read wanted h same. same h; stands = λ P h some. h (λ x. cc) }
 fit_handed fit.Memory = record { gives = λ read wanted h same. tt; stands = λ P h some. absurd (some refl) }
+fit_handed _ = record { gives = λ read wanted h same. same h; stands = λ P h some. h (λ x. cc) }
 
 -- an error that was made of a fault gives what the fault gives
 pub made_of : (P : Wanted → Type 0) (r : Wanted) (y : ApplicationFault) → IsErrAnd r (λ x. x ≡ y) → ((wanted : Wanted) → P wanted → Gives (Err y) wanted) → (wanted : Wanted) → P wanted → Gives r wanted

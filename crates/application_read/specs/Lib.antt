@@ -1,3 +1,3 @@
-pub mod Texts
 pub mod Causes
+pub mod Texts
 pub mod Faults

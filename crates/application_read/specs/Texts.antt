@@ -1,5 +1,6 @@
 -- What a definition and its units generate, and their first fault.
-use Rattle.std.specs.Prelude.{◌≡◌, ℕ, List, Result, Ok, Err}
+use Rattle.std.specs.Prelude.{ℕ, List, Result}
+use Rattle.kd_base.specs.FirstFaults.{GivesUnless}
 use Rattle.kdcdef_types.specs.Generation.{Generated}
 use Rattle.generation_read.specs.Definition.{Generates, HasFault}
 use Rattle.unit_types.specs.UnitText.{UnitText}
@@ -10,6 +11,7 @@ use Rattle.unit_check.specs.Faults.{IsFirstFault}
 use Rattle.application_read.specs.declared.application.Application.{Application}
 use Rattle.application_read.specs.declared.fault.ApplicationFault.{ApplicationFault}
 use Rattle.application_read.specs.declared.fault.ApplicationFault.TheVariants.{Definition, Units, Fit, Memory}
+use Rattle.application_read.specs.Causes.{is_memory}
 
 -- the text spells units that fit the generation: these
 abbrev pub SpellsFitted : Generated → List ℕ → FittedUnits → Type 0
@@ -28,6 +30,4 @@ TextsHaveFault definition units Memory = ⊥
 
 -- what came back is this, unless memory ran out
 abbrev pub Gives : Result Application ApplicationFault → Result Application ApplicationFault → Type 0
-Gives (Ok a) wanted = wanted ≡ Ok a
-Gives (Err Memory) wanted = Unit {0}
-Gives (Err fault) wanted = wanted ≡ Err fault
+Gives answer wanted = GivesUnless is_memory answer wanted

@@ -1,6 +1,7 @@
 //! Why the texts of an application are refused.
 ghost use Rattle.std.specs.Prelude.{◌≡◌};
-ghost use Rattle.application_read.specs.Faults.{line_of, line_of_units, line_of_fit, name_of, name_of_units, name_of_fit, text_of};
+ghost use Rattle.application_read.specs.Causes.{of_definition, of_units, of_fit};
+ghost use Rattle.application_read.specs.Faults.{line_of, name_of, text_of};
 
 use generation_read::DefinitionFault;
 use thiserror::Error;
@@ -25,9 +26,6 @@ pub enum ApplicationFault {
 }
 
 impl From<DefinitionFault> for ApplicationFault {
-    ghost use Rattle.std.specs.Prelude.{◌≡◌};
-    ghost use Rattle.application_read.specs.Causes.{of_definition};
-
     ghost from_gives = { λ e r. r ≡ of_definition e };
 
     fn from(e: DefinitionFault) -> ApplicationFault {
@@ -39,9 +37,6 @@ impl From<DefinitionFault> for ApplicationFault {
 }
 
 impl From<UnitFault> for ApplicationFault {
-    ghost use Rattle.std.specs.Prelude.{◌≡◌};
-    ghost use Rattle.application_read.specs.Causes.{of_units};
-
     ghost from_gives = { λ e r. r ≡ of_units e };
 
     fn from(e: UnitFault) -> ApplicationFault {
@@ -53,9 +48,6 @@ impl From<UnitFault> for ApplicationFault {
 }
 
 impl From<FitFault> for ApplicationFault {
-    ghost use Rattle.std.specs.Prelude.{◌≡◌};
-    ghost use Rattle.application_read.specs.Causes.{of_fit};
-
     ghost from_gives = { λ e r. r ≡ of_fit e };
 
     fn from(e: FitFault) -> ApplicationFault {
@@ -63,58 +55,6 @@ impl From<FitFault> for ApplicationFault {
             FitFault::Memory => ApplicationFault::Memory,
             fault => ApplicationFault::Fit(fault),
         }
-    }
-}
-
-fn units_line(fault: &UnitFault) -> u32
-    ensures { result ≡ line_of_units fault.now }
-{
-    match fault {
-        UnitFault::BadStatement(line)
-        | UnitFault::BadField(line)
-        | UnitFault::LabelTwice(line)
-        | UnitFault::NoEnd(line)
-        | UnitFault::UnitTwice(line)
-        | UnitFault::TooLong(line) => *line,
-        UnitFault::Memory => 0,
-    }
-}
-
-fn fit_line(fault: &FitFault) -> u32
-    ensures { result ≡ line_of_fit fault.now }
-{
-    match fault {
-        FitFault::NoUnit(line)
-        | FitFault::NoLabel(line)
-        | FitFault::FieldPastArea(line)
-        | FitFault::LiteralFollowUp(line) => *line,
-        FitFault::Memory => 0,
-    }
-}
-
-fn units_name(fault: &UnitFault) -> &'static str
-    ensures { result.now ≡ name_of_units fault.now }
-{
-    match fault {
-        UnitFault::BadStatement(_) => "BadStatement",
-        UnitFault::BadField(_) => "BadField",
-        UnitFault::LabelTwice(_) => "LabelTwice",
-        UnitFault::NoEnd(_) => "NoEnd",
-        UnitFault::UnitTwice(_) => "UnitTwice",
-        UnitFault::TooLong(_) => "TooLong",
-        UnitFault::Memory => "Memory",
-    }
-}
-
-fn fit_name(fault: &FitFault) -> &'static str
-    ensures { result.now ≡ name_of_fit fault.now }
-{
-    match fault {
-        FitFault::NoUnit(_) => "NoUnit",
-        FitFault::NoLabel(_) => "NoLabel",
-        FitFault::FieldPastArea(_) => "FieldPastArea",
-        FitFault::LiteralFollowUp(_) => "LiteralFollowUp",
-        FitFault::Memory => "Memory",
     }
 }
 
@@ -137,8 +77,8 @@ impl ApplicationFault {
     {
         match self {
             ApplicationFault::Definition(fault) => fault.line(),
-            ApplicationFault::Units(fault) => units_line(fault),
-            ApplicationFault::Fit(fault) => fit_line(fault),
+            ApplicationFault::Units(fault) => fault.line(),
+            ApplicationFault::Fit(fault) => fault.line(),
             ApplicationFault::Memory => 0,
         }
     }
@@ -149,8 +89,8 @@ impl ApplicationFault {
     {
         match self {
             ApplicationFault::Definition(fault) => fault.name(),
-            ApplicationFault::Units(fault) => units_name(fault),
-            ApplicationFault::Fit(fault) => fit_name(fault),
+            ApplicationFault::Units(fault) => fault.name(),
+            ApplicationFault::Fit(fault) => fault.name(),
             ApplicationFault::Memory => "Memory",
         }
     }

@@ -10,6 +10,3 @@ mod fault;
 
 pub use application::{Application, read_application};
 pub use fault::ApplicationFault;
-
-#[cfg(test)]
-mod tests;

@@ -2,34 +2,35 @@
 use Rattle.std.proofs.Common.{◌≡◌, ℕ, List, Result, Ok, Err, sym, ap, subst, ◌∙◌}
 use Rattle.kd_base.specs.Tools.{ok_is}
 use Rattle.kdcdef_lex.specs.declared.fault.LexFault.{LexFault}
-use Rattle.kdcdef_lex.specs.Reading.{Gives as LexGives}
+use Rattle.kdcdef_lex.specs.Reading.{is_memory as is_lex_memory, Gives as LexGives}
 use Rattle.kdcdef_lex.specs.Faults.{HasTextFault}
 use Rattle.kdcdef_lex.specs.Spelling.{SpellsStatements}
 use Rattle.kdcdef_lex.specs.declared.statement.RawStatement.{RawStatement}
 use Rattle.kdcdef_types.specs.declared.statement.Statement.{Statement}
 use Rattle.kdcdef_types.specs.Generation.{Generated}
 use Rattle.kdcdef_read.specs.declared.fault.ReadFault.{ReadFault}
+use Rattle.kdcdef_read.specs.Faults.{is_memory as is_read_memory}
 use Rattle.kdcdef_read.specs.Steps.{Gives as ReadGives}
 use Rattle.kdcdef_read.specs.Meaning.{StandFor, HasFault as HasReadFault}
 use Rattle.kdcdef_check.specs.declared.fault.CheckFault.{CheckFault}
-use Rattle.kdcdef_check.specs.Faults.{Gives as CheckGives, AreFaultless, IsFirstFault}
+use Rattle.kdcdef_check.specs.Faults.{is_memory as is_check_memory, Gives as CheckGives, AreFaultless, IsFirstFault}
 use Rattle.kdcdef_check.specs.Generating.{generated}
 use Rattle.generation_read.specs.declared.fault.DefinitionFault.{DefinitionFault}
 use Rattle.generation_read.specs.declared.fault.DefinitionFault.TheVariants.{Lex, Read, Check, Memory}
 use Rattle.generation_read.specs.Causes.{of_lex, of_read, of_check}
 use Rattle.generation_read.specs.Definition.{Says, Generates, HasFault, Gives}
-use Rattle.generation_read.proofs.Handed.{lex_refused, lex_same, read_refused, read_same, check_refused, check_same}
+use Rattle.generation_read.proofs.Handed.{refused as refused_by, same as same_by}
 
 -- ---- the text is no spelling
 
 module _ (text : List ℕ) (e : LexFault) (only : (raw : List RawStatement) → SpellsStatements text raw → LexGives {X = List RawStatement} (Err e) (Ok raw)) where
   pub lex_only : (g : Generated) → Generates text g → Gives (Err (of_lex e)) (Ok g)
-  lex_only g h = lex_refused e h.1.0 (Ok g) (only h.1.0 h.1.1)
+  lex_only g h = refused_by is_lex_memory (λ (x : LexFault). Lex x) e h.1.0 (Ok g) (only h.1.0 h.1.1)
 
   pub lex_fault : ((f : LexFault) → HasTextFault text f → LexGives {X = List RawStatement} (Err e) (Err f)) → (f : DefinitionFault) → HasFault text f → Gives (Err (of_lex e)) (Err f)
-  lex_fault refused (Lex f) h = lex_same e f (refused f h)
-  lex_fault refused (Read f) h = lex_refused e h.0 (Err (Read f)) (only h.0 h.1)
-  lex_fault refused (Check f) h = lex_refused e h.1.0 (Err (Check f)) (only h.1.0 h.1.1)
+  lex_fault refused (Lex f) h = same_by is_lex_memory (λ (x : LexFault). Lex x) e (List RawStatement) f (refused f h)
+  lex_fault refused (Read f) h = refused_by is_lex_memory (λ (x : LexFault). Lex x) e h.0 (Err (Read f)) (only h.0 h.1)
+  lex_fault refused (Check f) h = refused_by is_lex_memory (λ (x : LexFault). Lex x) e h.1.0 (Err (Check f)) (only h.1.0 h.1.1)
   lex_fault refused Memory h = absurd h
 
 -- ---- the text spells raw statements
@@ -48,12 +49,12 @@ module _ (text : List ℕ) (raw : List RawStatement) (one : (rs : List RawStatem
     -- a raw statement is none
     module _ (e : ReadFault) (only : (ss : List Statement) → StandFor raw ss → ReadGives {X = List Statement} (Err e) (Ok ss)) where
       pub read_only : (g : Generated) → Generates text g → Gives (Err (of_read e)) (Ok g)
-      read_only g h = read_refused e h.0 (Ok g) (only h.0 (said_raw h.0 h.1))
+      read_only g h = refused_by is_read_memory (λ (x : ReadFault). Read x) e h.0 (Ok g) (only h.0 (said_raw h.0 h.1))
 
       pub read_fault : ((f : ReadFault) → HasReadFault raw f → ReadGives {X = List Statement} (Err e) (Err f)) → (f : DefinitionFault) → HasFault text f → Gives (Err (of_read e)) (Err f)
       read_fault refused (Lex f) h = absurd (not_lexed f h)
-      read_fault refused (Read f) h = read_same e f (refused f (raw_fault f h))
-      read_fault refused (Check f) h = read_refused e h.0 (Err (Check f)) (only h.0 (said_raw h.0 h.1))
+      read_fault refused (Read f) h = same_by is_read_memory (λ (x : ReadFault). Read x) e (List Statement) f (refused f (raw_fault f h))
+      read_fault refused (Check f) h = refused_by is_read_memory (λ (x : ReadFault). Read x) e h.0 (Err (Check f)) (only h.0 (said_raw h.0 h.1))
       read_fault refused Memory h = absurd h
 
     -- they stand for statements
@@ -67,12 +68,12 @@ module _ (text : List ℕ) (raw : List RawStatement) (one : (rs : List RawStatem
 
         module _ (e : CheckFault) (only : AreFaultless ss → CheckGives {A = Generated} (Err e) (Ok (generated ss))) where
           pub check_only : (g : Generated) → Generates text g → Gives (Err (of_check e)) (Ok g)
-          check_only g h = check_refused e (generated ss) (Ok g) (only (subst AreFaultless (same_said h.0 h.1) h.2))
+          check_only g h = refused_by is_check_memory (λ (x : CheckFault). Check x) e (generated ss) (Ok g) (only (subst AreFaultless (same_said h.0 h.1) h.2))
 
           pub check_fault : ((f : CheckFault) → IsFirstFault ss f → CheckGives {A = Generated} (Err e) (Err f)) → (f : DefinitionFault) → HasFault text f → Gives (Err (of_check e)) (Err f)
           check_fault refused (Lex f) h = absurd (not_lexed f h)
           check_fault refused (Read f) h = absurd (not_read f h)
-          check_fault refused (Check f) h = check_same e f (refused f (subst (λ (xs : List Statement). IsFirstFault xs f) (same_said h.0 h.1) h.2))
+          check_fault refused (Check f) h = same_by is_check_memory (λ (x : CheckFault). Check x) e Generated f (refused f (subst (λ (xs : List Statement). IsFirstFault xs f) (same_said h.0 h.1) h.2))
           check_fault refused Memory h = absurd h
 
         -- and these generate

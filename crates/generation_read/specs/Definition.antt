@@ -1,5 +1,6 @@
 -- What the text of a definition generates, and its first fault.
-use Rattle.std.specs.Prelude.{◌≡◌, ℕ, List, Result, Ok, Err}
+use Rattle.std.specs.Prelude.{◌≡◌, ℕ, Bool, true, false, List, Result}
+use Rattle.kd_base.specs.FirstFaults.{GivesUnless}
 use Rattle.kdcdef_lex.specs.declared.statement.RawStatement.{RawStatement}
 use Rattle.kdcdef_lex.specs.Spelling.{SpellsStatements}
 use Rattle.kdcdef_lex.specs.Faults.{HasTextFault}
@@ -26,8 +27,10 @@ HasFault text (Read fault) = (raw : List RawStatement) × SpellsStatements text 
 HasFault text (Check fault) = (ss : List Statement) × Says text ss × IsFirstFault ss fault
 HasFault text Memory = ⊥
 
+abbrev pub is_memory : DefinitionFault → Bool
+is_memory Memory = true
+is_memory fault = false
+
 -- what came back is this, unless memory ran out
 abbrev pub Gives : Result Generated DefinitionFault → Result Generated DefinitionFault → Type 0
-Gives (Ok g) wanted = wanted ≡ Ok g
-Gives (Err Memory) wanted = Unit {0}
-Gives (Err fault) wanted = wanted ≡ Err fault
+Gives returned wanted = GivesUnless is_memory returned wanted

@@ -1,6 +1,7 @@
 //! Why a definition is refused.
 ghost use Rattle.std.specs.Prelude.{◌≡◌};
-ghost use Rattle.generation_read.specs.Faults.{line_of, line_of_lex, line_of_read, line_of_check, name_of, name_of_lex, name_of_read, name_of_check};
+ghost use Rattle.generation_read.specs.Faults.{line_of, name_of};
+ghost use Rattle.generation_read.specs.Causes.{of_lex, of_read, of_check};
 
 use kdcdef_check::CheckFault;
 use kdcdef_lex::LexFault;
@@ -25,9 +26,6 @@ pub enum DefinitionFault {
 }
 
 impl From<LexFault> for DefinitionFault {
-    ghost use Rattle.std.specs.Prelude.{◌≡◌};
-    ghost use Rattle.generation_read.specs.Causes.{of_lex};
-
     ghost from_gives = { λ e r. r ≡ of_lex e };
 
     fn from(e: LexFault) -> DefinitionFault {
@@ -39,9 +37,6 @@ impl From<LexFault> for DefinitionFault {
 }
 
 impl From<ReadFault> for DefinitionFault {
-    ghost use Rattle.std.specs.Prelude.{◌≡◌};
-    ghost use Rattle.generation_read.specs.Causes.{of_read};
-
     ghost from_gives = { λ e r. r ≡ of_read e };
 
     fn from(e: ReadFault) -> DefinitionFault {
@@ -53,9 +48,6 @@ impl From<ReadFault> for DefinitionFault {
 }
 
 impl From<CheckFault> for DefinitionFault {
-    ghost use Rattle.std.specs.Prelude.{◌≡◌};
-    ghost use Rattle.generation_read.specs.Causes.{of_check};
-
     ghost from_gives = { λ e r. r ≡ of_check e };
 
     fn from(e: CheckFault) -> DefinitionFault {
@@ -66,112 +58,15 @@ impl From<CheckFault> for DefinitionFault {
     }
 }
 
-fn lex_line(fault: &LexFault) -> u32
-    ensures { result ≡ line_of_lex fault.now }
-{
-    match fault {
-        LexFault::NotAscii(line)
-        | LexFault::OpenQuote(line)
-        | LexFault::OpenParen(line)
-        | LexFault::DanglingContinuation(line)
-        | LexFault::BadOperand(line) => *line,
-        LexFault::TextTooLong | LexFault::Memory => 0,
-    }
-}
-
-fn read_line(fault: &ReadFault) -> u32
-    ensures { result ≡ line_of_read fault.now }
-{
-    match fault {
-        ReadFault::UnknownStatement(line)
-        | ReadFault::OperandTwice(line)
-        | ReadFault::OperandMissing(line)
-        | ReadFault::BadName(line)
-        | ReadFault::BadNumber(line)
-        | ReadFault::OutOfRange(line)
-        | ReadFault::BadChoice(line)
-        | ReadFault::NotInProfile(line)
-        | ReadFault::AfterEnd(line)
-        | ReadFault::NoEnd(line) => *line,
-        ReadFault::Memory => 0,
-    }
-}
-
-fn check_line(fault: &CheckFault) -> u32
-    ensures { result ≡ line_of_check fault.now }
-{
-    match fault {
-        CheckFault::NameTwice(line)
-        | CheckFault::NoProgram(line)
-        | CheckFault::NoLterm(line)
-        | CheckFault::LtermTwice(line)
-        | CheckFault::NoMax(line)
-        | CheckFault::ClassOfWrongKind(line)
-        | CheckFault::PoolTooSmall(line)
-        | CheckFault::NoUser(line)
-        | CheckFault::TooMany(line) => *line,
-        CheckFault::Memory => 0,
-    }
-}
-
-fn lex_name(fault: &LexFault) -> &'static str
-    ensures { result.now ≡ name_of_lex fault.now }
-{
-    match fault {
-        LexFault::NotAscii(_) => "NotAscii",
-        LexFault::OpenQuote(_) => "OpenQuote",
-        LexFault::OpenParen(_) => "OpenParen",
-        LexFault::DanglingContinuation(_) => "DanglingContinuation",
-        LexFault::BadOperand(_) => "BadOperand",
-        LexFault::TextTooLong => "TextTooLong",
-        LexFault::Memory => "Memory",
-    }
-}
-
-fn read_name(fault: &ReadFault) -> &'static str
-    ensures { result.now ≡ name_of_read fault.now }
-{
-    match fault {
-        ReadFault::UnknownStatement(_) => "UnknownStatement",
-        ReadFault::OperandTwice(_) => "OperandTwice",
-        ReadFault::OperandMissing(_) => "OperandMissing",
-        ReadFault::BadName(_) => "BadName",
-        ReadFault::BadNumber(_) => "BadNumber",
-        ReadFault::OutOfRange(_) => "OutOfRange",
-        ReadFault::BadChoice(_) => "BadChoice",
-        ReadFault::NotInProfile(_) => "NotInProfile",
-        ReadFault::AfterEnd(_) => "AfterEnd",
-        ReadFault::NoEnd(_) => "NoEnd",
-        ReadFault::Memory => "Memory",
-    }
-}
-
-fn check_name(fault: &CheckFault) -> &'static str
-    ensures { result.now ≡ name_of_check fault.now }
-{
-    match fault {
-        CheckFault::NameTwice(_) => "NameTwice",
-        CheckFault::NoProgram(_) => "NoProgram",
-        CheckFault::NoLterm(_) => "NoLterm",
-        CheckFault::LtermTwice(_) => "LtermTwice",
-        CheckFault::NoMax(_) => "NoMax",
-        CheckFault::ClassOfWrongKind(_) => "ClassOfWrongKind",
-        CheckFault::PoolTooSmall(_) => "PoolTooSmall",
-        CheckFault::NoUser(_) => "NoUser",
-        CheckFault::TooMany(_) => "TooMany",
-        CheckFault::Memory => "Memory",
-    }
-}
-
 impl DefinitionFault {
     /// The number of its line, counted from 1; 0 for a text that is too long. It takes no memory.
     pub fn line(&self) -> u32
         ensures { result ≡ line_of self.now }
     {
         match self {
-            DefinitionFault::Lex(fault) => lex_line(fault),
-            DefinitionFault::Read(fault) => read_line(fault),
-            DefinitionFault::Check(fault) => check_line(fault),
+            DefinitionFault::Lex(fault) => fault.line(),
+            DefinitionFault::Read(fault) => fault.line(),
+            DefinitionFault::Check(fault) => fault.line(),
             DefinitionFault::Memory => 0,
         }
     }
@@ -181,9 +76,9 @@ impl DefinitionFault {
         ensures { result.now ≡ name_of self.now }
     {
         match self {
-            DefinitionFault::Lex(fault) => lex_name(fault),
-            DefinitionFault::Read(fault) => read_name(fault),
-            DefinitionFault::Check(fault) => check_name(fault),
+            DefinitionFault::Lex(fault) => fault.name(),
+            DefinitionFault::Read(fault) => fault.name(),
+            DefinitionFault::Check(fault) => fault.name(),
             DefinitionFault::Memory => "Memory",
         }
     }

@@ -4,7 +4,7 @@ use Rattle.std.specs.Map.{values_of}
 use Rattle.std.specs.List.{cons_option}
 use Rattle.kdcdef_types.specs.declared.entry.UserEntry.{UserEntry}
 use Rattle.kdcdef_types.specs.declared.statement.Said.{Said}
-use Rattle.kdcdef_types.specs.declared.statement.Said.TheVariants.{Program, Tac, User, Pterm, Lterm, Passed}
+use Rattle.kdcdef_types.specs.declared.statement.Said.TheVariants.{User, Passed}
 use Rattle.kdcdef_types.specs.declared.statement.Statement.{Statement}
 use Rattle.kdcdef_check.specs.Soundness.{restart_count}
 use Rattle.kdcdef_check.specs.Generating.{as_program, as_tac, as_user, as_pterm, as_lterm, as_passed, said_as, programs_said}
@@ -30,47 +30,29 @@ count_made : {A : Type 0} (f : Statement → Option A) (kind : ℕ) → ((s : St
 count_made f kind made [] = refl
 count_made f kind made (s ∷ ss) = count_cons (λ (t : Statement). kind_of t.said == kind) s ss ∙ one_more (f s) (kind_of s.said == kind) (kind_count kind ss) (filter_map f ss) (made s) (count_made f kind made ss)
 
-program_kind : (line : ℕ) (said : Said) → is_some (as_program line said) ≡ (kind_of said == 1)
-program_kind line (Program name) = refl
-program_kind line _ = refl
-
-tac_kind : (said : Said) → is_some (as_tac said) ≡ (kind_of said == 2)
-tac_kind (Tac name entry) = refl
-tac_kind _ = refl
-
-user_kind : (said : Said) → is_some (as_user said) ≡ (kind_of said == 3)
-user_kind (User name entry) = refl
-user_kind _ = refl
-
-pterm_kind : (said : Said) → is_some (as_pterm said) ≡ (kind_of said == 4)
-pterm_kind (Pterm name entry) = refl
-pterm_kind _ = refl
-
-lterm_kind : (said : Said) → is_some (as_lterm said) ≡ (kind_of said == 5)
-lterm_kind (Lterm name entry) = refl
-lterm_kind _ = refl
-
-passed_kind : (said : Said) → is_some (as_passed said) ≡ (kind_of said == 9)
-passed_kind Passed = refl
-passed_kind _ = refl
+-- which statements make entries of a kind
+kinds_fit : (line : ℕ) (said : Said) → (is_some (as_program line said) ≡ (kind_of said == 1)) × (is_some (as_tac said) ≡ (kind_of said == 2)) × (is_some (as_user said) ≡ (kind_of said == 3))
+    × (is_some (as_pterm said) ≡ (kind_of said == 4)) × (is_some (as_lterm said) ≡ (kind_of said == 5)) × (is_some (as_passed said) ≡ (kind_of said == 9))
+kinds_fit line Passed = (refl, refl, refl, refl, refl, refl)
+kinds_fit line said = (refl, refl, refl, refl, refl, refl)
 
 pub program_count : (ss : List Statement) → kind_count 1 ss ≡ length (programs_said ss)
-program_count ss = count_made (λ (s : Statement). as_program s.line s.said) 1 (λ s. program_kind s.line s.said) ss
+program_count ss = count_made (λ (s : Statement). as_program s.line s.said) 1 (λ s. (kinds_fit s.line s.said).0) ss
 
 pub tac_count : (ss : List Statement) → kind_count 2 ss ≡ length (said_as as_tac ss)
-tac_count ss = count_made (λ (s : Statement). as_tac s.said) 2 (λ s. tac_kind s.said) ss
+tac_count ss = count_made (λ (s : Statement). as_tac s.said) 2 (λ s. (kinds_fit s.line s.said).1) ss
 
 pub user_count : (ss : List Statement) → kind_count 3 ss ≡ length (said_as as_user ss)
-user_count ss = count_made (λ (s : Statement). as_user s.said) 3 (λ s. user_kind s.said) ss
+user_count ss = count_made (λ (s : Statement). as_user s.said) 3 (λ s. (kinds_fit s.line s.said).2) ss
 
 pub pterm_count : (ss : List Statement) → kind_count 4 ss ≡ length (said_as as_pterm ss)
-pterm_count ss = count_made (λ (s : Statement). as_pterm s.said) 4 (λ s. pterm_kind s.said) ss
+pterm_count ss = count_made (λ (s : Statement). as_pterm s.said) 4 (λ s. (kinds_fit s.line s.said).3) ss
 
 pub lterm_count : (ss : List Statement) → kind_count 5 ss ≡ length (said_as as_lterm ss)
-lterm_count ss = count_made (λ (s : Statement). as_lterm s.said) 5 (λ s. lterm_kind s.said) ss
+lterm_count ss = count_made (λ (s : Statement). as_lterm s.said) 5 (λ s. (kinds_fit s.line s.said).4) ss
 
 pub passed_statements : (ss : List Statement) → kind_count 9 ss ≡ length (said_as as_passed ss)
-passed_statements ss = count_made (λ (s : Statement). as_passed s.said) 9 (λ s. passed_kind s.said) ss
+passed_statements ss = count_made (λ (s : Statement). as_passed s.said) 9 (λ s. (kinds_fit s.line s.said).5) ss
 
 one_restart : (said : Said) (n : ℕ) (us : List (List ℕ × UserEntry)) → n ≡ restart_count us → cond (is_restart said) 1 0 + n ≡ restart_count (cons_option (as_user said) us)
 one_restart (User name entry) n us h = ap (λ (m : ℕ). cond entry.restart 1 0 + m) h ∙ sym (count_cons (λ (u : UserEntry). u.restart) entry (values_of us))

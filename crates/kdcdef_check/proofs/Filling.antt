@@ -1,5 +1,5 @@
 -- Tables that were filled from the statements so far.
-use Rattle.std.proofs.Common.{◌≡◌, ◌+◌, ◌<◌, ◌||◌, ℕ, refl, sym, ◌∙◌, ap, Bool, nat_eq, bytes_eq, is_some, List, [], ◌∷◌, ◌++◌, length, take, get_or, Option, filter_map}
+use Rattle.std.proofs.Common.{◌≡◌, ◌+◌, ◌<◌, ◌||◌, ℕ, refl, sym, ◌∙◌, ap, nat_eq, bytes_eq, is_some, List, [], ◌∷◌, ◌++◌, length, take, get_or, Option, filter_map}
 use Rattle.std.specs.List.{cons_option, list_any}
 use Rattle.std.specs.Map.{lookup}
 use Rattle.std.proofs.lemmas.List.Elements.{All-push}
@@ -10,34 +10,28 @@ use Rattle.kdcdef_types.specs.declared.statement.Said.TheVariants.{Pterm}
 use Rattle.kdcdef_types.specs.declared.statement.Statement.{Statement}
 use Rattle.kdcdef_check.specs.declared.tables.Tables.{Tables}
 use Rattle.kdcdef_check.specs.Generating.{as_program, as_tac, as_user, as_pterm, as_lterm, as_tls, as_uls, as_class, said_as, generated}
-use Rattle.kdcdef_check.specs.Steps.{put, put_key, table_of, keys_table, lterm_said, IsAdded, AreFilled, HaveNames, IsNamed, AllNamed}
+use Rattle.kdcdef_check.specs.Steps.{put, put_key, filled_by, lterm_said, IsAdded, AreFilled, HaveNames, IsNamed, AllNamed}
 use Rattle.kdcdef_check.proofs.Names.{exact_numbers, exact_bytes, there-table_of, among-keys_table}
 use Rattle.kdcdef_check.proofs.Passing.{next_taken}
 
-pub table_of-push : {K V : Type 0} (eq : K → K → Bool) (f : Statement → Option (K × V)) (ss : List Statement) (s : Statement) → table_of eq f (ss ++ s ∷ []) ≡ put eq (f s) (table_of eq f ss)
-table_of-push {K} {V} eq f ss s = fold-append (λ (entries : List (K × V)) (s : Statement). put eq (f s) entries) [] ss (s ∷ [])
-
-pub keys_table-push : {K : Type 0} (eq : K → K → Bool) (f : Statement → Option K) (ss : List Statement) (s : Statement) → keys_table eq f (ss ++ s ∷ []) ≡ put_key eq (f s) (keys_table eq f ss)
-keys_table-push {K} eq f ss s = fold-append (λ (keys : List K) (s : Statement). put_key eq (f s) keys) [] ss (s ∷ [])
+pub filled_by-push : {A : Type 0} (add : Option A → List A → List A) (f : Statement → Option A) (ss : List Statement) (s : Statement) → filled_by add f (ss ++ s ∷ []) ≡ add (f s) (filled_by add f ss)
+filled_by-push {A} add f ss s = fold-append (λ (made : List A) (s : Statement). add (f s) made) [] ss (s ∷ [])
 
 -- a table, and the same with one more statement
-further : {K V : Type 0} (eq : K → K → Bool) (f : Statement → Option (K × V)) (ss : List Statement) (s : Statement) (old new : List (K × V)) → old ≡ table_of eq f ss → new ≡ put eq (f s) old → new ≡ table_of eq f (ss ++ s ∷ [])
-further eq f ss s old new was is = is ∙ ap (put eq (f s)) was ∙ sym (table_of-push eq f ss s)
-
-further_keys : {K : Type 0} (eq : K → K → Bool) (f : Statement → Option K) (ss : List Statement) (s : Statement) (old new : List K) → old ≡ keys_table eq f ss → new ≡ put_key eq (f s) old → new ≡ keys_table eq f (ss ++ s ∷ [])
-further_keys eq f ss s old new was is = is ∙ ap (put_key eq (f s)) was ∙ sym (keys_table-push eq f ss s)
+further : {A : Type 0} (add : Option A → List A → List A) (f : Statement → Option A) (ss : List Statement) (s : Statement) (old new : List A) → old ≡ filled_by add f ss → new ≡ add (f s) old → new ≡ filled_by add f (ss ++ s ∷ [])
+further add f ss s old new was is = is ∙ ap (add (f s)) was ∙ sym (filled_by-push add f ss s)
 
 filled_further : (ss : List Statement) (s : Statement) (old new : Tables) → AreFilled old ss → IsAdded old new s.line s.said → AreFilled new (ss ++ s ∷ [])
 filled_further ss s old new was added = record {
-  programs = further bytes_eq (λ (s : Statement). as_program s.line s.said) ss s _ _ was.programs added.programs;
-  tacs = further bytes_eq (λ (s : Statement). as_tac s.said) ss s _ _ was.tacs added.tacs;
-  users = further bytes_eq (λ (s : Statement). as_user s.said) ss s _ _ was.users added.users;
-  pterms = further bytes_eq (λ (s : Statement). as_pterm s.said) ss s _ _ was.pterms added.pterms;
-  lterms = further bytes_eq (λ (s : Statement). as_lterm s.said) ss s _ _ was.lterms added.lterms;
-  classes = further nat_eq (λ (s : Statement). as_class s.said) ss s _ _ was.classes added.classes;
-  tls = further_keys bytes_eq (λ (s : Statement). as_tls s.said) ss s _ _ was.tls added.tls;
-  uls = further_keys bytes_eq (λ (s : Statement). as_uls s.said) ss s _ _ was.uls added.uls;
-  served = further_keys bytes_eq (λ (s : Statement). lterm_said s.said) ss s _ _ was.served added.served;
+  programs = further (put bytes_eq) (λ (s : Statement). as_program s.line s.said) ss s _ _ was.programs added.programs;
+  tacs = further (put bytes_eq) (λ (s : Statement). as_tac s.said) ss s _ _ was.tacs added.tacs;
+  users = further (put bytes_eq) (λ (s : Statement). as_user s.said) ss s _ _ was.users added.users;
+  pterms = further (put bytes_eq) (λ (s : Statement). as_pterm s.said) ss s _ _ was.pterms added.pterms;
+  lterms = further (put bytes_eq) (λ (s : Statement). as_lterm s.said) ss s _ _ was.lterms added.lterms;
+  classes = further (put nat_eq) (λ (s : Statement). as_class s.said) ss s _ _ was.classes added.classes;
+  tls = further (put_key bytes_eq) (λ (s : Statement). as_tls s.said) ss s _ _ was.tls added.tls;
+  uls = further (put_key bytes_eq) (λ (s : Statement). as_uls s.said) ss s _ _ was.uls added.uls;
+  served = further (put_key bytes_eq) (λ (s : Statement). lterm_said s.said) ss s _ _ was.served added.served;
 }
 
 -- the tables of the loop, one statement further

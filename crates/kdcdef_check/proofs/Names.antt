@@ -48,6 +48,16 @@ pub at_head : {V : Type 0} (b : Bool) (v : V) (o : Option V) → is_some (cond b
 at_head true v o = refl
 at_head false v o = refl
 
+-- what is found in what was filled, where a test finds what one entry has and what the rest has
+found-filled_by : {A : Type 0} (add : Option A → List A → List A) (found : List A → Bool) → found [] ≡ false → ((o : Option A) (es : List A) → found (add o es) ≡ (found (cons_option o []) || found es)) → ((o : Option A) (es : List A) → found (cons_option o es) ≡ (found (cons_option o []) || found es))
+    → (f : Statement → Option A) (ss : List Statement) (es : List A) → found (fold (λ (made : List A) (s : Statement). add (f s) made) es ss) ≡ (found es || found (filter_map f ss))
+found-filled_by add found none adds more f [] es = rw none (sym (or_false (found es)))
+found-filled_by add found none adds more f (s ∷ ss) es =
+    found-filled_by add found none adds more f ss (add (f s) es)
+    ∙ ap (λ b. b || found (filter_map f ss)) (adds (f s) es)
+    ∙ or_regrouped (found (cons_option (f s) [])) (found es) (found (filter_map f ss))
+    ∙ ap (λ b. found es || b) (sym (more (f s) (filter_map f ss)))
+
 module _ {K V : Type 0} (eq : K → K → Bool) (exact : IsExact eq) where
   -- a name is there after an insertion where it was inserted, or was there
   there-insert : (es : List (K × V)) (k new : K) (v : V) → is_some (lookup (eq k) (insert_entry eq es new v)) ≡ (eq k new || is_some (lookup (eq k) es))
@@ -76,20 +86,9 @@ module _ {K V : Type 0} (eq : K → K → Bool) (exact : IsExact eq) where
   there-cons None es k = refl
   there-cons (Some p) es k = at_head (eq k p.0) p.1 (lookup (eq k) es) ∙ ap (λ b. b || is_some (lookup (eq k) es)) (sym (at_head (eq k p.0) p.1 None ∙ or_false (eq k p.0)))
 
-  there-fold : (f : Statement → Option (K × V)) (ss : List Statement) (es : List (K × V)) (k : K) → is_some (lookup (eq k) (fold (λ (done : List (K × V)) (s : Statement). put eq (f s) done) es ss)) ≡ (is_some (lookup (eq k) es) || is_some (lookup (eq k) (filter_map f ss)))
-  there-fold f [] es k = sym (or_false (is_some (lookup (eq k) es)))
-  there-fold f (s ∷ ss) es k =
-      let made = is_some (lookup (eq k) (cons_option (f s) [])) in
-      let was = is_some (lookup (eq k) es) in
-      let rest = is_some (lookup (eq k) (filter_map f ss)) in
-      there-fold f ss (put eq (f s) es) k
-      ∙ ap (λ b. b || rest) (there-put (f s) es k)
-      ∙ or_regrouped made was rest
-      ∙ ap (λ b. was || b) (sym (there-cons (f s) (filter_map f ss) k))
-
   -- a filled table has the names that the statements make
   pub there-table_of : (f : Statement → Option (K × V)) (ss : List Statement) (k : K) → is_some (lookup (eq k) (table_of eq f ss)) ≡ is_some (lookup (eq k) (filter_map f ss))
-  there-table_of f ss k = there-fold f ss [] k
+  there-table_of f ss k = found-filled_by (put eq) (λ (es : List (K × V)). is_some (lookup (eq k) es)) refl (λ o es. there-put o es k) (λ o es. there-cons o es k) f ss []
 
 module _ {K : Type 0} (eq : K → K → Bool) (exact : IsExact eq) where
   among-insert : (ks : List K) (k new : K) → list_any (eq k) (insert_key eq ks new) ≡ (eq k new || list_any (eq k) ks)
@@ -111,16 +110,5 @@ module _ {K : Type 0} (eq : K → K → Bool) (exact : IsExact eq) where
   among-cons None ks k = refl
   among-cons (Some new) ks k = ap (λ b. b || list_any (eq k) ks) (sym (or_false (eq k new)))
 
-  among-fold : (f : Statement → Option K) (ss : List Statement) (ks : List K) (k : K) → list_any (eq k) (fold (λ (done : List K) (s : Statement). put_key eq (f s) done) ks ss) ≡ (list_any (eq k) ks || list_any (eq k) (filter_map f ss))
-  among-fold f [] ks k = sym (or_false (list_any (eq k) ks))
-  among-fold f (s ∷ ss) ks k =
-      let made = list_any (eq k) (cons_option (f s) []) in
-      let was = list_any (eq k) ks in
-      let rest = list_any (eq k) (filter_map f ss) in
-      among-fold f ss (put_key eq (f s) ks) k
-      ∙ ap (λ b. b || rest) (among-put (f s) ks k)
-      ∙ or_regrouped made was rest
-      ∙ ap (λ b. was || b) (sym (among-cons (f s) (filter_map f ss) k))
-
   pub among-keys_table : (f : Statement → Option K) (ss : List Statement) (k : K) → list_any (eq k) (keys_table eq f ss) ≡ list_any (eq k) (filter_map f ss)
-  among-keys_table f ss k = among-fold f ss [] k
+  among-keys_table f ss k = found-filled_by (put_key eq) (λ (ks : List K). list_any (eq k) ks) refl (λ o ks. among-put o ks k) (λ o ks. among-cons o ks k) f ss []

@@ -1,5 +1,5 @@
 -- What the statements generate keeps its ranges, where they have no fault.
-use Rattle.std.proofs.Common.{◌≡◌, ℕ, suc, ◌≤◌, ◌==◌, refl, sym, subst, inl, inr, arith, Bool, true, false, not, nat_lt, List, [], ◌∷◌, length, Option, Some, None, is_some, is_none, filter_map, IsTrue, unwrap_or}
+use Rattle.std.proofs.Common.{◌≡◌, ℕ, suc, ◌≤◌, ◌==◌, refl, sym, inl, inr, arith, Bool, true, false, not, nat_lt, List, [], ◌∷◌, length, Option, Some, None, is_some, is_none, filter_map, IsTrue, unwrap_or}
 use Rattle.std.specs.Prelude.{IfSome}
 use Rattle.std.specs.List.{All, cons_option}
 use Rattle.std.specs.Map.{values_of}
@@ -7,10 +7,8 @@ use Rattle.std.specs.Option.{option_or}
 use Rattle.std.proofs.lemmas.Bool.Decides.{nat_tests}
 use Rattle.std.proofs.lemmas.List.Elements.{All-cons, All-nil, All-map}
 use Rattle.kd_base.specs.Text.{IsName}
-use Rattle.kd_base.specs.Tools.{some_is}
 use Rattle.kdcdef_types.specs.declared.entry.TacEntry.{TacEntry}
 use Rattle.kdcdef_types.specs.declared.entry.UserEntry.{UserEntry}
-use Rattle.kdcdef_types.specs.declared.entry.LtermEntry.{LtermEntry}
 use Rattle.kdcdef_types.specs.declared.entry.PtermEntry.{PtermEntry}
 use Rattle.kdcdef_types.specs.declared.statement.MaxOperands.{MaxOperands}
 use Rattle.kdcdef_types.specs.declared.statement.Said.{Said}
@@ -35,17 +33,17 @@ all_head P x xs h = h 0 x (omega arith)
 all_tail : {A : Type 0} (P : A → Type 0) (x : A) (xs : List A) → All P (x ∷ xs) → All P xs
 all_tail P x xs h = λ k d below. h (suc k) d (omega (arith, below))
 
-one_more : {A : Type 0} (Q : A → Type 0) (o : Option A) (xs : List A) → ((x : A) → o ≡ Some x → Q x) → All Q xs → All Q (cons_option o xs)
+one_more : {A : Type 0} (Q : A → Type 0) (o : Option A) (xs : List A) → IfSome o Q → All Q xs → All Q (cons_option o xs)
 one_more Q None xs h rest = rest
-one_more Q (Some x) xs h rest = All-cons Q x xs (h x refl) rest
+one_more Q (Some x) xs h rest = All-cons Q x xs h rest
 
 -- what holds of the statements holds of what they make
-all_keep : {A : Type 0} (P : Statement → Type 0) (Q : A → Type 0) (f : Statement → Option A) → ((s : Statement) (x : A) → f s ≡ Some x → P s → Q x) → (ss : List Statement) → All P ss → All Q (filter_map f ss)
+all_keep : {A : Type 0} (P : Statement → Type 0) (Q : A → Type 0) (f : Statement → Option A) → ((s : Statement) → P s → IfSome (f s) Q) → (ss : List Statement) → All P ss → All Q (filter_map f ss)
 all_keep P Q f h [] all = All-nil Q
-all_keep P Q f h (s ∷ ss) all = one_more Q (f s) (filter_map f ss) (λ x e. h s x e (all_head P s ss all)) (all_keep P Q f h ss (all_tail P s ss all))
+all_keep P Q f h (s ∷ ss) all = one_more Q (f s) (filter_map f ss) (h s (all_head P s ss all)) (all_keep P Q f h ss (all_tail P s ss all))
 
 -- and of the values in their entries
-values_keep : {K V : Type 0} (P : Statement → Type 0) (Q : V → Type 0) (f : Statement → Option (K × V)) → ((s : Statement) (p : K × V) → f s ≡ Some p → P s → Q p.1) → (ss : List Statement) → All P ss → All Q (values_of (filter_map f ss))
+values_keep : {K V : Type 0} (P : Statement → Type 0) (Q : V → Type 0) (f : Statement → Option (K × V)) → ((s : Statement) → P s → IfSome (f s) (λ (p : K × V). Q p.1)) → (ss : List Statement) → All P ss → All Q (values_of (filter_map f ss))
 values_keep {K} {V} P Q f h ss all = All-map Q (λ (p : K × V). p.1) (filter_map f ss) (all_keep P (λ (p : K × V). Q p.1) f h ss all)
 
 -- ---- the limits
@@ -103,45 +101,36 @@ limits_in_range m h = record {
 abbrev IsNameOf : {A : Type 0} → List ℕ × A → Type 0
 IsNameOf p = IsName p.0
 
-tac_name : (said : Said) (p : List ℕ × TacEntry) → as_tac said ≡ Some p → IsNamed said → IsNameOf p
-tac_name (Tac name entry) p e h = subst IsNameOf (some_is _ p e) h
-tac_name _ p e h = absurd cc
-
-user_name : (said : Said) (p : List ℕ × UserEntry) → as_user said ≡ Some p → IsNamed said → IsNameOf p
-user_name (User name entry) p e h = subst IsNameOf (some_is _ p e) h
-user_name _ p e h = absurd cc
-
-pterm_name : (said : Said) (p : List ℕ × PtermEntry) → as_pterm said ≡ Some p → IsNamed said → IsNameOf p
-pterm_name (Pterm name entry) p e h = subst IsNameOf (some_is _ p e) h
-pterm_name _ p e h = absurd cc
-
-lterm_name : (said : Said) (p : List ℕ × LtermEntry) → as_lterm said ≡ Some p → IsNamed said → IsNameOf p
-lterm_name (Lterm name entry) p e h = subst IsNameOf (some_is _ p e) h
-lterm_name _ p e h = absurd cc
+named_entries : (said : Said) → IsNamed said → IfSome (as_tac said) IsNameOf × IfSome (as_user said) IsNameOf × IfSome (as_pterm said) IsNameOf × IfSome (as_lterm said) IsNameOf
+named_entries (Tac name entry) h = (h, tt, tt, tt)
+named_entries (User name entry) h = (tt, h, tt, tt)
+named_entries (Pterm name entry) h = (tt, tt, h, tt)
+named_entries (Lterm name entry) h = (tt, tt, tt, h)
+named_entries _ h = (tt, tt, tt, tt)
 
 names_kept : (ss : List Statement) → AllNamed ss → AreNamed (generated ss)
 names_kept ss named =
     let P : Statement → Type 0 = λ (s : Statement). IsNamed s.said in
     record {
-      tacs = all_keep P IsNameOf (λ (s : Statement). as_tac s.said) (λ s p e h. tac_name s.said p e h) ss named;
-      users = all_keep P IsNameOf (λ (s : Statement). as_user s.said) (λ s p e h. user_name s.said p e h) ss named;
-      pterms = all_keep P IsNameOf (λ (s : Statement). as_pterm s.said) (λ s p e h. pterm_name s.said p e h) ss named;
-      lterms = all_keep P IsNameOf (λ (s : Statement). as_lterm s.said) (λ s p e h. lterm_name s.said p e h) ss named;
+      tacs = all_keep P IsNameOf (λ (s : Statement). as_tac s.said) (λ s h. (named_entries s.said h).0) ss named;
+      users = all_keep P IsNameOf (λ (s : Statement). as_user s.said) (λ s h. (named_entries s.said h).1) ss named;
+      pterms = all_keep P IsNameOf (λ (s : Statement). as_pterm s.said) (λ s h. (named_entries s.said h).2) ss named;
+      lterms = all_keep P IsNameOf (λ (s : Statement). as_lterm s.said) (λ s h. (named_entries s.said h).3) ss named;
     }
 
 -- ---- the entries
 
-tac_ranges : (said : Said) (p : List ℕ × TacEntry) → as_tac said ≡ Some p → IsInRange said → IsTacInRange p.1
-tac_ranges (Tac name entry) p e h = subst (λ (q : List ℕ × TacEntry). IsTacInRange q.1) (some_is _ p e) h
-tac_ranges _ p e h = absurd cc
+tac_ranges : (said : Said) → IsInRange said → IfSome (as_tac said) (λ (p : List ℕ × TacEntry). IsTacInRange p.1)
+tac_ranges (Tac name entry) h = h
+tac_ranges _ h = tt
 
-user_ranges : (said : Said) (p : List ℕ × UserEntry) → as_user said ≡ Some p → IsInRange said → IsUserInRange p.1
-user_ranges (User name entry) p e h = subst (λ (q : List ℕ × UserEntry). IsUserInRange q.1) (some_is _ p e) h
-user_ranges _ p e h = absurd cc
+user_ranges : (said : Said) → IsInRange said → IfSome (as_user said) (λ (p : List ℕ × UserEntry). IsUserInRange p.1)
+user_ranges (User name entry) h = h
+user_ranges _ h = tt
 
-class_ranges : (said : Said) (p : ℕ × ℕ) → as_class said ≡ Some p → IsInRange said → p.1 ≤ 240
-class_ranges (TacClass class tasks) p e h = subst (λ (q : ℕ × ℕ). q.1 ≤ 240) (some_is _ p e) h.1
-class_ranges _ p e h = absurd cc
+class_ranges : (said : Said) → IsInRange said → IfSome (as_class said) (λ (p : ℕ × ℕ). p.1 ≤ 240)
+class_ranges (TacClass class tasks) h = h.1
+class_ranges _ h = tt
 
 not_not : (b : Bool) → not b ≡ false → b ≡ true
 not_not true h = refl
@@ -151,17 +140,17 @@ not_none : {A : Type 0} (o : Option A) → is_none o ≡ false → is_some o ≡
 not_none None h = absurd (grind (arith, h))
 not_none (Some x) h = refl
 
-tac_kinds : (said : Said) (p : List ℕ × TacEntry) → as_tac said ≡ Some p → has_other_class said ≡ false → IsTrue (fits_kind p.1)
-tac_kinds (Tac name entry) p e h = subst (λ (q : List ℕ × TacEntry). IsTrue (fits_kind q.1)) (some_is _ p e) (not_not (fits_kind entry) h)
-tac_kinds _ p e h = absurd cc
+tac_kinds : (said : Said) → has_other_class said ≡ false → IfSome (as_tac said) (λ (p : List ℕ × TacEntry). IsTrue (fits_kind p.1))
+tac_kinds (Tac name entry) h = not_not (fits_kind entry) h
+tac_kinds _ h = tt
 
-tac_programs : (g : Generated) (said : Said) (p : List ℕ × TacEntry) → as_tac said ≡ Some p → lacks_program g said ≡ false → IsTrue (is_some (entry_of g.programs p.1.program))
-tac_programs g (Tac name entry) p e h = subst (λ (q : List ℕ × TacEntry). IsTrue (is_some (entry_of g.programs q.1.program))) (some_is _ p e) (not_none (entry_of g.programs entry.program) h)
-tac_programs g _ p e h = absurd cc
+tac_programs : (g : Generated) (said : Said) → lacks_program g said ≡ false → IfSome (as_tac said) (λ (p : List ℕ × TacEntry). IsTrue (is_some (entry_of g.programs p.1.program)))
+tac_programs g (Tac name entry) h = not_none (entry_of g.programs entry.program) h
+tac_programs g _ h = tt
 
-pterm_lterms : (g : Generated) (said : Said) (p : List ℕ × PtermEntry) → as_pterm said ≡ Some p → lacks_lterm g said ≡ false → IsTrue (is_some (lterm_of g p.1.lterm))
-pterm_lterms g (Pterm name entry) p e h = subst (λ (q : List ℕ × PtermEntry). IsTrue (is_some (lterm_of g q.1.lterm))) (some_is _ p e) (not_none (lterm_of g entry.lterm) h)
-pterm_lterms g _ p e h = absurd cc
+pterm_lterms : (g : Generated) (said : Said) → lacks_lterm g said ≡ false → IfSome (as_pterm said) (λ (p : List ℕ × PtermEntry). IsTrue (is_some (lterm_of g p.1.lterm)))
+pterm_lterms g (Pterm name entry) h = not_none (lterm_of g entry.lterm) h
+pterm_lterms g _ h = tt
 
 -- ---- the counts
 
@@ -186,12 +175,12 @@ pub sound : (ss : List Statement) → AreRead ss → AllNamed ss → AreFaultles
 sound ss read named free = record {
   limits = limits_in_range (max_given ss) (max_in_range ss read.ranges);
   names = names_kept ss named;
-  tacs = values_keep (λ (s : Statement). IsInRange s.said) IsTacInRange (λ (s : Statement). as_tac s.said) (λ s p e h. tac_ranges s.said p e h) ss read.ranges;
-  users = values_keep (λ (s : Statement). IsInRange s.said) IsUserInRange (λ (s : Statement). as_user s.said) (λ s p e h. user_ranges s.said p e h) ss read.ranges;
-  classes = values_keep (λ (s : Statement). IsInRange s.said) (λ (tasks : ℕ). tasks ≤ 240) (λ (s : Statement). as_class s.said) (λ s p e h. class_ranges s.said p e h) ss read.ranges;
-  kinds = values_keep (λ (s : Statement). has_other_class s.said ≡ false) (λ (t : TacEntry). IsTrue (fits_kind t)) (λ (s : Statement). as_tac s.said) (λ s p e h. tac_kinds s.said p e h) ss (all_at (λ (s : Statement). has_other_class s.said ≡ false) ss (λ i s at. not_shown ss free i s at (ClassOfWrongKind s.line) refl));
-  programs = values_keep (λ (s : Statement). lacks_program (generated ss) s.said ≡ false) (λ (t : TacEntry). IsTrue (is_some (entry_of (programs_said ss) t.program))) (λ (s : Statement). as_tac s.said) (λ s p e h. tac_programs (generated ss) s.said p e h) ss (all_at (λ (s : Statement). lacks_program (generated ss) s.said ≡ false) ss (λ i s at. not_shown ss free i s at (NoProgram s.line) refl));
-  terminals = values_keep (λ (s : Statement). lacks_lterm (generated ss) s.said ≡ false) (λ (p : PtermEntry). IsTrue (is_some (entry_of (said_as as_lterm ss) p.lterm))) (λ (s : Statement). as_pterm s.said) (λ s p e h. pterm_lterms (generated ss) s.said p e h) ss (all_at (λ (s : Statement). lacks_lterm (generated ss) s.said ≡ false) ss (λ i s at. not_shown ss free i s at (NoLterm s.line) refl));
+  tacs = values_keep (λ (s : Statement). IsInRange s.said) IsTacInRange (λ (s : Statement). as_tac s.said) (λ s h. tac_ranges s.said h) ss read.ranges;
+  users = values_keep (λ (s : Statement). IsInRange s.said) IsUserInRange (λ (s : Statement). as_user s.said) (λ s h. user_ranges s.said h) ss read.ranges;
+  classes = values_keep (λ (s : Statement). IsInRange s.said) (λ (tasks : ℕ). tasks ≤ 240) (λ (s : Statement). as_class s.said) (λ s h. class_ranges s.said h) ss read.ranges;
+  kinds = values_keep (λ (s : Statement). has_other_class s.said ≡ false) (λ (t : TacEntry). IsTrue (fits_kind t)) (λ (s : Statement). as_tac s.said) (λ s h. tac_kinds s.said h) ss (all_at (λ (s : Statement). has_other_class s.said ≡ false) ss (λ i s at. not_shown ss free i s at (ClassOfWrongKind s.line) refl));
+  programs = values_keep (λ (s : Statement). lacks_program (generated ss) s.said ≡ false) (λ (t : TacEntry). IsTrue (is_some (entry_of (programs_said ss) t.program))) (λ (s : Statement). as_tac s.said) (λ s h. tac_programs (generated ss) s.said h) ss (all_at (λ (s : Statement). lacks_program (generated ss) s.said ≡ false) ss (λ i s at. not_shown ss free i s at (NoProgram s.line) refl));
+  terminals = values_keep (λ (s : Statement). lacks_lterm (generated ss) s.said ≡ false) (λ (p : PtermEntry). IsTrue (is_some (entry_of (said_as as_lterm ss) p.lterm))) (λ (s : Statement). as_pterm s.said) (λ s h. pterm_lterms (generated ss) s.said h) ss (all_at (λ (s : Statement). lacks_lterm (generated ss) s.said ≡ false) ss (λ i s at. not_shown ss free i s at (NoLterm s.line) refl));
   apart = names_apart ss free;
   counts = counted ss read free;
   some_user = one_or_more (length (said_as as_user ss)) (some_user_said ss free read.ends);

@@ -5,28 +5,16 @@ use Rattle.std.proofs.lemmas.Bool.Decides.{eqb_tells}
 use Rattle.std.proofs.lemmas.List.{get_or-set_other, length-set, length-take}
 use Rattle.std.proofs.lemmas.Grind.{get_or-set_at}
 use Rattle.std.proofs.lemmas.List.Sums.{count_by_more_yes, count_by_more_no, count_by-le-length}
+use Rattle.kdcdef_types.specs.declared.statement.Said.{Said}
+use Rattle.kdcdef_types.specs.declared.statement.Said.TheVariants.{Passed}
 use Rattle.kdcdef_types.specs.declared.statement.Statement.{Statement}
-use Rattle.kdcdef_check.specs.declared.tally.Kind.{Kind}
-use Rattle.kdcdef_check.specs.declared.tally.Kind.TheVariants.{Max, Program, Tac, User, Pterm, Lterm, Tls, Uls, TacClass, Passed, End}
 use Rattle.kdcdef_check.specs.declared.tally.Tally.{Tally}
 use Rattle.kdcdef_check.specs.Faults.{kind_of, kind_count}
-use Rattle.kdcdef_check.specs.Steps.{place_of, IsTallyOf}
+use Rattle.kdcdef_check.specs.Steps.{IsTallyOf}
 
-pub place_within : (kind : Kind) → place_of kind < 11
-place_within Max = omega arith
-place_within Program = omega arith
-place_within Tac = omega arith
-place_within User = omega arith
-place_within Pterm = omega arith
-place_within Lterm = omega arith
-place_within Tls = omega arith
-place_within Uls = omega arith
-place_within TacClass = omega arith
-place_within Passed = omega arith
-place_within End = omega arith
-
-is_kind : ℕ → Statement → Bool
-is_kind kind s = kind_of s.said == kind
+pub kind_within : (said : Said) → kind_of said < 11
+kind_within Passed = omega arith
+kind_within said = omega arith
 
 -- the count of a kind has room for one more
 pub count_within : (ss : List Statement) (i : ℕ) (t : Tally) (kind : ℕ) → i < length ss → kind < 11 → IsTallyOf t (take i ss) → slice_index t.counts kind ≤ i

@@ -1,6 +1,7 @@
 -- A fault stands at a statement.
-use Rattle.std.specs.Prelude.{◌≡◌, ℕ, ◌+◌, Bool, true, false, not, ◌&&◌, ◌||◌, ◌==◌, nat_lt, nat_le, List, length, take, slice_get, Some, Result, Ok, Err, is_some, is_none, IsTrue, bytes_eq, count_by}
+use Rattle.std.specs.Prelude.{◌≡◌, ℕ, ◌+◌, Bool, true, false, not, ◌&&◌, ◌||◌, ◌==◌, nat_lt, codes, List, length, take, slice_get, Some, Result, is_some, is_none, IsTrue, bytes_eq, count_by}
 use Rattle.std.specs.List.{list_any}
+use Rattle.kd_base.specs.FirstFaults.{first_by, IsFirstBy, GivesUnless}
 use Rattle.kdcdef_types.specs.declared.entry.PtermEntry.{PtermEntry}
 use Rattle.kdcdef_types.specs.declared.statement.Said.{Said}
 use Rattle.kdcdef_types.specs.declared.statement.Said.TheVariants.{Max, Program, Tac, User, Pterm, Lterm, Tls, Uls, TacClass, Passed, End}
@@ -90,7 +91,7 @@ shows all before said (NoUser n) = is_end said && lacks_user (generated all)
 shows all before said (TooMany n) = kind_count (kind_of said) before == 20000
 shows all before said Memory = false
 
--- the line of a fault, and its number among those of one line
+-- the line of a fault
 abbrev pub line_of : CheckFault → ℕ
 line_of (NameTwice n) = n
 line_of (NoProgram n) = n
@@ -103,6 +104,20 @@ line_of (NoUser n) = n
 line_of (TooMany n) = n
 line_of Memory = 0
 
+-- the name by which it is printed
+abbrev pub name_of : CheckFault → List ℕ
+name_of (NameTwice n) = codes "NameTwice"
+name_of (NoProgram n) = codes "NoProgram"
+name_of (NoLterm n) = codes "NoLterm"
+name_of (LtermTwice n) = codes "LtermTwice"
+name_of (NoMax n) = codes "NoMax"
+name_of (ClassOfWrongKind n) = codes "ClassOfWrongKind"
+name_of (PoolTooSmall n) = codes "PoolTooSmall"
+name_of (NoUser n) = codes "NoUser"
+name_of (TooMany n) = codes "TooMany"
+name_of Memory = codes "Memory"
+
+-- its number among the faults of one line
 abbrev pub number_of : CheckFault → ℕ
 number_of (NameTwice n) = 1
 number_of (NoProgram n) = 2
@@ -123,21 +138,21 @@ HasFault all before s fault = (line_of fault ≡ s.line) × IsTrue (shows all be
 abbrev pub Stands : List Statement → CheckFault → Type 0
 Stands ss fault = (i : ℕ) × (s : Statement) × (slice_get ss i ≡ Some s) × HasFault ss (take i ss) s fault
 
--- a stands on a lesser line, or on the same one with a number that is not greater
 abbrev pub comes_first : CheckFault → CheckFault → Bool
-comes_first a b = nat_lt (line_of a) (line_of b) || (line_of a == line_of b && nat_le (number_of a) (number_of b))
+comes_first a b = first_by line_of number_of a b
 
 -- no fault stands
 abbrev pub AreFaultless : List Statement → Type 0
 AreFaultless ss = (fault : CheckFault) → Stands ss fault → ⊥
 
 -- the fault stands, and none on a lesser line, nor one of a lesser number on its line
-pub record IsFirstFault (ss : List Statement) (fault : CheckFault) : Type 0 where
-  pub stands : Stands ss fault
-  pub first : (other : CheckFault) → Stands ss other → IsTrue (comes_first fault other)
+abbrev pub IsFirstFault : List Statement → CheckFault → Type 0
+IsFirstFault ss fault = IsFirstBy line_of number_of (Stands ss) (Some fault)
+
+abbrev pub is_memory : CheckFault → Bool
+is_memory Memory = true
+is_memory fault = false
 
 -- what came back is this, unless memory ran out
 abbrev pub Gives : {A : Type 0} → Result A CheckFault → Result A CheckFault → Type 0
-Gives (Ok x) wanted = wanted ≡ Ok x
-Gives (Err Memory) wanted = Unit {0}
-Gives (Err fault) wanted = wanted ≡ Err fault
+Gives returned wanted = GivesUnless is_memory returned wanted

@@ -63,19 +63,7 @@ programs_said ss = filter_map (λ (s : Statement). as_program s.line s.said) ss
 -- ---- the limits
 
 abbrev pub nothing_given : MaxOperands
-nothing_given = record {
-  appliname = None;
-  tasks = None;
-  asyntasks = None;
-  gssbs = None;
-  lssbs = None;
-  kb = None;
-  spab = None;
-  nb = None;
-  pgpool = None;
-  reswait = None;
-  blksize = None;
-}
+nothing_given = record { appliname = None; tasks = None; asyntasks = None; gssbs = None; lssbs = None; kb = None; spab = None; nb = None; pgpool = None; reswait = None; blksize = None }
 
 -- the operands that a statement gives
 abbrev pub operands_said : Said → MaxOperands

@@ -1,9 +1,10 @@
 -- What the passes over the statements have, one statement after another.
-use Rattle.std.specs.Prelude.{◌≡◌, ℕ, ◌<◌, ◌≤◌, ◌&&◌, ◌==◌, Bool, true, false, IsTrue, nat_eq, bytes_eq, is_some, is_none, List, [], length, take, slice_get, Option, Some, None, fold, slice_index, if◌then◌else◌}
+use Rattle.std.specs.Prelude.{◌≡◌, ℕ, ◌<◌, ◌≤◌, ◌&&◌, ◌==◌, Bool, false, nat_eq, bytes_eq, is_some, is_none, List, [], ◌∷◌, length, take, slice_get, Option, Some, None, fold, slice_index}
 use Rattle.std.specs.List.{All, list_any}
 use Rattle.std.specs.Map.{lookup}
 use Rattle.indexmap.specs.IndexMap.{insert_entry}
 use Rattle.indexmap.specs.IndexSet.{insert_key}
+use Rattle.kd_base.specs.FirstFaults.{earlier_by, IsFirstBy, first_true, IsTested}
 use Rattle.kd_base.specs.Text.{IsName}
 use Rattle.kdcdef_types.specs.declared.entry.PtermEntry.{PtermEntry}
 use Rattle.kdcdef_types.specs.declared.limits.Limits.{Limits}
@@ -13,11 +14,9 @@ use Rattle.kdcdef_types.specs.declared.statement.Said.TheVariants.{Tac, User, Pt
 use Rattle.kdcdef_types.specs.declared.statement.Statement.{Statement}
 use Rattle.kdcdef_types.specs.Generation.{Generated, entry_of, tac_of, user_of, pterm_of, lterm_of, has_tls, has_uls, class_limit}
 use Rattle.kdcdef_check.specs.Generating.{as_program, as_tac, as_user, as_pterm, as_lterm, as_tls, as_uls, as_class, said_as, max_given, generated}
-use Rattle.kdcdef_check.specs.Faults.{kind_count, is_taken, shares_lterm, has_other_class, lacks_program, lacks_lterm, is_end, has_small_pool, lacks_user, comes_first, HasFault}
+use Rattle.kdcdef_check.specs.Faults.{kind_of, kind_count, is_taken, shares_lterm, has_other_class, lacks_program, lacks_lterm, is_end, has_small_pool, lacks_user, line_of, number_of}
 use Rattle.kdcdef_check.specs.declared.fault.CheckFault.{CheckFault}
-use Rattle.kdcdef_check.specs.declared.fault.CheckFault.TheVariants.{NameTwice, NoProgram, NoLterm, LtermTwice, NoMax, ClassOfWrongKind, PoolTooSmall, NoUser, TooMany, Memory}
-use Rattle.kdcdef_check.specs.declared.tally.Kind.{Kind}
-use Rattle.kdcdef_check.specs.declared.tally.Kind.TheVariants as kinds
+use Rattle.kdcdef_check.specs.declared.fault.CheckFault.TheVariants.{NameTwice, NoProgram, NoLterm, LtermTwice, NoMax, ClassOfWrongKind, PoolTooSmall, NoUser, TooMany}
 use Rattle.kdcdef_check.specs.declared.tally.Tally.{Tally}
 use Rattle.kdcdef_check.specs.declared.tables.Tables.{Tables}
 use Rattle.kdcdef_check.specs.declared.whole.Whole.{Whole}
@@ -27,70 +26,52 @@ use Rattle.kdcdef_check.specs.Soundness.{restart_count}
 
 -- the first of two faults that were found
 abbrev pub earlier : Option CheckFault → Option CheckFault → Option CheckFault
-earlier None b = b
-earlier (Some a) None = Some a
-earlier (Some a) (Some b) = if comes_first a b then Some a else Some b
+earlier a b = earlier_by line_of number_of a b
 
 -- none is such a fault, or it is one, and comes first of them
 abbrev pub IsFirstOf : (CheckFault → Type 0) → Option CheckFault → Type 0
-IsFirstOf Such None = (fault : CheckFault) → Such fault → ⊥
-IsFirstOf Such (Some fault) = Such fault × ((other : CheckFault) → Such other → IsTrue (comes_first fault other))
+IsFirstOf Such found = IsFirstBy line_of number_of Such found
 
 -- a fault of one of the first n statements
 abbrev pub AmongFirst : List Statement → (ℕ → Statement → CheckFault → Type 0) → ℕ → CheckFault → Type 0
 AmongFirst ss Such n fault = (i : ℕ) × (s : Statement) × (i < n) × (slice_get ss i ≡ Some s) × Such i s fault
 
--- a fault that shows at a statement and those before it
-abbrev pub is_own : CheckFault → Bool
-is_own (NameTwice n) = true
-is_own (NoProgram n) = false
-is_own (NoLterm n) = false
-is_own (LtermTwice n) = true
-is_own (NoMax n) = false
-is_own (ClassOfWrongKind n) = true
-is_own (PoolTooSmall n) = false
-is_own (NoUser n) = false
-is_own (TooMany n) = true
-is_own Memory = true
+-- a statement's own faults in their order, each with its test, where so many of its kind stand before it
+abbrev pub own_tests : Generated → ℕ → Statement → List (Bool × CheckFault)
+own_tests g count s =
+    (is_taken g s.said, NameTwice s.line)
+    ∷ (shares_lterm g s.said, LtermTwice s.line)
+    ∷ (has_other_class s.said, ClassOfWrongKind s.line)
+    ∷ (count == 20000, TooMany s.line)
+    ∷ []
 
--- the first of a statement's own faults, where so many of its kind stand before it
+-- the first of them
 abbrev pub own_fault : Generated → ℕ → Statement → Option CheckFault
-own_fault g count s =
-    if is_taken g s.said then Some (NameTwice s.line)
-    else (if shares_lterm g s.said then Some (LtermTwice s.line)
-    else (if has_other_class s.said then Some (ClassOfWrongKind s.line)
-    else (if count == 20000 then Some (TooMany s.line) else None)))
+own_fault g count s = first_true (own_tests g count s)
 
--- the first of a statement's faults against all statements
+-- a statement's faults against all statements in their order
+abbrev pub outer_tests : List Statement → Statement → List (Bool × CheckFault)
+outer_tests all s =
+    (lacks_program (generated all) s.said, NoProgram s.line)
+    ∷ (lacks_lterm (generated all) s.said, NoLterm s.line)
+    ∷ (is_end s.said && is_none (max_given all).appliname, NoMax s.line)
+    ∷ (is_end s.said && has_small_pool (generated all), PoolTooSmall s.line)
+    ∷ (is_end s.said && lacks_user (generated all), NoUser s.line)
+    ∷ []
+
+-- the first of them
 abbrev pub outer_fault : List Statement → Statement → Option CheckFault
-outer_fault all s =
-    if lacks_program (generated all) s.said then Some (NoProgram s.line)
-    else (if lacks_lterm (generated all) s.said then Some (NoLterm s.line)
-    else (if is_end s.said && is_none (max_given all).appliname then Some (NoMax s.line)
-    else (if is_end s.said && has_small_pool (generated all) then Some (PoolTooSmall s.line)
-    else (if is_end s.said && lacks_user (generated all) then Some (NoUser s.line) else None))))
+outer_fault all s = first_true (outer_tests all s)
 
+-- a statement has the fault at itself and those before it
 abbrev pub OwnFault : List Statement → ℕ → Statement → CheckFault → Type 0
-OwnFault all i s fault = IsTrue (is_own fault) × HasFault all (take i all) s fault
+OwnFault all i s fault = IsTested (own_tests (generated (take i all)) (kind_count (kind_of s.said) (take i all)) s) fault
 
+-- a statement has the fault against all statements
 abbrev pub OuterFault : List Statement → ℕ → Statement → CheckFault → Type 0
-OuterFault all i s fault = (is_own fault ≡ false) × HasFault all (take i all) s fault
+OuterFault all i s fault = IsTested (outer_tests all s) fault
 
 -- ---- tables
-
--- the place of a kind
-abbrev pub place_of : Kind → ℕ
-place_of kinds.Max = 0
-place_of kinds.Program = 1
-place_of kinds.Tac = 2
-place_of kinds.User = 3
-place_of kinds.Pterm = 4
-place_of kinds.Lterm = 5
-place_of kinds.Tls = 6
-place_of kinds.Uls = 7
-place_of kinds.TacClass = 8
-place_of kinds.Passed = 9
-place_of kinds.End = 10
 
 -- the LTERM of a PTERM
 abbrev pub lterm_said : Said → Option (List ℕ)
@@ -119,12 +100,16 @@ pub record IsAdded (old new : Tables) (line : ℕ) (said : Said) : Type 0 where
   pub classes : new.classes.entries ≡ put nat_eq (as_class said) old.classes.entries
   pub served : new.served.keys ≡ put_key bytes_eq (lterm_said said) old.served.keys
 
--- a table of what the statements make, one after another
+-- what the statements make, put in one after another
+abbrev pub filled_by : {A : Type 0} → (Option A → List A → List A) → (Statement → Option A) → List Statement → List A
+filled_by {A} add f ss = fold (λ (made : List A) (s : Statement). add (f s) made) [] ss
+
+-- a table of what the statements make
 abbrev pub table_of : {K V : Type 0} → (K → K → Bool) → (Statement → Option (K × V)) → List Statement → List (K × V)
-table_of {K} {V} eq f ss = fold (λ (entries : List (K × V)) (s : Statement). put eq (f s) entries) [] ss
+table_of eq f ss = filled_by (put eq) f ss
 
 abbrev pub keys_table : {K : Type 0} → (K → K → Bool) → (Statement → Option K) → List Statement → List K
-keys_table {K} eq f ss = fold (λ (keys : List K) (s : Statement). put_key eq (f s) keys) [] ss
+keys_table eq f ss = filled_by (put_key eq) f ss
 
 -- the tables were filled from these statements
 pub record AreFilled (t : Tables) (ss : List Statement) : Type 0 where
@@ -172,30 +157,11 @@ abbrev pub AreFew : Tally → Type 0
 AreFew t = (kind : ℕ) → kind < 11 → slice_index t.counts kind ≤ 20000
 
 abbrev pub counts_in : Tally → ℕ → Counts
-counts_in t passed = record {
-  users = slice_index t.counts 3;
-  pterms = slice_index t.counts 4;
-  lterms = slice_index t.counts 5;
-  tacs = slice_index t.counts 2;
-  programs = slice_index t.counts 1;
-  passed_statements = slice_index t.counts 9;
-  passed_operands = passed;
-}
+counts_in t passed = record { users = slice_index t.counts 3; pterms = slice_index t.counts 4; lterms = slice_index t.counts 5; tacs = slice_index t.counts 2; programs = slice_index t.counts 1; passed_statements = slice_index t.counts 9; passed_operands = passed }
 
 -- the generation that filled tables, limits and counts are
 abbrev pub made_of : Tables → Limits → Counts → Generated
-made_of t limits counts = record {
-  limits = limits;
-  programs = t.programs.entries;
-  tacs = t.tacs.entries;
-  users = t.users.entries;
-  pterms = t.pterms.entries;
-  lterms = t.lterms.entries;
-  tls = t.tls.keys;
-  uls = t.uls.keys;
-  classes = t.classes.entries;
-  counts = counts;
-}
+made_of t limits counts = record { limits = limits; programs = t.programs.entries; tacs = t.tacs.entries; users = t.users.entries; pterms = t.pterms.entries; lterms = t.lterms.entries; tls = t.tls.keys; uls = t.uls.keys; classes = t.classes.entries; counts = counts }
 
 -- a USER statement with RESTART=YES
 abbrev pub is_restart : Said → Bool

@@ -4,18 +4,7 @@ use Rattle.kdcdef_check.specs.declared.generation.Generation.TheInside.{Inside}
 use Rattle.kdcdef_check.specs.Soundness.{IsSound}
 
 abbrev pub generated_of : Inside → Generated
-generated_of g = record {
-  limits = g.limits;
-  programs = g.programs.entries;
-  tacs = g.tacs.entries;
-  users = g.users.entries;
-  pterms = g.pterms.entries;
-  lterms = g.lterms.entries;
-  tls = g.tls.keys;
-  uls = g.uls.keys;
-  classes = g.classes.entries;
-  counts = g.counts;
-}
+generated_of g = record { limits = g.limits; programs = g.programs.entries; tacs = g.tacs.entries; users = g.users.entries; pterms = g.pterms.entries; lterms = g.lterms.entries; tls = g.tls.keys; uls = g.uls.keys; classes = g.classes.entries; counts = g.counts }
 
 -- what the tables stand for keeps what every generation keeps
 abbrev pub IsSoundInside : Inside → Type 0

@@ -1,11 +1,10 @@
 //! Why statements generate nothing.
 ghost use Rattle.std.specs.Prelude.{◌≡◌};
-ghost use Rattle.kdcdef_check.specs.Faults.{line_of, number_of, comes_first};
+ghost use Rattle.kdcdef_check.specs.Faults.{line_of, number_of, comes_first, name_of};
 ghost use Rattle.kdcdef_check.specs.Steps.{earlier};
 ghost use Rattle.kdcdef_check.specs.declared.fault.CheckFault.TheVariants.{Memory};
 
 use kd_base::OutOfMemory;
-use std::alloc::{AllocError, AllocFailed};
 use thiserror::Error;
 
 /// The first fault of statements together, with the line of its statement, counted from 1.
@@ -45,32 +44,9 @@ pub enum CheckFault {
     Memory,
 }
 
-impl From<AllocError> for CheckFault {
-    ghost from_gives = { λ _ e. e ≡ Memory };
-
-    fn from(_: AllocError) -> CheckFault {
-        CheckFault::Memory
-    }
-}
-
-impl<T: Drop> From<AllocFailed<T>> for CheckFault {
-    ghost from_gives = { λ _ e. e ≡ Memory };
-
-    fn from(_: AllocFailed<T>) -> CheckFault {
-        CheckFault::Memory
-    }
-}
-
-impl From<OutOfMemory> for CheckFault {
-    ghost from_gives = { λ _ e. e ≡ Memory };
-
-    fn from(_: OutOfMemory) -> CheckFault {
-        CheckFault::Memory
-    }
-}
-
 impl CheckFault {
-    fn line(&self) -> u32
+    /// The number of its line, counted from 1. It takes no memory.
+    pub fn line(&self) -> u32
         ensures { result ≡ line_of self.now }
     {
         match self {
@@ -84,6 +60,24 @@ impl CheckFault {
             | CheckFault::NoUser(line)
             | CheckFault::TooMany(line) => *line,
             CheckFault::Memory => 0,
+        }
+    }
+
+    /// The name by which it is printed. It takes no memory.
+    pub fn name(&self) -> &'static str
+        ensures { result.now ≡ name_of self.now }
+    {
+        match self {
+            CheckFault::NameTwice(_) => "NameTwice",
+            CheckFault::NoProgram(_) => "NoProgram",
+            CheckFault::NoLterm(_) => "NoLterm",
+            CheckFault::LtermTwice(_) => "LtermTwice",
+            CheckFault::NoMax(_) => "NoMax",
+            CheckFault::ClassOfWrongKind(_) => "ClassOfWrongKind",
+            CheckFault::PoolTooSmall(_) => "PoolTooSmall",
+            CheckFault::NoUser(_) => "NoUser",
+            CheckFault::TooMany(_) => "TooMany",
+            CheckFault::Memory => "Memory",
         }
     }
 
@@ -110,6 +104,14 @@ impl CheckFault {
     {
         self.line() < other.line()
             || (self.line() == other.line() && self.number() <= other.number())
+    }
+}
+
+impl From<OutOfMemory> for CheckFault {
+    ghost from_gives = { λ _ e. e ≡ Memory };
+
+    fn from(_: OutOfMemory) -> CheckFault {
+        CheckFault::Memory
     }
 }
 

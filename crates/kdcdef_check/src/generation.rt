@@ -45,27 +45,16 @@ impl Generation {
         requires { IsSound (made_of tables limits counts) }
         ensures { result ≡ made_of tables limits counts }
     {
-        let Tables {
-            programs,
-            tacs,
-            users,
-            pterms,
-            lterms,
-            tls,
-            uls,
-            classes,
-            served: _served,
-        } = tables;
         Generation {
             limits,
-            programs,
-            tacs,
-            users,
-            pterms,
-            lterms,
-            tls,
-            uls,
-            classes,
+            programs: tables.programs,
+            tacs: tables.tacs,
+            users: tables.users,
+            pterms: tables.pterms,
+            lterms: tables.lterms,
+            tls: tables.tls,
+            uls: tables.uls,
+            classes: tables.classes,
             counts,
         }
     }

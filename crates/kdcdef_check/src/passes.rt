@@ -7,7 +7,7 @@ use crate::fault::{CheckFault, earlier};
 use crate::hashing::NameHashing;
 use crate::own::own_fault;
 use crate::tables::Tables;
-use crate::tally::{Kind, Tally};
+use crate::tally::Tally;
 use crate::whole::Whole;
 use kd_base::OutOfMemory;
 use kdcdef_types::{Said, Statement};
@@ -45,11 +45,13 @@ pub(crate) fn fill(alloc: Global, statements: &[Statement]) -> Result<Filled, Ou
     let mut tally = Tally::new();
     let mut first = None;
     for statement in statements {
-        let kind = Kind::of(&statement.said);
-        first = earlier(first, own_fault(&tables, tally.count(kind), statement));
+        first = earlier(
+            first,
+            own_fault(&tables, tally.count(&statement.said), statement),
+        );
         know_name(&statement.said);
         tables.add(statement)?;
-        tally.add(kind);
+        tally.add(&statement.said);
     }
     Ok(Filled {
         tables,

@@ -1,57 +1,46 @@
 //! How many statements there are.
 ghost use Rattle.std.specs.Prelude.{◌≡◌, ◌+◌, ◌^◌, ◌<◌, [], slice_index, slice_set};
 ghost use Rattle.kdcdef_check.specs.Faults.{kind_of};
-ghost use Rattle.kdcdef_check.specs.Steps.{place_of, AreFew, counts_in, IsTallyOf};
+ghost use Rattle.kdcdef_check.specs.Steps.{AreFew, counts_in, IsTallyOf};
 
 use kdcdef_types::{Counts, Said};
 
-/// The kinds of statements; all that are passed over are one kind.
-#[derive(Clone, Copy)]
-pub(crate) enum Kind {
-    Max,
-    Program,
-    Tac,
-    User,
-    Pterm,
-    Lterm,
-    Tls,
-    Uls,
-    TacClass,
-    Passed,
-    End,
+const PROGRAMS: usize = 1;
+
+const TACS: usize = 2;
+
+const USERS: usize = 3;
+
+const PTERMS: usize = 4;
+
+const LTERMS: usize = 5;
+
+const PASSED: usize = 9;
+
+// The place of a statement's kind among the kinds; all that are passed over are one kind.
+fn kind_of(said: &Said) -> usize
+    ensures kind { result ≡ kind_of said.now }
+    ensures within { result < 11 }
+{
+    match said {
+        Said::Max(_) => 0,
+        Said::Program(_) => PROGRAMS,
+        Said::Tac(_, _) => TACS,
+        Said::User(_, _) => USERS,
+        Said::Pterm(_, _) => PTERMS,
+        Said::Lterm(_, _) => LTERMS,
+        Said::Tls(_) => 6,
+        Said::Uls(_) => 7,
+        Said::TacClass(_, _) => 8,
+        Said::Passed => PASSED,
+        Said::End => 10,
+    }
 }
 
 /// How many statements there are of each kind.
 #[derive(Clone, Copy)]
 pub(crate) struct Tally {
     counts: [usize; 11],
-}
-
-impl Kind {
-    pub(crate) fn of(said: &Said) -> Kind
-        ensures { place_of result ≡ kind_of said.now }
-    {
-        match said {
-            Said::Max(_) => Kind::Max,
-            Said::Program(_) => Kind::Program,
-            Said::Tac(_, _) => Kind::Tac,
-            Said::User(_, _) => Kind::User,
-            Said::Pterm(_, _) => Kind::Pterm,
-            Said::Lterm(_, _) => Kind::Lterm,
-            Said::Tls(_) => Kind::Tls,
-            Said::Uls(_) => Kind::Uls,
-            Said::TacClass(_, _) => Kind::TacClass,
-            Said::Passed => Kind::Passed,
-            Said::End => Kind::End,
-        }
-    }
-
-    fn place(self) -> usize
-        ensures place { result ≡ place_of self }
-        ensures within { result < 11 }
-    {
-        self as usize
-    }
 }
 
 impl Tally {
@@ -61,11 +50,23 @@ impl Tally {
         Tally { counts: [0; 11] }
     }
 
-    /// How many statements of the kind were counted.
-    pub(crate) fn count(&self, kind: Kind) -> usize
-        ensures { result ≡ slice_index self.now.counts (place_of kind) }
+    /// How many statements of the same kind were counted.
+    pub(crate) fn count(&self, said: &Said) -> usize
+        ensures { result ≡ slice_index self.now.counts (kind_of said.now) }
     {
-        self.counts[kind.place()]
+        self.counts[kind_of(said)]
+    }
+
+    pub(crate) fn users(&self) -> usize
+        ensures { result ≡ slice_index self.now.counts 3 }
+    {
+        self.counts[USERS]
+    }
+
+    pub(crate) fn lterms(&self) -> usize
+        ensures { result ≡ slice_index self.now.counts 5 }
+    {
+        self.counts[LTERMS]
     }
 
     /// The counts of a generation.
@@ -74,21 +75,21 @@ impl Tally {
         ensures { result ≡ counts_in self.now passed_operands }
     {
         Counts {
-            users: self.count(Kind::User) as u32,
-            pterms: self.count(Kind::Pterm) as u32,
-            lterms: self.count(Kind::Lterm) as u32,
-            tacs: self.count(Kind::Tac) as u32,
-            programs: self.count(Kind::Program) as u32,
-            passed_statements: self.count(Kind::Passed) as u32,
+            users: self.counts[USERS] as u32,
+            pterms: self.counts[PTERMS] as u32,
+            lterms: self.counts[LTERMS] as u32,
+            tacs: self.counts[TACS] as u32,
+            programs: self.counts[PROGRAMS] as u32,
+            passed_statements: self.counts[PASSED] as u32,
             passed_operands,
         }
     }
 
-    /// Counts one more statement of the kind.
-    pub(crate) fn add(&mut self, kind: Kind)
-        requires { slice_index self.old.counts (place_of kind) + 1 < 2 ^ 64 }
-        ensures { self.new.counts ≡ slice_set self.old.counts (place_of kind) (slice_index self.old.counts (place_of kind) + 1) }
+    /// Counts one more statement of this kind.
+    pub(crate) fn add(&mut self, said: &Said)
+        requires { slice_index self.old.counts (kind_of said.now) + 1 < 2 ^ 64 }
+        ensures { self.new.counts ≡ slice_set self.old.counts (kind_of said.now) (slice_index self.old.counts (kind_of said.now) + 1) }
     {
-        self.counts[kind.place()] += 1;
+        self.counts[kind_of(said)] += 1;
     }
 }

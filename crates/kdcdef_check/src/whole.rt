@@ -9,7 +9,7 @@ ghost use Rattle.kdcdef_check.specs.Steps.{HaveNames, IsTallyOf, IsWhole, is_res
 use crate::fault::CheckFault;
 use crate::limits::max_given;
 use crate::tables::Tables;
-use crate::tally::{Kind, Tally};
+use crate::tally::Tally;
 use kdcdef_types::{MaxOperands, Said, Statement};
 
 /// What the limits of the statements are tested against.
@@ -58,9 +58,9 @@ impl Whole {
     {
         Whole {
             max: max_given(statements),
-            users: tally.count(Kind::User),
+            users: tally.users(),
             restarts: restart_count(statements),
-            lterms: tally.count(Kind::Lterm),
+            lterms: tally.lterms(),
         }
     }
 

@@ -15,7 +15,8 @@ use Rattle.kdcdef_lex.specs.Lines.{is_passed, continued}
 use Rattle.kdcdef_lex.specs.Groups.{groups}
 use Rattle.kdcdef_lex.specs.Tokens.{tokens_of}
 use Rattle.kdcdef_lex.specs.Parsing.{statement_at}
-use Rattle.kdcdef_lex.specs.Reading.{is_text_byte, leaves_open, operands_fault, tokens_fault, statement_of, with_front, statements_of, read_text, Gives, items_of_result}
+use Rattle.kdcdef_lex.specs.Reading.{is_text_byte, leaves_open, operands_fault, tokens_fault, statement_of, with_front, statements_of, read_text, Gives}
+use Rattle.kd_base.specs.FirstFaults.{items_of}
 use Rattle.kdcdef_lex.specs.Grammar.{AreTokens, IsStatement}
 use Rattle.kdcdef_lex.specs.Spelling.{Joins, JoinsOpen, BeginsStatement, IsGroup, Cut, SpellsStatements}
 use Rattle.kdcdef_lex.specs.Faults.{IsText, HasFault, FirstFault, HasTextFault}
@@ -267,13 +268,8 @@ not_memory (g ∷ gs) h = elim h [ inl k ↦ k | inr k ↦ not_memory gs k.1 ]
 
 -- the fault of a text that is not too long
 text_fault : (text : List ℕ) (f : LexFault) → FaultsSo text f → HasTextFault text f
-text_fault text (NotAscii n) h = h
-text_fault text (OpenQuote n) h = h
-text_fault text (OpenParen n) h = h
-text_fault text (DanglingContinuation n) h = h
-text_fault text (BadOperand n) h = h
 text_fault text TextTooLong h = absurd (no_first h.1 h.3)
-text_fault text Memory h = h
+text_fault text fault h = h
 
 pub fault_stands : (text : List ℕ) (f : LexFault) → read_text text ≡ Err f → HasTextFault text f
 fault_stands text f e =
@@ -288,26 +284,17 @@ fault_read : (text : List ℕ) (f : LexFault) → FaultsSo text f → read_text 
 fault_read text f h = rw (le-ltb 16777216 (length text) h.0, cut_groups h.1 1 (lines text) h.2) (fault_first h.1 f h.3)
 
 pub stands_fault : (text : List ℕ) (f : LexFault) → HasTextFault text f → read_text text ≡ Err f
-stands_fault text (NotAscii n) h = fault_read text (NotAscii n) h
-stands_fault text (OpenQuote n) h = fault_read text (OpenQuote n) h
-stands_fault text (OpenParen n) h = fault_read text (OpenParen n) h
-stands_fault text (DanglingContinuation n) h = fault_read text (DanglingContinuation n) h
-stands_fault text (BadOperand n) h = fault_read text (BadOperand n) h
 stands_fault text TextTooLong h = rw (lt-ltb 16777216 (length text) h) refl
 stands_fault text Memory h = absurd (not_memory h.1 h.3)
+stands_fault text fault h = fault_read text fault h
 
-pub fault_found : (text : List ℕ) (r : Result (Vec RawStatement) LexFault) → Gives (items_of_result r) (read_text text) → IfErr r (λ e. e ≢ Memory → HasTextFault text e)
+pub fault_found : (text : List ℕ) (r : Result (Vec RawStatement) LexFault) → Gives (items_of r) (read_text text) → IfErr r (λ e. e ≢ Memory → HasTextFault text e)
 fault_found text (Ok v) h = tt
-fault_found text (Err (NotAscii n)) h = λ _. fault_stands text (NotAscii n) h
-fault_found text (Err (OpenQuote n)) h = λ _. fault_stands text (OpenQuote n) h
-fault_found text (Err (OpenParen n)) h = λ _. fault_stands text (OpenParen n) h
-fault_found text (Err (DanglingContinuation n)) h = λ _. fault_stands text (DanglingContinuation n) h
-fault_found text (Err (BadOperand n)) h = λ _. fault_stands text (BadOperand n) h
-fault_found text (Err TextTooLong) h = λ _. fault_stands text TextTooLong h
 fault_found text (Err Memory) h = λ ne. absurd (ne refl)
+fault_found text (Err fault) h = λ _. fault_stands text fault h
 
-pub refused_for : (text : List ℕ) (r : Result (Vec RawStatement) LexFault) → Gives (items_of_result r) (read_text text) → (f : LexFault) → HasTextFault text f → Gives (items_of_result r) (Err f)
-refused_for text r h f stands = subst (Gives (items_of_result r)) (stands_fault text f stands) h
+pub refused_for : (text : List ℕ) (r : Result (Vec RawStatement) LexFault) → Gives (items_of r) (read_text text) → (f : LexFault) → HasTextFault text f → Gives (items_of r) (Err f)
+refused_for text r h f stands = subst (Gives (items_of r)) (stands_fault text f stands) h
 
 pub text_stands : (text : List ℕ) (ss : List RawStatement) → read_text text ≡ Ok ss → SpellsStatements text ss
 text_stands text ss e =
@@ -321,9 +308,9 @@ text_stands text ss e =
 pub stands_text : (text : List ℕ) (ss : List RawStatement) → SpellsStatements text ss → read_text text ≡ Ok ss
 stands_text text ss h = rw (le-ltb 16777216 (length text) h.0, cut_groups h.1 1 (lines text) h.2) (say_read h.1 ss h.3)
 
-pub found_stands : (text : List ℕ) (r : Result (Vec RawStatement) LexFault) → Gives (items_of_result r) (read_text text) → IfOk r (λ v. SpellsStatements text v.items)
+pub found_stands : (text : List ℕ) (r : Result (Vec RawStatement) LexFault) → Gives (items_of r) (read_text text) → IfOk r (λ v. SpellsStatements text v.items)
 found_stands text (Ok v) h = text_stands text v.items h
 found_stands text (Err e) h = tt
 
-pub only_that : (text : List ℕ) (r : Result (Vec RawStatement) LexFault) → Gives (items_of_result r) (read_text text) → (ss : List RawStatement) → SpellsStatements text ss → Gives (items_of_result r) (Ok ss)
-only_that text r h ss stands = subst (Gives (items_of_result r)) (stands_text text ss stands) h
+pub only_that : (text : List ℕ) (r : Result (Vec RawStatement) LexFault) → Gives (items_of r) (read_text text) → (ss : List RawStatement) → SpellsStatements text ss → Gives (items_of r) (Ok ss)
+only_that text r h ss stands = subst (Gives (items_of r)) (stands_text text ss stands) h

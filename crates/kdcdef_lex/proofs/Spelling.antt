@@ -28,10 +28,7 @@ then_open : (b : Bool) (xs ys : List Token) → leaves_open b (xs ++ ys) ≡ lea
 then_open b [] ys = refl
 then_open b (tokens.Open ∷ xs) ys = then_open true xs ys
 then_open b (tokens.Close ∷ xs) ys = then_open false xs ys
-then_open b (tokens.Comma ∷ xs) ys = then_open b xs ys
-then_open b (tokens.Equals ∷ xs) ys = then_open b xs ys
-then_open b (tokens.Word w ∷ xs) ys = then_open b xs ys
-then_open b (tokens.Quoted f c ∷ xs) ys = then_open b xs ys
+then_open b (token ∷ xs) ys = then_open b xs ys
 
 value_closed : (v : RawValue) (own : List Token) → IsValue v own → leaves_open false own ≡ false
 value_closed (values.Word w) own h = rw h refl

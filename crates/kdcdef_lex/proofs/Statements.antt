@@ -27,8 +27,7 @@ item_takes (tokens.Quoted f c ∷ ts) i rest e =
     subst (ItemTaken (tokens.Quoted f c ∷ ts)) m.2 (tokens.Quoted f c ∷ [], refl, (f, c, refl, m.1))
 item_takes (tokens.Comma ∷ ts) i rest e = subst (ItemTaken (tokens.Comma ∷ ts)) (some_is (None, tokens.Comma ∷ ts) (i, rest) e) ([], refl, refl)
 item_takes (tokens.Close ∷ ts) i rest e = subst (ItemTaken (tokens.Close ∷ ts)) (some_is (None, tokens.Close ∷ ts) (i, rest) e) ([], refl, refl)
-item_takes (tokens.Equals ∷ ts) i rest e = absurd cc
-item_takes (tokens.Open ∷ ts) i rest e = absurd cc
+item_takes (t ∷ ts) i rest e = absurd cc
 
 -- a comma, or the end of the list
 abbrev mark : Bool → Token
@@ -39,13 +38,9 @@ abbrev ItemEnded : Option RawItem → List Token → Option RawItem × Bool × L
 ItemEnded i ts s = (ts ≡ mark s.1 ∷ s.2) × (i ≡ s.0)
 
 item_ended_is : (i : Option RawItem) (ts : List Token) (s : Option RawItem × Bool × List Token) → item_ended i ts ≡ Some s → ItemEnded i ts s
-item_ended_is i [] s e = absurd cc
 item_ended_is i (tokens.Comma ∷ ts) s e = subst (ItemEnded i (tokens.Comma ∷ ts)) (some_is (i, true, ts) s e) (refl, refl)
 item_ended_is i (tokens.Close ∷ ts) s e = subst (ItemEnded i (tokens.Close ∷ ts)) (some_is (i, false, ts) s e) (refl, refl)
-item_ended_is i (tokens.Word w ∷ ts) s e = absurd cc
-item_ended_is i (tokens.Quoted f c ∷ ts) s e = absurd cc
-item_ended_is i (tokens.Equals ∷ ts) s e = absurd cc
-item_ended_is i (tokens.Open ∷ ts) s e = absurd cc
+item_ended_is i ts s e = absurd cc
 
 item_step_takes : (ts : List Token) (s : Option RawItem × Bool × List Token) → item_step ts ≡ Some s → (own : List Token) × (ts ≡ own ++ mark s.1 ∷ s.2) × IsItem s.0 own
 item_step_takes ts s e =
@@ -119,9 +114,7 @@ value_takes (tokens.Open ∷ ts) v rest e =
     let own = tokens.Open ∷ (l.0 ++ tokens.Close ∷ []) in
     let all : tokens.Open ∷ ts ≡ own ++ m.0.1 = ap (λ (x : List Token). tokens.Open ∷ x) (l.1 ∙ sym (append_assoc l.0 (tokens.Close ∷ []) m.0.1)) in
     subst (ValueTaken (tokens.Open ∷ ts)) m.2 (own, all, (l.0, refl, l.2))
-value_takes (tokens.Comma ∷ ts) v rest e = absurd cc
-value_takes (tokens.Equals ∷ ts) v rest e = absurd cc
-value_takes (tokens.Close ∷ ts) v rest e = absurd cc
+value_takes (t ∷ ts) v rest e = absurd cc
 
 value_again : (v : RawValue) (own rest : List Token) → IsValue v own → value_at (own ++ rest) ≡ Some (v, rest)
 value_again (values.Word w) own rest h = rw h refl
@@ -165,11 +158,7 @@ OperandEnded o ts s = (ts ≡ behind s.1 s.2) × (o ≡ s.0)
 operand_ended_is : (o : RawOperand) (ts : List Token) (s : RawOperand × Bool × List Token) → operand_ended o ts ≡ Some s → OperandEnded o ts s
 operand_ended_is o [] s e = subst (OperandEnded o []) (some_is (o, false, []) s e) (refl, refl)
 operand_ended_is o (tokens.Comma ∷ ts) s e = subst (OperandEnded o (tokens.Comma ∷ ts)) (some_is (o, true, ts) s e) (refl, refl)
-operand_ended_is o (tokens.Close ∷ ts) s e = absurd cc
-operand_ended_is o (tokens.Word w ∷ ts) s e = absurd cc
-operand_ended_is o (tokens.Quoted f c ∷ ts) s e = absurd cc
-operand_ended_is o (tokens.Equals ∷ ts) s e = absurd cc
-operand_ended_is o (tokens.Open ∷ ts) s e = absurd cc
+operand_ended_is o (t ∷ ts) s e = absurd cc
 
 operand_step_takes : (ts : List Token) (s : RawOperand × Bool × List Token) → operand_step ts ≡ Some s → (own : List Token) × (ts ≡ own ++ behind s.1 s.2) × IsOperand s.0 own
 operand_step_takes ts s e =
@@ -269,12 +258,7 @@ pub statement_is : (line : ℕ) (ts : List Token) (s : RawStatement) → stateme
 statement_is line (tokens.Word w ∷ ts) s e =
     let m = map_some (λ (os : List RawOperand). let x : RawStatement = record { line = line; keyword = w; operands = os } in x) (operands_of ts) s e in
     subst (StatementIs line (tokens.Word w ∷ ts)) m.2 ((ts, refl, operands_are ts m.0 m.1), refl)
-statement_is line [] s e = absurd cc
-statement_is line (tokens.Quoted f c ∷ ts) s e = absurd cc
-statement_is line (tokens.Comma ∷ ts) s e = absurd cc
-statement_is line (tokens.Equals ∷ ts) s e = absurd cc
-statement_is line (tokens.Open ∷ ts) s e = absurd cc
-statement_is line (tokens.Close ∷ ts) s e = absurd cc
+statement_is line ts s e = absurd cc
 
 pub is_statement : (ts : List Token) (s : RawStatement) → IsStatement s ts → statement_at s.line ts ≡ Some s
 is_statement ts s h = ap (statement_at s.line) h.1 ∙ rw (are_operands h.0 s.operands h.2) refl

@@ -84,10 +84,7 @@ token_again (Word word) rest h k = at_word word rest h.0 h.1 ∙ word_again word
 token_again (Quoted [] content) rest h k = ap token_at (regroup [] content rest) ∙ quoted_word_again [] content rest h k
 token_again (Quoted (b ∷ form) content) rest h k =
     ap token_at (regroup (b ∷ form) content rest) ∙ at_word (b ∷ form) (39 ∷ (doubled content ++ 39 ∷ rest)) (omega arith) h ∙ quoted_word_again (b ∷ form) content rest h k
-token_again Comma rest h k = refl
-token_again Equals rest h k = refl
-token_again Open rest h k = refl
-token_again Close rest h k = refl
+token_again mark rest h k = refl
 
 -- what a token begins with is no blank
 pub starts : (t : Token) (rest : List ℕ) → IsToken t → (begins is_blank (written t ++ rest) ≡ false) × (0 < length (written t))
@@ -95,10 +92,7 @@ starts (Word []) rest h = absurd (omega arith)
 starts (Word (b ∷ word)) rest h = (not_blank b (both_true (is_word_byte b) (list_all is_word_byte word) h.1).0, omega arith)
 starts (Quoted [] content) rest h = (refl, omega arith)
 starts (Quoted (b ∷ form) content) rest h = (not_blank b (both_true (is_word_byte b) (list_all is_word_byte form) h).0, omega arith)
-starts Comma rest h = (refl, omega arith)
-starts Equals rest h = (refl, omega arith)
-starts Open rest h = (refl, omega arith)
-starts Close rest h = (refl, omega arith)
+starts mark rest h = (refl, omega arith)
 
 -- ---- what is read is written
 

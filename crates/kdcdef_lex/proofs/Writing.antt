@@ -45,15 +45,19 @@ digit_back n h =
       | inr k ↦ rw (k, large_digit n (ltb-false n 10 k) h, within) refl
     ]
 
+-- the digits of the first byte, and the bytes behind it
+first_digits : (b : ℕ) (bytes : List ℕ) → list_all is_byte (b ∷ bytes) ≡ true → (b / 16 < 16) × (b % 16 < 16) × (list_all is_byte bytes ≡ true)
+first_digits b bytes h =
+    let a = both_true (is_byte b) (list_all is_byte bytes) h in
+    let small : b < 256 = ltb-true b 256 a.0 in
+    (omega arith, omega arith, a.1)
+
 hex_back : (bytes : List ℕ) → list_all is_byte bytes ≡ true → hex_bytes (hex_written bytes) ≡ Some bytes
 hex_back [] h = refl
 hex_back (b ∷ bytes) h =
-    let a = both_true (is_byte b) (list_all is_byte bytes) h in
-    let small : b < 256 = ltb-true b 256 a.0 in
-    let high : b / 16 < 16 = omega arith in
-    let low : b % 16 < 16 = omega arith in
+    let a = first_digits b bytes h in
     let same : 16 * (b / 16) + b % 16 ≡ b = omega arith in
-    rw (digit_back (b / 16) high, digit_back (b % 16) low, hex_back bytes a.1, same) refl
+    rw (digit_back (b / 16) a.0, digit_back (b % 16) a.1, hex_back bytes a.2, same) refl
 
 -- ---- the tokens are those of the statement
 
@@ -132,12 +136,9 @@ hex_digit_text n h = grind (arith, nat_tests)
 hex_text : (bytes : List ℕ) → list_all is_byte bytes ≡ true → list_all is_text_byte (hex_written bytes) ≡ true
 hex_text [] h = refl
 hex_text (b ∷ bytes) h =
-    let a = both_true (is_byte b) (list_all is_byte bytes) h in
-    let small : b < 256 = ltb-true b 256 a.0 in
-    let high : b / 16 < 16 = omega arith in
-    let low : b % 16 < 16 = omega arith in
-    true_both (is_text_byte (hex_of (b / 16))) (is_text_byte (hex_of (b % 16)) && list_all is_text_byte (hex_written bytes)) (hex_digit_text (b / 16) high)
-    (true_both (is_text_byte (hex_of (b % 16))) (list_all is_text_byte (hex_written bytes)) (hex_digit_text (b % 16) low) (hex_text bytes a.1))
+    let a = first_digits b bytes h in
+    true_both (is_text_byte (hex_of (b / 16))) (is_text_byte (hex_of (b % 16)) && list_all is_text_byte (hex_written bytes)) (hex_digit_text (b / 16) a.0)
+    (true_both (is_text_byte (hex_of (b % 16))) (list_all is_text_byte (hex_written bytes)) (hex_digit_text (b % 16) a.1) (hex_text bytes a.2))
 
 in_quotes : (form content : List ℕ) → list_all is_word_byte form ≡ true → list_all is_text_byte form ≡ true → list_all is_text_byte content ≡ true → MayStand (tokens.Quoted form content)
 in_quotes form content word text h =
@@ -198,10 +199,7 @@ line_text (t ∷ ts) h = text_then (written t) (32 ∷ with_blanks ts) h.0.text 
 ends_at_blank : (t : Token) (rest : List ℕ) → Ends t (32 ∷ rest)
 ends_at_blank (tokens.Word w) rest = (refl, refl)
 ends_at_blank (tokens.Quoted f c) rest = refl
-ends_at_blank tokens.Comma rest = tt
-ends_at_blank tokens.Equals rest = tt
-ends_at_blank tokens.Open rest = tt
-ends_at_blank tokens.Close rest = tt
+ends_at_blank mark rest = tt
 
 -- with blanks before them
 line_tokens : (gap : List ℕ) (ts : List Token) → list_all is_blank gap ≡ true → AllMayStand ts → AreTokens ts (gap ++ with_blanks ts)

@@ -1,5 +1,5 @@
 -- A fault stands at a line.
-use Rattle.std.specs.Prelude.{◌≡◌, ◌≢◌, ℕ, ◌<◌, ◌≤◌, ◌⊎◌, Bool, true, false, not, IsTrue, List, [], ◌∷◌, length, if◌then◌else◌}
+use Rattle.std.specs.Prelude.{◌≡◌, ◌≢◌, ℕ, ◌<◌, ◌≤◌, ◌⊎◌, Bool, true, false, not, IsTrue, List, [], ◌∷◌, length, codes, if◌then◌else◌}
 use Rattle.std.specs.List.{list_all}
 use Rattle.std.specs.Str.Lines.{lines}
 use Rattle.kdcdef_lex.specs.declared.fault.LexFault.{LexFault}
@@ -11,6 +11,26 @@ use Rattle.texts.specs.Quotes.{is_quote}
 use Rattle.kdcdef_lex.specs.Reading.{is_text_byte, leaves_open}
 use Rattle.kdcdef_lex.specs.Grammar.{AreTokens, IsStatement}
 use Rattle.kdcdef_lex.specs.Spelling.{Cut, Says}
+
+-- the line of a fault; a text that is too long has line 0
+abbrev pub line_of : LexFault → ℕ
+line_of TextTooLong = 0
+line_of Memory = 0
+line_of (NotAscii line) = line
+line_of (OpenQuote line) = line
+line_of (OpenParen line) = line
+line_of (DanglingContinuation line) = line
+line_of (BadOperand line) = line
+
+-- the name by which it is printed
+abbrev pub name_of : LexFault → List ℕ
+name_of TextTooLong = codes "TextTooLong"
+name_of Memory = codes "Memory"
+name_of (NotAscii line) = codes "NotAscii"
+name_of (OpenQuote line) = codes "OpenQuote"
+name_of (OpenParen line) = codes "OpenParen"
+name_of (DanglingContinuation line) = codes "DanglingContinuation"
+name_of (BadOperand line) = codes "BadOperand"
 
 -- whether the number of quotes is odd
 abbrev pub odd_quotes : List ℕ → Bool

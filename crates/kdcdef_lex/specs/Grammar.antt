@@ -30,19 +30,13 @@ written tokens.Close = 41 ∷ []
 abbrev pub IsToken : Token → Type 0
 IsToken (tokens.Word word) = (0 < length word) × IsTrue (list_all is_word_byte word)
 IsToken (tokens.Quoted form content) = IsTrue (list_all is_word_byte form)
-IsToken tokens.Comma = Unit {0}
-IsToken tokens.Equals = Unit {0}
-IsToken tokens.Open = Unit {0}
-IsToken tokens.Close = Unit {0}
+IsToken mark = Unit {0}
 
 -- no more of the token follows
 abbrev pub Ends : Token → List ℕ → Type 0
 Ends (tokens.Word word) rest = (begins is_word_byte rest ≡ false) × (begins is_quote rest ≡ false)
 Ends (tokens.Quoted form content) rest = begins is_quote rest ≡ false
-Ends tokens.Comma rest = Unit {0}
-Ends tokens.Equals rest = Unit {0}
-Ends tokens.Open rest = Unit {0}
-Ends tokens.Close rest = Unit {0}
+Ends mark rest = Unit {0}
 
 -- the bytes are these tokens, with blanks before, between and after them
 abbrev pub AreTokens : List Token → List ℕ → Type 0

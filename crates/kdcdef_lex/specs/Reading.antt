@@ -1,8 +1,8 @@
 -- Reading a text, with the first fault.
-use Rattle.std.specs.Prelude.{◌≡◌, ℕ, Bool, true, false, ◌&&◌, ◌||◌, ◌==◌, nat_le, nat_lt, List, [], ◌∷◌, ◌++◌, length, Option, Some, None, Result, Ok, Err, if◌then◌else◌}
+use Rattle.std.specs.Prelude.{ℕ, Bool, true, false, ◌&&◌, ◌||◌, ◌==◌, nat_le, nat_lt, List, [], ◌∷◌, ◌++◌, length, Option, Some, None, Result, Ok, Err, if◌then◌else◌}
 use Rattle.std.specs.List.{list_all}
 use Rattle.std.specs.Str.Lines.{lines}
-use Rattle.std.specs.Global.{Vec}
+use Rattle.kd_base.specs.FirstFaults.{GivesUnless}
 use Rattle.kd_base.specs.Tools.{◌>>=◌}
 use Rattle.kdcdef_lex.specs.declared.fault.LexFault.{LexFault}
 use Rattle.kdcdef_lex.specs.declared.fault.LexFault.TheVariants.{NotAscii, OpenQuote, OpenParen, DanglingContinuation, BadOperand, TextTooLong, Memory}
@@ -14,16 +14,13 @@ use Rattle.kdcdef_lex.specs.Groups.{groups}
 use Rattle.kdcdef_lex.specs.Tokens.{tokens_of}
 use Rattle.kdcdef_lex.specs.Parsing.{statement_at}
 
+abbrev pub is_memory : LexFault → Bool
+is_memory Memory = true
+is_memory fault = false
+
 -- what a function returned is what reading gives, unless memory ran out
 abbrev pub Gives : {X : Type 0} → Result X LexFault → Result X LexFault → Type 0
-Gives (Ok x) read = read ≡ Ok x
-Gives (Err Memory) read = Unit {0}
-Gives (Err fault) read = read ≡ Err fault
-
--- a returned `Vec`, as the list in it
-abbrev pub items_of_result : {X : Type 0} → Result (Vec X) LexFault → Result (List X) LexFault
-items_of_result (Ok v) = Ok v.items
-items_of_result (Err e) = Err e
+Gives returned read = GivesUnless is_memory returned read
 
 -- a byte that may stand in a statement
 abbrev pub is_text_byte : ℕ → Bool
@@ -34,10 +31,7 @@ abbrev pub leaves_open : Bool → List Token → Bool
 leaves_open open_before [] = open_before
 leaves_open open_before (tokens.Open ∷ ts) = leaves_open true ts
 leaves_open open_before (tokens.Close ∷ ts) = leaves_open false ts
-leaves_open open_before (tokens.Comma ∷ ts) = leaves_open open_before ts
-leaves_open open_before (tokens.Equals ∷ ts) = leaves_open open_before ts
-leaves_open open_before (tokens.Word w ∷ ts) = leaves_open open_before ts
-leaves_open open_before (tokens.Quoted f c ∷ ts) = leaves_open open_before ts
+leaves_open open_before (token ∷ ts) = leaves_open open_before ts
 
 -- the statement of a group, or its fault with the least line and, on one line, the least number
 abbrev pub operands_fault : Group → Option RawStatement → Result RawStatement LexFault

@@ -1,9 +1,9 @@
 //! Why a text could not be read.
 ghost use Rattle.std.specs.Prelude.{◌≡◌};
+ghost use Rattle.kdcdef_lex.specs.Faults.{line_of, name_of};
 ghost use Rattle.kdcdef_lex.specs.declared.fault.LexFault.TheVariants.{Memory};
 
 use kd_base::OutOfMemory;
-use std::alloc::{AllocError, AllocFailed};
 use thiserror::Error;
 
 /// The first fault of a text, with the number of its line, counted from 1.
@@ -34,19 +34,34 @@ pub enum LexFault {
     Memory,
 }
 
-impl From<AllocError> for LexFault {
-    ghost from_gives = { λ _ e. e ≡ Memory };
-
-    fn from(_: AllocError) -> LexFault {
-        LexFault::Memory
+impl LexFault {
+    /// The number of its line; 0 for a text that is too long. It takes no memory.
+    pub fn line(&self) -> u32
+        ensures { result ≡ line_of self.now }
+    {
+        match self {
+            LexFault::TextTooLong | LexFault::Memory => 0,
+            LexFault::NotAscii(line)
+            | LexFault::OpenQuote(line)
+            | LexFault::OpenParen(line)
+            | LexFault::DanglingContinuation(line)
+            | LexFault::BadOperand(line) => *line,
+        }
     }
-}
 
-impl<T: Drop> From<AllocFailed<T>> for LexFault {
-    ghost from_gives = { λ _ e. e ≡ Memory };
-
-    fn from(_: AllocFailed<T>) -> LexFault {
-        LexFault::Memory
+    /// The name by which it is printed. It takes no memory.
+    pub fn name(&self) -> &'static str
+        ensures { result.now ≡ name_of self.now }
+    {
+        match self {
+            LexFault::TextTooLong => "TextTooLong",
+            LexFault::Memory => "Memory",
+            LexFault::NotAscii(_) => "NotAscii",
+            LexFault::OpenQuote(_) => "OpenQuote",
+            LexFault::OpenParen(_) => "OpenParen",
+            LexFault::DanglingContinuation(_) => "DanglingContinuation",
+            LexFault::BadOperand(_) => "BadOperand",
+        }
     }
 }
 

@@ -1,13 +1,14 @@
 //! The statements of a text: its lines grouped, each group read, and the first fault.
 ghost use Rattle.std.specs.Prelude.{List, Ok, Err, IfErr, ◌≢◌, ◌≡◌, ◌^◌, ◌<◌, ◌≤◌, ◌+◌, false, length, IfOk, OnOk};
 ghost use Rattle.std.specs.List.{list_all};
-ghost use Rattle.kdcdef_lex.specs.Reading.{is_text_byte, leaves_open, operands_fault, tokens_fault, statement_of, read_text, Gives, items_of_result};
+ghost use Rattle.kdcdef_lex.specs.Reading.{is_text_byte, leaves_open, operands_fault, tokens_fault, statement_of, read_text, Gives};
 ghost use Rattle.kdcdef_lex.specs.Faults.{HasTextFault};
 ghost use Rattle.kdcdef_lex.specs.Spelling.{SpellsStatements};
 ghost use Rattle.kdcdef_lex.specs.Bounds.{AreWithinBounds};
 ghost use Rattle.kdcdef_lex.specs.declared.fault.LexFault.{LexFault};
 ghost use Rattle.kdcdef_lex.specs.declared.fault.LexFault.TheVariants.{Memory};
 ghost use Rattle.kdcdef_lex.specs.declared.statement.RawStatement.{RawStatement};
+ghost use Rattle.kd_base.specs.FirstFaults.{items_of};
 
 use crate::fault::LexFault;
 use crate::group::{Group, group_of};
@@ -15,6 +16,7 @@ use crate::line::is_passed;
 use crate::parse;
 use crate::statement::RawStatement;
 use crate::token::Token;
+use kd_base::Sequence;
 use std::alloc::Global;
 use texts::{next_line, parts_of};
 
@@ -87,12 +89,12 @@ fn statement_of(alloc: Global, group: &Group) -> Result<RawStatement, LexFault>
 
 // The statements, one group of lines after another.
 fn read_text(alloc: Global, text: &[u8]) -> Result<Vec<RawStatement>, LexFault>
-    ensures { Gives (items_of_result result) (read_text text.now) }
+    ensures { Gives (items_of result) (read_text text.now) }
 {
     if text.len() > MAX_TEXT_LEN {
         return Err(LexFault::TextTooLong);
     }
-    let mut statements = Vec::new(alloc);
+    let mut statements = Sequence::new(alloc);
     let mut number: u32 = 1;
     let mut rest = text;
     while !rest.is_empty() {
@@ -107,7 +109,7 @@ fn read_text(alloc: Global, text: &[u8]) -> Result<Vec<RawStatement>, LexFault>
             rest = after;
         }
     }
-    Ok(statements)
+    Ok(statements.into_vec())
 }
 
 /// The statements of a KDCDEF text, in their order, or its first fault.
@@ -115,11 +117,11 @@ pub fn lines(alloc: Global, text: &[u8]) -> Result<Vec<RawStatement>, LexFault>
     // The text spells what is read.
     ensures found { IfOk result (λ v. SpellsStatements text.now v.items) }
     // What the text spells is read, unless memory runs out.
-    ensures only { (ss : List RawStatement) → SpellsStatements text.now ss → Gives (items_of_result result) (Ok ss) }
+    ensures only { (ss : List RawStatement) → SpellsStatements text.now ss → Gives (items_of result) (Ok ss) }
     // The fault that is answered stands there.
     ensures fault { IfErr result (λ e. e ≢ Memory → HasTextFault text.now e) }
     // A text with the fault is refused for it, unless memory runs out.
-    ensures refused { (e : LexFault) → HasTextFault text.now e → Gives (items_of_result result) (Err e) }
+    ensures refused { (e : LexFault) → HasTextFault text.now e → Gives (items_of result) (Err e) }
     // What the next reader may rely on.
     ensures bounds { IfOk result (λ v. AreWithinBounds v.items) }
 {

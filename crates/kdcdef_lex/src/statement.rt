@@ -1,9 +1,5 @@
 //! Statements as they are written. Words keep their case; what they mean is said by the next reader.
-ghost use Rattle.std.specs.Prelude.{◌≡◌, [], ◌∷◌, ◌++◌, OnOk, OnErr};
-
-use kd_base::{Bytes, OutOfMemory};
-use std::alloc::Global;
-use std::marker::Model;
+use kd_base::{Bytes, Sequence};
 
 /// An item of a list: a word, or the bytes of a quoted value.
 #[derive(Debug, Drop)]
@@ -13,42 +9,7 @@ pub enum RawItem {
 }
 
 /// The items of a list, in their order, of which some may be empty. Contracts see the list.
-#[derive(Debug, Drop)]
-pub struct Items {
-    items: Vec<Option<RawItem>>,
-}
-
-impl Model for Items {
-    ghost use Rattle.std.specs.Prelude.{List, Option};
-    ghost use Rattle.kdcdef_lex.specs.declared.statement.RawItem.{RawItem};
-
-    ghost Value = { List (Option RawItem) };
-
-    ghost view = { λ a. a.items.items };
-}
-
-impl Items {
-    pub fn new(alloc: Global) -> Items
-        ensures { result ≡ [] }
-    {
-        Items {
-            items: Vec::new(alloc),
-        }
-    }
-
-    pub fn push(&mut self, item: Option<RawItem>) -> Result<(), OutOfMemory>
-        ensures ok { OnOk result (self.new ≡ self.old ++ item ∷ []) }
-        ensures err { OnErr result (self.new ≡ self.old) }
-    {
-        Ok(self.items.push(item)?)
-    }
-
-    pub fn as_slice(&self) -> &[Option<RawItem>]
-        ensures { result.now ≡ self.now }
-    {
-        self.items.as_slice()
-    }
-}
+pub type Items = Sequence<Option<RawItem>>;
 
 /// The value of an operand: a word, the bytes of a quoted value, or a list in parentheses.
 #[derive(Debug, Drop)]
@@ -66,42 +27,7 @@ pub struct RawOperand {
 }
 
 /// The operands of a statement, in their order. Contracts see the list.
-#[derive(Debug, Drop)]
-pub struct Operands {
-    operands: Vec<RawOperand>,
-}
-
-impl Model for Operands {
-    ghost use Rattle.std.specs.Prelude.{List};
-    ghost use Rattle.kdcdef_lex.specs.declared.statement.RawOperand.{RawOperand};
-
-    ghost Value = { List RawOperand };
-
-    ghost view = { λ a. a.operands.items };
-}
-
-impl Operands {
-    pub fn new(alloc: Global) -> Operands
-        ensures { result ≡ [] }
-    {
-        Operands {
-            operands: Vec::new(alloc),
-        }
-    }
-
-    pub fn push(&mut self, operand: RawOperand) -> Result<(), OutOfMemory>
-        ensures ok { OnOk result (self.new ≡ self.old ++ operand ∷ []) }
-        ensures err { OnErr result (self.new ≡ self.old) }
-    {
-        Ok(self.operands.push(operand)?)
-    }
-
-    pub fn as_slice(&self) -> &[RawOperand]
-        ensures { result.now ≡ self.now }
-    {
-        self.operands.as_slice()
-    }
-}
+pub type Operands = Sequence<RawOperand>;
 
 /// A statement: its keyword, its operands, and the number of its first line, counted from 1.
 #[derive(Debug, Drop)]

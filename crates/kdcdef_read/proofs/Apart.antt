@@ -3,6 +3,7 @@ use Rattle.std.proofs.Common.{◌≡◌, ◌⊎◌, ℕ, Bool, true, false, cond
 use Rattle.std.specs.Prelude.{is_some}
 use Rattle.std.specs.List.{All}
 use Rattle.std.proofs.lemmas.List.Elements.{All-nil, All-cons}
+use Rattle.std.specs.Option.{option_or}
 use Rattle.kd_base.specs.Tools.{some_is, ok_is}
 use Rattle.kdcdef_lex.specs.declared.statement.RawOperand.{RawOperand}
 use Rattle.kdcdef_lex.specs.declared.statement.RawStatement.{RawStatement}
@@ -22,7 +23,7 @@ use Rattle.kdcdef_read.specs.declared.words.Key.{Key}
 use Rattle.kdcdef_read.specs.declared.words.Key.TheVariants as keys
 use Rattle.kdcdef_read.specs.Words.{form_of}
 use Rattle.kdcdef_read.specs.Table.{row_of}
-use Rattle.kdcdef_read.specs.Operands.{or_else, same_key, operand_key, row_says, key_says, said_from, said, row_cause, key_cause, operand_cause, cause_from, first_cause, answer_of, default_in}
+use Rattle.kdcdef_read.specs.Operands.{same_key, operand_key, row_says, key_says, said_from, said, row_cause, key_cause, operand_cause, cause_from, first_cause, answer_of, default_in}
 use Rattle.kdcdef_read.specs.Said.{name_at, number_at, max_said, pterm_of}
 use Rattle.kdcdef_read.specs.Meaning.{statement, shared, form_says, Say, StandFor}
 use Rattle.kdcdef_read.proofs.Keys.{same_key_is}
@@ -60,7 +61,7 @@ all_silent : (first : Bool) (key : Key) (before os : List RawOperand) → Given 
 all_silent first key before [] given fine = refl
 all_silent first key before (o ∷ os) given fine =
     let b = both_none (operand_cause first keywords.Max before o) (cause_from false keywords.Max (before ++ o ∷ []) os) fine in
-    ap (λ (x : Option Value). or_else x (said_from false keywords.Max key os)) (silent key before o (operand_key first o) given b.0)
+    ap (λ (x : Option Value). option_or x (said_from false keywords.Max key os)) (silent key before o (operand_key first o) given b.0)
     ∙ all_silent false key (before ++ o ∷ []) os (still_given key before o first given) b.1
 
 -- ---- two statements
@@ -86,34 +87,10 @@ none_not (Some x) = tt
 -- what a MAX statement says has no defaults
 no_default : (key : Key) → default_in (row_of keywords.Max key) ≡ None
 no_default keys.First = refl
-no_default keys.Appliname = refl
-no_default keys.KdcFile = refl
-no_default keys.Tasks = refl
-no_default keys.Asyntasks = refl
-no_default keys.Gssbs = refl
-no_default keys.Lssbs = refl
-no_default keys.Kb = refl
-no_default keys.Spab = refl
-no_default keys.Nb = refl
-no_default keys.Pgpool = refl
-no_default keys.Reswait = refl
-no_default keys.Blksize = refl
-no_default keys.Applimode = refl
-no_default keys.Program = refl
-no_default keys.Type = refl
-no_default keys.Call = refl
-no_default keys.Status = refl
-no_default keys.TacClass = refl
-no_default keys.Time = refl
-no_default keys.Lock = refl
-no_default keys.Pass = refl
-no_default keys.Restart = refl
-no_default keys.Kset = refl
-no_default keys.Lterm = refl
-no_default keys.Usage = refl
+no_default key = refl
 
 plain : (key : Key) (os : List RawOperand) → answer_of keywords.Max os key ≡ said keywords.Max key os
-plain key os = ap (or_else (said keywords.Max key os)) (no_default key) ∙ or_none (said keywords.Max key os)
+plain key os = ap (option_or (said keywords.Max key os)) (no_default key) ∙ or_none (said keywords.Max key os)
 
 apart_at : {A : Type 0} (f : Option Value → Option A) (key : Key) (os before later : List RawOperand) → f None ≡ None → Behind os before → first_cause keywords.Max before later ≡ None → NotBoth (f (answer_of keywords.Max os key)) (f (answer_of keywords.Max later key))
 apart_at {A} f key os before later none behind fine =
@@ -166,23 +143,16 @@ max_is own r (Some forms.End) s m e is =
 max_is own r (Some (forms.Kept keywords.Max)) s m e is =
     let k = kept_is keywords.Max own r s e in
     record { kept = refl; cause = k.cause; said = some_is (max_said (answer_of keywords.Max r.operands)) s.said k.said ∙ is }
-max_is own r (Some (forms.Kept keywords.Program)) s m e is =
-    let h = program_is (answer_of keywords.Program r.operands) s.said (kept_is keywords.Program own r s e).said in absurd (cc (h.1, is))
-max_is own r (Some (forms.Kept keywords.Tac)) s m e is =
-    let h = tac_is (answer_of keywords.Tac r.operands) s.said (kept_is keywords.Tac own r s e).said in absurd (cc (h.3, is))
-max_is own r (Some (forms.Kept keywords.User)) s m e is =
-    let h = user_is (answer_of keywords.User r.operands) s.said (kept_is keywords.User own r s e).said in absurd (cc (h.2, is))
+max_is own r (Some (forms.Kept keywords.Program)) s m e is = let h = program_is (answer_of keywords.Program r.operands) s.said (kept_is keywords.Program own r s e).said in absurd (cc (h.1, is))
+max_is own r (Some (forms.Kept keywords.Tac)) s m e is = let h = tac_is (answer_of keywords.Tac r.operands) s.said (kept_is keywords.Tac own r s e).said in absurd (cc (h.3, is))
+max_is own r (Some (forms.Kept keywords.User)) s m e is = let h = user_is (answer_of keywords.User r.operands) s.said (kept_is keywords.User own r s e).said in absurd (cc (h.2, is))
 max_is own r (Some (forms.Kept keywords.Pterm)) s m e is =
     let h = pterm_is (answer_of keywords.Pterm r.operands) s.said (kept_is keywords.Pterm own r s e).said in
     absurd (pterm_not h.0 (name_at (answer_of keywords.Pterm r.operands keys.Lterm)) m (h.1 ∙ is))
-max_is own r (Some (forms.Kept keywords.Lterm)) s m e is =
-    let h = lterm_is (answer_of keywords.Lterm r.operands) s.said (kept_is keywords.Lterm own r s e).said in absurd (cc (h.2, is))
-max_is own r (Some (forms.Kept keywords.Tls)) s m e is =
-    let h = tls_is (answer_of keywords.Tls r.operands) s.said (kept_is keywords.Tls own r s e).said in absurd (cc (h.1, is))
-max_is own r (Some (forms.Kept keywords.Uls)) s m e is =
-    let h = uls_is (answer_of keywords.Uls r.operands) s.said (kept_is keywords.Uls own r s e).said in absurd (cc (h.1, is))
-max_is own r (Some (forms.Kept keywords.TacClass)) s m e is =
-    let h = class_is (answer_of keywords.TacClass r.operands) s.said (kept_is keywords.TacClass own r s e).said in absurd (cc (h.4, is))
+max_is own r (Some (forms.Kept keywords.Lterm)) s m e is = let h = lterm_is (answer_of keywords.Lterm r.operands) s.said (kept_is keywords.Lterm own r s e).said in absurd (cc (h.2, is))
+max_is own r (Some (forms.Kept keywords.Tls)) s m e is = let h = tls_is (answer_of keywords.Tls r.operands) s.said (kept_is keywords.Tls own r s e).said in absurd (cc (h.1, is))
+max_is own r (Some (forms.Kept keywords.Uls)) s m e is = let h = uls_is (answer_of keywords.Uls r.operands) s.said (kept_is keywords.Uls own r s e).said in absurd (cc (h.1, is))
+max_is own r (Some (forms.Kept keywords.TacClass)) s m e is = let h = class_is (answer_of keywords.TacClass r.operands) s.said (kept_is keywords.TacClass own r s e).said in absurd (cc (h.4, is))
 
 apart_unless : (a b : Said) → ((m n : MaxOperands) → a ≡ Max m → b ≡ Max n → AreApart m n) → SayApart a b
 apart_unless (Max m) (Max n) h = h m n refl refl
@@ -218,7 +188,7 @@ behind_own os before key given =
     let T : Option Value → Type 0 = λ x. is_some x ≡ true in
     subst T (sym (said_append_max key before os)) (given_last (said keywords.Max key before) (said keywords.Max key os) given)
   where
-    given_last : (a b : Option Value) → is_some b ≡ true → is_some (or_else a b) ≡ true
+    given_last : (a b : Option Value) → is_some b ≡ true → is_some (option_or a b) ≡ true
     given_last None b h = h
     given_last (Some v) b h = refl
 

@@ -7,9 +7,10 @@ use Rattle.kdcdef_lex.specs.Bounds.{AreWithinBounds}
 use Rattle.kdcdef_types.specs.declared.statement.Statement.{Statement}
 use Rattle.kdcdef_types.specs.Statements.{AreRead}
 use Rattle.kdcdef_read.specs.declared.fault.ReadFault.{ReadFault}
-use Rattle.kdcdef_read.specs.declared.fault.ReadFault.TheVariants.{UnknownStatement, OperandTwice, OperandMissing, BadName, BadNumber, OutOfRange, BadChoice, NotInProfile, AfterEnd, NoEnd, Memory}
+use Rattle.kdcdef_read.specs.declared.fault.ReadFault.TheVariants.{Memory}
 use Rattle.kdcdef_read.specs.Meaning.{StandFor, HasFault}
-use Rattle.kdcdef_read.specs.Steps.{Gives, items_of, read_all}
+use Rattle.kdcdef_read.specs.Steps.{Gives, read_all}
+use Rattle.kd_base.specs.FirstFaults.{items_of}
 use Rattle.kdcdef_read.proofs.Readings.{found, only, fault_is, refused}
 use Rattle.kdcdef_read.proofs.Apart.{are_read}
 
@@ -27,22 +28,10 @@ only_that rs r h ss s = given_by (read_all rs) (Ok ss) (items_of r) h (only rs s
 pub refused_for : (rs : List RawStatement) (r : Result (Vec Statement) ReadFault) → Gives (items_of r) (read_all rs) → (e : ReadFault) → HasFault rs e → Gives (items_of r) (Err e)
 refused_for rs r h e f = given_by (read_all rs) (Err e) (items_of r) h (refused rs e f)
 
-refused_by : (rs : List RawStatement) (e : ReadFault) → Gives (items_of {X = Statement} (Err e)) (read_all rs) → e ≢ Memory → read_all rs ≡ Err e
-refused_by rs Memory h other = absurd (other refl)
-refused_by rs (UnknownStatement line) h other = h
-refused_by rs (OperandTwice line) h other = h
-refused_by rs (OperandMissing line) h other = h
-refused_by rs (BadName line) h other = h
-refused_by rs (BadNumber line) h other = h
-refused_by rs (OutOfRange line) h other = h
-refused_by rs (BadChoice line) h other = h
-refused_by rs (NotInProfile line) h other = h
-refused_by rs (AfterEnd line) h other = h
-refused_by rs (NoEnd line) h other = h
-
 pub fault_found : (rs : List RawStatement) (r : Result (Vec Statement) ReadFault) → Gives (items_of r) (read_all rs) → IfErr r (λ e. e ≢ Memory → HasFault rs e)
 fault_found rs (Ok v) h = tt
-fault_found rs (Err e) h = λ other. fault_is rs e (refused_by rs e h other)
+fault_found rs (Err Memory) h = λ other. absurd (other refl)
+fault_found rs (Err fault) h = λ _. fault_is rs fault h
 
 pub read_well : (rs : List RawStatement) (r : Result (Vec Statement) ReadFault) → AreWithinBounds rs → IfOk r (λ v. StandFor rs v.items) → IfOk r (λ v. AreRead v.items)
 read_well rs (Ok v) within h = are_read rs v.items within h

@@ -2,6 +2,7 @@
 use Rattle.std.proofs.Common.{◌≡◌, ◌≢◌, ◌⊎◌, ℕ, ◌+◌, Bool, true, false, cond, List, [], ◌∷◌, ◌++◌, length, set, Option, Some, None, Result, Ok, Err, refl, sym, ap, ◌∙◌, subst, arith, inl, inr, length-set, eq-eqb, append_assoc}
 use Rattle.std.specs.Prelude.{is_some}
 use Rattle.std.proofs.lemmas.Bool.{cases_Bool, false≢true}
+use Rattle.std.specs.Option.{option_or}
 use Rattle.kd_base.specs.Tools.{◌>>=◌, chosen, bind_ok, bind_err, ok_is, err_is, some_of}
 use Rattle.kdcdef_lex.specs.declared.statement.RawOperand.{RawOperand}
 use Rattle.kdcdef_read.specs.declared.fault.Cause.{Cause}
@@ -16,18 +17,18 @@ use Rattle.kdcdef_read.specs.declared.value.Value.{Value}
 use Rattle.kdcdef_read.specs.Words.{place_of}
 use Rattle.kdcdef_read.specs.Table.{row_of}
 use Rattle.kdcdef_read.specs.Values.{value_of}
-use Rattle.kdcdef_read.specs.Operands.{or_else, same_key, key_in, operand_key, key_says, said_from, said, is_kept, passed_from, row_cause, key_cause, cause_from}
+use Rattle.kdcdef_read.specs.Operands.{same_key, key_in, operand_key, key_says, said_from, said, is_kept, passed_from, row_cause, key_cause, cause_from}
 use Rattle.kdcdef_read.specs.Filling.{slot_at, is_taken, put, pass, with_kept, with_key, with_operand, with_operands}
 use Rattle.kdcdef_read.proofs.Keys.{same_key_is}
 use Rattle.kdcdef_read.proofs.Slots.{slot_same, slot_other, taken_same, taken_other}
 
 -- ---- what may be given
 
-pub or_none : {A : Type 0} (o : Option A) → or_else o None ≡ o
+pub or_none : {A : Type 0} (o : Option A) → option_or o None ≡ o
 or_none None = refl
 or_none (Some v) = refl
 
-pub or_or : {A : Type 0} (a b c : Option A) → or_else (or_else a b) c ≡ or_else a (or_else b c)
+pub or_or : {A : Type 0} (a b c : Option A) → option_or (option_or a b) c ≡ option_or a (option_or b c)
 or_or None b c = refl
 or_or (Some v) b c = refl
 
@@ -35,11 +36,11 @@ pub none_is : {A : Type 0} (o : Option A) → is_some o ≡ false → o ≡ None
 none_is None h = refl
 none_is (Some v) h = absurd cc
 
-some_or : {A : Type 0} (o : Option A) (v : A) → is_some (or_else o (Some v)) ≡ true
+some_or : {A : Type 0} (o : Option A) (v : A) → is_some (option_or o (Some v)) ≡ true
 some_or None v = refl
 some_or (Some w) v = refl
 
-pub both_none : {A : Type 0} (a b : Option A) → or_else a b ≡ None → (a ≡ None) × (b ≡ None)
+pub both_none : {A : Type 0} (a b : Option A) → option_or a b ≡ None → (a ≡ None) × (b ≡ None)
 both_none None b e = (refl, e)
 both_none (Some v) b e = absurd cc
 
@@ -56,31 +57,7 @@ Fits first keyword before = (first ≡ begins before) ⊎ (keyword ≡ keywords.
 
 no_first : (key : Key) (o : RawOperand) → key_says keywords.Max key o (Some keys.First) ≡ None
 no_first keys.First o = refl
-no_first keys.Appliname o = refl
-no_first keys.KdcFile o = refl
-no_first keys.Tasks o = refl
-no_first keys.Asyntasks o = refl
-no_first keys.Gssbs o = refl
-no_first keys.Lssbs o = refl
-no_first keys.Kb o = refl
-no_first keys.Spab o = refl
-no_first keys.Nb o = refl
-no_first keys.Pgpool o = refl
-no_first keys.Reswait o = refl
-no_first keys.Blksize o = refl
-no_first keys.Applimode o = refl
-no_first keys.Program o = refl
-no_first keys.Type o = refl
-no_first keys.Call o = refl
-no_first keys.Status o = refl
-no_first keys.TacClass o = refl
-no_first keys.Time o = refl
-no_first keys.Lock o = refl
-no_first keys.Pass o = refl
-no_first keys.Restart o = refl
-no_first keys.Kset o = refl
-no_first keys.Lterm o = refl
-no_first keys.Usage o = refl
+no_first key o = refl
 
 first_or_not : (key : Key) (o : RawOperand) (k : Option (List ℕ)) (f g : Bool) → key_says keywords.Max key o (key_in f k) ≡ key_says keywords.Max key o (key_in g k)
 first_or_not key o (Some word) f g = refl
@@ -89,16 +66,16 @@ first_or_not key o None true false = no_first key o
 first_or_not key o None false true = sym (no_first key o)
 first_or_not key o None false false = refl
 
-more_from : (keyword : Keyword) (key : Key) (os : List RawOperand) (o : RawOperand) → said_from false keyword key (os ++ o ∷ []) ≡ or_else (said_from false keyword key os) (key_says keyword key o (operand_key false o))
+more_from : (keyword : Keyword) (key : Key) (os : List RawOperand) (o : RawOperand) → said_from false keyword key (os ++ o ∷ []) ≡ option_or (said_from false keyword key os) (key_says keyword key o (operand_key false o))
 more_from keyword key [] o = or_none (key_says keyword key o (operand_key false o))
 more_from keyword key (p ∷ os) o =
-    ap (or_else (key_says keyword key p (operand_key false p))) (more_from keyword key os o)
+    ap (option_or (key_says keyword key p (operand_key false p))) (more_from keyword key os o)
     ∙ sym (or_or (key_says keyword key p (operand_key false p)) (said_from false keyword key os) (key_says keyword key o (operand_key false o)))
 
-more : (keyword : Keyword) (key : Key) (os : List RawOperand) (o : RawOperand) → said keyword key (os ++ o ∷ []) ≡ or_else (said keyword key os) (key_says keyword key o (operand_key (begins os) o))
+more : (keyword : Keyword) (key : Key) (os : List RawOperand) (o : RawOperand) → said keyword key (os ++ o ∷ []) ≡ option_or (said keyword key os) (key_says keyword key o (operand_key (begins os) o))
 more keyword key [] o = or_none (key_says keyword key o (operand_key true o))
 more keyword key (p ∷ os) o =
-    ap (or_else (key_says keyword key p (operand_key true p))) (more_from keyword key os o)
+    ap (option_or (key_says keyword key p (operand_key true p))) (more_from keyword key os o)
     ∙ sym (or_or (key_says keyword key p (operand_key true p)) (said_from false keyword key os) (key_says keyword key o (operand_key false o)))
 
 fits_says : (first : Bool) (keyword : Keyword) (before : List RawOperand) (key : Key) (o : RawOperand) → Fits first keyword before → key_says keyword key o (operand_key (begins before) o) ≡ key_says keyword key o (operand_key first o)
@@ -108,9 +85,9 @@ fits_says first keyword before key o (inr e) =
     subst P (sym e) (first_or_not key o o.key (begins before) first)
 
 -- what is said once an operand was added
-said_more : (first : Bool) (keyword : Keyword) (before : List RawOperand) (key : Key) (o : RawOperand) → Fits first keyword before → said keyword key (before ++ o ∷ []) ≡ or_else (said keyword key before) (key_says keyword key o (operand_key first o))
+said_more : (first : Bool) (keyword : Keyword) (before : List RawOperand) (key : Key) (o : RawOperand) → Fits first keyword before → said keyword key (before ++ o ∷ []) ≡ option_or (said keyword key before) (key_says keyword key o (operand_key first o))
 said_more first keyword before key o fits =
-    more keyword key before o ∙ ap (or_else (said keyword key before)) (fits_says first keyword before key o fits)
+    more keyword key before o ∙ ap (option_or (said keyword key before)) (fits_says first keyword before key o fits)
 
 begins_not : (before : List RawOperand) (o : RawOperand) → begins (before ++ o ∷ []) ≡ false
 begins_not [] o = refl
@@ -119,24 +96,24 @@ begins_not (p ∷ before) o = refl
 fits_more : (first : Bool) (keyword : Keyword) (before : List RawOperand) (o : RawOperand) → Fits first keyword before → Fits false keyword (before ++ o ∷ [])
 fits_more first keyword before o fits = inl (sym (begins_not before o))
 
-pub said_more_max : (first : Bool) (before : List RawOperand) (key : Key) (o : RawOperand) → said keywords.Max key (before ++ o ∷ []) ≡ or_else (said keywords.Max key before) (key_says keywords.Max key o (operand_key first o))
+pub said_more_max : (first : Bool) (before : List RawOperand) (key : Key) (o : RawOperand) → said keywords.Max key (before ++ o ∷ []) ≡ option_or (said keywords.Max key before) (key_says keywords.Max key o (operand_key first o))
 said_more_max first before key o = said_more first keywords.Max before key o (inr refl)
 
 -- MAX says the same wherever its operands begin
 max_from : (key : Key) (os : List RawOperand) (f g : Bool) → said_from f keywords.Max key os ≡ said_from g keywords.Max key os
 max_from key [] f g = refl
-max_from key (o ∷ os) f g = ap (λ (x : Option Value). or_else x (said_from false keywords.Max key os)) (first_or_not key o o.key f g)
+max_from key (o ∷ os) f g = ap (λ (x : Option Value). option_or x (said_from false keywords.Max key os)) (first_or_not key o o.key f g)
 
-max_append : (key : Key) (f : Bool) (before os : List RawOperand) → said_from f keywords.Max key (before ++ os) ≡ or_else (said_from f keywords.Max key before) (said keywords.Max key os)
+max_append : (key : Key) (f : Bool) (before os : List RawOperand) → said_from f keywords.Max key (before ++ os) ≡ option_or (said_from f keywords.Max key before) (said keywords.Max key os)
 max_append key f [] os = max_from key os f true
 max_append key f (o ∷ before) os =
-    ap (or_else (key_says keywords.Max key o (operand_key f o))) (max_append key false before os)
+    ap (option_or (key_says keywords.Max key o (operand_key f o))) (max_append key false before os)
     ∙ sym (or_or (key_says keywords.Max key o (operand_key f o)) (said_from false keywords.Max key before) (said keywords.Max key os))
 
-pub said_append_max : (key : Key) (before os : List RawOperand) → said keywords.Max key (before ++ os) ≡ or_else (said keywords.Max key before) (said keywords.Max key os)
+pub said_append_max : (key : Key) (before os : List RawOperand) → said keywords.Max key (before ++ os) ≡ option_or (said keywords.Max key before) (said keywords.Max key os)
 said_append_max key before os = max_append key true before os
 
-pub some_or_first : (a b : Option Value) → is_some a ≡ true → is_some (or_else a b) ≡ true
+pub some_or_first : (a b : Option Value) → is_some a ≡ true → is_some (option_or a b) ≡ true
 some_or_first None b h = absurd cc
 some_or_first (Some v) b h = refl
 
@@ -152,8 +129,8 @@ pub record IsGiven (keyword : Keyword) (before : List RawOperand) (given : Given
 -- what an operand with this key adds
 record IsNext (keyword : Keyword) (before : List RawOperand) (given : Given) (o : RawOperand) (k : Option Key) (next : Given) : Type 0 where
   cause : key_cause keyword before o k ≡ None
-  says : (key : Key) → slot_at next.slots key ≡ or_else (slot_at given.slots key) (key_says keyword key o k)
-  taken : (key : Key) → is_taken next.taken key ≡ is_some (or_else (said keyword key before) (key_says keyword key o k))
+  says : (key : Key) → slot_at next.slots key ≡ option_or (slot_at given.slots key) (key_says keyword key o k)
+  taken : (key : Key) → is_taken next.taken key ≡ is_some (option_or (said keyword key before) (key_says keyword key o k))
   passed : next.passed ≡ given.passed + cond (is_kept keyword k) 0 1
   slots : length next.slots ≡ 26
   keys : length next.taken ≡ 26
@@ -192,13 +169,13 @@ put_next keyword before given o k row v g r new read =
       cause = rw (silent, r, read) refl;
       says = λ key. elim (cases_Bool (same_key k key)) [
         | inl h ↦
-            let P : Key → Type 0 = λ x. slot_at (set given.slots (place_of k) (Some v)) x ≡ or_else (slot_at given.slots x) (key_says keyword x o (Some k)) in
+            let P : Key → Type 0 = λ x. slot_at (set given.slots (place_of k) (Some v)) x ≡ option_or (slot_at given.slots x) (key_says keyword x o (Some k)) in
             subst P (same_key_is k key h) (rw (slot_same given.slots k v g.slots, g.free k silent, says_own keyword k o row v r read) refl)
         | inr h ↦ rw (slot_other given.slots k key v g.slots (apart k key h), says_other keyword k key o h) (sym (or_none (slot_at given.slots key)))
       ];
       taken = λ key. elim (cases_Bool (same_key k key)) [
         | inl h ↦
-            let P : Key → Type 0 = λ x. is_taken (set given.taken (place_of k) true) x ≡ is_some (or_else (said keyword x before) (key_says keyword x o (Some k))) in
+            let P : Key → Type 0 = λ x. is_taken (set given.taken (place_of k) true) x ≡ is_some (option_or (said keyword x before) (key_says keyword x o (Some k))) in
             subst P (same_key_is k key h) (rw (taken_same given.taken k g.keys, says_own keyword k o row v r read) (sym (some_or (said keyword k before) v)))
         | inr h ↦ rw (taken_other given.taken k key (apart k key h), says_other keyword k key o h, or_none (said keyword key before)) (g.taken key)
       ];
@@ -248,7 +225,7 @@ key_refused keyword before given o (Some k) cause g e = kept_cause keyword befor
 
 pub record AreGiven (first : Bool) (keyword : Keyword) (before : List RawOperand) (given : Given) (os : List RawOperand) (end : Given) : Type 0 where
   pub cause : cause_from first keyword before os ≡ None
-  pub says : (key : Key) → slot_at end.slots key ≡ or_else (slot_at given.slots key) (said_from first keyword key os)
+  pub says : (key : Key) → slot_at end.slots key ≡ option_or (slot_at given.slots key) (said_from first keyword key os)
   pub passed : end.passed ≡ given.passed + passed_from first keyword os
   pub now : IsGiven keyword (before ++ os) end
 
@@ -281,7 +258,7 @@ all_given first keyword before given (o ∷ os) end fits g e =
     record {
       cause = rw (n.cause, a.cause) refl;
       says = λ key.
-          a.says key ∙ ap (λ (x : Option Value). or_else x (said_from false keyword key os)) (n.says key)
+          a.says key ∙ ap (λ (x : Option Value). option_or x (said_from false keyword key os)) (n.says key)
           ∙ or_or (slot_at given.slots key) (key_says keyword key o (operand_key first o)) (said_from false keyword key os);
       passed = omega (arith, a.passed, n.passed);
       now = subst (λ (x : List RawOperand). IsGiven keyword x end) (append_assoc before (o ∷ []) os) a.now;

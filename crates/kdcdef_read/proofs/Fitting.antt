@@ -3,6 +3,7 @@ use Rattle.std.proofs.Common.{◌≡◌, ℕ, zero, suc, ◌≤◌, Bool, true, 
 use Rattle.std.specs.Prelude.{◌&&◌, IfSome, codes, if◌then◌else◌}
 use Rattle.std.specs.Result.{result_ok}
 use Rattle.std.proofs.lemmas.Bool.{cases_Bool, leb-true}
+use Rattle.std.specs.Option.{option_or}
 use Rattle.kd_base.specs.Text.{decimal_of}
 use Rattle.kd_base.specs.Tools.{chosen, both_true, some_is, bind_ok, ok_is, ok_of}
 use Rattle.kdcdef_lex.specs.declared.statement.RawOperand.{RawOperand}
@@ -23,7 +24,7 @@ use Rattle.kdcdef_read.specs.Passwords.{password_of}
 use Rattle.kdcdef_read.specs.Words.{is}
 use Rattle.kdcdef_read.specs.Table.{row_of}
 use Rattle.kdcdef_read.specs.Values.{number_text, in_range, number_between, number_in, class_in, time_in, or_cause, password_in, value_of}
-use Rattle.kdcdef_read.specs.Operands.{or_else, same_key, operand_key, row_says, key_says, said_from, said, default_in, answer_of}
+use Rattle.kdcdef_read.specs.Operands.{same_key, operand_key, row_says, key_says, said_from, said, default_in, answer_of}
 use Rattle.kdcdef_read.specs.Said.{number_at, class_at, time_at, password_at}
 
 -- ---- values
@@ -126,31 +127,31 @@ said_value : (first : Bool) (keyword : Keyword) (key : Key) (row : Row) (P : Val
 said_value first keyword key row P [] v is each e = absurd cc
 said_value first keyword key row P (o ∷ os) v is each e = by_key (operand_key first o) (λ h. said_value false keyword key row P os v is each h) e
   where
-    by_value : (q : Result Value Cause) → (said_from false keyword key os ≡ Some v → P v) → value_of row.kind o.value ≡ q → or_else (result_ok q) (said_from false keyword key os) ≡ Some v → P v
+    by_value : (q : Result Value Cause) → (said_from false keyword key os ≡ Some v → P v) → value_of row.kind o.value ≡ q → option_or (result_ok q) (said_from false keyword key os) ≡ Some v → P v
     by_value (Ok w) later read e = subst P (some_is w v e) (each o.value w read)
     by_value (Err cause) later read e = later e
 
-    by_row : (r : Option Row) → (said_from false keyword key os ≡ Some v → P v) → r ≡ Some row → or_else (row_says o r) (said_from false keyword key os) ≡ Some v → P v
+    by_row : (r : Option Row) → (said_from false keyword key os ≡ Some v → P v) → r ≡ Some row → option_or (row_says o r) (said_from false keyword key os) ≡ Some v → P v
     by_row None later same e = absurd cc
     by_row (Some x) later same e =
-        let Q : Row → Type 0 = λ y. or_else (result_ok (value_of y.kind o.value)) (said_from false keyword key os) ≡ Some v in
+        let Q : Row → Type 0 = λ y. option_or (result_ok (value_of y.kind o.value)) (said_from false keyword key os) ≡ Some v in
         by_value (value_of row.kind o.value) later refl (subst Q (some_is x row same) e)
 
-    by_same : (b : Bool) → (said_from false keyword key os ≡ Some v → P v) → or_else (cond b (row_says o (row_of keyword key)) None) (said_from false keyword key os) ≡ Some v → P v
+    by_same : (b : Bool) → (said_from false keyword key os ≡ Some v → P v) → option_or (cond b (row_says o (row_of keyword key)) None) (said_from false keyword key os) ≡ Some v → P v
     by_same true later e = by_row (row_of keyword key) later is e
     by_same false later e = later e
 
-    by_key : (k : Option Key) → (said_from false keyword key os ≡ Some v → P v) → or_else (key_says keyword key o k) (said_from false keyword key os) ≡ Some v → P v
+    by_key : (k : Option Key) → (said_from false keyword key os ≡ Some v → P v) → option_or (key_says keyword key o k) (said_from false keyword key os) ≡ Some v → P v
     by_key None later e = later e
     by_key (Some k) later e = by_same (same_key k key) later e
 
-if_none : (P : Value → Type 0) (default : Option Value) (o : Option Value) → ((v : Value) → o ≡ Some v → P v) → IfSome default P → IfSome (or_else o default) P
+if_none : (P : Value → Type 0) (default : Option Value) (o : Option Value) → ((v : Value) → o ≡ Some v → P v) → IfSome default P → IfSome (option_or o default) P
 if_none P default None h d = d
 if_none P default (Some v) h d = h v refl
 
 pub answer_keeps : (P : Value → Type 0) (keyword : Keyword) (key : Key) (row : Row) (os : List RawOperand) → row_of keyword key ≡ Some row → ((r : RawValue) (w : Value) → value_of row.kind r ≡ Ok w → P w) → IfSome row.default P → IfSome (answer_of keyword os key) P
 answer_keeps P keyword key row os is each d =
-    let D : Option Row → Type 0 = λ r. IfSome (or_else (said keyword key os) (default_in r)) P in
+    let D : Option Row → Type 0 = λ r. IfSome (option_or (said keyword key os) (default_in r)) P in
     subst D (sym is) (if_none P row.default (said keyword key os) (λ v e. said_value true keyword key row P os v is each e) d)
 
 -- ---- by kind

@@ -1,5 +1,6 @@
 -- Keys are told apart by their places.
-use Rattle.std.proofs.Common.{◌≡◌, ◌<◌, true, List, [], ◌∷◌, Some, refl, sym, ap, ◌∙◌, lit<}
+use Rattle.std.proofs.Common.{◌≡◌, ◌<◌, true, List, [], ◌∷◌, Some, refl, sym, ap, ◌∙◌}
+use Rattle.std.proofs.lemmas.Option.{slice_get_within}
 use Rattle.std.specs.List.{slice_get}
 use Rattle.std.proofs.lemmas.Bool.{eqb-true}
 use Rattle.kd_base.specs.Tools.{some_is}
@@ -14,59 +15,10 @@ all_keys =
 
 at_place : (key : Key) → slice_get all_keys (place_of key) ≡ Some key
 at_place keys.First = refl
-at_place keys.Appliname = refl
-at_place keys.KdcFile = refl
-at_place keys.Tasks = refl
-at_place keys.Asyntasks = refl
-at_place keys.Gssbs = refl
-at_place keys.Lssbs = refl
-at_place keys.Kb = refl
-at_place keys.Spab = refl
-at_place keys.Nb = refl
-at_place keys.Pgpool = refl
-at_place keys.Reswait = refl
-at_place keys.Blksize = refl
-at_place keys.Applimode = refl
-at_place keys.Program = refl
-at_place keys.Type = refl
-at_place keys.Call = refl
-at_place keys.Status = refl
-at_place keys.TacClass = refl
-at_place keys.Time = refl
-at_place keys.Lock = refl
-at_place keys.Pass = refl
-at_place keys.Restart = refl
-at_place keys.Kset = refl
-at_place keys.Lterm = refl
-at_place keys.Usage = refl
+at_place key = refl
 
 pub within : (key : Key) → place_of key < 26
-within keys.First = lit< tt
-within keys.Appliname = lit< tt
-within keys.KdcFile = lit< tt
-within keys.Tasks = lit< tt
-within keys.Asyntasks = lit< tt
-within keys.Gssbs = lit< tt
-within keys.Lssbs = lit< tt
-within keys.Kb = lit< tt
-within keys.Spab = lit< tt
-within keys.Nb = lit< tt
-within keys.Pgpool = lit< tt
-within keys.Reswait = lit< tt
-within keys.Blksize = lit< tt
-within keys.Applimode = lit< tt
-within keys.Program = lit< tt
-within keys.Type = lit< tt
-within keys.Call = lit< tt
-within keys.Status = lit< tt
-within keys.TacClass = lit< tt
-within keys.Time = lit< tt
-within keys.Lock = lit< tt
-within keys.Pass = lit< tt
-within keys.Restart = lit< tt
-within keys.Kset = lit< tt
-within keys.Lterm = lit< tt
-within keys.Usage = lit< tt
+within key = slice_get_within all_keys (place_of key) key (at_place key)
 
 pub same_place : (a b : Key) → place_of a ≡ place_of b → a ≡ b
 same_place a b e = some_is a b (sym (at_place a) ∙ ap (slice_get all_keys) e ∙ at_place b)

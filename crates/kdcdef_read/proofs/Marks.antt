@@ -2,6 +2,7 @@
 use Rattle.std.proofs.Common.{◌≡◌, ◌⊎◌, ℕ, Bool, true, List, [], ◌++◌, length, Option, Some, None, Result, Ok, Err, refl, sym, ap, ◌∙◌, subst, arith, inl, inr}
 use Rattle.std.proofs.Math.Path.{fun_ext}
 use Rattle.std.specs.Prelude.{is_some}
+use Rattle.std.specs.Option.{option_or}
 use Rattle.kd_base.specs.Tools.{bind_ok, bind_err, ok_is, err_is, ok_of, err_of}
 use Rattle.kdcdef_lex.specs.declared.statement.RawOperand.{RawOperand}
 use Rattle.kdcdef_lex.specs.declared.statement.RawStatement.{RawStatement}
@@ -19,7 +20,7 @@ use Rattle.kdcdef_read.specs.declared.value.Value.{Value}
 use Rattle.kdcdef_read.specs.Faults.{at_line}
 use Rattle.kdcdef_read.specs.Words.{form_of}
 use Rattle.kdcdef_read.specs.Table.{row_of}
-use Rattle.kdcdef_read.specs.Operands.{or_else, said, default_in, answer_of, passed_in, first_cause}
+use Rattle.kdcdef_read.specs.Operands.{said, default_in, answer_of, passed_in, first_cause}
 use Rattle.kdcdef_read.specs.Said.{said_of}
 use Rattle.kdcdef_read.specs.Filling.{is_taken, answers, nothing_given, read_operands}
 use Rattle.kdcdef_read.specs.Meaning.{statement, shared, or_missing, unless, form_says, says_of}
@@ -49,7 +50,7 @@ Meant keyword own line os = unless line (first_cause keyword own os) (or_missing
 same_said : (keyword : Keyword) (own : List RawOperand) (taken : List Bool) (line : ℕ) (os : List RawOperand) (end : Given) → AreGiven true keyword own (nothing_given taken) os end → Meant keyword own line os ≡ said_by keyword line end
 same_said keyword own taken line os end a =
     let at : answers keyword end.slots ≡ answer_of keyword os =
-    fun_ext (λ (key : Key). ap (λ (x : Option Value). or_else x (default_in (row_of keyword key))) (a.says key ∙ ap (λ (x : Option Value). or_else x (said keyword key os)) (no_slot key))) in
+    fun_ext (λ (key : Key). ap (λ (x : Option Value). option_or x (default_in (row_of keyword key))) (a.says key ∙ ap (λ (x : Option Value). option_or x (said keyword key os)) (no_slot key))) in
     let count : end.passed ≡ passed_in keyword os = omega (arith, a.passed) in
     ap (λ (c : Option Cause). unless line c (or_missing line (passed_in keyword os) (said_of keyword (answer_of keyword os)))) a.cause
     ∙ ap (λ (n : ℕ). or_missing line n (said_of keyword (answer_of keyword os))) (sym count)
@@ -120,7 +121,7 @@ form_err before taken r (Some (forms.Kept keyword)) fault m e =
 -- ---- the other way round
 
 -- whatever is read, or refused, for a form
-read_or_not : (q : Result (Statement × List Bool) ReadFault) → ((p : Statement × List Bool) × (q ≡ Ok p)) ⊎ ((fault : ReadFault) × (q ≡ Err fault))
+pub read_or_not : (q : Result (Statement × List Bool) ReadFault) → ((p : Statement × List Bool) × (q ≡ Ok p)) ⊎ ((fault : ReadFault) × (q ≡ Err fault))
 read_or_not (Ok p) = inl (p, refl)
 read_or_not (Err fault) = inr (fault, refl)
 

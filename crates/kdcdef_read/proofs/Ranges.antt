@@ -26,7 +26,7 @@ use Rattle.kdcdef_read.specs.declared.words.Key.{Key}
 use Rattle.kdcdef_read.specs.declared.words.Key.TheVariants as keys
 use Rattle.kdcdef_read.specs.Words.{form_of}
 use Rattle.kdcdef_read.specs.Operands.{operand_key, is_kept, passed_from, passed_in, first_cause, answer_of}
-use Rattle.kdcdef_read.specs.Said.{name_at, prog_name_at, number_at, class_at, time_at, call_at, flag_at, password_at, max_said, class_of, tac_entry, program_said, tac_said, user_said, pterm_of, pterm_said, lterm_said, tls_said, uls_said, class_said, said_of}
+use Rattle.kdcdef_read.specs.Said.{name_at, prog_name_at, number_at, class_at, time_at, call_at, flag_at, password_at, max_said, class_of, tac_entry, tac_said, user_said, pterm_of, pterm_said, lterm_said, class_said, said_of}
 use Rattle.kdcdef_read.specs.Meaning.{statement, shared, or_missing, unless, form_says, Say}
 use Rattle.kdcdef_read.proofs.Fitting.{number_within, blksize_is, class_within, time_within, password_within}
 
@@ -82,13 +82,13 @@ form_plain own r (Some (forms.Kept keyword)) s e =
 
 -- ---- what statements say
 
-pub program_is : (at : Key → Option Value) (said : Said) → program_said at ≡ Some said → (name : List ℕ) × (Program name ≡ said)
+pub program_is : (at : Key → Option Value) (said : Said) → said_of keywords.Program at ≡ Some said → (name : List ℕ) × (Program name ≡ said)
 program_is at said e = let m = map_some (λ (name : List ℕ). Program name) (prog_name_at (at keys.First)) said e in (m.0, m.2)
 
-pub tls_is : (at : Key → Option Value) (said : Said) → tls_said at ≡ Some said → (name : List ℕ) × (Tls name ≡ said)
+pub tls_is : (at : Key → Option Value) (said : Said) → said_of keywords.Tls at ≡ Some said → (name : List ℕ) × (Tls name ≡ said)
 tls_is at said e = let m = map_some (λ (name : List ℕ). Tls name) (name_at (at keys.First)) said e in (m.0, m.2)
 
-pub uls_is : (at : Key → Option Value) (said : Said) → uls_said at ≡ Some said → (name : List ℕ) × (Uls name ≡ said)
+pub uls_is : (at : Key → Option Value) (said : Said) → said_of keywords.Uls at ≡ Some said → (name : List ℕ) × (Uls name ≡ said)
 uls_is at said e = let m = map_some (λ (name : List ℕ). Uls name) (name_at (at keys.First)) said e in (m.0, m.2)
 
 pub pterm_is : (at : Key → Option Value) (said : Said) → pterm_said at ≡ Some said → (name : List ℕ) × (pterm_of name (name_at (at keys.Lterm)) ≡ said)

@@ -1,5 +1,5 @@
 -- What is read is what the statements stand for, and what is refused has the fault.
-use Rattle.std.proofs.Common.{◌≡◌, ◌⊎◌, ℕ, ◌+◌, Bool, true, false, List, [], ◌∷◌, ◌++◌, Result, Ok, Err, refl, sym, ap, ◌∙◌, subst, inl, inr}
+use Rattle.std.proofs.Common.{◌≡◌, ℕ, ◌+◌, Bool, true, false, List, [], ◌∷◌, ◌++◌, Result, Ok, Err, refl, sym, ap, ◌∙◌, subst, inl, inr}
 use Rattle.std.proofs.lemmas.Bool.{cases_Bool}
 use Rattle.kd_base.specs.Tools.{◌>>=◌, bind_ok, bind_err, ok_is, err_is, err_of}
 use Rattle.kdcdef_lex.specs.declared.statement.RawOperand.{RawOperand}
@@ -14,7 +14,7 @@ use Rattle.kdcdef_read.specs.declared.statement.Progress.{Progress}
 use Rattle.kdcdef_read.specs.Words.{form_of}
 use Rattle.kdcdef_read.specs.Meaning.{shared, says_of, Say, StandFor, HasEndFault, HasNextFault, HasFaultFrom, HasFault}
 use Rattle.kdcdef_read.specs.Steps.{no_keys, is_end, statement_by, behind, with_front, read_from, read_all}
-use Rattle.kdcdef_read.proofs.Marks.{Marks, no_marks, form_ok, form_err, says_read, says_refused}
+use Rattle.kdcdef_read.proofs.Marks.{Marks, no_marks, form_ok, form_err, read_or_not, says_read, says_refused}
 
 -- ---- END
 
@@ -71,10 +71,6 @@ reads_on taken n r rs p e = ap (go r rs) e
 stops : (taken : List Bool) (n : ℕ) (r : RawStatement) (rs : List RawStatement) (fault : ReadFault) → statement_by taken r ≡ Err fault → read_from (at taken false n) (r ∷ rs) ≡ Err fault
 stops taken n r rs fault e = ap (go r rs) e
 
-either : (q : Result (Statement × List Bool) ReadFault) → ((p : Statement × List Bool) × (q ≡ Ok p)) ⊎ ((fault : ReadFault) × (q ≡ Err fault))
-either (Ok p) = inl (p, refl)
-either (Err fault) = inr (fault, refl)
-
 abbrev fine : List Statement → Result (List Statement) ReadFault
 fine ss = Ok ss
 
@@ -96,7 +92,7 @@ end_fault taken n (r ∷ rs) fault h = ap (λ (x : ReadFault). err_of {A = List 
 pub read_says : (before : List RawOperand) (taken : List Bool) (n : ℕ) (rs : List RawStatement) (ss : List Statement) → Marks before taken → read_from (at taken false n) rs ≡ Ok ss → Say before rs ss × EndsOnce ss
 read_says before taken n [] ss m e = absurd cc
 read_says before taken n (r ∷ rs) ss m e =
-    elim (either (statement_by taken r)) [
+    elim (read_or_not (statement_by taken r)) [
       | inl q ↦
           let k = form_ok before taken r (form_of r.keyword) q.0 m q.1 in
           let b = bind_ok (read_from (at q.0.1 (is_end q.0.0.said) (r.line + 1)) rs) (λ (tail : List Statement). fine (q.0.0 ∷ tail)) ss (sym (reads_on taken n r rs q.0 q.1) ∙ e) in
@@ -121,7 +117,7 @@ read_says before taken n (r ∷ rs) ss m e =
 pub refused_has : (before : List RawOperand) (taken : List Bool) (n : ℕ) (rs : List RawStatement) (fault : ReadFault) → Marks before taken → read_from (at taken false n) rs ≡ Err fault → HasFaultFrom before n rs fault
 refused_has before taken n [] fault m e = sym (err_is (List Statement) (NoEnd n) fault e)
 refused_has before taken n (r ∷ rs) fault m e =
-    elim (either (statement_by taken r)) [
+    elim (read_or_not (statement_by taken r)) [
       | inl q ↦
           let k = form_ok before taken r (form_of r.keyword) q.0 m q.1 in
           elim (bind_err (read_from (at q.0.1 (is_end q.0.0.said) (r.line + 1)) rs) (λ (tail : List Statement). fine (q.0.0 ∷ tail)) fault (sym (reads_on taken n r rs q.0 q.1) ∙ e)) [

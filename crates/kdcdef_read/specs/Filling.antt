@@ -1,6 +1,7 @@
 -- Operands read one after another into slots, as the reader does.
 use Rattle.std.specs.Prelude.{◌+◌, Bool, true, false, List, [], ◌∷◌, Option, Some, None, Result, Ok, Err, if◌then◌else◌, option_and_then, slice_set, replicate, unwrap_or}
 use Rattle.std.specs.List.{slice_get}
+use Rattle.std.specs.Option.{option_or}
 use Rattle.kd_base.specs.Tools.{◌>>=◌}
 use Rattle.kdcdef_lex.specs.declared.statement.RawOperand.{RawOperand}
 use Rattle.kdcdef_read.specs.declared.fault.Cause.{Cause}
@@ -13,7 +14,7 @@ use Rattle.kdcdef_read.specs.declared.value.Value.{Value}
 use Rattle.kdcdef_read.specs.Words.{place_of}
 use Rattle.kdcdef_read.specs.Table.{row_of}
 use Rattle.kdcdef_read.specs.Values.{value_of}
-use Rattle.kdcdef_read.specs.Operands.{or_else, operand_key, default_in}
+use Rattle.kdcdef_read.specs.Operands.{operand_key, default_in}
 
 -- what was changed in place, where nothing failed
 abbrev pub after : {X : Type 0} → Result X Cause → Given → Result Given Cause
@@ -30,7 +31,7 @@ is_taken taken key = unwrap_or (slice_get taken (place_of key)) false
 
 -- what is answered for a key: what stands in its slot, or the default
 abbrev pub answer : Keyword → List (Option Value) → Key → Option Value
-answer keyword slots key = or_else (slot_at slots key) (default_in (row_of keyword key))
+answer keyword slots key = option_or (slot_at slots key) (default_in (row_of keyword key))
 
 abbrev pub answers : Keyword → List (Option Value) → Key → Option Value
 answers keyword slots = λ key. answer keyword slots key

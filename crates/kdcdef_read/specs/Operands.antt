@@ -1,5 +1,6 @@
 -- What the operands of a statement say, by its rows.
 use Rattle.std.specs.Prelude.{ℕ, ◌+◌, ◌==◌, Bool, true, false, List, [], ◌∷◌, ◌++◌, Option, Some, None, Result, Ok, Err, if◌then◌else◌, is_some}
+use Rattle.std.specs.Option.{option_or}
 use Rattle.std.specs.Result.{result_ok}
 use Rattle.kdcdef_lex.specs.declared.statement.RawOperand.{RawOperand}
 use Rattle.kdcdef_read.specs.declared.fault.Cause.{Cause}
@@ -12,11 +13,6 @@ use Rattle.kdcdef_read.specs.declared.value.Value.{Value}
 use Rattle.kdcdef_read.specs.Words.{key_of, place_of}
 use Rattle.kdcdef_read.specs.Table.{row_of}
 use Rattle.kdcdef_read.specs.Values.{value_of}
-
--- the first, if there is one, and else the other
-abbrev pub or_else : {A : Type 0} → Option A → Option A → Option A
-or_else None other = other
-or_else (Some x) other = Some x
 
 -- whether two keys are the same
 abbrev pub same_key : Key → Key → Bool
@@ -45,7 +41,7 @@ key_says keyword key o (Some k) = if same_key k key then row_says o (row_of keyw
 -- what the operands say for a key, the first of them being the statement's first one or not
 abbrev pub said_from : Bool → Keyword → Key → List RawOperand → Option Value
 said_from first keyword key [] = None
-said_from first keyword key (o ∷ os) = or_else (key_says keyword key o (operand_key first o)) (said_from false keyword key os)
+said_from first keyword key (o ∷ os) = option_or (key_says keyword key o (operand_key first o)) (said_from false keyword key os)
 
 -- what the operands of a statement say for a key
 abbrev pub said : Keyword → Key → List RawOperand → Option Value
@@ -58,7 +54,7 @@ default_in (Some row) = row.default
 
 -- the same, and the default where they say nothing
 abbrev pub answer_of : Keyword → List RawOperand → Key → Option Value
-answer_of keyword os key = or_else (said keyword key os) (default_in (row_of keyword key))
+answer_of keyword os key = option_or (said keyword key os) (default_in (row_of keyword key))
 
 -- whether an operand is one that the statement keeps
 abbrev pub is_kept : Keyword → Option Key → Bool
@@ -99,7 +95,7 @@ operand_cause first keyword before o = key_cause keyword before o (operand_key f
 abbrev pub cause_from : Bool → Keyword → List RawOperand → List RawOperand → Option Cause
 cause_from first keyword before [] = None
 cause_from first keyword before (o ∷ os) =
-    or_else (operand_cause first keyword before o) (cause_from false keyword (before ++ o ∷ []) os)
+    option_or (operand_cause first keyword before o) (cause_from false keyword (before ++ o ∷ []) os)
 
 -- the same for all operands of a statement
 abbrev pub first_cause : Keyword → List RawOperand → List RawOperand → Option Cause

@@ -64,10 +64,6 @@ max_said at = Max (record {
   blksize = number_at (at keys.Blksize);
 })
 
--- PROGRAM
-abbrev pub program_said : (Key → Option Value) → Option Said
-program_said at = option_map (λ (name : List ℕ). Program name) (prog_name_at (at keys.First))
-
 -- the class of a TAC without TACCLASS is none, written 0, for a dialogue TAC
 abbrev pub class_of : Bool → Option ℕ → ℕ
 class_of asynchronous (Some class) = class
@@ -111,14 +107,6 @@ lterm_said at =
     option_and_then (λ (name : List ℕ). option_map (λ (printer : Bool). Lterm name (record { printer = printer })) (flag_at (at keys.Usage)))
     (name_at (at keys.First))
 
--- TLS
-abbrev pub tls_said : (Key → Option Value) → Option Said
-tls_said at = option_map (λ (name : List ℕ). Tls name) (name_at (at keys.First))
-
--- ULS
-abbrev pub uls_said : (Key → Option Value) → Option Said
-uls_said at = option_map (λ (name : List ℕ). Uls name) (name_at (at keys.First))
-
 -- TACCLASS
 abbrev pub class_said : (Key → Option Value) → Option Said
 class_said at =
@@ -127,11 +115,11 @@ class_said at =
 -- what a statement says; none where an operand that has no default is missing
 abbrev pub said_of : Keyword → (Key → Option Value) → Option Said
 said_of keywords.Max at = Some (max_said at)
-said_of keywords.Program at = program_said at
+said_of keywords.Program at = option_map (λ (name : List ℕ). Program name) (prog_name_at (at keys.First))
 said_of keywords.Tac at = tac_said at
 said_of keywords.User at = user_said at
 said_of keywords.Pterm at = pterm_said at
 said_of keywords.Lterm at = lterm_said at
-said_of keywords.Tls at = tls_said at
-said_of keywords.Uls at = uls_said at
+said_of keywords.Tls at = option_map (λ (name : List ℕ). Tls name) (name_at (at keys.First))
+said_of keywords.Uls at = option_map (λ (name : List ℕ). Uls name) (name_at (at keys.First))
 said_of keywords.TacClass at = class_said at

@@ -1,6 +1,6 @@
 -- Statements read one after another, as the reader does.
-use Rattle.std.specs.Prelude.{◌≡◌, ℕ, ◌+◌, Bool, true, false, List, [], ◌∷◌, ◌++◌, length, Option, Some, None, Result, Ok, Err, if◌then◌else◌, replicate}
-use Rattle.std.specs.Global.{Vec}
+use Rattle.std.specs.Prelude.{ℕ, ◌+◌, Bool, true, false, List, [], ◌∷◌, ◌++◌, length, Option, Some, None, Result, Ok, Err, if◌then◌else◌, replicate}
+use Rattle.kd_base.specs.FirstFaults.{GivesUnless}
 use Rattle.kd_base.specs.Tools.{◌>>=◌}
 use Rattle.kdcdef_lex.specs.declared.statement.RawStatement.{RawStatement}
 use Rattle.kdcdef_types.specs.declared.statement.Said.{Said}
@@ -8,14 +8,14 @@ use Rattle.kdcdef_types.specs.declared.statement.Said.TheVariants as says
 use Rattle.kdcdef_types.specs.declared.statement.Statement.{Statement}
 use Rattle.kdcdef_read.specs.declared.fault.Cause.{Cause}
 use Rattle.kdcdef_read.specs.declared.fault.ReadFault.{ReadFault}
-use Rattle.kdcdef_read.specs.declared.fault.ReadFault.TheVariants.{UnknownStatement, NotInProfile, AfterEnd, NoEnd, Memory}
+use Rattle.kdcdef_read.specs.declared.fault.ReadFault.TheVariants.{UnknownStatement, NotInProfile, AfterEnd, NoEnd}
 use Rattle.kdcdef_read.specs.declared.operands.Given.{Given}
 use Rattle.kdcdef_read.specs.declared.statement.Progress.{Progress}
 use Rattle.kdcdef_read.specs.declared.words.Keyword.{Keyword}
 use Rattle.kdcdef_read.specs.declared.words.Keyword.TheVariants as keywords
 use Rattle.kdcdef_read.specs.declared.words.Form.{Form}
 use Rattle.kdcdef_read.specs.declared.words.Form.TheVariants as forms
-use Rattle.kdcdef_read.specs.Faults.{at_line}
+use Rattle.kdcdef_read.specs.Faults.{at_line, is_memory}
 use Rattle.kdcdef_read.specs.Words.{form_of}
 use Rattle.kdcdef_read.specs.Said.{said_of}
 use Rattle.kdcdef_read.specs.Filling.{answers, read_operands}
@@ -23,14 +23,7 @@ use Rattle.kdcdef_read.specs.Meaning.{statement, or_missing}
 
 -- what a function returned is what reading gives, unless memory ran out
 abbrev pub Gives : {X : Type 0} → Result X ReadFault → Result X ReadFault → Type 0
-Gives (Ok x) read = read ≡ Ok x
-Gives (Err Memory) read = Unit {0}
-Gives (Err fault) read = read ≡ Err fault
-
--- a returned `Vec`, as the list in it
-abbrev pub items_of : {X : Type 0} → Result (Vec X) ReadFault → Result (List X) ReadFault
-items_of (Ok v) = Ok v.items
-items_of (Err e) = Err e
+Gives returned read = GivesUnless is_memory returned read
 
 -- no key was given
 abbrev pub no_keys : List Bool
@@ -67,17 +60,8 @@ abbrev pub statement_by : List Bool → RawStatement → Result (Statement × Li
 statement_by taken r = form_by taken r (form_of r.keyword)
 
 abbrev pub is_end : Said → Bool
-is_end (says.Max m) = false
-is_end (says.Program name) = false
-is_end (says.Tac name entry) = false
-is_end (says.User name entry) = false
-is_end (says.Pterm name entry) = false
-is_end (says.Lterm name entry) = false
-is_end (says.Tls name) = false
-is_end (says.Uls name) = false
-is_end (says.TacClass class tasks) = false
-is_end says.Passed = false
 is_end says.End = true
+is_end said = false
 
 abbrev pub behind : ℕ → Statement × List Bool → Result (Statement × Progress) ReadFault
 behind line p = Ok (p.0, record { taken = p.1; ended = is_end p.0.said; next = line + 1 })

@@ -38,7 +38,6 @@ max_row keys.Blksize = of_kind (kinds.OneOf choices.Blksize)
 max_row keys.Applimode = of_kind kinds.Mode
 max_row key = None
 
--- PROGRAM
 abbrev pub program_row : Key → Option Row
 program_row keys.First = of_kind kinds.ProgName
 program_row key = None
@@ -55,7 +54,6 @@ tac_row keys.Time = of_kind_or (values.Time 1000) kinds.Time
 tac_row keys.Lock = of_kind kinds.Unavailable
 tac_row key = None
 
--- USER
 abbrev pub user_row : Key → Option Row
 user_row keys.First = of_kind kinds.Name
 user_row keys.Pass = of_kind kinds.Password
@@ -63,13 +61,11 @@ user_row keys.Restart = of_kind_or (values.Flag true) (kinds.OneOf choices.Resta
 user_row keys.Kset = of_kind kinds.Unavailable
 user_row key = None
 
--- PTERM
 abbrev pub pterm_row : Key → Option Row
 pterm_row keys.First = of_kind kinds.Name
 pterm_row keys.Lterm = of_kind kinds.Name
 pterm_row key = None
 
--- LTERM
 abbrev pub lterm_row : Key → Option Row
 lterm_row keys.First = of_kind kinds.Name
 lterm_row keys.Usage = of_kind_or (values.Flag false) (kinds.OneOf choices.Usage)
@@ -82,7 +78,6 @@ abbrev pub block_row : Key → Option Row
 block_row keys.First = of_kind kinds.Name
 block_row key = None
 
--- TACCLASS
 abbrev pub class_row : Key → Option Row
 class_row keys.First = of_kind kinds.Class
 class_row keys.Tasks = of_kind_or (values.Number 240) (kinds.Number 0 240)

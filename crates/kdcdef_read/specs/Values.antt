@@ -1,5 +1,6 @@
 -- The values of operands, by the kind of their rows.
 use Rattle.std.specs.Prelude.{ℕ, ◌==◌, ◌&&◌, nat_le, true, false, List, [], ◌∷◌, Option, Some, None, Result, Ok, Err, if◌then◌else◌, codes}
+use Rattle.kd_base.specs.FirstFaults.{first_true}
 use Rattle.kd_base.specs.Text.{decimal_of, name_of, prog_name_of}
 use Rattle.kd_base.specs.Tools.{◌>>=◌}
 use Rattle.kdcdef_types.specs.declared.entry.CallUse.TheVariants as calls
@@ -59,18 +60,10 @@ abbrev pub flag_of : List ℕ → List ℕ → List ℕ → Option Value
 flag_of off on word = if is word off then Some (values.Flag false) else (if is word on then Some (values.Flag true) else None)
 
 abbrev pub call_of : List ℕ → Option Value
-call_of word =
-    if is word (codes "BOTH") then Some (values.Call calls.Both)
-    else (if is word (codes "FIRST") then Some (values.Call calls.First)
-    else (if is word (codes "NEXT") then Some (values.Call calls.Next)
-    else None))
+call_of word = first_true ((is word (codes "BOTH"), values.Call calls.Both) ∷ (is word (codes "FIRST"), values.Call calls.First) ∷ (is word (codes "NEXT"), values.Call calls.Next) ∷ [])
 
 abbrev pub blksize_of : List ℕ → Option Value
-blksize_of word =
-    if is word (codes "2K") then Some (values.Number 2048)
-    else (if is word (codes "4K") then Some (values.Number 4096)
-    else (if is word (codes "8K") then Some (values.Number 8192)
-    else None))
+blksize_of word = first_true ((is word (codes "2K"), values.Number 2048) ∷ (is word (codes "4K"), values.Number 4096) ∷ (is word (codes "8K"), values.Number 8192) ∷ [])
 
 -- what a word says, where it is one of the choices
 abbrev pub choice_of : Choice → List ℕ → Option Value

@@ -1,6 +1,8 @@
 -- The words of KDCDEF, which may be written in either case.
-use Rattle.std.specs.Prelude.{ℕ, Bool, ◌||◌, List, Option, Some, None, if◌then◌else◌, codes}
+use Rattle.std.specs.Prelude.{ℕ, Bool, ◌||◌, List, [], ◌∷◌, Option, Some, None, codes}
+use Rattle.std.specs.Option.{option_or}
 use Rattle.std.specs.Str.{str_eq_ignore_ascii_case}
+use Rattle.kd_base.specs.FirstFaults.{first_true}
 use Rattle.kdcdef_read.specs.declared.words.Keyword.{Keyword}
 use Rattle.kdcdef_read.specs.declared.words.Keyword.TheVariants as keywords
 use Rattle.kdcdef_read.specs.declared.words.Form.{Form}
@@ -15,16 +17,10 @@ is word text = str_eq_ignore_ascii_case word text
 -- the statements whose operands are kept
 abbrev pub kept_of : List ℕ → Option Keyword
 kept_of word =
-    if is word (codes "MAX") then Some keywords.Max
-    else (if is word (codes "PROGRAM") then Some keywords.Program
-    else (if is word (codes "TAC") then Some keywords.Tac
-    else (if is word (codes "USER") then Some keywords.User
-    else (if is word (codes "PTERM") then Some keywords.Pterm
-    else (if is word (codes "LTERM") then Some keywords.Lterm
-    else (if is word (codes "TLS") then Some keywords.Tls
-    else (if is word (codes "ULS") then Some keywords.Uls
-    else (if is word (codes "TACCLASS") then Some keywords.TacClass
-    else None))))))))
+    first_true
+    ((is word (codes "MAX"), keywords.Max) ∷ (is word (codes "PROGRAM"), keywords.Program) ∷ (is word (codes "TAC"), keywords.Tac)
+    ∷ (is word (codes "USER"), keywords.User) ∷ (is word (codes "PTERM"), keywords.Pterm) ∷ (is word (codes "LTERM"), keywords.Lterm)
+    ∷ (is word (codes "TLS"), keywords.Tls) ∷ (is word (codes "ULS"), keywords.Uls) ∷ (is word (codes "TACCLASS"), keywords.TacClass) ∷ [])
 
 -- the nine statements that are read and not kept
 abbrev pub is_passed : List ℕ → Bool
@@ -34,11 +30,7 @@ is_passed word =
 
 -- what the other keywords stand for
 abbrev pub other_form : List ℕ → Option Form
-other_form word =
-    if is_passed word then Some forms.Passed
-    else (if is word (codes "KSET") then Some forms.KeySet
-    else (if is word (codes "END") then Some forms.End
-    else None))
+other_form word = first_true ((is_passed word, forms.Passed) ∷ (is word (codes "KSET"), forms.KeySet) ∷ (is word (codes "END"), forms.End) ∷ [])
 
 -- a statement whose operands are kept, or another one
 abbrev pub kept_form : Option Keyword → Option Form → Option Form
@@ -52,46 +44,23 @@ form_of word = kept_form (kept_of word) (other_form word)
 -- the keys of MAX
 abbrev pub limit_key : List ℕ → Option Key
 limit_key word =
-    if is word (codes "APPLINAME") then Some keys.Appliname
-    else (if is word (codes "KDCFILE") then Some keys.KdcFile
-    else (if is word (codes "TASKS") then Some keys.Tasks
-    else (if is word (codes "ASYNTASKS") then Some keys.Asyntasks
-    else (if is word (codes "GSSBS") then Some keys.Gssbs
-    else (if is word (codes "LSSBS") then Some keys.Lssbs
-    else (if is word (codes "KB") then Some keys.Kb
-    else (if is word (codes "SPAB") then Some keys.Spab
-    else (if is word (codes "NB") then Some keys.Nb
-    else (if is word (codes "PGPOOL") then Some keys.Pgpool
-    else (if is word (codes "RESWAIT") then Some keys.Reswait
-    else (if is word (codes "BLKSIZE") then Some keys.Blksize
-    else (if is word (codes "APPLIMODE") then Some keys.Applimode
-    else None))))))))))))
+    first_true
+    ((is word (codes "APPLINAME"), keys.Appliname) ∷ (is word (codes "KDCFILE"), keys.KdcFile) ∷ (is word (codes "TASKS"), keys.Tasks) ∷ (is word (codes "ASYNTASKS"), keys.Asyntasks)
+    ∷ (is word (codes "GSSBS"), keys.Gssbs) ∷ (is word (codes "LSSBS"), keys.Lssbs) ∷ (is word (codes "KB"), keys.Kb) ∷ (is word (codes "SPAB"), keys.Spab)
+    ∷ (is word (codes "NB"), keys.Nb) ∷ (is word (codes "PGPOOL"), keys.Pgpool) ∷ (is word (codes "RESWAIT"), keys.Reswait) ∷ (is word (codes "BLKSIZE"), keys.Blksize)
+    ∷ (is word (codes "APPLIMODE"), keys.Applimode) ∷ [])
 
 -- the other keys
 abbrev pub entry_key : List ℕ → Option Key
 entry_key word =
-    if is word (codes "PROGRAM") then Some keys.Program
-    else (if is word (codes "TYPE") then Some keys.Type
-    else (if is word (codes "CALL") then Some keys.Call
-    else (if is word (codes "STATUS") then Some keys.Status
-    else (if is word (codes "TACCLASS") then Some keys.TacClass
-    else (if is word (codes "TIME") then Some keys.Time
-    else (if is word (codes "LOCK") then Some keys.Lock
-    else (if is word (codes "PASS") then Some keys.Pass
-    else (if is word (codes "RESTART") then Some keys.Restart
-    else (if is word (codes "KSET") then Some keys.Kset
-    else (if is word (codes "LTERM") then Some keys.Lterm
-    else (if is word (codes "USAGE") then Some keys.Usage
-    else None)))))))))))
-
--- the first, if there is one, and else the other
-abbrev pub key_or : Option Key → Option Key → Option Key
-key_or None other = other
-key_or (Some key) other = Some key
+    first_true
+    ((is word (codes "PROGRAM"), keys.Program) ∷ (is word (codes "TYPE"), keys.Type) ∷ (is word (codes "CALL"), keys.Call) ∷ (is word (codes "STATUS"), keys.Status)
+    ∷ (is word (codes "TACCLASS"), keys.TacClass) ∷ (is word (codes "TIME"), keys.Time) ∷ (is word (codes "LOCK"), keys.Lock) ∷ (is word (codes "PASS"), keys.Pass)
+    ∷ (is word (codes "RESTART"), keys.Restart) ∷ (is word (codes "KSET"), keys.Kset) ∷ (is word (codes "LTERM"), keys.Lterm) ∷ (is word (codes "USAGE"), keys.Usage) ∷ [])
 
 -- the key that a word is
 abbrev pub key_of : List ℕ → Option Key
-key_of word = key_or (limit_key word) (entry_key word)
+key_of word = option_or (limit_key word) (entry_key word)
 
 -- the place of a key among all keys
 abbrev pub place_of : Key → ℕ

@@ -1,10 +1,9 @@
 //! Why statements could not be read.
 ghost use Rattle.std.specs.Prelude.{◌≡◌};
-ghost use Rattle.kdcdef_read.specs.Faults.{at_line};
+ghost use Rattle.kdcdef_read.specs.Faults.{at_line, line_of, name_of};
 ghost use Rattle.kdcdef_read.specs.declared.fault.ReadFault.TheVariants.{Memory};
 
 use kd_base::OutOfMemory;
-use std::alloc::{AllocError, AllocFailed};
 use thiserror::Error;
 
 /// The first fault of a list of statements, with the number of its line, counted from 1.
@@ -75,19 +74,43 @@ pub(crate) fn at_line(line: u32, cause: Cause) -> ReadFault
     }
 }
 
-impl From<AllocError> for ReadFault {
-    ghost from_gives = { λ _ e. e ≡ Memory };
-
-    fn from(_: AllocError) -> ReadFault {
-        ReadFault::Memory
+impl ReadFault {
+    /// The number of its line, counted from 1. It takes no memory.
+    pub fn line(&self) -> u32
+        ensures { result ≡ line_of self.now }
+    {
+        match self {
+            ReadFault::UnknownStatement(line)
+            | ReadFault::OperandTwice(line)
+            | ReadFault::OperandMissing(line)
+            | ReadFault::BadName(line)
+            | ReadFault::BadNumber(line)
+            | ReadFault::OutOfRange(line)
+            | ReadFault::BadChoice(line)
+            | ReadFault::NotInProfile(line)
+            | ReadFault::AfterEnd(line)
+            | ReadFault::NoEnd(line) => *line,
+            ReadFault::Memory => 0,
+        }
     }
-}
 
-impl<T: Drop> From<AllocFailed<T>> for ReadFault {
-    ghost from_gives = { λ _ e. e ≡ Memory };
-
-    fn from(_: AllocFailed<T>) -> ReadFault {
-        ReadFault::Memory
+    /// The name by which it is printed. It takes no memory.
+    pub fn name(&self) -> &'static str
+        ensures { result.now ≡ name_of self.now }
+    {
+        match self {
+            ReadFault::UnknownStatement(_) => "UnknownStatement",
+            ReadFault::OperandTwice(_) => "OperandTwice",
+            ReadFault::OperandMissing(_) => "OperandMissing",
+            ReadFault::BadName(_) => "BadName",
+            ReadFault::BadNumber(_) => "BadNumber",
+            ReadFault::OutOfRange(_) => "OutOfRange",
+            ReadFault::BadChoice(_) => "BadChoice",
+            ReadFault::NotInProfile(_) => "NotInProfile",
+            ReadFault::AfterEnd(_) => "AfterEnd",
+            ReadFault::NoEnd(_) => "NoEnd",
+            ReadFault::Memory => "Memory",
+        }
     }
 }
 

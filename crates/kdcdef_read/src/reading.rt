@@ -1,16 +1,18 @@
 //! The statements of a text, one after another.
 ghost use Rattle.std.specs.Prelude.{List, Ok, Err, IfOk, IfErr, ◌≡◌, ◌≢◌};
+ghost use Rattle.kd_base.specs.FirstFaults.{items_of};
 ghost use Rattle.kdcdef_lex.specs.Bounds.{AreWithinBounds};
 ghost use Rattle.kdcdef_types.specs.Statements.{AreRead};
 ghost use Rattle.kdcdef_types.specs.declared.statement.Statement.{Statement};
 ghost use Rattle.kdcdef_read.specs.Meaning.{StandFor, HasFault};
-ghost use Rattle.kdcdef_read.specs.Steps.{Gives, items_of, read_all};
+ghost use Rattle.kdcdef_read.specs.Steps.{Gives, read_all};
 ghost use Rattle.kdcdef_read.specs.declared.fault.ReadFault.{ReadFault};
 ghost use Rattle.kdcdef_read.specs.declared.fault.ReadFault.TheVariants.{Memory};
 
 use crate::fault::ReadFault;
 use crate::statement::{Progress, step};
 use crate::words::KEYS;
+use kd_base::Sequence;
 use kdcdef_lex::RawStatement;
 use kdcdef_types::Statement;
 use std::alloc::Global;
@@ -19,7 +21,7 @@ fn read_all(alloc: Global, raw: &Vec<RawStatement>) -> Result<Vec<Statement>, Re
     requires { AreWithinBounds raw.now.items }
     ensures { Gives (items_of result) (read_all raw.now.items) }
 {
-    let mut statements = Vec::new(alloc);
+    let mut statements = Sequence::new(alloc);
     let mut progress = Progress {
         taken: [false; KEYS],
         ended: false,
@@ -33,7 +35,7 @@ fn read_all(alloc: Global, raw: &Vec<RawStatement>) -> Result<Vec<Statement>, Re
     if !progress.ended {
         return Err(ReadFault::NoEnd(progress.next));
     }
-    Ok(statements)
+    Ok(statements.into_vec())
 }
 
 /// The typed statements of raw ones, in their order, or their first fault.

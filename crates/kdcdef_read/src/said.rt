@@ -1,6 +1,6 @@
 //! What a statement says, from what its operands say.
 ghost use Rattle.std.specs.Prelude.{◌≡◌, IfOk};
-ghost use Rattle.kdcdef_read.specs.Said.{name_at, prog_name_at, number_at, class_at, time_at, call_at, flag_at, password_at, max_said, program_said, class_of, tac_entry, tac_said, user_said, pterm_said, lterm_said, tls_said, uls_said, class_said, said_of};
+ghost use Rattle.kdcdef_read.specs.Said.{name_at, prog_name_at, number_at, class_at, time_at, call_at, flag_at, password_at, max_said, class_of, tac_entry, tac_said, user_said, pterm_said, lterm_said, class_said, said_of};
 ghost use Rattle.kdcdef_read.specs.Filling.{answer, answers};
 ghost use Rattle.kdcdef_read.specs.declared.words.Keyword.TheVariants as keywords;
 ghost use Rattle.kdcdef_read.specs.declared.words.Key.TheVariants as keys;
@@ -58,19 +58,13 @@ fn number_at(value: Option<Value>) -> Option<u16>
 fn wide_at(value: Option<Value>) -> Option<u32>
     ensures { result ≡ number_at value }
 {
-    match value {
-        Some(Value::Number(number)) => Some(u32::from(number)),
-        _ => None,
-    }
+    Some(u32::from(number_at(value)?))
 }
 
 fn ticks_at(value: Option<Value>) -> Option<u64>
     ensures { result ≡ number_at value }
 {
-    match value {
-        Some(Value::Number(number)) => Some(u64::from(number)),
-        _ => None,
-    }
+    Some(u64::from(number_at(value)?))
 }
 
 fn class_at(value: Option<Value>) -> Option<u8>
@@ -139,7 +133,7 @@ fn max_said(given: &Given) -> Said
 }
 
 fn program_said(given: &Given) -> Option<Said>
-    ensures { result ≡ program_said (answers keywords.Program given.now.slots) }
+    ensures { result ≡ said_of keywords.Program (answers keywords.Program given.now.slots) }
 {
     let name = prog_name_at(&answer(Keyword::Program, given, Key::First))?;
     Some(Said::Program(name))
@@ -216,14 +210,14 @@ fn lterm_said(given: &Given) -> Option<Said>
 }
 
 fn tls_said(given: &Given) -> Option<Said>
-    ensures { result ≡ tls_said (answers keywords.Tls given.now.slots) }
+    ensures { result ≡ said_of keywords.Tls (answers keywords.Tls given.now.slots) }
 {
     let name = name_at(&answer(Keyword::Tls, given, Key::First))?;
     Some(Said::Tls(name))
 }
 
 fn uls_said(given: &Given) -> Option<Said>
-    ensures { result ≡ uls_said (answers keywords.Uls given.now.slots) }
+    ensures { result ≡ said_of keywords.Uls (answers keywords.Uls given.now.slots) }
 {
     let name = name_at(&answer(Keyword::Uls, given, Key::First))?;
     Some(Said::Uls(name))

@@ -85,42 +85,40 @@ fn flag_of(off: &[u8], on: &[u8], word: &[u8]) -> Option<Value>
     ensures { result ≡ flag_of off.now on.now word.now }
 {
     if is(word, off) {
-        return Some(Value::Flag(false));
+        Some(Value::Flag(false))
+    } else if is(word, on) {
+        Some(Value::Flag(true))
+    } else {
+        None
     }
-    if is(word, on) {
-        return Some(Value::Flag(true));
-    }
-    None
 }
 
 fn call_of(word: &[u8]) -> Option<Value>
     ensures { result ≡ call_of word.now }
 {
     if is(word, b"BOTH") {
-        return Some(Value::Call(CallUse::Both));
+        Some(Value::Call(CallUse::Both))
+    } else if is(word, b"FIRST") {
+        Some(Value::Call(CallUse::First))
+    } else if is(word, b"NEXT") {
+        Some(Value::Call(CallUse::Next))
+    } else {
+        None
     }
-    if is(word, b"FIRST") {
-        return Some(Value::Call(CallUse::First));
-    }
-    if is(word, b"NEXT") {
-        return Some(Value::Call(CallUse::Next));
-    }
-    None
 }
 
 fn blksize_of(word: &[u8]) -> Option<Value>
     ensures { result ≡ blksize_of word.now }
 {
     if is(word, b"2K") {
-        return Some(Value::Number(2048));
+        Some(Value::Number(2048))
+    } else if is(word, b"4K") {
+        Some(Value::Number(4096))
+    } else if is(word, b"8K") {
+        Some(Value::Number(8192))
+    } else {
+        None
     }
-    if is(word, b"4K") {
-        return Some(Value::Number(4096));
-    }
-    if is(word, b"8K") {
-        return Some(Value::Number(8192));
-    }
-    None
 }
 
 fn choice_of(choice: Choice, word: &[u8]) -> Option<Value>
@@ -193,12 +191,12 @@ fn file_of(word: &[u8]) -> Result<Value, Cause>
     ensures { result ≡ file_of word.now }
 {
     if is(word, b"SINGLE") {
-        return Ok(Value::Accepted);
+        Ok(Value::Accepted)
+    } else if is(word, b"DOUBLE") {
+        Err(Cause::NotInProfile)
+    } else {
+        Err(Cause::BadChoice)
     }
-    if is(word, b"DOUBLE") {
-        return Err(Cause::NotInProfile);
-    }
-    Err(Cause::BadChoice)
 }
 
 fn file_in(raw: &RawValue) -> Result<Value, Cause>
@@ -218,12 +216,12 @@ fn mode_of(word: &[u8]) -> Result<Value, Cause>
     ensures { result ≡ mode_of word.now }
 {
     if is(word, b"SECURE") {
-        return Ok(Value::Accepted);
+        Ok(Value::Accepted)
+    } else if is(word, b"FAST") {
+        Err(Cause::NotInProfile)
+    } else {
+        Err(Cause::BadChoice)
     }
-    if is(word, b"FAST") {
-        return Err(Cause::NotInProfile);
-    }
-    Err(Cause::BadChoice)
 }
 
 fn mode_in(raw: &RawValue) -> Result<Value, Cause>

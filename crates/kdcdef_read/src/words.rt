@@ -73,33 +73,26 @@ fn kept_of(word: &[u8]) -> Option<Keyword>
     ensures { result ≡ kept_of word.now }
 {
     if is(word, b"MAX") {
-        return Some(Keyword::Max);
+        Some(Keyword::Max)
+    } else if is(word, b"PROGRAM") {
+        Some(Keyword::Program)
+    } else if is(word, b"TAC") {
+        Some(Keyword::Tac)
+    } else if is(word, b"USER") {
+        Some(Keyword::User)
+    } else if is(word, b"PTERM") {
+        Some(Keyword::Pterm)
+    } else if is(word, b"LTERM") {
+        Some(Keyword::Lterm)
+    } else if is(word, b"TLS") {
+        Some(Keyword::Tls)
+    } else if is(word, b"ULS") {
+        Some(Keyword::Uls)
+    } else if is(word, b"TACCLASS") {
+        Some(Keyword::TacClass)
+    } else {
+        None
     }
-    if is(word, b"PROGRAM") {
-        return Some(Keyword::Program);
-    }
-    if is(word, b"TAC") {
-        return Some(Keyword::Tac);
-    }
-    if is(word, b"USER") {
-        return Some(Keyword::User);
-    }
-    if is(word, b"PTERM") {
-        return Some(Keyword::Pterm);
-    }
-    if is(word, b"LTERM") {
-        return Some(Keyword::Lterm);
-    }
-    if is(word, b"TLS") {
-        return Some(Keyword::Tls);
-    }
-    if is(word, b"ULS") {
-        return Some(Keyword::Uls);
-    }
-    if is(word, b"TACCLASS") {
-        return Some(Keyword::TacClass);
-    }
-    None
 }
 
 // The nine statements that are read and not kept.
@@ -121,18 +114,16 @@ pub(crate) fn form_of(word: &[u8]) -> Option<Form>
     ensures { result ≡ form_of word.now }
 {
     if let Some(keyword) = kept_of(word) {
-        return Some(Form::Kept(keyword));
+        Some(Form::Kept(keyword))
+    } else if is_passed(word) {
+        Some(Form::Passed)
+    } else if is(word, b"KSET") {
+        Some(Form::KeySet)
+    } else if is(word, b"END") {
+        Some(Form::End)
+    } else {
+        None
     }
-    if is_passed(word) {
-        return Some(Form::Passed);
-    }
-    if is(word, b"KSET") {
-        return Some(Form::KeySet);
-    }
-    if is(word, b"END") {
-        return Some(Form::End);
-    }
-    None
 }
 
 // The keys of MAX.
@@ -140,45 +131,34 @@ fn limit_key(word: &[u8]) -> Option<Key>
     ensures { result ≡ limit_key word.now }
 {
     if is(word, b"APPLINAME") {
-        return Some(Key::Appliname);
+        Some(Key::Appliname)
+    } else if is(word, b"KDCFILE") {
+        Some(Key::KdcFile)
+    } else if is(word, b"TASKS") {
+        Some(Key::Tasks)
+    } else if is(word, b"ASYNTASKS") {
+        Some(Key::Asyntasks)
+    } else if is(word, b"GSSBS") {
+        Some(Key::Gssbs)
+    } else if is(word, b"LSSBS") {
+        Some(Key::Lssbs)
+    } else if is(word, b"KB") {
+        Some(Key::Kb)
+    } else if is(word, b"SPAB") {
+        Some(Key::Spab)
+    } else if is(word, b"NB") {
+        Some(Key::Nb)
+    } else if is(word, b"PGPOOL") {
+        Some(Key::Pgpool)
+    } else if is(word, b"RESWAIT") {
+        Some(Key::Reswait)
+    } else if is(word, b"BLKSIZE") {
+        Some(Key::Blksize)
+    } else if is(word, b"APPLIMODE") {
+        Some(Key::Applimode)
+    } else {
+        None
     }
-    if is(word, b"KDCFILE") {
-        return Some(Key::KdcFile);
-    }
-    if is(word, b"TASKS") {
-        return Some(Key::Tasks);
-    }
-    if is(word, b"ASYNTASKS") {
-        return Some(Key::Asyntasks);
-    }
-    if is(word, b"GSSBS") {
-        return Some(Key::Gssbs);
-    }
-    if is(word, b"LSSBS") {
-        return Some(Key::Lssbs);
-    }
-    if is(word, b"KB") {
-        return Some(Key::Kb);
-    }
-    if is(word, b"SPAB") {
-        return Some(Key::Spab);
-    }
-    if is(word, b"NB") {
-        return Some(Key::Nb);
-    }
-    if is(word, b"PGPOOL") {
-        return Some(Key::Pgpool);
-    }
-    if is(word, b"RESWAIT") {
-        return Some(Key::Reswait);
-    }
-    if is(word, b"BLKSIZE") {
-        return Some(Key::Blksize);
-    }
-    if is(word, b"APPLIMODE") {
-        return Some(Key::Applimode);
-    }
-    None
 }
 
 // The other keys.
@@ -186,42 +166,32 @@ fn entry_key(word: &[u8]) -> Option<Key>
     ensures { result ≡ entry_key word.now }
 {
     if is(word, b"PROGRAM") {
-        return Some(Key::Program);
+        Some(Key::Program)
+    } else if is(word, b"TYPE") {
+        Some(Key::Type)
+    } else if is(word, b"CALL") {
+        Some(Key::Call)
+    } else if is(word, b"STATUS") {
+        Some(Key::Status)
+    } else if is(word, b"TACCLASS") {
+        Some(Key::TacClass)
+    } else if is(word, b"TIME") {
+        Some(Key::Time)
+    } else if is(word, b"LOCK") {
+        Some(Key::Lock)
+    } else if is(word, b"PASS") {
+        Some(Key::Pass)
+    } else if is(word, b"RESTART") {
+        Some(Key::Restart)
+    } else if is(word, b"KSET") {
+        Some(Key::Kset)
+    } else if is(word, b"LTERM") {
+        Some(Key::Lterm)
+    } else if is(word, b"USAGE") {
+        Some(Key::Usage)
+    } else {
+        None
     }
-    if is(word, b"TYPE") {
-        return Some(Key::Type);
-    }
-    if is(word, b"CALL") {
-        return Some(Key::Call);
-    }
-    if is(word, b"STATUS") {
-        return Some(Key::Status);
-    }
-    if is(word, b"TACCLASS") {
-        return Some(Key::TacClass);
-    }
-    if is(word, b"TIME") {
-        return Some(Key::Time);
-    }
-    if is(word, b"LOCK") {
-        return Some(Key::Lock);
-    }
-    if is(word, b"PASS") {
-        return Some(Key::Pass);
-    }
-    if is(word, b"RESTART") {
-        return Some(Key::Restart);
-    }
-    if is(word, b"KSET") {
-        return Some(Key::Kset);
-    }
-    if is(word, b"LTERM") {
-        return Some(Key::Lterm);
-    }
-    if is(word, b"USAGE") {
-        return Some(Key::Usage);
-    }
-    None
 }
 
 pub(crate) fn key_of(word: &[u8]) -> Option<Key>
@@ -238,32 +208,5 @@ pub(crate) fn place_of(key: Key) -> usize
     ensures place { result ≡ place_of key }
     ensures within { result < 26 }
 {
-    match key {
-        Key::First => 0,
-        Key::Appliname => 1,
-        Key::KdcFile => 2,
-        Key::Tasks => 3,
-        Key::Asyntasks => 4,
-        Key::Gssbs => 5,
-        Key::Lssbs => 6,
-        Key::Kb => 7,
-        Key::Spab => 8,
-        Key::Nb => 9,
-        Key::Pgpool => 10,
-        Key::Reswait => 11,
-        Key::Blksize => 12,
-        Key::Applimode => 13,
-        Key::Program => 14,
-        Key::Type => 15,
-        Key::Call => 16,
-        Key::Status => 17,
-        Key::TacClass => 18,
-        Key::Time => 19,
-        Key::Lock => 20,
-        Key::Pass => 21,
-        Key::Restart => 22,
-        Key::Kset => 23,
-        Key::Lterm => 24,
-        Key::Usage => 25,
-    }
+    key as usize
 }

@@ -1,6 +1,7 @@
 -- Faults are those of the first faulty line, and commands those of the lines.
 use Rattle.std.proofs.Common.{◌≡◌, ◌⊎◌, inl, inr, subst, suc, ℕ, ◌+◌, Bool, true, false, List, [], ◌∷◌, ◌++◌, length, Result, Ok, Err, refl, sym, ap, ◌∙◌, arith}
 use Rattle.std.specs.Str.Lines.{lines}
+use Rattle.kd_base.specs.Tools.{ok_is, err_is}
 use Rattle.script_read.specs.declared.fault.ScriptFault.{ScriptFault}
 use Rattle.script_read.specs.declared.fault.ScriptFault.TheVariants.{BadLine, OutOfRange, TooLong}
 use Rattle.script_read.specs.Script.{Line, Nothing, Says, IsBad, IsOutOfRange, before, line_then, script_from, script_by, is_too_long, script_of}
@@ -9,10 +10,9 @@ use Rattle.script_read.specs.Laws.{IsRight, AreRight, IsFirstFault, IsFirstOf, F
 
 -- the fault that a line with this number has
 abbrev IsFaultOf : {C : Type 0} → ℕ → Line C → ScriptFault → Type 0
-IsFaultOf n Nothing fault = ⊥
-IsFaultOf n (Says c) fault = ⊥
 IsFaultOf n IsBad fault = BadLine n ≡ fault
 IsFaultOf n IsOutOfRange fault = OutOfRange n ≡ fault
+IsFaultOf n _ fault = ⊥
 
 -- from line `first` on, the first fault
 record StandsFrom {C : Type 0} (reads : List ℕ → Line C) (first : ℕ) (fault : ScriptFault) (all : List (List ℕ)) : Type 0 where
@@ -27,9 +27,6 @@ before_err : {C : Type 0} (c : C) (rest : Result (List C) ScriptFault) (fault : 
 before_err c (Ok commands) fault h = absurd cc
 before_err c (Err e) fault h = h
 
-err_is : (C : Type 0) (e f : ScriptFault) → (let x : Result (List C) ScriptFault = Err e in x) ≡ Err f → e ≡ f
-err_is C e f h = cc
-
 -- the fault is this line's, or that of the lines behind it
 abbrev HereOrBehind : {C : Type 0} → ℕ → Line C → Result (List C) ScriptFault → ScriptFault → Type 0
 HereOrBehind n line rest fault = IsFaultOf n line fault ⊎ (IsRight line × (rest ≡ Err fault))
@@ -37,8 +34,8 @@ HereOrBehind n line rest fault = IsFaultOf n line fault ⊎ (IsRight line × (re
 here_or_behind : {C : Type 0} (n : ℕ) (line : Line C) (rest : Result (List C) ScriptFault) (fault : ScriptFault) → line_then n line rest ≡ Err fault → HereOrBehind n line rest fault
 here_or_behind n Nothing rest fault h = inr (tt, h)
 here_or_behind n (Says c) rest fault h = inr (tt, before_err c rest fault h)
-here_or_behind {C} n IsBad rest fault h = inl (err_is C (BadLine n) fault h)
-here_or_behind {C} n IsOutOfRange rest fault h = inl (err_is C (OutOfRange n) fault h)
+here_or_behind {C} n IsBad rest fault h = inl (err_is (List C) (BadLine n) fault h)
+here_or_behind {C} n IsOutOfRange rest fault h = inl (err_is (List C) (OutOfRange n) fault h)
 
 add_none : (n : ℕ) → n + 0 ≡ n
 add_none n = omega arith
@@ -66,20 +63,18 @@ stands reads n fault (line ∷ rest) h =
 
 -- a text that is refused for a line is not too long
 lines_say : {C : Type 0} (reads : List ℕ → Line C) (long : Bool) (text : List ℕ) (fault : ScriptFault) → script_by long reads text ≡ Err fault → (TooLong ≡ fault) ⊎ (script_from reads 1 (lines text) ≡ Err fault)
-lines_say {C} reads true text fault h = inl (err_is C TooLong fault h)
+lines_say {C} reads true text fault h = inl (err_is (List C) TooLong fault h)
 lines_say reads false text fault h = inr h
 
 bad_is : {C : Type 0} (n k : ℕ) (line : Line C) → IsFaultOf k line (BadLine n) → (line ≡ IsBad) × (n ≡ k)
-bad_is n k Nothing h = absurd h
-bad_is n k (Says c) h = absurd h
 bad_is n k IsBad h = (refl, cc)
 bad_is n k IsOutOfRange h = absurd cc
+bad_is n k _ h = absurd h
 
 out_is : {C : Type 0} (n k : ℕ) (line : Line C) → IsFaultOf k line (OutOfRange n) → (line ≡ IsOutOfRange) × (n ≡ k)
-out_is n k Nothing h = absurd h
-out_is n k (Says c) h = absurd h
 out_is n k IsBad h = absurd cc
 out_is n k IsOutOfRange h = (refl, cc)
+out_is n k _ h = absurd h
 
 first_of_lines : {C : Type 0} (reads : List ℕ → Line C) (n : ℕ) (what : Line C) (fault : ScriptFault) (all : List (List ℕ)) → ((k : ℕ) (line : Line C) → IsFaultOf k line fault → (line ≡ what) × (n ≡ k)) → StandsFrom reads 1 fault all → IsFirstFault reads n what all
 first_of_lines reads n what fault all is s =
@@ -111,11 +106,8 @@ pub record SaysAll {C : Type 0} (reads : List ℕ → Line C) (all : List (List 
 abbrev Follows : {C : Type 0} → C → Result (List C) ScriptFault → List C → Type 0
 Follows {C} c rest commands = (more : List C) × (rest ≡ Ok more) × (commands ≡ c ∷ more)
 
-ok_is : {C : Type 0} (a b : List C) → (let x : Result (List C) ScriptFault = Ok a in x) ≡ Ok b → a ≡ b
-ok_is a b h = cc
-
 before_ok : {C : Type 0} (c : C) (rest : Result (List C) ScriptFault) (commands : List C) → before c rest ≡ Ok commands → Follows c rest commands
-before_ok c (Ok more) commands h = (more, refl, sym (ok_is (c ∷ more) commands h))
+before_ok c (Ok more) commands h = (more, refl, sym (ok_is ScriptFault (c ∷ more) commands h))
 before_ok c (Err e) commands h = absurd cc
 
 abbrev SaidBefore : {C : Type 0} → Line C → Result (List C) ScriptFault → List C → Type 0
@@ -128,7 +120,7 @@ said_before n IsBad rest commands h = absurd cc
 said_before n IsOutOfRange rest commands h = absurd cc
 
 pub says_all : {C : Type 0} (reads : List ℕ → Line C) (n : ℕ) (all : List (List ℕ)) (commands : List C) → script_from reads n all ≡ Ok commands → SaysAll reads all commands
-says_all reads n [] commands h = record { right = tt; said = sym (ok_is [] commands h) }
+says_all reads n [] commands h = record { right = tt; said = sym (ok_is ScriptFault [] commands h) }
 says_all {C} reads n (line ∷ rest) commands h =
     let b = said_before n (reads line) (script_from reads (n + 1) rest) commands h in
     let s = says_all reads (n + 1) rest b.1.0 b.1.1 in

@@ -5,14 +5,16 @@ use Rattle.std.specs.List.{All}
 use Rattle.std.specs.Global.{Vec}
 use Rattle.std.specs.Str.Lines.{lines}
 use Rattle.std.proofs.lemmas.List.Elements.{All-nil, All-cons, All-append, All-same}
+use Rattle.kd_base.specs.FirstFaults.{items_of}
 use Rattle.kdcdef_types.specs.declared.entry.PtermEntry.{PtermEntry}
 use Rattle.kdcdef_types.specs.Generation.{Generated}
 use Rattle.monitor_semantics.specs.declared.command.Command.{Command}
-use Rattle.monitor_semantics.specs.declared.command.Command.TheVariants.{Input, Tick, Run, Turn, Drop, Print, PrintLast, Restart}
+use Rattle.monitor_semantics.specs.declared.command.Command.TheVariants.{Input, Turn, Drop, Print, PrintLast}
 use Rattle.script_read.specs.declared.fault.ScriptFault.{ScriptFault}
-use Rattle.script_read.specs.Script.{Line, Nothing, Says, IsBad, IsOutOfRange}
-use Rattle.script_read.specs.Reading.{Gives, items_of, commands_of}
-use Rattle.script_read.specs.Commands.{line_in, is_pterm, IsCommandOf}
+use Rattle.script_read.specs.Script.{Line, Says}
+use Rattle.script_read.specs.Reading.{Gives, commands_of}
+use Rattle.monitor_semantics.specs.CommandsOf.{is_pterm, IsCommandOf}
+use Rattle.script_read.specs.Commands.{line_in}
 use Rattle.script_read.specs.Spelling.{IsPterm, IsSpelled}
 use Rattle.script_read.specs.Laws.{said, all_said}
 use Rattle.script_read.proofs.Spelled.{commands_only}
@@ -23,19 +25,15 @@ known g name is = ap (λ (o : Option PtermEntry). is_some o) is.is_pterm
 
 of_spelled : (g : Generated) (c : Command) (line : List ℕ) → IsSpelled g c line → IsCommandOf g c
 of_spelled g (Input name text) line s = known g name s.dialogue
-of_spelled g (Tick n) line s = tt
-of_spelled g (Run n) line s = tt
 of_spelled g (Turn n) line s = s.1.range
 of_spelled g (Drop name) line s = known g name s.0
 of_spelled g (Print name) line s = known g name s.0
 of_spelled g (PrintLast name) line s = known g name s.0
-of_spelled g Restart line s = tt
+of_spelled g _ line s = tt
 
 of_line : (g : Generated) (line : List ℕ) (x : Line Command) → line_in g line ≡ x → All (IsCommandOf g) (said x)
-of_line g line Nothing e = All-nil (IsCommandOf g)
 of_line g line (Says c) e = All-cons (IsCommandOf g) c [] (of_spelled g c line (commands_only g c line e)) (All-nil (IsCommandOf g))
-of_line g line IsBad e = All-nil (IsCommandOf g)
-of_line g line IsOutOfRange e = All-nil (IsCommandOf g)
+of_line g line _ e = All-nil (IsCommandOf g)
 
 of_lines : (g : Generated) (all : List (List ℕ)) → All (IsCommandOf g) (all_said (line_in g) all)
 of_lines g [] = All-nil (IsCommandOf g)

@@ -1,7 +1,7 @@
 -- The lines of a keyword and its words.
 use Rattle.std.proofs.Common.{◌≡◌, inl, inr, ℕ, ◌≤◌, Bool, true, false, List, [], ◌∷◌, ◌++◌, length, Option, Some, None, refl, sym, ap, subst, ◌∙◌}
 use Rattle.std.specs.Prelude.{find, codes}
-use Rattle.kd_base.specs.Tools.{chosen, some_is}
+use Rattle.kd_base.specs.Tools.{find_passes, chosen, some_is}
 use Rattle.kdcs_types.specs.Limits.{last_clock}
 use Rattle.kdcdef_types.specs.Generation.{Generated}
 use Rattle.monitor_semantics.specs.declared.command.Command.{Command}
@@ -22,27 +22,11 @@ use Rattle.script_read.proofs.Names.{name_word, pterm_said, pterm_only, pterm_ne
 
 spelled_word : (k : Keyword) → IsWord (spelling k)
 spelled_word keywords.Tick = word_of (codes "TICK") refl
-spelled_word keywords.Run = word_of (codes "RUN") refl
-spelled_word keywords.Turn = word_of (codes "TURN") refl
-spelled_word keywords.Drop = word_of (codes "DROP") refl
-spelled_word keywords.Print = word_of (codes "PRINT") refl
-spelled_word keywords.Restart = word_of (codes "RESTART") refl
+spelled_word k = word_of (spelling k) refl
 
 known : (k : Keyword) → keyword_of (spelling k) ≡ Some k
 known keywords.Tick = refl
-known keywords.Run = refl
-known keywords.Turn = refl
-known keywords.Drop = refl
-known keywords.Print = refl
-known keywords.Restart = refl
-
-find_passes : {X : Type 0} (p : X → Bool) (xs : List X) (x : X) → find p xs ≡ Some x → p x ≡ true
-find_passes p [] x e = absurd cc
-find_passes p (y ∷ xs) x e =
-    elim (chosen (p y) (Some y) (find p xs) (Some x) e) [
-      | inl h ↦ ap p (sym (some_is y x h.1)) ∙ h.0
-      | inr h ↦ find_passes p xs x h.1
-    ]
+known _ = refl
 
 keyword_is : (word : List ℕ) (k : Keyword) → keyword_of word ≡ Some k → word ≡ spelling k
 keyword_is word k e = same_bytes word (spelling k) (find_passes (λ (keyword : Keyword). same word (spelling keyword)) KEYWORDS k e)
@@ -52,11 +36,7 @@ keyword_is word k e = same_bytes word (spelling k) (find_passes (λ (keyword : K
 -- a line that begins with a keyword is read by its words
 by_words : (g : Generated) (k : Keyword) (rest : List ℕ) → line_in g (spelling k ++ rest) ≡ line_of_words g (words (spelling k ++ rest))
 by_words g keywords.Tick rest = refl
-by_words g keywords.Run rest = refl
-by_words g keywords.Turn rest = refl
-by_words g keywords.Drop rest = refl
-by_words g keywords.Print rest = refl
-by_words g keywords.Restart rest = refl
+by_words g _ rest = refl
 
 keyed_line : (g : Generated) (k : Keyword) (operands : List (List ℕ)) (line : List ℕ) → AreWords operands → AreParted (spelling k ∷ operands) line → line_in g line ≡ with_words g k operands
 keyed_line g k operands line are p =
@@ -123,12 +103,8 @@ says_is a b h = cc
 
 -- the line is spelled as what its words say
 only_alone : (g : Generated) (k : Keyword) (line : List ℕ) (c : Command) → AreParted (spelling k ∷ []) line → alone k ≡ Says c → IsSpelled g c line
-only_alone g keywords.Tick line c p h = absurd cc
-only_alone g keywords.Run line c p h = absurd cc
-only_alone g keywords.Turn line c p h = absurd cc
-only_alone g keywords.Drop line c p h = absurd cc
-only_alone g keywords.Print line c p h = absurd cc
 only_alone g keywords.Restart line c p h = subst (λ (x : Command). IsSpelled g x line) (sym (says_is Restart c h)) p
+only_alone g _ line c p h = absurd cc
 
 only_number : (g : Generated) (say : ℕ → Command) (low high : ℕ) (word line : List ℕ) (c : Command) → 1 ≤ length word → as_command say (numbered low high word) ≡ Says c
     → ((n : ℕ) → IsNumber low high n word → IsSpelled g (say n) line) → IsSpelled g c line
@@ -156,15 +132,11 @@ by_last true name c h = (refl, h)
 by_last false name c h = absurd cc
 
 only_two : (g : Generated) (k : Keyword) (word last line : List ℕ) (c : Command) → AreParted (spelling k ∷ word ∷ last ∷ []) line → with_two g k word last ≡ Says c → IsSpelled g c line
-only_two g keywords.Tick word last line c p h = absurd cc
-only_two g keywords.Run word last line c p h = absurd cc
-only_two g keywords.Turn word last line c p h = absurd cc
-only_two g keywords.Drop word last line c p h = absurd cc
 only_two g keywords.Print word last line c p h =
     let l = by_last (same last (codes "LAST")) (pterm_in g true word) c h in
     let parted = subst (λ (w : List ℕ). AreParted (codes "PRINT" ∷ word ∷ w ∷ []) line) (same_bytes last (codes "LAST") l.0) p in
     only_pterm g PrintLast true word line c l.1 (λ is. (is, parted))
-only_two g keywords.Restart word last line c p h = absurd cc
+only_two g _ word last line c p h = absurd cc
 
 pub spelled_by_words : (g : Generated) (k : Keyword) (operands : List (List ℕ)) (line : List ℕ) (c : Command) → AreSome operands → AreParted (spelling k ∷ operands) line → with_words g k operands ≡ Says c → IsSpelled g c line
 spelled_by_words g k [] line c some p h = only_alone g k line c p h
@@ -175,11 +147,7 @@ spelled_by_words g k (word ∷ last ∷ more ∷ rest) line c some p h = absurd 
 -- only a number is out of its range
 out_alone : (k : Keyword) → alone k ≡ IsOutOfRange → ⊥
 out_alone keywords.Tick h = cc
-out_alone keywords.Run h = cc
-out_alone keywords.Turn h = cc
-out_alone keywords.Drop h = cc
-out_alone keywords.Print h = cc
-out_alone keywords.Restart h = cc
+out_alone _ h = cc
 
 outside_of : (keyword : List ℕ) (low high : ℕ) (word line : List ℕ) → 1 ≤ length word → AreParted (keyword ∷ word ∷ []) line → numbered low high word ≡ IsOutOfRange → IsOutside keyword low high line
 outside_of keyword low high word line some p h =
@@ -199,12 +167,8 @@ out_last true g word h = pterm_never_out g true word (as_out PrintLast (pterm_in
 out_last false g word h = cc
 
 out_two : (g : Generated) (k : Keyword) (word last : List ℕ) → with_two g k word last ≡ IsOutOfRange → ⊥
-out_two g keywords.Tick word last h = cc
-out_two g keywords.Run word last h = cc
-out_two g keywords.Turn word last h = cc
-out_two g keywords.Drop word last h = cc
 out_two g keywords.Print word last h = out_last (same last (codes "LAST")) g word h
-out_two g keywords.Restart word last h = cc
+out_two g _ word last h = cc
 
 pub outside_by_words : (g : Generated) (k : Keyword) (operands : List (List ℕ)) (line : List ℕ) → AreSome operands → AreParted (spelling k ∷ operands) line → with_words g k operands ≡ IsOutOfRange → IsOutsideItsRange g line
 outside_by_words g k [] line some p h = absurd (out_alone k h)

@@ -11,7 +11,7 @@ use Rattle.monitor_semantics.specs.declared.command.Command.{Command}
 use Rattle.monitor_semantics.specs.declared.command.Command.TheVariants.{Input, Tick, Run, Turn, Drop, Print, PrintLast}
 use Rattle.script_read.specs.declared.keyword.Keyword.{Keyword}
 use Rattle.script_read.specs.declared.keyword.Keyword.TheVariants as keywords
-use Rattle.script_read.specs.Script.{Line, Nothing, Says, IsBad, IsOutOfRange, as_command, words, same, is_comment, is_passed, begins_with_space, line_by, is_count, number_in, number_by, numbered}
+use Rattle.script_read.specs.Script.{Line, Nothing, as_command, words, same, is_comment, is_passed, begins_with_space, line_by, is_count, number_in, number_by, numbered}
 use Rattle.script_read.specs.Commands.{last_turns, lterm_at, is_wanted, pterm_by, pterm_in, is_text_byte, begins_with_in, input_by, keyword_of, alone, with_one, last_by, with_two, with_words, keyed, line_of_words, command_by}
 use Rattle.script_read.specs.Spelling.{IsPassed, PassedAreNothing, PassedOnly}
 
@@ -58,15 +58,11 @@ passed_so line h =
 -- a line that says something, or is at fault
 abbrev tells : {C : Type 0} → Line C → Bool
 tells Nothing = false
-tells (Says command) = true
-tells IsBad = true
-tells IsOutOfRange = true
+tells _ = true
 
 as_tells : {A C : Type 0} (say : A → C) (x : Line A) → tells x ≡ true → tells (as_command say x) ≡ true
 as_tells say Nothing h = h
-as_tells say (Says a) h = refl
-as_tells say IsBad h = refl
-as_tells say IsOutOfRange h = refl
+as_tells say _ h = refl
 
 in_tells : (count : Bool) (n : ℕ) → tells (number_in count n) ≡ true
 in_tells true n = refl
@@ -92,11 +88,7 @@ input_tells false g name text = refl
 
 alone_tells : (k : Keyword) → tells (alone k) ≡ true
 alone_tells keywords.Tick = refl
-alone_tells keywords.Run = refl
-alone_tells keywords.Turn = refl
-alone_tells keywords.Drop = refl
-alone_tells keywords.Print = refl
-alone_tells keywords.Restart = refl
+alone_tells _ = refl
 
 one_tells : (g : Generated) (k : Keyword) (word : List ℕ) → tells (with_one g k word) ≡ true
 one_tells g keywords.Tick word = as_tells Tick (numbered 0 last_clock word) (number_tells 0 last_clock word)
@@ -111,12 +103,8 @@ last_tells true g word = as_tells PrintLast (pterm_in g true word) (pterm_tells 
 last_tells false g word = refl
 
 two_tells : (g : Generated) (k : Keyword) (word last : List ℕ) → tells (with_two g k word last) ≡ true
-two_tells g keywords.Tick word last = refl
-two_tells g keywords.Run word last = refl
-two_tells g keywords.Turn word last = refl
-two_tells g keywords.Drop word last = refl
 two_tells g keywords.Print word last = last_tells (same last (codes "LAST")) g word
-two_tells g keywords.Restart word last = refl
+two_tells g _ word last = refl
 
 words_tell : (g : Generated) (k : Keyword) (operands : List (List ℕ)) → tells (with_words g k operands) ≡ true
 words_tell g k [] = alone_tells k

@@ -1,12 +1,11 @@
 -- What a script says, in a generation.
-use Rattle.std.specs.Prelude.{ℕ, Bool, true, false, not, List, [], ◌∷◌, take, drop, codes, find, Option, Some, None, Result, option_and_then, IsTrue, is_some}
+use Rattle.std.specs.Prelude.{ℕ, Bool, true, false, not, List, [], ◌∷◌, take, drop, codes, find, Option, Some, None, Result, option_and_then}
 use Rattle.std.specs.List.{list_all, before_first, after_first}
 use Rattle.kd_base.specs.Text.{is_between, is_space, name_of}
 use Rattle.kdcs_types.specs.Limits.{last_clock}
 use Rattle.kdcdef_types.specs.declared.entry.PtermEntry.{PtermEntry}
 use Rattle.kdcdef_types.specs.declared.entry.LtermEntry.{LtermEntry}
 use Rattle.kdcdef_types.specs.Generation.{Generated, pterm_of, lterm_of}
-use Rattle.kdcdef_types.specs.Statements.{IsWithin}
 use Rattle.monitor_semantics.specs.declared.command.Command.{Command}
 use Rattle.monitor_semantics.specs.declared.command.Command.TheVariants.{Input, Tick, Run, Turn, Drop, Print, PrintLast, Restart}
 use Rattle.script_read.specs.declared.fault.ScriptFault.{ScriptFault}
@@ -120,18 +119,3 @@ line_in g line = line_by (is_passed line) (begins_with_space line) (command_by (
 -- the commands of a script in a generation, or its first fault
 abbrev pub script_in : Generated → List ℕ → Result (List Command) ScriptFault
 script_in g text = script_of (line_in g) text
-
--- the PTERM is one of the generation
-abbrev pub is_pterm : Generated → List ℕ → Bool
-is_pterm g name = is_some (pterm_of g name)
-
--- the names and tasks of a command are those of the generation
-abbrev pub IsCommandOf : Generated → Command → Type 0
-IsCommandOf g (Input pterm text) = IsTrue (is_pterm g pterm)
-IsCommandOf g (Tick ticks) = Unit {0}
-IsCommandOf g (Run turns) = Unit {0}
-IsCommandOf g (Turn task) = IsWithin 1 g.limits.tasks task
-IsCommandOf g (Drop pterm) = IsTrue (is_pterm g pterm)
-IsCommandOf g (Print pterm) = IsTrue (is_pterm g pterm)
-IsCommandOf g (PrintLast pterm) = IsTrue (is_pterm g pterm)
-IsCommandOf g Restart = Unit {0}

@@ -1,5 +1,5 @@
 -- Worked lines.
-use Rattle.std.specs.Prelude.{◌≡◌, ℕ, true, false, List, [], ◌∷◌, ◌++◌, codes, Ok, Err}
+use Rattle.std.specs.Prelude.{◌≡◌, ℕ, true, false, List, [], ◌∷◌, ◌++◌, map, codes, Ok, Err}
 use Rattle.kdcdef_types.specs.Generation.{Generated}
 use Rattle.monitor_semantics.specs.Made.{made_generation}
 use Rattle.monitor_semantics.specs.declared.command.Command.{Command}
@@ -18,49 +18,63 @@ example = record made_generation {
 abbrev pub line_said : List ℕ → Line Command
 line_said line = line_in example line
 
-pub record InputRows : Type 0 where
-  pub text : line_said (codes "IN P1 KDCSIGN U1,PW1") ≡ Says (Input (codes "P1") (codes "KDCSIGN U1,PW1"))
-  -- one space is dropped in front of the text, and none behind it
-  pub spaces : line_said (codes "IN P1  A ") ≡ Says (Input (codes "P1") (codes " A "))
-  pub no_text : line_said (codes "IN P1") ≡ Says (Input (codes "P1") [])
-  pub no_byte : line_said (codes "IN P1 ") ≡ Says (Input (codes "P1") [])
-  pub two_spaces : line_said (codes "IN  P1 A") ≡ IsBad
-  pub printer : line_said (codes "IN P3 A") ≡ IsBad
-  pub no_pterm : line_said (codes "IN P9 A") ≡ IsBad
-  pub tab : line_said (codes "IN P1 " ++ 9 ∷ []) ≡ IsBad
-  pub no_name : line_said (codes "IN") ≡ IsBad
+-- each line says what stands beside it
+abbrev pub AreSaid : List (List ℕ × Line Command) → Type 0
+AreSaid rows = map (λ (row : List ℕ × Line Command). line_said row.0) rows ≡ map (λ (row : List ℕ × Line Command). row.1) rows
 
-pub record NumberRows : Type 0 where
-  pub tick : line_said (codes "TICK 5") ≡ Says (Tick 5)
-  pub greatest_tick : line_said (codes "TICK  999999999999 ") ≡ Says (Tick 999999999999)
-  pub tick_over : line_said (codes "TICK 1000000000000") ≡ IsOutOfRange
-  pub long_tick : line_said (codes "TICK 0000000000000000001") ≡ IsOutOfRange
-  pub run : line_said (codes "RUN 1000000") ≡ Says (Run 1000000)
-  pub run_over : line_said (codes "RUN 1000001") ≡ IsOutOfRange
-  pub run_no_digits : line_said (codes "RUN X") ≡ IsBad
-  pub turn : line_said (codes "TURN 2") ≡ Says (Turn 2)
-  pub turn_none : line_said (codes "TURN 0") ≡ IsOutOfRange
-  pub turn_over : line_said (codes "TURN 3") ≡ IsOutOfRange
-  -- the least fault of a line
-  pub both : line_said (codes "TURN 3 3") ≡ IsBad
+-- one space is dropped in front of the text, and none behind it
+abbrev pub InputRows : Type 0
+InputRows = AreSaid (
+    (codes "IN P1 KDCSIGN U1,PW1", Says (Input (codes "P1") (codes "KDCSIGN U1,PW1")))
+    ∷ (codes "IN P1  A ", Says (Input (codes "P1") (codes " A ")))
+    ∷ (codes "IN P1", Says (Input (codes "P1") []))
+    ∷ (codes "IN P1 ", Says (Input (codes "P1") []))
+    ∷ (codes "IN  P1 A", IsBad)
+    ∷ (codes "IN P3 A", IsBad)
+    ∷ (codes "IN P9 A", IsBad)
+    ∷ (codes "IN P1 " ++ 9 ∷ [], IsBad)
+    ∷ (codes "IN", IsBad)
+    ∷ [])
 
-pub record NameRows : Type 0 where
-  pub drop : line_said (codes "DROP P1") ≡ Says (Drop (codes "P1"))
-  pub drop_printer : line_said (codes "DROP P3") ≡ IsBad
-  pub print : line_said (codes "PRINT P3") ≡ Says (Print (codes "P3"))
-  pub print_terminal : line_said (codes "PRINT P1") ≡ IsBad
-  pub print_last : line_said (codes "PRINT P3 LAST") ≡ Says (PrintLast (codes "P3"))
-  pub print_other : line_said (codes "PRINT P3 FIRST") ≡ IsBad
-  pub restart : line_said (codes "RESTART  ") ≡ Says Restart
-  pub restart_more : line_said (codes "RESTART 1") ≡ IsBad
+-- the last has the least fault of a line
+abbrev pub NumberRows : Type 0
+NumberRows = AreSaid (
+    (codes "TICK 5", Says (Tick 5))
+    ∷ (codes "TICK  999999999999 ", Says (Tick 999999999999))
+    ∷ (codes "TICK 1000000000000", IsOutOfRange)
+    ∷ (codes "TICK 0000000000000000001", IsOutOfRange)
+    ∷ (codes "RUN 1000000", Says (Run 1000000))
+    ∷ (codes "RUN 1000001", IsOutOfRange)
+    ∷ (codes "RUN X", IsBad)
+    ∷ (codes "TURN 2", Says (Turn 2))
+    ∷ (codes "TURN 0", IsOutOfRange)
+    ∷ (codes "TURN 3", IsOutOfRange)
+    ∷ (codes "TURN 3 3", IsBad)
+    ∷ [])
 
-pub record LineRows : Type 0 where
-  pub comment : line_said (codes "* TURN 9") ≡ Nothing
-  pub spaces : line_said (codes "  ") ≡ Nothing
-  pub leading : line_said (codes " RESTART") ≡ IsBad
-  pub lower_case : line_said (codes "restart") ≡ IsBad
-  pub tab : line_said (codes "TURN" ++ 9 ∷ codes "1") ≡ IsBad
-  pub other : line_said (codes "JUMP 3") ≡ IsBad
+abbrev pub NameRows : Type 0
+NameRows = AreSaid (
+    (codes "DROP P1", Says (Drop (codes "P1")))
+    ∷ (codes "DROP P3", IsBad)
+    ∷ (codes "PRINT P3", Says (Print (codes "P3")))
+    ∷ (codes "PRINT P1", IsBad)
+    ∷ (codes "PRINT P3 LAST", Says (PrintLast (codes "P3")))
+    ∷ (codes "PRINT P3 FIRST", IsBad)
+    ∷ (codes "RESTART  ", Says Restart)
+    ∷ (codes "RESTART 1", IsBad)
+    ∷ [])
+
+abbrev pub LineRows : Type 0
+LineRows = AreSaid (
+    (codes "* TURN 9", Nothing)
+    ∷ (codes "  ", Nothing)
+    ∷ (codes " RESTART", IsBad)
+    ∷ (codes "restart", IsBad)
+    ∷ (codes "TURN" ++ 9 ∷ codes "1", IsBad)
+    ∷ (codes "JUMP 3", IsBad)
+    ∷ [])
+
+pub record ScriptRows : Type 0 where
   pub script : script_in example (codes "*\nTURN 1\n\nRESTART") ≡ Ok (Turn 1 ∷ Restart ∷ [])
   pub first : script_in example (codes "TICK 1\nTURN 3\nJUMP 3\n") ≡ Err (OutOfRange 2)
   pub bad : script_in example (codes "TICK 1\nJUMP 3\nTURN 3\n") ≡ Err (BadLine 2)

@@ -3,15 +3,14 @@ use Rattle.std.specs.Prelude.{◌≡◌, ℕ, ◌+◌, List, [], ◌∷◌, ◌+
 use Rattle.std.specs.Str.Lines.{lines}
 use Rattle.script_read.specs.declared.fault.ScriptFault.TheVariants.{BadLine, OutOfRange}
 use Rattle.kdcdef_types.specs.Generation.{Generated}
-use Rattle.script_read.specs.Script.{Line, Nothing, Says, IsBad, IsOutOfRange, script_of}
+use Rattle.script_read.specs.Script.{Line, Says, IsBad, IsOutOfRange, script_of}
 use Rattle.script_read.specs.Commands.{line_in}
 
 -- a line that is no fault
 abbrev pub IsRight : {C : Type 0} → Line C → Type 0
-IsRight Nothing = Unit {0}
-IsRight (Says command) = Unit {0}
 IsRight IsBad = ⊥
 IsRight IsOutOfRange = ⊥
+IsRight _ = Unit {0}
 
 abbrev pub AreRight : {C : Type 0} → (List ℕ → Line C) → List (List ℕ) → Type 0
 AreRight reads [] = Unit {0}
@@ -36,10 +35,8 @@ FaultsAreFirst = (g : Generated) (text : List ℕ) → IsFirstOf (line_in g) tex
 
 -- the command of a line, where it says one
 abbrev pub said : {C : Type 0} → Line C → List C
-said Nothing = []
 said (Says command) = command ∷ []
-said IsBad = []
-said IsOutOfRange = []
+said _ = []
 
 abbrev pub all_said : {C : Type 0} → (List ℕ → Line C) → List (List ℕ) → List C
 all_said reads [] = []

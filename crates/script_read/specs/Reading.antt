@@ -1,10 +1,14 @@
 -- Reading a script, line by line.
-use Rattle.std.specs.Prelude.{◌≡◌, ℕ, List, ◌++◌, Option, Some, None, Result, Ok, Err}
+use Rattle.std.specs.Prelude.{ℕ, Bool, true, false, List, ◌++◌, Option, Some, None, Result, Ok, Err}
 use Rattle.std.specs.Str.Lines.{lines}
-use Rattle.std.specs.Global.{Vec}
+use Rattle.kd_base.specs.FirstFaults.{GivesUnless}
 use Rattle.script_read.specs.declared.fault.ScriptFault.{ScriptFault}
-use Rattle.script_read.specs.declared.fault.ScriptFault.TheVariants.{BadLine, OutOfRange, TooLong, Memory}
+use Rattle.script_read.specs.declared.fault.ScriptFault.TheVariants.{BadLine, OutOfRange, Memory}
 use Rattle.script_read.specs.Script.{Line, Nothing, Says, IsBad, IsOutOfRange, script_from}
+
+abbrev pub is_memory : ScriptFault → Bool
+is_memory Memory = true
+is_memory _ = false
 
 -- the command of a line with this number, if it has one, or its fault
 abbrev pub outcome : {C : Type 0} → ℕ → Line C → Result (Option C) ScriptFault
@@ -20,16 +24,7 @@ found_of (Err fault) = Err fault
 
 -- what came back is what the text says, unless memory ran out
 abbrev pub Gives : {A : Type 0} → Result A ScriptFault → Result A ScriptFault → Type 0
-Gives (Ok found) says = says ≡ Ok found
-Gives (Err Memory) says = Unit {0}
-Gives (Err (BadLine number)) says = says ≡ Err (BadLine number)
-Gives (Err (OutOfRange number)) says = says ≡ Err (OutOfRange number)
-Gives (Err TooLong) says = says ≡ Err TooLong
-
--- a returned `Vec`, as the list in it
-abbrev pub items_of : {C : Type 0} → Result (Vec C) ScriptFault → Result (List C) ScriptFault
-items_of (Ok commands) = Ok commands.items
-items_of (Err fault) = Err fault
+Gives answer says = GivesUnless is_memory answer says
 
 -- the commands of a text of any length
 abbrev pub commands_of : {C : Type 0} → (List ℕ → Line C) → List ℕ → Result (List C) ScriptFault

@@ -1,7 +1,8 @@
 //! Why a script was refused.
+ghost use Rattle.std.specs.Prelude.{◌≡◌};
+ghost use Rattle.script_read.specs.declared.fault.ScriptFault.TheVariants.{Memory};
 
 use kd_base::OutOfMemory;
-use std::alloc::{AllocError, AllocFailed};
 use thiserror::Error;
 
 /// The first fault of a script, with the number of its line from 1.
@@ -21,34 +22,9 @@ pub enum ScriptFault {
 }
 
 impl From<OutOfMemory> for ScriptFault {
-    ghost use Rattle.std.specs.Prelude.{◌≡◌};
-    ghost use Rattle.script_read.specs.declared.fault.ScriptFault.TheVariants as faults;
-
-    ghost from_gives = { λ _ e. e ≡ faults.Memory };
+    ghost from_gives = { λ _ e. e ≡ Memory };
 
     fn from(_: OutOfMemory) -> Self {
-        ScriptFault::Memory
-    }
-}
-
-impl From<AllocError> for ScriptFault {
-    ghost use Rattle.std.specs.Prelude.{◌≡◌};
-    ghost use Rattle.script_read.specs.declared.fault.ScriptFault.TheVariants as faults;
-
-    ghost from_gives = { λ _ e. e ≡ faults.Memory };
-
-    fn from(_: AllocError) -> Self {
-        ScriptFault::Memory
-    }
-}
-
-impl<T: Drop> From<AllocFailed<T>> for ScriptFault {
-    ghost use Rattle.std.specs.Prelude.{◌≡◌};
-    ghost use Rattle.script_read.specs.declared.fault.ScriptFault.TheVariants as faults;
-
-    ghost from_gives = { λ _ e. e ≡ faults.Memory };
-
-    fn from(_: AllocFailed<T>) -> Self {
         ScriptFault::Memory
     }
 }

@@ -1,6 +1,6 @@
 //! What holds of every script, as contracts of functions that do nothing.
 ghost use Rattle.script_read.specs.Laws.{FaultsAreFirst, SaysWhatItsLinesSay};
-ghost use Rattle.script_read.specs.Examples.{InputRows, NumberRows, NameRows, LineRows};
+ghost use Rattle.script_read.specs.Examples.{InputRows, NumberRows, NameRows, LineRows, ScriptRows};
 ghost use Rattle.script_read.specs.Spelling.{CommandsAreSaid, CommandsOnly, OutsideIsTold, OutsideOnly, PassedAreNothing, PassedOnly};
 
 /// A line that is spelled as a command says that command, and no other line says one. A TICK, a RUN or a TURN with digits
@@ -31,4 +31,5 @@ pub fn worked_lines()
     ensures numbers { NumberRows }
     ensures names { NameRows }
     ensures lines { LineRows }
+    ensures scripts { ScriptRows }
 {}

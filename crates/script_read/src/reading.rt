@@ -2,13 +2,16 @@
 ghost use Rattle.std.specs.Prelude.{◌≡◌, ◌≢◌, ◌<◌, ◌-◌, ◌^◌, List, ℕ, length, nat_lt, Ok, Err, IfOk, IfErr};
 ghost use Rattle.std.specs.List.{All};
 ghost use Rattle.std.specs.Str.Lines.{lines};
+ghost use Rattle.kd_base.specs.FirstFaults.{items_of};
 ghost use Rattle.script_read.specs.declared.fault.ScriptFault.TheVariants.{Memory};
 ghost use Rattle.script_read.specs.Script.{Line, command_lines, is_too_long};
-ghost use Rattle.script_read.specs.Commands.{script_in, IsCommandOf};
-ghost use Rattle.script_read.specs.Reading.{outcome, Gives, items_of, commands_of};
+ghost use Rattle.monitor_semantics.specs.CommandsOf.{IsCommandOf};
+ghost use Rattle.script_read.specs.Commands.{script_in};
+ghost use Rattle.script_read.specs.Reading.{outcome, Gives, commands_of};
 
 use crate::fault::ScriptFault;
 use crate::line::is_passed;
+use kd_base::Sequence;
 use kdcdef_check::Generation;
 use monitor_semantics::Command;
 use std::alloc::Global;
@@ -70,7 +73,7 @@ fn commands_of<R: LineReader>(
     requires { length text.now < 2 ^ 32 - 1 }
     ensures { Gives (items_of result) (commands_of (R.line_of reader.now) text.now) }
 {
-    let mut commands = Vec::new(alloc);
+    let mut commands = Sequence::new(alloc);
     let mut number: u32 = 1;
     let mut rest = text;
     while !rest.is_empty() {
@@ -81,7 +84,7 @@ fn commands_of<R: LineReader>(
         number += 1;
         rest = after;
     }
-    Ok(commands)
+    Ok(commands.into_vec())
 }
 
 /// The commands of a script in the order of its lines, or its first fault: `IN`, `TICK`, `RUN`, `TURN`, `DROP`, `PRINT`

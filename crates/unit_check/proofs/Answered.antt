@@ -2,6 +2,8 @@
 use Rattle.std.proofs.Common.{◌≡◌, ◌≢◌, ◌⊎◌, ℕ, refl, sym, ◌∙◌, ap, inl, inr, arith, List, [], ◌∷◌, subst, Option, Some, None}
 use Rattle.std.specs.Prelude.{Result, Ok, Err, IfOk, IfErr, All, Any, IsSome, IfSome}
 use Rattle.std.specs.Option.{IsSomeAnd}
+use Rattle.std.proofs.lemmas.List.Elements.{All-head, All-tail}
+use Rattle.kd_base.specs.FirstFaults.{holds_unless}
 use Rattle.kd_base.specs.Tools.{ok_of, err_of}
 use Rattle.kdcdef_types.specs.declared.entry.TacEntry.{TacEntry}
 use Rattle.kdcdef_types.specs.declared.limits.Limits.{Limits}
@@ -12,8 +14,8 @@ use Rattle.unit_types.specs.UnitText.{UnitText, jump_of, label_place}
 use Rattle.unit_check.specs.declared.fault.FitFault.{FitFault}
 use Rattle.unit_check.specs.declared.fault.FitFault.TheVariants.{NoUnit, NoLabel, FieldPastArea, LiteralFollowUp, Memory}
 use Rattle.unit_check.specs.Fitted.{FittedUnits, unit_named, IsInside, literal_follow_up, tac_in, IsFitted, AreFittedTo}
-use Rattle.unit_check.specs.Faults.{FieldHas, StatementHas, UnitHas, IsFirstInUnits, IsFirstWithout, HaveUnits, IsFirstFault, Gives}
-use Rattle.unit_check.proofs.Order.{no_unit, first_both, all_here, all_behind}
+use Rattle.unit_check.specs.Faults.{FieldHas, StatementHas, UnitHas, IsFirstInUnits, IsFirstWithout, HaveUnits, IsFirstFault, is_memory, Gives}
+use Rattle.unit_check.proofs.Order.{both_first}
 
 -- what none of the items is, is not said of any
 none_of : {A : Type 0} (P Q : A → Type 0) → ((x : A) → P x → Q x → ⊥) → (xs : List A) → All P xs → Any Q xs → ⊥
@@ -23,10 +25,7 @@ none_of P Q never xs all (k, x, lt, at, has) = never x (subst P at (all k x lt))
 
 inside_has_none : (limits : Limits) (f : Field) → IsInside limits f → (e : FitFault) → FieldHas limits f e → ⊥
 inside_has_none limits f inside (FieldPastArea n) has = omega (arith, inside, has.1)
-inside_has_none limits f inside (NoUnit n) has = has
-inside_has_none limits f inside (NoLabel n) has = has
-inside_has_none limits f inside (LiteralFollowUp n) has = has
-inside_has_none limits f inside Memory has = has
+inside_has_none limits f inside _ has = has
 
 some_or_none : {A : Type 0} (o : Option A) → IsSome o → o ≡ None → ⊥
 some_or_none None some none = absurd cc
@@ -46,9 +45,7 @@ NamesTac tacs s = IfSome (literal_follow_up s.action) (λ bytes. IsSome (tac_in 
 statement_has_none : (tacs : List (List ℕ × TacEntry)) (unit : UnitText) (s : UnitStatement) → KnowsItsLabel unit s → NamesTac tacs s → (e : FitFault) → StatementHas tacs unit s e → ⊥
 statement_has_none tacs unit s label tac (NoLabel n) has = not_both (jump_of s.action) (label_place unit) label has.1
 statement_has_none tacs unit s label tac (LiteralFollowUp n) has = not_both (literal_follow_up s.action) (tac_in tacs) tac has.1
-statement_has_none tacs unit s label tac (NoUnit n) has = has
-statement_has_none tacs unit s label tac (FieldPastArea n) has = has
-statement_has_none tacs unit s label tac Memory has = has
+statement_has_none tacs unit s label tac _ has = has
 
 unit_has_none : (g : Generated) (e : FitFault) (unit : UnitText) → IsFitted g.limits g.tacs unit → UnitHas g unit e → ⊥
 unit_has_none g e unit fit (inl has) =
@@ -60,17 +57,15 @@ unit_has_none g e unit fit (inr (k, s, lt, at, has)) =
 none_without : (units : List UnitText) (programs : List (List ℕ × ℕ)) (n : ℕ) → HaveUnits units programs → IsFirstWithout units programs n → ⊥
 none_without units [] n have without = without
 none_without units (p ∷ programs) n have (inl here) =
-    some_or_none (unit_named units p.0) (all_here (λ (q : List ℕ × ℕ). IsSome (unit_named units q.0)) p programs have) here.0
+    some_or_none (unit_named units p.0) (All-head (λ (q : List ℕ × ℕ). IsSome (unit_named units q.0)) p programs have) here.0
 none_without units (p ∷ programs) n have (inr behind) =
-    none_without units programs n (all_behind (λ (q : List ℕ × ℕ). IsSome (unit_named units q.0)) p programs have) behind.1
+    none_without units programs n (All-tail (λ (q : List ℕ × ℕ). IsSome (unit_named units q.0)) p programs have) behind.1
 
 -- a first fault is a PROGRAM statement's, or one of the units
 which : (g : Generated) (units : List UnitText) (e : FitFault) → IsFirstFault g units e → ((n : ℕ) × (e ≡ NoUnit n) × IsFirstWithout units g.programs n) ⊎ (HaveUnits units g.programs × IsFirstInUnits g units e)
 which g units (NoUnit n) first = inl (n, refl, first)
-which g units (NoLabel n) first = inr first
-which g units (FieldPastArea n) first = inr first
-which g units (LiteralFollowUp n) first = inr first
 which g units Memory first = absurd first
+which g units e first = inr first
 
 -- units that fit have no first fault
 pub none_first : (g : Generated) (units : List UnitText) (fitted : FittedUnits) (e : FitFault) → AreFittedTo g units fitted → IsFirstFault g units e → ⊥
@@ -97,19 +92,15 @@ pub one_first : (g : Generated) (units : List UnitText) (d e : FitFault) → IsF
 one_first g units d e p q = by (which g units d p) (which g units e q)
   where
     by : ((n : ℕ) × (d ≡ NoUnit n) × IsFirstWithout units g.programs n) ⊎ (HaveUnits units g.programs × IsFirstInUnits g units d) → ((n : ℕ) × (e ≡ NoUnit n) × IsFirstWithout units g.programs n) ⊎ (HaveUnits units g.programs × IsFirstInUnits g units e) → d ≡ e
-    by (inl x) (inl y) = x.1 ∙ ap no_unit (one_without units g.programs x.0 y.0 x.2 y.2) ∙ sym y.1
+    by (inl x) (inl y) = x.1 ∙ ap NoUnit (one_without units g.programs x.0 y.0 x.2 y.2) ∙ sym y.1
     by (inl x) (inr y) = absurd (none_without units g.programs x.0 y.0 x.2)
     by (inr x) (inl y) = absurd (none_without units g.programs y.0 x.0 y.2)
-    by (inr x) (inr y) = first_both d e (x.1.first e y.1.stands) (y.1.first d x.1.stands)
+    by (inr x) (inr y) = both_first d e (x.1.first e y.1.stands) (y.1.first d x.1.stands)
 
 -- ---- the clauses that say what is answered
 
 gives_fault : (e : FitFault) (wanted : Result FittedUnits FitFault) → (e ≢ Memory → wanted ≡ Err e) → Gives (Err e) wanted
-gives_fault (NoUnit n) wanted is = is (λ m. absurd cc)
-gives_fault (NoLabel n) wanted is = is (λ m. absurd cc)
-gives_fault (FieldPastArea n) wanted is = is (λ m. absurd cc)
-gives_fault (LiteralFollowUp n) wanted is = is (λ m. absurd cc)
-gives_fault Memory wanted is = tt
+gives_fault e wanted is = holds_unless (is_memory e) (wanted ≡ Err e) (λ no. is (λ m. absurd (cc (sym no ∙ ap is_memory m))))
 
 module _ (g : Generated) (units : List UnitText) where
   abbrev Found : Result FittedUnits FitFault → Type 0

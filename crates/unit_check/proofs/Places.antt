@@ -5,12 +5,12 @@ use Rattle.std.specs.List.{position_from}
 use Rattle.std.specs.Option.{option_or, option_copied}
 use Rattle.std.proofs.lemmas.Bool.{cases_Bool}
 use Rattle.std.proofs.lemmas.List.{take_more, length-take-le}
+use Rattle.std.proofs.lemmas.List.Elements.{All-head, All-tail}
 use Rattle.std.proofs.lemmas.Map.Entries.{All-lookup}
 use Rattle.unit_types.specs.Index.{or_first}
 use Rattle.unit_types.specs.Places.{position_more, found_at}
 use Rattle.unit_types.specs.UnitText.{UnitText}
 use Rattle.unit_check.specs.declared.fault.FitFault.TheVariants.{NoUnit}
-use Rattle.unit_check.proofs.Order.{all_here, all_behind}
 use Rattle.unit_check.specs.Finding.{lacking}
 use Rattle.kdcdef_types.specs.declared.entry.TacEntry.{TacEntry}
 use Rattle.kdcdef_types.specs.Generation.{entry_of}
@@ -61,10 +61,10 @@ lacks_later units programs i p at h = rw (drop_at programs i p at, h) refl
 
 all_found : {A : Type 0} (P : A → Type 0) (test : A → Bool) (all : List A) (x : A) → All P all → find test all ≡ Some x → P x
 all_found P test [] x h e = absurd cc
-all_found {A} P test (y ∷ all) x h e = go (test y) e (λ f. all_found P test all x (all_behind P y all h) f)
+all_found {A} P test (y ∷ all) x h e = go (test y) e (λ f. all_found P test all x (All-tail P y all h) f)
   where
     go : (b : Bool) → cond b (Some y) (find test all) ≡ Some x → (find test all ≡ Some x → P x) → P x
-    go true f later = let same : y ≡ x = cc in subst P same (all_here P y all h)
+    go true f later = let same : y ≡ x = cc in subst P same (All-head P y all h)
     go false f later = later f
 
 -- what `unit_of` says of the unit that it lends

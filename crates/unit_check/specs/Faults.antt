@@ -1,6 +1,7 @@
 -- A fault stands in units that are to fit a generation.
-use Rattle.std.specs.Prelude.{◌≡◌, ℕ, ◌+◌, ◌<◌, ◌⊎◌, Bool, ◌&&◌, ◌||◌, ◌==◌, nat_lt, nat_le, List, [], ◌∷◌, None, Result, Ok, Err, IsTrue, IsSome, Any, All}
+use Rattle.std.specs.Prelude.{◌≡◌, ℕ, ◌+◌, ◌<◌, ◌⊎◌, Bool, true, false, List, [], ◌∷◌, codes, None, Result, IsTrue, IsSome, Any, All}
 use Rattle.std.specs.Option.{IsSomeAnd}
+use Rattle.kd_base.specs.FirstFaults.{GivesUnless, first_by}
 use Rattle.kdcdef_types.specs.declared.entry.TacEntry.{TacEntry}
 use Rattle.kdcdef_types.specs.declared.limits.Limits.{Limits}
 use Rattle.kdcdef_types.specs.Generation.{Generated}
@@ -11,7 +12,7 @@ use Rattle.unit_check.specs.declared.fault.FitFault.{FitFault}
 use Rattle.unit_check.specs.declared.fault.FitFault.TheVariants.{NoUnit, NoLabel, FieldPastArea, LiteralFollowUp, Memory}
 use Rattle.unit_check.specs.Fitted.{FittedUnits, unit_named, area_len, literal_follow_up, tac_in}
 
--- the line of a fault, and its number among those of one line
+-- the line of a fault, counted from 1
 abbrev pub line_of : FitFault → ℕ
 line_of (NoUnit n) = n
 line_of (NoLabel n) = n
@@ -19,6 +20,15 @@ line_of (FieldPastArea n) = n
 line_of (LiteralFollowUp n) = n
 line_of Memory = 0
 
+-- the name by which it is printed
+abbrev pub name_of : FitFault → List ℕ
+name_of (NoUnit n) = codes "NoUnit"
+name_of (NoLabel n) = codes "NoLabel"
+name_of (FieldPastArea n) = codes "FieldPastArea"
+name_of (LiteralFollowUp n) = codes "LiteralFollowUp"
+name_of Memory = codes "Memory"
+
+-- its number among the faults of one line
 abbrev pub number_of : FitFault → ℕ
 number_of (NoUnit n) = 1
 number_of (NoLabel n) = 2
@@ -26,17 +36,18 @@ number_of (FieldPastArea n) = 3
 number_of (LiteralFollowUp n) = 4
 number_of Memory = 0
 
+abbrev pub is_memory : FitFault → Bool
+is_memory Memory = true
+is_memory _ = false
+
 -- a stands on a lesser line, or on the same one with a number that is not greater
 abbrev pub comes_first : FitFault → FitFault → Bool
-comes_first a b = nat_lt (line_of a) (line_of b) || (line_of a == line_of b && nat_le (number_of a) (number_of b))
+comes_first a b = first_by line_of number_of a b
 
 -- the field has the fault
 abbrev pub FieldHas : Limits → Field → FitFault → Type 0
 FieldHas limits f (FieldPastArea n) = (n ≡ f.line) × (area_len limits f.spab < f.offset + f.length)
-FieldHas limits f (NoUnit n) = ⊥
-FieldHas limits f (NoLabel n) = ⊥
-FieldHas limits f (LiteralFollowUp n) = ⊥
-FieldHas limits f Memory = ⊥
+FieldHas limits f _ = ⊥
 
 -- the statement jumps to a label that is none of the unit's
 abbrev pub LacksLabel : UnitText → UnitStatement → Type 0
@@ -50,9 +61,7 @@ NamesNoTac tacs s = IsSomeAnd (literal_follow_up s.action) (λ bytes. tac_in tac
 abbrev pub StatementHas : List (List ℕ × TacEntry) → UnitText → UnitStatement → FitFault → Type 0
 StatementHas tacs unit s (NoLabel n) = (n ≡ s.line) × LacksLabel unit s
 StatementHas tacs unit s (LiteralFollowUp n) = (n ≡ s.line) × NamesNoTac tacs s
-StatementHas tacs unit s (NoUnit n) = ⊥
-StatementHas tacs unit s (FieldPastArea n) = ⊥
-StatementHas tacs unit s Memory = ⊥
+StatementHas tacs unit s _ = ⊥
 
 -- one of its fields or statements has the fault
 abbrev pub UnitHas : Generated → UnitText → FitFault → Type 0
@@ -75,13 +84,9 @@ HaveUnits units programs = All (λ (p : List ℕ × ℕ). IsSome (unit_named uni
 -- the fault stands, and comes first
 abbrev pub IsFirstFault : Generated → List UnitText → FitFault → Type 0
 IsFirstFault g units (NoUnit n) = IsFirstWithout units g.programs n
-IsFirstFault g units (NoLabel n) = HaveUnits units g.programs × IsFirstInUnits g units (NoLabel n)
-IsFirstFault g units (FieldPastArea n) = HaveUnits units g.programs × IsFirstInUnits g units (FieldPastArea n)
-IsFirstFault g units (LiteralFollowUp n) = HaveUnits units g.programs × IsFirstInUnits g units (LiteralFollowUp n)
 IsFirstFault g units Memory = ⊥
+IsFirstFault g units fault = HaveUnits units g.programs × IsFirstInUnits g units fault
 
 -- what came back is this, unless memory ran out
 abbrev pub Gives : Result FittedUnits FitFault → Result FittedUnits FitFault → Type 0
-Gives (Ok units) wanted = wanted ≡ Ok units
-Gives (Err Memory) wanted = Unit {0}
-Gives (Err fault) wanted = wanted ≡ Err fault
+Gives answer wanted = GivesUnless is_memory answer wanted

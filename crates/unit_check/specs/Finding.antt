@@ -1,6 +1,7 @@
 -- Finding the first fault.
 use Rattle.std.specs.Prelude.{ℕ, ◌+◌, nat_le, is_some, is_none, if◌then◌else◌, List, Option, Some, None, fold, find, option_and_then}
 use Rattle.std.specs.Option.{option_map, option_or}
+use Rattle.kd_base.specs.FirstFaults.{earlier_by}
 use Rattle.kdcdef_types.specs.declared.entry.TacEntry.{TacEntry}
 use Rattle.kdcdef_types.specs.declared.limits.Limits.{Limits}
 use Rattle.kdcdef_types.specs.Generation.{Generated}
@@ -10,13 +11,11 @@ use Rattle.unit_types.specs.UnitText.{UnitText, jump_of, label_place}
 use Rattle.unit_check.specs.declared.fault.FitFault.{FitFault}
 use Rattle.unit_check.specs.declared.fault.FitFault.TheVariants.{NoUnit, NoLabel, FieldPastArea, LiteralFollowUp}
 use Rattle.unit_check.specs.Fitted.{unit_named, area_len, literal_follow_up, tac_in}
-use Rattle.unit_check.specs.Faults.{comes_first}
+use Rattle.unit_check.specs.Faults.{line_of, number_of}
 
 -- the first of two faults that were found
 abbrev pub earlier : Option FitFault → Option FitFault → Option FitFault
-earlier None b = b
-earlier (Some a) None = Some a
-earlier (Some a) (Some b) = if comes_first a b then Some a else Some b
+earlier a b = earlier_by line_of number_of a b
 
 -- the first fault of all items
 abbrev pub first_of : {A : Type 0} → (A → Option FitFault) → List A → Option FitFault

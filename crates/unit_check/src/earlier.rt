@@ -1,23 +1,11 @@
 //! The order of faults.
 ghost use Rattle.std.specs.Prelude.{◌≡◌};
-ghost use Rattle.unit_check.specs.Faults.{line_of, number_of, comes_first};
+ghost use Rattle.unit_check.specs.Faults.{number_of, comes_first};
 ghost use Rattle.unit_check.specs.Finding.{earlier};
 
 use crate::fault::FitFault;
 
 impl FitFault {
-    fn line(&self) -> u32
-        ensures { result ≡ line_of self.now }
-    {
-        match self {
-            FitFault::NoUnit(line)
-            | FitFault::NoLabel(line)
-            | FitFault::FieldPastArea(line)
-            | FitFault::LiteralFollowUp(line) => *line,
-            FitFault::Memory => 0,
-        }
-    }
-
     // The order of the faults of one line.
     fn number(&self) -> u8
         ensures { result ≡ number_of self.now }

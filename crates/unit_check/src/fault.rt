@@ -1,9 +1,9 @@
 //! Why units do not fit a generation.
 ghost use Rattle.std.specs.Prelude.{◌≡◌};
 ghost use Rattle.unit_check.specs.declared.fault.FitFault.TheVariants.{Memory};
+ghost use Rattle.unit_check.specs.Faults.{line_of, name_of};
 
 use kd_base::OutOfMemory;
-use std::alloc::{AllocError, AllocFailed};
 use thiserror::Error;
 
 /// The first reason why units do not fit a generation, with a line counted from 1.
@@ -29,19 +29,31 @@ pub enum FitFault {
     Memory,
 }
 
-impl From<AllocError> for FitFault {
-    ghost from_gives = { λ _ e. e ≡ Memory };
-
-    fn from(_: AllocError) -> FitFault {
-        FitFault::Memory
+impl FitFault {
+    /// The number of its line, counted from 1. It takes no memory.
+    pub fn line(&self) -> u32
+        ensures { result ≡ line_of self.now }
+    {
+        match self {
+            FitFault::NoUnit(line)
+            | FitFault::NoLabel(line)
+            | FitFault::FieldPastArea(line)
+            | FitFault::LiteralFollowUp(line) => *line,
+            FitFault::Memory => 0,
+        }
     }
-}
 
-impl<T: Drop> From<AllocFailed<T>> for FitFault {
-    ghost from_gives = { λ _ e. e ≡ Memory };
-
-    fn from(_: AllocFailed<T>) -> FitFault {
-        FitFault::Memory
+    /// The name by which it is printed. It takes no memory.
+    pub fn name(&self) -> &'static str
+        ensures { result.now ≡ name_of self.now }
+    {
+        match self {
+            FitFault::NoUnit(_) => "NoUnit",
+            FitFault::NoLabel(_) => "NoLabel",
+            FitFault::FieldPastArea(_) => "FieldPastArea",
+            FitFault::LiteralFollowUp(_) => "LiteralFollowUp",
+            FitFault::Memory => "Memory",
+        }
     }
 }
 

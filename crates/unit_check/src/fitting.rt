@@ -10,8 +10,10 @@ use crate::earlier::earlier;
 use crate::fault::FitFault;
 use crate::unit::unit_fault;
 use crate::units::Units;
-use kd_base::{OutOfMemory, ProgName};
-use kdcdef_check::Generation;
+use indexmap::IndexMap;
+use kd_base::{Name, OutOfMemory, ProgName};
+use kdcdef_check::{Generation, NameHashing};
+use kdcdef_types::TacEntry;
 use std::alloc::Global;
 use std::collections::BTreeMap;
 use unit_types::Unit;
@@ -39,6 +41,12 @@ fn places_of(alloc: Global, units: &[Unit]) -> Result<BTreeMap<ProgName, usize>,
         put_first(&mut places, *unit.name(), i)?;
     }
     Ok(places)
+}
+
+fn tacs_of(generation: &Generation) -> Result<IndexMap<Name, TacEntry, NameHashing>, OutOfMemory>
+    ensures { IfOk result (λ tacs. tacs.entries ≡ generation.now.tacs) }
+{
+    Ok(generation.tacs().clone()?)
 }
 
 // The first PROGRAM statement without a unit.
@@ -105,7 +113,7 @@ pub fn fit(alloc: Global, units: Vec<Unit>, generation: &Generation) -> Result<U
     Ok(Units {
         units,
         limits: *generation.max(),
-        tacs: generation.tacs().clone()?,
+        tacs: tacs_of(generation)?,
         places,
     })
 }

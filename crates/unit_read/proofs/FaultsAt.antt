@@ -44,10 +44,7 @@ fault_is n us None (pieces.Unit name) e h =
         | inr b ↦ absurd (cc b.1)
       ]
     ]
-fault_is n us None (pieces.Field name spab offset len) e h = err_for n us None (pieces.Field name spab offset len) (BadStatement n) e (refl, tt) h
-fault_is n us None (pieces.Label l) e h = err_for n us None (pieces.Label l) (BadStatement n) e (refl, tt) h
-fault_is n us None (pieces.Statement a) e h = err_for n us None (pieces.Statement a) (BadStatement n) e (refl, tt) h
-fault_is n us None pieces.End e h = err_for n us None pieces.End (BadStatement n) e (refl, tt) h
+fault_is n us None piece e h = err_for n us None piece (BadStatement n) e (refl, tt) h
 fault_is n us (Some u) (pieces.Unit name) e h = err_for n us (Some u) (pieces.Unit name) (NoEnd n) e (refl, tt) h
 fault_is n us (Some u) (pieces.Field name spab offset len) e h =
     let piece = pieces.Field name spab offset len in
@@ -83,59 +80,31 @@ at_least m n h = grind (arith, nat_tests)
 
 misplaced : (n : ℕ) (us : List UnitText) (o : Option UnitText) (piece : Piece) → IsMisplaced o piece → by_current o n piece us ≡ Err (BadStatement n)
 misplaced n us None (pieces.Unit name) h = absurd h
-misplaced n us None (pieces.Field name spab offset len) h = refl
-misplaced n us None (pieces.Label l) h = refl
-misplaced n us None (pieces.Statement a) h = refl
-misplaced n us None pieces.End h = refl
-misplaced n us (Some u) (pieces.Unit name) h = absurd h
+misplaced n us None _ h = refl
 misplaced n us (Some u) (pieces.Field name spab offset len) h = rw h refl
-misplaced n us (Some u) (pieces.Label l) h = absurd h
-misplaced n us (Some u) (pieces.Statement a) h = absurd h
-misplaced n us (Some u) pieces.End h = absurd h
+misplaced n us (Some u) _ h = absurd h
 
 bad_field : (n : ℕ) (us : List UnitText) (o : Option UnitText) (piece : Piece) → NamesBadField o piece → by_current o n piece us ≡ Err (BadField n)
-bad_field n us None piece h = absurd h
-bad_field n us (Some u) (pieces.Unit name) h = absurd h
 bad_field n us (Some u) (pieces.Field name spab offset len) h = rw (h.0, h.1) refl
-bad_field n us (Some u) (pieces.Label l) h = absurd h
 bad_field n us (Some u) (pieces.Statement a) h = rw h refl
-bad_field n us (Some u) pieces.End h = absurd h
+bad_field n us _ _ h = absurd h
 
 label_twice : (n : ℕ) (us : List UnitText) (o : Option UnitText) (piece : Piece) → RepeatsLabel o piece → by_current o n piece us ≡ Err (LabelTwice n)
-label_twice n us None piece h = absurd h
-label_twice n us (Some u) (pieces.Unit name) h = absurd h
-label_twice n us (Some u) (pieces.Field name spab offset len) h = absurd h
 label_twice n us (Some u) (pieces.Label l) h = rw h refl
-label_twice n us (Some u) (pieces.Statement a) h = absurd h
-label_twice n us (Some u) pieces.End h = absurd h
+label_twice n us _ _ h = absurd h
 
 meets_unit : (n : ℕ) (us : List UnitText) (o : Option UnitText) (piece : Piece) → MeetsUnit o piece → by_current o n piece us ≡ Err (NoEnd n)
-meets_unit n us None piece h = absurd h
 meets_unit n us (Some u) (pieces.Unit name) h = refl
-meets_unit n us (Some u) (pieces.Field name spab offset len) h = absurd h
-meets_unit n us (Some u) (pieces.Label l) h = absurd h
-meets_unit n us (Some u) (pieces.Statement a) h = absurd h
-meets_unit n us (Some u) pieces.End h = absurd h
+meets_unit n us _ _ h = absurd h
 
 unit_twice : (n : ℕ) (us : List UnitText) (o : Option UnitText) (piece : Piece) → RepeatsUnit us o piece → by_current o n piece us ≡ Err (UnitTwice n)
 unit_twice n us None (pieces.Unit name) h = rw h refl
-unit_twice n us None (pieces.Field name spab offset len) h = absurd h
-unit_twice n us None (pieces.Label l) h = absurd h
-unit_twice n us None (pieces.Statement a) h = absurd h
-unit_twice n us None pieces.End h = absurd h
-unit_twice n us (Some u) piece h = absurd h
+unit_twice n us _ _ h = absurd h
 
 too_many : (n : ℕ) (us : List UnitText) (o : Option UnitText) (piece : Piece) → IsOneTooMany us o piece → by_current o n piece us ≡ Err (TooLong n)
 too_many n us None (pieces.Unit name) h = rw (h.0, at_least 1000 (length us) h.1) refl
-too_many n us None (pieces.Field name spab offset len) h = absurd h
-too_many n us None (pieces.Label l) h = absurd h
-too_many n us None (pieces.Statement a) h = absurd h
-too_many n us None pieces.End h = absurd h
-too_many n us (Some u) (pieces.Unit name) h = absurd h
-too_many n us (Some u) (pieces.Field name spab offset len) h = absurd h
-too_many n us (Some u) (pieces.Label l) h = absurd h
 too_many n us (Some u) (pieces.Statement a) h = rw (h.0, at_least 10000 (length u.statements) h.1) refl
-too_many n us (Some u) pieces.End h = absurd h
+too_many n us _ _ h = absurd h
 
 abbrev Answers : ℕ → List UnitText → Option UnitText → Piece → (ℕ → UnitFault) → ℕ → Type 0
 Answers n us o piece fault m = by_current o n piece us ≡ Err (fault m)

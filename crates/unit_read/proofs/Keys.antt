@@ -1,21 +1,13 @@
 -- The keywords that words begin with.
 use Rattle.std.proofs.Common.{◌≡◌, ℕ, ◌≤◌, Bool, true, false, cond, List, [], ◌∷◌, ◌++◌, length, drop, Some, refl, sym, ap, ◌∙◌, inl, inr, arith, length-append}
 use Rattle.std.specs.Prelude.{find, ◌==◌, ◌||◌}
-use Rattle.kd_base.specs.Tools.{some_is, chosen, both_true}
+use Rattle.kd_base.specs.Tools.{find_passes, some_is, chosen, both_true}
 use Rattle.unit_read.specs.declared.word.Word.{Word}
 use Rattle.unit_read.specs.declared.word.Word.TheVariants.{Plain, Literal}
 use Rattle.unit_read.specs.declared.key.Key.{Key}
 use Rattle.unit_read.specs.declared.key.TheConstants.{KEYS}
 use Rattle.unit_read.specs.Keys.{first_keyword, second_keyword, is_front, begins_with, key_of, keyword_count}
 use Rattle.unit_read.proofs.Operands.{same_bytes}
-
-find_passes : {X : Type 0} (p : X → Bool) (xs : List X) (x : X) → find p xs ≡ Some x → p x ≡ true
-find_passes p [] x e = absurd cc
-find_passes p (y ∷ xs) x e =
-    elim (chosen (p y) (Some y) (find p xs) (Some x) e) [
-      | inl h ↦ ap p (sym (some_is y x h.1)) ∙ h.0
-      | inr h ↦ find_passes p xs x h.1
-    ]
 
 -- the words of the keywords
 abbrev pub keyword_words : Key → List Word

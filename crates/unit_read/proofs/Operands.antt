@@ -9,7 +9,7 @@ use Rattle.std.proofs.lemmas.Slice.Eq.{bytes_eq-Decides}
 use Rattle.kd_base.specs.declared.words.Mode.{Mode}
 use Rattle.kd_base.specs.declared.words.Mode.TheVariants.{Relative, Absolute}
 use Rattle.kd_base.specs.Text.{is_digit, IsDecimal}
-use Rattle.kd_base.specs.Tools.{chosen, both_true, some_is}
+use Rattle.kd_base.specs.Tools.{chosen, both_true, true_both, some_is}
 use Rattle.unit_types.specs.declared.action.HeaderName.{HeaderName}
 use Rattle.unit_types.specs.declared.action.HeaderName.TheVariants.{Benid, Logter, Tacvg, Tacal, Crccc, Rlm}
 use Rattle.unit_types.specs.declared.action.Operand.{Operand}
@@ -33,6 +33,27 @@ and_false false = refl
 pub third_false : (a b c : Bool) → c ≡ false → (a && b && c) ≡ false
 third_false a b c h = rw h (and_false (a && b))
 
+pub are_within : (low high n : ℕ) → (nat_le low n && nat_le n high) ≡ true → (low ≤ n) × (n ≤ high)
+are_within low high n h =
+    let b = both_true (nat_le low n) (nat_le n high) h in
+    (leb-true low n b.0, leb-true n high b.1)
+
+pub within : (low high n : ℕ) → low ≤ n → n ≤ high → (nat_le low n && nat_le n high) ≡ true
+within low high n least most = true_both (nat_le low n) (nat_le n high) (grind (arith, nat_tests)) (grind (arith, nat_tests))
+
+-- bytes that pass a test, at least one and at most so many
+abbrev AreFew : (ℕ → Bool) → ℕ → List ℕ → Type 0
+AreFew test most bytes = (1 ≤ length bytes) × (length bytes ≤ most) × IsTrue (list_all test bytes)
+
+pub are_few : (test : ℕ → Bool) (most : ℕ) (bytes : List ℕ) → (nat_le 1 (length bytes) && nat_le (length bytes) most && list_all test bytes) ≡ true → AreFew test most bytes
+are_few test most bytes h =
+    let a = both_true (nat_le 1 (length bytes) && nat_le (length bytes) most) (list_all test bytes) h in
+    let b = are_within 1 most (length bytes) a.0 in
+    (b.0, b.1, a.1)
+
+pub few_again : (test : ℕ → Bool) (most : ℕ) (bytes : List ℕ) → AreFew test most bytes → (nat_le 1 (length bytes) && nat_le (length bytes) most && list_all test bytes) ≡ true
+few_again test most bytes h = true_both (nat_le 1 (length bytes) && nat_le (length bytes) most) (list_all test bytes) (within 1 most (length bytes) h.0 h.1) h.2
+
 -- ---- names
 
 pub name_is : (w : Word) (name : List ℕ) → name_of w ≡ Some name → (w ≡ Plain name) × IsName name
@@ -46,30 +67,22 @@ name_is (Plain bytes) name e =
 pub name_again : (name : List ℕ) → IsName name → name_of (Plain name) ≡ Some name
 name_again name h = rw h refl
 
-abbrev HeaderIs : List ℕ → HeaderName → Type 0
-HeaderIs name h = name ≡ header_name h
+-- a word that is tested against the name of one thing, and then against others
+pub named_by : {A : Type 0} (named : A → List ℕ) (word : List ℕ) (x : A) (others : Option A) (y : A) → (others ≡ Some y → word ≡ named y) → cond (bytes_eq word (named x)) (Some x) others ≡ Some y → word ≡ named y
+named_by named word x others y more e =
+    elim (chosen (bytes_eq word (named x)) (Some x) others (Some y) e) [
+      | inl h ↦ same_bytes word (named x) h.0 ∙ ap named (some_is x y h.1)
+      | inr h ↦ more h.1
+    ]
 
 pub header_is : (name : List ℕ) (h : HeaderName) → header_of name ≡ Some h → name ≡ header_name h
 header_is name h e =
-    elim (chosen (bytes_eq name (codes "KCBENID")) (Some Benid) _ (Some h) e) [
-      | inl a ↦ subst (HeaderIs name) (some_is Benid h a.1) (same_bytes name (codes "KCBENID") a.0)
-      | inr e2 ↦ elim (chosen (bytes_eq name (codes "KCLOGTER")) (Some Logter) _ (Some h) e2.1) [
-        | inl a ↦ subst (HeaderIs name) (some_is Logter h a.1) (same_bytes name (codes "KCLOGTER") a.0)
-        | inr e3 ↦ elim (chosen (bytes_eq name (codes "KCTACVG")) (Some Tacvg) _ (Some h) e3.1) [
-          | inl a ↦ subst (HeaderIs name) (some_is Tacvg h a.1) (same_bytes name (codes "KCTACVG") a.0)
-          | inr e4 ↦ elim (chosen (bytes_eq name (codes "KCTACAL")) (Some Tacal) _ (Some h) e4.1) [
-            | inl a ↦ subst (HeaderIs name) (some_is Tacal h a.1) (same_bytes name (codes "KCTACAL") a.0)
-            | inr e5 ↦ elim (chosen (bytes_eq name (codes "KCRCCC")) (Some Crccc) _ (Some h) e5.1) [
-              | inl a ↦ subst (HeaderIs name) (some_is Crccc h a.1) (same_bytes name (codes "KCRCCC") a.0)
-              | inr e6 ↦ elim (chosen (bytes_eq name (codes "KCRLM")) (Some Rlm) None (Some h) e6.1) [
-                | inl a ↦ subst (HeaderIs name) (some_is Rlm h a.1) (same_bytes name (codes "KCRLM") a.0)
-                | inr a ↦ absurd (cc a.1)
-              ]
-            ]
-          ]
-        ]
-      ]
-    ]
+    named_by header_name name Benid _ h
+    (named_by header_name name Logter _ h
+    (named_by header_name name Tacvg _ h
+    (named_by header_name name Tacal _ h
+    (named_by header_name name Crccc _ h
+    (named_by header_name name Rlm None h (λ n. absurd (cc n))))))) e
 
 -- ---- operands
 
@@ -83,18 +96,10 @@ digits_no_name (b ∷ digits) some h =
     rw (first, and_false) refl
 
 digits_again : (digits : List ℕ) → IsDecimal digits → are_digits digits ≡ true
-digits_again digits h =
-    let some = h.0 in
-    let few = h.1 in
-    let least : nat_le 1 (length digits) ≡ true = grind (arith, nat_tests) in
-    let most : nat_le (length digits) 18 ≡ true = grind (arith, nat_tests) in
-    rw (least, most) h.2
+digits_again digits h = few_again is_digit 18 digits h
 
 digits_are : (digits : List ℕ) → are_digits digits ≡ true → IsDecimal digits
-digits_are digits h =
-    let a = both_true (nat_le 1 (length digits) && nat_le (length digits) 18) (list_all is_digit digits) h in
-    let b = both_true (nat_le 1 (length digits)) (nat_le (length digits) 18) a.0 in
-    (leb-true 1 (length digits) b.0, leb-true (length digits) 18 b.1, a.1)
+digits_are digits h = are_few is_digit 18 digits h
 
 abbrev trimmed : List ℕ → List ℕ
 trimmed name = codes "TRIM(" ++ (name ++ codes ")")
@@ -121,11 +126,7 @@ operand_again (operands.Field name) h = rw (h.0, h.1) refl
 operand_again (operands.Literal bytes) h = let t : nat_le (length bytes) 32767 ≡ true = grind (arith, nat_tests) in rw t refl
 operand_again (operands.Digits digits) h = rw (digits_no_name digits h.0 h.2, digits_again digits h) refl
 operand_again (operands.Header Benid) h = refl
-operand_again (operands.Header Logter) h = refl
-operand_again (operands.Header Tacvg) h = refl
-operand_again (operands.Header Tacal) h = refl
-operand_again (operands.Header Crccc) h = refl
-operand_again (operands.Header Rlm) h = refl
+operand_again (operands.Header _) h = refl
 operand_again (operands.Trim name) h = rw (trim_no_name name, trim_no_digits name, trim_again name, h) refl
 
 abbrev pub IsSaid : Word → Operand → Type 0
@@ -176,48 +177,26 @@ operand_is (Plain word) o e =
 
 -- ---- relations and modes
 
-abbrev RelationIs : List ℕ → Relation → Type 0
-RelationIs word r = let w : Word = Plain word in w ≡ Plain (relation_name r)
-
-plain_same : (a b : List ℕ) → bytes_eq a b ≡ true → Plain a ≡ Plain b
-plain_same a b h = ap (λ (x : List ℕ). let w : Word = Plain x in w) (same_bytes a b h)
+pub plain : (a b : List ℕ) → a ≡ b → Plain a ≡ Plain b
+plain a b same = cc
 
 pub relation_is : (w : Word) (r : Relation) → relation_of w ≡ Some r → w ≡ Plain (relation_name r)
 relation_is (Literal bytes) r e = absurd cc
 relation_is (Plain word) r e =
-    elim (chosen (bytes_eq word (codes "EQ")) (Some Eq) _ (Some r) e) [
-      | inl a ↦ subst (RelationIs word) (some_is Eq r a.1) (plain_same word (codes "EQ") a.0)
-      | inr e2 ↦ elim (chosen (bytes_eq word (codes "NE")) (Some Ne) _ (Some r) e2.1) [
-        | inl a ↦ subst (RelationIs word) (some_is Ne r a.1) (plain_same word (codes "NE") a.0)
-        | inr e3 ↦ elim (chosen (bytes_eq word (codes "LT")) (Some Lt) _ (Some r) e3.1) [
-          | inl a ↦ subst (RelationIs word) (some_is Lt r a.1) (plain_same word (codes "LT") a.0)
-          | inr e4 ↦ elim (chosen (bytes_eq word (codes "GT")) (Some Gt) None (Some r) e4.1) [
-            | inl a ↦ subst (RelationIs word) (some_is Gt r a.1) (plain_same word (codes "GT") a.0)
-            | inr a ↦ absurd (cc a.1)
-          ]
-        ]
-      ]
-    ]
+    plain word (relation_name r)
+    (named_by relation_name word Eq _ r
+    (named_by relation_name word Ne _ r
+    (named_by relation_name word Lt _ r
+    (named_by relation_name word Gt None r (λ n. absurd (cc n))))) e)
 
 pub relation_again : (r : Relation) → relation_of (Plain (relation_name r)) ≡ Some r
 relation_again Eq = refl
-relation_again Ne = refl
-relation_again Lt = refl
-relation_again Gt = refl
-
-abbrev ModeIs : List ℕ → Mode → Type 0
-ModeIs word m = let w : Word = Plain word in w ≡ Plain (mode_name m)
+relation_again _ = refl
 
 pub mode_is : (w : Word) (m : Mode) → mode_of w ≡ Some m → w ≡ Plain (mode_name m)
 mode_is (Literal bytes) m e = absurd cc
 mode_is (Plain word) m e =
-    elim (chosen (bytes_eq word (codes "R")) (Some Relative) _ (Some m) e) [
-      | inl a ↦ subst (ModeIs word) (some_is Relative m a.1) (plain_same word (codes "R") a.0)
-      | inr e2 ↦ elim (chosen (bytes_eq word (codes "A")) (Some Absolute) None (Some m) e2.1) [
-        | inl a ↦ subst (ModeIs word) (some_is Absolute m a.1) (plain_same word (codes "A") a.0)
-        | inr a ↦ absurd (cc a.1)
-      ]
-    ]
+    plain word (mode_name m) (named_by mode_name word Relative _ m (named_by mode_name word Absolute None m (λ n. absurd (cc n))) e)
 
 pub mode_again : (m : Mode) → mode_of (Plain (mode_name m)) ≡ Some m
 mode_again Relative = refl

@@ -1,10 +1,9 @@
 -- Pieces: what is read is written so, and what is written so is read.
-use Rattle.std.proofs.Common.{◌≡◌, ℕ, zero, suc, ◌+◌, ◌-◌, ◌≤◌, Bool, true, false, cond, ◌&&◌, List, [], ◌∷◌, ◌++◌, length, take, drop, Option, Some, None, refl, sym, ap, ◌∙◌, subst, inl, inr, arith, length-append}
+use Rattle.std.proofs.Common.{◌≡◌, ℕ, zero, suc, ◌+◌, ◌-◌, ◌≤◌, Bool, true, false, ◌&&◌, List, [], ◌∷◌, ◌++◌, length, take, drop, Option, Some, None, refl, sym, ap, ◌∙◌, subst, inl, inr, arith, length-append}
 use Rattle.std.specs.Prelude.{codes, bytes_eq, nat_le, slice_index, not, is_some, option_and_then, ◌==◌}
 use Rattle.std.specs.Option.{option_map}
 use Rattle.std.specs.List.{list_all}
-use Rattle.std.proofs.lemmas.Bool.{cases_Bool, eqb-true, leb-true}
-use Rattle.std.proofs.lemmas.Bool.Decides.{nat_tests}
+use Rattle.std.proofs.lemmas.Bool.{cases_Bool, eqb-true}
 use Rattle.std.proofs.lemmas.List.{take-append-drop, take_at, nil_from_length}
 use Rattle.kd_base.specs.Text.{IsProgName, IsDecimal, prog_name_of, decimal_of, decimal_value, is_digit, is_name_byte}
 use Rattle.kd_base.specs.Tools.{map_some, some_is, and_some, chosen, both_true}
@@ -20,7 +19,7 @@ use Rattle.unit_read.specs.Shapes.{both}
 use Rattle.unit_read.specs.Statements.{action_of}
 use Rattle.unit_read.specs.Pieces.{in_range, number_from, area_of, new_field, field_of, unit_of, before_colon, label_in, inner_of, piece_of}
 use Rattle.unit_read.specs.Grammar.{IsName, area_name, Says, IsPiece, spelled}
-use Rattle.unit_read.proofs.Operands.{same_bytes}
+use Rattle.unit_read.proofs.Operands.{same_bytes, are_within, within, are_few, few_again, named_by, plain}
 use Rattle.unit_read.proofs.Shapes.{both_some}
 use Rattle.unit_read.proofs.Statements.{statement_is, statement_again}
 
@@ -29,62 +28,40 @@ use Rattle.unit_read.proofs.Statements.{statement_is, statement_again}
 prog_name_is : (bytes name : List ℕ) → prog_name_of bytes ≡ Some name → (bytes ≡ name) × IsProgName name
 prog_name_is bytes name e =
     elim (chosen (nat_le 1 (length bytes) && nat_le (length bytes) 32 && list_all is_name_byte bytes) (Some bytes) None (Some name) e) [
-      | inl h ↦
-          let a = both_true (nat_le 1 (length bytes) && nat_le (length bytes) 32) (list_all is_name_byte bytes) h.0 in
-          let b = both_true (nat_le 1 (length bytes)) (nat_le (length bytes) 32) a.0 in
-          subst (λ (x : List ℕ). (bytes ≡ x) × IsProgName x) (some_is bytes name h.1) (refl, (leb-true 1 (length bytes) b.0, leb-true (length bytes) 32 b.1, a.1))
+      | inl h ↦ subst (λ (x : List ℕ). (bytes ≡ x) × IsProgName x) (some_is bytes name h.1) (refl, are_few is_name_byte 32 bytes h.0)
       | inr h ↦ absurd (cc h.1)
     ]
 
 prog_name_again : (name : List ℕ) → IsProgName name → prog_name_of name ≡ Some name
-prog_name_again name h =
-    let some = h.0 in
-    let few = h.1 in
-    let least : nat_le 1 (length name) ≡ true = grind (arith, nat_tests) in
-    let most : nat_le (length name) 32 ≡ true = grind (arith, nat_tests) in
-    rw (least, most, h.2) refl
+prog_name_again name h = rw (few_again is_name_byte 32 name h) refl
 
 unit_is : (ws : List Word) (p : Piece) → unit_of ws ≡ Some p → IsPiece p (Plain (codes "UNIT") ∷ ws)
-unit_is [] p e = absurd cc
 unit_is (Plain bytes ∷ []) p e =
     let m = map_some (λ (name : List ℕ). pieces.Unit name) (prog_name_of bytes) p e in
     let n = prog_name_is bytes m.0 m.1 in
     subst (λ (x : Piece). IsPiece x (Plain (codes "UNIT") ∷ Plain bytes ∷ [])) m.2 (ap (λ (x : List ℕ). let w : Word = Plain x in Plain (codes "UNIT") ∷ w ∷ []) n.0, n.1)
 unit_is (Literal bytes ∷ []) p e = absurd cc
-unit_is (w ∷ v ∷ ws) p e = absurd cc
+unit_is _ p e = absurd cc
 
 decimal_is : (bytes : List ℕ) (n : ℕ) → decimal_of bytes ≡ Some n → IsDecimal bytes × (n ≡ decimal_value bytes)
 decimal_is bytes n e =
     elim (chosen (nat_le 1 (length bytes) && nat_le (length bytes) 18 && list_all is_digit bytes) (Some (decimal_value bytes)) None (Some n) e) [
-      | inl h ↦
-          let a = both_true (nat_le 1 (length bytes) && nat_le (length bytes) 18) (list_all is_digit bytes) h.0 in
-          let b = both_true (nat_le 1 (length bytes)) (nat_le (length bytes) 18) a.0 in
-          ((leb-true 1 (length bytes) b.0, leb-true (length bytes) 18 b.1, a.1), sym (some_is (decimal_value bytes) n h.1))
+      | inl h ↦ (are_few is_digit 18 bytes h.0, sym (some_is (decimal_value bytes) n h.1))
       | inr h ↦ absurd (cc h.1)
     ]
 
 decimal_again : (bytes : List ℕ) → IsDecimal bytes → decimal_of bytes ≡ Some (decimal_value bytes)
-decimal_again bytes h =
-    let some = h.0 in
-    let few = h.1 in
-    let least : nat_le 1 (length bytes) ≡ true = grind (arith, nat_tests) in
-    let most : nat_le (length bytes) 18 ≡ true = grind (arith, nat_tests) in
-    rw (least, most, h.2) refl
+decimal_again bytes h = rw (few_again is_digit 18 bytes h) refl
 
 in_range_is : (least number n : ℕ) → in_range least number ≡ Some n → (number ≡ n) × (least ≤ n) × (n ≤ 32767)
 in_range_is least number n e =
     elim (chosen (nat_le least number && nat_le number 32767) (Some number) None (Some n) e) [
-      | inl h ↦
-          let a = both_true (nat_le least number) (nat_le number 32767) h.0 in
-          subst (λ (x : ℕ). (number ≡ x) × (least ≤ x) × (x ≤ 32767)) (some_is number n h.1) (refl, leb-true least number a.0, leb-true number 32767 a.1)
+      | inl h ↦ subst (λ (x : ℕ). (number ≡ x) × (least ≤ x) × (x ≤ 32767)) (some_is number n h.1) (let a = are_within least 32767 number h.0 in (refl, a.0, a.1))
       | inr h ↦ absurd (cc h.1)
     ]
 
 in_range_again : (least n : ℕ) → least ≤ n → n ≤ 32767 → in_range least n ≡ Some n
-in_range_again least n low high =
-    let a : nat_le least n ≡ true = grind (arith, nat_tests) in
-    let b : nat_le n 32767 ≡ true = grind (arith, nat_tests) in
-    rw (a, b) refl
+in_range_again least n low high = rw (within least 32767 n low high) refl
 
 number_is : (least : ℕ) (w : Word) (n : ℕ) → number_from least w ≡ Some n → (digits : List ℕ) × (w ≡ Plain digits) × Says least digits n
 number_is least (Literal bytes) n e = absurd cc
@@ -101,15 +78,7 @@ number_again least digits n h =
 area_is : (w : Word) (spab : Bool) → area_of w ≡ Some spab → w ≡ Plain (area_name spab)
 area_is (Literal bytes) spab e = absurd cc
 area_is (Plain word) spab e =
-    let same = λ (x : List ℕ). let w : Word = Plain x in w in
-    let is = λ (s : Bool). let w : Word = Plain word in w ≡ Plain (area_name s) in
-    elim (chosen (bytes_eq word (codes "SPAB")) (Some true) (cond (bytes_eq word (codes "KB")) (Some false) None) (Some spab) e) [
-      | inl h ↦ subst is (some_is true spab h.1) (ap same (same_bytes word (codes "SPAB") h.0))
-      | inr h ↦ elim (chosen (bytes_eq word (codes "KB")) (Some false) None (Some spab) h.1) [
-        | inl k ↦ subst is (some_is false spab k.1) (ap same (same_bytes word (codes "KB") k.0))
-        | inr k ↦ absurd (cc k.1)
-      ]
-    ]
+    plain word (area_name spab) (named_by area_name word true _ spab (named_by area_name word false None spab (λ n. absurd (cc n))) e)
 
 area_again : (spab : Bool) → area_of (Plain (area_name spab)) ≡ Some spab
 area_again true = refl
@@ -133,10 +102,6 @@ four_words : (a b c d : Word) (x y z u : Word) → a ≡ x → b ≡ y → c ≡
 four_words a b c d x y z u e f g h = cc
 
 field_is : (ws : List Word) (p : Piece) → field_of ws ≡ Some p → IsPiece p (Plain (codes "FIELD") ∷ ws)
-field_is [] p e = absurd cc
-field_is (n ∷ []) p e = absurd cc
-field_is (n ∷ a ∷ []) p e = absurd cc
-field_is (n ∷ a ∷ o ∷ []) p e = absurd cc
 field_is (n ∷ a ∷ o ∷ l ∷ []) p e =
     let made = λ (q : List ℕ × (Bool × (ℕ × ℕ))). pieces.Field q.0 q.1.0 q.1.1.0 q.1.1.1 in
     let m = map_some made (both (new_field n) (both (area_of a) (both (number_from 0 o) (number_from 1 l)))) p e in
@@ -149,7 +114,7 @@ field_is (n ∷ a ∷ o ∷ l ∷ []) p e =
     let size = number_is 1 l m.0.1.1.1 d.1 in
     subst (λ (x : Piece). IsPiece x (Plain (codes "FIELD") ∷ n ∷ a ∷ o ∷ l ∷ [])) m.2
     (offset.0, size.0, four_words n a o l (Plain m.0.0) (Plain (area_name m.0.1.0)) (Plain offset.0) (Plain size.0) name.0 area offset.1 size.1, name.1, name.2, offset.2, size.2)
-field_is (n ∷ a ∷ o ∷ l ∷ x ∷ ws) p e = absurd cc
+field_is _ p e = absurd cc
 
 field_again : (name : List ℕ) (spab : Bool) (o l : List ℕ) (offset len : ℕ) → IsName name → header_of name ≡ None → Says 0 o offset → Says 1 l len
     → field_of (Plain name ∷ Plain (area_name spab) ∷ Plain o ∷ Plain l ∷ []) ≡ Some (pieces.Field name spab offset len)
@@ -194,12 +159,11 @@ before_colon_again name is =
     before_colon_at name (name ++ codes ":") (length name) is refl refl (omega (arith, length-append name (codes ":")))
 
 label_is : (ws : List Word) (name : List ℕ) → label_in ws ≡ Some name → IsPiece (pieces.Label name) ws
-label_is [] name e = absurd cc
 label_is (Plain word ∷ []) name e =
     let b = before_colon_is word name e in
     (ap (λ (x : List ℕ). let w : Word = Plain x in w ∷ []) b.0, b.1)
 label_is (Literal bytes ∷ []) name e = absurd cc
-label_is (w ∷ v ∷ ws) name e = absurd cc
+label_is _ name e = absurd cc
 
 -- a label is no keyword
 no_keyword : (name keyword : List ℕ) (n : ℕ) → n + 1 ≡ length keyword → (slice_index keyword n ≡ 58 → ⊥) → bytes_eq (name ++ codes ":") keyword ≡ false
@@ -249,36 +213,9 @@ piece_is (Plain word ∷ rest) p e =
 
 -- a statement is no other piece
 inner_again : (a : Action) → piece_of (spelled a) ≡ option_map (λ (action : Action). pieces.Statement action) (action_of (spelled a))
-inner_again (actions.Move f o) = refl
-inner_again (actions.Join f o p) = refl
-inner_again (actions.Add f o) = refl
-inner_again (actions.Sub f o) = refl
-inner_again (actions.Mul f o) = refl
-inner_again (actions.Div f o) = refl
-inner_again (actions.If o r p l) = refl
-inner_again (actions.Jump l) = refl
-inner_again (actions.Mget f) = refl
-inner_again (actions.Mput o) = refl
-inner_again (actions.Fget f) = refl
-inner_again (actions.Fput t o) = refl
-inner_again (actions.Dput t mode d h m s o) = refl
-inner_again (actions.SgetGb n f) = refl
-inner_again (actions.SputGb n o) = refl
-inner_again (actions.SrelGb n) = refl
-inner_again (actions.SgetKp n f) = refl
-inner_again (actions.SgetRl n f) = refl
-inner_again (actions.SputMs n o) = refl
-inner_again (actions.SrelLb n) = refl
-inner_again (actions.SgetUs n f) = refl
-inner_again (actions.SputUs n o) = refl
-inner_again (actions.Gtda n f) = refl
-inner_again (actions.Ptda n o) = refl
-inner_again (actions.UnlkGb n) = refl
-inner_again (actions.UnlkUs n) = refl
-inner_again (actions.UnlkDa n) = refl
-inner_again actions.Init = refl
 inner_again (actions.Pend v None) = refl
 inner_again (actions.Pend v (Some o)) = refl
+inner_again _ = refl
 
 label_again : (name : List ℕ) → IsName name → piece_of (Plain (name ++ codes ":") ∷ []) ≡ Some (pieces.Label name)
 label_again name is =

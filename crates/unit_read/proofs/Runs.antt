@@ -89,12 +89,9 @@ field_step us u n name spab offset len none new = rw (none, new) refl
 
 heads_first : (us : List UnitText) (u : UnitText) (n : ℕ) (piece : Piece) (ps : List Placed) → is_field piece ≡ true → has_no_body u ≡ true → FieldsAreNew u.fields (field_in n piece ++ fields_in ps)
     → (f : Field) × (field_in n piece ≡ f ∷ []) × (stepped n piece (in_unit us u) ≡ Ok (in_unit us (add_field f u))) × FieldsAreNew (u.fields ++ f ∷ []) (fields_in ps)
-heads_first us u n (pieces.Unit name) ps is none new = absurd cc
 heads_first us u n (pieces.Field name spab offset len) ps is none new =
     (record { name = name; line = n; spab = spab; offset = offset; length = len }, refl, field_step us u n name spab offset len none new.0, new.1)
-heads_first us u n (pieces.Label l) ps is none new = absurd cc
-heads_first us u n (pieces.Statement a) ps is none new = absurd cc
-heads_first us u n pieces.End ps is none new = absurd cc
+heads_first us u n _ ps is none new = absurd cc
 
 heads_run : (us : List UnitText) (heads rest : List Placed) (u v : UnitText) → are_fields heads ≡ true → has_no_body u ≡ true → FieldsAreNew u.fields (fields_in heads)
     → v ≡ record { name = u.name; line = u.line; fields = u.fields ++ fields_in heads; labels = u.labels; statements = u.statements } → run (heads ++ rest) (in_unit us u) ≡ run rest (in_unit us v)
@@ -146,8 +143,6 @@ record Later (us : List UnitText) (u : UnitText) (n : ℕ) (piece : Piece) (k : 
 
 inner_step : (us : List UnitText) (u : UnitText) (n : ℕ) (piece : Piece) (k : ℕ) (ls : List (List ℕ × ℕ)) (ss : List UnitStatement) → is_inner piece ≡ true → k ≡ length u.statements + 1
     → LabelsAreNew u.labels (label_in k piece ++ ls) → are_defined u.fields (statement_in n piece ++ ss) ≡ true → length u.statements + length (statement_in n piece ++ ss) ≤ 10000 → Later us u n piece k ls ss
-inner_step us u n (pieces.Unit name) k ls ss is at new defined few = absurd cc
-inner_step us u n (pieces.Field name spab offset len) k ls ss is at new defined few = absurd cc
 inner_step us u n (pieces.Label l) k ls ss is at new defined few = record { next = add_label l u; steps = label_step us u n l k at new.0; new = new.1; defined = defined }
 inner_step us u n (pieces.Statement a) k ls ss is at new defined few =
     let d = both_true (uses (has_field u.fields) a) (are_defined u.fields ss) defined in
@@ -157,7 +152,7 @@ inner_step us u n (pieces.Statement a) k ls ss is at new defined few =
       new = subst (λ (x : List (List ℕ × ℕ)). LabelsAreNew x ls) (sym (append-nil u.labels)) new;
       defined = d.1;
     }
-inner_step us u n pieces.End k ls ss is at new defined few = absurd cc
+inner_step us u n _ k ls ss is at new defined few = absurd cc
 
 record IsMore (u v : UnitText) (ls : List (List ℕ × ℕ)) (ss : List UnitStatement) : Type 0 where
   name : v.name ≡ u.name

@@ -1,5 +1,5 @@
 -- Pieces behind pieces: what is read so far stands above.
-use Rattle.std.proofs.Common.{◌≡◌, ℕ, ◌+◌, ◌<◌, Bool, true, false, cond, eqb, List, [], ◌∷◌, ◌++◌, length, Option, Some, None, Ok, Err, refl, sym, ap, ◌∙◌, subst, inl, inr, arith, append_assoc, length-append}
+use Rattle.std.proofs.Common.{◌≡◌, ℕ, ◌+◌, ◌<◌, ◌≤◌, Bool, true, false, cond, eqb, List, [], ◌∷◌, ◌++◌, length, Option, Some, None, Ok, Err, refl, sym, ap, ◌∙◌, subst, inl, inr, arith, append_assoc, length-append}
 use Rattle.std.specs.Prelude.{nat_le}
 use Rattle.std.specs.List.{list_all}
 use Rattle.std.proofs.lemmas.Bool.{cases_Bool, eqb-true, leb-false}
@@ -63,10 +63,7 @@ no_body_is u h =
 
 inner_first : (k n : ℕ) (piece : Piece) (ps : List Placed) → is_inner piece ≡ true → label_in k piece ++ labels_in (k + length (statement_in n piece)) ps ≡ [] → statement_in n piece ++ statements_in ps ≡ [] → ⊥
 inner_first k n (pieces.Unit name) ps h l s = cc
-inner_first k n (pieces.Field name spab offset len) ps h l s = cc
-inner_first k n (pieces.Label label) ps h l s = cc
-inner_first k n (pieces.Statement a) ps h l s = cc
-inner_first k n pieces.End ps h l s = cc
+inner_first k n _ ps h l s = cc
 
 inner_empty : (k : ℕ) (ps : List Placed) → are_inner ps ≡ true → labels_in k ps ≡ [] → statements_in ps ≡ [] → ps ≡ []
 inner_empty k [] h l s = refl
@@ -101,43 +98,42 @@ own_more : (u : UnitText) (own : List Placed) (b : IsBegun u own) (p : Placed) �
 own_more u own b p =
     ap (λ (x : List Placed). x ++ p ∷ []) b.parts ∙ ap (λ (x : List Placed). placed u.line (pieces.Unit u.name) ∷ x) (append_assoc b.heads b.body (p ∷ []))
 
+inner_more : (u : UnitText) (labels : List (List ℕ × ℕ)) (statements : List UnitStatement) (own : List Placed) (p : Placed) (b : IsBegun u own) → is_inner p.piece ≡ true
+    → labels ≡ labels_in 1 (b.body ++ p ∷ []) → statements ≡ statements_in (b.body ++ p ∷ []) → LabelsAreNew [] labels → are_defined u.fields statements ≡ true → length statements ≤ 10000
+    → IsBegun (record { name = u.name; line = u.line; fields = u.fields; labels = labels; statements = statements }) (own ++ p ∷ [])
+inner_more u labels statements own p b is labels_are statements_are new defined few = record {
+  heads = b.heads;
+  body = b.body ++ p ∷ [];
+  parts = own_more u own b p;
+  heads_are = b.heads_are;
+  body_is = all_more (λ (q : Placed). is_inner q.piece) b.body p b.body_is is;
+  fields = b.fields;
+  labels = labels_are;
+  statements = statements_are;
+  new_fields = b.new_fields;
+  new_labels = new;
+  defined = defined;
+  few = few;
+}
+
 label_more : (u : UnitText) (n : ℕ) (l : List ℕ) (own : List Placed) → IsBegun u own → has_label u.labels l ≡ false → IsBegun (add_label l u) (own ++ placed n (pieces.Label l) ∷ [])
 label_more u n l own b new =
     let p = placed n (pieces.Label l) in
+    let e : List ℕ × ℕ = (l, length u.statements + 1) in
     let long : length u.statements + 1 ≡ 1 + length (statements_in b.body) = omega (arith, ap length b.statements) in
-    record {
-      heads = b.heads;
-      body = b.body ++ p ∷ [];
-      parts = own_more u own b p;
-      heads_are = b.heads_are;
-      body_is = all_more (λ (q : Placed). is_inner q.piece) b.body p b.body_is refl;
-      fields = b.fields;
-      labels = ap (λ (x : List (List ℕ × ℕ)). x ++ (l, length u.statements + 1) ∷ []) b.labels ∙ sym (labels_append 1 b.body (p ∷ []) (length u.statements + 1) long);
-      statements = b.statements ∙ sym (append-nil (statements_in b.body)) ∙ sym (statements_append b.body (p ∷ []));
-      new_fields = b.new_fields;
-      new_labels = labels_new_more [] u.labels (l, length u.statements + 1) b.new_labels new;
-      defined = b.defined;
-      few = b.few;
-    }
+    inner_more u (u.labels ++ e ∷ []) u.statements own p b refl
+    (ap (λ (x : List (List ℕ × ℕ)). x ++ e ∷ []) b.labels ∙ sym (labels_append 1 b.body (p ∷ []) (length u.statements + 1) long))
+    (b.statements ∙ sym (append-nil (statements_in b.body)) ∙ sym (statements_append b.body (p ∷ [])))
+    (labels_new_more [] u.labels e b.new_labels new) b.defined b.few
 
 statement_more : (u : UnitText) (n : ℕ) (a : Action) (own : List Placed) → IsBegun u own → uses (has_field u.fields) a ≡ true → length u.statements < 10000 → IsBegun (add_statement n a u) (own ++ placed n (pieces.Statement a) ∷ [])
 statement_more u n a own b defined few =
     let p = placed n (pieces.Statement a) in
     let s : UnitStatement = record { line = n; action = a } in
-    record {
-      heads = b.heads;
-      body = b.body ++ p ∷ [];
-      parts = own_more u own b p;
-      heads_are = b.heads_are;
-      body_is = all_more (λ (q : Placed). is_inner q.piece) b.body p b.body_is refl;
-      fields = b.fields;
-      labels = b.labels ∙ sym (append-nil (labels_in 1 b.body)) ∙ sym (labels_append 1 b.body (p ∷ []) (1 + length (statements_in b.body)) refl);
-      statements = ap (λ (x : List UnitStatement). x ++ s ∷ []) b.statements ∙ sym (statements_append b.body (p ∷ []));
-      new_fields = b.new_fields;
-      new_labels = b.new_labels;
-      defined = all_more (λ (t : UnitStatement). uses (has_field u.fields) t.action) u.statements s b.defined defined;
-      few = omega (arith, length-append u.statements (s ∷ []));
-    }
+    inner_more u u.labels (u.statements ++ s ∷ []) own p b refl
+    (b.labels ∙ sym (append-nil (labels_in 1 b.body)) ∙ sym (labels_append 1 b.body (p ∷ []) (1 + length (statements_in b.body)) refl))
+    (ap (λ (x : List UnitStatement). x ++ s ∷ []) b.statements ∙ sym (statements_append b.body (p ∷ [])))
+    b.new_labels (all_more (λ (t : UnitStatement). uses (has_field u.fields) t.action) u.statements s b.defined defined) (omega (arith, length-append u.statements (s ∷ [])))
 
 -- ---- units with one more
 
@@ -206,10 +202,7 @@ stand_more us None n (pieces.Unit name) t ps h e =
         | inr b ↦ subst (λ (s : State). StandsNow s (ps ++ placed n (pieces.Unit name) ∷ [])) (ok_is UnitFault (in_unit us (begun name n)) t b.1) (begins us n name ps h a.0 (leb-false 1000 (length us) b.0))
       ]
     ]
-stand_more us None n (pieces.Field name spab offset len) t ps h e = absurd cc
-stand_more us None n (pieces.Label l) t ps h e = absurd cc
-stand_more us None n (pieces.Statement a) t ps h e = absurd cc
-stand_more us None n pieces.End t ps h e = absurd cc
+stand_more us None n _ t ps h e = absurd cc
 stand_more us (Some u) n (pieces.Unit name) t ps h e = absurd cc
 stand_more us (Some u) n (pieces.Field name spab offset len) t ps h e =
     let f : Field = record { name = name; line = n; spab = spab; offset = offset; length = len } in

@@ -1,5 +1,5 @@
 -- The words of a line: what is read is written so, and what is written so is read.
-use Rattle.std.proofs.Common.{◌≡◌, ℕ, suc, ◌+◌, ◌<◌, true, false, List, [], ◌∷◌, ◌++◌, length, take, drop, Option, Some, None, refl, sym, ap, ◌∙◌, subst, append_assoc, inl, inr, arith}
+use Rattle.std.proofs.Common.{◌≡◌, ℕ, suc, ◌<◌, true, false, List, [], ◌∷◌, ◌++◌, length, take, drop, Option, Some, None, refl, sym, ap, ◌∙◌, subst, append_assoc, inl, inr, arith}
 use Rattle.std.specs.Prelude.{IsTrue, not}
 use Rattle.std.specs.List.{list_all, prefix_len, take_while}
 use Rattle.std.proofs.lemmas.Bool.{cases_Bool, eqb-true}

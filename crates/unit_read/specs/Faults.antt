@@ -1,5 +1,5 @@
 -- A fault stands at a line.
-use Rattle.std.specs.Prelude.{◌≡◌, ℕ, ◌+◌, ◌<◌, ◌≤◌, ◌⊎◌, true, false, List, [], ◌∷◌, ◌++◌, length, Option, Some, None}
+use Rattle.std.specs.Prelude.{◌≡◌, ℕ, ◌+◌, ◌<◌, ◌≤◌, ◌⊎◌, true, false, List, [], ◌∷◌, ◌++◌, length, codes, Option, Some, None}
 use Rattle.std.specs.Str.Lines.{lines}
 use Rattle.unit_types.specs.UnitText.{UnitText}
 use Rattle.unit_read.specs.declared.fault.UnitFault.{UnitFault}
@@ -27,64 +27,36 @@ Stand us open_unit ps = (whole own : List Placed) × (ps ≡ whole ++ own) × Ar
 -- anything but a UNIT line where no unit is open, or a FIELD line behind a label or a statement
 abbrev pub IsMisplaced : Option UnitText → Piece → Type 0
 IsMisplaced None (pieces.Unit name) = ⊥
-IsMisplaced None (pieces.Field name spab offset len) = Unit {0}
-IsMisplaced None (pieces.Label l) = Unit {0}
-IsMisplaced None (pieces.Statement a) = Unit {0}
-IsMisplaced None pieces.End = Unit {0}
-IsMisplaced (Some u) (pieces.Unit name) = ⊥
+IsMisplaced None _ = Unit {0}
 IsMisplaced (Some u) (pieces.Field name spab offset len) = has_no_body u ≡ false
-IsMisplaced (Some u) (pieces.Label l) = ⊥
-IsMisplaced (Some u) (pieces.Statement a) = ⊥
-IsMisplaced (Some u) pieces.End = ⊥
+IsMisplaced (Some u) _ = ⊥
 
 -- a field that is defined twice, or one that is not defined
 abbrev pub NamesBadField : Option UnitText → Piece → Type 0
-NamesBadField None piece = ⊥
-NamesBadField (Some u) (pieces.Unit name) = ⊥
 NamesBadField (Some u) (pieces.Field name spab offset len) = (has_no_body u ≡ true) × (has_field u.fields name ≡ true)
-NamesBadField (Some u) (pieces.Label l) = ⊥
 NamesBadField (Some u) (pieces.Statement a) = uses (has_field u.fields) a ≡ false
-NamesBadField (Some u) pieces.End = ⊥
+NamesBadField _ _ = ⊥
 
 -- a label that the unit has
 abbrev pub RepeatsLabel : Option UnitText → Piece → Type 0
-RepeatsLabel None piece = ⊥
-RepeatsLabel (Some u) (pieces.Unit name) = ⊥
-RepeatsLabel (Some u) (pieces.Field name spab offset len) = ⊥
 RepeatsLabel (Some u) (pieces.Label l) = has_label u.labels l ≡ true
-RepeatsLabel (Some u) (pieces.Statement a) = ⊥
-RepeatsLabel (Some u) pieces.End = ⊥
+RepeatsLabel _ _ = ⊥
 
 -- a UNIT line in an open unit
 abbrev pub MeetsUnit : Option UnitText → Piece → Type 0
-MeetsUnit None piece = ⊥
 MeetsUnit (Some u) (pieces.Unit name) = Unit {0}
-MeetsUnit (Some u) (pieces.Field name spab offset len) = ⊥
-MeetsUnit (Some u) (pieces.Label l) = ⊥
-MeetsUnit (Some u) (pieces.Statement a) = ⊥
-MeetsUnit (Some u) pieces.End = ⊥
+MeetsUnit _ _ = ⊥
 
 -- the UNIT line of a name that a unit has
 abbrev pub RepeatsUnit : List UnitText → Option UnitText → Piece → Type 0
 RepeatsUnit us None (pieces.Unit name) = has_unit us name ≡ true
-RepeatsUnit us None (pieces.Field name spab offset len) = ⊥
-RepeatsUnit us None (pieces.Label l) = ⊥
-RepeatsUnit us None (pieces.Statement a) = ⊥
-RepeatsUnit us None pieces.End = ⊥
-RepeatsUnit us (Some u) piece = ⊥
+RepeatsUnit _ _ _ = ⊥
 
 -- a statement behind 10,000, or a unit behind 1,000
 abbrev pub IsOneTooMany : List UnitText → Option UnitText → Piece → Type 0
 IsOneTooMany us None (pieces.Unit name) = (has_unit us name ≡ false) × (1000 ≤ length us)
-IsOneTooMany us None (pieces.Field name spab offset len) = ⊥
-IsOneTooMany us None (pieces.Label l) = ⊥
-IsOneTooMany us None (pieces.Statement a) = ⊥
-IsOneTooMany us None pieces.End = ⊥
-IsOneTooMany us (Some u) (pieces.Unit name) = ⊥
-IsOneTooMany us (Some u) (pieces.Field name spab offset len) = ⊥
-IsOneTooMany us (Some u) (pieces.Label l) = ⊥
 IsOneTooMany us (Some u) (pieces.Statement a) = (uses (has_field u.fields) a ≡ true) × (10000 ≤ length u.statements)
-IsOneTooMany us (Some u) pieces.End = ⊥
+IsOneTooMany _ _ _ = ⊥
 
 -- the piece on line n has the fault
 abbrev pub PieceFault : ℕ → List UnitText → Option UnitText → Piece → UnitFault → Type 0
@@ -127,3 +99,24 @@ pub record FirstFault (all : List (List ℕ)) (fault : UnitFault) : Type 0 where
 
 abbrev pub HasTextFault : List ℕ → UnitFault → Type 0
 HasTextFault text fault = ((16777216 < length text) × (fault ≡ TooLong 0)) ⊎ ((length text ≤ 16777216) × FirstFault (lines text) fault)
+
+-- ---- what is printed of a fault
+
+-- the line, counted from 1; a text that is too long has line 0
+abbrev pub line_of : UnitFault → ℕ
+line_of (BadStatement line) = line
+line_of (BadField line) = line
+line_of (LabelTwice line) = line
+line_of (NoEnd line) = line
+line_of (UnitTwice line) = line
+line_of (TooLong line) = line
+line_of Memory = 0
+
+abbrev pub name_of : UnitFault → List ℕ
+name_of (BadStatement line) = codes "BadStatement"
+name_of (BadField line) = codes "BadField"
+name_of (LabelTwice line) = codes "LabelTwice"
+name_of (NoEnd line) = codes "NoEnd"
+name_of (UnitTwice line) = codes "UnitTwice"
+name_of (TooLong line) = codes "TooLong"
+name_of Memory = codes "Memory"

@@ -3,7 +3,7 @@ use Rattle.std.specs.Prelude.{ℕ, Bool, false, ◌&&◌, ◌||◌, ◌==◌, Li
 use Rattle.kd_base.specs.declared.words.Variant.{Variant}
 use Rattle.kd_base.specs.declared.words.Variant.TheVariants.{Kp, Pr, Pa, Re, Sp, Fi, Fc, Fr, Er, Rs}
 use Rattle.unit_read.specs.declared.word.Word.{Word}
-use Rattle.unit_read.specs.declared.word.Word.TheVariants.{Plain, Literal}
+use Rattle.unit_read.specs.declared.word.Word.TheVariants.{Plain}
 use Rattle.unit_read.specs.declared.key.Key.{Key}
 use Rattle.unit_read.specs.declared.key.Key.TheVariants as keys
 use Rattle.unit_read.specs.declared.key.TheConstants.{KEYS}
@@ -54,20 +54,6 @@ variant_keyword Rs = codes "RS"
 
 -- the keyword of the operation or the variant; empty where there is none
 abbrev pub second_keyword : Key → List ℕ
-second_keyword keys.Move = []
-second_keyword keys.Join = []
-second_keyword keys.Add = []
-second_keyword keys.Sub = []
-second_keyword keys.Mul = []
-second_keyword keys.Div = []
-second_keyword keys.If = []
-second_keyword keys.Jump = []
-second_keyword keys.Init = []
-second_keyword keys.Mget = []
-second_keyword keys.Mput = []
-second_keyword keys.Fget = []
-second_keyword keys.Fput = []
-second_keyword keys.Dput = []
 second_keyword keys.SgetGb = codes "GB"
 second_keyword keys.SputGb = codes "GB"
 second_keyword keys.SrelGb = codes "GB"
@@ -77,18 +63,16 @@ second_keyword keys.SputMs = codes "MS"
 second_keyword keys.SrelLb = codes "LB"
 second_keyword keys.SgetUs = codes "US"
 second_keyword keys.SputUs = codes "US"
-second_keyword keys.Gtda = []
-second_keyword keys.Ptda = []
 second_keyword keys.UnlkGb = codes "GB"
 second_keyword keys.UnlkUs = codes "US"
 second_keyword keys.UnlkDa = codes "DA"
 second_keyword (keys.Pend variant) = variant_keyword variant
+second_keyword _ = []
 
 -- the word in front is this one
 abbrev pub is_front : List Word → List ℕ → Bool
-is_front [] wanted = false
 is_front (Plain word ∷ words) wanted = bytes_eq word wanted
-is_front (Literal bytes ∷ words) wanted = false
+is_front _ wanted = false
 
 abbrev pub begins_with : List Word → Key → Bool
 begins_with words key = is_front words (first_keyword key) && (length (second_keyword key) == 0 || is_front (drop 1 words) (second_keyword key))

@@ -14,33 +14,29 @@ both None y = None
 both (Some a) None = None
 both (Some a) (Some b) = Some (a, b)
 
+-- one word and no other, and two
+abbrev pub one_of : {A : Type 0} → (Word → Option A) → List Word → Option A
+one_of f (w ∷ []) = f w
+one_of f _ = None
+
+abbrev pub two_of : {A B : Type 0} → (Word → Option A) → (Word → Option B) → List Word → Option (A × B)
+two_of f g (v ∷ w ∷ []) = both (f v) (g w)
+two_of f g _ = None
+
 abbrev pub one_name : List Word → Option (List ℕ)
-one_name [] = None
-one_name (w ∷ []) = name_of w
-one_name (w ∷ v ∷ ws) = None
+one_name words = one_of name_of words
 
 abbrev pub one_operand : List Word → Option Operand
-one_operand [] = None
-one_operand (w ∷ []) = operand_of w
-one_operand (w ∷ v ∷ ws) = None
+one_operand words = one_of operand_of words
 
 abbrev pub two_operands : List Word → Option (Operand × Operand)
-two_operands [] = None
-two_operands (v ∷ []) = None
-two_operands (v ∷ w ∷ []) = both (operand_of v) (operand_of w)
-two_operands (v ∷ w ∷ x ∷ ws) = None
+two_operands words = two_of operand_of operand_of words
 
 abbrev pub name_and_operand : List Word → Option (List ℕ × Operand)
-name_and_operand [] = None
-name_and_operand (v ∷ []) = None
-name_and_operand (v ∷ w ∷ []) = both (name_of v) (operand_of w)
-name_and_operand (v ∷ w ∷ x ∷ ws) = None
+name_and_operand words = two_of name_of operand_of words
 
 abbrev pub operand_and_name : List Word → Option (Operand × List ℕ)
-operand_and_name [] = None
-operand_and_name (v ∷ []) = None
-operand_and_name (v ∷ w ∷ []) = both (operand_of v) (name_of w)
-operand_and_name (v ∷ w ∷ x ∷ ws) = None
+operand_and_name words = two_of operand_of name_of words
 
 abbrev pub name_and_two : List Word → Option (List ℕ × Operand × Operand)
 name_and_two [] = None

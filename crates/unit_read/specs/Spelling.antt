@@ -29,18 +29,13 @@ ArePieces n (line ∷ rest) ps =
 -- ---- what the pieces of a unit say
 
 abbrev pub is_field : Piece → Bool
-is_field (pieces.Unit name) = false
 is_field (pieces.Field name spab offset len) = true
-is_field (pieces.Label l) = false
-is_field (pieces.Statement a) = false
-is_field pieces.End = false
+is_field _ = false
 
 abbrev pub is_inner : Piece → Bool
-is_inner (pieces.Unit name) = false
-is_inner (pieces.Field name spab offset len) = false
 is_inner (pieces.Label l) = true
 is_inner (pieces.Statement a) = true
-is_inner pieces.End = false
+is_inner _ = false
 
 abbrev pub are_fields : List Placed → Bool
 are_fields ps = list_all (λ (p : Placed). is_field p.piece) ps
@@ -50,25 +45,16 @@ are_inner ps = list_all (λ (p : Placed). is_inner p.piece) ps
 
 -- the field, the label before statement k, the statement that a piece gives
 abbrev pub field_in : ℕ → Piece → List Field
-field_in n (pieces.Unit name) = []
 field_in n (pieces.Field name spab offset len) = record { name = name; line = n; spab = spab; offset = offset; length = len } ∷ []
-field_in n (pieces.Label l) = []
-field_in n (pieces.Statement a) = []
-field_in n pieces.End = []
+field_in n _ = []
 
 abbrev pub label_in : ℕ → Piece → List (List ℕ × ℕ)
-label_in k (pieces.Unit name) = []
-label_in k (pieces.Field name spab offset len) = []
 label_in k (pieces.Label l) = (l, k) ∷ []
-label_in k (pieces.Statement a) = []
-label_in k pieces.End = []
+label_in k _ = []
 
 abbrev pub statement_in : ℕ → Piece → List UnitStatement
-statement_in n (pieces.Unit name) = []
-statement_in n (pieces.Field name spab offset len) = []
-statement_in n (pieces.Label l) = []
 statement_in n (pieces.Statement a) = record { line = n; action = a } ∷ []
-statement_in n pieces.End = []
+statement_in n _ = []
 
 abbrev pub fields_in : List Placed → List Field
 fields_in [] = []

@@ -15,16 +15,11 @@ use Rattle.unit_read.specs.Keys.{key_of, keyword_count}
 use Rattle.unit_read.specs.Shapes.{one_name, one_operand, two_operands, name_and_operand, operand_and_name, name_and_two, compared, delayed}
 
 abbrev pub takes_follow_up : Variant → Bool
-takes_follow_up variants.Kp = true
-takes_follow_up variants.Pr = true
-takes_follow_up variants.Pa = true
-takes_follow_up variants.Re = true
-takes_follow_up variants.Sp = true
 takes_follow_up variants.Fi = false
-takes_follow_up variants.Fc = true
 takes_follow_up variants.Fr = false
 takes_follow_up variants.Er = false
 takes_follow_up variants.Rs = false
+takes_follow_up _ = true
 
 -- the action, where no words are left
 abbrev pub alone : Action → List Word → Option Action

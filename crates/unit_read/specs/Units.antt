@@ -43,11 +43,10 @@ with_statement n a u =
 
 -- one more piece of a unit, which is not its END
 abbrev pub with_piece : ℕ → Piece → UnitText → Result UnitText UnitFault
-with_piece n (pieces.Unit name) u = Err (NoEnd n)
 with_piece n (pieces.Field name spab offset len) u = with_field (record { name = name; line = n; spab = spab; offset = offset; length = len }) u
 with_piece n (pieces.Label l) u = with_label n l u
 with_piece n (pieces.Statement a) u = with_statement n a u
-with_piece n pieces.End u = Err (NoEnd n)
+with_piece n _ u = Err (NoEnd n)
 
 -- whole units, and the one that is open
 pub record State : Type 0 where
@@ -65,10 +64,7 @@ abbrev pub opened : ℕ → Piece → List UnitText → Result State UnitFault
 opened n (pieces.Unit name) us =
     if has_unit us name then Err (UnitTwice n)
     else (if nat_le 1000 (length us) then Err (TooLong n) else Ok (in_unit us (begun name n)))
-opened n (pieces.Field name spab offset len) us = Err (BadStatement n)
-opened n (pieces.Label l) us = Err (BadStatement n)
-opened n (pieces.Statement a) us = Err (BadStatement n)
-opened n pieces.End us = Err (BadStatement n)
+opened n _ us = Err (BadStatement n)
 
 -- the open unit ends
 abbrev pub closed : List UnitText → UnitText → Result State UnitFault
@@ -79,11 +75,8 @@ goes_on n piece us u = with_piece n piece u >>= λ v. Ok (in_unit us v)
 
 -- a piece where a unit is open
 abbrev pub within : ℕ → Piece → List UnitText → UnitText → Result State UnitFault
-within n (pieces.Unit name) us u = goes_on n (pieces.Unit name) us u
-within n (pieces.Field name spab offset len) us u = goes_on n (pieces.Field name spab offset len) us u
-within n (pieces.Label l) us u = goes_on n (pieces.Label l) us u
-within n (pieces.Statement a) us u = goes_on n (pieces.Statement a) us u
 within n pieces.End us u = closed us u
+within n piece us u = goes_on n piece us u
 
 abbrev pub by_current : Option UnitText → ℕ → Piece → List UnitText → Result State UnitFault
 by_current None n piece us = opened n piece us

@@ -1,5 +1,5 @@
 -- The fields that a statement names.
-use Rattle.std.specs.Prelude.{ℕ, Bool, true, ◌&&◌, List, Some, None}
+use Rattle.std.specs.Prelude.{ℕ, Bool, true, ◌&&◌, List, Some}
 use Rattle.unit_types.specs.declared.action.Operand.{Operand}
 use Rattle.unit_types.specs.declared.action.Operand.TheVariants as operands
 use Rattle.unit_types.specs.declared.action.Action.{Action}
@@ -8,10 +8,8 @@ use Rattle.unit_types.specs.declared.action.Action.TheVariants as actions
 -- the field that the operand names passes the test
 abbrev pub operand_uses : (List ℕ → Bool) → Operand → Bool
 operand_uses test (operands.Field name) = test name
-operand_uses test (operands.Literal bytes) = true
-operand_uses test (operands.Digits digits) = true
-operand_uses test (operands.Header header) = true
 operand_uses test (operands.Trim name) = test name
+operand_uses test _ = true
 
 -- each field that the statement names passes the test, the targets and those in operands; labels are no fields
 abbrev pub uses : (List ℕ → Bool) → Action → Bool
@@ -22,8 +20,6 @@ uses t (actions.Sub f o) = t f && operand_uses t o
 uses t (actions.Mul f o) = t f && operand_uses t o
 uses t (actions.Div f o) = t f && operand_uses t o
 uses t (actions.If o r p l) = operand_uses t o && operand_uses t p
-uses t (actions.Jump l) = true
-uses t actions.Init = true
 uses t (actions.Mget f) = t f
 uses t (actions.Mput o) = operand_uses t o
 uses t (actions.Fget f) = t f
@@ -43,5 +39,5 @@ uses t (actions.Ptda o p) = operand_uses t o && operand_uses t p
 uses t (actions.UnlkGb o) = operand_uses t o
 uses t (actions.UnlkUs o) = operand_uses t o
 uses t (actions.UnlkDa o) = operand_uses t o
-uses t (actions.Pend v None) = true
 uses t (actions.Pend v (Some o)) = operand_uses t o
+uses t _ = true

@@ -1,5 +1,5 @@
 -- Units that a text spells have labels that count from one, and operands that are no longer than an area may be.
-use Rattle.std.specs.Prelude.{◌≡◌, refl, ℕ, ◌+◌, ◌≤◌, Bool, true, false, cond, List, [], ◌∷◌, ◌++◌, length, Option, Some, None, IfSome, All, bytes_eq}
+use Rattle.std.specs.Prelude.{ℕ, ◌+◌, ◌≤◌, true, false, cond, List, [], ◌∷◌, ◌++◌, length, Some, IfSome, All, bytes_eq}
 use Rattle.std.specs.List.{AllByRecursion as Each}
 use Rattle.std.proofs.lemmas.List.Elements.{All-from_recursion}
 use Rattle.std.specs.Map.{lookup}
@@ -10,20 +10,18 @@ use Rattle.unit_types.specs.declared.action.Action.TheVariants as actions
 use Rattle.unit_types.specs.declared.action.Operand.{Operand}
 use Rattle.unit_types.specs.declared.action.Operand.TheVariants as operands
 use Rattle.unit_types.specs.declared.action.UnitStatement.{UnitStatement}
-use Rattle.unit_types.specs.UnitText.{UnitText, LabelsFromOne, IsShortOperand, HasShortOperands, IsWhole, operands_of}
+use Rattle.unit_types.specs.UnitText.{UnitText, IsShortOperand, IsWhole, operands_of}
 use Rattle.unit_read.specs.declared.piece.Piece.{Piece}
 use Rattle.unit_read.specs.declared.piece.Piece.TheVariants as pieces
-use Rattle.unit_read.specs.Grammar.{IsOperand, IsAction, IsPiece, SpellsPiece}
+use Rattle.unit_read.specs.Grammar.{IsOperand, IsAction, SpellsPiece}
 use Rattle.unit_read.specs.Spelling.{Placed, placed, ArePieces, AreUnits, IsBegun, SpellsUnits, label_in, statement_in, labels_in, statements_in}
 
 -- ---- operands
 
 short_operand : (o : Operand) → IsOperand o → IsShortOperand o
-short_operand (operands.Field name) h = tt
 short_operand (operands.Literal bytes) h = h
 short_operand (operands.Digits digits) h = h.1
-short_operand (operands.Header header) h = tt
-short_operand (operands.Trim name) h = tt
+short_operand _ h = tt
 
 short_action : (a : Action) → IsAction a → Each IsShortOperand (operands_of a)
 short_action (actions.Move f o) h = (short_operand o h.1, tt)
@@ -33,11 +31,7 @@ short_action (actions.Sub f o) h = (short_operand o h.1, tt)
 short_action (actions.Mul f o) h = (short_operand o h.1, tt)
 short_action (actions.Div f o) h = (short_operand o h.1, tt)
 short_action (actions.If o r p l) h = (short_operand o h.0, (short_operand p h.1, tt))
-short_action (actions.Jump l) h = tt
-short_action actions.Init h = tt
-short_action (actions.Mget f) h = tt
 short_action (actions.Mput o) h = (short_operand o h, tt)
-short_action (actions.Fget f) h = tt
 short_action (actions.Fput to o) h = (short_operand to h.0, (short_operand o h.1, tt))
 short_action (actions.Dput to mode d hours m s o) h =
     (short_operand to h.0, (short_operand d h.1, (short_operand hours h.2, (short_operand m h.3, (short_operand s h.4, (short_operand o h.5, tt))))))
@@ -55,8 +49,8 @@ short_action (actions.Ptda n o) h = (short_operand n h.0, (short_operand o h.1, 
 short_action (actions.UnlkGb n) h = (short_operand n h, tt)
 short_action (actions.UnlkUs n) h = (short_operand n h, tt)
 short_action (actions.UnlkDa n) h = (short_operand n h, tt)
-short_action (actions.Pend v None) h = tt
 short_action (actions.Pend v (Some o)) h = (short_operand o h.1, tt)
+short_action _ h = tt
 
 -- the operands of a statement are short
 abbrev IsShortStatement : UnitStatement → Type 0
@@ -69,11 +63,8 @@ abbrev IsShortPiece : Placed → Type 0
 IsShortPiece p = Each IsShortStatement (statement_in p.line p.piece)
 
 short_piece : (line : List ℕ) (n : ℕ) (piece : Piece) → SpellsPiece line piece → IsShortPiece (placed n piece)
-short_piece line n (pieces.Unit name) h = tt
-short_piece line n (pieces.Field name spab offset len) h = tt
-short_piece line n (pieces.Label name) h = tt
 short_piece line n (pieces.Statement a) h = (All-from_recursion IsShortOperand (operands_of a) (short_action a h.3.1), tt)
-short_piece line n pieces.End h = tt
+short_piece line n _ h = tt
 
 short_pieces : (ls : List (List ℕ)) (n : ℕ) (ps : List Placed) → ArePieces n ls ps → Each IsShortPiece ps
 short_pieces [] n ps h = subst (Each IsShortPiece) (sym h) tt
@@ -102,11 +93,8 @@ short_statements [] h = tt
 short_statements (p ∷ ps) h = both _ (statement_in p.line p.piece) (statements_in ps) h.0 (short_statements ps h.1)
 
 label_from : (k : ℕ) (piece : Piece) → 1 ≤ k → Each (λ (l : List ℕ × ℕ). 1 ≤ l.1) (label_in k piece)
-label_from k (pieces.Unit name) h = tt
-label_from k (pieces.Field name spab offset len) h = tt
 label_from k (pieces.Label name) h = (h, tt)
-label_from k (pieces.Statement a) h = tt
-label_from k pieces.End h = tt
+label_from k _ h = tt
 
 labels_from : (ps : List Placed) (k : ℕ) → 1 ≤ k → Each (λ (l : List ℕ × ℕ). 1 ≤ l.1) (labels_in k ps)
 labels_from [] k h = tt

@@ -1,9 +1,9 @@
 //! Why a units text could not be read.
 ghost use Rattle.std.specs.Prelude.{◌≡◌};
 ghost use Rattle.unit_read.specs.declared.fault.UnitFault.TheVariants.{Memory};
+ghost use Rattle.unit_read.specs.Faults.{line_of, name_of};
 
 use kd_base::OutOfMemory;
-use std::alloc::{AllocError, AllocFailed};
 use thiserror::Error;
 
 /// The first fault of a units text, with the number of its line, counted from 1.
@@ -34,19 +34,35 @@ pub enum UnitFault {
     Memory,
 }
 
-impl From<AllocError> for UnitFault {
-    ghost from_gives = { λ _ e. e ≡ Memory };
-
-    fn from(_: AllocError) -> UnitFault {
-        UnitFault::Memory
+impl UnitFault {
+    /// The number of its line, counted from 1; 0 for a text that is too long. It takes no memory.
+    pub fn line(&self) -> u32
+        ensures { result ≡ line_of self.now }
+    {
+        match self {
+            UnitFault::BadStatement(line)
+            | UnitFault::BadField(line)
+            | UnitFault::LabelTwice(line)
+            | UnitFault::NoEnd(line)
+            | UnitFault::UnitTwice(line)
+            | UnitFault::TooLong(line) => *line,
+            UnitFault::Memory => 0,
+        }
     }
-}
 
-impl<T: Drop> From<AllocFailed<T>> for UnitFault {
-    ghost from_gives = { λ _ e. e ≡ Memory };
-
-    fn from(_: AllocFailed<T>) -> UnitFault {
-        UnitFault::Memory
+    /// The name by which it is printed. It takes no memory.
+    pub fn name(&self) -> &'static str
+        ensures { result.now ≡ name_of self.now }
+    {
+        match self {
+            UnitFault::BadStatement(_) => "BadStatement",
+            UnitFault::BadField(_) => "BadField",
+            UnitFault::LabelTwice(_) => "LabelTwice",
+            UnitFault::NoEnd(_) => "NoEnd",
+            UnitFault::UnitTwice(_) => "UnitTwice",
+            UnitFault::TooLong(_) => "TooLong",
+            UnitFault::Memory => "Memory",
+        }
     }
 }
 

@@ -12,6 +12,7 @@ mod names;
 mod open_unit;
 mod operand;
 mod piece;
+mod push;
 mod read;
 mod reading;
 mod said;

@@ -8,6 +8,7 @@ ghost use Rattle.unit_read.specs.Outcomes.{Gives, after};
 use crate::fault::UnitFault;
 use crate::names::{Names, add_name, holds, no_names};
 use crate::piece::Piece;
+use crate::push::push;
 use crate::said::Said;
 use crate::used::is_defined;
 use kd_base::{Bytes, OutOfMemory, ProgName};
@@ -63,7 +64,7 @@ impl OpenUnit {
             return Err(UnitFault::BadField(field.line));
         }
         add_name(&mut self.field_names, &field.name)?;
-        self.fields.push(field)?;
+        push(&mut self.fields, field)?;
         Ok(())
     }
 
@@ -77,7 +78,7 @@ impl OpenUnit {
         }
         add_name(&mut self.label_names, &label)?;
         let place = self.statements.len() as u32 + 1;
-        self.labels.push((label, place))?;
+        push(&mut self.labels, (label, place))?;
         Ok(())
     }
 

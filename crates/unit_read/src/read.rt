@@ -1,11 +1,12 @@
 //! Reading a units text.
 ghost use Rattle.std.specs.Prelude.{◌≢◌, All, List, IfOk, IfErr, OnOk};
+ghost use Rattle.kd_base.specs.FirstFaults.{items_of};
 ghost use Rattle.unit_types.specs.UnitText.{UnitText, IsWhole};
 ghost use Rattle.unit_read.specs.declared.fault.UnitFault.TheVariants.{Memory};
 ghost use Rattle.unit_read.specs.Spelling.{SpellsUnits};
 ghost use Rattle.unit_read.specs.Faults.{HasTextFault};
 ghost use Rattle.unit_read.specs.Open.{state_of, AreKept};
-ghost use Rattle.unit_read.specs.Outcomes.{Gives, after, units_of_result};
+ghost use Rattle.unit_read.specs.Outcomes.{Gives, after};
 ghost use Rattle.unit_read.specs.Reading.{line_step, read_text};
 
 use crate::fault::UnitFault;
@@ -44,7 +45,7 @@ fn line_step(
 }
 
 fn read_text(alloc: Global, text: &[u8]) -> Result<Vec<Unit>, UnitFault>
-    ensures { Gives (units_of_result result) (read_text text.now) }
+    ensures { Gives (items_of result) (read_text text.now) }
 {
     if text.len() > MAX_TEXT_LEN {
         return Err(UnitFault::TooLong(0));
@@ -68,11 +69,11 @@ pub fn read_units(alloc: Global, text: &[u8]) -> Result<Vec<Unit>, UnitFault>
     // Labels count from one, and no operand is longer than an area may be.
     ensures whole { IfOk result (λ units. All IsWhole units.items) }
     // What the text spells is read, unless memory runs out.
-    ensures only { (units : List UnitText) → SpellsUnits text.now units → Gives (units_of_result result) (Ok units) }
+    ensures only { (units : List UnitText) → SpellsUnits text.now units → Gives (items_of result) (Ok units) }
     // The fault that is answered stands there.
     ensures fault { IfErr result (λ e. e ≢ Memory → HasTextFault text.now e) }
     // A text with the fault is refused for it, unless memory runs out.
-    ensures refused { (e : UnitFault) → HasTextFault text.now e → Gives (units_of_result result) (Err e) }
+    ensures refused { (e : UnitFault) → HasTextFault text.now e → Gives (items_of result) (Err e) }
 {
     read_text(alloc, text)
 }

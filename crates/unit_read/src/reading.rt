@@ -1,13 +1,15 @@
 //! What was read so far: whole units, and perhaps an open one.
 ghost use Rattle.std.specs.Prelude.{◌≡◌, None, OnOk};
+ghost use Rattle.kd_base.specs.FirstFaults.{items_of};
 ghost use Rattle.unit_read.specs.Units.{nothing_read, opened, closed, stepped, finished};
 ghost use Rattle.unit_read.specs.Open.{unit_so_far, IsKept, state_of, AreKept};
-ghost use Rattle.unit_read.specs.Outcomes.{Gives, after, units_of_result};
+ghost use Rattle.unit_read.specs.Outcomes.{Gives, after};
 
 use crate::fault::UnitFault;
 use crate::names::{UnitNames, add_unit_name, holds_unit, no_unit_names};
 use crate::open_unit::OpenUnit;
 use crate::piece::Piece;
+use crate::push::push;
 use std::alloc::Global;
 use unit_types::Unit;
 
@@ -63,7 +65,7 @@ impl Reading {
         ensures kept { OnOk result (AreKept self.new) }
     {
         add_unit_name(&mut self.names, unit.name())?;
-        self.units.push(unit.ended(alloc)?)?;
+        push(&mut self.units, unit.ended(alloc)?)?;
         Ok(())
     }
 
@@ -91,7 +93,7 @@ impl Reading {
 
     /// The units, where the text ends before this line.
     pub(crate) fn finished(self, line: u32) -> Result<Vec<Unit>, UnitFault>
-        ensures { units_of_result result ≡ finished line (state_of self) }
+        ensures { items_of result ≡ finished line (state_of self) }
     {
         match self.unit {
             None => Ok(self.units),

@@ -1,9 +1,9 @@
-use Rattle.std.proofs.Common.{ℕ, ◌∙◌, ap, arith, subst, take}
+use Rattle.std.proofs.Common.{ℕ, ◌∙◌, refl, ap, arith, subst, take}
 use Rattle.std.proofs.lemmas.List.{take_all}
 use Rattle.kdcdef_check.specs.Generating.{generated}
-use Rattle.kdcdef_check.specs.Faults.{kind_count}
-use Rattle.kdcdef_check.specs.Steps.{place_of, own_fault, OwnFault, AllNamed}
-use Rattle.kdcdef_check.proofs.Tallies.{place_within, count_within, next_tally}
+use Rattle.kdcdef_check.specs.Faults.{kind_of}
+use Rattle.kdcdef_check.specs.Steps.{own_fault, OwnFault, AllNamed}
+use Rattle.kdcdef_check.proofs.Tallies.{kind_within, count_within, next_tally}
 use Rattle.kdcdef_check.proofs.Filling.{next_filled, filled_names, next_named}
 use Rattle.kdcdef_check.proofs.FirstOfFaults.{next_first}
 use Rattle.kdcdef_check.proofs.Chains.{own_first}
@@ -11,7 +11,7 @@ use Rattle.kdcdef_check.proofs.passes.fill.Goals as goal
 
 pub add-requires-in-loop-statement : goal.add-requires-in-loop-statement
 add-requires-in-loop-statement c =
-    omega (arith, count_within c.args.statements.now c.loop-statement.statement-index c.loop-statement.tally (place_of c.of-kind.result) c.loop-statement-test.true (place_within c.of-kind.result) c.loop-statement.invariant.tally)
+    omega (arith, count_within c.args.statements.now c.loop-statement.statement-index c.loop-statement.tally (kind_of c.statement-item.result.said) c.loop-statement-test.true (kind_within c.statement-item.result.said) c.loop-statement.invariant.tally)
 
 pub loop-statement-preserved : goal.loop-statement-preserved
 loop-statement-preserved c =
@@ -21,13 +21,12 @@ loop-statement-preserved c =
     let within = c.loop-statement-test.true in
     let is = c.statement-item.is in
     let was = c.loop-statement.invariant in
-    let kind = place_of c.of-kind.result in
     let before = generated (take i ss) in
-    let counted = c.count.ensures ∙ was.tally.counts kind (place_within c.of-kind.result) ∙ ap (λ (k : ℕ). kind_count k (take i ss)) c.of-kind.ensures in
+    let counted = c.count.ensures ∙ was.tally.counts (kind_of s.said) (kind_within s.said) in
     let fault = c.own_fault.ensures before (filled_names c.loop-statement.tables (take i ss) was.tables) ∙ ap (λ (n : ℕ). own_fault before n s) counted in
     record {
       tables = next_filled ss i s c.loop-statement.tables c.add.new.self within is was.tables c.in_ok-add.ensures;
-      tally = next_tally ss i s c.loop-statement.tally c.add-in-loop-statement.new.self kind within is c.of-kind.ensures (place_within c.of-kind.result) was.tally c.add-in-loop-statement.ensures;
+      tally = next_tally ss i s c.loop-statement.tally c.add-in-loop-statement.new.self (kind_of s.said) within is refl (kind_within s.said) was.tally c.add-in-loop-statement.ensures;
       named = next_named ss i s within is was.named c.know_name.ensures;
       first = rw c.earlier-first.ensures (next_first ss (OwnFault ss) i s c.loop-statement.first c.own_fault.result within is was.first (rw fault (own_first ss i s)));
     }

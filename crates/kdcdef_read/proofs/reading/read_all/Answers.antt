@@ -16,6 +16,6 @@ pub loop-statement-preserved : goal.loop-statement-preserved
 loop-statement-preserved c =
     let lt : c.loop-statement.statement-index < length c.args.raw.now.items = omega arith in
     record {
-      so_far = rw c.in_ok-push.ensures.items
-          (statement_more c.loop-statement.statements.items c.loop-statement.progress c.in_ok-typed.behind c.in_ok-typed.typed c.statement-item.result c.args.raw.now.items c.loop-statement.statement-index _ lt (rw c.deref-statement-items.ensures.value at c.statement-item.is) c.in_ok-typed.ensures c.loop-statement.invariant.so_far);
+      so_far = rw c.in_ok-push.ensures.ok
+          (statement_more c.loop-statement.statements c.loop-statement.progress c.in_ok-typed.behind c.in_ok-typed.typed c.statement-item.result c.args.raw.now.items c.loop-statement.statement-index _ lt (rw c.deref-statement-items.ensures.value at c.statement-item.is) c.in_ok-typed.ensures c.loop-statement.invariant.so_far);
     }

@@ -1,10 +1,9 @@
-use Rattle.std.proofs.Common.{◌≡◌, List, refl, sym, ap, ◌∙◌}
+use Rattle.std.proofs.Common.{List, refl, sym, ap, ◌∙◌}
 use Rattle.std.specs.Prelude.{Ok, Err, bytes_eq}
 use Rattle.std.specs.List.{position_from}
 use Rattle.unit_types.specs.UnitText.{UnitText}
-use Rattle.std.proofs.lemmas.List.Elements.{same_from_all_zip}
 use Rattle.unit_check.specs.Finding.{fit_fault}
-use Rattle.unit_check.proofs.Laws.{HasNoFault, no_fault, found_first, pair_same}
+use Rattle.unit_check.proofs.Laws.{HasNoFault, no_fault, found_first}
 use Rattle.unit_check.proofs.Answered.{only_that, refused_for}
 use Rattle.unit_check.proofs.fitting.fit.Goals as goal
 
@@ -17,19 +16,16 @@ returns-in-Some-clause-only c = only_that c.args.generation.now c.args.units.ite
 pub returns-in-Some-clause-refused : goal.returns-in-Some-clause-refused
 returns-in-Some-clause-refused c = refused_for c.args.generation.now c.args.units.items (Err c.in-Some.fault) tt (returns-in-Some-clause-fault c)
 
-faultless : (c : goal.In_ok-clone) → HasNoFault c.args.generation.now c.args.units.items
+faultless : (c : goal.In_ok-tacs_of) → HasNoFault c.args.generation.now c.args.units.items
 faultless c =
     no_fault c.args.generation.now c.args.units.items c.max.ensures.sound c.requires.whole (ap (fit_fault c.args.generation.now) (sym c.as_slice-2.ensures.value) ∙ sym c.in_default.ensures)
 
-same_tacs : (c : goal.In_ok-clone) → c.in_ok-clone.field-0.entries ≡ c.args.generation.now.tacs
-same_tacs c = same_from_all_zip _ _ _ c.in_ok-clone.ensures.cases (λ x y r. pair_same x y r.0 r.1) ∙ c.tacs.ensures
-
 pub invariant_of-result : goal.invariant_of-result
 invariant_of-result c =
-    (λ name. c.in_ok-places.ensures name ∙ ap (λ (units : List UnitText). position_from (λ (u : UnitText). bytes_eq name u.name) 0 units) c.as_slice.ensures.value, rw (c.max.ensures.limits, same_tacs c) (faultless c).fit)
+    (λ name. c.in_ok-places.ensures name ∙ ap (λ (units : List UnitText). position_from (λ (u : UnitText). bytes_eq name u.name) 0 units) c.as_slice.ensures.value, rw (c.max.ensures.limits, c.in_ok-tacs_of.ensures) (faultless c).fit)
 
 pub returns-clause-found : goal.returns-clause-found
-returns-clause-found c = record { units = refl; limits = c.max.ensures.limits; tacs = same_tacs c; programs = (faultless c).programs; fit = (faultless c).fit }
+returns-clause-found c = record { units = refl; limits = c.max.ensures.limits; tacs = c.in_ok-tacs_of.ensures; programs = (faultless c).programs; fit = (faultless c).fit }
 
 pub returns-clause-only : goal.returns-clause-only
 returns-clause-only c = only_that c.args.generation.now c.args.units.items (Ok _) (returns-clause-found c) tt

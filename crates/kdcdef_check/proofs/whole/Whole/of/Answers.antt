@@ -7,7 +7,7 @@ returns c =
     let ss = c.args.statements.now in
     record {
       max = c.max_given.ensures;
-      users = c.count.ensures ∙ c.requires.counts 3 (omega arith) ∙ user_count ss;
+      users = c.users.ensures ∙ c.requires.counts 3 (omega arith) ∙ user_count ss;
       restarts = c.restart_count.ensures.count;
-      lterms = c.count-2.ensures ∙ c.requires.counts 5 (omega arith) ∙ lterm_count ss;
+      lterms = c.lterms.ensures ∙ c.requires.counts 5 (omega arith) ∙ lterm_count ss;
     }

@@ -11,11 +11,11 @@ returns-then-holds-clause-unit c =
 pub returns-clause-unit : goal.returns-clause-unit
 returns-clause-unit c =
     let at : c.len.result + 1 ≡ length c.args.self.now.statements.items + 1 = omega (arith, c.args.self.now.statements.ok.0, c.len.ensures) in
-    label_given c.args.line c.args.label (unit_so_far c.args.self.now) c.push.new.self.items _ (sym (c.requires.labels c.args.label) ∙ sym c.holds.ensures ∙ c.if-holds.false) c.in_ok-push.ensures.items at
+    label_given c.args.line c.args.label (unit_so_far c.args.self.now) c.push.new.items.items _ (sym (c.requires.labels c.args.label) ∙ sym c.holds.ensures ∙ c.if-holds.false) c.in_ok-push.ensures at
 
 pub returns-clause-kept : goal.returns-clause-kept
 returns-clause-kept c = record {
   fields = c.requires.fields;
-  labels = label_kept c.args.self.now.label_names c.add_name.new.names c.args.self.now.labels.items c.push.new.self.items _ c.in_ok-push.ensures.items c.in_ok-add_name.ensures c.requires.labels;
+  labels = label_kept c.args.self.now.label_names c.add_name.new.names c.args.self.now.labels.items c.push.new.items.items _ c.in_ok-push.ensures c.in_ok-add_name.ensures c.requires.labels;
   few = c.requires.few;
 }

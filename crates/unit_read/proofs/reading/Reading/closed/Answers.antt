@@ -7,7 +7,7 @@ pub returns-clause-kept : goal.returns-clause-kept
 returns-clause-kept c =
     let name = c.name.ensures ∙ ap (λ (u : UnitText). u.name) (sym c.in_ok-ended.ensures) in
     record {
-      names = unit_kept c.args.self.now.names c.add_unit_name.new.names c.args.self.now.units.items c.push.new.self.items _ c.in_ok-push.ensures.items
+      names = unit_kept c.args.self.now.names c.add_unit_name.new.names c.args.self.now.units.items c.push.new.items.items _ c.in_ok-push.ensures
           (subst (OneMore c.args.self.now.names c.add_unit_name.new.names) name c.in_ok-add_unit_name.ensures) c.requires.kept.names;
       open_unit = c.requires.kept.open_unit;
     }
