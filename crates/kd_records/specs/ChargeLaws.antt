@@ -12,12 +12,12 @@ use Rattle.kd_records.specs.Contents.{Record}
 use Rattle.kd_records.specs.Charge.{IsBlockSize, charge_of, total_charge}
 
 -- the key, the length of the value and the value
-abbrev pub room_of : Record → ℕ
-room_of r = 29 + length r.1
+abbrev pub record_length : Record → ℕ
+record_length r = 29 + length r.1
 
 -- so many records, each with its key and the length of its value, fit into the pages that they are charged
 abbrev pub ChargedRecordsFit : Type 0
-ChargedRecordsFit = (block pages : ℕ) (records : List Record) → IsBlockSize block → total_charge block records ≤ pages → 64 + sum_by (λ (r : Record). 29 + length r.1) records ≤ 8192 + pages * block
+ChargedRecordsFit = (block pages : ℕ) (records : List Record) → IsBlockSize block → total_charge block records ≤ pages → 64 + sum_by record_length records ≤ 8192 + pages * block
 
 pub block_from : (block : ℕ) → IsBlockSize block → 2048 ≤ block
 block_from block h = elim h [ inl e ↦ omega arith | inr h ↦ elim h [ inl e ↦ omega arith | inr e ↦ omega arith ] ]
@@ -78,11 +78,11 @@ charge_at block r = charge_of block (length r.1)
 more_room : (block a b x y c t : ℕ) → a ≡ x + y → b ≡ c + t → x ≤ c * block → y ≤ t * block → a ≤ b * block
 more_room block a b x y c t e is h k = omega (arith, ap (λ (z : ℕ). z * block) is)
 
-pub room_within : (block : ℕ) (records : List Record) → 2048 ≤ block → sum_by room_of records ≤ total_charge block records * block
+pub room_within : (block : ℕ) (records : List Record) → 2048 ≤ block → sum_by record_length records ≤ total_charge block records * block
 room_within block [] h = omega arith
 room_within block (r ∷ records) h =
-    more_room block (sum_by room_of (r ∷ records)) (total_charge block (r ∷ records)) (room_of r) (sum_by room_of records) (charge_at block r) (total_charge block records)
-    (sum_by-cons room_of r records)
+    more_room block (sum_by record_length (r ∷ records)) (total_charge block (r ∷ records)) (record_length r) (sum_by record_length records) (charge_at block r) (total_charge block records)
+    (sum_by-cons record_length r records)
     (sum_by-cons (charge_at block) r records)
     (charge_covers block (length r.1) h)
     (room_within block records h)
@@ -92,7 +92,7 @@ all_room block pages room charge h few = omega (arith, mul-le-mul_left block few
 
 pub charged_records_fit : ChargedRecordsFit
 charged_records_fit block pages records is few =
-    all_room block pages (sum_by room_of records) (total_charge block records) (room_within block records (block_from block is)) few
+    all_room block pages (sum_by record_length records) (total_charge block records) (room_within block records (block_from block is)) few
 
 more_few : (n a c t : ℕ) → a ≡ c + t → 1 ≤ c → n ≤ t → suc n ≤ a
 more_few n a c t e h k = omega arith

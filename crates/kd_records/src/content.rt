@@ -1,5 +1,5 @@
 //! Contents and patches.
-ghost use Rattle.std.specs.Prelude.{◌≡◌, ◌<◌, ◌≤◌, ◌++◌, ◌∷◌, [], length, drop, IsTrue, IfOk, OnOk, OnErr};
+ghost use Rattle.std.specs.Prelude.{◌≡◌, ◌<◌, ◌≤◌, length, drop, IsTrue, IfOk, OnOk, OnErr};
 ghost use Rattle.std.specs.List.{prefix_len};
 ghost use Rattle.std.specs.Ordering.{is_gt};
 ghost use Rattle.std.specs.FinMap.{put};
@@ -8,107 +8,61 @@ ghost use Rattle.kd_records.specs.Contents.{Record, without, changed, changed_al
 ghost use Rattle.kd_records.specs.Places.{begins_with_key};
 
 use crate::key::RecordKey;
-use kd_base::{Bytes, OutOfMemory};
+use kd_base::{Bytes, OutOfMemory, Sequence};
 use std::alloc::Global;
-use std::marker::Model;
 
-/// Keys with their values. Contracts see the list of pairs.
-#[derive(Debug, Drop)]
-pub struct Records {
-    items: Vec<(RecordKey, Bytes)>,
+/// Keys with their values.
+pub type Records = Sequence<(RecordKey, Bytes)>;
+
+// Puts a record in its place among those of other keys, or changes nothing.
+fn set(
+    records: &mut Vec<(RecordKey, Bytes)>,
+    key: RecordKey,
+    value: Bytes,
+) -> Result<(), OutOfMemory>
+    ensures ok { OnOk result (records.new.items ≡ put key_cmp key value records.old.items) }
+    ensures err { OnErr result (records.new.items ≡ records.old.items) }
+{
+    let place = lesser_in_front(records, &key);
+    if has_key_at(records, place, &key) {
+        let record = &mut records[place];
+        record.1 = value;
+    } else {
+        records.insert(place, (key, value))?;
+    }
+    Ok(())
 }
 
-impl Model for Records {
-    ghost use Rattle.std.specs.Prelude.{List, ℕ};
-    ghost use Rattle.kd_records.specs.declared.key.RecordKey.{RecordKey};
-
-    ghost Value = { List (RecordKey × List ℕ) };
-
-    ghost view = { λ r. r.items.items };
+fn remove(records: &mut Vec<(RecordKey, Bytes)>, key: &RecordKey)
+    ensures { records.new.items ≡ without key.now records.old.items }
+{
+    records.retain(|record| !key.compared(&record.0).is_eq());
 }
 
-impl Records {
-    pub fn new(alloc: Global) -> Records
-        ensures { result ≡ [] }
-    {
-        Records {
-            items: Vec::new(alloc),
-        }
+// One change of a patch.
+fn change(
+    records: &mut Vec<(RecordKey, Bytes)>,
+    change: &(RecordKey, Option<Bytes>),
+) -> Result<(), OutOfMemory>
+    ensures { OnOk result (records.new.items ≡ changed records.old.items change.now) }
+{
+    match &change.1 {
+        Some(value) => set(records, change.0, value.clone()?)?,
+        None => remove(records, &change.0),
     }
+    Ok(())
+}
 
-    /// The records of a `Vec`, which takes no memory.
-    pub fn from_vec(items: Vec<(RecordKey, Bytes)>) -> Records
-        ensures { result ≡ items.items }
-    {
-        Records { items }
+fn change_all(
+    records: &mut Vec<(RecordKey, Bytes)>,
+    changes: &[(RecordKey, Option<Bytes>)],
+) -> Result<(), OutOfMemory>
+    ensures { OnOk result (records.new.items ≡ changed_all records.old.items changes.now) }
+{
+    for one in changes {
+        change(records, one)?;
     }
-
-    pub fn as_slice(&self) -> &[(RecordKey, Bytes)]
-        ensures { result.now ≡ self.now }
-    {
-        self.items.as_slice()
-    }
-
-    /// Adds a record at the end, or changes nothing.
-    pub fn push(&mut self, key: RecordKey, value: Bytes) -> Result<(), OutOfMemory>
-        ensures ok { OnOk result (self.new ≡ self.old ++ (key, value) ∷ []) }
-        ensures err { OnErr result (self.new ≡ self.old) }
-    {
-        Ok(self.items.push((key, value))?)
-    }
-
-    /// The same records once more.
-    pub fn copied(&self, alloc: Global) -> Result<Records, OutOfMemory>
-        ensures { IfOk result (λ x. x ≡ self.now) }
-    {
-        let records = self.as_slice();
-        let mut copy = Records::new(alloc);
-        for record in records {
-            copy.push(record.0, record.1.clone()?)?;
-        }
-        Ok(copy)
-    }
-
-    // Puts a record in its place among those of other keys, or changes nothing.
-    fn set(&mut self, key: RecordKey, value: Bytes) -> Result<(), OutOfMemory>
-        ensures ok { OnOk result (self.new ≡ put key_cmp key value self.old) }
-        ensures err { OnErr result (self.new ≡ self.old) }
-    {
-        let place = lesser_in_front(self.as_slice(), &key);
-        if has_key_at(self.as_slice(), place, &key) {
-            let record = &mut self.items[place];
-            record.1 = value;
-        } else {
-            self.items.insert(place, (key, value))?;
-        }
-        Ok(())
-    }
-
-    fn remove(&mut self, key: &RecordKey)
-        ensures { self.new ≡ without key.now self.old }
-    {
-        self.items.retain(|record| !key.compared(&record.0).is_eq());
-    }
-
-    // One change of a patch.
-    fn change(&mut self, change: &(RecordKey, Option<Bytes>)) -> Result<(), OutOfMemory>
-        ensures { OnOk result (self.new ≡ changed self.old change.now) }
-    {
-        match &change.1 {
-            Some(value) => self.set(change.0, value.clone()?)?,
-            None => self.remove(&change.0),
-        }
-        Ok(())
-    }
-
-    fn change_all(&mut self, changes: &[(RecordKey, Option<Bytes>)]) -> Result<(), OutOfMemory>
-        ensures { OnOk result (self.new ≡ changed_all self.old changes.now) }
-    {
-        for change in changes {
-            self.change(change)?;
-        }
-        Ok(())
-    }
+    Ok(())
 }
 
 // How many records in front have a lesser key.
@@ -141,77 +95,23 @@ pub struct Content {
 }
 
 impl Content {
-    /// The same content once more.
-    pub fn copied(&self, alloc: Global) -> Result<Content, OutOfMemory>
-        ensures { IfOk result (λ x. x ≡ self.now) }
-    {
-        Ok(Content {
-            clock: self.clock,
-            next_job: self.next_job,
-            items: self.items.copied(alloc)?,
-        })
-    }
-
     /// The content that a patch makes of this one. Each change goes through the records from the front, which is
     /// enough where contents are small and patches are few.
     pub fn patched(&self, alloc: Global, patch: &Patch) -> Result<Content, OutOfMemory>
         ensures { IfOk result (λ x. x ≡ patched self.now patch.now) }
     {
-        let mut items = self.items.copied(alloc)?;
-        items.change_all(patch.items.as_slice())?;
+        let mut items = self.items.as_slice().to_vec(alloc)?;
+        change_all(&mut items, patch.items.as_slice())?;
         Ok(Content {
             clock: patch.clock,
             next_job: patch.next_job,
-            items,
+            items: Records::from_vec(items),
         })
     }
 }
 
-/// Keys with new values, or with none where the record goes. Contracts see the list of pairs.
-#[derive(Debug, Drop)]
-pub struct PatchItems {
-    items: Vec<(RecordKey, Option<Bytes>)>,
-}
-
-impl Model for PatchItems {
-    ghost use Rattle.std.specs.Prelude.{List, ℕ, Option};
-    ghost use Rattle.kd_records.specs.declared.key.RecordKey.{RecordKey};
-
-    ghost Value = { List (RecordKey × Option (List ℕ)) };
-
-    ghost view = { λ r. r.items.items };
-}
-
-impl PatchItems {
-    pub fn new(alloc: Global) -> PatchItems
-        ensures { result ≡ [] }
-    {
-        PatchItems {
-            items: Vec::new(alloc),
-        }
-    }
-
-    /// The items of a `Vec`, which takes no memory.
-    pub fn from_vec(items: Vec<(RecordKey, Option<Bytes>)>) -> PatchItems
-        ensures { result ≡ items.items }
-    {
-        PatchItems { items }
-    }
-
-    pub fn as_slice(&self) -> &[(RecordKey, Option<Bytes>)]
-        ensures { result.now ≡ self.now }
-    {
-        self.items.as_slice()
-    }
-
-    /// Adds a change at the end, or changes nothing.
-    pub fn push(&mut self, key: RecordKey, value: Option<Bytes>) -> Result<(), OutOfMemory>
-        ensures ok { OnOk result (self.new ≡ self.old ++ (key, value) ∷ []) }
-        ensures err { OnErr result (self.new ≡ self.old) }
-    {
-        Ok(self.items.push((key, value))?)
-    }
-}
+/// Keys with new values, or with none where the record goes.
+pub type PatchItems = Sequence<(RecordKey, Option<Bytes>)>;
 
 /// What one commit changes: the new clock and next job number, and records that are set or removed, in ascending
 /// order of their keys without repeats.

@@ -4,17 +4,14 @@ use Rattle.std.specs.Prelude.{codes}
 use Rattle.std.specs.Int.{w32, w64, to_be_bytes}
 use Rattle.std.specs.List.{flat_map}
 use Rattle.kd_device.specs.Device.{State, LeavesOnly, Only, Quiet, Torn, written}
-use Rattle.kd_device.specs.Torn.{torn_done, torn_not, length-written}
+use Rattle.kd_device.specs.Torn.{torn_done, length-written}
 use Rattle.kd_device.specs.Time.{leaves_weaker, leaves_then, quiet_leaves}
 use Rattle.kd_records.specs.declared.content.Content.{Content}
 use Rattle.kd_records.specs.Identity.{Identity}
-use Rattle.kdcfile_images.specs.declared.pages.PageWrite.{PageWrite}
 use Rattle.kdcfile_images.specs.File.{Stands, StandsFor, StandsAt, spelled, spelled_record, root, image_size, place, head, selector}
 use Rattle.kdcfile_images.specs.declared.image.Root.{Root}
 use Rattle.kdcfile_images.specs.Opened.{Opened, identity_of, renewed}
-use Rattle.kdcfile_images.specs.Writes.{written_all, total, AllWithin}
-use Rattle.kdcfile_images.specs.Commit.{spelled_root, other_place, other_end, IsBehindRoot, staged, committed, Either, InImageOrSelector, Replaces}
-use Rattle.kdcfile_images.proofs.Several.{within_wider}
+use Rattle.kdcfile_images.specs.Commit.{spelled_root, other_place, other_end, staged, committed, Either, InImageOrSelector, Replaces}
 use Rattle.kdcfile_images.proofs.Torns.{torn_wider, torn_then, torn_back}
 use Rattle.kdcfile_images.specs.Parts.{within_file, byte_below, stands_below, stands_above, one_of_two}
 
@@ -28,22 +25,13 @@ pub past_selector : (i : Identity) (second : Bool) → 8192 ≤ place i second
 past_selector i true = omega arith
 past_selector i false = omega arith
 
--- the writes, when all of them are done
-pub all_torn : (from upto : ℕ) (ws : List PageWrite) (h : List ℕ) → AllWithin from upto ws → Torn (min from (length h)) upto h (written_all h ws)
-all_torn from upto [] h within = torn_not (min from (length h)) upto h
-all_torn from upto (w ∷ ws) h within =
-    let m = written h w.at w.bytes in
-    torn_then (min from (length h)) upto h m (written_all m ws)
-    (torn_wider (min w.at (length h)) (w.at + length w.bytes) (min from (length h)) upto h m (omega (arith, within.0)) within.1 (torn_done h w.at w.bytes))
-    (torn_wider (min from (length m)) upto (min from (length h)) upto m (written_all m ws) (omega (arith, length-written h w.at w.bytes)) (omega arith) (all_torn from upto ws m within.2))
-
--- and one more behind them
-pub all_torn_more : (from upto : ℕ) (ws : List PageWrite) (h part : List ℕ) → AllWithin from upto ws → from + length part ≤ upto → Torn (min from (length h)) upto h (written (written_all h ws) from part)
-all_torn_more from upto ws h part within inside =
-    let m = written_all h ws in
-    let first = all_torn from upto ws h within in
-    torn_then (min from (length h)) upto h m (written m from part) first
-    (torn_wider (min from (length m)) (from + length part) (min from (length h)) upto m (written m from part) (omega (arith, first.no_shorter)) inside (torn_done m from part))
+-- the records and the root, when both are written
+both_torn : (from upto behind : ℕ) (body h root : List ℕ) → from ≤ behind → behind + length body ≤ upto → from + length root ≤ upto → Torn (min from (length h)) upto h (written (written h behind body) from root)
+both_torn from upto behind body h root order within inside =
+    let m = written h behind body in
+    torn_then (min from (length h)) upto h m (written m from root)
+    (torn_wider (min behind (length h)) (behind + length body) (min from (length h)) upto h m (omega arith) within (torn_done h behind body))
+    (torn_wider (min from (length m)) (from + length root) (min from (length h)) upto m (written m from root) (omega (arith, length-written h behind body)) inside (torn_done m from root))
 
 module _ (i : Identity) (x : Content) (h c : List ℕ) where
   pub reaches : (second : Bool) → Stands i second x h → place i second + length (spelled i x) ≤ length h
@@ -130,28 +118,30 @@ module _ (i : Identity) (print : List ℕ) (second : Bool) (x y : Content) (a r 
       (leaves_weaker r b lr lb (λ c out. (out ≡ r.sent) × InImageOrSelector (place i (not second)) (place i (not second) + image_size i) m r.holds c) (Either i x (record i { fingerprint = print }) y a.sent) replaces.leaves
       (λ c out h. (h.0 ∙ quiet.sent, either i print x y second a.holds m old staged new c (subst (λ (l : List ℕ). InImageOrSelector (place i (not second)) (place i (not second) + image_size i) m l c) quiet.holds h.1))))
 
-module _ (o : Opened) (ws : List PageWrite) (root : Root) (a r b : State) (la lr lb : ℕ → List ℕ → List ℕ → Type 0) (quiet : Quiet a r la lr) (at : ℕ) (vs : List PageWrite) (bytes : List ℕ) (at_is : at ≡ other_place o) (vs_are : vs ≡ ws) (bytes_are : bytes ≡ spelled_root root)
-    (long : length bytes ≡ 64) (behind : IsBehindRoot o ws) (replaces : (upto : ℕ) → AllWithin at upto vs → at + length bytes ≤ upto → Replaces at upto (written (written_all r.holds vs) at bytes) (total vs + length bytes + 1) r b lr lb) where
-  within : AllWithin (other_place o) (other_end o) ws
-  within = within_wider (other_place o + 64) (other_end o) (other_place o) (other_end o) ws (omega arith) (omega arith) behind
+module _ (o : Opened) (body : List ℕ) (root : Root) (a r b : State) (la lr lb : ℕ → List ℕ → List ℕ → Type 0) (quiet : Quiet a r la lr) (at : ℕ) (bytes : List ℕ) (at_is : at ≡ other_place o) (bytes_are : bytes ≡ spelled_root root) (long : length bytes ≡ 64)
+    (room : 64 + length body ≤ image_size (identity_of o)) (replaces : (upto : ℕ) → at + 64 + length body ≤ upto → at + length bytes ≤ upto → Replaces at upto (written (written r.holds (at + 64) body) at bytes) (length body + length bytes + 1) r b lr lb) where
+  body_within : other_place o + 64 + length body ≤ other_end o
+  body_within = omega arith
 
   root_within : other_place o + length (spelled_root root) ≤ other_end o
   root_within = omega (arith, long, ap (λ (l : List ℕ). length l) bytes_are)
 
-  at_place : (upto : ℕ) → AllWithin (other_place o) upto ws → other_place o + length (spelled_root root) ≤ upto → Replaces (other_place o) upto (written (written_all r.holds ws) (other_place o) (spelled_root root)) (total ws + length (spelled_root root) + 1) r b lr lb
-  at_place = rw (← at_is, ← vs_are, ← bytes_are) replaces
+  at_place : (upto : ℕ) → other_place o + 64 + length body ≤ upto → other_place o + length (spelled_root root) ≤ upto
+      → Replaces (other_place o) upto (written (written r.holds (other_place o + 64) body) (other_place o) (spelled_root root)) (length body + length (spelled_root root) + 1) r b lr lb
+  at_place = rw (← at_is, ← bytes_are) replaces
 
-  pub replaced : Replaces (other_place o) (other_end o) (staged o ws root a.holds) (total ws + 65) r b lr lb
+  pub replaced : Replaces (other_place o) (other_end o) (staged o body root a.holds) (length body + 65) r b lr lb
   replaced =
-      subst (λ (l : List ℕ). Replaces (other_place o) (other_end o) (staged o ws root l) (total ws + 65) r b lr lb) quiet.holds
-      (subst (λ (n : ℕ). Replaces (other_place o) (other_end o) (staged o ws root r.holds) n r b lr lb) (omega (arith, long, ap (λ (l : List ℕ). length l) bytes_are)) (at_place (other_end o) within root_within))
+      subst (λ (l : List ℕ). Replaces (other_place o) (other_end o) (staged o body root l) (length body + 65) r b lr lb) quiet.holds
+      (subst (λ (n : ℕ). Replaces (other_place o) (other_end o) (staged o body root r.holds) n r b lr lb) (omega (arith, long, ap (λ (l : List ℕ). length l) bytes_are)) (at_place (other_end o) body_within root_within))
 
-  pub put_most : b.put ≤ a.put + total ws + 65
+  pub put_most : b.put ≤ a.put + length body + 65
   put_most = omega (arith, replaced.put, quiet.put)
 
   pub sent : b.sent ≡ a.sent
   sent = replaced.sent ∙ quiet.sent
 
-  pub any_moment : Only a.holds a la → (x y : Content) → Stands (identity_of o) o.second x a.holds → Stands (renewed o root) (not o.second) y (committed o ws root a.holds) → LeavesOnly a b la lb (Either (identity_of o) x (renewed o root) y a.sent)
+  pub any_moment : Only a.holds a la → (x y : Content) → Stands (identity_of o) o.second x a.holds → Stands (renewed o root) (not o.second) y (committed o body root a.holds) → LeavesOnly a b la lb (Either (identity_of o) x (renewed o root) y a.sent)
   any_moment only x y old new =
-      in_commit (identity_of o) root.fingerprint o.second x y a r b la lr lb only quiet old (staged o ws root a.holds) (total ws + 65) (all_torn_more (other_place o) (other_end o) ws a.holds (spelled_root root) within root_within) new replaced
+      in_commit (identity_of o) root.fingerprint o.second x y a r b la lr lb only quiet old (staged o body root a.holds) (length body + 65)
+      (both_torn (other_place o) (other_end o) (other_place o + 64) body a.holds (spelled_root root) (omega arith) body_within root_within) new replaced

@@ -8,9 +8,9 @@ use Rattle.kd_device.specs.Time.{leaves_weaker, leaves_then, quiet_leaves}
 use Rattle.kd_records.specs.declared.content.Content.{Content}
 use Rattle.kd_records.specs.Identity.{Identity, IsIdentity}
 use Rattle.kd_records.specs.Contents.{IsContent}
-use Rattle.kdcfile_images.specs.File.{Stands, IsNoImage, spelled, root, head, mark, fresh}
+use Rattle.kdcfile_images.specs.File.{Stands, IsNoImage, spelled, root, head, mark, image_size, fresh}
 use Rattle.kdcfile_images.specs.Writes.{WritesOnly, IsSynced}
-use Rattle.kdcfile_images.specs.Fresh.{zeros, Made, IsShut, ShutOr}
+use Rattle.kdcfile_images.specs.Fresh.{zeros, fresh_rest, Made, IsShut, ShutOr}
 
 pub length-zeros : (n : ℕ) → length (zeros n) ≡ n
 unfolding zeros
@@ -134,10 +134,17 @@ module _ (rest : List ℕ) (a b d e : State) (la lb ld le : ℕ → List ℕ →
           record { holds = last.holds ∙ same; put = omega (arith, last.put, whole.put, closed.put); settled = λ c left. last.settled c left ∙ same }
 
 -- the whole of a making: reserve to r, all writes to b
-pub in_making : (i : Identity) (rest : List ℕ) (a r b : State) (la lr lb : ℕ → List ℕ → List ℕ → Type 0) → a.holds ≡ [] → Only a.holds a la → Quiet a r la lr → Stands i false fresh (75 ∷ rest) → LeavesOnly r b lr lb (ShutOr rest r.sent) → LeavesOnly a b la lb (Made i a.sent)
-in_making i rest a r b la lr lb empty only quiet stands to_b =
-    leaves_then a r la lr b lb (Made i a.sent)
-    (leaves_weaker a r la lr (λ c out. (out ≡ a.sent) × (c ≡ a.holds)) (Made i a.sent) (quiet_leaves a r la lr (λ c. c ≡ a.holds) only quiet)
-    (λ c out h. (h.0, inl (shut_no_image c (inl (omega (arith, ap (λ (l : List ℕ). length l) (h.1 ∙ empty))))))))
-    (leaves_weaker r b lr lb (ShutOr rest r.sent) (Made i a.sent) to_b
-    (λ c out h. (h.0 ∙ quiet.sent, ⊎_elim (λ shut. inl (shut_no_image c shut)) (λ is. inr (false, subst (λ (l : List ℕ). Stands i false fresh l) (sym is) stands)) h.1)))
+module _ (i : Identity) (is : IsIdentity i) (rest : List ℕ) (rest_is : rest ≡ fresh_rest i) where
+  pub made_stands : Stands i false fresh (75 ∷ rest)
+  made_stands = subst (λ (l : List ℕ). Stands i false fresh (75 ∷ l)) (sym rest_is) (fresh_stands i is 8175 (8128 + i.pages * i.block) refl)
+
+  pub made_length : length (75 ∷ rest) ≡ 8192 + 2 * image_size i
+  made_length = ap (λ (l : List ℕ). length (75 ∷ l)) rest_is ∙ length-fresh i is 8175 (8128 + i.pages * i.block) refl ∙ omega arith
+
+  pub in_making : (a r b : State) (la lr lb : ℕ → List ℕ → List ℕ → Type 0) → a.holds ≡ [] → Only a.holds a la → Quiet a r la lr → LeavesOnly r b lr lb (ShutOr rest r.sent) → LeavesOnly a b la lb (Made i a.sent)
+  in_making a r b la lr lb empty only quiet to_b =
+      leaves_then a r la lr b lb (Made i a.sent)
+      (leaves_weaker a r la lr (λ c out. (out ≡ a.sent) × (c ≡ a.holds)) (Made i a.sent) (quiet_leaves a r la lr (λ c. c ≡ a.holds) only quiet)
+      (λ c out h. (h.0, inl (shut_no_image c (inl (omega (arith, ap (λ (l : List ℕ). length l) (h.1 ∙ empty))))))))
+      (leaves_weaker r b lr lb (ShutOr rest r.sent) (Made i a.sent) to_b
+      (λ c out h. (h.0 ∙ quiet.sent, ⊎_elim (λ shut. inl (shut_no_image c shut)) (λ now. inr (false, subst (λ (l : List ℕ). Stands i false fresh l) (sym now) made_stands)) h.1)))

@@ -1,7 +1,6 @@
 pub mod RecordsSoFar
 pub mod Torns
 pub mod Writing
-pub mod Several
 pub mod Replacing
 pub mod Crash
 pub mod Fresh

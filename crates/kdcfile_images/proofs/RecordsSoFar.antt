@@ -1,29 +1,27 @@
 -- The records that are read so far, one after another.
-use Rattle.std.proofs.Common.{◌≡◌, ℕ, suc, ◌+◌, ◌-◌, ◌<◌, ◌≤◌, true, false, List, [], ◌∷◌, ◌++◌, length, map, Option, Some, None, refl, sym, ap, subst, ◌∙◌, arith, append_assoc}
+use Rattle.std.proofs.Common.{◌≡◌, ℕ, suc, ◌+◌, ◌-◌, ◌<◌, ◌≤◌, true, false, List, [], ◌∷◌, ◌++◌, Option, Some, None, refl, sym, ap, subst, ◌∙◌, arith, append_assoc}
 use Rattle.std.proofs.lemmas.Bool.{cond-true, cond-false}
-use Rattle.std.proofs.lemmas.List.{append-nil, map-append}
+use Rattle.std.proofs.lemmas.List.{append-nil}
 use Rattle.kd_records.specs.declared.key.RecordKey.{RecordKey}
 use Rattle.kd_records.specs.Contents.{Record}
-use Rattle.kdcfile_images.specs.declared.pages.ImageRecord.{ImageRecord}
-use Rattle.kdcfile_images.specs.Opened.{record_of}
-use Rattle.kdcfile_images.specs.Reading.{record_at, after_record, records_of, onto, follows, InSlots}
+use Rattle.kdcfile_images.specs.Reading.{record_at, after_record, records_of, onto, follows}
 use Rattle.kdcfile_images.specs.ReadRecords.{one_and_more, no_more, none_left}
 
 onto_onto : (a b : List Record) (o : Option (List Record)) → onto a (onto b o) ≡ onto (a ++ b) o
 onto_onto a b None = refl
 onto_onto a b (Some l) = ap (λ (m : List Record). Some m) (sym (append_assoc a b l))
 
-pub onto_none : (so_far : List ImageRecord) (o : Option (List Record)) → o ≡ None → onto (map record_of so_far) o ≡ None
-onto_none so_far o e = ap (λ (m : Option (List Record)). onto (map record_of so_far) m) e
+pub onto_none : (so_far : List Record) (o : Option (List Record)) → o ≡ None → onto so_far o ≡ None
+onto_none so_far o e = ap (λ (m : Option (List Record)). onto so_far m) e
 
 one_fewer : (count slot : ℕ) → slot < count → count - slot ≡ suc (count - (slot + 1))
 one_fewer count slot lt = omega arith
 
-module _ (so_far : List ImageRecord) (previous : Option RecordKey) (count slot : ℕ) (left : List ℕ) (total : Option (List Record)) (lt : slot < count) (is : onto (map record_of so_far) (records_of previous (count - slot) left) ≡ total) where
-  on : (m : ℕ) → count - slot ≡ m → onto (map record_of so_far) (records_of previous m left) ≡ total
-  on m e = let P : ℕ → Type 0 = λ n. onto (map record_of so_far) (records_of previous n left) ≡ total in subst P e is
+module _ (so_far : List Record) (previous : Option RecordKey) (count slot : ℕ) (left : List ℕ) (total : Option (List Record)) (lt : slot < count) (is : onto so_far (records_of previous (count - slot) left) ≡ total) where
+  on : (m : ℕ) → count - slot ≡ m → onto so_far (records_of previous m left) ≡ total
+  on m e = let P : ℕ → Type 0 = λ n. onto so_far (records_of previous n left) ≡ total in subst P e is
 
-  next : onto (map record_of so_far) (records_of previous (suc (count - (slot + 1))) left) ≡ total
+  next : onto so_far (records_of previous (suc (count - (slot + 1))) left) ≡ total
   next = on (suc (count - (slot + 1))) (one_fewer count slot lt)
 
   pub ended : record_at left ≡ None → None ≡ total
@@ -32,42 +30,32 @@ module _ (so_far : List ImageRecord) (previous : Option RecordKey) (count slot :
   pub out_of_order : (r : Record) → record_at left ≡ Some r → follows previous r.0 ≡ false → None ≡ total
   out_of_order r found apart = sym (onto_none so_far (records_of previous (suc (count - (slot + 1))) left) (one_and_more previous (count - (slot + 1)) left r found ∙ cond-false (follows previous r.0) _ _ apart)) ∙ next
 
-  one_more_there : (r : ImageRecord) → record_at left ≡ Some (record_of r) → follows previous (record_of r).0 ≡ true
-      → onto (map record_of (so_far ++ r ∷ [])) (records_of (Some (record_of r).0) (count - (slot + 1)) (after_record (record_of r) left)) ≡ total
+  one_more_there : (r : Record) → record_at left ≡ Some r → follows previous r.0 ≡ true
+      → onto (so_far ++ r ∷ []) (records_of (Some r.0) (count - (slot + 1)) (after_record r left)) ≡ total
   one_more_there r found behind =
-      ap (λ (l : List Record). onto l (records_of (Some (record_of r).0) (count - (slot + 1)) (after_record (record_of r) left))) (map-append record_of so_far (r ∷ []))
-      ∙ sym (onto_onto (map record_of so_far) (record_of r ∷ []) (records_of (Some (record_of r).0) (count - (slot + 1)) (after_record (record_of r) left)))
-      ∙ sym (ap (λ (o : Option (List Record)). onto (map record_of so_far) o) (one_and_more previous (count - (slot + 1)) left (record_of r) found ∙ cond-true (follows previous (record_of r).0) _ _ behind))
+      sym (onto_onto so_far (r ∷ []) (records_of (Some r.0) (count - (slot + 1)) (after_record r left)))
+      ∙ sym (ap (λ (o : Option (List Record)). onto so_far o) (one_and_more previous (count - (slot + 1)) left r found ∙ cond-true (follows previous r.0) _ _ behind))
       ∙ next
 
-  pub one_more : (r : ImageRecord) → record_at left ≡ Some (record_of r) → follows previous (record_of r).0 ≡ true → (pushed : List ImageRecord) (rest : List ℕ) → pushed ≡ so_far ++ r ∷ [] → rest ≡ after_record (record_of r) left
-      → onto (map record_of pushed) (records_of (Some (record_of r).0) (count - (slot + 1)) rest) ≡ total
+  pub one_more : (r : Record) → record_at left ≡ Some r → follows previous r.0 ≡ true → (pushed : List Record) (rest : List ℕ) → pushed ≡ so_far ++ r ∷ [] → rest ≡ after_record r left
+      → onto pushed (records_of (Some r.0) (count - (slot + 1)) rest) ≡ total
   one_more r found behind pushed rest pushed_is rest_is =
-      ap (λ (l : List ImageRecord). onto (map record_of l) (records_of (Some (record_of r).0) (count - (slot + 1)) rest)) pushed_is
-      ∙ ap (λ (l : List ℕ). onto (map record_of (so_far ++ r ∷ [])) (records_of (Some (record_of r).0) (count - (slot + 1)) l)) rest_is
+      ap (λ (l : List Record). onto l (records_of (Some r.0) (count - (slot + 1)) rest)) pushed_is
+      ∙ ap (λ (l : List ℕ). onto (so_far ++ r ∷ []) (records_of (Some r.0) (count - (slot + 1)) l)) rest_is
       ∙ one_more_there r found behind
 
-pub all_read : (so_far : List ImageRecord) (previous : Option RecordKey) (count slot : ℕ) (left : List ℕ) (total : Option (List Record)) → count ≤ slot → onto (map record_of so_far) (records_of previous (count - slot) left) ≡ total
-    → Some (map record_of so_far) ≡ total
+pub all_read : (so_far : List Record) (previous : Option RecordKey) (count slot : ℕ) (left : List ℕ) (total : Option (List Record)) → count ≤ slot → onto so_far (records_of previous (count - slot) left) ≡ total
+    → Some so_far ≡ total
 all_read so_far previous count slot left total le is =
-    let P : ℕ → Type 0 = λ n. onto (map record_of so_far) (records_of previous n left) ≡ total in
+    let P : ℕ → Type 0 = λ n. onto so_far (records_of previous n left) ≡ total in
     let none : count - slot ≡ 0 = omega arith in
-    ap (λ (l : List Record). Some l) (sym (append-nil (map record_of so_far))) ∙ sym (ap (λ (o : Option (List Record)). onto (map record_of so_far) o) (none_left previous left)) ∙ subst P none is
+    ap (λ (l : List Record). Some l) (sym (append-nil so_far)) ∙ sym (ap (λ (o : Option (List Record)). onto so_far o) (none_left previous left)) ∙ subst P none is
 
 none_yet : (total : Option (List Record)) → onto [] total ≡ total
 none_yet None = refl
 none_yet (Some l) = refl
 
-pub at_first : (so_far : List ImageRecord) (count : ℕ) (image : List ℕ) → so_far ≡ [] → onto (map record_of so_far) (records_of None (count - 0) image) ≡ records_of None count image
+pub at_first : (so_far : List Record) (count : ℕ) (image : List ℕ) → so_far ≡ [] → onto so_far (records_of None (count - 0) image) ≡ records_of None count image
 at_first so_far count image is =
     let all : count - 0 ≡ count = omega arith in
-    ap (λ (l : List ImageRecord). onto (map record_of l) (records_of None (count - 0) image)) is ∙ none_yet (records_of None (count - 0) image) ∙ ap (λ (n : ℕ). records_of None n image) all
-
-pub slots_none : (slot : ℕ) → InSlots slot []
-unfolding InSlots
-slots_none slot = tt
-
-pub slots_more : (slot : ℕ) (so_far : List ImageRecord) (r : ImageRecord) → InSlots slot so_far → r.slot ≡ slot + length so_far → r.pages ≡ [] → InSlots slot (so_far ++ r ∷ [])
-unfolding InSlots
-slots_more slot [] r h is none = (omega (arith, is), none, tt)
-slots_more slot (q ∷ so_far) r h is none = (h.0, h.1, slots_more (slot + 1) so_far r h.2 (omega (arith, is)) none)
+    ap (λ (l : List Record). onto l (records_of None (count - 0) image)) is ∙ none_yet (records_of None (count - 0) image) ∙ ap (λ (n : ℕ). records_of None n image) all

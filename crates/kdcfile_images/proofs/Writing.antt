@@ -74,3 +74,28 @@ module _ (from upto n : ℕ) (new : List ℕ) (a b d : State) (la lb ld : ℕ �
       put = omega (arith, quiet.put, pending.put);
       settled = λ c left. only c left ∙ pending.holds;
     }
+
+-- what lies behind a place is written first
+module _ (at behind upto : ℕ) (body : List ℕ) (a b : State) (la lb : ℕ → List ℕ → List ℕ → Type 0) (only : Only a.holds a la) {E : Type 0} (r : Result Unit E) (order : at ≤ behind) (within : behind + length body ≤ upto) (writes : Writes behind body a b la lb r) where
+  pub body_any : WritesOnly at upto (length body) a b la lb
+  body_any = writes_most at upto (0 + length body) (length body) a b la lb (omega arith) (writes_more at upto 0 a.holds a a b la la lb (writes_none at upto 0 a la) (pending_none at upto a la only) behind body r order within writes)
+
+  pub body_pending : b.holds ≡ written a.holds behind body → IsPending at upto (length body) (written a.holds behind body) a b lb
+  body_pending holds =
+      subst (λ (n : ℕ). IsPending at upto n (written a.holds behind body) a b lb) (omega arith)
+      (pending_more at upto 0 a.holds a a b la la lb (writes_none at upto 0 a la) (pending_none at upto a la only) behind body r order within writes holds)
+
+-- and then what lies at the place
+module _ (at behind upto : ℕ) (body root : List ℕ) (a b d : State) (la lb ld : ℕ → List ℕ → List ℕ → Type 0) (only : Only a.holds a la) {E : Type 0} (r q : Result Unit E) (order : at ≤ behind) (within : behind + length body ≤ upto) (root_within : at + length root ≤ upto) (first : Writes behind body a b la lb r)
+    (holds : b.holds ≡ written a.holds behind body) (second : Writes at root b d lb ld q) where
+  any : WritesOnly at upto (length body) a b la lb
+  any = body_any at behind upto body a b la lb only r order within first
+
+  pending : IsPending at upto (length body) (written a.holds behind body) a b lb
+  pending = body_pending at behind upto body a b la lb only r order within first holds
+
+  pub both_any : WritesOnly at upto (length body + length root) a d la ld
+  both_any = writes_more at upto (length body) (written a.holds behind body) a b d la lb ld any pending at root q (omega arith) root_within second
+
+  pub both_pending : d.holds ≡ written b.holds at root → IsPending at upto (length body + length root) (written (written a.holds behind body) at root) a d ld
+  both_pending now = pending_more at upto (length body) (written a.holds behind body) a b d la lb ld any pending at root q (omega arith) root_within second now

@@ -5,12 +5,10 @@ use Rattle.kd_device.specs.Device.{State, LeavesOnly, Torn, written}
 use Rattle.kd_records.specs.declared.content.Content.{Content}
 use Rattle.kd_records.specs.Identity.{Identity}
 use Rattle.kdcfile_images.specs.File.{StandsFor, place, image_size, selector}
-use Rattle.kdcfile_images.specs.Writes.{written_all, AllWithin}
 use Rattle.kdcfile_images.specs.Opened.{Opened, identity_of}
 use Rattle.kdcfile_images.specs.declared.image.Root.{Root}
-use Rattle.kdcfile_images.specs.declared.pages.PageWrite.{PageWrite}
 
--- a root as 64 bytes, without a directory
+-- a root as 64 bytes
 abbrev pub spelled_root : Root → List ℕ
 spelled_root r =
     r.fingerprint ++ to_be_bytes w64 r.clock ++ to_be_bytes w64 r.next_job ++ to_be_bytes w32 r.pgpool ++ to_be_bytes w32 0 ++ to_be_bytes w32 r.records ++ codes "ROOT"
@@ -22,17 +20,13 @@ other_place i = place (identity_of i) (not i.second)
 abbrev pub other_end : Opened → ℕ
 other_end i = other_place i + image_size (identity_of i)
 
--- each write lies in the unselected image, behind its root
-abbrev pub IsBehindRoot : Opened → List PageWrite → Type 0
-IsBehindRoot i pages = AllWithin (other_place i + 64) (other_end i) pages
-
--- the file with these pages and this root in the unselected image
-abbrev pub staged : Opened → List PageWrite → Root → List ℕ → List ℕ
-staged i pages root h = written (written_all h pages) (other_place i) (spelled_root root)
+-- the file with these records behind this root in the unselected image
+abbrev pub staged : Opened → List ℕ → Root → List ℕ → List ℕ
+staged i body root h = written (written h (other_place i + 64) body) (other_place i) (spelled_root root)
 
 -- and with the selector on that image
-abbrev pub committed : Opened → List PageWrite → Root → List ℕ → List ℕ
-committed i pages root h = written (staged i pages root h) 4096 (selector (not i.second) ∷ [])
+abbrev pub committed : Opened → List ℕ → Root → List ℕ → List ℕ
+committed i body root h = written (staged i body root h) 4096 (selector (not i.second) ∷ [])
 
 -- nothing more was sent, and the file stands for the one content or for the other, each with what it was made with
 abbrev pub Either : Identity → Content → Identity → Content → List ℕ → List ℕ → List ℕ → Type 0

@@ -1,5 +1,5 @@
 -- A fresh file, and what a stop within its making leaves.
-use Rattle.std.specs.Prelude.{◌≡◌, ◌≤◌, ◌⊎◌, ℕ, ◌+◌, ◌*◌, List, [], ◌∷◌, ◌++◌, length, get_or, replicate}
+use Rattle.std.specs.Prelude.{◌≡◌, ◌≤◌, ◌⊎◌, ℕ, ◌+◌, ◌*◌, List, ◌∷◌, ◌++◌, length, get_or, replicate}
 use Rattle.kd_records.specs.Identity.{Identity}
 use Rattle.kdcfile_images.specs.File.{StandsFor, IsNoImage, mark, root, fresh}
 use Rattle.kdcfile_images.specs.declared.image.Root.{Root}
@@ -22,7 +22,7 @@ fresh_file i = 75 ∷ fresh_rest i
 
 -- the root of both images
 abbrev pub fresh_root : Identity → Root
-fresh_root i = record { fingerprint = i.fingerprint; clock = 0; next_job = 1; pgpool = i.pages; records = 0; directory = [] }
+fresh_root i = record { fingerprint = i.fingerprint; clock = 0; next_job = 1; pgpool = i.pages; records = 0 }
 
 -- nothing more was sent, and the file is no image or stands for the fresh content
 abbrev pub Made : Identity → List ℕ → List ℕ → List ℕ → Type 0

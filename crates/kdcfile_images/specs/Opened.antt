@@ -1,10 +1,9 @@
 -- What is known of a file, and the content that a root has with its records.
-use Rattle.std.specs.Prelude.{ℕ, Bool, List, map}
+use Rattle.std.specs.Prelude.{ℕ, Bool, List}
 use Rattle.kd_records.specs.declared.content.Content.{Content}
 use Rattle.kd_records.specs.Contents.{Record}
 use Rattle.kd_records.specs.Identity.{Identity}
 use Rattle.kdcfile_images.specs.declared.image.Root.{Root}
-use Rattle.kdcfile_images.specs.declared.pages.ImageRecord.{ImageRecord}
 
 -- the selected image of a file: its block size, its root, and whether it is image B
 pub record Opened : Type 0 where
@@ -20,10 +19,6 @@ identity_of i = record { block = i.blksize; pages = i.root.pgpool; fingerprint =
 abbrev pub renewed : Opened → Root → Identity
 renewed i root = record (identity_of i) { fingerprint = root.fingerprint }
 
--- a record without its place in the image
-abbrev pub record_of : ImageRecord → Record
-record_of r = (record { kind = r.kind; bytes = r.key }, r.value)
-
 -- the content of an image with this root and these records
-abbrev pub content_of : Root → List ImageRecord → Content
-content_of root records = record { clock = root.clock; next_job = root.next_job; items = map record_of records }
+abbrev pub content_in : Root → List Record → Content
+content_in root records = record { clock = root.clock; next_job = root.next_job; items = records }

@@ -1,5 +1,5 @@
 -- Images that are read, and images that are written.
-use Rattle.std.proofs.Common.{◌≡◌, ℕ, ◌%◌, ◌<◌, ◌≤◌, Bool, true, ◌&&◌, eqb, ltb, List, [], ◌++◌, length, take, drop, get_or, Option, Some, None, refl, sym, ap, subst, ◌∙◌, arith, append_assoc, length-append}
+use Rattle.std.proofs.Common.{◌≡◌, ℕ, ◌%◌, ◌<◌, ◌≤◌, Bool, true, ◌&&◌, eqb, ltb, List, ◌++◌, length, take, drop, get_or, Option, Some, None, refl, sym, ap, subst, ◌∙◌, arith, append_assoc, length-append}
 use Rattle.std.specs.Prelude.{codes}
 use Rattle.std.specs.List.{flat_map}
 use Rattle.std.specs.Int.{w32, w64, to_be_bytes}
@@ -14,7 +14,7 @@ use Rattle.kd_records.specs.Contents.{Record, IsContent}
 use Rattle.kd_records.specs.Identity.{Identity, IsIdentity}
 use Rattle.kdcfile_images.specs.declared.head.Head.{Head}
 use Rattle.kdcfile_images.specs.declared.image.Root.{Root}
-use Rattle.kdcfile_images.specs.Opened.{Opened, identity_of}
+use Rattle.kdcfile_images.specs.Opened.{Opened, identity_of, content_in}
 use Rattle.kdcfile_images.specs.File.{Stands, IsNoImage, OneMeaning, root, spelled_record, spelled, place, image_size}
 use Rattle.kdcfile_images.specs.Reading.{AreBytes, HasSizes, head_of, number, is_root, root_with, root_of, records_of, image_of, size_of, place_of}
 use Rattle.kdcfile_images.specs.Places.{after, field, parted, read_4, read_8, small_8, small_4, written_4, written_8, length-piece, AreBytes-drop}
@@ -75,7 +75,7 @@ fields_of i x body is content =
 
 -- the root of a content
 abbrev pub root_made : Identity → Content → Root
-root_made i x = record { fingerprint = i.fingerprint; clock = x.clock; next_job = x.next_job; pgpool = i.pages; records = length x.items; directory = [] }
+root_made i x = record { fingerprint = i.fingerprint; clock = x.clock; next_job = x.next_job; pgpool = i.pages; records = length x.items }
 
 root_written : (whole : List ℕ) (i : Identity) (x : Content) (body : List ℕ) → Fields whole i x body → root_of i.pages whole ≡ Some (root_made i x)
 root_written whole i x body f =
@@ -85,8 +85,8 @@ root_written whole i x body f =
     ∙ same f.fingerprint f.clock f.next_job f.count
   where
     same : {a b : List ℕ} {c d j k m n : ℕ} → a ≡ b → c ≡ d → j ≡ k → m ≡ n
-        → ◌≡◌ {A = Option Root} (Some (record { fingerprint = a; clock = c; next_job = j; pgpool = i.pages; records = m; directory = [] })) (Some (record { fingerprint = b; clock = d; next_job = k; pgpool = i.pages; records = n; directory = [] }))
-    same p q s t = λ z. Some (record { fingerprint = p z; clock = q z; next_job = s z; pgpool = i.pages; records = t z; directory = [] })
+        → ◌≡◌ {A = Option Root} (Some (record { fingerprint = a; clock = c; next_job = j; pgpool = i.pages; records = m })) (Some (record { fingerprint = b; clock = d; next_job = k; pgpool = i.pages; records = n }))
+    same p q s t = λ z. Some (record { fingerprint = p z; clock = q z; next_job = s z; pgpool = i.pages; records = t z })
 
 -- what is known of a file, from what it was made with
 abbrev pub opened : Identity → Content → Bool → Opened
@@ -94,10 +94,6 @@ opened i x second = record { blksize = i.block; root = root_made i x; second = s
 
 abbrev pub head_made : Identity → Bool → Head
 head_made i second = record { block = i.block; pages = i.pages; second = second }
-
--- the content of a root with these records
-abbrev pub content_with : Opened → List Record → Content
-content_with o items = record { clock = o.root.clock; next_job = o.root.next_job; items = items }
 
 abbrev pub records_in : Head → List ℕ → Root → Option (Opened × List Record)
 records_in h image r = option_map (λ items. (record { blksize = h.block; root = r; second = h.second }, items)) (records_of None r.records (drop 64 image))
@@ -115,8 +111,8 @@ image_written i x second tail is content =
 record ReadImage (h : Head) (image : List ℕ) (o : Opened) (items : List Record) : Type 0 where
   of_head : ◌≡◌ {A = Head} (record { block = o.blksize; pages = o.root.pgpool; second = o.second }) h
   identity : IsIdentity (identity_of o)
-  content : IsContent (content_with o items)
-  stands : (tail : List ℕ) × (image ≡ spelled (identity_of o) (content_with o items) ++ tail)
+  content : IsContent (content_in o.root items)
+  stands : (tail : List ℕ) × (image ≡ spelled (identity_of o) (content_in o.root items) ++ tail)
 
 image_made : (h : Head) (image : List ℕ) (items : List Record) → HasSizes h.block h.pages → AreBytes image → 64 ≤ length image → is_root h.pages image ≡ true → records_of None (number w32 56 image) (drop 64 image) ≡ Some items
     → ReadImage h image (record { blksize = h.block; root = root_with h.pages image; second = h.second }) items
@@ -190,7 +186,7 @@ one_meaning i j x y bytes (s, a) (t, b) =
     let heads : head_made i s ≡ head_made j t = same_Some (head_made i s) (head_made j t) (sym (file_head i x s bytes a) ∙ file_head j y t bytes b) in
     let images : (opened i x s, x.items) ≡ (opened j y t, y.items) =
     same_Some (opened i x s, x.items) (opened j y t, y.items) (sym (file_image i x s bytes a) ∙ ap (λ (h : Head). image_of h (image_in h bytes)) heads ∙ file_image j y t bytes b) in
-    (ap (λ (p : Opened × List Record). identity_of p.0) images, ap (λ (p : Opened × List Record). content_with p.0 p.1) images)
+    (ap (λ (p : Opened × List Record). identity_of p.0) images, ap (λ (p : Opened × List Record). content_in p.0.root p.1) images)
 
 -- what is read of a file, against what it holds
 module _ (holds front : List ℕ) (front_is : front ≡ take 4097 (drop 0 holds)) where
@@ -203,7 +199,7 @@ module _ (holds front : List ℕ) (front_is : front ≡ take 4097 (drop 0 holds)
         let same : h ≡ head_made i second = same_Some h (head_made i second) (sym head_is ∙ ap head_of front_is ∙ file_head i x second holds stands) in
         none-some (opened i x second, x.items) (sym e ∙ ap (λ (l : List ℕ). image_of h l) image_is ∙ ap (λ (g : Head). image_of g (image_in g holds)) same ∙ file_image i x second holds stands)
 
-    pub stands_read : AreBytes front → AreBytes image → (o : Opened) (items : List Record) → image_of h image ≡ Some (o, items) → Stands (identity_of o) o.second (content_with o items) holds
+    pub stands_read : AreBytes front → AreBytes image → (o : Opened) (items : List Record) → image_of h image ≡ Some (o, items) → Stands (identity_of o) o.second (content_in o.root items) holds
     stands_read front_bytes image_bytes o items e =
         let headed = head_read front h front_bytes head_is in
         let read = image_read h image o items headed.sizes image_bytes e in
@@ -212,19 +208,19 @@ module _ (holds front : List ℕ) (front_is : front ≡ take 4097 (drop 0 holds)
         stands_of holds front front_is o items image known.0 known.1 read.identity read.content read.stands.0 read.stands.1
       where
         stands_of : (holds front : List ℕ) → front ≡ take 4097 (drop 0 holds) → (o : Opened) (items : List Record) (image : List ℕ) → Headed (record { block = o.blksize; pages = o.root.pgpool; second = o.second }) front
-            → image ≡ take (image_size (identity_of o)) (drop (place (identity_of o) o.second) holds) → IsIdentity (identity_of o) → IsContent (content_with o items) → (tail : List ℕ) → image ≡ spelled (identity_of o) (content_with o items) ++ tail
-            → Stands (identity_of o) o.second (content_with o items) holds
+            → image ≡ take (image_size (identity_of o)) (drop (place (identity_of o) o.second) holds) → IsIdentity (identity_of o) → IsContent (content_in o.root items) → (tail : List ℕ) → image ≡ spelled (identity_of o) (content_in o.root items) ++ tail
+            → Stands (identity_of o) o.second (content_in o.root items) holds
         stands_of holds front front_is o items image headed image_is identity content tail spelled_is =
-            let len : length (spelled (identity_of o) (content_with o items)) ≤ image_size (identity_of o) =
-            omega (arith, ap (λ (l : List ℕ). length l) image_is, ap (λ (l : List ℕ). length l) spelled_is, length-append (spelled (identity_of o) (content_with o items)) tail, length-take (image_size (identity_of o)) (drop (place (identity_of o) o.second) holds)) in
+            let len : length (spelled (identity_of o) (content_in o.root items)) ≤ image_size (identity_of o) =
+            omega (arith, ap (λ (l : List ℕ). length l) image_is, ap (λ (l : List ℕ). length l) spelled_is, length-append (spelled (identity_of o) (content_in o.root items)) tail, length-take (image_size (identity_of o)) (drop (place (identity_of o) o.second) holds)) in
             record {
               identity = identity;
               content = content;
               headed = sym (take-take 17 4097 holds (omega arith)) ∙ ap (λ (l : List ℕ). take 17 l) (sym front_is) ∙ headed.first;
               selected = ap (λ (n : ℕ). n % 2) (sym (get_or-take 4097 holds 4096 0 (omega arith)) ∙ ap (λ (l : List ℕ). get_or l 4096 0) (sym front_is)) ∙ headed.selected;
               image =
-                  sym (take-take (length (spelled (identity_of o) (content_with o items))) (image_size (identity_of o)) (drop (place (identity_of o) o.second) holds) len)
-                  ∙ ap (λ (l : List ℕ). take (length (spelled (identity_of o) (content_with o items))) l) (sym image_is ∙ spelled_is)
-                  ∙ take_at (spelled (identity_of o) (content_with o items)) tail (length (spelled (identity_of o) (content_with o items))) refl;
+                  sym (take-take (length (spelled (identity_of o) (content_in o.root items))) (image_size (identity_of o)) (drop (place (identity_of o) o.second) holds) len)
+                  ∙ ap (λ (l : List ℕ). take (length (spelled (identity_of o) (content_in o.root items))) l) (sym image_is ∙ spelled_is)
+                  ∙ take_at (spelled (identity_of o) (content_in o.root items)) tail (length (spelled (identity_of o) (content_in o.root items))) refl;
               inside = len;
             }

@@ -9,7 +9,6 @@ use Rattle.kd_records.specs.Contents.{Record}
 use Rattle.kd_records.specs.Keys.{key_cmp}
 use Rattle.kdcfile_images.specs.declared.head.Head.{Head}
 use Rattle.kdcfile_images.specs.declared.image.Root.{Root}
-use Rattle.kdcfile_images.specs.declared.pages.ImageRecord.{ImageRecord}
 use Rattle.kdcfile_images.specs.Opened.{Opened}
 
 -- what is read from a file are bytes
@@ -53,7 +52,7 @@ abbrev pub is_root : ℕ → List ℕ → Bool
 is_root pages image = (number w32 48 image == pages) && (number w32 52 image == 0) && bytes_eq (take 4 (drop 60 image)) (codes "ROOT")
 
 abbrev pub root_with : ℕ → List ℕ → Root
-root_with pages image = record { fingerprint = take 32 image; clock = number w64 32 image; next_job = number w64 40 image; pgpool = pages; records = number w32 56 image; directory = [] }
+root_with pages image = record { fingerprint = take 32 image; clock = number w64 32 image; next_job = number w64 40 image; pgpool = pages; records = number w32 56 image }
 
 -- the root at the front of an image
 abbrev pub root_of : ℕ → List ℕ → Option Root
@@ -93,8 +92,3 @@ image_of h image =
     option_and_then
     (λ root. option_map (λ items. (record { blksize = h.block; root = root; second = h.second }, items)) (records_of None root.records (drop 64 image)))
     (root_of h.pages image)
-
--- the records stand in their slots, from this one on, and have no pages
-unfoldable pub InSlots : ℕ → List ImageRecord → Type 0
-InSlots slot [] = Unit {0}
-InSlots slot (r ∷ records) = (r.slot ≡ slot) × (r.pages ≡ []) × InSlots (slot + 1) records

@@ -1,22 +1,6 @@
 -- Writes to a range of the file, and what a stop leaves of them.
-use Rattle.std.specs.Prelude.{◌≡◌, ◌≤◌, ◌+◌, ℕ, min, List, [], ◌∷◌, length}
-use Rattle.kd_device.specs.Device.{State, LeavesOnly, Only, Torn, written}
-use Rattle.kdcfile_images.specs.declared.pages.PageWrite.{PageWrite}
-
--- the file after these writes
-abbrev pub written_all : List ℕ → List PageWrite → List ℕ
-written_all h [] = h
-written_all h (w ∷ ws) = written_all (written h w.at w.bytes) ws
-
--- how many bytes they are
-abbrev pub total : List PageWrite → ℕ
-total [] = 0
-total (w ∷ ws) = length w.bytes + total ws
-
--- each lies between these places
-abbrev pub AllWithin : ℕ → ℕ → List PageWrite → Type 0
-AllWithin from upto [] = Unit {0}
-AllWithin from upto (w ∷ ws) = (from ≤ w.at) × (w.at + length w.bytes ≤ upto) × AllWithin from upto ws
+use Rattle.std.specs.Prelude.{◌≡◌, ◌≤◌, ◌+◌, ℕ, min, List, length}
+use Rattle.kd_device.specs.Device.{State, LeavesOnly, Only, Torn}
 
 -- so many calls of so many bytes together were made of what was spare
 pub record UsesAll (k n : ℕ) (a b : State) : Type 0 where

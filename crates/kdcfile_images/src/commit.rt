@@ -6,16 +6,13 @@ ghost use Rattle.kd_records.specs.declared.content.Content.{Content};
 ghost use Rattle.kd_records.specs.Identity.{IsIdentity};
 ghost use Rattle.kdcfile_images.specs.File.{Stands, place as place_of, image_size as image_size_of, selector as selector_of};
 ghost use Rattle.kdcfile_images.specs.Opened.{identity_of, renewed};
-ghost use Rattle.kdcfile_images.specs.Writes.{total, written_all, AllWithin, WritesOnly, IsSynced};
-ghost use Rattle.kdcfile_images.specs.Commit.{spelled_root, other_place, other_end, IsBehindRoot, staged, committed, Either, Replaces};
+ghost use Rattle.kdcfile_images.specs.Writes.{UsesAll, WritesOnly, IsSynced};
+ghost use Rattle.kdcfile_images.specs.Commit.{other_place, committed, Either, Replaces};
 
-use crate::fault::ImageError;
+use crate::fault::CommitError;
 use crate::image::{Image, Root};
-use crate::pages::{PageWrite, PageWrites};
 use crate::root::root_bytes;
 use crate::synced::write_synced;
-use crate::writes::{total_bytes, write_image};
-use kd_base::{Bytes, OutOfMemory};
 use kd_device::{Device, Failed};
 use std::alloc::Global;
 
@@ -31,7 +28,7 @@ fn image_size(image: &Image) -> u64
 }
 
 /// Where the unselected image stands, in bytes from the beginning of the file.
-pub fn unselected(image: &Image) -> u64
+fn unselected(image: &Image) -> u64
     ensures { result ≡ other_place image.now }
 {
     if image.second() {
@@ -47,95 +44,102 @@ fn selector(second: bool) -> u8
     if second { 1 } else { 0 }
 }
 
-/// The root to come, its bytes, and how many bytes a commit writes.
-#[derive(Drop)]
-struct Prepared {
-    root: Root,
-    bytes: Bytes,
-    total: u64,
-}
-
-fn prepare(alloc: Global, pages: &[PageWrite], root: &Root) -> Result<Prepared, OutOfMemory>
-    ensures root { IfOk result (λ p. p.root ≡ root.now) }
-    ensures bytes { IfOk result (λ p. p.bytes ≡ spelled_root root.now) }
-    ensures length { IfOk result (λ p. length p.bytes ≡ 64) }
-    ensures total { IfOk result (λ p. p.total ≡ 65 + total pages.now) }
+/// Writes the records of an image and its root, and syncs.
+fn write_image<D: Device>(
+    device: &mut D,
+    body: &[u8],
+    behind: u64,
+    at: u64,
+    root: &[u8],
+) -> Result<(), Failed>
+    requires order { at ≤ behind }
+    requires calls { 3 ≤ (D.state device.old).spare_calls }
+    requires bytes { length body.now + length root.now ≤ (D.state device.old).spare_bytes }
+    requires inside { behind + length body.now ≤ (D.state device.old).spare_end }
+    requires root_inside { at + length root.now ≤ (D.state device.old).spare_end }
+    requires settled { IsTrue (D.state device.old).told → Only (D.state device.old).holds (D.state device.old) (D.leaves device.old) }
+    ensures failed { OnErr result (Rose (D.state device.old).disk_faults (D.state device.new).disk_faults) }
+    ensures frame { Frame (D.state device.old) (D.state device.new) }
+    ensures names { SameNames (D.state device.old) (D.state device.new) }
+    ensures spare { OnOk result (UsesAll 3 (length body.now + length root.now) (D.state device.old) (D.state device.new)) }
+    ensures any_moment { IsTrue (D.state device.old).told → (upto : ℕ) → behind + length body.now ≤ upto → at + length root.now ≤ upto
+        → WritesOnly at upto (length body.now + length root.now) (D.state device.old) (D.state device.new) (D.leaves device.old) (D.leaves device.new) }
+    ensures ok { OnOk result (IsTrue (D.state device.old).told
+        → IsSynced (length body.now + length root.now) (written (written (D.state device.old).holds behind body.now) at root.now) (D.state device.old) (D.state device.new) (D.leaves device.new)) }
 {
-    Ok(Prepared {
-        root: root.copied(alloc)?,
-        bytes: root_bytes(alloc, root)?,
-        total: total_bytes(pages, 65).ok_or(OutOfMemory)?,
-    })
+    device.write_at(behind, body)?;
+    device.write_at(at, root)?;
+    device.sync()
 }
 
 /// Writes an image and syncs, writes the selector and syncs.
 fn replace<D: Device>(
     device: &mut D,
-    writes: &[PageWrite],
+    body: &[u8],
+    behind: u64,
     at: u64,
     root: &[u8],
     selector: u8,
 ) -> Result<(), Failed>
-    requires calls { length writes.now + 4 ≤ (D.state device.old).spare_calls }
-    requires bytes { total writes.now + length root.now + 1 ≤ (D.state device.old).spare_bytes }
-    requires inside { AllWithin 0 (D.state device.old).spare_end writes.now }
+    requires order { at ≤ behind }
+    requires calls { 5 ≤ (D.state device.old).spare_calls }
+    requires bytes { length body.now + length root.now + 1 ≤ (D.state device.old).spare_bytes }
+    requires inside { behind + length body.now ≤ (D.state device.old).spare_end }
     requires root_inside { at + length root.now ≤ (D.state device.old).spare_end }
     requires selector_inside { 4097 ≤ (D.state device.old).spare_end }
     requires settled { IsTrue (D.state device.old).told → Only (D.state device.old).holds (D.state device.old) (D.leaves device.old) }
     ensures failed { OnErr result (Rose (D.state device.old).disk_faults (D.state device.new).disk_faults) }
     ensures frame { Frame (D.state device.old) (D.state device.new) }
     ensures names { SameNames (D.state device.old) (D.state device.new) }
-    ensures any_moment { IsTrue (D.state device.old).told → (upto : ℕ) → AllWithin at upto writes.now → at + length root.now ≤ upto
-        → Replaces at upto (written (written_all (D.state device.old).holds writes.now) at root.now) (total writes.now + length root.now + 1) (D.state device.old) (D.state device.new) (D.leaves device.old) (D.leaves device.new) }
+    ensures any_moment { IsTrue (D.state device.old).told → (upto : ℕ) → behind + length body.now ≤ upto → at + length root.now ≤ upto
+        → Replaces at upto (written (written (D.state device.old).holds behind body.now) at root.now) (length body.now + length root.now + 1) (D.state device.old) (D.state device.new) (D.leaves device.old) (D.leaves device.new) }
     ensures ok { OnOk result (IsTrue (D.state device.old).told
-        → IsSynced (total writes.now + length root.now + 1) (written (written (written_all (D.state device.old).holds writes.now) at root.now) 4096 (selector ∷ [])) (D.state device.old) (D.state device.new) (D.leaves device.new)) }
+        → IsSynced (length body.now + length root.now + 1) (written (written (written (D.state device.old).holds behind body.now) at root.now) 4096 (selector ∷ [])) (D.state device.old) (D.state device.new) (D.leaves device.new)) }
 {
-    write_image(device, writes, at, root)?;
+    write_image(device, body, behind, at, root)?;
     write_synced(device, SELECTOR, &[selector])
 }
 
-/// Writes the pages and the root of the unselected image, and then selects it. `Memory` comes before the first
+/// Writes the records and the root of the unselected image, and then selects it. `Memory` comes before the first
 /// write. After `Failed` the file is loaded again. The root may have another fingerprint than the file had.
 pub fn commit_image<D: Device>(
     alloc: Global,
     device: &mut D,
     image: &mut Image,
-    pages: &PageWrites,
+    body: &[u8],
     root: &Root,
-) -> Result<(), ImageError>
+) -> Result<(), CommitError>
     requires same_sizes { root.now.pgpool ≡ image.old.root.pgpool }
-    requires no_directory { root.now.directory ≡ [] }
-    requires behind_root { IsBehindRoot image.old pages.now }
+    requires inside { 64 + length body.now ≤ image_size_of (identity_of image.old) }
     requires stands { IsTrue (D.state device.old).told → (x : Content) × Stands (identity_of image.old) image.old.second x (D.state device.old).holds }
-    requires would_stand { IsTrue (D.state device.old).told → (y : Content) × Stands (renewed image.old root.now) (not image.old.second) y (committed image.old pages.now root.now (D.state device.old).holds) }
+    requires would_stand { IsTrue (D.state device.old).told → (y : Content) × Stands (renewed image.old root.now) (not image.old.second) y (committed image.old body.now root.now (D.state device.old).holds) }
     requires settled { IsTrue (D.state device.old).told → Only (D.state device.old).holds (D.state device.old) (D.leaves device.old) }
 
     // At `Ok` the image is the other one with this root, and the file has it on the disk.
     ensures image { image.new ≡ (if is_ok result then record image.old { root = root.now; second = not image.old.second } else image.old) }
-    ensures holds { OnOk result (IsTrue (D.state device.old).told → (D.state device.new).holds ≡ committed image.old pages.now root.now (D.state device.old).holds) }
+    ensures holds { OnOk result (IsTrue (D.state device.old).told → (D.state device.new).holds ≡ committed image.old body.now root.now (D.state device.old).holds) }
     ensures settled { OnOk result (IsTrue (D.state device.old).told → Only (D.state device.new).holds (D.state device.new) (D.leaves device.new)) }
     ensures sent { IsTrue (D.state device.old).told → (D.state device.new).sent ≡ (D.state device.old).sent }
 
     // A stop at any moment of the call leaves the old content or the new one.
     ensures any_moment { IsTrue (D.state device.old).told → (x y : Content) → Stands (identity_of image.old) image.old.second x (D.state device.old).holds
-        → Stands (renewed image.old root.now) (not image.old.second) y (committed image.old pages.now root.now (D.state device.old).holds)
+        → Stands (renewed image.old root.now) (not image.old.second) y (committed image.old body.now root.now (D.state device.old).holds)
         → LeavesOnly (D.state device.old) (D.state device.new) (D.leaves device.old) (D.leaves device.new) (Either (identity_of image.old) x (renewed image.old root.now) y (D.state device.old).sent) }
 
-    // The bytes written are those of the pages, 64 of the root and 1 of the selector.
-    ensures put { OnOk result (IsTrue (D.state device.old).told → (D.state device.new).put ≡ (D.state device.old).put + total pages.now + 65) }
-    ensures put_most { IsTrue (D.state device.old).told → (D.state device.new).put ≤ (D.state device.old).put + total pages.now + 65 }
+    // The bytes written are those of the records, 64 of the root and 1 of the selector.
+    ensures put { OnOk result (IsTrue (D.state device.old).told → (D.state device.new).put ≡ (D.state device.old).put + length body.now + 65) }
+    ensures put_most { IsTrue (D.state device.old).told → (D.state device.new).put ≤ (D.state device.old).put + length body.now + 65 }
 
-    ensures failed { IsErrOf result ImageError.Failed → Rose (D.state device.old).disk_faults (D.state device.new).disk_faults }
-    ensures memory { IsErrOf result ImageError.Memory → IsTrue (D.state device.old).told → Rests (D.state device.old) (D.state device.new) (D.leaves device.old) (D.leaves device.new) }
+    ensures failed { IsErrOf result CommitError.Failed → Rose (D.state device.old).disk_faults (D.state device.new).disk_faults }
+    ensures memory { IsErrOf result CommitError.Memory → IsTrue (D.state device.old).told → Rests (D.state device.old) (D.state device.new) (D.leaves device.old) (D.leaves device.new) }
     ensures frame { Frame (D.state device.old) (D.state device.new) }
     ensures names { SameNames (D.state device.old) (D.state device.new) }
 {
-    let writes = pages.as_slice();
-    let next = prepare(alloc, writes, root)?;
+    let bytes = root_bytes(alloc, root)?;
     let at = unselected(image);
-    device.reserve(writes.len() as u64 + 4, next.total, at + image_size(image))?;
+    device.reserve(5, body.len() as u64 + 65, at + image_size(image))?;
     let byte = selector(!image.second());
-    replace(device, writes, at, next.bytes.as_slice(), byte)?;
-    image.turn(next.root);
+    replace(device, body, at + 64, at, bytes.as_slice(), byte)?;
+    image.turn(*root);
     Ok(())
 }

@@ -1,36 +1,36 @@
 //! Why a file could not be made, loaded or written.
 ghost use Rattle.std.specs.Prelude.{◌≡◌};
-ghost use Rattle.kdcfile_images.specs.declared.fault.ImageError.TheVariants as image_errors;
+ghost use Rattle.kdcfile_images.specs.declared.fault.CommitError.TheVariants as commit_errors;
 ghost use Rattle.kdcfile_images.specs.declared.fault.LoadError.TheVariants as load_errors;
 
 use kd_base::OutOfMemory;
 use kd_device::Failed;
 use thiserror::Error;
 
-/// Why a file was not made, or an image not written.
+/// Why a file was not made, or a commit not done.
 #[derive(Clone, Copy, Debug, PartialEq, Eq, Error)]
-pub enum ImageError {
-    /// A disk call failed. What the file has is known again when it is loaded.
+pub enum CommitError {
+    /// A disk call failed. What the file has is known again when it is loaded: the old content or the new one.
     #[error("the disk failed")]
     Failed,
-    /// Memory ran out before the first write.
+    /// Memory ran out before the first write. The file is as it was.
     #[error("out of memory")]
     Memory,
 }
 
-impl From<OutOfMemory> for ImageError {
-    ghost from_gives = { λ _ e. e ≡ image_errors.Memory };
+impl From<OutOfMemory> for CommitError {
+    ghost from_gives = { λ _ e. e ≡ commit_errors.Memory };
 
     fn from(_: OutOfMemory) -> Self {
-        ImageError::Memory
+        CommitError::Memory
     }
 }
 
-impl From<Failed> for ImageError {
-    ghost from_gives = { λ _ e. e ≡ image_errors.Failed };
+impl From<Failed> for CommitError {
+    ghost from_gives = { λ _ e. e ≡ commit_errors.Failed };
 
     fn from(_: Failed) -> Self {
-        ImageError::Failed
+        CommitError::Failed
     }
 }
 

@@ -1,39 +1,20 @@
 //! What is known of a file that was made or loaded: its selected image.
-ghost use Rattle.std.specs.Prelude.{◌≡◌, not, IfOk, OnOk};
+ghost use Rattle.std.specs.Prelude.{◌≡◌, not};
 ghost use Rattle.kd_records.specs.Identity.{IsIdentity};
 ghost use Rattle.kdcfile_images.specs.Opened.{identity_of};
 
-use crate::pages::{Directory, ImageRecords};
-use kd_base::OutOfMemory;
-use std::alloc::Global;
+use kd_records::Records;
 use std::marker::Model;
 
 /// What stands at the beginning of an image: the fingerprint of the texts, the clock in ticks, the next job number,
-/// PGPOOL in pages, the number of records, and the directory.
-#[derive(Debug, Drop)]
+/// PGPOOL in pages, and the number of records.
+#[derive(Clone, Copy, Debug)]
 pub struct Root {
     pub fingerprint: [u8; 32],
     pub clock: u64,
     pub next_job: u64,
     pub pgpool: u32,
     pub records: u32,
-    pub directory: Directory,
-}
-
-impl Root {
-    /// The same root once more.
-    pub fn copied(&self, alloc: Global) -> Result<Root, OutOfMemory>
-        ensures { IfOk result (λ r. r ≡ self.now) }
-    {
-        Ok(Root {
-            fingerprint: self.fingerprint,
-            clock: self.clock,
-            next_job: self.next_job,
-            pgpool: self.pgpool,
-            records: self.records,
-            directory: Directory::from_slice(alloc, self.directory.as_slice())?,
-        })
-    }
 }
 
 /// The selected image of a file, whose sizes are those that a file may have.
@@ -103,5 +84,5 @@ impl Image {
 #[derive(Debug, Drop)]
 pub struct Loaded {
     pub image: Image,
-    pub records: ImageRecords,
+    pub records: Records,
 }

@@ -1,11 +1,11 @@
 //! Loading the image that a file has selected.
-ghost use Rattle.std.specs.Prelude.{◌≡◌, ◌≤◌, List, ℕ, Some, None, IsTrue, length, take, drop, map, IfOk, IfSome, OnOk, IsErrOf};
+ghost use Rattle.std.specs.Prelude.{◌≡◌, ◌≤◌, List, ℕ, Some, None, IsTrue, length, take, drop, IfOk, OnOk, IsErrOf};
 ghost use Rattle.std.specs.Option.{option_map};
 ghost use Rattle.kd_device.specs.Device.{State, Rose, Frame, SameNames, Only};
 ghost use Rattle.kd_device.specs.Rest.{Rests};
 ghost use Rattle.kdcfile_images.specs.File.{Stands, IsNoImage, OneMeaning};
-ghost use Rattle.kdcfile_images.specs.Opened.{identity_of, content_of, record_of};
-ghost use Rattle.kdcfile_images.specs.Reading.{AreBytes, HasSizes, InSlots, image_of};
+ghost use Rattle.kdcfile_images.specs.Opened.{identity_of, content_in};
+ghost use Rattle.kdcfile_images.specs.Reading.{AreBytes, HasSizes, image_of};
 
 use crate::fault::LoadError;
 use crate::head::{FRONT_LEN, Head, head_of};
@@ -20,11 +20,10 @@ use std::alloc::Global;
 // The image that these bytes begin with, in a file of that head.
 fn image_of(alloc: Global, head: Head, bytes: &[u8]) -> Result<Option<Loaded>, OutOfMemory>
     requires { HasSizes head.block head.pages }
-    ensures value { IfOk result (λ found. option_map (λ l. (l.image, map record_of l.records)) found ≡ image_of head bytes.now) }
-    ensures slots { IfOk result (λ found. IfSome found (λ l. InSlots 0 l.records)) }
+    ensures value { IfOk result (λ found. option_map (λ l. (l.image, l.records)) found ≡ image_of head bytes.now) }
     ensures bytes { AreBytes bytes.now }
 {
-    let Some(root) = root_of(alloc, bytes, head.pages) else {
+    let Some(root) = root_of(bytes, head.pages) else {
         return Ok(None);
     };
     let (_, behind) = bytes.split_at(ROOT_LEN);
@@ -55,9 +54,7 @@ fn settle<D: Device>(device: &mut D) -> Result<(), LoadError>
 /// as it was read.
 pub fn load<D: Device>(alloc: Global, device: &mut D) -> Result<Loaded, LoadError>
     // What is loaded is what the bytes stand for.
-    ensures stands { IfOk result (λ l. IsTrue (D.state device.old).told → Stands (identity_of l.image) l.image.second (content_of l.image.root l.records) (D.state device.old).holds) }
-    // Each record is told with its slot, and without pages.
-    ensures slots { IfOk result (λ l. InSlots 0 l.records) }
+    ensures stands { IfOk result (λ l. IsTrue (D.state device.old).told → Stands (identity_of l.image) l.image.second (content_in l.image.root l.records) (D.state device.old).holds) }
     // Bytes are refused only where they stand for no image.
     ensures none { IsErrOf result LoadError.NotKdcfile → IsTrue (D.state device.old).told → IsNoImage (D.state device.old).holds }
     ensures settled { OnOk result (IsTrue (D.state device.old).told → Only (D.state device.new).holds (D.state device.new) (D.leaves device.new)) }

@@ -8,9 +8,8 @@ ghost use Rattle.kdcfile_images.specs.Writes.{IsSynced};
 ghost use Rattle.kdcfile_images.specs.Commit.{spelled_root};
 ghost use Rattle.kdcfile_images.specs.Fresh.{zeros, in_image, fresh_rest, fresh_file, fresh_root, Made, ShutOr};
 
-use crate::fault::ImageError;
+use crate::fault::CommitError;
 use crate::image::{Image, Root};
-use crate::pages::Directory;
 use crate::root::root_bytes;
 use crate::synced::write_synced;
 use kd_base::OutOfMemory;
@@ -89,7 +88,6 @@ fn make(
         next_job: 1,
         pgpool,
         records: 0,
-        directory: Directory::new(alloc),
     };
     let bytes = root_bytes(alloc, &root)?;
     let left = 8128 + pgpool as usize * blksize as usize;
@@ -128,7 +126,7 @@ pub fn create<D: Device>(
     blksize: u32,
     pgpool: u32,
     fingerprint: &[u8; 32],
-) -> Result<Image, ImageError>
+) -> Result<Image, CommitError>
     requires identity { IsIdentity (record { block = blksize; pages = pgpool; fingerprint = fingerprint.now }) }
     requires empty { IsTrue (D.state device.old).told → (D.state device.old).holds ≡ [] }
     requires settled { IsTrue (D.state device.old).told → Only (D.state device.old).holds (D.state device.old) (D.leaves device.old) }
@@ -143,8 +141,8 @@ pub fn create<D: Device>(
     ensures put { OnOk result (IsTrue (D.state device.old).told → (D.state device.new).put ≡ (D.state device.old).put + length (D.state device.new).holds + 1) }
     ensures any_moment { IsTrue (D.state device.old).told
         → LeavesOnly (D.state device.old) (D.state device.new) (D.leaves device.old) (D.leaves device.new) (Made (record { block = blksize; pages = pgpool; fingerprint = fingerprint.now }) (D.state device.old).sent) }
-    ensures failed { IsErrOf result ImageError.Failed → Rose (D.state device.old).disk_faults (D.state device.new).disk_faults }
-    ensures memory { IsErrOf result ImageError.Memory → IsTrue (D.state device.old).told → Rests (D.state device.old) (D.state device.new) (D.leaves device.old) (D.leaves device.new) }
+    ensures failed { IsErrOf result CommitError.Failed → Rose (D.state device.old).disk_faults (D.state device.new).disk_faults }
+    ensures memory { IsErrOf result CommitError.Memory → IsTrue (D.state device.old).told → Rests (D.state device.old) (D.state device.new) (D.leaves device.old) (D.leaves device.new) }
     ensures frame { Frame (D.state device.old) (D.state device.new) }
     ensures names { SameNames (D.state device.old) (D.state device.new) }
 {

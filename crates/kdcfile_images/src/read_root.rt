@@ -4,10 +4,8 @@ ghost use Rattle.kdcfile_images.specs.Reading.{is_root, root_of};
 
 use crate::head::{u32_in, u64_in};
 use crate::image::Root;
-use crate::pages::Directory;
-use std::alloc::Global;
 
-/// The length of a root with no directory.
+/// The length of a root.
 pub const ROOT_LEN: usize = 64;
 
 // Whether PGPOOL stands there once more, no directory, and the mark.
@@ -31,7 +29,7 @@ fn fingerprint_of(image: &[u8]) -> [u8; 32]
 }
 
 /// The root of an image in a file of so many pages, where there is one.
-pub fn root_of(alloc: Global, image: &[u8], pages: u32) -> Option<Root>
+pub fn root_of(image: &[u8], pages: u32) -> Option<Root>
     ensures value { result ≡ root_of pages image.now }
     ensures fingerprint { IfSome result (λ r. length r.fingerprint ≡ 32) }
     ensures pages { IfSome result (λ r. r.pgpool ≡ pages) }
@@ -46,6 +44,5 @@ pub fn root_of(alloc: Global, image: &[u8], pages: u32) -> Option<Root>
         next_job: u64_in(image, 40),
         pgpool: pages,
         records: u32_in(image, 56),
-        directory: Directory::new(alloc),
     })
 }

@@ -1,28 +1,14 @@
 //! The records behind a root.
-ghost use Rattle.std.specs.Prelude.{◌≡◌, ◌≤◌, ◌+◌, None, IfOk, IfSome, length, map};
-ghost use Rattle.std.specs.Option.{option_map};
-ghost use Rattle.kd_records.specs.Keys.{key_cmp};
-ghost use Rattle.kdcfile_images.specs.Opened.{record_of};
-ghost use Rattle.kdcfile_images.specs.Reading.{follows, key_at, record_at, records_of, InSlots};
+ghost use Rattle.std.specs.Prelude.{◌≡◌, ◌≤◌, ◌+◌, None, IfOk, IfSome, length};
+ghost use Rattle.kdcfile_images.specs.Reading.{follows, key_at, record_at, records_of};
 
 use crate::head::u32_in;
-use crate::pages::{ImageRecord, ImageRecords, Pages};
 use kd_base::{Bytes, OutOfMemory};
-use kd_records::RecordKey;
+use kd_records::{RecordKey, Records};
 use std::alloc::Global;
-use std::cmp::Ordering;
 
 /// The length of a record without its value.
 const RECORD_LEN: usize = 29;
-
-fn key_cmp(a: &RecordKey, b: &RecordKey) -> Ordering
-    ensures { result ≡ key_cmp a.now b.now }
-{
-    match a.kind.cmp(&b.kind) {
-        Ordering::Equal => a.bytes.as_slice().cmp(b.bytes.as_slice()),
-        other => other,
-    }
-}
 
 // Whether a key may stand behind another.
 fn follows(previous: &Option<RecordKey>, key: &RecordKey) -> bool
@@ -30,7 +16,7 @@ fn follows(previous: &Option<RecordKey>, key: &RecordKey) -> bool
 {
     match previous {
         None => true,
-        Some(before) => key_cmp(before, key) == Ordering::Less,
+        Some(before) => before.compared(key).is_lt(),
     }
 }
 
@@ -68,18 +54,13 @@ fn record_at(alloc: Global, left: &[u8]) -> Result<Option<(RecordKey, Bytes)>, O
 }
 
 /// So many records, whose keys ascend, from the front of the bytes.
-pub fn records_of(
-    alloc: Global,
-    count: u32,
-    image: &[u8],
-) -> Result<Option<ImageRecords>, OutOfMemory>
-    ensures value { IfOk result (λ found. option_map (map record_of) found ≡ records_of None count image.now) }
-    ensures slots { IfOk result (λ found. IfSome found (InSlots 0)) }
+pub fn records_of(alloc: Global, count: u32, image: &[u8]) -> Result<Option<Records>, OutOfMemory>
+    ensures { IfOk result (λ found. found ≡ records_of None count image.now) }
 {
-    let mut records = ImageRecords::new(alloc);
+    let mut records = Records::new(alloc);
     let mut previous = None;
     let mut left = image;
-    for slot in 0..count {
+    for _ in 0..count {
         let Some((key, value)) = record_at(alloc, left)? else {
             return Ok(None);
         };
@@ -87,13 +68,7 @@ pub fn records_of(
             return Ok(None);
         }
         let (_, rest) = left.split_at(RECORD_LEN + value.len());
-        records.push(ImageRecord {
-            kind: key.kind,
-            key: key.bytes,
-            slot,
-            pages: Pages::new(alloc),
-            value,
-        })?;
+        records.push((key, value))?;
         previous = Some(key);
         left = rest;
     }

@@ -6,7 +6,7 @@ use crate::image::Root;
 use kd_base::{Bytes, OutOfMemory, Writer};
 use std::alloc::Global;
 
-/// The 64 bytes of a root that has no directory.
+/// The 64 bytes of a root.
 pub fn root_bytes(alloc: Global, root: &Root) -> Result<Bytes, OutOfMemory>
     ensures bytes { IfOk result (λ b. b ≡ spelled_root root.now) }
     ensures length { IfOk result (λ b. length b ≡ 64) }

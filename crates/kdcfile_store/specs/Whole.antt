@@ -1,12 +1,10 @@
 -- A store that keeps its content in whole images.
-use Rattle.std.specs.Prelude.{◌≡◌, ◌⊎◌, ℕ, ◌+◌, Bool, List, [], ◌∷◌, length}
+use Rattle.std.specs.Prelude.{◌≡◌, ◌⊎◌, ℕ, Bool, List, length}
 use Rattle.kd_records.specs.Identity.{Identity}
 use Rattle.kd_records.specs.declared.content.Content.{Content}
 use Rattle.kdcfile_images.specs.File.{Stands, StandsFor, IsNoImage, fresh}
 use Rattle.kdcfile_images.specs.Opened.{Opened}
-use Rattle.kdcfile_images.specs.Commit.{other_place}
 use Rattle.kdcfile_images.specs.declared.image.Root.{Root}
-use Rattle.kdcfile_images.specs.declared.pages.PageWrite.{PageWrite}
 use Rattle.kdcfile_store.specs.declared.store.StoreLimits.{StoreLimits}
 
 pub record Whole : Type 0 where
@@ -28,8 +26,4 @@ Made i sent c out = (out ≡ sent) × (IsNoImage c ⊎ StandsFor i fresh c)
 
 -- the root of the same file for this content
 abbrev pub root_with : Opened → Content → Root
-root_with o y = record { fingerprint = o.root.fingerprint; clock = y.clock; next_job = y.next_job; pgpool = o.root.pgpool; records = length y.items; directory = [] }
-
--- records behind the root of the unselected image
-abbrev pub pages_with : Opened → List ℕ → List PageWrite
-pages_with o body = record { at = other_place o + 64; bytes = body } ∷ []
+root_with o y = record { fingerprint = o.root.fingerprint; clock = y.clock; next_job = y.next_job; pgpool = o.root.pgpool; records = length y.items }

@@ -2,7 +2,7 @@
 ghost use Rattle.std.specs.Prelude.{◌≡◌, ◌+◌, ◌<◌, ◌^◌, ◌++◌, length, sum_by, All, IfOk, OnOk};
 ghost use Rattle.std.specs.List.{flat_map};
 ghost use Rattle.kd_records.specs.Contents.{Record};
-ghost use Rattle.kd_records.specs.ChargeLaws.{room_of};
+ghost use Rattle.kd_records.specs.ChargeLaws.{record_length};
 ghost use Rattle.kdcfile_images.specs.File.{spelled_record};
 
 use kd_base::{Bytes, OutOfMemory, Writer};
@@ -13,7 +13,7 @@ use std::alloc::Global;
 fn put_record(out: &mut Writer, key: &RecordKey, value: &Bytes) -> Result<(), OutOfMemory>
     requires { length value.now < 2 ^ 32 }
     ensures bytes { OnOk result (out.new ≡ out.old ++ spelled_record (key.now, value.now)) }
-    ensures length { OnOk result (length out.new ≡ length out.old + room_of (key.now, value.now)) }
+    ensures length { OnOk result (length out.new ≡ length out.old + record_length (key.now, value.now)) }
 {
     out.put_u8(key.kind)?;
     out.put_bytes(&key.bytes)?;
@@ -27,7 +27,7 @@ pub(crate) fn records_bytes(
 ) -> Result<Bytes, OutOfMemory>
     requires { All (λ (r : Record). length r.1 < 2 ^ 32) records.now }
     ensures bytes { IfOk result (λ b. b ≡ flat_map spelled_record records.now) }
-    ensures length { IfOk result (λ b. length b ≡ sum_by room_of records.now) }
+    ensures length { IfOk result (λ b. length b ≡ sum_by record_length records.now) }
 {
     let mut out = Writer::new(alloc);
     for record in records {

@@ -8,59 +8,10 @@ ghost use Rattle.kd_records.specs.declared.content.Content.{Content};
 ghost use Rattle.kd_records.specs.Charge.{total_charge};
 ghost use Rattle.kdcfile_store.specs.Kept.{IsKept, OldOrNew};
 
-use kd_base::OutOfMemory;
-use kd_device::{Device, Failed};
+use kd_device::Device;
 use kd_records::{Content, Patch};
-use kdcfile_images::ImageError;
+use kdcfile_images::CommitError;
 use std::alloc::Global;
-use thiserror::Error;
-
-/// Why a commit ended early.
-#[derive(Clone, Copy, Debug, PartialEq, Eq, Error)]
-pub enum CommitError {
-    /// A disk call failed. The file has the old content or the new one; the store is opened again.
-    #[error("the disk failed")]
-    Failed,
-    /// Memory ran out before the first write. Store and file are as they were.
-    #[error("out of memory")]
-    Memory,
-}
-
-impl From<OutOfMemory> for CommitError {
-    ghost use Rattle.std.specs.Prelude.{◌≡◌};
-    ghost use Rattle.kdcfile_store.specs.declared.store.CommitError.TheVariants as errors;
-
-    ghost from_gives = { λ _ e. e ≡ errors.Memory };
-
-    fn from(_: OutOfMemory) -> Self {
-        CommitError::Memory
-    }
-}
-
-impl From<Failed> for CommitError {
-    ghost use Rattle.std.specs.Prelude.{◌≡◌};
-    ghost use Rattle.kdcfile_store.specs.declared.store.CommitError.TheVariants as errors;
-
-    ghost from_gives = { λ _ e. e ≡ errors.Failed };
-
-    fn from(_: Failed) -> Self {
-        CommitError::Failed
-    }
-}
-
-impl From<ImageError> for CommitError {
-    ghost use Rattle.std.specs.Prelude.{◌≡◌};
-    ghost use Rattle.kdcfile_store.specs.Causes.{of_image};
-
-    ghost from_gives = { λ e r. r ≡ of_image e };
-
-    fn from(e: ImageError) -> Self {
-        match e {
-            ImageError::Failed => CommitError::Failed,
-            ImageError::Memory => CommitError::Memory,
-        }
-    }
-}
 
 /// A content that is kept in a file of the device `D`.
 pub trait Store<D: Device> {

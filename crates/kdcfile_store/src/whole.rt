@@ -1,5 +1,5 @@
 //! A store that keeps its content in whole images: each commit writes the unselected image and selects it.
-ghost use Rattle.std.specs.Prelude.{◌≡◌, ◌<◌, ◌≤◌, ◌^◌, [], List, ℕ, IsTrue, length, map, IfOk, OnOk, OnErr, IsErrOf};
+ghost use Rattle.std.specs.Prelude.{◌≡◌, ◌<◌, ◌≤◌, ◌^◌, [], List, ℕ, IsTrue, length, IfOk, OnOk, OnErr, IsErrOf};
 ghost use Rattle.kd_device.specs.Device.{State, Rose, Frame, SameNames, LeavesOnly, Only};
 ghost use Rattle.kd_device.specs.Rest.{Rests};
 ghost use Rattle.kd_records.specs.Identity.{IsIdentity};
@@ -7,19 +7,16 @@ ghost use Rattle.kd_records.specs.Contents.{IsContent, patched};
 ghost use Rattle.kd_records.specs.Charge.{total_charge};
 ghost use Rattle.kd_records.specs.declared.content.Content.{Content};
 ghost use Rattle.kdcfile_images.specs.File.{Stands, StandsFor, IsNoImage, fresh};
-ghost use Rattle.kdcfile_images.specs.Opened.{identity_of, record_of};
+ghost use Rattle.kdcfile_images.specs.Opened.{identity_of};
 ghost use Rattle.kdcfile_store.specs.Kept.{IsKept, OldOrNew};
-ghost use Rattle.kdcfile_store.specs.Whole.{HasFile, identity_with, Made, root_with, pages_with};
+ghost use Rattle.kdcfile_store.specs.Whole.{HasFile, identity_with, Made, root_with};
 
 use crate::spell::records_bytes;
-use crate::store::{CommitError, Store, StoreLimits};
-use kd_base::{Bytes, OutOfMemory};
+use crate::store::{Store, StoreLimits};
+use kd_base::OutOfMemory;
 use kd_device::Device;
-use kd_records::{Content, Patch, RecordKey, Records};
-use kdcfile_images::{
-    Directory, Image, ImageRecord, LoadError, PageWrite, PageWrites, Root, commit_image, create,
-    load, unselected,
-};
+use kd_records::{Content, Patch, Records};
+use kdcfile_images::{CommitError, Image, LoadError, Root, commit_image, create, load};
 use std::alloc::Global;
 use std::marker::Model;
 
@@ -44,7 +41,7 @@ impl Model for WholeStore {
 }
 
 /// The root of the same file for this content.
-fn next_root(alloc: Global, image: &Image, content: &Content) -> Root
+fn next_root(image: &Image, content: &Content) -> Root
     requires few { length content.now.items < 2 ^ 32 }
     ensures { result ≡ root_with image.now content.now }
 {
@@ -55,19 +52,7 @@ fn next_root(alloc: Global, image: &Image, content: &Content) -> Root
         next_job: content.next_job,
         pgpool: root.pgpool,
         records: content.items.as_slice().len() as u32,
-        directory: Directory::new(alloc),
     }
-}
-
-/// The records behind the root of the unselected image.
-fn next_pages(alloc: Global, image: &Image, body: Bytes) -> Result<PageWrites, OutOfMemory>
-    requires { IsIdentity (identity_of image.now) }
-    ensures { IfOk result (λ pages. pages ≡ pages_with image.now body) }
-{
-    let at = unselected(image) + 64;
-    let mut pages = PageWrites::new(alloc);
-    pages.push(PageWrite { at, bytes: body })?;
-    Ok(pages)
 }
 
 /// Writes a content as the unselected image, and selects it.
@@ -95,9 +80,8 @@ fn write_content<D: Device>(
     ensures names { SameNames (D.state device.old) (D.state device.new) }
 {
     let body = records_bytes(alloc, content.items.as_slice())?;
-    let root = next_root(alloc, image, content);
-    let pages = next_pages(alloc, image, body)?;
-    commit_image(alloc, device, image, &pages, &root)?;
+    let root = next_root(image, content);
+    commit_image(alloc, device, image, body.as_slice(), &root)?;
     Ok(())
 }
 
@@ -113,21 +97,6 @@ fn next_content(alloc: Global, content: &Content, patch: &Patch) -> Result<Conte
         next_job: patch.next_job,
         items: next.items,
     })
-}
-
-/// The records that were loaded, without their places.
-fn records_of(alloc: Global, records: &[ImageRecord]) -> Result<Records, OutOfMemory>
-    ensures { IfOk result (λ r. r ≡ map record_of records.now) }
-{
-    let mut kept = Records::new(alloc);
-    for record in records {
-        let key = RecordKey {
-            kind: record.kind,
-            bytes: record.key,
-        };
-        kept.push(key, Bytes::from_slice(alloc, record.value.as_slice())?)?;
-    }
-    Ok(kept)
 }
 
 impl WholeStore {
@@ -173,12 +142,11 @@ impl WholeStore {
         ensures names { SameNames (D.state device.old) (D.state device.new) }
     {
         let loaded = load(alloc, device)?;
-        let items = records_of(alloc, loaded.records.as_slice())?;
-        let root = loaded.image.root();
+        let root = *loaded.image.root();
         let content = Content {
             clock: root.clock,
             next_job: root.next_job,
-            items,
+            items: loaded.records,
         };
         Ok(WholeStore {
             image: loaded.image,

@@ -90,32 +90,26 @@ module _ (t : TableRows) where
   abbrev from_tlss : List Key
   from_tlss = map tls_key t.tlss ++ from_ulss
 
+  module _ (p : Key → Bool) where
+    past_gssbs : IsTrue (list_any p from_tlss) → IsTrue (list_any p (keys_of t))
+    past_gssbs h = in_right p (map gssb_key t.gssbs) from_tlss h
+
+    past_tlss : IsTrue (list_any p from_ulss) → IsTrue (list_any p (keys_of t))
+    past_tlss h = past_gssbs (in_right p (map tls_key t.tlss) from_ulss h)
+
+    past_ulss : IsTrue (list_any p from_services) → IsTrue (list_any p (keys_of t))
+    past_ulss h = past_tlss (in_right p (map uls_key t.ulss) from_services h)
+
+    past_services : IsTrue (list_any p from_jobs) → IsTrue (list_any p (keys_of t))
+    past_services h = past_ulss (in_right p (map service_key t.services) from_jobs h)
+
   pub has_key : (q : Key) → IsTrue (is_some (row_at t q)) → IsTrue (list_any (key_eq q) (keys_of t))
   has_key (key.Gssb n) h = in_left _ (map gssb_key t.gssbs) from_tlss (found_among gssb_key (key.Gssb n) t.gssbs (sym (is_some-map gssb_row _) ∙ h))
-  has_key (key.Tls b l) h =
-      in_right _ (map gssb_key t.gssbs) from_tlss
-      (in_left _ (map tls_key t.tlss) from_ulss (found_among tls_key (key.Tls b l) t.tlss (sym (is_some-map tls_row _) ∙ h)))
-  has_key (key.Uls b l) h =
-      in_right _ (map gssb_key t.gssbs) from_tlss
-      (in_right _ (map tls_key t.tlss) from_ulss
-      (in_left _ (map uls_key t.ulss) from_services (found_among uls_key (key.Uls b l) t.ulss (sym (is_some-map uls_row _) ∙ h))))
-  has_key (key.Service i) h =
-      in_right _ (map gssb_key t.gssbs) from_tlss
-      (in_right _ (map tls_key t.tlss) from_ulss
-      (in_right _ (map uls_key t.ulss) from_services
-      (in_left _ (map service_key t.services) from_jobs (found_among service_key (key.Service i) t.services (sym (is_some-map service_row _) ∙ h)))))
-  has_key (key.Job n) h =
-      in_right _ (map gssb_key t.gssbs) from_tlss
-      (in_right _ (map tls_key t.tlss) from_ulss
-      (in_right _ (map uls_key t.ulss) from_services
-      (in_right _ (map service_key t.services) from_jobs
-      (in_left _ (map job_key t.jobs) from_shown (found_among job_key (key.Job n) t.jobs (sym (is_some-map job_row _) ∙ h))))))
-  has_key (key.Shown n) h =
-      in_right _ (map gssb_key t.gssbs) from_tlss
-      (in_right _ (map tls_key t.tlss) from_ulss
-      (in_right _ (map uls_key t.ulss) from_services
-      (in_right _ (map service_key t.services) from_jobs
-      (in_right _ (map job_key t.jobs) from_shown (found_among shown_key (key.Shown n) t.shown (sym (is_some-map shown_row _) ∙ h))))))
+  has_key (key.Tls b l) h = past_gssbs _ (in_left _ (map tls_key t.tlss) from_ulss (found_among tls_key (key.Tls b l) t.tlss (sym (is_some-map tls_row _) ∙ h)))
+  has_key (key.Uls b l) h = past_tlss _ (in_left _ (map uls_key t.ulss) from_services (found_among uls_key (key.Uls b l) t.ulss (sym (is_some-map uls_row _) ∙ h)))
+  has_key (key.Service i) h = past_ulss _ (in_left _ (map service_key t.services) from_jobs (found_among service_key (key.Service i) t.services (sym (is_some-map service_row _) ∙ h)))
+  has_key (key.Job n) h = past_services _ (in_left _ (map job_key t.jobs) from_shown (found_among job_key (key.Job n) t.jobs (sym (is_some-map job_row _) ∙ h)))
+  has_key (key.Shown n) h = past_services _ (in_right _ (map job_key t.jobs) from_shown (found_among shown_key (key.Shown n) t.shown (sym (is_some-map shown_row _) ∙ h)))
 
 -- ---- what differs
 
@@ -161,24 +155,14 @@ module _ (old new : TableRows) where
       ∙ elim (list_any (key_eq q) (keys_of old ++ keys_of new)) as (λ b. list_any (key_eq q) (keys_of old ++ keys_of new) ≡ b → cond b (needed q) None ≡ needed q) [
         | true ↦ λ e. refl
         | false ↦ λ e.
-            let none_old = no_row old q (absent_left _ (keys_of old) (keys_of new) e) in
-            let none_new = no_row new q (absent_right _ (keys_of old) (keys_of new) e) in
+            let none_old = no_row old q (absent _ _ (in_left _ (keys_of old) (keys_of new)) e) in
+            let none_new = no_row new q (absent _ _ (in_right _ (keys_of old) (keys_of new)) e) in
             sym (ap (λ b. cond b None (Some (change_to q (row_at new q)))) ((λ i. row_same (none_old i) (none_new i))))
       ] refl
     where
-      absent_left : (p : Key → Bool) (xs ys : List Key) → list_any p (xs ++ ys) ≡ false → list_any p xs ≡ false
-      absent_left p xs ys h =
-          elim (list_any p xs) as (λ b. list_any p xs ≡ b → b ≡ false) [
-            | true ↦ λ e. absurd (true≢false (sym (in_left p xs ys e) ∙ h))
-            | false ↦ λ e. refl
-          ] refl
-
-      absent_right : (p : Key → Bool) (xs ys : List Key) → list_any p (xs ++ ys) ≡ false → list_any p ys ≡ false
-      absent_right p xs ys h =
-          elim (list_any p ys) as (λ b. list_any p ys ≡ b → b ≡ false) [
-            | true ↦ λ e. absurd (true≢false (sym (in_right p xs ys e) ∙ h))
-            | false ↦ λ e. refl
-          ] refl
+      absent : (a b : Bool) → (a ≡ true → b ≡ true) → b ≡ false → a ≡ false
+      absent true b there h = absurd (true≢false (sym (there refl) ∙ h))
+      absent false b there h = refl
 
   differing-ascends : (ks : List Key) → IsTrue (ascends change_key (differing old new ks))
   unfolding differing

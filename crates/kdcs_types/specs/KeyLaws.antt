@@ -57,23 +57,15 @@ key_of ts =
     else key.Shown (head (tail ts))
 
 key_back : (k : Key) → key_of (key_texts k) ≡ k
-key_back (key.Gssb name) = refl
-key_back (key.Tls block lterm) = refl
-key_back (key.Uls block user) = refl
 key_back (key.Service service) = ap (λ i. key.Service i) (id_back service)
-key_back (key.Job number) = refl
-key_back (key.Shown lterm) = refl
+key_back _ = refl
 
 pub same_key : IsAntisymmetric key_cmp
 same_key a b e = sym (key_back a) ∙ ap key_of (texts_same (key_texts a) (key_texts b) e) ∙ key_back b
 
 abbrev id_in : ServiceId → Key → ServiceId
 id_in i (key.Service j) = j
-id_in i (key.Gssb name) = i
-id_in i (key.Tls block lterm) = i
-id_in i (key.Uls block user) = i
-id_in i (key.Job number) = i
-id_in i (key.Shown lterm) = i
+id_in i _ = i
 
 pub same_id : IsAntisymmetric id_cmp
 same_id i j e = ap (id_in i) (same_key (key.Service i) (key.Service j) e)
@@ -82,9 +74,7 @@ abbrev area_in : Area → Key → Area
 area_in a (key.Gssb name) = area.Gssb name
 area_in a (key.Tls block lterm) = area.Tls block lterm
 area_in a (key.Uls block user) = area.Uls block user
-area_in a (key.Service i) = a
-area_in a (key.Job number) = a
-area_in a (key.Shown lterm) = a
+area_in a _ = a
 
 area_back : (a b : Area) → area_in b (area_key a) ≡ a
 area_back (area.Gssb name) b = refl

@@ -21,7 +21,7 @@ use Rattle.kdcs_types.specs.Keys.{key_cmp, key_eq, id_eq}
 use Rattle.kdcs_types.specs.Keyed.{keyed, ascends, item_at, with_item, without_item}
 use Rattle.kdcs_types.specs.KeyLaws.{id_eq-same, key_eq-same}
 use Rattle.kdcs_types.specs.KeyedLaws.{item_at-with, item_at-without, ascends-with, ascends-without, all-with, all-without, not_above, not_among, same_items}
-use Rattle.kdcs_types.specs.Tables.{TableRows, gssb_key, tls_key, uls_key, service_key, job_key, shown_key, gssb_row, tls_row, uls_row, service_row, job_row, shown_row, row_key, row_at, with_row, without_row, with_change, with_changes, changed, is_filled, service_fits, row_fits, change_fits, change_key, change_at, AreChanges, IsSortedTables}
+use Rattle.kdcs_types.specs.Tables.{TableRows, empty_tables, gssb_key, tls_key, uls_key, service_key, job_key, shown_key, gssb_row, tls_row, uls_row, service_row, job_row, shown_row, row_key, row_at, with_row, without_row, with_change, with_changes, changed, is_filled, service_fits, row_fits, change_fits, change_key, change_at, AreChanges, IsSortedTables}
 use Rattle.kdcs_types.specs.TableLaws.{row_after}
 
 -- ---- one change
@@ -94,11 +94,7 @@ row_at-with_changes t (c ∷ cs) q up fit =
 
 with_numbers : (t : TableRows) (c : Changes) (q : Key) → row_at (record t { clock = c.clock; next_job = c.next_job }) q ≡ row_at t q
 with_numbers t c (key.Gssb n) = refl
-with_numbers t c (key.Tls b l) = refl
-with_numbers t c (key.Uls b l) = refl
-with_numbers t c (key.Service i) = refl
-with_numbers t c (key.Job n) = refl
-with_numbers t c (key.Shown n) = refl
+with_numbers t c _ = refl
 
 pub rows_changed : (t : TableRows) (c : Changes) → AreChanges c.items → (k : Key) → row_at (changed t c) k ≡ row_after (change_at k c.items) (row_at t k)
 rows_changed t c h k =
@@ -132,6 +128,9 @@ pub numbers_changed : (t : TableRows) (c : Changes) → ((changed t c).clock ≡
 numbers_changed t c = numbers_stay (record t { clock = c.clock; next_job = c.next_job }) c.items
 
 -- ---- the order
+
+pub empty_sorted : IsSortedTables empty_tables
+empty_sorted = record { gssbs = refl; tlss = refl; ulss = refl; services = refl; jobs = refl; shown = refl; tlss_filled = refl; ulss_filled = refl; services_fit = refl }
 
 pub sorted_with : (t : TableRows) (r : Row) → IsSortedTables t → IsTrue (row_fits r) → IsSortedTables (with_row t r)
 sorted_with t (row.Gssb n c) h f = record { gssbs = ascends-with gssb_key (n, c) t.gssbs h.gssbs; tlss = h.tlss; ulss = h.ulss; services = h.services; jobs = h.jobs; shown = h.shown; tlss_filled = h.tlss_filled; ulss_filled = h.ulss_filled; services_fit = h.services_fit }
@@ -167,29 +166,29 @@ changed_sorted t c h are =
 
 -- ---- tables are known by their rows
 
-abbrev in_gssb : Row → Option (List ℕ × List ℕ)
-in_gssb (row.Gssb n c) = Some (n, c)
-in_gssb _ = None
+abbrev pub gssb_in : Row → Option (List ℕ × List ℕ)
+gssb_in (row.Gssb n c) = Some (n, c)
+gssb_in _ = None
 
-abbrev in_tls : Row → Option (List ℕ × List ℕ × List ℕ)
-in_tls (row.Tls b l c) = Some (b, l, c)
-in_tls _ = None
+abbrev pub tls_in : Row → Option (List ℕ × List ℕ × List ℕ)
+tls_in (row.Tls b l c) = Some (b, l, c)
+tls_in _ = None
 
-abbrev in_uls : Row → Option (List ℕ × List ℕ × List ℕ)
-in_uls (row.Uls b u c) = Some (b, u, c)
-in_uls _ = None
+abbrev pub uls_in : Row → Option (List ℕ × List ℕ × List ℕ)
+uls_in (row.Uls b u c) = Some (b, u, c)
+uls_in _ = None
 
-abbrev in_service : Row → Option Service
-in_service (row.Service i s) = Some s
-in_service _ = None
+abbrev pub service_in : Row → Option Service
+service_in (row.Service i s) = Some s
+service_in _ = None
 
-abbrev in_job : Row → Option Job
-in_job (row.Job n v) = Some (record { number = n; value = v })
-in_job _ = None
+abbrev pub job_in : Row → Option Job
+job_in (row.Job n v) = Some (record { number = n; value = v })
+job_in _ = None
 
-abbrev in_shown : Row → Option (List ℕ × JobValue)
-in_shown (row.Shown l v) = Some (l, v)
-in_shown _ = None
+abbrev pub shown_in : Row → Option (List ℕ × JobValue)
+shown_in (row.Shown l v) = Some (l, v)
+shown_in _ = None
 
 module _ {E : Type 0} (row_of : E → Row) (back : Row → Option E) (is : (e : E) → back (row_of e) ≡ Some e) where
   there_and_back : (o : Option E) → option_and_then back (option_map row_of o) ≡ o
@@ -204,27 +203,27 @@ neither key_of q es fs apart = not_among key_of q apart es ∙ sym (not_among ke
 
 module _ (t u : TableRows) (rows : (k : Key) → row_at t k ≡ row_at u k) where
   gssbs_alike : (q : Key) → item_at gssb_key q t.gssbs ≡ item_at gssb_key q u.gssbs
-  gssbs_alike (key.Gssb n) = unmapped gssb_row in_gssb (λ e. refl) _ _ (rows (key.Gssb n))
+  gssbs_alike (key.Gssb n) = unmapped gssb_row gssb_in (λ e. refl) _ _ (rows (key.Gssb n))
   gssbs_alike q = neither gssb_key q t.gssbs u.gssbs (λ e. refl)
 
   tlss_alike : (q : Key) → item_at tls_key q t.tlss ≡ item_at tls_key q u.tlss
-  tlss_alike (key.Tls b l) = unmapped tls_row in_tls (λ e. refl) _ _ (rows (key.Tls b l))
+  tlss_alike (key.Tls b l) = unmapped tls_row tls_in (λ e. refl) _ _ (rows (key.Tls b l))
   tlss_alike q = neither tls_key q t.tlss u.tlss (λ e. refl)
 
   ulss_alike : (q : Key) → item_at uls_key q t.ulss ≡ item_at uls_key q u.ulss
-  ulss_alike (key.Uls b l) = unmapped uls_row in_uls (λ e. refl) _ _ (rows (key.Uls b l))
+  ulss_alike (key.Uls b l) = unmapped uls_row uls_in (λ e. refl) _ _ (rows (key.Uls b l))
   ulss_alike q = neither uls_key q t.ulss u.ulss (λ e. refl)
 
   services_alike : (q : Key) → item_at service_key q t.services ≡ item_at service_key q u.services
-  services_alike (key.Service i) = unmapped service_row in_service (λ e. refl) _ _ (rows (key.Service i))
+  services_alike (key.Service i) = unmapped service_row service_in (λ e. refl) _ _ (rows (key.Service i))
   services_alike q = neither service_key q t.services u.services (λ e. refl)
 
   jobs_alike : (q : Key) → item_at job_key q t.jobs ≡ item_at job_key q u.jobs
-  jobs_alike (key.Job n) = unmapped job_row in_job (λ e. refl) _ _ (rows (key.Job n))
+  jobs_alike (key.Job n) = unmapped job_row job_in (λ e. refl) _ _ (rows (key.Job n))
   jobs_alike q = neither job_key q t.jobs u.jobs (λ e. refl)
 
   shown_alike : (q : Key) → item_at shown_key q t.shown ≡ item_at shown_key q u.shown
-  shown_alike (key.Shown l) = unmapped shown_row in_shown (λ e. refl) _ _ (rows (key.Shown l))
+  shown_alike (key.Shown l) = unmapped shown_row shown_in (λ e. refl) _ _ (rows (key.Shown l))
   shown_alike q = neither shown_key q t.shown u.shown (λ e. refl)
 
 pub same_tables : (t u : TableRows) → IsSortedTables t → IsSortedTables u → t.clock ≡ u.clock → t.next_job ≡ u.next_job → ((k : Key) → row_at t k ≡ row_at u k) → t ≡ u

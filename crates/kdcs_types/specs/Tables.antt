@@ -163,12 +163,10 @@ service_fits s = lterm_fits s.id s.lterm && is_sorted (slice_cmp nat_cmp) s.lssb
 
 -- a TLS or ULS block is not empty; a service stands under its id, has an LTERM exactly where it is asynchronous, and LSSBs in ascending order
 abbrev pub row_fits : Row → Bool
-row_fits (row.Gssb name content) = true
 row_fits (row.Tls block lterm content) = is_filled content
 row_fits (row.Uls block user content) = is_filled content
 row_fits (row.Service id service) = id_eq service.id id && service_fits service
-row_fits (row.Job number value) = true
-row_fits (row.Shown lterm value) = true
+row_fits _ = true
 
 abbrev pub change_fits : Change → Bool
 change_fits (Set r) = row_fits r

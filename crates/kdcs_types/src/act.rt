@@ -1,11 +1,10 @@
 //! What the monitor does to the outside.
-ghost use Rattle.std.specs.Prelude.{◌≡◌, ◌++◌, ◌∷◌, [], OnOk, OnErr};
+ghost use Rattle.std.specs.Prelude.{◌≡◌};
 
 use crate::key::{Key, ServiceId};
 use crate::service::{JobValue, Service};
-use kd_base::{Bytes, Name, OutOfMemory};
-use std::alloc::{AllocError, Global};
-use std::marker::Model;
+use kd_base::{Bytes, Name, Sequence};
+use std::alloc::AllocError;
 
 /// A row of the tables: a key with its value.
 #[derive(Debug, Drop)]
@@ -32,58 +31,8 @@ pub enum Change {
     Remove(Key),
 }
 
-/// Changes of rows, in ascending order of their keys where a commit has them. Contracts see the list.
-#[derive(Debug, Drop)]
-pub struct RowChanges {
-    items: Vec<Change>,
-}
-
-impl Model for RowChanges {
-    ghost use Rattle.std.specs.Prelude.{List};
-    ghost use Rattle.kdcs_types.specs.declared.act.Change.{Change};
-
-    ghost Value = { List Change };
-
-    ghost view = { λ c. c.items.items };
-}
-
-impl RowChanges {
-    pub fn new(alloc: Global) -> RowChanges
-        ensures { result ≡ [] }
-    {
-        RowChanges {
-            items: Vec::new(alloc),
-        }
-    }
-
-    /// The changes of a `Vec`, which takes no memory.
-    pub fn from_vec(items: Vec<Change>) -> RowChanges
-        ensures { result ≡ items.items }
-    {
-        RowChanges { items }
-    }
-
-    /// The `Vec` of these changes, which takes no memory.
-    pub fn into_vec(self) -> Vec<Change>
-        ensures { result.items ≡ self }
-    {
-        self.items
-    }
-
-    pub fn as_slice(&self) -> &[Change]
-        ensures { result.now ≡ self.now }
-    {
-        self.items.as_slice()
-    }
-
-    /// Adds a change at the end, or changes nothing.
-    pub fn push(&mut self, change: Change) -> Result<(), OutOfMemory>
-        ensures ok { OnOk result (self.new ≡ self.old ++ change ∷ []) }
-        ensures err { OnErr result (self.new ≡ self.old) }
-    {
-        Ok(self.items.push(change)?)
-    }
-}
+/// Changes of rows, in ascending order of their keys where a commit has them.
+pub type RowChanges = Sequence<Change>;
 
 impl Clone for Row {
     ghost is_clone = { λ row copy. copy ≡ row };
@@ -111,16 +60,6 @@ impl Clone for Change {
     }
 }
 
-impl Clone for RowChanges {
-    ghost is_clone = { λ changes copy. copy ≡ changes };
-
-    fn clone(&self) -> Result<RowChanges, AllocError> {
-        Ok(RowChanges {
-            items: self.items.clone()?,
-        })
-    }
-}
-
 /// What one commit changes: the durable tables before it become those after it.
 #[derive(Debug, Drop)]
 pub struct Changes {
@@ -138,41 +77,5 @@ pub enum Act {
     Emit(Bytes),
 }
 
-/// Acts in the order in which they are done. Contracts see the list.
-#[derive(Debug, Drop)]
-pub struct Acts {
-    items: Vec<Act>,
-}
-
-impl Model for Acts {
-    ghost use Rattle.std.specs.Prelude.{List};
-    ghost use Rattle.kdcs_types.specs.declared.act.Act.{Act};
-
-    ghost Value = { List Act };
-
-    ghost view = { λ a. a.items.items };
-}
-
-impl Acts {
-    pub fn new(alloc: Global) -> Acts
-        ensures { result ≡ [] }
-    {
-        Acts {
-            items: Vec::new(alloc),
-        }
-    }
-
-    pub fn as_slice(&self) -> &[Act]
-        ensures { result.now ≡ self.now }
-    {
-        self.items.as_slice()
-    }
-
-    /// Adds an act at the end, or changes nothing.
-    pub fn push(&mut self, act: Act) -> Result<(), OutOfMemory>
-        ensures ok { OnOk result (self.new ≡ self.old ++ act ∷ []) }
-        ensures err { OnErr result (self.new ≡ self.old) }
-    {
-        Ok(self.items.push(act)?)
-    }
-}
+/// Acts in the order in which they are done.
+pub type Acts = Sequence<Act>;

@@ -19,6 +19,7 @@ pub struct Tables {
     clock: u64,
     next_job: u64,
     rows: RowLists,
+    alloc: Global,
 }
 
 impl Model for Tables {
@@ -41,6 +42,7 @@ impl Tables {
             clock: 0,
             next_job: 1,
             rows: RowLists::new(alloc),
+            alloc,
         }
     }
 
@@ -157,7 +159,7 @@ impl Tables {
         ensures ok { OnOk result (self.new ≡ changed self.old changes.now) }
         ensures err { OnErr result (self.new ≡ self.old) }
     {
-        let items = changes.items.clone()?.into_vec();
+        let items = changes.items.as_slice().to_vec(self.alloc)?;
         self.rows.reserve(items.len())?;
         self.clock = changes.clock;
         self.next_job = changes.next_job;

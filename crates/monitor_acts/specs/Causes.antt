@@ -1,6 +1,6 @@
 -- How an error is handed on.
-use Rattle.kdcfile_store.specs.declared.store.CommitError.{CommitError}
-use Rattle.kdcfile_store.specs.declared.store.CommitError.TheVariants as commit
+use Rattle.kdcfile_images.specs.declared.fault.CommitError.{CommitError}
+use Rattle.kdcfile_images.specs.declared.fault.CommitError.TheVariants as commit
 use Rattle.monitor_acts.specs.declared.error.ActError.{ActError}
 use Rattle.monitor_acts.specs.declared.error.ActError.TheVariants as to
 

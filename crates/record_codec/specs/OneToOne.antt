@@ -1,15 +1,12 @@
 -- Tables with one content are one.
-use Rattle.std.specs.Prelude.{◌≡◌, refl, ℕ, List, [], ◌∷◌, ◌++◌, map, filter_map, Option, Some, None}
+use Rattle.std.specs.Prelude.{◌≡◌, refl, List, [], ◌∷◌, ◌++◌, map, filter_map, Option, Some, None}
 use Rattle.std.proofs.Common.{sym, ap, ◌∙◌}
 use Rattle.std.proofs.lemmas.List.{append-nil}
-use Rattle.std.proofs.lemmas.List.Elements.{recursion_from_All}
+use Rattle.std.proofs.lemmas.List.Elements.{filter_map-append, recursion_from_All}
 use Rattle.std.specs.List.{cons_option, AllByRecursion as Each}
 use Rattle.kd_records.specs.declared.content.Content.{Content}
 use Rattle.kdcs_types.specs.declared.act.Row.{Row}
-use Rattle.kdcs_types.specs.declared.act.Row.TheVariants as row
-use Rattle.kdcs_types.specs.declared.service.Service.{Service}
-use Rattle.kdcs_types.specs.declared.service.Job.{Job}
-use Rattle.kdcs_types.specs.declared.service.JobValue.{JobValue}
+use Rattle.kdcs_types.specs.RowLaws.{gssb_in, tls_in, uls_in, service_in, job_in, shown_in}
 use Rattle.kdcs_types.specs.Tables.{TableRows, IsSortedTables, gssb_row, tls_row, uls_row, service_row, job_row, shown_row}
 use Rattle.record_codec.specs.Values.{record_of}
 use Rattle.record_codec.specs.Records.{rows_of, content_of_tables}
@@ -33,97 +30,38 @@ rows_are_one (r ∷ rs) (q ∷ qs) hr hq fr fq e =
 -- ---- the rows of one kind among all
 
 module _ {E : Type 0} (pick : Row → Option E) where
-  -- those of this kind come first
-  picked : (f : E → Row) → ((e : E) → pick (f e) ≡ Some e) → (es : List E) (rest : List Row) → filter_map pick rest ≡ [] → filter_map pick (map f es ++ rest) ≡ es
-  picked f is [] rest none = none
-  picked f is (e ∷ es) rest none = λ i. cons_option (is e i) (picked f is es rest none i)
+  whole : (f : E → Row) → ((e : E) → pick (f e) ≡ Some e) → (es : List E) → filter_map pick (map f es) ≡ es
+  whole f is [] = refl
+  whole f is (e ∷ es) = λ i. cons_option (is e i) (whole f is es i)
 
-  -- those of another kind come first
-  passed : {A : Type 0} (f : A → Row) → ((a : A) → pick (f a) ≡ None) → (xs : List A) (rest : List Row) (found : List E) → filter_map pick rest ≡ found → filter_map pick (map f xs ++ rest) ≡ found
-  passed f is [] rest found e = e
-  passed f is (x ∷ xs) rest found e = λ i. cons_option (is x i) (passed f is xs rest found e i)
+  none : {A : Type 0} (f : A → Row) → ((a : A) → pick (f a) ≡ None) → (xs : List A) → filter_map pick (map f xs) ≡ []
+  none f is [] = refl
+  none f is (x ∷ xs) = λ i. cons_option (is x i) (none f is xs i)
 
-  none_left : {A : Type 0} (f : A → Row) → ((a : A) → pick (f a) ≡ None) → (xs : List A) → filter_map pick (map f xs) ≡ []
-  none_left f is [] = refl
-  none_left f is (x ∷ xs) = λ i. cons_option (is x i) (none_left f is xs i)
+  both : (xs ys : List Row) (a b : List E) → filter_map pick xs ≡ a → filter_map pick ys ≡ b → filter_map pick (xs ++ ys) ≡ a ++ b
+  both xs ys a b p q = filter_map-append pick xs ys ∙ (λ i. p i ++ q i)
 
-abbrev gssb_in : Row → Option (List ℕ × List ℕ)
-gssb_in (row.Gssb name content) = Some (name, content)
-gssb_in _ = None
-
-abbrev tls_in : Row → Option (List ℕ × List ℕ × List ℕ)
-tls_in (row.Tls block lterm content) = Some (block, lterm, content)
-tls_in _ = None
-
-abbrev uls_in : Row → Option (List ℕ × List ℕ × List ℕ)
-uls_in (row.Uls block user content) = Some (block, user, content)
-uls_in _ = None
-
-abbrev service_in : Row → Option Service
-service_in (row.Service id service) = Some service
-service_in _ = None
-
-abbrev job_in : Row → Option Job
-job_in (row.Job number value) = Some (record { number = number; value = value })
-job_in _ = None
-
-abbrev shown_in : Row → Option (List ℕ × JobValue)
-shown_in (row.Shown lterm value) = Some (lterm, value)
-shown_in _ = None
+  of_kinds : (t : TableRows) (a b c d e f : List E) → filter_map pick (map gssb_row t.gssbs) ≡ a → filter_map pick (map tls_row t.tlss) ≡ b → filter_map pick (map uls_row t.ulss) ≡ c → filter_map pick (map service_row t.services) ≡ d
+      → filter_map pick (map job_row t.jobs) ≡ e → filter_map pick (map shown_row t.shown) ≡ f → filter_map pick (rows_of t) ≡ a ++ (b ++ (c ++ (d ++ (e ++ f))))
+  of_kinds t a b c d e f p q r s v w = both _ _ a _ p (both _ _ b _ q (both _ _ c _ r (both _ _ d _ s (both _ _ e f v w))))
 
 gssbs_in : (t : TableRows) → filter_map gssb_in (rows_of t) ≡ t.gssbs
-gssbs_in t =
-    picked gssb_in gssb_row (λ e. refl) t.gssbs _
-    (passed gssb_in tls_row (λ e. refl) t.tlss _ _
-    (passed gssb_in uls_row (λ e. refl) t.ulss _ _
-    (passed gssb_in service_row (λ e. refl) t.services _ _
-    (passed gssb_in job_row (λ e. refl) t.jobs _ _
-    (none_left gssb_in shown_row (λ e. refl) t.shown)))))
+gssbs_in t = of_kinds gssb_in t t.gssbs [] [] [] [] [] (whole gssb_in gssb_row (λ e. refl) t.gssbs) (none gssb_in tls_row (λ e. refl) t.tlss) (none gssb_in uls_row (λ e. refl) t.ulss) (none gssb_in service_row (λ e. refl) t.services) (none gssb_in job_row (λ e. refl) t.jobs) (none gssb_in shown_row (λ e. refl) t.shown) ∙ append-nil t.gssbs
 
 tlss_in : (t : TableRows) → filter_map tls_in (rows_of t) ≡ t.tlss
-tlss_in t =
-    passed tls_in gssb_row (λ e. refl) t.gssbs _ _
-    (picked tls_in tls_row (λ e. refl) t.tlss _
-    (passed tls_in uls_row (λ e. refl) t.ulss _ _
-    (passed tls_in service_row (λ e. refl) t.services _ _
-    (passed tls_in job_row (λ e. refl) t.jobs _ _
-    (none_left tls_in shown_row (λ e. refl) t.shown)))))
+tlss_in t = of_kinds tls_in t [] t.tlss [] [] [] [] (none tls_in gssb_row (λ e. refl) t.gssbs) (whole tls_in tls_row (λ e. refl) t.tlss) (none tls_in uls_row (λ e. refl) t.ulss) (none tls_in service_row (λ e. refl) t.services) (none tls_in job_row (λ e. refl) t.jobs) (none tls_in shown_row (λ e. refl) t.shown) ∙ append-nil t.tlss
 
 ulss_in : (t : TableRows) → filter_map uls_in (rows_of t) ≡ t.ulss
-ulss_in t =
-    passed uls_in gssb_row (λ e. refl) t.gssbs _ _
-    (passed uls_in tls_row (λ e. refl) t.tlss _ _
-    (picked uls_in uls_row (λ e. refl) t.ulss _
-    (passed uls_in service_row (λ e. refl) t.services _ _
-    (passed uls_in job_row (λ e. refl) t.jobs _ _
-    (none_left uls_in shown_row (λ e. refl) t.shown)))))
+ulss_in t = of_kinds uls_in t [] [] t.ulss [] [] [] (none uls_in gssb_row (λ e. refl) t.gssbs) (none uls_in tls_row (λ e. refl) t.tlss) (whole uls_in uls_row (λ e. refl) t.ulss) (none uls_in service_row (λ e. refl) t.services) (none uls_in job_row (λ e. refl) t.jobs) (none uls_in shown_row (λ e. refl) t.shown) ∙ append-nil t.ulss
 
 services_in : (t : TableRows) → filter_map service_in (rows_of t) ≡ t.services
-services_in t =
-    passed service_in gssb_row (λ e. refl) t.gssbs _ _
-    (passed service_in tls_row (λ e. refl) t.tlss _ _
-    (passed service_in uls_row (λ e. refl) t.ulss _ _
-    (picked service_in service_row (λ e. refl) t.services _
-    (passed service_in job_row (λ e. refl) t.jobs _ _
-    (none_left service_in shown_row (λ e. refl) t.shown)))))
+services_in t = of_kinds service_in t [] [] [] t.services [] [] (none service_in gssb_row (λ e. refl) t.gssbs) (none service_in tls_row (λ e. refl) t.tlss) (none service_in uls_row (λ e. refl) t.ulss) (whole service_in service_row (λ e. refl) t.services) (none service_in job_row (λ e. refl) t.jobs) (none service_in shown_row (λ e. refl) t.shown) ∙ append-nil t.services
 
 jobs_in : (t : TableRows) → filter_map job_in (rows_of t) ≡ t.jobs
-jobs_in t =
-    passed job_in gssb_row (λ e. refl) t.gssbs _ _
-    (passed job_in tls_row (λ e. refl) t.tlss _ _
-    (passed job_in uls_row (λ e. refl) t.ulss _ _
-    (passed job_in service_row (λ e. refl) t.services _ _
-    (picked job_in job_row (λ e. refl) t.jobs _
-    (none_left job_in shown_row (λ e. refl) t.shown)))))
+jobs_in t = of_kinds job_in t [] [] [] [] t.jobs [] (none job_in gssb_row (λ e. refl) t.gssbs) (none job_in tls_row (λ e. refl) t.tlss) (none job_in uls_row (λ e. refl) t.ulss) (none job_in service_row (λ e. refl) t.services) (whole job_in job_row (λ e. refl) t.jobs) (none job_in shown_row (λ e. refl) t.shown) ∙ append-nil t.jobs
 
 all_shown_in : (t : TableRows) → filter_map shown_in (rows_of t) ≡ t.shown
-all_shown_in t =
-    passed shown_in gssb_row (λ e. refl) t.gssbs _ _
-    (passed shown_in tls_row (λ e. refl) t.tlss _ _
-    (passed shown_in uls_row (λ e. refl) t.ulss _ _
-    (passed shown_in service_row (λ e. refl) t.services _ _
-    (passed shown_in job_row (λ e. refl) t.jobs _ _
-    (ap (filter_map shown_in) (sym (append-nil (map shown_row t.shown))) ∙ picked shown_in shown_row (λ e. refl) t.shown [] refl)))))
+all_shown_in t = of_kinds shown_in t [] [] [] [] [] t.shown (none shown_in gssb_row (λ e. refl) t.gssbs) (none shown_in tls_row (λ e. refl) t.tlss) (none shown_in uls_row (λ e. refl) t.ulss) (none shown_in service_row (λ e. refl) t.services) (none shown_in job_row (λ e. refl) t.jobs) (whole shown_in shown_row (λ e. refl) t.shown)
 
 -- ---- tables
 

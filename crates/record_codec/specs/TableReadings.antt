@@ -25,7 +25,7 @@ use Rattle.kdcs_types.specs.Keys.{key_cmp, id_eq}
 use Rattle.kdcs_types.specs.KeyLaws.{id_eq-itself}
 use Rattle.kdcs_types.specs.Keyed.{keyed, ascends}
 use Rattle.kdcs_types.specs.Tables.{TableRows, empty_tables, gssb_key, tls_key, uls_key, service_key, job_key, shown_key, gssb_row, tls_row, uls_row, service_row, job_row, shown_row, is_filled, service_fits, row_key, row_fits, change_fits, change_key, changed, AreChanges, IsSortedTables}
-use Rattle.kdcs_types.specs.RowLaws.{changed_sorted}
+use Rattle.kdcs_types.specs.RowLaws.{empty_sorted, changed_sorted}
 use Rattle.record_codec.specs.Values.{record_key, service_bytes, record_of, record_change}
 use Rattle.record_codec.specs.Records.{rows_of, content_of_tables, patch_of, AreTablesOf}
 use Rattle.record_codec.specs.Order.{IsProperKey, keys_keep_their_order}
@@ -144,9 +144,6 @@ pub changes_are : (xs : List Record) (cs : List Change) → All AreRecordBytes x
 changes_are xs cs are h e =
     let s = sets_there xs cs (recursion_from_All AreRecordBytes xs are) e in
     record { ascending = ascend_too cs xs s.proper s.keys h; fit = s.fit }
-
-empty_sorted : IsSortedTables empty_tables
-empty_sorted = record { gssbs = refl; tlss = refl; ulss = refl; services = refl; jobs = refl; shown = refl; tlss_filled = refl; ulss_filled = refl; services_fit = refl }
 
 pub tables_there : (x : Content) (c : Changes) → c.clock ≡ x.clock → c.next_job ≡ x.next_job → All AreRecordBytes x.items → IsTrue (is_sorted record_cmp x.items) → sets_read x.items ≡ Some c.items → AreTablesOf x (changed empty_tables c)
 tables_there x c clock next_job are h e =

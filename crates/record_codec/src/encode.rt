@@ -18,7 +18,7 @@ fn put_gssbs(rows: &[(Name, Bytes)], records: &mut Records) -> Result<(), OutOfM
     ensures { OnOk result (records.new ≡ records.old ++ map record_of (map gssb_row rows.now)) }
 {
     for row in rows {
-        records.push(record_key(&Key::Gssb(row.0)), row.1.clone()?)?;
+        records.push((record_key(&Key::Gssb(row.0)), row.1.clone()?))?;
     }
     Ok(())
 }
@@ -27,7 +27,7 @@ fn put_tlss(rows: &[(Name, Name, Bytes)], records: &mut Records) -> Result<(), O
     ensures { OnOk result (records.new ≡ records.old ++ map record_of (map tls_row rows.now)) }
 {
     for row in rows {
-        records.push(record_key(&Key::Tls(row.0, row.1)), row.2.clone()?)?;
+        records.push((record_key(&Key::Tls(row.0, row.1)), row.2.clone()?))?;
     }
     Ok(())
 }
@@ -36,7 +36,7 @@ fn put_ulss(rows: &[(Name, Name, Bytes)], records: &mut Records) -> Result<(), O
     ensures { OnOk result (records.new ≡ records.old ++ map record_of (map uls_row rows.now)) }
 {
     for row in rows {
-        records.push(record_key(&Key::Uls(row.0, row.1)), row.2.clone()?)?;
+        records.push((record_key(&Key::Uls(row.0, row.1)), row.2.clone()?))?;
     }
     Ok(())
 }
@@ -46,10 +46,10 @@ fn put_services(alloc: Global, rows: &[Service], records: &mut Records) -> Resul
     ensures { OnOk result (records.new ≡ records.old ++ map record_of (map service_row rows.now)) }
 {
     for row in rows {
-        records.push(
+        records.push((
             record_key(&Key::Service(row.id)),
             service_value(alloc, row)?,
-        )?;
+        ))?;
     }
     Ok(())
 }
@@ -59,7 +59,7 @@ fn put_job(alloc: Global, row: &Job, records: &mut Records) -> Result<(), OutOfM
     ensures { OnOk result (records.new ≡ records.old ++ record_of (job_row row.now) ∷ []) }
 {
     let value = job_value(alloc, &row.value)?;
-    records.push(record_key(&Key::Job(row.number)), value)
+    records.push((record_key(&Key::Job(row.number)), value))
 }
 
 fn put_jobs(alloc: Global, rows: &[Job], records: &mut Records) -> Result<(), OutOfMemory>
@@ -81,7 +81,7 @@ fn put_shown(
     ensures { OnOk result (records.new ≡ records.old ++ map record_of (map shown_row rows.now)) }
 {
     for row in rows {
-        records.push(record_key(&Key::Shown(row.0)), job_value(alloc, &row.1)?)?;
+        records.push((record_key(&Key::Shown(row.0)), job_value(alloc, &row.1)?))?;
     }
     Ok(())
 }
@@ -123,8 +123,8 @@ fn put_change(alloc: Global, change: &Change, items: &mut PatchItems) -> Result<
     ensures { OnOk result (items.new ≡ items.old ++ record_change change.now ∷ []) }
 {
     match change {
-        Change::Set(row) => items.push(record_key(&key_of(row)), Some(row_value(alloc, row)?)),
-        Change::Remove(key) => items.push(record_key(key), None),
+        Change::Set(row) => items.push((record_key(&key_of(row)), Some(row_value(alloc, row)?))),
+        Change::Remove(key) => items.push((record_key(key), None)),
     }
 }
 

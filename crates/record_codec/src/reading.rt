@@ -31,46 +31,31 @@ impl From<OutOfMemory> for Unread {
 pub(crate) fn name_in(reader: &mut Reader) -> Result<Name, Unread>
     ensures { Reads result reader.new (name_field reader.old) }
 {
-    match reader.name_at() {
-        Some(name) => Ok(name),
-        None => Err(Unread::NoRow),
-    }
+    reader.name_at().ok_or(Unread::NoRow)
 }
 
 pub(crate) fn u8_in(reader: &mut Reader) -> Result<u8, Unread>
     ensures { Reads result reader.new (number_field w8 reader.old) }
 {
-    match reader.u8_at() {
-        Some(n) => Ok(n),
-        None => Err(Unread::NoRow),
-    }
+    reader.u8_at().ok_or(Unread::NoRow)
 }
 
 fn u32_in(reader: &mut Reader) -> Result<u32, Unread>
     ensures { Reads result reader.new (number_field w32 reader.old) }
 {
-    match reader.u32_at() {
-        Some(n) => Ok(n),
-        None => Err(Unread::NoRow),
-    }
+    reader.u32_at().ok_or(Unread::NoRow)
 }
 
 pub(crate) fn u64_in(reader: &mut Reader) -> Result<u64, Unread>
     ensures { Reads result reader.new (number_field w64 reader.old) }
 {
-    match reader.u64_at() {
-        Some(n) => Ok(n),
-        None => Err(Unread::NoRow),
-    }
+    reader.u64_at().ok_or(Unread::NoRow)
 }
 
 fn list_in(alloc: Global, reader: &mut Reader) -> Result<Bytes, Unread>
     ensures { Reads result reader.new (list_field reader.old) }
 {
-    match reader.list_at(alloc)? {
-        Some(list) => Ok(list),
-        None => Err(Unread::NoRow),
-    }
+    reader.list_at(alloc)?.ok_or(Unread::NoRow)
 }
 
 fn flag_in(reader: &mut Reader) -> Result<bool, Unread>
@@ -176,7 +161,7 @@ fn each_lssb_in(alloc: Global, count: u32, reader: &mut Reader) -> Result<Areas,
     let mut lssbs = Areas::new(alloc);
     for _ in 0..count {
         let lssb = lssb_in(alloc, reader)?;
-        lssbs.push(lssb.0, lssb.1)?;
+        lssbs.push(lssb)?;
     }
     Ok(lssbs)
 }

@@ -13,7 +13,8 @@ use Rattle.monitor_semantics.specs.Endings.{durable}
 use Rattle.monitor_semantics.specs.Turns.{turn_of}
 use Rattle.monitor_semantics.specs.Commands.{command_of}
 use Rattle.monitor_semantics.specs.declared.command.Command.{Command}
-use Rattle.monitor_laws.specs.Applications.{IsApplication, IsCommandOf}
+use Rattle.monitor_laws.specs.Applications.{IsApplication}
+use Rattle.monitor_semantics.specs.CommandsOf.{IsCommandOf}
 use Rattle.monitor_laws.specs.Keeping.{HasFacts}
 use Rattle.record_codec.specs.Records.{content_of_tables, patch_of}
 use Rattle.record_codec.specs.Values.{HasShortChange}

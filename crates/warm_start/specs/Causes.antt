@@ -1,6 +1,6 @@
 -- How an error is handed on.
-use Rattle.kdcfile_store.specs.declared.store.CommitError.{CommitError}
-use Rattle.kdcfile_store.specs.declared.store.CommitError.TheVariants as commit
+use Rattle.kdcfile_images.specs.declared.fault.CommitError.{CommitError}
+use Rattle.kdcfile_images.specs.declared.fault.CommitError.TheVariants as commit
 use Rattle.kdcfile_images.specs.declared.fault.LoadError.{LoadError}
 use Rattle.kdcfile_images.specs.declared.fault.LoadError.TheVariants as load
 use Rattle.warm_start.specs.declared.error.OpenError.{OpenError}

@@ -1,8 +1,8 @@
-use Rattle.std.proofs.Common.{List, ℕ, map, take, Option, sym, ap, ◌∙◌}
+use Rattle.std.proofs.Common.{List, ℕ, take, Option, sym, ap, ◌∙◌}
 use Rattle.std.specs.Option.{option_map}
 use Rattle.kd_records.specs.Contents.{Record}
 use Rattle.kdcfile_images.specs.declared.image.Loaded.{Loaded}
-use Rattle.kdcfile_images.specs.Opened.{Opened, record_of}
+use Rattle.kdcfile_images.specs.Opened.{Opened}
 use Rattle.kdcfile_images.specs.ReadImages.{image_taken, no_head, no_image, stands_read}
 use Rattle.kdcfile_images.proofs.loading.load.Goals as goal
 
@@ -22,8 +22,8 @@ returns-in-Some-2-clause-stands g c told =
     stands_read (g.D.Device.state c.args.device.now).holds c.as_slice.result.now (c.as_slice.ensures.value ∙ c.in_ok-front.ensures.value settled ∙ ap (λ (l : List ℕ). take 4097 l) same) c.in-Some.head (sym c.head_of.ensures.value ∙ c.in-Some.is)
     c.as_slice-2.result.now
     (image_taken c.in-Some.head (g.D.Device.state c.args.device.now).holds (g.D.Device.state c.read_part.new.device).holds c.in_ok-bytes.bytes.items c.as_slice-2.result.now c.place.result c.image_size.result c.as_slice-2.ensures.value (c.in_ok-bytes.ensures.value read) c.image_size.ensures c.place.ensures then_same)
-    c.head_of.ensures.bytes c.in_ok-loaded.ensures.bytes loaded.image (map record_of loaded.records)
-    (sym c.in_ok-loaded.ensures.value ∙ ap (λ (o : Option Loaded). option_map {T = Loaded} {U = Opened × List Record} (λ l. (l.image, map record_of l.records)) o) c.in-Some-2.is)
+    c.head_of.ensures.bytes c.in_ok-loaded.ensures.bytes loaded.image loaded.records
+    (sym c.in_ok-loaded.ensures.value ∙ ap (λ (o : Option Loaded). option_map {T = Loaded} {U = Opened × List Record} (λ l. (l.image, l.records)) o) c.in-Some-2.is)
 
 pub returns-clause-none : goal.returns-clause-none
 returns-clause-none g c _ told =
@@ -34,4 +34,4 @@ returns-clause-none g c _ told =
     no_image (g.D.Device.state c.args.device.now).holds c.as_slice.result.now (c.as_slice.ensures.value ∙ c.in_ok-front.ensures.value settled ∙ ap (λ (l : List ℕ). take 4097 l) same) c.in-Some.head (sym c.head_of.ensures.value ∙ c.in-Some.is)
     c.as_slice-2.result.now
     (image_taken c.in-Some.head (g.D.Device.state c.args.device.now).holds (g.D.Device.state c.read_part.new.device).holds c.in_ok-bytes.bytes.items c.as_slice-2.result.now c.place.result c.image_size.result c.as_slice-2.ensures.value (c.in_ok-bytes.ensures.value read) c.image_size.ensures c.place.ensures then_same)
-    (sym c.in_ok-loaded.ensures.value ∙ ap (λ (o : Option Loaded). option_map {T = Loaded} {U = Opened × List Record} (λ l. (l.image, map record_of l.records)) o) c.in-None.is)
+    (sym c.in_ok-loaded.ensures.value ∙ ap (λ (o : Option Loaded). option_map {T = Loaded} {U = Opened × List Record} (λ l. (l.image, l.records)) o) c.in-None.is)

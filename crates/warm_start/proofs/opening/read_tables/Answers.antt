@@ -1,4 +1,5 @@
 use Rattle.std.proofs.Common.{sym, subst}
+use Rattle.kd_device.specs.Rest.{rests_then}
 use Rattle.kdcs_types.specs.Tables.{TableRows}
 use Rattle.monitor_laws.specs.EmptyTables.{empty_suit}
 use Rattle.monitor_laws.specs.Suits.{Suits}
@@ -6,3 +7,6 @@ use Rattle.warm_start.proofs.opening.read_tables.Goals as goal
 
 pub returns-then-size-eq0-clause-suits : goal.returns-then-size-eq0-clause-suits
 returns-then-size-eq0-clause-suits g c = subst (λ (t : TableRows). Suits c.args.generation.now t) (sym c.empty.ensures) (empty_suit c.args.generation.now)
+
+pub returns-in_ok-tables-clause-rests : goal.returns-in_ok-tables-clause-rests
+returns-in_ok-tables-clause-rests g c = λ told. rests_then _ _ _ _ _ _ (c.settled_size.ensures.rests told) (c.warm.ensures.rests (rw c.settled_size.ensures.frame.told told))

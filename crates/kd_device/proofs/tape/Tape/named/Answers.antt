@@ -15,14 +15,7 @@ invariant_of-self c =
       c.self.invariant.0,
       (
         fits_push s.name_bytes.items c.args.name.now s.names.items span c.append.new.to.items c.put.new.to.items c.append.ensures.items c.put.ensures.items at_end refl c.self.invariant.1.0,
-        record {
-          for_steps = omega (arith, calls, room, c.requires);
-          for_kept = omega (arith, bytes, room, c.requires);
-          for_sent = omega (arith, bytes, room, c.requires);
-          for_names = omega (arith, calls, room, c.requires, c.put.ensures);
-          for_name_bytes = omega (arith, bytes, room, c.requires, c.append.ensures);
-          for_bytes = omega (arith, room);
-        },
+        grind (arith, calls, bytes, room, c.requires, c.put.ensures, c.append.ensures),
       ),
     )
 

@@ -12,13 +12,6 @@ invariant_of-self c =
       kept_push_same s.kept.items s.steps.items c.args.done c.put.new.to.items c.put.ensures.items s.start s.bytes.items s.sent.items c.self.invariant.0,
       (
         c.self.invariant.1.0,
-        record {
-          for_steps = omega (arith, calls, room, c.requires, c.put.ensures);
-          for_kept = omega (arith, bytes, room, c.requires);
-          for_sent = omega (arith, bytes, room, c.requires);
-          for_names = omega (arith, calls, room, c.requires);
-          for_name_bytes = omega (arith, bytes, room, c.requires);
-          for_bytes = omega (arith, room);
-        },
+        grind (arith, calls, bytes, room, c.requires, c.put.ensures),
       ),
     )

@@ -23,14 +23,7 @@ invariant_of-self c =
           c.self.invariant.0.sent_is,
       (
         c.self.invariant.1.0,
-        record {
-          for_steps = omega (arith, calls, room, c.requires, c.put.ensures);
-          for_kept = omega (arith, bytes, room, c.requires, c.append.ensures);
-          for_sent = omega (arith, bytes, room, c.requires);
-          for_names = omega (arith, calls, room, c.requires);
-          for_name_bytes = omega (arith, bytes, room, c.requires);
-          for_bytes = omega (arith, room, c.overwrite_if.ensures);
-        },
+        grind (arith, calls, bytes, room, c.requires, c.put.ensures, c.append.ensures, c.overwrite_if.ensures),
       ),
     )
 
