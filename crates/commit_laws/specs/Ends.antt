@@ -7,8 +7,6 @@ use Rattle.std.specs.List.{list_all}
 use Rattle.kd_base.specs.Tools.{true_both}
 use Rattle.kdcs_types.specs.declared.act.Change.TheVariants.{Set, Remove}
 use Rattle.kdcs_types.specs.declared.act.Row.TheVariants.{Service as ServiceRow}
-use Rattle.kdcs_types.specs.declared.key.Area.{Area}
-use Rattle.kdcs_types.specs.declared.key.Area.TheVariants.{Gssb, Tls, Uls}
 use Rattle.kdcs_types.specs.declared.key.Key.TheVariants.{Job as JobKey, Service as ServiceKey}
 use Rattle.kdcs_types.specs.declared.key.ServiceId.{ServiceId}
 use Rattle.kdcs_types.specs.declared.key.ServiceId.TheVariants.{Dialogue, Asynchronous}
@@ -19,12 +17,13 @@ use Rattle.kdcs_types.specs.KeyedLaws.{all-without, ascends-without}
 use Rattle.kdcs_types.specs.KeyLaws.{id_eq-itself, id_eq-same}
 use Rattle.kdcs_types.specs.Keys.{id_eq}
 use Rattle.kdcs_types.specs.RowLaws.{sorted_with_change}
-use Rattle.kdcs_types.specs.Tables.{TableRows, AreChanges, IsSortedTables, change_fits, changed, job_key, lterm_fits, service_of, with_change}
+use Rattle.kdcs_types.specs.Tables.{TableRows, AreChanges, IsSortedTables, change_fits, changed, job_key, lterm_fits, service_of}
 use Rattle.kdcdef_types.specs.Generation.{Generated}
 use Rattle.monitor_semantics.specs.declared.outcome.Outcome.{Outcome}
-use Rattle.monitor_semantics.specs.declared.outcome.Outcome.TheVariants.{Wait, Point, Follow, Finish, Hold, Stay, Queue, Break, Back}
+use Rattle.monitor_semantics.specs.declared.outcome.Outcome.TheVariants.{Wait, Point, Follow}
+use Rattle.monitor_semantics.specs.AreaLaws.{areas_sorted, own_job_sorted}
 use Rattle.monitor_semantics.specs.Bytes.{Bytes, bytes_cmp}
-use Rattle.monitor_semantics.specs.Endings.{area_change, broken, durable, is_durable, lterm_in_row, row_after, service_change, synchronised, with_areas, with_drafts, with_service, without_own_job}
+use Rattle.monitor_semantics.specs.Endings.{broken, durable, is_durable, lterm_in_row, row_after, service_change, synchronised, with_areas, with_drafts, with_service, without_own_job}
 use Rattle.monitor_semantics.specs.State.{OpenTransaction}
 use Rattle.monitor_laws.specs.Commits.{AreNumberedFrom}
 use Rattle.monitor_laws.specs.JobLaw.{jobs_left, new_jobs}
@@ -52,11 +51,6 @@ row_sorted : (u : TableRows) (id : ServiceId) (row : Option Service) → IsSorte
 row_sorted u id None h fits = sorted_with_change u (Remove (ServiceKey id)) h refl
 row_sorted u id (Some r) h fits = sorted_with_change u (Set (ServiceRow id r)) h fits
 
-own_job_sorted : (u : TableRows) (id : ServiceId) (began : Option Service) → IsSortedTables u → IsSortedTables (without_own_job u id began)
-own_job_sorted u (Dialogue user) began h = h
-own_job_sorted u (Asynchronous number) (Some r) h = h
-own_job_sorted u (Asynchronous number) None h = sorted_with_change u (Remove (JobKey number)) h refl
-
 -- ---- abnormal ends
 
 module _ (g : Generated) (t : TableRows) (id : ServiceId) (x : OpenTransaction) (order : IsSortedTables t) where
@@ -83,21 +77,6 @@ end_made g t id x order =
     }
 
 -- ---- the order behind a synchronisation point
-
-pub area_fits : (area : Area) (content : Option Bytes) → IsTrue (change_fits (area_change area content))
-area_fits (Gssb name) None = refl
-area_fits (Gssb name) (Some bytes) = refl
-area_fits (Tls block lterm) None = refl
-area_fits (Tls block lterm) (Some []) = refl
-area_fits (Tls block lterm) (Some (c ∷ cs)) = refl
-area_fits (Uls block user) None = refl
-area_fits (Uls block user) (Some []) = refl
-area_fits (Uls block user) (Some (c ∷ cs)) = refl
-
-pub areas_sorted : (ws : List (Area × Option Bytes)) (t : TableRows) → IsSortedTables t → IsSortedTables (with_areas t ws)
-unfolding with_areas
-areas_sorted [] t h = h
-areas_sorted (w ∷ ws) t h = areas_sorted ws (with_change t (area_change w.0 w.1)) (sorted_with_change t (area_change w.0 w.1) h (area_fits w.0 w.1))
 
 -- numbered one after another, from this one at least
 numbered_high : (least n : ℕ) (js : List Job) → least ≤ n → AreNumberedFrom n js → IsTrue (list_all (λ (j : Job). nat_le least j.number) js)
@@ -127,12 +106,7 @@ unfolding row_after
 point_row-fits g id x (Wait tac) h = true_both _ _ (id_eq-itself id) (true_both _ _ (lterm_there id x.lterm) h)
 point_row-fits g id x (Point tac) h = true_both _ _ (id_eq-itself id) (true_both _ _ (lterm_there id x.lterm) h)
 point_row-fits g id x (Follow tac) h = true_both _ _ (id_eq-itself id) (true_both _ _ (lterm_there id x.lterm) refl)
-point_row-fits g id x Finish h = refl
-point_row-fits g id x (Hold tac) h = refl
-point_row-fits g id x (Stay tac) h = refl
-point_row-fits g id x (Queue tac) h = refl
-point_row-fits g id x Break h = refl
-point_row-fits g id x Back h = refl
+point_row-fits g id x _ h = refl
 
 -- with jobs in order
 with_jobs : (u : TableRows) (jobs : List Job) (next : ℕ) → IsSortedTables u → IsTrue (ascends job_key jobs) → IsSortedTables (record u { jobs = jobs; next_job = next })

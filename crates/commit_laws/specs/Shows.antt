@@ -188,11 +188,7 @@ no_change old new same (k ∷ ks) =
 same_rows : (g : Generated) (t : TableRows) (clock : ℕ) (k : Key) → row_at (durable g t) k ≡ row_at (durable g (record t { clock = clock })) k
 unfolding durable
 same_rows g t clock (key.Gssb name) = refl
-same_rows g t clock (key.Tls block l) = refl
-same_rows g t clock (key.Uls block user) = refl
-same_rows g t clock (key.Service id) = refl
-same_rows g t clock (key.Job number) = refl
-same_rows g t clock (key.Shown l) = refl
+same_rows g t clock _ = refl
 
 tick-difference : (g : Generated) (t : TableRows) (clock : ℕ) → durable_difference g t (record t { clock = clock }) ≡ tick_changes t clock
 unfolding durable

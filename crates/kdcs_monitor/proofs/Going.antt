@@ -8,7 +8,8 @@ use Rattle.monitor_semantics.specs.declared.command.Command.{Command}
 use Rattle.monitor_semantics.specs.Commands.{command_of, turned_step}
 use Rattle.monitor_semantics.specs.Turns.{Turned, turn_of}
 use Rattle.monitor_commands.specs.Commanding.{Comes}
-use Rattle.monitor_laws.specs.Applications.{IsApplication, IsCommandOf}
+use Rattle.monitor_laws.specs.Applications.{IsApplication}
+use Rattle.monitor_semantics.specs.CommandsOf.{IsCommandOf}
 use Rattle.monitor_laws.specs.Replay.{SettlesAs}
 use Rattle.monitor_queues.specs.QueueLaws.{KeepsQueues, TurnsKeepQueues, CommandsKeepQueues}
 use Rattle.monitor_serial.specs.Replays.{AllReplay}

@@ -1,6 +1,6 @@
 //! One command.
 ghost use Rattle.std.specs.Prelude.{◌≡◌, ◌+◌, ◌<◌, ◌^◌, IfOk, IsTrue, OnOk};
-ghost use Rattle.monitor_laws.specs.Applications.{is_pterm, IsCommandOf};
+ghost use Rattle.monitor_semantics.specs.CommandsOf.{is_pterm, IsCommandOf};
 ghost use Rattle.monitor_semantics.specs.Commands.{command_of};
 ghost use Rattle.monitor_state.specs.Whole.{app_of, IsWhole};
 ghost use Rattle.monitor_state.specs.Standing.{IsIndexed, SameApplication, state_of};

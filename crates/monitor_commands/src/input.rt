@@ -2,7 +2,7 @@
 ghost use Rattle.std.specs.Prelude.{◌≡◌, ◌<◌, ◌^◌, ◌++◌, [], IfOk, IsSome, IsTrue, OnOk, codes};
 ghost use Rattle.std.specs.FinMap.{find};
 ghost use Rattle.kdcdef_types.specs.Generation.{pterm_of};
-ghost use Rattle.monitor_laws.specs.Applications.{is_pterm};
+ghost use Rattle.monitor_semantics.specs.CommandsOf.{is_pterm};
 ghost use Rattle.monitor_semantics.specs.declared.command.Command.TheVariants.{Input};
 ghost use Rattle.monitor_semantics.specs.declared.input_use.ServiceState.TheVariants.{Awaits, NoService};
 ghost use Rattle.monitor_semantics.specs.Bytes.{bytes_cmp};

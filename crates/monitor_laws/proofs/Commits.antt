@@ -22,9 +22,9 @@ use Rattle.kdcs_types.specs.Limits.{last_clock}
 use Rattle.monitor_semantics.specs.declared.answer.Happened.{Happened}
 use Rattle.monitor_semantics.specs.declared.answer.Happened.TheVariants.{Went, Queued, Waited, Held, Settles, Breaks, Returns}
 use Rattle.monitor_semantics.specs.declared.input_use.Use.{Use}
-use Rattle.monitor_semantics.specs.declared.input_use.Use.TheVariants.{Sign, SignRefused, SignFirst, AlreadySigned, Off, Display, Output, Again, Busy, TooLong, Next, Start, TacRefused}
+use Rattle.monitor_semantics.specs.declared.input_use.Use.TheVariants.{Sign, Off, Display, Output, Again, Next, Start}
 use Rattle.monitor_semantics.specs.declared.outcome.Outcome.{Outcome}
-use Rattle.monitor_semantics.specs.declared.outcome.Outcome.TheVariants.{Hold, Stay, Queue, Wait, Point, Follow, Finish, Break, Back}
+use Rattle.monitor_semantics.specs.declared.outcome.Outcome.TheVariants.{Wait, Point, Follow, Finish}
 use Rattle.monitor_semantics.specs.declared.work.Work.{Work}
 use Rattle.monitor_semantics.specs.declared.work.Work.TheVariants as work
 use Rattle.monitor_semantics.specs.Bytes.{Bytes, bytes_cmp}
@@ -33,10 +33,11 @@ use Rattle.monitor_semantics.specs.Endings.{durable, synchronised, refusal, row_
 use Rattle.monitor_semantics.specs.Statements.{area_of, kept_record}
 use Rattle.monitor_semantics.specs.Lines.{sys_line}
 use Rattle.monitor_semantics.specs.Picks.{pick}
-use Rattle.monitor_semantics.specs.Turns.{Turned, commit_of, committed, without_work, with_task, without_wait, waiting_for, pterm_of_user, out_acts, ended_at, ended_acts, dump_acts, noted_last, last_told, message_sent, message_acts, goes_on, after_point, settled_by, settled, abnormal, last_again, back_by, back, happens, worked, took_job_for, took_job, took, turn_by, turn_of}
+use Rattle.monitor_semantics.specs.Turns.{Turned, commit_of, committed, without_work, with_task, without_wait, waiting_for, pterm_of_user, out_acts, ended_at, ended_acts, dump_acts, message_sent, message_acts, goes_on, after_point, settled_by, settled, abnormal, last_again, back_by, back, happens, worked, took_job_for, took_job, took, turn_by, turn_of}
 use Rattle.monitor_semantics.specs.declared.command.Command.TheVariants.{Input, Tick, Run, Turn, Drop, Print, PrintLast, Restart}
 use Rattle.monitor_semantics.specs.Commands.{Maker, ByTransaction, started, signed_on_by, resumed_by, with_session, signed_off, rolled_tables, show_next, show_by, show_again_by, due_for, display, last_by, next_by, used, use_now, tick_by, drop_by, command_of, turned_step, lterm_at, uncommitted, says, committing, maker_of, out_again, restarted}
 use Rattle.monitor_semantics.specs.Trace.{tables_after}
+use Rattle.monitor_laws.specs.TablesStay.{last-tables, sent-tables, goes-tables}
 use Rattle.monitor_laws.specs.DurableLaws.{durable_sorted, durable_again, durable_without}
 use Rattle.monitor_laws.specs.Steps.{AreLines, CommitsOnce, TurnsCommitOnce, CommandsCommitOnce, StepsMakeTheirTables}
 
@@ -62,24 +63,6 @@ dump-lines s id x BrokenFr = ends-lines s id
 message-lines : (s : State) (id : ServiceId) (x : OpenTransaction) → AreLines (message_acts s id x)
 message-lines s (Dialogue user) x = out-lines (pterm_of_user s.signed user) _
 message-lines s (Asynchronous number) x = tt
-
--- ---- states whose tables stay
-
-noted-tables : (s : State) (pterm message : Bytes) (v : Option Session) → (noted_last s pterm message v).tables ≡ s.tables
-noted-tables s pterm message None = refl
-noted-tables s pterm message (Some v) = refl
-
-last-tables : (s : State) (pterm : Option Bytes) (message : Bytes) → (last_told s pterm message).tables ≡ s.tables
-last-tables s None message = refl
-last-tables s (Some pterm) message = noted-tables s pterm message (find bytes_cmp pterm s.signed)
-
-sent-tables : (s : State) (id : ServiceId) (x : OpenTransaction) → (message_sent s id x).tables ≡ s.tables
-sent-tables s (Dialogue user) x = last-tables s (pterm_of_user s.signed user) _
-sent-tables s (Asynchronous number) x = refl
-
-goes-tables : (app : Application) (s : State) (id : ServiceId) (x : OpenTransaction) (row : Option Service) → (goes_on app s id x row).tables ≡ s.tables
-goes-tables app s id x None = refl
-goes-tables app s id x (Some row) = refl
 
 -- ---- a turn
 
@@ -112,11 +95,7 @@ module _ (app : Application) (s : State) (task : ℕ) (id : ServiceId) (x : Open
   point-fine u new e Finish row kept = commits (message_sent u id x) new kept _ (sent-tables u id x ∙ e) (message-lines u id x)
   point-fine u new e (Point tac) row kept = commits (goes_on app u id x row) new kept [] (goes-tables app u id x row ∙ e) tt
   point-fine u new e (Follow tac) row kept = commits (goes_on app u id x row) new kept [] (goes-tables app u id x row ∙ e) tt
-  point-fine u new e (Hold tac) row kept = commits u new kept [] e tt
-  point-fine u new e (Stay tac) row kept = commits u new kept [] e tt
-  point-fine u new e (Queue tac) row kept = commits u new kept [] e tt
-  point-fine u new e Break row kept = commits u new kept [] e tt
-  point-fine u new e Back row kept = commits u new kept [] e tt
+  point-fine u new e _ row kept = commits u new kept [] e tt
 
   settled-fine : (o : Outcome) → Fine app s (settled app s task id x o)
   unfolding settled
@@ -240,18 +219,13 @@ module _ (app : Application) (s : State) where
   used-once : (pterm lterm user : Bytes) (u : Use) → CommitsOnce app s (used app s pterm lterm user u)
   unfolding used show_next
   used-once pterm lterm user (Sign name) = signed-once pterm name (lterm_at app pterm) (service_of s.tables (Dialogue name))
-  used-once pterm lterm user (SignRefused fault) = says_line s _ refl
-  used-once pterm lterm user SignFirst = says_line s _ refl
-  used-once pterm lterm user AlreadySigned = says_line s _ refl
   used-once pterm lterm user Off = off_line pterm user _
   used-once pterm lterm user Display = display-once pterm (last_by (find bytes_cmp pterm s.signed))
   used-once pterm lterm user Output = show-once lterm _ _ (due_for s lterm)
   used-once pterm lterm user Again = again-once _ _ (shown_of s.tables lterm)
-  used-once pterm lterm user Busy = says_line s _ refl
-  used-once pterm lterm user TooLong = says_line s _ refl
   used-once pterm lterm user (Next text) = says_only _ [] (next-tables user lterm text _ _) tt
   used-once pterm lterm user (Start tac text) = says_only _ [] refl tt
-  used-once pterm lterm user (TacRefused fault) = says_line s _ refl
+  used-once pterm lterm user _ = says_line s _ refl
 
   tick-once : (ticks clock : ℕ) (b : Bool) → CommitsOnce app s (tick_by app s ticks clock b)
   tick-once ticks clock true = commits_line _ _ _

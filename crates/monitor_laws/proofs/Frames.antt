@@ -27,9 +27,9 @@ use Rattle.kdcs_types.specs.Tables.{TableRows, service_key, service_of, job_of, 
 use Rattle.monitor_semantics.specs.declared.answer.Happened.{Happened}
 use Rattle.monitor_semantics.specs.declared.answer.Happened.TheVariants.{Went, Queued, Waited, Held, Settles, Breaks, Returns}
 use Rattle.monitor_semantics.specs.declared.input_use.Use.{Use}
-use Rattle.monitor_semantics.specs.declared.input_use.Use.TheVariants.{Sign, SignRefused, SignFirst, AlreadySigned, Off, Display, Output, Again, Busy, TooLong, Next, Start, TacRefused}
+use Rattle.monitor_semantics.specs.declared.input_use.Use.TheVariants.{Sign, Off, Display, Output, Again, Next, Start}
 use Rattle.monitor_semantics.specs.declared.outcome.Outcome.{Outcome}
-use Rattle.monitor_semantics.specs.declared.outcome.Outcome.TheVariants.{Hold, Stay, Queue, Wait, Point, Follow, Finish, Break, Back}
+use Rattle.monitor_semantics.specs.declared.outcome.Outcome.TheVariants.{Wait, Point, Follow, Finish}
 use Rattle.monitor_semantics.specs.declared.work.Work.{Work}
 use Rattle.monitor_semantics.specs.declared.work.Work.TheVariants as work
 use Rattle.monitor_semantics.specs.Bytes.{Bytes, bytes_cmp}
@@ -111,11 +111,7 @@ module _ (app : Application) (s : State) (task : ℕ) (id : ServiceId) (x : Open
   point-fine u h Finish row commit kept = both_leave id s u _ h (sent id u id x)
   point-fine u h (Point tac) row commit kept = both_leave id s u _ h (goes id app u x row)
   point-fine u h (Follow tac) row commit kept = both_leave id s u _ h (goes id app u x row)
-  point-fine u h (Hold tac) row commit kept = h
-  point-fine u h (Stay tac) row commit kept = h
-  point-fine u h (Queue tac) row commit kept = h
-  point-fine u h Break row commit kept = h
-  point-fine u h Back row commit kept = h
+  point-fine u h _ row commit kept = h
 
   settled-fine : (o : Outcome) → LeavesOthers id s (settled app s task id x o).after
   unfolding settled
@@ -257,18 +253,13 @@ module _ (app : Application) (s : State) where
   uses : (pterm lterm user : Bytes) (u : Use) → TouchesOne s (used app s pterm lterm user u).after
   unfolding used show_next
   uses pterm lterm user (Sign name) = signed pterm name (lterm_at app pterm) (service_of s.tables (Dialogue name))
-  uses pterm lterm user (SignRefused fault) = same
-  uses pterm lterm user SignFirst = same
-  uses pterm lterm user AlreadySigned = same
   uses pterm lterm user Off = off pterm user
   uses pterm lterm user Display = displays pterm (last_by (find bytes_cmp pterm s.signed))
   uses pterm lterm user Output = shows lterm _ _ (due_for s lterm)
   uses pterm lterm user Again = shows_again _ _ (shown_of s.tables lterm)
-  uses pterm lterm user Busy = same
-  uses pterm lterm user TooLong = same
   uses pterm lterm user (Next text) = next user lterm text _ _
   uses pterm lterm user (Start tac text) = queues user _
-  uses pterm lterm user (TacRefused fault) = same
+  uses pterm lterm user _ = same
 
   ticks_by : (ticks clock : ℕ) (b : Bool) → TouchesOne s (tick_by app s ticks clock b).after
   ticks_by ticks clock true = untouched s _ refl refl refl

@@ -10,7 +10,7 @@ use Rattle.kdcs_types.specs.declared.service.Settled.{Settled}
 use Rattle.kdcs_types.specs.Limits.{last_clock}
 use Rattle.kdcs_types.specs.Tables.{service_of, shown_of}
 use Rattle.monitor_semantics.specs.declared.input_use.Use.{Use}
-use Rattle.monitor_semantics.specs.declared.input_use.Use.TheVariants.{Sign, SignRefused, SignFirst, AlreadySigned, Off, Display, Output, Again, Busy, TooLong, Next, Start, TacRefused}
+use Rattle.monitor_semantics.specs.declared.input_use.Use.TheVariants.{Sign, Display, Output, Again}
 use Rattle.monitor_semantics.specs.Bytes.{Bytes, bytes_cmp}
 use Rattle.monitor_semantics.specs.Lines.{asy_line, prt_line, no_message_line}
 use Rattle.monitor_semantics.specs.State.{Application, Session, State}
@@ -66,18 +66,10 @@ display-none app s pterm (Some message) l h = none_shown l h
 use-shows : (app : Application) (s : State) (pterm user : Bytes) (u : Use) (l : Bytes) → (used app s pterm (lterm_at app pterm) user u).by ≡ Some (ByShow l) → Shows app s l (used app s pterm (lterm_at app pterm) user u)
 unfolding used show_next
 use-shows app s pterm user (Sign name) l h = signed-none app s pterm name (lterm_at app pterm) (service_of s.tables (Dialogue name)) l h
-use-shows app s pterm user (SignRefused fault) l h = none_shown l h
-use-shows app s pterm user SignFirst l h = none_shown l h
-use-shows app s pterm user AlreadySigned l h = none_shown l h
-use-shows app s pterm user Off l h = none_shown l h
 use-shows app s pterm user Display l h = display-none app s pterm (last_by (find bytes_cmp pterm s.signed)) l h
 use-shows app s pterm user Output l h = shown app s pterm (asy_line pterm) (λ m. inl refl) (no_message_line pterm) (due_for s (lterm_at app pterm)) refl l h
 use-shows app s pterm user Again l h = again-none app s (no_message_line pterm) (asy_line pterm) (shown_of s.tables (lterm_at app pterm)) l h
-use-shows app s pterm user Busy l h = none_shown l h
-use-shows app s pterm user TooLong l h = none_shown l h
-use-shows app s pterm user (Next text) l h = none_shown l h
-use-shows app s pterm user (Start tac text) l h = none_shown l h
-use-shows app s pterm user (TacRefused fault) l h = none_shown l h
+use-shows app s pterm user _ l h = none_shown l h
 
 tick-none : (app : Application) (s : State) (ticks clock : ℕ) (b : Bool) (l : Bytes) → (tick_by app s ticks clock b).by ≡ Some (ByShow l) → Shows app s l (tick_by app s ticks clock b)
 tick-none app s ticks clock true l h = absurd cc

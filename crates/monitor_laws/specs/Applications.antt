@@ -1,18 +1,15 @@
--- What a monitor may take of its application: what checked generations and fitted units give; and which commands are its.
-use Rattle.std.specs.Prelude.{◌≡◌, ◌≤◌, ◌+◌, Bool, cond, length, Some, IsTrue, IfSome, All, is_some}
+-- What a monitor may take of its application: what checked generations and fitted units give.
+use Rattle.std.specs.Prelude.{◌≡◌, ◌≤◌, ◌+◌, cond, length, Some, IsTrue, IfSome, All}
 use Rattle.kdcdef_types.specs.declared.entry.LtermEntry.{LtermEntry}
 use Rattle.kdcdef_types.specs.declared.entry.PtermEntry.{PtermEntry}
 use Rattle.kdcdef_types.specs.declared.entry.TacEntry.{TacEntry}
 use Rattle.kdcdef_types.specs.declared.entry.UserEntry.{UserEntry}
 use Rattle.kdcdef_types.specs.declared.limits.Limits.{Limits}
 use Rattle.kdcdef_types.specs.Generation.{Generated, tac_of, user_of, lterm_of, pterm_of}
-use Rattle.kdcdef_types.specs.Statements.{IsWithin}
 use Rattle.unit_types.specs.declared.unit.Field.{Field}
 use Rattle.unit_types.specs.UnitText.{UnitText, KnowsItsLabels, LabelsFromOne, HasShortOperands}
 use Rattle.monitor_semantics.specs.Bytes.{Bytes}
 use Rattle.monitor_semantics.specs.State.{Application, unit_of}
-use Rattle.monitor_semantics.specs.declared.command.Command.{Command}
-use Rattle.monitor_semantics.specs.declared.command.Command.TheVariants.{Input, Tick, Run, Turn, Drop, Print, PrintLast, Restart}
 use Rattle.monitor_laws.specs.Suits.{is_lterm}
 
 -- a field lies inside KB or SPAB of these lengths
@@ -46,18 +43,3 @@ pub record IsApplication (app : Application) : Type 0 where
   -- each PTERM has an LTERM of the generation
   pub terminals : (pterm : Bytes) → IfSome (pterm_of app.generation pterm) (λ (p : PtermEntry). IsTrue (is_lterm app.generation p.lterm))
   pub units : (tac : Bytes) → IfSome (tac_of app.generation tac) (λ (t : TacEntry). HasUnit app tac)
-
--- the PTERM is one of the generation
-abbrev pub is_pterm : Generated → Bytes → Bool
-is_pterm g pterm = is_some (pterm_of g pterm)
-
--- the names and tasks of a command are those of the generation
-abbrev pub IsCommandOf : Generated → Command → Type 0
-IsCommandOf g (Input pterm text) = IsTrue (is_pterm g pterm)
-IsCommandOf g (Tick ticks) = Unit {0}
-IsCommandOf g (Run turns) = Unit {0}
-IsCommandOf g (Turn task) = IsWithin 1 g.limits.tasks task
-IsCommandOf g (Drop pterm) = IsTrue (is_pterm g pterm)
-IsCommandOf g (Print pterm) = IsTrue (is_pterm g pterm)
-IsCommandOf g (PrintLast pterm) = IsTrue (is_pterm g pterm)
-IsCommandOf g Restart = Unit {0}

@@ -109,11 +109,7 @@ ending_by (Some cause) = Broken cause
 abbrev pub EndsSo : Application → TableRows → ServiceId → OpenTransaction → Happened → Ending → Type 0
 EndsSo app t id x (Settles o) ending = ending ≡ ending_by (refusal app.generation (durable app.generation (synchronised app.generation t id x o)))
 EndsSo app t id x (Breaks by) ending = ending ≡ by
-EndsSo app t id x Went ending = ⊥
-EndsSo app t id x Queued ending = ⊥
-EndsSo app t id x (Held tac) ending = ⊥
-EndsSo app t id x Waited ending = ⊥
-EndsSo app t id x Returns ending = ⊥
+EndsSo app t id x _ ending = ⊥
 
 -- the next statement of the service's own open transaction, of which this is the record, ended it, and the row is what its end gives
 pub record IsOwnRow (app : Application) (before : State) (kept : Settled) (row : Option Service) : Type 0 where

@@ -1,6 +1,6 @@
 -- What outlives a stop: the rows of durable tables, and what a change makes of them.
-use Rattle.std.specs.Prelude.{◌≡◌, refl, Bool, true, false, cond, T, IsTrue, List, [], ◌∷◌, filter, not, Option, Some, None}
-use Rattle.std.proofs.Common.{sym, ap, ◌∙◌, true≢false}
+use Rattle.std.specs.Prelude.{◌≡◌, refl, Bool, true, false, cond, IsTrue, List, [], ◌∷◌, filter, not, Option, Some, None}
+use Rattle.std.proofs.Common.{sym, ap, ◌∙◌}
 use Rattle.std.specs.FinMap.{find, is_sorted}
 use Rattle.std.specs.List.{list_all}
 use Rattle.std.specs.Option.{option_map}
@@ -15,6 +15,7 @@ use Rattle.kdcs_types.specs.declared.act.Change.TheVariants.{Set, Remove}
 use Rattle.kdcs_types.specs.declared.act.Row.TheVariants as row
 use Rattle.kdcs_types.specs.Keys.{key_cmp, key_eq}
 use Rattle.kdcs_types.specs.Keyed.{keyed, item_at, without_item}
+use Rattle.kdcs_types.specs.KeyedLaws.{holds, is_true}
 use Rattle.kdcs_types.specs.KeyLaws.{same_key, key_eq-same}
 use Rattle.kdcs_types.specs.Tables.{TableRows, service_key, service_row, service_fits, row_at, with_change, change_fits, change_key, IsSortedTables}
 use Rattle.kdcs_types.specs.TableLaws.{row_after}
@@ -22,22 +23,10 @@ use Rattle.kdcs_types.specs.RowLaws.{row_at-with_change, sorted_with_change, sam
 use Rattle.kdcdef_types.specs.Generation.{Generated}
 use Rattle.monitor_semantics.specs.Endings.{is_durable, durable, with_service}
 
-holds : (b : Bool) → b ≡ true → T b
-holds true e = tt
-holds false e = absurd (true≢false (sym e))
-
-is_true : (b : Bool) → T b → b ≡ true
-is_true true h = refl
-is_true false h = absurd h
-
 -- the row of the key outlives a stop
 abbrev pub key_is_durable : Generated → Key → Bool
-key_is_durable g (key.Gssb name) = true
-key_is_durable g (key.Tls block lterm) = true
-key_is_durable g (key.Uls block user) = true
 key_is_durable g (key.Service id) = is_durable g id
-key_is_durable g (key.Job number) = true
-key_is_durable g (key.Shown lterm) = true
+key_is_durable g _ = true
 
 -- a change is one of the durable part, or of no part of it
 abbrev pub DurableFollows : Type 0

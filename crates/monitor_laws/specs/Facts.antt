@@ -16,7 +16,7 @@ use Rattle.monitor_semantics.specs.Sessions.{in_place, is_running}
 use Rattle.monitor_semantics.specs.State.{Application, OpenTransaction, Session, State}
 use Rattle.monitor_semantics.specs.Statements.{statement}
 use Rattle.monitor_semantics.specs.Turns.{pterm_of_user}
-use Rattle.monitor_laws.specs.Applications.{is_pterm}
+use Rattle.monitor_semantics.specs.CommandsOf.{is_pterm}
 use Rattle.monitor_laws.specs.Suits.{Suits, is_user, service_suits}
 use Rattle.monitor_laws.specs.Transactions.{IsRooted, CanGoOn}
 

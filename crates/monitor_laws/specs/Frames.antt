@@ -9,7 +9,7 @@ use Rattle.monitor_semantics.specs.Bytes.{Bytes}
 use Rattle.monitor_semantics.specs.State.{Application, State}
 use Rattle.monitor_semantics.specs.Turns.{turn_of}
 use Rattle.monitor_semantics.specs.declared.command.Command.{Command}
-use Rattle.monitor_semantics.specs.declared.command.Command.TheVariants.{Input, Tick, Run, Turn, Drop, Print, PrintLast, Restart}
+use Rattle.monitor_semantics.specs.declared.command.Command.TheVariants.{Restart}
 use Rattle.monitor_semantics.specs.Commands.{ByShow, command_of, due_for}
 use Rattle.monitor_laws.specs.Commits.{SendsNext}
 
@@ -30,14 +30,8 @@ TouchesOne before after = (id : ServiceId) × LeavesOthers id before after
 
 -- a command but RESTART touches one service at most
 abbrev pub TouchesOneBy : Command → State → State → Type 0
-TouchesOneBy (Input pterm text) before after = TouchesOne before after
-TouchesOneBy (Tick ticks) before after = TouchesOne before after
-TouchesOneBy (Run turns) before after = TouchesOne before after
-TouchesOneBy (Turn task) before after = TouchesOne before after
-TouchesOneBy (Drop pterm) before after = TouchesOne before after
-TouchesOneBy (Print pterm) before after = TouchesOne before after
-TouchesOneBy (PrintLast pterm) before after = TouchesOne before after
 TouchesOneBy Restart before after = Unit {0}
+TouchesOneBy _ before after = TouchesOne before after
 
 abbrev pub CommandsTouchOne : Type 0
 CommandsTouchOne = (app : Application) (s : State) (c : Command) → TouchesOneBy c s (command_of app s c).after

@@ -7,7 +7,8 @@ use Rattle.monitor_semantics.specs.Turns.{turn_of}
 use Rattle.monitor_semantics.specs.declared.command.Command.{Command}
 use Rattle.monitor_semantics.specs.Commands.{ScriptStep, started, command_of}
 use Rattle.monitor_semantics.specs.Trace.{history}
-use Rattle.monitor_laws.specs.Applications.{IsApplication, IsCommandOf}
+use Rattle.monitor_laws.specs.Applications.{IsApplication}
+use Rattle.monitor_semantics.specs.CommandsOf.{IsCommandOf}
 use Rattle.monitor_laws.specs.Facts.{IsConsistent, IsSoundState}
 use Rattle.monitor_laws.specs.Suits.{Suits}
 

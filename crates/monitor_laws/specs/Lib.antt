@@ -8,6 +8,8 @@ pub mod Replay
 pub mod Commits
 pub mod DurableLaws
 pub mod Steps
+pub mod EachStep
+pub mod TablesStay
 pub mod Frames
 pub mod Cut
 pub mod DeadlockLaw

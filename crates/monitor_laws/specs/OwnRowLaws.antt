@@ -13,7 +13,7 @@ use Rattle.kdcs_types.specs.KeyedLaws.{item_at-with, item_at-without}
 use Rattle.kdcs_types.specs.Tables.{TableRows, service_key, service_of, with_change}
 use Rattle.kdcdef_types.specs.Generation.{Generated}
 use Rattle.monitor_semantics.specs.declared.outcome.Outcome.{Outcome}
-use Rattle.monitor_semantics.specs.declared.outcome.Outcome.TheVariants.{Stay, Queue, Hold, Wait, Point, Finish, Follow, Break, Back}
+use Rattle.monitor_semantics.specs.declared.outcome.Outcome.TheVariants.{Wait, Point, Follow}
 use Rattle.monitor_semantics.specs.Bytes.{Bytes}
 use Rattle.monitor_semantics.specs.State.{OpenTransaction}
 use Rattle.monitor_semantics.specs.Endings.{area_change, with_areas, with_service, without_own_job, with_drafts, row_after, synchronised, broken}
@@ -50,12 +50,7 @@ unfolding row_after
 row-own g id x (Wait tac) = refl
 row-own g id x (Point tac) = refl
 row-own g id x (Follow tac) = refl
-row-own g id x Finish = tt
-row-own g id x (Hold tac) = tt
-row-own g id x (Stay tac) = tt
-row-own g id x (Queue tac) = tt
-row-own g id x Break = tt
-row-own g id x Back = tt
+row-own g id x _ = tt
 
 abbrev row_in : ServiceId → List Service → Option Service
 row_in id rows = item_at service_key (ServiceKey id) rows

@@ -4,7 +4,7 @@ use Rattle.std.specs.List.{list_all}
 use Rattle.std.specs.FinMap.{find}
 use Rattle.kdcs_types.specs.declared.call.Cause.{Cause}
 use Rattle.kdcs_types.specs.declared.call.Code.{Code}
-use Rattle.kdcs_types.specs.declared.call.Code.TheVariants.{Done, K01, K02, K03, K04, K05, K06, K07, K08, K09, K10, K11}
+use Rattle.kdcs_types.specs.declared.call.Code.TheVariants.{K04, K05}
 use Rattle.kdcs_types.specs.declared.key.Area.{Area}
 use Rattle.kdcs_types.specs.declared.key.ServiceId.{ServiceId}
 use Rattle.kdcs_types.specs.declared.key.ServiceId.TheVariants.{Dialogue, Asynchronous}
@@ -22,7 +22,7 @@ use Rattle.monitor_semantics.specs.State.{Application, OpenTransaction, State}
 use Rattle.monitor_semantics.specs.declared.answer.LockAnswer.{LockAnswer}
 use Rattle.monitor_semantics.specs.declared.answer.LockAnswer.TheVariants.{Granted, Busy, Deadlock}
 use Rattle.monitor_semantics.specs.declared.answer.Happened.{Happened}
-use Rattle.monitor_semantics.specs.declared.answer.Happened.TheVariants.{Went, Queued, Waited, Held, Settles, Breaks, Returns}
+use Rattle.monitor_semantics.specs.declared.answer.Happened.TheVariants.{Went, Queued, Held, Settles, Breaks}
 use Rattle.monitor_semantics.specs.Calls.{Told, nothing_told, or_empty}
 use Rattle.monitor_semantics.specs.Endings.{is_asynchronous, opened, header_of, opened_by_start, opened_by_input, opened_by_row, opened_by_job, lterm_of_row, followed_by_input, with_service, synchronised, broken, durable, refusal}
 use Rattle.monitor_semantics.specs.Statements.{Stated, statement, area_of, Kept, kept_so_far, kept_of}
@@ -50,16 +50,7 @@ first_unused r x area = slice_get (unused r x area) 0
 abbrev pub answer_of_code : Code → LockAnswer
 answer_of_code K04 = Busy
 answer_of_code K05 = Deadlock
-answer_of_code Done = Granted
-answer_of_code K01 = Granted
-answer_of_code K02 = Granted
-answer_of_code K03 = Granted
-answer_of_code K06 = Granted
-answer_of_code K07 = Granted
-answer_of_code K08 = Granted
-answer_of_code K09 = Granted
-answer_of_code K10 = Granted
-answer_of_code K11 = Granted
+answer_of_code _ = Granted
 
 -- K04 or K05 where the note says so; else the request is granted
 abbrev pub answer_by_note : Option Note → LockAnswer
@@ -123,10 +114,7 @@ abbrev pub went_on : Application → Kept → (x y : OpenTransaction) → Happen
 went_on app r x y Went = y
 went_on app r x y Queued = y
 went_on app r x y (Held tac) = followed_by_input app.generation x tac (input_at r (length x.inputs))
-went_on app r x y Waited = x
-went_on app r x y (Settles o) = x
-went_on app r x y (Breaks ending) = x
-went_on app r x y Returns = x
+went_on app r x y _ = x
 
 -- what the next statement of a replay does
 abbrev pub replay_statement : Application → TableRows → Kept → OpenTransaction → Stated
@@ -157,11 +145,7 @@ settled_as app t id x new (Some cause) = record { tables = broken t id x; ending
 abbrev pub ended_by : Application → TableRows → ServiceId → OpenTransaction → Happened → Option Ended
 ended_by app t id x (Settles o) = let new = synchronised app.generation t id x o in Some (settled_as app t id x new (refusal app.generation (durable app.generation new)))
 ended_by app t id x (Breaks ending) = Some (record { tables = broken t id x; ending = ending })
-ended_by app t id x Went = None
-ended_by app t id x Queued = None
-ended_by app t id x (Held tac) = None
-ended_by app t id x Waited = None
-ended_by app t id x Returns = None
+ended_by app t id x _ = None
 
 -- the result of the statement behind those of the record
 unfoldable pub atomic : Application → TableRows → Kept → Option Ended
@@ -174,10 +158,7 @@ abbrev pub GoesOn : Happened → Type 0
 GoesOn Went = Unit {0}
 GoesOn Queued = Unit {0}
 GoesOn (Held tac) = Unit {0}
-GoesOn Waited = ⊥
-GoesOn (Settles o) = ⊥
-GoesOn (Breaks ending) = ⊥
-GoesOn Returns = ⊥
+GoesOn _ = ⊥
 
 -- the replay used as many notes on each area as the record has, or fewer
 abbrev pub notes_suffice : Kept → OpenTransaction → Bool

@@ -24,6 +24,7 @@ use Rattle.monitor_semantics.specs.Locks.{Waiting}
 use Rattle.monitor_semantics.specs.Sessions.{has_user, awaits_by, is_awaiting}
 use Rattle.monitor_semantics.specs.State.{Application, OpenTransaction, Session, State}
 use Rattle.monitor_semantics.specs.Turns.{pterm_of_user, queued}
+use Rattle.monitor_semantics.specs.UseLaws.{IsAtRest, IsFor, use_fits}
 use Rattle.monitor_laws.specs.Facts.{IsOpen, IsConsistent}
 use Rattle.monitor_laws.specs.Keeping.{HasFacts}
 use Rattle.monitor_laws.specs.Transactions.{HasOwnJob, IsRooted}
@@ -38,7 +39,6 @@ use Rattle.monitor_places.specs.After.{consistent_after, consistent_left, sessio
 use Rattle.monitor_places.proofs.Turns.{times_queued}
 use Rattle.monitor_places.proofs.Taking.{IsFreeJob, due_free, turns_consistent}
 use Rattle.monitor_places.proofs.Starts.{started_consistent}
-use Rattle.monitor_places.proofs.Uses.{IsAtRest, IsFor, use_fits}
 
 none_of : {A : Type 0} (o : Option A) → (is_some o ≡ true → ⊥) → o ≡ None
 none_of None h = refl

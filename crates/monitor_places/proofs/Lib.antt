@@ -1,6 +1,5 @@
 pub mod Turns
 pub mod Taking
 pub mod Starts
-pub mod Uses
 pub mod Commands
 pub mod Keeping

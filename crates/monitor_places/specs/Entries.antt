@@ -1,29 +1,17 @@
 -- What is found in entries in the order of their keys, after one was put in or taken out.
-use Rattle.std.specs.Prelude.{◌≡◌, refl, Bool, true, false, cond, not, T, IsTrue, List, [], ◌∷◌, Some, None}
-use Rattle.std.proofs.Common.{sym, ap, ◌∙◌, true≢false}
+use Rattle.std.specs.Prelude.{◌≡◌, refl, true, false, cond, not, IsTrue, List, [], ◌∷◌, Some, None}
+use Rattle.std.proofs.Common.{sym, ap, ◌∙◌}
 use Rattle.std.specs.Cmp.{IsTotalOrder, eq_by_cmp_equiv}
 use Rattle.std.specs.FinMap.{find, put, is_sorted}
 use Rattle.std.specs.FinMap.Entries.{below_all, where_key, find-put, find-where_key, is_sorted-put, is_sorted-where_key}
 use Rattle.std.specs.Ordering.{is_eq, is_lt}
 use Rattle.std.specs.declared.cmp.Ordering.{Ordering}
-use Rattle.std.specs.declared.cmp.Ordering.TheVariants.{Less, Equal, Greater}
+use Rattle.std.specs.declared.cmp.Ordering.TheVariants.{Less}
 use Rattle.kd_base.specs.Tools.{both_true}
 use Rattle.kdcs_types.specs.declared.key.ServiceId.{ServiceId}
 use Rattle.kdcs_types.specs.Keys.{id_cmp, id_eq}
+use Rattle.kdcs_types.specs.KeyedLaws.{holds, is_true, less}
 use Rattle.kdcs_types.specs.KeyLaws.{id_total, same_id, id_eq-itself}
-
-pub holds : (b : Bool) → b ≡ true → T b
-holds true e = tt
-holds false e = absurd (true≢false (sym e))
-
-pub is_true : (b : Bool) → T b → b ≡ true
-is_true true h = refl
-is_true false h = absurd h
-
-less : (r : Ordering) → is_lt r ≡ true → r ≡ Less
-less Less e = refl
-less Equal e = absurd (true≢false (sym e))
-less Greater e = absurd (true≢false (sym e))
 
 -- what is below all keys is not found
 pub none_below : {K X : Type 0} (R : K → K → Ordering) (k : K) (es : List (K × X)) → below_all R k es ≡ true → find R k es ≡ None

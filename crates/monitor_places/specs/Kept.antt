@@ -21,7 +21,7 @@ use Rattle.unit_semantics.specs.Statement.{Meaning, Plain, Asks, Ends, step}
 use Rattle.monitor_semantics.specs.declared.answer.LockAnswer.{LockAnswer}
 use Rattle.monitor_semantics.specs.declared.answer.LockAnswer.TheVariants.{Granted, Wait, Busy, Deadlock}
 use Rattle.monitor_semantics.specs.declared.answer.Called.{Called}
-use Rattle.monitor_semantics.specs.declared.answer.Called.TheVariants.{Replied, Waits, Abnormal, Pends}
+use Rattle.monitor_semantics.specs.declared.answer.Called.TheVariants.{Pends}
 use Rattle.monitor_semantics.specs.declared.answer.Happened.{Happened}
 use Rattle.monitor_semantics.specs.declared.answer.Happened.TheVariants.{Held, Settles, Breaks, Returns}
 use Rattle.monitor_semantics.specs.declared.draft.Due.{Due}
@@ -47,10 +47,8 @@ without_area area areas = filter (λ (held : Area). not (area_eq held area)) are
 
 -- the call is no PEND that goes through
 abbrev pub PendsNot : Called → Type 0
-PendsNot (Replied reply) = Unit {0}
-PendsNot Waits = Unit {0}
-PendsNot (Abnormal cause) = Unit {0}
 PendsNot (Pends variant o) = ⊥
+PendsNot _ = Unit {0}
 
 -- the areas stay as they are
 pub record IsQuiet (x : OpenTransaction) (p : Performed) : Type 0 where
@@ -266,13 +264,7 @@ outcome-keeps : (app : Application) (asy : Bool) (v : Told) (of : Option Area) (
 unfolding followed
 outcome-keeps app asy v of x variant (Stay tac) = record { touched = λ a t. inl t; began = refl }
 outcome-keeps app asy v of x variant (Queue tac) = record { touched = λ a t. inl t; began = refl }
-outcome-keeps app asy v of x variant (Hold tac) = unchanged v of x _
-outcome-keeps app asy v of x variant (WaitOutcome tac) = unchanged v of x _
-outcome-keeps app asy v of x variant (Point tac) = unchanged v of x _
-outcome-keeps app asy v of x variant (Follow tac) = unchanged v of x _
-outcome-keeps app asy v of x variant Finish = unchanged v of x _
-outcome-keeps app asy v of x variant Break = unchanged v of x _
-outcome-keeps app asy v of x variant Back = unchanged v of x _
+outcome-keeps app asy v of x variant _ = unchanged v of x _
 
 pended-keeps : (app : Application) (asy : Bool) (unit : UnitText) (v : Told) (of : Option Area) (x : OpenTransaction) (variant : Variant) (r : Result Outcome Cause)
     → StatementKeeps v of x (by_performed app asy unit (pended x variant r))
@@ -281,10 +273,8 @@ pended-keeps app asy unit v of x variant (Err cause) = unchanged v of x _
 
 -- where no PEND goes through
 performed-keeps : (app : Application) (asy : Bool) (unit : UnitText) (v : Told) (of : Option Area) (x y : OpenTransaction) (c : Called) → IsKept v of x (y, c) → StatementKeeps v of x (by_call app asy unit y c)
-performed-keeps app asy unit v of x y (Replied reply) k = record { touched = k.touched; began = k.began }
-performed-keeps app asy unit v of x y Waits k = record { touched = k.touched; began = k.began }
-performed-keeps app asy unit v of x y (Abnormal cause) k = record { touched = k.touched; began = k.began }
 performed-keeps app asy unit v of x y (Pends variant o) k = absurd k.pends_not
+performed-keeps app asy unit v of x y _ k = record { touched = k.touched; began = k.began }
 
 called-keeps : (app : Application) (v : Told) (asy : Bool) (x : OpenTransaction) (unit : UnitText) (call : Call) → StatementKeeps v (area_of_call x call) x (by_performed app asy unit (called app.generation v asy x call))
 unfolding called
@@ -343,10 +333,8 @@ pended-alike app asy unit tac x variant (Ok o) = outcome-alike app asy tac x var
 pended-alike app asy unit tac x variant (Err cause) = not_held tac x (x, Breaks (Broken cause)) (x, Breaks (Broken cause)) refl
 
 not_pended : (app : Application) (asy : Bool) (unit : UnitText) (y : OpenTransaction) (c : Called) → PendsNot c → is_held (by_call app asy unit y c).1 ≡ false
-not_pended app asy unit y (Replied reply) other = refl
-not_pended app asy unit y Waits other = refl
-not_pended app asy unit y (Abnormal cause) other = refl
 not_pended app asy unit y (Pends variant o) other = absurd other
+not_pended app asy unit y _ other = refl
 
 performed-alike : (app : Application) (asy : Bool) (unit : UnitText) (tac : Bytes) (x : OpenTransaction) (p q : Performed) → PendsNot p.1 → HeldAlike tac x (by_performed app asy unit p) (by_performed app asy unit q)
 performed-alike app asy unit tac x p q other = not_held tac x (by_performed app asy unit p) (by_performed app asy unit q) (not_pended app asy unit p.0 p.1 other)

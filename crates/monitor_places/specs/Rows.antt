@@ -6,13 +6,13 @@ use Rattle.std.specs.FinMap.Entries.{where_key, is_sorted-where_key}
 use Rattle.std.specs.List.{list_all}
 use Rattle.kd_base.specs.Tools.{some_is, both_true, true_both}
 use Rattle.kdcs_types.specs.declared.key.Key.{Key}
-use Rattle.kdcs_types.specs.declared.key.Key.TheVariants.{Gssb, Tls, Uls, Service as ServiceKey, Job as JobKey, Shown}
+use Rattle.kdcs_types.specs.declared.key.Key.TheVariants.{Service as ServiceKey, Job as JobKey}
 use Rattle.kdcs_types.specs.declared.key.ServiceId.{ServiceId}
 use Rattle.kdcs_types.specs.declared.key.ServiceId.TheVariants.{Dialogue, Asynchronous}
 use Rattle.kdcs_types.specs.declared.service.Job.{Job}
 use Rattle.kdcs_types.specs.declared.service.Service.{Service}
 use Rattle.kdcs_types.specs.Keyed.{keyed, ascends, item_at, without_item}
-use Rattle.kdcs_types.specs.KeyedLaws.{item_at-without}
+use Rattle.kdcs_types.specs.KeyedLaws.{holds, is_true, item_at-without}
 use Rattle.kdcs_types.specs.Keys.{id_eq, key_cmp, key_eq}
 use Rattle.kdcs_types.specs.KeyLaws.{id_eq-itself, id_eq-same, key_eq-same}
 use Rattle.kdcs_types.specs.Tables.{TableRows, job_key, service_key, job_of, service_of}
@@ -27,7 +27,6 @@ use Rattle.monitor_laws.specs.JobLaws.{points_number, ends_draw_none}
 use Rattle.monitor_laws.specs.OwnRowLaws.{points_set, ends_remove}
 use Rattle.monitor_laws.specs.JobLaw.{jobs_left, new_jobs}
 use Rattle.monitor_laws.specs.Transactions.{HasOwnJob}
-use Rattle.monitor_places.specs.Entries.{holds, is_true}
 
 -- ---- jobs
 
@@ -56,11 +55,7 @@ other_number n m apart = by (key_eq (JobKey n) (JobKey m)) refl
   where
     number : Key → ℕ
     number (JobKey k) = k
-    number (Gssb name) = n
-    number (Tls block lterm) = n
-    number (Uls block user) = n
-    number (ServiceKey id) = n
-    number (Shown lterm) = n
+    number _ = n
 
     by : (b : Bool) → key_eq (JobKey n) (JobKey m) ≡ b → key_eq (JobKey n) (JobKey m) ≡ false
     by false e = e
@@ -155,11 +150,7 @@ kept_ascends p rows h = ap (is_sorted key_cmp) (kept_keys rows) ∙ is_true _ (i
   where
     passes : Key → Bool
     passes (ServiceKey id) = p id
-    passes (JobKey number) = true
-    passes (Gssb name) = true
-    passes (Tls block lterm) = true
-    passes (Uls block user) = true
-    passes (Shown lterm) = true
+    passes _ = true
 
     kept_keys : (rs : List Service) → keyed service_key (filter (λ (s : Service). p s.id) rs) ≡ where_key key_cmp passes (keyed service_key rs)
     kept_keys [] = refl

@@ -21,11 +21,11 @@ use Rattle.unit_semantics.specs.Statement.{Meaning, Plain, Asks, Ends, step}
 use Rattle.monitor_semantics.specs.declared.answer.Called.{Called}
 use Rattle.monitor_semantics.specs.declared.answer.Called.TheVariants.{Replied, Waits, Abnormal, Pends}
 use Rattle.monitor_semantics.specs.declared.answer.Happened.{Happened}
-use Rattle.monitor_semantics.specs.declared.answer.Happened.TheVariants.{Went, Queued, Waited, Held, Settles, Breaks, Returns}
+use Rattle.monitor_semantics.specs.declared.answer.Happened.TheVariants.{Went, Queued, Waited}
 use Rattle.monitor_semantics.specs.declared.draft.Due.{Due}
 use Rattle.monitor_semantics.specs.declared.draft.Draft.{Draft}
 use Rattle.monitor_semantics.specs.declared.outcome.Outcome.{Outcome}
-use Rattle.monitor_semantics.specs.declared.outcome.Outcome.TheVariants.{Stay, Queue, Hold, Wait as WaitOutcome, Point, Finish, Follow, Break, Back}
+use Rattle.monitor_semantics.specs.declared.outcome.Outcome.TheVariants.{Stay, Queue}
 use Rattle.monitor_semantics.specs.Bytes.{Bytes, bytes_cmp}
 use Rattle.monitor_semantics.specs.Calls.{Told, Performed, touches, locked, for_kind, within_length, with_name, declared, name_in_operand, read_or, or_empty, read_answer, replied, got_by, drafted, put_job, job_target, deleted, wrote, shown_by, unlocked_by, unlocked, read_away_by, delete_local_by, pended, called, first_call, called_by, call_outcome}
 use Rattle.monitor_semantics.specs.Endings.{followed}
@@ -62,9 +62,7 @@ CallLeaves x y (Pends variant o) = y ≡ x
 -- the call is answered, and changes no areas and notes
 abbrev pub AnsweredBy : OpenTransaction → OpenTransaction → Called → Type 0
 AnsweredBy x y (Replied reply) = IsQuietly x y
-AnsweredBy x y Waits = ⊥
-AnsweredBy x y (Abnormal cause) = ⊥
-AnsweredBy x y (Pends variant o) = ⊥
+AnsweredBy x y _ = ⊥
 
 abbrev pub IsAnswered : OpenTransaction → Performed → Type 0
 IsAnswered x p = AnsweredBy x p.0 p.1
@@ -74,10 +72,7 @@ abbrev pub StatementLeaves : OpenTransaction → OpenTransaction → Happened �
 StatementLeaves x y Went = IsCounted x y
 StatementLeaves x y Queued = IsCounted x y
 StatementLeaves x y Waited = ⊥
-StatementLeaves x y (Held tac) = y ≡ x
-StatementLeaves x y (Settles o) = y ≡ x
-StatementLeaves x y (Breaks ending) = y ≡ x
-StatementLeaves x y Returns = y ≡ x
+StatementLeaves x y _ = y ≡ x
 
 -- ---- what is looked at
 
@@ -268,13 +263,7 @@ module _ (app : Application) (asy : Bool) (x : OpenTransaction) where
   unfolding followed
   outcome-leaves variant (Stay tac) = record { began = refl; first = refl; lterm = refl; inputs = append-nil x.inputs; touched = refl; notes = refl; statements = refl }
   outcome-leaves variant (Queue tac) = record { began = refl; first = refl; lterm = refl; inputs = append-nil x.inputs; touched = refl; notes = refl; statements = refl }
-  outcome-leaves variant (Hold tac) = refl
-  outcome-leaves variant (WaitOutcome tac) = refl
-  outcome-leaves variant (Point tac) = refl
-  outcome-leaves variant (Follow tac) = refl
-  outcome-leaves variant Finish = refl
-  outcome-leaves variant Break = refl
-  outcome-leaves variant Back = refl
+  outcome-leaves variant _ = refl
 
   counts : (unit : UnitText) (y : OpenTransaction) (reply : Reply) → IsQuietly x y → StatementLeaves x (by_call app asy unit y (Replied reply)).0 Went
   counts unit y reply q = record { began = q.began; first = q.first; lterm = q.lterm; inputs = q.inputs; touched = q.touched; notes = q.notes; statements = ap (λ n. n + 1) q.statements }

@@ -11,12 +11,13 @@ use Rattle.std.specs.Ordering.{is_eq}
 use Rattle.std.specs.declared.cmp.Ordering.{Ordering}
 use Rattle.std.specs.declared.cmp.Ordering.TheVariants.{Less, Equal, Greater}
 use Rattle.kd_base.specs.Tools.{some_is, both_true}
+use Rattle.kdcs_types.specs.KeyedLaws.{holds, is_true}
 use Rattle.monitor_semantics.specs.Bytes.{Bytes, bytes_cmp}
 use Rattle.monitor_semantics.specs.Sessions.{has_user}
 use Rattle.monitor_semantics.specs.State.{Session}
 use Rattle.monitor_semantics.specs.Turns.{pterm_by, pterm_of_user}
 use Rattle.monitor_places.specs.Counts.{times}
-use Rattle.monitor_places.specs.Entries.{holds, is_true, none_below, none_before}
+use Rattle.monitor_places.specs.Entries.{none_below, none_before}
 
 abbrev pub Signed : Type 0
 Signed = List (Bytes × Session)

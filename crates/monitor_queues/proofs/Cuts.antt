@@ -19,7 +19,8 @@ use Rattle.monitor_laws.specs.Facts.{IsSignedOn}
 use Rattle.monitor_laws.specs.Keeping.{HasFacts}
 use Rattle.monitor_laws.specs.Steps.{AreLines, CommitsOnce, StepsMakeTheirTables}
 use Rattle.monitor_places.specs.Rows.{kept_at, durable_service}
-use Rattle.monitor_runs.specs.RunLaws.{EachStep, HistoriesCommitOnce, StartsHaveFacts, ScriptsKeepFacts}
+use Rattle.monitor_laws.specs.EachStep.{EachStep}
+use Rattle.monitor_runs.specs.RunLaws.{HistoriesCommitOnce, StartsHaveFacts, ScriptsKeepFacts}
 use Rattle.monitor_runs.specs.Lists.{tables_both}
 use Rattle.monitor_queues.specs.ResumeLaws.{IsReadyAt, StartsResume, SignOnResumes, SignOnsResume, CutsResume}
 

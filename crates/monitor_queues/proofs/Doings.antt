@@ -18,11 +18,11 @@ use Rattle.kdcs_types.specs.Keys.{id_cmp}
 use Rattle.kdcs_types.specs.Limits.{last_clock}
 use Rattle.kdcs_types.specs.Tables.{TableRows, service_of, job_of, shown_of}
 use Rattle.monitor_semantics.specs.declared.answer.Happened.{Happened}
-use Rattle.monitor_semantics.specs.declared.answer.Happened.TheVariants.{Went, Queued, Waited, Held, Settles, Breaks, Returns}
+use Rattle.monitor_semantics.specs.declared.answer.Happened.TheVariants.{Settles, Breaks, Returns}
 use Rattle.monitor_semantics.specs.declared.input_use.Use.{Use}
-use Rattle.monitor_semantics.specs.declared.input_use.Use.TheVariants.{Sign, SignRefused, SignFirst, AlreadySigned, Off, Display, Output, Again, Busy, TooLong, Next, Start, TacRefused}
+use Rattle.monitor_semantics.specs.declared.input_use.Use.TheVariants.{Sign, Display, Output, Again}
 use Rattle.monitor_semantics.specs.declared.outcome.Outcome.{Outcome}
-use Rattle.monitor_semantics.specs.declared.outcome.Outcome.TheVariants.{Hold, Stay, Queue, Wait, Point, Follow, Finish, Break, Back}
+use Rattle.monitor_semantics.specs.declared.outcome.Outcome.TheVariants.{Wait, Point, Follow, Finish}
 use Rattle.monitor_semantics.specs.declared.work.Work.{Work}
 use Rattle.monitor_semantics.specs.declared.work.Work.TheVariants as work
 use Rattle.monitor_semantics.specs.Bytes.{Bytes, bytes_cmp}
@@ -31,30 +31,13 @@ use Rattle.monitor_semantics.specs.Endings.{joined, durable, synchronised, refus
 use Rattle.monitor_semantics.specs.Lines.{asy_line, prt_line, no_message_line}
 use Rattle.monitor_semantics.specs.Picks.{pick}
 use Rattle.monitor_semantics.specs.Statements.{kept_record}
-use Rattle.monitor_semantics.specs.Turns.{out_acts, message_acts, Turned, without_work, pterm_of_user, noted_last, last_told, message_sent, goes_on, after_point, settled_by, settled, abnormal, last_again, back_by, back, happens, statement_now, worked, took_job_for, took_job, took, turn_by, turn_of, commit_of}
+use Rattle.monitor_semantics.specs.Turns.{out_acts, message_acts, Turned, without_work, pterm_of_user, after_point, settled_by, settled, abnormal, last_again, back_by, back, happens, statement_now, worked, took_job_for, took_job, took, turn_by, turn_of, commit_of}
 use Rattle.monitor_semantics.specs.declared.command.Command.TheVariants.{Input, Tick, Run, Turn, Drop, Print, PrintLast, Restart}
 use Rattle.monitor_semantics.specs.Commands.{signed_on_by, show_next, show_by, show_again_by, due_for, display, last_by, used, use_now, tick_by, drop_by, command_of, lterm_at, maker_of, turned_step}
+use Rattle.monitor_laws.specs.TablesStay.{sent-tables, goes-tables}
 use Rattle.monitor_laws.specs.Commits.{EndsSo, ending_by}
 use Rattle.monitor_queues.specs.Doings.{tables_by, point_lines, lines_by, Settling, StepMakes}
 use Rattle.monitor_queues.specs.QueueLaws.{TurnsDoSo, CommandsDoSo}
-
--- ---- states whose tables stay
-
-noted-tables : (s : State) (pterm message : Bytes) (v : Option Session) → (noted_last s pterm message v).tables ≡ s.tables
-noted-tables s pterm message None = refl
-noted-tables s pterm message (Some v) = refl
-
-last-tables : (s : State) (pterm : Option Bytes) (message : Bytes) → (last_told s pterm message).tables ≡ s.tables
-last-tables s None message = refl
-last-tables s (Some pterm) message = noted-tables s pterm message (find bytes_cmp pterm s.signed)
-
-sent-tables : (s : State) (id : ServiceId) (x : OpenTransaction) → (message_sent s id x).tables ≡ s.tables
-sent-tables s (Dialogue user) x = last-tables s (pterm_of_user s.signed user) _
-sent-tables s (Asynchronous number) x = refl
-
-goes-tables : (app : Application) (s : State) (id : ServiceId) (x : OpenTransaction) (row : Option Service) → (goes_on app s id x row).tables ≡ s.tables
-goes-tables app s id x None = refl
-goes-tables app s id x (Some row) = refl
 
 -- ---- a turn
 
@@ -96,11 +79,7 @@ module _ (app : Application) (s : State) (task : ℕ) (id : ServiceId) (x : Open
   point-fine u new kept e f Finish row made = moved kept new _ _ _ (sent-tables u id x ∙ e) (ap (λ (l : List Act). commit_of app s.tables new ∷ l) (message_same u s id x f)) made
   point-fine u new kept e f (Point tac) row made = moved kept new _ _ _ (goes-tables app u id x row ∙ e) refl made
   point-fine u new kept e f (Follow tac) row made = moved kept new _ _ _ (goes-tables app u id x row ∙ e) refl made
-  point-fine u new kept e f (Hold tac) row made = moved kept new _ _ _ e refl made
-  point-fine u new kept e f (Stay tac) row made = moved kept new _ _ _ e refl made
-  point-fine u new kept e f (Queue tac) row made = moved kept new _ _ _ e refl made
-  point-fine u new kept e f Break row made = moved kept new _ _ _ e refl made
-  point-fine u new kept e f Back row made = moved kept new _ _ _ e refl made
+  point-fine u new kept e f _ row made = moved kept new _ _ _ e refl made
 
   refused-fine : (o : Outcome) → (statement_now app s id x).1 ≡ Settles o → (cause : Cause) → EndsSo app s.tables id x (Settles o) (Broken cause) → Fine app s (abnormal app s task id x (Broken cause))
   unfolding abnormal
@@ -139,13 +118,10 @@ module _ (app : Application) (s : State) (task : ℕ) (id : ServiceId) (x : Open
 
   happens-fine : (y : OpenTransaction) (h : Happened) → (statement_now app s id x).1 ≡ h → Fine app s (happens app s task id x y h)
   unfolding happens
-  happens-fine y Went is = tt
-  happens-fine y Queued is = tt
-  happens-fine y Waited is = tt
-  happens-fine y (Held tac) is = tt
   happens-fine y (Settles o) is = settled-fine o is
   happens-fine y (Breaks e) is = broken-fine e is
   happens-fine y Returns is = back-fine (without_work s task id) x.began
+  happens-fine y _ is = tt
 
 worked-fine : (app : Application) (s : State) (task : ℕ) (id : ServiceId) (o : Option OpenTransaction) → find id_cmp id s.active ≡ o → Fine app s (worked app s task id o)
 worked-fine app s task id None e = tt
@@ -203,18 +179,10 @@ display-none app s pterm (Some message) = tt
 use-does : (app : Application) (s : State) (pterm user : Bytes) (u : Use) → StepMakes app s (used app s pterm (lterm_at app pterm) user u) (used app s pterm (lterm_at app pterm) user u).by
 unfolding used show_next
 use-does app s pterm user (Sign name) = signed-none app s pterm name (lterm_at app pterm) (service_of s.tables (Dialogue name))
-use-does app s pterm user (SignRefused fault) = tt
-use-does app s pterm user SignFirst = tt
-use-does app s pterm user AlreadySigned = tt
-use-does app s pterm user Off = tt
 use-does app s pterm user Display = display-none app s pterm (last_by (find bytes_cmp pterm s.signed))
 use-does app s pterm user Output = shown app s pterm (asy_line pterm) (λ m. inl refl) (no_message_line pterm) (due_for s (lterm_at app pterm)) refl
 use-does app s pterm user Again = again-none app s (no_message_line pterm) (asy_line pterm) (shown_of s.tables (lterm_at app pterm))
-use-does app s pterm user Busy = tt
-use-does app s pterm user TooLong = tt
-use-does app s pterm user (Next text) = tt
-use-does app s pterm user (Start tac text) = tt
-use-does app s pterm user (TacRefused fault) = tt
+use-does app s pterm user _ = tt
 
 tick-does : (app : Application) (s : State) (ticks clock : ℕ) (b : Bool) → StepMakes app s (tick_by app s ticks clock b) (tick_by app s ticks clock b).by
 tick-does app s ticks clock true = record { clock = clock; gives = refl }

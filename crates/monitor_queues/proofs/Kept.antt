@@ -26,9 +26,10 @@ use Rattle.monitor_laws.specs.Commits.{without_gone, Takes, QueueLaw}
 use Rattle.monitor_laws.specs.Keeping.{Leads, HasFacts}
 use Rattle.monitor_laws.specs.Steps.{CommitsOnce, TurnsCommitOnce, CommandsCommitOnce}
 use Rattle.monitor_tables.specs.Items.{IsIn}
-use Rattle.monitor_runs.specs.RunLaws.{EachStep}
-use Rattle.monitor_runs.specs.Lists.{after_both, each_split}
-use Rattle.monitor_queues.specs.Along.{StepLaw, EachMeets, meets_along}
+use Rattle.monitor_laws.specs.EachStep.{EachStep, each_split}
+use Rattle.monitor_runs.specs.Lists.{after_both}
+use Rattle.monitor_places.specs.Along.{StepLaw}
+use Rattle.monitor_queues.specs.Along.{EachMeets, meets_along}
 use Rattle.monitor_queues.specs.QueueLaws.{MeetsBoth, TurnsKeepQueues, CommandsKeepQueues, IsTakenAt, IsTakenIn, NoJobIsLost}
 use Rattle.monitor_queues.proofs.Numbers.{at, value as value_of, same_number, not_made, at_both}
 

@@ -22,9 +22,10 @@ use Rattle.monitor_laws.specs.Keeping.{Leads, HasFacts}
 use Rattle.monitor_laws.specs.Steps.{CommitsOnce, TurnsCommitOnce, CommandsCommitOnce}
 use Rattle.monitor_laws.specs.Transactions.{HasOwnJob}
 use Rattle.monitor_places.specs.Rows.{durable_service}
-use Rattle.monitor_runs.specs.RunLaws.{EachStep}
-use Rattle.monitor_runs.specs.Lists.{after_both, each_split}
-use Rattle.monitor_queues.specs.Along.{StepLaw, EachMeets, meets_along}
+use Rattle.monitor_laws.specs.EachStep.{EachStep, each_split}
+use Rattle.monitor_runs.specs.Lists.{after_both}
+use Rattle.monitor_places.specs.Along.{StepLaw}
+use Rattle.monitor_queues.specs.Along.{EachMeets, meets_along}
 use Rattle.monitor_queues.specs.QueueLaws.{MeetsBoth, TurnsKeepQueues, CommandsKeepQueues, KeepsNumbers, NumbersAreDrawnOnce, IsOver, JobsAreDoneOnce}
 
 -- ---- jobs by number

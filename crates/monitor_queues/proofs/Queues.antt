@@ -1,7 +1,7 @@
 -- Each commit meets the law on jobs and the law on services' rows.
-use Rattle.std.specs.Prelude.{◌≡◌, refl, ℕ, zero, suc, ◌+◌, Bool, true, false, cond, IsSome, IfSome, List, [], ◌∷◌, ◌++◌, length, Option, Some, None, Contains}
+use Rattle.std.specs.Prelude.{◌≡◌, refl, ℕ, ◌+◌, Bool, true, false, cond, IsSome, IfSome, List, [], ◌∷◌, ◌++◌, length, Option, Some, None, Contains}
 use Rattle.std.specs.Option.{option_map}
-use Rattle.std.proofs.Common.{sym, ap, subst, ◌∙◌, inl, inr, arith, append-nil, add-zero, true≢false}
+use Rattle.std.proofs.Common.{sym, ap, subst, ◌∙◌, inl, inr, append-nil, add-zero, true≢false}
 use Rattle.kd_base.specs.Tools.{some_is}
 use Rattle.kdcs_types.specs.declared.act.Act.{Act}
 use Rattle.kdcs_types.specs.declared.key.Key.{Key}
@@ -32,20 +32,12 @@ use Rattle.monitor_laws.specs.JobLaws.{points_number, ends_draw_none}
 use Rattle.monitor_laws.specs.Keeping.{HasFacts}
 use Rattle.monitor_laws.specs.Transactions.{HasOwnJob, IsRooted}
 use Rattle.monitor_places.specs.Rows.{synchronised_own, synchronised_other, broken_own, broken_other, kept_at}
-use Rattle.monitor_tables.specs.Items.{IsIn}
+use Rattle.monitor_tables.specs.Items.{contains, IsIn}
 use Rattle.monitor_tables.specs.Ends.{due-for, for-lterm}
 use Rattle.monitor_queues.specs.Doings.{tables_by, Settling, Showing, Ticking, StepMakes}
 use Rattle.monitor_queues.specs.QueueLaws.{MeetsBoth, TurnsDoSo, CommandsDoSo, TurnsKeepQueues, CommandsKeepQueues}
 
 -- ---- items
-
-contains_later : {E : Type 0} (x e : E) (xs : List E) → Contains xs e → Contains (x ∷ xs) e
-contains_later x e xs c = let lt = c.1 in (suc c.0, omega arith, c.2)
-
-contains : {E : Type 0} (e : E) (xs : List E) → IsIn e xs → Contains xs e
-contains e [] i = absurd i
-contains e (x ∷ xs) (inl same) = (zero, omega arith, same)
-contains e (x ∷ xs) (inr later) = contains_later x e xs (contains e xs later)
 
 found_in : (k : Key) (js : List Job) (j : Job) → item_at job_key k js ≡ Some j → IsIn j js
 found_in k [] j e = absurd cc
@@ -109,11 +101,7 @@ module _ (app : Application) (t : TableRows) (id : ServiceId) (x : OpenTransacti
   drawn (Settles o) (Broken cause) ends = broken-drawn t id x (Broken cause)
   drawn (Settles o) BrokenFr ends = broken-drawn t id x BrokenFr
   drawn (Breaks by) e ends = broken-drawn t id x e
-  drawn Went e ends = absurd ends
-  drawn Queued e ends = absurd ends
-  drawn (Held tac) e ends = absurd ends
-  drawn Waited e ends = absurd ends
-  drawn Returns e ends = absurd ends
+  drawn _ e ends = absurd ends
 
   -- ---- the rows of services
 

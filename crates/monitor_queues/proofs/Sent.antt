@@ -15,7 +15,7 @@ use Rattle.kdcs_types.specs.Tables.{TableRows, service_of}
 use Rattle.monitor_semantics.specs.declared.answer.Happened.{Happened}
 use Rattle.monitor_semantics.specs.declared.answer.Happened.TheVariants.{Went, Queued, Waited, Held, Settles, Breaks, Returns}
 use Rattle.monitor_semantics.specs.declared.outcome.Outcome.{Outcome}
-use Rattle.monitor_semantics.specs.declared.outcome.Outcome.TheVariants.{Hold, Stay, Queue, Wait, Point, Follow, Finish, Break, Back}
+use Rattle.monitor_semantics.specs.declared.outcome.Outcome.TheVariants.{Wait, Point, Follow}
 use Rattle.monitor_semantics.specs.Bytes.{Bytes}
 use Rattle.monitor_semantics.specs.Endings.{joined, row_after}
 use Rattle.monitor_semantics.specs.State.{Application, OpenTransaction, State}
@@ -49,12 +49,7 @@ module _ (app : Application) (s : State) (id : ServiceId) (x : OpenTransaction) 
   point-keeps (Wait tac) e = record { last = ap (λ (q : Service). q.last) (sym (some_is _ row e)); sends = refl }
   point-keeps (Point tac) e = goes_on _ refl _ e
   point-keeps (Follow tac) e = goes_on _ refl _ e
-  point-keeps Finish e = no_service row e
-  point-keeps (Hold tac) e = no_service row e
-  point-keeps (Stay tac) e = no_service row e
-  point-keeps (Queue tac) e = no_service row e
-  point-keeps Break e = no_service row e
-  point-keeps Back e = no_service row e
+  point-keeps _ e = no_service row e
 
   end-keeps : (h : Happened) (ending : Ending) → row_by_ending app id x h ending ≡ Some row → KeepsMessage s id x row (lines_by s id x h ending)
   end-keeps (Settles o) Synced e = point-keeps o e

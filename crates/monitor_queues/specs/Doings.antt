@@ -12,7 +12,7 @@ use Rattle.kdcs_types.specs.Tables.{TableRows}
 use Rattle.monitor_semantics.specs.declared.answer.Happened.{Happened}
 use Rattle.monitor_semantics.specs.declared.answer.Happened.TheVariants.{Went, Queued, Waited, Held, Settles, Breaks, Returns}
 use Rattle.monitor_semantics.specs.declared.outcome.Outcome.{Outcome}
-use Rattle.monitor_semantics.specs.declared.outcome.Outcome.TheVariants.{Hold, Stay, Queue, Wait, Point, Follow, Finish, Break, Back}
+use Rattle.monitor_semantics.specs.declared.outcome.Outcome.TheVariants.{Wait, Finish}
 use Rattle.monitor_semantics.specs.Bytes.{Bytes}
 use Rattle.monitor_semantics.specs.State.{Application, OpenTransaction, State}
 use Rattle.monitor_semantics.specs.Endings.{synchronised, broken}
@@ -37,13 +37,7 @@ tables_by app t id x Returns ending = broken t id x
 abbrev pub point_lines : State → ServiceId → OpenTransaction → Outcome → List Act
 point_lines s id x (Wait tac) = message_acts s id x
 point_lines s id x Finish = message_acts s id x
-point_lines s id x (Point tac) = []
-point_lines s id x (Follow tac) = []
-point_lines s id x (Hold tac) = []
-point_lines s id x (Stay tac) = []
-point_lines s id x (Queue tac) = []
-point_lines s id x Break = []
-point_lines s id x Back = []
+point_lines s id x _ = []
 
 -- the lines behind a commit
 abbrev pub lines_by : State → ServiceId → OpenTransaction → Happened → Ending → List Act
@@ -51,11 +45,7 @@ lines_by s id x (Settles o) Synced = point_lines s id x o
 lines_by s id x (Settles o) (Broken cause) = dump_acts id x (Broken cause) ++ ended_acts s id
 lines_by s id x (Settles o) BrokenFr = dump_acts id x BrokenFr ++ ended_acts s id
 lines_by s id x (Breaks by) ending = dump_acts id x ending ++ ended_acts s id
-lines_by s id x Went ending = []
-lines_by s id x Queued ending = []
-lines_by s id x (Held tac) ending = []
-lines_by s id x Waited ending = []
-lines_by s id x Returns ending = []
+lines_by s id x _ ending = []
 
 -- the next statement of an open transaction, of which this is the record, ended it, made these tables, and sent these lines behind its commit
 pub record Settling (app : Application) (s : State) (kept : Settled) (after : TableRows) (acts : List Act) : Type 0 where

@@ -9,7 +9,7 @@ use Rattle.monitor_laws.specs.Applications.{IsApplication}
 use Rattle.monitor_laws.specs.Commits.{CommitIsLawful, IsLawful}
 use Rattle.monitor_laws.specs.Keeping.{IsScriptOf}
 use Rattle.monitor_laws.specs.Suits.{Suits}
-use Rattle.monitor_runs.specs.RunLaws.{EachStep}
+use Rattle.monitor_laws.specs.EachStep.{EachStep}
 use Rattle.monitor_serial.specs.SerialLaws.{HasReplays, IsSerialBy, IsSerialStep}
 use Rattle.monitor_queues.specs.QueueLaws.{MeetsBoth, KeepsQueues}
 

@@ -6,7 +6,7 @@ use Rattle.std.proofs.lemmas.List.Sums.{sum_by-cons}
 use Rattle.kd_device.specs.Device.{State as Device}
 use Rattle.kdcfile_store.specs.Kept.{IsKept}
 use Rattle.kdcfile_store.specs.Whole.{Whole, HasFile}
-use Rattle.monitor_laws.specs.Applications.{IsCommandOf}
+use Rattle.monitor_semantics.specs.CommandsOf.{IsCommandOf}
 use Rattle.monitor_laws.specs.Keeping.{IsScriptOf}
 use Rattle.monitor_laws.specs.Steps.{TurnsCommitOnce, CommandsCommitOnce}
 use Rattle.kdcs_monitor.specs.CoreValue.{CoreValue}

@@ -4,7 +4,7 @@ use Rattle.std.specs.Prelude.{All}
 use Rattle.kdcdef_types.specs.Statements.{IsWithin}
 use Rattle.kdcfile_store.specs.Whole.{Whole}
 use Rattle.kdcs_types.specs.declared.act.Act.{Act}
-use Rattle.monitor_laws.specs.Applications.{IsCommandOf}
+use Rattle.monitor_semantics.specs.CommandsOf.{IsCommandOf}
 use Rattle.monitor_semantics.specs.Commands.{command_of, turned_step}
 use Rattle.monitor_semantics.specs.Turns.{turn_of}
 use Rattle.monitor_semantics.specs.declared.command.Command.{Command}

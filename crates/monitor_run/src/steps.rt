@@ -5,7 +5,7 @@ ghost use Rattle.kd_device.specs.Rest.{Rests};
 ghost use Rattle.kdcfile_store.specs.Kept.{IsKept};
 ghost use Rattle.kdcfile_store.specs.Whole.{HasFile};
 ghost use Rattle.kdcdef_types.specs.Statements.{IsWithin};
-ghost use Rattle.monitor_laws.specs.Applications.{IsCommandOf};
+ghost use Rattle.monitor_semantics.specs.CommandsOf.{IsCommandOf};
 ghost use Rattle.monitor_laws.specs.Suits.{Suits};
 ghost use Rattle.monitor_semantics.specs.Commands.{acts_of, command_of, in_a_row, rotated, steps_of, turned_step};
 ghost use Rattle.monitor_semantics.specs.Turns.{turn_of};

@@ -12,8 +12,8 @@ use Rattle.monitor_semantics.specs.Commands.{ScriptStep, rotated, next_task, in_
 use Rattle.monitor_semantics.specs.Trace.{history, tables_after}
 use Rattle.monitor_laws.specs.Keeping.{HasFacts}
 use Rattle.monitor_laws.specs.Steps.{CommitsOnce, TurnsCommitOnce, CommandsCommitOnce, StepsMakeTheirTables}
-use Rattle.monitor_runs.specs.RunLaws.{EachStep}
-use Rattle.monitor_runs.specs.Lists.{each_both, tables_both}
+use Rattle.monitor_laws.specs.EachStep.{EachStep, each_both}
+use Rattle.monitor_runs.specs.Lists.{tables_both}
 
 module _ (turns : TurnsCommitOnce) (commands : CommandsCommitOnce) (app : Application) where
   rotated-once : (n : ℕ) (ended : Bool) (s : State) (task row : ℕ) → EachStep (CommitsOnce app) s (rotated app n ended s task row)

@@ -1,20 +1,16 @@
 -- What holds of every run of the abstract monitor: the facts of its states, and the tables that its commits make.
-use Rattle.std.specs.Prelude.{◌≡◌, List, [], ◌∷◌}
+use Rattle.std.specs.Prelude.{◌≡◌, List}
 use Rattle.kdcs_types.specs.Tables.{TableRows, IsSortedTables}
 use Rattle.monitor_semantics.specs.State.{Application, State}
 use Rattle.monitor_semantics.specs.Endings.{durable}
 use Rattle.monitor_semantics.specs.declared.command.Command.{Command}
-use Rattle.monitor_semantics.specs.Commands.{ScriptStep, started, state_after}
+use Rattle.monitor_semantics.specs.Commands.{started, state_after}
 use Rattle.monitor_semantics.specs.Trace.{history, trace, tables_after}
 use Rattle.monitor_laws.specs.Applications.{IsApplication}
+use Rattle.monitor_laws.specs.EachStep.{EachStep}
 use Rattle.monitor_laws.specs.Keeping.{HasFacts, HoldsAlong, IsScriptOf}
 use Rattle.monitor_laws.specs.Steps.{CommitsOnce}
 use Rattle.monitor_laws.specs.Suits.{Suits}
-
--- it holds of each step, with the state before it
-abbrev pub EachStep : (State → ScriptStep → Type 0) → State → List ScriptStep → Type 0
-EachStep law s [] = Unit {0}
-EachStep law s (d ∷ ds) = law s d × EachStep law d.after ds
 
 -- a start from tables that suit has the facts
 abbrev pub StartsHaveFacts : Type 0

@@ -323,26 +323,7 @@ called g v asynchronous x (Pend variant op) = pend g asynchronous x variant op
 -- before INIT is done, INIT alone is answered
 abbrev pub first_call : OpenTransaction → Call → Performed
 first_call x Init = replied (record x { inited = true }) Done
-first_call x (Mget room) = refused x E01
-first_call x (Mput bytes) = refused x E01
-first_call x (Fget room) = refused x E01
-first_call x (Fput to message) = refused x E01
-first_call x (Dput to mode d h m s message) = refused x E01
-first_call x (SgetGb name room) = refused x E01
-first_call x (SputGb name bytes) = refused x E01
-first_call x (SrelGb name) = refused x E01
-first_call x (SgetKp name room) = refused x E01
-first_call x (SgetRl name room) = refused x E01
-first_call x (SputMs name bytes) = refused x E01
-first_call x (SrelLb name) = refused x E01
-first_call x (SgetUs name room) = refused x E01
-first_call x (SputUs name bytes) = refused x E01
-first_call x (Gtda name room) = refused x E01
-first_call x (Ptda name bytes) = refused x E01
-first_call x (UnlkGb name) = refused x E01
-first_call x (UnlkUs name) = refused x E01
-first_call x (UnlkDa name) = refused x E01
-first_call x (Pend variant op) = refused x E01
+first_call x _ = refused x E01
 
 -- E01 where INIT is missing
 abbrev pub called_by : Generated → Told → (asynchronous : Bool) → OpenTransaction → Call → (inited : Bool) → Performed

@@ -20,7 +20,7 @@ use Rattle.kdcs_types.specs.Limits.{last_clock}
 use Rattle.kdcs_types.specs.Tables.{TableRows, service_of, shown_of, with_change}
 use Rattle.kdcs_types.specs.Keys.{id_cmp, id_eq}
 use Rattle.monitor_semantics.specs.declared.answer.Happened.{Happened}
-use Rattle.monitor_semantics.specs.declared.answer.Happened.TheVariants.{Went, Queued, Waited, Held, Settles, Breaks, Returns}
+use Rattle.monitor_semantics.specs.declared.answer.Happened.TheVariants.{Held}
 use Rattle.monitor_semantics.specs.declared.command.Command.{Command}
 use Rattle.monitor_semantics.specs.declared.command.Command.TheVariants.{Input, Tick, Run, Turn, Drop, Print, PrintLast, Restart}
 use Rattle.monitor_semantics.specs.declared.input_use.SignFault.{SignFault}
@@ -213,12 +213,7 @@ display s pterm (Some message) = says s (out_line pterm message)
 -- the follow-up that a PEND KP names; no run asks it of another statement
 abbrev pub follow_up_of : Happened → Bytes
 follow_up_of (Held tac) = tac
-follow_up_of Went = []
-follow_up_of Queued = []
-follow_up_of Waited = []
-follow_up_of (Settles o) = []
-follow_up_of (Breaks ending) = []
-follow_up_of Returns = []
+follow_up_of _ = []
 
 -- the TAC that reads the next input of a dialogue service that stands at a PEND KP, which asks of no area
 abbrev pub held_tac : Application → OpenTransaction → Bytes

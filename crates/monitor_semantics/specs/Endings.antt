@@ -20,7 +20,7 @@ use Rattle.kdcdef_types.specs.declared.entry.TacEntry.{TacEntry}
 use Rattle.kdcdef_types.specs.declared.entry.UserEntry.{UserEntry}
 use Rattle.kdcdef_types.specs.Generation.{Generated, tac_of, user_of}
 use Rattle.monitor_semantics.specs.declared.outcome.Outcome.{Outcome}
-use Rattle.monitor_semantics.specs.declared.outcome.Outcome.TheVariants.{Wait, Point, Follow, Finish, Hold, Stay, Queue, Break, Back}
+use Rattle.monitor_semantics.specs.declared.outcome.Outcome.TheVariants.{Wait, Point, Follow}
 use Rattle.monitor_semantics.specs.declared.draft.Due.{Due}
 use Rattle.monitor_semantics.specs.declared.draft.Due.TheVariants.{After, At}
 use Rattle.monitor_semantics.specs.declared.draft.Draft.{Draft}
@@ -254,12 +254,7 @@ unfoldable pub row_after : Generated → ServiceId → OpenTransaction → Outco
 row_after g id x (Wait tac) = Some (point_row id x tac true [] (Some (joined x.parts)))
 row_after g id x (Point tac) = Some (point_row id x tac false x.parts (last_of x.began))
 row_after g id x (Follow tac) = Some (new_row g id x tac)
-row_after g id x Finish = None
-row_after g id x (Hold tac) = None
-row_after g id x (Stay tac) = None
-row_after g id x (Queue tac) = None
-row_after g id x Break = None
-row_after g id x Back = None
+row_after g id x _ = None
 
 -- the tables after a synchronisation point: areas, jobs and the service's row at once
 unfoldable pub synchronised : Generated → TableRows → ServiceId → OpenTransaction → Outcome → TableRows

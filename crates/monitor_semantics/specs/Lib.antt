@@ -4,6 +4,7 @@ pub mod Outcomes
 pub mod Calls
 pub mod Charges
 pub mod Endings
+pub mod AreaLaws
 pub mod Statements
 pub mod Lines
 pub mod Locks
@@ -12,6 +13,8 @@ pub mod Picks
 pub mod Turns
 pub mod Sessions
 pub mod Commands
+pub mod CommandsOf
+pub mod UseLaws
 pub mod Trace
 pub mod Listing
 pub mod Made

@@ -33,13 +33,7 @@ abbrev pub is_for_kind : (asynchronous : Bool) → Variant → Bool
 is_for_kind asynchronous Kp = not asynchronous
 is_for_kind asynchronous Re = not asynchronous
 is_for_kind asynchronous Fc = not asynchronous
-is_for_kind asynchronous Pr = true
-is_for_kind asynchronous Pa = true
-is_for_kind asynchronous Sp = true
-is_for_kind asynchronous Fi = true
-is_for_kind asynchronous Fr = true
-is_for_kind asynchronous Er = true
-is_for_kind asynchronous Rs = true
+is_for_kind asynchronous _ = true
 
 -- a follow-up TAC that the variant allows
 abbrev pub may_follow : (asynchronous : Bool) → Variant → TacEntry → Bool
@@ -49,23 +43,15 @@ may_follow asynchronous Pr t = same_kind asynchronous t.asynchronous && goes_wit
 may_follow asynchronous Pa t = same_kind asynchronous t.asynchronous && goes_within t.call
 may_follow asynchronous Sp t = same_kind asynchronous t.asynchronous && goes_within t.call
 may_follow asynchronous Fc t = not t.asynchronous && goes_first t.call && t.on
-may_follow asynchronous Fi t = true
-may_follow asynchronous Fr t = true
-may_follow asynchronous Er t = true
-may_follow asynchronous Rs t = true
+may_follow asynchronous _ t = true
 
 -- FI, FR, ER and RS take no follow-up
 abbrev pub takes_follow_up : Variant → Bool
-takes_follow_up Kp = true
-takes_follow_up Pr = true
-takes_follow_up Pa = true
-takes_follow_up Re = true
-takes_follow_up Sp = true
-takes_follow_up Fc = true
 takes_follow_up Fi = false
 takes_follow_up Fr = false
 takes_follow_up Er = false
 takes_follow_up Rs = false
+takes_follow_up _ = true
 
 -- KP, RE, FC, and FI of a dialogue service, need a message
 abbrev pub needs_message : (asynchronous : Bool) → Variant → Bool
@@ -73,12 +59,7 @@ needs_message asynchronous Kp = true
 needs_message asynchronous Re = true
 needs_message asynchronous Fc = true
 needs_message asynchronous Fi = not asynchronous
-needs_message asynchronous Pr = false
-needs_message asynchronous Pa = false
-needs_message asynchronous Sp = false
-needs_message asynchronous Fr = false
-needs_message asynchronous Er = false
-needs_message asynchronous Rs = false
+needs_message asynchronous _ = false
 
 -- the operand names a TAC that may follow
 abbrev pub fits_follow_up : (asynchronous : Bool) → Variant → Option TacEntry → Option Bytes → Bool

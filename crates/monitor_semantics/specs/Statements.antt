@@ -1,9 +1,9 @@
 -- One statement of an open transaction, by what it is told of the outside. A turn and a replay both read it.
 use Rattle.std.specs.Prelude.{ℕ, ◌+◌, Bool, List, ◌∷◌, Option, Some, None, option_map}
 use Rattle.kd_base.specs.declared.words.Variant.{Variant}
-use Rattle.kd_base.specs.declared.words.Variant.TheVariants.{Kp, Pr, Pa, Re, Sp, Fi, Fc, Fr, Er, Rs}
+use Rattle.kd_base.specs.declared.words.Variant.TheVariants.{Fr}
 use Rattle.kdcs_types.specs.declared.call.Call.{Call}
-use Rattle.kdcs_types.specs.declared.call.Call.TheVariants.{Init, Mget, Mput, Fget, Fput, Dput, SgetGb, SputGb, SrelGb, SgetKp, SgetRl, SputMs, SrelLb, SgetUs, SputUs, Gtda, Ptda, UnlkGb, UnlkUs, UnlkDa, Pend}
+use Rattle.kdcs_types.specs.declared.call.Call.TheVariants.{SgetGb, SputGb, SrelGb, SgetUs, SputUs, Gtda, Ptda, UnlkGb, UnlkUs, UnlkDa}
 use Rattle.kdcs_types.specs.declared.call.Cause.TheVariants.{Er as ErCause}
 use Rattle.kdcs_types.specs.declared.call.Reply.{Reply}
 use Rattle.kdcs_types.specs.declared.key.Area.{Area}
@@ -45,17 +45,7 @@ area_of_call x (UnlkUs name) = option_map (λ block. Uls block x.user) (name_in_
 area_of_call x (Gtda name room) = option_map (λ block. Tls block x.lterm) (name_in_operand name)
 area_of_call x (Ptda name bytes) = option_map (λ block. Tls block x.lterm) (name_in_operand name)
 area_of_call x (UnlkDa name) = option_map (λ block. Tls block x.lterm) (name_in_operand name)
-area_of_call x Init = None
-area_of_call x (Mget room) = None
-area_of_call x (Mput bytes) = None
-area_of_call x (Fget room) = None
-area_of_call x (Fput to message) = None
-area_of_call x (Dput to mode d h m s message) = None
-area_of_call x (SgetKp name room) = None
-area_of_call x (SgetRl name room) = None
-area_of_call x (SputMs name bytes) = None
-area_of_call x (SrelLb name) = None
-area_of_call x (Pend variant op) = None
+area_of_call x _ = None
 
 -- a plain statement asks of none
 abbrev pub area_of_step : OpenTransaction → Meaning → Option Area
@@ -80,16 +70,8 @@ counted unit x reply = record x { run = answered unit x.run reply; statements = 
 
 -- PEND FR and PEND ER both break the transaction
 abbrev pub break_ending : Variant → Ending
-break_ending Kp = Broken ErCause
-break_ending Pr = Broken ErCause
-break_ending Pa = Broken ErCause
-break_ending Re = Broken ErCause
-break_ending Sp = Broken ErCause
-break_ending Fi = Broken ErCause
-break_ending Fc = Broken ErCause
 break_ending Fr = BrokenFr
-break_ending Er = Broken ErCause
-break_ending Rs = Broken ErCause
+break_ending _ = Broken ErCause
 
 -- what the outcome of a PEND does: PR goes on and PA is queued in a further unit run, and the others change the state alone
 abbrev pub by_outcome : Application → (asynchronous : Bool) → OpenTransaction → Variant → Outcome → Stated

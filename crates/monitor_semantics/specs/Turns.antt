@@ -20,7 +20,7 @@ use Rattle.monitor_semantics.specs.declared.answer.Happened.TheVariants.{Went, Q
 use Rattle.monitor_semantics.specs.declared.work.Work.{Work}
 use Rattle.monitor_semantics.specs.declared.work.Work.TheVariants as work
 use Rattle.monitor_semantics.specs.declared.outcome.Outcome.{Outcome}
-use Rattle.monitor_semantics.specs.declared.outcome.Outcome.TheVariants.{Hold, Stay, Queue, Wait, Point, Follow, Finish, Break, Back}
+use Rattle.monitor_semantics.specs.declared.outcome.Outcome.TheVariants.{Wait, Point, Follow, Finish}
 use Rattle.monitor_semantics.specs.Bytes.{Bytes, bytes_cmp}
 use Rattle.kdcs_types.specs.Tables.{TableRows, job_of}
 use Rattle.kdcs_types.specs.Keys.{id_cmp, id_eq}
@@ -167,11 +167,7 @@ after_point app s id x (Wait tac) row commit kept = committed (message_sent s id
 after_point app s id x Finish row commit kept = committed (message_sent s id x) commit kept (message_acts s id x)
 after_point app s id x (Point tac) row commit kept = committed (goes_on app s id x row) commit kept []
 after_point app s id x (Follow tac) row commit kept = committed (goes_on app s id x row) commit kept []
-after_point app s id x (Hold tac) row commit kept = committed s commit kept []
-after_point app s id x (Stay tac) row commit kept = committed s commit kept []
-after_point app s id x (Queue tac) row commit kept = committed s commit kept []
-after_point app s id x Break row commit kept = committed s commit kept []
-after_point app s id x Back row commit kept = committed s commit kept []
+after_point app s id x _ row commit kept = committed s commit kept []
 
 -- a cause refuses the point
 abbrev pub settled_by : Application → State → (task : ℕ) → ServiceId → OpenTransaction → Outcome → TableRows → Option Cause → Turned

@@ -19,13 +19,14 @@ use Rattle.monitor_semantics.specs.Bytes.{Bytes, bytes_cmp}
 use Rattle.monitor_semantics.specs.Calls.{nothing_told}
 use Rattle.monitor_semantics.specs.declared.command.Command.{Command}
 use Rattle.monitor_semantics.specs.declared.command.Command.TheVariants.{Input, Tick, Run, Turn, Drop, Print, PrintLast, Restart}
-use Rattle.monitor_semantics.specs.Commands.{opened_row, started, lterm_at, user_at, with_session, without_session, resumed_by, signed_on_by, withdrawn, rolled_tables, signed_off, due_for, shown_tables, show_by, show_next, show_again_by, last_by, display, follow_up_of, held_tac, next_by, next_input, used, use_now, tick_by, drop_by, command_of}
+use Rattle.monitor_semantics.specs.Commands.{user_by, opened_row, started, lterm_at, user_at, with_session, without_session, resumed_by, signed_on_by, withdrawn, rolled_tables, signed_off, due_for, shown_tables, show_by, show_next, show_again_by, last_by, display, follow_up_of, held_tac, next_by, next_input, used, use_now, tick_by, drop_by, command_of}
 use Rattle.monitor_semantics.specs.Endings.{is_asynchronous, durable, restarts, opened_by_start, opened_by_input, opened_by_row, lterm_of_row, with_service, followed_by_input}
 use Rattle.monitor_semantics.specs.Picks.{free_jobs, is_free}
 use Rattle.monitor_semantics.specs.Sessions.{awaits_by, is_running, is_awaiting}
 use Rattle.monitor_semantics.specs.State.{Application, OpenTransaction, Session, State}
 use Rattle.monitor_semantics.specs.Statements.{Stated}
 use Rattle.monitor_semantics.specs.Turns.{queued}
+use Rattle.monitor_semantics.specs.UseLaws.{IsFor, use_fits}
 use Rattle.monitor_laws.specs.Keeping.{HasFacts}
 use Rattle.monitor_places.specs.Entries.{found_put, found_without, other_put, other_without}
 use Rattle.monitor_places.specs.Rows.{least_passes, all_filtered, filtered_pass}
@@ -34,7 +35,6 @@ use Rattle.monitor_serial.proofs.Frames.{still_replays, service_content, job_kep
 use Rattle.monitor_serial.proofs.Openings.{start_replays, awaited_replays, asynchronous_row_replays}
 use Rattle.monitor_serial.proofs.Steps.{input_replays}
 use Rattle.monitor_serial.proofs.Turns.{seen_itself, row_replays, after_step, opened_step, turns_replay}
-use Rattle.monitor_serial.proofs.Uses.{IsAwaited, next_is_awaited}
 
 -- ---- a start
 
@@ -173,7 +173,7 @@ module _ (app : Application) (s : State) (facts : HasFacts app s) (all : AllRepl
           (awaited_replays app s.tables user row lterm text (sym (ap (λ o. is_some o || awaits_by (service_of s.tables (Dialogue user))) e ∙ ap awaits_by q) ∙ awaits))
       by None e None q = all
 
-  uses : (pterm : Bytes) (u : Use) → IsAwaited s (user_at s pterm) u → AllReplay app (used app s pterm (lterm_at app pterm) (user_at s pterm) u).after
+  uses : (pterm : Bytes) (u : Use) → IsFor s pterm u → AllReplay app (used app s pterm (lterm_at app pterm) (user_at s pterm) u).after
   unfolding used
   uses pterm (Sign name) f = signs_on pterm name (lterm_at app pterm) (service_of s.tables (Dialogue name))
   uses pterm (SignRefused fault) f = all
@@ -185,7 +185,10 @@ module _ (app : Application) (s : State) (facts : HasFacts app s) (all : AllRepl
   uses pterm Again f = shows_again _ _ (shown_of s.tables (lterm_at app pterm))
   uses pterm Busy f = all
   uses pterm TooLong f = all
-  uses pterm (Next text) f = goes_next (user_at s pterm) (lterm_at app pterm) text f.0 f.1
+  uses pterm (Next text) f =
+      goes_next (user_at s pterm) (lterm_at app pterm) text
+      (subst (λ (o : Option Session). is_running s (Dialogue (user_by o)) ≡ false) (sym f.1.signed) f.1.rests)
+      (subst (λ (o : Option Session). is_awaiting s (Dialogue (user_by o)) ≡ true) (sym f.1.signed) f.2)
   uses pterm (Start tac text) f =
       let id = Dialogue (user_at s pterm) in
       let y = opened_by_start app.generation (user_at s pterm) (lterm_at app pterm) tac text in
@@ -198,7 +201,7 @@ module _ (app : Application) (s : State) (facts : HasFacts app s) (all : AllRepl
 
   pub commands_replay : (c : Command) → AllReplay app (command_of app s c).after
   unfolding command_of
-  commands_replay (Input pterm text) = uses pterm (use_now app s pterm text) (next_is_awaited app s pterm text)
+  commands_replay (Input pterm text) = uses pterm (use_now app s pterm text) (use_fits app s pterm text)
   commands_replay (Tick ticks) = ticks_on ticks _ _
   commands_replay (Run turns) = all
   commands_replay (Turn task) = turns_replay app s task facts all

@@ -1,7 +1,6 @@
 -- Each commit of a transaction is that of its record, run in one go on the durable tables.
-use Rattle.std.specs.Prelude.{◌≡◌, refl, ℕ, zero, suc, ◌+◌, ◌≤◌, Bool, true, false, List, [], ◌∷◌, ◌++◌, ◌==◌, if◌then◌else◌, ◌&&◌, nat_le, filter, filter_map, is_some, Contains, Option, Some, None}
-use Rattle.std.proofs.Common.{sym, ap, ◌∙◌, subst, inl, inr, ⊎_elim, true≢false, arith}
-use Rattle.std.proofs.lemmas.List.Elements.{All-head, All-tail}
+use Rattle.std.specs.Prelude.{◌≡◌, refl, ℕ, ◌+◌, Bool, true, false, List, [], ◌∷◌, ◌&&◌, nat_le, filter, filter_map, is_some, Option, Some, None}
+use Rattle.std.proofs.Common.{sym, ap, ◌∙◌, subst, ⊎_elim, true≢false}
 use Rattle.std.specs.FinMap.{find}
 use Rattle.kdcs_types.specs.declared.call.Cause.{Cause}
 use Rattle.kdcs_types.specs.declared.key.ServiceId.{ServiceId}
@@ -13,29 +12,27 @@ use Rattle.kdcs_types.specs.declared.service.Service.{Service}
 use Rattle.kdcs_types.specs.declared.service.Settled.{Settled}
 use Rattle.kdcs_types.specs.Keys.{id_cmp}
 use Rattle.kdcs_types.specs.Tables.{TableRows, service_of, shown_of}
-use Rattle.kdcdef_types.specs.Statements.{IsWithin}
 use Rattle.monitor_semantics.specs.declared.answer.Happened.TheVariants.{Settles, Breaks}
 use Rattle.monitor_semantics.specs.declared.answer.LockAnswer.TheVariants.{Granted}
 use Rattle.monitor_semantics.specs.declared.input_use.Use.{Use}
-use Rattle.monitor_semantics.specs.declared.input_use.Use.TheVariants.{Sign, SignRefused, SignFirst, AlreadySigned, Off, Display, Output, Again, Busy, TooLong, Next, Start, TacRefused}
+use Rattle.monitor_semantics.specs.declared.input_use.Use.TheVariants.{Sign, Display, Output, Again}
 use Rattle.monitor_semantics.specs.declared.outcome.Outcome.{Outcome}
 use Rattle.monitor_semantics.specs.Bytes.{Bytes, bytes_cmp}
 use Rattle.monitor_semantics.specs.Calls.{Told}
-use Rattle.monitor_semantics.specs.declared.command.Command.{Command}
 use Rattle.monitor_semantics.specs.declared.command.Command.TheVariants.{Input, Tick, Run, Turn, Drop, Print, PrintLast, Restart}
-use Rattle.monitor_semantics.specs.Commands.{ScriptStep, maker_of, next_task, in_a_row, rotated, state_after, steps_of, lterm_at, user_at, signed_on_by, show_by, show_next, show_again_by, due_for, display, last_by, used, use_now, tick_by, drop_by, command_of, Maker, ByTick, ByShow, ByTransaction, is_for, shown_tables, started, turned_step}
+use Rattle.monitor_semantics.specs.Commands.{ScriptStep, maker_of, state_after, lterm_at, user_at, signed_on_by, show_by, show_next, show_again_by, due_for, display, last_by, used, use_now, tick_by, drop_by, command_of, Maker, ByTick, ByShow, ByTransaction, is_for, shown_tables, started, turned_step}
 use Rattle.monitor_semantics.specs.Endings.{synchronised, broken, durable, refusal}
 use Rattle.monitor_semantics.specs.State.{Application, OpenTransaction, Session, State}
 use Rattle.monitor_semantics.specs.Statements.{kept_record}
 use Rattle.monitor_semantics.specs.Trace.{history}
 use Rattle.monitor_semantics.specs.Turns.{told_here, statement_now, turn_of}
-use Rattle.monitor_laws.specs.Applications.{IsApplication, IsCommandOf}
 use Rattle.monitor_laws.specs.Commits.{IsAtomicCommit}
-use Rattle.monitor_laws.specs.Keeping.{IsScriptOf}
 use Rattle.monitor_laws.specs.Replay.{settled_as, IsReplayed}
-use Rattle.monitor_runs.specs.RunLaws.{EachStep, HistoriesCommitOnce}
+use Rattle.monitor_places.specs.Along.{MeetsAlong, meets_along}
+use Rattle.monitor_laws.specs.EachStep.{EachStep, each_split}
+use Rattle.monitor_runs.specs.RunLaws.{HistoriesCommitOnce}
 use Rattle.monitor_laws.specs.Steps.{CommitsOnce, MakesNoCommit, MakesOneCommit}
-use Rattle.monitor_tables.specs.Items.{IsIn}
+use Rattle.monitor_tables.specs.Items.{contains}
 use Rattle.monitor_tables.specs.Ends.{due-for, for-lterm}
 use Rattle.monitor_places.specs.Rows.{least_passes, filtered_pass}
 use Rattle.monitor_semantics.specs.Picks.{free_jobs}
@@ -120,14 +117,6 @@ turns_make app s task h =
     as_law t None k = tt
     as_law t (Some kept) k = k
 
-contains_later : {E : Type 0} (x e : E) (xs : List E) → Contains xs e → Contains (x ∷ xs) e
-contains_later x e xs c = let lt = c.1 in (suc c.0, omega arith, c.2)
-
-contains : {E : Type 0} (e : E) (xs : List E) → IsIn e xs → Contains xs e
-contains e [] i = absurd i
-contains e (x ∷ xs) (inl same) = (zero, omega arith, same)
-contains e (x ∷ xs) (inr later) = contains_later x e xs (contains e xs later)
-
 -- what is shown is a due job of its LTERM
 due_is_shown : (app : Application) (s : State) (lterm : Bytes) (job : Job) → due_for s lterm ≡ Some job
     → Shows (durable app.generation s.tables) (durable app.generation (shown_tables s.tables lterm job)) lterm
@@ -174,18 +163,10 @@ tick_commits app s ticks false = tt
 use_commits : (app : Application) (s : State) (pterm : Bytes) (u : Use) → MakesItsCommit app s (used app s pterm (lterm_at app pterm) (user_at s pterm) u)
 unfolding used
 use_commits app s pterm (Sign name) = sign_commits app s pterm name (lterm_at app pterm) (service_of s.tables (Dialogue name))
-use_commits app s pterm (SignRefused fault) = tt
-use_commits app s pterm SignFirst = tt
-use_commits app s pterm AlreadySigned = tt
-use_commits app s pterm Off = tt
 use_commits app s pterm Display = display_commits app s pterm (last_by (find bytes_cmp pterm s.signed))
 use_commits app s pterm Output = shows_commit app s (lterm_at app pterm) _ _
 use_commits app s pterm Again = again_commits app s _ _ (shown_of s.tables (lterm_at app pterm))
-use_commits app s pterm Busy = tt
-use_commits app s pterm TooLong = tt
-use_commits app s pterm (Next text) = tt
-use_commits app s pterm (Start tac text) = tt
-use_commits app s pterm (TacRefused fault) = tt
+use_commits app s pterm _ = tt
 
 pub commands_make : CommandsMakeTheirCommits
 unfolding command_of
@@ -213,63 +194,15 @@ commands_commit app s c h = let d = command_of app s c in serial_by app s d.afte
 
 -- ---- scripts
 
-each_both : (law : State → ScriptStep → Type 0) (s : State) (xs ys : List ScriptStep) → EachStep law s xs → EachStep law (state_after s xs) ys → EachStep law s (xs ++ ys)
-unfolding state_after
-each_both law s [] ys h k = k
-each_both law s (d ∷ ds) ys h k = (h.0, each_both law d.after ds ys h.1 k)
-
-module _ (keeps : StepsKeepReplays) (app : Application) (is_app : IsApplication app) where
-  -- the steps are serial, and the state behind them has the facts
-  abbrev Serial : State → List ScriptStep → Type 0
-  Serial s steps = EachStep (MakesItsCommit app) s steps × HasReplays app (state_after s steps)
-
-  next_within : (task : ℕ) → IsWithin 1 app.generation.limits.tasks task → IsWithin 1 app.generation.limits.tasks (next_task app task)
-  next_within task w = by (task == app.generation.limits.tasks) refl
-    where
-      by : (b : Bool) → (task == app.generation.limits.tasks) ≡ b → IsWithin 1 app.generation.limits.tasks (if b then 1 else task + 1)
-      by true e = (omega arith, is_app.tasks)
-      by false e = let a : task ≤ app.generation.limits.tasks = w.1 in (omega arith, grind arith)
-
-  turns_serial : (n : ℕ) (ended : Bool) (s : State) (task row : ℕ) → IsWithin 1 app.generation.limits.tasks task → HasReplays app s → Serial s (rotated app n ended s task row)
-  unfolding rotated state_after
-  turns_serial zero ended s task row w h = (tt, h)
-  turns_serial (suc n) true s task row w h = (tt, h)
-  turns_serial (suc n) false s task row w h =
-      let turned = turn_of app s task in
-      let more = in_a_row turned.moved row in
-      let rest = turns_serial n (more == app.generation.limits.tasks) turned.after (next_task app task) more (next_within task w) (keeps.turns app s task is_app w h) in
-      ((turns_make app s task h, rest.0), rest.1)
-
-  one_serial : (s : State) (c : Command) → IsCommandOf app.generation c → HasReplays app s → Serial s (command_of app s c ∷ [])
-  unfolding state_after
-  one_serial s c w h = ((commands_make app s c h, tt), keeps.commands app s c is_app w h)
-
-  steps_serial : (s : State) (c : Command) → IsCommandOf app.generation c → HasReplays app s → Serial s (steps_of app s c)
-  unfolding steps_of
-  steps_serial s (Run turns) w h = turns_serial turns false s 1 0 (omega arith, is_app.tasks) h
-  steps_serial s (Input pterm text) w h = one_serial s (Input pterm text) w h
-  steps_serial s (Tick ticks) w h = one_serial s (Tick ticks) w h
-  steps_serial s (Turn task) w h = one_serial s (Turn task) w h
-  steps_serial s (Drop pterm) w h = one_serial s (Drop pterm) w h
-  steps_serial s (Print pterm) w h = one_serial s (Print pterm) w h
-  steps_serial s (PrintLast pterm) w h = one_serial s (PrintLast pterm) w h
-  steps_serial s Restart w h = one_serial s Restart w h
-
-  pub script_serial : (script : List Command) (s : State) → IsScriptOf app script → HasReplays app s → EachStep (MakesItsCommit app) s (history app s script)
-  unfolding history
-  script_serial [] s w h = tt
-  script_serial (c ∷ cs) s w h =
-      let steps = steps_of app s c in
-      let here = steps_serial s c (All-head (IsCommandOf app.generation) c cs w) h in
-      each_both (MakesItsCommit app) s steps (history app (state_after s steps) cs) here.0
-      (script_serial cs (state_after s steps) (All-tail (IsCommandOf app.generation) c cs w) here.1)
+script_serial : StepsKeepReplays → MeetsAlong HasReplays MakesItsCommit
+script_serial keeps = meets_along HasReplays keeps MakesItsCommit (record { turns = λ app s task _ _ h. turns_make app s task h; commands = λ app s c _ _ h. commands_make app s c h })
 
 each_serial : (app : Application) (s : State) (steps : List ScriptStep) → EachStep (MakesItsCommit app) s steps → EachStep (IsSerialStep app) s steps
 each_serial app s [] h = tt
 each_serial app s (d ∷ ds) h = (serial_by app s d.after.tables d.by h.0, each_serial app d.after ds h.1)
 
 pub histories_are_serial : StepsKeepReplays → HistoriesAreSerial
-histories_are_serial keeps app s script is_app fits h = each_serial app s (history app s script) (script_serial keeps app is_app script s fits h)
+histories_are_serial keeps app s script is_app fits h = each_serial app s (history app s script) (script_serial keeps app s script is_app fits h)
 
 -- ---- serial runs
 
@@ -291,17 +224,12 @@ made_in_turn app s (d ∷ ds) once makes = by d.by refl makes.0 (made_in_turn ap
 pub scripts_are_serial_runs : StepsKeepReplays → HistoriesCommitOnce → ScriptsAreSerialRuns
 unfolding started
 scripts_are_serial_runs keeps once app t script is_app fits order suits = made_in_turn app (started app t) (history app (started app t) script) (once app (started app t) script)
-    (script_serial keeps app is_app script (started app t) fits (keeps.starts app t is_app order suits))
-
--- what holds of each step holds of each of the first ones
-each_first : (law : State → ScriptStep → Type 0) (s : State) (first rest : List ScriptStep) → EachStep law s (first ++ rest) → EachStep law s first
-each_first law s [] rest h = tt
-each_first law s (d ∷ ds) rest h = (h.0, each_first law d.after ds rest h.1)
+    (script_serial keeps app (started app t) script is_app fits (keeps.starts app t is_app order suits))
 
 pub stops_leave_serial_runs : StepsKeepReplays → HistoriesCommitOnce → StopsLeaveSerialRuns
 unfolding started
 stops_leave_serial_runs keeps once app t script is_app fits order suits first rest whole =
     let s = started app t in
     made_in_turn app s first
-    (each_first (CommitsOnce app) s first rest (subst (EachStep (CommitsOnce app) s) whole (once app s script)))
-    (each_first (MakesItsCommit app) s first rest (subst (EachStep (MakesItsCommit app) s) whole (script_serial keeps app is_app script s fits (keeps.starts app t is_app order suits))))
+    (each_split (CommitsOnce app) s first rest (subst (EachStep (CommitsOnce app) s) whole (once app s script))).0
+    (each_split (MakesItsCommit app) s first rest (subst (EachStep (MakesItsCommit app) s) whole (script_serial keeps app s script is_app fits (keeps.starts app t is_app order suits)))).0

@@ -10,7 +10,7 @@ use Rattle.kdcs_types.specs.declared.act.Row.TheVariants.{Service as ServiceRow}
 use Rattle.kdcs_types.specs.declared.key.Area.{Area}
 use Rattle.kdcs_types.specs.declared.key.Area.TheVariants.{Gssb, Tls, Uls}
 use Rattle.kdcs_types.specs.declared.key.Key.{Key}
-use Rattle.kdcs_types.specs.declared.key.Key.TheVariants.{Service as ServiceKey, Gssb as GssbKey, Tls as TlsKey, Uls as UlsKey, Job as JobKey, Shown as ShownKey}
+use Rattle.kdcs_types.specs.declared.key.Key.TheVariants.{Service as ServiceKey, Job as JobKey}
 use Rattle.kdcs_types.specs.declared.key.ServiceId.{ServiceId}
 use Rattle.kdcs_types.specs.declared.key.ServiceId.TheVariants.{Dialogue, Asynchronous}
 use Rattle.kdcs_types.specs.declared.service.Note.{Note}
@@ -22,7 +22,8 @@ use Rattle.kdcs_types.specs.RowLaws.{row_at-with_change, sorted_with_change, sam
 use Rattle.kdcs_types.specs.Tables.{TableRows, IsSortedTables, service_key, service_row, service_fits, lterm_fits, row_at, content_of, service_of, with_change, change_fits, change_key}
 use Rattle.kdcdef_types.specs.Generation.{Generated}
 use Rattle.monitor_semantics.specs.declared.outcome.Outcome.{Outcome}
-use Rattle.monitor_semantics.specs.declared.outcome.Outcome.TheVariants.{Hold, Stay, Queue, Wait, Point, Follow, Finish, Break, Back}
+use Rattle.monitor_semantics.specs.declared.outcome.Outcome.TheVariants.{Wait, Point, Follow}
+use Rattle.monitor_semantics.specs.AreaLaws.{area_changes, areas_sorted, own_job_sorted}
 use Rattle.monitor_semantics.specs.Bytes.{Bytes, bytes_cmp}
 use Rattle.monitor_semantics.specs.Endings.{is_durable, durable, area_change, with_areas, service_change, with_service, without_own_job, with_drafts, lterm_in_row, row_after, synchronised, broken}
 use Rattle.monitor_semantics.specs.State.{OpenTransaction}
@@ -37,11 +38,7 @@ use Rattle.monitor_serial.proofs.Frames.{service_content}
 
 abbrev key_service : ServiceId → Key → ServiceId
 key_service other (ServiceKey id) = id
-key_service other (GssbKey name) = other
-key_service other (TlsKey block lterm) = other
-key_service other (UlsKey block user) = other
-key_service other (JobKey number) = other
-key_service other (ShownKey lterm) = other
+key_service other _ = other
 
 -- it stands under its id
 own_id : (t : TableRows) (id : ServiceId) (row : Service) → service_of t id ≡ Some row → row.id ≡ id
@@ -140,33 +137,13 @@ module _ (g : Generated) where
   change_alike t u c st su fits same =
       durable_follows g t c st fits ∙ ap (λ w. cond (key_is_durable g (change_key c)) (with_change w c) w) same ∙ sym (durable_follows g u c su fits)
 
-  area_fits : (area : Area) (o : Option Bytes) → IsTrue (change_fits (area_change area o))
-  area_fits (Gssb name) None = refl
-  area_fits (Gssb name) (Some bytes) = refl
-  area_fits (Tls block lterm) None = refl
-  area_fits (Tls block lterm) (Some []) = refl
-  area_fits (Tls block lterm) (Some (c ∷ cs)) = refl
-  area_fits (Uls block user) None = refl
-  area_fits (Uls block user) (Some []) = refl
-  area_fits (Uls block user) (Some (c ∷ cs)) = refl
-
-  areas_sorted : (ws : List (Area × Option Bytes)) (t : TableRows) → IsSortedTables t → IsSortedTables (with_areas t ws)
-  unfolding with_areas
-  areas_sorted [] t st = st
-  areas_sorted (w ∷ ws) t st = areas_sorted ws (with_change t (area_change w.0 w.1)) (sorted_with_change t (area_change w.0 w.1) st (area_fits w.0 w.1))
-
   areas_alike : (ws : List (Area × Option Bytes)) (t u : TableRows) → IsSortedTables t → IsSortedTables u → durable g t ≡ durable g u → durable g (with_areas t ws) ≡ durable g (with_areas u ws)
   unfolding with_areas
   areas_alike [] t u st su same = same
   areas_alike (w ∷ ws) t u st su same =
       let c = area_change w.0 w.1 in
-      let fits = area_fits w.0 w.1 in
+      let fits = (area_changes w.0 w.1).fits in
       areas_alike ws (with_change t c) (with_change u c) (sorted_with_change t c st fits) (sorted_with_change u c su fits) (change_alike t u c st su fits same)
-
-  own_sorted : (t : TableRows) (id : ServiceId) (began : Option Service) → IsSortedTables t → IsSortedTables (without_own_job t id began)
-  own_sorted t (Dialogue user) began st = st
-  own_sorted t (Asynchronous number) (Some row) st = st
-  own_sorted t (Asynchronous number) None st = sorted_with_change t (Remove (JobKey number)) st refl
 
   own_alike : (t u : TableRows) (id : ServiceId) (began : Option Service) → IsSortedTables t → IsSortedTables u → durable g t ≡ durable g u → durable g (without_own_job t id began) ≡ durable g (without_own_job u id began)
   own_alike t u (Dialogue user) began st su same = same
@@ -191,12 +168,7 @@ module _ (g : Generated) where
   row_after_fits id x (Wait tac) lssbs = true_both (id_eq id id) _ (id_eq-itself id) (true_both _ _ (lterm_in_row_fits id x.lterm) lssbs)
   row_after_fits id x (Point tac) lssbs = true_both (id_eq id id) _ (id_eq-itself id) (true_both _ _ (lterm_in_row_fits id x.lterm) lssbs)
   row_after_fits id x (Follow tac) lssbs = true_both (id_eq id id) _ (id_eq-itself id) (true_both _ _ (lterm_in_row_fits id x.lterm) refl)
-  row_after_fits id x Finish lssbs = refl
-  row_after_fits id x (Hold tac) lssbs = refl
-  row_after_fits id x (Stay tac) lssbs = refl
-  row_after_fits id x (Queue tac) lssbs = refl
-  row_after_fits id x Break lssbs = refl
-  row_after_fits id x Back lssbs = refl
+  row_after_fits id x _ lssbs = refl
 
   pub synchronised_alike : (t u : TableRows) (id : ServiceId) (x : OpenTransaction) (o : Outcome) → IsSortedTables t → IsSortedTables u → IsTrue (is_sorted bytes_cmp x.lssbs) → durable g t ≡ durable g u
       → durable g (synchronised g t id x o) ≡ durable g (synchronised g u id x o)
@@ -205,8 +177,8 @@ module _ (g : Generated) where
       let row = row_after g id x o in
       let a = without_own_job (with_areas t x.written) id x.began in
       let b = without_own_job (with_areas u x.written) id x.began in
-      let sa = own_sorted (with_areas t x.written) id x.began (areas_sorted x.written t st) in
-      let sb = own_sorted (with_areas u x.written) id x.began (areas_sorted x.written u su) in
+      let sa = own_job_sorted (with_areas t x.written) id x.began (areas_sorted x.written t st) in
+      let sb = own_job_sorted (with_areas u x.written) id x.began (areas_sorted x.written u su) in
       let left = own_alike (with_areas t x.written) (with_areas u x.written) id x.began (areas_sorted x.written t st) (areas_sorted x.written u su) (areas_alike x.written t u st su same) in
       ap (durable g) (drafts_last a x id row) ∙ drafts_durable (with_service a id row) x
       ∙ ap (λ w. with_drafts w x) (change_alike a b (service_change id row) sa sb (row_after_fits id x o lssbs) left)
@@ -215,4 +187,4 @@ module _ (g : Generated) where
   pub broken_alike : (t u : TableRows) (id : ServiceId) (x : OpenTransaction) → IsSortedTables t → IsSortedTables u → durable g t ≡ durable g u → durable g (broken t id x) ≡ durable g (broken u id x)
   unfolding broken
   broken_alike t u id x st su same =
-      change_alike (without_own_job t id x.began) (without_own_job u id x.began) (service_change id None) (own_sorted t id x.began st) (own_sorted u id x.began su) refl (own_alike t u id x.began st su same)
+      change_alike (without_own_job t id x.began) (without_own_job u id x.began) (service_change id None) (own_job_sorted t id x.began st) (own_job_sorted u id x.began su) refl (own_alike t u id x.began st su same)

@@ -37,10 +37,7 @@ abbrev pub Ends : Happened → Type 0
 Ends (Settles o) = Unit {0}
 Ends (Breaks ending) = Unit {0}
 Ends Returns = Unit {0}
-Ends Went = ⊥
-Ends Queued = ⊥
-Ends Waited = ⊥
-Ends (Held tac) = ⊥
+Ends _ = ⊥
 
 module _ (app : Application) (asy : Bool) (x : OpenTransaction) where
   abbrev does : Told → Stated
@@ -60,9 +57,7 @@ module _ (app : Application) (asy : Bool) (x : OpenTransaction) where
 
   locks_go : (unit : UnitText) (area : Area) (go : OpenTransaction → Performed) → ((y : OpenTransaction) → IsAnswered y (go y)) → (a : LockAnswer) → Ends (performs unit (on_answer x area a go)).1 → ⊥
   locks_go unit area go all Granted e = answered_goes unit (touching x area (touches x area)) (go (touching x area (touches x area))) (all _) e
-  locks_go unit area go all Wait e = e
-  locks_go unit area go all Busy e = e
-  locks_go unit area go all Deadlock e = e
+  locks_go unit area go all _ e = e
 
   -- a statement that ends its transaction does so whatever it is told
   pub ends_alike : (v w : Told) → Ends (does v).1 → does w ≡ does v
@@ -88,20 +83,14 @@ module _ (app : Application) (asy : Bool) (x : OpenTransaction) where
       by : (h : Happened) → StatementLeaves x q.0 h → GoesOnAtOnce h → CountsOne q.0
       by Went l g = l.statements
       by Queued l g = l.statements
-      by Waited l g = absurd g
-      by (Held tac) l g = absurd g
-      by (Settles o) l g = absurd g
-      by (Breaks ending) l g = absurd g
-      by Returns l g = absurd g
+      by _ l g = absurd g
 
   answered_count : (unit : UnitText) (z : OpenTransaction) (p : Performed) → z.statements ≡ x.statements → IsAnswered z p → Counts (performs unit p)
   answered_count unit z p same = by p.1
     where
       by : (c : Called) → AnsweredBy z p.0 c → Counts (by_call app asy unit p.0 c)
       by (Replied reply) q g = ap (λ n. n + 1) (q.statements ∙ same)
-      by Waits q g = absurd q
-      by (Abnormal cause) q g = absurd q
-      by (Pends variant o) q g = absurd q
+      by _ q g = absurd q
 
   touching_counts : (area : Area) (b : Bool) → (touching x area b).statements ≡ x.statements
   touching_counts area true = refl
@@ -147,10 +136,7 @@ module _ (app : Application) (t : TableRows) (r : Kept) where
       happening y Went c = inl (tt, c tt)
       happening y Queued c = inl (tt, c tt)
       happening y (Held tac) c = inl (tt, refl)
-      happening y Waited c = inr refl
-      happening y (Settles o) c = inr refl
-      happening y (Breaks ending) c = inr refl
-      happening y Returns c = inr refl
+      happening y _ c = inr refl
 
       by : (q : Stated) → (GoesOnAtOnce q.1 → q.0.statements ≡ z.statements + 1) → IsStep z (went_on app r z q.0 q.1) q.1
       by q c = happening q.0 q.1 c
@@ -295,19 +281,14 @@ module _ (app : Application) (asy : Bool) (x : OpenTransaction) where
       by Went l = l.lterm
       by Queued l = l.lterm
       by Waited l = absurd l
-      by (Held tac) l = same l
-      by (Settles o) l = same l
-      by (Breaks ending) l = same l
-      by Returns l = same l
+      by _ l = same l
 
   answered_lterm : (unit : UnitText) (z : OpenTransaction) (p : Performed) → z.lterm ≡ x.lterm → IsAnswered z p → KeepsLterm (by_performed app asy unit p)
   answered_lterm unit z p same = by p.1
     where
       by : (c : Called) → AnsweredBy z p.0 c → KeepsLterm (by_call app asy unit p.0 c)
       by (Replied reply) q = q.lterm ∙ same
-      by Waits q = absurd q
-      by (Abnormal cause) q = absurd q
-      by (Pends variant o) q = absurd q
+      by _ q = absurd q
 
   touching_lterm : (area : Area) (b : Bool) → (touching x area b).lterm ≡ x.lterm
   touching_lterm area true = refl
@@ -340,11 +321,7 @@ replay_lterm app t r (suc n) =
     happening : (z y : OpenTransaction) (h : Happened) → y.lterm ≡ z.lterm → (went_on app r z y h).lterm ≡ z.lterm
     happening z y Went e = e
     happening z y Queued e = e
-    happening z y (Held tac) e = refl
-    happening z y Waited e = refl
-    happening z y (Settles o) e = refl
-    happening z y (Breaks ending) e = refl
-    happening z y Returns e = refl
+    happening z y _ e = refl
 
     by : (z : OpenTransaction) (q : Stated) → q.0.lterm ≡ z.lterm → (went_on app r z q.0 q.1).lterm ≡ z.lterm
     by z q e = happening z q.0 q.1 e

@@ -4,7 +4,6 @@ pub mod Frames
 pub mod Ends
 pub mod Turns
 pub mod Settling
-pub mod Uses
 pub mod Commands
 pub mod Along
 pub mod Durable

@@ -16,7 +16,7 @@ use Rattle.kdcs_types.specs.declared.service.Settled.{Settled}
 use Rattle.kdcs_types.specs.Keys.{id_cmp}
 use Rattle.kdcs_types.specs.Tables.{TableRows, job_of}
 use Rattle.monitor_semantics.specs.declared.answer.Happened.{Happened}
-use Rattle.monitor_semantics.specs.declared.answer.Happened.TheVariants.{Went, Queued, Waited, Held, Settles, Breaks, Returns}
+use Rattle.monitor_semantics.specs.declared.answer.Happened.TheVariants.{Settles, Breaks, Returns}
 use Rattle.monitor_semantics.specs.declared.outcome.Outcome.{Outcome}
 use Rattle.monitor_semantics.specs.declared.outcome.Outcome.TheVariants.{Hold, Stay, Queue, Wait, Point, Follow, Finish, Break, Back}
 use Rattle.monitor_semantics.specs.declared.work.Work.{Work}
@@ -94,13 +94,10 @@ module _ (app : Application) (s : State) (task : ℕ) (id : ServiceId) (x : Open
 
       pub ends_so : (y : OpenTransaction) (h : Happened) → (statement_now app s id x).1 ≡ h → (let turned = happens app s task id x y h in IfSettled P turned.after.tables turned.settled)
       unfolding happens abnormal
-      ends_so y Went e = tt
-      ends_so y Queued e = tt
-      ends_so y Waited e = tt
-      ends_so y (Held tac) e = tt
       ends_so y (Settles o) e = settled_so o e
       ends_so y (Breaks ending) e = breaks_so ending e
       ends_so y Returns e = back_so x.began
+      ends_so y _ e = tt
 
 -- of each turn
 pub turn_ends_so : (app : Application) (s : State) (task : ℕ) (P : TableRows → Settled → Type 0)

@@ -16,7 +16,7 @@ use Rattle.unit_types.specs.UnitText.{UnitText}
 use Rattle.monitor_semantics.specs.declared.answer.Called.{Called}
 use Rattle.monitor_semantics.specs.declared.answer.Called.TheVariants.{Replied, Waits, Abnormal, Pends}
 use Rattle.monitor_semantics.specs.declared.answer.Happened.{Happened}
-use Rattle.monitor_semantics.specs.declared.answer.Happened.TheVariants.{Went, Queued, Waited, Held, Settles, Breaks, Returns}
+use Rattle.monitor_semantics.specs.declared.answer.Happened.TheVariants.{Went, Queued, Held}
 use Rattle.monitor_semantics.specs.declared.answer.LockAnswer.{LockAnswer}
 use Rattle.monitor_semantics.specs.declared.answer.LockAnswer.TheVariants.{Granted, Wait, Busy, Deadlock}
 use Rattle.monitor_semantics.specs.Bytes.{Bytes}
@@ -81,11 +81,7 @@ module _ (app : Application) (t : TableRows) (id : ServiceId) (x : OpenTransacti
       by : (h : Happened) → GoesOnAtOnce h → went_on app (kept_and k x inputs notes n) x r.0 h ≡ r.0
       by Went g = refl
       by Queued g = refl
-      by Waited g = absurd g
-      by (Held tac) g = absurd g
-      by (Settles o) g = absurd g
-      by (Breaks ending) g = absurd g
-      by Returns g = absurd g
+      by _ g = absurd g
 
   -- with one statement more, where its areas are those before it and perhaps more, and no note is new
   counted_on : (r : Stated) → GoesOnAtOnce r.1 → Advances x r.0 [] [] → ((area : Area) → IsTrue (touches x area) → IsTrue (touches r.0 area))
@@ -115,11 +111,7 @@ module _ (app : Application) (t : TableRows) (id : ServiceId) (x : OpenTransacti
       counts : (h : Happened) → GoesOnAtOnce h → StatementLeaves x r.0 h → IsCounted x r.0
       counts Went g l = l
       counts Queued g l = l
-      counts Waited g l = absurd g
-      counts (Held tac) g l = absurd g
-      counts (Settles o) g l = absurd g
-      counts (Breaks ending) g l = absurd g
-      counts Returns g l = absurd g
+      counts _ g l = absurd g
 
   -- ---- a request for an area
 

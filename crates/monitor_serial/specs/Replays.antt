@@ -10,7 +10,7 @@ use Rattle.kdcs_types.specs.declared.service.Service.{Service}
 use Rattle.kdcs_types.specs.Keys.{area_eq, id_cmp}
 use Rattle.kdcs_types.specs.Tables.{TableRows, content_of, job_of}
 use Rattle.monitor_semantics.specs.declared.answer.Happened.{Happened}
-use Rattle.monitor_semantics.specs.declared.answer.Happened.TheVariants.{Went, Queued, Waited, Held, Settles, Breaks, Returns}
+use Rattle.monitor_semantics.specs.declared.answer.Happened.TheVariants.{Went, Queued}
 use Rattle.monitor_semantics.specs.declared.answer.LockAnswer.TheVariants.{Granted}
 use Rattle.monitor_semantics.specs.Bytes.{Bytes}
 use Rattle.monitor_semantics.specs.State.{Application, OpenTransaction, State}
@@ -72,11 +72,7 @@ AllReplay app s = (id : ServiceId) (x : OpenTransaction) → find id_cmp id s.ac
 abbrev pub GoesOnAtOnce : Happened → Type 0
 GoesOnAtOnce Went = Unit {0}
 GoesOnAtOnce Queued = Unit {0}
-GoesOnAtOnce Waited = ⊥
-GoesOnAtOnce (Held tac) = ⊥
-GoesOnAtOnce (Settles o) = ⊥
-GoesOnAtOnce (Breaks ending) = ⊥
-GoesOnAtOnce Returns = ⊥
+GoesOnAtOnce _ = ⊥
 
 -- ---- how a record is read
 

@@ -21,7 +21,7 @@ use Rattle.monitor_laws.specs.Keeping.{Fact, Leads, HasFacts, HoldsAlong, IsScri
 use Rattle.monitor_laws.specs.Applications.{IsApplication}
 use Rattle.monitor_laws.specs.Commits.{AtomicLaw}
 use Rattle.monitor_laws.specs.Suits.{Suits}
-use Rattle.monitor_runs.specs.RunLaws.{EachStep}
+use Rattle.monitor_laws.specs.EachStep.{EachStep}
 use Rattle.monitor_laws.specs.Replay.{IsReplayable, SettlesAs}
 use Rattle.monitor_serial.specs.Replays.{GoesOnAtOnce, SeesTheSame, ReplaysToItself, AllReplay}
 

@@ -5,14 +5,15 @@ use Rattle.std.proofs.lemmas.Bool.{leb-true}
 use Rattle.std.proofs.lemmas.List.Sums.{AllPass-from_list_all}
 use Rattle.std.specs.Fmt.{digits}
 use Rattle.std.specs.List.{list_all}
-use Rattle.kdcs_types.specs.Tables.{IsSortedTables, empty_tables}
+use Rattle.kdcs_types.specs.RowLaws.{empty_sorted}
+use Rattle.kdcs_types.specs.Tables.{empty_tables}
 use Rattle.kdcdef_types.specs.declared.entry.LtermEntry.{LtermEntry}
 use Rattle.kdcdef_types.specs.declared.entry.PtermEntry.{PtermEntry}
 use Rattle.kdcdef_types.specs.declared.entry.TacEntry.{TacEntry}
 use Rattle.kdcdef_types.specs.declared.entry.UserEntry.{UserEntry}
 use Rattle.kdcdef_types.specs.declared.limits.Limits.{Limits}
 use Rattle.unit_types.specs.declared.action.Operand.{Operand}
-use Rattle.unit_types.specs.declared.action.Operand.TheVariants.{Field as FieldOf, Literal, Digits, Header, Trim}
+use Rattle.unit_types.specs.declared.action.Operand.TheVariants.{Literal, Digits}
 use Rattle.unit_types.specs.declared.action.UnitStatement.{UnitStatement}
 use Rattle.unit_types.specs.declared.unit.Field.{Field}
 use Rattle.unit_types.specs.UnitText.{UnitText, IsShortOperand, label_place, jump_of, operands_of}
@@ -34,18 +35,14 @@ all_by P test says xs h = λ k d lt. says _ (AllPass-from_list_all test xs h k d
 -- ---- a unit without labels
 
 abbrev is_short : Operand → Bool
-is_short (FieldOf name) = true
 is_short (Literal bytes) = nat_le (length bytes) 32767
 is_short (Digits bytes) = nat_le (length bytes) 18
-is_short (Header name) = true
-is_short (Trim name) = true
+is_short _ = true
 
 short-says : (o : Operand) → is_short o ≡ true → IsShortOperand o
-short-says (FieldOf name) h = tt
 short-says (Literal bytes) h = leb-true (length bytes) 32767 h
 short-says (Digits bytes) h = leb-true (length bytes) 18 h
-short-says (Header name) h = tt
-short-says (Trim name) h = tt
+short-says _ h = tt
 
 abbrev lies_inside : Limits → Field → Bool
 lies_inside m f = nat_le (f.offset + f.length) (cond f.spab m.spab m.kb)
@@ -109,8 +106,5 @@ made_is_application =
 
 -- ---- its start from empty tables
 
-empty-order : IsSortedTables empty_tables
-empty-order = record { gssbs = refl; tlss = refl; ulss = refl; services = refl; jobs = refl; shown = refl; tlss_filled = refl; ulss_filled = refl; services_fit = refl }
-
 pub made_start_is_sound : IsSoundState made_application (started made_application empty_tables)
-made_start_is_sound = states_stay_sound.starts made_application empty_tables made_is_application empty-order (empty_suit made_generation)
+made_start_is_sound = states_stay_sound.starts made_application empty_tables made_is_application empty_sorted (empty_suit made_generation)

@@ -8,7 +8,7 @@ use Rattle.std.specs.Cmp.{IsTotalOrder, eq_by_cmp_equiv}
 use Rattle.std.specs.Cmp.Lexicographic.{nat_list_cmp_total}
 use Rattle.std.specs.FinMap.{find, put, IsAntisymmetric, slice_cmp-IsAntisymmetric, nat_cmp-IsAntisymmetric}
 use Rattle.kd_base.specs.declared.words.Variant.{Variant}
-use Rattle.kd_base.specs.declared.words.Variant.TheVariants.{Kp, Pr, Pa, Re, Sp, Fi, Fc, Fr, Er, Rs}
+use Rattle.kd_base.specs.declared.words.Variant.TheVariants.{Kp, Pr, Pa, Re, Sp, Fc}
 use Rattle.kd_base.specs.declared.words.Mode.{Mode}
 use Rattle.kd_base.specs.declared.words.Mode.TheVariants.{Relative, Absolute}
 use Rattle.kd_base.specs.Tools.{both_true, true_both, some_is, ok_is}
@@ -375,10 +375,7 @@ goes-fits g asynchronous Pa None k h = absurd (true≢false (sym h))
 goes-fits g asynchronous Pa (Some n) k h = kind-from asynchronous Pa (tac_of g n) n (λ t may. (both_true (same_kind asynchronous t.asynchronous) (goes_within t.call) may).0) h
 goes-fits g asynchronous Sp None k h = absurd (true≢false (sym h))
 goes-fits g asynchronous Sp (Some n) k h = kind-from asynchronous Sp (tac_of g n) n (λ t may. (both_true (same_kind asynchronous t.asynchronous) (goes_within t.call) may).0) h
-goes-fits g asynchronous Fi name k h = tt
-goes-fits g asynchronous Fr name k h = tt
-goes-fits g asynchronous Er name k h = tt
-goes-fits g asynchronous Rs name k h = tt
+goes-fits g asynchronous _ name k h = tt
 
 pended_by-fits : (g : Generated) (asynchronous : Bool) (o p : Outcome) (a b c : Bool) → (IsTrue a → IsTrue b → OutcomeFits g asynchronous p) → pend_by a b c p ≡ Ok o → OutcomeFits g asynchronous o
 pended_by-fits g asynchronous o p false b c fits e = absurd cc

@@ -30,7 +30,8 @@ use Rattle.monitor_semantics.specs.Turns.{turn_of}
 use Rattle.monitor_semantics.specs.declared.command.Command.{Command}
 use Rattle.monitor_semantics.specs.declared.command.Command.TheVariants.{Input, Tick, Run, Turn, Drop, Print, PrintLast, Restart}
 use Rattle.monitor_semantics.specs.Commands.{asynchronous_rows, opened_row, started, lterm_at, user_at, with_session, resumed_by, signed_on_by, signed_on, rolled_tables, signed_off, due_for, show_by, show_next, show_again_by, last_by, display, follow_up_of, held_tac, next_by, next_input, start_service, used, use_now, tick_by, drop_by, command_of}
-use Rattle.monitor_laws.specs.Applications.{IsApplication, IsCommandOf, is_pterm}
+use Rattle.monitor_laws.specs.Applications.{IsApplication}
+use Rattle.monitor_semantics.specs.CommandsOf.{IsCommandOf, is_pterm}
 use Rattle.monitor_laws.specs.Suits.{is_user, is_lterm, has_kind, fits_message, lterm_suits, service_suits}
 use Rattle.monitor_laws.specs.Transactions.{CanGoOn}
 use Rattle.monitor_laws.specs.Facts.{IsSessionOf, StandsAtKeep, IsConsistent}

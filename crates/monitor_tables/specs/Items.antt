@@ -1,5 +1,5 @@
 -- Lists of items in ascending order of their keys: some of them, more of them, and sums over them.
-use Rattle.std.specs.Prelude.{◌≡◌, refl, ℕ, ◌+◌, ◌≤◌, ◌<◌, Bool, true, false, cond, not, ◌⊎◌, IsTrue, List, [], ◌∷◌, ◌++◌, map, filter, sum_by, Some, is_some, nat_lt, nat_le, ◌==◌}
+use Rattle.std.specs.Prelude.{◌≡◌, refl, ℕ, zero, suc, Contains, ◌+◌, ◌≤◌, ◌<◌, Bool, true, false, cond, not, ◌⊎◌, IsTrue, List, [], ◌∷◌, ◌++◌, map, filter, sum_by, Some, is_some, nat_lt, nat_le, ◌==◌}
 use Rattle.std.proofs.Common.{inl, inr, sym, ap, subst, ◌∙◌, arith, true≢false}
 use Rattle.std.proofs.lemmas.Bool.{lt-ltb, ltb-true, leb-true}
 use Rattle.std.proofs.lemmas.List.Sums.{sum_by-cons}
@@ -149,3 +149,13 @@ ascends_append n (x ∷ xs) ys up more low high =
     true_both (below_all key_cmp (job_key x) (keyed job_key (xs ++ ys))) (ascends job_key (xs ++ ys))
     (below_append job_key (job_key x) xs ys a.0 (below_jobs x.number n (ltb-true x.number n b.0) ys high))
     (ascends_append n xs ys a.1 more b.1 high)
+
+-- ---- what is in a list
+
+contains_later : {E : Type 0} (x e : E) (xs : List E) → Contains xs e → Contains (x ∷ xs) e
+contains_later x e xs c = let lt = c.1 in (suc c.0, omega arith, c.2)
+
+pub contains : {E : Type 0} (e : E) (xs : List E) → IsIn e xs → Contains xs e
+contains e [] i = absurd i
+contains e (x ∷ xs) (inl same) = (zero, omega arith, same)
+contains e (x ∷ xs) (inr later) = contains_later x e xs (contains e xs later)

@@ -1,5 +1,5 @@
 -- Lists of entries in order, and tests and sums over lists.
-use Rattle.std.specs.Prelude.{◌≡◌, refl, ℕ, ◌+◌, ◌≤◌, Bool, true, false, cond, ◌||◌, not, T, IsTrue, List, [], ◌∷◌, ◌++◌, length, filter, sum_by, count_by, Some, is_some, bytes_eq}
+use Rattle.std.specs.Prelude.{◌≡◌, refl, ℕ, ◌+◌, ◌≤◌, Bool, true, false, cond, ◌||◌, not, IsTrue, List, [], ◌∷◌, ◌++◌, length, filter, sum_by, count_by, Some, is_some, bytes_eq}
 use Rattle.std.proofs.Common.{sym, ap, subst, ◌∙◌, arith, true≢false}
 use Rattle.std.proofs.lemmas.List.Sums.{sum_by-cons}
 use Rattle.std.proofs.lemmas.List.Folds.{list_all-append, list_any-append}
@@ -12,14 +12,7 @@ use Rattle.std.specs.Cmp.Lexicographic.{bytes_decides}
 use Rattle.std.specs.FinMap.{find, put, is_sorted, IsAntisymmetric}
 use Rattle.std.specs.FinMap.Entries.{by_order, where_key, is_sorted-put, is_sorted-where_key, length-put}
 use Rattle.kd_base.specs.Tools.{both_true, true_both, some_is}
-
-pub holds : (b : Bool) → b ≡ true → T b
-holds true e = tt
-holds false e = absurd (true≢false (sym e))
-
-pub is_true : (b : Bool) → T b → b ≡ true
-is_true true h = refl
-is_true false h = absurd h
+use Rattle.kdcs_types.specs.KeyedLaws.{holds, is_true}
 
 pub not_true : (b : Bool) → b ≡ true → b ≡ false → ⊥
 not_true b h k = true≢false (sym h ∙ k)

@@ -16,7 +16,7 @@ use Rattle.unit_semantics.specs.Statement.{Asks, step}
 use Rattle.monitor_semantics.specs.declared.answer.Called.{Called}
 use Rattle.monitor_semantics.specs.declared.answer.Called.TheVariants.{Replied, Waits, Abnormal, Pends}
 use Rattle.monitor_semantics.specs.declared.answer.Happened.{Happened}
-use Rattle.monitor_semantics.specs.declared.answer.Happened.TheVariants.{Went, Queued, Waited, Held, Settles, Breaks, Returns}
+use Rattle.monitor_semantics.specs.declared.answer.Happened.TheVariants.{Held, Settles}
 use Rattle.monitor_semantics.specs.declared.outcome.Outcome.{Outcome}
 use Rattle.monitor_semantics.specs.declared.outcome.Outcome.TheVariants.{Stay, Queue, Hold, Wait, Point, Finish, Follow, Break, Back}
 use Rattle.monitor_semantics.specs.Bytes.{Bytes}
@@ -65,27 +65,14 @@ has_short_operands call = list_all fits_content (operands_of call)
 
 -- a call that reads into a field
 abbrev pub reads : Call → Bool
-reads Init = false
 reads (Mget room) = true
-reads (Mput bytes) = false
 reads (Fget room) = true
-reads (Fput to message) = false
-reads (Dput to mode d h m s message) = false
 reads (SgetGb name room) = true
-reads (SputGb name bytes) = false
-reads (SrelGb name) = false
 reads (SgetKp name room) = true
 reads (SgetRl name room) = true
-reads (SputMs name bytes) = false
-reads (SrelLb name) = false
 reads (SgetUs name room) = true
-reads (SputUs name bytes) = false
 reads (Gtda name room) = true
-reads (Ptda name bytes) = false
-reads (UnlkGb name) = false
-reads (UnlkUs name) = false
-reads (UnlkDa name) = false
-reads (Pend variant op) = false
+reads _ = false
 
 -- an open transaction in its unit
 pub record StandsIn (app : Application) (id : ServiceId) (x : OpenTransaction) (unit : UnitText) : Type 0 where
@@ -149,13 +136,9 @@ CallsKeep =
 
 -- an outcome has its follow-up
 abbrev pub HappenedFits : Generated → (asynchronous : Bool) → Happened → Type 0
-HappenedFits g asynchronous Went = Unit {0}
-HappenedFits g asynchronous Queued = Unit {0}
-HappenedFits g asynchronous Waited = Unit {0}
 HappenedFits g asynchronous (Held tac) = OutcomeFits g asynchronous (Hold tac)
 HappenedFits g asynchronous (Settles o) = OutcomeFits g asynchronous o
-HappenedFits g asynchronous (Breaks ending) = Unit {0}
-HappenedFits g asynchronous Returns = Unit {0}
+HappenedFits g asynchronous _ = Unit {0}
 
 -- after a statement the transaction can go on
 pub record StatementKeeps (g : Generated) (id : ServiceId) (r : Stated) : Type 0 where

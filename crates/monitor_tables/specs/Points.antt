@@ -28,7 +28,7 @@ use Rattle.monitor_semantics.specs.declared.draft.Due.{Due}
 use Rattle.monitor_semantics.specs.declared.draft.Due.TheVariants.{After, At}
 use Rattle.monitor_semantics.specs.declared.draft.Draft.{Draft}
 use Rattle.monitor_semantics.specs.declared.outcome.Outcome.{Outcome}
-use Rattle.monitor_semantics.specs.declared.outcome.Outcome.TheVariants.{Stay, Queue, Hold, Wait, Point, Finish, Follow, Break, Back}
+use Rattle.monitor_semantics.specs.declared.outcome.Outcome.TheVariants.{Wait, Point, Finish, Follow}
 use Rattle.monitor_semantics.specs.Bytes.{Bytes}
 use Rattle.monitor_semantics.specs.Calls.{job_target}
 use Rattle.monitor_semantics.specs.Charges.{total_charge}
@@ -371,11 +371,7 @@ row-fits g id x (Follow tac) can began fits = record {
   fits = true_both _ _ (lterm_row-there id x.lterm) refl;
 }
 row-fits g id x Finish can began fits = tt
-row-fits g id x (Hold tac) can began fits = tt
-row-fits g id x (Stay tac) can began fits = tt
-row-fits g id x (Queue tac) can began fits = tt
-row-fits g id x Break can began fits = tt
-row-fits g id x Back can began fits = tt
+row-fits g id x _ can began fits = tt
 
 -- ---- synchronisation points
 

@@ -8,7 +8,7 @@ use Rattle.kd_base.specs.Text.{padded, is_space}
 use Rattle.kd_base.specs.Tools.{cases_option, some_is, true_both}
 use Rattle.kdcs_types.specs.declared.call.Call.{Call}
 use Rattle.kdcs_types.specs.declared.call.Code.{Code}
-use Rattle.kdcs_types.specs.declared.call.Code.TheVariants.{Done, K01, K02, K03, K04, K05, K06, K07, K08, K09, K10, K11}
+use Rattle.kdcs_types.specs.declared.call.Code.TheVariants.{Done}
 use Rattle.kdcs_types.specs.declared.key.ServiceId.{ServiceId}
 use Rattle.kdcs_types.specs.declared.run_state.Header.{Header}
 use Rattle.kdcs_types.specs.declared.run_state.RunState.{RunState}
@@ -122,17 +122,7 @@ length-in_digits (suc k) n = omega (arith, length-append (in_digits k (n / 10)) 
 
 length-code : (code : Code) → length (code_text code) ≤ 32767
 length-code Done = omega arith
-length-code K01 = omega arith
-length-code K02 = omega arith
-length-code K03 = omega arith
-length-code K04 = omega arith
-length-code K05 = omega arith
-length-code K06 = omega arith
-length-code K07 = omega arith
-length-code K08 = omega arith
-length-code K09 = omega arith
-length-code K10 = omega arith
-length-code K11 = omega arith
+length-code _ = omega arith
 
 length-header : (run : RunState) → IsShortRun run → (name : HeaderName) → length (header_value run name) ≤ 32767
 length-header run short Benid = length-padded run.header.benid short.benid

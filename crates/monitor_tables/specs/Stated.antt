@@ -16,7 +16,7 @@ use Rattle.unit_semantics.specs.Statement.{Meaning, Plain, Asks, Ends, step, nex
 use Rattle.monitor_semantics.specs.declared.answer.Called.{Called}
 use Rattle.monitor_semantics.specs.declared.answer.Called.TheVariants.{Replied, Waits, Abnormal, Pends}
 use Rattle.monitor_semantics.specs.declared.outcome.Outcome.{Outcome}
-use Rattle.monitor_semantics.specs.declared.outcome.Outcome.TheVariants.{Stay, Queue, Hold, Wait, Point, Finish, Follow, Break, Back}
+use Rattle.monitor_semantics.specs.declared.outcome.Outcome.TheVariants.{Stay, Queue, Finish, Break, Back}
 use Rattle.monitor_semantics.specs.Bytes.{Bytes}
 use Rattle.monitor_semantics.specs.State.{Application, OpenTransaction, unit_of}
 use Rattle.monitor_semantics.specs.Calls.{Told, call_outcome}
@@ -103,13 +103,10 @@ StatedFits app id r = StatementKeeps app.generation id r
 by_outcome-keeps : (app : Application) (id : ServiceId) (x : OpenTransaction) (variant : Variant) (o : Outcome) → CanGoOn app.generation id x → OutcomeFits app.generation (is_asynchronous id) o → StatedFits app id (by_outcome app (is_asynchronous id) x variant o)
 by_outcome-keeps app id x variant (Stay tac) can fits = record { can = followed-can app.generation id x tac fits can; fits = tt }
 by_outcome-keeps app id x variant (Queue tac) can fits = record { can = followed-can app.generation id x tac fits can; fits = tt }
-by_outcome-keeps app id x variant (Hold tac) can fits = record { can = can; fits = fits }
-by_outcome-keeps app id x variant (Wait tac) can fits = record { can = can; fits = fits }
-by_outcome-keeps app id x variant (Point tac) can fits = record { can = can; fits = fits }
-by_outcome-keeps app id x variant (Follow tac) can fits = record { can = can; fits = fits }
 by_outcome-keeps app id x variant Finish can fits = record { can = can; fits = tt }
 by_outcome-keeps app id x variant Break can fits = record { can = can; fits = tt }
 by_outcome-keeps app id x variant Back can fits = record { can = can; fits = tt }
+by_outcome-keeps app id x variant _ can fits = record { can = can; fits = fits }
 
 by_call-keeps : (app : Application) (id : ServiceId) (unit : UnitText) (x : OpenTransaction) (c : Called) → IsReady unit x.run → CanGoOn app.generation id x → CalledFits app.generation (is_asynchronous id) unit x.run c → StatedFits app id (by_call app (is_asynchronous id) unit x c)
 by_call-keeps app id unit x (Replied reply) ready can fits =

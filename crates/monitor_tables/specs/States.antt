@@ -26,7 +26,8 @@ use Rattle.monitor_semantics.specs.Bytes.{Bytes, bytes_cmp}
 use Rattle.monitor_semantics.specs.State.{Application, OpenTransaction, Session, State}
 use Rattle.monitor_semantics.specs.Locks.{Active, Locks, told_now}
 use Rattle.monitor_semantics.specs.Commands.{lterm_by, lterm_at}
-use Rattle.monitor_laws.specs.Applications.{IsApplication, is_pterm}
+use Rattle.monitor_laws.specs.Applications.{IsApplication}
+use Rattle.monitor_semantics.specs.CommandsOf.{is_pterm}
 use Rattle.monitor_laws.specs.Suits.{gssb_suits, tls_suits, uls_suits, is_user, is_lterm, fits_content, service_suits, job_suits}
 use Rattle.monitor_laws.specs.Transactions.{fits_if_there, CanGoOn}
 use Rattle.monitor_laws.specs.Facts.{IsSessionOf, IsSoundState}

@@ -19,7 +19,7 @@ use Rattle.kdcs_types.specs.Tables.{TableRows, service_of, job_of}
 use Rattle.monitor_semantics.specs.declared.answer.Happened.{Happened}
 use Rattle.monitor_semantics.specs.declared.answer.Happened.TheVariants.{Went, Queued, Waited, Held, Settles, Breaks, Returns}
 use Rattle.monitor_semantics.specs.declared.outcome.Outcome.{Outcome}
-use Rattle.monitor_semantics.specs.declared.outcome.Outcome.TheVariants.{Hold, Stay, Queue, Wait, Point, Follow, Finish, Break, Back}
+use Rattle.monitor_semantics.specs.declared.outcome.Outcome.TheVariants.{Wait, Point, Follow, Finish}
 use Rattle.monitor_semantics.specs.declared.work.Work.{Work}
 use Rattle.monitor_semantics.specs.declared.work.Work.TheVariants as work
 use Rattle.monitor_semantics.specs.Bytes.{Bytes, bytes_cmp}
@@ -87,11 +87,7 @@ module _ (app : Application) (application : IsApplication app) (s : State) (p : 
   point-parts Finish fits u q commit kept = message-parts app u id x q
   point-parts (Point tac) fits u q commit kept = goes_on-parts (Point tac) fits u q (row_after app.generation id x (Point tac)) refl
   point-parts (Follow tac) fits u q commit kept = goes_on-parts (Follow tac) fits u q (row_after app.generation id x (Follow tac)) refl
-  point-parts (Hold tac) fits u q commit kept = q
-  point-parts (Stay tac) fits u q commit kept = q
-  point-parts (Queue tac) fits u q commit kept = q
-  point-parts Break fits u q commit kept = q
-  point-parts Back fits u q commit kept = q
+  point-parts _ fits u q commit kept = q
 
   settled-parts : (o : Outcome) → OutcomeFits app.generation (is_asynchronous id) o → Parts app (settled app s task id x o).after
   unfolding settled

@@ -11,7 +11,7 @@ use Rattle.monitor_semantics.specs.declared.input_use.TacFault.TheVariants.{NotA
 use Rattle.monitor_semantics.specs.declared.input_use.ServiceState.{ServiceState}
 use Rattle.monitor_semantics.specs.declared.input_use.ServiceState.TheVariants.{NoService, Awaits, Running}
 use Rattle.monitor_semantics.specs.declared.input_use.Use.{Use}
-use Rattle.monitor_semantics.specs.declared.input_use.Use.TheVariants.{Sign, SignRefused, SignFirst, AlreadySigned, Off, Display, Output, Again, Busy, TooLong, Next, Start, TacRefused}
+use Rattle.monitor_semantics.specs.declared.input_use.Use.TheVariants.{Sign, SignFirst, AlreadySigned, Display, Output, Again, TooLong, Next, Start, TacRefused}
 use Rattle.monitor_semantics.specs.Bytes.{Bytes}
 use Rattle.monitor_semantics.specs.State.{Session}
 use Rattle.monitor_semantics.specs.Outcomes.{goes_first}
@@ -33,18 +33,9 @@ pub record StartFits (g : Generated) (user tac text : Bytes) : Type 0 where
 
 abbrev pub UseFits : Generated → (user : Bytes) → ServiceState → Use → Type 0
 UseFits g user state (Sign name) = IsTrue (is_user g name)
-UseFits g user state (SignRefused fault) = Unit {0}
-UseFits g user state SignFirst = Unit {0}
-UseFits g user state AlreadySigned = Unit {0}
-UseFits g user state Off = Unit {0}
-UseFits g user state Display = Unit {0}
-UseFits g user state Output = Unit {0}
-UseFits g user state Again = Unit {0}
-UseFits g user state Busy = Unit {0}
-UseFits g user state TooLong = Unit {0}
 UseFits g user state (Next text) = NextFits g user state text
 UseFits g user state (Start tac text) = StartFits g user tac text
-UseFits g user state (TacRefused fault) = Unit {0}
+UseFits g user state _ = Unit {0}
 
 module _ (g : Generated) (user : Bytes) (state : ServiceState) where
   abbrev Fits : Use → Type 0

@@ -1,5 +1,5 @@
 -- The changes of a transaction's writes are in the order of their keys, may be made, and make what the writes make.
-use Rattle.std.specs.Prelude.{◌≡◌, ◌≤◌, refl, ℕ, IsTrue, List, [], ◌∷◌, length, take, Option, Some, None}
+use Rattle.std.specs.Prelude.{◌≡◌, ◌≤◌, refl, ℕ, IsTrue, List, [], ◌∷◌, length, take, Option}
 use Rattle.std.proofs.Common.{ap, ◌∙◌}
 use Rattle.std.proofs.lemmas.List.{take_all}
 use Rattle.std.specs.Ordering.{is_lt}
@@ -9,53 +9,33 @@ use Rattle.std.specs.List.{list_all}
 use Rattle.kd_base.specs.Tools.{both_true, true_both}
 use Rattle.kdcs_types.specs.declared.act.Change.{Change}
 use Rattle.kdcs_types.specs.declared.key.Area.{Area}
-use Rattle.kdcs_types.specs.declared.key.Area.TheVariants.{Gssb, Tls, Uls}
 use Rattle.kdcs_types.specs.declared.key.Key.{Key}
 use Rattle.kdcs_types.specs.Keyed.{keyed}
 use Rattle.kdcs_types.specs.Keys.{area_cmp, area_key, key_cmp}
 use Rattle.kdcs_types.specs.Tables.{TableRows, AreChanges, change_fits, change_key, with_change, with_changes}
 use Rattle.monitor_semantics.specs.Bytes.{Bytes}
+use Rattle.monitor_semantics.specs.AreaLaws.{area_changes}
 use Rattle.monitor_semantics.specs.Endings.{area_change, with_areas}
 use Rattle.storage_areas.specs.Areas.{changes_of}
 
 abbrev pub Written : Type 0
 Written = List (Area × Option Bytes)
 
-key_of_change : (area : Area) (content : Option Bytes) → change_key (area_change area content) ≡ area_key area
-key_of_change (Gssb name) None = refl
-key_of_change (Gssb name) (Some bytes) = refl
-key_of_change (Tls block lterm) None = refl
-key_of_change (Tls block lterm) (Some []) = refl
-key_of_change (Tls block lterm) (Some (c ∷ cs)) = refl
-key_of_change (Uls block user) None = refl
-key_of_change (Uls block user) (Some []) = refl
-key_of_change (Uls block user) (Some (c ∷ cs)) = refl
-
-change_may_be : (area : Area) (content : Option Bytes) → IsTrue (change_fits (area_change area content))
-change_may_be (Gssb name) None = refl
-change_may_be (Gssb name) (Some bytes) = refl
-change_may_be (Tls block lterm) None = refl
-change_may_be (Tls block lterm) (Some []) = refl
-change_may_be (Tls block lterm) (Some (c ∷ cs)) = refl
-change_may_be (Uls block user) None = refl
-change_may_be (Uls block user) (Some []) = refl
-change_may_be (Uls block user) (Some (c ∷ cs)) = refl
-
 below : (area : Area) (key : Key) (ws : Written) → key ≡ area_key area → IsTrue (below_all area_cmp area ws) → IsTrue (below_all key_cmp key (keyed change_key (changes_of ws)))
 below area key [] e h = refl
 below area key (w ∷ ws) e h =
     let parts = both_true (is_lt (area_cmp area w.0)) (below_all area_cmp area ws) h in
-    true_both _ _ ((λ i. is_lt (key_cmp (e i) (key_of_change w.0 w.1 i))) ∙ parts.0) (below area key ws e parts.1)
+    true_both _ _ ((λ i. is_lt (key_cmp (e i) ((area_changes w.0 w.1).key i))) ∙ parts.0) (below area key ws e parts.1)
 
 ascending : (ws : Written) → IsTrue (is_sorted area_cmp ws) → IsTrue (is_sorted key_cmp (keyed change_key (changes_of ws)))
 ascending [] up = refl
 ascending (w ∷ ws) up =
     let parts = both_true (below_all area_cmp w.0 ws) (is_sorted area_cmp ws) up in
-    true_both _ _ (below w.0 _ ws (key_of_change w.0 w.1) parts.0) (ascending ws parts.1)
+    true_both _ _ (below w.0 _ ws (area_changes w.0 w.1).key parts.0) (ascending ws parts.1)
 
 fit : (ws : Written) → IsTrue (list_all change_fits (changes_of ws))
 fit [] = refl
-fit (w ∷ ws) = true_both _ _ (change_may_be w.0 w.1) (fit ws)
+fit (w ∷ ws) = true_both _ _ (area_changes w.0 w.1).fits (fit ws)
 
 pub are_changes : (ws : Written) → IsTrue (is_sorted area_cmp ws) → AreChanges (changes_of ws)
 are_changes ws up = record { ascending = ascending ws up; fit = fit ws }

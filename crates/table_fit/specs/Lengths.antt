@@ -118,12 +118,10 @@ service_long s fits =
     omega (arith, service_parts s, padded_len s.first fits.first, padded_len s.next fits.next, padded_len s.user fits.user, lterm_long s.id s.lterm fits.lterm, lssbs_long s.lssbs fits.lssbs.1)
 
 pub lengths_are_those_of_the_bytes : LengthsAreThoseOfTheBytes
-lengths_are_those_of_the_bytes (row.Gssb name content) h = refl
-lengths_are_those_of_the_bytes (row.Tls block lterm content) h = refl
-lengths_are_those_of_the_bytes (row.Uls block user content) h = refl
 lengths_are_those_of_the_bytes (row.Service id service) h = service_long service h.value
 lengths_are_those_of_the_bytes (row.Job number value) h = job_long value h.value
 lengths_are_those_of_the_bytes (row.Shown lterm value) h = job_long value h.value
+lengths_are_those_of_the_bytes _ h = refl
 
 -- ---- charges
 

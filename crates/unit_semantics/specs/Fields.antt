@@ -47,9 +47,9 @@ field_bytes run None = []
 field_bytes run (Some f) = take f.length (drop f.offset (run_area run f.spab))
 
 -- the length of a field
-abbrev pub room_of : Option Field → ℕ
-room_of None = 0
-room_of (Some f) = f.length
+abbrev pub field_length : Option Field → ℕ
+field_length None = 0
+field_length (Some f) = f.length
 
 -- the bytes of an operand
 unfoldable pub value_of : UnitText → RunState → Operand → List ℕ

@@ -183,7 +183,7 @@ steps_stay_ready unit run labels ready =
 
 -- ---- answers
 
-time_left : (unit : UnitText) (run : RunState) → IsAsking (step unit run) → run.count ≤ run.budget → run.count < run.budget
+pub time_left : (unit : UnitText) (run : RunState) → IsAsking (step unit run) → run.count ≤ run.budget → run.count < run.budget
 unfolding step
 time_left unit run asks le =
     elim (cases_option (statement_at unit run.place)) [

@@ -18,7 +18,7 @@ use Rattle.unit_types.specs.declared.action.UnitStatement.{UnitStatement}
 use Rattle.unit_types.specs.declared.unit.Field.{Field}
 use Rattle.unit_types.specs.UnitText.{UnitText, field_named, label_place, statement_at}
 use Rattle.unit_semantics.specs.Contents.{number_of, number_in, compared}
-use Rattle.unit_semantics.specs.Fields.{field_bytes, room_of, value_of, stored, stored_in}
+use Rattle.unit_semantics.specs.Fields.{field_bytes, field_length, value_of, stored, stored_in}
 
 -- a plain statement was done and leads to this state, this call comes next, or the run ends with this cause
 pub data Meaning : Type 0 where
@@ -87,7 +87,7 @@ calculates unit run (Some f) operand calculation =
 
 -- the length of a target field
 abbrev pub target_room : UnitText → List ℕ → ℕ
-target_room unit name = room_of (field_named unit name)
+target_room unit name = field_length (field_named unit name)
 
 unfoldable pub done_by : UnitText → RunState → Action → Meaning
 done_by unit run (action.Move f x) = gets unit run f (value_of unit run x)
@@ -124,8 +124,6 @@ done_by unit run (action.Pend variant follow_up) = Asks (call.Pend variant (opti
 
 -- whether the doing of a statement may take memory: one that copies bytes
 abbrev pub takes_memory : Action → Bool
-takes_memory (action.Move f x) = true
-takes_memory (action.Join f x y) = true
 takes_memory (action.Add f x) = false
 takes_memory (action.Sub f x) = false
 takes_memory (action.Mul f x) = false
@@ -134,26 +132,9 @@ takes_memory (action.If x relation y label) = false
 takes_memory (action.Jump label) = false
 takes_memory action.Init = false
 takes_memory (action.Mget f) = false
-takes_memory (action.Mput x) = true
 takes_memory (action.Fget f) = false
-takes_memory (action.Fput to x) = true
-takes_memory (action.Dput to mode d h m s x) = true
-takes_memory (action.SgetGb name f) = true
-takes_memory (action.SputGb name x) = true
-takes_memory (action.SrelGb name) = true
-takes_memory (action.SgetKp name f) = true
-takes_memory (action.SgetRl name f) = true
-takes_memory (action.SputMs name x) = true
-takes_memory (action.SrelLb name) = true
-takes_memory (action.SgetUs name f) = true
-takes_memory (action.SputUs name x) = true
-takes_memory (action.Gtda name f) = true
-takes_memory (action.Ptda name x) = true
-takes_memory (action.UnlkGb name) = true
-takes_memory (action.UnlkUs name) = true
-takes_memory (action.UnlkDa name) = true
 takes_memory (action.Pend variant None) = false
-takes_memory (action.Pend variant (Some follow_up)) = true
+takes_memory _ = true
 
 -- what the statement at a place says, counted from 1
 abbrev pub action_at : UnitText → ℕ → Option Action
@@ -177,35 +158,14 @@ step unit run = next_step unit run (action_at unit run.place)
 
 -- the field that a call reads into
 abbrev pub target_of : Action → Option (List ℕ)
-target_of (action.Move f x) = None
-target_of (action.Join f x y) = None
-target_of (action.Add f x) = None
-target_of (action.Sub f x) = None
-target_of (action.Mul f x) = None
-target_of (action.Div f x) = None
-target_of (action.If x relation y label) = None
-target_of (action.Jump label) = None
-target_of action.Init = None
 target_of (action.Mget f) = Some f
-target_of (action.Mput x) = None
 target_of (action.Fget f) = Some f
-target_of (action.Fput to x) = None
-target_of (action.Dput to mode d h m s x) = None
 target_of (action.SgetGb name f) = Some f
-target_of (action.SputGb name x) = None
-target_of (action.SrelGb name) = None
 target_of (action.SgetKp name f) = Some f
 target_of (action.SgetRl name f) = Some f
-target_of (action.SputMs name x) = None
-target_of (action.SrelLb name) = None
 target_of (action.SgetUs name f) = Some f
-target_of (action.SputUs name x) = None
 target_of (action.Gtda name f) = Some f
-target_of (action.Ptda name x) = None
-target_of (action.UnlkGb name) = None
-target_of (action.UnlkUs name) = None
-target_of (action.UnlkDa name) = None
-target_of (action.Pend variant follow_up) = None
+target_of _ = None
 
 -- the target gets the content, where there are both
 abbrev pub read_into : UnitText → RunState → Option (List ℕ) → Option (List ℕ) → RunState

@@ -4,7 +4,7 @@ use Rattle.std.specs.Map.{lookup}
 use Rattle.unit_types.specs.declared.action.Action.{Action}
 use Rattle.unit_types.specs.declared.action.Action.TheVariants as action
 use Rattle.unit_types.specs.declared.action.Operand.{Operand}
-use Rattle.unit_types.specs.declared.action.Operand.TheVariants.{Field, Literal, Digits, Header, Trim}
+use Rattle.unit_types.specs.declared.action.Operand.TheVariants.{Literal, Digits}
 use Rattle.unit_types.specs.declared.action.UnitStatement.{UnitStatement}
 use Rattle.unit_types.specs.declared.unit.Field.{Field as UnitField}
 
@@ -84,11 +84,9 @@ operands_of (action.Pend variant follow_up) = operand_if_there follow_up
 
 -- a literal has at most 32,767 bytes, and a number 18 digits
 abbrev pub IsShortOperand : Operand → Type 0
-IsShortOperand (Field name) = Unit {0}
 IsShortOperand (Literal bytes) = length bytes ≤ 32767
 IsShortOperand (Digits bytes) = length bytes ≤ 18
-IsShortOperand (Header name) = Unit {0}
-IsShortOperand (Trim name) = Unit {0}
+IsShortOperand _ = Unit {0}
 
 -- no operand is longer than an area may be
 abbrev pub HasShortOperands : UnitText → Type 0

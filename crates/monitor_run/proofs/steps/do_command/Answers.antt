@@ -4,7 +4,7 @@ use Rattle.std.proofs.lemmas.Result.{IfOk-weaker, on_ok_weaker}
 use Rattle.monitor_semantics.specs.Commands.{ScriptStep, command_of, rotated, turned_step}
 use Rattle.monitor_semantics.specs.Turns.{turn_of}
 use Rattle.monitor_semantics.specs.declared.command.Command.{Command}
-use Rattle.monitor_laws.specs.Applications.{IsCommandOf}
+use Rattle.monitor_semantics.specs.CommandsOf.{IsCommandOf}
 use Rattle.monitor_run.specs.Running.{turns_of, PerformsSteps, DidSteps}
 use Rattle.monitor_run.proofs.Counting.{commits_by}
 use Rattle.monitor_run.proofs.Commanding.{own_running, steps_of_run, steps_of_turn, steps_of_restart, steps_of_single, single_of, performs_command, did_command, one_counts, restart_counts}

@@ -22,11 +22,11 @@ pub record IsAtRest (s : State) (pterm : Bytes) (v : Session) : Type 0 where
   pub signed : find bytes_cmp pterm s.signed ≡ Some v
   pub rests : is_running s (Dialogue v.user) ≡ false
 
--- a user signs on where nobody is, and is signed on nowhere else; a service starts where none is
+-- a user signs on where nobody is, and is signed on nowhere else; a service goes on where it awaits an input, and starts where there is none
 abbrev pub IsFor : State → Bytes → Use → Type 0
 IsFor s pterm (Sign name) = (find bytes_cmp pterm s.signed ≡ None) × (list_any (has_user name) s.signed ≡ false)
 IsFor s pterm Off = (v : Session) × (find bytes_cmp pterm s.signed ≡ Some v)
-IsFor s pterm (Next text) = (v : Session) × IsAtRest s pterm v
+IsFor s pterm (Next text) = (v : Session) × IsAtRest s pterm v × (is_awaiting s (Dialogue v.user) ≡ true)
 IsFor s pterm (Start tac text) = (v : Session) × IsAtRest s pterm v × (is_awaiting s (Dialogue v.user) ≡ false)
 IsFor s pterm _ = Unit {0}
 
@@ -67,7 +67,7 @@ module _ (s : State) (pterm : Bytes) (v : Session) (on : find bytes_cmp pterm s.
   text_fits : (g : Generated) (text : Bytes) (r : Split) (running awaiting : Bool) → is_running s (Dialogue v.user) ≡ running → is_awaiting s (Dialogue v.user) ≡ awaiting
       → IsFor s pterm (use_of_text g text r (service_state_by running awaiting))
   text_fits g text r true awaiting e f = tt
-  text_fits g text r false true e f = either s pterm (nat_lt g.limits.nb (length text)) TooLong (Next text) tt (v, record { signed = on; rests = e })
+  text_fits g text r false true e f = either s pterm (nat_lt g.limits.nb (length text)) TooLong (Next text) tt (v, record { signed = on; rests = e }, f)
   text_fits g text r false false e f = start_fits g r.word (after_word r) (tac_named g r.word) (record { signed = on; rests = e }) f
 
   off_fits : (state : ServiceState) → IsFor s pterm (off_use state)
