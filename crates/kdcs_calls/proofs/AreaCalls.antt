@@ -1,120 +1,168 @@
--- A call goes on with the area in its operand just as the definitions say, and so do the locks.
-use Rattle.std.specs.Prelude.{◌≡◌, refl, ℕ, Bool, true, false, ◌&&◌, Option, Some, None, Result, Ok, Err, IfOk, OnOk, if◌then◌else◌, option_map}
+-- A call goes on with the area in its operand just as the definitions say, and so do the locks and the waits.
+use Rattle.std.specs.Prelude.{◌≡◌, ⊤, refl, ℕ, Bool, true, false, ◌&&◌, Option, Some, None, Result, Ok, Err, IfOk, OnOk, if◌then◌else◌, option_map}
 use Rattle.std.proofs.Common.{ap, sym, subst, ◌∙◌}
 use Rattle.kdcs_types.specs.declared.key.Area.{Area}
 use Rattle.kdcs_types.specs.declared.key.Area.TheVariants.{Gssb, Tls, Uls}
 use Rattle.kdcs_types.specs.declared.call.Call.{Call}
+use Rattle.kdcs_types.specs.declared.call.Call.TheVariants.{SgetGb, SputGb, SrelGb, SgetUs, SputUs, Gtda, Ptda, UnlkGb, UnlkUs, UnlkDa}
 use Rattle.kdcs_types.specs.declared.call.Code.{Code}
-use Rattle.kdcs_types.specs.declared.call.Code.TheVariants.{K08}
+use Rattle.kdcs_types.specs.declared.call.Code.TheVariants.{K03, K08, K11}
 use Rattle.kdcs_types.specs.declared.key.ServiceId.{ServiceId}
 use Rattle.kdcs_types.specs.Tables.{TableRows}
-use Rattle.kdcdef_types.specs.Generation.{Generated, has_tls, has_uls}
-use Rattle.area_locks.specs.Asked.{asked, unlocked}
+use Rattle.kdcdef_types.specs.Generation.{Generated}
+use Rattle.area_locks.specs.Asked.{asked, unlocked as unlocked_locks}
 use Rattle.monitor_semantics.specs.declared.answer.Called.{Called}
+use Rattle.monitor_semantics.specs.declared.answer.Called.TheVariants.{Replied, Waits, Abnormal, Pends}
 use Rattle.monitor_semantics.specs.Bytes.{Bytes}
-use Rattle.monitor_semantics.specs.Calls.{Told, Performed, called, declared, name_in_operand, with_name}
+use Rattle.monitor_semantics.specs.Calls.{Told, Performed, called, declared, deleted, locked, name_in_operand, or_empty, read_answer, read_block, read_or, replied, seen, unlocked, write_block, wrote}
 use Rattle.monitor_semantics.specs.Endings.{is_asynchronous}
 use Rattle.monitor_semantics.specs.Locks.{Locks, told_now}
 use Rattle.monitor_semantics.specs.Statements.{area_of_call}
 use Rattle.monitor_semantics.specs.State.{OpenTransaction as Work}
-use Rattle.kdcs_calls.specs.Calling.{after_release, after_request, locks_by_call, may_release}
-use Rattle.kdcs_calls.specs.Parts.{asked_in, gssb_by, gssb_in, in_area, released_in, tls_by, tls_in, told_of, uls_by, uls_in}
-
-module _ (g : Generated) (t : TableRows) (l : Locks) (id : ServiceId) (x : Work) (go : Told → Area → Performed) where
-  pub gssb_call : (o : Option Bytes) → in_area x (gssb_by o) (λ a. go (told_of g t l id a) a) ≡ with_name x o (λ n. go (told_now l g.limits.reswait t id (option_map Gssb o)) (Gssb n))
-  unfolding told_now
-  gssb_call None = refl
-  gssb_call (Some name) = refl
-
-  pub uls_call : (o : Option Bytes) → in_area x (uls_by g x.user o) (λ a. go (told_of g t l id a) a) ≡ with_name x o (λ n. declared x (has_uls g n) (go (told_now l g.limits.reswait t id (option_map (λ block. Uls block x.user) o)) (Uls n x.user)))
-  unfolding told_now
-  uls_call None = refl
-  uls_call (Some name) = by (has_uls g name)
-    where
-      by : (b : Bool) → in_area x (if b then Ok (Uls name x.user) else Err K08) (λ a. go (told_of g t l id a) a) ≡ declared x b (go (told_of g t l id (Uls name x.user)) (Uls name x.user))
-      by true = refl
-      by false = refl
-
-  pub tls_call : (o : Option Bytes) → in_area x (tls_by g x.lterm o) (λ a. go (told_of g t l id a) a) ≡ with_name x o (λ n. declared x (has_tls g n) (go (told_now l g.limits.reswait t id (option_map (λ block. Tls block x.lterm) o)) (Tls n x.lterm)))
-  unfolding told_now
-  tls_call None = refl
-  tls_call (Some name) = by (has_tls g name)
-    where
-      by : (b : Bool) → in_area x (if b then Ok (Tls name x.lterm) else Err K08) (λ a. go (told_of g t l id a) a) ≡ declared x b (go (told_of g t l id (Tls name x.lterm)) (Tls name x.lterm))
-      by true = refl
-      by false = refl
-
-module _ (g : Generated) (now : ℕ) (l : Locks) (id : ServiceId) where
-  pub gssb_asked : (o : Option Bytes) → asked_in g now l id (gssb_by o) ≡ after_request g now l id (option_map Gssb o)
-  gssb_asked None = refl
-  gssb_asked (Some name) = refl
-
-  pub uls_asked : (user : Bytes) (o : Option Bytes) → asked_in g now l id (uls_by g user o) ≡ after_request g now l id (option_map (λ block. Uls block user) o)
-  uls_asked user None = refl
-  uls_asked user (Some name) = by (has_uls g name)
-    where
-      by : (b : Bool) → asked_in g now l id (if b then Ok (Uls name user) else Err K08) ≡ (if b then asked l g.limits.reswait now id (Uls name user) else l)
-      by true = refl
-      by false = refl
-
-  pub tls_asked : (lterm : Bytes) (o : Option Bytes) → asked_in g now l id (tls_by g lterm o) ≡ after_request g now l id (option_map (λ block. Tls block lterm) o)
-  tls_asked lterm None = refl
-  tls_asked lterm (Some name) = by (has_tls g name)
-    where
-      by : (b : Bool) → asked_in g now l id (if b then Ok (Tls name lterm) else Err K08) ≡ (if b then asked l g.limits.reswait now id (Tls name lterm) else l)
-      by true = refl
-      by false = refl
-
-module _ (g : Generated) (l : Locks) (id : ServiceId) (x : Work) where
-  pub gssb_released : (o : Option Bytes) → released_in l id x (gssb_by o) ≡ after_release g l id x (option_map Gssb o)
-  gssb_released None = refl
-  gssb_released (Some name) = refl
-
-  pub uls_released : (user : Bytes) (o : Option Bytes) → released_in l id x (uls_by g user o) ≡ after_release g l id x (option_map (λ block. Uls block user) o)
-  uls_released user None = refl
-  uls_released user (Some name) = by (has_uls g name)
-    where
-      by : (b : Bool) → released_in l id x (if b then Ok (Uls name user) else Err K08) ≡ (if b && may_release x (Uls name user) then unlocked l id (Uls name user) else l)
-      by true = refl
-      by false = refl
-
-  pub tls_released : (lterm : Bytes) (o : Option Bytes) → released_in l id x (tls_by g lterm o) ≡ after_release g l id x (option_map (λ block. Tls block lterm) o)
-  tls_released lterm None = refl
-  tls_released lterm (Some name) = by (has_tls g name)
-    where
-      by : (b : Bool) → released_in l id x (if b then Ok (Tls name lterm) else Err K08) ≡ (if b && may_release x (Tls name lterm) then unlocked l id (Tls name lterm) else l)
-      by true = refl
-      by false = refl
+use Rattle.kdcs_calls.specs.Calling.{after_release, after_request, is_declared, locks_by_call, may_release}
+use Rattle.kdcs_calls.specs.Parts.{area_by, asked_in, delete_area, goes_on, in_area, read_area, released_in, told_of}
+use Rattle.kdcs_calls.proofs.Holders.{IsQuiet}
 
 -- ---- what a call answers
 
-module _ (g : Generated) (t : TableRows) (l : Locks) (id : ServiceId) (x y : Work) {E : Type 0} (r : Result Called E) where
-  -- the call is answered so
-  abbrev Answers : Performed → Type 0
-  Answers p = IfOk r (λ (answer : Called). (y, answer) ≡ p)
+module _ (g : Generated) (t : TableRows) (l : Locks) (id : ServiceId) (x : Work) (named : Bytes → Area) where
+  area_call : (go : Told → Area → Performed) (o : Option Bytes) → in_area x (area_by g named o) (λ a. go (told_of g t l id a) a) ≡ goes_on g t l id x named go o
+  unfolding told_now
+  area_call go None = refl
+  area_call go (Some name) = by (is_declared g (named name))
+    where
+      by : (b : Bool) → in_area x (if b then Ok (named name) else Err K08) (λ a. go (told_of g t l id a) a) ≡ declared x b (go (told_of g t l id (named name)) (named name))
+      by true = refl
+      by false = refl
 
-  -- what the definition says of this call
-  abbrev pub Answered : Call → Type 0
-  Answered call = Answers (called g (told_now l g.limits.reswait t id (area_of_call x call)) (is_asynchronous id) x call)
+  area_asked : (o : Option Bytes) → asked_in g t.clock l id (area_by g named o) ≡ after_request g t.clock l id (option_map named o)
+  area_asked None = refl
+  area_asked (Some name) = by (is_declared g (named name))
+    where
+      by : (b : Bool) → asked_in g t.clock l id (if b then Ok (named name) else Err K08) ≡ (if b then asked l g.limits.reswait t.clock id (named name) else l)
+      by true = refl
+      by false = refl
 
-  pub answered_as : (call k : Call) → call ≡ k → Answered k → Answered call
-  answered_as call k is h = subst Answered (sym is) h
+  area_released : (o : Option Bytes) → released_in l id x (area_by g named o) ≡ after_release g l id x (option_map named o)
+  area_released None = refl
+  area_released (Some name) = by (is_declared g (named name))
+    where
+      by : (b : Bool) → released_in l id x (if b then Ok (named name) else Err K08) ≡ (if b && may_release x (named name) then unlocked_locks l id (named name) else l)
+      by true = refl
+      by false = refl
 
-  module _ (go : Told → Area → Performed) (operand : Bytes) (area : Result Area Code) where
-    pub gssb_answers : area ≡ gssb_in operand → Answers (in_area x area (λ a. go (told_of g t l id a) a)) → Answers (with_name x (name_in_operand operand) (λ n. go (told_now l g.limits.reswait t id (option_map Gssb (name_in_operand operand))) (Gssb n)))
-    gssb_answers is h =
-        subst Answers (ap (λ (o : Result Area Code). in_area x o (λ a. go (told_of g t l id a) a)) is ∙ gssb_call g t l id x go (name_in_operand operand)) h
+  module _ {E : Type 0} (r : Result Called E) (o : Option Bytes) (area : Result Area Code) (is : area ≡ area_by g named o) where
+    pub answers_in : (y : Work) (go : Told → Area → Performed) → IfOk r (λ (answer : Called). (y, answer) ≡ in_area x area (λ a. go (told_of g t l id a) a)) → IfOk r (λ (answer : Called). (y, answer) ≡ goes_on g t l id x named go o)
+    answers_in y go h = subst (λ (p : Performed). IfOk r (λ (answer : Called). (y, answer) ≡ p)) (ap (λ (a : Result Area Code). in_area x a (λ a. go (told_of g t l id a) a)) is ∙ area_call go o) h
 
-    pub uls_answers : area ≡ uls_in g x.user operand → Answers (in_area x area (λ a. go (told_of g t l id a) a)) → Answers (with_name x (name_in_operand operand) (λ n. declared x (has_uls g n) (go (told_now l g.limits.reswait t id (option_map (λ block. Uls block x.user) (name_in_operand operand))) (Uls n x.user))))
-    uls_answers is h =
-        subst Answers (ap (λ (o : Result Area Code). in_area x o (λ a. go (told_of g t l id a) a)) is ∙ uls_call g t l id x go (name_in_operand operand)) h
+    pub locks_in : (new : Locks) → OnOk r (new ≡ asked_in g t.clock l id area) → OnOk r (new ≡ after_request g t.clock l id (option_map named o))
+    locks_in new h = subst (λ (m : Locks). OnOk r (new ≡ m)) (ap (asked_in g t.clock l id) is ∙ area_asked o) h
 
-    pub tls_answers : area ≡ tls_in g x.lterm operand → Answers (in_area x area (λ a. go (told_of g t l id a) a)) → Answers (with_name x (name_in_operand operand) (λ n. declared x (has_tls g n) (go (told_now l g.limits.reswait t id (option_map (λ block. Tls block x.lterm) (name_in_operand operand))) (Tls n x.lterm))))
-    tls_answers is h =
-        subst Answers (ap (λ (o : Result Area Code). in_area x o (λ a. go (told_of g t l id a) a)) is ∙ tls_call g t l id x go (name_in_operand operand)) h
+    pub locks_out : (new : Locks) → OnOk r (new ≡ released_in l id x area) → OnOk r (new ≡ after_release g l id x (option_map named o))
+    locks_out new h = subst (λ (m : Locks). OnOk r (new ≡ m)) (ap (released_in l id x) is ∙ area_released o) h
 
--- ---- the locks after it
+-- ---- what becomes of the locks and of the waits
 
-module _ (g : Generated) (now : ℕ) (l new : Locks) (id : ServiceId) (x : Work) {E : Type 0} (r : Result Called E) (call k : Call) where
-  pub locks_as : (left : Locks) → call ≡ k → left ≡ locks_by_call g now l id x k → OnOk r (new ≡ left) → OnOk r (new ≡ locks_by_call g now l id x call)
-  locks_as left is e h = subst (λ (m : Locks). OnOk r (new ≡ m)) (e ∙ sym (ap (locks_by_call g now l id x) is)) h
+abbrev pub IsReply : Called → Type 0
+IsReply (Replied reply) = ⊤
+IsReply Waits = ⊥
+IsReply (Abnormal cause) = ⊥
+IsReply (Pends variant o) = ⊥
+
+-- a call that is answered, and whose transaction touches the same areas
+abbrev pub IsPlain : Work → Performed → Type 0
+IsPlain x p = IsQuiet x p × IsReply p.1
+
+plain_read : (x : Work) (room : ℕ) (o : Option Bytes) → IsPlain x (read_or K03 x room o)
+plain_read x room None = (refl, tt)
+plain_read x room (Some bytes) = (refl, tt)
+
+plain_delete : (x : Work) (area : Area) (o : Option Bytes) → IsPlain x (deleted x area o)
+plain_delete x area None = (refl, tt)
+plain_delete x area (Some bytes) = (refl, tt)
+
+-- a call on no area but LSSBs
+abbrev pub IsAlone : Call → Type 0
+IsAlone (SgetGb name room) = ⊥
+IsAlone (SputGb name bytes) = ⊥
+IsAlone (SrelGb name) = ⊥
+IsAlone (SgetUs name room) = ⊥
+IsAlone (SputUs name bytes) = ⊥
+IsAlone (Gtda name room) = ⊥
+IsAlone (Ptda name bytes) = ⊥
+IsAlone (UnlkGb name) = ⊥
+IsAlone (UnlkUs name) = ⊥
+IsAlone (UnlkDa name) = ⊥
+IsAlone _ = ⊤
+
+module _ (g : Generated) (t : TableRows) (l : Locks) (id : ServiceId) (x : Work) where
+  -- what the definition says of a call
+  abbrev pub answer_to : Call → Performed
+  answer_to call = called g (told_now l g.limits.reswait t id (area_of_call x call)) (is_asynchronous id) x call
+
+  -- what follows from refusals, from requests for a lock, from UNLK and from the calls on no area, follows from all
+  module _ (Follows : Locks → Option Area → Performed → Type 0)
+      (refuses : (area : Option Area) (code : Code) → Follows l area (replied x code))
+      (locks : (area : Area) (go : Work → Performed) → ((y : Work) → IsPlain y (go y)) → Follows (asked l g.limits.reswait t.clock id area) (Some area) (locked (told_of g t l id area) x area go))
+      (releases : (v : Told) (area : Area) → Follows (if may_release x area then unlocked_locks l id area else l) (Some area) (unlocked v x area))
+      (alone : (call : Call) → IsAlone call → Follows l None (answer_to call)) where
+    abbrev Asks : (go : Told → Area → Performed) → Type 0
+    Asks go = (area : Area) → Follows (asked l g.limits.reswait t.clock id area) (Some area) (go (told_of g t l id area) area)
+
+    asked_follows : (named : Bytes → Area) (go : Told → Area → Performed) → Asks go → (o : Option Bytes) → Follows (after_request g t.clock l id (option_map named o)) (option_map named o) (goes_on g t l id x named go o)
+    unfolding told_now
+    asked_follows named go asks None = refuses None K11
+    asked_follows named go asks (Some name) = by (is_declared g (named name))
+      where
+        by : (b : Bool) → Follows (if b then asked l g.limits.reswait t.clock id (named name) else l) (Some (named name)) (declared x b (go (told_of g t l id (named name)) (named name)))
+        by true = asks (named name)
+        by false = refuses (Some (named name)) K08
+
+    released_follows : (named : Bytes → Area) (o : Option Bytes) → Follows (after_release g l id x (option_map named o)) (option_map named o) (goes_on g t l id x named (λ v a. unlocked v x a) o)
+    released_follows named None = refuses None K11
+    released_follows named (Some name) = by (is_declared g (named name))
+      where
+        by : (b : Bool) → Follows (if b && may_release x (named name) then unlocked_locks l id (named name) else l) (Some (named name)) (declared x b (unlocked (told_now l g.limits.reswait t id (Some (named name))) x (named name)))
+        by true = releases (told_now l g.limits.reswait t id (Some (named name))) (named name)
+        by false = refuses (Some (named name)) K08
+
+    reads : (room : ℕ) → Asks (λ (v : Told) (a : Area). read_area v x a room)
+    reads room area = locks area (λ y. read_or K03 y room (seen (told_of g t l id area) y area)) (λ y. plain_read y room (seen (told_of g t l id area) y area))
+
+    reads_block : (room : ℕ) → Asks (λ (v : Told) (a : Area). read_block v x a room)
+    reads_block room area = locks area (λ y. read_answer y room (or_empty (seen (told_of g t l id area) y area))) (λ y. (refl, tt))
+
+    writes : (bytes : Bytes) → Asks (λ (v : Told) (a : Area). write_block v x a bytes)
+    writes bytes area = locks area (λ y. wrote y area (Some bytes)) (λ y. (refl, tt))
+
+    deletes : Asks (λ (v : Told) (a : Area). delete_area v x a)
+    deletes area = locks area (λ y. deleted y area (seen (told_of g t l id area) y area)) (λ y. plain_delete y area (seen (told_of g t l id area) y area))
+
+    abbrev uls : Bytes → Area
+    uls block = Uls block x.user
+
+    abbrev tls : Bytes → Area
+    tls block = Tls block x.lterm
+
+    follows : (call : Call) → Follows (locks_by_call g t.clock l id x call) (area_of_call x call) (answer_to call)
+    unfolding called
+    follows (SgetGb name room) = asked_follows Gssb (λ v a. read_area v x a room) (reads room) (name_in_operand name)
+    follows (SputGb name bytes) = asked_follows Gssb (λ v a. write_block v x a bytes) (writes bytes) (name_in_operand name)
+    follows (SrelGb name) = asked_follows Gssb (λ v a. delete_area v x a) deletes (name_in_operand name)
+    follows (SgetUs name room) = asked_follows uls (λ v a. read_block v x a room) (reads_block room) (name_in_operand name)
+    follows (SputUs name bytes) = asked_follows uls (λ v a. write_block v x a bytes) (writes bytes) (name_in_operand name)
+    follows (Gtda name room) = asked_follows tls (λ v a. read_block v x a room) (reads_block room) (name_in_operand name)
+    follows (Ptda name bytes) = asked_follows tls (λ v a. write_block v x a bytes) (writes bytes) (name_in_operand name)
+    follows (UnlkGb name) = released_follows Gssb (name_in_operand name)
+    follows (UnlkUs name) = released_follows uls (name_in_operand name)
+    follows (UnlkDa name) = released_follows tls (name_in_operand name)
+    follows call = alone call tt
+
+    pub performed_follows : {E : Type 0} (call : Call) (new : Locks) (y : Work) (r : Result Called E)
+        → IfOk r (λ (answer : Called). (y, answer) ≡ answer_to call)
+        → OnOk r (new ≡ locks_by_call g t.clock l id x call)
+        → IfOk r (λ (answer : Called). Follows new (area_of_call x call) (y, answer))
+    performed_follows call new y (Ok answer) exact after =
+        subst (λ (m : Locks). Follows m (area_of_call x call) (y, answer)) (sym after)
+        (subst (λ (p : Performed). Follows (locks_by_call g t.clock l id x call) (area_of_call x call) p) (sym exact) (follows call))
+    performed_follows call new y (Err e) exact after = tt

@@ -2,7 +2,7 @@
 use Rattle.std.specs.Prelude.{◌≡◌, ◌≤◌, ℕ, Bool, true, ◌&&◌, not, All, List, length, Option, Some, None, IfSome, is_some, if◌then◌else◌}
 use Rattle.std.specs.FinMap.{find}
 use Rattle.kdcs_types.specs.declared.call.Call.{Call}
-use Rattle.kdcs_types.specs.declared.call.Call.TheVariants.{Init, Mget, Mput, Fget, Fput, Dput, SgetGb, SputGb, SrelGb, SgetKp, SgetRl, SputMs, SrelLb, SgetUs, SputUs, Gtda, Ptda, UnlkGb, UnlkUs, UnlkDa, Pend}
+use Rattle.kdcs_types.specs.declared.call.Call.TheVariants.{SgetGb, SputGb, SrelGb, SgetUs, SputUs, Gtda, Ptda, UnlkGb, UnlkUs, UnlkDa}
 use Rattle.kdcs_types.specs.declared.key.Area.{Area}
 use Rattle.kdcs_types.specs.declared.key.Area.TheVariants.{Gssb, Tls, Uls}
 use Rattle.kdcs_types.specs.declared.key.ServiceId.{ServiceId}
@@ -85,19 +85,9 @@ after_release g l id x (Some area) = if is_declared g area && may_release x area
 
 -- the locks after a call, once INIT is done
 abbrev pub locks_by_call : Generated → (now : ℕ) → Locks → ServiceId → Work → Call → Locks
-locks_by_call g now l id x Init = l
-locks_by_call g now l id x (Mget room) = l
-locks_by_call g now l id x (Mput bytes) = l
-locks_by_call g now l id x (Fget room) = l
-locks_by_call g now l id x (Fput to message) = l
-locks_by_call g now l id x (Dput to mode d h m s message) = l
 locks_by_call g now l id x (SgetGb name room) = after_request g now l id (area_of_call x (SgetGb name room))
 locks_by_call g now l id x (SputGb name bytes) = after_request g now l id (area_of_call x (SputGb name bytes))
 locks_by_call g now l id x (SrelGb name) = after_request g now l id (area_of_call x (SrelGb name))
-locks_by_call g now l id x (SgetKp name room) = l
-locks_by_call g now l id x (SgetRl name room) = l
-locks_by_call g now l id x (SputMs name bytes) = l
-locks_by_call g now l id x (SrelLb name) = l
 locks_by_call g now l id x (SgetUs name room) = after_request g now l id (area_of_call x (SgetUs name room))
 locks_by_call g now l id x (SputUs name bytes) = after_request g now l id (area_of_call x (SputUs name bytes))
 locks_by_call g now l id x (Gtda name room) = after_request g now l id (area_of_call x (Gtda name room))
@@ -105,7 +95,7 @@ locks_by_call g now l id x (Ptda name bytes) = after_request g now l id (area_of
 locks_by_call g now l id x (UnlkGb name) = after_release g l id x (area_of_call x (UnlkGb name))
 locks_by_call g now l id x (UnlkUs name) = after_release g l id x (area_of_call x (UnlkUs name))
 locks_by_call g now l id x (UnlkDa name) = after_release g l id x (area_of_call x (UnlkDa name))
-locks_by_call g now l id x (Pend variant op) = l
+locks_by_call g now l id x _ = l
 
 -- the locks after a call; before INIT is done, no lock is asked for
 abbrev pub locks_after_call : Generated → (now : ℕ) → Locks → ServiceId → Work → Call → Locks

@@ -1,19 +1,23 @@
 -- Parts of a call: the area in its operand, and how it goes on once its lock is answered.
-use Rattle.std.specs.Prelude.{ℕ, Option, Some, None, Result, Ok, Err, if◌then◌else◌}
+use Rattle.std.specs.Prelude.{ℕ, Option, Some, None, Result, Ok, Err, if◌then◌else◌, option_map}
 use Rattle.kdcs_types.specs.declared.call.Code.{Code}
 use Rattle.kdcs_types.specs.declared.call.Code.TheVariants.{K03, K08, K11}
 use Rattle.kdcs_types.specs.declared.key.Area.{Area}
 use Rattle.kdcs_types.specs.declared.key.Area.TheVariants.{Gssb, Tls, Uls}
 use Rattle.kdcs_types.specs.declared.key.ServiceId.{ServiceId}
 use Rattle.kdcs_types.specs.Tables.{TableRows, content_of}
-use Rattle.kdcdef_types.specs.Generation.{Generated, has_tls, has_uls}
+use Rattle.kdcdef_types.specs.Generation.{Generated}
 use Rattle.area_locks.specs.Asked.{asked, unlocked}
 use Rattle.monitor_semantics.specs.declared.answer.Called.{Called}
 use Rattle.monitor_semantics.specs.Bytes.{Bytes}
-use Rattle.monitor_semantics.specs.Calls.{Told, Performed, replied, name_in_operand, locked, read_or, seen, deleted}
-use Rattle.monitor_semantics.specs.Locks.{Locks, answer_of}
+use Rattle.monitor_semantics.specs.Calls.{Told, Performed, declared, replied, locked, read_block, read_or, seen, deleted, with_name, write_block}
+use Rattle.monitor_semantics.specs.Locks.{Locks, answer_of, told_now}
 use Rattle.monitor_semantics.specs.State.{OpenTransaction as Work}
-use Rattle.kdcs_calls.specs.Calling.{may_release}
+use Rattle.kdcs_calls.specs.declared.operand.Owner.{Owner}
+use Rattle.kdcs_calls.specs.declared.operand.Owner.TheVariants.{All, User, Lterm}
+use Rattle.kdcs_calls.specs.declared.areas.Access.{Access}
+use Rattle.kdcs_calls.specs.declared.areas.Access.TheVariants.{Read, ReadBlock, Write, Delete}
+use Rattle.kdcs_calls.specs.Calling.{is_declared, may_release}
 
 -- what a call is told of this area
 abbrev pub told_of : Generated → TableRows → Locks → ServiceId → Area → Told
@@ -21,29 +25,16 @@ told_of g t l id area = record { answer = answer_of l g.limits.reswait t.clock i
 
 -- ---- the area in an operand
 
--- K11 where the operand is no name
-abbrev pub gssb_by : Option Bytes → Result Area Code
-gssb_by None = Err K11
-gssb_by (Some name) = Ok (Gssb name)
+-- the area of this name
+abbrev pub named_by : Owner → Bytes → Area
+named_by All name = Gssb name
+named_by (User user) name = Uls name user
+named_by (Lterm lterm) name = Tls name lterm
 
--- K11, and K08 where the block is not declared
-abbrev pub uls_by : Generated → (user : Bytes) → Option Bytes → Result Area Code
-uls_by g user None = Err K11
-uls_by g user (Some name) = if has_uls g name then Ok (Uls name user) else Err K08
-
--- K11, and K08 where the block is not declared
-abbrev pub tls_by : Generated → (lterm : Bytes) → Option Bytes → Result Area Code
-tls_by g lterm None = Err K11
-tls_by g lterm (Some name) = if has_tls g name then Ok (Tls name lterm) else Err K08
-
-abbrev pub gssb_in : (operand : Bytes) → Result Area Code
-gssb_in operand = gssb_by (name_in_operand operand)
-
-abbrev pub uls_in : Generated → (user operand : Bytes) → Result Area Code
-uls_in g user operand = uls_by g user (name_in_operand operand)
-
-abbrev pub tls_in : Generated → (lterm operand : Bytes) → Result Area Code
-tls_in g lterm operand = tls_by g lterm (name_in_operand operand)
+-- K11 where the operand is no name, K08 where it names a block that is not declared
+abbrev pub area_by : Generated → (Bytes → Area) → Option Bytes → Result Area Code
+area_by g named None = Err K11
+area_by g named (Some name) = if is_declared g (named name) then Ok (named name) else Err K08
 
 -- a call goes on with the area in its operand
 abbrev pub in_area : Work → Result Area Code → (Area → Performed) → Performed
@@ -74,3 +65,14 @@ read_area v x area room = locked v x area (λ y. read_or K03 y room (seen v y ar
 -- SREL GB of the area in an operand
 abbrev pub delete_area : Told → Work → Area → Performed
 delete_area v x area = locked v x area (λ y. deleted y area (seen v y area))
+
+-- what a call does with the area that it has locked
+abbrev pub accessed : Access → Told → Work → Area → Performed
+accessed (Read room) v x area = read_area v x area room
+accessed (ReadBlock room) v x area = read_block v x area room
+accessed (Write bytes) v x area = write_block v x area bytes.now
+accessed Delete v x area = delete_area v x area
+
+-- a call goes on with the area of the name in its operand, and is told of it
+abbrev pub goes_on : Generated → TableRows → Locks → ServiceId → Work → (Bytes → Area) → (Told → Area → Performed) → Option Bytes → Performed
+goes_on g t l id x named go o = with_name x o (λ name. declared x (is_declared g (named name)) (go (told_now l g.limits.reswait t id (option_map named o)) (named name)))

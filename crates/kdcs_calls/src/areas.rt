@@ -1,16 +1,17 @@
 //! The calls on areas that are locked: GSSBs, and the blocks of users and LTERMs.
-ghost use Rattle.std.specs.Prelude.{◌≡◌, IfOk, IfSome, OnOk};
+ghost use Rattle.std.specs.Prelude.{◌≡◌, IfOk, IfSome, OnOk, option_map};
 ghost use Rattle.std.specs.FinMap.{find};
 ghost use Rattle.kdcs_types.specs.declared.key.Area.{Area as AnArea};
 ghost use Rattle.kdcs_types.specs.Keys.{area_cmp};
 ghost use Rattle.kdcs_types.specs.Tables.{content_of};
-ghost use Rattle.monitor_semantics.specs.Calls.{or_empty, read_block, shown_by, unlocked, write_block};
+ghost use Rattle.monitor_semantics.specs.Calls.{name_in_operand, or_empty, shown_by, unlocked};
 ghost use Rattle.open_transaction.specs.Work.{work_of};
-ghost use Rattle.kdcs_calls.specs.Calling.{HoldsJust, IsShort};
-ghost use Rattle.kdcs_calls.specs.Parts.{asked_in, delete_area, in_area, read_area, released_in, told_of};
+ghost use Rattle.kdcs_calls.specs.Calling.{HoldsJust, IsShort, after_release, after_request};
+ghost use Rattle.kdcs_calls.specs.Parts.{accessed, asked_in, goes_on, in_area, named_by, released_in, told_of};
 
 use crate::answer::{read_or, read_reply, replied};
 use crate::lock::lock;
+use crate::operand::{Owner, area_in};
 use crate::outside::Outside;
 use area_locks::LockTable;
 use kd_base::{Bytes, OutOfMemory};
@@ -19,33 +20,17 @@ use monitor_semantics::Called;
 use open_transaction::OpenTransaction;
 use std::alloc::Global;
 
-/// SGET GB: K03 where the area is absent.
-pub(crate) fn read_area(
-    outside: &Outside,
-    locks: &mut LockTable,
-    work: &mut OpenTransaction,
-    area: Result<Area, Code>,
-    room: u32,
-) -> Result<Called, OutOfMemory>
-    requires holds { HoldsJust locks.old work.old.id (work_of work.old) }
-    requires short { (a : AnArea) → IfSome (shown_by (find area_cmp a work.old.areas.written) (content_of outside.now.tables.now a)) IsShort }
-    ensures exact { IfOk result (λ called. (work_of work.new, called) ≡ in_area (work_of work.old) area (λ a. read_area (told_of outside.now.generation.now outside.now.tables.now locks.old work.old.id a) (work_of work.old) a room)) }
-    ensures locks { OnOk result (locks.new ≡ asked_in outside.now.generation.now outside.now.tables.now.clock locks.old work.old.id area) }
-    ensures id { work.new.id ≡ work.old.id }
-    ensures statements { work.new.statements ≡ work.old.statements }
-    ensures nb { work.new.messages.nb ≡ work.old.messages.nb }
-{
-    let area = match area {
-        Ok(area) => area,
-        Err(code) => return Ok(replied(code)),
-    };
-    match lock(outside, locks, work, &area)? {
-        Some(called) => Ok(called),
-        None => {
-            let found = work.areas.read(outside.tables, &area)?;
-            Ok(read_or(Code::K03, room, found))
-        }
-    }
+/// What a call does with the area that it has locked.
+#[derive(Clone, Copy)]
+pub(crate) enum Access<'a> {
+    /// SGET GB: K03 where the area is absent.
+    Read(u32),
+    /// SGET US and GTDA: a block that is absent is read as empty.
+    ReadBlock(u32),
+    /// SPUT GB, SPUT US and PTDA.
+    Write(&'a Bytes),
+    /// SREL GB: K03 where the area is absent.
+    Delete,
 }
 
 // An absent block is empty.
@@ -58,72 +43,17 @@ fn or_empty(alloc: Global, found: Option<Bytes>) -> Bytes
     }
 }
 
-/// SGET US and GTDA: a block that is absent is read as empty.
-pub(crate) fn read_block(
+// The calls that lock the area first.
+fn access_locked(
     outside: &Outside,
     locks: &mut LockTable,
     work: &mut OpenTransaction,
     area: Result<Area, Code>,
-    room: u32,
+    access: Access,
 ) -> Result<Called, OutOfMemory>
     requires holds { HoldsJust locks.old work.old.id (work_of work.old) }
     requires short { (a : AnArea) → IfSome (shown_by (find area_cmp a work.old.areas.written) (content_of outside.now.tables.now a)) IsShort }
-    ensures exact { IfOk result (λ called. (work_of work.new, called) ≡ in_area (work_of work.old) area (λ a. read_block (told_of outside.now.generation.now outside.now.tables.now locks.old work.old.id a) (work_of work.old) a room)) }
-    ensures locks { OnOk result (locks.new ≡ asked_in outside.now.generation.now outside.now.tables.now.clock locks.old work.old.id area) }
-    ensures id { work.new.id ≡ work.old.id }
-    ensures statements { work.new.statements ≡ work.old.statements }
-    ensures nb { work.new.messages.nb ≡ work.old.messages.nb }
-{
-    let area = match area {
-        Ok(area) => area,
-        Err(code) => return Ok(replied(code)),
-    };
-    match lock(outside, locks, work, &area)? {
-        Some(called) => Ok(called),
-        None => {
-            let found = work.areas.read(outside.tables, &area)?;
-            Ok(read_reply(room, or_empty(outside.alloc, found)))
-        }
-    }
-}
-
-/// SPUT GB, SPUT US and PTDA.
-pub(crate) fn write_area(
-    outside: &Outside,
-    locks: &mut LockTable,
-    work: &mut OpenTransaction,
-    area: Result<Area, Code>,
-    bytes: &Bytes,
-) -> Result<Called, OutOfMemory>
-    requires { HoldsJust locks.old work.old.id (work_of work.old) }
-    ensures exact { IfOk result (λ called. (work_of work.new, called) ≡ in_area (work_of work.old) area (λ a. write_block (told_of outside.now.generation.now outside.now.tables.now locks.old work.old.id a) (work_of work.old) a bytes.now)) }
-    ensures locks { OnOk result (locks.new ≡ asked_in outside.now.generation.now outside.now.tables.now.clock locks.old work.old.id area) }
-    ensures id { work.new.id ≡ work.old.id }
-    ensures statements { work.new.statements ≡ work.old.statements }
-    ensures nb { work.new.messages.nb ≡ work.old.messages.nb }
-{
-    let area = match area {
-        Ok(area) => area,
-        Err(code) => return Ok(replied(code)),
-    };
-    match lock(outside, locks, work, &area)? {
-        Some(called) => Ok(called),
-        None => {
-            work.areas.write(area, bytes.clone()?)?;
-            Ok(replied(Code::Done))
-        }
-    }
-}
-
-/// SREL GB: K03 where the area is absent.
-pub(crate) fn delete_area(
-    outside: &Outside,
-    locks: &mut LockTable,
-    work: &mut OpenTransaction,
-    area: Result<Area, Code>,
-) -> Result<Called, OutOfMemory>
-    requires { HoldsJust locks.old work.old.id (work_of work.old) }
-    ensures exact { IfOk result (λ called. (work_of work.new, called) ≡ in_area (work_of work.old) area (λ a. delete_area (told_of outside.now.generation.now outside.now.tables.now locks.old work.old.id a) (work_of work.old) a)) }
+    ensures exact { IfOk result (λ called. (work_of work.new, called) ≡ in_area (work_of work.old) area (λ a. accessed access.entry (told_of outside.now.generation.now outside.now.tables.now locks.old work.old.id a) (work_of work.old) a)) }
     ensures locks { OnOk result (locks.new ≡ asked_in outside.now.generation.now outside.now.tables.now.clock locks.old work.old.id area) }
     ensures id { work.new.id ≡ work.old.id }
     ensures statements { work.new.statements ≡ work.old.statements }
@@ -136,13 +66,48 @@ pub(crate) fn delete_area(
     if let Some(called) = lock(outside, locks, work, &area)? {
         return Ok(called);
     }
-    match work.areas.read(outside.tables, &area)? {
-        None => Ok(replied(Code::K03)),
-        Some(_bytes) => {
-            work.areas.delete(area)?;
+    match access {
+        Access::Read(room) => {
+            let found = work.areas.read(outside.tables, &area)?;
+            Ok(read_or(Code::K03, room, found))
+        }
+        Access::ReadBlock(room) => {
+            let found = work.areas.read(outside.tables, &area)?;
+            Ok(read_reply(room, or_empty(outside.alloc, found)))
+        }
+        Access::Write(bytes) => {
+            work.areas.write(area, bytes.clone()?)?;
             Ok(replied(Code::Done))
         }
+        Access::Delete => match work.areas.read(outside.tables, &area)? {
+            None => Ok(replied(Code::K03)),
+            Some(_bytes) => {
+                work.areas.delete(area)?;
+                Ok(replied(Code::Done))
+            }
+        },
     }
+}
+
+/// The calls that lock the area in their operand first.
+pub(crate) fn access_area(
+    outside: &Outside,
+    locks: &mut LockTable,
+    work: &mut OpenTransaction,
+    owner: Owner,
+    operand: &Bytes,
+    access: Access,
+) -> Result<Called, OutOfMemory>
+    requires holds { HoldsJust locks.old work.old.id (work_of work.old) }
+    requires short { (a : AnArea) → IfSome (shown_by (find area_cmp a work.old.areas.written) (content_of outside.now.tables.now a)) IsShort }
+    ensures exact { IfOk result (λ called. (work_of work.new, called) ≡ goes_on outside.now.generation.now outside.now.tables.now locks.old work.old.id (work_of work.old) (named_by owner) (λ v a. accessed access.entry v (work_of work.old) a) (name_in_operand operand.now)) }
+    ensures locks { OnOk result (locks.new ≡ after_request outside.now.generation.now outside.now.tables.now.clock locks.old work.old.id (option_map (named_by owner) (name_in_operand operand.now))) }
+    ensures id { work.new.id ≡ work.old.id }
+    ensures statements { work.new.statements ≡ work.old.statements }
+    ensures nb { work.new.messages.nb ≡ work.old.messages.nb }
+{
+    let area = area_in(outside.generation, owner, operand);
+    access_locked(outside, locks, work, area, access)
 }
 
 // The content of an area in the tables.
@@ -155,8 +120,8 @@ fn content(tables: &Tables, area: &Area) -> Result<Option<Bytes>, OutOfMemory>
     }
 }
 
-/// UNLK: K06 where the transaction does not hold the area, K07 where it wrote or deleted it.
-pub(crate) fn unlock(
+// UNLK: K06 where the transaction does not hold the area, K07 where it wrote or deleted it.
+fn unlock_held(
     outside: &Outside,
     locks: &mut LockTable,
     work: &mut OpenTransaction,
@@ -168,19 +133,34 @@ pub(crate) fn unlock(
     ensures statements { work.new.statements ≡ work.old.statements }
     ensures nb { work.new.messages.nb ≡ work.old.messages.nb }
 {
-    let area = match area {
-        Ok(area) => area,
-        Err(code) => return Ok(replied(code)),
-    };
-    if !work.touched.contains(&area) {
-        return Ok(replied(Code::K06));
+    match area {
+        Err(code) => Ok(replied(code)),
+        Ok(area) if !work.touched.contains(&area) => Ok(replied(Code::K06)),
+        Ok(area) if work.areas.changed(&area) => Ok(replied(Code::K07)),
+        Ok(area) => {
+            let content = content(outside.tables, &area)?;
+            work.notes.push(Note::Released(area, content))?;
+            work.touched.remove(&area);
+            let _held = locks.unlock(work.id, &area);
+            Ok(replied(Code::Done))
+        }
     }
-    if work.areas.changed(&area) {
-        return Ok(replied(Code::K07));
-    }
-    let content = content(outside.tables, &area)?;
-    work.notes.push(Note::Released(area, content))?;
-    work.touched.remove(&area);
-    let _held = locks.unlock(work.id, &area);
-    Ok(replied(Code::Done))
+}
+
+/// UNLK of the area in the operand.
+pub(crate) fn unlock(
+    outside: &Outside,
+    locks: &mut LockTable,
+    work: &mut OpenTransaction,
+    owner: Owner,
+    operand: &Bytes,
+) -> Result<Called, OutOfMemory>
+    ensures exact { IfOk result (λ called. (work_of work.new, called) ≡ goes_on outside.now.generation.now outside.now.tables.now locks.old work.old.id (work_of work.old) (named_by owner) (λ v a. unlocked v (work_of work.old) a) (name_in_operand operand.now)) }
+    ensures locks { OnOk result (locks.new ≡ after_release outside.now.generation.now locks.old work.old.id (work_of work.old) (option_map (named_by owner) (name_in_operand operand.now))) }
+    ensures id { work.new.id ≡ work.old.id }
+    ensures statements { work.new.statements ≡ work.old.statements }
+    ensures nb { work.new.messages.nb ≡ work.old.messages.nb }
+{
+    let area = area_in(outside.generation, owner, operand);
+    unlock_held(outside, locks, work, area)
 }

@@ -8,11 +8,11 @@ ghost use Rattle.open_transaction.specs.Work.{work_of};
 ghost use Rattle.kdcs_calls.specs.Calling.{CanRead, HoldersFollow, HoldsJust, WaitsFollow, locks_after_call, locks_by_call, performed_now};
 
 use crate::answer::replied;
-use crate::areas::{delete_area, read_area, read_block, unlock, write_area};
+use crate::areas::{Access, access_area, unlock};
 use crate::jobs::{moment_in, put_job};
 use crate::locals::{delete_local, read_away, read_local, write_local};
 use crate::messages::{get, put};
-use crate::operand::{gssb_in, tls_in, uls_in};
+use crate::operand::Owner;
 use crate::outside::Outside;
 use crate::pend::pend;
 use area_locks::LockTable;
@@ -63,8 +63,8 @@ fn later_call(
     ensures nb { work.new.messages.nb ≡ work.old.messages.nb }
 {
     let g = outside.generation;
-    let user = work.user;
-    let lterm = work.lterm;
+    let user = Owner::User(work.user);
+    let lterm = Owner::Lterm(work.lterm);
     let asynchronous = is_asynchronous(work.id);
     match call {
         Call::Init => Ok(Called::Abnormal(Cause::E01)),
@@ -75,20 +75,32 @@ fn later_call(
         Call::Dput(to, mode, d, h, m, s, message) => {
             put_job(g, work, to, moment_in(*mode, d, h, m, s), message)
         }
-        Call::SgetGb(name, room) => read_area(outside, locks, work, gssb_in(name), *room),
-        Call::SputGb(name, bytes) => write_area(outside, locks, work, gssb_in(name), bytes),
-        Call::SrelGb(name) => delete_area(outside, locks, work, gssb_in(name)),
+        Call::SgetGb(name, room) => {
+            access_area(outside, locks, work, Owner::All, name, Access::Read(*room))
+        }
+        Call::SputGb(name, bytes) => {
+            access_area(outside, locks, work, Owner::All, name, Access::Write(bytes))
+        }
+        Call::SrelGb(name) => access_area(outside, locks, work, Owner::All, name, Access::Delete),
         Call::SgetKp(name, room) => read_local(work, name, *room),
         Call::SgetRl(name, room) => read_away(work, name, *room),
         Call::SputMs(name, bytes) => write_local(g, work, name, bytes),
         Call::SrelLb(name) => Ok(delete_local(work, name)),
-        Call::SgetUs(name, room) => read_block(outside, locks, work, uls_in(g, user, name), *room),
-        Call::SputUs(name, bytes) => write_area(outside, locks, work, uls_in(g, user, name), bytes),
-        Call::Gtda(name, room) => read_block(outside, locks, work, tls_in(g, lterm, name), *room),
-        Call::Ptda(name, bytes) => write_area(outside, locks, work, tls_in(g, lterm, name), bytes),
-        Call::UnlkGb(name) => unlock(outside, locks, work, gssb_in(name)),
-        Call::UnlkUs(name) => unlock(outside, locks, work, uls_in(g, user, name)),
-        Call::UnlkDa(name) => unlock(outside, locks, work, tls_in(g, lterm, name)),
+        Call::SgetUs(name, room) => {
+            access_area(outside, locks, work, user, name, Access::ReadBlock(*room))
+        }
+        Call::SputUs(name, bytes) => {
+            access_area(outside, locks, work, user, name, Access::Write(bytes))
+        }
+        Call::Gtda(name, room) => {
+            access_area(outside, locks, work, lterm, name, Access::ReadBlock(*room))
+        }
+        Call::Ptda(name, bytes) => {
+            access_area(outside, locks, work, lterm, name, Access::Write(bytes))
+        }
+        Call::UnlkGb(name) => unlock(outside, locks, work, Owner::All, name),
+        Call::UnlkUs(name) => unlock(outside, locks, work, user, name),
+        Call::UnlkDa(name) => unlock(outside, locks, work, lterm, name),
         Call::Pend(variant, operand) => Ok(pend(g, asynchronous, work, *variant, operand)),
     }
 }

@@ -7,7 +7,7 @@ ghost use Rattle.open_transaction.specs.Work.{work_of};
 ghost use Rattle.async_queue.specs.Drafts.{IsInTicks};
 
 use crate::answer::replied;
-use crate::operand::{name_in, number_of};
+use crate::operand::name_in;
 use kd_base::{Bytes, Mode, Name, OutOfMemory};
 use kdcdef_check::Generation;
 use kdcdef_types::{CallUse, TacEntry};
@@ -15,6 +15,7 @@ use kdcs_types::{Cause, Code, Target};
 use monitor_semantics::{Called, Due};
 use open_transaction::OpenTransaction;
 use timer_queue::moment;
+use unit_step::number_of;
 
 // An asynchronous TAC with CALL other than NEXT and STATUS=ON.
 fn tac_target(name: Name, entry: &TacEntry) -> Option<Target>
@@ -44,7 +45,12 @@ pub(crate) fn moment_in(mode: Mode, d: &Bytes, h: &Bytes, m: &Bytes, s: &Bytes) 
     ensures exact { result ≡ moment_by mode (number_of d.now) (number_of h.now) (number_of m.now) (number_of s.now) }
     ensures ticks { IfSome result IsInTicks }
 {
-    match (number_of(d), number_of(h), number_of(m), number_of(s)) {
+    match (
+        number_of(d.as_slice()),
+        number_of(h.as_slice()),
+        number_of(m.as_slice()),
+        number_of(s.as_slice()),
+    ) {
         (Some(d), Some(h), Some(m), Some(s)) => moment(mode, d, h, m, s),
         _ => None,
     }

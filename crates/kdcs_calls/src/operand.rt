@@ -1,46 +1,13 @@
 //! Names and numbers in operands.
 ghost use Rattle.std.specs.Prelude.{◌≡◌};
-ghost use Rattle.unit_semantics.specs.Contents.{trim_end, trim_start, number_of};
 ghost use Rattle.monitor_semantics.specs.Calls.{name_in_operand, name_by};
-ghost use Rattle.kdcs_calls.specs.Parts.{gssb_in, uls_in, tls_in};
+ghost use Rattle.kdcs_calls.specs.Calling.{is_declared};
+ghost use Rattle.kdcs_calls.specs.Parts.{area_by, named_by};
 
-use kd_base::{Bytes, Name, decimal_of};
+use kd_base::{Bytes, Name};
 use kdcdef_check::Generation;
 use kdcs_types::{Area, Code};
-
-#[tactic(auto, unfolding(unit_semantics::specs::Contents::trim_end))]
-fn trim_end(bytes: &[u8]) -> &[u8]
-    ensures { result.now ≡ trim_end bytes.now }
-{
-    let mut n = bytes.len();
-    while n > 0 && bytes[n - 1] == b' ' {
-        n -= 1;
-    }
-    &bytes[..n]
-}
-
-#[tactic(auto, unfolding(unit_semantics::specs::Contents::trim_start))]
-fn trim_start(bytes: &[u8]) -> &[u8]
-    ensures { result.now ≡ trim_start bytes.now }
-{
-    let mut n = 0;
-    while n < bytes.len() && bytes[n] == b' ' {
-        n += 1;
-    }
-    &bytes[n..]
-}
-
-/// The number of an operand: the bytes without the spaces around them, where none is 0.
-#[tactic(auto, unfolding(unit_semantics::specs::Contents::number_of))]
-pub(crate) fn number_of(operand: &Bytes) -> Option<u64>
-    ensures { result ≡ number_of operand.now }
-{
-    let digits = trim_start(trim_end(operand.as_slice()));
-    if digits.is_empty() {
-        return Some(0);
-    }
-    decimal_of(digits)
-}
+use unit_step::trim_end;
 
 /// The name in an operand: the bytes without the spaces at the end, where they are one.
 pub(crate) fn name_in(operand: &Bytes) -> Option<Name>
@@ -59,34 +26,48 @@ pub(crate) fn name_if_given(operand: &Option<Bytes>) -> Option<Name>
     }
 }
 
-/// The GSSB of this name; K11 where the operand is no name.
-pub(crate) fn gssb_in(operand: &Bytes) -> Result<Area, Code>
-    ensures { result ≡ gssb_in operand.now }
+/// Whose areas a call names.
+#[derive(Clone, Copy)]
+pub(crate) enum Owner {
+    /// The GSSBs.
+    All,
+    /// The blocks of a user.
+    User(Name),
+    /// The blocks of an LTERM.
+    Lterm(Name),
+}
+
+fn named(owner: Owner, name: Name) -> Area
+    ensures { result ≡ named_by owner name }
 {
-    match name_in(operand) {
-        Some(name) => Ok(Area::Gssb(name)),
-        None => Err(Code::K11),
+    match owner {
+        Owner::All => Area::Gssb(name),
+        Owner::User(user) => Area::Uls(name, user),
+        Owner::Lterm(lterm) => Area::Tls(name, lterm),
     }
 }
 
-/// The user's block of this name; K11 where the operand is no name, K08 where the block is not declared.
-pub(crate) fn uls_in(generation: &Generation, user: Name, operand: &Bytes) -> Result<Area, Code>
-    ensures { result ≡ uls_in generation.now user operand.now }
+fn is_declared(generation: &Generation, area: &Area) -> bool
+    ensures { result ≡ is_declared generation.now area.now }
 {
-    match name_in(operand) {
-        Some(name) if generation.has_uls(name) => Ok(Area::Uls(name, user)),
-        Some(_) => Err(Code::K08),
-        None => Err(Code::K11),
+    match area {
+        Area::Gssb(_) => true,
+        Area::Tls(block, _) => generation.has_tls(*block),
+        Area::Uls(block, _) => generation.has_uls(*block),
     }
 }
 
-/// The LTERM's block of this name; K11 where the operand is no name, K08 where the block is not declared.
-pub(crate) fn tls_in(generation: &Generation, lterm: Name, operand: &Bytes) -> Result<Area, Code>
-    ensures { result ≡ tls_in generation.now lterm operand.now }
+/// The area of this name; K11 where the operand is no name, K08 where it names a block that is not declared.
+pub(crate) fn area_in(generation: &Generation, owner: Owner, operand: &Bytes) -> Result<Area, Code>
+    ensures { result ≡ area_by generation.now (named_by owner) (name_in_operand operand.now) }
 {
-    match name_in(operand) {
-        Some(name) if generation.has_tls(name) => Ok(Area::Tls(name, lterm)),
-        Some(_) => Err(Code::K08),
-        None => Err(Code::K11),
+    let Some(name) = name_in(operand) else {
+        return Err(Code::K11);
+    };
+    let area = named(owner, name);
+    if is_declared(generation, &area) {
+        Ok(area)
+    } else {
+        Err(Code::K08)
     }
 }

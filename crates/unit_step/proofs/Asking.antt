@@ -1,7 +1,5 @@
--- A run that asks for a call is at a statement of its unit, and in its time.
-use Rattle.std.proofs.Common.{◌≡◌, ℕ, zero, suc, ◌≤◌, ◌<◌, length, false, nat_eq, inl, inr, arith, Some}
-use Rattle.std.proofs.lemmas.Bool.{cases_Bool}
-use Rattle.std.proofs.lemmas.Bool.Decides.{nat_tests}
+-- A run that asks for a call is at a statement of its unit.
+use Rattle.std.proofs.Common.{◌≡◌, ℕ, zero, suc, ◌≤◌, ◌<◌, length, inl, inr, arith, Some}
 use Rattle.std.proofs.lemmas.Option.{slice_get_within}
 use Rattle.kd_base.specs.Tools.{cases_option}
 use Rattle.kdcs_types.specs.declared.run_state.RunState.{RunState}
@@ -22,19 +20,4 @@ asks_at unit run asks =
     elim (cases_option (statement_at unit run.place)) [
       | inl none ↦ absurd (rw none at asks)
       | inr found ↦ at_a_statement unit run.place found.0 found.1
-    ]
-
-differ : (a b : ℕ) → nat_eq a b ≡ false → a ≤ b → a < b
-differ a b h le = grind (arith, nat_tests)
-
-pub asks_in_time : (unit : UnitText) (run : RunState) → IsAsking (step unit run) → run.count ≤ run.budget → run.count < run.budget
-unfolding step
-asks_in_time unit run asks le =
-    elim (cases_option (statement_at unit run.place)) [
-      | inl none ↦ absurd (rw none at asks)
-      | inr found ↦
-          elim (cases_Bool (nat_eq run.count run.budget)) [
-            | inl spent ↦ absurd (rw (found.1, spent) at asks)
-            | inr left ↦ differ run.count run.budget left le
-          ]
     ]

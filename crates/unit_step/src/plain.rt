@@ -36,7 +36,7 @@ fn move_on(run: &mut RunState)
     run.count += 1;
 }
 
-#[tactic(auto, unfolding(unit_semantics::specs::Fields::stored))]
+#[tactic(auto, unfolding(unit_semantics::specs::Fields::stored), using(crate::proofs::Fields::found_inside, crate::proofs::Fields::gets_nothing))]
 /// MOVE: the field gets the operand.
 pub fn move_bytes(
     alloc: Global,
@@ -65,7 +65,7 @@ pub fn move_bytes(
     Ok(())
 }
 
-#[tactic(auto, unfolding(unit_semantics::specs::Fields::stored))]
+#[tactic(auto, unfolding(unit_semantics::specs::Fields::stored), using(crate::proofs::Fields::found_inside, crate::proofs::Fields::gets_nothing))]
 /// JOIN: the field gets the operands, one behind the other. Both are read first.
 pub fn join_bytes(
     alloc: Global,

@@ -2,17 +2,8 @@ use Rattle.std.proofs.Common.{◌∙◌, ap, ℕ, List}
 use Rattle.unit_types.specs.UnitText.{field_named}
 use Rattle.unit_semantics.specs.Fields.{stored}
 use Rattle.unit_semantics.specs.Statement.{moved_on}
-use Rattle.unit_step.proofs.Fields.{found_inside, gets_front, gets_nothing}
+use Rattle.unit_step.proofs.Fields.{gets_front}
 use Rattle.unit_step.proofs.plain.move_bytes.Goals as goal
-
-pub returns-in_default-clause-ok : goal.returns-in_default-clause-ok
-returns-in_default-clause-ok c =
-    let none = c.in_default.ensures ∙ ap (λ (n : List ℕ). field_named c.args.unit.now n) c.as_slice.ensures in
-    c.move_on.ensures ∙ ap moved_on (gets_nothing c.args.unit.now c.args.run.now c.args.name.now _ none)
-
-pub store-requires : goal.store-requires
-store-requires c =
-    found_inside c.args.unit.now c.args.run.now c.as_slice.result.now c.in-Some.field.now c.requires.inside c.in-Some.ensures
 
 pub returns-clause-ok : goal.returns-clause-ok
 returns-clause-ok c =
