@@ -16,14 +16,8 @@ use Rattle.monitor_semantics.specs.Picks.{is_free}
 use Rattle.monitor_semantics.specs.State.{Application, State}
 use Rattle.monitor_state.specs.declared.parts.MonitorParts.{MonitorParts}
 use Rattle.monitor_state.specs.Standing.{Each, IsIndexed, PlaceHasClass, SameApplication, state_of}
-use Rattle.monitor_state.specs.Whole.{app_of}
+use Rattle.monitor_state.specs.Whole.{app_of, same_app}
 use Rattle.monitor_start.specs.Starting.{AreFresh, all_opened, at_rest, fresh_of, fresh_then, opened_then, started_so}
-
-pub same_app : (p q : MonitorParts) → SameApplication p q → app_of q ≡ app_of p
-same_app p q h = λ i. record { generation = h.generation i; units = (h.units i).units }
-
-pub same_twice : (p q r : MonitorParts) → SameApplication p q → SameApplication q r → SameApplication p r
-same_twice p q r h k = record { generation = k.generation ∙ h.generation; units = k.units ∙ h.units; steps = k.steps ∙ h.steps }
 
 module _ (p q r : MonitorParts) (row : Service) (all rest : List Service) (same : SameApplication p q) (steps : all ≡ row ∷ rest) (state : state_of r ≡ opened_then (app_of q) (state_of q) row) where
   pub fresh_more : AreFresh (state_of q) all → AreFresh (state_of r) rest
@@ -33,7 +27,7 @@ module _ (p q r : MonitorParts) (row : Service) (all rest : List Service) (same 
 
   pub made_more : (whole : State) → all_opened (app_of p) (state_of q) all ≡ whole → all_opened (app_of p) (state_of r) rest ≡ whole
   made_more whole made =
-      ap (λ (s : State). all_opened (app_of p) s rest) (state ∙ ap (λ (app : Application). opened_then app (state_of q) row) (same_app p q same))
+      ap (λ (s : State). all_opened (app_of p) s rest) (state ∙ ap (λ (app : Application). opened_then app (state_of q) row) (same_app p q same.generation same.units))
       ∙ sym (ap (all_opened (app_of p) (state_of q)) steps)
       ∙ made
 
@@ -76,4 +70,4 @@ started_there p q g t rows same generation state e order opened =
     ∙ ap (λ (s : State). all_opened (app_of p) s rows) (state ∙ ap (λ (h : Generated). at_rest h t) (sym generation))
     ∙ ap (all_opened (app_of p) (at_rest p.generation t)) e
     ∙ started_so (app_of p) t order
-    ∙ ap (λ (app : Application). started app t) (sym (same_app p q same))
+    ∙ ap (λ (app : Application). started app t) (sym (same_app p q same.generation same.units))

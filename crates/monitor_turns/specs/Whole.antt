@@ -31,7 +31,7 @@ use Rattle.monitor_tables.specs.PointLaws.{Stands}
 use Rattle.monitor_tables.specs.StateLaws.{StatesStaySound}
 use Rattle.monitor_state.specs.declared.parts.MonitorParts.{MonitorParts}
 use Rattle.monitor_state.specs.Standing.{IsIndexed, state_of}
-use Rattle.monitor_state.specs.Whole.{IsWhole, app_of}
+use Rattle.monitor_state.specs.Whole.{IsWhole, app_of, same_app}
 use Rattle.service_ends.specs.declared.turned.Turned.{Turned as Did}
 use Rattle.service_ends.specs.Ending.{Works, turned_to}
 use Rattle.monitor_turns.specs.Alone.{alone_of}
@@ -163,9 +163,6 @@ module _ (p : MonitorParts) (task : ℕ) (id : ServiceId) (whole : IsWhole p) (a
   -- ---- where the statement left the state as it was
 
   module _ (generation : q.generation ≡ p.generation) (units : q.units ≡ p.units) (state : state_of q ≡ state_of p) where
-    same_app : app_of q ≡ app_of p
-    same_app = λ i. record { generation = generation i; units = (units i).units }
-
     still_there : find id_cmp id (state_of q).active ≡ Some x
     still_there = ap (λ (u : State). find id_cmp id u.active) state ∙ there
 
@@ -186,7 +183,7 @@ module _ (p : MonitorParts) (task : ℕ) (id : ServiceId) (whole : IsWhole p) (a
 
     -- an end that is the definition's on these parts
     as_before : (t : Turned) (f : Application → State → OpenTransaction → Turned) → ((z : OpenTransaction) → find id_cmp id (state_of q).active ≡ Some z → t ≡ f (app_of q) (state_of q) z) → t ≡ f (app_of p) (state_of p) x
-    as_before t f e = e x still_there ∙ (λ i. f (same_app i) (state i) x)
+    as_before t f e = e x still_there ∙ (λ i. f (same_app p q generation units i) (state i) x)
 
   pub settles : (generation : q.generation ≡ p.generation) (units : q.units ≡ p.units) (o : Outcome) → Exact (Settles o) → StateThen (Settles o) → (t : Turned)
       → ((z : OpenTransaction) → find id_cmp id (state_of q).active ≡ Some z → t ≡ settled (app_of q) (state_of q) task id z o) → Worked t

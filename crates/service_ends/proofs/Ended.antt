@@ -34,7 +34,7 @@ use Rattle.open_transaction.specs.Work.{work_of, HasOrder}
 use Rattle.monitor_state.specs.declared.parts.MonitorParts.{MonitorParts}
 use Rattle.monitor_state.specs.Kept.{found_work}
 use Rattle.monitor_state.specs.Standing.{IsOwned, SameApplication, state_of}
-use Rattle.monitor_state.specs.Whole.{app_of}
+use Rattle.monitor_state.specs.Whole.{app_of, same_app, same_twice}
 use Rattle.sync_points.specs.declared.points.SettleAnswer.TheVariants.{Refused, Synced}
 use Rattle.sync_points.specs.Answers.{answer_by}
 use Rattle.commit_laws.specs.CommitLaws.{durable_difference}
@@ -42,13 +42,6 @@ use Rattle.commit_laws.specs.Ends.{end_made, point_made}
 use Rattle.service_ends.specs.Ending.{IsClosed, Works, behind_end, behind_point, broken_to, emitted, settled_to}
 
 -- ---- the parts behind a step
-
--- an application that is the same
-pub same_app : (p q : MonitorParts) → SameApplication p q → app_of q ≡ app_of p
-same_app p q same = λ i. record { generation = same.generation i; units = (same.units i).units }
-
-pub same_behind : (p q r : MonitorParts) → SameApplication p q → SameApplication q r → SameApplication p r
-same_behind p q r a b = record { generation = b.generation ∙ a.generation; units = b.units ∙ a.units; steps = b.steps ∙ a.steps }
 
 pub found_one : (o : Option Work) (work : Work) (found : Option OpenTransaction) (x : OpenTransaction) → o ≡ Some work → option_map work_of o ≡ found → found ≡ Some x → work_of work ≡ x
 found_one o work found x is found_is x_is = under (sym (ap (option_map work_of) is) ∙ found_is ∙ x_is)
@@ -84,7 +77,7 @@ pub closed_result : (p m q : MonitorParts) (task : ℕ) (id : ServiceId) (o : Op
     → IfSome o (λ (work : Work). IsOwned m.generation m.steps (id, work)) → IfSome o (λ (work : Work). IsClosed q work)
 closed_result p m q task id None works a b s t found own = tt
 closed_result p m q task id (Some work) works a b s t found own =
-    closed_work p q task id works.0 work works.1 (same_behind p m q a b) (t ∙ ap (λ (u : State). without_open u id) s) own.id
+    closed_work p q task id works.0 work works.1 (same_twice p m q a b) (t ∙ ap (λ (u : State). without_open u id) s) own.id
     (found_one (Some work) work _ works.0 refl (found ∙ ap (λ (u : State). find id_cmp id u.active) s) works.1.is_open)
 
 -- LSSBs of a row that stands in the tables ascend
@@ -109,7 +102,7 @@ breaks app s task (Asynchronous number) x e = refl
 
 pub ends_as : (p q : MonitorParts) (task : ℕ) (id own : ServiceId) (x y : OpenTransaction) (e : Ending) → SameApplication p q → state_of q ≡ without_work (state_of p) task id → own ≡ id → y ≡ x
     → broken_to (app_of q) (state_of q) own y e ≡ abnormal (app_of p) (state_of p) task id x e
-ends_as p q task id own x y e same state i z = (λ k. broken_to (same_app p q same k) (state k) (i k) (z k) e) ∙ breaks (app_of p) (state_of p) task id x e
+ends_as p q task id own x y e same state i z = (λ k. broken_to (same_app p q same.generation same.units k) (state k) (i k) (z k) e) ∙ breaks (app_of p) (state_of p) task id x e
 
 settles : (app : Application) (s : State) (task : ℕ) (id : ServiceId) (x : OpenTransaction) (o : Outcome) (new : TableRows) (r : Option Cause) → new ≡ synchronised app.generation s.tables id x o
     → settled_to app (without_work s task id) id x o r ≡ settled_by app s task id x o new r
@@ -120,12 +113,12 @@ pub settles_as : (p q : MonitorParts) (task : ℕ) (id own : ServiceId) (x y : O
     → settled_to (app_of q) (state_of q) own y o (refusal q.generation (durable q.generation (synchronised q.generation q.tables own y o))) ≡ settled (app_of p) (state_of p) task id x o
 unfolding settled
 settles_as p q task id own x y o same state i z =
-    (λ k. settled_to (same_app p q same k) (state k) (i k) (z k) o (refusal (same.generation k) (durable (same.generation k) (synchronised (same.generation k) (state k).tables (i k) (z k) o))))
+    (λ k. settled_to (same_app p q same.generation same.units k) (state k) (i k) (z k) o (refusal (same.generation k) (durable (same.generation k) (synchronised (same.generation k) (state k).tables (i k) (z k) o))))
     ∙ settles (app_of p) (state_of p) task id x o (synchronised p.generation p.tables id x o) _ refl
 
 pub backs_as : (p q : MonitorParts) (task : ℕ) (id own : ServiceId) (x y : OpenTransaction) → SameApplication p q → state_of q ≡ without_work (state_of p) task id → own ≡ id → y ≡ x
     → back (app_of q) (state_of q) own y y.began ≡ back (app_of p) (without_work (state_of p) task id) id x x.began
-backs_as p q task id own x y same state i z = λ k. back (same_app p q same k) (state k) (i k) (z k) (z k).began
+backs_as p q task id own x y same state i z = λ k. back (same_app p q same.generation same.units k) (state k) (i k) (z k) (z k).began
 
 -- an abnormal end behind its commit
 pub breaks_as : (p : MonitorParts) (w : Work) (e : Ending) (id : ServiceId) (dump : Option (List ℕ)) (changes : Changes) (kept : Settled) → changes ≡ durable_difference p.generation p.tables (broken p.tables w.id (work_of w))

@@ -1,4 +1,5 @@
-use Rattle.monitor_start.proofs.Opening.{fresh_more, made_more, same_twice}
+use Rattle.monitor_state.specs.Whole.{same_twice}
+use Rattle.monitor_start.proofs.Opening.{fresh_more, made_more}
 use Rattle.monitor_start.proofs.start.open_all.Goals as goal
 
 pub loop-row-preserved : goal.loop-row-preserved
