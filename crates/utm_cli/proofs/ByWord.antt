@@ -69,6 +69,14 @@ module _ (e : Errand) (bytes : List ℕ) where
   pub not_empty : ((t : TableRows) → Opens e bytes t → ⊥) → bytes ≡ [] → ⊥
   not_empty none empty = none empty_tables (inl (empty, refl))
 
+-- a file that the call does not start from stays as it was
+module _ (e : Errand) (a b : State) (la lb : ℕ → List ℕ → List ℕ → Type 0) (still : ((t : TableRows) → Starts e a.holds t → ⊥) → Rests a b la lb) where
+  pub rests_refused : Refuses e a.holds → Rests a b la lb
+  rests_refused refused = still (λ t from. not_both e a.holds t from refused)
+
+  pub rests_other : (stored : List ℕ) → IsOfOthers stored e a.holds → Rests a b la lb
+  rests_other stored other = still (λ t from. not_of_others e a.holds t stored from other)
+
 -- ---- what a stop leaves
 
 -- nothing was done
@@ -195,5 +203,7 @@ module _ (line : List ℕ) (a b d : State) (la lb ld : ℕ → List ℕ → List
   }
 
 -- the report of `make`, of an errand by its parts
-pub made_lines : (n : ℕ) (v e : Errand) → v ≡ e → (commands : List Command) → commands ≡ v.commands → (line : List ℕ) → line ≡ report_of n (app_of v) commands → line ≡ report_of n (app_of e) e.commands
-made_lines n v e same commands is line made = made ∙ ap (report_of n (app_of v)) is ∙ ap (λ (x : Errand). report_of n (app_of x) x.commands) same
+pub made_front : (n : ℕ) (v e : Errand) → v ≡ e → (commands : List Command) → commands ≡ v.commands → (line : List ℕ) → line ≡ report_of n (app_of v) commands
+    → (a d : State) (la ld : ℕ → List ℕ → List ℕ → Type 0) → SaysFront line a d la ld → SaysFront (report_of n (app_of e) e.commands) a d la ld
+made_front n v e same commands is line made a d la ld front =
+    subst (λ (l : List ℕ). SaysFront l a d la ld) (made ∙ ap (report_of n (app_of v)) is ∙ ap (λ (x : Errand). report_of n (app_of x) x.commands) same) front

@@ -1,6 +1,6 @@
 -- The acts of an errand, from tables that a store keeps.
-use Rattle.std.proofs.Common.{◌≡◌, true, ℕ, List, ◌++◌, sym, ap, subst, ◌∙◌}
-use Rattle.std.specs.Prelude.{IsTrue}
+use Rattle.std.proofs.Common.{◌≡◌, true, ℕ, List, ◌++◌, sym, ap, subst, ◌∙◌, Result, Ok, Err}
+use Rattle.std.specs.Prelude.{IsTrue, OnOk}
 use Rattle.kdcdef_check.specs.Soundness.{AreLimits}
 use Rattle.kd_device.specs.Device.{State}
 use Rattle.kd_records.specs.Identity.{Identity}
@@ -30,6 +30,11 @@ use Rattle.utm_cli.specs.Report.{report}
 use Rattle.utm_cli.specs.Promise.{RanOver}
 use Rattle.utm_cli.proofs.Cuts.{tables_same, kept_content, lines_performed}
 use Rattle.monitor_run.specs.Durable.{durable_same, started_tables}
+
+-- what follows from two facts of a success
+pub on_ok_both : {X E : Type 0} (r : Result X E) (P Q R : Type 0) → (P → Q → R) → OnOk r P → OnOk r Q → OnOk r R
+on_ok_both (Ok x) P Q R f h k = f h k
+on_ok_both (Err e) P Q R f h k = h
 
 -- what a store of this content has stands for the tables that it keeps
 keeps_means : (i : Identity) (store : Whole) (t : TableRows) → KeepsTables i store t → (bytes : List ℕ) → StandsFor store.identity store.content bytes → StandsForTables i t bytes

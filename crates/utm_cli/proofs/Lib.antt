@@ -3,7 +3,6 @@ pub mod Cuts
 pub mod Scripts
 pub mod TextsSaid
 pub mod Started
-pub mod Results
 pub mod Opened
 pub mod Ran
 pub mod ByWord

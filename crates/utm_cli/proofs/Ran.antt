@@ -1,6 +1,7 @@
 -- A call over its store: the opening, and what is done then.
 use Rattle.std.proofs.Common.{◌≡◌, ◌⊎◌, inl, inr, ⊎_elim, ℕ, List, [], ◌++◌, take, refl, sym, ap, subst, ◌∙◌, arith}
 use Rattle.std.proofs.lemmas.List.{append-nil}
+use Rattle.std.specs.Prelude.{IsTrue}
 use Rattle.kd_device.specs.Device.{State, Frame, Rose, LeavesOnly, Only}
 use Rattle.kd_device.specs.Time.{leaves_weaker, leaves_then}
 use Rattle.kd_device.specs.Rest.{Rests}
@@ -85,3 +86,7 @@ nothing_said line a b la lb rests = record { disk = record { holds = rests.holds
 pub rose_either : (a b d : State) → Frame a b → Rose b.disk_faults d.disk_faults ⊎ Rose b.line_faults d.line_faults → Rose a.disk_faults d.disk_faults ⊎ Rose a.line_faults d.line_faults
 rose_either a b d frame (inl h) = inl (omega (arith, frame.disk_faults, h))
 rose_either a b d frame (inr h) = inr (omega (arith, frame.line_faults, h))
+
+-- calls go on to tell
+pub told_then : (a b : State) → Frame a b → IsTrue a.told → IsTrue b.told
+told_then a b frame told = rw frame.told told

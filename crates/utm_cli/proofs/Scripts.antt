@@ -1,35 +1,19 @@
--- How many turns and commands the commands of a script make, and that they are those of the generation.
+-- How many turns and commands the commands of a script make.
 use Rattle.std.proofs.Common.{◌≡◌, ℕ, ◌+◌, ◌*◌, ◌≤◌, ◌^◌, Bool, true, false, not, List, [], ◌∷◌, length, Result, Ok, Err, refl, sym, ap, subst, ◌∙◌, arith}
 use Rattle.std.specs.Prelude.{◌||◌, nat_lt, cond, sum_by, All}
 use Rattle.std.specs.Str.Lines.{lines}
 use Rattle.std.proofs.lemmas.Bool.Decides.{nat_tests}
-use Rattle.std.proofs.lemmas.List.Elements.{All-cons, All-nil, All-weaker}
+use Rattle.std.proofs.lemmas.List.Elements.{All-cons, All-nil}
 use Rattle.std.proofs.lemmas.List.Sums.{sum_by-cons, sum_by-le}
 use Rattle.kd_base.specs.Tools.{ok_is}
 use Rattle.kdcdef_types.specs.Generation.{Generated}
 use Rattle.monitor_semantics.specs.declared.command.Command.{Command}
 use Rattle.monitor_semantics.specs.declared.command.Command.TheVariants.{Input, Tick, Run, Turn, Drop, Print, PrintLast, Restart}
-use Rattle.monitor_laws.specs.Applications.{IsCommandOf as IsItsCommand}
 use Rattle.script_read.specs.declared.fault.ScriptFault.{ScriptFault}
 use Rattle.script_read.specs.Script.{Line, Nothing, Says, IsBad, IsOutOfRange, begins_with_space, is_passed, line_by, line_then, script_from, script_by, command_lines, is_too_long}
-use Rattle.script_read.specs.Commands.{IsCommandOf, begins_with_in, command_by, line_in, script_in}
+use Rattle.script_read.specs.Commands.{begins_with_in, command_by, line_in, script_in}
 use Rattle.script_read.specs.Spelling.{IsSpelled, CommandsOnly}
 use Rattle.monitor_run.specs.Running.{turns_of}
-
--- ---- the names
-
-its_command : (g : Generated) (c : Command) → IsCommandOf g c → IsItsCommand g c
-its_command g (Input pterm text) h = h
-its_command g (Tick ticks) h = h
-its_command g (Run turns) h = h
-its_command g (Turn task) h = h
-its_command g (Drop pterm) h = h
-its_command g (Print pterm) h = h
-its_command g (PrintLast pterm) h = h
-its_command g Restart h = h
-
-pub its_script : (g : Generated) (commands : List Command) → All (IsCommandOf g) commands → All (IsItsCommand g) commands
-its_script g commands h = All-weaker (IsCommandOf g) (IsItsCommand g) (its_command g) commands h
 
 -- ---- the turns
 

@@ -1,7 +1,8 @@
 -- Tables that a call starts from, and the laws of its script.
 use Rattle.std.proofs.Common.{inl, inr, List, [], refl, sym, subst}
 use Rattle.std.specs.Prelude.{ℕ}
-use Rattle.kdcs_types.specs.Tables.{TableRows, IsSortedTables, empty_tables}
+use Rattle.kdcs_types.specs.RowLaws.{empty_sorted}
+use Rattle.kdcs_types.specs.Tables.{TableRows, IsSortedTables}
 use Rattle.monitor_laws.specs.EmptyTables.{empty_suit}
 use Rattle.monitor_laws.specs.Suits.{Suits}
 use Rattle.monitor_queues.specs.Lawful.{RunsAreLawful}
@@ -13,13 +14,6 @@ use Rattle.utm_cli.specs.Doing.{Opens, StartsBy, Starts}
 use Rattle.utm_cli.specs.declared.words.Word.{Word}
 use Rattle.utm_cli.specs.declared.words.Word.TheVariants.{Gen, Run, Show, Make}
 use Rattle.utm_cli.specs.Promise.{RunsLawfully}
-
--- ---- the empty tables
-
-empty_sorted : IsSortedTables empty_tables
-empty_sorted = record { gssbs = refl; tlss = refl; ulss = refl; services = refl; jobs = refl; shown = refl; tlss_filled = refl; ulss_filled = refl; services_fit = refl }
-
--- ---- a start
 
 opened : (e : Errand) (bytes : List ℕ) (t : TableRows) → Opens e bytes t → IsSortedTables t × Suits e.application.generation t
 opened e bytes t (inl (empty, is)) = (subst IsSortedTables (sym is) empty_sorted, subst (Suits e.application.generation) (sym is) (empty_suit e.application.generation))

@@ -1,7 +1,7 @@
 use Rattle.std.proofs.Common.{ap, ◌∙◌}
 use Rattle.utm_cli.specs.declared.error.Refusal.{Refusal}
 use Rattle.utm_cli.proofs.TextsSaid.{application_is, application_one, script_is, script_refused, script_one, script_never_room, asked_one, said_refused, made_fit}
-use Rattle.utm_cli.proofs.Scripts.{its_script, few_turns}
+use Rattle.utm_cli.proofs.Scripts.{few_turns}
 use Rattle.utm_cli.proofs.reading.asked_of.Goals as goal
 
 pub returns-in_err-application-clause-refused_one : goal.returns-in_err-application-clause-refused_one
@@ -32,7 +32,7 @@ pub returns-clause-can : goal.returns-clause-can
 returns-clause-can c = record {
   fit = made_fit c.args.definition.now c.args.units.now c.in_ok-application.application c.in_ok-application.ensures.found;
   applies = c.fitted_units_make_an_application.ensures;
-  names = its_script c.in_ok-application.application.generation c.in_ok-commands.commands.items c.in_ok-commands.ensures.names;
+  names = c.in_ok-commands.ensures.names;
   turns = few_turns c.in_ok-application.application.generation c.commands_are_said.ensures.commands_only c.args.script.now c.in_ok-commands.commands.items c.in_ok-commands.ensures.found;
 }
 

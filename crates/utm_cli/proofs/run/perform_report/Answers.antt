@@ -1,8 +1,7 @@
 use Rattle.std.proofs.Common.{ap, ◌∙◌}
 use Rattle.utm_cli.specs.Asking.{Errand}
 use Rattle.utm_cli.specs.Report.{report}
-use Rattle.utm_cli.proofs.Results.{on_ok_both}
-use Rattle.utm_cli.proofs.Doing.{report_can, report_performs, report_ran}
+use Rattle.utm_cli.proofs.Doing.{on_ok_both, report_can, report_performs, report_ran}
 use Rattle.utm_cli.proofs.run.perform_report.Goals as goal
 
 pub perform_acts-requires-clause-can : goal.perform_acts-requires-clause-can

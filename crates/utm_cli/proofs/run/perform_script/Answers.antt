@@ -1,5 +1,5 @@
 use Rattle.std.proofs.Common.{sym}
-use Rattle.utm_cli.proofs.Results.{on_ok}
+use Rattle.std.proofs.lemmas.Result.{on_ok_weaker}
 use Rattle.utm_cli.proofs.Doing.{parts_run, parts_script, parts_perform, parts_ran}
 use Rattle.utm_cli.proofs.run.perform_script.Goals as goal
 
@@ -20,6 +20,6 @@ returns-clause-any g c =
 
 pub returns-clause-done : goal.returns-clause-done
 returns-clause-done g c =
-    on_ok c.run_script.result _ _ (λ ran told.
+    on_ok_weaker c.run_script.result (λ ran told.
     parts_ran c.args.asked (record { word = c.asked.inside.word; application = c.asked.inside.application; fingerprint = c.asked.inside.fingerprint; commands = c.asked.inside.commands.items }) (sym c.asked.view_is) c.args.tables c.in_ok-core.core c.in_ok-core.ensures.application c.in_ok-core.ensures.state c.in_ok-core.ensures.steps
     c.requires.can c.requires.suits c.requires.word c.deref.result.now c.deref.ensures.value (g.D.Device.state c.args.device.now) (g.D.Device.state c.run_script.new.device) (g.D.Device.leaves c.args.device.now) (g.D.Device.leaves c.run_script.new.device) (ran told)) c.run_script.ensures.done

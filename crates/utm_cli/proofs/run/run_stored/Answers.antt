@@ -1,5 +1,6 @@
 use Rattle.std.proofs.Common.{◌≡◌, ◌∙◌, ◌++◌, ap, subst, inl, List, ℕ}
 use Rattle.std.specs.Prelude.{IsTrue, true}
+use Rattle.std.proofs.lemmas.Result.{on_ok_weaker}
 use Rattle.kd_device.specs.Device.{LeavesOnly}
 use Rattle.kdcs_types.specs.Tables.{TableRows}
 use Rattle.monitor_semantics.specs.Trace.{bytes_of}
@@ -8,9 +9,9 @@ use Rattle.utm_cli.specs.Asking.{Errand}
 use Rattle.utm_cli.specs.Doing.{Opens, identity_of, acts_of}
 use Rattle.monitor_acts.specs.Performing.{commits_nothing}
 use Rattle.monitor_run.specs.HandedOn.{open_refused, open_other, open_failed}
-use Rattle.utm_cli.proofs.Results.{on_ok}
 use Rattle.utm_cli.proofs.ByWord.{not_empty, opened_once}
-use Rattle.utm_cli.proofs.Ran.{opening_cut, run_cut, rose_either}
+use Rattle.utm_cli.proofs.Ran.{opening_cut, run_cut, rose_either, told_then}
+use Rattle.utm_cli.proofs.run.run_stored.Given.{Over}
 use Rattle.utm_cli.proofs.run.run_stored.Goals as goal
 
 pub returns-in_err-store-clause-refused : goal.returns-in_err-store-clause-refused
@@ -35,52 +36,38 @@ returns-in_err-store-clause-any_moment g c = λ told only t starts.
     let lb = g.D.Device.leaves c.open.new.device in
     opening_cut c.args.asked t a la only starts b lb (subst (λ (e : Errand). LeavesOnly a b la lb (IsOpening (identity_of e) a la)) c.asked.view_is (c.open.ensures.any_moment told))
 
+-- ---- the file was opened
+
+opens : (g : Over) (c : goal.After-perform g) → IsTrue (g.D.Device.state c.args.device.now).told → Opens c.args.asked (g.D.Device.state c.args.device.now).holds c.in_ok-store.tables
+opens g c told = subst (λ (e : Errand). Opens e (g.D.Device.state c.args.device.now).holds c.in_ok-store.tables) c.asked.view_is (c.in_ok-store.ensures.starts told)
+
 pub returns-clause-done : goal.returns-clause-done
-returns-clause-done g c = on_ok c.perform.result _ _ (λ ran told.
-    let a = g.D.Device.state c.args.device.now in
-    let b = g.D.Device.state c.open.new.device in
-    let t = c.in_ok-store.tables in
-    let told_b : IsTrue b.told = rw c.open.ensures.frame.told told in
-    let starts = subst (λ (e : Errand). Opens e a.holds t) c.asked.view_is (c.in_ok-store.ensures.starts told) in
-    let done = ran told_b in
-    (t, starts, record { sent = done.sent ∙ ap (λ (s : List ℕ). s ++ bytes_of (acts_of c.args.asked t)) (c.open.ensures.sent told); holds = done.holds; settled = done.settled })) c.perform.ensures.done
+returns-clause-done g c = on_ok_weaker c.perform.result (λ ran told.
+    let done = ran (told_then _ _ c.open.ensures.frame told) in
+    (_, opens g c told, record { sent = done.sent ∙ ap (λ (s : List ℕ). s ++ bytes_of (acts_of c.args.asked c.in_ok-store.tables)) (c.open.ensures.sent told); holds = done.holds; settled = done.settled })) c.perform.ensures.done
 
 pub returns-clause-other : goal.returns-clause-other
-returns-clause-other g c = λ stored is told.
-    let b = g.D.Device.state c.open.new.device in
-    let told_b : IsTrue b.told = rw c.open.ensures.frame.told told in
-    absurd (c.perform.ensures.other stored is told_b)
+returns-clause-other g c = λ stored is told. absurd (c.perform.ensures.other stored is (told_then _ _ c.open.ensures.frame told))
 
 pub returns-clause-still : goal.returns-clause-still
-returns-clause-still g c = λ told none.
-    absurd (none c.in_ok-store.tables (subst (λ (e : Errand). Opens e (g.D.Device.state c.args.device.now).holds c.in_ok-store.tables) c.asked.view_is (c.in_ok-store.ensures.starts told)))
+returns-clause-still g c = λ told none. absurd (none c.in_ok-store.tables (opens g c told))
 
 pub returns-clause-any_moment : goal.returns-clause-any_moment
 returns-clause-any_moment g c = λ told only t starts.
     let a = g.D.Device.state c.args.device.now in
     let b = g.D.Device.state c.open.new.device in
-    let d = g.D.Device.state c.perform.new.device in
     let la = g.D.Device.leaves c.args.device.now in
     let lb = g.D.Device.leaves c.open.new.device in
-    let ld = g.D.Device.leaves c.perform.new.device in
-    let u = c.in_ok-store.tables in
-    let told_b : IsTrue b.told = rw c.open.ensures.frame.told told in
-    let from = subst (λ (e : Errand). Opens e a.holds u) c.asked.view_is (c.in_ok-store.ensures.starts told) in
     let first = subst (λ (e : Errand). LeavesOnly a b la lb (IsOpening (identity_of e) a la)) c.asked.view_is (c.open.ensures.any_moment told) in
-    run_cut c.args.asked t a la only starts u b d lb ld from first (c.open.ensures.sent told) (c.perform.ensures.any.any_moment told_b)
+    run_cut c.args.asked t a la only starts c.in_ok-store.tables b (g.D.Device.state c.perform.new.device) lb (g.D.Device.leaves c.perform.new.device) (opens g c told) first
+    (c.open.ensures.sent told) (c.perform.ensures.any.any_moment (told_then _ _ c.open.ensures.frame told))
 
 pub returns-clause-left : goal.returns-clause-left
 returns-clause-left g c = λ told t starts some lines.
-    let a = g.D.Device.state c.args.device.now in
-    let b = g.D.Device.state c.open.new.device in
-    let u = c.in_ok-store.tables in
-    let told_b : IsTrue b.told = rw c.open.ensures.frame.told told in
-    let from = subst (λ (e : Errand). Opens e a.holds u) c.asked.view_is (c.in_ok-store.ensures.starts told) in
-    let same = opened_once c.args.asked a.holds t u starts from in
+    let same = opened_once c.args.asked _ t _ starts (opens g c told) in
     let rests = c.open.ensures.still told some in
-    let quiet = c.perform.ensures.any.quiet told_b (subst (λ (v : TableRows). commits_nothing (acts_of c.args.asked v) ≡ true) same lines) in
+    let quiet = c.perform.ensures.any.quiet (told_then _ _ c.open.ensures.frame told) (subst (λ (v : TableRows). commits_nothing (acts_of c.args.asked v) ≡ true) same lines) in
     record { holds = quiet.holds ∙ rests.holds; put = quiet.put ∙ rests.put }
 
 pub returns-clause-failed : goal.returns-clause-failed
-returns-clause-failed g c = λ is.
-    rose_either (g.D.Device.state c.args.device.now) (g.D.Device.state c.open.new.device) (g.D.Device.state c.perform.new.device) c.open.ensures.frame (c.perform.ensures.failed is)
+returns-clause-failed g c = λ is. rose_either (g.D.Device.state c.args.device.now) (g.D.Device.state c.open.new.device) (g.D.Device.state c.perform.new.device) c.open.ensures.frame (c.perform.ensures.failed is)
