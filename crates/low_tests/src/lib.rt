@@ -1,8 +1,7 @@
-//! Tests of the low crates: what no case of the whole program reaches.
+//! Tests of kd_device and kd_host: what no case of the whole program reaches.
 //!
-//! They stand here, over kd_base, kd_records, kd_device, kd_host, kdcfile_store, kdcs_types and unit_step, so that these
-//! crates are proved once and not once more with their tests. A test is here only where no script and no KDCFILE of a
-//! case makes the call, or where no line shows the value. Nothing stands above.
+//! They stand here, so that these crates are proved once and not once more with their tests. A test is here only where
+//! no script and no KDCFILE of a case makes the call, or where no line shows the value. Nothing stands above.
 #![tactic(auto)]
 
 #[cfg(test)]
