@@ -34,9 +34,7 @@ after_granted who false before = refl
 
 pub holder_after_is : (answer : LockAnswer) (l : Locks) (now : ℕ) (who : ServiceId) (area a : Area) → holder (locks_after answer l now who area) a ≡ holder_after answer who (area_eq a area) (holder l a)
 holder_after_is Granted l now who area a = holder-given l who area a ∙ after_granted who (area_eq a area) (holder l a)
-holder_after_is Wait l now who area a = refl
-holder_after_is Busy l now who area a = refl
-holder_after_is Deadlock l now who area a = refl
+holder_after_is _ l now who area a = refl
 
 -- ---- an area is given back
 

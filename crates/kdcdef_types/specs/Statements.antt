@@ -41,16 +41,10 @@ IsUserInRange u = IfSome u.pass (λ (pass : List ℕ). IsWithin 1 16 (length pas
 -- the numbers of a statement lie in their ranges
 abbrev pub IsInRange : Said → Type 0
 IsInRange (Max m) = IsMaxInRange m
-IsInRange (Program name) = Unit {0}
 IsInRange (Tac name entry) = IsTacInRange entry
 IsInRange (User name entry) = IsUserInRange entry
-IsInRange (Pterm name entry) = Unit {0}
-IsInRange (Lterm name entry) = Unit {0}
-IsInRange (Tls name) = Unit {0}
-IsInRange (Uls name) = Unit {0}
 IsInRange (TacClass class tasks) = IsWithin 1 16 class × (tasks ≤ 240)
-IsInRange Passed = Unit {0}
-IsInRange End = Unit {0}
+IsInRange _ = Unit {0}
 
 -- the last statement is END, and no other is
 abbrev pub EndsOnce : List Statement → Type 0

@@ -70,20 +70,11 @@ module _ (app : Application) (asynchronous : Bool) (unit : UnitText) (y : Work) 
   touched_by_outcome : (variant : Variant) (o : Outcome) → (by_outcome app asynchronous y variant o).0.touched ≡ y.touched
   unfolding followed
   touched_by_outcome variant (Stay tac) = refl
-  touched_by_outcome variant (Queue tac) = refl
-  touched_by_outcome variant (Hold tac) = refl
-  touched_by_outcome variant (Wait tac) = refl
-  touched_by_outcome variant (Point tac) = refl
-  touched_by_outcome variant (Follow tac) = refl
-  touched_by_outcome variant Finish = refl
-  touched_by_outcome variant Break = refl
-  touched_by_outcome variant Back = refl
+  touched_by_outcome variant _ = refl
 
   touched_by_call : (c : Called) → (by_call app asynchronous unit y c).0.touched ≡ y.touched
-  touched_by_call (Replied reply) = refl
-  touched_by_call Waits = refl
-  touched_by_call (Abnormal cause) = refl
   touched_by_call (Pends variant o) = touched_by_outcome variant o
+  touched_by_call _ = refl
 
   -- what follows the call touches no other area
   holders_stay : (l m : Locks) (id : ServiceId) (z : Work) (h : Happened) (c : Called) → HoldersFollow l m id y → (z, h) ≡ by_call app asynchronous unit y c → HoldersFollow l m id z
@@ -107,18 +98,11 @@ module _ (app : Application) (asynchronous : Bool) (unit : UnitText) (y : Work) 
     waits_by_outcome variant (Stay tac) e = ap ended e
     waits_by_outcome variant (Queue tac) e = ap ended e
     waits_by_outcome variant (Hold tac) e = ap ended e
-    waits_by_outcome variant (Wait tac) e = e
-    waits_by_outcome variant (Point tac) e = e
-    waits_by_outcome variant (Follow tac) e = e
-    waits_by_outcome variant Finish e = e
-    waits_by_outcome variant Break e = e
-    waits_by_outcome variant Back e = e
+    waits_by_outcome variant _ e = e
 
     waits_by_call : (c : Called) → WaitsFollow l m id now area c → Come (by_call app asynchronous unit y c).1
-    waits_by_call (Replied reply) follow = follow
-    waits_by_call Waits follow = follow
-    waits_by_call (Abnormal cause) follow = follow
     waits_by_call (Pends variant o) follow = waits_by_outcome variant o follow
+    waits_by_call _ follow = follow
 
     pub waits_come : (z : Work) (h : Happened) (c : Called) → WaitsFollow l m id now area c → (z, h) ≡ by_call app asynchronous unit y c → Come h
     waits_come z h c follow e = subst (λ (s : Work × Happened). Come s.1) (sym e) (waits_by_call c follow)

@@ -100,12 +100,7 @@ module _ (app : Application) (t : TableRows) (l : Locks) (x y : OpenTransaction)
 -- the end of a wait moves no area
 ended_follow : (l m : Locks) (id : ServiceId) (y : Work) (h : Happened) → HoldersFollow l m id y → HoldersFollow l (wait_ended m id h) id y
 ended_follow l m id y Went follow = follow
-ended_follow l m id y Queued follow = follow
-ended_follow l m id y Waited follow = follow
-ended_follow l m id y (Held tac) follow = follow
-ended_follow l m id y (Settles o) follow = follow
-ended_follow l m id y (Breaks ending) follow = follow
-ended_follow l m id y Returns follow = follow
+ended_follow l m id y _ follow = follow
 
 pub ended_holds : (l m new : Locks) (id i : ServiceId) (y : Work) (h : Happened) → i ≡ id → HoldersFollow l m id y → new ≡ wait_ended m i h → HoldsJust new id y
 ended_holds l m new id i y h same follow e =

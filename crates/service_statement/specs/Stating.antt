@@ -23,13 +23,11 @@ StepLeaves x y (stepped.Ends cause) = y ≡ x
 -- a statement that is done, and PEND KP, end the wait of their service; a request waits since it was made first; and an end of the
 -- transaction leaves the wait to those who free all that the service holds
 abbrev pub waits_by : Locks → ServiceId → (now : ℕ) → Option Area → Happened → List (ServiceId × Waiting)
-waits_by l id now area Went = (without_wait l id).waits
-waits_by l id now area Queued = (without_wait l id).waits
 waits_by l id now area Waited = waits_for_area l id now area
-waits_by l id now area (Held tac) = (without_wait l id).waits
 waits_by l id now area (Settles o) = l.waits
 waits_by l id now area (Breaks ending) = l.waits
 waits_by l id now area Returns = l.waits
+waits_by l id now area _ = (without_wait l id).waits
 
 -- the waits after the next statement of a service
 abbrev pub waits_after : Application → TableRows → Locks → ServiceId → Work → Happened → List (ServiceId × Waiting)
@@ -39,8 +37,5 @@ waits_after app t l id x h = waits_by l id t.clock (area_of app x) h
 abbrev pub wait_ended : Locks → ServiceId → Happened → Locks
 wait_ended l id Went = without_wait l id
 wait_ended l id Queued = without_wait l id
-wait_ended l id Waited = l
 wait_ended l id (Held tac) = without_wait l id
-wait_ended l id (Settles o) = l
-wait_ended l id (Breaks ending) = l
-wait_ended l id Returns = l
+wait_ended l id _ = l

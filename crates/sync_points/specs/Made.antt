@@ -178,12 +178,7 @@ unfolding row_after
 row_fits_service g id x (Wait tac) h = true_both _ _ (id_eq-itself id) (true_both _ _ (lterm-fits id x.lterm) h)
 row_fits_service g id x (Point tac) h = true_both _ _ (id_eq-itself id) (true_both _ _ (lterm-fits id x.lterm) h)
 row_fits_service g id x (Follow tac) h = true_both _ _ (id_eq-itself id) (true_both _ _ (lterm-fits id x.lterm) refl)
-row_fits_service g id x Finish h = refl
-row_fits_service g id x (Hold tac) h = refl
-row_fits_service g id x (Stay tac) h = refl
-row_fits_service g id x (Queue tac) h = refl
-row_fits_service g id x Break h = refl
-row_fits_service g id x Back h = refl
+row_fits_service g id x _ h = refl
 
 numbers_low : (g : Generated) (t : TableRows) (id : ServiceId) (x : OpenTransaction) → Stands g t id x → IsTrue (list_all (has_number_below t.next_job) t.jobs)
 unfolding durable

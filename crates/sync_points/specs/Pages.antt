@@ -128,11 +128,7 @@ durable_short g t block few k kept =
 
 with_numbers : (t : TableRows) (clock next : ℕ) (k : Key) → row_at (record t { clock = clock; next_job = next }) k ≡ row_at t k
 with_numbers t clock next (GssbKey n) = refl
-with_numbers t clock next (TlsKey b l) = refl
-with_numbers t clock next (UlsKey b l) = refl
-with_numbers t clock next (ServiceKey i) = refl
-with_numbers t clock next (JobKey n) = refl
-with_numbers t clock next (ShownKey l) = refl
+with_numbers t clock next _ = refl
 
 same_replaced : (m : Row → ℕ) (g : Generated) (t : TableRows) (clock next : ℕ) (cs : List Change) → IsTrue (list_all (λ (c : Change). key_is_durable g (change_key c)) cs)
     → replaced_weight m (record (durable g t) { clock = clock; next_job = next }) cs ≡ replaced_weight m t cs

@@ -29,11 +29,7 @@ use Rattle.sync_points.specs.Weights.{changes_weigh, made_weight, replaced_weigh
 -- a GSSB counts once, and no other row does
 abbrev pub gssb_weight : Row → ℕ
 gssb_weight (GssbRow name content) = 1
-gssb_weight (TlsRow block lterm content) = 0
-gssb_weight (UlsRow block user content) = 0
-gssb_weight (ServiceRow id row) = 0
-gssb_weight (JobRow number value) = 0
-gssb_weight (ShownRow lterm value) = 0
+gssb_weight _ = 0
 
 -- the pages that a row takes
 abbrev pub row_charge : ℕ → Row → ℕ

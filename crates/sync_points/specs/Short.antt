@@ -101,11 +101,7 @@ module _ (g : Generated) (limits : AreLimits g.limits) (t : TableRows) (id : Ser
   row-short (Follow tac) =
       small (new_row g id x tac) (record { kb = omega (arith, length-replicate {A = ℕ} g.limits.kb 32, limits.kb); count = s.can.parts.count; handed = handed-small; last = omega arith; lssbs_count = omega arith; lssbs = refl })
   row-short Finish = refl
-  row-short (Hold tac) = refl
-  row-short (Stay tac) = refl
-  row-short (Queue tac) = refl
-  row-short Break = refl
-  row-short Back = refl
+  row-short _ = refl
 
   service-short : (o : Outcome) → IsTrue (list_all leaves_short (service_changes g id (row_after g id x o)))
   service-short o = by (is_durable g id)
