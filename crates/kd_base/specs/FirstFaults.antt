@@ -25,15 +25,6 @@ pub holds_unless : (b : Bool) (P : Type 0) → (b ≡ false → P) → Unless b 
 holds_unless true P h = tt
 holds_unless false P h = h refl
 
-pub unless_holds : (b : Bool) (P : Type 0) → Unless b P → b ≡ false → P
-unless_holds true P h is = absurd cc
-unless_holds false P h is = h
-
--- a fault of one reader that another hands on: want of memory stays want of memory
-pub handed_on : {X Y D E : Type 0} (is_memory : D → Bool) (is_want : E → Bool) (d : D) (e : E) → is_memory d ≡ is_want e → (read : Result X D) (wanted : Result Y E) → GivesUnless is_memory (Err d) read → (read ≡ Err d → wanted ≡ Err e) → GivesUnless is_want (Err e) wanted
-handed_on is_memory is_want d e same read wanted h on =
-    holds_unless (is_want e) (wanted ≡ Err e) (λ no. on (unless_holds (is_memory d) (read ≡ Err d) h (same ∙ no)))
-
 -- ---- the order of faults: by their lines, and on one line by their numbers
 
 module _ {E : Type 0} (line_of number_of : E → ℕ) where

@@ -1,6 +1,6 @@
 -- Names, decimal numbers and the printed form of bytes.
 use Rattle.std.specs.Prelude.{ℕ, ◌+◌, ◌-◌, ◌/◌, ◌%◌, ◌≤◌, Bool, IsTrue, ◌&&◌, ◌||◌, ◌==◌, nat_le, nat_lt, List, [], ◌∷◌, ◌++◌, length, take, drop, replicate, if◌then◌else◌, Option, Some, None}
-use Rattle.std.specs.List.{list_all, flat_map, prefix_len}
+use Rattle.std.specs.List.{list_all, flat_map, prefix_len, suffix_len}
 use Rattle.std.specs.Str.Parse.{digits_value}
 
 -- b is from low to high
@@ -59,6 +59,10 @@ name_in bytes =
     if list_all is_space (drop (prefix_len is_name_byte bytes) bytes)
     then name_of (take (prefix_len is_name_byte bytes) bytes)
     else None
+
+-- without the spaces at the end
+unfoldable pub trim_end : List ℕ → List ℕ
+trim_end bytes = take (length bytes - suffix_len is_space bytes) bytes
 
 -- 1 to 18 digits
 abbrev pub IsDecimal : List ℕ → Type 0

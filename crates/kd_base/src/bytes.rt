@@ -1,84 +1,23 @@
 //! Lists of bytes.
-ghost use Rattle.std.specs.Prelude.{◌≡◌, ◌↔◌, IsTrue, [], ◌∷◌, ◌++◌, length, IfOk, OnOk, OnErr, Some, refl};
+ghost use Rattle.std.specs.Prelude.{◌≡◌, ◌+◌, ◌≤◌, ◌++◌, length, take, drop, replicate, IfOk, OnOk, OnErr, Some, refl};
 ghost use Rattle.std.specs.Hash as fed;
-ghost use Rattle.std.specs.Ordering.{nat_cmp};
-ghost use Rattle.std.specs.Cmp.Lexicographic.{slice_cmp, nat_list_cmp_total, texts_ties, texts_po};
+ghost use Rattle.std.specs.{Ordering.{nat_cmp}, Cmp.Lexicographic.{slice_cmp, nat_list_cmp_total, texts_ties, texts_po}};
 
 use crate::memory::OutOfMemory;
+use crate::sequence::Sequence;
 use std::alloc::{AllocError, Global};
 use std::cmp::Ordering;
 use std::hash::{Hash, Hasher};
-use std::marker::Model;
 
-/// A list of bytes on the heap. Contracts see the list.
-#[derive(Debug, Drop)]
-pub struct Bytes {
-    items: Vec<u8>,
-}
+/// Bytes in their order, on the heap. Contracts see the list.
+pub type Bytes = Sequence<u8>;
 
-impl Model for Bytes {
-    ghost use Rattle.std.specs.Prelude.{List, ℕ};
-
-    ghost Value = { List ℕ };
-
-    ghost view = { λ b. b.items.items };
-}
-
-impl Bytes {
-    pub fn new(alloc: Global) -> Bytes
-        ensures { result ≡ [] }
-    {
-        Bytes {
-            items: Vec::new(alloc),
-        }
-    }
-
+impl Sequence<u8> {
+    /// A copy of these bytes.
     pub fn from_slice(alloc: Global, bytes: &[u8]) -> Result<Bytes, OutOfMemory>
         ensures { IfOk result (λ b. b ≡ bytes.now) }
     {
-        Ok(Bytes {
-            items: Vec::from_slice(alloc, bytes)?,
-        })
-    }
-
-    /// The bytes of a `Vec`, which takes no memory.
-    pub fn from_vec(items: Vec<u8>) -> Bytes
-        ensures { result ≡ items.items }
-    {
-        Bytes { items }
-    }
-
-    /// The `Vec` of these bytes, which takes no memory.
-    pub fn into_vec(self) -> Vec<u8>
-        ensures { result.items ≡ self }
-    {
-        self.items
-    }
-
-    pub fn as_slice(&self) -> &[u8]
-        ensures { result.now ≡ self.now }
-    {
-        self.items.as_slice()
-    }
-
-    pub fn len(&self) -> usize
-        ensures { result ≡ length self.now }
-    {
-        self.items.len()
-    }
-
-    pub fn is_empty(&self) -> bool
-        ensures { IsTrue result ↔ (self.now ≡ []) }
-    {
-        self.items.is_empty()
-    }
-
-    /// Adds a byte at the end, or changes nothing.
-    pub fn push(&mut self, byte: u8) -> Result<(), OutOfMemory>
-        ensures ok { OnOk result (self.new ≡ self.old ++ byte ∷ []) }
-        ensures err { OnErr result (self.new ≡ self.old) }
-    {
-        Ok(self.items.push(byte)?)
+        Ok(Bytes::from_vec(Vec::from_slice(alloc, bytes)?))
     }
 
     /// Adds bytes at the end, or changes nothing.
@@ -88,23 +27,35 @@ impl Bytes {
     {
         Ok(self.items.extend_from_slice(bytes)?)
     }
-}
 
-impl Clone for Bytes {
-    ghost is_clone = { λ bytes copy. copy ≡ bytes };
+    /// Puts bytes over those from a place on. It takes no memory.
+    pub fn overwrite(&mut self, at: usize, bytes: &[u8])
+        requires { at + length bytes.now ≤ length self.old }
+        ensures { self.new ≡ take at self.old ++ bytes.now ++ drop (at + length bytes.now) self.old }
+    {
+        self.items[at..at + bytes.len()].copy_from_slice(bytes);
+    }
 
-    fn clone(&self) -> Result<Bytes, AllocError> {
-        Ok(Bytes {
-            items: self.items.clone()?,
-        })
+    /// Puts so many times this byte over those from a place on. It takes no memory.
+    pub fn fill(&mut self, at: usize, count: usize, byte: u8)
+        requires { at + count ≤ length self.old }
+        ensures { self.new ≡ take at self.old ++ replicate count byte ++ drop (at + count) self.old }
+    {
+        self.items[at..at + count].fill(byte);
     }
 }
 
-impl PartialEq for Bytes {
-    ghost use Rattle.std.specs.Prelude.{◌==◌};
-    ghost use Rattle.std.specs.Cmp.Lexicographic.{pointwise};
+impl Clone for Sequence<u8> {
+    ghost is_clone = { λ bytes copy. copy ≡ bytes };
+
+    fn clone(&self) -> Result<Bytes, AllocError> {
+        Ok(Bytes::from_vec(self.items.clone()?))
+    }
+}
+
+impl PartialEq for Sequence<u8> {
+    ghost use Rattle.std.specs.{Prelude.{◌==◌}, Cmp.Lexicographic.{pointwise}, Cmp.Rules.{comparing}};
     ghost use Rattle.std.proofs.Common.{rules};
-    ghost use Rattle.std.specs.Cmp.Rules.{comparing};
 
     ghost eq = { pointwise ◌==◌ };
 
@@ -115,14 +66,14 @@ impl PartialEq for Bytes {
     }
 }
 
-impl Eq for Bytes {
+impl Eq for Sequence<u8> {
     ghost use Rattle.std.proofs.Common.{rules};
     ghost use Rattle.std.specs.Cmp.Rules.{comparing};
 
     ghost laws = { Prim.search (comparing, rules) };
 }
 
-impl PartialOrd for Bytes {
+impl PartialOrd for Sequence<u8> {
     ghost partial_cmp = { λ a b. Some (slice_cmp nat_cmp a b) };
 
     ghost laws = { texts_po };
@@ -132,7 +83,7 @@ impl PartialOrd for Bytes {
     }
 }
 
-impl Ord for Bytes {
+impl Ord for Sequence<u8> {
     ghost cmp = { slice_cmp nat_cmp };
 
     ghost total = { nat_list_cmp_total };
@@ -146,7 +97,7 @@ impl Ord for Bytes {
     }
 }
 
-impl Hash for Bytes {
+impl Hash for Sequence<u8> {
     ghost use Rattle.std.proofs.Common.{rules};
     ghost use Rattle.std.specs.Cmp.Rules.{hashing};
     ghost use Rattle.std.specs.Hash as fed;

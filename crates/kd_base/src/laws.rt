@@ -1,6 +1,5 @@
 //! Laws on the definitions, which all crates above may cite. The functions do nothing.
-ghost use Rattle.kd_base.specs.RoundTrips.{U8ComesBack, U32ComesBack, U64ComesBack, ListComesBack, NameComesBack, NameStandsThere};
-ghost use Rattle.kd_base.specs.Order.{EqualIsSame, TiedIsSame, OrderIsTotal};
+ghost use Rattle.kd_base.specs.{RoundTrips.{U8ComesBack, U32ComesBack, U64ComesBack, ListComesBack, NameComesBack, NameStandsThere}, Order.{EqualIsSame, TiedIsSame, OrderIsTotal}};
 
 /// What was written is read again, whatever follows; and a name is read only where it stands.
 pub fn fields_come_back()

@@ -3,16 +3,16 @@
 //!
 //! It stands on no other crate. To all layers above, its contract says which bytes are a name or a number, that names
 //! compare as their bytes do, that a field reader answers exactly the field that the bytes begin with, or `None` and
-//! stays where it was, that a writer is unchanged by a call that fails, and that what was written is read again. Its
+//! stays where it was, that bytes are unchanged by a field whose writing fails, and that what was written is read again. Its
 //! specs also say, for all that read texts, which of several faults comes first, and what an answer says that may be want
 //! of memory.
 #![tactic(auto)]
 
 mod bytes;
 mod laws;
+mod limits;
 mod memory;
 mod name;
-mod prog_name;
 mod reader;
 mod sequence;
 mod text;
@@ -21,11 +21,10 @@ mod writer;
 
 pub use bytes::Bytes;
 pub use laws::{fields_come_back, names_are_told_apart};
+pub use limits::{LAST_CLOCK, LAST_NEXT_JOB, LONGEST_CONTENT, LONGEST_TEXT};
 pub use memory::OutOfMemory;
-pub use name::Name;
-pub use prog_name::ProgName;
+pub use name::{Name, NameOf, ProgName};
 pub use reader::Reader;
 pub use sequence::Sequence;
-pub use text::{decimal_of, escape};
+pub use text::{decimal_of, escape, trim_end};
 pub use words::{Mode, Variant};
-pub use writer::Writer;

@@ -1,26 +1,29 @@
-//! Names of TACs, users, terminals, areas and blocks.
-ghost use Rattle.std.specs.Prelude.{◌≡◌, ◌≤◌, List, ℕ, IfSome, SomeIff, Some, length, nat_eq, refl};
-ghost use Rattle.std.specs.List.{list_all, prefix_len};
+//! Names of TACs, users, terminals, areas, blocks and program units.
+ghost use Rattle.std.specs.{Prelude.{◌≡◌, ◌≤◌, List, ℕ, IfSome, SomeIff, Some, length, nat_eq, refl}, List.{list_all, prefix_len}};
 ghost use Rattle.std.specs.Hash as fed;
-ghost use Rattle.std.specs.Ordering.{nat_cmp};
-ghost use Rattle.std.specs.Cmp.{partial_equiv_from_equiv};
-ghost use Rattle.std.specs.Cmp.Lexicographic.{pointwise, slice_cmp, nat_list_eq_equiv, nat_list_cmp_total, texts_ties, texts_po};
-ghost use Rattle.kd_base.specs.Text.{is_name_byte, is_space, IsName, name_of, name_in, padded};
+ghost use Rattle.std.specs.{Ordering.{nat_cmp}, Cmp.{partial_equiv_from_equiv}, Cmp.Lexicographic.{pointwise, slice_cmp, nat_list_eq_equiv, nat_list_cmp_total, texts_ties, texts_po}};
+ghost use Rattle.kd_base.specs.Text.{is_name_byte, is_space, IsName, IsNameUpTo, name_up_to, name_in, padded};
 
 use std::cmp::Ordering;
 use std::hash::{Hash, Hasher};
 use std::marker::Model;
 
-/// A name: 1 to 8 letters, digits, `$`, `#`, `@` and `_`. Contracts see the list of its bytes.
+/// 1 to N letters, digits, `$`, `#`, `@` and `_`. Contracts see the list of these bytes.
 #[derive(Clone, Copy, Debug)]
-pub struct Name {
-    cells: [u8; 8],
-    used: u8,
+pub struct NameOf<const N: usize> {
+    cells: [u8; N],
+    used: usize,
 }
 
-impl Model for Name {
+/// A name: at most 8 bytes.
+pub type Name = NameOf<8>;
+
+/// A program name: at most 32 bytes.
+pub type ProgName = NameOf<32>;
+
+impl<const N: usize> Model for NameOf<N> {
     ghost use Rattle.std.specs.Prelude.{List, ℕ, length, take};
-    ghost use Rattle.kd_base.specs.Text.{padded};
+    ghost use Rattle.kd_base.specs.Text.{filled};
 
     ghost Value = { List ℕ };
 
@@ -28,20 +31,20 @@ impl Model for Name {
 
     ghost view = { λ n. take n.used n.cells };
 
-    ghost invariant = { λ n. IsNameCells n };
+    ghost invariant = { λ n. IsNameCells N n };
 
-    ghost inverse = { λ bytes. record { cells = padded bytes; used = length bytes } };
+    ghost inverse = { λ bytes. record { cells = filled N bytes; used = length bytes } };
 
-    ghost inverse_ok = { same_name };
+    ghost inverse_ok = { same_name N };
 }
 
-pub(crate) fn is_name_byte(b: u8) -> bool
+fn is_name_byte(b: u8) -> bool
     ensures { result ≡ is_name_byte b }
 {
     matches!(b, b'A'..=b'Z' | b'a'..=b'z' | b'0'..=b'9' | b'$' | b'#' | b'@' | b'_')
 }
 
-pub(crate) fn are_name_bytes(bytes: &[u8]) -> bool
+fn are_name_bytes(bytes: &[u8]) -> bool
     ensures { result ≡ list_all is_name_byte bytes.now }
 {
     bytes.iter().all(|b| is_name_byte(*b))
@@ -65,23 +68,33 @@ fn name_len(bytes: &[u8]) -> usize
     n
 }
 
-impl Name {
+impl<const N: usize> NameOf<N> {
     /// The name with these bytes. It takes no memory.
-    pub fn from_bytes(bytes: &[u8]) -> Option<Name>
-        ensures exact { SomeIff result (IsName bytes.now) bytes.now }
-        ensures name { result ≡ name_of bytes.now }
+    pub fn from_bytes(bytes: &[u8]) -> Option<NameOf<N>>
+        ensures exact { SomeIff result (IsNameUpTo N bytes.now) bytes.now }
+        ensures name { result ≡ name_up_to N bytes.now }
     {
-        if bytes.is_empty() || bytes.len() > 8 || !are_name_bytes(bytes) {
+        if bytes.is_empty() || bytes.len() > N || !are_name_bytes(bytes) {
             return None;
         }
-        let mut cells = [b' '; 8];
+        let mut cells = [b' '; N];
         cells[..bytes.len()].copy_from_slice(bytes);
-        Some(Name {
+        Some(NameOf {
             cells,
-            used: bytes.len() as u8,
+            used: bytes.len(),
         })
     }
 
+    /// The bytes of the name.
+    pub fn as_slice(&self) -> &[u8]
+        ensures bytes { result.now ≡ self.now }
+        ensures name { IsNameUpTo N self.now }
+    {
+        &self.cells[..self.used]
+    }
+}
+
+impl NameOf<8> {
     /// The name that these 8 bytes are when it is filled with spaces on the right.
     pub fn from_padded(bytes: &[u8]) -> Option<Name>
         requires { length bytes.now ≡ 8 }
@@ -102,41 +115,33 @@ impl Name {
     {
         self.cells
     }
-
-    /// The bytes of the name.
-    pub fn as_slice(&self) -> &[u8]
-        ensures bytes { result.now ≡ self.now }
-        ensures name { IsName self.now }
-    {
-        &self.cells[..self.used as usize]
-    }
 }
 
-impl PartialEq for Name {
+impl<const N: usize> PartialEq for NameOf<N> {
     ghost eq = { pointwise nat_eq };
 
     ghost laws = { partial_equiv_from_equiv nat_list_eq_equiv };
 
-    fn eq(&self, other: &Name) -> bool {
+    fn eq(&self, other: &NameOf<N>) -> bool {
         self.as_slice() == other.as_slice()
     }
 }
 
-impl Eq for Name {
+impl<const N: usize> Eq for NameOf<N> {
     ghost laws = { nat_list_eq_equiv };
 }
 
-impl PartialOrd for Name {
+impl<const N: usize> PartialOrd for NameOf<N> {
     ghost partial_cmp = { λ a b. Some (slice_cmp nat_cmp a b) };
 
     ghost laws = { texts_po };
 
-    fn partial_cmp(&self, other: &Name) -> Option<Ordering> {
+    fn partial_cmp(&self, other: &NameOf<N>) -> Option<Ordering> {
         Some(self.cmp(other))
     }
 }
 
-impl Ord for Name {
+impl<const N: usize> Ord for NameOf<N> {
     ghost cmp = { slice_cmp nat_cmp };
 
     ghost total = { nat_list_cmp_total };
@@ -145,12 +150,12 @@ impl Ord for Name {
 
     ghost matches_eq = { texts_ties };
 
-    fn cmp(&self, other: &Name) -> Ordering {
+    fn cmp(&self, other: &NameOf<N>) -> Ordering {
         self.as_slice().cmp(&other.as_slice())
     }
 }
 
-impl Hash for Name {
+impl<const N: usize> Hash for NameOf<N> {
     ghost use Rattle.std.proofs.Common.{rules};
     ghost use Rattle.std.specs.Cmp.Rules.{hashing};
     ghost use Rattle.std.specs.Hash as fed;

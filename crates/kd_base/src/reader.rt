@@ -1,8 +1,6 @@
 //! Big-endian fields, read from the front of some bytes.
-ghost use Rattle.std.specs.Prelude.{◌≡◌, ◌++◌, List, ℕ, length, IfOk, IfSome, OnErr, Some};
-ghost use Rattle.std.specs.Int.{w8, w32, w64};
-ghost use Rattle.kd_base.specs.Field.{number_at, after_number, list_at, after_list, name_at, after_name};
-ghost use Rattle.kd_base.specs.Text.{IsName, padded};
+ghost use Rattle.std.specs.{Prelude.{◌≡◌, ◌++◌, List, ℕ, length, IfOk, IfSome, OnErr, Some}, Int.{w8, w32, w64}};
+ghost use Rattle.kd_base.specs.{Field.{number_at, after_number, list_at, after_list, name_at, after_name}, Text.{IsName, padded}};
 
 use crate::bytes::Bytes;
 use crate::memory::OutOfMemory;

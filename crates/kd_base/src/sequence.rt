@@ -1,5 +1,5 @@
 //! Lists of items.
-ghost use Rattle.std.specs.Prelude.{◌≡◌, [], ◌∷◌, ◌++◌, IfOk, OnOk, OnErr};
+ghost use Rattle.std.specs.Prelude.{◌≡◌, ◌↔◌, [], ◌∷◌, ◌++◌, IsTrue, length, OnOk, OnErr};
 
 use crate::bytes::Bytes;
 use crate::memory::OutOfMemory;
@@ -10,7 +10,7 @@ use std::marker::Model;
 /// Items in their order, on the heap. Contracts see the list.
 #[derive(Debug, Drop)]
 pub struct Sequence<T> {
-    items: Vec<T>,
+    pub(crate) items: Vec<T>,
 }
 
 impl<T> Model for Sequence<T> {
@@ -52,23 +52,25 @@ impl<T: Drop> Sequence<T> {
         self.items.as_slice()
     }
 
+    /// How many items there are.
+    pub fn len(&self) -> usize
+        ensures { result ≡ length self.now }
+    {
+        self.items.len()
+    }
+
+    pub fn is_empty(&self) -> bool
+        ensures { IsTrue result ↔ (self.now ≡ []) }
+    {
+        self.items.is_empty()
+    }
+
     /// Adds an item at the end, or changes nothing.
     pub fn push(&mut self, item: T) -> Result<(), OutOfMemory>
         ensures ok { OnOk result (self.new ≡ self.old ++ item ∷ []) }
         ensures err { OnErr result (self.new ≡ self.old) }
     {
         Ok(self.items.push(item)?)
-    }
-}
-
-impl Sequence<u32> {
-    /// A copy of these numbers.
-    pub fn from_slice(alloc: Global, items: &[u32]) -> Result<Sequence<u32>, OutOfMemory>
-        ensures { IfOk result (λ s. s ≡ items.now) }
-    {
-        Ok(Sequence {
-            items: Vec::from_slice(alloc, items)?,
-        })
     }
 }
 

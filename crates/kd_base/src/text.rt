@@ -1,10 +1,22 @@
-//! Decimal numbers, and bytes as they are printed.
+//! Decimal numbers, bytes as they are printed, and bytes without the spaces behind them.
 ghost use Rattle.std.specs.Prelude.{◌≡◌, ◌<◌, ◌++◌, IfOk, OnOk, SomeIff};
-ghost use Rattle.kd_base.specs.Text.{is_digit, IsDecimal, decimal_of, decimal_value, hex_digit, escaped, escaped_byte};
+ghost use Rattle.kd_base.specs.Text.{trim_end, is_digit, IsDecimal, decimal_of, decimal_value, hex_digit, escaped, escaped_byte};
 
 use crate::bytes::Bytes;
 use crate::memory::OutOfMemory;
 use std::alloc::Global;
+
+/// The bytes without the spaces at the end.
+#[tactic(auto, unfolding(crate::specs::Text::trim_end))]
+pub fn trim_end(bytes: &[u8]) -> &[u8]
+    ensures { result.now ≡ trim_end bytes.now }
+{
+    let mut n = bytes.len();
+    while n > 0 && bytes[n - 1] == b' ' {
+        n -= 1;
+    }
+    &bytes[..n]
+}
 
 fn is_digit(b: u8) -> bool
     ensures { result ≡ is_digit b }

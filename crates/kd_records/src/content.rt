@@ -1,11 +1,6 @@
 //! Contents and patches.
-ghost use Rattle.std.specs.Prelude.{◌≡◌, ◌<◌, ◌≤◌, length, drop, IsTrue, IfOk, OnOk, OnErr};
-ghost use Rattle.std.specs.List.{prefix_len};
-ghost use Rattle.std.specs.Ordering.{is_gt};
-ghost use Rattle.std.specs.FinMap.{put};
-ghost use Rattle.kd_records.specs.Keys.{key_cmp};
-ghost use Rattle.kd_records.specs.Contents.{Record, without, changed, changed_all, patched};
-ghost use Rattle.kd_records.specs.Places.{begins_with_key};
+ghost use Rattle.std.specs.{Prelude.{◌≡◌, ◌<◌, ◌≤◌, length, drop, IsTrue, IfOk, OnOk, OnErr}, List.{prefix_len}, Ordering.{is_gt}, FinMap.{put}};
+ghost use Rattle.kd_records.specs.{Keys.{key_cmp}, Contents.{Record, without, changed, changed_all, patched}, Places.{begins_with_key}};
 
 use crate::key::RecordKey;
 use kd_base::{Bytes, OutOfMemory, Sequence};

@@ -23,14 +23,8 @@ less Less e = refl
 less Equal e = absurd (true≢false (sym e))
 less Greater e = absurd (true≢false (sym e))
 
-turned_less : (a b : Key) → key_cmp a b ≡ Less → key_cmp b a ≡ Greater
-turned_less a b e = key_total.antisymm b a ∙ ap ordering_reverse e
-
-turned_greater : (a b : Key) → key_cmp a b ≡ Greater → key_cmp b a ≡ Less
-turned_greater a b e = key_total.antisymm b a ∙ ap ordering_reverse e
-
-turned_equal : (a b : Key) → key_cmp a b ≡ Equal → key_cmp b a ≡ Equal
-turned_equal a b e = key_total.antisymm b a ∙ ap ordering_reverse e
+turned : (a b : Key) {r : Ordering} → key_cmp a b ≡ r → key_cmp b a ≡ ordering_reverse r
+turned a b e = key_total.antisymm b a ∙ ap ordering_reverse e
 
 module _ {E : Type 0} (key_of : E → Key) where
   below_at : (k : Key) (es : List E) (i : ℕ) (d : E) → IsTrue (below_all key_cmp k (keyed key_of es)) → i < length es → key_cmp k (key_of (slice_index_or es i d)) ≡ Less
@@ -76,19 +70,19 @@ module _ {E : Type 0} (key_of : E → Key) where
 
     present_found : (es : List E) (i : ℕ) → IsTrue (ascends key_of es) → i < length es → IsAt es i → item_at key_of k es ≡ slice_get es i
     present_found [] i up lt at = absurd (omega arith)
-    present_found (x ∷ xs) zero up lt at = ap (λ r. cond (is_eq r) (Some x) (item_at key_of k xs)) (turned_equal _ k (at x))
+    present_found (x ∷ xs) zero up lt at = ap (λ r. cond (is_eq r) (Some x) (item_at key_of k xs)) (turned _ k (at x))
     present_found (x ∷ xs) (suc i) up lt at =
-        ap (λ r. cond (is_eq r) (Some x) (item_at key_of k xs)) (turned_less _ k (before x xs i up (omega arith) at))
+        ap (λ r. cond (is_eq r) (Some x) (item_at key_of k xs)) (turned _ k (before x xs i up (omega arith) at))
         ∙ present_found xs i (up_tail x xs up) (omega arith) (λ d. at d)
 
     present_removed : (es : List E) (i : ℕ) → IsTrue (ascends key_of es) → i < length es → IsAt es i → without_item key_of k es ≡ remove es i
     present_removed [] i up lt at = absurd (omega arith)
     present_removed (x ∷ xs) zero up lt at =
         let below = both_true (below_all key_cmp (key_of x) (keyed key_of xs)) (is_sorted key_cmp (keyed key_of xs)) up in
-        ap (λ r. cond (not (is_eq r)) (x ∷ without_item key_of k xs) (without_item key_of k xs)) (turned_equal _ k (at x))
+        ap (λ r. cond (not (is_eq r)) (x ∷ without_item key_of k xs) (without_item key_of k xs)) (turned _ k (at x))
         ∙ absent_removed k xs (absent_above k xs (subst (λ j. IsTrue (below_all key_cmp j (keyed key_of xs))) (same_key _ k (at x)) below.0))
     present_removed (x ∷ xs) (suc i) up lt at =
-        ap (λ r. cond (not (is_eq r)) (x ∷ without_item key_of k xs) (without_item key_of k xs)) (turned_less _ k (before x xs i up (omega arith) at))
+        ap (λ r. cond (not (is_eq r)) (x ∷ without_item key_of k xs) (without_item key_of k xs)) (turned _ k (before x xs i up (omega arith) at))
         ∙ ap (λ (l : List E). x ∷ l) (present_removed xs i (up_tail x xs up) (omega arith) (λ d. at d))
 
   -- ---- putting an item in
@@ -99,18 +93,18 @@ module _ {E : Type 0} (key_of : E → Key) where
 
   present_set : (e : E) (es : List E) (i : ℕ) → IsTrue (ascends key_of es) → i < length es → IsAt (key_of e) es i → with_item key_of e es ≡ slice_set es i e
   present_set e [] i up lt at = absurd (omega arith)
-  present_set e (x ∷ xs) zero up lt at = put_step e x xs Equal (turned_equal (key_of x) (key_of e) (at x)) ∙ ap (λ (l : List E). e ∷ l) (items_back key_of xs)
+  present_set e (x ∷ xs) zero up lt at = put_step e x xs Equal (turned (key_of x) (key_of e) (at x)) ∙ ap (λ (l : List E). e ∷ l) (items_back key_of xs)
   present_set e (x ∷ xs) (suc i) up lt at =
-      put_step e x xs Greater (turned_less (key_of x) (key_of e) (before (key_of e) x xs i up (omega arith) at))
+      put_step e x xs Greater (turned (key_of x) (key_of e) (before (key_of e) x xs i up (omega arith) at))
       ∙ ap (λ (l : List E). x ∷ l) (present_set e xs i (up_tail (key_of e) x xs up) (omega arith) (λ d. at d))
 
   absent_set : (e : E) (es : List E) (i : ℕ) → i ≤ length es → AllWithin (λ y. key_cmp (key_of y) (key_of e) ≡ Less) es 0 i → AllWithin (λ y. key_cmp (key_of y) (key_of e) ≡ Greater) es i (length es)
       → with_item key_of e es ≡ insert es i e
   absent_set e [] zero lt below above = refl
   absent_set e [] (suc i) lt below above = absurd (omega arith)
-  absent_set e (x ∷ xs) zero lt below above = put_step e x xs Less (turned_greater (key_of x) (key_of e) (above zero x (omega arith) (omega arith))) ∙ ap (λ (l : List E). e ∷ x ∷ l) (items_back key_of xs)
+  absent_set e (x ∷ xs) zero lt below above = put_step e x xs Less (turned (key_of x) (key_of e) (above zero x (omega arith) (omega arith))) ∙ ap (λ (l : List E). e ∷ x ∷ l) (items_back key_of xs)
   absent_set e (x ∷ xs) (suc i) lt below above =
-      put_step e x xs Greater (turned_less (key_of x) (key_of e) (below zero x (omega arith) (omega arith)))
+      put_step e x xs Greater (turned (key_of x) (key_of e) (below zero x (omega arith) (omega arith)))
       ∙ ap (λ (l : List E). x ∷ l) (absent_set e xs i (omega arith) (λ j d low high. below (suc j) d (omega arith) (omega arith)) (λ j d low high. above (suc j) d (omega arith) (omega arith)))
 
   -- ---- a binary search
@@ -120,7 +114,7 @@ module _ {E : Type 0} (key_of : E → Key) where
   sorted_by (x ∷ []) up k d low high = absurd (omega arith)
   sorted_by (x ∷ y ∷ ys) up zero d low high =
       let below = both_true (below_all key_cmp (key_of x) (keyed key_of (y ∷ ys))) (is_sorted key_cmp (keyed key_of (y ∷ ys))) up in
-      ap is_lt (turned_less (key_of x) (key_of y) (below_at (key_of x) (y ∷ ys) 0 y below.0 (omega arith)))
+      ap is_lt (turned (key_of x) (key_of y) (below_at (key_of x) (y ∷ ys) 0 y below.0 (omega arith)))
   sorted_by (x ∷ y ∷ ys) up (suc k) d low high =
       let below = both_true (below_all key_cmp (key_of x) (keyed key_of (y ∷ ys))) (is_sorted key_cmp (keyed key_of (y ∷ ys))) up in
       let e : suc k + 1 ≡ suc (k + 1) = omega arith in
@@ -134,8 +128,8 @@ module _ {E : Type 0} (key_of : E → Key) where
     gap_absent i p j d lt =
         let parts = parted i p in
         elim (cases_lt j i) [
-          | inl below ↦ ap is_eq (turned_less _ k (parts.0 j d (omega arith) below))
-          | inr above ↦ ap is_eq (turned_greater _ k (parts.1 j d above lt))
+          | inl below ↦ ap is_eq (turned _ k (parts.0 j d (omega arith) below))
+          | inr above ↦ ap is_eq (turned _ k (parts.1 j d above lt))
         ]
 
     pub place_found : (r : Result ℕ ℕ) → IsPlaceOf key_of k es r → found_at r es ≡ item_at key_of k es

@@ -1,14 +1,7 @@
--- How far the clock and the job numbers go.
-use Rattle.std.specs.Prelude.{◌≤◌, ℕ}
+-- How far the numbers of tables go.
+use Rattle.std.specs.Prelude.{◌≤◌}
+use Rattle.kd_base.specs.Limits.{last_clock, last_next_job}
 use Rattle.kdcs_types.specs.Tables.{TableRows}
-
--- the greatest clock, in ticks
-abbrev pub last_clock : ℕ
-last_clock = 999999999999
-
--- the greatest next job number
-abbrev pub last_next_job : ℕ
-last_next_job = 1000000000000
 
 -- the numbers of tables lie in their ranges
 pub record IsInRange (t : TableRows) : Type 0 where

@@ -1,8 +1,6 @@
 //! Areas, services and the keys of rows.
-ghost use Rattle.std.specs.Prelude.{◌≡◌, Some, refl};
-ghost use Rattle.std.specs.Cmp.{partial_equiv_from_equiv, eq_by_cmp_equiv, po};
-ghost use Rattle.kdcs_types.specs.Keys.{key_cmp, key_eq, key_kind, area_cmp, area_eq, area_key, id_cmp, id_eq};
-ghost use Rattle.kdcs_types.specs.KeyLaws.{key_total, area_total, id_total};
+ghost use Rattle.std.specs.{Prelude.{◌≡◌, Some, refl}, Cmp.{partial_equiv_from_equiv, eq_by_cmp_equiv, po}};
+ghost use Rattle.kdcs_types.specs.{Keys.{key_cmp, key_eq, key_kind, area_cmp, area_eq, area_key, id_cmp, id_eq}, KeyLaws.{key_total, area_total, id_total}};
 
 use kd_base::Name;
 use std::cmp::Ordering;

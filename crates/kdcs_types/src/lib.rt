@@ -6,7 +6,6 @@
 
 mod act;
 mod call;
-mod fixed;
 mod key;
 mod laws;
 mod lists;
@@ -18,7 +17,6 @@ mod tables;
 
 pub use act::{Act, Acts, Change, Changes, Row, RowChanges};
 pub use call::{Call, Cause, Code, Reply};
-pub use fixed::FixedBytes;
 pub use key::{Area, Key, ServiceId, Target};
 pub use laws::{changes_set_and_remove, tables_change_by_their_difference};
 pub use lists::{Areas, Notes, Parts};

@@ -1,10 +1,7 @@
 //! Lists in ascending order of their keys: where a key stands, and what is read and changed there.
-ghost use Rattle.std.specs.Prelude.{◌≡◌, ◌+◌, ◌≤◌, ◌<◌, length, option_copied};
-ghost use Rattle.std.specs.Vec.{vec_len, vec_capacity};
-ghost use Rattle.std.specs.List.Sorted.{IsSearchInRange};
+ghost use Rattle.std.specs.{Prelude.{◌≡◌, ◌+◌, ◌≤◌, ◌<◌, length, option_copied}, Vec.{vec_len, vec_capacity}, List.Sorted.{IsSearchInRange}};
 ghost use Rattle.kdcs_types.specs.declared.key.Key.TheVariants as key;
-ghost use Rattle.kdcs_types.specs.Tables.{gssb_key, tls_key, uls_key, service_key, job_key, shown_key};
-ghost use Rattle.kdcs_types.specs.Places.{IsPlaceOf, found_at, placed_at, removed_at};
+ghost use Rattle.kdcs_types.specs.{Tables.{gssb_key, tls_key, uls_key, service_key, job_key, shown_key}, Places.{IsPlaceOf, found_at, placed_at, removed_at}};
 
 use crate::key::{Key, ServiceId};
 use crate::service::{Job, JobValue, Service};

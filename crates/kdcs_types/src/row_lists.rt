@@ -1,8 +1,6 @@
 //! The lists of the tables.
-ghost use Rattle.std.specs.Prelude.{◌≡◌, ◌+◌, ◌≤◌, ℕ, [], IsTrue, length, OnOk};
-ghost use Rattle.std.specs.List.{list_all};
-ghost use Rattle.kdcs_types.specs.Tables.{IsSortedTables, row_fits, change_fits, with_row, without_row, with_change, with_changes};
-ghost use Rattle.kdcs_types.specs.RowsKept.{tables_in, HasRoom, HasSameRows};
+ghost use Rattle.std.specs.{Prelude.{◌≡◌, ◌+◌, ◌≤◌, ℕ, [], IsTrue, length, OnOk}, List.{list_all}};
+ghost use Rattle.kdcs_types.specs.{Tables.{IsSortedTables, row_fits, change_fits, with_row, without_row, with_change, with_changes}, RowsKept.{tables_in, HasRoom, HasSameRows}};
 
 use crate::act::{Change, Row};
 use crate::key::Key;

@@ -1,8 +1,7 @@
 //! The run of one program unit.
 
 use crate::call::Code;
-use crate::fixed::FixedBytes;
-use kd_base::Name;
+use kd_base::{Bytes, Name};
 
 /// What a program unit reads of itself: the KB header.
 #[derive(Clone, Copy, Debug, PartialEq, Eq)]
@@ -27,9 +26,9 @@ pub struct RunState {
     /// TIME: how many statements may be done.
     pub budget: u32,
     /// The communication area KB.
-    pub kb: FixedBytes,
+    pub kb: Bytes,
     /// The standard primary working area SPAB.
-    pub spab: FixedBytes,
+    pub spab: Bytes,
     /// KCRCCC of the last call.
     pub code: Code,
     /// KCRLM of the last call, from 0 to 99,999.

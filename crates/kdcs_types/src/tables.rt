@@ -23,8 +23,7 @@ pub struct Tables {
 }
 
 impl Model for Tables {
-    ghost use Rattle.kdcs_types.specs.Tables.{TableRows, IsSortedTables};
-    ghost use Rattle.kdcs_types.specs.RowsKept.{tables_in};
+    ghost use Rattle.kdcs_types.specs.{Tables.{TableRows, IsSortedTables}, RowsKept.{tables_in}};
 
     ghost Value = { TableRows };
 

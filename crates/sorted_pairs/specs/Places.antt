@@ -64,14 +64,8 @@ filtered_sorted R test (e ∷ es) up =
     elim (test e) as (λ b. IsTrue (is_sorted R (cond b (e ∷ filter test es) (filter test es)))) [ true ↦ true_both _ _ (below_filtered R test e.0 es parts.0) rest | false ↦ rest ]
 
 module _ {K : Type 0} (R : K → K → Ordering) (o : IsTotalOrder R) where
-  turned_less : (a b : K) → R a b ≡ Less → R b a ≡ Greater
-  turned_less a b e = o.antisymm b a ∙ ap ordering_reverse e
-
-  turned_greater : (a b : K) → R a b ≡ Greater → R b a ≡ Less
-  turned_greater a b e = o.antisymm b a ∙ ap ordering_reverse e
-
-  turned_equal : (a b : K) → R a b ≡ Equal → R b a ≡ Equal
-  turned_equal a b e = o.antisymm b a ∙ ap ordering_reverse e
+  turned : (a b : K) {r : Ordering} → R a b ≡ r → R b a ≡ ordering_reverse r
+  turned a b e = o.antisymm b a ∙ ap ordering_reverse e
 
 module _ {K X : Type 0} (R : K → K → Ordering) (o : IsTotalOrder R) where
   below_at : (k : K) (es : List (K × X)) (i : ℕ) (d : K × X) → IsTrue (below_all R k es) → i < length es → R k ((slice_index_or es i d).0) ≡ Less
@@ -89,7 +83,7 @@ module _ {K X : Type 0} (R : K → K → Ordering) (o : IsTotalOrder R) where
   sorted_by [] up k d low high = absurd (omega arith)
   sorted_by (x ∷ []) up k d low high = absurd (omega arith)
   sorted_by (x ∷ y ∷ ys) up zero d low high =
-      ap is_lt (turned_less R o x.0 y.0 (below_at x.0 (y ∷ ys) 0 y (up_head x (y ∷ ys) up) (omega arith)))
+      ap is_lt (turned R o x.0 y.0 (below_at x.0 (y ∷ ys) 0 y (up_head x (y ∷ ys) up) (omega arith)))
   sorted_by (x ∷ y ∷ ys) up (suc k) d low high =
       let e : suc k + 1 ≡ suc (k + 1) = omega arith in
       rw e (sorted_by (y ∷ ys) (up_tail x (y ∷ ys) up) k d (omega arith) (omega arith))
@@ -102,7 +96,7 @@ module _ {K X : Type 0} (R : K → K → Ordering) (o : IsTotalOrder R) where
     before : (x : K × X) (xs : List (K × X)) (i : ℕ) → IsTrue (is_sorted R (x ∷ xs)) → i < length xs → IsAt (x ∷ xs) (suc i) → R k x.0 ≡ Greater
     before x xs i up lt at =
         let there = slice_index_or xs i x in
-        turned_less R o x.0 k (sym (alike_right o there.0 k x.0 (at x)) ∙ below_at x.0 xs i x (up_head x xs up) lt)
+        turned R o x.0 k (sym (alike_right o there.0 k x.0 (at x)) ∙ below_at x.0 xs i x (up_head x xs up) lt)
 
     -- ---- a key that no pair has
 
@@ -123,24 +117,24 @@ module _ {K X : Type 0} (R : K → K → Ordering) (o : IsTotalOrder R) where
     gap_absent es i up p j d lt =
         let parts = p.position (searchable_from_sorted o (λ (e : K × X). e.0) es k (sorted_by es up)) in
         elim (cases_lt j i) [
-          | inl below ↦ ap is_eq (turned_less R o _ k (parts.0 j d (omega arith) below))
-          | inr above ↦ ap is_eq (turned_greater R o _ k (parts.1 j d above lt))
+          | inl below ↦ ap is_eq (turned R o _ k (parts.0 j d (omega arith) below))
+          | inr above ↦ ap is_eq (turned R o _ k (parts.1 j d above lt))
         ]
 
     absent_put : (v : X) (es : List (K × X)) (i : ℕ) → i ≤ length es → AllWithin (λ (e : K × X). R e.0 k ≡ Less) es 0 i → AllWithin (λ (e : K × X). R e.0 k ≡ Greater) es i (length es) → put R k v es ≡ insert es i (k, v)
     absent_put v [] zero lt below above = refl
     absent_put v [] (suc i) lt below above = absurd (omega arith)
     absent_put v (x ∷ xs) zero lt below above =
-        ap (λ r. by_order r ((k, v) ∷ x ∷ xs) ((x.0, v) ∷ xs) (x ∷ put R k v xs)) (turned_greater R o _ k (above zero x (omega arith) (omega arith)))
+        ap (λ r. by_order r ((k, v) ∷ x ∷ xs) ((x.0, v) ∷ xs) (x ∷ put R k v xs)) (turned R o _ k (above zero x (omega arith) (omega arith)))
     absent_put v (x ∷ xs) (suc i) lt below above =
-        ap (λ r. by_order r ((k, v) ∷ x ∷ xs) ((x.0, v) ∷ xs) (x ∷ put R k v xs)) (turned_less R o _ k (below zero x (omega arith) (omega arith)))
+        ap (λ r. by_order r ((k, v) ∷ x ∷ xs) ((x.0, v) ∷ xs) (x ∷ put R k v xs)) (turned R o _ k (below zero x (omega arith) (omega arith)))
         ∙ ap (λ (l : List (K × X)). x ∷ l) (absent_put v xs i (omega arith) (λ j d low high. below (suc j) d (omega arith) (omega arith)) (λ j d low high. above (suc j) d (omega arith) (omega arith)))
 
     -- ---- a key that a pair has
 
     present_found : (es : List (K × X)) (i : ℕ) → IsTrue (is_sorted R es) → i < length es → IsAt es i → find R k es ≡ option_map (λ e. e.1) (slice_get es i)
     present_found [] i up lt at = absurd (omega arith)
-    present_found (x ∷ xs) zero up lt at = ap (λ r. cond (is_eq r) (Some x.1) (find R k xs)) (turned_equal R o _ k (at x))
+    present_found (x ∷ xs) zero up lt at = ap (λ r. cond (is_eq r) (Some x.1) (find R k xs)) (turned R o _ k (at x))
     present_found (x ∷ xs) (suc i) up lt at =
         ap (λ r. cond (is_eq r) (Some x.1) (find R k xs)) (before x xs i up (omega arith) at)
         ∙ present_found xs i (up_tail x xs up) (omega arith) (λ d. at d)
@@ -149,7 +143,7 @@ module _ {K X : Type 0} (R : K → K → Ordering) (o : IsTotalOrder R) where
     present_put : (v : X) (es : List (K × X)) (i : ℕ) (d : K × X) → IsTrue (is_sorted R es) → i < length es → IsAt es i → put R k v es ≡ slice_set es i ((slice_index_or es i d).0, v)
     present_put v [] i d up lt at = absurd (omega arith)
     present_put v (x ∷ xs) zero d up lt at =
-        ap (λ r. by_order r ((k, v) ∷ x ∷ xs) ((x.0, v) ∷ xs) (x ∷ put R k v xs)) (turned_equal R o _ k (at x))
+        ap (λ r. by_order r ((k, v) ∷ x ∷ xs) ((x.0, v) ∷ xs) (x ∷ put R k v xs)) (turned R o _ k (at x))
     present_put v (x ∷ xs) (suc i) d up lt at =
         ap (λ r. by_order r ((k, v) ∷ x ∷ xs) ((x.0, v) ∷ xs) (x ∷ put R k v xs)) (before x xs i up (omega arith) at)
         ∙ ap (λ (l : List (K × X)). x ∷ l) (present_put v xs i d (up_tail x xs up) (omega arith) (λ z. at z))
@@ -161,7 +155,7 @@ module _ {K X : Type 0} (R : K → K → Ordering) (o : IsTotalOrder R) where
     present_without : (es : List (K × X)) (i : ℕ) → IsTrue (is_sorted R es) → i < length es → IsAt es i → without R k es ≡ remove es i
     present_without [] i up lt at = absurd (omega arith)
     present_without (x ∷ xs) zero up lt at =
-        ap (λ r. cond (not (is_eq r)) (x ∷ without R k xs) (without R k xs)) (turned_equal R o _ k (at x))
+        ap (λ r. cond (not (is_eq r)) (x ∷ without R k xs) (without R k xs)) (turned R o _ k (at x))
         ∙ absent_without xs (above_absent x xs (up_head x xs up) (at x))
     present_without (x ∷ xs) (suc i) up lt at =
         ap (λ r. cond (not (is_eq r)) (x ∷ without R k xs) (without R k xs)) (before x xs i up (omega arith) at)

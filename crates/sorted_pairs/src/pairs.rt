@@ -1,10 +1,6 @@
 //! Pairs in a `Vec`, found by binary search.
-ghost use Rattle.std.specs.Prelude.{◌≡◌, [], IsTrue, IfNone, OnOk, OnErr, Ok, Some, filter, is_some, length, not, option_copied};
-ghost use Rattle.std.specs.FinMap.{find, put, is_sorted};
-ghost use Rattle.std.specs.Option.{option_copied_mut};
-ghost use Rattle.std.specs.Borrow.{sem};
-ghost use Rattle.sorted_pairs.specs.Lends.{lends_value, lends_found};
-ghost use Rattle.sorted_pairs.specs.Places.{IsPlace, without};
+ghost use Rattle.std.specs.{Prelude.{◌≡◌, [], IsTrue, IfNone, OnOk, OnErr, Ok, Some, filter, is_some, length, not, option_copied}, FinMap.{find, put, is_sorted}, Option.{option_copied_mut}, Borrow.{sem}};
+ghost use Rattle.sorted_pairs.specs.{Lends.{lends_value, lends_found}, Places.{IsPlace, without}};
 
 use kd_base::OutOfMemory;
 use std::alloc::Global;
@@ -17,8 +13,7 @@ pub struct SortedPairs<K: Ord, V> {
 }
 
 impl<K: Ord, V> Model for SortedPairs<K, V> {
-    ghost use Rattle.std.specs.Prelude.{List, IsTrue};
-    ghost use Rattle.std.specs.FinMap.{is_sorted};
+    ghost use Rattle.std.specs.{Prelude.{List, IsTrue}, FinMap.{is_sorted}};
 
     ghost Value = { List (K × V) };
 

@@ -1,6 +1,5 @@
 //! Blanks.
-ghost use Rattle.std.specs.Prelude.{◌≡◌, length, drop};
-ghost use Rattle.std.specs.List.{prefix_len};
+ghost use Rattle.std.specs.{Prelude.{◌≡◌, length, drop}, List.{prefix_len}};
 ghost use Rattle.texts.specs.Blanks.{is_blank, from_first};
 
 /// Whether the byte is a space or a tab.

@@ -1,7 +1,5 @@
 //! Lines, each up to its line feed.
-ghost use Rattle.std.specs.Prelude.{◌≡◌, ◌==◌, ◌<◌, ◌∷◌, length};
-ghost use Rattle.std.specs.List.{position_or_len};
-ghost use Rattle.std.specs.Str.Lines.{lines, strip_carriage_return};
+ghost use Rattle.std.specs.{Prelude.{◌≡◌, ◌==◌, ◌<◌, ◌∷◌, length}, List.{position_or_len}, Str.Lines.{lines, strip_carriage_return}};
 
 /// How many bytes stand before the first such byte.
 pub fn len_before(byte: u8, bytes: &[u8]) -> usize

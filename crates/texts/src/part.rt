@@ -1,6 +1,5 @@
 //! The parts of a line, one after another, without the blanks between them.
-ghost use Rattle.std.specs.Prelude.{◌≡◌, ◌<◌, List, ℕ, length, IfOk, Option};
-ghost use Rattle.std.specs.Option.{option_map};
+ghost use Rattle.std.specs.{Prelude.{◌≡◌, ◌<◌, List, ℕ, length, IfOk, Option}, Option.{option_map}};
 ghost use Rattle.texts.specs.Parts.{part_step, parts_of};
 
 use crate::blank::from_first;

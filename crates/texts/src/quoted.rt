@@ -1,6 +1,5 @@
 //! Bytes between two quotes.
-ghost use Rattle.std.specs.Prelude.{◌≡◌, ◌<◌, length, IfOk};
-ghost use Rattle.std.specs.Option.{option_map};
+ghost use Rattle.std.specs.{Prelude.{◌≡◌, ◌<◌, length, IfOk}, Option.{option_map}};
 ghost use Rattle.texts.specs.Quotes.{quoted_at};
 
 use kd_base::{Bytes, OutOfMemory};

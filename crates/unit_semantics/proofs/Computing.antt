@@ -1,5 +1,6 @@
 -- One name to unfold where a proof computes with statements.
-use Rattle.unit_semantics.specs.Contents.{trim_end, trim_start, fitted, overlaid, number_of, in_digits, number_in, compared}
+use Rattle.kd_base.specs.Text.{trim_end}
+use Rattle.unit_semantics.specs.Contents.{trim_start, fitted, overlaid, number_of, in_digits, number_in, compared}
 use Rattle.unit_semantics.specs.Fields.{value_of, stored}
 use Rattle.unit_semantics.specs.Statement.{done_by, step, answered}
 

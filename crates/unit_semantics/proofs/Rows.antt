@@ -50,130 +50,60 @@ g = codes "g"
 abbrev n : List ℕ
 n = codes "n"
 
--- ---- moves
+-- moves
+record Moves : Type 0 where
+  overlapping : done (action.Move f (read.Field g)) (codes "ABCDEF") (codes "0010") ≡ Plain (run 2 6 (codes "CDEFEF") (codes "0010"))
+  fills : done (action.Move f (read.Literal (codes "x"))) (codes "ABCDEF") (codes "0010") ≡ Plain (run 2 6 (codes "x   EF") (codes "0010"))
+  cuts : done (action.Move n (read.Header Benid)) (codes "ABCDEF") (codes "0010") ≡ Plain (run 2 6 (codes "ABCDEF") (codes "U1  "))
+  last_code : done (action.Move n (read.Header Crccc)) (codes "ABCDEF") (codes "0010") ≡ Plain (run 2 6 (codes "ABCDEF") (codes "K02 "))
+  last_length : done (action.Move g (read.Header Rlm)) (codes "ABCDEF") (codes "0010") ≡ Plain (run 2 6 (codes "AB0008") (codes "0010"))
+  joins_what_it_read : done (action.Join f (read.Digits (codes "12")) (read.Field f)) (codes "ABCDEF") (codes "0010") ≡ Plain (run 2 6 (codes "12ABEF") (codes "0010"))
+  joins_trimmed : done (action.Join f (read.Trim f) (read.Trim g)) (codes "A   B ") (codes "0010") ≡ Plain (run 2 6 (codes "A  BB ") (codes "0010"))
 
-overlapping : done (action.Move f (read.Field g)) (codes "ABCDEF") (codes "0010") ≡ Plain (run 2 6 (codes "CDEFEF") (codes "0010"))
+moves : Moves
 unfolding statements
-overlapping = refl
+moves = record { overlapping = refl; fills = refl; cuts = refl; last_code = refl; last_length = refl; joins_what_it_read = refl; joins_trimmed = refl }
 
-fills : done (action.Move f (read.Literal (codes "x"))) (codes "ABCDEF") (codes "0010") ≡ Plain (run 2 6 (codes "x   EF") (codes "0010"))
+-- numbers
+record Numbers : Type 0 where
+  adds_itself : done (action.Add n (read.Field n)) (codes "ABCDEF") (codes " 16 ") ≡ Plain (run 2 6 (codes "ABCDEF") (codes "0032"))
+  cut_quotient : done (action.Div n (read.Digits (codes "4"))) (codes "ABCDEF") (codes "0015") ≡ Plain (run 2 6 (codes "ABCDEF") (codes "0003"))
+  spaces_are_zero : done (action.Sub n (read.Literal (codes ""))) (codes "ABCDEF") (codes "    ") ≡ Plain (run 2 6 (codes "ABCDEF") (codes "0000"))
+  by_zero : done (action.Div n (read.Literal (codes "  "))) (codes "ABCDEF") (codes "0015") ≡ Ends E06
+  below_zero : done (action.Sub n (read.Digits (codes "16"))) (codes "ABCDEF") (codes "0015") ≡ Ends E06
+  too_long : done (action.Add n (read.Digits (codes "1"))) (codes "ABCDEF") (codes "9999") ≡ Ends E06
+  no_number : done (action.Mul n (read.Field f)) (codes "ABCDEF") (codes "9999") ≡ Ends E06
+  most_digits : number_of (codes " 999999999999999999 ") ≡ Some 999999999999999999
+  a_digit_more : number_of (codes "0999999999999999999") ≡ None
+  a_space_within : number_of (codes "1 2") ≡ None
+  longest_result : number_in 20 999999999999999999 ≡ Some (codes "00999999999999999999")
+  result_of_19_digits : number_in 20 1000000000000000000 ≡ None
+
+numbers : Numbers
 unfolding statements
-fills = refl
+numbers = record { adds_itself = refl; cut_quotient = refl; spaces_are_zero = refl; by_zero = refl; below_zero = refl; too_long = refl; no_number = refl; most_digits = refl; a_digit_more = refl; a_space_within = refl; longest_result = refl; result_of_19_digits = refl }
 
-cuts : done (action.Move n (read.Header Benid)) (codes "ABCDEF") (codes "0010") ≡ Plain (run 2 6 (codes "ABCDEF") (codes "U1  "))
+-- comparisons and jumps
+record Comparisons : Type 0 where
+  shorter_is_filled : compared (codes "AB") (codes "AB  ") ≡ Equal
+  filled_before_compared : compared (codes "AB") (65 ∷ 66 ∷ 31 ∷ []) ≡ Greater
+  nothing_is_spaces : compared (codes "  !") (codes "") ≡ Greater
+  jumps_where_true : done (action.If (read.Field f) Lt (read.Literal (codes "B")) (codes "l")) (codes "ABCDEF") (codes "0010") ≡ Plain (run 7 6 (codes "ABCDEF") (codes "0010"))
+  goes_on_where_false : done (action.If (read.Field n) Eq (read.Digits (codes "10")) (codes "l")) (codes "ABCDEF") (codes "0010") ≡ Plain (run 2 6 (codes "ABCDEF") (codes "0010"))
+
+comparisons : Comparisons
 unfolding statements
-cuts = refl
+comparisons = record { shorter_is_filled = refl; filled_before_compared = refl; nothing_is_spaces = refl; jumps_where_true = refl; goes_on_where_false = refl }
 
-last_code : done (action.Move n (read.Header Crccc)) (codes "ABCDEF") (codes "0010") ≡ Plain (run 2 6 (codes "ABCDEF") (codes "K02 "))
+-- calls, and the ends of a run
+record CallsAndEnds : Type 0 where
+  asks_with_its_bytes : done (action.SputGb (read.Trim f) (read.Field n)) (codes "A B   ") (codes "0010") ≡ Asks (call.SputGb (codes "A B") (codes "0010"))
+  asks_with_its_room : done (action.Mget g) (codes "ABCDEF") (codes "0010") ≡ Asks (call.Mget 4)
+  last_of_its_time : step (unit (action.Jump (codes "l"))) (run 1 8 [] []) ≡ Plain (run 7 9 [] [])
+  time_is_spent : step (unit (action.Div n (read.Literal (codes "")))) (run 1 9 [] []) ≡ Ends E07
+  behind_the_last : step (unit action.Init) (run 2 9 [] []) ≡ Ends E08
+  takes_the_answer : answered (unit (action.SgetGb (read.Literal (codes "A")) g)) (run 1 5 (codes "ABCDEF") []) (record { code = Done; length = 2; content = Some (codes "xy") }) ≡ record (run 2 6 (codes "ABxy  ") []) { code = Done; length = 2 }
+
+calls_and_ends : CallsAndEnds
 unfolding statements
-last_code = refl
-
-last_length : done (action.Move g (read.Header Rlm)) (codes "ABCDEF") (codes "0010") ≡ Plain (run 2 6 (codes "AB0008") (codes "0010"))
-unfolding statements
-last_length = refl
-
-joins_what_it_read : done (action.Join f (read.Digits (codes "12")) (read.Field f)) (codes "ABCDEF") (codes "0010") ≡ Plain (run 2 6 (codes "12ABEF") (codes "0010"))
-unfolding statements
-joins_what_it_read = refl
-
-joins_trimmed : done (action.Join f (read.Trim f) (read.Trim g)) (codes "A   B ") (codes "0010") ≡ Plain (run 2 6 (codes "A  BB ") (codes "0010"))
-unfolding statements
-joins_trimmed = refl
-
--- ---- numbers
-
-adds_itself : done (action.Add n (read.Field n)) (codes "ABCDEF") (codes " 16 ") ≡ Plain (run 2 6 (codes "ABCDEF") (codes "0032"))
-unfolding statements
-adds_itself = refl
-
-cut_quotient : done (action.Div n (read.Digits (codes "4"))) (codes "ABCDEF") (codes "0015") ≡ Plain (run 2 6 (codes "ABCDEF") (codes "0003"))
-unfolding statements
-cut_quotient = refl
-
-spaces_are_zero : done (action.Sub n (read.Literal (codes ""))) (codes "ABCDEF") (codes "    ") ≡ Plain (run 2 6 (codes "ABCDEF") (codes "0000"))
-unfolding statements
-spaces_are_zero = refl
-
-by_zero : done (action.Div n (read.Literal (codes "  "))) (codes "ABCDEF") (codes "0015") ≡ Ends E06
-unfolding statements
-by_zero = refl
-
-below_zero : done (action.Sub n (read.Digits (codes "16"))) (codes "ABCDEF") (codes "0015") ≡ Ends E06
-unfolding statements
-below_zero = refl
-
-too_long : done (action.Add n (read.Digits (codes "1"))) (codes "ABCDEF") (codes "9999") ≡ Ends E06
-unfolding statements
-too_long = refl
-
-no_number : done (action.Mul n (read.Field f)) (codes "ABCDEF") (codes "9999") ≡ Ends E06
-unfolding statements
-no_number = refl
-
-most_digits : number_of (codes " 999999999999999999 ") ≡ Some 999999999999999999
-unfolding statements
-most_digits = refl
-
-a_digit_more : number_of (codes "0999999999999999999") ≡ None
-unfolding statements
-a_digit_more = refl
-
-a_space_within : number_of (codes "1 2") ≡ None
-unfolding statements
-a_space_within = refl
-
-longest_result : number_in 20 999999999999999999 ≡ Some (codes "00999999999999999999")
-unfolding statements
-longest_result = refl
-
-result_of_19_digits : number_in 20 1000000000000000000 ≡ None
-unfolding statements
-result_of_19_digits = refl
-
--- ---- comparisons and jumps
-
-shorter_is_filled : compared (codes "AB") (codes "AB  ") ≡ Equal
-unfolding statements
-shorter_is_filled = refl
-
-filled_before_compared : compared (codes "AB") (65 ∷ 66 ∷ 31 ∷ []) ≡ Greater
-unfolding statements
-filled_before_compared = refl
-
-nothing_is_spaces : compared (codes "  !") (codes "") ≡ Greater
-unfolding statements
-nothing_is_spaces = refl
-
-jumps_where_true : done (action.If (read.Field f) Lt (read.Literal (codes "B")) (codes "l")) (codes "ABCDEF") (codes "0010") ≡ Plain (run 7 6 (codes "ABCDEF") (codes "0010"))
-unfolding statements
-jumps_where_true = refl
-
-goes_on_where_false : done (action.If (read.Field n) Eq (read.Digits (codes "10")) (codes "l")) (codes "ABCDEF") (codes "0010") ≡ Plain (run 2 6 (codes "ABCDEF") (codes "0010"))
-unfolding statements
-goes_on_where_false = refl
-
--- ---- calls, and the ends of a run
-
-asks_with_its_bytes : done (action.SputGb (read.Trim f) (read.Field n)) (codes "A B   ") (codes "0010") ≡ Asks (call.SputGb (codes "A B") (codes "0010"))
-unfolding statements
-asks_with_its_bytes = refl
-
-asks_with_its_room : done (action.Mget g) (codes "ABCDEF") (codes "0010") ≡ Asks (call.Mget 4)
-unfolding statements
-asks_with_its_room = refl
-
-last_of_its_time : step (unit (action.Jump (codes "l"))) (run 1 8 [] []) ≡ Plain (run 7 9 [] [])
-unfolding statements
-last_of_its_time = refl
-
-time_is_spent : step (unit (action.Div n (read.Literal (codes "")))) (run 1 9 [] []) ≡ Ends E07
-unfolding statements
-time_is_spent = refl
-
-behind_the_last : step (unit action.Init) (run 2 9 [] []) ≡ Ends E08
-unfolding statements
-behind_the_last = refl
-
-takes_the_answer : answered (unit (action.SgetGb (read.Literal (codes "A")) g)) (run 1 5 (codes "ABCDEF") []) (record { code = Done; length = 2; content = Some (codes "xy") }) ≡ record (run 2 6 (codes "ABxy  ") []) { code = Done; length = 2 }
-unfolding statements
-takes_the_answer = refl
+calls_and_ends = record { asks_with_its_bytes = refl; asks_with_its_room = refl; last_of_its_time = refl; time_is_spent = refl; behind_the_last = refl; takes_the_answer = refl }

@@ -1,14 +1,10 @@
 -- Bytes of fields and operands: without spaces, filled or cut, put over others, as numbers, and compared.
-use Rattle.std.specs.Prelude.{ℕ, zero, suc, ◌+◌, ◌-◌, ◌/◌, ◌%◌, ◌^◌, List, [], ◌∷◌, ◌++◌, length, take, drop, Option, Some, None, min, nat_lt, if◌then◌else◌}
-use Rattle.std.specs.List.{prefix_len, suffix_len}
+use Rattle.std.specs.Prelude.{ℕ, zero, suc, ◌+◌, ◌/◌, ◌%◌, ◌^◌, List, [], ◌∷◌, ◌++◌, length, take, drop, Option, Some, None, min, nat_lt, if◌then◌else◌}
+use Rattle.std.specs.List.{prefix_len}
 use Rattle.std.specs.Ordering.{nat_cmp}
 use Rattle.std.specs.Cmp.Lexicographic.{slice_cmp}
 use Rattle.std.specs.declared.cmp.Ordering.{Ordering}
-use Rattle.kd_base.specs.Text.{is_space, filled, decimal_of}
-
--- without the spaces at the end
-unfoldable pub trim_end : List ℕ → List ℕ
-trim_end bytes = take (length bytes - suffix_len is_space bytes) bytes
+use Rattle.kd_base.specs.Text.{is_space, filled, trim_end, decimal_of}
 
 -- without the spaces in front
 unfoldable pub trim_start : List ℕ → List ℕ

@@ -10,7 +10,8 @@ use Rattle.unit_types.specs.declared.action.Operand.{Operand}
 use Rattle.unit_types.specs.declared.action.Operand.TheVariants as read
 use Rattle.unit_types.specs.declared.unit.Field.{Field}
 use Rattle.unit_types.specs.UnitText.{UnitText, field_named}
-use Rattle.unit_semantics.specs.Contents.{trim_end, fitted, overlaid, in_digits}
+use Rattle.kd_base.specs.Text.{trim_end}
+use Rattle.unit_semantics.specs.Contents.{fitted, overlaid, in_digits}
 
 -- the three bytes of a code
 abbrev pub code_text : Code → List ℕ

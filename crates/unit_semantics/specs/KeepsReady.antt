@@ -1,16 +1,17 @@
 -- A run that can be stepped stays so: after a plain statement, and after a call's answer.
-use Rattle.std.specs.Prelude.{◌≡◌, ℕ, suc, [], ◌∷◌, ◌+◌, ◌-◌, ◌≤◌, ◌<◌, Bool, true, false, List, ◌++◌, length, take, drop, replicate, nat_eq, All, Option, Some, None, IfSome, refl, find, bytes_eq, slice_index_or}
-use Rattle.std.proofs.Common.{inl, inr, arith, subst, length-append, length-take, length-drop}
+use Rattle.std.specs.Prelude.{◌≡◌, ℕ, ◌+◌, ◌-◌, ◌≤◌, ◌<◌, Bool, true, false, List, ◌++◌, length, take, drop, replicate, nat_eq, All, Option, Some, None, IfSome, refl, bytes_eq, slice_index_or}
+use Rattle.std.proofs.Common.{inl, inr, arith, length-append, length-take, length-drop}
 use Rattle.std.proofs.lemmas.Bool.{cases_Bool}
 use Rattle.std.proofs.lemmas.Bool.Decides.{nat_tests}
 use Rattle.std.proofs.lemmas.List.{length-replicate}
-use Rattle.kd_base.specs.Tools.{cases_option, chosen, some_is}
+use Rattle.kd_base.specs.Tools.{cases_option}
 use Rattle.kdcs_types.specs.declared.call.Reply.{Reply}
 use Rattle.kdcs_types.specs.declared.run_state.RunState.{RunState}
 use Rattle.unit_types.specs.declared.action.Action.{Action}
 use Rattle.unit_types.specs.declared.action.Action.TheVariants as action
 use Rattle.unit_types.specs.declared.action.Operand.{Operand}
 use Rattle.unit_types.specs.declared.unit.Field.{Field}
+use Rattle.unit_types.specs.Places.{found_passes}
 use Rattle.unit_types.specs.UnitText.{UnitText, LabelsFromOne, field_named, label_place, statement_at}
 use Rattle.unit_semantics.specs.Contents.{number_of, fitted, overlaid, compared}
 use Rattle.unit_semantics.specs.Fields.{run_area, field_bytes, value_of, written, stored_in, stored}
@@ -56,35 +57,16 @@ record Keeps (old new : RunState) : Type 0 where
   read_length : new.length ≡ old.length
   lengths : SameLengths old new
 
+areas_keep : (run : RunState) (kb spab : List ℕ) → length kb ≡ length run.kb → length spab ≡ length run.spab → Keeps run (record run { kb = kb; spab = spab })
+areas_keep run kb spab same_kb same_spab =
+    record { place = refl; count = refl; budget = refl; read_length = refl; lengths = record { kb = same_kb; spab = same_spab } }
+
 keeps_all : (run : RunState) → Keeps run run
-keeps_all run =
-    record { place = refl; count = refl; budget = refl; read_length = refl; lengths = record { kb = refl; spab = refl } }
+keeps_all run = areas_keep run run.kb run.spab refl refl
 
 written_keeps : (run : RunState) (spab : Bool) (at : ℕ) (bytes : List ℕ) → at + length bytes ≤ length (run_area run spab) → Keeps run (written run spab at bytes)
-written_keeps run true at bytes h =
-    record {
-      place = refl;
-      count = refl;
-      budget = refl;
-      read_length = refl;
-      lengths = record { kb = refl; spab = length-overlaid at bytes run.spab h };
-    }
-written_keeps run false at bytes h =
-    record {
-      place = refl;
-      count = refl;
-      budget = refl;
-      read_length = refl;
-      lengths = record { kb = length-overlaid at bytes run.kb h; spab = refl };
-    }
-
-found_passes : {X : Type 0} (P : X → Type 0) (test : X → Bool) (xs : List X) (x : X) → All P xs → find test xs ≡ Some x → P x
-found_passes P test [] x all e = absurd cc
-found_passes {X} P test (y ∷ xs) x all e =
-    elim (chosen (test y) (Some y) (find test xs) (Some x) e) [
-      | inl h ↦ subst P (some_is y x h.1) (all 0 y (omega arith))
-      | inr h ↦ found_passes P test xs x (λ k d lt. all (suc k) d (omega arith)) h.1
-    ]
+written_keeps run true at bytes h = areas_keep run run.kb (overlaid at bytes run.spab) refl (length-overlaid at bytes run.spab h)
+written_keeps run false at bytes h = areas_keep run (overlaid at bytes run.kb) run.spab (length-overlaid at bytes run.kb h) refl
 
 in_field_keeps : (run : RunState) (f : Field) (bytes : List ℕ) → IsInside run f → Keeps run (stored_in run (Some f) bytes)
 in_field_keeps run f bytes inside =

@@ -1,24 +1,16 @@
 -- Fields that were found, and what is stored in them.
-use Rattle.std.proofs.Common.{◌≡◌, ℕ, suc, ◌≤◌, ◌<◌, Bool, inl, inr, min, List, [], ◌∷◌, ◌++◌, length, take, drop, refl, arith, sym, ◌∙◌, ap, subst, append_assoc, length-append, length-take, Some, None}
-use Rattle.std.specs.Prelude.{find, All, bytes_eq}
+use Rattle.std.proofs.Common.{◌≡◌, ℕ, ◌≤◌, ◌<◌, inl, inr, min, List, ◌++◌, length, take, drop, refl, arith, sym, ◌∙◌, ap, append_assoc, length-append, length-take, Some, None}
+use Rattle.std.specs.Prelude.{All, bytes_eq}
 use Rattle.std.proofs.lemmas.Bool.{cases_lt}
 use Rattle.std.proofs.lemmas.List.{take_all, take_at, take-append-le, take-append-drop}
 use Rattle.unit_step.proofs.Writing.{is_cut}
-use Rattle.kd_base.specs.Tools.{chosen, some_is}
 use Rattle.kdcs_types.specs.declared.run_state.RunState.{RunState}
 use Rattle.unit_types.specs.declared.unit.Field.{Field}
+use Rattle.unit_types.specs.Places.{found_passes}
 use Rattle.unit_types.specs.UnitText.{UnitText, field_named}
 use Rattle.unit_semantics.specs.Contents.{fitted}
 use Rattle.unit_semantics.specs.Fields.{stored, stored_in, written}
 use Rattle.unit_semantics.specs.Ready.{IsInside}
-
-found_passes : {X : Type 0} (P : X → Type 0) (test : X → Bool) (xs : List X) (x : X) → All P xs → find test xs ≡ Some x → P x
-found_passes P test [] x all e = absurd cc
-found_passes {X} P test (y ∷ xs) x all e =
-    elim (chosen (test y) (Some y) (find test xs) (Some x) e) [
-      | inl h ↦ subst P (some_is y x h.1) (all 0 y (omega arith))
-      | inr h ↦ found_passes P test xs x (λ k d lt. all (suc k) d (omega arith)) h.1
-    ]
 
 -- a field of the unit lies inside its area
 pub found_inside : (unit : UnitText) (run : RunState) (name : List ℕ) (f : Field) → All (IsInside run) unit.fields → Some f ≡ field_named unit name → IsInside run f

@@ -1,9 +1,6 @@
 //! What a call answers.
-ghost use Rattle.std.specs.Prelude.{◌≡◌, ◌≤◌, All, length};
-ghost use Rattle.std.specs.Option.{option_copied};
-ghost use Rattle.unit_semantics.specs.Fields.{stored};
-ghost use Rattle.unit_semantics.specs.Ready.{CanAnswer, IsInside, IsReady};
-ghost use Rattle.unit_semantics.specs.Statement.{answered, next_target, read_into, target_of};
+ghost use Rattle.std.specs.{Prelude.{◌≡◌, ◌≤◌, All, length}, Option.{option_copied}};
+ghost use Rattle.unit_semantics.specs.{Fields.{stored}, Ready.{CanAnswer, IsInside, IsReady}, Statement.{answered, next_target, read_into, target_of}};
 
 use crate::area::store;
 use kd_base::Bytes;

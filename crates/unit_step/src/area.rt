@@ -1,32 +1,31 @@
 //! Bytes put over those of KB or SPAB, in place. None of these calls takes memory.
 ghost use Rattle.std.specs.Prelude.{◌≡◌, ◌+◌, ◌-◌, ◌≤◌, ◌++◌, Some, length, replicate};
-ghost use Rattle.unit_semantics.specs.Contents.{fitted, overlaid};
-ghost use Rattle.unit_semantics.specs.Fields.{stored_in, written};
-ghost use Rattle.unit_semantics.specs.Ready.{IsInside};
+ghost use Rattle.unit_semantics.specs.{Contents.{fitted, overlaid}, Fields.{stored_in, written}, Ready.{IsInside}};
 
-use kdcs_types::{FixedBytes, RunState};
+use kd_base::Bytes;
+use kdcs_types::RunState;
 use unit_types::Field;
 
 // The bytes fill so many from a place on, with spaces behind them, or are cut.
-fn fill_or_cut(area: &mut FixedBytes, at: u32, count: u32, bytes: &[u8])
+fn fill_or_cut(area: &mut Bytes, at: u32, count: u32, bytes: &[u8])
     requires { at + count ≤ length area.old }
     ensures { area.new ≡ overlaid at (fitted count bytes.now) area.old }
 {
     let front = &bytes[..bytes.len().min(count as usize)];
     let behind = at as usize + front.len();
-    area.put(at as usize, front);
+    area.overwrite(at as usize, front);
     area.fill(behind, count as usize - front.len(), b' ');
 }
 
 // The digits fill so many bytes from a place on, with zeros before them.
-fn fill_with_zeros(area: &mut FixedBytes, at: u32, count: u32, digits: &[u8])
+fn fill_with_zeros(area: &mut Bytes, at: u32, count: u32, digits: &[u8])
     requires inside { at + count ≤ length area.old }
     requires room { length digits.now ≤ count }
     ensures { area.new ≡ overlaid at (replicate (count - length digits.now) 48 ++ digits.now) area.old }
 {
     let zeros = count as usize - digits.len();
     area.fill(at as usize, zeros, b'0');
-    area.put(at as usize + zeros, digits);
+    area.overwrite(at as usize + zeros, digits);
 }
 
 /// The field gets the bytes, filled with spaces or cut.

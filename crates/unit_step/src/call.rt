@@ -1,7 +1,6 @@
 //! The KDCS call that a statement asks for.
 ghost use Rattle.std.specs.Prelude.{◌≡◌, All, IfOk, IsTrue, OnErr};
-ghost use Rattle.unit_semantics.specs.Ready.{IsInside};
-ghost use Rattle.unit_semantics.specs.Statement.{done_by, takes_memory};
+ghost use Rattle.unit_semantics.specs.{Ready.{IsInside}, Statement.{done_by, takes_memory}};
 ghost use Rattle.unit_step.specs.Answers.{IsAsked, IsCall};
 
 use crate::operand::{bytes_of, room};

@@ -19,6 +19,6 @@ mod stepping;
 
 pub use answer::answered;
 pub use laws::runs_stay_ready;
-pub use number::{number_of, trim_end};
+pub use number::number_of;
 pub use outcome::Stepped;
 pub use stepping::step;

@@ -1,9 +1,9 @@
-//! Bytes without the spaces around them, and numbers.
+//! Numbers, and bytes without the spaces in front.
 ghost use Rattle.std.specs.Prelude.{◌≡◌, ◌/◌, ◌^◌, length};
-ghost use Rattle.unit_semantics.specs.Contents.{trim_end, trim_start, number_of, in_digits};
+ghost use Rattle.unit_semantics.specs.Contents.{trim_start, number_of, in_digits};
 ghost use Rattle.unit_step.specs.Calculation.{calculation_of, limited};
 
-use kd_base::decimal_of;
+use kd_base::{decimal_of, trim_end};
 
 /// What ADD, SUB, MUL and DIV make of two numbers.
 #[derive(Clone, Copy, Debug)]
@@ -12,18 +12,6 @@ pub enum Calculation {
     Difference,
     Product,
     Quotient,
-}
-
-/// The bytes without the spaces at the end.
-#[tactic(auto, unfolding(unit_semantics::specs::Contents::trim_end))]
-pub fn trim_end(bytes: &[u8]) -> &[u8]
-    ensures { result.now ≡ trim_end bytes.now }
-{
-    let mut n = bytes.len();
-    while n > 0 && bytes[n - 1] == b' ' {
-        n -= 1;
-    }
-    &bytes[..n]
 }
 
 #[tactic(auto, unfolding(unit_semantics::specs::Contents::trim_start))]

@@ -1,15 +1,11 @@
 //! What a statement reads of its unit run.
-ghost use Rattle.std.specs.Prelude.{◌≡◌, ◌≤◌, All, IfOk, Some, take};
-ghost use Rattle.std.specs.Option.{option_copied};
+ghost use Rattle.std.specs.{Prelude.{◌≡◌, ◌≤◌, All, IfOk, Some, take}, Option.{option_copied}};
 ghost use Rattle.unit_types.specs.UnitText.{field_named};
-ghost use Rattle.unit_semantics.specs.Contents.{in_digits};
-ghost use Rattle.unit_semantics.specs.Fields.{code_text, field_bytes, header_value, value_of};
-ghost use Rattle.unit_semantics.specs.Ready.{IsInside};
-ghost use Rattle.unit_semantics.specs.Statement.{target_room};
+ghost use Rattle.unit_semantics.specs.{Contents.{in_digits}, Fields.{code_text, field_bytes, header_value, value_of}, Ready.{IsInside}, Statement.{target_room}};
 ghost use Rattle.unit_step.specs.Header.{HoldsHeader};
 
-use crate::number::{last_digits, trim_end};
-use kd_base::{Bytes, OutOfMemory};
+use crate::number::last_digits;
+use kd_base::{Bytes, OutOfMemory, trim_end};
 use kdcs_types::{Code, RunState};
 use std::alloc::Global;
 use unit_types::{Field, HeaderName, Operand, Unit};

@@ -1,12 +1,8 @@
 //! The plain statements: moves, numbers, jumps.
 ghost use Rattle.std.specs.Prelude.{◌≡◌, ◌+◌, ◌<◌, ◌^◌, ◌++◌, All, OnErr, OnOk, Some, is_some, length, min, take};
 ghost use Rattle.unit_types.specs.UnitText.{field_named, label_place};
-ghost use Rattle.unit_semantics.specs.Contents.{compared, number_in, number_of};
-ghost use Rattle.unit_semantics.specs.Fields.{field_bytes, stored, stored_in, value_of};
-ghost use Rattle.unit_semantics.specs.Ready.{IsInside};
-ghost use Rattle.unit_semantics.specs.Statement.{branched, calculated, calculates, jumped, moved_on, relates};
-ghost use Rattle.unit_step.specs.Answers.{meaning_of, OnlyPlainMoves};
-ghost use Rattle.unit_step.specs.Calculation.{calculation_of, with_result};
+ghost use Rattle.unit_semantics.specs.{Contents.{compared, number_in, number_of}, Fields.{field_bytes, stored, stored_in, value_of}, Ready.{IsInside}, Statement.{branched, calculated, calculates, jumped, moved_on, relates}};
+ghost use Rattle.unit_step.specs.{Answers.{meaning_of, OnlyPlainMoves}, Calculation.{calculation_of, with_result}};
 
 use crate::area::{store, store_digits};
 use crate::compare::compared;

@@ -1,7 +1,6 @@
 //! One statement.
 ghost use Rattle.std.specs.Prelude.{◌≡◌, ◌+◌, ◌<◌, ◌^◌, All, IfOk, IsTrue, OnErr};
-ghost use Rattle.unit_semantics.specs.Ready.{IsInside, IsReady};
-ghost use Rattle.unit_semantics.specs.Statement.{action_at, done_by, step, takes_memory};
+ghost use Rattle.unit_semantics.specs.{Ready.{IsInside, IsReady}, Statement.{action_at, done_by, step, takes_memory}};
 ghost use Rattle.unit_step.specs.Answers.{OnlyPlainMoves, meaning_of, next_takes_memory};
 
 use crate::call::call_of;

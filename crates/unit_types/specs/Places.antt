@@ -1,6 +1,6 @@
 -- What an index by names finds, and what it finds after one more name was put.
-use Rattle.std.proofs.Common.{◌≡◌, ℕ, ◌+◌, inl, inr, Bool, true, false, cond, List, [], ◌∷◌, ◌++◌, length, Bor, refl, sym, ap, ◌∙◌, suc, arith, add-zero, add-one}
-use Rattle.std.specs.Prelude.{Option, Some, None, find, slice_get, bytes_eq, is_some}
+use Rattle.std.proofs.Common.{◌≡◌, ℕ, ◌+◌, ◌<◌, inl, inr, Bool, true, false, cond, List, [], ◌∷◌, ◌++◌, length, take, get_or, Bor, refl, sym, ap, subst, ◌∙◌, suc, arith, add-zero, add-one}
+use Rattle.std.specs.Prelude.{Option, Some, None, All, find, slice_get, bytes_eq, is_some}
 use Rattle.std.specs.BTreeMap.{is_at}
 use Rattle.std.specs.Cmp.Lexicographic.{slice_cmp}
 use Rattle.std.specs.List.{position_from}
@@ -9,9 +9,11 @@ use Rattle.std.specs.Option.{option_or, option_and_then, option_map, option_copi
 use Rattle.std.specs.Slice.{IsItemAt}
 use Rattle.std.specs.Ordering.{nat_cmp, is_eq, eq_by_cmp}
 use Rattle.std.proofs.lemmas.Bool.{cases_Bool}
+use Rattle.std.proofs.lemmas.List.{take_more, length-take-le}
 use Rattle.std.proofs.lemmas.Option.{slice_get_past, slice_get_read}
 use Rattle.std.proofs.lemmas.Map.Text.{is_eq-slice_cmp}
 use Rattle.std.proofs.lemmas.Slice.Eq.{bytes_eq-Decides}
+use Rattle.kd_base.specs.Tools.{chosen, some_is}
 use Rattle.unit_types.specs.Index.{or_first}
 
 same_bytes : (a b : List ℕ) → bytes_eq a b ≡ true → a ≡ b
@@ -69,6 +71,23 @@ position_more test i (b ∷ before) x =
       | inr h ↦ rw (h, ← count) (position_more test (i + 1) before x)
     ]
 
+-- one more name was put in an index
+pub label_more : (old new : List ℕ → Option ℕ) (labels : List (List ℕ × ℕ)) (i : ℕ) (e : List ℕ × ℕ) (name : List ℕ) (place : ℕ) → i < length labels → e ≡ get_or labels i e → name ≡ e.0 → place ≡ e.1 → ((w : List ℕ) → old w ≡ lookup (bytes_eq w) (take i labels)) → ((w : List ℕ) → new w ≡ or_first (old w) name place w) → (w : List ℕ) → new w ≡ lookup (bytes_eq w) (take (i + 1) labels)
+label_more old new labels i e name place lt is named placed so_far put w =
+    put w
+    ∙ ap (λ (o : Option ℕ). or_first o name place w) (so_far w)
+    ∙ rw (named, placed) (sym (lookup_more (bytes_eq w) (take i labels) e))
+    ∙ ap (lookup (bytes_eq w)) (ap (λ (x : List ℕ × ℕ). take i labels ++ x ∷ []) is ∙ sym (take_more labels i e lt))
+
+pub item_more : {A : Type 0} (name_of : A → List ℕ) (old new : List ℕ → Option ℕ) (all : List A) (i : ℕ) (x : A) (name : List ℕ) → i < length all → x ≡ get_or all i x → name ≡ name_of x → ((w : List ℕ) → old w ≡ position_from (λ y. bytes_eq w (name_of y)) 0 (take i all)) → ((w : List ℕ) → new w ≡ or_first (old w) name i w) → (w : List ℕ) → new w ≡ position_from (λ y. bytes_eq w (name_of y)) 0 (take (i + 1) all)
+item_more {A} name_of old new all i x name lt is named so_far put w =
+    let test : A → Bool = λ y. bytes_eq w (name_of y) in
+    let count : 0 + length (take i all) ≡ i = omega (arith, length-take-le i all) in
+    put w
+    ∙ ap (λ (o : Option ℕ). or_first o name i w) (so_far w)
+    ∙ rw named (ap (λ (n : ℕ). option_or (position_from test 0 (take i all)) (cond (test x) (Some n) None)) (sym count) ∙ sym (position_more test 0 (take i all) x))
+    ∙ ap (position_from test 0) (ap (λ (y : A). take i all ++ y ∷ []) is ∙ sym (take_more all i x lt))
+
 position_later : {A : Type 0} (test : A → Bool) (i : ℕ) (all : List A) → position_from test (i + 1) all ≡ option_map (λ n. suc n) (position_from test i all)
 position_later test i [] = refl
 position_later test i (x ∷ all) =
@@ -88,6 +107,15 @@ found_at test (x ∷ all) =
     elim (cases_Bool (test x)) [
       | inl h ↦ rw h refl
       | inr h ↦ rw h (ap (option_and_then (slice_get (x ∷ all))) (position_later test 0 all) ∙ behind_first x all (position_from test 0 all) ∙ found_at test all)
+    ]
+
+-- what is found is as all are
+pub found_passes : {A : Type 0} (P : A → Type 0) (test : A → Bool) (all : List A) (x : A) → All P all → find test all ≡ Some x → P x
+found_passes P test [] x passes e = absurd cc
+found_passes {A} P test (y ∷ all) x passes e =
+    elim (chosen (test y) (Some y) (find test all) (Some x) e) [
+      | inl h ↦ subst P (some_is y x h.1) (passes 0 y (omega arith))
+      | inr h ↦ found_passes P test all x (λ k d lt. passes (suc k) d (omega arith)) h.1
     ]
 
 pub none_found : {P : Type 0} (found : Option P) {found_any : Bool} → found_any ≡ is_some found → found_any ≡ false → found ≡ None

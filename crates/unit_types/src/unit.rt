@@ -1,6 +1,5 @@
 //! A unit, with its look-ups by name.
-ghost use Rattle.std.specs.Prelude.{◌≡◌, ◌≤◌, length, IfOk};
-ghost use Rattle.std.specs.Option.{option_copied};
+ghost use Rattle.std.specs.{Prelude.{◌≡◌, ◌≤◌, length, IfOk}, Option.{option_copied}};
 
 use crate::action::UnitStatement;
 use crate::index::{field_index, label_index};

@@ -1,7 +1,7 @@
 use Rattle.std.proofs.Common.{◌≡◌, ◌+◌, ◌≤◌, length, take}
 use Rattle.std.specs.List.{suffix_len}
 use Rattle.kd_base.specs.Text.{is_space}
-use Rattle.unit_check.proofs.statement.trim_end.Given as goal
+use Rattle.kd_base.proofs.text.trim_end.Given as goal
 
 abbrev pub invariant-loop-n : goal.invariant-loop-n
 invariant-loop-n l = record {

@@ -1,6 +1,6 @@
 use Rattle.std.proofs.Common.{rules, None}
 use Rattle.kd_base.specs.RoundTrips.{field_found, field_only}
-use Rattle.kd_base.proofs.name.Name.from_padded.Goals as goal
+use Rattle.kd_base.proofs.name.NameOf+8.from_padded.Goals as goal
 
 pub returns-then-not-are_spaces-clause-only : goal.returns-then-not-are_spaces-clause-only
 returns-then-not-are_spaces-clause-only c = field_only c.args.bytes.now None (search rules)
