@@ -49,7 +49,6 @@ impl Call {
     pub fn over<P: Program>(
         &self,
         alloc: Global,
-        program: &P,
         file: &[u8],
         also: Option<(Failing, u64)>,
         at: String,
@@ -60,7 +59,7 @@ impl Call {
             failing.push((kind, number))?;
         }
         let mut device = MemDevice::new(alloc, Bytes::from_slice(alloc, file)?, failing)?;
-        let status = program.call(alloc, &self.words, &mut room, &mut device);
+        let status = P::call(alloc, &self.words, &mut room, &mut device);
         let outcome = Outcome::new(alloc, at, status, file, device.sent(), device.holds())?;
         Ok((outcome, device))
     }
@@ -69,12 +68,11 @@ impl Call {
     pub fn over_sure<P: Program>(
         &self,
         alloc: Global,
-        program: &P,
         file: &[u8],
     ) -> Result<Outcome, OutOfMemory> {
         let mut room = self.room(alloc, None)?;
         let mut device = SureDevice::new(alloc, Bytes::from_slice(alloc, file)?)?;
-        let status = program.call(alloc, &self.words, &mut room, &mut device);
+        let status = P::call(alloc, &self.words, &mut room, &mut device);
         let at = String::new(alloc);
         Outcome::new(alloc, at, status, file, device.sent(), device.holds())
     }

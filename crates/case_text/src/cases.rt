@@ -43,13 +43,12 @@ impl Cases {
     pub fn line<P: Program>(
         &mut self,
         alloc: Global,
-        program: &P,
         text: &str,
     ) -> Result<Option<String>, OutOfMemory> {
         self.number = self.number.saturating_add(1);
         let line = Line::of(text);
         let found = match line {
-            Some(line) => self.stage.obey(alloc, program, line)?,
+            Some(line) => self.stage.obey::<P>(alloc, line)?,
             None => Some(String::from_str(alloc, "no such line")?),
         };
         let said = match found {

@@ -7,7 +7,6 @@ use std::alloc::Global;
 pub trait Program {
     /// The status of a call with these words over this room and this device.
     fn call<D: Device>(
-        &self,
         alloc: Global,
         words: &Vec<String>,
         room: &mut MemRoom,

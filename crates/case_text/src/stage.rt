@@ -10,6 +10,9 @@ use kd_base::OutOfMemory;
 use kd_device::{CallKind, MemDevice};
 use std::alloc::Global;
 
+/// What is wrong, where something is.
+type Judged = Result<Option<String>, OutOfMemory>;
+
 /// The choices that each stop is tried with: the old bytes of each write that is not synced, the new ones, and two
 /// mixtures.
 const CHOICES: [u64; 4] = [0, 1, 2, 6];
@@ -33,12 +36,12 @@ pub struct Stage {
     calls: u64,
 }
 
-fn complaint(alloc: Global, text: &str) -> Result<Option<String>, OutOfMemory> {
+fn complaint(alloc: Global, text: &str) -> Judged {
     Ok(Some(String::from_str(alloc, text)?))
 }
 
 /// A complaint, or nothing where it holds.
-fn unless(alloc: Global, holds: bool, text: &str) -> Result<Option<String>, OutOfMemory> {
+fn unless(alloc: Global, holds: bool, text: &str) -> Judged {
     if holds {
         return Ok(None);
     }
@@ -72,16 +75,11 @@ impl Stage {
     }
 
     /// Does what the line says, and answers what is wrong.
-    pub fn obey<P: Program>(
-        &mut self,
-        alloc: Global,
-        program: &P,
-        line: Line<'_>,
-    ) -> Result<Option<String>, OutOfMemory> {
+    pub fn obey<P: Program>(&mut self, alloc: Global, line: Line<'_>) -> Judged {
         match line {
             Line::Empty => Ok(None),
             Line::Case(_) => self.begin_case(alloc),
-            Line::Call(words) => self.call(alloc, program, words),
+            Line::Call(words) => self.call::<P>(alloc, words),
             Line::Fail(kind, number) => self.fail(kind, number),
             Line::Fails(kind, from, to) => self.try_with(alloc, Tries::Fails(kind, from, to)),
             Line::Stop(call, choice) => self.try_with(alloc, Tries::Stop(call, choice)),
@@ -104,7 +102,7 @@ impl Stage {
     }
 
     /// Does what a line about texts says.
-    fn write(&mut self, alloc: Global, line: Line<'_>) -> Result<Option<String>, OutOfMemory> {
+    fn write(&mut self, alloc: Global, line: Line<'_>) -> Judged {
         let done = match line {
             Line::Shared(name) => {
                 self.texts.begin(alloc, name, true)?;
@@ -123,7 +121,7 @@ impl Stage {
         unless(alloc, done, "no such text")
     }
 
-    fn begin_case(&mut self, alloc: Global) -> Result<Option<String>, OutOfMemory> {
+    fn begin_case(&mut self, alloc: Global) -> Judged {
         let found = self.settle(alloc)?;
         self.cases = self.cases.saturating_add(1);
         self.texts.begin_case();
@@ -136,7 +134,7 @@ impl Stage {
     }
 
     /// What no line has said of the last call, which is then done with.
-    pub fn settle(&mut self, alloc: Global) -> Result<Option<String>, OutOfMemory> {
+    pub fn settle(&mut self, alloc: Global) -> Judged {
         let unsaid = self.unsaid;
         self.unsaid = false;
         let mut found = None;
@@ -152,7 +150,7 @@ impl Stage {
         Ok(found)
     }
 
-    fn fail(&mut self, kind: Failing, number: u64) -> Result<Option<String>, OutOfMemory> {
+    fn fail(&mut self, kind: Failing, number: u64) -> Judged {
         match kind {
             Failing::Text => self.failing_texts.push(number)?,
             Failing::Device(kind) => self.failing.push((kind, number))?,
@@ -160,13 +158,13 @@ impl Stage {
         Ok(None)
     }
 
-    fn try_with(&mut self, alloc: Global, tries: Tries) -> Result<Option<String>, OutOfMemory> {
+    fn try_with(&mut self, alloc: Global, tries: Tries) -> Judged {
         let first = matches!(self.tries, Tries::Plain);
         self.tries = tries;
         unless(alloc, first, "the next call is tried otherwise already")
     }
 
-    fn put(&mut self, alloc: Global, at: u64, text: &str) -> Result<Option<String>, OutOfMemory> {
+    fn put(&mut self, alloc: Global, at: u64, text: &str) -> Judged {
         let Some(bytes) = unescaped(alloc, text, 0)? else {
             return complaint(alloc, "no such bytes");
         };
@@ -181,19 +179,14 @@ impl Stage {
         Ok(None)
     }
 
-    fn cut(&mut self, alloc: Global, length: u64) -> Result<Option<String>, OutOfMemory> {
+    fn cut(&mut self, alloc: Global, length: u64) -> Judged {
         let fits = length <= self.file.len() as u64;
         self.file.truncate(length as usize);
         unless(alloc, fits, "past the end of the KDCFILE")
     }
 
     /// Makes the call that the line asks for, at each of its tries.
-    fn call<P: Program>(
-        &mut self,
-        alloc: Global,
-        program: &P,
-        words: &str,
-    ) -> Result<Option<String>, OutOfMemory> {
+    fn call<P: Program>(&mut self, alloc: Global, words: &str) -> Judged {
         let left = self.settle(alloc)?;
         let call = Call {
             words: words_of(alloc, words)?,
@@ -207,15 +200,13 @@ impl Stage {
         self.failing_texts.clear();
         self.unsaid = true;
         let found = match tries {
-            Tries::Plain => self.call_once(alloc, program, &call)?,
-            Tries::Sure => self.call_surely(alloc, program, &call)?,
+            Tries::Plain => self.call_once::<P>(alloc, &call)?,
+            Tries::Sure => self.call_surely::<P>(alloc, &call)?,
             Tries::Fails(kind, from, to) => {
-                self.call_failing(alloc, program, &call, kind, from, to)?
+                self.call_failing::<P>(alloc, &call, kind, from, to)?
             }
-            Tries::Stop(stop, choice) => {
-                self.call_after_one(alloc, program, &call, stop, choice)?
-            }
-            Tries::Stops(from, to) => self.call_after_each(alloc, program, &call, from, to)?,
+            Tries::Stop(stop, choice) => self.call_after_one::<P>(alloc, &call, stop, choice)?,
+            Tries::Stops(from, to) => self.call_after_each::<P>(alloc, &call, from, to)?,
         };
         Ok(left.or(found))
     }
@@ -227,27 +218,17 @@ impl Stage {
         Ok(())
     }
 
-    fn call_once<P: Program>(
-        &mut self,
-        alloc: Global,
-        program: &P,
-        call: &Call,
-    ) -> Result<Option<String>, OutOfMemory> {
+    fn call_once<P: Program>(&mut self, alloc: Global, call: &Call) -> Judged {
         let at = String::new(alloc);
-        let (outcome, device) = call.over(alloc, program, &self.file, None, at)?;
+        let (outcome, device) = call.over::<P>(alloc, &self.file, None, at)?;
         self.file = outcome.file().clone()?;
         self.device = Some(device);
         self.keep(outcome)?;
         Ok(None)
     }
 
-    fn call_surely<P: Program>(
-        &mut self,
-        alloc: Global,
-        program: &P,
-        call: &Call,
-    ) -> Result<Option<String>, OutOfMemory> {
-        let outcome = call.over_sure(alloc, program, &self.file)?;
+    fn call_surely<P: Program>(&mut self, alloc: Global, call: &Call) -> Judged {
+        let outcome = call.over_sure::<P>(alloc, &self.file)?;
         self.file = outcome.file().clone()?;
         self.device = None;
         self.keep(outcome)?;
@@ -258,16 +239,15 @@ impl Stage {
     fn call_failing<P: Program>(
         &mut self,
         alloc: Global,
-        program: &P,
         call: &Call,
         kind: Failing,
         from: u64,
         to: u64,
-    ) -> Result<Option<String>, OutOfMemory> {
+    ) -> Judged {
         for number in from..=to {
             let at = format!(in alloc; "{} {number}", failing_name(kind))?;
             let also = Some((kind, number));
-            let (outcome, _) = call.over(alloc, program, &self.file, also, at)?;
+            let (outcome, _) = call.over::<P>(alloc, &self.file, also, at)?;
             self.keep(outcome)?;
         }
         unless(alloc, from <= to, "no number")
@@ -277,7 +257,6 @@ impl Stage {
     fn call_after_stop<P: Program>(
         &mut self,
         alloc: Global,
-        program: &P,
         call: &Call,
         stop: u64,
         choice: u64,
@@ -290,7 +269,7 @@ impl Stage {
         }
         let stopped = device.after_stop(alloc, stop, choice)?;
         let at = format!(in alloc; "stop {stop} {choice}")?;
-        let (outcome, _) = call.over(alloc, program, stopped.holds(), None, at)?;
+        let (outcome, _) = call.over::<P>(alloc, stopped.holds(), None, at)?;
         let left = outcome.file().clone()?;
         self.keep(outcome)?;
         Ok(Some(left))
@@ -299,12 +278,11 @@ impl Stage {
     fn call_after_one<P: Program>(
         &mut self,
         alloc: Global,
-        program: &P,
         call: &Call,
         stop: u64,
         choice: u64,
-    ) -> Result<Option<String>, OutOfMemory> {
-        match self.call_after_stop(alloc, program, call, stop, choice)? {
+    ) -> Judged {
+        match self.call_after_stop::<P>(alloc, call, stop, choice)? {
             Some(left) => {
                 self.file = left;
                 Ok(None)
@@ -317,14 +295,13 @@ impl Stage {
     fn call_after_each<P: Program>(
         &mut self,
         alloc: Global,
-        program: &P,
         call: &Call,
         from: u64,
         to: u64,
-    ) -> Result<Option<String>, OutOfMemory> {
+    ) -> Judged {
         for stop in from..=to {
             for choice in CHOICES {
-                let left = self.call_after_stop(alloc, program, call, stop, choice)?;
+                let left = self.call_after_stop::<P>(alloc, call, stop, choice)?;
                 if left.is_none() {
                     return complaint(alloc, "there is no such stop");
                 }
@@ -334,7 +311,7 @@ impl Stage {
     }
 
     /// What the last call did otherwise than this line says, at the first try that did so.
-    fn judge(&mut self, alloc: Global, line: Line<'_>) -> Result<Option<String>, OutOfMemory> {
+    fn judge(&mut self, alloc: Global, line: Line<'_>) -> Judged {
         if self.outcomes.is_empty() {
             return complaint(alloc, "no call before");
         }
@@ -353,7 +330,7 @@ impl Stage {
 }
 
 /// The complaint with the try that it is about.
-fn located(alloc: Global, found: Option<String>, at: &str) -> Result<Option<String>, OutOfMemory> {
+fn located(alloc: Global, found: Option<String>, at: &str) -> Judged {
     match found {
         Some(found) if !at.is_empty() => Ok(Some(format!(in alloc; "{found}, at {at}")?)),
         found => Ok(found),

@@ -5,7 +5,10 @@ use Rattle.kd_device.specs.declared.step.Span.{Span}
 use Rattle.kd_device.specs.declared.step.Step.{Step}
 use Rattle.kd_device.specs.declared.step.Step.TheVariants.{Write, Sync, Emit}
 use Rattle.kd_device.specs.History.{Event, Wrote, Synced, Emitted, Disk, fresh, step, after}
-use Rattle.kd_device.specs.Tape.{piece, pieces, event, events, Fits, AllFit, IsInside, AllInside, IsKept}
+use Rattle.kd_device.specs.Tape.{Recording, piece, pieces, event, events, Fits, AllFit, IsInside, AllInside, IsBehind, IsKept}
+
+pub spare_same : (a b : Recording) → a ≡ b → (a.spare_calls ≡ b.spare_calls) × (a.spare_bytes ≡ b.spare_bytes)
+spare_same a b same = (ap (λ (r : Recording). r.spare_calls) same, ap (λ (r : Recording). r.spare_bytes) same)
 
 pub after_push : (s : Disk) (es : List Event) (e : Event) → after s (es ++ e ∷ []) ≡ step (after s es) e
 after_push s [] e = refl
@@ -37,8 +40,11 @@ inside_push n m (y ∷ steps) x le h i = (inside_wider n m y le h.0, inside_push
 last_part : (kept more : List ℕ) → take (length more) (drop (length kept) (kept ++ more)) ≡ more
 last_part kept more = ap (λ (l : List ℕ). take (length more) l) (drop_at kept more (length kept) refl) ∙ take_all (length more) more (omega arith)
 
-pub last_piece : (kept more : List ℕ) (span : Span) → span.from ≡ length kept → span.len ≡ length more → piece (kept ++ more) span ≡ more
-last_piece kept more span from len = rw (from, len) (last_part kept more)
+pub last_piece : (kept more : List ℕ) (span : Span) → IsBehind kept more span → piece (kept ++ more) span ≡ more
+last_piece kept more span behind = rw (behind.from, behind.len) (last_part kept more)
+
+pub behind_fits : (kept more : List ℕ) (span : Span) → IsBehind kept more span → Fits (length (kept ++ more)) span
+behind_fits kept more span behind = omega (arith, behind.from, behind.len, length-append kept more)
 
 module _ (kept more : List ℕ) (steps : List Step) (x : Step) (e : Event) (kept' : List ℕ) (steps' : List Step) (keeps : kept' ≡ kept ++ more) (adds : steps' ≡ steps ++ x ∷ []) (is : event (kept ++ more) x ≡ e) where
   pub events_are : AllInside (length kept) steps → events kept' steps' ≡ events kept steps ++ e ∷ []
@@ -68,9 +74,9 @@ fit_push n m [] x le h i = (i, tt)
 fit_push n m (y ∷ spans) x le h i = (omega arith, fit_push n m spans x le h.1 i)
 
 -- one span more, of the bytes behind those that were kept
-module _ (kept more : List ℕ) (spans : List Span) (x : Span) (kept' : List ℕ) (spans' : List Span) (keeps : kept' ≡ kept ++ more) (adds : spans' ≡ spans ++ x ∷ []) (from : x.from ≡ length kept) (len : x.len ≡ length more) (fit : AllFit (length kept) spans) where
+module _ (kept more : List ℕ) (spans : List Span) (x : Span) (kept' : List ℕ) (spans' : List Span) (keeps : kept' ≡ kept ++ more) (adds : spans' ≡ spans ++ x ∷ []) (behind : IsBehind kept more x) (fit : AllFit (length kept) spans) where
   pub pieces_are : pieces kept' spans' ≡ pieces kept spans ++ more ∷ []
-  pieces_are = rw (keeps, adds, pieces_push kept more spans x fit, last_piece kept more x from len)
+  pieces_are = rw (keeps, adds, pieces_push kept more spans x fit, last_piece kept more x behind)
 
   pub fits_push : AllFit (length kept') spans'
-  fits_push = rw (keeps, adds) (fit_push (length kept) (length (kept ++ more)) spans x (omega (arith, length-append kept more)) fit (omega (arith, length-append kept more)))
+  fits_push = rw (keeps, adds) (fit_push (length kept) (length (kept ++ more)) spans x (omega (arith, length-append kept more)) fit (behind_fits kept more x behind))

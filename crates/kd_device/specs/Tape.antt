@@ -91,6 +91,11 @@ reserved r calls bytes end =
 abbrev pub piece : List ℕ → Span → List ℕ
 piece kept span = take span.len (drop span.from kept)
 
+-- the span of bytes that are put behind those that are kept
+pub record IsBehind (kept more : List ℕ) (span : Span) : Type 0 where
+  pub from : span.from ≡ length kept
+  pub len : span.len ≡ length more
+
 abbrev pub pieces : List ℕ → List Span → List (List ℕ)
 pieces kept spans = map (piece kept) spans
 

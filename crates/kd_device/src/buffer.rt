@@ -1,15 +1,23 @@
 //! Reads of a file in memory, and writes to buffers that have room.
-ghost use Rattle.std.specs.Prelude.{◌≡◌, ◌≤◌, ◌<◌, ◌+◌, ◌-◌, ◌++◌, ◌∷◌, [], length, take, drop, min, if◌then◌else◌};
-ghost use Rattle.std.specs.Vec.{vec_len, vec_capacity};
-ghost use Rattle.kd_device.specs.Device.{written};
+ghost use Rattle.std.specs.{Prelude.{◌≡◌, ◌≤◌, ◌<◌, ◌+◌, ◌-◌, ◌++◌, ◌∷◌, [], length, take, drop, min, if◌then◌else◌}, Vec.{vec_len, vec_capacity}};
+ghost use Rattle.kd_device.specs.{Device.{written}, Tape.{IsBehind}};
 
-pub fn append<T: Copy>(to: &mut Vec<T>, more: &[T])
-    requires { vec_len to.old + length more.now ≤ vec_capacity to.old }
-    ensures items { to.new.items ≡ to.old.items ++ more.now }
-    ensures len { vec_len to.new ≡ vec_len to.old + length more.now }
-    ensures room { vec_capacity to.old ≤ vec_capacity to.new }
+use crate::step::Span;
+
+/// Puts these bytes behind those that are kept, and answers where they are.
+pub fn keep(kept: &mut Vec<u8>, bytes: &[u8]) -> Span
+    requires { vec_len kept.old + length bytes.now ≤ vec_capacity kept.old }
+    ensures span { IsBehind kept.old.items bytes.now result }
+    ensures items { kept.new.items ≡ kept.old.items ++ bytes.now }
+    ensures len { vec_len kept.new ≡ vec_len kept.old + length bytes.now }
+    ensures room { vec_capacity kept.old ≤ vec_capacity kept.new }
 {
-    let _ = to.extend_from_slice(more);
+    let span = Span {
+        from: kept.len(),
+        len: bytes.len(),
+    };
+    let _ = kept.extend_from_slice(bytes);
+    span
 }
 
 pub fn put<T: Copy>(to: &mut Vec<T>, value: T)
@@ -43,7 +51,7 @@ pub fn append_if(to: &mut Vec<u8>, more: &[u8], done: bool)
     ensures room { vec_capacity to.old ≤ vec_capacity to.new }
 {
     if done {
-        append(to, more);
+        let _ = to.extend_from_slice(more);
     }
 }
 

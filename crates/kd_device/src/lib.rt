@@ -7,6 +7,7 @@
 
 mod buffer;
 mod device;
+mod error;
 mod kind;
 mod memory;
 mod memory_room;
@@ -17,8 +18,9 @@ mod sure;
 mod tape;
 
 pub use device::{Device, Failed};
+pub use error::DeviceError;
 pub use kind::CallKind;
 pub use memory::MemDevice;
 pub use memory_room::MemRoom;
-pub use room::{Room, RoomError};
+pub use room::Room;
 pub use sure::SureDevice;

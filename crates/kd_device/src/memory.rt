@@ -1,11 +1,6 @@
 //! A device in memory, which fails the calls that it is told to fail, and can be stopped after each call.
-ghost use Rattle.std.specs.Prelude.{◌≡◌, ◌≤◌, ◌+◌, ◌-◌, ◌↔◌, [], ◌∷◌, ◌++◌, IsTrue, length, take, drop, min, IfOk, OnOk, OnErr, is_ok, IsErr, not, if◌then◌else◌};
-ghost use Rattle.std.specs.List.{Contains};
-ghost use Rattle.kd_device.specs.Device.{Rose, Frame, SameDiskFaults, SameLineFaults, SameNames, SameSpare, UsesSpare, HasSpare, Reserved, Quiet, Writes, Emits, Only};
-ghost use Rattle.kd_device.specs.History.{AllDone, fresh};
-ghost use Rattle.kd_device.specs.Tape.{disk_at};
-ghost use Rattle.kd_device.specs.Memory.{Memory, unused, state_of, leaves_of, Fails, Counts, SameCalls, counted, disk_fault, line_fault};
-ghost use Rattle.kd_device.specs.Laws.{bytes_now, sent_is, since_less};
+ghost use Rattle.std.specs.{Prelude.{◌≡◌, ◌≤◌, ◌+◌, ◌-◌, ◌↔◌, [], ◌∷◌, ◌++◌, IsTrue, length, take, drop, min, IfOk, OnOk, OnErr, is_ok, IsErr, not, if◌then◌else◌}, List.{Contains}};
+ghost use Rattle.kd_device.specs.{Device.{Rose, Frame, SameDiskFaults, SameLineFaults, SameNames, SameSpare, UsesSpare, HasSpare, Reserved, Quiet, Writes, Emits, Only}, History.{AllDone, fresh}, Tape.{disk_at}, Memory.{Memory, unused, state_of, leaves_of, Fails, Counts, SameCalls, counted, disk_fault, line_fault}, Laws.{bytes_now, sent_is, since_less}};
 
 use crate::buffer::read_part;
 use crate::device::{Device, Failed};

@@ -1,12 +1,10 @@
 //! A room of texts in memory, which fails the reads that it is told to fail.
 ghost use Rattle.std.specs.Prelude.{◌≡◌, ◌↔◌, ◌+◌, IsTrue, IfOk, OnOk, IsOk, IsSome, IsErrOf, IsSomeAnd, take, option_copied, [], refl};
-ghost use Rattle.kd_device.specs.Count.{raised};
-ghost use Rattle.kd_device.specs.Device.{Rose};
-ghost use Rattle.kd_device.specs.Room.{text_of, SameRoom};
-ghost use Rattle.kd_device.specs.Texts.{Texts, unread, room_of, with_fault, ReadFails};
+ghost use Rattle.kd_device.specs.{Count.{raised}, Device.{Rose}, Room.{text_of, SameRoom}, Texts.{Texts, unread, room_of, with_fault, ReadFails}};
 
+use crate::error::DeviceError;
 use crate::kind::raise;
-use crate::room::{Room, RoomError};
+use crate::room::Room;
 use kd_base::{Bytes, OutOfMemory};
 use std::alloc::Global;
 use std::marker::Model;
@@ -71,26 +69,26 @@ impl MemRoom {
     }
 
     /// Counts a fault.
-    fn fault(&mut self) -> RoomError
-        ensures error { result ≡ RoomError.Failed }
+    fn fault(&mut self) -> DeviceError
+        ensures error { result ≡ DeviceError.Failed }
         ensures counted { self.new ≡ with_fault self.old }
     {
         self.faults = raise(self.faults);
-        RoomError::Failed
+        DeviceError::Failed
     }
 }
 
 impl Room for MemRoom {
     ghost room = { room_of };
 
-    fn read(&mut self, alloc: Global, name: &Vec<u8>, limit: u64) -> Result<Vec<u8>, RoomError>
+    fn read(&mut self, alloc: Global, name: &Vec<u8>, limit: u64) -> Result<Vec<u8>, DeviceError>
         ensures value { IfOk result (λ text. IsTrue (room_of self.old).told → IsSomeAnd (text_of name.now.items (room_of self.old).texts) (λ whole. text.items ≡ take (limit + 1) whole)) }
-        ensures failed { IsErrOf result RoomError.Failed → Rose (room_of self.old).faults (room_of self.new).faults }
+        ensures failed { IsErrOf result DeviceError.Failed → Rose (room_of self.old).faults (room_of self.new).faults }
         ensures fine { OnOk result ((room_of self.new).faults ≡ (room_of self.old).faults) }
-        ensures memory { IsErrOf result RoomError.Memory → (room_of self.new).faults ≡ (room_of self.old).faults }
-        ensures sure { IsTrue (room_of self.old).sure → IsSome (text_of name.now.items (room_of self.old).texts) → IsErrOf result RoomError.Failed → ⊥ }
+        ensures memory { IsErrOf result DeviceError.Memory → (room_of self.new).faults ≡ (room_of self.old).faults }
+        ensures sure { IsTrue (room_of self.old).sure → IsSome (text_of name.now.items (room_of self.old).texts) → IsErrOf result DeviceError.Failed → ⊥ }
         ensures same { SameRoom (room_of self.old) (room_of self.new) }
-        ensures fails { IsErrOf result RoomError.Failed ↔ ReadFails name.now.items self.old }
+        ensures fails { IsErrOf result DeviceError.Failed ↔ ReadFails name.now.items self.old }
         ensures counted { self.new.made ≡ raised self.old.made }
         ensures failing { self.new.failing ≡ self.old.failing }
     {

@@ -1,32 +1,9 @@
 //! The texts that a program reads, by name.
 ghost use Rattle.std.specs.Prelude.{◌≡◌, ◌+◌, List, ℕ, IsTrue, IsSome, IfOk, OnOk, IsErrOf, IsSomeAnd, take};
-ghost use Rattle.kd_device.specs.Device.{Rose};
-ghost use Rattle.kd_device.specs.Room.{RoomState, text_of, SameRoom};
+ghost use Rattle.kd_device.specs.{Device.{Rose}, Room.{RoomState, text_of, SameRoom}};
 
-use kd_base::OutOfMemory;
+use crate::error::DeviceError;
 use std::alloc::Global;
-use thiserror::Error;
-
-/// Why a text was not read.
-#[derive(Clone, Copy, Debug, PartialEq, Eq, Error)]
-pub enum RoomError {
-    /// The text is not there, or could not be read; the count of faults rose.
-    #[error("the text could not be read")]
-    Failed,
-    #[error("out of memory")]
-    Memory,
-}
-
-impl From<OutOfMemory> for RoomError {
-    ghost use Rattle.kd_device.specs.declared.room.RoomError.TheVariants as errors;
-    ghost use Rattle.std.specs.Prelude.{◌≡◌};
-
-    ghost from_gives = { λ _ e. e ≡ errors.Memory };
-
-    fn from(_: OutOfMemory) -> Self {
-        RoomError::Memory
-    }
-}
 
 /// Texts by name, as the files of a folder are. Where a room cannot tell its texts, its clauses on content say nothing.
 /// The count of faults rises where a read failed, and only there.
@@ -35,12 +12,12 @@ pub trait Room {
     ghost room: { Self → RoomState };
 
     /// The first `limit + 1` bytes of the text at most, so that a text longer than the limit shows as one.
-    fn read(&mut self, alloc: Global, name: &Vec<u8>, limit: u64) -> Result<Vec<u8>, RoomError>
+    fn read(&mut self, alloc: Global, name: &Vec<u8>, limit: u64) -> Result<Vec<u8>, DeviceError>
         ensures value { IfOk result (λ text. IsTrue (room self.old).told → IsSomeAnd (text_of name.now.items (room self.old).texts) (λ whole. text.items ≡ take (limit + 1) whole)) }
-        ensures failed { IsErrOf result RoomError.Failed → Rose (room self.old).faults (room self.new).faults }
+        ensures failed { IsErrOf result DeviceError.Failed → Rose (room self.old).faults (room self.new).faults }
         ensures fine { OnOk result ((room self.new).faults ≡ (room self.old).faults) }
-        ensures memory { IsErrOf result RoomError.Memory → (room self.new).faults ≡ (room self.old).faults }
-        ensures sure { IsTrue (room self.old).sure → IsSome (text_of name.now.items (room self.old).texts) → IsErrOf result RoomError.Failed → ⊥ }
+        ensures memory { IsErrOf result DeviceError.Memory → (room self.new).faults ≡ (room self.old).faults }
+        ensures sure { IsTrue (room self.old).sure → IsSome (text_of name.now.items (room self.old).texts) → IsErrOf result DeviceError.Failed → ⊥ }
         ensures same { SameRoom (room self.old) (room self.new) };
 
     /// A room that is sure tells its texts.

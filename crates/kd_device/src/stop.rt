@@ -1,8 +1,6 @@
 //! What a stop leaves of a device in memory.
 ghost use Rattle.std.specs.Prelude.{◌≡◌, ◌≤◌, ◌+◌, ◌<◌, length, IfOk, OnOk, if◌then◌else◌};
-ghost use Rattle.kd_device.specs.Device.{written, Torn};
-ghost use Rattle.kd_device.specs.History.{Disk, Torns, IsDone, AllDone, step, after, fresh};
-ghost use Rattle.kd_device.specs.Tape.{event, events, IsInside, AllInside};
+ghost use Rattle.kd_device.specs.{Device.{written, Torn}, History.{Disk, Torns, IsDone, AllDone, step, after, fresh}, Tape.{event, events, IsInside, AllInside}};
 
 use crate::buffer::overwrite;
 use crate::step::Step;

@@ -1,10 +1,6 @@
 //! A device in memory of which no call fails.
 ghost use Rattle.std.specs.Prelude.{◌≡◌, [], IsTrue, length, IfOk};
-ghost use Rattle.kd_device.specs.Device.{Only};
-ghost use Rattle.kd_device.specs.History.{fresh};
-ghost use Rattle.kd_device.specs.Tape.{blank};
-ghost use Rattle.kd_device.specs.Sure.{sure_state, sure_leaves};
-ghost use Rattle.kd_device.specs.Laws.{bytes_now, sent_is, since_less};
+ghost use Rattle.kd_device.specs.{Device.{Only}, History.{fresh}, Tape.{blank}, Sure.{sure_state, sure_leaves}, Laws.{bytes_now, sent_is, since_less}};
 
 use crate::buffer::read_part;
 use crate::device::{Device, Failed};

@@ -1,9 +1,8 @@
 //! A disk file and an output line in memory, with the calls that were made.
 ghost use Rattle.std.specs.Prelude.{◌≡◌, ◌≤◌, ◌+◌, length, take, IfOk, OnErr, OnOk, if◌then◌else◌};
-ghost use Rattle.kd_device.specs.History.{Wrote, Synced, Emitted, AllDone};
-ghost use Rattle.kd_device.specs.Tape.{Recording, blank, disk_of, disk_at, left_by, with_event, with_name, reserved};
+ghost use Rattle.kd_device.specs.{History.{Wrote, Synced, Emitted, AllDone}, Tape.{Recording, blank, disk_of, disk_at, left_by, with_event, with_name, reserved}};
 
-use crate::buffer::{append, append_if, overwrite_if, put};
+use crate::buffer::{append_if, keep, overwrite_if, put};
 use crate::step::{Span, Step};
 use crate::stop::image_after;
 use kd_base::{Bytes, OutOfMemory};
@@ -26,8 +25,7 @@ pub struct Tape {
 }
 
 impl Model for Tape {
-    ghost use Rattle.std.specs.Prelude.{length};
-    ghost use Rattle.std.specs.Vec.{vec_len, vec_capacity};
+    ghost use Rattle.std.specs.{Prelude.{length}, Vec.{vec_len, vec_capacity}};
     ghost use Rattle.kd_device.specs.Tape.{Recording, events, pieces, AllFit, IsKept, HasRoom};
 
     ghost Value = { Recording };
@@ -102,11 +100,7 @@ impl Tape {
         requires bytes { length name.now ≤ self.old.spare_bytes }
         ensures { self.new ≡ with_name self.old name.now }
     {
-        let span = Span {
-            from: self.name_bytes.len(),
-            len: name.len(),
-        };
-        append(&mut self.name_bytes, name);
+        let span = keep(&mut self.name_bytes, name);
         put(&mut self.names, span);
         self.spare_calls -= 1;
         self.spare_bytes -= name.len() as u64;
@@ -119,11 +113,7 @@ impl Tape {
         requires inside { at + length bytes.now ≤ self.old.spare_end }
         ensures { self.new ≡ with_event self.old (Wrote at bytes.now done) (length bytes.now) }
     {
-        let span = Span {
-            from: self.kept.len(),
-            len: bytes.len(),
-        };
-        append(&mut self.kept, bytes);
+        let span = keep(&mut self.kept, bytes);
         put(&mut self.steps, Step::Write { at, span, done });
         overwrite_if(&mut self.bytes, at, bytes, done);
         self.spare_calls -= 1;
@@ -145,11 +135,7 @@ impl Tape {
         requires bytes { length piece.now ≤ self.old.spare_bytes }
         ensures { self.new ≡ with_event self.old (Emitted piece.now done) (length piece.now) }
     {
-        let span = Span {
-            from: self.kept.len(),
-            len: piece.len(),
-        };
-        append(&mut self.kept, piece);
+        let span = keep(&mut self.kept, piece);
         put(&mut self.steps, Step::Emit { span, done });
         append_if(&mut self.sent, piece, done);
         self.spare_calls -= 1;

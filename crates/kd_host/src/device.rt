@@ -86,27 +86,7 @@ fn read_from<F: Read + Seek>(file: &mut F, at: u64, into: &mut [u8]) -> io::Resu
 
 fn write_to<F: Write + Seek>(file: &mut F, at: u64, bytes: &[u8]) -> io::Result<()> {
     file.seek(SeekFrom::Start(at))?;
-    let mut count = 0;
-    while count < bytes.len() {
-        let written = file.write(&bytes[count..])?;
-        if written == 0 {
-            return Err(io::Error::from(ErrorKind::WriteZero));
-        }
-        count += written;
-    }
-    Ok(())
-}
-
-fn send<P: Print>(out: &P, piece: &[u8]) -> io::Result<()> {
-    let mut count = 0;
-    while count < piece.len() {
-        let sent = out.write_some(&piece[count..])?;
-        if sent == 0 {
-            return Err(io::Error::from(ErrorKind::WriteZero));
-        }
-        count += sent;
-    }
-    Ok(())
+    file.write_all(bytes)
 }
 
 impl<'a, R: Files + Print> Device for FileDevice<'a, R> {
@@ -170,7 +150,7 @@ impl<'a, R: Files + Print> Device for FileDevice<'a, R> {
     fn emit(&mut self, piece: &[u8]) -> Result<(), Failed> {
         self.spare_calls -= 1;
         self.spare_bytes -= piece.len() as u64;
-        counted(send(self.rt, piece), &mut self.line_faults)
+        counted(self.rt.write_all(piece), &mut self.line_faults)
     }
 
     ghost holds_now = { λ d told. absurd (false≢true told) };

@@ -4,7 +4,7 @@ ghost use Rattle.kd_host.specs.Silent.{room_of};
 
 use crate::count::counted;
 use kd_base::OutOfMemory;
-use kd_device::{Failed, Room, RoomError};
+use kd_device::{DeviceError, Failed, Room};
 use std::alloc::Global;
 use std::io::{ErrorKind, Read};
 use std::marker::Model;
@@ -80,11 +80,11 @@ fn read_file<R: Files>(
 impl<'a, R: Files> Room for FolderRoom<'a, R> {
     ghost room = { room_of };
 
-    fn read(&mut self, alloc: Global, name: &Vec<u8>, limit: u64) -> Result<Vec<u8>, RoomError> {
+    fn read(&mut self, alloc: Global, name: &Vec<u8>, limit: u64) -> Result<Vec<u8>, DeviceError> {
         let text = read_file(self.rt, alloc, name, limit.saturating_add(1))?;
         match counted(text, &mut self.faults) {
             Ok(text) => Ok(text),
-            Err(Failed) => Err(RoomError::Failed),
+            Err(Failed) => Err(DeviceError::Failed),
         }
     }
 

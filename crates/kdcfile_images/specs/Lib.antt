@@ -1,3 +1,4 @@
+pub mod Causes
 pub mod File
 pub mod Opened
 pub mod Reading

@@ -1,19 +1,13 @@
 //! The unselected image is written, and then selected.
 ghost use Rattle.std.specs.Prelude.{◌≡◌, ◌≤◌, ◌<◌, ◌+◌, ◌*◌, ◌^◌, ◌∷◌, [], List, ℕ, Bool, not, IsTrue, is_ok, if◌then◌else◌, length, OnOk, OnErr, IfOk, IsErrOf};
-ghost use Rattle.kd_device.specs.Device.{State, Rose, Frame, SameNames, LeavesOnly, Only, written};
-ghost use Rattle.kd_device.specs.Rest.{Rests};
-ghost use Rattle.kd_records.specs.declared.content.Content.{Content};
-ghost use Rattle.kd_records.specs.Identity.{IsIdentity};
-ghost use Rattle.kdcfile_images.specs.File.{Stands, place as place_of, image_size as image_size_of, selector as selector_of};
-ghost use Rattle.kdcfile_images.specs.Opened.{identity_of, renewed};
-ghost use Rattle.kdcfile_images.specs.Writes.{UsesAll, WritesOnly, IsSynced};
-ghost use Rattle.kdcfile_images.specs.Commit.{other_place, committed, Either, Replaces};
+ghost use Rattle.kd_device.specs.{Device.{State, Rose, Frame, SameNames, LeavesOnly, Only, written}, Rest.{Rests}};
+ghost use Rattle.kd_records.specs.{declared.content.Content.{Content}, Identity.{IsIdentity}};
+ghost use Rattle.kdcfile_images.specs.{File.{Stands, place as place_of, image_size as image_size_of, selector as selector_of}, Opened.{identity_of, renewed}, Writes.{UsesAll, WritesOnly, IsSynced}, Commit.{other_place, committed, Either, Replaces}};
 
-use crate::fault::CommitError;
 use crate::image::{Image, Root};
 use crate::root::root_bytes;
 use crate::synced::write_synced;
-use kd_device::{Device, Failed};
+use kd_device::{Device, DeviceError, Failed};
 use std::alloc::Global;
 
 const SELECTOR: u64 = 4096;
@@ -108,7 +102,7 @@ pub fn commit_image<D: Device>(
     image: &mut Image,
     body: &[u8],
     root: &Root,
-) -> Result<(), CommitError>
+) -> Result<(), DeviceError>
     requires same_sizes { root.now.pgpool ≡ image.old.root.pgpool }
     requires inside { 64 + length body.now ≤ image_size_of (identity_of image.old) }
     requires stands { IsTrue (D.state device.old).told → (x : Content) × Stands (identity_of image.old) image.old.second x (D.state device.old).holds }
@@ -130,8 +124,8 @@ pub fn commit_image<D: Device>(
     ensures put { OnOk result (IsTrue (D.state device.old).told → (D.state device.new).put ≡ (D.state device.old).put + length body.now + 65) }
     ensures put_most { IsTrue (D.state device.old).told → (D.state device.new).put ≤ (D.state device.old).put + length body.now + 65 }
 
-    ensures failed { IsErrOf result CommitError.Failed → Rose (D.state device.old).disk_faults (D.state device.new).disk_faults }
-    ensures memory { IsErrOf result CommitError.Memory → IsTrue (D.state device.old).told → Rests (D.state device.old) (D.state device.new) (D.leaves device.old) (D.leaves device.new) }
+    ensures failed { IsErrOf result DeviceError.Failed → Rose (D.state device.old).disk_faults (D.state device.new).disk_faults }
+    ensures memory { IsErrOf result DeviceError.Memory → IsTrue (D.state device.old).told → Rests (D.state device.old) (D.state device.new) (D.leaves device.old) (D.leaves device.new) }
     ensures frame { Frame (D.state device.old) (D.state device.new) }
     ensures names { SameNames (D.state device.old) (D.state device.new) }
 {

@@ -1,38 +1,9 @@
-//! Why a file could not be made, loaded or written.
+//! Why a file was not loaded.
 ghost use Rattle.std.specs.Prelude.{◌≡◌};
-ghost use Rattle.kdcfile_images.specs.declared.fault.CommitError.TheVariants as commit_errors;
-ghost use Rattle.kdcfile_images.specs.declared.fault.LoadError.TheVariants as load_errors;
+ghost use Rattle.kdcfile_images.specs.Causes.{of_device};
 
-use kd_base::OutOfMemory;
-use kd_device::Failed;
+use kd_device::DeviceError;
 use thiserror::Error;
-
-/// Why a file was not made, or a commit not done.
-#[derive(Clone, Copy, Debug, PartialEq, Eq, Error)]
-pub enum CommitError {
-    /// A disk call failed. What the file has is known again when it is loaded: the old content or the new one.
-    #[error("the disk failed")]
-    Failed,
-    /// Memory ran out before the first write. The file is as it was.
-    #[error("out of memory")]
-    Memory,
-}
-
-impl From<OutOfMemory> for CommitError {
-    ghost from_gives = { λ _ e. e ≡ commit_errors.Memory };
-
-    fn from(_: OutOfMemory) -> Self {
-        CommitError::Memory
-    }
-}
-
-impl From<Failed> for CommitError {
-    ghost from_gives = { λ _ e. e ≡ commit_errors.Failed };
-
-    fn from(_: Failed) -> Self {
-        CommitError::Failed
-    }
-}
 
 /// Why a file was not loaded.
 #[derive(Clone, Copy, Debug, PartialEq, Eq, Error)]
@@ -46,18 +17,13 @@ pub enum LoadError {
     Memory,
 }
 
-impl From<OutOfMemory> for LoadError {
-    ghost from_gives = { λ _ e. e ≡ load_errors.Memory };
+impl From<DeviceError> for LoadError {
+    ghost from_gives = { λ e r. r ≡ of_device e };
 
-    fn from(_: OutOfMemory) -> Self {
-        LoadError::Memory
-    }
-}
-
-impl From<Failed> for LoadError {
-    ghost from_gives = { λ _ e. e ≡ load_errors.Failed };
-
-    fn from(_: Failed) -> Self {
-        LoadError::Failed
+    fn from(e: DeviceError) -> Self {
+        match e {
+            DeviceError::Failed => LoadError::Failed,
+            DeviceError::Memory => LoadError::Memory,
+        }
     }
 }

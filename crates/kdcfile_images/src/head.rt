@@ -1,6 +1,5 @@
 //! What the first bytes of a file say, up to the byte that selects an image.
-ghost use Rattle.std.specs.Prelude.{◌≡◌, ◌+◌, ◌*◌, ◌≤◌, length, IfSome};
-ghost use Rattle.std.specs.Int.{w32, w64};
+ghost use Rattle.std.specs.{Prelude.{◌≡◌, ◌+◌, ◌*◌, ◌≤◌, length, IfSome}, Int.{w32, w64}};
 ghost use Rattle.kdcfile_images.specs.Reading.{AreBytes, HasSizes, has_sizes, head_of, number, size_of, place_of};
 
 /// The length of the first bytes, with the selector behind them.

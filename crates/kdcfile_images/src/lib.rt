@@ -19,7 +19,7 @@ mod root;
 mod synced;
 
 pub use commit::commit_image;
-pub use fault::{CommitError, LoadError};
+pub use fault::LoadError;
 pub use image::{Image, Loaded, Root};
 pub use loading::{load, one_meaning};
 pub use making::create;

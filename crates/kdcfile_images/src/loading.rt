@@ -1,11 +1,7 @@
 //! Loading the image that a file has selected.
-ghost use Rattle.std.specs.Prelude.{◌≡◌, ◌≤◌, List, ℕ, Some, None, IsTrue, length, take, drop, IfOk, OnOk, IsErrOf};
-ghost use Rattle.std.specs.Option.{option_map};
-ghost use Rattle.kd_device.specs.Device.{State, Rose, Frame, SameNames, Only};
-ghost use Rattle.kd_device.specs.Rest.{Rests};
-ghost use Rattle.kdcfile_images.specs.File.{Stands, IsNoImage, OneMeaning};
-ghost use Rattle.kdcfile_images.specs.Opened.{identity_of, content_in};
-ghost use Rattle.kdcfile_images.specs.Reading.{AreBytes, HasSizes, image_of};
+ghost use Rattle.std.specs.{Prelude.{◌≡◌, ◌≤◌, List, ℕ, Some, None, IsTrue, length, take, drop, IfOk, OnOk, IsErrOf}, Option.{option_map}};
+ghost use Rattle.kd_device.specs.{Device.{State, Rose, Frame, SameNames, Only}, Rest.{Rests}};
+ghost use Rattle.kdcfile_images.specs.{File.{Stands, IsNoImage, OneMeaning}, Opened.{identity_of, content_in}, Reading.{AreBytes, HasSizes, image_of}};
 
 use crate::fault::LoadError;
 use crate::head::{FRONT_LEN, Head, head_of};
@@ -13,15 +9,15 @@ use crate::image::{Image, Loaded};
 use crate::part::read_part;
 use crate::read_root::{ROOT_LEN, root_of};
 use crate::record::records_of;
-use kd_base::OutOfMemory;
-use kd_device::Device;
+use kd_device::{Device, DeviceError};
 use std::alloc::Global;
 
 // The image that these bytes begin with, in a file of that head.
-fn image_of(alloc: Global, head: Head, bytes: &[u8]) -> Result<Option<Loaded>, OutOfMemory>
+fn image_of(alloc: Global, head: Head, bytes: &[u8]) -> Result<Option<Loaded>, DeviceError>
     requires { HasSizes head.block head.pages }
     ensures value { IfOk result (λ found. option_map (λ l. (l.image, l.records)) found ≡ image_of head bytes.now) }
     ensures bytes { AreBytes bytes.now }
+    ensures read { IsErrOf result DeviceError.Failed → ⊥ }
 {
     let Some(root) = root_of(bytes, head.pages) else {
         return Ok(None);
@@ -37,11 +33,10 @@ fn image_of(alloc: Global, head: Head, bytes: &[u8]) -> Result<Option<Loaded>, O
 }
 
 // Brings the file onto the disk as reads give it.
-fn settle<D: Device>(device: &mut D) -> Result<(), LoadError>
+fn settle<D: Device>(device: &mut D) -> Result<(), DeviceError>
     ensures settled { OnOk result (IsTrue (D.state device.old).told → Only (D.state device.new).holds (D.state device.new) (D.leaves device.new)) }
     ensures rests { IsTrue (D.state device.old).told → Rests (D.state device.old) (D.state device.new) (D.leaves device.old) (D.leaves device.new) }
-    ensures no_image { IsErrOf result LoadError.NotKdcfile → ⊥ }
-    ensures failed { IsErrOf result LoadError.Failed → Rose (D.state device.old).disk_faults (D.state device.new).disk_faults }
+    ensures failed { IsErrOf result DeviceError.Failed → Rose (D.state device.old).disk_faults (D.state device.new).disk_faults }
     ensures frame { Frame (D.state device.old) (D.state device.new) }
     ensures names { SameNames (D.state device.old) (D.state device.new) }
 {

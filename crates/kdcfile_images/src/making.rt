@@ -1,19 +1,14 @@
 //! A file is made: with a closed gate, which is opened when all else is on the disk.
 ghost use Rattle.std.specs.Prelude.{◌≡◌, ◌≤◌, ◌<◌, ◌+◌, ◌-◌, ◌*◌, ◌^◌, ◌++◌, ◌∷◌, [], List, ℕ, Bool, false, IsTrue, length, IfOk, OnOk, OnErr, IsErrOf};
-ghost use Rattle.kd_device.specs.Device.{State, Rose, Frame, SameNames, LeavesOnly, Only};
-ghost use Rattle.kd_device.specs.Rest.{Rests};
+ghost use Rattle.kd_device.specs.{Device.{State, Rose, Frame, SameNames, LeavesOnly, Only}, Rest.{Rests}};
 ghost use Rattle.kd_records.specs.Identity.{Identity, IsIdentity};
-ghost use Rattle.kdcfile_images.specs.File.{Stands, mark, image_size, fresh};
-ghost use Rattle.kdcfile_images.specs.Writes.{IsSynced};
-ghost use Rattle.kdcfile_images.specs.Commit.{spelled_root};
-ghost use Rattle.kdcfile_images.specs.Fresh.{zeros, in_image, fresh_rest, fresh_file, fresh_root, Made, ShutOr};
+ghost use Rattle.kdcfile_images.specs.{File.{Stands, mark, image_size, fresh}, Writes.{IsSynced}, Commit.{spelled_root}, Fresh.{zeros, in_image, fresh_rest, fresh_file, fresh_root, Made, ShutOr}};
 
-use crate::fault::CommitError;
 use crate::image::{Image, Root};
 use crate::root::root_bytes;
 use crate::synced::write_synced;
 use kd_base::OutOfMemory;
-use kd_device::{Device, Failed};
+use kd_device::{Device, DeviceError, Failed};
 use std::alloc::Global;
 
 const CLOSED: u8 = 0;
@@ -126,7 +121,7 @@ pub fn create<D: Device>(
     blksize: u32,
     pgpool: u32,
     fingerprint: &[u8; 32],
-) -> Result<Image, CommitError>
+) -> Result<Image, DeviceError>
     requires identity { IsIdentity (record { block = blksize; pages = pgpool; fingerprint = fingerprint.now }) }
     requires empty { IsTrue (D.state device.old).told → (D.state device.old).holds ≡ [] }
     requires settled { IsTrue (D.state device.old).told → Only (D.state device.old).holds (D.state device.old) (D.leaves device.old) }
@@ -141,8 +136,8 @@ pub fn create<D: Device>(
     ensures put { OnOk result (IsTrue (D.state device.old).told → (D.state device.new).put ≡ (D.state device.old).put + length (D.state device.new).holds + 1) }
     ensures any_moment { IsTrue (D.state device.old).told
         → LeavesOnly (D.state device.old) (D.state device.new) (D.leaves device.old) (D.leaves device.new) (Made (record { block = blksize; pages = pgpool; fingerprint = fingerprint.now }) (D.state device.old).sent) }
-    ensures failed { IsErrOf result CommitError.Failed → Rose (D.state device.old).disk_faults (D.state device.new).disk_faults }
-    ensures memory { IsErrOf result CommitError.Memory → IsTrue (D.state device.old).told → Rests (D.state device.old) (D.state device.new) (D.leaves device.old) (D.leaves device.new) }
+    ensures failed { IsErrOf result DeviceError.Failed → Rose (D.state device.old).disk_faults (D.state device.new).disk_faults }
+    ensures memory { IsErrOf result DeviceError.Memory → IsTrue (D.state device.old).told → Rests (D.state device.old) (D.state device.new) (D.leaves device.old) (D.leaves device.new) }
     ensures frame { Frame (D.state device.old) (D.state device.new) }
     ensures names { SameNames (D.state device.old) (D.state device.new) }
 {

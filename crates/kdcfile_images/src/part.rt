@@ -1,11 +1,9 @@
 //! Parts of a file.
 ghost use Rattle.std.specs.Prelude.{◌≡◌, ◌≤◌, List, ℕ, IsTrue, length, take, drop, IfOk, OnOk, IsErrOf};
-ghost use Rattle.kd_device.specs.Device.{State, Rose, Frame, SameNames};
-ghost use Rattle.kd_device.specs.Rest.{Rests};
+ghost use Rattle.kd_device.specs.{Device.{State, Rose, Frame, SameNames}, Rest.{Rests}};
 
-use crate::fault::LoadError;
 use kd_base::OutOfMemory;
-use kd_device::Device;
+use kd_device::{Device, DeviceError};
 use std::alloc::Global;
 
 fn zero_bytes(alloc: Global, len: usize) -> Result<Vec<u8>, OutOfMemory>
@@ -20,11 +18,10 @@ pub fn read_part<D: Device>(
     device: &mut D,
     at: u64,
     len: usize,
-) -> Result<Vec<u8>, LoadError>
+) -> Result<Vec<u8>, DeviceError>
     ensures value { IfOk result (λ part. IsTrue (D.state device.old).told → part.items ≡ take len (drop at (D.state device.old).holds)) }
     ensures rests { IsTrue (D.state device.old).told → Rests (D.state device.old) (D.state device.new) (D.leaves device.old) (D.leaves device.new) }
-    ensures no_image { IsErrOf result LoadError.NotKdcfile → ⊥ }
-    ensures failed { IsErrOf result LoadError.Failed → Rose (D.state device.old).disk_faults (D.state device.new).disk_faults }
+    ensures failed { IsErrOf result DeviceError.Failed → Rose (D.state device.old).disk_faults (D.state device.new).disk_faults }
     ensures frame { Frame (D.state device.old) (D.state device.new) }
     ensures names { SameNames (D.state device.old) (D.state device.new) }
 {

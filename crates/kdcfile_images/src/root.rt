@@ -3,7 +3,7 @@ ghost use Rattle.std.specs.Prelude.{◌≡◌, length, IfOk};
 ghost use Rattle.kdcfile_images.specs.Commit.{spelled_root};
 
 use crate::image::Root;
-use kd_base::{Bytes, OutOfMemory, Writer};
+use kd_base::{Bytes, OutOfMemory};
 use std::alloc::Global;
 
 /// The 64 bytes of a root.
@@ -11,13 +11,13 @@ pub fn root_bytes(alloc: Global, root: &Root) -> Result<Bytes, OutOfMemory>
     ensures bytes { IfOk result (λ b. b ≡ spelled_root root.now) }
     ensures length { IfOk result (λ b. length b ≡ 64) }
 {
-    let mut out = Writer::new(alloc);
-    out.put_bytes(&root.fingerprint)?;
+    let mut out = Bytes::new(alloc);
+    out.append(&root.fingerprint)?;
     out.put_u64(root.clock)?;
     out.put_u64(root.next_job)?;
     out.put_u32(root.pgpool)?;
     out.put_u32(0)?;
     out.put_u32(root.records)?;
-    out.put_bytes(b"ROOT")?;
-    Ok(out.finish())
+    out.append(b"ROOT")?;
+    Ok(out)
 }

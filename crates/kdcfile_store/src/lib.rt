@@ -9,6 +9,6 @@ mod spell;
 mod store;
 mod whole;
 
-pub use kdcfile_images::{CommitError, LoadError};
+pub use kdcfile_images::LoadError;
 pub use store::{Store, StoreLimits};
 pub use whole::WholeStore;

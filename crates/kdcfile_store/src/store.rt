@@ -1,16 +1,11 @@
 //! The trait of everything that keeps a content in a file.
 ghost use Rattle.std.specs.Prelude.{◌≡◌, ◌≤◌, List, ℕ, IsTrue, OnOk, IsErrOf};
-ghost use Rattle.kd_device.specs.Device.{State, Rose, Frame, SameNames, LeavesOnly};
-ghost use Rattle.kd_device.specs.Rest.{Rests};
-ghost use Rattle.kd_records.specs.Identity.{Identity};
-ghost use Rattle.kd_records.specs.Contents.{IsPatch, patched};
-ghost use Rattle.kd_records.specs.declared.content.Content.{Content};
-ghost use Rattle.kd_records.specs.Charge.{total_charge};
+ghost use Rattle.kd_device.specs.{Device.{State, Rose, Frame, SameNames, LeavesOnly}, Rest.{Rests}};
+ghost use Rattle.kd_records.specs.{Identity.{Identity}, Contents.{IsPatch, patched}, declared.content.Content.{Content}, Charge.{total_charge}};
 ghost use Rattle.kdcfile_store.specs.Kept.{IsKept, OldOrNew};
 
-use kd_device::Device;
+use kd_device::{Device, DeviceError};
 use kd_records::{Content, Patch};
-use kdcfile_images::CommitError;
 use std::alloc::Global;
 
 /// A content that is kept in a file of the device `D`.
@@ -32,7 +27,7 @@ pub trait Store<D: Device> {
         ensures { result.now ≡ kept self.now };
 
     /// Makes these changes, whole or not at all. All memory is taken before the first write.
-    fn commit(&mut self, alloc: Global, device: &mut D, patch: &Patch) -> Result<(), CommitError>
+    fn commit(&mut self, alloc: Global, device: &mut D, patch: &Patch) -> Result<(), DeviceError>
         requires kept { IsTrue (D.state device.old).told → IsKept (file self.old) (D.state device.old) (D.leaves device.old) }
         requires patch { IsPatch patch.now }
         requires charge_before { total_charge (identity self.old).block (kept self.old).items ≤ (identity self.old).pages }
@@ -47,9 +42,9 @@ pub trait Store<D: Device> {
         ensures any_moment { IsTrue (D.state device.old).told
             → LeavesOnly (D.state device.old) (D.state device.new) (D.leaves device.old) (D.leaves device.new) (OldOrNew (stands (identity self.old)) (kept self.old) (patched (kept self.old) patch.now) (D.state device.old).sent) }
 
-        ensures failed { IsErrOf result CommitError.Failed → Rose (D.state device.old).disk_faults (D.state device.new).disk_faults }
-        ensures memory { IsErrOf result CommitError.Memory → IsTrue (D.state device.old).told → Rests (D.state device.old) (D.state device.new) (D.leaves device.old) (D.leaves device.new) }
-        ensures memory_store { IsErrOf result CommitError.Memory → self.new ≡ self.old }
+        ensures failed { IsErrOf result DeviceError.Failed → Rose (D.state device.old).disk_faults (D.state device.new).disk_faults }
+        ensures memory { IsErrOf result DeviceError.Memory → IsTrue (D.state device.old).told → Rests (D.state device.old) (D.state device.new) (D.leaves device.old) (D.leaves device.new) }
+        ensures memory_store { IsErrOf result DeviceError.Memory → self.new ≡ self.old }
         ensures frame { Frame (D.state device.old) (D.state device.new) }
         ensures names { SameNames (D.state device.old) (D.state device.new) };
 

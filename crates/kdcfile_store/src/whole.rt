@@ -1,22 +1,16 @@
 //! A store that keeps its content in whole images: each commit writes the unselected image and selects it.
 ghost use Rattle.std.specs.Prelude.{◌≡◌, ◌<◌, ◌≤◌, ◌^◌, [], List, ℕ, IsTrue, length, IfOk, OnOk, OnErr, IsErrOf};
-ghost use Rattle.kd_device.specs.Device.{State, Rose, Frame, SameNames, LeavesOnly, Only};
-ghost use Rattle.kd_device.specs.Rest.{Rests};
-ghost use Rattle.kd_records.specs.Identity.{IsIdentity};
-ghost use Rattle.kd_records.specs.Contents.{IsContent, patched};
-ghost use Rattle.kd_records.specs.Charge.{total_charge};
-ghost use Rattle.kd_records.specs.declared.content.Content.{Content};
-ghost use Rattle.kdcfile_images.specs.File.{Stands, StandsFor, IsNoImage, fresh};
-ghost use Rattle.kdcfile_images.specs.Opened.{identity_of};
-ghost use Rattle.kdcfile_store.specs.Kept.{IsKept, OldOrNew};
-ghost use Rattle.kdcfile_store.specs.Whole.{HasFile, identity_with, Made, root_with};
+ghost use Rattle.kd_device.specs.{Device.{State, Rose, Frame, SameNames, LeavesOnly, Only}, Rest.{Rests}};
+ghost use Rattle.kd_records.specs.{Identity.{IsIdentity}, Contents.{IsContent, patched}, Charge.{total_charge}, declared.content.Content.{Content}};
+ghost use Rattle.kdcfile_images.specs.{File.{Stands, StandsFor, IsNoImage, fresh}, Opened.{identity_of}};
+ghost use Rattle.kdcfile_store.specs.{Kept.{IsKept, OldOrNew}, Whole.{HasFile, identity_with, Made, root_with}};
 
 use crate::spell::records_bytes;
 use crate::store::{Store, StoreLimits};
 use kd_base::OutOfMemory;
-use kd_device::Device;
+use kd_device::{Device, DeviceError};
 use kd_records::{Content, Patch, Records};
-use kdcfile_images::{CommitError, Image, LoadError, Root, commit_image, create, load};
+use kdcfile_images::{Image, LoadError, Root, commit_image, create, load};
 use std::alloc::Global;
 use std::marker::Model;
 
@@ -61,7 +55,7 @@ fn write_content<D: Device>(
     device: &mut D,
     image: &mut Image,
     content: &Content,
-) -> Result<(), CommitError>
+) -> Result<(), DeviceError>
     requires identity { IsIdentity (identity_of image.old) }
     requires charge { total_charge image.old.blksize content.now.items ≤ image.old.root.pgpool }
     requires stands { IsTrue (D.state device.old).told → (x : Content) × Stands (identity_of image.old) image.old.second x (D.state device.old).holds }
@@ -74,8 +68,8 @@ fn write_content<D: Device>(
     ensures sent { IsTrue (D.state device.old).told → (D.state device.new).sent ≡ (D.state device.old).sent }
     ensures any_moment { IsTrue (D.state device.old).told → (x : Content) → Stands (identity_of image.old) image.old.second x (D.state device.old).holds
         → LeavesOnly (D.state device.old) (D.state device.new) (D.leaves device.old) (D.leaves device.new) (OldOrNew (StandsFor (identity_of image.old)) x content.now (D.state device.old).sent) }
-    ensures failed { IsErrOf result CommitError.Failed → Rose (D.state device.old).disk_faults (D.state device.new).disk_faults }
-    ensures memory { IsErrOf result CommitError.Memory → IsTrue (D.state device.old).told → Rests (D.state device.old) (D.state device.new) (D.leaves device.old) (D.leaves device.new) }
+    ensures failed { IsErrOf result DeviceError.Failed → Rose (D.state device.old).disk_faults (D.state device.new).disk_faults }
+    ensures memory { IsErrOf result DeviceError.Memory → IsTrue (D.state device.old).told → Rests (D.state device.old) (D.state device.new) (D.leaves device.old) (D.leaves device.new) }
     ensures frame { Frame (D.state device.old) (D.state device.new) }
     ensures names { SameNames (D.state device.old) (D.state device.new) }
 {
@@ -106,7 +100,7 @@ impl WholeStore {
         device: &mut D,
         limits: &StoreLimits,
         fingerprint: &[u8; 32],
-    ) -> Result<WholeStore, CommitError>
+    ) -> Result<WholeStore, DeviceError>
         requires identity { IsIdentity (identity_with limits.now fingerprint.now) }
         requires empty { IsTrue (D.state device.old).told → (D.state device.old).holds ≡ [] }
         requires settled { IsTrue (D.state device.old).told → Only (D.state device.old).holds (D.state device.old) (D.leaves device.old) }
@@ -116,8 +110,8 @@ impl WholeStore {
         ensures sent { IsTrue (D.state device.old).told → (D.state device.new).sent ≡ (D.state device.old).sent }
         ensures any_moment { IsTrue (D.state device.old).told
             → LeavesOnly (D.state device.old) (D.state device.new) (D.leaves device.old) (D.leaves device.new) (Made (identity_with limits.now fingerprint.now) (D.state device.old).sent) }
-        ensures failed { IsErrOf result CommitError.Failed → Rose (D.state device.old).disk_faults (D.state device.new).disk_faults }
-        ensures memory { IsErrOf result CommitError.Memory → IsTrue (D.state device.old).told → Rests (D.state device.old) (D.state device.new) (D.leaves device.old) (D.leaves device.new) }
+        ensures failed { IsErrOf result DeviceError.Failed → Rose (D.state device.old).disk_faults (D.state device.new).disk_faults }
+        ensures memory { IsErrOf result DeviceError.Memory → IsTrue (D.state device.old).told → Rests (D.state device.old) (D.state device.new) (D.leaves device.old) (D.leaves device.new) }
         ensures frame { Frame (D.state device.old) (D.state device.new) }
         ensures names { SameNames (D.state device.old) (D.state device.new) }
     {
@@ -193,7 +187,7 @@ impl<D: Device> Store<D> for WholeStore {
         self.kept()
     }
 
-    fn commit(&mut self, alloc: Global, device: &mut D, patch: &Patch) -> Result<(), CommitError> {
+    fn commit(&mut self, alloc: Global, device: &mut D, patch: &Patch) -> Result<(), DeviceError> {
         let next = next_content(alloc, &self.content, patch)?;
         write_content(alloc, device, &mut self.image, &next)?;
         self.content = next;

@@ -143,3 +143,13 @@ around xs i d x is lt = sym (take-append-drop i xs) ∙ ap (λ l. take i xs ++ l
 
 pub one_more : {X : Type 0} (xs : List X) (i : ℕ) (d x : X) → x ≡ get_or xs i d → i < length xs → take (i + 1) xs ≡ take i xs ++ x ∷ []
 one_more xs i d x is lt = take_more xs i d lt ∙ ap (λ y. take i xs ++ y ∷ []) (sym is)
+
+-- the act at i is done
+module _ {X : Type 0} (after : X → List Act → X) (goes : Goes after) (stands : X → Bytes → Type 0) (file : List ℕ → Type 0) (start now : X) (all : List Act) (i : ℕ) (act : Act) (is : act ≡ get_or all i act) (lt : i < length all) (a b d : State) (la lb ld : ℕ → List ℕ → List ℕ → Type 0) (reached : IsTrue a.told → now ≡ after start (take i all)) (run : Running after stands file start all (take i all) a b la lb) (step : Performs after stands now (act ∷ []) b d lb ld) where
+  pub act_performs : Performs after stands start all a d la ld
+  act_performs = running_performs after goes stands file start now all (take i all) (act ∷ []) (drop (i + 1) all) a b d la lb ld reached (λ told. around all i act act is lt) run step
+
+  pub act_more : (file' : List ℕ → Type 0) → Sent file' (act ∷ []) b d ld → Running after stands file' start all (take (i + 1) all) a d la ld
+  act_more file' h =
+      subst (λ (done : List Act). Running after stands file' start all done a d la ld) (sym (one_more all i act act is lt))
+      (running_more after goes stands file start now all (take i all) (act ∷ []) (drop (i + 1) all) a b d la lb ld reached (λ told. around all i act act is lt) run step file' h)

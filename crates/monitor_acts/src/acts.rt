@@ -4,9 +4,8 @@ ghost use Rattle.kd_device.specs.Device.{Rose};
 ghost use Rattle.kdcfile_store.specs.Kept.{IsKept};
 ghost use Rattle.monitor_acts.specs.Performing.{content_after, AreCommittable, Performs, Sent};
 
-use crate::error::ActError;
 use crate::saying::say;
-use kd_device::Device;
+use kd_device::{Device, DeviceError};
 use kdcfile_store::Store;
 use kdcs_types::Act;
 use record_codec::difference;
@@ -18,14 +17,14 @@ fn perform_act<D: Device, S: Store<D>>(
     device: &mut D,
     store: &mut S,
     act: &Act,
-) -> Result<(), ActError>
+) -> Result<(), DeviceError>
     requires kept { IsTrue (D.state device.old).told → IsKept (S.file store.old) (D.state device.old) (D.leaves device.old) }
     requires can { AreCommittable (S.identity store.old) (S.kept store.old) (act.now ∷ []) }
     ensures identity { S.identity store.new ≡ S.identity store.old }
     ensures any { Performs content_after (S.stands (S.identity store.old)) (S.kept store.old) (act.now ∷ []) (D.state device.old) (D.state device.new) (D.leaves device.old) (D.leaves device.new) }
     ensures content { OnOk result (S.kept store.new ≡ content_after (S.kept store.old) (act.now ∷ [])) }
     ensures done { OnOk result (Sent (S.file store.new) (act.now ∷ []) (D.state device.old) (D.state device.new) (D.leaves device.new)) }
-    ensures failed { IsErrOf result ActError.Failed → Rose (D.state device.old).disk_faults (D.state device.new).disk_faults ⊎ Rose (D.state device.old).line_faults (D.state device.new).line_faults }
+    ensures failed { IsErrOf result DeviceError.Failed → Rose (D.state device.old).disk_faults (D.state device.new).disk_faults ⊎ Rose (D.state device.old).line_faults (D.state device.new).line_faults }
 {
     match act {
         Act::Commit(changes) => {
@@ -44,14 +43,14 @@ pub fn perform_acts<D: Device, S: Store<D>>(
     device: &mut D,
     store: &mut S,
     acts: &[Act],
-) -> Result<(), ActError>
+) -> Result<(), DeviceError>
     requires kept { IsTrue (D.state device.old).told → IsKept (S.file store.old) (D.state device.old) (D.leaves device.old) }
     requires can { AreCommittable (S.identity store.old) (S.kept store.old) acts.now }
     ensures identity { S.identity store.new ≡ S.identity store.old }
     ensures any { Performs content_after (S.stands (S.identity store.old)) (S.kept store.old) acts.now (D.state device.old) (D.state device.new) (D.leaves device.old) (D.leaves device.new) }
     ensures content { OnOk result (S.kept store.new ≡ content_after (S.kept store.old) acts.now) }
     ensures done { OnOk result (Sent (S.file store.new) acts.now (D.state device.old) (D.state device.new) (D.leaves device.new)) }
-    ensures failed { IsErrOf result ActError.Failed → Rose (D.state device.old).disk_faults (D.state device.new).disk_faults ⊎ Rose (D.state device.old).line_faults (D.state device.new).line_faults }
+    ensures failed { IsErrOf result DeviceError.Failed → Rose (D.state device.old).disk_faults (D.state device.new).disk_faults ⊎ Rose (D.state device.old).line_faults (D.state device.new).line_faults }
 {
     for act in acts {
         perform_act(alloc, device, store, act)?;

@@ -6,9 +6,7 @@
 #![tactic(auto)]
 
 mod acts;
-mod error;
 mod saying;
 
 pub use acts::perform_acts;
-pub use error::ActError;
 pub use saying::say;

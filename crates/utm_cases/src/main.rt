@@ -16,7 +16,6 @@ struct Utm;
 
 impl Program for Utm {
     fn call<D: Device>(
-        &self,
         alloc: Global,
         words: &Vec<String>,
         room: &mut MemRoom,
@@ -32,7 +31,7 @@ fn main(rt: HostRuntime) -> anyhow::Result<()> {
     for name in env::args(&rt)?.skip(1) {
         let text = fs::read_to_string(&rt, name.as_str())?;
         for line in text.as_str().lines() {
-            if let Some(said) = cases.line(alloc, &Utm, line)? {
+            if let Some(said) = cases.line::<Utm>(alloc, line)? {
                 println!(rt; "{name}, {said}")?;
             }
         }

@@ -1,11 +1,11 @@
 //! Why a KDCFILE was not opened.
 ghost use Rattle.std.specs.Prelude.{◌≡◌};
 ghost use Rattle.warm_start.specs.declared.error.OpenError.TheVariants as errors;
-ghost use Rattle.warm_start.specs.Causes.{of_create, of_load};
+ghost use Rattle.warm_start.specs.Causes.{of_device, of_load};
 
 use kd_base::OutOfMemory;
-use kd_device::Failed;
-use kdcfile_store::{CommitError, LoadError};
+use kd_device::{DeviceError, Failed};
+use kdcfile_store::LoadError;
 use thiserror::Error;
 
 /// Why a KDCFILE was not opened.
@@ -40,14 +40,11 @@ impl From<Failed> for OpenError {
     }
 }
 
-impl From<CommitError> for OpenError {
-    ghost from_gives = { λ e r. r ≡ of_create e };
+impl From<DeviceError> for OpenError {
+    ghost from_gives = { λ e r. r ≡ of_device e };
 
-    fn from(e: CommitError) -> Self {
-        match e {
-            CommitError::Failed => OpenError::Failed,
-            CommitError::Memory => OpenError::Memory,
-        }
+    fn from(e: DeviceError) -> Self {
+        LoadError::from(e).into()
     }
 }
 

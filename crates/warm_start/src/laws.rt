@@ -1,7 +1,5 @@
 //! Laws on the definitions, which all crates above may cite. The functions do nothing.
-ghost use Rattle.warm_start.specs.Fingerprints.{TextsAreToldApart};
-ghost use Rattle.warm_start.specs.Stands.{OneMeaningOfTables};
-ghost use Rattle.warm_start.specs.Opening.{AnswersExcludeEachOther};
+ghost use Rattle.warm_start.specs.{Fingerprints.{TextsAreToldApart}, Stands.{OneMeaningOfTables}, Opening.{AnswersExcludeEachOther}};
 
 /// A fingerprint is a digest of bytes that no other two texts have.
 pub fn texts_are_told_apart()

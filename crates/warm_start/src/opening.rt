@@ -1,19 +1,15 @@
 //! The KDCFILE is made where it is empty, and else opened warm; or its tables are read, and it stays as it is.
 ghost use Rattle.std.specs.Prelude.{◌≡◌, ◌≤◌, [], List, ℕ, IsTrue, length, IfOk, OnOk, IsErrOf};
-ghost use Rattle.kd_device.specs.Device.{State, Rose, Frame, SameNames, LeavesOnly, Only};
-ghost use Rattle.kd_device.specs.Rest.{Rests};
+ghost use Rattle.kd_device.specs.{Device.{State, Rose, Frame, SameNames, LeavesOnly, Only}, Rest.{Rests}};
 ghost use Rattle.kd_records.specs.Charge.{total_charge};
 ghost use Rattle.kdcdef_types.specs.Statements.{IsBlksize, IsWithin};
 ghost use Rattle.kdcs_types.specs.Tables.{empty_tables};
-ghost use Rattle.kdcfile_store.specs.Kept.{IsKept};
-ghost use Rattle.kdcfile_store.specs.Whole.{HasFile, Made};
+ghost use Rattle.kdcfile_store.specs.{Kept.{IsKept}, Whole.{HasFile, Made}};
 ghost use Rattle.monitor_laws.specs.Suits.{Suits};
-ghost use Rattle.warm_start.specs.Stands.{AreTables, KeepsTables, StandsForTables, identity_for, limits_of};
-ghost use Rattle.warm_start.specs.Kept.{KeepsNoneFor, KeepsOthers};
-ghost use Rattle.warm_start.specs.Opening.{StartsFrom, HasNoTablesFor, IsRefused, IsOfOtherTexts, IsOpening};
+ghost use Rattle.warm_start.specs.{Stands.{AreTables, KeepsTables, StandsForTables, identity_for, limits_of}, Kept.{KeepsNoneFor, KeepsOthers}, Opening.{StartsFrom, HasNoTablesFor, IsRefused, IsOfOtherTexts, IsOpening}};
 
 use crate::error::OpenError;
-use kd_device::Device;
+use kd_device::{Device, DeviceError};
 use kdcdef_check::Generation;
 use kdcfile_store::{StoreLimits, WholeStore};
 use kdcs_types::Tables;
@@ -22,13 +18,11 @@ use std::alloc::Global;
 use table_fit::suits;
 
 /// The length of the file. Nothing is pending then.
-fn settled_size<D: Device>(device: &mut D) -> Result<u64, OpenError>
+fn settled_size<D: Device>(device: &mut D) -> Result<u64, DeviceError>
     ensures size { IfOk result (λ n. IsTrue (D.state device.old).told → n ≡ length (D.state device.old).holds) }
     ensures settled { OnOk result (IsTrue (D.state device.old).told → Only (D.state device.new).holds (D.state device.new) (D.leaves device.new)) }
     ensures rests { IsTrue (D.state device.old).told → Rests (D.state device.old) (D.state device.new) (D.leaves device.old) (D.leaves device.new) }
-    ensures refused { IsErrOf result OpenError.NotKdcfile → ⊥ }
-    ensures other { (stored : List ℕ) → IsErrOf result (OpenError.OtherGeneration stored) → ⊥ }
-    ensures failed { IsErrOf result OpenError.Failed → Rose (D.state device.old).disk_faults (D.state device.new).disk_faults }
+    ensures failed { IsErrOf result DeviceError.Failed → Rose (D.state device.old).disk_faults (D.state device.new).disk_faults }
     ensures frame { Frame (D.state device.old) (D.state device.new) }
     ensures names { SameNames (D.state device.old) (D.state device.new) }
 {
