@@ -1,5 +1,5 @@
 -- What a definition and its units generate, and their first fault.
-use Rattle.std.specs.Prelude.{ℕ, List, Result}
+use Rattle.std.specs.Prelude.{ℕ, Bool, true, false, List, Result}
 use Rattle.kd_base.specs.FirstFaults.{GivesUnless}
 use Rattle.kdcdef_types.specs.Generation.{Generated}
 use Rattle.generation_read.specs.Definition.{Generates, HasFault}
@@ -11,7 +11,6 @@ use Rattle.unit_check.specs.Faults.{IsFirstFault}
 use Rattle.application_read.specs.declared.application.Application.{Application}
 use Rattle.application_read.specs.declared.fault.ApplicationFault.{ApplicationFault}
 use Rattle.application_read.specs.declared.fault.ApplicationFault.TheVariants.{Definition, Units, Fit, Memory}
-use Rattle.application_read.specs.Causes.{is_memory}
 
 -- the text spells units that fit the generation: these
 abbrev pub SpellsFitted : Generated → List ℕ → FittedUnits → Type 0
@@ -27,6 +26,10 @@ TextsHaveFault definition units (Definition fault) = HasFault definition fault
 TextsHaveFault definition units (Units fault) = ((g : Generated) × Generates definition g) × HasTextFault units fault
 TextsHaveFault definition units (Fit fault) = (g : Generated) × (us : List UnitText) × Generates definition g × SpellsUnits units us × IsFirstFault g us fault
 TextsHaveFault definition units Memory = ⊥
+
+abbrev pub is_memory : ApplicationFault → Bool
+is_memory Memory = true
+is_memory _ = false
 
 -- what came back is this, unless memory ran out
 abbrev pub Gives : Result Application ApplicationFault → Result Application ApplicationFault → Type 0

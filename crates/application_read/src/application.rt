@@ -1,10 +1,7 @@
 //! From the texts to the application.
 ghost use Rattle.std.specs.Prelude.{◌≢◌, Ok, Err, IfOk, IfErr};
 ghost use Rattle.unit_check.specs.Fitted.{IsFit};
-ghost use Rattle.application_read.specs.Texts.{TextsGenerate, TextsHaveFault, Gives};
-ghost use Rattle.application_read.specs.declared.fault.ApplicationFault.{ApplicationFault as Fault};
-ghost use Rattle.application_read.specs.declared.fault.ApplicationFault.TheVariants.{Memory};
-ghost use Rattle.application_read.specs.declared.application.Application.{Application as Generated};
+ghost use Rattle.application_read.specs.{Texts.{TextsGenerate, TextsHaveFault, Gives}, declared.fault.ApplicationFault.{ApplicationFault as Fault}, declared.fault.ApplicationFault.TheVariants.{Memory}, declared.application.Application.{Application as Generated}};
 
 use crate::fault::ApplicationFault;
 use generation_read::generate;

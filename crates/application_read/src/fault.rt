@@ -1,7 +1,9 @@
 //! Why the texts of an application are refused.
 ghost use Rattle.std.specs.Prelude.{◌≡◌};
-ghost use Rattle.application_read.specs.Causes.{of_definition, of_units, of_fit};
-ghost use Rattle.application_read.specs.Faults.{line_of, name_of, text_of};
+ghost use Rattle.generation_read.specs.{Definition.{is_memory as is_definition_memory}, Handed.{handed_in}};
+ghost use Rattle.unit_read.specs.Outcomes.{is_memory as is_units_memory};
+ghost use Rattle.unit_check.specs.Faults.{is_memory as is_fit_memory};
+ghost use Rattle.application_read.specs.{declared.fault.ApplicationFault.TheVariants.{Definition, Units, Fit, Memory}, Faults.{line_of, name_of, text_of}};
 
 use generation_read::DefinitionFault;
 use thiserror::Error;
@@ -26,7 +28,7 @@ pub enum ApplicationFault {
 }
 
 impl From<DefinitionFault> for ApplicationFault {
-    ghost from_gives = { λ e r. r ≡ of_definition e };
+    ghost from_gives = { λ e r. r ≡ handed_in Memory is_definition_memory (λ x. Definition x) e };
 
     fn from(e: DefinitionFault) -> ApplicationFault {
         match e {
@@ -37,7 +39,7 @@ impl From<DefinitionFault> for ApplicationFault {
 }
 
 impl From<UnitFault> for ApplicationFault {
-    ghost from_gives = { λ e r. r ≡ of_units e };
+    ghost from_gives = { λ e r. r ≡ handed_in Memory is_units_memory (λ x. Units x) e };
 
     fn from(e: UnitFault) -> ApplicationFault {
         match e {
@@ -48,7 +50,7 @@ impl From<UnitFault> for ApplicationFault {
 }
 
 impl From<FitFault> for ApplicationFault {
-    ghost from_gives = { λ e r. r ≡ of_fit e };
+    ghost from_gives = { λ e r. r ≡ handed_in Memory is_fit_memory (λ x. Fit x) e };
 
     fn from(e: FitFault) -> ApplicationFault {
         match e {

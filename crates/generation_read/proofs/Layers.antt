@@ -1,5 +1,5 @@
 -- The three readers together.
-use Rattle.std.proofs.Common.{◌≡◌, ℕ, List, Result, Ok, Err, sym, ap, subst, ◌∙◌}
+use Rattle.std.proofs.Common.{◌≡◌, ℕ, List, Result, Ok, Err, refl, sym, ap, subst, ◌∙◌}
 use Rattle.kd_base.specs.Tools.{ok_is}
 use Rattle.kdcdef_lex.specs.declared.fault.LexFault.{LexFault}
 use Rattle.kdcdef_lex.specs.Reading.{is_memory as is_lex_memory, Gives as LexGives}
@@ -18,19 +18,28 @@ use Rattle.kdcdef_check.specs.Generating.{generated}
 use Rattle.generation_read.specs.declared.fault.DefinitionFault.{DefinitionFault}
 use Rattle.generation_read.specs.declared.fault.DefinitionFault.TheVariants.{Lex, Read, Check, Memory}
 use Rattle.generation_read.specs.Causes.{of_lex, of_read, of_check}
-use Rattle.generation_read.specs.Definition.{Says, Generates, HasFault, Gives}
-use Rattle.generation_read.proofs.Handed.{refused as refused_by, same as same_by}
+use Rattle.generation_read.specs.Definition.{Says, Generates, HasFault, is_memory, Gives}
+use Rattle.generation_read.specs.Handed.{HandedOn, handed_on}
+
+by_lex : HandedOn Memory is_memory Generated (List RawStatement) LexFault is_lex_memory (λ x. Lex x)
+by_lex = handed_on Memory is_lex_memory (λ x. Lex x) is_memory refl
+
+by_read : HandedOn Memory is_memory Generated (List Statement) ReadFault is_read_memory (λ x. Read x)
+by_read = handed_on Memory is_read_memory (λ x. Read x) is_memory refl
+
+by_check : HandedOn Memory is_memory Generated Generated CheckFault is_check_memory (λ x. Check x)
+by_check = handed_on Memory is_check_memory (λ x. Check x) is_memory refl
 
 -- ---- the text is no spelling
 
 module _ (text : List ℕ) (e : LexFault) (only : (raw : List RawStatement) → SpellsStatements text raw → LexGives {X = List RawStatement} (Err e) (Ok raw)) where
   pub lex_only : (g : Generated) → Generates text g → Gives (Err (of_lex e)) (Ok g)
-  lex_only g h = refused_by is_lex_memory (λ (x : LexFault). Lex x) e h.1.0 (Ok g) (only h.1.0 h.1.1)
+  lex_only g h = by_lex e (Ok h.1.0) (Ok g) (only h.1.0 h.1.1) (λ x. cc)
 
   pub lex_fault : ((f : LexFault) → HasTextFault text f → LexGives {X = List RawStatement} (Err e) (Err f)) → (f : DefinitionFault) → HasFault text f → Gives (Err (of_lex e)) (Err f)
-  lex_fault refused (Lex f) h = same_by is_lex_memory (λ (x : LexFault). Lex x) e (List RawStatement) f (refused f h)
-  lex_fault refused (Read f) h = refused_by is_lex_memory (λ (x : LexFault). Lex x) e h.0 (Err (Read f)) (only h.0 h.1)
-  lex_fault refused (Check f) h = refused_by is_lex_memory (λ (x : LexFault). Lex x) e h.1.0 (Err (Check f)) (only h.1.0 h.1.1)
+  lex_fault refused (Lex f) h = by_lex e (Err f) (Err (Lex f)) (refused f h) (λ x. cc)
+  lex_fault refused (Read f) h = by_lex e (Ok h.0) (Err (Read f)) (only h.0 h.1) (λ x. cc)
+  lex_fault refused (Check f) h = by_lex e (Ok h.1.0) (Err (Check f)) (only h.1.0 h.1.1) (λ x. cc)
   lex_fault refused Memory h = absurd h
 
 -- ---- the text spells raw statements
@@ -49,12 +58,12 @@ module _ (text : List ℕ) (raw : List RawStatement) (one : (rs : List RawStatem
     -- a raw statement is none
     module _ (e : ReadFault) (only : (ss : List Statement) → StandFor raw ss → ReadGives {X = List Statement} (Err e) (Ok ss)) where
       pub read_only : (g : Generated) → Generates text g → Gives (Err (of_read e)) (Ok g)
-      read_only g h = refused_by is_read_memory (λ (x : ReadFault). Read x) e h.0 (Ok g) (only h.0 (said_raw h.0 h.1))
+      read_only g h = by_read e (Ok h.0) (Ok g) (only h.0 (said_raw h.0 h.1)) (λ x. cc)
 
       pub read_fault : ((f : ReadFault) → HasReadFault raw f → ReadGives {X = List Statement} (Err e) (Err f)) → (f : DefinitionFault) → HasFault text f → Gives (Err (of_read e)) (Err f)
       read_fault refused (Lex f) h = absurd (not_lexed f h)
-      read_fault refused (Read f) h = same_by is_read_memory (λ (x : ReadFault). Read x) e (List Statement) f (refused f (raw_fault f h))
-      read_fault refused (Check f) h = refused_by is_read_memory (λ (x : ReadFault). Read x) e h.0 (Err (Check f)) (only h.0 (said_raw h.0 h.1))
+      read_fault refused (Read f) h = by_read e (Err f) (Err (Read f)) (refused f (raw_fault f h)) (λ x. cc)
+      read_fault refused (Check f) h = by_read e (Ok h.0) (Err (Check f)) (only h.0 (said_raw h.0 h.1)) (λ x. cc)
       read_fault refused Memory h = absurd h
 
     -- they stand for statements
@@ -68,12 +77,12 @@ module _ (text : List ℕ) (raw : List RawStatement) (one : (rs : List RawStatem
 
         module _ (e : CheckFault) (only : AreFaultless ss → CheckGives {A = Generated} (Err e) (Ok (generated ss))) where
           pub check_only : (g : Generated) → Generates text g → Gives (Err (of_check e)) (Ok g)
-          check_only g h = refused_by is_check_memory (λ (x : CheckFault). Check x) e (generated ss) (Ok g) (only (subst AreFaultless (same_said h.0 h.1) h.2))
+          check_only g h = by_check e (Ok (generated ss)) (Ok g) (only (subst AreFaultless (same_said h.0 h.1) h.2)) (λ x. cc)
 
           pub check_fault : ((f : CheckFault) → IsFirstFault ss f → CheckGives {A = Generated} (Err e) (Err f)) → (f : DefinitionFault) → HasFault text f → Gives (Err (of_check e)) (Err f)
           check_fault refused (Lex f) h = absurd (not_lexed f h)
           check_fault refused (Read f) h = absurd (not_read f h)
-          check_fault refused (Check f) h = same_by is_check_memory (λ (x : CheckFault). Check x) e Generated f (refused f (subst (λ (xs : List Statement). IsFirstFault xs f) (same_said h.0 h.1) h.2))
+          check_fault refused (Check f) h = by_check e (Err f) (Err (Check f)) (refused f (subst (λ (xs : List Statement). IsFirstFault xs f) (same_said h.0 h.1) h.2)) (λ x. cc)
           check_fault refused Memory h = absurd h
 
         -- and these generate

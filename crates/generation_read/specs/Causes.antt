@@ -1,5 +1,4 @@
 -- The fault of a definition for a fault of one reader.
-use Rattle.std.specs.Prelude.{Bool, cond}
 use Rattle.kdcdef_lex.specs.declared.fault.LexFault.{LexFault}
 use Rattle.kdcdef_lex.specs.Reading.{is_memory as is_lex_memory}
 use Rattle.kdcdef_read.specs.declared.fault.ReadFault.{ReadFault}
@@ -8,16 +7,13 @@ use Rattle.kdcdef_check.specs.declared.fault.CheckFault.{CheckFault}
 use Rattle.kdcdef_check.specs.Faults.{is_memory as is_check_memory}
 use Rattle.generation_read.specs.declared.fault.DefinitionFault.{DefinitionFault}
 use Rattle.generation_read.specs.declared.fault.DefinitionFault.TheVariants.{Lex, Read, Check, Memory}
-
--- want of memory is handed on as such, and any other fault in its variant
-abbrev pub handed_in : {D : Type 0} → (D → Bool) → (D → DefinitionFault) → D → DefinitionFault
-handed_in is_want variant fault = cond (is_want fault) Memory (variant fault)
+use Rattle.generation_read.specs.Handed.{handed_in}
 
 abbrev pub of_lex : LexFault → DefinitionFault
-of_lex fault = handed_in is_lex_memory (λ (x : LexFault). Lex x) fault
+of_lex fault = handed_in Memory is_lex_memory (λ (x : LexFault). Lex x) fault
 
 abbrev pub of_read : ReadFault → DefinitionFault
-of_read fault = handed_in is_read_memory (λ (x : ReadFault). Read x) fault
+of_read fault = handed_in Memory is_read_memory (λ (x : ReadFault). Read x) fault
 
 abbrev pub of_check : CheckFault → DefinitionFault
-of_check fault = handed_in is_check_memory (λ (x : CheckFault). Check x) fault
+of_check fault = handed_in Memory is_check_memory (λ (x : CheckFault). Check x) fault

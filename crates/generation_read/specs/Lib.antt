@@ -1,3 +1,4 @@
 pub mod Definition
 pub mod Causes
 pub mod Faults
+pub mod Handed

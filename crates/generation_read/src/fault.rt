@@ -1,7 +1,6 @@
 //! Why a definition is refused.
 ghost use Rattle.std.specs.Prelude.{◌≡◌};
-ghost use Rattle.generation_read.specs.Faults.{line_of, name_of};
-ghost use Rattle.generation_read.specs.Causes.{of_lex, of_read, of_check};
+ghost use Rattle.generation_read.specs.{Faults.{line_of, name_of}, Causes.{of_lex, of_read, of_check}};
 
 use kdcdef_check::CheckFault;
 use kdcdef_lex::LexFault;

@@ -1,9 +1,7 @@
 //! From the text to the generation.
 ghost use Rattle.std.specs.Prelude.{◌≢◌, Ok, Err, IfOk, IfErr};
 ghost use Rattle.kdcdef_types.specs.Generation.{Generated};
-ghost use Rattle.generation_read.specs.Definition.{Generates, HasFault, Gives};
-ghost use Rattle.generation_read.specs.declared.fault.DefinitionFault.{DefinitionFault};
-ghost use Rattle.generation_read.specs.declared.fault.DefinitionFault.TheVariants.{Memory};
+ghost use Rattle.generation_read.specs.{Definition.{Generates, HasFault, Gives}, declared.fault.DefinitionFault.{DefinitionFault}, declared.fault.DefinitionFault.TheVariants.{Memory}};
 
 use crate::fault::DefinitionFault;
 use kdcdef_check::{Generation, check};

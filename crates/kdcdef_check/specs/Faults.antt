@@ -91,44 +91,27 @@ shows all before said (NoUser n) = is_end said && lacks_user (generated all)
 shows all before said (TooMany n) = kind_count (kind_of said) before == 20000
 shows all before said Memory = false
 
--- the line of a fault
+-- its line, its number among the faults of one line, and the name by which it is printed
+abbrev pub row_of : CheckFault → ℕ × ℕ × List ℕ
+row_of (NameTwice n) = (n, 1, codes "NameTwice")
+row_of (NoProgram n) = (n, 2, codes "NoProgram")
+row_of (NoLterm n) = (n, 3, codes "NoLterm")
+row_of (LtermTwice n) = (n, 4, codes "LtermTwice")
+row_of (NoMax n) = (n, 5, codes "NoMax")
+row_of (ClassOfWrongKind n) = (n, 6, codes "ClassOfWrongKind")
+row_of (PoolTooSmall n) = (n, 7, codes "PoolTooSmall")
+row_of (NoUser n) = (n, 8, codes "NoUser")
+row_of (TooMany n) = (n, 9, codes "TooMany")
+row_of Memory = (0, 0, codes "Memory")
+
 abbrev pub line_of : CheckFault → ℕ
-line_of (NameTwice n) = n
-line_of (NoProgram n) = n
-line_of (NoLterm n) = n
-line_of (LtermTwice n) = n
-line_of (NoMax n) = n
-line_of (ClassOfWrongKind n) = n
-line_of (PoolTooSmall n) = n
-line_of (NoUser n) = n
-line_of (TooMany n) = n
-line_of Memory = 0
+line_of fault = (row_of fault).0
 
--- the name by which it is printed
-abbrev pub name_of : CheckFault → List ℕ
-name_of (NameTwice n) = codes "NameTwice"
-name_of (NoProgram n) = codes "NoProgram"
-name_of (NoLterm n) = codes "NoLterm"
-name_of (LtermTwice n) = codes "LtermTwice"
-name_of (NoMax n) = codes "NoMax"
-name_of (ClassOfWrongKind n) = codes "ClassOfWrongKind"
-name_of (PoolTooSmall n) = codes "PoolTooSmall"
-name_of (NoUser n) = codes "NoUser"
-name_of (TooMany n) = codes "TooMany"
-name_of Memory = codes "Memory"
-
--- its number among the faults of one line
 abbrev pub number_of : CheckFault → ℕ
-number_of (NameTwice n) = 1
-number_of (NoProgram n) = 2
-number_of (NoLterm n) = 3
-number_of (LtermTwice n) = 4
-number_of (NoMax n) = 5
-number_of (ClassOfWrongKind n) = 6
-number_of (PoolTooSmall n) = 7
-number_of (NoUser n) = 8
-number_of (TooMany n) = 9
-number_of Memory = 0
+number_of fault = (row_of fault).1
+
+abbrev pub name_of : CheckFault → List ℕ
+name_of fault = (row_of fault).2
 
 -- the statement has the fault, on its line
 abbrev pub HasFault : List Statement → List Statement → Statement → CheckFault → Type 0

@@ -1,10 +1,7 @@
 //! The check of the statements together.
 ghost use Rattle.std.specs.Prelude.{◌≡◌, ◌≢◌, ◌≤◌, IfOk, IfErr, Ok, Err};
 ghost use Rattle.kdcdef_types.specs.Statements.{AreRead, passed_count};
-ghost use Rattle.kdcdef_check.specs.declared.fault.CheckFault.{CheckFault};
-ghost use Rattle.kdcdef_check.specs.declared.fault.CheckFault.TheVariants.{Memory};
-ghost use Rattle.kdcdef_check.specs.Generating.{generated};
-ghost use Rattle.kdcdef_check.specs.Faults.{AreFaultless, IsFirstFault, Gives};
+ghost use Rattle.kdcdef_check.specs.{declared.fault.CheckFault.{CheckFault}, declared.fault.CheckFault.TheVariants.{Memory}, Generating.{generated}, Faults.{AreFaultless, IsFirstFault, Gives}};
 
 use crate::fault::{CheckFault, earlier};
 use crate::generation::Generation;

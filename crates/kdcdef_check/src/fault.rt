@@ -1,8 +1,6 @@
 //! Why statements generate nothing.
 ghost use Rattle.std.specs.Prelude.{◌≡◌};
-ghost use Rattle.kdcdef_check.specs.Faults.{line_of, number_of, comes_first, name_of};
-ghost use Rattle.kdcdef_check.specs.Steps.{earlier};
-ghost use Rattle.kdcdef_check.specs.declared.fault.CheckFault.TheVariants.{Memory};
+ghost use Rattle.kdcdef_check.specs.{Faults.{row_of, line_of, name_of, comes_first}, Steps.{earlier}, declared.fault.CheckFault.TheVariants.{Memory}};
 
 use kd_base::OutOfMemory;
 use thiserror::Error;
@@ -45,65 +43,44 @@ pub enum CheckFault {
 }
 
 impl CheckFault {
+    // Its line, its number among the faults of one line, and the name by which it is printed.
+    fn row(&self) -> (u32, u8, &'static str)
+        ensures { (result.0, result.1, result.2.now) ≡ row_of self.now }
+    {
+        match *self {
+            CheckFault::NameTwice(line) => (line, 1, "NameTwice"),
+            CheckFault::NoProgram(line) => (line, 2, "NoProgram"),
+            CheckFault::NoLterm(line) => (line, 3, "NoLterm"),
+            CheckFault::LtermTwice(line) => (line, 4, "LtermTwice"),
+            CheckFault::NoMax(line) => (line, 5, "NoMax"),
+            CheckFault::ClassOfWrongKind(line) => (line, 6, "ClassOfWrongKind"),
+            CheckFault::PoolTooSmall(line) => (line, 7, "PoolTooSmall"),
+            CheckFault::NoUser(line) => (line, 8, "NoUser"),
+            CheckFault::TooMany(line) => (line, 9, "TooMany"),
+            CheckFault::Memory => (0, 0, "Memory"),
+        }
+    }
+
     /// The number of its line, counted from 1. It takes no memory.
     pub fn line(&self) -> u32
         ensures { result ≡ line_of self.now }
     {
-        match self {
-            CheckFault::NameTwice(line)
-            | CheckFault::NoProgram(line)
-            | CheckFault::NoLterm(line)
-            | CheckFault::LtermTwice(line)
-            | CheckFault::NoMax(line)
-            | CheckFault::ClassOfWrongKind(line)
-            | CheckFault::PoolTooSmall(line)
-            | CheckFault::NoUser(line)
-            | CheckFault::TooMany(line) => *line,
-            CheckFault::Memory => 0,
-        }
+        self.row().0
     }
 
     /// The name by which it is printed. It takes no memory.
     pub fn name(&self) -> &'static str
         ensures { result.now ≡ name_of self.now }
     {
-        match self {
-            CheckFault::NameTwice(_) => "NameTwice",
-            CheckFault::NoProgram(_) => "NoProgram",
-            CheckFault::NoLterm(_) => "NoLterm",
-            CheckFault::LtermTwice(_) => "LtermTwice",
-            CheckFault::NoMax(_) => "NoMax",
-            CheckFault::ClassOfWrongKind(_) => "ClassOfWrongKind",
-            CheckFault::PoolTooSmall(_) => "PoolTooSmall",
-            CheckFault::NoUser(_) => "NoUser",
-            CheckFault::TooMany(_) => "TooMany",
-            CheckFault::Memory => "Memory",
-        }
-    }
-
-    // The order of the faults of one line.
-    fn number(&self) -> u8
-        ensures { result ≡ number_of self.now }
-    {
-        match self {
-            CheckFault::NameTwice(_) => 1,
-            CheckFault::NoProgram(_) => 2,
-            CheckFault::NoLterm(_) => 3,
-            CheckFault::LtermTwice(_) => 4,
-            CheckFault::NoMax(_) => 5,
-            CheckFault::ClassOfWrongKind(_) => 6,
-            CheckFault::PoolTooSmall(_) => 7,
-            CheckFault::NoUser(_) => 8,
-            CheckFault::TooMany(_) => 9,
-            CheckFault::Memory => 0,
-        }
+        self.row().2
     }
 
     fn comes_first(&self, other: &CheckFault) -> bool
         ensures { result ≡ comes_first self.now other.now }
     {
-        self.line() < other.line()
-            || (self.line() == other.line() && self.number() <= other.number())
+        let (line, number, _) = self.row();
+        let (other_line, other_number, _) = other.row();
+        line < other_line || (line == other_line && number <= other_number)
     }
 }
 

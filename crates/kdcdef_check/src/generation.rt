@@ -1,10 +1,7 @@
 //! A generation: what the statements of a KDCDEF text say together.
-ghost use Rattle.std.specs.Prelude.{◌≡◌, ◌≤◌, IfSome};
-ghost use Rattle.std.specs.Option.{option_copied};
-ghost use Rattle.kdcdef_types.specs.Statements.{IsTacInRange, IsUserInRange};
-ghost use Rattle.kdcdef_types.specs.Generation.{tac_of, user_of, pterm_of, lterm_of, has_tls, has_uls, class_limit};
-ghost use Rattle.kdcdef_check.specs.Soundness.{AreLimits, IsSound};
-ghost use Rattle.kdcdef_check.specs.Steps.{made_of};
+ghost use Rattle.std.specs.{Prelude.{◌≡◌, ◌≤◌, IfSome}, Option.{option_copied}};
+ghost use Rattle.kdcdef_types.specs.{Statements.{IsTacInRange, IsUserInRange}, Generation.{tac_of, user_of, pterm_of, lterm_of, has_tls, has_uls, class_limit}};
+ghost use Rattle.kdcdef_check.specs.{Soundness.{AreLimits, IsSound}, Steps.{made_of}};
 
 use crate::hashing::NameHashing;
 use crate::tables::Tables;

@@ -1,9 +1,7 @@
 //! The faults that show at a statement and those before it.
 ghost use Rattle.std.specs.Prelude.{◌≡◌};
 ghost use Rattle.kdcdef_types.specs.Generation.{Generated};
-ghost use Rattle.kdcdef_check.specs.Soundness.{fits_kind};
-ghost use Rattle.kdcdef_check.specs.Faults.{has_other_class};
-ghost use Rattle.kdcdef_check.specs.Steps.{HaveNames, own_fault};
+ghost use Rattle.kdcdef_check.specs.{Soundness.{fits_kind}, Faults.{has_other_class}, Steps.{HaveNames, own_fault}};
 
 use crate::fault::CheckFault;
 use crate::tables::Tables;

@@ -1,7 +1,6 @@
 //! The two passes over the statements: one fills the tables, the other tests what needs all of them.
 ghost use Rattle.std.specs.Prelude.{length, IfOk};
-ghost use Rattle.kdcdef_check.specs.Generating.{generated};
-ghost use Rattle.kdcdef_check.specs.Steps.{AreFilled, IsTallyOf, IsFirstOf, AmongFirst, OwnFault, OuterFault, HaveNames, IsNamed, AllNamed, IsWhole};
+ghost use Rattle.kdcdef_check.specs.{Generating.{generated}, Steps.{AreFilled, IsTallyOf, IsFirstOf, AmongFirst, OwnFault, OuterFault, HaveNames, IsNamed, AllNamed, IsWhole}};
 
 use crate::fault::{CheckFault, earlier};
 use crate::hashing::NameHashing;

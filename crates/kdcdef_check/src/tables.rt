@@ -1,8 +1,7 @@
 //! The tables of names, filled from the statements.
 ghost use Rattle.std.specs.Prelude.{◌≡◌, [], OnOk, IfOk};
 ghost use Rattle.kdcdef_types.specs.Generation.{Generated};
-ghost use Rattle.kdcdef_check.specs.Faults.{is_taken, shares_lterm, lacks_program, lacks_lterm};
-ghost use Rattle.kdcdef_check.specs.Steps.{IsAdded, AreFilled, HaveNames};
+ghost use Rattle.kdcdef_check.specs.{Faults.{is_taken, shares_lterm, lacks_program, lacks_lterm}, Steps.{IsAdded, AreFilled, HaveNames}};
 
 use crate::hashing::NameHashing;
 use indexmap::{IndexMap, IndexSet};

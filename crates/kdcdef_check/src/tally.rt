@@ -1,7 +1,6 @@
 //! How many statements there are.
 ghost use Rattle.std.specs.Prelude.{◌≡◌, ◌+◌, ◌^◌, ◌<◌, [], slice_index, slice_set};
-ghost use Rattle.kdcdef_check.specs.Faults.{kind_of};
-ghost use Rattle.kdcdef_check.specs.Steps.{AreFew, counts_in, IsTallyOf};
+ghost use Rattle.kdcdef_check.specs.{Faults.{kind_of}, Steps.{AreFew, counts_in, IsTallyOf}};
 
 use kdcdef_types::{Counts, Said};
 

@@ -1,10 +1,7 @@
 //! What the statements say together, and the faults that show against it.
 ghost use Rattle.std.specs.Prelude.{◌≡◌, ◌+◌, ◌≤◌, List, length, nat_lt, unwrap_or};
 ghost use Rattle.kdcdef_types.specs.declared.statement.Statement.{Statement};
-ghost use Rattle.kdcdef_check.specs.Soundness.{restart_count};
-ghost use Rattle.kdcdef_check.specs.Generating.{as_user, said_as, generated};
-ghost use Rattle.kdcdef_check.specs.Faults.{is_end};
-ghost use Rattle.kdcdef_check.specs.Steps.{HaveNames, IsTallyOf, IsWhole, is_restart, outer_fault};
+ghost use Rattle.kdcdef_check.specs.{Soundness.{restart_count}, Generating.{as_user, said_as, generated}, Faults.{is_end}, Steps.{HaveNames, IsTallyOf, IsWhole, is_restart, outer_fault}};
 
 use crate::fault::CheckFault;
 use crate::limits::max_given;

@@ -1,5 +1,6 @@
 -- How many lines and operands the statements of a text can have.
 use Rattle.std.specs.Prelude.{ℕ, ◌+◌, ◌≤◌, List, [], ◌∷◌, length}
+use Rattle.kd_base.specs.Limits.{longest_text}
 use Rattle.kdcdef_lex.specs.declared.statement.RawStatement.{RawStatement}
 
 -- each statement stands at this line or before it
@@ -15,4 +16,4 @@ operand_count (s ∷ ss) = length s.operands + operand_count ss
 -- what the statements of every text keep
 pub record AreWithinBounds (ss : List RawStatement) : Type 0 where
   pub lines : LinesUpTo 16777217 ss
-  pub operands : operand_count ss ≤ 16777216
+  pub operands : operand_count ss ≤ longest_text

@@ -2,6 +2,7 @@
 use Rattle.std.specs.Prelude.{◌≡◌, ◌≢◌, ℕ, ◌<◌, ◌≤◌, ◌⊎◌, Bool, true, false, not, IsTrue, List, [], ◌∷◌, length, codes, if◌then◌else◌}
 use Rattle.std.specs.List.{list_all}
 use Rattle.std.specs.Str.Lines.{lines}
+use Rattle.kd_base.specs.Limits.{longest_text}
 use Rattle.kdcdef_lex.specs.declared.fault.LexFault.{LexFault}
 use Rattle.kdcdef_lex.specs.declared.fault.LexFault.TheVariants.{NotAscii, OpenQuote, OpenParen, DanglingContinuation, BadOperand, TextTooLong, Memory}
 use Rattle.kdcdef_lex.specs.declared.token.Token.{Token}
@@ -56,5 +57,5 @@ FirstFault [] fault = ⊥
 FirstFault (g ∷ gs) fault = HasFault g fault ⊎ (((s : RawStatement) × Says g s) × FirstFault gs fault)
 
 abbrev pub HasTextFault : List ℕ → LexFault → Type 0
-HasTextFault text TextTooLong = 16777216 < length text
-HasTextFault text fault = (length text ≤ 16777216) × (gs : List Group) × Cut 1 (lines text) gs × FirstFault gs fault
+HasTextFault text TextTooLong = longest_text < length text
+HasTextFault text fault = (length text ≤ longest_text) × (gs : List Group) × Cut 1 (lines text) gs × FirstFault gs fault

@@ -2,6 +2,7 @@
 use Rattle.std.specs.Prelude.{ℕ, Bool, true, false, ◌&&◌, ◌||◌, ◌==◌, nat_le, nat_lt, List, [], ◌∷◌, ◌++◌, length, Option, Some, None, Result, Ok, Err, if◌then◌else◌}
 use Rattle.std.specs.List.{list_all}
 use Rattle.std.specs.Str.Lines.{lines}
+use Rattle.kd_base.specs.Limits.{longest_text}
 use Rattle.kd_base.specs.FirstFaults.{GivesUnless}
 use Rattle.kd_base.specs.Tools.{◌>>=◌}
 use Rattle.kdcdef_lex.specs.declared.fault.LexFault.{LexFault}
@@ -56,4 +57,4 @@ statements_of [] = Ok []
 statements_of (g ∷ gs) = statement_of g >>= λ statement. with_front (statement ∷ []) (statements_of gs)
 
 abbrev pub read_text : List ℕ → Result (List RawStatement) LexFault
-read_text text = if nat_lt 16777216 (length text) then Err TextTooLong else statements_of (groups None 1 (lines text))
+read_text text = if nat_lt longest_text (length text) then Err TextTooLong else statements_of (groups None 1 (lines text))

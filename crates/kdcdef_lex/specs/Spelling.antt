@@ -2,6 +2,7 @@
 use Rattle.std.specs.Prelude.{◌≡◌, ℕ, ◌+◌, ◌≤◌, ◌⊎◌, true, false, IsTrue, List, [], ◌∷◌, ◌++◌, length, Some, None}
 use Rattle.std.specs.List.{list_all}
 use Rattle.std.specs.Str.Lines.{lines}
+use Rattle.kd_base.specs.Limits.{longest_text}
 use Rattle.kdcdef_lex.specs.declared.token.Token.{Token}
 use Rattle.kdcdef_lex.specs.declared.group.Group.{Group}
 use Rattle.kdcdef_lex.specs.declared.statement.RawStatement.{RawStatement}
@@ -55,4 +56,4 @@ AllSay (g ∷ gs) (s ∷ ss) = Says g s × AllSay gs ss
 
 -- the text is cut into groups of lines, each of which is a spelling of its statement
 abbrev pub SpellsStatements : List ℕ → List RawStatement → Type 0
-SpellsStatements text ss = (length text ≤ 16777216) × (gs : List Group) × Cut 1 (lines text) gs × AllSay gs ss
+SpellsStatements text ss = (length text ≤ longest_text) × (gs : List Group) × Cut 1 (lines text) gs × AllSay gs ss

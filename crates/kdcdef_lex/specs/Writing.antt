@@ -1,6 +1,7 @@
 -- A plain way to write statements: one to a line, a blank behind each token.
 use Rattle.std.specs.Prelude.{◌≡◌, ℕ, ◌+◌, ◌<◌, ◌≤◌, ◌/◌, ◌%◌, Bool, false, IsTrue, nat_lt, List, [], ◌∷◌, ◌++◌, length, Option, Some, None, if◌then◌else◌}
 use Rattle.std.specs.List.{list_all}
+use Rattle.kd_base.specs.Limits.{longest_text}
 use Rattle.kd_base.specs.Text.{hex_digit}
 use Rattle.kdcdef_lex.specs.declared.token.Token.{Token}
 use Rattle.kdcdef_lex.specs.declared.token.Token.TheVariants as tokens
@@ -114,4 +115,4 @@ AreWritable n (s ∷ ss) = IsWritable s × (s.line ≡ n) × AreWritable (n + 1)
 
 -- the plain text of statements spells them
 abbrev pub PlainTextSpells : Type 0
-PlainTextSpells = (ss : List RawStatement) → AreWritable 1 ss → length (plain_text ss) ≤ 16777216 → SpellsStatements (plain_text ss) ss
+PlainTextSpells = (ss : List RawStatement) → AreWritable 1 ss → length (plain_text ss) ≤ longest_text → SpellsStatements (plain_text ss) ss

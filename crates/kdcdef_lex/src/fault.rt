@@ -1,7 +1,6 @@
 //! Why a text could not be read.
 ghost use Rattle.std.specs.Prelude.{◌≡◌};
-ghost use Rattle.kdcdef_lex.specs.Faults.{line_of, name_of};
-ghost use Rattle.kdcdef_lex.specs.declared.fault.LexFault.TheVariants.{Memory};
+ghost use Rattle.kdcdef_lex.specs.{Faults.{line_of, name_of}, declared.fault.LexFault.TheVariants.{Memory}};
 
 use kd_base::OutOfMemory;
 use thiserror::Error;

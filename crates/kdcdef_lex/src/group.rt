@@ -1,8 +1,6 @@
 //! Groups: the lines of one statement, joined where they are continued.
-ghost use Rattle.std.specs.Prelude.{◌≡◌, ◌+◌, ◌-◌, ◌<◌, ◌≤◌, ◌^◌, ◌∷◌, false, length, IfOk, None};
-ghost use Rattle.std.specs.Str.Lines.{lines};
-ghost use Rattle.kdcdef_lex.specs.Lines.{is_passed, continued};
-ghost use Rattle.kdcdef_lex.specs.Groups.{groups};
+ghost use Rattle.std.specs.{Prelude.{◌≡◌, ◌+◌, ◌-◌, ◌<◌, ◌≤◌, ◌^◌, ◌∷◌, false, length, IfOk, None}, Str.Lines.{lines}};
+ghost use Rattle.kdcdef_lex.specs.{Lines.{is_passed, continued}, Groups.{groups}};
 
 use crate::line::continued;
 use kd_base::{Bytes, OutOfMemory};

@@ -1,6 +1,5 @@
 //! Lines: words, comments, and the mark of a line that is continued.
-ghost use Rattle.std.specs.Prelude.{◌≡◌, ◌<◌, ◌≤◌, ◌-◌, length, drop, option_copied};
-ghost use Rattle.std.specs.List.{prefix_len, suffix_len, take_while};
+ghost use Rattle.std.specs.{Prelude.{◌≡◌, ◌<◌, ◌≤◌, ◌-◌, length, drop, option_copied}, List.{prefix_len, suffix_len, take_while}};
 ghost use Rattle.texts.specs.Blanks.{is_blank, from_first};
 ghost use Rattle.kdcdef_lex.specs.Lines.{is_word_byte, is_mark, up_to_last, is_remark, is_comment, is_passed, continued};
 

@@ -1,6 +1,5 @@
 //! A statement from its tokens: keyword, operands, values and lists.
-ghost use Rattle.std.specs.Prelude.{◌≡◌, ◌<◌, List, ℕ, length, ◌≤◌, IfOk, IfSome, Option};
-ghost use Rattle.std.specs.Option.{option_map};
+ghost use Rattle.std.specs.{Prelude.{◌≡◌, ◌<◌, List, ℕ, length, ◌≤◌, IfOk, IfSome, Option}, Option.{option_map}};
 ghost use Rattle.kdcdef_lex.specs.Parsing.{hex_digit, hex_bytes, quoted_value, item_at, item_step, items_within, value_at, operand_at, operand_step, operands_within, operands_of, statement_at};
 
 use crate::statement::{Items, Operands, RawItem, RawOperand, RawStatement, RawValue};

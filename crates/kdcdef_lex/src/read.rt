@@ -1,13 +1,6 @@
 //! The statements of a text: its lines grouped, each group read, and the first fault.
-ghost use Rattle.std.specs.Prelude.{List, Ok, Err, IfErr, ◌≢◌, ◌≡◌, ◌^◌, ◌<◌, ◌≤◌, ◌+◌, false, length, IfOk, OnOk};
-ghost use Rattle.std.specs.List.{list_all};
-ghost use Rattle.kdcdef_lex.specs.Reading.{is_text_byte, leaves_open, operands_fault, tokens_fault, statement_of, read_text, Gives};
-ghost use Rattle.kdcdef_lex.specs.Faults.{HasTextFault};
-ghost use Rattle.kdcdef_lex.specs.Spelling.{SpellsStatements};
-ghost use Rattle.kdcdef_lex.specs.Bounds.{AreWithinBounds};
-ghost use Rattle.kdcdef_lex.specs.declared.fault.LexFault.{LexFault};
-ghost use Rattle.kdcdef_lex.specs.declared.fault.LexFault.TheVariants.{Memory};
-ghost use Rattle.kdcdef_lex.specs.declared.statement.RawStatement.{RawStatement};
+ghost use Rattle.std.specs.{Prelude.{List, Ok, Err, IfErr, ◌≢◌, ◌≡◌, ◌^◌, ◌<◌, ◌≤◌, ◌+◌, false, length, IfOk, OnOk}, List.{list_all}};
+ghost use Rattle.kdcdef_lex.specs.{Reading.{is_text_byte, leaves_open, operands_fault, tokens_fault, statement_of, read_text, Gives}, Faults.{HasTextFault}, Spelling.{SpellsStatements}, Bounds.{AreWithinBounds}, declared.fault.LexFault.{LexFault}, declared.fault.LexFault.TheVariants.{Memory}, declared.statement.RawStatement.{RawStatement}};
 ghost use Rattle.kd_base.specs.FirstFaults.{items_of};
 
 use crate::fault::LexFault;
@@ -16,12 +9,9 @@ use crate::line::is_passed;
 use crate::parse;
 use crate::statement::RawStatement;
 use crate::token::Token;
-use kd_base::Sequence;
+use kd_base::{LONGEST_TEXT, Sequence};
 use std::alloc::Global;
 use texts::{next_line, parts_of};
-
-/// The greatest length of a text, in bytes.
-const MAX_TEXT_LEN: usize = 16_777_216;
 
 // A byte that may stand in a statement: 0x20 to 0x7E, and a tab.
 fn is_text_byte(b: u8) -> bool
@@ -91,7 +81,7 @@ fn statement_of(alloc: Global, group: &Group) -> Result<RawStatement, LexFault>
 fn read_text(alloc: Global, text: &[u8]) -> Result<Vec<RawStatement>, LexFault>
     ensures { Gives (items_of result) (read_text text.now) }
 {
-    if text.len() > MAX_TEXT_LEN {
+    if text.len() > LONGEST_TEXT {
         return Err(LexFault::TextTooLong);
     }
     let mut statements = Sequence::new(alloc);

@@ -1,6 +1,5 @@
 //! Tokens: the words, quoted values and marks of a statement, without the blanks between them.
-ghost use Rattle.std.specs.Prelude.{◌≡◌, List, ℕ, IfOk, Option};
-ghost use Rattle.std.specs.Option.{option_map};
+ghost use Rattle.std.specs.{Prelude.{◌≡◌, List, ℕ, IfOk, Option}, Option.{option_map}};
 ghost use Rattle.kdcdef_lex.specs.Tokens.{word_at, token_at};
 
 use crate::line::split_word;

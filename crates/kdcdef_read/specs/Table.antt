@@ -38,13 +38,13 @@ max_row keys.Blksize = of_kind (kinds.OneOf choices.Blksize)
 max_row keys.Applimode = of_kind kinds.Mode
 max_row key = None
 
-abbrev pub program_row : Key → Option Row
-program_row keys.First = of_kind kinds.ProgName
-program_row key = None
+-- the first operand alone, which has no key
+abbrev pub first_row : Kind → Key → Option Row
+first_row kind keys.First = of_kind kind
+first_row kind key = None
 
 -- TAC; the default of TACCLASS is that of TYPE
 abbrev pub tac_row : Key → Option Row
-tac_row keys.First = of_kind kinds.Name
 tac_row keys.Program = of_kind kinds.ProgName
 tac_row keys.Type = of_kind_or (values.Flag false) (kinds.OneOf choices.Type)
 tac_row keys.Call = of_kind_or (values.Call calls.Both) (kinds.OneOf choices.Call)
@@ -52,31 +52,23 @@ tac_row keys.Status = of_kind_or (values.Flag true) (kinds.OneOf choices.Status)
 tac_row keys.TacClass = of_kind kinds.Class
 tac_row keys.Time = of_kind_or (values.Time 1000) kinds.Time
 tac_row keys.Lock = of_kind kinds.Unavailable
-tac_row key = None
+tac_row key = first_row kinds.Name key
 
 abbrev pub user_row : Key → Option Row
-user_row keys.First = of_kind kinds.Name
 user_row keys.Pass = of_kind kinds.Password
 user_row keys.Restart = of_kind_or (values.Flag true) (kinds.OneOf choices.Restart)
 user_row keys.Kset = of_kind kinds.Unavailable
-user_row key = None
+user_row key = first_row kinds.Name key
 
 abbrev pub pterm_row : Key → Option Row
-pterm_row keys.First = of_kind kinds.Name
 pterm_row keys.Lterm = of_kind kinds.Name
-pterm_row key = None
+pterm_row key = first_row kinds.Name key
 
 abbrev pub lterm_row : Key → Option Row
-lterm_row keys.First = of_kind kinds.Name
 lterm_row keys.Usage = of_kind_or (values.Flag false) (kinds.OneOf choices.Usage)
 lterm_row keys.Lock = of_kind kinds.Unavailable
 lterm_row keys.Kset = of_kind kinds.Unavailable
-lterm_row key = None
-
--- TLS and ULS
-abbrev pub block_row : Key → Option Row
-block_row keys.First = of_kind kinds.Name
-block_row key = None
+lterm_row key = first_row kinds.Name key
 
 abbrev pub class_row : Key → Option Row
 class_row keys.First = of_kind kinds.Class
@@ -86,11 +78,11 @@ class_row key = None
 -- the row of a statement with a key
 abbrev pub row_of : Keyword → Key → Option Row
 row_of keywords.Max key = max_row key
-row_of keywords.Program key = program_row key
+row_of keywords.Program key = first_row kinds.ProgName key
 row_of keywords.Tac key = tac_row key
 row_of keywords.User key = user_row key
 row_of keywords.Pterm key = pterm_row key
 row_of keywords.Lterm key = lterm_row key
-row_of keywords.Tls key = block_row key
-row_of keywords.Uls key = block_row key
+row_of keywords.Tls key = first_row kinds.Name key
+row_of keywords.Uls key = first_row kinds.Name key
 row_of keywords.TacClass key = class_row key

@@ -1,7 +1,7 @@
 -- The values of operands, by the kind of their rows.
 use Rattle.std.specs.Prelude.{ℕ, ◌==◌, ◌&&◌, nat_le, true, false, List, [], ◌∷◌, Option, Some, None, Result, Ok, Err, if◌then◌else◌, codes}
 use Rattle.kd_base.specs.FirstFaults.{first_true}
-use Rattle.kd_base.specs.Text.{decimal_of, name_of, prog_name_of}
+use Rattle.kd_base.specs.Text.{decimal_of, name_up_to}
 use Rattle.kd_base.specs.Tools.{◌>>=◌}
 use Rattle.kdcdef_types.specs.declared.entry.CallUse.TheVariants as calls
 use Rattle.kdcdef_lex.specs.declared.statement.RawItem.TheVariants as items
@@ -19,7 +19,7 @@ use Rattle.kdcdef_read.specs.Passwords.{password_of}
 use Rattle.kdcdef_read.specs.Words.{is}
 
 -- what is there, or the cause
-abbrev pub or_cause : {A : Type 0} → (A → Value) → Cause → Option A → Result Value Cause
+abbrev pub or_cause : {A B : Type 0} → (A → B) → Cause → Option A → Result B Cause
 or_cause made cause None = Err cause
 or_cause made cause (Some x) = Ok (made x)
 
@@ -81,15 +81,11 @@ one_of choice (raw.Listed is) = Err BadChoice
 
 -- ---- names and passwords
 
-abbrev pub name_in : RawValue → Result Value Cause
-name_in (raw.Word word) = or_cause (λ (name : List ℕ). values.Name name) BadName (name_of word)
-name_in (raw.Quoted bytes) = Err BadName
-name_in (raw.Listed is) = Err BadChoice
-
-abbrev pub prog_name_in : RawValue → Result Value Cause
-prog_name_in (raw.Word word) = or_cause (λ (name : List ℕ). values.ProgName name) BadName (prog_name_of word)
-prog_name_in (raw.Quoted bytes) = Err BadName
-prog_name_in (raw.Listed is) = Err BadChoice
+-- a name of at most so many bytes
+abbrev pub written_name : ℕ → RawValue → Result (List ℕ) Cause
+written_name most (raw.Word word) = or_cause (λ (name : List ℕ). name) BadName (name_up_to most word)
+written_name most (raw.Quoted bytes) = Err BadName
+written_name most (raw.Listed is) = Err BadChoice
 
 abbrev pub password_in : RawValue → Result Value Cause
 password_in (raw.Word bytes) = or_cause (λ (pass : List ℕ). values.Password pass) OutOfRange (password_of bytes)
@@ -98,27 +94,18 @@ password_in (raw.Listed is) = Err BadChoice
 
 -- ---- KDCFILE and APPLIMODE
 
--- the second item of KDCFILE's list
-abbrev pub file_of : List ℕ → Result Value Cause
-file_of word =
-    if is word (codes "SINGLE") then Ok values.Accepted
-    else (if is word (codes "DOUBLE") then Err NotInProfile
-    else Err BadChoice)
+-- a choice of two words, of which this profile has the first
+abbrev pub first_of : List ℕ → List ℕ → List ℕ → Result Value Cause
+first_of kept other word = if is word kept then Ok values.Accepted else (if is word other then Err NotInProfile else Err BadChoice)
 
 -- a base, or a list of a base and a word
 abbrev pub file_in : RawValue → Result Value Cause
 file_in (raw.Word base) = Ok values.Accepted
-file_in (raw.Listed (Some (items.Word base) ∷ Some (items.Word word) ∷ [])) = file_of word
+file_in (raw.Listed (Some (items.Word base) ∷ Some (items.Word word) ∷ [])) = first_of (codes "SINGLE") (codes "DOUBLE") word
 file_in value = Err BadChoice
 
-abbrev pub mode_of : List ℕ → Result Value Cause
-mode_of word =
-    if is word (codes "SECURE") then Ok values.Accepted
-    else (if is word (codes "FAST") then Err NotInProfile
-    else Err BadChoice)
-
 abbrev pub mode_in : RawValue → Result Value Cause
-mode_in (raw.Word word) = mode_of word
+mode_in (raw.Word word) = first_of (codes "SECURE") (codes "FAST") word
 mode_in (raw.Quoted bytes) = Err BadChoice
 mode_in (raw.Listed is) = Err BadChoice
 
@@ -126,8 +113,8 @@ mode_in (raw.Listed is) = Err BadChoice
 
 -- what an operand with this value says, or why it is refused
 abbrev pub value_of : Kind → RawValue → Result Value Cause
-value_of kinds.Name value = name_in value
-value_of kinds.ProgName value = prog_name_in value
+value_of kinds.Name value = written_name 8 value >>= λ name. Ok (values.Name name)
+value_of kinds.ProgName value = written_name 32 value >>= λ name. Ok (values.ProgName name)
 value_of (kinds.Number low high) value = number_in low high value
 value_of kinds.Class value = class_in value
 value_of kinds.Time value = time_in value

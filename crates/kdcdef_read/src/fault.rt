@@ -1,7 +1,6 @@
 //! Why statements could not be read.
 ghost use Rattle.std.specs.Prelude.{◌≡◌};
-ghost use Rattle.kdcdef_read.specs.Faults.{at_line, line_of, name_of};
-ghost use Rattle.kdcdef_read.specs.declared.fault.ReadFault.TheVariants.{Memory};
+ghost use Rattle.kdcdef_read.specs.{Faults.{at_line, line_of, name_of}, declared.fault.ReadFault.TheVariants.{Memory}};
 
 use kd_base::OutOfMemory;
 use thiserror::Error;

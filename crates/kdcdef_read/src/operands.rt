@@ -1,7 +1,6 @@
 //! The operands of a statement, read from left to right.
 ghost use Rattle.std.specs.Prelude.{◌≡◌, ◌+◌, ◌<◌, ◌≤◌, ◌^◌, length};
-ghost use Rattle.kdcdef_read.specs.Operands.{operand_key};
-ghost use Rattle.kdcdef_read.specs.Filling.{after, with_row, with_operand, read_operands};
+ghost use Rattle.kdcdef_read.specs.{Operands.{operand_key}, Filling.{after, with_row, with_operand, read_operands}};
 
 use crate::fault::Cause;
 use crate::rows::{Row, row_of};

@@ -2,12 +2,8 @@
 ghost use Rattle.std.specs.Prelude.{List, Ok, Err, IfOk, IfErr, ◌≡◌, ◌≢◌};
 ghost use Rattle.kd_base.specs.FirstFaults.{items_of};
 ghost use Rattle.kdcdef_lex.specs.Bounds.{AreWithinBounds};
-ghost use Rattle.kdcdef_types.specs.Statements.{AreRead};
-ghost use Rattle.kdcdef_types.specs.declared.statement.Statement.{Statement};
-ghost use Rattle.kdcdef_read.specs.Meaning.{StandFor, HasFault};
-ghost use Rattle.kdcdef_read.specs.Steps.{Gives, read_all};
-ghost use Rattle.kdcdef_read.specs.declared.fault.ReadFault.{ReadFault};
-ghost use Rattle.kdcdef_read.specs.declared.fault.ReadFault.TheVariants.{Memory};
+ghost use Rattle.kdcdef_types.specs.{Statements.{AreRead}, declared.statement.Statement.{Statement}};
+ghost use Rattle.kdcdef_read.specs.{Meaning.{StandFor, HasFault}, Steps.{Gives, read_all}, declared.fault.ReadFault.{ReadFault}, declared.fault.ReadFault.TheVariants.{Memory}};
 
 use crate::fault::ReadFault;
 use crate::statement::{Progress, step};

@@ -1,7 +1,7 @@
 //! The table of operands: for a statement and a key, which values the operand may have, and what stands where it is
 //! not given.
 ghost use Rattle.std.specs.Prelude.{◌≡◌};
-ghost use Rattle.kdcdef_read.specs.Table.{of_kind, of_kind_or, max_row, program_row, tac_row, user_row, pterm_row, lterm_row, block_row, class_row, row_of};
+ghost use Rattle.kdcdef_read.specs.Table.{of_kind, of_kind_or, max_row, first_row, tac_row, user_row, pterm_row, lterm_row, class_row, row_of};
 
 use crate::value::Value;
 use crate::words::{Key, Keyword};
@@ -92,11 +92,12 @@ fn max_row(key: Key) -> Option<Row>
     }
 }
 
-fn program_row(key: Key) -> Option<Row>
-    ensures { result ≡ program_row key }
+// The first operand alone, which has no key.
+fn first_row(kind: Kind, key: Key) -> Option<Row>
+    ensures { result ≡ first_row kind key }
 {
     match key {
-        Key::First => of_kind(Kind::ProgName),
+        Key::First => of_kind(kind),
         _ => None,
     }
 }
@@ -105,7 +106,6 @@ fn tac_row(key: Key) -> Option<Row>
     ensures { result ≡ tac_row key }
 {
     match key {
-        Key::First => of_kind(Kind::Name),
         Key::Program => of_kind(Kind::ProgName),
         Key::Type => of_kind_or(Value::Flag(false), Kind::OneOf(Choice::Type)),
         Key::Call => of_kind_or(Value::Call(CallUse::Both), Kind::OneOf(Choice::Call)),
@@ -113,7 +113,7 @@ fn tac_row(key: Key) -> Option<Row>
         Key::TacClass => of_kind(Kind::Class),
         Key::Time => of_kind_or(Value::Time(1000), Kind::Time),
         Key::Lock => of_kind(Kind::Unavailable),
-        _ => None,
+        _ => first_row(Kind::Name, key),
     }
 }
 
@@ -121,11 +121,10 @@ fn user_row(key: Key) -> Option<Row>
     ensures { result ≡ user_row key }
 {
     match key {
-        Key::First => of_kind(Kind::Name),
         Key::Pass => of_kind(Kind::Password),
         Key::Restart => of_kind_or(Value::Flag(true), Kind::OneOf(Choice::Restart)),
         Key::Kset => of_kind(Kind::Unavailable),
-        _ => None,
+        _ => first_row(Kind::Name, key),
     }
 }
 
@@ -133,9 +132,8 @@ fn pterm_row(key: Key) -> Option<Row>
     ensures { result ≡ pterm_row key }
 {
     match key {
-        Key::First => of_kind(Kind::Name),
         Key::Lterm => of_kind(Kind::Name),
-        _ => None,
+        _ => first_row(Kind::Name, key),
     }
 }
 
@@ -143,21 +141,10 @@ fn lterm_row(key: Key) -> Option<Row>
     ensures { result ≡ lterm_row key }
 {
     match key {
-        Key::First => of_kind(Kind::Name),
         Key::Usage => of_kind_or(Value::Flag(false), Kind::OneOf(Choice::Usage)),
         Key::Lock => of_kind(Kind::Unavailable),
         Key::Kset => of_kind(Kind::Unavailable),
-        _ => None,
-    }
-}
-
-// TLS and ULS.
-fn block_row(key: Key) -> Option<Row>
-    ensures { result ≡ block_row key }
-{
-    match key {
-        Key::First => of_kind(Kind::Name),
-        _ => None,
+        _ => first_row(Kind::Name, key),
     }
 }
 
@@ -177,13 +164,12 @@ pub(crate) fn row_of(keyword: Keyword, key: Key) -> Option<Row>
 {
     match keyword {
         Keyword::Max => max_row(key),
-        Keyword::Program => program_row(key),
+        Keyword::Program => first_row(Kind::ProgName, key),
         Keyword::Tac => tac_row(key),
         Keyword::User => user_row(key),
         Keyword::Pterm => pterm_row(key),
         Keyword::Lterm => lterm_row(key),
-        Keyword::Tls => block_row(key),
-        Keyword::Uls => block_row(key),
+        Keyword::Tls | Keyword::Uls => first_row(Kind::Name, key),
         Keyword::TacClass => class_row(key),
     }
 }

@@ -1,7 +1,6 @@
 //! What a statement says, from what its operands say.
 ghost use Rattle.std.specs.Prelude.{◌≡◌, IfOk};
-ghost use Rattle.kdcdef_read.specs.Said.{name_at, prog_name_at, number_at, class_at, time_at, call_at, flag_at, password_at, max_said, class_of, tac_entry, tac_said, user_said, pterm_said, lterm_said, class_said, said_of};
-ghost use Rattle.kdcdef_read.specs.Filling.{answer, answers};
+ghost use Rattle.kdcdef_read.specs.{Said.{name_at, prog_name_at, number_at, class_at, time_at, call_at, flag_at, password_at, max_said, class_of, tac_entry, tac_said, user_said, pterm_said, lterm_said, class_said, said_of}, Filling.{answer, answers}};
 ghost use Rattle.kdcdef_read.specs.declared.words.Keyword.TheVariants as keywords;
 ghost use Rattle.kdcdef_read.specs.declared.words.Key.TheVariants as keys;
 

@@ -1,12 +1,12 @@
 //! The value of an operand, by the kind of its row.
 ghost use Rattle.std.specs.Prelude.{◌≡◌};
-ghost use Rattle.kdcdef_read.specs.Values.{number_text, number_between, number_in, class_in, time_in, flag_of, call_of, blksize_of, choice_of, one_of, name_in, prog_name_in, password_in, file_of, file_in, mode_of, mode_in, value_of};
+ghost use Rattle.kdcdef_read.specs.Values.{number_text, number_between, number_in, class_in, time_in, flag_of, call_of, blksize_of, choice_of, one_of, written_name, password_in, first_of, file_in, mode_in, value_of};
 
 use crate::fault::Cause;
 use crate::password::Password;
 use crate::rows::{Choice, Kind};
 use crate::words::is;
-use kd_base::{Name, ProgName, decimal_of};
+use kd_base::{Name, NameOf, ProgName, decimal_of};
 use kdcdef_lex::{RawItem, RawValue};
 use kdcdef_types::CallUse;
 
@@ -146,25 +146,13 @@ fn one_of(choice: Choice, raw: &RawValue) -> Result<Value, Cause>
     }
 }
 
-fn name_in(raw: &RawValue) -> Result<Value, Cause>
-    ensures { result ≡ name_in raw.now }
+// A name of at most N bytes.
+fn written_name<const N: usize>(raw: &RawValue) -> Result<NameOf<N>, Cause>
+    ensures { result ≡ written_name N raw.now }
 {
     match raw {
-        RawValue::Word(word) => match Name::from_bytes(word.as_slice()) {
-            Some(name) => Ok(Value::Name(name)),
-            None => Err(Cause::BadName),
-        },
-        RawValue::Quoted(_) => Err(Cause::BadName),
-        RawValue::Listed(_) => Err(Cause::BadChoice),
-    }
-}
-
-fn prog_name_in(raw: &RawValue) -> Result<Value, Cause>
-    ensures { result ≡ prog_name_in raw.now }
-{
-    match raw {
-        RawValue::Word(word) => match ProgName::from_bytes(word.as_slice()) {
-            Some(name) => Ok(Value::ProgName(name)),
+        RawValue::Word(word) => match NameOf::from_bytes(word.as_slice()) {
+            Some(name) => Ok(name),
             None => Err(Cause::BadName),
         },
         RawValue::Quoted(_) => Err(Cause::BadName),
@@ -186,13 +174,13 @@ fn password_in(raw: &RawValue) -> Result<Value, Cause>
     }
 }
 
-// The second item of KDCFILE's list.
-fn file_of(word: &[u8]) -> Result<Value, Cause>
-    ensures { result ≡ file_of word.now }
+// A choice of two words, of which this profile has the first.
+fn first_of(kept: &[u8], other: &[u8], word: &[u8]) -> Result<Value, Cause>
+    ensures { result ≡ first_of kept.now other.now word.now }
 {
-    if is(word, b"SINGLE") {
+    if is(word, kept) {
         Ok(Value::Accepted)
-    } else if is(word, b"DOUBLE") {
+    } else if is(word, other) {
         Err(Cause::NotInProfile)
     } else {
         Err(Cause::BadChoice)
@@ -206,21 +194,13 @@ fn file_in(raw: &RawValue) -> Result<Value, Cause>
         RawValue::Word(_) => Ok(Value::Accepted),
         RawValue::Quoted(_) => Err(Cause::BadChoice),
         RawValue::Listed(items) => match items.as_slice() {
-            [Some(RawItem::Word(_)), Some(RawItem::Word(word))] => file_of(word.as_slice()),
+            [Some(RawItem::Word(_)), Some(RawItem::Word(word))] => first_of(
+                b"SINGLE",
+                b"DOUBLE",
+                word.as_slice(),
+            ),
             _ => Err(Cause::BadChoice),
         },
-    }
-}
-
-fn mode_of(word: &[u8]) -> Result<Value, Cause>
-    ensures { result ≡ mode_of word.now }
-{
-    if is(word, b"SECURE") {
-        Ok(Value::Accepted)
-    } else if is(word, b"FAST") {
-        Err(Cause::NotInProfile)
-    } else {
-        Err(Cause::BadChoice)
     }
 }
 
@@ -228,7 +208,7 @@ fn mode_in(raw: &RawValue) -> Result<Value, Cause>
     ensures { result ≡ mode_in raw.now }
 {
     match raw {
-        RawValue::Word(word) => mode_of(word.as_slice()),
+        RawValue::Word(word) => first_of(b"SECURE", b"FAST", word.as_slice()),
         _ => Err(Cause::BadChoice),
     }
 }
@@ -238,8 +218,8 @@ pub(crate) fn value_of(kind: Kind, raw: &RawValue) -> Result<Value, Cause>
     ensures { result ≡ value_of kind raw.now }
 {
     match kind {
-        Kind::Name => name_in(raw),
-        Kind::ProgName => prog_name_in(raw),
+        Kind::Name => Ok(Value::Name(written_name(raw)?)),
+        Kind::ProgName => Ok(Value::ProgName(written_name(raw)?)),
         Kind::Number(low, high) => number_in(low, high, raw),
         Kind::Class => class_in(raw),
         Kind::Time => time_in(raw),

@@ -1,6 +1,5 @@
 //! The words of KDCDEF: keywords, and keys of operands that the table has. They may be written in either case.
-ghost use Rattle.std.specs.Prelude.{◌≡◌, ◌<◌};
-ghost use Rattle.std.specs.Str.{str_eq_ignore_ascii_case};
+ghost use Rattle.std.specs.{Prelude.{◌≡◌, ◌<◌}, Str.{str_eq_ignore_ascii_case}};
 ghost use Rattle.kdcdef_read.specs.Words.{kept_of, is_passed, form_of, limit_key, entry_key, key_of, place_of};
 
 /// A statement with operands that are kept.

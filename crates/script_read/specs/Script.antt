@@ -4,6 +4,7 @@ use Rattle.std.specs.List.{slice_split, list_all}
 use Rattle.std.specs.Ordering.{nat_cmp, eq_by_cmp}
 use Rattle.std.specs.Cmp.Lexicographic.{slice_cmp}
 use Rattle.std.specs.Str.Lines.{lines}
+use Rattle.kd_base.specs.Limits.{longest_text}
 use Rattle.kd_base.specs.Text.{is_digit, is_space, decimal_value}
 use Rattle.script_read.specs.declared.fault.ScriptFault.{ScriptFault}
 use Rattle.script_read.specs.declared.fault.ScriptFault.TheVariants.{BadLine, OutOfRange, TooLong}
@@ -86,7 +87,7 @@ command_lines ls = count_by (λ line. not (is_passed line)) ls
 
 -- more than 16,777,216 bytes, or more than 1,000,000 lines that are neither empty nor comments
 abbrev pub is_too_long : List ℕ → Bool
-is_too_long text = nat_lt 16777216 (length text) || nat_lt 1000000 (command_lines (lines text))
+is_too_long text = nat_lt longest_text (length text) || nat_lt 1000000 (command_lines (lines text))
 
 abbrev pub script_by : {C : Type 0} → Bool → (List ℕ → Line C) → List ℕ → Result (List C) ScriptFault
 script_by true reads text = Err TooLong

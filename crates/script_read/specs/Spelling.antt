@@ -2,7 +2,7 @@
 use Rattle.std.specs.Prelude.{◌≡◌, ◌⊎◌, ℕ, ◌≤◌, Bool, true, false, IsTrue, List, [], ◌∷◌, ◌++◌, length, replicate, codes, Some}
 use Rattle.std.specs.List.{list_all}
 use Rattle.kd_base.specs.Text.{IsName, is_digit, decimal_value}
-use Rattle.kdcs_types.specs.Limits.{last_clock}
+use Rattle.kd_base.specs.Limits.{last_clock}
 use Rattle.kdcdef_types.specs.declared.entry.PtermEntry.{PtermEntry}
 use Rattle.kdcdef_types.specs.declared.entry.LtermEntry.{LtermEntry}
 use Rattle.kdcdef_types.specs.Generation.{Generated, pterm_of, lterm_of}

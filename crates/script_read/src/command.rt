@@ -1,9 +1,6 @@
 //! The command of a line.
-ghost use Rattle.std.specs.Prelude.{◌≡◌, ◌<◌, length};
-ghost use Rattle.std.specs.List.{list_all};
-ghost use Rattle.script_read.specs.Script.{words, is_passed, begins_with_space};
-ghost use Rattle.script_read.specs.Commands.{is_text_byte, input, alone, with_one, with_two, line_of_words, command_by, begins_with_in, line_in};
-ghost use Rattle.script_read.specs.Reading.{outcome, found_of, Gives};
+ghost use Rattle.std.specs.{Prelude.{◌≡◌, ◌<◌, length}, List.{list_all}};
+ghost use Rattle.script_read.specs.{Script.{words, is_passed, begins_with_space}, Commands.{is_text_byte, input, alone, with_one, with_two, line_of_words, command_by, begins_with_in, line_in}, Reading.{outcome, found_of, Gives}};
 
 use crate::fault::ScriptFault;
 use crate::keyword::{Keyword, keyword_of};
@@ -12,13 +9,10 @@ use crate::number::number_of;
 use crate::reading::LineReader;
 use crate::terminal::pterm_of;
 use crate::word::{next_word, same, split_at_space};
-use kd_base::Bytes;
+use kd_base::{Bytes, LAST_CLOCK};
 use kdcdef_check::Generation;
 use monitor_semantics::Command;
 use std::alloc::Global;
-
-/// The greatest number of a TICK.
-const LAST_CLOCK: u64 = 999_999_999_999;
 
 /// The greatest number of a RUN.
 const LAST_TURNS: u64 = 1_000_000;

@@ -1,7 +1,6 @@
 //! The keywords of the commands whose words are parted by spaces.
 ghost use Rattle.std.specs.Prelude.{◌≡◌, find};
-ghost use Rattle.script_read.specs.Script.{same};
-ghost use Rattle.script_read.specs.Commands.{spelling, keyword_of};
+ghost use Rattle.script_read.specs.{Script.{same}, Commands.{spelling, keyword_of}};
 
 use crate::word::same;
 

@@ -1,6 +1,5 @@
 //! The lines that are passed over.
-ghost use Rattle.std.specs.Prelude.{◌≡◌};
-ghost use Rattle.std.specs.List.{list_all};
+ghost use Rattle.std.specs.{Prelude.{◌≡◌}, List.{list_all}};
 ghost use Rattle.kd_base.specs.Text.{is_space};
 ghost use Rattle.script_read.specs.Script.{is_comment, is_passed};
 

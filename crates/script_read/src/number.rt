@@ -1,10 +1,8 @@
 //! Numbers of digits.
-ghost use Rattle.std.specs.Prelude.{◌≡◌, ◌≤◌, ◌<◌, length, IfOk};
-ghost use Rattle.std.specs.List.{list_all};
+ghost use Rattle.std.specs.{Prelude.{◌≡◌, ◌≤◌, ◌<◌, length, IfOk}, List.{list_all}};
 ghost use Rattle.kd_base.specs.Text.{is_digit};
 ghost use Rattle.kdcdef_types.specs.Statements.{IsWithin};
-ghost use Rattle.script_read.specs.Script.{numbered};
-ghost use Rattle.script_read.specs.Reading.{outcome, found_of};
+ghost use Rattle.script_read.specs.{Script.{numbered}, Reading.{outcome, found_of}};
 
 use crate::fault::ScriptFault;
 use kd_base::decimal_of;

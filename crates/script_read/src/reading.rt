@@ -1,24 +1,16 @@
 //! Reading a script.
-ghost use Rattle.std.specs.Prelude.{◌≡◌, ◌≢◌, ◌<◌, ◌-◌, ◌^◌, List, ℕ, length, nat_lt, Ok, Err, IfOk, IfErr};
-ghost use Rattle.std.specs.List.{All};
-ghost use Rattle.std.specs.Str.Lines.{lines};
+ghost use Rattle.std.specs.{Prelude.{◌≡◌, ◌≢◌, ◌<◌, ◌-◌, ◌^◌, List, ℕ, length, nat_lt, Ok, Err, IfOk, IfErr}, List.{All}, Str.Lines.{lines}};
 ghost use Rattle.kd_base.specs.FirstFaults.{items_of};
-ghost use Rattle.script_read.specs.declared.fault.ScriptFault.TheVariants.{Memory};
-ghost use Rattle.script_read.specs.Script.{Line, command_lines, is_too_long};
+ghost use Rattle.script_read.specs.{declared.fault.ScriptFault.TheVariants.{Memory}, Script.{Line, command_lines, is_too_long}, Commands.{script_in}, Reading.{outcome, Gives, commands_of}};
 ghost use Rattle.monitor_semantics.specs.CommandsOf.{IsCommandOf};
-ghost use Rattle.script_read.specs.Commands.{script_in};
-ghost use Rattle.script_read.specs.Reading.{outcome, Gives, commands_of};
 
 use crate::fault::ScriptFault;
 use crate::line::is_passed;
-use kd_base::Sequence;
+use kd_base::{LONGEST_TEXT, Sequence};
 use kdcdef_check::Generation;
 use monitor_semantics::Command;
 use std::alloc::Global;
 use texts::next_line;
-
-/// The greatest length of a script in bytes.
-const MAX_SCRIPT_LEN: usize = 16_777_216;
 
 /// The greatest number of lines that are neither empty nor comments.
 const MAX_COMMANDS: u32 = 1_000_000;
@@ -61,7 +53,7 @@ fn has_too_many_commands(text: &[u8]) -> bool
 fn is_too_long(text: &[u8]) -> bool
     ensures { result ≡ is_too_long text.now }
 {
-    text.len() > MAX_SCRIPT_LEN || has_too_many_commands(text)
+    text.len() > LONGEST_TEXT || has_too_many_commands(text)
 }
 
 // The commands of a text whose lines can be numbered, or its first fault.

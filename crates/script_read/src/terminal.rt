@@ -1,7 +1,6 @@
 //! The PTERMs of a generation, by the USAGE of their LTERMs.
 ghost use Rattle.std.specs.Prelude.{◌≡◌, Some};
-ghost use Rattle.script_read.specs.Commands.{lterm_at, pterm_in};
-ghost use Rattle.script_read.specs.Reading.{outcome, found_of};
+ghost use Rattle.script_read.specs.{Commands.{lterm_at, pterm_in}, Reading.{outcome, found_of}};
 
 use crate::fault::ScriptFault;
 use kd_base::Name;

@@ -1,6 +1,5 @@
 //! The words of a line.
-ghost use Rattle.std.specs.Prelude.{◌≡◌, ◌<◌, ◌∷◌, [], false, length, IfSome, MatchOption};
-ghost use Rattle.std.specs.List.{prefix_len, before_first, after_first};
+ghost use Rattle.std.specs.{Prelude.{◌≡◌, ◌<◌, ◌∷◌, [], false, length, IfSome, MatchOption}, List.{prefix_len, before_first, after_first}};
 ghost use Rattle.kd_base.specs.Text.{is_space};
 ghost use Rattle.script_read.specs.Script.{words, same};
 

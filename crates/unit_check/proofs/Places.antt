@@ -1,29 +1,17 @@
--- An index of units, with one more, and what is found by it.
-use Rattle.std.proofs.Common.{◌≡◌, ℕ, ◌+◌, ◌<◌, Bool, true, false, cond, List, [], ◌∷◌, ◌++◌, length, take, drop, get_or, refl, sym, ap, subst, ◌∙◌, Bor, inl, inr, arith, zero, suc}
+-- What is found by an index of units.
+use Rattle.std.proofs.Common.{◌≡◌, ℕ, ◌+◌, Bool, true, false, List, [], ◌∷◌, drop, refl, sym, ap, ◌∙◌, Bor, inl, inr, arith, zero, suc}
 use Rattle.std.specs.Prelude.{Option, Some, None, bytes_eq, is_some, find, slice_get, option_and_then, IsSome, IfSome, All}
 use Rattle.std.specs.List.{position_from}
-use Rattle.std.specs.Option.{option_or, option_copied}
+use Rattle.std.specs.Option.{option_copied}
 use Rattle.std.proofs.lemmas.Bool.{cases_Bool}
-use Rattle.std.proofs.lemmas.List.{take_more, length-take-le}
-use Rattle.std.proofs.lemmas.List.Elements.{All-head, All-tail}
 use Rattle.std.proofs.lemmas.Map.Entries.{All-lookup}
-use Rattle.unit_types.specs.Index.{or_first}
-use Rattle.unit_types.specs.Places.{position_more, found_at}
+use Rattle.unit_types.specs.Places.{found_at, found_passes}
 use Rattle.unit_types.specs.UnitText.{UnitText}
 use Rattle.unit_check.specs.declared.fault.FitFault.TheVariants.{NoUnit}
 use Rattle.unit_check.specs.Finding.{lacking}
 use Rattle.kdcdef_types.specs.declared.entry.TacEntry.{TacEntry}
 use Rattle.kdcdef_types.specs.Generation.{entry_of}
 use Rattle.unit_check.specs.Fitted.{unit_named, unit_of, FittedUnits, IsFitted, AreFit}
-
-pub unit_more : (old new : List ℕ → Option ℕ) (units : List UnitText) (i : ℕ) (u : UnitText) (name : List ℕ) → i < length units → u ≡ get_or units i u → name ≡ u.name → ((w : List ℕ) → old w ≡ position_from (λ (v : UnitText). bytes_eq w v.name) 0 (take i units)) → ((w : List ℕ) → new w ≡ or_first (old w) name i w) → (w : List ℕ) → new w ≡ position_from (λ (v : UnitText). bytes_eq w v.name) 0 (take (i + 1) units)
-unit_more old new units i u name lt is named so_far put w =
-    let test : UnitText → Bool = λ (v : UnitText). bytes_eq w v.name in
-    let count : 0 + length (take i units) ≡ i = omega (arith, length-take-le i units) in
-    put w
-    ∙ ap (λ (o : Option ℕ). or_first o name i w) (so_far w)
-    ∙ rw named (ap (λ (n : ℕ). option_or (position_from test 0 (take i units)) (cond (test u) (Some n) None)) (sym count) ∙ sym (position_more test 0 (take i units) u))
-    ∙ ap (position_from test 0) (ap (λ (x : UnitText). take i units ++ x ∷ []) is ∙ sym (take_more units i u lt))
 
 has_place : {A : Type 0} (test : A → Bool) (i : ℕ) (all : List A) → is_some (position_from test i all) ≡ is_some (find test all)
 has_place test i [] = refl
@@ -59,14 +47,6 @@ lacks_later units programs i p at h = rw (drop_at programs i p at, h) refl
 
 -- ---- the unit of a TAC
 
-all_found : {A : Type 0} (P : A → Type 0) (test : A → Bool) (all : List A) (x : A) → All P all → find test all ≡ Some x → P x
-all_found P test [] x h e = absurd cc
-all_found {A} P test (y ∷ all) x h e = go (test y) e (λ f. all_found P test all x (All-tail P y all h) f)
-  where
-    go : (b : Bool) → cond b (Some y) (find test all) ≡ Some x → (find test all ≡ Some x → P x) → P x
-    go true f later = let same : y ≡ x = cc in subst P same (All-head P y all h)
-    go false f later = later f
-
 -- what `unit_of` says of the unit that it lends
 pub record IsUnitOf (fitted : FittedUnits) (tac : List ℕ) (lent : Option (Bor UnitText)) : Type 0 where
   pub unit : option_copied lent ≡ unit_of fitted tac
@@ -79,7 +59,7 @@ some_copied (Some x) = refl
 
 lent_fits : (fitted : FittedUnits) (name : List ℕ) (lent : Option (Bor UnitText)) → All (IsFitted fitted.limits fitted.tacs) fitted.units → option_copied lent ≡ unit_named fitted.units name → IfSome lent (λ u. IsFitted fitted.limits fitted.tacs u.now)
 lent_fits fitted name None all e = tt
-lent_fits fitted name (Some u) all e = all_found (IsFitted fitted.limits fitted.tacs) (λ (v : UnitText). bytes_eq name v.name) fitted.units u.now all (sym e)
+lent_fits fitted name (Some u) all e = found_passes (IsFitted fitted.limits fitted.tacs) (λ (v : UnitText). bytes_eq name v.name) fitted.units u.now all (sym e)
 
 pub lent_unit : (fitted : FittedUnits) (tac : List ℕ) (t : TacEntry) (lent : Option (Bor UnitText)) → AreFit fitted.limits fitted.tacs fitted.units → entry_of fitted.tacs tac ≡ Some t → option_copied lent ≡ unit_named fitted.units t.program → IsUnitOf fitted tac lent
 lent_unit fitted tac t lent fit at is =

@@ -1,10 +1,10 @@
 -- Units that fit a generation.
-use Rattle.std.specs.Prelude.{◌≡◌, ℕ, ◌+◌, ◌-◌, ◌≤◌, Bool, if◌then◌else◌, List, length, take, Option, Some, None, IsSome, IfSome, All, bytes_eq, find, option_and_then}
+use Rattle.std.specs.Prelude.{◌≡◌, ℕ, ◌+◌, ◌≤◌, Bool, if◌then◌else◌, List, Option, Some, None, IsSome, IfSome, All, bytes_eq, find, option_and_then}
 use Rattle.std.specs.BTreeMap.{BTreeMap, get_by}
 use Rattle.std.specs.Cmp.Lexicographic.{slice_cmp}
-use Rattle.std.specs.List.{position_from, suffix_len}
+use Rattle.std.specs.List.{position_from}
 use Rattle.std.specs.Ordering.{nat_cmp}
-use Rattle.kd_base.specs.Text.{is_space, name_of}
+use Rattle.kd_base.specs.Text.{trim_end, name_of}
 use Rattle.kdcdef_types.specs.declared.entry.TacEntry.{TacEntry}
 use Rattle.kdcdef_types.specs.declared.limits.Limits.{Limits}
 use Rattle.kdcdef_types.specs.Generation.{Generated, entry_of}
@@ -37,10 +37,6 @@ area_len limits spab = if spab then limits.spab else limits.kb
 -- a field lies inside its area
 abbrev pub IsInside : Limits → Field → Type 0
 IsInside limits f = f.offset + f.length ≤ area_len limits f.spab
-
--- the bytes without the spaces at the end
-unfoldable pub trim_end : List ℕ → List ℕ
-trim_end bytes = take (length bytes - suffix_len is_space bytes) bytes
 
 -- the TAC that bytes name, with or without spaces at their end
 abbrev pub tac_in : List (List ℕ × TacEntry) → List ℕ → Option TacEntry

@@ -1,29 +1,16 @@
 //! The order of faults.
 ghost use Rattle.std.specs.Prelude.{◌≡◌};
-ghost use Rattle.unit_check.specs.Faults.{number_of, comes_first};
-ghost use Rattle.unit_check.specs.Finding.{earlier};
+ghost use Rattle.unit_check.specs.{Faults.{comes_first}, Finding.{earlier}};
 
 use crate::fault::FitFault;
 
 impl FitFault {
-    // The order of the faults of one line.
-    fn number(&self) -> u8
-        ensures { result ≡ number_of self.now }
-    {
-        match self {
-            FitFault::NoUnit(_) => 1,
-            FitFault::NoLabel(_) => 2,
-            FitFault::FieldPastArea(_) => 3,
-            FitFault::LiteralFollowUp(_) => 4,
-            FitFault::Memory => 0,
-        }
-    }
-
     fn comes_first(&self, other: &FitFault) -> bool
         ensures { result ≡ comes_first self.now other.now }
     {
-        self.line() < other.line()
-            || (self.line() == other.line() && self.number() <= other.number())
+        let (line, number, _) = self.row();
+        let (other_line, other_number, _) = other.row();
+        line < other_line || (line == other_line && number <= other_number)
     }
 }
 

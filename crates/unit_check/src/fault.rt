@@ -1,7 +1,6 @@
 //! Why units do not fit a generation.
 ghost use Rattle.std.specs.Prelude.{◌≡◌};
-ghost use Rattle.unit_check.specs.declared.fault.FitFault.TheVariants.{Memory};
-ghost use Rattle.unit_check.specs.Faults.{line_of, name_of};
+ghost use Rattle.unit_check.specs.{declared.fault.FitFault.TheVariants.{Memory}, Faults.{line_of, number_of, name_of}};
 
 use kd_base::OutOfMemory;
 use thiserror::Error;
@@ -30,30 +29,33 @@ pub enum FitFault {
 }
 
 impl FitFault {
+    // Its line, its number among the faults of one line, and the name by which it is printed.
+    pub(crate) fn row(&self) -> (u32, u8, &'static str)
+        ensures line { result.0 ≡ line_of self.now }
+        ensures number { result.1 ≡ number_of self.now }
+        ensures name { result.2.now ≡ name_of self.now }
+    {
+        match *self {
+            FitFault::NoUnit(line) => (line, 1, "NoUnit"),
+            FitFault::NoLabel(line) => (line, 2, "NoLabel"),
+            FitFault::FieldPastArea(line) => (line, 3, "FieldPastArea"),
+            FitFault::LiteralFollowUp(line) => (line, 4, "LiteralFollowUp"),
+            FitFault::Memory => (0, 0, "Memory"),
+        }
+    }
+
     /// The number of its line, counted from 1. It takes no memory.
     pub fn line(&self) -> u32
         ensures { result ≡ line_of self.now }
     {
-        match self {
-            FitFault::NoUnit(line)
-            | FitFault::NoLabel(line)
-            | FitFault::FieldPastArea(line)
-            | FitFault::LiteralFollowUp(line) => *line,
-            FitFault::Memory => 0,
-        }
+        self.row().0
     }
 
     /// The name by which it is printed. It takes no memory.
     pub fn name(&self) -> &'static str
         ensures { result.now ≡ name_of self.now }
     {
-        match self {
-            FitFault::NoUnit(_) => "NoUnit",
-            FitFault::NoLabel(_) => "NoLabel",
-            FitFault::FieldPastArea(_) => "FieldPastArea",
-            FitFault::LiteralFollowUp(_) => "LiteralFollowUp",
-            FitFault::Memory => "Memory",
-        }
+        self.row().2
     }
 }
 

@@ -1,10 +1,7 @@
 //! Fitting units to a generation.
 ghost use Rattle.std.specs.Prelude.{◌≡◌, ◌≢◌, All, None, Ok, Err, IfOk, IfErr, OnOk};
 ghost use Rattle.unit_types.specs.UnitText.{IsWhole};
-ghost use Rattle.unit_check.specs.declared.fault.FitFault.TheVariants.{Memory};
-ghost use Rattle.unit_check.specs.Fitted.{FittedUnits, PutsPlace, AreUnitPlaces, AreFittedTo};
-ghost use Rattle.unit_check.specs.Faults.{IsFirstFault, Gives};
-ghost use Rattle.unit_check.specs.Finding.{lacking, units_fault, fit_fault};
+ghost use Rattle.unit_check.specs.{declared.fault.FitFault.TheVariants.{Memory}, Fitted.{FittedUnits, PutsPlace, AreUnitPlaces, AreFittedTo}, Faults.{IsFirstFault, Gives}, Finding.{lacking, units_fault}};
 
 use crate::earlier::earlier;
 use crate::fault::FitFault;
@@ -77,20 +74,6 @@ fn units_fault(units: &[Unit], generation: &Generation) -> Option<FitFault>
     )
 }
 
-fn fit_fault(
-    units: &[Unit],
-    places: &BTreeMap<ProgName, usize>,
-    generation: &Generation,
-) -> Option<FitFault>
-    requires { AreUnitPlaces places.now units.now }
-    ensures { result ≡ fit_fault generation.now units.now }
-{
-    match lacking(units, places, generation) {
-        Some(fault) => Some(fault),
-        None => units_fault(units, generation),
-    }
-}
-
 /// The units, where they fit the generation, or their first fault.
 ///
 /// A PROGRAM statement without a unit is answered before all others, in the order of these statements. A unit that no
@@ -106,8 +89,9 @@ pub fn fit(alloc: Global, units: Vec<Unit>, generation: &Generation) -> Result<U
     // Units with the fault are refused for it, unless memory runs out.
     ensures refused { (fault : FitFault) → IsFirstFault generation.now units.items fault → Gives result (Err fault) }
 {
-    let places = places_of(alloc, units.as_slice())?;
-    if let Some(fault) = fit_fault(units.as_slice(), &places, generation) {
+    let listed = units.as_slice();
+    let places = places_of(alloc, listed)?;
+    if let Some(fault) = lacking(listed, &places, generation).or(units_fault(listed, generation)) {
         return Err(fault);
     }
     Ok(Units {

@@ -1,26 +1,12 @@
 //! The faults of one statement.
-ghost use Rattle.std.specs.Prelude.{◌≡◌, is_some};
-ghost use Rattle.std.specs.Option.{option_copied};
+ghost use Rattle.std.specs.{Prelude.{◌≡◌, is_some}, Option.{option_copied}};
 ghost use Rattle.unit_types.specs.UnitText.{jump_of};
-ghost use Rattle.unit_check.specs.Fitted.{trim_end, tac_in, literal_follow_up};
-ghost use Rattle.unit_check.specs.Finding.{label_fault, follow_up_fault};
+ghost use Rattle.unit_check.specs.{Fitted.{tac_in, literal_follow_up}, Finding.{label_fault, follow_up_fault}};
 
 use crate::fault::FitFault;
-use kd_base::{Bytes, Name};
+use kd_base::{Bytes, Name, trim_end};
 use kdcdef_check::Generation;
 use unit_types::{Action, Operand, Unit, UnitStatement};
-
-/// The bytes without the spaces at the end.
-#[tactic(auto, unfolding(crate::specs::Fitted::trim_end))]
-fn trim_end(bytes: &[u8]) -> &[u8]
-    ensures { result.now ≡ trim_end bytes.now }
-{
-    let mut n = bytes.len();
-    while n > 0 && bytes[n - 1] == b' ' {
-        n -= 1;
-    }
-    &bytes[..n]
-}
 
 // Whether the bytes, without the spaces at their end, are a TAC.
 fn names_tac(generation: &Generation, bytes: &[u8]) -> bool

@@ -1,6 +1,5 @@
 //! Units that fit a generation.
-ghost use Rattle.std.specs.Prelude.{◌≡◌, ◌↔◌, IfSome, IsSome};
-ghost use Rattle.std.specs.Option.{option_copied};
+ghost use Rattle.std.specs.{Prelude.{◌≡◌, ◌↔◌, IfSome, IsSome}, Option.{option_copied}};
 ghost use Rattle.kdcdef_types.specs.Generation.{entry_of};
 ghost use Rattle.unit_check.specs.Fitted.{unit_named, unit_of, IsFitted, AreFit};
 

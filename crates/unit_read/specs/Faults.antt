@@ -1,6 +1,7 @@
 -- A fault stands at a line.
 use Rattle.std.specs.Prelude.{◌≡◌, ℕ, ◌+◌, ◌<◌, ◌≤◌, ◌⊎◌, true, false, List, [], ◌∷◌, ◌++◌, length, codes, Option, Some, None}
 use Rattle.std.specs.Str.Lines.{lines}
+use Rattle.kd_base.specs.Limits.{longest_text}
 use Rattle.unit_types.specs.UnitText.{UnitText}
 use Rattle.unit_read.specs.declared.fault.UnitFault.{UnitFault}
 use Rattle.unit_read.specs.declared.fault.UnitFault.TheVariants.{BadStatement, BadField, LabelTwice, NoEnd, UnitTwice, TooLong, Memory}
@@ -98,7 +99,7 @@ pub record FirstFault (all : List (List ℕ)) (fault : UnitFault) : Type 0 where
   pub next : FaultNext (length above + 1) below us open_unit fault
 
 abbrev pub HasTextFault : List ℕ → UnitFault → Type 0
-HasTextFault text fault = ((16777216 < length text) × (fault ≡ TooLong 0)) ⊎ ((length text ≤ 16777216) × FirstFault (lines text) fault)
+HasTextFault text fault = ((longest_text < length text) × (fault ≡ TooLong 0)) ⊎ ((length text ≤ longest_text) × FirstFault (lines text) fault)
 
 -- ---- what is printed of a fault
 

@@ -1,6 +1,7 @@
 -- How the lines of units are written.
 use Rattle.std.specs.Prelude.{◌≡◌, ℕ, ◌<◌, ◌≤◌, Bool, true, false, IsTrue, List, [], ◌∷◌, ◌++◌, length, Some, None, codes}
 use Rattle.std.specs.List.{list_all}
+use Rattle.kd_base.specs.Limits.{longest_content}
 use Rattle.kd_base.specs.Fronts.{begins}
 use Rattle.kd_base.specs.Text.{IsProgName, IsDecimal, decimal_value}
 use Rattle.kd_base.specs.declared.words.Mode.{Mode}
@@ -64,7 +65,7 @@ operand_word (operands.Trim name) = Plain (codes "TRIM(" ++ (name ++ codes ")"))
 -- names have their form, a field has no header's name, a literal has at most 32,767 bytes, digits are 1 to 18
 abbrev pub IsOperand : Operand → Type 0
 IsOperand (operands.Field name) = IsTrue (is_name name) × (header_of name ≡ None)
-IsOperand (operands.Literal bytes) = length bytes ≤ 32767
+IsOperand (operands.Literal bytes) = length bytes ≤ longest_content
 IsOperand (operands.Digits digits) = IsDecimal digits
 IsOperand (operands.Header header) = Unit {0}
 IsOperand (operands.Trim name) = IsTrue (is_name name)
@@ -159,7 +160,7 @@ area_name false = codes "KB"
 
 -- the digits say the number, which is from the least one to 32,767
 abbrev pub Says : ℕ → List ℕ → ℕ → Type 0
-Says least digits n = IsDecimal digits × (n ≡ decimal_value digits) × (least ≤ n) × (n ≤ 32767)
+Says least digits n = IsDecimal digits × (n ≡ decimal_value digits) × (least ≤ n) × (n ≤ longest_content)
 
 abbrev pub IsPiece : Piece → List Word → Type 0
 IsPiece (pieces.Unit name) ws = (ws ≡ Plain (codes "UNIT") ∷ Plain name ∷ []) × IsProgName name

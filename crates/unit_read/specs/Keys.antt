@@ -8,38 +8,6 @@ use Rattle.unit_read.specs.declared.key.Key.{Key}
 use Rattle.unit_read.specs.declared.key.Key.TheVariants as keys
 use Rattle.unit_read.specs.declared.key.TheConstants.{KEYS}
 
--- the keyword of the call or the plain statement
-abbrev pub first_keyword : Key → List ℕ
-first_keyword keys.Move = codes "MOVE"
-first_keyword keys.Join = codes "JOIN"
-first_keyword keys.Add = codes "ADD"
-first_keyword keys.Sub = codes "SUB"
-first_keyword keys.Mul = codes "MUL"
-first_keyword keys.Div = codes "DIV"
-first_keyword keys.If = codes "IF"
-first_keyword keys.Jump = codes "JUMP"
-first_keyword keys.Init = codes "INIT"
-first_keyword keys.Mget = codes "MGET"
-first_keyword keys.Mput = codes "MPUT"
-first_keyword keys.Fget = codes "FGET"
-first_keyword keys.Fput = codes "FPUT"
-first_keyword keys.Dput = codes "DPUT"
-first_keyword keys.SgetGb = codes "SGET"
-first_keyword keys.SputGb = codes "SPUT"
-first_keyword keys.SrelGb = codes "SREL"
-first_keyword keys.SgetKp = codes "SGET"
-first_keyword keys.SgetRl = codes "SGET"
-first_keyword keys.SputMs = codes "SPUT"
-first_keyword keys.SrelLb = codes "SREL"
-first_keyword keys.SgetUs = codes "SGET"
-first_keyword keys.SputUs = codes "SPUT"
-first_keyword keys.Gtda = codes "GTDA"
-first_keyword keys.Ptda = codes "PTDA"
-first_keyword keys.UnlkGb = codes "UNLK"
-first_keyword keys.UnlkUs = codes "UNLK"
-first_keyword keys.UnlkDa = codes "UNLK"
-first_keyword (keys.Pend variant) = codes "PEND"
-
 abbrev pub variant_keyword : Variant → List ℕ
 variant_keyword Kp = codes "KP"
 variant_keyword Pr = codes "PR"
@@ -52,22 +20,43 @@ variant_keyword Fr = codes "FR"
 variant_keyword Er = codes "ER"
 variant_keyword Rs = codes "RS"
 
--- the keyword of the operation or the variant; empty where there is none
+-- the keyword of the call or the plain statement, and that of the operation or the variant; empty where there is none
+abbrev pub keywords_of : Key → List ℕ × List ℕ
+keywords_of keys.Move = (codes "MOVE", [])
+keywords_of keys.Join = (codes "JOIN", [])
+keywords_of keys.Add = (codes "ADD", [])
+keywords_of keys.Sub = (codes "SUB", [])
+keywords_of keys.Mul = (codes "MUL", [])
+keywords_of keys.Div = (codes "DIV", [])
+keywords_of keys.If = (codes "IF", [])
+keywords_of keys.Jump = (codes "JUMP", [])
+keywords_of keys.Init = (codes "INIT", [])
+keywords_of keys.Mget = (codes "MGET", [])
+keywords_of keys.Mput = (codes "MPUT", [])
+keywords_of keys.Fget = (codes "FGET", [])
+keywords_of keys.Fput = (codes "FPUT", [])
+keywords_of keys.Dput = (codes "DPUT", [])
+keywords_of keys.SgetGb = (codes "SGET", codes "GB")
+keywords_of keys.SputGb = (codes "SPUT", codes "GB")
+keywords_of keys.SrelGb = (codes "SREL", codes "GB")
+keywords_of keys.SgetKp = (codes "SGET", codes "KP")
+keywords_of keys.SgetRl = (codes "SGET", codes "RL")
+keywords_of keys.SputMs = (codes "SPUT", codes "MS")
+keywords_of keys.SrelLb = (codes "SREL", codes "LB")
+keywords_of keys.SgetUs = (codes "SGET", codes "US")
+keywords_of keys.SputUs = (codes "SPUT", codes "US")
+keywords_of keys.Gtda = (codes "GTDA", [])
+keywords_of keys.Ptda = (codes "PTDA", [])
+keywords_of keys.UnlkGb = (codes "UNLK", codes "GB")
+keywords_of keys.UnlkUs = (codes "UNLK", codes "US")
+keywords_of keys.UnlkDa = (codes "UNLK", codes "DA")
+keywords_of (keys.Pend variant) = (codes "PEND", variant_keyword variant)
+
+abbrev pub first_keyword : Key → List ℕ
+first_keyword key = (keywords_of key).0
+
 abbrev pub second_keyword : Key → List ℕ
-second_keyword keys.SgetGb = codes "GB"
-second_keyword keys.SputGb = codes "GB"
-second_keyword keys.SrelGb = codes "GB"
-second_keyword keys.SgetKp = codes "KP"
-second_keyword keys.SgetRl = codes "RL"
-second_keyword keys.SputMs = codes "MS"
-second_keyword keys.SrelLb = codes "LB"
-second_keyword keys.SgetUs = codes "US"
-second_keyword keys.SputUs = codes "US"
-second_keyword keys.UnlkGb = codes "GB"
-second_keyword keys.UnlkUs = codes "US"
-second_keyword keys.UnlkDa = codes "DA"
-second_keyword (keys.Pend variant) = variant_keyword variant
-second_keyword _ = []
+second_keyword key = (keywords_of key).1
 
 -- the word in front is this one
 abbrev pub is_front : List Word → List ℕ → Bool

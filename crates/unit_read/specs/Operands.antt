@@ -1,6 +1,7 @@
 -- Names, numbers and operands, one word each.
 use Rattle.std.specs.Prelude.{ℕ, ◌-◌, Bool, ◌&&◌, ◌||◌, ◌==◌, nat_le, List, length, take, drop, Option, Some, None, if◌then◌else◌, codes, bytes_eq}
 use Rattle.std.specs.List.{list_all}
+use Rattle.kd_base.specs.Limits.{longest_content}
 use Rattle.kd_base.specs.declared.words.Mode.{Mode}
 use Rattle.kd_base.specs.declared.words.Mode.TheVariants.{Relative, Absolute}
 use Rattle.kd_base.specs.Fronts.{begins}
@@ -63,7 +64,7 @@ plain_operand word =
 
 abbrev pub operand_of : Word → Option Operand
 operand_of (Plain word) = plain_operand word
-operand_of (Literal bytes) = if nat_le (length bytes) 32767 then Some (operands.Literal bytes) else None
+operand_of (Literal bytes) = if nat_le (length bytes) longest_content then Some (operands.Literal bytes) else None
 
 abbrev pub relation_of : Word → Option Relation
 relation_of (Plain word) =

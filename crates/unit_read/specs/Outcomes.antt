@@ -8,7 +8,6 @@ abbrev pub is_memory : UnitFault → Bool
 is_memory Memory = true
 is_memory _ = false
 
--- what a function returned is what reading gives, unless memory ran out
 abbrev pub Gives : {X : Type 0} → Result X UnitFault → Result X UnitFault → Type 0
 Gives answer read = GivesUnless is_memory answer read
 

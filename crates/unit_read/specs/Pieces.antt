@@ -1,6 +1,7 @@
 -- The pieces of units, one to a line.
 use Rattle.std.specs.Prelude.{ℕ, ◌-◌, Bool, true, false, not, ◌&&◌, ◌==◌, nat_le, List, [], ◌∷◌, length, take, Option, None, Some, is_some, if◌then◌else◌, codes, bytes_eq, slice_index, option_and_then}
 use Rattle.std.specs.Option.{option_map}
+use Rattle.kd_base.specs.Limits.{longest_content}
 use Rattle.kd_base.specs.Text.{decimal_of, prog_name_of}
 use Rattle.unit_types.specs.declared.action.Action.{Action}
 use Rattle.unit_read.specs.declared.word.Word.{Word}
@@ -17,7 +18,7 @@ plain (Literal bytes) = None
 
 -- the number, where it is from the least one to 32,767
 abbrev pub in_range : ℕ → ℕ → Option ℕ
-in_range least number = if nat_le least number && nat_le number 32767 then Some number else None
+in_range least number = if nat_le least number && nat_le number longest_content then Some number else None
 
 abbrev pub number_from : ℕ → Word → Option ℕ
 number_from least word = option_and_then (λ (bytes : List ℕ). option_and_then (in_range least) (decimal_of bytes)) (plain word)

@@ -1,6 +1,7 @@
 -- Reading a units text, with the first fault.
 use Rattle.std.specs.Prelude.{ℕ, ◌+◌, nat_lt, List, [], ◌∷◌, length, Option, Some, None, Result, Ok, Err, if◌then◌else◌, option_and_then}
 use Rattle.std.specs.Str.Lines.{lines}
+use Rattle.kd_base.specs.Limits.{longest_text}
 use Rattle.kd_base.specs.Tools.{◌>>=◌}
 use Rattle.unit_types.specs.UnitText.{UnitText}
 use Rattle.unit_read.specs.declared.fault.UnitFault.{UnitFault}
@@ -29,4 +30,4 @@ read_from n [] s = finished n s
 read_from n (line ∷ rest) s = line_step n line s >>= read_from (n + 1) rest
 
 abbrev pub read_text : List ℕ → Result (List UnitText) UnitFault
-read_text text = if nat_lt 16777216 (length text) then Err (TooLong 0) else read_from 1 (lines text) nothing_read
+read_text text = if nat_lt longest_text (length text) then Err (TooLong 0) else read_from 1 (lines text) nothing_read

@@ -2,6 +2,7 @@
 use Rattle.std.specs.Prelude.{◌≡◌, ℕ, ◌+◌, ◌≤◌, ◌⊎◌, Bool, ◌&&◌, ◌==◌, true, false, IsTrue, List, [], ◌∷◌, ◌++◌, length}
 use Rattle.std.specs.List.{list_all}
 use Rattle.std.specs.Str.Lines.{lines}
+use Rattle.kd_base.specs.Limits.{longest_text}
 use Rattle.unit_types.specs.declared.action.UnitStatement.{UnitStatement}
 use Rattle.unit_types.specs.declared.unit.Field.{Field}
 use Rattle.unit_types.specs.UnitText.{UnitText}
@@ -116,4 +117,4 @@ AreUnits before (u ∷ us) ps =
 
 -- the text is cut into lines, those into pieces, and these into units
 abbrev pub SpellsUnits : List ℕ → List UnitText → Type 0
-SpellsUnits text us = (length text ≤ 16777216) × (ps : List Placed) × ArePieces 1 (lines text) ps × AreUnits [] us ps
+SpellsUnits text us = (length text ≤ longest_text) × (ps : List Placed) × ArePieces 1 (lines text) ps × AreUnits [] us ps

@@ -1,7 +1,6 @@
 //! Why a units text could not be read.
 ghost use Rattle.std.specs.Prelude.{◌≡◌};
-ghost use Rattle.unit_read.specs.declared.fault.UnitFault.TheVariants.{Memory};
-ghost use Rattle.unit_read.specs.Faults.{line_of, name_of};
+ghost use Rattle.unit_read.specs.{declared.fault.UnitFault.TheVariants.{Memory}, Faults.{line_of, name_of}};
 
 use kd_base::OutOfMemory;
 use thiserror::Error;

@@ -1,9 +1,6 @@
 //! A unit whose END has not come yet.
 ghost use Rattle.std.specs.Prelude.{◌≡◌, IfOk, OnOk};
-ghost use Rattle.unit_read.specs.Names.{AreFieldNames, AreLabelNames};
-ghost use Rattle.unit_read.specs.Units.{begun, with_field, with_label, with_statement, with_piece};
-ghost use Rattle.unit_read.specs.Open.{unit_so_far, IsKept};
-ghost use Rattle.unit_read.specs.Outcomes.{Gives, after};
+ghost use Rattle.unit_read.specs.{Names.{AreFieldNames, AreLabelNames}, Units.{begun, with_field, with_label, with_statement, with_piece}, Open.{unit_so_far, IsKept}, Outcomes.{Gives, after}};
 
 use crate::fault::UnitFault;
 use crate::names::{Names, add_name, holds, no_names};

@@ -1,17 +1,13 @@
 //! Names, numbers and operands, one word each.
-ghost use Rattle.std.specs.Prelude.{◌≡◌, IfOk, Option, length, option_copied};
-ghost use Rattle.std.specs.List.{list_all};
+ghost use Rattle.std.specs.{Prelude.{◌≡◌, IfOk, Option, length, option_copied}, List.{list_all}};
 ghost use Rattle.kd_base.specs.Text.{is_digit};
 ghost use Rattle.unit_read.specs.Operands.{is_letter, is_name_byte, is_name, are_digits, name_of, header_of, in_trim, plain_operand, operand_of, relation_of, mode_of};
 
-use crate::line::same;
+use crate::line::{first_true, same};
 use crate::word::Word;
-use kd_base::{Bytes, Mode, OutOfMemory};
+use kd_base::{Bytes, LONGEST_CONTENT, Mode, OutOfMemory};
 use std::alloc::Global;
 use unit_types::{HeaderName, Operand, Relation};
-
-/// The greatest length of a literal in bytes.
-const MAX_LITERAL_LEN: usize = 32_767;
 
 fn is_letter(b: u8) -> bool
     ensures { result ≡ is_letter b }
@@ -69,21 +65,14 @@ pub(crate) fn name_of(word: &Word) -> Result<Option<Bytes>, OutOfMemory>
 pub(crate) fn header_of(name: &[u8]) -> Option<HeaderName>
     ensures { result ≡ header_of name.now }
 {
-    if same(name, b"KCBENID") {
-        Some(HeaderName::Benid)
-    } else if same(name, b"KCLOGTER") {
-        Some(HeaderName::Logter)
-    } else if same(name, b"KCTACVG") {
-        Some(HeaderName::Tacvg)
-    } else if same(name, b"KCTACAL") {
-        Some(HeaderName::Tacal)
-    } else if same(name, b"KCRCCC") {
-        Some(HeaderName::Crccc)
-    } else if same(name, b"KCRLM") {
-        Some(HeaderName::Rlm)
-    } else {
-        None
-    }
+    first_true(&[
+        (same(name, b"KCBENID"), HeaderName::Benid),
+        (same(name, b"KCLOGTER"), HeaderName::Logter),
+        (same(name, b"KCTACVG"), HeaderName::Tacvg),
+        (same(name, b"KCTACAL"), HeaderName::Tacal),
+        (same(name, b"KCRCCC"), HeaderName::Crccc),
+        (same(name, b"KCRLM"), HeaderName::Rlm),
+    ])
 }
 
 // What stands between `TRIM(` and `)`.
@@ -124,7 +113,7 @@ pub(crate) fn operand_of(alloc: Global, word: &Word) -> Result<Option<Operand>, 
 {
     match word {
         Word::Plain(bytes) => plain_operand(alloc, bytes),
-        Word::Literal(bytes) if bytes.len() <= MAX_LITERAL_LEN => {
+        Word::Literal(bytes) if bytes.len() <= LONGEST_CONTENT => {
             Ok(Some(Operand::Literal(bytes.clone()?)))
         }
         Word::Literal(_) => Ok(None),
@@ -138,17 +127,12 @@ pub(crate) fn relation_of(word: &Word) -> Option<Relation>
         return None;
     };
     let bytes = bytes.as_slice();
-    if same(bytes, b"EQ") {
-        Some(Relation::Eq)
-    } else if same(bytes, b"NE") {
-        Some(Relation::Ne)
-    } else if same(bytes, b"LT") {
-        Some(Relation::Lt)
-    } else if same(bytes, b"GT") {
-        Some(Relation::Gt)
-    } else {
-        None
-    }
+    first_true(&[
+        (same(bytes, b"EQ"), Relation::Eq),
+        (same(bytes, b"NE"), Relation::Ne),
+        (same(bytes, b"LT"), Relation::Lt),
+        (same(bytes, b"GT"), Relation::Gt),
+    ])
 }
 
 pub(crate) fn mode_of(word: &Word) -> Option<Mode>

@@ -7,7 +7,7 @@ use crate::operand::{header_of, is_name};
 use crate::said::Said;
 use crate::statement::action_of;
 use crate::word::Word;
-use kd_base::{Bytes, OutOfMemory, ProgName, decimal_of};
+use kd_base::{Bytes, LONGEST_CONTENT, OutOfMemory, ProgName, decimal_of};
 use std::alloc::Global;
 
 /// A line of a units text that is neither empty nor a comment.
@@ -20,9 +20,6 @@ pub(crate) enum Piece {
     Statement(Said),
     End,
 }
-
-/// The greatest offset and the greatest length of a field in bytes.
-const MAX_PLACE: u64 = 32_767;
 
 fn plain(word: &Word) -> Option<&[u8]>
     ensures { option_copied result ≡ plain word.now }
@@ -38,7 +35,7 @@ fn number_from(least: u64, word: &Word) -> Option<u32>
     ensures { result ≡ number_from least word.now }
 {
     let number = decimal_of(plain(word)?)?;
-    if number < least || number > MAX_PLACE {
+    if number < least || number > LONGEST_CONTENT as u64 {
         return None;
     }
     Some(number as u32)

@@ -2,24 +2,17 @@
 ghost use Rattle.std.specs.Prelude.{◌≢◌, All, List, IfOk, IfErr, OnOk};
 ghost use Rattle.kd_base.specs.FirstFaults.{items_of};
 ghost use Rattle.unit_types.specs.UnitText.{UnitText, IsWhole};
-ghost use Rattle.unit_read.specs.declared.fault.UnitFault.TheVariants.{Memory};
-ghost use Rattle.unit_read.specs.Spelling.{SpellsUnits};
-ghost use Rattle.unit_read.specs.Faults.{HasTextFault};
-ghost use Rattle.unit_read.specs.Open.{state_of, AreKept};
-ghost use Rattle.unit_read.specs.Outcomes.{Gives, after};
-ghost use Rattle.unit_read.specs.Reading.{line_step, read_text};
+ghost use Rattle.unit_read.specs.{declared.fault.UnitFault.TheVariants.{Memory}, Spelling.{SpellsUnits}, Faults.{HasTextFault}, Open.{state_of, AreKept}, Outcomes.{Gives, after}, Reading.{line_step, read_text}};
 
 use crate::fault::UnitFault;
 use crate::line::is_passed;
 use crate::piece::piece_of;
 use crate::reading::Reading;
 use crate::word::Word;
+use kd_base::LONGEST_TEXT;
 use std::alloc::Global;
 use texts::{next_line, parts_of};
 use unit_types::Unit;
-
-/// The greatest length of a text in bytes.
-const MAX_TEXT_LEN: usize = 16_777_216;
 
 // One more line.
 fn line_step(
@@ -47,7 +40,7 @@ fn line_step(
 fn read_text(alloc: Global, text: &[u8]) -> Result<Vec<Unit>, UnitFault>
     ensures { Gives (items_of result) (read_text text.now) }
 {
-    if text.len() > MAX_TEXT_LEN {
+    if text.len() > LONGEST_TEXT {
         return Err(UnitFault::TooLong(0));
     }
     let mut reading = Reading::new(alloc);

@@ -1,6 +1,6 @@
 //! The operands of a statement, by how many there are and of what kind.
 ghost use Rattle.std.specs.Prelude.{◌≡◌, IfOk};
-ghost use Rattle.unit_read.specs.Shapes.{one_name, one_operand, name_and_operand, operand_and_name, two_operands, name_and_two, compared, moment_of, delayed};
+ghost use Rattle.unit_read.specs.Shapes.{both, one_name, one_operand, name_and_operand, operand_and_name, two_operands, name_and_two, compared, moment_of, delayed};
 
 use crate::operand::{mode_of, name_of, operand_of, relation_of};
 use crate::word::Word;
@@ -8,7 +8,20 @@ use kd_base::{Bytes, Mode, OutOfMemory};
 use std::alloc::Global;
 use unit_types::{Operand, Relation};
 
-pub(crate) fn one_name(words: &[Word]) -> Result<Option<Bytes>, OutOfMemory>
+/// What words say; `None` where they are not of the form.
+pub(crate) type Found<T> = Result<Option<T>, OutOfMemory>;
+
+// Two things, where both were found.
+fn both<A: Drop, B: Drop>(first: Option<A>, second: Option<B>) -> Option<(A, B)>
+    ensures { result ≡ both first second }
+{
+    match (first, second) {
+        (Some(first), Some(second)) => Some((first, second)),
+        _ => None,
+    }
+}
+
+pub(crate) fn one_name(words: &[Word]) -> Found<Bytes>
     ensures { IfOk result (λ found. found ≡ one_name words.now) }
 {
     match words {
@@ -17,7 +30,7 @@ pub(crate) fn one_name(words: &[Word]) -> Result<Option<Bytes>, OutOfMemory>
     }
 }
 
-pub(crate) fn one_operand(alloc: Global, words: &[Word]) -> Result<Option<Operand>, OutOfMemory>
+pub(crate) fn one_operand(alloc: Global, words: &[Word]) -> Found<Operand>
     ensures { IfOk result (λ found. found ≡ one_operand words.now) }
 {
     match words {
@@ -26,120 +39,73 @@ pub(crate) fn one_operand(alloc: Global, words: &[Word]) -> Result<Option<Operan
     }
 }
 
-pub(crate) fn two_operands(
-    alloc: Global,
-    words: &[Word],
-) -> Result<Option<(Operand, Operand)>, OutOfMemory>
+pub(crate) fn two_operands(alloc: Global, words: &[Word]) -> Found<(Operand, Operand)>
     ensures { IfOk result (λ found. found ≡ two_operands words.now) }
 {
-    let [first, second] = words else {
-        return Ok(None);
-    };
-    let Some(first) = operand_of(alloc, first)? else {
-        return Ok(None);
-    };
-    let Some(second) = operand_of(alloc, second)? else {
-        return Ok(None);
-    };
-    Ok(Some((first, second)))
+    match words {
+        [first, second] => Ok(both(operand_of(alloc, first)?, operand_of(alloc, second)?)),
+        _ => Ok(None),
+    }
 }
 
-pub(crate) fn name_and_operand(
-    alloc: Global,
-    words: &[Word],
-) -> Result<Option<(Bytes, Operand)>, OutOfMemory>
+pub(crate) fn name_and_operand(alloc: Global, words: &[Word]) -> Found<(Bytes, Operand)>
     ensures { IfOk result (λ found. found ≡ name_and_operand words.now) }
 {
-    let [name, operand] = words else {
-        return Ok(None);
-    };
-    let Some(name) = name_of(name)? else {
-        return Ok(None);
-    };
-    let Some(operand) = operand_of(alloc, operand)? else {
-        return Ok(None);
-    };
-    Ok(Some((name, operand)))
+    match words {
+        [name, operand] => Ok(both(name_of(name)?, operand_of(alloc, operand)?)),
+        _ => Ok(None),
+    }
 }
 
-pub(crate) fn operand_and_name(
-    alloc: Global,
-    words: &[Word],
-) -> Result<Option<(Operand, Bytes)>, OutOfMemory>
+pub(crate) fn operand_and_name(alloc: Global, words: &[Word]) -> Found<(Operand, Bytes)>
     ensures { IfOk result (λ found. found ≡ operand_and_name words.now) }
 {
-    let [operand, name] = words else {
-        return Ok(None);
-    };
-    let Some(operand) = operand_of(alloc, operand)? else {
-        return Ok(None);
-    };
-    let Some(name) = name_of(name)? else {
-        return Ok(None);
-    };
-    Ok(Some((operand, name)))
+    match words {
+        [operand, name] => Ok(both(operand_of(alloc, operand)?, name_of(name)?)),
+        _ => Ok(None),
+    }
 }
 
-pub(crate) fn name_and_two(
-    alloc: Global,
-    words: &[Word],
-) -> Result<Option<(Bytes, Operand, Operand)>, OutOfMemory>
+pub(crate) fn name_and_two(alloc: Global, words: &[Word]) -> Found<(Bytes, Operand, Operand)>
     ensures { IfOk result (λ found. found ≡ name_and_two words.now) }
 {
     let [name, rest @ ..] = words else {
         return Ok(None);
     };
-    let Some(name) = name_of(name)? else {
-        return Ok(None);
-    };
-    let Some((first, second)) = two_operands(alloc, rest)? else {
-        return Ok(None);
-    };
-    Ok(Some((name, first, second)))
+    match both(name_of(name)?, two_operands(alloc, rest)?) {
+        Some((name, (first, second))) => Ok(Some((name, first, second))),
+        None => Ok(None),
+    }
 }
 
 // Operand, relation, operand and label.
-pub(crate) fn compared(
-    alloc: Global,
-    words: &[Word],
-) -> Result<Option<(Operand, Relation, Operand, Bytes)>, OutOfMemory>
+pub(crate) fn compared(alloc: Global, words: &[Word]) -> Found<(Operand, Relation, Operand, Bytes)>
     ensures { IfOk result (λ found. found ≡ compared words.now) }
 {
     let [first, relation, rest @ ..] = words else {
         return Ok(None);
     };
-    let Some(first) = operand_of(alloc, first)? else {
-        return Ok(None);
-    };
-    let Some(relation) = relation_of(relation) else {
-        return Ok(None);
-    };
-    let Some((second, label)) = operand_and_name(alloc, rest)? else {
-        return Ok(None);
-    };
-    Ok(Some((first, relation, second, label)))
+    let later = both(relation_of(relation), operand_and_name(alloc, rest)?);
+    match both(operand_of(alloc, first)?, later) {
+        Some((first, (relation, (second, label)))) => { Ok(Some((first, relation, second, label))) }
+        None => Ok(None),
+    }
 }
 
 // Hours and minutes, and seconds and message, of a DPUT.
-fn moment_of(
-    alloc: Global,
-    words: &[Word],
-) -> Result<Option<(Operand, Operand, Operand, Operand)>, OutOfMemory>
+fn moment_of(alloc: Global, words: &[Word]) -> Found<(Operand, Operand, Operand, Operand)>
     ensures { IfOk result (λ found. found ≡ moment_of words.now) }
 {
     let [hours, minutes, rest @ ..] = words else {
         return Ok(None);
     };
-    let Some(hours) = operand_of(alloc, hours)? else {
-        return Ok(None);
-    };
-    let Some(minutes) = operand_of(alloc, minutes)? else {
-        return Ok(None);
-    };
-    let Some((seconds, message)) = two_operands(alloc, rest)? else {
-        return Ok(None);
-    };
-    Ok(Some((hours, minutes, seconds, message)))
+    let later = both(operand_of(alloc, minutes)?, two_operands(alloc, rest)?);
+    match both(operand_of(alloc, hours)?, later) {
+        Some((hours, (minutes, (seconds, message)))) => {
+            Ok(Some((hours, minutes, seconds, message)))
+        }
+        None => Ok(None),
+    }
 }
 
 /// What a DPUT says: to, relative or absolute, days, and then hours, minutes, seconds and the message.
@@ -151,7 +117,7 @@ pub(crate) struct DelayedMessage {
     pub rest: (Operand, Operand, Operand, Operand),
 }
 
-pub(crate) fn delayed(alloc: Global, words: &[Word]) -> Result<Option<DelayedMessage>, OutOfMemory>
+pub(crate) fn delayed(alloc: Global, words: &[Word]) -> Found<DelayedMessage>
     ensures { IfOk result (λ found. found ≡ delayed words.now) }
 {
     let [to, mode, days, rest @ ..] = words else {

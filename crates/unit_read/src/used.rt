@@ -1,7 +1,6 @@
 //! The fields that a statement names.
 ghost use Rattle.std.specs.Prelude.{◌≡◌};
-ghost use Rattle.unit_read.specs.Names.{holds};
-ghost use Rattle.unit_read.specs.Used.{operand_uses, uses};
+ghost use Rattle.unit_read.specs.{Names.{holds}, Used.{operand_uses, uses}};
 
 use crate::names::{Names, holds};
 use unit_types::{Action, Operand};

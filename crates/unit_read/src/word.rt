@@ -1,10 +1,7 @@
 //! The words of a line, without the blanks that part them.
-ghost use Rattle.std.specs.Prelude.{◌≡◌, ◌<◌, List, ℕ, length, drop, IfOk, Option};
-ghost use Rattle.std.specs.Option.{option_map};
-ghost use Rattle.std.specs.List.{prefix_len, take_while};
+ghost use Rattle.std.specs.{Prelude.{◌≡◌, ◌<◌, List, ℕ, length, drop, IfOk, Option}, Option.{option_map}, List.{prefix_len, take_while}};
 ghost use Rattle.texts.specs.Quotes.{quoted_at};
-ghost use Rattle.unit_read.specs.Lines.{is_word_byte};
-ghost use Rattle.unit_read.specs.Words.{literal_at, word_at};
+ghost use Rattle.unit_read.specs.{Lines.{is_word_byte}, Words.{literal_at, word_at}};
 
 use kd_base::{Bytes, OutOfMemory};
 use std::alloc::Global;

@@ -1,14 +1,19 @@
-use Rattle.std.proofs.Common.{List, refl, sym, ap, ◌∙◌}
-use Rattle.std.specs.Prelude.{Ok, Err, bytes_eq}
+use Rattle.std.proofs.Common.{◌≡◌, List, refl, sym, ap, ◌∙◌}
+use Rattle.std.specs.Prelude.{Option, Ok, Err, bytes_eq}
 use Rattle.std.specs.List.{position_from}
+use Rattle.std.specs.Option.{option_or}
 use Rattle.unit_types.specs.UnitText.{UnitText}
+use Rattle.unit_check.specs.declared.fault.FitFault.{FitFault}
 use Rattle.unit_check.specs.Finding.{fit_fault}
 use Rattle.unit_check.proofs.Laws.{HasNoFault, no_fault, found_first}
 use Rattle.unit_check.proofs.Answered.{only_that, refused_for}
 use Rattle.unit_check.proofs.fitting.fit.Goals as goal
 
+of_both : {a b x y : Option FitFault} → a ≡ x → b ≡ y → option_or x y ≡ option_or a b
+of_both e f i = option_or (sym e i) (sym f i)
+
 pub returns-in-Some-clause-fault : goal.returns-in-Some-clause-fault
-returns-in-Some-clause-fault c = λ _. found_first c.args.generation.now c.args.units.items c.in-Some.fault (ap (fit_fault c.args.generation.now) (sym c.as_slice-2.ensures.value) ∙ sym c.in-Some.ensures)
+returns-in-Some-clause-fault c = λ _. found_first c.args.generation.now c.args.units.items c.in-Some.fault (ap (fit_fault c.args.generation.now) (sym c.as_slice-listed.ensures.value) ∙ of_both c.lacking.ensures c.units_fault.ensures ∙ sym c.in-Some.ensures)
 
 pub returns-in-Some-clause-only : goal.returns-in-Some-clause-only
 returns-in-Some-clause-only c = only_that c.args.generation.now c.args.units.items (Err c.in-Some.fault) tt (returns-in-Some-clause-fault c)
@@ -18,11 +23,11 @@ returns-in-Some-clause-refused c = refused_for c.args.generation.now c.args.unit
 
 faultless : (c : goal.In_ok-tacs_of) → HasNoFault c.args.generation.now c.args.units.items
 faultless c =
-    no_fault c.args.generation.now c.args.units.items c.max.ensures.sound c.requires.whole (ap (fit_fault c.args.generation.now) (sym c.as_slice-2.ensures.value) ∙ sym c.in_default.ensures)
+    no_fault c.args.generation.now c.args.units.items c.max.ensures.sound c.requires.whole (ap (fit_fault c.args.generation.now) (sym c.as_slice-listed.ensures.value) ∙ of_both c.lacking.ensures c.units_fault.ensures ∙ sym c.in_default.ensures)
 
 pub invariant_of-result : goal.invariant_of-result
 invariant_of-result c =
-    (λ name. c.in_ok-places.ensures name ∙ ap (λ (units : List UnitText). position_from (λ (u : UnitText). bytes_eq name u.name) 0 units) c.as_slice.ensures.value, rw (c.max.ensures.limits, c.in_ok-tacs_of.ensures) (faultless c).fit)
+    (λ name. c.in_ok-places.ensures name ∙ ap (λ (units : List UnitText). position_from (λ (u : UnitText). bytes_eq name u.name) 0 units) c.as_slice-listed.ensures.value, rw (c.max.ensures.limits, c.in_ok-tacs_of.ensures) (faultless c).fit)
 
 pub returns-clause-found : goal.returns-clause-found
 returns-clause-found c = record { units = refl; limits = c.max.ensures.limits; tacs = c.in_ok-tacs_of.ensures; programs = (faultless c).programs; fit = (faultless c).fit }
