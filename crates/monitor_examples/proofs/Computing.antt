@@ -1,7 +1,8 @@
 -- One name to unfold where a proof computes with the monitor.
 use Rattle.std.specs.Fmt.{digits}
 use Rattle.kdcs_types.specs.Difference.{differing}
-use Rattle.unit_semantics.specs.Contents.{trim_end, trim_start, fitted, overlaid, number_of, in_digits, number_in, compared}
+use Rattle.kd_base.specs.Text.{trim_end}
+use Rattle.unit_semantics.specs.Contents.{trim_start, fitted, overlaid, number_of, in_digits, number_in, compared}
 use Rattle.unit_semantics.specs.Fields.{value_of, stored}
 use Rattle.unit_semantics.specs.Statement.{done_by, step, answered}
 use Rattle.monitor_semantics.specs.Calls.{job_target, moment_of, called, call_outcome}

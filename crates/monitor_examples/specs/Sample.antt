@@ -6,6 +6,7 @@ use Rattle.kdcdef_types.specs.declared.entry.TacEntry.{TacEntry}
 use Rattle.kdcdef_types.specs.Generation.{Generated}
 use Rattle.unit_types.specs.declared.action.UnitStatement.{UnitStatement}
 use Rattle.unit_types.specs.declared.unit.Field.{Field}
+use Rattle.monitor_semantics.specs.Made.{made_generation}
 use Rattle.monitor_semantics.specs.State.{Application}
 use Rattle.monitor_examples.specs.SampleUnits.{unit, hello_unit, other_units}
 
@@ -86,21 +87,10 @@ sample_programs =
     ∷ (codes "PRB", 37)
     ∷ []
 
+-- as what `make` generates, but for these
 abbrev pub sample_generation : Generated
-sample_generation = record {
-  limits = record {
-    appliname = codes "SHOP";
-    tasks = 2;
-    asyntasks = 1;
-    gssbs = 4;
-    lssbs = 2;
-    kb = 16;
-    spab = 64;
-    nb = 80;
-    pgpool = 16;
-    reswait = 3;
-    blksize = 2048;
-  };
+sample_generation = record made_generation {
+  limits = record made_generation.limits { appliname = codes "SHOP"; gssbs = 4; lssbs = 2; pgpool = 16; reswait = 3 };
   programs = sample_programs;
   tacs = sample_tacs;
   users = (codes "U1", record { pass = Some (codes "PW1"); restart = true }) ∷ (codes "U2", record { pass = None; restart = false }) ∷ [];
@@ -108,16 +98,7 @@ sample_generation = record {
   lterms = (codes "L1", record { printer = false }) ∷ (codes "L2", record { printer = false }) ∷ (codes "L3", record { printer = true }) ∷ [];
   tls = codes "T1" ∷ [];
   uls = codes "S1" ∷ [];
-  classes = [];
-  counts = record {
-    users = 2;
-    pterms = 3;
-    lterms = 3;
-    tacs = 32;
-    programs = 32;
-    passed_statements = 1;
-    passed_operands = 33;
-  };
+  counts = record { users = 2; pterms = 3; lterms = 3; tacs = 32; programs = 32; passed_statements = 1; passed_operands = 33 };
 }
 
 abbrev pub shop : Application

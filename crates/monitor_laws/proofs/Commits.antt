@@ -1,14 +1,11 @@
 -- Each step has at most one commit, which stands first and is the difference that the step makes.
-use Rattle.std.specs.Prelude.{◌≡◌, refl, ℕ, ◌+◌, Bool, true, false, List, [], ◌∷◌, ◌++◌, ◌-◌, ◌⊎◌, Option, Some, None, slice_get, nat_le, codes}
+use Rattle.std.specs.Prelude.{◌≡◌, refl, ℕ, ◌+◌, Bool, true, false, List, [], ◌∷◌, ◌++◌, ◌⊎◌, Option, Some, None, nat_le, codes}
 use Rattle.std.proofs.Common.{sym, ap, ◌∙◌, inl, inr}
 use Rattle.std.specs.FinMap.{find}
 use Rattle.kdcs_types.specs.declared.act.Act.{Act}
 use Rattle.kdcs_types.specs.declared.act.Act.TheVariants.{Commit, Emit}
-use Rattle.kdcs_types.specs.declared.call.Cause.{Cause}
 use Rattle.kdcs_types.specs.declared.key.ServiceId.{ServiceId}
 use Rattle.kdcs_types.specs.declared.key.ServiceId.TheVariants.{Dialogue, Asynchronous}
-use Rattle.kdcs_types.specs.declared.key.Target.{Target}
-use Rattle.kdcs_types.specs.declared.key.Target.TheVariants.{Tac, Lterm}
 use Rattle.kdcs_types.specs.declared.service.Ending.{Ending}
 use Rattle.kdcs_types.specs.declared.service.Ending.TheVariants.{Synced, Broken, BrokenFr}
 use Rattle.kdcs_types.specs.declared.service.Job.{Job}
@@ -17,28 +14,26 @@ use Rattle.kdcs_types.specs.declared.service.Service.{Service}
 use Rattle.kdcs_types.specs.declared.service.Settled.{Settled}
 use Rattle.kdcs_types.specs.DifferenceLaws.{difference_makes_new}
 use Rattle.kdcs_types.specs.Keys.{id_cmp}
-use Rattle.kdcs_types.specs.Tables.{TableRows, service_of, job_of, shown_of}
-use Rattle.kdcs_types.specs.Limits.{last_clock}
+use Rattle.kdcs_types.specs.Tables.{TableRows, service_of, shown_of}
+use Rattle.kd_base.specs.Limits.{last_clock}
 use Rattle.monitor_semantics.specs.declared.answer.Happened.{Happened}
 use Rattle.monitor_semantics.specs.declared.answer.Happened.TheVariants.{Went, Queued, Waited, Held, Settles, Breaks, Returns}
 use Rattle.monitor_semantics.specs.declared.input_use.Use.{Use}
 use Rattle.monitor_semantics.specs.declared.input_use.Use.TheVariants.{Sign, Off, Display, Output, Again, Next, Start}
 use Rattle.monitor_semantics.specs.declared.outcome.Outcome.{Outcome}
 use Rattle.monitor_semantics.specs.declared.outcome.Outcome.TheVariants.{Wait, Point, Follow, Finish}
-use Rattle.monitor_semantics.specs.declared.work.Work.{Work}
-use Rattle.monitor_semantics.specs.declared.work.Work.TheVariants as work
 use Rattle.monitor_semantics.specs.Bytes.{Bytes, bytes_cmp}
 use Rattle.monitor_semantics.specs.State.{Application, OpenTransaction, Session, State}
-use Rattle.monitor_semantics.specs.Endings.{durable, synchronised, refusal, row_after, restarts}
+use Rattle.monitor_semantics.specs.Endings.{durable, synchronised, row_after, restarts}
 use Rattle.monitor_semantics.specs.Statements.{area_of, kept_record}
 use Rattle.monitor_semantics.specs.Lines.{sys_line}
-use Rattle.monitor_semantics.specs.Picks.{pick}
-use Rattle.monitor_semantics.specs.Turns.{Turned, commit_of, committed, without_work, with_task, without_wait, waiting_for, pterm_of_user, out_acts, ended_at, ended_acts, dump_acts, message_sent, message_acts, goes_on, after_point, settled_by, settled, abnormal, last_again, back_by, back, happens, worked, took_job_for, took_job, took, turn_by, turn_of}
+use Rattle.monitor_semantics.specs.Turns.{Turned, commit_of, committed, without_work, with_task, without_wait, waiting_for, pterm_of_user, out_acts, ended_at, ended_acts, dump_acts, message_sent, message_acts, goes_on, after_point, settled, abnormal, last_again, back_by, back, happens, worked, turn_of}
 use Rattle.monitor_semantics.specs.declared.command.Command.TheVariants.{Input, Tick, Run, Turn, Drop, Print, PrintLast, Restart}
 use Rattle.monitor_semantics.specs.Commands.{Maker, ByTransaction, started, signed_on_by, resumed_by, with_session, signed_off, rolled_tables, show_next, show_by, show_again_by, due_for, display, last_by, next_by, used, use_now, tick_by, drop_by, command_of, turned_step, lterm_at, uncommitted, says, committing, maker_of, out_again, restarted}
 use Rattle.monitor_semantics.specs.Trace.{tables_after}
 use Rattle.monitor_laws.specs.TablesStay.{last-tables, sent-tables, goes-tables}
 use Rattle.monitor_laws.specs.DurableLaws.{durable_sorted, durable_again, durable_without}
+use Rattle.monitor_laws.specs.EachTurn.{of_point, of_turn}
 use Rattle.monitor_laws.specs.Steps.{AreLines, CommitsOnce, TurnsCommitOnce, CommandsCommitOnce, StepsMakeTheirTables}
 
 -- ---- lines
@@ -98,12 +93,10 @@ module _ (app : Application) (s : State) (task : ℕ) (id : ServiceId) (x : Open
   point-fine u new e _ row kept = commits u new kept [] e tt
 
   settled-fine : (o : Outcome) → Fine app s (settled app s task id x o)
-  unfolding settled
-  settled-fine o = by (synchronised app.generation s.tables id x o) (refusal app.generation (durable app.generation (synchronised app.generation s.tables id x o)))
-    where
-      by : (new : TableRows) (c : Option Cause) → Fine app s (settled_by app s task id x o new c)
-      by new (Some cause) = abnormal-fine (Broken cause)
-      by new None = point-fine (record (without_work s task id) { tables = new }) new refl o (row_after app.generation id x o) (kept_record id x Synced)
+  settled-fine o =
+      let new = synchronised app.generation s.tables id x o in
+      of_point app s task id x o (Fine app s) (λ cause. abnormal-fine (Broken cause))
+      (point-fine (record (without_work s task id) { tables = new }) new refl o (row_after app.generation id x o) (kept_record id x Synced))
 
   again-fine : (u : State) → u.tables ≡ s.tables → (last : Option Bytes) → Fine app s (last_again u id last)
   again-fine u e None = inl (refl, (tt, e))
@@ -139,34 +132,13 @@ worked-fine : (app : Application) (s : State) (task : ℕ) (id : ServiceId) (o :
 worked-fine app s task id None = inl (refl, (tt, refl))
 worked-fine app s task id (Some x) = happens-fine app s task id x _ _
 
-job-fine : (app : Application) (s : State) (task number : ℕ) (job : Option JobValue) → Fine app s (took_job app s task number job)
-job-fine app s task number None = inl (refl, (tt, refl))
-job-fine app s task number (Some job) = by job.to
-  where
-    by : (to : Target) → Fine app s (took_job_for app s task number job to)
-    by (Tac tac) = inl (refl, (tt, refl))
-    by (Lterm lterm) = inl (refl, (tt, refl))
-
-took-fine : (app : Application) (s : State) (task : ℕ) (w : Option Work) → Fine app s (took app s task w)
-took-fine app s task None = inl (refl, (tt, refl))
-took-fine app s task (Some (work.Service id)) = inl (refl, (tt, refl))
-took-fine app s task (Some (work.Job number)) = job-fine app s task number (job_of s.tables number)
-
-turn-fine : (app : Application) (s : State) (task : ℕ) → Fine app s (turn_of app s task)
-unfolding turn_of
-turn-fine app s task = by (slice_get s.tasks (task - 1))
-  where
-    by : (place : Option (Option ServiceId)) → Fine app s (turn_by app s task place)
-    by None = inl (refl, (tt, refl))
-    by (Some None) = took-fine app s task (pick app s)
-    by (Some (Some id)) = worked-fine app s task id (find id_cmp id s.active)
-
 as_step : (app : Application) (s : State) (t : Turned) → Fine app s t → CommitsOnce app s (turned_step t)
 as_step app s t (inl k) = inl (record { by = ap maker_of k.0; lines = k.1.0; tables = ap (durable app.generation) k.1.1 })
 as_step app s t (inr e) = inr (record { maker = ByTransaction e.kept; by = ap maker_of e.is; rest = e.rest; acts = e.acts; lines = e.lines })
 
 pub turns_commit_once : TurnsCommitOnce
-turns_commit_once app s task = as_step app s (turn_of app s task) (turn-fine app s task)
+turns_commit_once app s task =
+    as_step app s (turn_of app s task) (of_turn app s task (Fine app s) (λ t r. inl (r.settled, (r.lines, r.tables))) (λ id. worked-fine app s task id (find id_cmp id s.active)))
 
 -- ---- the other commands
 

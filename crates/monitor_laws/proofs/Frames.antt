@@ -5,7 +5,6 @@ use Rattle.std.specs.Cmp.{eq_by_cmp_equiv}
 use Rattle.std.specs.FinMap.{find, put}
 use Rattle.std.specs.FinMap.Entries.{where_key, find-put, find-where_key}
 use Rattle.kdcs_types.specs.declared.act.Act.{Act}
-use Rattle.kdcs_types.specs.declared.call.Cause.{Cause}
 use Rattle.kdcs_types.specs.declared.key.Area.{Area}
 use Rattle.kdcs_types.specs.declared.key.Key.TheVariants.{Service as ServiceKey}
 use Rattle.kdcs_types.specs.declared.key.ServiceId.{ServiceId}
@@ -22,7 +21,7 @@ use Rattle.kdcs_types.specs.KeyLaws.{id_total, same_id}
 use Rattle.kdcs_types.specs.Keyed.{item_at}
 use Rattle.kdcs_types.specs.KeyedLaws.{item_at-without}
 use Rattle.kdcs_types.specs.Keys.{id_cmp, id_eq}
-use Rattle.kdcs_types.specs.Limits.{last_clock}
+use Rattle.kd_base.specs.Limits.{last_clock}
 use Rattle.kdcs_types.specs.Tables.{TableRows, service_key, service_of, job_of, shown_of}
 use Rattle.monitor_semantics.specs.declared.answer.Happened.{Happened}
 use Rattle.monitor_semantics.specs.declared.answer.Happened.TheVariants.{Went, Queued, Waited, Held, Settles, Breaks, Returns}
@@ -34,14 +33,16 @@ use Rattle.monitor_semantics.specs.declared.work.Work.{Work}
 use Rattle.monitor_semantics.specs.declared.work.Work.TheVariants as work
 use Rattle.monitor_semantics.specs.Bytes.{Bytes, bytes_cmp}
 use Rattle.monitor_semantics.specs.State.{Application, OpenTransaction, Session, State}
-use Rattle.monitor_semantics.specs.Endings.{durable, synchronised, broken, refusal, row_after, restarts}
+use Rattle.monitor_semantics.specs.Endings.{synchronised, broken, row_after, restarts}
 use Rattle.monitor_semantics.specs.Statements.{area_of, kept_record}
 use Rattle.monitor_semantics.specs.Picks.{pick}
-use Rattle.monitor_semantics.specs.Turns.{without_work, with_task, without_wait, without_open, with_open, queued, waiting_for, pterm_of_user, noted_last, last_told, message_sent, goes_on, after_point, settled_by, settled, abnormal, last_again, back_by, back, happens, worked, took_job_for, took_job, took, turn_by, turn_of}
+use Rattle.monitor_semantics.specs.Turns.{without_work, with_task, without_wait, without_open, with_open, queued, waiting_for, pterm_of_user, noted_last, last_told, message_sent, goes_on, after_point, settled, abnormal, back_by, back, happens, worked, took_job_for, took_job, took, turn_by, turn_of}
 use Rattle.monitor_semantics.specs.declared.command.Command.TheVariants.{Input, Tick, Run, Turn, Drop, Print, PrintLast, Restart}
-use Rattle.monitor_semantics.specs.Commands.{signed_on_by, resumed_by, with_session, signed_off, rolled_tables, show_next, show_by, show_again_by, due_for, display, last_by, next_by, used, use_now, tick_by, drop_by, command_of, lterm_at}
+use Rattle.monitor_semantics.specs.Commands.{signed_on_by, resumed_by, with_session, signed_off, rolled_tables, show_next, show_by, due_for, last_by, next_by, used, use_now, tick_by, drop_by, command_of, lterm_at}
+use Rattle.monitor_laws.specs.EachTurn.{of_point}
 use Rattle.monitor_laws.specs.Frames.{LeavesOthers, TurnsLeaveOthers, TouchesOne, CommandsTouchOne}
 use Rattle.monitor_laws.specs.OwnRowLaws.{points_set, ends_remove}
+use Rattle.monitor_laws.specs.TablesStay.{last_again_stays, again_stays, display_stays}
 
 -- ---- lists by services
 
@@ -114,20 +115,12 @@ module _ (app : Application) (s : State) (task : ℕ) (id : ServiceId) (x : Open
   point-fine u h _ row commit kept = h
 
   settled-fine : (o : Outcome) → LeavesOthers id s (settled app s task id x o).after
-  unfolding settled
-  settled-fine o = by (refusal app.generation (durable app.generation (synchronised app.generation s.tables id x o)))
-    where
-      by : (c : Option Cause) → LeavesOthers id s (settled_by app s task id x o (synchronised app.generation s.tables id x o) c).after
-      by (Some cause) = abnormal-fine (Broken cause)
-      by None =
-          point-fine (record (without_work s task id) { tables = synchronised app.generation s.tables id x o })
-          (over id s task _ (λ other e. points_set app.generation s.tables id x o other ∙ ap (λ b. cond b (row_after app.generation id x o) (service_of s.tables other)) e))
-          o (row_after app.generation id x o) _ (kept_record id x Synced)
-
-  again-fine : (u : State) (i : ServiceId) (last : Option Bytes) → LeavesOthers id s u → LeavesOthers id s (last_again u i last).after
-  again-fine u i None h = h
-  again-fine u (Dialogue user) (Some message) h = both_leave id s u _ h (told id u (pterm_of_user u.signed user) message)
-  again-fine u (Asynchronous number) (Some message) h = h
+  settled-fine o =
+      let new = synchronised app.generation s.tables id x o in
+      of_point app s task id x o (λ t. LeavesOthers id s t.after) (λ cause. abnormal-fine (Broken cause))
+      (point-fine (record (without_work s task id) { tables = new })
+      (over id s task _ (λ other e. points_set app.generation s.tables id x o other ∙ ap (λ b. cond b (row_after app.generation id x o) (service_of s.tables other)) e))
+      o (row_after app.generation id x o) _ (kept_record id x Synced))
 
   closed : LeavesOthers id s (without_work s task id)
   closed = record { transactions = λ other e. without-other s.active id other e; rows = λ other e. refl; waits = λ other e. without-other s.waits id other e }
@@ -137,7 +130,9 @@ module _ (app : Application) (s : State) (task : ℕ) (id : ServiceId) (x : Open
   back-fine (Some row) = by row.awaits
     where
       by : (b : Bool) → LeavesOthers id s (back_by app (without_work s task id) id x row b).after
-      by true = again-fine (without_work s task id) id row.last closed
+      by true =
+          let left = without_work s task id in
+          last_again_stays (LeavesOthers id s) left (λ pterm message. both_leave id s left _ closed (told id left pterm message)) closed id row.last
       by false = both_leave id s (without_work s task id) _ closed (record { transactions = λ other e. put-other _ id other _ e; rows = λ other e. refl; waits = λ other e. refl })
 
   happens-fine : (y : OpenTransaction) (h : Happened) → LeavesOthers id s (happens app s task id x y h).after
@@ -234,14 +229,6 @@ module _ (app : Application) (s : State) where
   shows lterm none line_of None = same
   shows lterm none line_of (Some job) = untouched s _ refl refl refl
 
-  shows_again : (none : Bytes) (line_of : Bytes → Bytes) (value : Option JobValue) → TouchesOne s (show_again_by s none line_of value).after
-  shows_again none line_of None = same
-  shows_again none line_of (Some value) = same
-
-  displays : (pterm : Bytes) (last : Option Bytes) → TouchesOne s (display s pterm last).after
-  displays pterm None = same
-  displays pterm (Some message) = same
-
   queues : (user : Bytes) (x : OpenTransaction) → TouchesOne s (queued s (Dialogue user) x)
   queues user x = (Dialogue user, record { transactions = λ other e. put-other s.active (Dialogue user) other x e; rows = λ other e. refl; waits = λ other e. refl })
 
@@ -254,9 +241,9 @@ module _ (app : Application) (s : State) where
   unfolding used show_next
   uses pterm lterm user (Sign name) = signed pterm name (lterm_at app pterm) (service_of s.tables (Dialogue name))
   uses pterm lterm user Off = off pterm user
-  uses pterm lterm user Display = displays pterm (last_by (find bytes_cmp pterm s.signed))
+  uses pterm lterm user Display = display_stays (TouchesOne s) s same pterm (last_by (find bytes_cmp pterm s.signed))
   uses pterm lterm user Output = shows lterm _ _ (due_for s lterm)
-  uses pterm lterm user Again = shows_again _ _ (shown_of s.tables lterm)
+  uses pterm lterm user Again = again_stays (TouchesOne s) s same _ _ (shown_of s.tables lterm)
   uses pterm lterm user (Next text) = next user lterm text _ _
   uses pterm lterm user (Start tac text) = queues user _
   uses pterm lterm user _ = same
@@ -277,5 +264,5 @@ commands_touch_one app s (Run turns) = same app s
 commands_touch_one app s (Turn task) = turn-touches app s task
 commands_touch_one app s (Drop pterm) = drops app s pterm (find bytes_cmp pterm s.signed)
 commands_touch_one app s (Print pterm) = shows app s (lterm_at app pterm) _ _ (due_for s (lterm_at app pterm))
-commands_touch_one app s (PrintLast pterm) = shows_again app s _ _ (shown_of s.tables (lterm_at app pterm))
+commands_touch_one app s (PrintLast pterm) = again_stays (TouchesOne s) s (same app s) _ _ (shown_of s.tables (lterm_at app pterm))
 commands_touch_one app s Restart = tt

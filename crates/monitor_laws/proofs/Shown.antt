@@ -7,7 +7,7 @@ use Rattle.kdcs_types.specs.declared.service.Job.{Job}
 use Rattle.kdcs_types.specs.declared.service.JobValue.{JobValue}
 use Rattle.kdcs_types.specs.declared.service.Service.{Service}
 use Rattle.kdcs_types.specs.declared.service.Settled.{Settled}
-use Rattle.kdcs_types.specs.Limits.{last_clock}
+use Rattle.kd_base.specs.Limits.{last_clock}
 use Rattle.kdcs_types.specs.Tables.{service_of, shown_of}
 use Rattle.monitor_semantics.specs.declared.input_use.Use.{Use}
 use Rattle.monitor_semantics.specs.declared.input_use.Use.TheVariants.{Sign, Display, Output, Again}

@@ -1,5 +1,6 @@
 -- What a monitor may take of its application: what checked generations and fitted units give.
 use Rattle.std.specs.Prelude.{◌≡◌, ◌≤◌, ◌+◌, cond, length, Some, IsTrue, IfSome, All}
+use Rattle.kd_base.specs.Limits.{longest_content}
 use Rattle.kdcdef_types.specs.declared.entry.LtermEntry.{LtermEntry}
 use Rattle.kdcdef_types.specs.declared.entry.PtermEntry.{PtermEntry}
 use Rattle.kdcdef_types.specs.declared.entry.TacEntry.{TacEntry}
@@ -36,8 +37,8 @@ pub record HasShortNames (g : Generated) : Type 0 where
 -- a generation within its ranges, with a fitted unit for each of its TACs
 pub record IsApplication (app : Application) : Type 0 where
   pub tasks : 1 ≤ app.generation.limits.tasks
-  pub kb : app.generation.limits.kb ≤ 32767
-  pub spab : app.generation.limits.spab ≤ 32767
+  pub kb : app.generation.limits.kb ≤ longest_content
+  pub spab : app.generation.limits.spab ≤ longest_content
   pub nb : app.generation.limits.nb ≤ 32700
   pub names : HasShortNames app.generation
   -- each PTERM has an LTERM of the generation

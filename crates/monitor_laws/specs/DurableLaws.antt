@@ -100,23 +100,7 @@ module _ (g : Generated) where
 
   -- ---- a change
 
-  clock_after : (t : TableRows) (c : Change) → ((durable g (with_change t c)).clock ≡ t.clock) × ((durable g (with_change t c)).next_job ≡ t.next_job)
-  unfolding durable
-  clock_after t (Set (row.Gssb n c)) = (refl, refl)
-  clock_after t (Set (row.Tls b l c)) = (refl, refl)
-  clock_after t (Set (row.Uls b u c)) = (refl, refl)
-  clock_after t (Set (row.Service i s)) = (refl, refl)
-  clock_after t (Set (row.Job n v)) = (refl, refl)
-  clock_after t (Set (row.Shown l v)) = (refl, refl)
-  clock_after t (Remove (key.Gssb n)) = (refl, refl)
-  clock_after t (Remove (key.Tls b l)) = (refl, refl)
-  clock_after t (Remove (key.Uls b u)) = (refl, refl)
-  clock_after t (Remove (key.Service i)) = (refl, refl)
-  clock_after t (Remove (key.Job n)) = (refl, refl)
-  clock_after t (Remove (key.Shown l)) = (refl, refl)
-
-  numbers_kept : (t : TableRows) (c : Change) → ((with_change (durable g t) c).clock ≡ t.clock) × ((with_change (durable g t) c).next_job ≡ t.next_job)
-  unfolding durable
+  numbers_kept : (t : TableRows) (c : Change) → ((with_change t c).clock ≡ t.clock) × ((with_change t c).next_job ≡ t.next_job)
   numbers_kept t (Set (row.Gssb n c)) = (refl, refl)
   numbers_kept t (Set (row.Tls b l c)) = (refl, refl)
   numbers_kept t (Set (row.Uls b u c)) = (refl, refl)
@@ -134,14 +118,18 @@ module _ (g : Generated) where
   unfolding durable
   numbers_durable t = (refl, refl)
 
+  clock_after : (t : TableRows) (c : Change) → ((durable g (with_change t c)).clock ≡ t.clock) × ((durable g (with_change t c)).next_job ≡ t.next_job)
+  clock_after t c = ((numbers_durable (with_change t c)).0 ∙ (numbers_kept t c).0, (numbers_durable (with_change t c)).1 ∙ (numbers_kept t c).1)
+
   module _ (t : TableRows) (c : Change) (sorted : IsSortedTables t) (fits : IsTrue (change_fits c)) where
     after_change : (q : Key) → row_at (durable g (with_change t c)) q ≡ cond (key_is_durable g q) (cond (key_eq q (change_key c)) (row_after (Some c) (row_at t q)) (row_at t q)) None
     after_change q = row_at-durable (with_change t c) q ∙ ap (λ o. cond (key_is_durable g q) o None) (row_at-with_change t c q fits)
 
     in_part : (b : Bool) → key_is_durable g (change_key c) ≡ b → durable g (with_change t c) ≡ cond b (with_change (durable g t) c) (durable g t)
     in_part true d =
+        let kept = numbers_kept (durable g t) c in
         same_tables (durable g (with_change t c)) (with_change (durable g t) c) (durable_sorted _ (sorted_with_change t c sorted fits)) (sorted_with_change _ c (durable_sorted t sorted) fits)
-        ((clock_after t c).0 ∙ sym (numbers_kept t c).0) ((clock_after t c).1 ∙ sym (numbers_kept t c).1)
+        ((clock_after t c).0 ∙ sym (kept.0 ∙ (numbers_durable t).0)) ((clock_after t c).1 ∙ sym (kept.1 ∙ (numbers_durable t).1))
         (λ q. after_change q ∙ moved q (key_eq q (change_key c)) refl ∙ sym (row_at-with_change (durable g t) c q fits))
       where
         moved : (q : Key) (e : Bool) → key_eq q (change_key c) ≡ e → cond (key_is_durable g q) (cond e (row_after (Some c) (row_at t q)) (row_at t q)) None ≡ cond e (row_after (Some c) (row_at (durable g t) q)) (row_at (durable g t) q)

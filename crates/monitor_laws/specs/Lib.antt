@@ -9,6 +9,7 @@ pub mod Commits
 pub mod DurableLaws
 pub mod Steps
 pub mod EachStep
+pub mod EachTurn
 pub mod TablesStay
 pub mod Frames
 pub mod Cut

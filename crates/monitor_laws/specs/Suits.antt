@@ -8,12 +8,13 @@ use Rattle.kdcs_types.specs.declared.key.Target.TheVariants.{Tac, Lterm}
 use Rattle.kdcs_types.specs.declared.service.Job.{Job}
 use Rattle.kdcs_types.specs.declared.service.JobValue.{JobValue}
 use Rattle.kdcs_types.specs.declared.service.Service.{Service}
-use Rattle.kdcs_types.specs.Limits.{last_clock, last_next_job}
+use Rattle.kd_base.specs.Limits.{last_clock, last_next_job}
 use Rattle.kdcs_types.specs.Same.{target_eq}
 use Rattle.kdcs_types.specs.Tables.{TableRows, service_of}
 use Rattle.kdcdef_types.specs.declared.entry.TacEntry.{TacEntry}
 use Rattle.kdcdef_types.specs.Generation.{Generated, tac_of, user_of, lterm_of, has_tls, has_uls}
 use Rattle.std.specs.FinMap.{is_sorted}
+use Rattle.kd_base.specs.Limits.{longest_content}
 use Rattle.monitor_semantics.specs.Bytes.{Bytes, bytes_cmp}
 use Rattle.monitor_semantics.specs.Outcomes.{same_kind}
 use Rattle.monitor_semantics.specs.Calls.{job_target}
@@ -30,7 +31,7 @@ is_lterm g lterm = is_some (lterm_of g lterm)
 
 -- no content of an area is longer
 abbrev pub fits_content : Bytes → Bool
-fits_content bytes = nat_le (length bytes) 32767
+fits_content bytes = nat_le (length bytes) longest_content
 
 -- a message has at most NB bytes
 abbrev pub fits_message : Generated → Bytes → Bool

@@ -5,12 +5,7 @@
 //! which all crates above may cite.
 #![tactic(auto)]
 
-ghost use Rattle.monitor_laws.specs.DeadlockLaw.{DeadlocksAreFound};
-ghost use Rattle.monitor_laws.specs.DurableLaws.{DurableFollows};
-ghost use Rattle.monitor_laws.specs.Frames.{TurnsLeaveOthers, CommandsTouchOne, ShowsAtItsTerminal};
-ghost use Rattle.monitor_laws.specs.Steps.{TurnsCommitOnce, CommandsCommitOnce, StepsMakeTheirTables};
-ghost use Rattle.monitor_laws.specs.JobLaw.{PointsNumberJobs, EndsDrawNoNumber};
-ghost use Rattle.monitor_laws.specs.RowLaw.{PointsSetOwnRow, EndsRemoveOwnRow};
+ghost use Rattle.monitor_laws.specs.{DeadlockLaw.{DeadlocksAreFound}, DurableLaws.{DurableFollows}, Frames.{TurnsLeaveOthers, CommandsTouchOne, ShowsAtItsTerminal}, Steps.{TurnsCommitOnce, CommandsCommitOnce, StepsMakeTheirTables}, JobLaw.{PointsNumberJobs, EndsDrawNoNumber}, RowLaw.{PointsSetOwnRow, EndsRemoveOwnRow}};
 
 /// A request that is answered K05 waits in a chain that ends at its own service, and no other does.
 pub fn deadlocks_are_found()

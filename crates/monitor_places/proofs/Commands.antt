@@ -7,7 +7,6 @@ use Rattle.kd_base.specs.Tools.{some_is}
 use Rattle.kdcs_types.specs.declared.key.ServiceId.{ServiceId}
 use Rattle.kdcs_types.specs.declared.key.ServiceId.TheVariants.{Dialogue, Asynchronous}
 use Rattle.kdcs_types.specs.declared.service.Job.{Job}
-use Rattle.kdcs_types.specs.declared.service.JobValue.{JobValue}
 use Rattle.kdcs_types.specs.declared.service.Service.{Service}
 use Rattle.kdcs_types.specs.Keyed.{ascends}
 use Rattle.kdcs_types.specs.Keys.{id_cmp, id_eq}
@@ -18,7 +17,7 @@ use Rattle.monitor_semantics.specs.declared.input_use.Use.TheVariants.{Sign, Sig
 use Rattle.monitor_semantics.specs.Bytes.{Bytes, bytes_cmp}
 use Rattle.monitor_semantics.specs.declared.command.Command.{Command}
 use Rattle.monitor_semantics.specs.declared.command.Command.TheVariants.{Input, Tick, Run, Turn, Drop, Print, PrintLast, Restart}
-use Rattle.monitor_semantics.specs.Commands.{lterm_at, user_by, user_at, with_session, without_session, resumed_by, signed_on_by, signed_on, withdrawn, rolled_tables, signed_off, is_for, due_for, shown_tables, show_by, show_next, show_again_by, last_by, display, held_tac, next_by, next_input, start_service, used, use_now, tick_by, drop_by, command_of}
+use Rattle.monitor_semantics.specs.Commands.{lterm_at, user_by, user_at, with_session, without_session, resumed_by, signed_on_by, signed_on, withdrawn, rolled_tables, signed_off, is_for, due_for, shown_tables, show_by, show_next, last_by, held_tac, next_by, next_input, start_service, used, use_now, tick_by, drop_by, command_of}
 use Rattle.monitor_semantics.specs.Endings.{is_durable, durable, restarts, opened, opened_by_start, opened_by_input, opened_by_row, followed_by_input}
 use Rattle.monitor_semantics.specs.Locks.{Waiting}
 use Rattle.monitor_semantics.specs.Sessions.{has_user, awaits_by, is_awaiting}
@@ -28,6 +27,7 @@ use Rattle.monitor_semantics.specs.UseLaws.{IsAtRest, IsFor, use_fits}
 use Rattle.monitor_laws.specs.Facts.{IsOpen, IsConsistent}
 use Rattle.monitor_laws.specs.Keeping.{HasFacts}
 use Rattle.monitor_laws.specs.Transactions.{HasOwnJob, IsRooted}
+use Rattle.monitor_laws.specs.TablesStay.{again_stays, display_stays}
 use Rattle.monitor_places.specs.Counts.{times, none_counted, times_without_itself, times_freed_itself}
 use Rattle.monitor_places.specs.Entries.{found_put, found_without}
 use Rattle.monitor_places.specs.Terminals.{signed_at, left_at, Signed, bytes_itself, signed_more, signed_fewer}
@@ -245,14 +245,6 @@ module _ (app : Application) (s : State) (c : IsConsistent app s) where
           let l = shown_left lterm job (free job refl) in
           consistent_left app s u id c (record { others = λ i apart. l i; tasks = refl; sessions = λ h. h; active = λ h. h; waits = λ h. h }) (l id)
 
-  pub shows_again : (no_message : Bytes) (line_of : Bytes → Bytes) (o : Option JobValue) → IsConsistent app (show_again_by s no_message line_of o).after
-  shows_again no_message line_of None = c
-  shows_again no_message line_of (Some value) = c
-
-  pub displays : (pterm : Bytes) (o : Option Bytes) → IsConsistent app (display s pterm o).after
-  displays pterm None = c
-  displays pterm (Some message) = c
-
   pub ticks_on : (ticks : ℕ) (within : Bool) → IsConsistent app (tick_by app s ticks (s.tables.clock + ticks) within).after
   ticks_on ticks false = c
   ticks_on ticks true =
@@ -281,9 +273,9 @@ used_consistent app s c pterm (SignRefused fault) f = c
 used_consistent app s c pterm SignFirst f = c
 used_consistent app s c pterm AlreadySigned f = c
 used_consistent app s c pterm Off f = subst (λ (o : Option Session). IsConsistent app (signed_off app s pterm (user_by o))) (sym f.1) (signs_off app s c pterm f.0 f.1)
-used_consistent app s c pterm Display f = displays app s c pterm (last_by (find bytes_cmp pterm s.signed))
+used_consistent app s c pterm Display f = display_stays (IsConsistent app) s c pterm (last_by (find bytes_cmp pterm s.signed))
 used_consistent app s c pterm Output f = shows app s c (lterm_at app pterm) _ _
-used_consistent app s c pterm Again f = shows_again app s c _ _ (shown_of s.tables (lterm_at app pterm))
+used_consistent app s c pterm Again f = again_stays (IsConsistent app) s c _ _ (shown_of s.tables (lterm_at app pterm))
 used_consistent app s c pterm Busy f = c
 used_consistent app s c pterm TooLong f = c
 used_consistent app s c pterm (Next text) f =
@@ -308,5 +300,5 @@ commands_consistent app s (Run turns) c = c.0
 commands_consistent app s (Turn task) c = turns_consistent app s task c
 commands_consistent app s (Drop pterm) c = drop_consistent app s c.0 pterm (find bytes_cmp pterm s.signed) refl
 commands_consistent app s (Print pterm) c = shows app s c.0 (lterm_at app pterm) _ _
-commands_consistent app s (PrintLast pterm) c = shows_again app s c.0 _ _ (shown_of s.tables (lterm_at app pterm))
+commands_consistent app s (PrintLast pterm) c = again_stays (IsConsistent app) s c.0 _ _ (shown_of s.tables (lterm_at app pterm))
 commands_consistent app s Restart c = started_consistent app (durable app.generation s.tables) (durable_order app s c.1.order.services)

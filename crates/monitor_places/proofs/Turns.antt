@@ -4,10 +4,8 @@ use Rattle.std.proofs.Common.{sym, ap, ◌∙◌, subst, inl, true≢false, arit
 use Rattle.std.specs.FinMap.{find}
 use Rattle.kd_base.specs.Tools.{some_is}
 use Rattle.kdcs_types.specs.declared.act.Act.{Act}
-use Rattle.kdcs_types.specs.declared.call.Cause.{Cause}
 use Rattle.kdcs_types.specs.declared.key.Area.{Area}
 use Rattle.kdcs_types.specs.declared.key.ServiceId.{ServiceId}
-use Rattle.kdcs_types.specs.declared.key.ServiceId.TheVariants.{Dialogue, Asynchronous}
 use Rattle.kdcs_types.specs.declared.service.Ending.{Ending}
 use Rattle.kdcs_types.specs.declared.service.Ending.TheVariants.{Broken}
 use Rattle.kdcs_types.specs.declared.service.Service.{Service}
@@ -20,13 +18,15 @@ use Rattle.monitor_semantics.specs.declared.answer.Happened.TheVariants.{Went, Q
 use Rattle.monitor_semantics.specs.declared.outcome.Outcome.{Outcome}
 use Rattle.monitor_semantics.specs.declared.outcome.Outcome.TheVariants.{Hold, Stay, Queue, Wait, Point, Follow, Finish, Break, Back}
 use Rattle.monitor_semantics.specs.Bytes.{Bytes}
-use Rattle.monitor_semantics.specs.Endings.{is_asynchronous, opened, opened_by_row, row_after, synchronised, broken, durable, refusal}
+use Rattle.monitor_semantics.specs.Endings.{is_asynchronous, opened, opened_by_row, row_after, synchronised, broken}
 use Rattle.monitor_semantics.specs.Locks.{Waiting, locks_of, since, since_by}
 use Rattle.monitor_semantics.specs.State.{Application, OpenTransaction, State}
 use Rattle.monitor_semantics.specs.Statements.{area_of}
-use Rattle.monitor_semantics.specs.Turns.{with_open, without_wait, with_task, queued, without_work, abnormal, after_point, settled_by, settled, last_again, pterm_of_user, back_by, back, waiting, waiting_for, happens, told_here, statement_now, worked}
+use Rattle.monitor_semantics.specs.Turns.{with_open, without_wait, with_task, queued, without_work, abnormal, after_point, settled, back_by, back, waiting, waiting_for, happens, told_here, statement_now, worked}
+use Rattle.monitor_laws.specs.EachTurn.{of_point}
 use Rattle.monitor_laws.specs.Facts.{IsConsistent}
 use Rattle.monitor_laws.specs.Transactions.{IsRooted}
+use Rattle.monitor_laws.specs.TablesStay.{last_again_stays}
 use Rattle.monitor_laws.specs.JobLaws.{points_number, ends_draw_none}
 use Rattle.monitor_places.specs.Counts.{times, times_push}
 use Rattle.monitor_places.specs.Entries.{found_put, found_without}
@@ -203,24 +203,16 @@ module _ (app : Application) (s : State) (task : ℕ) (id : ServiceId) (x : Open
   points Back commit kept = over Back (synchronised_own app.generation s.tables id x Back)
 
   settles : (o : Outcome) → IsConsistent app (settled app s task id x o).after
-  unfolding settled
-  settles o = by (refusal app.generation (durable app.generation (synchronised app.generation s.tables id x o)))
-    where
-      by : (cause : Option Cause) → IsConsistent app (settled_by app s task id x o (synchronised app.generation s.tables id x o) cause).after
-      by (Some cause) = breaks (Broken cause)
-      by None = points o _ _
+  settles o = of_point app s task id x o (λ t. IsConsistent app t.after) (λ cause. breaks (Broken cause)) (points o _ _)
 
   returns_to : (began : Option Service) → service_of s.tables id ≡ began → IsConsistent app (back app left id x began).after
   returns_to None e = closed s.tables same_keeps (λ row r a. absurd (true≢false (sym (ap is_some (sym e ∙ r)))))
   returns_to (Some row) e = by row.awaits refl
     where
-      again : (i : ServiceId) (last : Option Bytes) → IsConsistent app left → IsConsistent app (last_again left i last).after
-      again i None h = h
-      again (Dialogue user) (Some message) h = last_consistent app left (pterm_of_user left.signed user) message h
-      again (Asynchronous number) (Some message) h = h
-
       by : (b : Bool) → row.awaits ≡ b → IsConsistent app (back_by app left id x row b).after
-      by true a = again id row.last (closed s.tables same_keeps (λ r q f. absurd (true≢false (sym a ∙ ap (λ (v : Service). v.awaits) (some_is row r (sym e ∙ q)) ∙ f))))
+      by true a =
+          let kept = closed s.tables same_keeps (λ r q f. absurd (true≢false (sym a ∙ ap (λ (v : Service). v.awaits) (some_is row r (sym e ∙ q)) ∙ f))) in
+          last_again_stays (IsConsistent app) left (λ pterm message. last_consistent app left pterm message kept) kept id row.last
       by false a = goes s.tables row same_keeps e
 
   does : (y : OpenTransaction) (h : Happened) → StatementKeeps (told_here app s id x) (area_of app x) x (y, h) → (statement_now app s id x).1 ≡ h → IsConsistent app (happens app s task id x y h).after

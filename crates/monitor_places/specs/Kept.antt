@@ -7,7 +7,6 @@ use Rattle.kd_base.specs.declared.words.Variant.{Variant}
 use Rattle.kdcs_types.specs.declared.call.Call.{Call}
 use Rattle.kdcs_types.specs.declared.call.Call.TheVariants.{Init, Mget, Mput, Fget, Fput, Dput, SgetGb, SputGb, SrelGb, SgetKp, SgetRl, SputMs, SrelLb, SgetUs, SputUs, Gtda, Ptda, UnlkGb, UnlkUs, UnlkDa, Pend}
 use Rattle.kdcs_types.specs.declared.call.Cause.{Cause}
-use Rattle.kdcs_types.specs.declared.call.Code.{Code}
 use Rattle.kdcs_types.specs.declared.call.Code.TheVariants.{Done, K03, K09}
 use Rattle.kdcs_types.specs.declared.key.Area.{Area}
 use Rattle.kdcs_types.specs.declared.key.Area.TheVariants.{Gssb, Tls, Uls}
@@ -56,6 +55,9 @@ pub record IsQuiet (x : OpenTransaction) (p : Performed) : Type 0 where
   pub began : p.0.began ≡ x.began
   pub pends_not : PendsNot p.1
 
+quiet : {x : OpenTransaction} {p : Performed} → p.0.touched ≡ x.touched → p.0.began ≡ x.began → PendsNot p.1 → IsQuiet x p
+quiet touched began pends_not = record { touched = touched; began = began; pends_not = pends_not }
+
 -- the area was granted: it is the one asked of, and was not held
 abbrev pub IsGranted : Told → Option Area → OpenTransaction → Area → Type 0
 IsGranted v of x area = (of ≡ Some area) × (v.answer ≡ Granted) × (touches x area ≡ false)
@@ -84,52 +86,41 @@ quiet-kept v of x p q = record {
 -- ---- calls that ask of no area
 
 named-quiet : (x : OpenTransaction) (n : Option Bytes) (go : Bytes → Performed) → ((m : Bytes) → IsQuiet x (go m)) → IsQuiet x (with_name x n go)
-named-quiet x None go all = record { touched = refl; began = refl; pends_not = tt }
+named-quiet x None go all = quiet refl refl tt
 named-quiet x (Some m) go all = all m
 
 kind-quiet : (x : OpenTransaction) (b : Bool) (p : Performed) → IsQuiet x p → IsQuiet x (for_kind x b p)
 kind-quiet x true p h = h
-kind-quiet x false p h = record { touched = refl; began = refl; pends_not = tt }
+kind-quiet x false p h = quiet refl refl tt
 
 within-quiet : (x : OpenTransaction) (b : Bool) (p : Performed) → IsQuiet x p → IsQuiet x (within_length x b p)
 within-quiet x true p h = h
-within-quiet x false p h = record { touched = refl; began = refl; pends_not = tt }
+within-quiet x false p h = quiet refl refl tt
 
 got-quiet : (x : OpenTransaction) (room : ℕ) (parts : List Bytes) → IsQuiet x (got_by x room parts)
-got-quiet x room [] = record { touched = refl; began = refl; pends_not = tt }
-got-quiet x room (p ∷ ps) = record { touched = refl; began = refl; pends_not = tt }
+got-quiet x room [] = quiet refl refl tt
+got-quiet x room (p ∷ ps) = quiet refl refl tt
 
 drafted-quiet : (x : OpenTransaction) (to : Option Target) (due : Option Due) (message : Bytes) → IsQuiet x (drafted x to due message)
-drafted-quiet x None due message = record { touched = refl; began = refl; pends_not = tt }
-drafted-quiet x (Some to) None message = record { touched = refl; began = refl; pends_not = tt }
-drafted-quiet x (Some to) (Some due) message = record { touched = refl; began = refl; pends_not = tt }
+drafted-quiet x None due message = quiet refl refl tt
+drafted-quiet x (Some to) None message = quiet refl refl tt
+drafted-quiet x (Some to) (Some due) message = quiet refl refl tt
 
 job-quiet : (g : Generated) (x : OpenTransaction) (to : Bytes) (due : Option Due) (message : Bytes) → IsQuiet x (put_job g x to due message)
 job-quiet g x to due message = within-quiet x _ _ (named-quiet x (name_in_operand to) _ (λ name. drafted-quiet x (job_target g name) due message))
 
-read_or-quiet : (code : Code) (x : OpenTransaction) (room : ℕ) (o : Option Bytes) → IsQuiet x (read_or code x room o)
-read_or-quiet code x room None = record { touched = refl; began = refl; pends_not = tt }
-read_or-quiet code x room (Some bytes) = record { touched = refl; began = refl; pends_not = tt }
-
-deleted-quiet : (x : OpenTransaction) (area : Area) (o : Option Bytes) → IsQuiet x (deleted x area o)
-deleted-quiet x area None = record { touched = refl; began = refl; pends_not = tt }
-deleted-quiet x area (Some bytes) = record { touched = refl; began = refl; pends_not = tt }
-
-read_away-quiet : (x : OpenTransaction) (name : Bytes) (room : ℕ) (o : Option Bytes) → IsQuiet x (read_away_by x name room o)
-read_away-quiet x name room None = record { touched = refl; began = refl; pends_not = tt }
-read_away-quiet x name room (Some bytes) = record { touched = refl; began = refl; pends_not = tt }
-
-delete_local-quiet : (x : OpenTransaction) (name : Bytes) (o : Option Bytes) → IsQuiet x (delete_local_by x name o)
-delete_local-quiet x name None = record { touched = refl; began = refl; pends_not = tt }
-delete_local-quiet x name (Some bytes) = record { touched = refl; began = refl; pends_not = tt }
+-- with no content and with any
+content-quiet : (x : OpenTransaction) (go : Option Bytes → Performed) → IsQuiet x (go None) → ((bytes : Bytes) → IsQuiet x (go (Some bytes))) → (o : Option Bytes) → IsQuiet x (go o)
+content-quiet x go none some None = none
+content-quiet x go none some (Some bytes) = some bytes
 
 put-quiet : (x : OpenTransaction) (bytes : Bytes) (b : Bool) → IsQuiet x (within_length x b (replied (record x { parts = x.parts ++ bytes ∷ [] }) Done))
-put-quiet x bytes true = record { touched = refl; began = refl; pends_not = tt }
-put-quiet x bytes false = record { touched = refl; began = refl; pends_not = tt }
+put-quiet x bytes true = quiet refl refl tt
+put-quiet x bytes false = quiet refl refl tt
 
 local-quiet : (x : OpenTransaction) (name bytes : Bytes) (b : Bool) → IsQuiet x (cond b (replied x K09) (replied (record x { lssbs = put bytes_cmp name bytes x.lssbs }) Done))
-local-quiet x name bytes true = record { touched = refl; began = refl; pends_not = tt }
-local-quiet x name bytes false = record { touched = refl; began = refl; pends_not = tt }
+local-quiet x name bytes true = quiet refl refl tt
+local-quiet x name bytes false = quiet refl refl tt
 
 -- ---- locks
 
@@ -213,6 +204,10 @@ named-kept : (v : Told) (area : Bytes → Area) (x : OpenTransaction) (n : Optio
 named-kept v area x None go all = record { touched = λ a h. inl h; began = refl; pends_not = tt }
 named-kept v area x (Some m) go all = all m
 
+-- a block that the generation declares
+block-kept : (v : Told) (area : Bytes → Area) (x : OpenTransaction) (name : Bytes) (has : Bytes → Bool) (go : Bytes → Performed) → ((n : Bytes) → IsKept v (Some (area n)) x (go n)) → IsKept v (option_map area (name_in_operand name)) x (with_name x (name_in_operand name) (λ n. declared x (has n) (go n)))
+block-kept v area x name has go all = named-kept v area x (name_in_operand name) _ (λ n. declared-kept v (Some (area n)) x (has n) (go n) (all n))
+
 -- any call but PEND
 pub called-kept : (g : Generated) (v : Told) (asy : Bool) (x : OpenTransaction) (call : Call) → IsNoPend call → IsKept v (area_of_call x call) x (called g v asy x call)
 unfolding called
@@ -222,28 +217,20 @@ called-kept g v asy x (Mput bytes) other = quiet-kept v None x _ (kind-quiet x (
 called-kept g v asy x (Fget room) other = quiet-kept v None x _ (kind-quiet x asy _ (got-quiet x room x.unread))
 called-kept g v asy x (Fput to message) other = quiet-kept v None x _ (job-quiet g x to _ message)
 called-kept g v asy x (Dput to mode d h m s message) other = quiet-kept v None x _ (job-quiet g x to _ message)
-called-kept g v asy x (SgetGb name room) other = named-kept v (λ n. Gssb n) x (name_in_operand name) _ (λ n. locked-kept v x (Gssb n) _ (λ y. read_or-quiet K03 y room (seen v y (Gssb n))))
-called-kept g v asy x (SputGb name bytes) other = named-kept v (λ n. Gssb n) x (name_in_operand name) _ (λ n. locked-kept v x (Gssb n) _ (λ y. record { touched = refl; began = refl; pends_not = tt }))
-called-kept g v asy x (SrelGb name) other = named-kept v (λ n. Gssb n) x (name_in_operand name) _ (λ n. locked-kept v x (Gssb n) _ (λ y. deleted-quiet y (Gssb n) (seen v y (Gssb n))))
-called-kept g v asy x (SgetKp name room) other = quiet-kept v None x _ (named-quiet x (name_in_operand name) _ (λ n. read_or-quiet K03 x room _))
-called-kept g v asy x (SgetRl name room) other = quiet-kept v None x _ (named-quiet x (name_in_operand name) _ (λ n. read_away-quiet x n room _))
+called-kept g v asy x (SgetGb name room) other = named-kept v (λ n. Gssb n) x (name_in_operand name) _ (λ n. locked-kept v x (Gssb n) _ (λ y. content-quiet y (read_or K03 y room) (quiet refl refl tt) (λ b. quiet refl refl tt) (seen v y (Gssb n))))
+called-kept g v asy x (SputGb name bytes) other = named-kept v (λ n. Gssb n) x (name_in_operand name) _ (λ n. locked-kept v x (Gssb n) _ (λ y. quiet refl refl tt))
+called-kept g v asy x (SrelGb name) other = named-kept v (λ n. Gssb n) x (name_in_operand name) _ (λ n. locked-kept v x (Gssb n) _ (λ y. content-quiet y (deleted y (Gssb n)) (quiet refl refl tt) (λ b. quiet refl refl tt) (seen v y (Gssb n))))
+called-kept g v asy x (SgetKp name room) other = quiet-kept v None x _ (named-quiet x (name_in_operand name) _ (λ n. content-quiet x (read_or K03 x room) (quiet refl refl tt) (λ b. quiet refl refl tt) _))
+called-kept g v asy x (SgetRl name room) other = quiet-kept v None x _ (named-quiet x (name_in_operand name) _ (λ n. content-quiet x (read_away_by x n room) (quiet refl refl tt) (λ b. quiet refl refl tt) _))
 called-kept g v asy x (SputMs name bytes) other = quiet-kept v None x _ (named-quiet x (name_in_operand name) _ (λ n. local-quiet x n bytes (not (is_some (find bytes_cmp n x.lssbs)) && nat_le g.limits.lssbs (length x.lssbs))))
-called-kept g v asy x (SrelLb name) other = quiet-kept v None x _ (named-quiet x (name_in_operand name) _ (λ n. delete_local-quiet x n _))
-called-kept g v asy x (SgetUs name room) other =
-    named-kept v (λ n. Uls n x.user) x (name_in_operand name) _
-    (λ n. declared-kept v (Some (Uls n x.user)) x (has_uls g n) _ (locked-kept v x (Uls n x.user) _ (λ y. record { touched = refl; began = refl; pends_not = tt })))
-called-kept g v asy x (SputUs name bytes) other =
-    named-kept v (λ n. Uls n x.user) x (name_in_operand name) _
-    (λ n. declared-kept v (Some (Uls n x.user)) x (has_uls g n) _ (locked-kept v x (Uls n x.user) _ (λ y. record { touched = refl; began = refl; pends_not = tt })))
-called-kept g v asy x (Gtda name room) other =
-    named-kept v (λ n. Tls n x.lterm) x (name_in_operand name) _
-    (λ n. declared-kept v (Some (Tls n x.lterm)) x (has_tls g n) _ (locked-kept v x (Tls n x.lterm) _ (λ y. record { touched = refl; began = refl; pends_not = tt })))
-called-kept g v asy x (Ptda name bytes) other =
-    named-kept v (λ n. Tls n x.lterm) x (name_in_operand name) _
-    (λ n. declared-kept v (Some (Tls n x.lterm)) x (has_tls g n) _ (locked-kept v x (Tls n x.lterm) _ (λ y. record { touched = refl; began = refl; pends_not = tt })))
+called-kept g v asy x (SrelLb name) other = quiet-kept v None x _ (named-quiet x (name_in_operand name) _ (λ n. content-quiet x (delete_local_by x n) (quiet refl refl tt) (λ b. quiet refl refl tt) _))
+called-kept g v asy x (SgetUs name room) other = block-kept v (λ n. Uls n x.user) x name (has_uls g) _ (λ n. locked-kept v x (Uls n x.user) _ (λ y. quiet refl refl tt))
+called-kept g v asy x (SputUs name bytes) other = block-kept v (λ n. Uls n x.user) x name (has_uls g) _ (λ n. locked-kept v x (Uls n x.user) _ (λ y. quiet refl refl tt))
+called-kept g v asy x (Gtda name room) other = block-kept v (λ n. Tls n x.lterm) x name (has_tls g) _ (λ n. locked-kept v x (Tls n x.lterm) _ (λ y. quiet refl refl tt))
+called-kept g v asy x (Ptda name bytes) other = block-kept v (λ n. Tls n x.lterm) x name (has_tls g) _ (λ n. locked-kept v x (Tls n x.lterm) _ (λ y. quiet refl refl tt))
 called-kept g v asy x (UnlkGb name) other = named-kept v (λ n. Gssb n) x (name_in_operand name) _ (λ n. unlocked-kept v (Some (Gssb n)) x (Gssb n) _ _)
-called-kept g v asy x (UnlkUs name) other = named-kept v (λ n. Uls n x.user) x (name_in_operand name) _ (λ n. declared-kept v (Some (Uls n x.user)) x (has_uls g n) _ (unlocked-kept v (Some (Uls n x.user)) x (Uls n x.user) _ _))
-called-kept g v asy x (UnlkDa name) other = named-kept v (λ n. Tls n x.lterm) x (name_in_operand name) _ (λ n. declared-kept v (Some (Tls n x.lterm)) x (has_tls g n) _ (unlocked-kept v (Some (Tls n x.lterm)) x (Tls n x.lterm) _ _))
+called-kept g v asy x (UnlkUs name) other = block-kept v (λ n. Uls n x.user) x name (has_uls g) _ (λ n. unlocked-kept v (Some (Uls n x.user)) x (Uls n x.user) _ _)
+called-kept g v asy x (UnlkDa name) other = block-kept v (λ n. Tls n x.lterm) x name (has_tls g) _ (λ n. unlocked-kept v (Some (Tls n x.lterm)) x (Tls n x.lterm) _ _)
 called-kept g v asy x (Pend variant op) other = absurd other
 
 first-kept : (v : Told) (of : Option Area) (x : OpenTransaction) (call : Call) → IsKept v of x (first_call x call)

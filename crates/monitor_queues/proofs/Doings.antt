@@ -1,13 +1,11 @@
 -- What each commit does.
-use Rattle.std.specs.Prelude.{◌≡◌, ◌⊎◌, refl, ℕ, ◌+◌, ◌-◌, Bool, true, false, Option, Some, None, slice_get, nat_le, List, ◌∷◌}
+use Rattle.std.specs.Prelude.{◌≡◌, ◌⊎◌, refl, ℕ, ◌+◌, Bool, true, false, Option, Some, None, nat_le, List, ◌∷◌}
 use Rattle.std.proofs.Common.{sym, ap, subst, ◌∙◌, inl, inr}
 use Rattle.std.specs.FinMap.{find}
 use Rattle.kdcs_types.specs.declared.act.Act.{Act}
 use Rattle.kdcs_types.specs.declared.call.Cause.{Cause}
 use Rattle.kdcs_types.specs.declared.key.ServiceId.{ServiceId}
 use Rattle.kdcs_types.specs.declared.key.ServiceId.TheVariants.{Dialogue, Asynchronous}
-use Rattle.kdcs_types.specs.declared.key.Target.{Target}
-use Rattle.kdcs_types.specs.declared.key.Target.TheVariants.{Tac, Lterm}
 use Rattle.kdcs_types.specs.declared.service.Ending.{Ending}
 use Rattle.kdcs_types.specs.declared.service.Ending.TheVariants.{Synced, Broken}
 use Rattle.kdcs_types.specs.declared.service.Job.{Job}
@@ -15,26 +13,24 @@ use Rattle.kdcs_types.specs.declared.service.JobValue.{JobValue}
 use Rattle.kdcs_types.specs.declared.service.Service.{Service}
 use Rattle.kdcs_types.specs.declared.service.Settled.{Settled}
 use Rattle.kdcs_types.specs.Keys.{id_cmp}
-use Rattle.kdcs_types.specs.Limits.{last_clock}
-use Rattle.kdcs_types.specs.Tables.{TableRows, service_of, job_of, shown_of}
+use Rattle.kd_base.specs.Limits.{last_clock}
+use Rattle.kdcs_types.specs.Tables.{TableRows, service_of, shown_of}
 use Rattle.monitor_semantics.specs.declared.answer.Happened.{Happened}
 use Rattle.monitor_semantics.specs.declared.answer.Happened.TheVariants.{Settles, Breaks, Returns}
 use Rattle.monitor_semantics.specs.declared.input_use.Use.{Use}
 use Rattle.monitor_semantics.specs.declared.input_use.Use.TheVariants.{Sign, Display, Output, Again}
 use Rattle.monitor_semantics.specs.declared.outcome.Outcome.{Outcome}
 use Rattle.monitor_semantics.specs.declared.outcome.Outcome.TheVariants.{Wait, Point, Follow, Finish}
-use Rattle.monitor_semantics.specs.declared.work.Work.{Work}
-use Rattle.monitor_semantics.specs.declared.work.Work.TheVariants as work
 use Rattle.monitor_semantics.specs.Bytes.{Bytes, bytes_cmp}
 use Rattle.monitor_semantics.specs.State.{Application, OpenTransaction, Session, State}
 use Rattle.monitor_semantics.specs.Endings.{joined, durable, synchronised, refusal, row_after}
 use Rattle.monitor_semantics.specs.Lines.{asy_line, prt_line, no_message_line}
-use Rattle.monitor_semantics.specs.Picks.{pick}
 use Rattle.monitor_semantics.specs.Statements.{kept_record}
-use Rattle.monitor_semantics.specs.Turns.{out_acts, message_acts, Turned, without_work, pterm_of_user, after_point, settled_by, settled, abnormal, last_again, back_by, back, happens, statement_now, worked, took_job_for, took_job, took, turn_by, turn_of, commit_of}
+use Rattle.monitor_semantics.specs.Turns.{out_acts, message_acts, Turned, without_work, pterm_of_user, after_point, settled_by, settled, abnormal, last_again, back_by, back, happens, statement_now, worked, turn_of, commit_of}
 use Rattle.monitor_semantics.specs.declared.command.Command.TheVariants.{Input, Tick, Run, Turn, Drop, Print, PrintLast, Restart}
 use Rattle.monitor_semantics.specs.Commands.{signed_on_by, show_next, show_by, show_again_by, due_for, display, last_by, used, use_now, tick_by, drop_by, command_of, lterm_at, maker_of, turned_step}
 use Rattle.monitor_laws.specs.TablesStay.{sent-tables, goes-tables}
+use Rattle.monitor_laws.specs.EachTurn.{of_turn}
 use Rattle.monitor_laws.specs.Commits.{EndsSo, ending_by}
 use Rattle.monitor_queues.specs.Doings.{tables_by, point_lines, lines_by, Settling, StepMakes}
 use Rattle.monitor_queues.specs.QueueLaws.{TurnsDoSo, CommandsDoSo}
@@ -127,27 +123,8 @@ worked-fine : (app : Application) (s : State) (task : ℕ) (id : ServiceId) (o :
 worked-fine app s task id None e = tt
 worked-fine app s task id (Some x) e = happens-fine app s task id x e (statement_now app s id x).0 (statement_now app s id x).1 refl
 
-job-fine : (app : Application) (s : State) (task number : ℕ) (job : Option JobValue) → Fine app s (took_job app s task number job)
-job-fine app s task number None = tt
-job-fine app s task number (Some job) = by job.to
-  where
-    by : (to : Target) → Fine app s (took_job_for app s task number job to)
-    by (Tac tac) = tt
-    by (Lterm lterm) = tt
-
-took-fine : (app : Application) (s : State) (task : ℕ) (w : Option Work) → Fine app s (took app s task w)
-took-fine app s task None = tt
-took-fine app s task (Some (work.Service id)) = tt
-took-fine app s task (Some (work.Job number)) = job-fine app s task number (job_of s.tables number)
-
 turn-fine : (app : Application) (s : State) (task : ℕ) → Fine app s (turn_of app s task)
-unfolding turn_of
-turn-fine app s task = by (slice_get s.tasks (task - 1))
-  where
-    by : (place : Option (Option ServiceId)) → Fine app s (turn_by app s task place)
-    by None = tt
-    by (Some None) = took-fine app s task (pick app s)
-    by (Some (Some id)) = worked-fine app s task id (find id_cmp id s.active) refl
+turn-fine app s task = of_turn app s task (Fine app s) (λ t r. subst (TurnMakes app s t.after.tables t.acts) (sym r.settled) tt) (λ id. worked-fine app s task id (find id_cmp id s.active) refl)
 
 pub turns_do_so : TurnsDoSo
 turns_do_so app s task = by (turn_of app s task).settled (turn-fine app s task)

@@ -20,7 +20,7 @@ use Rattle.kdcs_types.specs.KeyLaws.{key_eq-itself}
 use Rattle.kdcs_types.specs.Keys.{id_eq, key_eq}
 use Rattle.kdcs_types.specs.Tables.{TableRows, job_key, shown_key, service_of, shown_of}
 use Rattle.monitor_semantics.specs.declared.answer.Happened.{Happened}
-use Rattle.monitor_semantics.specs.declared.answer.Happened.TheVariants.{Went, Queued, Waited, Held, Settles, Breaks, Returns}
+use Rattle.monitor_semantics.specs.declared.answer.Happened.TheVariants.{Settles, Breaks}
 use Rattle.monitor_semantics.specs.Bytes.{Bytes}
 use Rattle.monitor_semantics.specs.State.{Application, OpenTransaction, State}
 use Rattle.monitor_semantics.specs.Endings.{is_durable, durable, broken}
@@ -107,25 +107,11 @@ module _ (app : Application) (t : TableRows) (id : ServiceId) (x : OpenTransacti
 
   pub own_row : (h : Happened) (e : Ending) → service_of (tables_by app t id x h e) id ≡ row_by_ending app id x h e
   own_row (Settles o) Synced = synchronised_own app.generation t id x o
-  own_row (Settles o) (Broken cause) = broken_own t id x
-  own_row (Settles o) BrokenFr = broken_own t id x
-  own_row (Breaks by) e = broken_own t id x
-  own_row Went e = broken_own t id x
-  own_row Queued e = broken_own t id x
-  own_row (Held tac) e = broken_own t id x
-  own_row Waited e = broken_own t id x
-  own_row Returns e = broken_own t id x
+  own_row _ _ = broken_own t id x
 
   other_row : (h : Happened) (e : Ending) (i : ServiceId) → id_eq i id ≡ false → service_of (tables_by app t id x h e) i ≡ service_of t i
   other_row (Settles o) Synced i apart = synchronised_other app.generation t id x o i apart
-  other_row (Settles o) (Broken cause) i apart = broken_other t id x i apart
-  other_row (Settles o) BrokenFr i apart = broken_other t id x i apart
-  other_row (Breaks by) e i apart = broken_other t id x i apart
-  other_row Went e i apart = broken_other t id x i apart
-  other_row Queued e i apart = broken_other t id x i apart
-  other_row (Held tac) e i apart = broken_other t id x i apart
-  other_row Waited e i apart = broken_other t id x i apart
-  other_row Returns e i apart = broken_other t id x i apart
+  other_row _ _ i apart = broken_other t id x i apart
 
 -- ---- durable tables
 

@@ -5,10 +5,7 @@
 //! program above it cite.
 #![tactic(auto)]
 
-ghost use Rattle.monitor_queues.specs.QueueLaws.{TurnsDoSo, CommandsDoSo, TurnsKeepQueues, CommandsKeepQueues, HistoriesKeepQueues, HistoriesSendAtPoints, NumbersAreDrawnOnce, NoJobIsLost, JobsAreDoneOnce};
-ghost use Rattle.monitor_queues.specs.Lawful.{HistoriesAreLawful, RunsAreLawful};
-ghost use Rattle.monitor_queues.specs.ResumeLaws.{StartsResume, SignOnsResume, CutsResume};
-ghost use Rattle.monitor_queues.specs.SerialCuts.{CutsAreSerial};
+ghost use Rattle.monitor_queues.specs.{QueueLaws.{TurnsDoSo, CommandsDoSo, TurnsKeepQueues, CommandsKeepQueues, HistoriesKeepQueues, HistoriesSendAtPoints, NumbersAreDrawnOnce, NoJobIsLost, JobsAreDoneOnce}, Lawful.{HistoriesAreLawful, RunsAreLawful}, ResumeLaws.{StartsResume, SignOnsResume, CutsResume}, SerialCuts.{CutsAreSerial}};
 
 use monitor_laws::steps_commit_once;
 use monitor_places::facts_hold_along;

@@ -31,7 +31,8 @@ use Rattle.monitor_semantics.specs.declared.draft.Due.{Due}
 use Rattle.monitor_semantics.specs.declared.draft.Due.TheVariants.{After, At}
 use Rattle.monitor_semantics.specs.Bytes.{Bytes, bytes_cmp}
 use Rattle.kdcs_types.specs.Keys.{area_cmp, area_eq}
-use Rattle.unit_semantics.specs.Contents.{trim_end, number_of}
+use Rattle.kd_base.specs.Text.{trim_end}
+use Rattle.unit_semantics.specs.Contents.{number_of}
 use Rattle.monitor_semantics.specs.State.{OpenTransaction}
 use Rattle.monitor_semantics.specs.Outcomes.{goes_first, pend_outcome}
 

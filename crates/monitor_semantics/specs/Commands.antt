@@ -16,7 +16,7 @@ use Rattle.kdcs_types.specs.declared.service.Service.{Service}
 use Rattle.kdcs_types.specs.declared.service.Settled.{Settled}
 use Rattle.kdcdef_types.specs.declared.entry.PtermEntry.{PtermEntry}
 use Rattle.kdcdef_types.specs.Generation.{pterm_of}
-use Rattle.kdcs_types.specs.Limits.{last_clock}
+use Rattle.kd_base.specs.Limits.{last_clock}
 use Rattle.kdcs_types.specs.Tables.{TableRows, service_of, shown_of, with_change}
 use Rattle.kdcs_types.specs.Keys.{id_cmp, id_eq}
 use Rattle.monitor_semantics.specs.declared.answer.Happened.{Happened}

@@ -25,7 +25,7 @@ use Rattle.monitor_semantics.specs.declared.draft.Due.{Due}
 use Rattle.monitor_semantics.specs.declared.draft.Due.TheVariants.{After, At}
 use Rattle.monitor_semantics.specs.declared.draft.Draft.{Draft}
 use Rattle.monitor_semantics.specs.Bytes.{Bytes}
-use Rattle.kdcs_types.specs.Limits.{last_next_job}
+use Rattle.kd_base.specs.Limits.{last_next_job}
 use Rattle.kdcs_types.specs.Tables.{TableRows, with_change}
 use Rattle.monitor_semantics.specs.State.{OpenTransaction}
 use Rattle.monitor_semantics.specs.Charges.{total_charge}

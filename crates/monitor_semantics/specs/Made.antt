@@ -13,6 +13,7 @@ use Rattle.kdcdef_types.specs.declared.entry.LtermEntry.{LtermEntry}
 use Rattle.kdcdef_types.specs.Generation.{Generated}
 use Rattle.unit_types.specs.declared.action.Action.{Action}
 use Rattle.unit_types.specs.declared.action.Action.TheVariants.{Add, Init, Mget, Mput, Fget, Fput, SgetGb, SputGb, Pend}
+use Rattle.unit_types.specs.declared.action.Operand.{Operand}
 use Rattle.unit_types.specs.declared.action.Operand.TheVariants.{Field as FieldOf, Literal, Digits}
 use Rattle.unit_types.specs.declared.action.UnitStatement.{UnitStatement}
 use Rattle.unit_types.specs.declared.unit.Field.{Field}
@@ -75,58 +76,41 @@ made_generation = record {
   tls = [];
   uls = [];
   classes = [];
-  counts = record {
-    users = 4;
-    pterms = 4;
-    lterms = 4;
-    tacs = 2;
-    programs = 2;
-    passed_statements = 0;
-    passed_operands = 0;
-  };
+  counts = record { users = 4; pterms = 4; lterms = 4; tacs = 2; programs = 2; passed_statements = 0; passed_operands = 0 };
 }
 
 -- a field of 8 bytes in SPAB
 abbrev pub made_field : (line : ℕ) → (name : Bytes) → (offset : ℕ) → Field
 made_field line name offset = record { name = name; line = line; spab = true; offset = offset; length = 8 }
 
--- a statement on its line
-abbrev pub at_line : ℕ → Action → UnitStatement
-at_line line action = record { line = line; action = action }
+-- statements, one a line from this one on
+abbrev pub from_line : ℕ → List Action → List UnitStatement
+from_line line [] = []
+from_line line (action ∷ actions) = record { line = line; action = action } ∷ from_line (line + 1) actions
+
+-- a unit of this name on this line: the fields v and n, and then its statements
+abbrev pub made_unit : (name : Bytes) → (line : ℕ) → List Action → UnitText
+made_unit name line actions = record {
+  name = name;
+  line = line;
+  fields = made_field (line + 1) (codes "v") 0 ∷ made_field (line + 2) (codes "n") 8 ∷ [];
+  labels = [];
+  statements = from_line (line + 3) actions;
+}
+
+-- a GSSB grows by an operand, and n has its new content
+abbrev pub grows : (name : Bytes) → Operand → List Action
+grows name by = SgetGb (Literal name) (codes "n") ∷ Add (codes "n") by ∷ SputGb (Literal name) (FieldOf (codes "n")) ∷ []
 
 -- it adds one to the GSSB CNT, and hands its input on to TALLY
 abbrev pub add_unit : UnitText
-add_unit = record {
-  name = codes "ADD";
-  line = 1;
-  fields = made_field 2 (codes "v") 0 ∷ made_field 3 (codes "n") 8 ∷ [];
-  labels = [];
-  statements = at_line 4 Init
-      ∷ at_line 5 (Mget (codes "v"))
-      ∷ at_line 6 (SgetGb (Literal (codes "CNT")) (codes "n"))
-      ∷ at_line 7 (Add (codes "n") (Digits (codes "1")))
-      ∷ at_line 8 (SputGb (Literal (codes "CNT")) (FieldOf (codes "n")))
-      ∷ at_line 9 (Fput (Literal (codes "TALLY")) (FieldOf (codes "v")))
-      ∷ at_line 10 (Mput (FieldOf (codes "n")))
-      ∷ at_line 11 (Pend Fi None)
-      ∷ [];
-}
+add_unit =
+    made_unit (codes "ADD") 1
+    (Init ∷ Mget (codes "v") ∷ grows (codes "CNT") (Digits (codes "1")) ++ Fput (Literal (codes "TALLY")) (FieldOf (codes "v")) ∷ Mput (FieldOf (codes "n")) ∷ Pend Fi None ∷ [])
 
 -- it adds its message to the GSSB TOTAL
 abbrev pub tally_unit : UnitText
-tally_unit = record {
-  name = codes "TALLY";
-  line = 13;
-  fields = made_field 14 (codes "v") 0 ∷ made_field 15 (codes "n") 8 ∷ [];
-  labels = [];
-  statements = at_line 16 Init
-      ∷ at_line 17 (Fget (codes "v"))
-      ∷ at_line 18 (SgetGb (Literal (codes "TOTAL")) (codes "n"))
-      ∷ at_line 19 (Add (codes "n") (FieldOf (codes "v")))
-      ∷ at_line 20 (SputGb (Literal (codes "TOTAL")) (FieldOf (codes "n")))
-      ∷ at_line 21 (Pend Fi None)
-      ∷ [];
-}
+tally_unit = made_unit (codes "TALLY") 13 (Init ∷ Fget (codes "v") ∷ grows (codes "TOTAL") (FieldOf (codes "v")) ++ Pend Fi None ∷ [])
 
 -- the application of `make`
 abbrev pub made_application : Application

@@ -8,7 +8,6 @@ use Rattle.kdcs_types.specs.declared.key.Area.TheVariants.{Gssb, Tls, Uls}
 use Rattle.kdcs_types.specs.declared.key.ServiceId.{ServiceId}
 use Rattle.kdcs_types.specs.declared.key.ServiceId.TheVariants.{Dialogue, Asynchronous}
 use Rattle.kdcs_types.specs.declared.service.Job.{Job}
-use Rattle.kdcs_types.specs.declared.service.JobValue.{JobValue}
 use Rattle.kdcs_types.specs.declared.service.Service.{Service}
 use Rattle.kdcs_types.specs.Keys.{id_cmp, id_eq}
 use Rattle.kdcs_types.specs.KeyLaws.{id_eq-same}
@@ -19,7 +18,7 @@ use Rattle.monitor_semantics.specs.Bytes.{Bytes, bytes_cmp}
 use Rattle.monitor_semantics.specs.Calls.{nothing_told}
 use Rattle.monitor_semantics.specs.declared.command.Command.{Command}
 use Rattle.monitor_semantics.specs.declared.command.Command.TheVariants.{Input, Tick, Run, Turn, Drop, Print, PrintLast, Restart}
-use Rattle.monitor_semantics.specs.Commands.{user_by, opened_row, started, lterm_at, user_at, with_session, without_session, resumed_by, signed_on_by, withdrawn, rolled_tables, signed_off, due_for, shown_tables, show_by, show_next, show_again_by, last_by, display, follow_up_of, held_tac, next_by, next_input, used, use_now, tick_by, drop_by, command_of}
+use Rattle.monitor_semantics.specs.Commands.{user_by, opened_row, started, lterm_at, user_at, with_session, without_session, resumed_by, signed_on_by, withdrawn, rolled_tables, signed_off, due_for, shown_tables, show_by, show_next, last_by, follow_up_of, held_tac, next_by, next_input, used, use_now, tick_by, drop_by, command_of}
 use Rattle.monitor_semantics.specs.Endings.{is_asynchronous, durable, restarts, opened_by_start, opened_by_input, opened_by_row, lterm_of_row, with_service, followed_by_input}
 use Rattle.monitor_semantics.specs.Picks.{free_jobs, is_free}
 use Rattle.monitor_semantics.specs.Sessions.{awaits_by, is_running, is_awaiting}
@@ -28,6 +27,7 @@ use Rattle.monitor_semantics.specs.Statements.{Stated}
 use Rattle.monitor_semantics.specs.Turns.{queued}
 use Rattle.monitor_semantics.specs.UseLaws.{IsFor, use_fits}
 use Rattle.monitor_laws.specs.Keeping.{HasFacts}
+use Rattle.monitor_laws.specs.TablesStay.{again_stays, display_stays}
 use Rattle.monitor_places.specs.Entries.{found_put, found_without, other_put, other_without}
 use Rattle.monitor_places.specs.Rows.{least_passes, all_filtered, filtered_pass}
 use Rattle.monitor_serial.specs.Replays.{HasSameJob, SeesTheSame, ReplaysToItself, AllReplay}
@@ -142,14 +142,6 @@ module _ (app : Application) (s : State) (facts : HasFacts app s) (all : AllRepl
           same_open (record s { tables = shown_tables s.tables lterm job }) refl
           (λ i y was. record { areas = λ area held. shown_content s.tables lterm job area; job = job_same job (f job refl) i y was y.began })
 
-  shows_again : (no_message : Bytes) (line_of : Bytes → Bytes) (o : Option JobValue) → AllReplay app (show_again_by s no_message line_of o).after
-  shows_again no_message line_of None = all
-  shows_again no_message line_of (Some value) = all
-
-  displays : (pterm : Bytes) (o : Option Bytes) → AllReplay app (display s pterm o).after
-  displays pterm None = all
-  displays pterm (Some message) = all
-
   ticks_on : (ticks clock : ℕ) (within : Bool) → AllReplay app (tick_by app s ticks clock within).after
   ticks_on ticks clock false = all
   ticks_on ticks clock true =
@@ -180,9 +172,9 @@ module _ (app : Application) (s : State) (facts : HasFacts app s) (all : AllRepl
   uses pterm SignFirst f = all
   uses pterm AlreadySigned f = all
   uses pterm Off f = signs_off pterm (user_at s pterm)
-  uses pterm Display f = displays pterm (last_by (find bytes_cmp pterm s.signed))
+  uses pterm Display f = display_stays (AllReplay app) s all pterm (last_by (find bytes_cmp pterm s.signed))
   uses pterm Output f = shows (lterm_at app pterm) _ _
-  uses pterm Again f = shows_again _ _ (shown_of s.tables (lterm_at app pterm))
+  uses pterm Again f = again_stays (AllReplay app) s all _ _ (shown_of s.tables (lterm_at app pterm))
   uses pterm Busy f = all
   uses pterm TooLong f = all
   uses pterm (Next text) f =
@@ -207,5 +199,5 @@ module _ (app : Application) (s : State) (facts : HasFacts app s) (all : AllRepl
   commands_replay (Turn task) = turns_replay app s task facts all
   commands_replay (Drop pterm) = drops pterm (find bytes_cmp pterm s.signed)
   commands_replay (Print pterm) = shows (lterm_at app pterm) _ _
-  commands_replay (PrintLast pterm) = shows_again _ _ (shown_of s.tables (lterm_at app pterm))
+  commands_replay (PrintLast pterm) = again_stays (AllReplay app) s all _ _ (shown_of s.tables (lterm_at app pterm))
   commands_replay Restart = starts_replay app (durable app.generation s.tables)

@@ -1,5 +1,5 @@
 -- Each commit of a transaction is that of its record, run in one go on the durable tables.
-use Rattle.std.specs.Prelude.{◌≡◌, refl, ℕ, ◌+◌, Bool, true, false, List, [], ◌∷◌, ◌&&◌, nat_le, filter, filter_map, is_some, Option, Some, None}
+use Rattle.std.specs.Prelude.{◌≡◌, refl, ℕ, ◌+◌, Bool, true, false, List, [], ◌∷◌, ◌&&◌, nat_le, filter, filter_map, is_some, IfSome, Option, Some, None}
 use Rattle.std.proofs.Common.{sym, ap, ◌∙◌, subst, ⊎_elim, true≢false}
 use Rattle.std.specs.FinMap.{find}
 use Rattle.kdcs_types.specs.declared.call.Cause.{Cause}
@@ -39,7 +39,7 @@ use Rattle.monitor_semantics.specs.Picks.{free_jobs}
 use Rattle.kd_base.specs.Tools.{both_true}
 use Rattle.std.proofs.lemmas.Bool.{leb-true}
 use Rattle.monitor_serial.specs.Replays.{LookAlike}
-use Rattle.monitor_serial.specs.SerialRuns.{Shows, MakeInTurn, makers_of, MakesBy, MakesItsCommit, TurnsMakeTheirCommits, CommandsMakeTheirCommits, ScriptsAreSerialRuns, StopsLeaveSerialRuns}
+use Rattle.monitor_serial.specs.SerialRuns.{Shows, MakeInTurn, makers_of, Makes, MakesItsCommit, TurnsMakeTheirCommits, CommandsMakeTheirCommits, ScriptsAreSerialRuns, StopsLeaveSerialRuns}
 use Rattle.monitor_serial.specs.SerialLaws.{HasReplays, StepsKeepReplays, IsSerialBy, IsSerialStep, TurnsCommitSerially, CommandsCommitSerially, HistoriesAreSerial}
 use Rattle.monitor_serial.proofs.Along.{replayed_over}
 use Rattle.monitor_serial.proofs.Durable.{base, base_sorted, base_durable, base_service, base_content, base_job, synchronised_alike, broken_alike}
@@ -113,7 +113,7 @@ turns_make app s task h =
     (λ id x ending is now. breaks_commits app s h id x is ending now)
     (λ id x o cause is now refused. settles_commits app s h id x is o cause now refused))
   where
-    as_law : (t : TableRows) (o : Option Settled) → IfSettled (λ u kept. IsAtomicCommit app (durable app.generation s.tables) (durable app.generation u) kept) t o → MakesBy app s t (maker_of o)
+    as_law : (t : TableRows) (o : Option Settled) → IfSettled (λ u kept. IsAtomicCommit app (durable app.generation s.tables) (durable app.generation u) kept) t o → IfSome (maker_of o) (Makes app (durable app.generation s.tables) (durable app.generation t))
     as_law t None k = tt
     as_law t (Some kept) k = k
 
@@ -180,7 +180,7 @@ commands_make app s (PrintLast pterm) h = again_commits app s _ _ (shown_of s.ta
 commands_make app s Restart h = tt
 
 -- and so it meets the law on all tables
-serial_by : (app : Application) (s : State) (t : TableRows) (o : Option Maker) → MakesBy app s t o → IsSerialBy app s t o
+serial_by : (app : Application) (s : State) (t : TableRows) (o : Option Maker) → IfSome o (Makes app (durable app.generation s.tables) (durable app.generation t)) → IsSerialBy app s t o
 serial_by app s t None k = tt
 serial_by app s t (Some (ByTick ticks)) k = tt
 serial_by app s t (Some (ByShow lterm)) k = tt
@@ -216,7 +216,7 @@ made_in_turn app s (d ∷ ds) once makes = by d.by refl makes.0 (made_in_turn ap
     later : TableRows → Type 0
     later t = MakeInTurn app t (durable app.generation (state_after d.after ds).tables) (makers_of ds)
 
-    by : (o : Option Maker) → d.by ≡ o → MakesBy app s d.after.tables o → later (durable app.generation d.after.tables)
+    by : (o : Option Maker) → d.by ≡ o → IfSome o (Makes app (durable app.generation s.tables) (durable app.generation d.after.tables)) → later (durable app.generation d.after.tables)
         → MakeInTurn app (durable app.generation s.tables) (durable app.generation (state_after d.after ds).tables) (filter_map (λ (d : ScriptStep). d.by) (record d { by = o } ∷ ds))
     by (Some maker) e m rest = (durable app.generation d.after.tables, (m, rest))
     by None e m rest = subst later (⊎_elim (λ (k : MakesNoCommit app s d). k.tables) (λ (k : MakesOneCommit app s d). absurd (true≢false (sym (ap is_some (sym e ∙ k.by))))) once.0) rest

@@ -68,28 +68,13 @@ module _ (t : TableRows) where
   area_kept : (w : Area) (o : Option Bytes) (area : Area) → area_eq area w ≡ false → content_of (with_change t (area_change w o)) area ≡ content_of t area
   area_kept (Gssb n) None (Gssb m) e = gssb_left n m e
   area_kept (Gssb n) (Some bytes) (Gssb m) e = gssb_kept n m bytes e
-  area_kept (Gssb n) None (Tls c m) e = refl
-  area_kept (Gssb n) (Some bytes) (Tls c m) e = refl
-  area_kept (Gssb n) None (Uls c m) e = refl
-  area_kept (Gssb n) (Some bytes) (Uls c m) e = refl
   area_kept (Tls b l) None (Tls c m) e = tls_left b l c m e
   area_kept (Tls b l) (Some []) (Tls c m) e = tls_left b l c m e
   area_kept (Tls b l) (Some (x ∷ xs)) (Tls c m) e = tls_kept b l c m x xs e
-  area_kept (Tls b l) None (Gssb m) e = refl
-  area_kept (Tls b l) (Some []) (Gssb m) e = refl
-  area_kept (Tls b l) (Some (x ∷ xs)) (Gssb m) e = refl
-  area_kept (Tls b l) None (Uls c m) e = refl
-  area_kept (Tls b l) (Some []) (Uls c m) e = refl
-  area_kept (Tls b l) (Some (x ∷ xs)) (Uls c m) e = refl
   area_kept (Uls b l) None (Uls c m) e = uls_left b l c m e
   area_kept (Uls b l) (Some []) (Uls c m) e = uls_left b l c m e
   area_kept (Uls b l) (Some (x ∷ xs)) (Uls c m) e = uls_kept b l c m x xs e
-  area_kept (Uls b l) None (Gssb m) e = refl
-  area_kept (Uls b l) (Some []) (Gssb m) e = refl
-  area_kept (Uls b l) (Some (x ∷ xs)) (Gssb m) e = refl
-  area_kept (Uls b l) None (Tls c m) e = refl
-  area_kept (Uls b l) (Some []) (Tls c m) e = refl
-  area_kept (Uls b l) (Some (x ∷ xs)) (Tls c m) e = refl
+  area_kept _ _ _ e = refl
 
 -- the areas written keep those that are none of them
 areas_kept : (ws : List (Area × Option Bytes)) (t : TableRows) (area : Area) → IsTrue (list_all (λ (w : Area × Option Bytes). not (area_eq area w.0)) ws) → content_of (with_areas t ws) area ≡ content_of t area

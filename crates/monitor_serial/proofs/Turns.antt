@@ -4,7 +4,6 @@ use Rattle.std.proofs.Common.{sym, ap, ◌∙◌, subst, true≢false}
 use Rattle.std.specs.FinMap.{find}
 use Rattle.kd_base.specs.Tools.{some_is}
 use Rattle.kdcs_types.specs.declared.act.Act.{Act}
-use Rattle.kdcs_types.specs.declared.call.Cause.{Cause}
 use Rattle.kdcs_types.specs.declared.key.Area.{Area}
 use Rattle.kdcs_types.specs.declared.key.ServiceId.{ServiceId}
 use Rattle.kdcs_types.specs.declared.key.ServiceId.TheVariants.{Dialogue, Asynchronous}
@@ -26,14 +25,16 @@ use Rattle.monitor_semantics.specs.declared.work.Work.{Work}
 use Rattle.monitor_semantics.specs.declared.work.Work.TheVariants as work
 use Rattle.monitor_semantics.specs.Bytes.{Bytes, bytes_cmp}
 use Rattle.monitor_semantics.specs.Calls.{touches}
-use Rattle.monitor_semantics.specs.Endings.{opened_by_row, opened_by_job, lterm_of_row, lterm_in_row, opened, row_after, synchronised, broken, durable, refusal}
+use Rattle.monitor_semantics.specs.Endings.{opened_by_row, opened_by_job, lterm_of_row, lterm_in_row, opened, row_after, synchronised, broken}
 use Rattle.monitor_semantics.specs.Locks.{told_now, locks_of, touched_by}
 use Rattle.monitor_semantics.specs.Picks.{pick}
 use Rattle.monitor_semantics.specs.State.{Application, OpenTransaction, Session, State}
 use Rattle.monitor_semantics.specs.Statements.{Stated, area_of}
-use Rattle.monitor_semantics.specs.Turns.{pterm_of_user, noted_last, last_told, message_sent, with_open, without_wait, with_task, queued, without_work, abnormal, goes_on, after_point, settled_by, settled, last_again, back_by, back, waiting_for, happens, told_here, statement_now, worked, took_job_for, took_job, took, turn_by, turn_of}
+use Rattle.monitor_semantics.specs.Turns.{pterm_of_user, noted_last, last_told, message_sent, with_open, without_wait, with_task, queued, without_work, abnormal, goes_on, after_point, settled, back_by, back, waiting_for, happens, told_here, statement_now, worked, took_job_for, took_job, took, turn_by, turn_of}
+use Rattle.monitor_laws.specs.EachTurn.{of_point}
 use Rattle.monitor_laws.specs.Keeping.{HasFacts}
 use Rattle.monitor_laws.specs.Replay.{opened_from}
+use Rattle.monitor_laws.specs.TablesStay.{last_again_stays}
 use Rattle.monitor_places.specs.Entries.{found_put, found_without, other_put, other_without}
 use Rattle.monitor_serial.specs.Replays.{alike_itself, kept_and, GoesOnAtOnce, SeesTheSame, ReplaysToItself, AllReplay, same_job}
 use Rattle.monitor_serial.proofs.Ends.{replay_lterm}
@@ -146,12 +147,7 @@ module _ (app : Application) (s : State) (facts : HasFacts app s) (all : AllRepl
   points Back commit kept = closed (synchronised app.generation s.tables id x Back) (sees_point Back)
 
   settles : (o : Outcome) → AllReplay app (settled app s task id x o).after
-  unfolding settled
-  settles o = by (refusal app.generation (durable app.generation (synchronised app.generation s.tables id x o)))
-    where
-      by : (cause : Option Cause) → AllReplay app (settled_by app s task id x o (synchronised app.generation s.tables id x o) cause).after
-      by (Some cause) = breaks (Broken cause)
-      by None = points o _ _
+  settles o = of_point app s task id x o (λ t. AllReplay app t.after) (λ cause. breaks (Broken cause)) (points o _ _)
 
   sees_all : (i : ServiceId) (y : OpenTransaction) → id_eq i id ≡ false → find id_cmp i s.active ≡ Some y → SeesTheSame s.tables s.tables i y
   sees_all i y e was = seen_itself s.tables i y
@@ -178,13 +174,10 @@ module _ (app : Application) (s : State) (facts : HasFacts app s) (all : AllRepl
   returns_to None e = closed s.tables sees_all
   returns_to (Some row) e = by row.awaits refl
     where
-      again : (i : ServiceId) (last : Option Bytes) → AllReplay app left → AllReplay app (last_again left i last).after
-      again i None h = h
-      again (Dialogue user) (Some message) h = told_replays app left (pterm_of_user left.signed user) message h
-      again (Asynchronous number) (Some message) h = h
-
       by : (b : Bool) → row.awaits ≡ b → AllReplay app (back_by app left id x row b).after
-      by true a = again id row.last (closed s.tables sees_all)
+      by true a =
+          let kept = closed s.tables sees_all in
+          last_again_stays (AllReplay app) left (λ pterm message. told_replays app left pterm message kept) kept id row.last
       by false a = goes s.tables row a (began_lterm id row (all id x is) e) sees_all
 
   -- what it is told of its area is the content in the tables

@@ -1,5 +1,5 @@
 -- A serial run: makers that change the durable tables one after another, with no services and no states between them.
-use Rattle.std.specs.Prelude.{◌≡◌, ℕ, ◌+◌, ◌≤◌, List, [], ◌∷◌, ◌++◌, filter_map, Option, Some, None, Contains}
+use Rattle.std.specs.Prelude.{◌≡◌, ℕ, ◌+◌, ◌≤◌, List, [], ◌∷◌, ◌++◌, filter_map, IfSome, Contains}
 use Rattle.kdcs_types.specs.declared.key.Target.TheVariants.{Lterm}
 use Rattle.kdcs_types.specs.declared.service.Job.{Job}
 use Rattle.kdcs_types.specs.Tables.{TableRows, IsSortedTables}
@@ -41,12 +41,8 @@ makers_of steps = filter_map (λ (d : ScriptStep). d.by) steps
 -- ---- the laws
 
 -- the commit of a step is what its maker makes
-abbrev pub MakesBy : Application → State → (after : TableRows) → Option Maker → Type 0
-MakesBy app s after None = Unit {0}
-MakesBy app s after (Some maker) = Makes app (durable app.generation s.tables) (durable app.generation after) maker
-
 abbrev pub MakesItsCommit : Application → State → ScriptStep → Type 0
-MakesItsCommit app s d = MakesBy app s d.after.tables d.by
+MakesItsCommit app s d = IfSome d.by (Makes app (durable app.generation s.tables) (durable app.generation d.after.tables))
 
 abbrev pub TurnsMakeTheirCommits : Type 0
 TurnsMakeTheirCommits = (app : Application) (s : State) (task : ℕ) → HasReplays app s → MakesItsCommit app s (turned_step (turn_of app s task))

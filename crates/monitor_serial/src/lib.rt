@@ -6,10 +6,7 @@
 //! says what replays to itself, `specs/SerialRuns.antt` what a serial run is.
 #![tactic(auto)]
 
-ghost use Rattle.monitor_serial.specs.SerialLaws.{AllOpeningsReplay, StatementsReplay, InputsReplay, OtherTablesReplay};
-ghost use Rattle.monitor_serial.specs.SerialLaws.{StepsKeepReplays, ScriptsKeepReplays, ReplaysAreRecords, TurnsEndSerially};
-ghost use Rattle.monitor_serial.specs.SerialLaws.{TurnsCommitSerially, CommandsCommitSerially, HistoriesAreSerial, RunsAreSerial};
-ghost use Rattle.monitor_serial.specs.SerialRuns.{TurnsMakeTheirCommits, CommandsMakeTheirCommits, ScriptsAreSerialRuns, StopsLeaveSerialRuns};
+ghost use Rattle.monitor_serial.specs.{SerialLaws.{AllOpeningsReplay, StatementsReplay, InputsReplay, OtherTablesReplay, StepsKeepReplays, ScriptsKeepReplays, ReplaysAreRecords, TurnsEndSerially, TurnsCommitSerially, CommandsCommitSerially, HistoriesAreSerial, RunsAreSerial}, SerialRuns.{TurnsMakeTheirCommits, CommandsMakeTheirCommits, ScriptsAreSerialRuns, StopsLeaveSerialRuns}};
 
 use monitor_places::facts_hold_along;
 use monitor_runs::commits_make_the_tables;

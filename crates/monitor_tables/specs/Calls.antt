@@ -154,6 +154,10 @@ module _ (g : Generated) (id : ServiceId) (reading : Bool) (run : RunState) wher
   keeps-declared x true go can same h = h refl
   keeps-declared x false go can same h = keeps-code x _ can same
 
+  -- the name is one that the generation declares
+  keeps-its_name : (x : OpenTransaction) (name : Bytes) (has : Bytes → Bool) (go : Bytes → Performed) → CanGoOn g id x → x.run ≡ run → ((n : Bytes) → has n ≡ true → KeepsOn (go n)) → KeepsOn (with_name x (name_in_operand name) (λ n. declared x (has n) (go n)))
+  keeps-its_name x name has go can same h = keeps-name x (name_in_operand name) _ can same (λ n. keeps-declared x (has n) (go n) can same (h n))
+
   -- ---- locks
 
   touching-can : (x : OpenTransaction) (area : Area) (b : Bool) → touches x area ≡ b → CanGoOn g id x → CanGoOn g id (touching x area b)
@@ -429,27 +433,19 @@ called-keeps g id v x (SputMs name bytes) nb told short can =
 called-keeps g id v x (SrelLb name) nb told short can =
     keeps-name g id false x.run x (name_in_operand name) _ can refl (λ n. keeps-delete_local g id false x.run x n (find bytes_cmp n x.lssbs) can refl)
 called-keeps g id v x (SgetUs name room) nb told short can =
-    keeps-name g id true x.run x (name_in_operand name) _ can refl
-    (λ n. keeps-declared g id true x.run x (has_uls g n) _ can refl (λ h. keeps-read_block g id true x.run v x (Uls n x.user) room refl told can refl))
+    keeps-its_name g id true x.run x name (has_uls g) _ can refl (λ n h. keeps-read_block g id true x.run v x (Uls n x.user) room refl told can refl)
 called-keeps g id v x (SputUs name bytes) nb told short can =
-    keeps-name g id false x.run x (name_in_operand name) _ can refl
-    (λ n. keeps-declared g id false x.run x (has_uls g n) _ can refl
-    (λ h. keeps-write_block g id false x.run v x (Uls n x.user) bytes can refl (true_both (has_uls g n) (is_user g x.user) h can.user) (second_fits name bytes short)))
+    keeps-its_name g id false x.run x name (has_uls g) _ can refl
+    (λ n h. keeps-write_block g id false x.run v x (Uls n x.user) bytes can refl (true_both (has_uls g n) (is_user g x.user) h can.user) (second_fits name bytes short))
 called-keeps g id v x (Gtda name room) nb told short can =
-    keeps-name g id true x.run x (name_in_operand name) _ can refl
-    (λ n. keeps-declared g id true x.run x (has_tls g n) _ can refl (λ h. keeps-read_block g id true x.run v x (Tls n x.lterm) room refl told can refl))
+    keeps-its_name g id true x.run x name (has_tls g) _ can refl (λ n h. keeps-read_block g id true x.run v x (Tls n x.lterm) room refl told can refl)
 called-keeps g id v x (Ptda name bytes) nb told short can =
-    keeps-name g id false x.run x (name_in_operand name) _ can refl
-    (λ n. keeps-declared g id false x.run x (has_tls g n) _ can refl
-    (λ h. keeps-write_block g id false x.run v x (Tls n x.lterm) bytes can refl (true_both (has_tls g n) (is_lterm g x.lterm) h can.lterm) (second_fits name bytes short)))
+    keeps-its_name g id false x.run x name (has_tls g) _ can refl
+    (λ n h. keeps-write_block g id false x.run v x (Tls n x.lterm) bytes can refl (true_both (has_tls g n) (is_lterm g x.lterm) h can.lterm) (second_fits name bytes short))
 called-keeps g id v x (UnlkGb name) nb told short can =
     keeps-name g id false x.run x (name_in_operand name) _ can refl (λ n. keeps-unlocked g id false x.run v x (Gssb n) can refl)
-called-keeps g id v x (UnlkUs name) nb told short can =
-    keeps-name g id false x.run x (name_in_operand name) _ can refl
-    (λ n. keeps-declared g id false x.run x (has_uls g n) _ can refl (λ h. keeps-unlocked g id false x.run v x (Uls n x.user) can refl))
-called-keeps g id v x (UnlkDa name) nb told short can =
-    keeps-name g id false x.run x (name_in_operand name) _ can refl
-    (λ n. keeps-declared g id false x.run x (has_tls g n) _ can refl (λ h. keeps-unlocked g id false x.run v x (Tls n x.lterm) can refl))
+called-keeps g id v x (UnlkUs name) nb told short can = keeps-its_name g id false x.run x name (has_uls g) _ can refl (λ n h. keeps-unlocked g id false x.run v x (Uls n x.user) can refl)
+called-keeps g id v x (UnlkDa name) nb told short can = keeps-its_name g id false x.run x name (has_tls g) _ can refl (λ n h. keeps-unlocked g id false x.run v x (Tls n x.lterm) can refl)
 called-keeps g id v x (Pend variant op) nb told short can =
     keeps-pended g id false x.run x variant (pend_outcome (is_asynchronous id) variant (has_message x.parts) (option_and_then (tac_of g) (name_by op)) (name_by op))
     (pend_outcome-fits g (is_asynchronous id) variant (has_message x.parts) (name_by op)) can refl

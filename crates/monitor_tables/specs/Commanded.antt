@@ -12,7 +12,7 @@ use Rattle.kdcs_types.specs.declared.service.JobValue.{JobValue}
 use Rattle.kdcs_types.specs.declared.service.Service.{Service}
 use Rattle.kdcs_types.specs.Keys.{id_cmp, id_eq}
 use Rattle.kdcs_types.specs.KeyLaws.{id_eq-same}
-use Rattle.kdcs_types.specs.Limits.{last_clock}
+use Rattle.kd_base.specs.Limits.{last_clock}
 use Rattle.kdcs_types.specs.Tables.{TableRows, service_fits, lterm_fits, service_of, shown_of}
 use Rattle.kdcdef_types.specs.Generation.{Generated}
 use Rattle.monitor_semantics.specs.declared.answer.Happened.{Happened}

@@ -15,7 +15,7 @@ use Rattle.kdcs_types.specs.Keys.{key_eq}
 use Rattle.kdcs_types.specs.Keyed.{with_item}
 use Rattle.kdcs_types.specs.KeyLaws.{key_eq-itself}
 use Rattle.kdcs_types.specs.KeyedLaws.{ascends-with, all-with}
-use Rattle.kdcs_types.specs.Limits.{last_next_job}
+use Rattle.kd_base.specs.Limits.{last_next_job}
 use Rattle.kdcs_types.specs.Same.{target_eq}
 use Rattle.kdcs_types.specs.Tables.{TableRows, service_key, job_key, shown_key}
 use Rattle.kdcdef_types.specs.declared.entry.TacEntry.{TacEntry}

@@ -21,7 +21,7 @@ use Rattle.kdcs_types.specs.Keys.{key_eq}
 use Rattle.kdcs_types.specs.Keyed.{ascends, item_at, with_item, without_item}
 use Rattle.kdcs_types.specs.KeyLaws.{key_eq-same, key_eq-itself}
 use Rattle.kdcs_types.specs.KeyedLaws.{item_at-with, ascends-with, ascends-without, all-with, all-without, found_key, found_passes}
-use Rattle.kdcs_types.specs.Limits.{last_clock, last_next_job}
+use Rattle.kd_base.specs.Limits.{last_clock, last_next_job}
 use Rattle.kdcs_types.specs.Tables.{TableRows, gssb_key, tls_key, uls_key, service_key, job_key, is_filled, service_fits, lterm_fits, service_of, with_change}
 use Rattle.kdcdef_types.specs.Generation.{Generated}
 use Rattle.monitor_semantics.specs.declared.draft.Due.{Due}

@@ -23,7 +23,8 @@ use Rattle.unit_types.specs.declared.action.Operand.TheVariants as read
 use Rattle.unit_types.specs.declared.action.UnitStatement.{UnitStatement}
 use Rattle.unit_types.specs.declared.unit.Field.{Field}
 use Rattle.unit_types.specs.UnitText.{UnitText, IsShortOperand, HasShortOperands, jump_of, operands_of, field_named, label_place, statement_at}
-use Rattle.unit_semantics.specs.Contents.{trim_end, in_digits, compared}
+use Rattle.kd_base.specs.Text.{trim_end}
+use Rattle.unit_semantics.specs.Contents.{in_digits, compared}
 use Rattle.unit_semantics.specs.Fields.{header_value, code_text, run_area, field_bytes, value_of, written, stored_in, stored}
 use Rattle.unit_semantics.specs.Ready.{KnowsLabel}
 use Rattle.unit_semantics.specs.Statement.{Meaning, Plain, Asks, Ends, jumped, branched, relates, calculates, gets_result, sum_of, difference_of, product_of, quotient_of, done_by, step, target_of, next_target}

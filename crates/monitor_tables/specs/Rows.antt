@@ -14,7 +14,7 @@ use Rattle.kdcs_types.specs.declared.service.Service.{Service}
 use Rattle.kdcs_types.specs.Keys.{key_eq}
 use Rattle.kdcs_types.specs.Keyed.{ascends, item_at}
 use Rattle.kdcs_types.specs.KeyLaws.{key_eq-same}
-use Rattle.kdcs_types.specs.Limits.{last_clock, last_next_job}
+use Rattle.kd_base.specs.Limits.{last_clock, last_next_job}
 use Rattle.kdcs_types.specs.Tables.{TableRows, IsSortedTables, gssb_key, tls_key, uls_key, service_key, job_key, shown_key, is_filled, service_fits, service_of}
 use Rattle.kdcdef_types.specs.Generation.{Generated}
 use Rattle.monitor_semantics.specs.Bytes.{Bytes}

@@ -7,9 +7,7 @@
 //! the tables (`Rows`, `Points`, `Ends`), and turns and commands (`Turned`, `Commanded`).
 #![tactic(auto)]
 
-ghost use Rattle.monitor_tables.specs.OpenLaws.{RunsAreReady, OpensHaveUnits, OperandsAreShort, CallsKeep, StatementsKeep, FurtherRunsGoOn, OpeningsGoOn};
-ghost use Rattle.monitor_tables.specs.PointLaws.{PointsStaySound, EndsStaySound, SignOffsStaySound, ShowsStaySound, TicksStaySound, StartsAreSound};
-ghost use Rattle.monitor_tables.specs.StateLaws.{StatesStaySound, MadeIsApplication, MadeStartIsSound};
+ghost use Rattle.monitor_tables.specs.{OpenLaws.{RunsAreReady, OpensHaveUnits, OperandsAreShort, CallsKeep, StatementsKeep, FurtherRunsGoOn, OpeningsGoOn}, PointLaws.{PointsStaySound, EndsStaySound, SignOffsStaySound, ShowsStaySound, TicksStaySound, StartsAreSound}, StateLaws.{StatesStaySound, MadeIsApplication, MadeStartIsSound}};
 
 /// An open transaction has a unit, its unit run can be stepped, and no operand of a call is longer than 32,767 bytes.
 pub fn runs_are_ready()

@@ -3,12 +3,14 @@ use Rattle.monitor_semantics.specs.Trace.{history}
 use Rattle.monitor_queues.specs.Lawful.{all_lawful}
 use Rattle.monitor_queues.proofs.runs_are_lawful.Goals as goal
 
-pub returns-clause-histories : goal.returns-clause-histories
-returns-clause-histories c = λ app s script application names has.
-    all_lawful app s (history app s script) (c.runs_keep_queues.ensures.laws app s script application names has.0) (c.commits_are_serial.ensures.histories app s script application names has)
-
-pub returns-clause-runs : goal.returns-clause-runs
-returns-clause-runs c = λ app t script application names order suits.
-    all_lawful app (started app t) (history app (started app t) script)
-    (c.runs_keep_queues.ensures.laws app (started app t) script application names (c.facts_hold_along_every_script.ensures.starts app t application order suits))
-    (c.commits_are_serial.ensures.runs app t script application names order suits)
+pub returns : goal.returns
+returns c =
+    let laws = c.runs_keep_queues.ensures.laws in
+    record {
+      histories = λ app s script application names has.
+          all_lawful app s (history app s script) (laws app s script application names has.0) (c.commits_are_serial.ensures.histories app s script application names has);
+      runs = λ app t script application names order suits.
+          all_lawful app (started app t) (history app (started app t) script)
+          (laws app (started app t) script application names (c.facts_hold_along_every_script.ensures.starts app t application order suits))
+          (c.commits_are_serial.ensures.runs app t script application names order suits);
+    }
