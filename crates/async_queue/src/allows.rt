@@ -1,7 +1,6 @@
 //! Which targets a job may have.
 ghost use Rattle.std.specs.Prelude.{◌≡◌, Bool};
-ghost use Rattle.kdcs_types.specs.declared.key.Target.{Target};
-ghost use Rattle.kdcs_types.specs.Same.{target_eq};
+ghost use Rattle.kdcs_types.specs.{declared.key.Target.{Target}, Same.{target_eq}};
 
 use kdcs_types::Target;
 

@@ -1,10 +1,10 @@
 //! The jobs of a transaction before its synchronisation point.
 ghost use Rattle.std.specs.Prelude.{◌≡◌, ◌+◌, ◌≤◌, [], ◌∷◌, ◌++◌, length, IfOk, OnOk, OnErr};
-ghost use Rattle.kdcs_types.specs.Limits.{last_clock, last_next_job};
+ghost use Rattle.kd_base.specs.Limits.{last_clock, last_next_job};
 ghost use Rattle.monitor_semantics.specs.Endings.{numbered};
 ghost use Rattle.async_queue.specs.Drafts.{IsInTicks, job_of};
 
-use kd_base::{Bytes, Name, OutOfMemory};
+use kd_base::{Bytes, Name, OutOfMemory, Sequence};
 use kdcs_types::{Job, JobValue, Target};
 use monitor_semantics::{Draft, Due};
 use std::alloc::Global;
@@ -15,20 +15,19 @@ use timer_queue::due_at;
 /// see the list.
 #[derive(Debug, Drop)]
 pub struct DraftJobs {
-    items: Vec<Draft>,
+    items: Sequence<Draft>,
 }
 
 impl Model for DraftJobs {
-    ghost use Rattle.std.specs.Prelude.{List};
-    ghost use Rattle.std.specs.List.{All};
+    ghost use Rattle.std.specs.{Prelude.{List}, List.{All}};
     ghost use Rattle.monitor_semantics.specs.declared.draft.Draft.{Draft};
     ghost use Rattle.async_queue.specs.Drafts.{AreInTicks};
 
     ghost Value = { List Draft };
 
-    ghost view = { λ d. d.items.items };
+    ghost view = { λ d. d.items };
 
-    ghost invariant = { λ d. AreInTicks d.items.items };
+    ghost invariant = { λ d. AreInTicks d.items };
 }
 
 fn numbered_job(
@@ -59,7 +58,7 @@ impl DraftJobs {
         ensures { result ≡ [] }
     {
         DraftJobs {
-            items: Vec::new(alloc),
+            items: Sequence::new(alloc),
         }
     }
 
@@ -77,7 +76,8 @@ impl DraftJobs {
         ensures ok { OnOk result (self.new ≡ self.old ++ record { to = to; due = due; message = message } ∷ []) }
         ensures err { OnErr result (self.new ≡ self.old) }
     {
-        Ok(self.items.push(Draft { to, due, message })?)
+        self.items.push(Draft { to, due, message })?;
+        Ok(())
     }
 
     /// The jobs that these become at a synchronisation point at this clock: in order, numbered from `next` on. The clock
@@ -96,7 +96,7 @@ impl DraftJobs {
     {
         let mut jobs = Vec::with_capacity(alloc, self.items.len())?;
         let mut number = next;
-        for draft in &self.items {
+        for draft in self.items.as_slice() {
             jobs.push(numbered_job(draft, number, clock, user, lterm)?)?;
             number += 1;
         }

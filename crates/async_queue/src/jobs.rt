@@ -1,8 +1,6 @@
 //! The jobs of the tables, with marks.
-ghost use Rattle.std.specs.Prelude.{◌≡◌, true, false, not, IfOk, OnOk, OnErr, None, map, option_copied};
-ghost use Rattle.std.specs.Option.{option_map};
-ghost use Rattle.kdcs_types.specs.declared.service.Job.{Job};
-ghost use Rattle.kdcs_types.specs.Same.{target_eq};
+ghost use Rattle.std.specs.{Prelude.{◌≡◌, true, false, not, IfOk, OnOk, OnErr, None, map, option_copied}, Option.{option_map}};
+ghost use Rattle.kdcs_types.specs.{declared.service.Job.{Job}, Same.{target_eq}};
 ghost use Rattle.monitor_semantics.specs.Picks.{due_job};
 ghost use Rattle.async_queue.specs.Queue.{untaken, queued_at, value_at, has_mark, with_job, with_mark, without_job, free};
 
@@ -24,8 +22,7 @@ pub struct Jobs {
 
 impl Model for Jobs {
     ghost use Rattle.std.specs.Prelude.{List};
-    ghost use Rattle.async_queue.specs.declared.queue.QueuedJob.{QueuedJob};
-    ghost use Rattle.async_queue.specs.Queue.{IsAscending};
+    ghost use Rattle.async_queue.specs.{declared.queue.QueuedJob.{QueuedJob}, Queue.{IsAscending}};
 
     ghost Value = { List QueuedJob };
 

@@ -6,17 +6,20 @@ use Rattle.kdcs_types.specs.declared.key.Area.{Area}
 use Rattle.kdcs_types.specs.declared.key.Area.TheVariants.{Gssb, Tls, Uls}
 use Rattle.kdcs_types.specs.declared.key.ServiceId.{ServiceId}
 use Rattle.kdcs_types.specs.Tables.{TableRows, content_of}
+use Rattle.std.specs.FinMap.{find}
 use Rattle.kdcdef_types.specs.Generation.{Generated}
 use Rattle.area_locks.specs.Asked.{asked, unlocked}
 use Rattle.monitor_semantics.specs.declared.answer.Called.{Called}
-use Rattle.monitor_semantics.specs.Bytes.{Bytes}
-use Rattle.monitor_semantics.specs.Calls.{Told, Performed, declared, replied, locked, read_block, read_or, seen, deleted, with_name, write_block}
+use Rattle.monitor_semantics.specs.Bytes.{Bytes, bytes_cmp}
+use Rattle.monitor_semantics.specs.Calls.{Told, Performed, declared, replied, locked, read_away, read_block, read_or, seen, delete_local, deleted, with_name, write_block, write_local}
 use Rattle.monitor_semantics.specs.Locks.{Locks, answer_of, told_now}
 use Rattle.monitor_semantics.specs.State.{OpenTransaction as Work}
 use Rattle.kdcs_calls.specs.declared.operand.Owner.{Owner}
 use Rattle.kdcs_calls.specs.declared.operand.Owner.TheVariants.{All, User, Lterm}
 use Rattle.kdcs_calls.specs.declared.areas.Access.{Access}
 use Rattle.kdcs_calls.specs.declared.areas.Access.TheVariants.{Read, ReadBlock, Write, Delete}
+use Rattle.kdcs_calls.specs.declared.locals.Local.{Local}
+use Rattle.kdcs_calls.specs.declared.locals.Local.TheVariants as local
 use Rattle.kdcs_calls.specs.Calling.{is_declared, may_release}
 
 -- what a call is told of this area
@@ -76,3 +79,10 @@ accessed Delete v x area = delete_area v x area
 -- a call goes on with the area of the name in its operand, and is told of it
 abbrev pub goes_on : Generated → TableRows → Locks → ServiceId → Work → (Bytes → Area) → (Told → Area → Performed) → Option Bytes → Performed
 goes_on g t l id x named go o = with_name x o (λ name. declared x (is_declared g (named name)) (go (told_now l g.limits.reswait t id (option_map named o)) (named name)))
+
+-- what a call does with an LSSB
+abbrev pub local_call : Generated → Local → Work → Bytes → Performed
+local_call g (local.Read room) x name = read_or K03 x room (find bytes_cmp name x.lssbs)
+local_call g (local.ReadAway room) x name = read_away x name room
+local_call g (local.Write bytes) x name = write_local g x name bytes.now
+local_call g local.Delete x name = delete_local x name

@@ -1,7 +1,6 @@
 //! Answers of calls.
 ghost use Rattle.std.specs.Prelude.{◌≡◌, ◌≤◌, IfSome, length};
-ghost use Rattle.monitor_semantics.specs.State.{OpenTransaction as Work};
-ghost use Rattle.monitor_semantics.specs.Calls.{plain_reply, read_or, read_reply};
+ghost use Rattle.monitor_semantics.specs.{State.{OpenTransaction as Work}, Calls.{plain_reply, read_or, read_reply}};
 ghost use Rattle.monitor_semantics.specs.declared.answer.Called.TheVariants as called;
 ghost use Rattle.kdcs_calls.specs.Calling.{IsShort};
 

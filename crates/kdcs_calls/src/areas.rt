@@ -1,23 +1,19 @@
 //! The calls on areas that are locked: GSSBs, and the blocks of users and LTERMs.
-ghost use Rattle.std.specs.Prelude.{◌≡◌, IfOk, IfSome, OnOk, option_map};
-ghost use Rattle.std.specs.FinMap.{find};
-ghost use Rattle.kdcs_types.specs.declared.key.Area.{Area as AnArea};
-ghost use Rattle.kdcs_types.specs.Keys.{area_cmp};
-ghost use Rattle.kdcs_types.specs.Tables.{content_of};
+ghost use Rattle.std.specs.{Prelude.{◌≡◌, IfOk, IfSome, OnOk, option_map}, FinMap.{find}};
+ghost use Rattle.kdcs_types.specs.{declared.key.Area.{Area as AnArea}, Keys.{area_cmp}, Tables.{content_of}};
 ghost use Rattle.monitor_semantics.specs.Calls.{name_in_operand, or_empty, shown_by, unlocked};
 ghost use Rattle.open_transaction.specs.Work.{work_of};
-ghost use Rattle.kdcs_calls.specs.Calling.{HoldsJust, IsShort, after_release, after_request};
-ghost use Rattle.kdcs_calls.specs.Parts.{accessed, asked_in, goes_on, in_area, named_by, released_in, told_of};
+ghost use Rattle.kdcs_calls.specs.{Calling.{HoldsJust, IsShort, after_release, after_request}, Parts.{accessed, asked_in, goes_on, in_area, named_by, released_in, told_of}};
 
 use crate::answer::{read_or, read_reply, replied};
-use crate::lock::lock;
+use crate::lock::{lock, touches};
 use crate::operand::{Owner, area_in};
 use crate::outside::Outside;
 use area_locks::LockTable;
 use kd_base::{Bytes, OutOfMemory};
 use kdcs_types::{Area, Code, Note, Tables};
 use monitor_semantics::Called;
-use open_transaction::OpenTransaction;
+use open_transaction::{OpenTransaction, release};
 use std::alloc::Global;
 
 /// What a call does with the area that it has locked.
@@ -135,12 +131,12 @@ fn unlock_held(
 {
     match area {
         Err(code) => Ok(replied(code)),
-        Ok(area) if !work.touched.contains(&area) => Ok(replied(Code::K06)),
+        Ok(area) if !touches(work, &area) => Ok(replied(Code::K06)),
         Ok(area) if work.areas.changed(&area) => Ok(replied(Code::K07)),
         Ok(area) => {
             let content = content(outside.tables, &area)?;
             work.notes.push(Note::Released(area, content))?;
-            work.touched.remove(&area);
+            release(outside.alloc, &mut work.touched, &area);
             let _held = locks.unlock(work.id, &area);
             Ok(replied(Code::Done))
         }

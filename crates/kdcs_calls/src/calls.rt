@@ -1,16 +1,13 @@
 //! All calls.
 ghost use Rattle.std.specs.Prelude.{◌≡◌, IfOk, OnOk};
-ghost use Rattle.monitor_semantics.specs.Calls.{called, call_outcome, first_call};
-ghost use Rattle.monitor_semantics.specs.Endings.{is_asynchronous};
-ghost use Rattle.monitor_semantics.specs.Locks.{told_now};
-ghost use Rattle.monitor_semantics.specs.Statements.{area_of_call};
+ghost use Rattle.monitor_semantics.specs.{Calls.{called, call_outcome, first_call}, Endings.{is_asynchronous}, Locks.{told_now}, Statements.{area_of_call}};
 ghost use Rattle.open_transaction.specs.Work.{work_of};
 ghost use Rattle.kdcs_calls.specs.Calling.{CanRead, HoldersFollow, HoldsJust, WaitsFollow, locks_after_call, locks_by_call, performed_now};
 
 use crate::answer::replied;
 use crate::areas::{Access, access_area, unlock};
 use crate::jobs::{moment_in, put_job};
-use crate::locals::{delete_local, read_away, read_local, write_local};
+use crate::locals::{Local, access_local};
 use crate::messages::{get, put};
 use crate::operand::Owner;
 use crate::outside::Outside;
@@ -82,10 +79,10 @@ fn later_call(
             access_area(outside, locks, work, Owner::All, name, Access::Write(bytes))
         }
         Call::SrelGb(name) => access_area(outside, locks, work, Owner::All, name, Access::Delete),
-        Call::SgetKp(name, room) => read_local(work, name, *room),
-        Call::SgetRl(name, room) => read_away(work, name, *room),
-        Call::SputMs(name, bytes) => write_local(g, work, name, bytes),
-        Call::SrelLb(name) => Ok(delete_local(work, name)),
+        Call::SgetKp(name, room) => access_local(g, work, name, Local::Read(*room)),
+        Call::SgetRl(name, room) => access_local(g, work, name, Local::ReadAway(*room)),
+        Call::SputMs(name, bytes) => access_local(g, work, name, Local::Write(bytes)),
+        Call::SrelLb(name) => access_local(g, work, name, Local::Delete),
         Call::SgetUs(name, room) => {
             access_area(outside, locks, work, user, name, Access::ReadBlock(*room))
         }

@@ -1,11 +1,9 @@
 //! The request for the lock of an area.
 ghost use Rattle.std.specs.Prelude.{◌≡◌, IfOk, OnOk};
 ghost use Rattle.area_locks.specs.Asked.{asked};
-ghost use Rattle.monitor_semantics.specs.Calls.{Performed, locked, on_answer};
-ghost use Rattle.monitor_semantics.specs.State.{OpenTransaction as Work};
+ghost use Rattle.monitor_semantics.specs.{Calls.{Performed, locked, on_answer, touches}, State.{OpenTransaction as Work}};
 ghost use Rattle.open_transaction.specs.Work.{work_of};
-ghost use Rattle.kdcs_calls.specs.Calling.{HoldsJust};
-ghost use Rattle.kdcs_calls.specs.Parts.{after_lock, told_of};
+ghost use Rattle.kdcs_calls.specs.{Calling.{HoldsJust}, Parts.{after_lock, told_of}};
 
 use crate::answer::replied;
 use crate::outside::Outside;
@@ -14,6 +12,13 @@ use kd_base::OutOfMemory;
 use kdcs_types::{Area, Code, Note};
 use monitor_semantics::{Called, LockAnswer};
 use open_transaction::OpenTransaction;
+
+/// Whether the transaction holds the area. It takes no memory.
+pub(crate) fn touches(work: &OpenTransaction, area: &Area) -> bool
+    ensures { result ≡ touches (work_of work.now) area.now }
+{
+    work.touched.as_slice().contains(area)
+}
 
 // A lock that is granted is held from now on, and a refusal is noted.
 fn take_answer(
@@ -28,7 +33,7 @@ fn take_answer(
     ensures messages { work.new.messages ≡ work.old.messages }
 {
     match answer {
-        LockAnswer::Granted if work.touched.contains(area) => Ok(None),
+        LockAnswer::Granted if touches(work, area) => Ok(None),
         LockAnswer::Granted => {
             work.touched.push(*area)?;
             Ok(None)

@@ -1,13 +1,11 @@
 //! Names and numbers in operands.
 ghost use Rattle.std.specs.Prelude.{◌≡◌};
 ghost use Rattle.monitor_semantics.specs.Calls.{name_in_operand, name_by};
-ghost use Rattle.kdcs_calls.specs.Calling.{is_declared};
-ghost use Rattle.kdcs_calls.specs.Parts.{area_by, named_by};
+ghost use Rattle.kdcs_calls.specs.{Calling.{is_declared}, Parts.{area_by, named_by}};
 
-use kd_base::{Bytes, Name};
+use kd_base::{Bytes, Name, trim_end};
 use kdcdef_check::Generation;
 use kdcs_types::{Area, Code};
-use unit_step::trim_end;
 
 /// The name in an operand: the bytes without the spaces at the end, where they are one.
 pub(crate) fn name_in(operand: &Bytes) -> Option<Name>

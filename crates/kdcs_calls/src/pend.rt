@@ -1,6 +1,5 @@
 //! PEND.
-ghost use Rattle.std.specs.Prelude.{◌≡◌, option_and_then};
-ghost use Rattle.std.specs.Option.{option_copied};
+ghost use Rattle.std.specs.{Prelude.{◌≡◌, option_and_then}, Option.{option_copied}};
 ghost use Rattle.kdcdef_types.specs.Generation.{tac_of};
 ghost use Rattle.monitor_semantics.specs.Calls.{pend};
 ghost use Rattle.open_transaction.specs.Work.{work_of};

@@ -38,24 +38,21 @@ fn line_at(alloc: Global, event: &[u8], pterm: Name, text: &[u8]) -> Result<Byte
 pub fn out_line(alloc: Global, pterm: Name, message: &[u8]) -> Result<Bytes, OutOfMemory>
     ensures { IfOk result (λ out. out ≡ out_line pterm message.now) }
 {
-    let text = escape(alloc, message)?;
-    line_at(alloc, b"OUT ", pterm, text.as_slice())
+    line_at(alloc, b"OUT ", pterm, escape(alloc, message)?.as_slice())
 }
 
 /// `ASY`: the message of a job at a terminal, by KDCOUT or KDCLAST.
 pub fn asy_line(alloc: Global, pterm: Name, message: &[u8]) -> Result<Bytes, OutOfMemory>
     ensures { IfOk result (λ out. out ≡ asy_line pterm message.now) }
 {
-    let text = escape(alloc, message)?;
-    line_at(alloc, b"ASY ", pterm, text.as_slice())
+    line_at(alloc, b"ASY ", pterm, escape(alloc, message)?.as_slice())
 }
 
 /// `PRT`: the message of a job at a printer, by PRINT.
 pub fn prt_line(alloc: Global, pterm: Name, message: &[u8]) -> Result<Bytes, OutOfMemory>
     ensures { IfOk result (λ out. out ≡ prt_line pterm message.now) }
 {
-    let text = escape(alloc, message)?;
-    line_at(alloc, b"PRT ", pterm, text.as_slice())
+    line_at(alloc, b"PRT ", pterm, escape(alloc, message)?.as_slice())
 }
 
 /// `SYS`: what the monitor itself says at a terminal. The text stands as it is.

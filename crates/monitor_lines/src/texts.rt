@@ -1,7 +1,6 @@
 //! The words for causes and refusals. No call takes memory.
 ghost use Rattle.std.specs.Prelude.{◌≡◌};
-ghost use Rattle.monitor_semantics.specs.Commands.{fault_text, refusal_text};
-ghost use Rattle.monitor_semantics.specs.Lines.{cause_text};
+ghost use Rattle.monitor_semantics.specs.{Commands.{fault_text, refusal_text}, Lines.{cause_text}};
 
 use kdcs_types::Cause;
 use monitor_semantics::{SignFault, TacFault};

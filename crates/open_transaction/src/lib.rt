@@ -8,5 +8,5 @@
 mod held;
 mod open;
 
-pub use held::HeldAreas;
+pub use held::{HeldAreas, release};
 pub use open::OpenTransaction;

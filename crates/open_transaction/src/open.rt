@@ -1,11 +1,8 @@
 //! How a transaction opens, and goes on in a further unit run.
-ghost use Rattle.std.specs.Prelude.{◌≡◌, ◌+◌, ◌<◌, ◌^◌, ◌∷◌, [], ◌++◌, IfOk, IsTrue, OnOk, OnErr};
-ghost use Rattle.std.specs.FinMap.{is_sorted};
+ghost use Rattle.std.specs.{Prelude.{◌≡◌, ◌+◌, ◌<◌, ◌^◌, ◌∷◌, [], ◌++◌, IfOk, IsTrue, OnOk, OnErr}, FinMap.{is_sorted}};
 ghost use Rattle.kdcdef_types.specs.Generation.{tac_of};
 ghost use Rattle.kdcs_types.specs.declared.call.Code.TheVariants as code;
-ghost use Rattle.monitor_semantics.specs.Bytes.{bytes_cmp};
-ghost use Rattle.monitor_semantics.specs.Endings.{joined, opened, spaces, budget_by, is_asynchronous, fresh_run, kb_of, lssbs_of, handed_on};
-ghost use Rattle.monitor_semantics.specs.Statements.{counted};
+ghost use Rattle.monitor_semantics.specs.{Bytes.{bytes_cmp}, Endings.{joined, opened, spaces, budget_by, is_asynchronous, fresh_run, kb_of, lssbs_of, handed_on}, Statements.{counted}};
 ghost use Rattle.unit_semantics.specs.Ready.{CanAnswer, IsReady};
 ghost use Rattle.open_transaction.specs.Work.{work_of, accepted_of, followed_with, HasOrder};
 
@@ -13,9 +10,7 @@ use crate::held::HeldAreas;
 use async_queue::DraftJobs;
 use kd_base::{Bytes, Name, OutOfMemory};
 use kdcdef_check::Generation;
-use kdcs_types::{
-    Areas, Code, FixedBytes, Header, Notes, Parts, Reply, RunState, Service, ServiceId,
-};
+use kdcs_types::{Areas, Code, Header, Notes, Parts, Reply, RunState, Service, ServiceId};
 use message_area::MessageArea;
 use std::alloc::Global;
 use storage_areas::Overlay;
@@ -99,7 +94,7 @@ fn lssbs_of(alloc: Global, began: &Option<Service>) -> Result<Areas, OutOfMemory
 fn fresh_run(
     alloc: Global,
     generation: &Generation,
-    kb: FixedBytes,
+    kb: Bytes,
     header: Header,
 ) -> Result<RunState, OutOfMemory>
     ensures { IfOk result (λ run. run ≡ fresh_run generation.now kb header) }
@@ -109,7 +104,7 @@ fn fresh_run(
         count: 0,
         budget: budget(generation, header.tacal),
         kb,
-        spab: FixedBytes::from_bytes(spaces(alloc, generation.max().spab)?),
+        spab: spaces(alloc, generation.max().spab)?,
         code: Code::Done,
         length: 0,
         header,
@@ -123,7 +118,7 @@ fn restart(run: &mut RunState, budget: u32, tac: Name, spab: Bytes)
     run.place = 1;
     run.count = 0;
     run.budget = budget;
-    run.spab = FixedBytes::from_bytes(spab);
+    run.spab = spab;
     run.code = Code::Done;
     run.length = 0;
     run.header.tacal = tac;
@@ -169,7 +164,7 @@ impl OpenTransaction {
             lterm: header.logter,
             inputs,
             current: header.tacal,
-            run: fresh_run(alloc, generation, FixedBytes::from_bytes(kb), header)?,
+            run: fresh_run(alloc, generation, kb, header)?,
             inited: false,
             messages: MessageArea::new(alloc, handed, generation.max().nb),
             areas: Overlay::new(alloc, lssbs),

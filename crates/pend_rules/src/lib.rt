@@ -4,8 +4,7 @@
 //! the answer is the one that the definitions say, for each variant in a dialogue and in an asynchronous service.
 #![tactic(auto)]
 
-ghost use Rattle.std.specs.Prelude.{◌≡◌, if◌then◌else◌};
-ghost use Rattle.std.specs.Option.{option_copied};
+ghost use Rattle.std.specs.{Prelude.{◌≡◌, if◌then◌else◌}, Option.{option_copied}};
 ghost use Rattle.monitor_semantics.specs.Outcomes.{goes_first, goes_within, fits_follow_up, is_for_kind, may_follow, needs_message, pend_outcome};
 
 use kd_base::{Name, Variant};

@@ -1,6 +1,6 @@
 -- So many items, read one after another.
-use Rattle.std.specs.Prelude.{◌≡◌, refl, ℕ, zero, suc, ◌+◌, ◌-◌, ◌<◌, ◌≤◌, List, [], ◌∷◌, ◌++◌, Option, Some, None, option_and_then, Result, Ok, Err}
-use Rattle.std.proofs.Common.{sym, ap, subst, ◌∙◌, arith}
+use Rattle.std.specs.Prelude.{◌≡◌, ℕ, zero, suc, ◌+◌, ◌-◌, ◌<◌, ◌≤◌, List, [], ◌∷◌, ◌++◌, Option, Some, None, option_and_then, Result, Ok, Err}
+use Rattle.std.proofs.Common.{sym, ap, subst, ◌∙◌, append-nil, arith}
 use Rattle.std.specs.Result.{IsErr, IsErrAnd}
 use Rattle.std.specs.Option.{option_map}
 use Rattle.kd_base.specs.Tools.{onto_first, onto_first_then}
@@ -32,15 +32,11 @@ module _ {A : Type 0} (one : List ℕ → Option (A × List ℕ)) where
       ∙ ap (λ o. onto_first so_far (option_and_then (λ p. option_map (λ q. (p.0 ∷ q.0, q.1)) (items one (n - (k + 1)) p.1)) o)) found)
       ∙ e
 
-  nil_behind : (xs : List A) → xs ++ [] ≡ xs
-  nil_behind [] = refl
-  nil_behind (x ∷ xs) = ap (λ (l : List A). x ∷ l) (nil_behind xs)
-
   pub all_read : (n k : ℕ) (so_far : List A) (whole : Items) (left : List ℕ) → n ≤ k → onto_first so_far (items one (n - k) left) ≡ whole → whole ≡ Some (so_far, left)
   unfolding items
   all_read n k so_far whole left h e =
       let none : n - k ≡ zero = omega (arith, h) in
-      sym e ∙ ap (λ (m : ℕ). onto_first so_far (items one m left)) none ∙ ap (λ (l : List A). let o : Items = Some (l, left) in o) (nil_behind so_far)
+      sym e ∙ ap (λ (m : ℕ). onto_first so_far (items one m left)) none ∙ ap (λ (l : List A). let o : Items = Some (l, left) in o) (append-nil so_far)
 
   pub fails : (n k : ℕ) (so_far : List A) (whole : Items) (old left : List ℕ) (e : Unread) → k < n → onto_first so_far (items one (n - k) old) ≡ whole → Reads (error {A = A} e) left (one old) → Reads (error {A = List A} e) left whole
   fails n k so_far whole old left NoRow h e none = none_left n k so_far whole old h e none

@@ -95,21 +95,23 @@ number_there w x bytes rest e =
 parted : (n : ℕ) (bytes front rest : List ℕ) → front ≡ take n bytes → drop n bytes ≡ rest → bytes ≡ front ++ rest
 parted n bytes front rest e f = sym (take-append-drop n bytes) ∙ (λ i. ◌++◌ {A = ℕ} (sym e i) (f i))
 
-pub u64s_are_read : IsReading (number_field w64) (to_be_bytes w64) (λ n. n < 2 ^ 64)
-u64s_are_read = record {
-  comes_back = λ x rest fits. is_field (number_at w64) (after_number w64) (to_be_bytes w64 x ++ rest) x rest (u64_comes_back x rest fits).0 (u64_comes_back x rest fits).1;
+-- numbers of one width are read, where the bytes that are written for a number are those that stand for it
+by_width : (w : Width) (m : ℕ) (bytes_of : ℕ → List ℕ)
+    → ((x : ℕ) (rest : List ℕ) → x < m → (number_at w (bytes_of x ++ rest) ≡ Some x) × (after_number w (bytes_of x ++ rest) ≡ rest))
+    → ((xs : List ℕ) → AreBytes xs → byte_len w ≤ length xs → bytes_of (from_be_bytes w (take (byte_len w) xs)) ≡ take (byte_len w) xs)
+    → ((xs : List ℕ) → AreBytes xs → from_be_bytes w (take (byte_len w) xs) < m) → IsReading (number_field w) bytes_of (λ n. n < m)
+by_width w m bytes_of back written small = record {
+  comes_back = λ x rest fits. is_field (number_at w) (after_number w) (bytes_of x ++ rest) x rest (back x rest fits).0 (back x rest fits).1;
   stands_there = λ x bytes rest are e.
-      let h = number_there w64 x bytes rest e in
-      (parted 8 bytes (to_be_bytes w64 x) rest (be_bytes_8 (take 8 bytes) x (length-take-le 8 bytes h.0) (bytes_front 8 bytes are) (sym h.1)) h.2, subst (λ (n : ℕ). n < 2 ^ 64) h.1 (small_8 bytes are));
+      let h = number_there w x bytes rest e in
+      (parted (byte_len w) bytes (bytes_of x) rest (ap bytes_of (sym h.1) ∙ written bytes are h.0) h.2, subst (λ (n : ℕ). n < m) h.1 (small bytes are));
 }
 
+pub u64s_are_read : IsReading (number_field w64) (to_be_bytes w64) (λ n. n < 2 ^ 64)
+u64s_are_read = by_width w64 (2 ^ 64) (to_be_bytes w64) u64_comes_back (λ xs are h. be_bytes_8 (take 8 xs) _ (length-take-le 8 xs h) (bytes_front 8 xs are) refl) small_8
+
 pub u32s_are_read : IsReading (number_field w32) (to_be_bytes w32) (λ n. n < 2 ^ 32)
-u32s_are_read = record {
-  comes_back = λ x rest fits. is_field (number_at w32) (after_number w32) (to_be_bytes w32 x ++ rest) x rest (u32_comes_back x rest fits).0 (u32_comes_back x rest fits).1;
-  stands_there = λ x bytes rest are e.
-      let h = number_there w32 x bytes rest e in
-      (parted 4 bytes (to_be_bytes w32 x) rest (be_bytes_4 (take 4 bytes) x (length-take-le 4 bytes h.0) (bytes_front 4 bytes are) (sym h.1)) h.2, subst (λ (n : ℕ). n < 2 ^ 32) h.1 (small_4 bytes are));
-}
+u32s_are_read = by_width w32 (2 ^ 32) (to_be_bytes w32) u32_comes_back (λ xs are h. be_bytes_4 (take 4 xs) _ (length-take-le 4 xs h) (bytes_front 4 xs are) refl) small_4
 
 -- a byte
 abbrev pub one_byte : ℕ → List ℕ
@@ -120,12 +122,7 @@ first_byte [] h = absurd (omega (arith, h))
 first_byte (b ∷ bytes) h = ap one_byte (omega arith)
 
 pub u8s_are_read : IsReading (number_field w8) one_byte (λ n. n < 256)
-u8s_are_read = record {
-  comes_back = λ x rest fits. is_field (number_at w8) (after_number w8) (x ∷ rest) x rest (u8_comes_back x rest fits).0 (u8_comes_back x rest fits).1;
-  stands_there = λ x bytes rest are e.
-      let h = number_there w8 x bytes rest e in
-      (parted 1 bytes (one_byte x) rest (ap one_byte (sym h.1) ∙ first_byte bytes h.0) h.2, subst (λ (n : ℕ). n < 256) h.1 (small_1 bytes are));
-}
+u8s_are_read = by_width w8 256 one_byte u8_comes_back (λ xs are h. first_byte xs h) small_1
 
 -- a list
 abbrev pub IsShort : List ℕ → Type 0

@@ -2,6 +2,7 @@
 use Rattle.std.specs.Prelude.{◌≡◌, refl, ℕ, Bool, true, false, cond, not, IsTrue, List, [], ◌∷◌, ◌++◌, map, All, ⊤}
 use Rattle.std.proofs.Common.{sym, ap, subst, ◌∙◌}
 use Rattle.std.proofs.lemmas.List.{map-append}
+use Rattle.std.proofs.lemmas.Simd.{map-map}
 use Rattle.std.proofs.lemmas.List.Elements.{All-from_recursion, recursion_from_All}
 use Rattle.std.specs.List.{filter, list_all, AllByRecursion as Each}
 use Rattle.std.specs.Ordering.{is_eq, eq_by_cmp}
@@ -167,13 +168,8 @@ shown_records xs = map (record_at shown_key (λ (r : List ℕ × JobValue). job_
 abbrev pub by_kinds : TableRows → List Record
 by_kinds t = gssb_records t.gssbs ++ (tls_records t.tlss ++ (uls_records t.ulss ++ (service_records t.services ++ (job_records t.jobs ++ shown_records t.shown))))
 
-module _ {A B C : Type 0} (f : A → B) (g : B → C) where
-  twice : (xs : List A) → map g (map f xs) ≡ map (λ a. g (f a)) xs
-  twice [] = refl
-  twice (x ∷ xs) = ap (λ (l : List C). g (f x) ∷ l) (twice xs)
-
 onto_both : {A B C : Type 0} (f : A → B) (g : B → C) (xs : List A) (rest : List B) (there : List C) → map g rest ≡ there → map g (map f xs ++ rest) ≡ map (λ a. g (f a)) xs ++ there
-onto_both {C = C} f g xs rest there e = map-append g (map f xs) rest ∙ (λ i. ◌++◌ {A = C} (twice f g xs i) (e i))
+onto_both {C = C} f g xs rest there e = map-append g (map f xs) rest ∙ (λ i. ◌++◌ {A = C} (map-map g f xs i) (e i))
 
 pub kinds_are : (t : TableRows) → map record_of (rows_of t) ≡ by_kinds t
 kinds_are t =
@@ -181,7 +177,7 @@ kinds_are t =
     (onto_both tls_row record_of t.tlss _ _
     (onto_both uls_row record_of t.ulss _ _
     (onto_both service_row record_of t.services _ _
-    (onto_both job_row record_of t.jobs _ _ (twice shown_row record_of t.shown)))))
+    (onto_both job_row record_of t.jobs _ _ (map-map record_of shown_row t.shown)))))
 
 -- ---- one change
 
@@ -223,6 +219,15 @@ value_of_job j = job_bytes j.value
 abbrev pub value_of_shown : List ℕ × JobValue → List ℕ
 value_of_shown r = job_bytes r.1
 
+-- the records of areas, as a key behind them meets them
+past_areas : (t : TableRows) (k : Key) (v : List ℕ) (rest there : List Record)
+    → ((e : List ℕ × List ℕ) → record_cmp (record_key k) (record_key (gssb_key e)) ≡ Greater)
+    → ((e : List ℕ × List ℕ × List ℕ) → record_cmp (record_key k) (record_key (tls_key e)) ≡ Greater)
+    → ((e : List ℕ × List ℕ × List ℕ) → record_cmp (record_key k) (record_key (uls_key e)) ≡ Greater)
+    → put record_cmp (record_key k) v rest ≡ there
+    → put record_cmp (record_key k) v (gssb_records t.gssbs ++ (tls_records t.tlss ++ (uls_records t.ulss ++ rest))) ≡ gssb_records t.gssbs ++ (tls_records t.tlss ++ (uls_records t.ulss ++ there))
+past_areas t k v rest there gssbs tlss ulss e = past gssb_key (λ r. r.1) k v t.gssbs _ _ gssbs (past tls_key second k v t.tlss _ _ tlss (past uls_key second k v t.ulss _ _ ulss e))
+
 set_follows : (t : TableRows) (r : Row) → EachRow HasProperKey t → HasProperKey r → IsTrue (row_fits r) → put record_cmp (record_key (row_key r)) (value_bytes r) (by_kinds t) ≡ by_kinds (with_row t r)
 set_follows t (row.Gssb name content) h k fits =
     let q = key.Gssb name in
@@ -240,29 +245,22 @@ set_follows t (row.Uls block user content) h k fits =
     (here uls_key second (block, user, content) t.ulss _ k h.ulss
     (above_more service_key service_bytes q (λ e. refl) t.services _ (above_more job_key value_of_job q (λ e. refl) t.jobs _ (above_all shown_key value_of_shown q (λ e. refl) t.shown)))))
 set_follows t (row.Service id service) h k fits =
-    let q = key.Service id in
     let own : service.id ≡ id = id_eq-same service.id id (both_true (id_eq service.id id) (service_fits service) fits).0 in
-    past gssb_key (λ r. r.1) q (service_bytes service) t.gssbs _ _ (λ e. refl)
-    (past tls_key second q (service_bytes service) t.tlss _ _ (λ e. refl)
-    (past uls_key second q (service_bytes service) t.ulss _ _ (λ e. refl)
+    past_areas t (key.Service id) (service_bytes service) _ _ (λ e. refl) (λ e. refl) (λ e. refl)
     (ap (λ i. put record_cmp (record_key (key.Service i)) (service_bytes service) (service_records t.services ++ (job_records t.jobs ++ shown_records t.shown))) (sym own)
     ∙ here service_key service_bytes service t.services _ (subst (λ i. IsProperKey (key.Service i)) (sym own) k) h.services
-    (above_more job_key value_of_job (key.Service service.id) (λ e. refl) t.jobs _ (above_all shown_key value_of_shown (key.Service service.id) (λ e. refl) t.shown)))))
+    (above_more job_key value_of_job (key.Service service.id) (λ e. refl) t.jobs _ (above_all shown_key value_of_shown (key.Service service.id) (λ e. refl) t.shown)))
 set_follows t (row.Job number value) h k fits =
     let q = key.Job number in
-    past gssb_key (λ r. r.1) q (job_bytes value) t.gssbs _ _ (λ e. refl)
-    (past tls_key second q (job_bytes value) t.tlss _ _ (λ e. refl)
-    (past uls_key second q (job_bytes value) t.ulss _ _ (λ e. refl)
+    past_areas t q (job_bytes value) _ _ (λ e. refl) (λ e. refl) (λ e. refl)
     (past service_key service_bytes q (job_bytes value) t.services _ _ (λ e. refl)
-    (here job_key value_of_job (record { number = number; value = value }) t.jobs _ k h.jobs (above_all shown_key value_of_shown q (λ e. refl) t.shown)))))
+    (here job_key value_of_job (record { number = number; value = value }) t.jobs _ k h.jobs (above_all shown_key value_of_shown q (λ e. refl) t.shown)))
 set_follows t (row.Shown lterm value) h k fits =
     let q = key.Shown lterm in
-    past gssb_key (λ r. r.1) q (job_bytes value) t.gssbs _ _ (λ e. refl)
-    (past tls_key second q (job_bytes value) t.tlss _ _ (λ e. refl)
-    (past uls_key second q (job_bytes value) t.ulss _ _ (λ e. refl)
+    past_areas t q (job_bytes value) _ _ (λ e. refl) (λ e. refl) (λ e. refl)
     (past service_key service_bytes q (job_bytes value) t.services _ _ (λ e. refl)
     (past job_key value_of_job q (job_bytes value) t.jobs _ _ (λ e. refl)
-    (section_put shown_key value_of_shown (lterm, value) t.shown k h.shown)))))
+    (section_put shown_key value_of_shown (lterm, value) t.shown k h.shown)))
 
 -- the records of another kind all stay
 stays : {E : Type 0} (key_of : E → Key) (value_of : E → List ℕ) (k : Key) (es : List E) (rest there : List Record)

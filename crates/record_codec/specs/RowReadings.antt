@@ -165,14 +165,18 @@ key_proper k q are e =
 
 -- ---- rows
 
+-- this of a service's row, and that of the value of a job
+abbrev pub OfValue : (Service → Type 0) → (JobValue → Type 0) → Row → Type 0
+OfValue S J (row.Gssb name content) = ⊤
+OfValue S J (row.Tls block lterm content) = ⊤
+OfValue S J (row.Uls block user content) = ⊤
+OfValue S J (row.Service id service) = S service
+OfValue S J (row.Job number value) = J value
+OfValue S J (row.Shown lterm value) = J value
+
 -- a row whose names are names, and whose numbers and lengths have their bytes
 abbrev pub ValueFits : Row → Type 0
-ValueFits (row.Gssb name content) = ⊤
-ValueFits (row.Tls block lterm content) = ⊤
-ValueFits (row.Uls block user content) = ⊤
-ValueFits (row.Service id service) = ServiceFits service
-ValueFits (row.Job number value) = JobFits value
-ValueFits (row.Shown lterm value) = JobFits value
+ValueFits = OfValue ServiceFits JobFits
 
 pub record IsProperRow (r : Row) : Type 0 where
   pub key : IsProperKey (row_key r)

@@ -1,6 +1,6 @@
 -- Whole values: a job's and a service's.
-use Rattle.std.specs.Prelude.{◌≡◌, refl, ℕ, ◌^◌, ◌<◌, Bool, List, [], ◌∷◌, ◌++◌, Option, Some, None, option_and_then}
-use Rattle.std.proofs.Common.{sym, ap, subst, ◌∙◌, append_assoc}
+use Rattle.std.specs.Prelude.{◌≡◌, refl, ℕ, ◌+◌, ◌^◌, ◌<◌, Bool, List, [], ◌∷◌, ◌++◌, length, Option, Some, None, option_and_then}
+use Rattle.std.proofs.Common.{sym, ap, subst, ◌∙◌, append_assoc, append-nil, arith, length-append}
 use Rattle.std.specs.Int.{w64, to_be_bytes}
 use Rattle.kd_base.specs.Text.{IsName, padded}
 use Rattle.kd_base.specs.Field.{list}
@@ -12,6 +12,35 @@ use Rattle.kdcs_types.specs.declared.service.Service.{Service}
 use Rattle.record_codec.specs.Values.{counted, last_bytes, flag, lterm_bytes, lssb_bytes, service_bytes, target_bytes, job_bytes}
 use Rattle.record_codec.specs.Fields.{AreBytes, IsReading, IsShort, FitAll, name_field, number_field, list_field, both, counted_items, names_are_read, u64s_are_read, lists_are_read, both_are_read, counted_are_read}
 use Rattle.record_codec.specs.Readings.{turned, turned_back, turned_there, flag_reading, AnyFlag, flags_are_read, last_reading, LastFits, lasts_are_read, target_reading, TargetFits, targets_are_read, lterm_reading, LtermFits, lterms_are_read}
+
+-- ---- bytes one behind another
+
+abbrev joined : List ℕ → List (List ℕ) → List ℕ
+joined a [] = a
+joined a (b ∷ bs) = joined (a ++ b) bs
+
+abbrev nested : List ℕ → List (List ℕ) → List ℕ
+nested a [] = a
+nested a (b ∷ bs) = a ++ nested b bs
+
+abbrev lengths : List ℕ → List (List ℕ) → ℕ
+lengths a [] = length a
+lengths a (b ∷ bs) = length a + lengths b bs
+
+nested_front : (a b : List ℕ) (bs : List (List ℕ)) → nested (a ++ b) bs ≡ a ++ nested b bs
+nested_front a b [] = refl
+nested_front a b (c ∷ bs) = append_assoc a b (nested c bs)
+
+joined_nested : (a : List ℕ) (bs : List (List ℕ)) → joined a bs ≡ nested a bs
+joined_nested a [] = refl
+joined_nested a (b ∷ bs) = joined_nested (a ++ b) bs ∙ nested_front a b bs
+
+nested_long : (a : List ℕ) (bs : List (List ℕ)) → length (nested a bs) ≡ lengths a bs
+nested_long a [] = refl
+nested_long a (b ∷ bs) = omega (arith, length-append a (nested b bs), nested_long b bs)
+
+joined_long : (a : List ℕ) (bs : List (List ℕ)) → length (joined a bs) ≡ lengths a bs
+joined_long a bs = ap length (joined_nested a bs) ∙ nested_long a bs
 
 -- ---- jobs
 
@@ -47,11 +76,14 @@ job_reading = turned job_of job_part
 job_parts_are_read : IsReading job_part job_part_bytes JobPartFits
 job_parts_are_read = both_are_read _ _ _ _ _ _ targets_are_read (both_are_read _ _ _ _ _ _ u64s_are_read (both_are_read _ _ _ _ _ _ names_are_read (both_are_read _ _ _ _ _ _ names_are_read lists_are_read)))
 
+abbrev behind_target : JobValue → List (List ℕ)
+behind_target v = to_be_bytes w64 v.due ∷ padded v.user ∷ padded v.lterm ∷ list v.message ∷ []
+
 job_parted : (p : JobPart) → job_bytes (job_of p) ≡ job_part_bytes p
-job_parted p =
-    append_assoc ((target_bytes p.0 ++ to_be_bytes w64 p.1.0) ++ padded p.1.1.0) (padded p.1.1.1.0) (list p.1.1.1.1)
-    ∙ append_assoc (target_bytes p.0 ++ to_be_bytes w64 p.1.0) (padded p.1.1.0) (padded p.1.1.1.0 ++ list p.1.1.1.1)
-    ∙ append_assoc (target_bytes p.0) (to_be_bytes w64 p.1.0) (padded p.1.1.0 ++ (padded p.1.1.1.0 ++ list p.1.1.1.1))
+job_parted p = joined_nested (target_bytes p.0) (behind_target (job_of p))
+
+pub job_lengths : (v : JobValue) → length (job_bytes v) ≡ length (target_bytes v.to) + (8 + (length (padded v.user) + (length (padded v.lterm) + length (list v.message))))
+job_lengths v = joined_long (target_bytes v.to) (behind_target v)
 
 pub jobs_are_read : IsReading job_reading job_bytes JobFits
 jobs_are_read = record {
@@ -150,25 +182,15 @@ service_parts_are_read id =
 abbrev pub IsServiceOf : ServiceId → Service → Type 0
 IsServiceOf id s = (s.id ≡ id) × ServiceFits s
 
+abbrev behind_first : Service → List (List ℕ)
+behind_first s = padded s.next ∷ flag s.awaits ∷ padded s.user ∷ lterm_bytes s.lterm ∷ list s.kb ∷ counted list s.handed ∷ last_bytes s.last ∷ counted lssb_bytes s.lssbs ∷ []
+
 service_parted : (id : ServiceId) (p : ServicePart) → service_bytes (service_of id p) ≡ service_part_bytes p
-service_parted id p =
-    let s = service_of id p in
-    let a = padded s.first in
-    let b = padded s.next in
-    let c = flag s.awaits in
-    let d = padded s.user in
-    let e = lterm_bytes s.lterm in
-    let f = list s.kb in
-    let g = counted list s.handed in
-    let h = last_bytes s.last in
-    let i = counted lssb_bytes s.lssbs in
-    append_assoc (((((((a ++ b) ++ c) ++ d) ++ e) ++ f) ++ g)) h i
-    ∙ append_assoc ((((((a ++ b) ++ c) ++ d) ++ e) ++ f)) g (h ++ i)
-    ∙ append_assoc (((((a ++ b) ++ c) ++ d) ++ e)) f (g ++ (h ++ i))
-    ∙ append_assoc ((((a ++ b) ++ c) ++ d)) e (f ++ (g ++ (h ++ i)))
-    ∙ append_assoc (((a ++ b) ++ c)) d (e ++ (f ++ (g ++ (h ++ i))))
-    ∙ append_assoc ((a ++ b)) c (d ++ (e ++ (f ++ (g ++ (h ++ i)))))
-    ∙ append_assoc a b (c ++ (d ++ (e ++ (f ++ (g ++ (h ++ i))))))
+service_parted id p = joined_nested (padded p.0) (behind_first (service_of id p))
+
+pub service_lengths : (s : Service) → length (service_bytes s)
+    ≡ length (padded s.first) + (length (padded s.next) + (length (flag s.awaits) + (length (padded s.user) + (length (lterm_bytes s.lterm) + (length (list s.kb) + (length (counted list s.handed) + (length (last_bytes s.last) + length (counted lssb_bytes s.lssbs))))))))
+service_lengths s = joined_long (padded s.first) (behind_first s)
 
 pub services_are_read : (id : ServiceId) → IsReading (service_reading id) service_bytes (IsServiceOf id)
 services_are_read id = record {
@@ -195,12 +217,8 @@ ended x (b ∷ bytes) = None
 abbrev pub whole : {A : Type 0} → (List ℕ → Option (A × List ℕ)) → List ℕ → Option A
 whole reads bytes = option_and_then (λ p. ended p.0 p.1) (reads bytes)
 
-nil_behind : (xs : List ℕ) → xs ++ [] ≡ xs
-nil_behind [] = refl
-nil_behind (x ∷ xs) = ap (λ (l : List ℕ). x ∷ l) (nil_behind xs)
-
 pub whole_back : {A : Type 0} (reads : List ℕ → Option (A × List ℕ)) (of_a : A → List ℕ) (F : A → Type 0) → IsReading reads of_a F → (x : A) → F x → whole reads (of_a x) ≡ Some x
-whole_back reads of_a F h x fits = ap (whole reads) (sym (nil_behind (of_a x))) ∙ ap (option_and_then (λ p. ended p.0 p.1)) (h.comes_back x [] fits)
+whole_back reads of_a F h x fits = ap (whole reads) (sym (append-nil (of_a x))) ∙ ap (option_and_then (λ p. ended p.0 p.1)) (h.comes_back x [] fits)
 
 pub whole_there : {A : Type 0} (reads : List ℕ → Option (A × List ℕ)) (of_a : A → List ℕ) (F : A → Type 0) → IsReading reads of_a F → (x : A) (bytes : List ℕ) → AreBytes bytes → whole reads bytes ≡ Some x → (bytes ≡ of_a x) × F x
 whole_there {A} reads of_a F h x bytes are e =
@@ -210,5 +228,5 @@ whole_there {A} reads of_a F h x bytes are e =
     by : (y : A) (rest : List ℕ) → reads bytes ≡ Some (y, rest) → ended y rest ≡ Some x → (bytes ≡ of_a x) × F x
     by y [] e f =
         let s = h.stands_there y bytes [] are e in
-        subst (λ (z : A). (bytes ≡ of_a z) × F z) (some_is y x f) (s.0 ∙ nil_behind (of_a y), s.1)
+        subst (λ (z : A). (bytes ≡ of_a z) × F z) (some_is y x f) (s.0 ∙ append-nil (of_a y), s.1)
     by y (b ∷ rest) e f = absurd (cc f)

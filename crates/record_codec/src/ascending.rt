@@ -1,6 +1,5 @@
 //! Whether keys ascend.
-ghost use Rattle.std.specs.Prelude.{◌≡◌};
-ghost use Rattle.std.specs.FinMap.{is_sorted};
+ghost use Rattle.std.specs.{Prelude.{◌≡◌}, FinMap.{is_sorted}};
 
 /// Whether the keys ascend without repeats. It takes no memory.
 pub fn ascend<K: Ord, V>(pairs: &[(K, V)]) -> bool

@@ -1,9 +1,7 @@
 //! Contents, read as tables.
 ghost use Rattle.std.specs.Prelude.{◌≡◌, None, IfOk, IfSome, OnOk, All};
 ghost use Rattle.kdcs_types.specs.Tables.{TableRows, empty_tables, changed, AreChanges};
-ghost use Rattle.record_codec.specs.Records.{AreTablesOf};
-ghost use Rattle.record_codec.specs.Reads.{ReadsWhole};
-ghost use Rattle.record_codec.specs.TableReadings.{AreRecordBytes, sets_read, AreProperTables, changes_of};
+ghost use Rattle.record_codec.specs.{Records.{AreTablesOf}, Reads.{ReadsWhole}, TableReadings.{AreRecordBytes, sets_read, AreProperTables, changes_of}};
 
 use crate::ascending::ascend;
 use crate::reading::Unread;

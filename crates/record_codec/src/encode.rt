@@ -1,11 +1,7 @@
 //! Tables as contents, and changes as patches.
 ghost use Rattle.std.specs.Prelude.{◌≡◌, ◌++◌, ◌∷◌, [], ◌<◌, ◌^◌, List, ℕ, length, map, All, IfOk, OnOk};
-ghost use Rattle.kdcs_types.specs.declared.service.Service.{Service as ServiceIs};
-ghost use Rattle.kdcs_types.specs.declared.service.Job.{Job as JobIs};
-ghost use Rattle.kdcs_types.specs.declared.service.JobValue.{JobValue as JobValueIs};
-ghost use Rattle.kdcs_types.specs.Tables.{row_key, gssb_row, tls_row, uls_row, service_row, job_row, shown_row};
-ghost use Rattle.record_codec.specs.Values.{service_bytes, job_bytes, record_of, record_change, HasShortChange};
-ghost use Rattle.record_codec.specs.Records.{content_of_tables, patch_of, HasShortValues};
+ghost use Rattle.kdcs_types.specs.{declared.service.Service.{Service as ServiceIs}, declared.service.Job.{Job as JobIs}, declared.service.JobValue.{JobValue as JobValueIs}, Tables.{row_key, gssb_row, tls_row, uls_row, service_row, job_row, shown_row}};
+ghost use Rattle.record_codec.specs.{Values.{service_bytes, job_bytes, record_of, record_change, HasShortChange}, Records.{content_of_tables, patch_of, HasShortValues}};
 
 use crate::keys::record_key;
 use crate::values::{job_value, row_value, service_value};
@@ -105,7 +101,8 @@ pub fn records(alloc: Global, tables: &Tables) -> Result<Content, OutOfMemory>
     })
 }
 
-fn key_of(row: &Row) -> Key
+/// The key of a row. It takes no memory.
+pub fn key_of(row: &Row) -> Key
     ensures { result ≡ row_key row.now }
 {
     match row {

@@ -1,8 +1,5 @@
 //! Laws on the definitions, which all crates above may cite. The functions do nothing.
-ghost use Rattle.record_codec.specs.RowReadings.{RecordsAreOneToOne};
-ghost use Rattle.record_codec.specs.OneToOne.{TablesAreOneToOne};
-ghost use Rattle.record_codec.specs.Order.{KeysKeepTheirOrder};
-ghost use Rattle.record_codec.specs.Patches.{PatchesFollowChanges};
+ghost use Rattle.record_codec.specs.{RowReadings.{RecordsAreOneToOne}, OneToOne.{TablesAreOneToOne}, Order.{KeysKeepTheirOrder}, Patches.{PatchesFollowChanges}};
 
 /// The keys of records ascend as the keys of rows do.
 pub fn keys_keep_their_order()

@@ -1,13 +1,9 @@
 //! Values of records, read from their bytes.
-ghost use Rattle.std.specs.Prelude.{◌≡◌, Some, None, OnErr};
-ghost use Rattle.std.specs.Int.{w8, w32, w64};
-ghost use Rattle.record_codec.specs.Reads.{Reads};
-ghost use Rattle.record_codec.specs.Fields.{AreBytes, name_field, number_field, list_field, items};
-ghost use Rattle.record_codec.specs.Readings.{flag_reading, last_reading, target_reading, lterm_reading};
-ghost use Rattle.record_codec.specs.WholeValues.{job_reading, lssb_reading, parts_reading, lssbs_reading, service_reading};
+ghost use Rattle.std.specs.{Prelude.{◌≡◌, List, ℕ, Option}, Int.{w8, w32, w64}};
+ghost use Rattle.record_codec.specs.{Reads.{Reads}, Fields.{name_field, number_field, list_field, items, counted_items}, Readings.{flag_reading, last_reading, target_reading, lterm_reading}, WholeValues.{job_reading, lssb_reading, service_reading}};
 
-use kd_base::{Bytes, Name, OutOfMemory, Reader};
-use kdcs_types::{Areas, JobValue, Parts, Service, ServiceId, Target};
+use kd_base::{Bytes, Name, OutOfMemory, Reader, Sequence};
+use kdcs_types::{JobValue, Service, ServiceId, Target};
 use std::alloc::Global;
 
 /// Why no row was read.
@@ -81,9 +77,11 @@ fn last_in(alloc: Global, reader: &mut Reader) -> Result<Option<Bytes>, Unread>
 fn target_in(reader: &mut Reader) -> Result<Target, Unread>
     ensures { Reads result reader.new (target_reading reader.old) }
 {
-    match u8_in(reader)? {
-        b'T' => Ok(Target::Tac(name_in(reader)?)),
-        b'L' => Ok(Target::Lterm(name_in(reader)?)),
+    let kind = u8_in(reader)?;
+    let name = name_in(reader)?;
+    match kind {
+        b'T' => Ok(Target::Tac(name)),
+        b'L' => Ok(Target::Lterm(name)),
         _ => Err(Unread::NoRow),
     }
 }
@@ -106,14 +104,6 @@ fn lterm_in(id: &ServiceId, reader: &mut Reader) -> Result<Option<Name>, Unread>
     }
 }
 
-fn lssb_in(alloc: Global, reader: &mut Reader) -> Result<(Name, Bytes), Unread>
-    ensures { Reads result reader.new (lssb_reading reader.old) }
-{
-    let name = name_in(reader)?;
-    let content = list_in(alloc, reader)?;
-    Ok((name, content))
-}
-
 pub(crate) fn job_in(alloc: Global, reader: &mut Reader) -> Result<JobValue, Unread>
     ensures { Reads result reader.new (job_reading reader.old) }
 {
@@ -131,39 +121,49 @@ pub(crate) fn job_in(alloc: Global, reader: &mut Reader) -> Result<JobValue, Unr
     })
 }
 
-fn parts_in(alloc: Global, reader: &mut Reader) -> Result<Parts, Unread>
-    ensures { Reads result reader.new (parts_reading reader.old) }
+/// What stands in a value as often as a count before it says.
+trait Item: Drop {
+    ghost reading: { List ℕ → Option (Self × List ℕ) };
+
+    fn read(alloc: Global, reader: &mut Reader) -> Result<Self, Unread>
+        ensures { Reads result reader.new (reading reader.old) };
+}
+
+// A handed part.
+impl Item for Bytes {
+    ghost reading = { list_field };
+
+    fn read(alloc: Global, reader: &mut Reader) -> Result<Bytes, Unread> {
+        list_in(alloc, reader)
+    }
+}
+
+// An LSSB.
+impl Item for (Name, Bytes) {
+    ghost reading = { lssb_reading };
+
+    fn read(alloc: Global, reader: &mut Reader) -> Result<(Name, Bytes), Unread> {
+        let name = name_in(reader)?;
+        let content = list_in(alloc, reader)?;
+        Ok((name, content))
+    }
+}
+
+fn items_in<T: Item>(alloc: Global, count: u32, reader: &mut Reader) -> Result<Sequence<T>, Unread>
+    ensures { Reads result reader.new (items T.reading count reader.old) }
+{
+    let mut items = Sequence::new(alloc);
+    for _ in 0..count {
+        items.push(T::read(alloc, reader)?)?;
+    }
+    Ok(items)
+}
+
+fn counted_in<T: Item>(alloc: Global, reader: &mut Reader) -> Result<Sequence<T>, Unread>
+    ensures { Reads result reader.new (counted_items T.reading reader.old) }
 {
     let count = u32_in(reader)?;
-    each_part_in(alloc, count, reader)
-}
-
-fn each_part_in(alloc: Global, count: u32, reader: &mut Reader) -> Result<Parts, Unread>
-    ensures { Reads result reader.new (items list_field count reader.old) }
-{
-    let mut parts = Parts::new(alloc);
-    for _ in 0..count {
-        parts.push(list_in(alloc, reader)?)?;
-    }
-    Ok(parts)
-}
-
-fn lssbs_in(alloc: Global, reader: &mut Reader) -> Result<Areas, Unread>
-    ensures { Reads result reader.new (lssbs_reading reader.old) }
-{
-    let count = u32_in(reader)?;
-    each_lssb_in(alloc, count, reader)
-}
-
-fn each_lssb_in(alloc: Global, count: u32, reader: &mut Reader) -> Result<Areas, Unread>
-    ensures { Reads result reader.new (items lssb_reading count reader.old) }
-{
-    let mut lssbs = Areas::new(alloc);
-    for _ in 0..count {
-        let lssb = lssb_in(alloc, reader)?;
-        lssbs.push(lssb)?;
-    }
-    Ok(lssbs)
+    items_in(alloc, count, reader)
 }
 
 pub(crate) fn service_in(
@@ -179,9 +179,9 @@ pub(crate) fn service_in(
     let user = name_in(reader)?;
     let lterm = lterm_in(id, reader)?;
     let kb = list_in(alloc, reader)?;
-    let handed = parts_in(alloc, reader)?;
+    let handed = counted_in(alloc, reader)?;
     let last = last_in(alloc, reader)?;
-    let lssbs = lssbs_in(alloc, reader)?;
+    let lssbs = counted_in(alloc, reader)?;
     Ok(Service {
         id: *id,
         first,

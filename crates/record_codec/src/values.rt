@@ -4,34 +4,23 @@ ghost use Rattle.kd_base.specs.Field.{list};
 ghost use Rattle.kdcs_types.specs.Tables.{row_key};
 ghost use Rattle.record_codec.specs.Values.{counted, flag, last_bytes, lterm_bytes, lssb_bytes, service_bytes, target_bytes, job_bytes, value_bytes, HasShortValue};
 
-use kd_base::{Bytes, Name, OutOfMemory, Writer};
+use kd_base::{Bytes, Name, OutOfMemory};
 use kdcs_types::{JobValue, Row, Service, Target};
 use std::alloc::Global;
 
-fn put_target(to: &Target, w: &mut Writer) -> Result<(), OutOfMemory>
+fn put_target(to: &Target, w: &mut Bytes) -> Result<(), OutOfMemory>
     ensures { OnOk result (w.new ≡ w.old ++ target_bytes to.now) }
 {
     match to {
         Target::Tac(tac) => {
-            w.put_u8(b'T')?;
+            w.push(b'T')?;
             w.put_name(*tac)
         }
         Target::Lterm(lterm) => {
-            w.put_u8(b'L')?;
+            w.push(b'L')?;
             w.put_name(*lterm)
         }
     }
-}
-
-fn put_job(value: &JobValue, w: &mut Writer) -> Result<(), OutOfMemory>
-    requires { length (job_bytes value.now) < 2 ^ 32 }
-    ensures { OnOk result (w.new ≡ w.old ++ job_bytes value.now) }
-{
-    put_target(&value.to, w)?;
-    w.put_u64(value.due)?;
-    w.put_name(value.user)?;
-    w.put_name(value.lterm)?;
-    w.put_list(value.message.as_slice())
 }
 
 /// The value of a job's record.
@@ -39,40 +28,44 @@ pub(crate) fn job_value(alloc: Global, value: &JobValue) -> Result<Bytes, OutOfM
     requires { length (job_bytes value.now) < 2 ^ 32 }
     ensures { IfOk result (λ bytes. bytes ≡ job_bytes value.now) }
 {
-    let mut w = Writer::new(alloc);
-    put_job(value, &mut w)?;
-    Ok(w.finish())
+    let mut w = Bytes::new(alloc);
+    put_target(&value.to, &mut w)?;
+    w.put_u64(value.due)?;
+    w.put_name(value.user)?;
+    w.put_name(value.lterm)?;
+    w.put_list(value.message.as_slice())?;
+    Ok(w)
 }
 
-fn put_flag(set: bool, w: &mut Writer) -> Result<(), OutOfMemory>
+fn put_flag(set: bool, w: &mut Bytes) -> Result<(), OutOfMemory>
     ensures { OnOk result (w.new ≡ w.old ++ flag set) }
 {
-    w.put_u8(u8::from(set))
+    w.push(u8::from(set))
 }
 
-fn put_lterm(lterm: &Option<Name>, w: &mut Writer) -> Result<(), OutOfMemory>
+fn put_lterm(lterm: &Option<Name>, w: &mut Bytes) -> Result<(), OutOfMemory>
     ensures { OnOk result (w.new ≡ w.old ++ lterm_bytes lterm.now) }
 {
     match lterm {
         Some(lterm) => w.put_name(*lterm),
-        None => w.put_bytes(&[b' '; 8]),
+        None => w.append(&[b' '; 8]),
     }
 }
 
-fn put_last(last: &Option<Bytes>, w: &mut Writer) -> Result<(), OutOfMemory>
+fn put_last(last: &Option<Bytes>, w: &mut Bytes) -> Result<(), OutOfMemory>
     requires { length (last_bytes last.now) < 2 ^ 32 }
     ensures { OnOk result (w.new ≡ w.old ++ last_bytes last.now) }
 {
     match last {
         Some(message) => {
-            w.put_u8(1)?;
+            w.push(1)?;
             w.put_list(message.as_slice())
         }
-        None => w.put_u8(0),
+        None => w.push(0),
     }
 }
 
-fn put_each_part(parts: &[Bytes], w: &mut Writer) -> Result<(), OutOfMemory>
+fn put_each_part(parts: &[Bytes], w: &mut Bytes) -> Result<(), OutOfMemory>
     requires { All (λ (part : List ℕ). length part < 2 ^ 32) parts.now }
     ensures { OnOk result (w.new ≡ w.old ++ flat_map list parts.now) }
 {
@@ -83,7 +76,7 @@ fn put_each_part(parts: &[Bytes], w: &mut Writer) -> Result<(), OutOfMemory>
 }
 
 #[tactic(auto, using(crate::proofs::Room::few_parts, crate::proofs::Room::short_parts))]
-fn put_parts(parts: &[Bytes], w: &mut Writer) -> Result<(), OutOfMemory>
+fn put_parts(parts: &[Bytes], w: &mut Bytes) -> Result<(), OutOfMemory>
     requires { length (counted list parts.now) < 2 ^ 32 }
     ensures { OnOk result (w.new ≡ w.old ++ counted list parts.now) }
 {
@@ -91,7 +84,7 @@ fn put_parts(parts: &[Bytes], w: &mut Writer) -> Result<(), OutOfMemory>
     put_each_part(parts, w)
 }
 
-fn put_each_lssb(lssbs: &[(Name, Bytes)], w: &mut Writer) -> Result<(), OutOfMemory>
+fn put_each_lssb(lssbs: &[(Name, Bytes)], w: &mut Bytes) -> Result<(), OutOfMemory>
     requires { All (λ (lssb : List ℕ × List ℕ). length lssb.1 < 2 ^ 32) lssbs.now }
     ensures { OnOk result (w.new ≡ w.old ++ flat_map lssb_bytes lssbs.now) }
 {
@@ -103,7 +96,7 @@ fn put_each_lssb(lssbs: &[(Name, Bytes)], w: &mut Writer) -> Result<(), OutOfMem
 }
 
 #[tactic(auto, using(crate::proofs::Room::few_lssbs, crate::proofs::Room::short_lssbs))]
-fn put_lssbs(lssbs: &[(Name, Bytes)], w: &mut Writer) -> Result<(), OutOfMemory>
+fn put_lssbs(lssbs: &[(Name, Bytes)], w: &mut Bytes) -> Result<(), OutOfMemory>
     requires { length (counted lssb_bytes lssbs.now) < 2 ^ 32 }
     ensures { OnOk result (w.new ≡ w.old ++ counted lssb_bytes lssbs.now) }
 {
@@ -111,29 +104,22 @@ fn put_lssbs(lssbs: &[(Name, Bytes)], w: &mut Writer) -> Result<(), OutOfMemory>
     put_each_lssb(lssbs, w)
 }
 
-fn put_service(s: &Service, w: &mut Writer) -> Result<(), OutOfMemory>
-    requires { length (service_bytes s.now) < 2 ^ 32 }
-    ensures { OnOk result (w.new ≡ w.old ++ service_bytes s.now) }
-{
-    w.put_name(s.first)?;
-    w.put_name(s.next)?;
-    put_flag(s.awaits, w)?;
-    w.put_name(s.user)?;
-    put_lterm(&s.lterm, w)?;
-    w.put_list(s.kb.as_slice())?;
-    put_parts(s.handed.as_slice(), w)?;
-    put_last(&s.last, w)?;
-    put_lssbs(s.lssbs.as_slice(), w)
-}
-
 /// The value of a service's record.
 pub(crate) fn service_value(alloc: Global, s: &Service) -> Result<Bytes, OutOfMemory>
     requires { length (service_bytes s.now) < 2 ^ 32 }
     ensures { IfOk result (λ bytes. bytes ≡ service_bytes s.now) }
 {
-    let mut w = Writer::new(alloc);
-    put_service(s, &mut w)?;
-    Ok(w.finish())
+    let mut w = Bytes::new(alloc);
+    w.put_name(s.first)?;
+    w.put_name(s.next)?;
+    put_flag(s.awaits, &mut w)?;
+    w.put_name(s.user)?;
+    put_lterm(&s.lterm, &mut w)?;
+    w.put_list(s.kb.as_slice())?;
+    put_parts(s.handed.as_slice(), &mut w)?;
+    put_last(&s.last, &mut w)?;
+    put_lssbs(s.lssbs.as_slice(), &mut w)?;
+    Ok(w)
 }
 
 /// The value of a row's record.

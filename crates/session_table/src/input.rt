@@ -1,9 +1,6 @@
 //! What a terminal input means, in the order of the tests.
-ghost use Rattle.std.specs.Prelude.{◌≡◌, List, ℕ, None, IfOk, IsTrue, OnErr, length, nat_lt};
-ghost use Rattle.std.specs.Option.{option_copied};
-ghost use Rattle.monitor_semantics.specs.Sessions.{after_word, off_use, same_password, sign_on_use, start_by, tac_named, use_of_text, use_signed, use_unsigned};
-ghost use Rattle.monitor_semantics.specs.Turns.{pterm_of_user};
-ghost use Rattle.monitor_semantics.specs.declared.input_use.Use.TheVariants.{Sign};
+ghost use Rattle.std.specs.{Prelude.{◌≡◌, List, ℕ, None, IfOk, IsTrue, OnErr, length, nat_lt}, Option.{option_copied}};
+ghost use Rattle.monitor_semantics.specs.{Sessions.{after_word, off_use, same_password, sign_on_use, start_by, tac_named, use_signed, use_unsigned}, Turns.{pterm_of_user}, declared.input_use.Use.TheVariants.{Sign}};
 ghost use Rattle.session_table.specs.Inputs.{holds_text};
 
 use crate::sessions::Sessions;
@@ -86,25 +83,6 @@ fn start(alloc: Global, generation: &Generation, text: &Split) -> Result<Use, Ou
     Ok(Use::Start(tac, Bytes::from_slice(alloc, message)?))
 }
 
-// The use of a text that is no command of the terminal.
-fn use_of_text(
-    alloc: Global,
-    generation: &Generation,
-    whole: &[u8],
-    text: &Split,
-    state: ServiceState,
-) -> Result<Use, OutOfMemory>
-    ensures ok { IfOk result (λ u. u ≡ use_of_text generation.now whole.now text.now state) }
-    ensures memory { OnErr result (IsTrue (holds_text (use_of_text generation.now whole.now text.now state))) }
-{
-    match state {
-        ServiceState::Running => Ok(Use::Busy),
-        ServiceState::Awaits if is_too_long(generation, whole) => Ok(Use::TooLong),
-        ServiceState::Awaits => Ok(Use::Next(Bytes::from_slice(alloc, whole)?)),
-        ServiceState::NoService => start(alloc, generation, text),
-    }
-}
-
 // KDCOFF while a service runs is Busy.
 fn off_use(state: ServiceState) -> Use
     ensures { result ≡ off_use state }
@@ -142,5 +120,10 @@ pub fn use_signed(
     if word == b"KDCOFF".as_slice() {
         return Ok(off_use(state));
     }
-    use_of_text(alloc, generation, whole, text, state)
+    match state {
+        ServiceState::Running => Ok(Use::Busy),
+        ServiceState::Awaits if is_too_long(generation, whole) => Ok(Use::TooLong),
+        ServiceState::Awaits => Ok(Use::Next(Bytes::from_slice(alloc, whole)?)),
+        ServiceState::NoService => start(alloc, generation, text),
+    }
 }

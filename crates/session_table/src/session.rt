@@ -1,6 +1,5 @@
 //! A session of a user.
-ghost use Rattle.std.specs.Prelude.{◌≡◌, Some, None};
-ghost use Rattle.std.specs.Option.{option_copied};
+ghost use Rattle.std.specs.{Prelude.{◌≡◌, Some, None}, Option.{option_copied}};
 
 use kd_base::{Bytes, Name};
 use std::marker::Model;

@@ -1,17 +1,7 @@
 //! The sessions.
-ghost use Rattle.std.specs.Prelude.{◌≡◌, List, ℕ, [], MatchOption, Ok, Some, None, OnOk, OnErr, IfOk, IsTrue, bytes_eq, not};
-ghost use Rattle.std.specs.Bool.{OnFalse};
-ghost use Rattle.std.specs.Option.{option_copied, option_map};
-ghost use Rattle.std.specs.List.{list_any};
-ghost use Rattle.std.specs.FinMap.{find, put};
-ghost use Rattle.std.specs.FinMap.Entries.{where_key};
-ghost use Rattle.monitor_semantics.specs.Bytes.{bytes_cmp};
-ghost use Rattle.monitor_semantics.specs.Commands.{last_by};
-ghost use Rattle.monitor_semantics.specs.Sessions.{has_user, use_of};
-ghost use Rattle.monitor_semantics.specs.Turns.{pterm_of_user};
-ghost use Rattle.monitor_semantics.specs.declared.input_use.Use.TheVariants.{Sign};
-ghost use Rattle.session_table.specs.Inputs.{holds_text};
-ghost use Rattle.session_table.specs.Signed.{AreSessions, CanSignOn};
+ghost use Rattle.std.specs.{Prelude.{◌≡◌, List, ℕ, [], MatchOption, Ok, Some, None, OnOk, OnErr, IfOk, IsTrue, bytes_eq, not}, Bool.{OnFalse}, Option.{option_copied, option_map}, List.{list_any}, FinMap.{find, put}, FinMap.Entries.{where_key}};
+ghost use Rattle.monitor_semantics.specs.{Bytes.{bytes_cmp}, Commands.{last_by}, Sessions.{has_user, use_of}, Turns.{pterm_of_user}, declared.input_use.Use.TheVariants.{Sign}};
+ghost use Rattle.session_table.specs.{Inputs.{holds_text}, Signed.{AreSessions, CanSignOn}};
 
 use crate::input::{use_signed, use_unsigned};
 use crate::session::Session;

@@ -1,6 +1,5 @@
 //! Bytes parted at the first byte of a kind.
-ghost use Rattle.std.specs.Prelude.{◌≡◌};
-ghost use Rattle.std.specs.Option.{option_copied};
+ghost use Rattle.std.specs.{Prelude.{◌≡◌}, Option.{option_copied}};
 ghost use Rattle.monitor_semantics.specs.Sessions.{after_word, split_at};
 
 use std::marker::Model;

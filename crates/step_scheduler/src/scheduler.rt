@@ -1,6 +1,5 @@
 //! The ready list and the tasks.
-ghost use Rattle.std.specs.Prelude.{◌≡◌, ◌-◌, IsTrue, is_some, IfOk, OnOk, OnErr, None};
-ghost use Rattle.std.specs.List.{list_any};
+ghost use Rattle.std.specs.{Prelude.{◌≡◌, ◌-◌, IsTrue, is_some, IfOk, OnOk, OnErr, None}, List.{list_any}};
 ghost use Rattle.kdcs_types.specs.Keys.{id_eq};
 ghost use Rattle.monitor_semantics.specs.Picks.{pick_work};
 ghost use Rattle.async_queue.specs.Queue.{free};

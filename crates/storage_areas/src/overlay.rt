@@ -1,14 +1,9 @@
 //! Private writes over the tables.
-ghost use Rattle.std.specs.Prelude.{◌≡◌, ◌≤◌, ◌↔◌, [], IsTrue, IfOk, None, OnOk, OnErr, Some, if◌then◌else◌, is_some, length, option_copied};
-ghost use Rattle.std.specs.FinMap.{find, put, is_sorted};
+ghost use Rattle.std.specs.{Prelude.{◌≡◌, ◌≤◌, ◌↔◌, [], IsTrue, IfOk, None, OnOk, OnErr, Some, if◌then◌else◌, is_some, length, option_copied}, FinMap.{find, put, is_sorted}};
 ghost use Rattle.kdcdef_types.specs.Generation.{Generated};
-ghost use Rattle.kdcs_types.specs.Keys.{area_cmp};
-ghost use Rattle.kdcs_types.specs.Tables.{TableRows, content_of, with_changes, AreChanges};
+ghost use Rattle.kdcs_types.specs.{Keys.{area_cmp}, Tables.{TableRows, content_of, with_changes, AreChanges}};
 ghost use Rattle.kdcs_types.specs.declared.call.Code.TheVariants as kdcs_code;
-ghost use Rattle.monitor_semantics.specs.Bytes.{bytes_cmp};
-ghost use Rattle.monitor_semantics.specs.Calls.{delete_local, replied, shown_by, write_local};
-ghost use Rattle.monitor_semantics.specs.Endings.{with_areas};
-ghost use Rattle.monitor_semantics.specs.State.{OpenTransaction};
+ghost use Rattle.monitor_semantics.specs.{Bytes.{bytes_cmp}, Calls.{delete_local, replied, shown_by, write_local}, Endings.{with_areas}, State.{OpenTransaction}};
 ghost use Rattle.storage_areas.specs.Areas.{PrivateAreas, changes_of, is_one_too_many, with_areas_of};
 
 use crate::change::area_change;

@@ -27,7 +27,7 @@ use Rattle.kdcs_types.specs.RowLaws.{changed_sorted, sorted_with_changes}
 use Rattle.kdcs_types.specs.Tables.{AreChanges, IsSortedTables, TableRows, change_fits, change_key, changed, job_key, lterm_fits, with_change, with_changes}
 use Rattle.kdcdef_types.specs.Generation.{Generated}
 use Rattle.monitor_semantics.specs.declared.outcome.Outcome.{Outcome}
-use Rattle.monitor_semantics.specs.declared.outcome.Outcome.TheVariants.{Wait, Point, Follow, Finish, Hold, Stay, Queue, Break, Back}
+use Rattle.monitor_semantics.specs.declared.outcome.Outcome.TheVariants.{Wait, Point, Follow}
 use Rattle.monitor_semantics.specs.Bytes.{Bytes, bytes_cmp}
 use Rattle.monitor_semantics.specs.Endings.{area_change, broken, durable, is_durable, lterm_in_row, numbered, row_after, service_change, synchronised, with_areas, with_drafts, with_service, without_own_job}
 use Rattle.monitor_semantics.specs.State.{OpenTransaction}

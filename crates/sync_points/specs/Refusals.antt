@@ -5,13 +5,13 @@ use Rattle.std.proofs.lemmas.List.Sums.{sum_by-cons}
 use Rattle.std.proofs.lemmas.Bool.Decides.{nat_tests}
 use Rattle.kdcs_types.specs.declared.act.Change.{Change}
 use Rattle.kdcs_types.specs.declared.act.Row.{Row}
-use Rattle.kdcs_types.specs.declared.act.Row.TheVariants.{Gssb as GssbRow, Tls as TlsRow, Uls as UlsRow, Service as ServiceRow, Job as JobRow, Shown as ShownRow}
+use Rattle.kdcs_types.specs.declared.act.Row.TheVariants.{Gssb as GssbRow}
 use Rattle.kdcs_types.specs.declared.call.Cause.{Cause}
 use Rattle.kdcs_types.specs.declared.call.Cause.TheVariants.{E09, E10, E11}
 use Rattle.kdcs_types.specs.declared.key.ServiceId.{ServiceId}
 use Rattle.kdcs_types.specs.declared.key.ServiceId.TheVariants.{Dialogue, Asynchronous}
 use Rattle.kdcs_types.specs.declared.service.Service.{Service}
-use Rattle.kdcs_types.specs.Limits.{last_next_job}
+use Rattle.kd_base.specs.Limits.{last_next_job}
 use Rattle.kdcs_types.specs.RowLaws.{numbers_changed}
 use Rattle.kdcs_types.specs.Tables.{AreChanges, IsSortedTables, TableRows, changed, gssb_row, job_row, service_row, shown_row, tls_row, uls_row, with_changes}
 use Rattle.kdcdef_types.specs.Generation.{Generated}

@@ -19,7 +19,7 @@ use Rattle.kdcdef_types.specs.Generation.{Generated}
 use Rattle.kdcdef_check.specs.Soundness.{AreLimits}
 use Rattle.monitor_semantics.specs.declared.draft.Draft.{Draft}
 use Rattle.monitor_semantics.specs.declared.outcome.Outcome.{Outcome}
-use Rattle.monitor_semantics.specs.declared.outcome.Outcome.TheVariants.{Wait, Point, Follow, Finish, Hold, Stay, Queue, Break, Back}
+use Rattle.monitor_semantics.specs.declared.outcome.Outcome.TheVariants.{Wait, Point, Follow, Finish}
 use Rattle.monitor_semantics.specs.Bytes.{Bytes}
 use Rattle.monitor_semantics.specs.Calls.{job_target}
 use Rattle.monitor_semantics.specs.Charges.{last_length, list_length, service_length}

@@ -1,8 +1,6 @@
 //! Whether a change leaves another row than stands there.
-ghost use Rattle.std.specs.Prelude.{◌≡◌, Some, bytes_eq, is_some};
-ghost use Rattle.std.specs.Option.{option_eq};
-ghost use Rattle.kdcs_types.specs.Same.{job_value_eq, row_same, service_eq};
-ghost use Rattle.kdcs_types.specs.Tables.{content_of, row_at, row_key};
+ghost use Rattle.std.specs.{Prelude.{◌≡◌, Some, bytes_eq, is_some}, Option.{option_eq}};
+ghost use Rattle.kdcs_types.specs.{Same.{job_value_eq, row_same, service_eq}, Tables.{content_of, row_at, row_key}};
 ghost use Rattle.sync_points.specs.PointChanges.{is_real};
 
 use kd_base::Bytes;

@@ -1,19 +1,12 @@
 //! Names in acts and in tables are names, as their types say. The functions do nothing but to look at each name.
 ghost use Rattle.std.specs.Prelude.{◌<◌, ◌^◌, List, ℕ, IfSome, All};
 ghost use Rattle.kd_base.specs.Text.{IsName};
-ghost use Rattle.kdcs_types.specs.declared.key.Key.TheVariants.{Service as ServiceKey};
-ghost use Rattle.kdcs_types.specs.declared.service.Job.{Job as JobIs};
-ghost use Rattle.kdcs_types.specs.declared.service.JobValue.{JobValue as JobValueIs};
-ghost use Rattle.kdcs_types.specs.declared.service.Service.{Service as ServiceIs};
-ghost use Rattle.kdcs_types.specs.Tables.{service_row, job_row, shown_row};
+ghost use Rattle.kdcs_types.specs.{declared.key.Key.TheVariants.{Service as ServiceKey}, declared.service.Job.{Job as JobIs}, declared.service.JobValue.{JobValue as JobValueIs}, declared.service.Service.{Service as ServiceIs}, Tables.{service_row, job_row, shown_row}};
 ghost use Rattle.kdcdef_check.specs.Soundness.{AreLimits};
 ghost use Rattle.kdcdef_types.specs.Generation.{Generated};
 ghost use Rattle.monitor_laws.specs.Suits.{Suits};
-ghost use Rattle.record_codec.specs.Order.{IsProperKey};
-ghost use Rattle.record_codec.specs.Readings.{TargetFits};
-ghost use Rattle.record_codec.specs.TableReadings.{AreProperTables};
-ghost use Rattle.table_commits.specs.Named.{HasAreaName, HasBlockNames, IsNamedAct, IsNamedChange, IsNamedJob, IsNamedRow, IsNamedService};
-ghost use Rattle.table_commits.specs.NamedLaws.{AreNamedTables};
+ghost use Rattle.record_codec.specs.{Order.{IsProperKey}, Readings.{TargetFits}, TableReadings.{AreProperTables}};
+ghost use Rattle.table_commits.specs.{Named.{HasAreaName, HasBlockNames, IsNamedAct, IsNamedChange, IsNamedJob, IsNamedRow, IsNamedService}, NamedLaws.{AreNamedTables}};
 
 use kd_base::{Bytes, Name};
 use kdcs_types::{Act, Change, Job, JobValue, Key, Row, Service, ServiceId, Tables, Target};

@@ -1,11 +1,10 @@
 -- Rows that suit have short values, and what they leave of a page pool.
-use Rattle.std.specs.Prelude.{◌≡◌, refl, ℕ, ◌+◌, ◌-◌, ◌*◌, ◌^◌, ◌<◌, ◌≤◌, Bool, true, false, ◌&&◌, ◌==◌, cond, IsTrue, if◌then◌else◌, List, [], ◌∷◌, length, sum_by, nat_le, Option, Some, None, SomeIff, All}
+use Rattle.std.specs.Prelude.{◌≡◌, refl, ℕ, ◌+◌, ◌-◌, ◌*◌, ◌^◌, ◌<◌, ◌≤◌, Bool, true, false, ◌&&◌, cond, IsTrue, if◌then◌else◌, List, [], ◌∷◌, length, sum_by, nat_le, Option, Some, None, SomeIff, All}
 use Rattle.std.proofs.Common.{arith, ap, sym, subst, ◌∙◌, true≢false}
 use Rattle.std.proofs.Math.Nat.{mul-le-mul_left, mul-le-mul_right}
 use Rattle.std.proofs.lemmas.Bool.{le-leb, lt-leb, leb-true, leb-false, eqb-true}
 use Rattle.std.proofs.lemmas.List.Elements.{All-nil, All-cons, All-weaker}
 use Rattle.std.proofs.lemmas.List.Sums.{sum_by-cons, AllPass-from_list_all, list_all-from_AllPass}
-use Rattle.std.specs.FinMap.{is_sorted}
 use Rattle.std.specs.List.{list_all}
 use Rattle.kd_base.specs.Tools.{both_true}
 use Rattle.kd_records.specs.Charge.{IsBlockSize}
@@ -16,13 +15,16 @@ use Rattle.kdcs_types.specs.declared.service.Service.{Service}
 use Rattle.kdcs_types.specs.Tables.{TableRows}
 use Rattle.kdcdef_types.specs.Generation.{Generated, has_tls, has_uls}
 use Rattle.kdcdef_check.specs.Soundness.{AreLimits}
-use Rattle.monitor_semantics.specs.Bytes.{Bytes, bytes_cmp}
+use Rattle.monitor_semantics.specs.Bytes.{Bytes}
 use Rattle.monitor_semantics.specs.Calls.{job_target}
 use Rattle.monitor_semantics.specs.Charges.{charge_of, job_length, last_length, service_length, total_charge}
-use Rattle.monitor_semantics.specs.Endings.{is_durable}
-use Rattle.monitor_laws.specs.Suits.{awaits_rightly, fits_content, fits_message, gssb_suits, is_lterm, is_user, job_suits, last_fits, lterm_suits, owner_suits, service_suits, shown_suits, target_name, target_suits, tls_suits, uls_suits, value_suits}
-use Rattle.table_fit.specs.ServiceParts.{areas_suit, groups_are, handed_suits, message_suits, tacs_suit}
+use Rattle.monitor_semantics.specs.Endings.{is_asynchronous, is_durable}
+use Rattle.monitor_laws.specs.Suits.{fits_content, fits_message, gssb_suits, has_kind, is_lterm, is_user, job_suits, last_fits, lterm_suits, owner_suits, service_suits, shown_suits, target_name, target_suits, tls_suits, uls_suits, value_suits}
 use Rattle.table_fit.specs.Small.{small_short}
+
+-- the names of a service's row, which are tested first
+abbrev pub names_suit : Generated → Service → Bool
+names_suit g s = is_user g s.user && lterm_suits g s.lterm && owner_suits s.id s && has_kind g s.first (is_asynchronous s.id) && has_kind g s.next (is_asynchronous s.id)
 
 -- each row by itself suits, and there are not too many GSSBs
 pub record RowsSuit (g : Generated) (t : TableRows) : Type 0 where
@@ -63,20 +65,21 @@ last_small g limits (Some message) h = omega (arith, leb-true (length message) g
 
 service_short : (g : Generated) → AreLimits g.limits → (s : Service) → IsTrue (service_suits g s) → service_length s < 2 ^ 32
 service_short g limits s h =
-    let groups = both_true (is_user g s.user && lterm_suits g s.lterm && owner_suits s.id s && tacs_suit g s && areas_suit g s) (message_suits g s) (groups_are g s ∙ h) in
-    let areas = (both_true (is_user g s.user && lterm_suits g s.lterm && owner_suits s.id s && tacs_suit g s) (areas_suit g s) groups.0).1 in
-    let sorted = both_true (length s.kb == g.limits.kb && nat_le (length s.lssbs) g.limits.lssbs && is_sorted bytes_cmp s.lssbs) (list_all (λ (l : Bytes × Bytes). fits_content l.1) s.lssbs) areas in
-    let counts = both_true (length s.kb == g.limits.kb && nat_le (length s.lssbs) g.limits.lssbs) (is_sorted bytes_cmp s.lssbs) sorted.0 in
-    let numbers = both_true (length s.kb == g.limits.kb) (nat_le (length s.lssbs) g.limits.lssbs) counts.0 in
-    let messages = both_true (awaits_rightly s s.awaits && last_fits g s.last) (handed_suits g s.handed) groups.1 in
-    let handed = both_true (nat_le (length s.handed) 16) (nat_le (sum_by length s.handed) g.limits.nb) messages.1 in
+    let bytes = both_true _ _ h in
+    let count = both_true _ _ bytes.0 in
+    let last = both_true _ _ count.0 in
+    let awaits = both_true _ _ last.0 in
+    let lssbs = both_true _ _ awaits.0 in
+    let sorted = both_true _ _ lssbs.0 in
+    let few = both_true _ _ sorted.0 in
+    let kb = both_true _ _ few.0 in
     small_short s (record {
-      kb = omega (arith, eqb-true (length s.kb) g.limits.kb numbers.0, limits.kb);
-      count = leb-true (length s.handed) 16 handed.0;
-      handed = omega (arith, leb-true (sum_by length s.handed) g.limits.nb handed.1, limits.nb);
-      last = last_small g limits s.last (both_true (awaits_rightly s s.awaits) (last_fits g s.last) messages.0).1;
-      lssbs_count = omega (arith, leb-true (length s.lssbs) g.limits.lssbs numbers.1, limits.lssbs);
-      lssbs = sorted.1;
+      kb = omega (arith, eqb-true (length s.kb) g.limits.kb kb.1, limits.kb);
+      count = leb-true (length s.handed) 16 count.1;
+      handed = omega (arith, leb-true (sum_by length s.handed) g.limits.nb bytes.1, limits.nb);
+      last = last_small g limits s.last last.1;
+      lssbs_count = omega (arith, leb-true (length s.lssbs) g.limits.lssbs few.1, limits.lssbs);
+      lssbs = lssbs.1;
     })
 
 job_short : (g : Generated) → AreLimits g.limits → (j : Job) → IsTrue (job_suits g j) → job_length j.value < 2 ^ 32

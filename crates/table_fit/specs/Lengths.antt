@@ -2,7 +2,7 @@
 use Rattle.std.specs.Prelude.{◌≡◌, refl, ℕ, ◌+◌, List, [], ◌∷◌, ◌++◌, map, flat_map, length, sum_by, Option, Some, None, Bool, true, false}
 use Rattle.std.proofs.Common.{arith, ap, length-append}
 use Rattle.std.proofs.lemmas.List.Sums.{sum_by-cons}
-use Rattle.std.specs.Int.{w32, w64, to_be_bytes}
+use Rattle.std.specs.Int.{w32, to_be_bytes}
 use Rattle.std.specs.List.{AllByRecursion as Each}
 use Rattle.kd_base.specs.Field.{list}
 use Rattle.kd_base.specs.Text.{padded}
@@ -21,7 +21,7 @@ use Rattle.kdcs_types.specs.Tables.{TableRows, gssb_row, tls_row, uls_row, servi
 use Rattle.monitor_semantics.specs.Bytes.{Bytes}
 use Rattle.monitor_semantics.specs.Charges.{charge_of, job_length, last_length, list_length, service_length, total_charge}
 use Rattle.record_codec.specs.Readings.{LtermFits, TargetFits}
-use Rattle.record_codec.specs.WholeValues.{JobFits, LssbFits, ServiceFits}
+use Rattle.record_codec.specs.WholeValues.{JobFits, LssbFits, ServiceFits, job_lengths, service_lengths}
 use Rattle.record_codec.specs.Values.{counted, flag, job_bytes, last_bytes, lssb_bytes, lterm_bytes, record_of, service_bytes, target_bytes, value_bytes}
 use Rattle.record_codec.specs.Records.{content_of_tables}
 use Rattle.record_codec.specs.RowReadings.{IsProperRow}
@@ -85,33 +85,14 @@ target_long (Lterm lterm) fits = omega (arith, padded_len lterm fits)
 -- ---- values
 
 pub job_parts : (v : JobValue) → length (job_bytes v) ≡ length (target_bytes v.to) + 8 + length (padded v.user) + length (padded v.lterm) + list_length v.message
-job_parts v =
-    let a = target_bytes v.to in
-    let b = to_be_bytes w64 v.due in
-    let c = padded v.user in
-    let d = padded v.lterm in
-    let e = list v.message in
-    omega (arith, list_long v.message, length-append a b, length-append (a ++ b) c, length-append (a ++ b ++ c) d, length-append (a ++ b ++ c ++ d) e)
+job_parts v = omega (arith, job_lengths v, list_long v.message)
 
 job_long : (v : JobValue) → JobFits v → job_length v ≡ length (job_bytes v)
 job_long v fits = omega (arith, job_parts v, target_long v.to fits.to, padded_len v.user fits.user, padded_len v.lterm fits.lterm)
 
 pub service_parts : (s : Service) → length (service_bytes s) ≡ length (padded s.first) + length (padded s.next) + 1 + length (padded s.user) + length (lterm_bytes s.lterm) + list_length s.kb + (4 + sum_by list_length s.handed) + last_length s.last + (4 + length (flat_map lssb_bytes s.lssbs))
 service_parts s =
-    let a = padded s.first in
-    let b = padded s.next in
-    let c = flag s.awaits in
-    let d = padded s.user in
-    let e = lterm_bytes s.lterm in
-    let f = list s.kb in
-    let g = counted list s.handed in
-    let h = last_bytes s.last in
-    let i = counted lssb_bytes s.lssbs in
-    let front : length (a ++ b ++ c ++ d ++ e) ≡ length a + length b + 1 + length d + length e =
-    omega (arith, flag_long s.awaits, length-append a b, length-append (a ++ b) c, length-append (a ++ b ++ c) d, length-append (a ++ b ++ c ++ d) e) in
-    let parts : length g ≡ 4 + sum_by list_length s.handed = omega (arith, counted_long list s.handed, lists_long s.handed) in
-    let areas : length i ≡ 4 + length (flat_map lssb_bytes s.lssbs) = counted_long lssb_bytes s.lssbs in
-    omega (arith, front, list_long s.kb, parts, last_long s.last, areas, length-append (a ++ b ++ c ++ d ++ e) f, length-append (a ++ b ++ c ++ d ++ e ++ f) g, length-append (a ++ b ++ c ++ d ++ e ++ f ++ g) h, length-append (a ++ b ++ c ++ d ++ e ++ f ++ g ++ h) i)
+    omega (arith, service_lengths s, flag_long s.awaits, list_long s.kb, counted_long list s.handed, lists_long s.handed, last_long s.last, counted_long lssb_bytes s.lssbs)
 
 service_long : (s : Service) → ServiceFits s → service_length s ≡ length (service_bytes s)
 service_long s fits =

@@ -1,5 +1,4 @@
 pub mod Lengths
-pub mod ServiceParts
 pub mod Small
 pub mod Charging
 pub mod Suiting

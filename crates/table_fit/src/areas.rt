@@ -1,6 +1,5 @@
 //! Which areas suit.
-ghost use Rattle.std.specs.Prelude.{◌≡◌};
-ghost use Rattle.std.specs.List.{list_all};
+ghost use Rattle.std.specs.{Prelude.{◌≡◌}, List.{list_all}};
 ghost use Rattle.monitor_laws.specs.Suits.{gssb_suits, tls_suits, uls_suits};
 
 use crate::names::{fits_content, is_lterm, is_user};

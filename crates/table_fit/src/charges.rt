@@ -1,6 +1,5 @@
 //! Whether the rows of tables fit into the page pool together.
-ghost use Rattle.std.specs.Prelude.{◌≡◌, ◌-◌, ◌<◌, ◌≤◌, ◌^◌, ℕ, SomeIff, length, nat_le, sum_by, All};
-ghost use Rattle.std.specs.List.{list_all};
+ghost use Rattle.std.specs.{Prelude.{◌≡◌, ◌-◌, ◌<◌, ◌≤◌, ◌^◌, ℕ, SomeIff, length, nat_le, sum_by, All}, List.{list_all}};
 ghost use Rattle.kd_records.specs.Charge.{IsBlockSize};
 ghost use Rattle.monitor_semantics.specs.Charges.{charge_of, job_length, service_length, total_charge};
 ghost use Rattle.table_fit.specs.Charging.{AreShort, RowsSuit, has_few_bytes, left_after};

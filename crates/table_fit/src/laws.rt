@@ -1,6 +1,5 @@
 //! Laws on the definitions, which all crates above may cite. The functions do nothing.
-ghost use Rattle.table_fit.specs.Short.{SuitingTablesAreShort};
-ghost use Rattle.table_fit.specs.Lengths.{ChargesAreThoseOfTheBytes, LengthsAreThoseOfTheBytes};
+ghost use Rattle.table_fit.specs.{Short.{SuitingTablesAreShort}, Lengths.{ChargesAreThoseOfTheBytes, LengthsAreThoseOfTheBytes}};
 
 /// The lengths by which the monitor charges rows are those of their values' bytes, and so tables are charged what their
 /// records are.

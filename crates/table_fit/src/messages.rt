@@ -1,10 +1,8 @@
 //! Which jobs and shown messages suit.
-ghost use Rattle.std.specs.Prelude.{◌≡◌, ◌&&◌};
-ghost use Rattle.std.specs.List.{list_all};
+ghost use Rattle.std.specs.{Prelude.{◌≡◌, ◌&&◌}, List.{list_all}};
 ghost use Rattle.kdcs_types.specs.declared.key.Target.TheVariants.{Tac};
 ghost use Rattle.monitor_laws.specs.Suits.{job_suits, shown_suits, target_name, target_suits, value_suits};
-ghost use Rattle.monitor_semantics.specs.Calls.{job_target};
-ghost use Rattle.monitor_semantics.specs.Outcomes.{goes_first};
+ghost use Rattle.monitor_semantics.specs.{Calls.{job_target}, Outcomes.{goes_first}};
 
 use crate::names::{fits_message, is_lterm, is_user};
 use kd_base::Name;

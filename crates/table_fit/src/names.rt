@@ -2,11 +2,8 @@
 ghost use Rattle.std.specs.Prelude.{◌≡◌, length, nat_le};
 ghost use Rattle.monitor_laws.specs.Suits.{fits_content, fits_message, has_kind, is_lterm, is_user};
 
-use kd_base::{Bytes, Name};
+use kd_base::{Bytes, LONGEST_CONTENT, Name};
 use kdcdef_check::Generation;
-
-/// The greatest length of an area's content.
-const LONGEST_CONTENT: usize = 32_767;
 
 /// The user is declared.
 pub(crate) fn is_user(generation: &Generation, name: Name) -> bool

@@ -1,11 +1,9 @@
 //! Which services suit.
-ghost use Rattle.std.specs.Prelude.{◌≡◌, ◌&&◌, length, nat_le, sum_by, Bool};
-ghost use Rattle.std.specs.List.{list_all};
-ghost use Rattle.monitor_semantics.specs.Bytes.{Bytes as Content};
-ghost use Rattle.monitor_semantics.specs.Endings.{is_asynchronous, is_durable};
+ghost use Rattle.std.specs.{Prelude.{◌≡◌, length, nat_le, sum_by}, List.{list_all}};
+ghost use Rattle.monitor_semantics.specs.{Bytes.{Bytes as Content}, Endings.{is_asynchronous, is_durable}};
 ghost use Rattle.monitor_laws.specs.Suits.{awaits_rightly, fits_content, last_fits, lterm_suits, owner_suits, service_suits};
 ghost use Rattle.kdcs_types.specs.declared.service.Service.{Service as Row};
-ghost use Rattle.table_fit.specs.ServiceParts.{areas_suit, handed_suits, message_suits, tacs_suit};
+ghost use Rattle.table_fit.specs.Charging.{names_suit};
 
 use crate::names::{fits_content, fits_message, has_kind, is_lterm, is_user};
 use kd_base::{Bytes, Name};
@@ -44,31 +42,10 @@ fn is_asynchronous(id: &ServiceId) -> bool
     matches!(id, ServiceId::Asynchronous(_))
 }
 
-// First and next TAC have the service's kind.
-fn tacs_suit(generation: &Generation, service: &Service) -> bool
-    ensures { result ≡ tacs_suit generation.now service.now }
-{
-    let asynchronous = is_asynchronous(&service.id);
-    has_kind(generation, service.first, asynchronous)
-        && has_kind(generation, service.next, asynchronous)
-}
-
 fn lssbs_fit(lssbs: &[(Name, Bytes)]) -> bool
     ensures { result ≡ list_all (λ (l : Content × Content). fits_content l.1) lssbs.now }
 {
     lssbs.iter().all(|lssb| fits_content(&lssb.1))
-}
-
-// KB has MAX KB bytes, and there are at most LSSBS LSSBs, in order and none too long.
-fn areas_suit(generation: &Generation, service: &Service) -> bool
-    ensures { result ≡ areas_suit generation.now service.now }
-{
-    let limits = generation.max();
-    let lssbs = service.lssbs.as_slice();
-    service.kb.len() as u64 == u64::from(limits.kb)
-        && lssbs.len() as u64 <= u64::from(limits.lssbs)
-        && ascend(lssbs)
-        && lssbs_fit(lssbs)
 }
 
 // An awaiting service has a last message and no handed part.
@@ -101,32 +78,35 @@ fn parts_fit(parts: &[Bytes], nb: u32) -> bool
     true
 }
 
-// At most 16 handed parts, which have at most NB bytes together.
-fn handed_suits(generation: &Generation, parts: &[Bytes]) -> bool
-    ensures { result ≡ handed_suits generation.now parts.now }
+// User and LTERM are declared, it is of its owner, and first and next TAC have its kind.
+fn names_suit(generation: &Generation, service: &Service) -> bool
+    ensures { result ≡ names_suit generation.now service.now }
 {
-    parts.len() <= MOST_PARTS && parts_fit(parts, generation.max().nb)
-}
-
-// What a service awaits, has sent and hands on.
-fn message_suits(generation: &Generation, service: &Service) -> bool
-    ensures { result ≡ message_suits generation.now service.now }
-{
-    awaits_rightly(service)
-        && last_fits(generation, &service.last)
-        && handed_suits(generation, service.handed.as_slice())
-}
-
-// Every condition on a service's row but RESTART=YES.
-fn service_suits(generation: &Generation, service: &Service) -> bool
-    ensures { result ≡ service_suits generation.now service.now }
-{
+    let asynchronous = is_asynchronous(&service.id);
     is_user(generation, service.user)
         && lterm_suits(generation, &service.lterm)
         && owner_suits(service)
-        && tacs_suit(generation, service)
-        && areas_suit(generation, service)
-        && message_suits(generation, service)
+        && has_kind(generation, service.first, asynchronous)
+        && has_kind(generation, service.next, asynchronous)
+}
+
+// Every condition on a service's row but RESTART=YES: KB has MAX KB bytes, there are at most LSSBS LSSBs in order, and at
+// most 16 handed parts, which have at most NB bytes together.
+fn service_suits(generation: &Generation, service: &Service) -> bool
+    ensures { result ≡ service_suits generation.now service.now }
+{
+    let limits = generation.max();
+    let lssbs = service.lssbs.as_slice();
+    let handed = service.handed.as_slice();
+    names_suit(generation, service)
+        && service.kb.len() as u64 == u64::from(limits.kb)
+        && lssbs.len() as u64 <= u64::from(limits.lssbs)
+        && ascend(lssbs)
+        && lssbs_fit(lssbs)
+        && awaits_rightly(service)
+        && last_fits(generation, &service.last)
+        && handed.len() <= MOST_PARTS
+        && parts_fit(handed, limits.nb)
 }
 
 /// Each service's row suits, whether it outlives a stop or not.

@@ -1,27 +1,16 @@
 //! Which tables suit a generation.
-ghost use Rattle.std.specs.Prelude.{◌≡◌, ◌↔◌, ◌&&◌, not, IsTrue, is_some, length, nat_le, nat_lt};
-ghost use Rattle.std.specs.List.{list_all};
-ghost use Rattle.kdcs_types.specs.declared.service.Job.{Job as JobRow};
-ghost use Rattle.kdcs_types.specs.declared.service.Service.{Service as ServiceRow};
-ghost use Rattle.kdcs_types.specs.declared.key.ServiceId.TheVariants.{Asynchronous};
-ghost use Rattle.kdcs_types.specs.Limits.{IsInRange};
-ghost use Rattle.kdcs_types.specs.Tables.{service_of};
+ghost use Rattle.std.specs.{Prelude.{◌≡◌, ◌↔◌, ◌&&◌, not, IsTrue, is_some, length, nat_le, nat_lt}, List.{list_all}};
+ghost use Rattle.kdcs_types.specs.{declared.service.Job.{Job as JobRow}, declared.service.Service.{Service as ServiceRow}, declared.key.ServiceId.TheVariants.{Asynchronous}, Limits.{IsInRange}, Tables.{service_of}};
 ghost use Rattle.monitor_laws.specs.Suits.{SuitsFrom, number_is_below};
-ghost use Rattle.table_fit.specs.Charging.{RowsSuit};
-ghost use Rattle.table_fit.specs.Suiting.{AreNumbersApart};
+ghost use Rattle.table_fit.specs.{Charging.{RowsSuit}, Suiting.{AreNumbersApart}};
 
 use crate::areas::{gssbs_suit, tlss_suit, ulss_suit};
 use crate::charges::charges_suit;
 use crate::messages::{all_shown_suit, jobs_suit};
 use crate::services::{services_are_durable, services_suit};
+use kd_base::{LAST_CLOCK, LAST_NEXT_JOB};
 use kdcdef_check::Generation;
 use kdcs_types::{Job, Service, ServiceId, Tables};
-
-/// The greatest clock, in ticks.
-const LAST_CLOCK: u64 = 999_999_999_999;
-
-/// The greatest next job number.
-const LAST_NEXT_JOB: u64 = 1_000_000_000_000;
 
 // The clock and the next job number are in range.
 fn numbers_suit(tables: &Tables) -> bool

@@ -1,8 +1,7 @@
 //! Moments of DPUT, and the clock at which a job is due. Neither call takes memory.
 ghost use Rattle.std.specs.Prelude.{◌≡◌, ◌≤◌, IfSome};
-ghost use Rattle.kdcs_types.specs.Limits.{last_clock};
-ghost use Rattle.monitor_semantics.specs.Calls.{moment_of};
-ghost use Rattle.monitor_semantics.specs.Endings.{due_at};
+ghost use Rattle.kd_base.specs.Limits.{last_clock};
+ghost use Rattle.monitor_semantics.specs.{Calls.{moment_of}, Endings.{due_at}};
 ghost use Rattle.timer_queue.specs.Ticks.{last_ticks, ticks_of};
 
 use kd_base::Mode;

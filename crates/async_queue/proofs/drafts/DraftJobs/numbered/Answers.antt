@@ -8,15 +8,15 @@ use Rattle.async_queue.proofs.drafts.DraftJobs.numbered.Goals as goal
 pub numbered_job-requires-clause-due : goal.numbered_job-requires-clause-due
 numbered_job-requires-clause-due c =
     subst (λ (d : Draft). IsInTicks d.due) (sym c.draft-item.is)
-    (in_ticks_at _ c.loop-draft.draft-index c.draft-item.result (subst AreInTicks (sym c.deref-draft-items.ensures.value) c.self.invariant) (omega arith))
+    (in_ticks_at _ c.loop-draft.draft-index c.draft-item.result (subst AreInTicks (sym c.as_slice-draft-items.ensures) c.self.invariant) (omega arith))
 
 pub loop-draft-preserved : goal.loop-draft-preserved
 loop-draft-preserved c = record {
   number = omega (arith, c.loop-draft.invariant.number);
-  made = numbered_more c.loop-draft.number _ _ _ c.deref-draft-items.result.now c.loop-draft.draft-index c.draft-item.result _ _ _ _ (omega arith) c.draft-item.is c.in_ok-numbered_job.ensures c.in_ok-push.ensures.items c.loop-draft.invariant.made;
+  made = numbered_more c.loop-draft.number _ _ _ c.as_slice-draft-items.result.now c.loop-draft.draft-index c.draft-item.result _ _ _ _ (omega arith) c.draft-item.is c.in_ok-numbered_job.ensures c.in_ok-push.ensures.items c.loop-draft.invariant.made;
 }
 
 pub returns : goal.returns
 returns c =
-    numbered_all c.loop-draft.number _ _ _ c.deref-draft-items.result.now c.loop-draft.draft-index _ _ (omega arith) c.loop-draft.invariant.made
-    ∙ ap (numbered c.args.next c.args.clock c.args.user c.args.lterm) (c.deref-draft-items.ensures.value ∙ c.self.view_is)
+    numbered_all c.loop-draft.number _ _ _ c.as_slice-draft-items.result.now c.loop-draft.draft-index _ _ (omega arith) c.loop-draft.invariant.made
+    ∙ ap (numbered c.args.next c.args.clock c.args.user c.args.lterm) (c.as_slice-draft-items.ensures ∙ c.self.view_is)
