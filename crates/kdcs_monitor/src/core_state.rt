@@ -5,21 +5,13 @@ ghost use Rattle.kdcdef_types.specs.Statements.{IsWithin};
 ghost use Rattle.kdcs_types.specs.Tables.{IsSortedTables};
 ghost use Rattle.unit_check.specs.Fitted.{IsFit};
 ghost use Rattle.application_facts.specs.Applied.{applied};
-ghost use Rattle.monitor_laws.specs.Applications.{IsApplication};
-ghost use Rattle.monitor_semantics.specs.CommandsOf.{IsCommandOf};
-ghost use Rattle.monitor_laws.specs.Keeping.{HasFacts};
-ghost use Rattle.monitor_laws.specs.Replay.{SettlesAs};
-ghost use Rattle.monitor_laws.specs.Suits.{Suits};
+ghost use Rattle.monitor_laws.specs.{Applications.{IsApplication}, Keeping.{HasFacts}, Replay.{SettlesAs}, Suits.{Suits}};
+ghost use Rattle.monitor_semantics.specs.{CommandsOf.{IsCommandOf}, Commands.{command_of, started, turned_step, use_now}, Endings.{durable}, Turns.{turn_of}};
 ghost use Rattle.monitor_queues.specs.QueueLaws.{KeepsQueues};
-ghost use Rattle.monitor_semantics.specs.Commands.{command_of, started, turned_step, use_now};
-ghost use Rattle.monitor_semantics.specs.Endings.{durable};
-ghost use Rattle.monitor_semantics.specs.Turns.{turn_of};
-ghost use Rattle.monitor_serial.specs.Replays.{AllReplay};
-ghost use Rattle.monitor_serial.specs.SerialLaws.{IsSerialStep};
+ghost use Rattle.monitor_serial.specs.{Replays.{AllReplay}, SerialLaws.{IsSerialStep}};
 ghost use Rattle.service_ends.specs.Ending.{turned_to};
 ghost use Rattle.monitor_commands.specs.Commanding.{Comes, IsSingle};
-ghost use Rattle.kdcs_monitor.specs.CoreValue.{OneStep};
-ghost use Rattle.kdcs_monitor.specs.Steps.{came_to};
+ghost use Rattle.kdcs_monitor.specs.{CoreValue.{OneStep}, Steps.{came_to}};
 
 use application_facts::fitted_units_make_an_application;
 use kd_base::{Name, OutOfMemory};
@@ -44,8 +36,7 @@ pub struct Core {
 }
 
 impl Model for Core {
-    ghost use Rattle.kdcs_monitor.specs.CoreValue.{CoreValue, core_value};
-    ghost use Rattle.kdcs_monitor.specs.Sound.{IsSound};
+    ghost use Rattle.kdcs_monitor.specs.{CoreValue.{CoreValue, core_value}, Sound.{IsSound}};
 
     ghost Value = { CoreValue };
 

@@ -1,7 +1,6 @@
 //! The lines of a report.
 ghost use Rattle.std.specs.Prelude.{◌≡◌, ◌++◌, ◌∷◌, [], codes, IfOk, OnOk};
-ghost use Rattle.monitor_semantics.specs.Lines.{line};
-ghost use Rattle.monitor_semantics.specs.Made.{number_line, total_line};
+ghost use Rattle.monitor_semantics.specs.{Lines.{line}, Made.{number_line, total_line}};
 ghost use Rattle.made_run.specs.Report.{lines_in, digest_line, report_with};
 
 use crate::digest::digest_of;

@@ -1,16 +1,13 @@
 //! The run of the commands over a device of its own, and its report.
 ghost use Rattle.std.specs.Prelude.{◌≡◌, ◌≤◌, ◌+◌, ◌^◌, [], IfOk, sum_by};
 ghost use Rattle.kd_device.specs.Sure.{sure_state, sure_leaves};
-ghost use Rattle.kdcfile_store.specs.Kept.{IsKept};
-ghost use Rattle.kdcfile_store.specs.Whole.{HasFile};
+ghost use Rattle.kdcfile_store.specs.{Kept.{IsKept}, Whole.{HasFile}};
 ghost use Rattle.kdcs_types.specs.Tables.{empty_tables};
 ghost use Rattle.unit_check.specs.Fitted.{IsFit};
 ghost use Rattle.application_facts.specs.Applied.{applied};
-ghost use Rattle.monitor_laws.specs.Keeping.{IsScriptOf};
-ghost use Rattle.monitor_laws.specs.Suits.{Suits};
-ghost use Rattle.monitor_semantics.specs.Commands.{acts_of};
-ghost use Rattle.monitor_semantics.specs.Trace.{history};
-ghost use Rattle.monitor_run.specs.declared.error.RunError.TheVariants as errors;
+ghost use Rattle.monitor_laws.specs.{Keeping.{IsScriptOf}, Suits.{Suits}};
+ghost use Rattle.monitor_semantics.specs.{Commands.{acts_of}, Trace.{history}};
+ghost use Rattle.warm_start.specs.declared.error.OpenError.TheVariants as errors;
 ghost use Rattle.monitor_run.specs.Running.{turns_of, durable_of, IsRunning};
 ghost use Rattle.warm_start.specs.Stands.{KeepsTables, identity_for};
 ghost use Rattle.made_run.specs.Report.{report_by, report_of};
@@ -23,19 +20,19 @@ use kdcdef_check::Generation;
 use kdcfile_store::WholeStore;
 use kdcs_monitor::Core;
 use kdcs_types::Tables;
-use monitor_run::{RunError, run_script};
+use monitor_run::run_script;
 use monitor_semantics::Command;
 use std::alloc::Global;
 use unit_check::Units;
-use warm_start::open_tables;
+use warm_start::{OpenError, open_tables};
 
 // The one error over a device of its own, which tells its content and never fails.
-fn want_of_memory(error: RunError) -> OutOfMemory
+fn want_of_memory(error: OpenError) -> OutOfMemory
     requires { error ≡ errors.Memory }
 {
     match error {
-        RunError::Memory => OutOfMemory,
-        RunError::Failed | RunError::NotKdcfile | RunError::OtherGeneration(_) => unreachable!(),
+        OpenError::Memory => OutOfMemory,
+        OpenError::Failed | OpenError::NotKdcfile | OpenError::OtherGeneration(_) => unreachable!(),
     }
 }
 
@@ -54,7 +51,7 @@ fn opened(
     let mut device = SureDevice::new(alloc, Bytes::new(alloc))?;
     match open_tables(alloc, &mut device, generation, fingerprint) {
         Ok((store, tables)) => Ok((device, store, tables)),
-        Err(error) => Err(want_of_memory(RunError::from(error))),
+        Err(error) => Err(want_of_memory(OpenError::from(error))),
     }
 }
 

@@ -5,7 +5,7 @@ use Rattle.std.proofs.lemmas.Bool.{le-leb}
 use Rattle.kdcs_types.specs.declared.act.Act.{Act}
 use Rattle.kdcs_types.specs.declared.act.Act.TheVariants.{Commit, Emit}
 use Rattle.kdcs_types.specs.declared.act.Changes.{Changes}
-use Rattle.kdcs_types.specs.Limits.{last_clock}
+use Rattle.kd_base.specs.Limits.{last_clock}
 use Rattle.kdcs_types.specs.Tables.{TableRows, changed}
 use Rattle.monitor_semantics.specs.Bytes.{Bytes}
 use Rattle.monitor_semantics.specs.Commands.{tick_by, ticked}

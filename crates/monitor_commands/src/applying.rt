@@ -1,11 +1,8 @@
 //! One command.
 ghost use Rattle.std.specs.Prelude.{◌≡◌, ◌+◌, ◌<◌, ◌^◌, IfOk, IsTrue, OnOk};
-ghost use Rattle.monitor_semantics.specs.CommandsOf.{is_pterm, IsCommandOf};
-ghost use Rattle.monitor_semantics.specs.Commands.{command_of};
-ghost use Rattle.monitor_state.specs.Whole.{app_of, IsWhole};
-ghost use Rattle.monitor_state.specs.Standing.{IsIndexed, SameApplication, state_of};
-ghost use Rattle.monitor_commands.specs.Commanding.{printed, Comes, IsSingle};
-ghost use Rattle.monitor_commands.specs.Counted.{IsAhead};
+ghost use Rattle.monitor_semantics.specs.{CommandsOf.{is_pterm, IsCommandOf}, Commands.{command_of}};
+ghost use Rattle.monitor_state.specs.{Whole.{app_of, IsWhole}, Standing.{IsIndexed, SameApplication, state_of}};
+ghost use Rattle.monitor_commands.specs.{Commanding.{printed, Comes, IsSingle}, Counted.{IsAhead}};
 
 use crate::clock::tick;
 use crate::input::{input, lterm_of};

@@ -1,20 +1,16 @@
 //! TICK.
 ghost use Rattle.std.specs.Prelude.{◌≡◌, ◌≤◌, ◌+◌, IfOk, OnOk, SomeIff};
-ghost use Rattle.kdcs_types.specs.Limits.{last_clock};
+ghost use Rattle.kd_base.specs.Limits.{last_clock};
 ghost use Rattle.monitor_semantics.specs.Commands.{ticked};
-ghost use Rattle.monitor_state.specs.Whole.{app_of};
-ghost use Rattle.monitor_state.specs.Standing.{IsIndexed, SameApplication, state_of};
+ghost use Rattle.monitor_state.specs.{Whole.{app_of}, Standing.{IsIndexed, SameApplication, state_of}};
 ghost use Rattle.monitor_commands.specs.Commanding.{Comes};
 
 use crate::message::{line_alone, line_behind};
-use kd_base::OutOfMemory;
+use kd_base::{LAST_CLOCK, OutOfMemory};
 use kdcs_types::{Acts, Changes, RowChanges};
 use monitor_lines::{tick_line, tick_refused_line};
 use monitor_state::MonitorParts;
 use std::alloc::Global;
-
-// The greatest clock, in ticks.
-const LAST_CLOCK: u64 = 999_999_999_999;
 
 // The clock that many ticks later, where there is one.
 fn later(clock: u64, ticks: u64) -> Option<u64>

@@ -1,18 +1,9 @@
 //! Terminal inputs: what they mean, and what is done.
-ghost use Rattle.std.specs.Prelude.{◌≡◌, ◌<◌, ◌^◌, ◌++◌, [], IfOk, IsSome, IsTrue, OnOk, codes};
-ghost use Rattle.std.specs.FinMap.{find};
+ghost use Rattle.std.specs.{Prelude.{◌≡◌, ◌<◌, ◌^◌, ◌++◌, [], IfOk, IsSome, IsTrue, OnOk, codes}, FinMap.{find}};
 ghost use Rattle.kdcdef_types.specs.Generation.{pterm_of};
-ghost use Rattle.monitor_semantics.specs.CommandsOf.{is_pterm};
-ghost use Rattle.monitor_semantics.specs.declared.command.Command.TheVariants.{Input};
-ghost use Rattle.monitor_semantics.specs.declared.input_use.ServiceState.TheVariants.{Awaits, NoService};
-ghost use Rattle.monitor_semantics.specs.Bytes.{bytes_cmp};
-ghost use Rattle.monitor_semantics.specs.Commands.{command_of, lterm_at, lterm_by, next_input, says, signed_off, start_service, uncommitted, use_now, used, user_at};
-ghost use Rattle.monitor_semantics.specs.Lines.{sys_line};
-ghost use Rattle.monitor_semantics.specs.Sessions.{is_awaiting, service_state};
-ghost use Rattle.monitor_state.specs.Whole.{app_of, IsWhole};
-ghost use Rattle.monitor_state.specs.Standing.{IsIndexed, SameApplication, state_of};
-ghost use Rattle.monitor_commands.specs.Commanding.{Comes, HasService, IsFor};
-ghost use Rattle.monitor_commands.specs.Counted.{IsAhead};
+ghost use Rattle.monitor_semantics.specs.{CommandsOf.{is_pterm}, declared.command.Command.TheVariants.{Input}, declared.input_use.ServiceState.TheVariants.{Awaits, NoService}, Bytes.{bytes_cmp}, Commands.{command_of, lterm_at, lterm_by, next_input, says, signed_off, start_service, uncommitted, use_now, used, user_at}, Lines.{sys_line}, Sessions.{is_awaiting, service_state}};
+ghost use Rattle.monitor_state.specs.{Whole.{app_of, IsWhole}, Standing.{IsIndexed, SameApplication, state_of}};
+ghost use Rattle.monitor_commands.specs.{Commanding.{Comes, HasService, IsFor}, Counted.{IsAhead}};
 
 use crate::message::{line_alone, say};
 use crate::showing::{Shown, display, show_again, show_next};

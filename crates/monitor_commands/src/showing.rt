@@ -1,14 +1,8 @@
 //! The messages of jobs for LTERMs: KDCOUT and KDCLAST at a terminal, PRINT at a printer; and KDCDISP.
-ghost use Rattle.std.specs.Prelude.{◌≡◌, ◌++◌, Some, IfOk, OnOk};
-ghost use Rattle.std.specs.Option.{option_eq};
-ghost use Rattle.std.specs.FinMap.{find};
-ghost use Rattle.kdcs_types.specs.Same.{job_value_eq};
-ghost use Rattle.kdcs_types.specs.Tables.{shown_of};
-ghost use Rattle.monitor_semantics.specs.Bytes.{bytes_cmp};
-ghost use Rattle.monitor_semantics.specs.Commands.{display, last_by, show_again, show_next};
-ghost use Rattle.monitor_semantics.specs.Lines.{no_message_line};
-ghost use Rattle.monitor_state.specs.Whole.{app_of};
-ghost use Rattle.monitor_state.specs.Standing.{IsIndexed, SameApplication, state_of};
+ghost use Rattle.std.specs.{Prelude.{◌≡◌, ◌++◌, Some, IfOk, OnOk}, Option.{option_eq}, FinMap.{find}};
+ghost use Rattle.kdcs_types.specs.{Same.{job_value_eq}, Tables.{shown_of}};
+ghost use Rattle.monitor_semantics.specs.{Bytes.{bytes_cmp}, Commands.{display, last_by, show_again, show_next}, Lines.{no_message_line}};
+ghost use Rattle.monitor_state.specs.{Whole.{app_of}, Standing.{IsIndexed, SameApplication, state_of}};
 ghost use Rattle.commit_laws.specs.CommitLaws.{shown_changes, shown_set};
 ghost use Rattle.monitor_commands.specs.Commanding.{shown_line, Comes};
 

@@ -1,17 +1,10 @@
 //! Signing on and off.
-ghost use Rattle.std.specs.Prelude.{◌≡◌, ◌∷◌, ◌++◌, Some, IfOk, OnOk, codes};
-ghost use Rattle.std.specs.FinMap.{find};
-ghost use Rattle.kdcs_types.specs.declared.act.Act.TheVariants.{Emit};
-ghost use Rattle.kdcs_types.specs.declared.key.ServiceId.TheVariants.{Dialogue};
-ghost use Rattle.kdcs_types.specs.Tables.{service_of};
-ghost use Rattle.monitor_semantics.specs.Bytes.{bytes_cmp};
-ghost use Rattle.monitor_semantics.specs.Commands.{drop_by, lterm_at, out_again, resumed_by, signed_off, signed_on, with_session};
-ghost use Rattle.monitor_semantics.specs.Endings.{restarts};
-ghost use Rattle.monitor_semantics.specs.Lines.{sys_line};
+ghost use Rattle.std.specs.{Prelude.{◌≡◌, ◌∷◌, ◌++◌, Some, IfOk, OnOk, codes}, FinMap.{find}};
+ghost use Rattle.kdcs_types.specs.{declared.act.Act.TheVariants.{Emit}, declared.key.ServiceId.TheVariants.{Dialogue}, Tables.{service_of}};
+ghost use Rattle.monitor_semantics.specs.{Bytes.{bytes_cmp}, Commands.{drop_by, lterm_at, out_again, resumed_by, signed_off, signed_on, with_session}, Endings.{restarts}, Lines.{sys_line}};
 ghost use Rattle.open_transaction.specs.Work.{HasOrder};
 ghost use Rattle.session_table.specs.Signed.{CanSignOn};
-ghost use Rattle.monitor_state.specs.Whole.{app_of, IsWhole};
-ghost use Rattle.monitor_state.specs.Standing.{IsIndexed, SameApplication, state_of};
+ghost use Rattle.monitor_state.specs.{Whole.{app_of, IsWhole}, Standing.{IsIndexed, SameApplication, state_of}};
 ghost use Rattle.monitor_commands.specs.Commanding.{Comes, Rests};
 
 use crate::message::{line_alone, say};

@@ -1,19 +1,10 @@
 //! Inputs that services read.
-ghost use Rattle.std.specs.Prelude.{◌≡◌, ◌∷◌, [], ◌<◌, ◌^◌, false, Some, OnOk};
-ghost use Rattle.std.specs.FinMap.{find};
-ghost use Rattle.kdcs_types.specs.declared.key.ServiceId.TheVariants.{Dialogue};
-ghost use Rattle.kdcs_types.specs.Keys.{id_cmp};
-ghost use Rattle.monitor_semantics.specs.declared.input_use.ServiceState.TheVariants.{Awaits};
-ghost use Rattle.monitor_semantics.specs.Commands.{held_tac, next_input, start_service};
-ghost use Rattle.monitor_semantics.specs.Endings.{followed_by_input, opened};
-ghost use Rattle.monitor_semantics.specs.Sessions.{is_running, service_state};
-ghost use Rattle.monitor_semantics.specs.State.{OpenTransaction as Work};
-ghost use Rattle.monitor_semantics.specs.Turns.{queued};
+ghost use Rattle.std.specs.{Prelude.{◌≡◌, ◌∷◌, [], ◌<◌, ◌^◌, false, Some, OnOk}, FinMap.{find}};
+ghost use Rattle.kdcs_types.specs.{declared.key.ServiceId.TheVariants.{Dialogue}, Keys.{id_cmp}};
+ghost use Rattle.monitor_semantics.specs.{declared.input_use.ServiceState.TheVariants.{Awaits}, Commands.{held_tac, next_input, start_service}, Endings.{followed_by_input, opened}, Sessions.{is_running, service_state}, State.{OpenTransaction as Work}, Turns.{queued}};
 ghost use Rattle.open_transaction.specs.Work.{HasOrder};
-ghost use Rattle.monitor_state.specs.Whole.{app_of, IsWhole};
-ghost use Rattle.monitor_state.specs.Standing.{IsIndexed, SameApplication, state_of};
-ghost use Rattle.monitor_commands.specs.Commanding.{Rests};
-ghost use Rattle.monitor_commands.specs.Counted.{IsAhead};
+ghost use Rattle.monitor_state.specs.{Whole.{app_of, IsWhole}, Standing.{IsIndexed, SameApplication, state_of}};
+ghost use Rattle.monitor_commands.specs.{Commanding.{Rests}, Counted.{IsAhead}};
 
 use crate::signing::row_of;
 use kd_base::{Bytes, Name, OutOfMemory};

@@ -1,4 +1,3 @@
 pub mod Running
 pub mod Durable
-pub mod Causes
 pub mod HandedOn

@@ -8,9 +8,7 @@
 #![tactic(auto)]
 
 mod commits;
-mod error;
 mod script;
 mod steps;
 
-pub use error::RunError;
 pub use script::run_script;

@@ -1,22 +1,15 @@
 //! The steps of a script: turns, and commands, each with its acts.
 ghost use Rattle.std.specs.Prelude.{◌≡◌, ◌⊎◌, ◌∷◌, ◌≤◌, ◌<◌, ◌+◌, ◌^◌, ◌==◌, if◌then◌else◌, [], false, ℕ, List, IsTrue, IfOk, OnOk, IsErrOf};
-ghost use Rattle.kd_device.specs.Device.{Rose, Frame, SameNames};
-ghost use Rattle.kd_device.specs.Rest.{Rests};
-ghost use Rattle.kdcfile_store.specs.Kept.{IsKept};
-ghost use Rattle.kdcfile_store.specs.Whole.{HasFile};
+ghost use Rattle.kd_device.specs.{Device.{Rose, Frame, SameNames}, Rest.{Rests}};
+ghost use Rattle.kdcfile_store.specs.{Kept.{IsKept}, Whole.{HasFile}};
 ghost use Rattle.kdcdef_types.specs.Statements.{IsWithin};
-ghost use Rattle.monitor_semantics.specs.CommandsOf.{IsCommandOf};
+ghost use Rattle.monitor_semantics.specs.{CommandsOf.{IsCommandOf}, Commands.{acts_of, command_of, in_a_row, rotated, steps_of, turned_step}, Turns.{turn_of}, declared.command.Command.TheVariants.{Restart}};
 ghost use Rattle.monitor_laws.specs.Suits.{Suits};
-ghost use Rattle.monitor_semantics.specs.Commands.{acts_of, command_of, in_a_row, rotated, steps_of, turned_step};
-ghost use Rattle.monitor_semantics.specs.Turns.{turn_of};
 ghost use Rattle.monitor_commands.specs.Commanding.{IsSingle};
-ghost use Rattle.warm_start.specs.Opening.{StartsFrom, IsRefused, IsOfOtherTexts};
-ghost use Rattle.warm_start.specs.Stands.{KeepsTables, identity_for};
+ghost use Rattle.warm_start.specs.{Opening.{StartsFrom, IsRefused, IsOfOtherTexts}, Stands.{KeepsTables, identity_for}};
 ghost use Rattle.monitor_run.specs.Running.{commits_in, turns_of, DidSteps, IsAgain, IsRunning, PerformsSteps};
-ghost use Rattle.monitor_semantics.specs.declared.command.Command.TheVariants.{Restart};
 
 use crate::commits::count_commits;
-use crate::error::RunError;
 use kd_device::Device;
 use kdcdef_check::Generation;
 use kdcfile_store::WholeStore;
@@ -37,7 +30,7 @@ fn do_turn<D: Device>(
     core: Core,
     task: u16,
     commits: &mut u64,
-) -> Result<(Core, bool), RunError>
+) -> Result<(Core, bool), OpenError>
     requires running { IsRunning store.old.identity.fingerprint core store.old }
     requires task { IsWithin 1 core.application.generation.limits.tasks task }
     requires steps { core.steps < 10 ^ 18 }
@@ -49,9 +42,9 @@ fn do_turn<D: Device>(
     ensures state { IfOk result (λ next. next.0.state ≡ (turn_of core.application core.state task).after) }
     ensures steps { IfOk result (λ next. next.0.steps ≡ core.steps + 1) }
     ensures counted { OnOk result (commits.new ≡ commits.old + commits_in (turn_of core.application core.state task).acts) }
-    ensures failed { IsErrOf result RunError.Failed → Rose (D.state device.old).disk_faults (D.state device.new).disk_faults ⊎ Rose (D.state device.old).line_faults (D.state device.new).line_faults }
-    ensures refused { IsErrOf result RunError.NotKdcfile → ⊥ }
-    ensures other { (stored : List ℕ) → IsErrOf result (RunError.OtherGeneration stored) → ⊥ }
+    ensures failed { IsErrOf result OpenError.Failed → Rose (D.state device.old).disk_faults (D.state device.new).disk_faults ⊎ Rose (D.state device.old).line_faults (D.state device.new).line_faults }
+    ensures refused { IsErrOf result OpenError.NotKdcfile → ⊥ }
+    ensures other { (stored : List ℕ) → IsErrOf result (OpenError.OtherGeneration stored) → ⊥ }
 {
     steps_commit_once();
     steps_can_be_stored();
@@ -87,7 +80,7 @@ fn run_turns<D: Device>(
     mut core: Core,
     turns: u64,
     commits: &mut u64,
-) -> Result<Core, RunError>
+) -> Result<Core, OpenError>
     requires running { IsRunning store.old.identity.fingerprint core store.old }
     requires steps { core.steps + turns ≤ 10 ^ 18 }
     requires room { commits.old + commits_in (acts_of (rotated core.application turns false core.state 1 0)) ≤ 10 ^ 18 }
@@ -96,9 +89,9 @@ fn run_turns<D: Device>(
     ensures done { IfOk result (λ next. DidSteps store.old.identity.fingerprint core (rotated core.application turns false core.state 1 0) next store.new (D.state device.old) (D.state device.new) (D.leaves device.new)) }
     ensures steps { IfOk result (λ next. next.steps ≤ core.steps + turns) }
     ensures counted { OnOk result (commits.new ≡ commits.old + commits_in (acts_of (rotated core.application turns false core.state 1 0))) }
-    ensures failed { IsErrOf result RunError.Failed → Rose (D.state device.old).disk_faults (D.state device.new).disk_faults ⊎ Rose (D.state device.old).line_faults (D.state device.new).line_faults }
-    ensures refused { IsErrOf result RunError.NotKdcfile → ⊥ }
-    ensures other { (stored : List ℕ) → IsErrOf result (RunError.OtherGeneration stored) → ⊥ }
+    ensures failed { IsErrOf result OpenError.Failed → Rose (D.state device.old).disk_faults (D.state device.new).disk_faults ⊎ Rose (D.state device.old).line_faults (D.state device.new).line_faults }
+    ensures refused { IsErrOf result OpenError.NotKdcfile → ⊥ }
+    ensures other { (stored : List ℕ) → IsErrOf result (OpenError.OtherGeneration stored) → ⊥ }
 {
     let tasks = core.tasks();
     let mut task = 1;
@@ -123,7 +116,7 @@ fn do_single<D: Device>(
     core: Core,
     command: &Command,
     commits: &mut u64,
-) -> Result<Core, RunError>
+) -> Result<Core, OpenError>
     requires running { IsRunning store.old.identity.fingerprint core store.old }
     requires single { IsSingle command.now }
     requires names { IsCommandOf core.application.generation command.now }
@@ -134,9 +127,9 @@ fn do_single<D: Device>(
     ensures done { IfOk result (λ next. DidSteps store.old.identity.fingerprint core (command_of core.application core.state command.now ∷ []) next store.new (D.state device.old) (D.state device.new) (D.leaves device.new)) }
     ensures steps { IfOk result (λ next. next.steps ≡ core.steps + 1) }
     ensures counted { OnOk result (commits.new ≡ commits.old + commits_in (command_of core.application core.state command.now).acts) }
-    ensures failed { IsErrOf result RunError.Failed → Rose (D.state device.old).disk_faults (D.state device.new).disk_faults ⊎ Rose (D.state device.old).line_faults (D.state device.new).line_faults }
-    ensures refused { IsErrOf result RunError.NotKdcfile → ⊥ }
-    ensures other { (stored : List ℕ) → IsErrOf result (RunError.OtherGeneration stored) → ⊥ }
+    ensures failed { IsErrOf result OpenError.Failed → Rose (D.state device.old).disk_faults (D.state device.new).disk_faults ⊎ Rose (D.state device.old).line_faults (D.state device.new).line_faults }
+    ensures refused { IsErrOf result OpenError.NotKdcfile → ⊥ }
+    ensures other { (stored : List ℕ) → IsErrOf result (OpenError.OtherGeneration stored) → ⊥ }
 {
     steps_commit_once();
     steps_can_be_stored();
@@ -179,14 +172,14 @@ fn start_again<D: Device>(
     store: &mut WholeStore,
     core: Core,
     fingerprint: &[u8; 32],
-) -> Result<Core, RunError>
+) -> Result<Core, OpenError>
     requires running { IsRunning fingerprint.now core store.old }
     requires kept { IsTrue (D.state device.old).told → IsKept (HasFile store.old) (D.state device.old) (D.leaves device.old) }
     ensures again { IfOk result (λ next. IsAgain fingerprint.now core next store.new (D.state device.old) (D.state device.new) (D.leaves device.new)) }
     ensures rests { IsTrue (D.state device.old).told → Rests (D.state device.old) (D.state device.new) (D.leaves device.old) (D.leaves device.new) }
-    ensures failed { IsErrOf result RunError.Failed → Rose (D.state device.old).disk_faults (D.state device.new).disk_faults }
-    ensures refused { IsErrOf result RunError.NotKdcfile → IsTrue (D.state device.old).told → ⊥ }
-    ensures other { (stored : List ℕ) → IsErrOf result (RunError.OtherGeneration stored) → IsTrue (D.state device.old).told → ⊥ }
+    ensures failed { IsErrOf result OpenError.Failed → Rose (D.state device.old).disk_faults (D.state device.new).disk_faults }
+    ensures refused { IsErrOf result OpenError.NotKdcfile → IsTrue (D.state device.old).told → ⊥ }
+    ensures other { (stored : List ℕ) → IsErrOf result (OpenError.OtherGeneration stored) → IsTrue (D.state device.old).told → ⊥ }
     ensures frame { Frame (D.state device.old) (D.state device.new) }
     ensures names { SameNames (D.state device.old) (D.state device.new) }
 {
@@ -206,15 +199,15 @@ fn restart<D: Device>(
     store: &mut WholeStore,
     core: Core,
     fingerprint: &[u8; 32],
-) -> Result<Core, RunError>
+) -> Result<Core, OpenError>
     requires running { IsRunning fingerprint.now core store.old }
     requires kept { IsTrue (D.state device.old).told → IsKept (HasFile store.old) (D.state device.old) (D.leaves device.old) }
     ensures any { PerformsSteps fingerprint.now core (command_of core.application core.state Restart ∷ []) (D.state device.old) (D.state device.new) (D.leaves device.old) (D.leaves device.new) }
     ensures done { IfOk result (λ next. DidSteps fingerprint.now core (command_of core.application core.state Restart ∷ []) next store.new (D.state device.old) (D.state device.new) (D.leaves device.new)) }
     ensures steps { IfOk result (λ next. next.steps ≡ 0) }
-    ensures failed { IsErrOf result RunError.Failed → Rose (D.state device.old).disk_faults (D.state device.new).disk_faults ⊎ Rose (D.state device.old).line_faults (D.state device.new).line_faults }
-    ensures refused { IsErrOf result RunError.NotKdcfile → IsTrue (D.state device.old).told → ⊥ }
-    ensures other { (stored : List ℕ) → IsErrOf result (RunError.OtherGeneration stored) → IsTrue (D.state device.old).told → ⊥ }
+    ensures failed { IsErrOf result OpenError.Failed → Rose (D.state device.old).disk_faults (D.state device.new).disk_faults ⊎ Rose (D.state device.old).line_faults (D.state device.new).line_faults }
+    ensures refused { IsErrOf result OpenError.NotKdcfile → IsTrue (D.state device.old).told → ⊥ }
+    ensures other { (stored : List ℕ) → IsErrOf result (OpenError.OtherGeneration stored) → IsTrue (D.state device.old).told → ⊥ }
 {
     let next = start_again(alloc, device, store, core, fingerprint)?;
     say(device, RESTARTED)?;
@@ -230,7 +223,7 @@ pub(crate) fn do_command<D: Device>(
     fingerprint: &[u8; 32],
     command: &Command,
     commits: &mut u64,
-) -> Result<Core, RunError>
+) -> Result<Core, OpenError>
     requires running { IsRunning fingerprint.now core store.old }
     requires names { IsCommandOf core.application.generation command.now }
     requires steps { core.steps + turns_of command.now ≤ 10 ^ 18 }
@@ -240,9 +233,9 @@ pub(crate) fn do_command<D: Device>(
     ensures done { IfOk result (λ next. DidSteps fingerprint.now core (steps_of core.application core.state command.now) next store.new (D.state device.old) (D.state device.new) (D.leaves device.new)) }
     ensures steps { IfOk result (λ next. next.steps ≤ core.steps + turns_of command.now) }
     ensures counted { OnOk result (commits.new ≡ commits.old + commits_in (acts_of (steps_of core.application core.state command.now))) }
-    ensures failed { IsErrOf result RunError.Failed → Rose (D.state device.old).disk_faults (D.state device.new).disk_faults ⊎ Rose (D.state device.old).line_faults (D.state device.new).line_faults }
-    ensures refused { IsErrOf result RunError.NotKdcfile → IsTrue (D.state device.old).told → ⊥ }
-    ensures other { (stored : List ℕ) → IsErrOf result (RunError.OtherGeneration stored) → IsTrue (D.state device.old).told → ⊥ }
+    ensures failed { IsErrOf result OpenError.Failed → Rose (D.state device.old).disk_faults (D.state device.new).disk_faults ⊎ Rose (D.state device.old).line_faults (D.state device.new).line_faults }
+    ensures refused { IsErrOf result OpenError.NotKdcfile → IsTrue (D.state device.old).told → ⊥ }
+    ensures other { (stored : List ℕ) → IsErrOf result (OpenError.OtherGeneration stored) → IsTrue (D.state device.old).told → ⊥ }
 {
     match command {
         Command::Run(turns) => run_turns(alloc, device, store, core, *turns, commits),

@@ -27,6 +27,8 @@ use Rattle.monitor_semantics.specs.Sessions.{in_place, is_running}
 use Rattle.monitor_semantics.specs.State.{Application, OpenTransaction, State}
 use Rattle.monitor_semantics.specs.Turns.{queued}
 use Rattle.monitor_places.specs.Entries.{other_put}
+use Rattle.monitor_state.specs.Changes.{each_push, each_where}
+use Rattle.monitor_state.specs.Standing.{Each}
 
 -- nobody is signed on, all tasks are free, and no service is open
 abbrev pub at_rest : Generated → TableRows → State
@@ -50,8 +52,7 @@ pub record IsFresh (s : State) (row : Service) : Type 0 where
 
 -- no row of these is of the service
 abbrev pub IsApart : ServiceId → List Service → Type 0
-IsApart id [] = Unit {0}
-IsApart id (row ∷ rows) = (id_eq row.id id ≡ false) × IsApart id rows
+IsApart id = Each (λ (row : Service). id_eq row.id id ≡ false)
 
 -- so are all these, each of another service
 abbrev pub AreFresh : State → List Service → Type 0
@@ -62,8 +63,7 @@ AreFresh s (row ∷ rows) = IsFresh s row × IsApart row.id rows × AreFresh s r
 
 -- the services come behind this one
 abbrev pub ComeBehind : ServiceId → List Service → Type 0
-ComeBehind id [] = Unit {0}
-ComeBehind id (row ∷ rows) = (id_cmp id row.id ≡ Less) × ComeBehind id rows
+ComeBehind id = Each (λ (row : Service). id_cmp id row.id ≡ Less)
 
 abbrev pub Rise : List Service → Type 0
 Rise [] = Unit {0}
@@ -91,20 +91,12 @@ rise_of (row ∷ rows) h =
     let parts = both_true (below_all key_cmp (service_key row) (keyed service_key rows)) (is_sorted key_cmp (keyed service_key rows)) h in
     (behind_of row.id rows parts.0, rise_of rows parts.1)
 
-behind_filter : (test : Service → Bool) (id : ServiceId) (rows : List Service) → ComeBehind id rows → ComeBehind id (filter test rows)
-behind_filter test id [] h = tt
-behind_filter test id (row ∷ rows) h = by (test row) (behind_filter test id rows h.1)
-  where
-    by : (b : Bool) → ComeBehind id (filter test rows) → ComeBehind id (cond b (row ∷ filter test rows) (filter test rows))
-    by true rest = (h.0, rest)
-    by false rest = rest
-
 rise_filter : (test : Service → Bool) (rows : List Service) → Rise rows → Rise (filter test rows)
 rise_filter test [] h = tt
 rise_filter test (row ∷ rows) h = by (test row) (rise_filter test rows h.1)
   where
     by : (b : Bool) → Rise (filter test rows) → Rise (cond b (row ∷ filter test rows) (filter test rows))
-    by true rest = (behind_filter test row.id rows h.0, rest)
+    by true rest = (each_where _ test rows h.0, rest)
     by false rest = rest
 
 jobs_filter : (rows : List Service) → list_all service_fits rows ≡ true → AreOfJobs (filter (λ (s : Service). is_asynchronous s.id) rows)
@@ -168,26 +160,20 @@ fresh_then app s first (row ∷ rows) apart h = (fresh_one app s first row apart
 
 -- the keys come before this one
 abbrev AllBefore : ServiceId → Active → Type 0
-AllBefore id [] = Unit {0}
-AllBefore id (e ∷ es) = (id_cmp id e.0 ≡ Greater) × AllBefore id es
+AllBefore id = Each (λ (e : ServiceId × OpenTransaction). id_cmp id e.0 ≡ Greater)
 
 put_last : (id : ServiceId) (x : OpenTransaction) (es : Active) → AllBefore id es → put id_cmp id x es ≡ es ++ (id, x) ∷ []
 put_last id x [] h = refl
 put_last id x (e ∷ es) h =
     ap (λ r. by_order r ((id, x) ∷ e ∷ es) ((e.0, x) ∷ es) (e ∷ put id_cmp id x es)) h.0 ∙ ap (λ (l : Active). e ∷ l) (put_last id x es h.1)
 
-before_push : (id : ServiceId) (e : ServiceId × OpenTransaction) (es : Active) → id_cmp id e.0 ≡ Greater → AllBefore id es → AllBefore id (es ++ e ∷ [])
-before_push id e [] g h = (g, tt)
-before_push id e (d ∷ ds) g h = (h.0, before_push id e ds g h.1)
-
 -- the open transactions come before all these rows
 abbrev AllBehind : Active → List Service → Type 0
-AllBehind es [] = Unit {0}
-AllBehind es (row ∷ rows) = AllBefore row.id es × AllBehind es rows
+AllBehind es = Each (λ (row : Service). AllBefore row.id es)
 
 behind_push : (e : ServiceId × OpenTransaction) (es : Active) (rows : List Service) → ComeBehind e.0 rows → AllBehind es rows → AllBehind (es ++ e ∷ []) rows
 behind_push e es [] c h = tt
-behind_push e es (row ∷ rows) c h = (before_push row.id e es (id_total.antisymm row.id e.0 ∙ ap ordering_reverse c.0) h.0, behind_push e es rows c.1 h.1)
+behind_push e es (row ∷ rows) c h = (each_push _ es e (id_total.antisymm row.id e.0 ∙ ap ordering_reverse c.0) h.0, behind_push e es rows c.1 h.1)
 
 all_there : (app : Application) (s : State) (rows : List Service) → Rise rows → AllBehind s.active rows
     → all_opened app s rows ≡ record s { ready = s.ready ++ map (λ (r : Service). r.id) rows; active = s.active ++ map (opened_row app) rows }

@@ -2,10 +2,8 @@
 ghost use Rattle.std.specs.Prelude.{◌≡◌, ◌++◌, ◌∷◌, [], IfOk, OnOk, filter, map};
 ghost use Rattle.async_queue.specs.Queue.{untaken};
 ghost use Rattle.step_scheduler.specs.Schedule.{all_free};
-ghost use Rattle.monitor_semantics.specs.Commands.{asynchronous_rows, started};
-ghost use Rattle.monitor_semantics.specs.Endings.{is_asynchronous};
-ghost use Rattle.monitor_state.specs.Standing.{IsIndexed, SameApplication, state_of};
-ghost use Rattle.monitor_state.specs.Whole.{app_of};
+ghost use Rattle.monitor_semantics.specs.{Commands.{asynchronous_rows, started}, Endings.{is_asynchronous}};
+ghost use Rattle.monitor_state.specs.{Standing.{IsIndexed, SameApplication, state_of}, Whole.{app_of}};
 ghost use Rattle.monitor_start.specs.Starting.{AreFresh, IsFresh, all_opened, at_rest, opened_then};
 
 use area_locks::LockTable;

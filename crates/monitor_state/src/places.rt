@@ -1,10 +1,7 @@
 //! The ready list and the tasks.
-ghost use Rattle.std.specs.Prelude.{◌≡◌, ◌++◌, ◌∷◌, [], IsSome, None, OnOk, not, map, filter};
-ghost use Rattle.std.specs.FinMap.{find};
+ghost use Rattle.std.specs.{Prelude.{◌≡◌, ◌++◌, ◌∷◌, [], IsSome, None, OnOk, not, map, filter}, FinMap.{find}};
 ghost use Rattle.kdcs_types.specs.Keys.{id_cmp, id_eq};
-ghost use Rattle.monitor_semantics.specs.Commands.{no_place};
-ghost use Rattle.monitor_semantics.specs.Picks.{class_of, current_by};
-ghost use Rattle.monitor_semantics.specs.Turns.{with_task};
+ghost use Rattle.monitor_semantics.specs.{Commands.{no_place}, Picks.{class_of, current_by}, Turns.{with_task}};
 ghost use Rattle.step_scheduler.specs.Schedule.{IsTask};
 ghost use Rattle.monitor_state.specs.Standing.{IsIndexed, SameApplication, state_of};
 

@@ -1,8 +1,7 @@
 //! The tables.
 ghost use Rattle.std.specs.Prelude.{◌≡◌, OnOk};
 ghost use Rattle.kdcs_types.specs.Tables.{changed, AreChanges};
-ghost use Rattle.monitor_state.specs.Queue.{followed, followed_all, is_open_job, marked_if, with_marked};
-ghost use Rattle.monitor_state.specs.Standing.{IsIndexed, SameApplication, active_of, state_of};
+ghost use Rattle.monitor_state.specs.{Queue.{followed, followed_all, is_open_job, marked_if, with_marked}, Standing.{IsIndexed, SameApplication, active_of, state_of}};
 
 use crate::parts::MonitorParts;
 use async_queue::Jobs;

@@ -1,7 +1,6 @@
 //! Sessions.
 ghost use Rattle.std.specs.Prelude.{◌≡◌, OnOk};
-ghost use Rattle.monitor_semantics.specs.Commands.{with_session, without_session};
-ghost use Rattle.monitor_semantics.specs.Turns.{with_last};
+ghost use Rattle.monitor_semantics.specs.{Commands.{with_session, without_session}, Turns.{with_last}};
 ghost use Rattle.session_table.specs.Signed.{CanSignOn};
 ghost use Rattle.monitor_state.specs.Standing.{IsIndexed, SameApplication, state_of};
 

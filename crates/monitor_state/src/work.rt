@@ -1,14 +1,9 @@
 //! Open transactions.
-ghost use Rattle.std.specs.Prelude.{◌≡◌, IfSome, None, OnOk, false};
-ghost use Rattle.std.specs.Option.{option_map};
-ghost use Rattle.std.specs.FinMap.{find};
+ghost use Rattle.std.specs.{Prelude.{◌≡◌, IfSome, None, OnOk, false}, Option.{option_map}, FinMap.{find}};
 ghost use Rattle.kdcs_types.specs.Keys.{id_cmp};
-ghost use Rattle.monitor_semantics.specs.Endings.{opened};
-ghost use Rattle.monitor_semantics.specs.Sessions.{is_running};
-ghost use Rattle.monitor_semantics.specs.Turns.{with_open, without_open};
+ghost use Rattle.monitor_semantics.specs.{Endings.{opened}, Sessions.{is_running}, Turns.{with_open, without_open}};
 ghost use Rattle.open_transaction.specs.Work.{accepted_of, work_of, HasOrder};
-ghost use Rattle.monitor_state.specs.Queue.{marked_for};
-ghost use Rattle.monitor_state.specs.Standing.{IsIndexed, IsOwned, SameApplication, state_of};
+ghost use Rattle.monitor_state.specs.{Queue.{marked_for}, Standing.{IsIndexed, IsOwned, SameApplication, state_of}};
 
 use crate::parts::MonitorParts;
 use async_queue::Jobs;

@@ -1,13 +1,9 @@
 //! The next statement of a service.
-ghost use Rattle.std.specs.Prelude.{◌≡◌, ◌+◌, ◌<◌, ◌^◌, false, Some, IfOk, IfSome, IsSome, OnOk};
-ghost use Rattle.std.specs.FinMap.{find};
+ghost use Rattle.std.specs.{Prelude.{◌≡◌, ◌+◌, ◌<◌, ◌^◌, false, Some, IfOk, IfSome, IsSome, OnOk}, FinMap.{find}};
 ghost use Rattle.kdcs_types.specs.Keys.{id_cmp};
-ghost use Rattle.monitor_semantics.specs.Sessions.{is_running};
-ghost use Rattle.monitor_semantics.specs.State.{OpenTransaction as Work};
-ghost use Rattle.monitor_semantics.specs.Turns.{statement_now, with_task};
+ghost use Rattle.monitor_semantics.specs.{Sessions.{is_running}, State.{OpenTransaction as Work}, Turns.{statement_now, with_task}};
 ghost use Rattle.step_scheduler.specs.Schedule.{IsTask};
-ghost use Rattle.monitor_state.specs.Standing.{IsIndexed, state_of};
-ghost use Rattle.monitor_state.specs.Whole.{IsWhole, app_of};
+ghost use Rattle.monitor_state.specs.{Standing.{IsIndexed, state_of}, Whole.{IsWhole, app_of}};
 ghost use Rattle.monitor_turns.specs.Turning.{state_then, IsHeldBy};
 
 use kd_base::OutOfMemory;

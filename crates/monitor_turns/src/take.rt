@@ -1,12 +1,10 @@
 //! A free task takes work.
 ghost use Rattle.std.specs.Prelude.{◌≡◌, ◌-◌, Some, None, IfOk, OnOk, slice_get};
 ghost use Rattle.kdcs_types.specs.Tables.{job_of};
-ghost use Rattle.monitor_semantics.specs.Picks.{pick};
-ghost use Rattle.monitor_semantics.specs.Turns.{took};
+ghost use Rattle.monitor_semantics.specs.{Picks.{pick}, Turns.{took}};
 ghost use Rattle.step_scheduler.specs.Schedule.{IsTask};
 ghost use Rattle.service_ends.specs.Ending.{turned_to};
-ghost use Rattle.monitor_state.specs.Standing.{IsIndexed, SameApplication, state_of};
-ghost use Rattle.monitor_state.specs.Whole.{IsWhole, app_of};
+ghost use Rattle.monitor_state.specs.{Standing.{IsIndexed, SameApplication, state_of}, Whole.{IsWhole, app_of}};
 ghost use Rattle.monitor_turns.specs.Turning.{BegunBy};
 
 use kd_base::OutOfMemory;

@@ -1,12 +1,10 @@
 //! One turn of a task.
-ghost use Rattle.std.specs.Prelude.{◌≡◌, ◌+◌, ◌<◌, ◌^◌, IfOk, OnOk};
-ghost use Rattle.std.specs.FinMap.{find};
+ghost use Rattle.std.specs.{Prelude.{◌≡◌, ◌+◌, ◌<◌, ◌^◌, IfOk, OnOk}, FinMap.{find}};
 ghost use Rattle.kdcdef_types.specs.Statements.{IsWithin};
 ghost use Rattle.kdcs_types.specs.Keys.{id_cmp};
 ghost use Rattle.monitor_semantics.specs.Turns.{turn_of, worked};
 ghost use Rattle.service_ends.specs.Ending.{turned_to};
-ghost use Rattle.monitor_state.specs.Standing.{IsIndexed, state_of};
-ghost use Rattle.monitor_state.specs.Whole.{IsWhole, app_of};
+ghost use Rattle.monitor_state.specs.{Standing.{IsIndexed, state_of}, Whole.{IsWhole, app_of}};
 ghost use Rattle.monitor_turns.specs.Turning.{IsHeldBy};
 
 use crate::statement::perform;

@@ -1,6 +1,7 @@
 -- What becomes of the state when a transaction is over, step by step.
-use Rattle.std.specs.Prelude.{◌≡◌, refl, ℕ, List, ◌++◌, Option, Some, None, IfSome, IsTrue, option_map, IsSome}
+use Rattle.std.specs.Prelude.{◌≡◌, refl, ℕ, List, ◌++◌, Option, Some, None, IfOk, IfSome, IsTrue, option_map, IsSome, Result}
 use Rattle.std.proofs.Common.{ap, sym, subst, ◌∙◌}
+use Rattle.std.proofs.lemmas.Result.{IfOk-weaker}
 use Rattle.std.specs.FinMap.{find}
 use Rattle.kd_base.specs.Tools.{both_true}
 use Rattle.kdcs_types.specs.declared.act.Act.{Act}
@@ -22,11 +23,11 @@ use Rattle.monitor_semantics.specs.declared.outcome.Outcome.{Outcome}
 use Rattle.monitor_semantics.specs.declared.outcome.Outcome.TheVariants.{Hold, Stay, Queue, Wait, Point, Follow, Finish, Break, Back}
 use Rattle.monitor_semantics.specs.Bytes.{Bytes, bytes_cmp}
 use Rattle.std.specs.FinMap.{is_sorted}
-use Rattle.monitor_semantics.specs.Endings.{broken, durable, joined, refusal, row_after, service_change, synchronised, with_service}
+use Rattle.monitor_semantics.specs.Endings.{broken, joined, row_after, service_change, synchronised, with_service}
 use Rattle.monitor_semantics.specs.Sessions.{is_running}
 use Rattle.monitor_semantics.specs.State.{Application, OpenTransaction, State}
 use Rattle.monitor_semantics.specs.Statements.{kept_record}
-use Rattle.monitor_semantics.specs.Turns.{abnormal, after_point, back, committed, dump_acts, ended_acts, message_acts, message_sent, moved_to, settled, settled_by, told_user, user_acts, with_open, with_task, without_open, without_work}
+use Rattle.monitor_semantics.specs.Turns.{Turned, abnormal, after_point, committed, dump_acts, ended_acts, message_acts, message_sent, moved_to, settled, settled_by, told_user, user_acts, with_open, with_task, without_open, without_work}
 use Rattle.monitor_places.specs.Entries.{found_put, found_without}
 use Rattle.monitor_tables.specs.PointLaws.{Stands}
 use Rattle.open_transaction.specs.declared.open.OpenTransaction.{OpenTransaction as Work}
@@ -39,7 +40,8 @@ use Rattle.sync_points.specs.declared.points.SettleAnswer.TheVariants.{Refused, 
 use Rattle.sync_points.specs.Answers.{answer_by}
 use Rattle.commit_laws.specs.CommitLaws.{durable_difference}
 use Rattle.commit_laws.specs.Ends.{end_made, point_made}
-use Rattle.service_ends.specs.Ending.{IsClosed, Works, behind_end, behind_point, broken_to, emitted, settled_to}
+use Rattle.service_ends.specs.declared.turned.Turned.{Turned as Did}
+use Rattle.service_ends.specs.Ending.{CanGoOn, IsClosed, Works, behind_end, behind_point, broken_to, emitted, pointed_to, settled_to, turned_to}
 
 -- ---- the parts behind a step
 
@@ -48,12 +50,6 @@ found_one o work found x is found_is x_is = under (sym (ap (option_map work_of) 
   where
     under : {A : Type 0} {a b : A} → Some a ≡ Some b → a ≡ b
     under e = cc
-
-pub found_none : (o : Option Work) (found : Option OpenTransaction) (x : OpenTransaction) → o ≡ None → option_map work_of o ≡ found → found ≡ Some x → ⊥
-found_none o found x is found_is x_is = absurd (none_some (sym (ap (option_map work_of) is) ∙ found_is ∙ x_is))
-  where
-    none_some : {A : Type 0} {a : A} → None ≡ Some a → ⊥
-    none_some e = cc
 
 stands_as : (g h : Generated) (t u : TableRows) (i j : ServiceId) (x y : OpenTransaction) → h ≡ g → u ≡ t → j ≡ i → y ≡ x → Stands g t i x → Stands h u j y
 stands_as g h t u i j x y a b c d s =
@@ -68,9 +64,9 @@ closed_work p q task id x work works same state own is = record {
   stands = stands_as p.generation q.generation p.tables q.tables id work.id x (work_of work) same.generation (ap (λ (s : State). s.tables) state) own is works.stands;
 }
 
-own_of : (g : Generated) (steps : ℕ) (id : ServiceId) (o : Option Work) → IfSome o (λ (work : Work). IsOwned g steps (id, work)) → IfSome o (λ (work : Work). work.id ≡ id)
-own_of g steps id None h = tt
-own_of g steps id (Some work) h = h.id
+-- it can go on from a row in order
+pub goes_on : (p : MonitorParts) (work : Work) (id : ServiceId) (row : Option Service) → IsClosed p work → id ≡ work.id → HasOrder row → CanGoOn p id row
+goes_on p work id row h own order = record { closed = (λ i. find id_cmp (own i) (state_of p).active) ∙ h.closed; unplaced = (λ i. is_running (state_of p) (own i)) ∙ h.unplaced; order = order }
 
 pub closed_result : (p m q : MonitorParts) (task : ℕ) (id : ServiceId) (o : Option Work) → ((x : OpenTransaction) × Works p task id x) → SameApplication p m → SameApplication m q
     → state_of m ≡ with_task (state_of p) task None → state_of q ≡ without_open (state_of m) id → option_map work_of o ≡ find id_cmp id (state_of m).active
@@ -94,31 +90,29 @@ opened_open p q id x e = subst (λ (o : Option OpenTransaction). IsSome o) (sym 
 
 -- ---- ends
 
+-- what a transaction that was closed comes to, where that is the definition's
+pub over_as : {E : Type 0} (r : Result Did E) (p m q : MonitorParts) (task : ℕ) (id : ServiceId) (work : Work) (f : Application → State → ServiceId → OpenTransaction → Turned) (g : OpenTransaction → Turned)
+    → ((x : OpenTransaction) → f (app_of p) (without_work (state_of p) task id) id x ≡ g x) → SameApplication p m → state_of m ≡ without_work (state_of p) task id → work.id ≡ id
+    → Some (work_of work) ≡ find id_cmp id (state_of p).active → IfOk r (λ (did : Did). turned_to (state_of q) did ≡ f (app_of m) (state_of m) work.id (work_of work))
+    → IfOk r (λ (did : Did). (x : OpenTransaction) → find id_cmp id (state_of p).active ≡ Some x → turned_to (state_of q) did ≡ g x)
+over_as r p m q task id work f g law same state own found =
+    IfOk-weaker r _ _ (λ did e x is. e ∙ (λ k. f (same_app p m same.generation same.units k) (state k) (own k) (found_one (Some work) work _ x refl found is k)) ∙ law x)
+
 -- an abnormal end of a transaction that was closed
-breaks : (app : Application) (s : State) (task : ℕ) (id : ServiceId) (x : OpenTransaction) (e : Ending) → broken_to app (without_work s task id) id x e ≡ abnormal app s task id x e
+pub breaks : (app : Application) (s : State) (task : ℕ) (id : ServiceId) (x : OpenTransaction) (e : Ending) → broken_to app (without_work s task id) id x e ≡ abnormal app s task id x e
 unfolding abnormal
 breaks app s task (Dialogue user) x e = refl
 breaks app s task (Asynchronous number) x e = refl
 
-pub ends_as : (p q : MonitorParts) (task : ℕ) (id own : ServiceId) (x y : OpenTransaction) (e : Ending) → SameApplication p q → state_of q ≡ without_work (state_of p) task id → own ≡ id → y ≡ x
-    → broken_to (app_of q) (state_of q) own y e ≡ abnormal (app_of p) (state_of p) task id x e
-ends_as p q task id own x y e same state i z = (λ k. broken_to (same_app p q same.generation same.units k) (state k) (i k) (z k) e) ∙ breaks (app_of p) (state_of p) task id x e
+-- a point of one
+settles_by : (app : Application) (s : State) (task : ℕ) (id : ServiceId) (x : OpenTransaction) (o : Outcome) (r : Option Cause)
+    → settled_to app (without_work s task id) id x o r ≡ settled_by app s task id x o (synchronised app.generation s.tables id x o) r
+settles_by app s task id x o None = refl
+settles_by app s task id x o (Some cause) = breaks app s task id x (ending.Broken cause)
 
-settles : (app : Application) (s : State) (task : ℕ) (id : ServiceId) (x : OpenTransaction) (o : Outcome) (new : TableRows) (r : Option Cause) → new ≡ synchronised app.generation s.tables id x o
-    → settled_to app (without_work s task id) id x o r ≡ settled_by app s task id x o new r
-settles app s task id x o new None e = ap (λ (t : TableRows). settled_by app s task id x o t None) (sym e)
-settles app s task id x o new (Some cause) e = breaks app s task id x (ending.Broken cause)
-
-pub settles_as : (p q : MonitorParts) (task : ℕ) (id own : ServiceId) (x y : OpenTransaction) (o : Outcome) → SameApplication p q → state_of q ≡ without_work (state_of p) task id → own ≡ id → y ≡ x
-    → settled_to (app_of q) (state_of q) own y o (refusal q.generation (durable q.generation (synchronised q.generation q.tables own y o))) ≡ settled (app_of p) (state_of p) task id x o
+pub settles : (app : Application) (s : State) (task : ℕ) (id : ServiceId) (x : OpenTransaction) (o : Outcome) → pointed_to app (without_work s task id) id x o ≡ settled app s task id x o
 unfolding settled
-settles_as p q task id own x y o same state i z =
-    (λ k. settled_to (same_app p q same.generation same.units k) (state k) (i k) (z k) o (refusal (same.generation k) (durable (same.generation k) (synchronised (same.generation k) (state k).tables (i k) (z k) o))))
-    ∙ settles (app_of p) (state_of p) task id x o (synchronised p.generation p.tables id x o) _ refl
-
-pub backs_as : (p q : MonitorParts) (task : ℕ) (id own : ServiceId) (x y : OpenTransaction) → SameApplication p q → state_of q ≡ without_work (state_of p) task id → own ≡ id → y ≡ x
-    → back (app_of q) (state_of q) own y y.began ≡ back (app_of p) (without_work (state_of p) task id) id x x.began
-backs_as p q task id own x y same state i z = λ k. back (same_app p q same.generation same.units k) (state k) (i k) (z k) (z k).began
+settles app s task id x o = settles_by app s task id x o _
 
 -- an abnormal end behind its commit
 pub breaks_as : (p : MonitorParts) (w : Work) (e : Ending) (id : ServiceId) (dump : Option (List ℕ)) (changes : Changes) (kept : Settled) → changes ≡ durable_difference p.generation p.tables (broken p.tables w.id (work_of w))

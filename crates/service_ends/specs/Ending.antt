@@ -14,7 +14,7 @@ use Rattle.kdcs_types.specs.declared.service.Settled.{Settled}
 use Rattle.monitor_semantics.specs.declared.outcome.Outcome.{Outcome}
 use Rattle.monitor_semantics.specs.declared.outcome.Outcome.TheVariants.{Hold, Stay, Queue, Wait, Point, Follow, Finish, Break, Back}
 use Rattle.monitor_semantics.specs.Bytes.{Bytes}
-use Rattle.monitor_semantics.specs.Endings.{broken, opened_by_row, row_after, synchronised}
+use Rattle.monitor_semantics.specs.Endings.{broken, durable, opened_by_row, refusal, row_after, synchronised}
 use Rattle.monitor_semantics.specs.Statements.{kept_record}
 use Rattle.monitor_semantics.specs.Sessions.{is_running}
 use Rattle.monitor_semantics.specs.State.{Application, OpenTransaction, State}
@@ -22,7 +22,7 @@ use Rattle.monitor_semantics.specs.Turns.{Turned, after_point, commit_of, commit
 use Rattle.monitor_tables.specs.PointLaws.{Stands}
 use Rattle.step_scheduler.specs.Schedule.{IsTask}
 use Rattle.open_transaction.specs.declared.open.OpenTransaction.{OpenTransaction as Work}
-use Rattle.open_transaction.specs.Work.{work_of}
+use Rattle.open_transaction.specs.Work.{work_of, HasOrder}
 use Rattle.service_ends.specs.declared.turned.Turned.{Turned as Did}
 use Rattle.monitor_state.specs.declared.parts.MonitorParts.{MonitorParts}
 use Rattle.monitor_state.specs.Standing.{IsIndexed, state_of}
@@ -57,6 +57,9 @@ settled_to app s id x o (Some cause) = broken_to app s id x (Broken cause)
 settled_to app s id x o None =
     let new = synchronised app.generation s.tables id x o in
     after_point app (record s { tables = new }) id x o (row_after app.generation id x o) (commit_of app s.tables new) (kept_record id x Synced)
+
+abbrev pub pointed_to : Application → State → ServiceId → OpenTransaction → Outcome → Turned
+pointed_to app s id x o = settled_to app s id x o (refusal app.generation (durable app.generation (synchronised app.generation s.tables id x o)))
 
 -- behind the commit of a point by SP or FC the service goes on from its row, and by RE or FI its message is the last one of its user
 abbrev pub goes_on_from : Application → State → ServiceId → Option Service → Outcome → (message lterm : Bytes) → State
@@ -101,6 +104,12 @@ pub record Works (p : MonitorParts) (task : ℕ) (id : ServiceId) (x : OpenTrans
   pub alone : is_running (with_task (state_of p) task None) id ≡ false
   pub is_open : find id_cmp id (state_of p).active ≡ Some x
   pub stands : Stands p.generation p.tables id x
+
+-- a service that stands nowhere can go on from this row
+pub record CanGoOn (p : MonitorParts) (id : ServiceId) (row : Option Service) : Type 0 where
+  pub closed : find id_cmp id (state_of p).active ≡ None
+  pub unplaced : is_running (state_of p) id ≡ false
+  pub order : HasOrder row
 
 -- a transaction that was closed: its service stands nowhere, and tables may take it
 pub record IsClosed (p : MonitorParts) (work : Work) : Type 0 where

@@ -1,14 +1,10 @@
 //! The way back to the last synchronisation point.
-ghost use Rattle.std.specs.Prelude.{◌≡◌, false, true, Some, None, IfOk, OnOk};
-ghost use Rattle.std.specs.FinMap.{find};
+ghost use Rattle.std.specs.{Prelude.{◌≡◌, true, Some, None, IfOk, OnOk}, FinMap.{find}};
 ghost use Rattle.kdcs_types.specs.Keys.{id_cmp};
-ghost use Rattle.monitor_semantics.specs.Sessions.{is_running};
-ghost use Rattle.monitor_semantics.specs.State.{OpenTransaction as Work};
-ghost use Rattle.monitor_semantics.specs.Turns.{back, back_by, ended_acts, last_again, moved_to, without_work};
-ghost use Rattle.open_transaction.specs.Work.{work_of, HasOrder};
-ghost use Rattle.service_ends.specs.Ending.{turned_to, IsClosed, Works};
-ghost use Rattle.monitor_state.specs.Standing.{IsIndexed, SameApplication, state_of};
-ghost use Rattle.monitor_state.specs.Whole.{app_of};
+ghost use Rattle.monitor_semantics.specs.{State.{OpenTransaction as Work}, Turns.{back, back_by, ended_acts, last_again, moved_to, without_work}};
+ghost use Rattle.open_transaction.specs.Work.{work_of};
+ghost use Rattle.service_ends.specs.Ending.{turned_to, CanGoOn, IsClosed, Works};
+ghost use Rattle.monitor_state.specs.{Standing.{IsIndexed, SameApplication, state_of}, Whole.{app_of}};
 
 use crate::closed::close_work;
 use crate::row::go_on;
@@ -61,9 +57,7 @@ fn back_at(
     lterm: &Name,
 ) -> Result<Turned, OutOfMemory>
     requires indexed { IsIndexed parts.old }
-    requires order { HasOrder (Some row) }
-    requires closed { find id_cmp id.now (state_of parts.old).active ≡ None }
-    requires unplaced { is_running (state_of parts.old) id.now ≡ false }
+    requires rests { CanGoOn parts.old id.now (Some row) }
     ensures exact { IfOk result (λ did. (x : Work) → x.lterm ≡ lterm.now → turned_to (state_of parts.new) did ≡ back_by (app_of parts.old) (state_of parts.old) id.now x row row.awaits) }
     ensures indexed { OnOk result (IsIndexed parts.new) }
     ensures same { OnOk result (SameApplication parts.old parts.new) }

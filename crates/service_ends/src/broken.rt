@@ -1,16 +1,10 @@
 //! Abnormal ends.
-ghost use Rattle.std.specs.Prelude.{◌≡◌, ◌++◌, ◌∷◌, [], Some, None, IfOk, OnOk};
-ghost use Rattle.std.specs.FinMap.{find};
-ghost use Rattle.kdcs_types.specs.Keys.{id_cmp};
-ghost use Rattle.kdcs_types.specs.Tables.{changed, AreChanges};
-ghost use Rattle.kdcs_types.specs.declared.act.Act.TheVariants.{Commit};
-ghost use Rattle.monitor_semantics.specs.Endings.{service_change, with_service};
-ghost use Rattle.monitor_semantics.specs.State.{OpenTransaction as Work};
-ghost use Rattle.monitor_semantics.specs.Turns.{abnormal, dump_acts};
+ghost use Rattle.std.specs.{Prelude.{◌≡◌, ◌++◌, ◌∷◌, [], Some, None, IfOk, OnOk}, FinMap.{find}};
+ghost use Rattle.kdcs_types.specs.{Keys.{id_cmp}, Tables.{changed, AreChanges}, declared.act.Act.TheVariants.{Commit}};
+ghost use Rattle.monitor_semantics.specs.{Endings.{service_change, with_service}, State.{OpenTransaction as Work}, Turns.{abnormal, dump_acts}};
 ghost use Rattle.open_transaction.specs.Work.{work_of};
 ghost use Rattle.service_ends.specs.Ending.{behind_end, broken_to, emitted, turned_to, IsClosed, Works};
-ghost use Rattle.monitor_state.specs.Standing.{IsIndexed, SameApplication, state_of};
-ghost use Rattle.monitor_state.specs.Whole.{app_of};
+ghost use Rattle.monitor_state.specs.{Standing.{IsIndexed, SameApplication, state_of}, Whole.{app_of}};
 
 use crate::closed::close_work;
 use crate::row::commit;

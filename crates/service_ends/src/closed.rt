@@ -1,10 +1,7 @@
 //! Transactions that are over.
-ghost use Rattle.std.specs.Prelude.{◌≡◌, IfSome};
-ghost use Rattle.std.specs.Option.{option_map};
-ghost use Rattle.std.specs.FinMap.{find};
+ghost use Rattle.std.specs.{Prelude.{◌≡◌, IfSome}, Option.{option_map}, FinMap.{find}};
 ghost use Rattle.kdcs_types.specs.Keys.{id_cmp};
-ghost use Rattle.monitor_semantics.specs.State.{OpenTransaction as Work};
-ghost use Rattle.monitor_semantics.specs.Turns.{without_work};
+ghost use Rattle.monitor_semantics.specs.{State.{OpenTransaction as Work}, Turns.{without_work}};
 ghost use Rattle.open_transaction.specs.Work.{work_of};
 ghost use Rattle.service_ends.specs.Ending.{IsClosed, Works};
 ghost use Rattle.monitor_state.specs.Standing.{IsIndexed, SameApplication, state_of};

@@ -1,9 +1,7 @@
 //! A service that waits for an input, or for a task.
-ghost use Rattle.std.specs.Prelude.{◌≡◌, ◌++◌, ◌∷◌, [], IsSome, Some, None, IfOk, OnOk};
-ghost use Rattle.std.specs.FinMap.{find};
+ghost use Rattle.std.specs.{Prelude.{◌≡◌, ◌++◌, ◌∷◌, [], IsSome, Some, None, IfOk, OnOk}, FinMap.{find}};
 ghost use Rattle.kdcs_types.specs.Keys.{id_cmp};
-ghost use Rattle.monitor_semantics.specs.State.{OpenTransaction as Work};
-ghost use Rattle.monitor_semantics.specs.Turns.{message_acts, message_sent, moved_to, with_task};
+ghost use Rattle.monitor_semantics.specs.{State.{OpenTransaction as Work}, Turns.{message_acts, message_sent, moved_to, with_task}};
 ghost use Rattle.step_scheduler.specs.Schedule.{IsTask};
 ghost use Rattle.service_ends.specs.Ending.{turned_to};
 ghost use Rattle.monitor_state.specs.Standing.{IsIndexed, SameApplication, state_of};

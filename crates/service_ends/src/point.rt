@@ -1,17 +1,10 @@
 //! Synchronisation points.
-ghost use Rattle.std.specs.Prelude.{◌≡◌, ◌++◌, ◌∷◌, [], false, Some, None, IfOk, OnOk};
-ghost use Rattle.std.specs.FinMap.{find};
-ghost use Rattle.kdcs_types.specs.Keys.{id_cmp};
-ghost use Rattle.kdcs_types.specs.Tables.{changed, AreChanges};
-ghost use Rattle.kdcs_types.specs.declared.act.Act.TheVariants.{Commit};
-ghost use Rattle.monitor_semantics.specs.Endings.{durable, joined, refusal, service_change, synchronised, with_service};
-ghost use Rattle.monitor_semantics.specs.Sessions.{is_running};
-ghost use Rattle.monitor_semantics.specs.State.{OpenTransaction as Work};
-ghost use Rattle.monitor_semantics.specs.Turns.{settled};
-ghost use Rattle.open_transaction.specs.Work.{work_of, HasOrder};
-ghost use Rattle.service_ends.specs.Ending.{behind_point, goes_on_from, sent_by, settled_to, turned_to, IsClosed, Works};
-ghost use Rattle.monitor_state.specs.Standing.{IsIndexed, SameApplication, state_of};
-ghost use Rattle.monitor_state.specs.Whole.{app_of};
+ghost use Rattle.std.specs.{Prelude.{◌≡◌, ◌++◌, ◌∷◌, [], Some, IfOk, OnOk}, FinMap.{find}};
+ghost use Rattle.kdcs_types.specs.{Keys.{id_cmp}, Tables.{changed, AreChanges}, declared.act.Act.TheVariants.{Commit}};
+ghost use Rattle.monitor_semantics.specs.{Endings.{joined, service_change, with_service}, State.{OpenTransaction as Work}, Turns.{settled}};
+ghost use Rattle.open_transaction.specs.Work.{work_of};
+ghost use Rattle.service_ends.specs.Ending.{behind_point, goes_on_from, pointed_to, sent_by, turned_to, CanGoOn, IsClosed, Works};
+ghost use Rattle.monitor_state.specs.{Standing.{IsIndexed, SameApplication, state_of}, Whole.{app_of}};
 
 use crate::broken::end_work;
 use crate::closed::close_work;
@@ -56,9 +49,7 @@ fn go_behind(
     acts: &mut Acts,
 ) -> Result<(), OutOfMemory>
     requires indexed { IsIndexed parts.old }
-    requires order { HasOrder row }
-    requires closed { find id_cmp ended.id (state_of parts.old).active ≡ None }
-    requires unplaced { is_running (state_of parts.old) ended.id ≡ false }
+    requires rests { CanGoOn parts.old ended.id row }
     ensures indexed { OnOk result (IsIndexed parts.new) }
     ensures same { OnOk result (SameApplication parts.old parts.new) }
     ensures state { OnOk result (state_of parts.new ≡ goes_on_from (app_of parts.old) (state_of parts.old) ended.id row ended.outcome ended.message ended.lterm) }
@@ -96,9 +87,7 @@ fn synchronise(
     requires indexed { IsIndexed parts.old }
     requires changes { AreChanges changes.items }
     requires own { AreChanges (service_change ended.id row ∷ []) }
-    requires order { HasOrder row }
-    requires closed { find id_cmp ended.id (state_of parts.old).active ≡ None }
-    requires unplaced { is_running (state_of parts.old) ended.id ≡ false }
+    requires rests { CanGoOn parts.old ended.id row }
     ensures exact { IfOk result (λ did. turned_to (state_of parts.new) did ≡ behind_point (app_of parts.old) (record (state_of parts.old) { tables = with_service (changed parts.old.tables changes) ended.id row }) ended.id row ended.outcome ended.message ended.lterm (Commit changes) kept) }
     ensures indexed { OnOk result (IsIndexed parts.new) }
     ensures same { OnOk result (SameApplication parts.old parts.new) }
@@ -123,7 +112,7 @@ fn settle_work(
 ) -> Result<Turned, OutOfMemory>
     requires indexed { IsIndexed parts.old }
     requires closed { IsClosed parts.old work }
-    ensures exact { IfOk result (λ did. turned_to (state_of parts.new) did ≡ settled_to (app_of parts.old) (state_of parts.old) work.id (work_of work) outcome (refusal parts.old.generation (durable parts.old.generation (synchronised parts.old.generation parts.old.tables work.id (work_of work) outcome)))) }
+    ensures exact { IfOk result (λ did. turned_to (state_of parts.new) did ≡ pointed_to (app_of parts.old) (state_of parts.old) work.id (work_of work) outcome) }
     ensures indexed { OnOk result (IsIndexed parts.new) }
     ensures same { OnOk result (SameApplication parts.old parts.new) }
 {

@@ -1,12 +1,7 @@
 //! Rows of services, and services that go on from them.
-ghost use Rattle.std.specs.Prelude.{◌≡◌, ◌++◌, ◌∷◌, [], false, Some, None, IfOk, OnOk};
-ghost use Rattle.std.specs.FinMap.{find};
-ghost use Rattle.kdcs_types.specs.Keys.{id_cmp};
-ghost use Rattle.kdcs_types.specs.declared.act.Act.TheVariants.{Commit};
-ghost use Rattle.kdcs_types.specs.Tables.{changed, AreChanges};
-ghost use Rattle.monitor_semantics.specs.Endings.{header_of_row, opened_by_row, service_change, user_in_row, with_service};
-ghost use Rattle.monitor_semantics.specs.Sessions.{is_running};
-ghost use Rattle.monitor_semantics.specs.Turns.{queued};
+ghost use Rattle.std.specs.{Prelude.{◌≡◌, ◌++◌, ◌∷◌, [], false, Some, None, IfOk, OnOk}, FinMap.{find}};
+ghost use Rattle.kdcs_types.specs.{Keys.{id_cmp}, declared.act.Act.TheVariants.{Commit}, Tables.{changed, AreChanges}};
+ghost use Rattle.monitor_semantics.specs.{Endings.{header_of_row, opened_by_row, service_change, user_in_row, with_service}, Sessions.{is_running}, Turns.{queued}};
 ghost use Rattle.open_transaction.specs.Work.{HasOrder};
 ghost use Rattle.monitor_state.specs.Standing.{IsIndexed, SameApplication, state_of};
 

@@ -1,13 +1,10 @@
 //! A statement that is a KDCS call.
 ghost use Rattle.std.specs.Prelude.{◌≡◌, ◌+◌, ◌≤◌, ◌<◌, ◌^◌, IfOk, OnOk};
 ghost use Rattle.kdcs_calls.specs.Calling.{HoldersFollow, HoldsJust, performed_now};
-ghost use Rattle.monitor_semantics.specs.Endings.{is_asynchronous};
-ghost use Rattle.monitor_semantics.specs.Statements.{area_of_call, by_call, by_performed};
-ghost use Rattle.monitor_tables.specs.OpenLaws.{CalledFits, StandsIn};
-ghost use Rattle.monitor_tables.specs.PointLaws.{AreSound};
+ghost use Rattle.monitor_semantics.specs.{Endings.{is_asynchronous}, Statements.{area_of_call, by_call, by_performed}};
+ghost use Rattle.monitor_tables.specs.{OpenLaws.{CalledFits, StandsIn}, PointLaws.{AreSound}};
 ghost use Rattle.open_transaction.specs.Work.{work_of};
-ghost use Rattle.unit_semantics.specs.Ready.{IsReady};
-ghost use Rattle.unit_semantics.specs.Statement.{Asks, step};
+ghost use Rattle.unit_semantics.specs.{Ready.{IsReady}, Statement.{Asks, step}};
 ghost use Rattle.application_facts.specs.Applied.{applied};
 ghost use Rattle.service_statement.specs.Stating.{wait_ended, waits_by};
 

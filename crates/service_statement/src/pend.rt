@@ -1,7 +1,6 @@
 //! What a PEND does that is not refused.
 ghost use Rattle.std.specs.Prelude.{◌≡◌, ◌+◌, ◌≤◌, ◌<◌, ◌^◌, IfOk, OnOk};
-ghost use Rattle.monitor_semantics.specs.Endings.{is_asynchronous};
-ghost use Rattle.monitor_semantics.specs.Statements.{break_ending, by_outcome};
+ghost use Rattle.monitor_semantics.specs.{Endings.{is_asynchronous}, Statements.{break_ending, by_outcome}};
 ghost use Rattle.open_transaction.specs.Work.{work_of};
 ghost use Rattle.application_facts.specs.Applied.{applied};
 

@@ -1,15 +1,11 @@
 //! The next statement of a service.
 ghost use Rattle.std.specs.Prelude.{◌≡◌, ◌+◌, ◌≤◌, ◌<◌, ◌^◌, IfOk, OnOk};
 ghost use Rattle.kdcs_calls.specs.Calling.{HoldersFollow, HoldsJust};
-ghost use Rattle.monitor_laws.specs.Applications.{IsApplication};
-ghost use Rattle.monitor_laws.specs.Transactions.{CanGoOn};
-ghost use Rattle.monitor_semantics.specs.Endings.{is_asynchronous};
-ghost use Rattle.monitor_semantics.specs.Locks.{told_now};
-ghost use Rattle.monitor_semantics.specs.Statements.{area_of, statement};
+ghost use Rattle.monitor_laws.specs.{Applications.{IsApplication}, Transactions.{CanGoOn}};
+ghost use Rattle.monitor_semantics.specs.{Endings.{is_asynchronous}, Locks.{told_now}, Statements.{area_of, statement}};
 ghost use Rattle.monitor_tables.specs.PointLaws.{AreSound};
 ghost use Rattle.open_transaction.specs.Work.{work_of};
-ghost use Rattle.unit_semantics.specs.Ready.{IsReady};
-ghost use Rattle.unit_semantics.specs.Statement.{step};
+ghost use Rattle.unit_semantics.specs.{Ready.{IsReady}, Statement.{step}};
 ghost use Rattle.unit_step.specs.Answers.{meaning_of};
 ghost use Rattle.application_facts.specs.Applied.{applied};
 ghost use Rattle.unit_check.specs.Fitted.{IsFit};

@@ -69,14 +69,6 @@ module _ (e : Errand) (bytes : List ℕ) where
   pub not_empty : ((t : TableRows) → Opens e bytes t → ⊥) → bytes ≡ [] → ⊥
   not_empty none empty = none empty_tables (inl (empty, refl))
 
--- a file that the call does not start from stays as it was
-module _ (e : Errand) (a b : State) (la lb : ℕ → List ℕ → List ℕ → Type 0) (still : ((t : TableRows) → Starts e a.holds t → ⊥) → Rests a b la lb) where
-  pub rests_refused : Refuses e a.holds → Rests a b la lb
-  rests_refused refused = still (λ t from. not_both e a.holds t from refused)
-
-  pub rests_other : (stored : List ℕ) → IsOfOthers stored e a.holds → Rests a b la lb
-  rests_other stored other = still (λ t from. not_of_others e a.holds t stored from other)
-
 -- ---- what a stop leaves
 
 -- nothing was done
@@ -207,3 +199,9 @@ pub made_front : (n : ℕ) (v e : Errand) → v ≡ e → (commands : List Comma
     → (a d : State) (la ld : ℕ → List ℕ → List ℕ → Type 0) → SaysFront line a d la ld → SaysFront (report_of n (app_of e) e.commands) a d la ld
 made_front n v e same commands is line made a d la ld front =
     subst (λ (l : List ℕ). SaysFront l a d la ld) (made ∙ ap (report_of n (app_of v)) is ∙ ap (λ (x : Errand). report_of n (app_of x) x.commands) same) front
+
+-- the list of the tables that a file stands for, which was looked at
+pub shown_front : (v e : Errand) → v ≡ e → (tables t : TableRows) (line : List ℕ) → line ≡ listing tables → (a b d : State) (la lb ld : ℕ → List ℕ → List ℕ → Type 0) (rests : Rests a b la lb) → Opens v a.holds tables → Opens e a.holds t → SaidPart line b d → LeavesOnly b d lb ld (Front line a b d la lb ld rests b lb) → SaysFront (listing t) a d la ld
+shown_front v e same tables t line is a b d la lb ld rests from opens part h =
+    let once = opened_once e a.holds tables t (subst (λ (x : Errand). Opens x a.holds tables) same from) opens in
+    subst (λ (l : List ℕ). SaysFront l a d la ld) (is ∙ ap listing once) (front_then line a b d la lb ld rests part h)

@@ -5,8 +5,8 @@ use Rattle.std.proofs.lemmas.List.{take_all, length-take}
 use Rattle.std.proofs.lemmas.Bool.Decides.{nat_tests}
 use Rattle.kd_base.specs.Tools.{err_is}
 use Rattle.kd_device.specs.Room.{RoomState, text_of}
-use Rattle.kd_device.specs.declared.room.RoomError.{RoomError}
-use Rattle.kd_device.specs.declared.room.RoomError.TheVariants as room
+use Rattle.kd_device.specs.declared.error.DeviceError.{DeviceError}
+use Rattle.kd_device.specs.declared.error.DeviceError.TheVariants as room
 use Rattle.kdcdef_lex.specs.declared.fault.LexFault.TheVariants as lex
 use Rattle.kdcdef_types.specs.Generation.{Generated}
 use Rattle.monitor_semantics.specs.declared.command.Command.{Command}
@@ -318,11 +318,11 @@ ok_weaker (Ok x) P Q h p = h x p
 ok_weaker (Err e) P Q h p = p
 
 -- a read that failed, as the error of the texts and as its own
-pub handed_room : (T U : Type 0) (r : Result T RoomError) (e : RoomError) → IsErrAnd r (λ x. x ≡ e) → IsErrOf r room.Failed → IsErrOf {T = U} (Err e) room.Failed
+pub handed_room : (T U : Type 0) (r : Result T DeviceError) (e : DeviceError) → IsErrAnd r (λ x. x ≡ e) → IsErrOf r room.Failed → IsErrOf {T = U} (Err e) room.Failed
 handed_room T U (Ok x) e gives is = absurd gives
-handed_room T U (Err x) e gives is = let same : x ≡ room.Failed = cc in ap (λ (k : RoomError). Err k) (sym gives ∙ same)
+handed_room T U (Err x) e gives is = let same : x ≡ room.Failed = cc in ap (λ (k : DeviceError). Err k) (sym gives ∙ same)
 
-pub room_failed : (T U : Type 0) (r : Result T TextError) (e : RoomError) → IsErrAnd r (λ x. x ≡ of_room e) → IsErrOf r error.Room → IsErrOf {T = U} (Err e) room.Failed
+pub room_failed : (T U : Type 0) (r : Result T TextError) (e : DeviceError) → IsErrAnd r (λ x. x ≡ of_room e) → IsErrOf r error.Room → IsErrOf {T = U} (Err e) room.Failed
 room_failed T U r room.Failed gives is = refl
 room_failed T U (Ok x) room.Memory gives is = absurd gives
 room_failed T U (Err x) room.Memory gives is = absurd cc

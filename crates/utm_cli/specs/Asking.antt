@@ -1,5 +1,6 @@
 -- What the texts of a call ask for.
 use Rattle.std.specs.Prelude.{◌≡◌, ◌⊎◌, ◌≤◌, ◌<◌, ◌^◌, ℕ, List, [], length, take, sum_by, Some, Result, Ok, Err}
+use Rattle.kd_base.specs.Limits.{longest_text}
 use Rattle.kd_device.specs.Room.{RoomState, text_of}
 use Rattle.unit_check.specs.Fitted.{IsFit}
 use Rattle.application_read.specs.declared.application.Application.{Application as Made}
@@ -71,7 +72,7 @@ pub record ReadsFor (word : Word) (base : List ℕ) (room : RoomState) (said : R
 
 -- longer than a text may be
 abbrev pub IsLong : List ℕ → Type 0
-IsLong text = 16777216 < length text
+IsLong text = longest_text < length text
 
 -- the same text, or both are too long
 abbrev pub AreAlike : List ℕ → List ℕ → Type 0

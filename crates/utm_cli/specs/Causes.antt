@@ -2,14 +2,14 @@
 use Rattle.utm_cli.specs.declared.error.Refusal.TheVariants as refusal
 use Rattle.utm_cli.specs.declared.error.TextError.{TextError}
 use Rattle.utm_cli.specs.declared.error.TextError.TheVariants as text
-use Rattle.kd_device.specs.declared.room.RoomError.{RoomError}
-use Rattle.kd_device.specs.declared.room.RoomError.TheVariants as room
+use Rattle.kd_device.specs.declared.error.DeviceError.{DeviceError}
+use Rattle.kd_device.specs.declared.error.DeviceError.TheVariants as room
 use Rattle.application_read.specs.declared.fault.ApplicationFault.{ApplicationFault}
 use Rattle.application_read.specs.declared.fault.ApplicationFault.TheVariants as application
 use Rattle.script_read.specs.declared.fault.ScriptFault.{ScriptFault}
 use Rattle.script_read.specs.declared.fault.ScriptFault.TheVariants as fault
 
-abbrev pub of_room : RoomError → TextError
+abbrev pub of_room : DeviceError → TextError
 of_room room.Failed = text.Room
 of_room room.Memory = text.Memory
 

@@ -1,7 +1,7 @@
 //! Why texts ask for nothing.
 
 use application_read::ApplicationFault;
-use kd_device::RoomError;
+use kd_device::DeviceError;
 use script_read::ScriptFault;
 use thiserror::Error;
 
@@ -26,16 +26,16 @@ pub(crate) enum TextError {
     Memory,
 }
 
-impl From<RoomError> for TextError {
+impl From<DeviceError> for TextError {
     ghost use Rattle.std.specs.Prelude.{◌≡◌};
     ghost use Rattle.utm_cli.specs.Causes.{of_room};
 
     ghost from_gives = { λ e r. r ≡ of_room e };
 
-    fn from(e: RoomError) -> Self {
+    fn from(e: DeviceError) -> Self {
         match e {
-            RoomError::Failed => TextError::Room,
-            RoomError::Memory => TextError::Memory,
+            DeviceError::Failed => TextError::Room,
+            DeviceError::Memory => TextError::Memory,
         }
     }
 }

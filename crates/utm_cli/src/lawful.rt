@@ -1,9 +1,7 @@
 //! The laws that the script of a call keeps.
 ghost use Rattle.std.specs.Prelude.{List, ℕ};
 ghost use Rattle.kdcs_types.specs.Tables.{TableRows};
-ghost use Rattle.utm_cli.specs.Asking.{CanRun, app_of};
-ghost use Rattle.utm_cli.specs.Doing.{Starts};
-ghost use Rattle.utm_cli.specs.Promise.{RunsLawfully};
+ghost use Rattle.utm_cli.specs.{Asking.{CanRun, app_of}, Doing.{Starts}, Promise.{RunsLawfully}};
 
 use crate::reading::Asked;
 use monitor_queues::{cuts_are_serial, cuts_resume, runs_are_lawful};

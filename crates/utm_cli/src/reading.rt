@@ -1,30 +1,23 @@
 //! The texts of a call, read from the room, and what they say.
 ghost use Rattle.std.specs.Prelude.{◌≡◌, ◌++◌, List, ℕ, IsTrue, IfOk, IsErrOf, IsSome, IsSomeAnd, Ok, Err};
-ghost use Rattle.kd_device.specs.Device.{Rose};
-ghost use Rattle.kd_device.specs.Room.{SameRoom, text_of};
-ghost use Rattle.utm_cli.specs.Asking.{Errand, Reading, AskFor, CanRun, ScriptIs, ReadsFor, AreThere, WereRead, shown_of};
-ghost use Rattle.utm_cli.specs.Doing.{IsOverFile};
-ghost use Rattle.utm_cli.specs.Words.{IsForm};
+ghost use Rattle.kd_device.specs.{Device.{Rose}, Room.{SameRoom, text_of}};
+ghost use Rattle.utm_cli.specs.{Asking.{Errand, Reading, AskFor, CanRun, ScriptIs, ReadsFor, AreThere, WereRead, shown_of}, Doing.{IsOverFile}, Words.{IsForm}, declared.error.Refusal.{Refusal}};
 ghost use Rattle.made_run.specs.Input.{definition_text as made_definition, units_text as made_units, script_text as made_script};
 ghost use Rattle.kdcdef_types.specs.Statements.{IsWithin};
-ghost use Rattle.utm_cli.specs.declared.error.Refusal.{Refusal};
 
 use crate::error::TextError;
 use crate::text::named;
 use crate::words::Word;
 use application_facts::fitted_units_make_an_application;
 use application_read::{Application, read_application};
-use kd_base::OutOfMemory;
-use kd_device::{Room, RoomError};
+use kd_base::{LONGEST_TEXT, OutOfMemory};
+use kd_device::{DeviceError, Room};
 use made_run::made;
 use monitor_semantics::Command;
 use script_read::{commands_are_said, read_script};
 use std::alloc::Global;
 use std::marker::Model;
 use warm_start::fingerprint_of;
-
-/// The greatest length of a text, in bytes.
-const TEXT_LIMIT: u64 = 16_777_216;
 
 /// What a call asks for.
 #[derive(Drop)]
@@ -59,16 +52,16 @@ fn text<R: Room>(
     room: &mut R,
     base: &[u8],
     ending: &[u8],
-) -> Result<Vec<u8>, RoomError>
+) -> Result<Vec<u8>, DeviceError>
     ensures value { IfOk result (λ text. IsTrue (R.room room.old).told → IsSomeAnd (text_of (base.now ++ ending.now) (R.room room.old).texts) (λ whole. text.items ≡ shown_of whole)) }
-    ensures room { IsErrOf result RoomError.Failed → Rose (R.room room.old).faults (R.room room.new).faults }
-    ensures sure { IsTrue (R.room room.old).sure → IsSome (text_of (base.now ++ ending.now) (R.room room.old).texts) → IsErrOf result RoomError.Failed → ⊥ }
+    ensures room { IsErrOf result DeviceError.Failed → Rose (R.room room.old).faults (R.room room.new).faults }
+    ensures sure { IsTrue (R.room room.old).sure → IsSome (text_of (base.now ++ ending.now) (R.room room.old).texts) → IsErrOf result DeviceError.Failed → ⊥ }
     ensures same { SameRoom (R.room room.old) (R.room room.new) }
 {
     let Ok(name) = named(alloc, base, ending) else {
-        return Err(RoomError::Memory);
+        return Err(DeviceError::Memory);
     };
-    room.read(alloc, &name, TEXT_LIMIT)
+    room.read(alloc, &name, LONGEST_TEXT as u64)
 }
 
 /// The text of the script, which `gen` and `show` do not read.
@@ -77,11 +70,11 @@ fn script_text<R: Room>(
     room: &mut R,
     word: Word,
     base: &[u8],
-) -> Result<Vec<u8>, RoomError>
+) -> Result<Vec<u8>, DeviceError>
     requires { IsOverFile word }
     ensures value { IfOk result (λ text. IsTrue (R.room room.old).told → (whole : List ℕ) × ScriptIs word base.now (R.room room.old) whole × (text.items ≡ shown_of whole)) }
-    ensures room { IsErrOf result RoomError.Failed → Rose (R.room room.old).faults (R.room room.new).faults }
-    ensures sure { IsTrue (R.room room.old).sure → (whole : List ℕ) → ScriptIs word base.now (R.room room.old) whole → IsErrOf result RoomError.Failed → ⊥ }
+    ensures room { IsErrOf result DeviceError.Failed → Rose (R.room room.old).faults (R.room room.new).faults }
+    ensures sure { IsTrue (R.room room.old).sure → (whole : List ℕ) → ScriptIs word base.now (R.room room.old) whole → IsErrOf result DeviceError.Failed → ⊥ }
     ensures same { SameRoom (R.room room.old) (R.room room.new) }
 {
     match word {
@@ -96,11 +89,11 @@ fn room_texts<R: Room>(
     room: &mut R,
     word: Word,
     base: &[u8],
-) -> Result<Texts, RoomError>
+) -> Result<Texts, DeviceError>
     requires { IsOverFile word }
     ensures read { IfOk result (λ t. IsTrue (R.room room.old).told → WereRead word base.now (R.room room.old) t.definition.items t.units.items t.script.items) }
-    ensures room { IsErrOf result RoomError.Failed → Rose (R.room room.old).faults (R.room room.new).faults }
-    ensures sure { IsTrue (R.room room.old).sure → (definition units text : List ℕ) → AreThere word base.now (R.room room.old) definition units text → IsErrOf result RoomError.Failed → ⊥ }
+    ensures room { IsErrOf result DeviceError.Failed → Rose (R.room room.old).faults (R.room room.new).faults }
+    ensures sure { IsTrue (R.room room.old).sure → (definition units text : List ℕ) → AreThere word base.now (R.room room.old) definition units text → IsErrOf result DeviceError.Failed → ⊥ }
     ensures same { SameRoom (R.room room.old) (R.room room.new) }
 {
     let definition = text(alloc, room, base, b".def")?;
@@ -134,18 +127,18 @@ fn texts_of<R: Room>(
     room: &mut R,
     word: Word,
     base: &[u8],
-) -> Result<Texts, RoomError>
+) -> Result<Texts, DeviceError>
     requires { IsForm word }
     ensures read { IfOk result (λ t. IsTrue (R.room room.old).told → WereRead word base.now (R.room room.old) t.definition.items t.units.items t.script.items) }
-    ensures room { IsErrOf result RoomError.Failed → Rose (R.room room.old).faults (R.room room.new).faults }
-    ensures sure { IsTrue (R.room room.old).sure → (definition units text : List ℕ) → AreThere word base.now (R.room room.old) definition units text → IsErrOf result RoomError.Failed → ⊥ }
+    ensures room { IsErrOf result DeviceError.Failed → Rose (R.room room.old).faults (R.room room.new).faults }
+    ensures sure { IsTrue (R.room room.old).sure → (definition units text : List ℕ) → AreThere word base.now (R.room room.old) definition units text → IsErrOf result DeviceError.Failed → ⊥ }
     ensures same { SameRoom (R.room room.old) (R.room room.new) }
 {
     match word {
         Word::Gen | Word::Run | Word::Show => room_texts(alloc, room, word, base),
         Word::Make(inputs) => match made_texts(alloc, inputs) {
             Ok(texts) => Ok(texts),
-            Err(OutOfMemory) => Err(RoomError::Memory),
+            Err(OutOfMemory) => Err(DeviceError::Memory),
         },
     }
 }

@@ -1,16 +1,14 @@
 //! A call that is refused sends one line, and does nothing else.
-ghost use Rattle.std.specs.Prelude.{◌≡◌, ◌∷◌, [], IsTrue, IfOk};
-ghost use Rattle.std.specs.String.{string_bytes};
+ghost use Rattle.std.specs.{Prelude.{◌≡◌, ◌∷◌, [], IsTrue, IfOk}, String.{string_bytes}};
 ghost use Rattle.kd_device.specs.Device.{Rose, Frame, SameNames};
 ghost use Rattle.monitor_acts.specs.Said.{Said, SaidPart};
-ghost use Rattle.utm_cli.specs.Promise.{IsOneOf};
-ghost use Rattle.utm_cli.specs.Words.{fault_line, application_line, refusal_line, status_of, other_generation_line};
+ghost use Rattle.utm_cli.specs.{Promise.{IsOneOf}, Words.{fault_line, application_line, refusal_line, status_of, other_generation_line}};
 
 use crate::error::Refusal;
 use crate::status::Status;
 use application_read::ApplicationFault;
-use kd_device::Device;
-use monitor_acts::{ActError, say};
+use kd_device::{Device, DeviceError};
+use monitor_acts::say;
 use script_read::ScriptFault;
 use std::alloc::{AllocError, Global};
 
@@ -26,8 +24,8 @@ pub(crate) fn refuse<D: Device>(device: &mut D, line: &[u8], status: Status) -> 
 {
     match say(device, line) {
         Ok(()) => status,
-        Err(ActError::Failed) => Status::DEVICE,
-        Err(ActError::Memory) => Status::MEMORY,
+        Err(DeviceError::Failed) => Status::DEVICE,
+        Err(DeviceError::Memory) => Status::MEMORY,
     }
 }
 

@@ -1,24 +1,15 @@
 //! What a call does over the KDCFILE.
 ghost use Rattle.std.specs.Prelude.{◌≡◌, ◌⊎◌, ◌++◌, ◌∷◌, [], List, ℕ, IsTrue, true, OnOk, IsErrOf};
-ghost use Rattle.kd_device.specs.Device.{Rose, Frame, SameNames, LeavesOnly, Only};
-ghost use Rattle.kd_device.specs.Rest.{Rests};
-ghost use Rattle.kdcfile_store.specs.Kept.{IsKept};
-ghost use Rattle.kdcfile_store.specs.Whole.{HasFile};
+ghost use Rattle.kd_device.specs.{Device.{Rose, Frame, SameNames, LeavesOnly, Only}, Rest.{Rests}};
+ghost use Rattle.kdcfile_store.specs.{Kept.{IsKept}, Whole.{HasFile}};
 ghost use Rattle.kdcs_types.specs.Tables.{TableRows};
 ghost use Rattle.monitor_laws.specs.Suits.{Suits};
 ghost use Rattle.kdcdef_types.specs.Statements.{IsWithin};
-ghost use Rattle.monitor_semantics.specs.Listing.{listing};
-ghost use Rattle.monitor_semantics.specs.Trace.{tables_after};
-ghost use Rattle.warm_start.specs.Opening.{IsRefused, IsOfOtherTexts};
-ghost use Rattle.warm_start.specs.Stands.{StandsForTables, KeepsTables};
-ghost use Rattle.utm_cli.specs.Words.{IsForm, file_name, not_a_kdcfile_line, other_generation_line};
-ghost use Rattle.monitor_acts.specs.Said.{SameDisk, Said, SaidPart};
-ghost use Rattle.utm_cli.specs.declared.words.Word.TheVariants.{Gen, Run};
-ghost use Rattle.utm_cli.specs.Asking.{CanRun, app_of};
-ghost use Rattle.utm_cli.specs.Doing.{Opens, Starts, Refuses, IsOfOthers, identity_of, acts_of};
-ghost use Rattle.monitor_acts.specs.Performing.{Performs, commits_nothing};
+ghost use Rattle.monitor_semantics.specs.{Listing.{listing}, Trace.{tables_after}};
+ghost use Rattle.warm_start.specs.{Opening.{IsRefused, IsOfOtherTexts}, Stands.{StandsForTables, KeepsTables}};
+ghost use Rattle.utm_cli.specs.{Words.{IsForm, file_name, not_a_kdcfile_line, other_generation_line}, declared.words.Word.TheVariants.{Gen, Run}, Asking.{CanRun, app_of}, Doing.{Opens, Starts, Refuses, IsOfOthers, identity_of, acts_of}, Promise.{IsOneOf, RanOver, Ran, IsCutOver, IsCutOfRun, SaysFront, MakesFile, MayAttach, MayHandOn, HandsOn, AttachedBy}};
+ghost use Rattle.monitor_acts.specs.{Said.{SameDisk, Said, SaidPart}, Performing.{Performs, commits_nothing}};
 ghost use Rattle.made_run.specs.Report.{report_of};
-ghost use Rattle.utm_cli.specs.Promise.{IsOneOf, RanOver, Ran, IsCutOver, IsCutOfRun, SaysFront, MakesFile, MayAttach, MayHandOn, HandsOn, AttachedBy};
 
 use crate::opening::{look, open};
 use crate::reading::Asked;
@@ -28,15 +19,16 @@ use crate::status::Status;
 use crate::text::named;
 use crate::words::Word;
 use application_read::Application;
-use kd_device::Device;
+use kd_device::{Device, DeviceError};
 use kdcfile_store::WholeStore;
 use kdcs_monitor::Core;
 use kdcs_types::Tables;
 use made_run::made_report;
-use monitor_acts::{ActError, perform_acts, say};
-use monitor_run::{RunError, run_script};
+use monitor_acts::{perform_acts, say};
+use monitor_run::run_script;
 use std::alloc::Global;
 use table_lines::table_lines;
+use warm_start::OpenError;
 
 /// What is sent where the file is no KDCFILE of this application.
 const NOT_A_KDCFILE: &[u8] = b"KDCFILE NOT A KDCFILE\n";
@@ -47,12 +39,12 @@ fn perform_report<D: Device>(
     device: &mut D,
     mut store: WholeStore,
     asked: &Asked,
-) -> Result<(), ActError>
+) -> Result<(), DeviceError>
     requires word { asked.now.word ≡ Gen }
     requires kept { IsTrue (D.state device.old).told → IsKept (HasFile store) (D.state device.old) (D.leaves device.old) }
     ensures any { (t : TableRows) → KeepsTables (identity_of asked.now) store t → Performs tables_after (StandsForTables (identity_of asked.now)) t (acts_of asked.now t) (D.state device.old) (D.state device.new) (D.leaves device.old) (D.leaves device.new) }
     ensures done { OnOk result ((t : TableRows) → KeepsTables (identity_of asked.now) store t → IsTrue (D.state device.old).told → RanOver (identity_of asked.now) (acts_of asked.now) t (D.state device.old) (D.state device.new) (D.leaves device.new)) }
-    ensures failed { IsErrOf result ActError.Failed → Rose (D.state device.old).disk_faults (D.state device.new).disk_faults ⊎ Rose (D.state device.old).line_faults (D.state device.new).line_faults }
+    ensures failed { IsErrOf result DeviceError.Failed → Rose (D.state device.old).disk_faults (D.state device.new).disk_faults ⊎ Rose (D.state device.old).line_faults (D.state device.new).line_faults }
 {
     let acts = report(alloc, &asked.application.generation)?;
     perform_acts(alloc, device, &mut store, acts.as_slice())
@@ -65,7 +57,7 @@ fn perform_script<D: Device>(
     store: WholeStore,
     tables: Tables,
     asked: Asked,
-) -> Result<u64, RunError>
+) -> Result<u64, OpenError>
     requires word { asked.word ≡ Run }
     requires can { CanRun asked }
     requires tables { KeepsTables (identity_of asked) store tables }
@@ -73,9 +65,9 @@ fn perform_script<D: Device>(
     requires kept { IsTrue (D.state device.old).told → IsKept (HasFile store) (D.state device.old) (D.leaves device.old) }
     ensures any { Performs tables_after (StandsForTables (identity_of asked)) tables (acts_of asked tables) (D.state device.old) (D.state device.new) (D.leaves device.old) (D.leaves device.new) }
     ensures done { OnOk result (IsTrue (D.state device.old).told → RanOver (identity_of asked) (acts_of asked) tables (D.state device.old) (D.state device.new) (D.leaves device.new)) }
-    ensures failed { IsErrOf result RunError.Failed → Rose (D.state device.old).disk_faults (D.state device.new).disk_faults ⊎ Rose (D.state device.old).line_faults (D.state device.new).line_faults }
-    ensures refused { IsErrOf result RunError.NotKdcfile → IsTrue (D.state device.old).told → ⊥ }
-    ensures other { (stored : List ℕ) → IsErrOf result (RunError.OtherGeneration stored) → IsTrue (D.state device.old).told → ⊥ }
+    ensures failed { IsErrOf result OpenError.Failed → Rose (D.state device.old).disk_faults (D.state device.new).disk_faults ⊎ Rose (D.state device.old).line_faults (D.state device.new).line_faults }
+    ensures refused { IsErrOf result OpenError.NotKdcfile → IsTrue (D.state device.old).told → ⊥ }
+    ensures other { (stored : List ℕ) → IsErrOf result (OpenError.OtherGeneration stored) → IsTrue (D.state device.old).told → ⊥ }
 {
     let Asked {
         word: _word,
@@ -94,7 +86,7 @@ fn perform<D: Device>(
     store: WholeStore,
     tables: Tables,
     asked: Asked,
-) -> Result<(), RunError>
+) -> Result<(), OpenError>
     requires stored { MakesFile asked.word }
     requires can { CanRun asked }
     requires tables { KeepsTables (identity_of asked) store tables }
@@ -102,9 +94,9 @@ fn perform<D: Device>(
     requires kept { IsTrue (D.state device.old).told → IsKept (HasFile store) (D.state device.old) (D.leaves device.old) }
     ensures any { Performs tables_after (StandsForTables (identity_of asked)) tables (acts_of asked tables) (D.state device.old) (D.state device.new) (D.leaves device.old) (D.leaves device.new) }
     ensures done { OnOk result (IsTrue (D.state device.old).told → RanOver (identity_of asked) (acts_of asked) tables (D.state device.old) (D.state device.new) (D.leaves device.new)) }
-    ensures failed { IsErrOf result RunError.Failed → Rose (D.state device.old).disk_faults (D.state device.new).disk_faults ⊎ Rose (D.state device.old).line_faults (D.state device.new).line_faults }
-    ensures refused { IsErrOf result RunError.NotKdcfile → IsTrue (D.state device.old).told → ⊥ }
-    ensures other { (stored : List ℕ) → IsErrOf result (RunError.OtherGeneration stored) → IsTrue (D.state device.old).told → ⊥ }
+    ensures failed { IsErrOf result OpenError.Failed → Rose (D.state device.old).disk_faults (D.state device.new).disk_faults ⊎ Rose (D.state device.old).line_faults (D.state device.new).line_faults }
+    ensures refused { IsErrOf result OpenError.NotKdcfile → IsTrue (D.state device.old).told → ⊥ }
+    ensures other { (stored : List ℕ) → IsErrOf result (OpenError.OtherGeneration stored) → IsTrue (D.state device.old).told → ⊥ }
 {
     match asked.word {
         Word::Gen => Ok(perform_report(alloc, device, store, &asked)?),
@@ -122,13 +114,13 @@ fn run_stored<D: Device>(
     device: &mut D,
     name: &[u8],
     asked: Asked,
-) -> Result<(), RunError>
+) -> Result<(), OpenError>
     requires stored { MakesFile asked.word }
     requires can { CanRun asked }
     ensures done { OnOk result (IsTrue (D.state device.old).told → (t : TableRows) × Opens asked (D.state device.old).holds t × RanOver (identity_of asked) (acts_of asked) t (D.state device.old) (D.state device.new) (D.leaves device.new)) }
-    ensures refused { IsErrOf result RunError.NotKdcfile → IsTrue (D.state device.old).told → IsRefused asked.application.generation asked.fingerprint (D.state device.old).holds }
-    ensures other { (stored : List ℕ) → IsErrOf result (RunError.OtherGeneration stored) → IsTrue (D.state device.old).told → IsOfOtherTexts stored asked.fingerprint (D.state device.old).holds }
-    ensures failed { IsErrOf result RunError.Failed → Rose (D.state device.old).disk_faults (D.state device.new).disk_faults ⊎ Rose (D.state device.old).line_faults (D.state device.new).line_faults }
+    ensures refused { IsErrOf result OpenError.NotKdcfile → IsTrue (D.state device.old).told → IsRefused asked.application.generation asked.fingerprint (D.state device.old).holds }
+    ensures other { (stored : List ℕ) → IsErrOf result (OpenError.OtherGeneration stored) → IsTrue (D.state device.old).told → IsOfOtherTexts stored asked.fingerprint (D.state device.old).holds }
+    ensures failed { IsErrOf result OpenError.Failed → Rose (D.state device.old).disk_faults (D.state device.new).disk_faults ⊎ Rose (D.state device.old).line_faults (D.state device.new).line_faults }
 
     // A file that the call does not start from stays as it is.
     ensures still { IsTrue (D.state device.old).told → ((t : TableRows) → Opens asked (D.state device.old).holds t → ⊥) → Rests (D.state device.old) (D.state device.new) (D.leaves device.old) (D.leaves device.new) }
@@ -151,11 +143,11 @@ fn show_over<D: Device>(
     device: &mut D,
     name: &[u8],
     asked: &Asked,
-) -> Result<(), RunError>
+) -> Result<(), OpenError>
     ensures done { OnOk result (IsTrue (D.state device.old).told → (t : TableRows) × Opens asked.now (D.state device.old).holds t × Said (listing t) (D.state device.old) (D.state device.new)) }
-    ensures refused { IsErrOf result RunError.NotKdcfile → IsTrue (D.state device.old).told → IsRefused asked.now.application.generation asked.now.fingerprint (D.state device.old).holds }
-    ensures other { (stored : List ℕ) → IsErrOf result (RunError.OtherGeneration stored) → IsTrue (D.state device.old).told → IsOfOtherTexts stored asked.now.fingerprint (D.state device.old).holds }
-    ensures failed { IsErrOf result RunError.Failed → Rose (D.state device.old).disk_faults (D.state device.new).disk_faults ⊎ Rose (D.state device.old).line_faults (D.state device.new).line_faults }
+    ensures refused { IsErrOf result OpenError.NotKdcfile → IsTrue (D.state device.old).told → IsRefused asked.now.application.generation asked.now.fingerprint (D.state device.old).holds }
+    ensures other { (stored : List ℕ) → IsErrOf result (OpenError.OtherGeneration stored) → IsTrue (D.state device.old).told → IsOfOtherTexts stored asked.now.fingerprint (D.state device.old).holds }
+    ensures failed { IsErrOf result OpenError.Failed → Rose (D.state device.old).disk_faults (D.state device.new).disk_faults ⊎ Rose (D.state device.old).line_faults (D.state device.new).line_faults }
 
     // Nothing is said of a file that is not shown, and else a front of its list.
     ensures still { IsTrue (D.state device.old).told → ((t : TableRows) → Opens asked.now (D.state device.old).holds t → ⊥) → Rests (D.state device.old) (D.state device.new) (D.leaves device.old) (D.leaves device.new) }
@@ -172,13 +164,18 @@ fn show_over<D: Device>(
 }
 
 /// The report of the made input, which is run on a device of its own.
-fn make<D: Device>(alloc: Global, device: &mut D, inputs: u32, asked: Asked) -> Result<(), RunError>
+fn make<D: Device>(
+    alloc: Global,
+    device: &mut D,
+    inputs: u32,
+    asked: Asked,
+) -> Result<(), OpenError>
     requires inputs { IsWithin 1 20000 inputs }
     requires can { CanRun asked }
     ensures done { OnOk result (IsTrue (D.state device.old).told → Said (report_of inputs (app_of asked) asked.commands) (D.state device.old) (D.state device.new)) }
-    ensures refused { IsErrOf result RunError.NotKdcfile → ⊥ }
-    ensures other { (stored : List ℕ) → IsErrOf result (RunError.OtherGeneration stored) → ⊥ }
-    ensures failed { IsErrOf result RunError.Failed → Rose (D.state device.old).line_faults (D.state device.new).line_faults }
+    ensures refused { IsErrOf result OpenError.NotKdcfile → ⊥ }
+    ensures other { (stored : List ℕ) → IsErrOf result (OpenError.OtherGeneration stored) → ⊥ }
+    ensures failed { IsErrOf result OpenError.Failed → Rose (D.state device.old).line_faults (D.state device.new).line_faults }
     ensures front { IsTrue (D.state device.old).told → SaysFront (report_of inputs (app_of asked) asked.commands) (D.state device.old) (D.state device.new) (D.leaves device.old) (D.leaves device.new) }
     ensures frame { Frame (D.state device.old) (D.state device.new) }
     ensures names { SameNames (D.state device.old) (D.state device.new) }
@@ -200,13 +197,13 @@ fn run_over<D: Device>(
     device: &mut D,
     name: &[u8],
     asked: Asked,
-) -> Result<(), RunError>
+) -> Result<(), OpenError>
     requires form { IsForm asked.word }
     requires can { CanRun asked }
     ensures done { OnOk result (IsTrue (D.state device.old).told → (t : TableRows) × Starts asked (D.state device.old).holds t × Ran asked t (D.state device.old) (D.state device.new) (D.leaves device.new)) }
-    ensures refused { IsErrOf result RunError.NotKdcfile → IsTrue (D.state device.old).told → Refuses asked (D.state device.old).holds }
-    ensures other { (stored : List ℕ) → IsErrOf result (RunError.OtherGeneration stored) → IsTrue (D.state device.old).told → IsOfOthers stored asked (D.state device.old).holds }
-    ensures failed { IsErrOf result RunError.Failed → Rose (D.state device.old).disk_faults (D.state device.new).disk_faults ⊎ Rose (D.state device.old).line_faults (D.state device.new).line_faults }
+    ensures refused { IsErrOf result OpenError.NotKdcfile → IsTrue (D.state device.old).told → Refuses asked (D.state device.old).holds }
+    ensures other { (stored : List ℕ) → IsErrOf result (OpenError.OtherGeneration stored) → IsTrue (D.state device.old).told → IsOfOthers stored asked (D.state device.old).holds }
+    ensures failed { IsErrOf result OpenError.Failed → Rose (D.state device.old).disk_faults (D.state device.new).disk_faults ⊎ Rose (D.state device.old).line_faults (D.state device.new).line_faults }
 
     // A file that the call does not start from stays as it is.
     ensures still { IsTrue (D.state device.old).told → ((t : TableRows) → Starts asked (D.state device.old).holds t → ⊥) → Rests (D.state device.old) (D.state device.new) (D.leaves device.old) (D.leaves device.new) }
@@ -258,9 +255,9 @@ pub(crate) fn run<D: Device>(alloc: Global, device: &mut D, base: &[u8], asked: 
     };
     match run_over(alloc, device, &name, asked) {
         Ok(()) => Status::DONE,
-        Err(RunError::Failed) => Status::DEVICE,
-        Err(RunError::Memory) => Status::MEMORY,
-        Err(RunError::NotKdcfile) => refuse(device, NOT_A_KDCFILE, Status::FILE),
-        Err(RunError::OtherGeneration(stored)) => refuse_other(alloc, device, &stored),
+        Err(OpenError::Failed) => Status::DEVICE,
+        Err(OpenError::Memory) => Status::MEMORY,
+        Err(OpenError::NotKdcfile) => refuse(device, NOT_A_KDCFILE, Status::FILE),
+        Err(OpenError::OtherGeneration(stored)) => refuse_other(alloc, device, &stored),
     }
 }

@@ -1,17 +1,9 @@
 //! The top call: what the words ask for is done, and answered as a status.
-ghost use Rattle.std.specs.Prelude.{◌≡◌, ◌⊎◌, ◌∷◌, [], List, ℕ, IsTrue, true, map, Some, None, Ok, Err};
-ghost use Rattle.std.specs.String.{string_bytes};
-ghost use Rattle.kd_device.specs.Device.{Rose, Frame, Only};
-ghost use Rattle.kd_device.specs.Room.{SameRoom};
+ghost use Rattle.std.specs.{Prelude.{◌≡◌, ◌⊎◌, ◌∷◌, [], List, ℕ, IsTrue, true, map, Some, None, Ok, Err}, String.{string_bytes}};
+ghost use Rattle.kd_device.specs.{Device.{Rose, Frame, Only}, Room.{SameRoom}};
 ghost use Rattle.kdcs_types.specs.Tables.{TableRows};
-ghost use Rattle.utm_cli.specs.Words.{request_of as request, usage_line, status_of, refusal_line, not_a_kdcfile_line, other_generation_line};
-ghost use Rattle.monitor_acts.specs.Said.{SameDisk, Said, SaidPart};
-ghost use Rattle.utm_cli.specs.declared.error.Refusal.{Refusal};
-ghost use Rattle.utm_cli.specs.declared.words.Word.{Word};
-ghost use Rattle.utm_cli.specs.Asking.{Errand, app_of};
-ghost use Rattle.utm_cli.specs.Doing.{Starts, Refuses, IsOfOthers, acts_of};
-ghost use Rattle.monitor_acts.specs.Performing.{commits_nothing};
-ghost use Rattle.utm_cli.specs.Promise.{IsOneOf, Request, Reads, Misses, Ran, IsCutOfRun, EndsInCut, MakesFile, RunsLawfully, AttachedBy};
+ghost use Rattle.utm_cli.specs.{Words.{request_of as request, usage_line, status_of, refusal_line, not_a_kdcfile_line, other_generation_line}, declared.error.Refusal.{Refusal}, declared.words.Word.{Word}, Asking.{Errand, app_of}, Doing.{Starts, Refuses, IsOfOthers, acts_of}, Promise.{IsOneOf, Request, Reads, Misses, Ran, IsCutOfRun, EndsInCut, MakesFile, RunsLawfully, AttachedBy}};
+ghost use Rattle.monitor_acts.specs.{Said.{SameDisk, Said, SaidPart}, Performing.{commits_nothing}};
 
 use crate::error::TextError;
 use crate::lawful::scripts_run_lawfully;

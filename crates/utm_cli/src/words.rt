@@ -1,6 +1,5 @@
 //! What the words of a call ask for.
-ghost use Rattle.std.specs.Prelude.{◌≡◌, map, codes, MatchOption, IfSome, None, Some};
-ghost use Rattle.std.specs.String.{string_bytes};
+ghost use Rattle.std.specs.{Prelude.{◌≡◌, map, codes, MatchOption, IfSome, None, Some}, String.{string_bytes}};
 ghost use Rattle.kd_base.specs.Text.{decimal_of};
 ghost use Rattle.script_read.specs.Script.{same};
 ghost use Rattle.utm_cli.specs.Words.{IsForm, request_of as request, word_of as word_spelled, word_with, is_base, made_input};

@@ -1,6 +1,6 @@
+use Rattle.monitor_run.specs.HandedOn.{error_same}
 use Rattle.monitor_run.proofs.Rotating.{rotation_start, rotation_over, rotation_counted, rotation_running, rotation_kept, rotation_room, rotation_performs, rotation_ended, rotation_ended_counted, rotation_more}
 use Rattle.monitor_run.proofs.Stepping.{failed_then}
-use Rattle.monitor_run.proofs.Errors.{error_same}
 use Rattle.std.proofs.Common.{◌^◌, arith}
 use Rattle.monitor_run.proofs.steps.run_turns.Goals as goal
 

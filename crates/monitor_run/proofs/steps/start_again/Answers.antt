@@ -1,24 +1,24 @@
 use Rattle.std.proofs.Common.{ap, sym, ◌∙◌}
 use Rattle.monitor_semantics.specs.State.{Application}
 use Rattle.monitor_run.proofs.Restarting.{not_empty, never_refused, never_other, starts_again}
-use Rattle.monitor_run.specs.HandedOn.{open_failed, open_refused, open_other}
+use Rattle.monitor_run.specs.HandedOn.{error_same}
 use Rattle.monitor_run.proofs.steps.start_again.Goals as goal
 
 pub returns-in_err-tables-clause-rests : goal.returns-in_err-tables-clause-rests
 returns-in_err-tables-clause-rests g c = λ told. c.reopen.ensures.still told (not_empty c.args.fingerprint.now c.args.core c.args.store.now (g.D.Device.state c.args.device.now) (g.D.Device.leaves c.args.device.now) c.requires.running c.requires.kept told)
 
 pub returns-in_err-tables-clause-failed : goal.returns-in_err-tables-clause-failed
-returns-in_err-tables-clause-failed g c = λ is. c.in_err-tables.ensures.failed (open_failed c.from_residual.result c.in_err-tables.field-0.0 c.from_residual.ensures.1 is)
+returns-in_err-tables-clause-failed g c = λ is. c.in_err-tables.ensures.failed (error_same _ _ c.from_residual.result c.in_err-tables.field-0.0 _ c.from_residual.ensures.1 is)
 
 pub returns-in_err-tables-clause-refused : goal.returns-in_err-tables-clause-refused
 returns-in_err-tables-clause-refused g c = λ is told.
     never_refused c.args.fingerprint.now c.args.core c.args.store.now (g.D.Device.state c.args.device.now) (g.D.Device.leaves c.args.device.now) c.requires.running c.requires.kept c.into_application-generation.result.0 (ap (λ (x : Application). x.generation) c.into_application-generation.ensures.application) c.answers_exclude_each_other.ensures told
-    (c.in_err-tables.ensures.refused (open_refused c.from_residual.result c.in_err-tables.field-0.0 c.from_residual.ensures.1 is) told)
+    (c.in_err-tables.ensures.refused (error_same _ _ c.from_residual.result c.in_err-tables.field-0.0 _ c.from_residual.ensures.1 is) told)
 
 pub returns-in_err-tables-clause-other : goal.returns-in_err-tables-clause-other
 returns-in_err-tables-clause-other g c = λ stored is told.
     never_other c.args.fingerprint.now c.args.core c.args.store.now (g.D.Device.state c.args.device.now) (g.D.Device.leaves c.args.device.now) c.requires.running c.requires.kept c.into_application-generation.result.0 (ap (λ (x : Application). x.generation) c.into_application-generation.ensures.application) c.answers_exclude_each_other.ensures told stored
-    (c.in_err-tables.ensures.other stored (open_other c.from_residual.result c.in_err-tables.field-0.0 c.from_residual.ensures.1 stored is) told)
+    (c.in_err-tables.ensures.other stored (error_same _ _ c.from_residual.result c.in_err-tables.field-0.0 _ c.from_residual.ensures.1 is) told)
 
 pub start-requires-clause-fit : goal.start-requires-clause-fit
 start-requires-clause-fit g c = c.into_application-generation.ensures.fit

@@ -1,4 +1,4 @@
-use Rattle.std.specs.Prelude.{◌≡◌, false, [], ◌∷◌, Option}
+use Rattle.std.specs.Prelude.{[], ◌∷◌, Option}
 use Rattle.std.proofs.Common.{ap, subst, sym, ◌∙◌}
 use Rattle.std.proofs.lemmas.Result.{IfOk-weaker}
 use Rattle.kdcs_types.specs.declared.act.Changes.{Changes}
@@ -7,13 +7,11 @@ use Rattle.kdcs_types.specs.declared.service.Service.{Service}
 use Rattle.kdcs_types.specs.Tables.{AreChanges}
 use Rattle.commit_laws.specs.Ends.{point_made, point_row-fits}
 use Rattle.monitor_semantics.specs.Endings.{service_change}
-use Rattle.monitor_semantics.specs.Sessions.{is_running}
-use Rattle.monitor_state.specs.Standing.{state_of}
 use Rattle.open_transaction.specs.declared.open.OpenTransaction.{OpenTransaction}
 use Rattle.open_transaction.specs.Work.{work_of, HasOrder}
 use Rattle.service_ends.specs.declared.point.Ended.{Ended}
 use Rattle.service_ends.specs.Ending.{IsClosed}
-use Rattle.service_ends.proofs.Ended.{passed_as, points_as, refused_as, refuses_as, row_after_order}
+use Rattle.service_ends.proofs.Ended.{goes_on, passed_as, points_as, refused_as, refuses_as, row_after_order}
 use Rattle.service_ends.proofs.point.settle_work.Goals as goal
 
 pub end_work-requires-clause-closed : goal.end_work-requires-clause-closed
@@ -34,15 +32,12 @@ synchronise-requires-clause-own c =
     subst (λ (i : ServiceId). AreChanges (service_change i c.in-Synced.row ∷ [])) (sym (ap (λ (e : Ended). e.id) c.in_ok-ended.ensures))
     (subst (λ (row : Option Service). AreChanges (service_change c.args.work.id row ∷ [])) (sym passed.row_is) (point_made p.generation p.tables c.args.work.id (work_of c.args.work) c.args.outcome c.requires.closed.stands).own)
 
-pub synchronise-requires-clause-order : goal.synchronise-requires-clause-order
-synchronise-requires-clause-order c =
+pub synchronise-requires-clause-rests : goal.synchronise-requires-clause-rests
+synchronise-requires-clause-rests c =
     let p = c.args.parts.now in
     let passed = passed_as p.generation p.tables c.args.work c.args.outcome _ c.in-Synced.changes c.in-Synced.row c.in-Synced.kept (sym c.in-Synced.is ∙ c.in_ok-cause.ensures) in
-    subst HasOrder (sym passed.row_is) (row_after_order c.args.work.id _ (point_row-fits p.generation c.args.work.id (work_of c.args.work) c.args.outcome c.requires.closed.stands.can.lssbs_order))
-
-pub synchronise-requires-clause-unplaced : goal.synchronise-requires-clause-unplaced
-synchronise-requires-clause-unplaced c =
-    subst (λ (i : ServiceId). is_running (state_of c.args.parts.now) i ≡ false) (sym (ap (λ (e : Ended). e.id) c.in_ok-ended.ensures)) c.requires.closed.unplaced
+    goes_on p c.args.work _ c.in-Synced.row c.requires.closed (ap (λ (e : Ended). e.id) c.in_ok-ended.ensures)
+    (subst HasOrder (sym passed.row_is) (row_after_order c.args.work.id _ (point_row-fits p.generation c.args.work.id (work_of c.args.work) c.args.outcome c.requires.closed.stands.can.lssbs_order)))
 
 pub returns-in-Refused-clause-exact : goal.returns-in-Refused-clause-exact
 returns-in-Refused-clause-exact c =

@@ -1,6 +1,6 @@
 use Rattle.std.proofs.Common.{◌∙◌, ap, subst, inl, inr, List, ℕ, Err}
 use Rattle.std.specs.Prelude.{IsTrue}
-use Rattle.monitor_run.specs.declared.error.RunError.{RunError}
+use Rattle.warm_start.specs.declared.error.OpenError.{OpenError}
 use Rattle.utm_cli.specs.Words.{file_name, not_a_kdcfile_line, other_generation_line}
 use Rattle.monitor_acts.specs.Said.{SaidPart}
 use Rattle.utm_cli.proofs.ByWord.{not_both, not_of_others, refused_or_other, one_other, may_then}
@@ -30,123 +30,87 @@ returns-in-Ok-run_over-clause-other_part g c = λ told stored other.
 
 pub returns-in-Err-Failed-clause-refused_part : goal.returns-in-Err-Failed-clause-refused_part
 returns-in-Err-Failed-clause-refused_part g c = λ told refused.
-    let a = g.D.Device.state c.args.device.now in
-    let b = g.D.Device.state c.run_over.new.device in
-    let la = g.D.Device.leaves c.args.device.now in
-    let lb = g.D.Device.leaves c.run_over.new.device in
-    nothing_said not_a_kdcfile_line a b la lb (c.run_over.ensures.still told (λ t starts. not_both c.args.asked a.holds t starts refused))
+    nothing_said not_a_kdcfile_line (g.D.Device.state c.args.device.now) (g.D.Device.state c.run_over.new.device) (g.D.Device.leaves c.args.device.now) (g.D.Device.leaves c.run_over.new.device) (c.run_over.ensures.still told (λ t starts. not_both c.args.asked (g.D.Device.state c.args.device.now).holds t starts refused))
 
 pub returns-in-Err-Failed-clause-other_part : goal.returns-in-Err-Failed-clause-other_part
 returns-in-Err-Failed-clause-other_part g c = λ told stored other.
-    let a = g.D.Device.state c.args.device.now in
-    let b = g.D.Device.state c.run_over.new.device in
-    let la = g.D.Device.leaves c.args.device.now in
-    let lb = g.D.Device.leaves c.run_over.new.device in
-    nothing_said (other_generation_line stored) a b la lb (c.run_over.ensures.still told (λ t starts. not_of_others c.args.asked a.holds t stored starts other))
+    nothing_said (other_generation_line stored) (g.D.Device.state c.args.device.now) (g.D.Device.state c.run_over.new.device) (g.D.Device.leaves c.args.device.now) (g.D.Device.leaves c.run_over.new.device) (c.run_over.ensures.still told (λ t starts. not_of_others c.args.asked (g.D.Device.state c.args.device.now).holds t stored starts other))
 
 pub returns-in-Err-Memory-clause-refused_part : goal.returns-in-Err-Memory-clause-refused_part
 returns-in-Err-Memory-clause-refused_part g c = λ told refused.
-    let a = g.D.Device.state c.args.device.now in
-    let b = g.D.Device.state c.run_over.new.device in
-    let la = g.D.Device.leaves c.args.device.now in
-    let lb = g.D.Device.leaves c.run_over.new.device in
-    nothing_said not_a_kdcfile_line a b la lb (c.run_over.ensures.still told (λ t starts. not_both c.args.asked a.holds t starts refused))
+    nothing_said not_a_kdcfile_line (g.D.Device.state c.args.device.now) (g.D.Device.state c.run_over.new.device) (g.D.Device.leaves c.args.device.now) (g.D.Device.leaves c.run_over.new.device) (c.run_over.ensures.still told (λ t starts. not_both c.args.asked (g.D.Device.state c.args.device.now).holds t starts refused))
 
 pub returns-in-Err-Memory-clause-other_part : goal.returns-in-Err-Memory-clause-other_part
 returns-in-Err-Memory-clause-other_part g c = λ told stored other.
-    let a = g.D.Device.state c.args.device.now in
-    let b = g.D.Device.state c.run_over.new.device in
-    let la = g.D.Device.leaves c.args.device.now in
-    let lb = g.D.Device.leaves c.run_over.new.device in
-    nothing_said (other_generation_line stored) a b la lb (c.run_over.ensures.still told (λ t starts. not_of_others c.args.asked a.holds t stored starts other))
+    nothing_said (other_generation_line stored) (g.D.Device.state c.args.device.now) (g.D.Device.state c.run_over.new.device) (g.D.Device.leaves c.args.device.now) (g.D.Device.leaves c.run_over.new.device) (c.run_over.ensures.still told (λ t starts. not_of_others c.args.asked (g.D.Device.state c.args.device.now).holds t stored starts other))
 
 pub returns-in-Err-NotKdcfile-clause-refused_only : goal.returns-in-Err-NotKdcfile-clause-refused_only
 returns-in-Err-NotKdcfile-clause-refused_only g c = λ code told.
-    let a = g.D.Device.state c.args.device.now in
-    let b = g.D.Device.state c.run_over.new.device in
-    let la = g.D.Device.leaves c.args.device.now in
-    let lb = g.D.Device.leaves c.run_over.new.device in
-    let d = g.D.Device.state c.refuse.new.device in
-    let told_b : IsTrue b.told = rw c.run_over.ensures.frame.told told in
-    let refused = c.in-Err-NotKdcfile.ensures.refused (ap (λ (e : RunError). Err e) c.in-Err-NotKdcfile.field-0-is) told in
-    let rests = c.run_over.ensures.still told (λ t starts. not_both c.args.asked a.holds t starts refused) in
-    inl (refused, said_then not_a_kdcfile_line a b d la lb rests (c.refuse.ensures.said code told_b))
+    let told_b : IsTrue (g.D.Device.state c.run_over.new.device).told = rw c.run_over.ensures.frame.told told in
+    let refused = c.in-Err-NotKdcfile.ensures.refused (ap (λ (e : OpenError). Err e) c.in-Err-NotKdcfile.field-0-is) told in
+    let rests = c.run_over.ensures.still told (λ t starts. not_both c.args.asked (g.D.Device.state c.args.device.now).holds t starts refused) in
+    inl (refused, said_then not_a_kdcfile_line (g.D.Device.state c.args.device.now) (g.D.Device.state c.run_over.new.device) (g.D.Device.state c.refuse.new.device) (g.D.Device.leaves c.args.device.now) (g.D.Device.leaves c.run_over.new.device) rests (c.refuse.ensures.said code told_b))
 
 pub returns-in-Err-NotKdcfile-clause-refused_part : goal.returns-in-Err-NotKdcfile-clause-refused_part
 returns-in-Err-NotKdcfile-clause-refused_part g c = λ told is_refused.
-    let a = g.D.Device.state c.args.device.now in
-    let b = g.D.Device.state c.run_over.new.device in
-    let la = g.D.Device.leaves c.args.device.now in
-    let lb = g.D.Device.leaves c.run_over.new.device in
-    let d = g.D.Device.state c.refuse.new.device in
-    let told_b : IsTrue b.told = rw c.run_over.ensures.frame.told told in
-    let refused = c.in-Err-NotKdcfile.ensures.refused (ap (λ (e : RunError). Err e) c.in-Err-NotKdcfile.field-0-is) told in
-    let rests = c.run_over.ensures.still told (λ t starts. not_both c.args.asked a.holds t starts refused) in
-    part_then not_a_kdcfile_line a b d la lb rests (c.refuse.ensures.part told_b)
+    let told_b : IsTrue (g.D.Device.state c.run_over.new.device).told = rw c.run_over.ensures.frame.told told in
+    let refused = c.in-Err-NotKdcfile.ensures.refused (ap (λ (e : OpenError). Err e) c.in-Err-NotKdcfile.field-0-is) told in
+    let rests = c.run_over.ensures.still told (λ t starts. not_both c.args.asked (g.D.Device.state c.args.device.now).holds t starts refused) in
+    part_then not_a_kdcfile_line (g.D.Device.state c.args.device.now) (g.D.Device.state c.run_over.new.device) (g.D.Device.state c.refuse.new.device) (g.D.Device.leaves c.args.device.now) (g.D.Device.leaves c.run_over.new.device) rests (c.refuse.ensures.part told_b)
 
 pub returns-in-Err-NotKdcfile-clause-other_part : goal.returns-in-Err-NotKdcfile-clause-other_part
 returns-in-Err-NotKdcfile-clause-other_part g c = λ told stored other.
-    let refused = c.in-Err-NotKdcfile.ensures.refused (ap (λ (e : RunError). Err e) c.in-Err-NotKdcfile.field-0-is) told in
+    let refused = c.in-Err-NotKdcfile.ensures.refused (ap (λ (e : OpenError). Err e) c.in-Err-NotKdcfile.field-0-is) told in
     absurd (refused_or_other c.args.asked (g.D.Device.state c.args.device.now).holds stored refused other)
 
 pub returns-in-Err-NotKdcfile-clause-accepted : goal.returns-in-Err-NotKdcfile-clause-accepted
 returns-in-Err-NotKdcfile-clause-accepted g c = λ told t starts.
-    let refused = c.in-Err-NotKdcfile.ensures.refused (ap (λ (e : RunError). Err e) c.in-Err-NotKdcfile.field-0-is) told in
+    let refused = c.in-Err-NotKdcfile.ensures.refused (ap (λ (e : OpenError). Err e) c.in-Err-NotKdcfile.field-0-is) told in
     absurd (not_both c.args.asked (g.D.Device.state c.args.device.now).holds t starts refused)
 
 pub returns-in-Err-NotKdcfile-clause-any_moment : goal.returns-in-Err-NotKdcfile-clause-any_moment
 returns-in-Err-NotKdcfile-clause-any_moment g c = λ told only t starts.
-    let refused = c.in-Err-NotKdcfile.ensures.refused (ap (λ (e : RunError). Err e) c.in-Err-NotKdcfile.field-0-is) told in
+    let refused = c.in-Err-NotKdcfile.ensures.refused (ap (λ (e : OpenError). Err e) c.in-Err-NotKdcfile.field-0-is) told in
     absurd (not_both c.args.asked (g.D.Device.state c.args.device.now).holds t starts refused)
 
 pub returns-in-Err-NotKdcfile-clause-left : goal.returns-in-Err-NotKdcfile-clause-left
 returns-in-Err-NotKdcfile-clause-left g c = λ told t starts some lines.
-    let refused = c.in-Err-NotKdcfile.ensures.refused (ap (λ (e : RunError). Err e) c.in-Err-NotKdcfile.field-0-is) told in
+    let refused = c.in-Err-NotKdcfile.ensures.refused (ap (λ (e : OpenError). Err e) c.in-Err-NotKdcfile.field-0-is) told in
     absurd (not_both c.args.asked (g.D.Device.state c.args.device.now).holds t starts refused)
 
 pub returns-clause-refused_only : goal.returns-clause-refused_only
 returns-clause-refused_only g c = λ code told.
-    let a = g.D.Device.state c.args.device.now in
-    let b = g.D.Device.state c.run_over.new.device in
-    let la = g.D.Device.leaves c.args.device.now in
-    let lb = g.D.Device.leaves c.run_over.new.device in
-    let d = g.D.Device.state c.refuse_other.new.device in
-    let told_b : IsTrue b.told = rw c.run_over.ensures.frame.told told in
-    let other = c.in-Err-OtherGeneration.ensures.other c.in-Err-OtherGeneration.stored (ap (λ (e : RunError). Err e) c.in-Err-OtherGeneration.field-0-is) told in
-    let rests = c.run_over.ensures.still told (λ t starts. not_of_others c.args.asked a.holds t c.in-Err-OtherGeneration.stored starts other) in
-    inr (c.in-Err-OtherGeneration.stored, other, said_then (other_generation_line c.in-Err-OtherGeneration.stored) a b d la lb rests (c.refuse_other.ensures.said code told_b))
+    let told_b : IsTrue (g.D.Device.state c.run_over.new.device).told = rw c.run_over.ensures.frame.told told in
+    let other = c.in-Err-OtherGeneration.ensures.other c.in-Err-OtherGeneration.stored (ap (λ (e : OpenError). Err e) c.in-Err-OtherGeneration.field-0-is) told in
+    let rests = c.run_over.ensures.still told (λ t starts. not_of_others c.args.asked (g.D.Device.state c.args.device.now).holds t c.in-Err-OtherGeneration.stored starts other) in
+    inr (c.in-Err-OtherGeneration.stored, other, said_then (other_generation_line c.in-Err-OtherGeneration.stored) (g.D.Device.state c.args.device.now) (g.D.Device.state c.run_over.new.device) (g.D.Device.state c.refuse_other.new.device) (g.D.Device.leaves c.args.device.now) (g.D.Device.leaves c.run_over.new.device) rests (c.refuse_other.ensures.said code told_b))
 
 pub returns-clause-refused_part : goal.returns-clause-refused_part
 returns-clause-refused_part g c = λ told refused.
-    let other = c.in-Err-OtherGeneration.ensures.other c.in-Err-OtherGeneration.stored (ap (λ (e : RunError). Err e) c.in-Err-OtherGeneration.field-0-is) told in
+    let other = c.in-Err-OtherGeneration.ensures.other c.in-Err-OtherGeneration.stored (ap (λ (e : OpenError). Err e) c.in-Err-OtherGeneration.field-0-is) told in
     absurd (refused_or_other c.args.asked (g.D.Device.state c.args.device.now).holds c.in-Err-OtherGeneration.stored refused other)
 
 pub returns-clause-other_part : goal.returns-clause-other_part
 returns-clause-other_part g c = λ told stored others.
-    let a = g.D.Device.state c.args.device.now in
-    let b = g.D.Device.state c.run_over.new.device in
-    let la = g.D.Device.leaves c.args.device.now in
-    let lb = g.D.Device.leaves c.run_over.new.device in
-    let d = g.D.Device.state c.refuse_other.new.device in
-    let told_b : IsTrue b.told = rw c.run_over.ensures.frame.told told in
-    let other = c.in-Err-OtherGeneration.ensures.other c.in-Err-OtherGeneration.stored (ap (λ (e : RunError). Err e) c.in-Err-OtherGeneration.field-0-is) told in
-    let rests = c.run_over.ensures.still told (λ t starts. not_of_others c.args.asked a.holds t c.in-Err-OtherGeneration.stored starts other) in
-    subst (λ (s : List ℕ). SaidPart (other_generation_line s) a d) (one_other c.args.asked a.holds c.in-Err-OtherGeneration.stored stored other others)
-    (part_then (other_generation_line c.in-Err-OtherGeneration.stored) a b d la lb rests (c.refuse_other.ensures.part told_b))
+    let told_b : IsTrue (g.D.Device.state c.run_over.new.device).told = rw c.run_over.ensures.frame.told told in
+    let other = c.in-Err-OtherGeneration.ensures.other c.in-Err-OtherGeneration.stored (ap (λ (e : OpenError). Err e) c.in-Err-OtherGeneration.field-0-is) told in
+    let rests = c.run_over.ensures.still told (λ t starts. not_of_others c.args.asked (g.D.Device.state c.args.device.now).holds t c.in-Err-OtherGeneration.stored starts other) in
+    subst (λ (s : List ℕ). SaidPart (other_generation_line s) (g.D.Device.state c.args.device.now) (g.D.Device.state c.refuse_other.new.device)) (one_other c.args.asked (g.D.Device.state c.args.device.now).holds c.in-Err-OtherGeneration.stored stored other others)
+    (part_then (other_generation_line c.in-Err-OtherGeneration.stored) (g.D.Device.state c.args.device.now) (g.D.Device.state c.run_over.new.device) (g.D.Device.state c.refuse_other.new.device) (g.D.Device.leaves c.args.device.now) (g.D.Device.leaves c.run_over.new.device) rests (c.refuse_other.ensures.part told_b))
 
 pub returns-clause-accepted : goal.returns-clause-accepted
 returns-clause-accepted g c = λ told t starts.
-    let other = c.in-Err-OtherGeneration.ensures.other c.in-Err-OtherGeneration.stored (ap (λ (e : RunError). Err e) c.in-Err-OtherGeneration.field-0-is) told in
+    let other = c.in-Err-OtherGeneration.ensures.other c.in-Err-OtherGeneration.stored (ap (λ (e : OpenError). Err e) c.in-Err-OtherGeneration.field-0-is) told in
     absurd (not_of_others c.args.asked (g.D.Device.state c.args.device.now).holds t c.in-Err-OtherGeneration.stored starts other)
 
 pub returns-clause-any_moment : goal.returns-clause-any_moment
 returns-clause-any_moment g c = λ told only t starts.
-    let other = c.in-Err-OtherGeneration.ensures.other c.in-Err-OtherGeneration.stored (ap (λ (e : RunError). Err e) c.in-Err-OtherGeneration.field-0-is) told in
+    let other = c.in-Err-OtherGeneration.ensures.other c.in-Err-OtherGeneration.stored (ap (λ (e : OpenError). Err e) c.in-Err-OtherGeneration.field-0-is) told in
     absurd (not_of_others c.args.asked (g.D.Device.state c.args.device.now).holds t c.in-Err-OtherGeneration.stored starts other)
 
 pub returns-clause-left : goal.returns-clause-left
 returns-clause-left g c = λ told t starts some lines.
-    let other = c.in-Err-OtherGeneration.ensures.other c.in-Err-OtherGeneration.stored (ap (λ (e : RunError). Err e) c.in-Err-OtherGeneration.field-0-is) told in
+    let other = c.in-Err-OtherGeneration.ensures.other c.in-Err-OtherGeneration.stored (ap (λ (e : OpenError). Err e) c.in-Err-OtherGeneration.field-0-is) told in
     absurd (not_of_others c.args.asked (g.D.Device.state c.args.device.now).holds t c.in-Err-OtherGeneration.stored starts other)
 
 pub returns-in-Err-NotKdcfile-clause-names : goal.returns-in-Err-NotKdcfile-clause-names

@@ -8,7 +8,7 @@ use Rattle.warm_start.specs.Opening.{IsOpening, IsRefused, IsOfOtherTexts}
 use Rattle.utm_cli.specs.Asking.{Errand}
 use Rattle.utm_cli.specs.Doing.{Opens, identity_of, acts_of}
 use Rattle.monitor_acts.specs.Performing.{commits_nothing}
-use Rattle.monitor_run.specs.HandedOn.{open_refused, open_other, open_failed}
+use Rattle.monitor_run.specs.HandedOn.{error_same}
 use Rattle.utm_cli.proofs.ByWord.{not_empty, opened_once}
 use Rattle.utm_cli.proofs.Ran.{opening_cut, run_cut, rose_either, told_then}
 use Rattle.utm_cli.proofs.run.run_stored.Given.{Over}
@@ -16,14 +16,14 @@ use Rattle.utm_cli.proofs.run.run_stored.Goals as goal
 
 pub returns-in_err-store-clause-refused : goal.returns-in_err-store-clause-refused
 returns-in_err-store-clause-refused g c = λ is told.
-    subst (λ (e : Errand). IsRefused e.application.generation e.fingerprint (g.D.Device.state c.args.device.now).holds) c.asked.view_is (c.in_err-store.ensures.refused (open_refused c.from_residual.result c.in_err-store.field-0.0 c.from_residual.ensures.1 is) told)
+    subst (λ (e : Errand). IsRefused e.application.generation e.fingerprint (g.D.Device.state c.args.device.now).holds) c.asked.view_is (c.in_err-store.ensures.refused (error_same _ _ c.from_residual.result c.in_err-store.field-0.0 _ c.from_residual.ensures.1 is) told)
 
 pub returns-in_err-store-clause-other : goal.returns-in_err-store-clause-other
 returns-in_err-store-clause-other g c = λ stored is told.
-    subst (λ (e : Errand). IsOfOtherTexts stored e.fingerprint (g.D.Device.state c.args.device.now).holds) c.asked.view_is (c.in_err-store.ensures.other stored (open_other c.from_residual.result c.in_err-store.field-0.0 c.from_residual.ensures.1 stored is) told)
+    subst (λ (e : Errand). IsOfOtherTexts stored e.fingerprint (g.D.Device.state c.args.device.now).holds) c.asked.view_is (c.in_err-store.ensures.other stored (error_same _ _ c.from_residual.result c.in_err-store.field-0.0 _ c.from_residual.ensures.1 is) told)
 
 pub returns-in_err-store-clause-failed : goal.returns-in_err-store-clause-failed
-returns-in_err-store-clause-failed g c = λ is. inl (c.in_err-store.ensures.failed (open_failed c.from_residual.result c.in_err-store.field-0.0 c.from_residual.ensures.1 is))
+returns-in_err-store-clause-failed g c = λ is. inl (c.in_err-store.ensures.failed (error_same _ _ c.from_residual.result c.in_err-store.field-0.0 _ c.from_residual.ensures.1 is))
 
 pub returns-in_err-store-clause-still : goal.returns-in_err-store-clause-still
 returns-in_err-store-clause-still g c = λ told none. c.open.ensures.still told (not_empty c.args.asked (g.D.Device.state c.args.device.now).holds none)
