@@ -1,5 +1,5 @@
 -- Small lemmas on `Option`, `Result`, `&&` and `cond`, for proofs about readers.
-use Rattle.std.specs.Prelude.{◌≡◌, ◌⊎◌, ℕ, ◌-◌, Bool, true, false, cond, ◌&&◌, List, ◌++◌, length, take, drop, Option, Some, None, Result, Ok, Err, refl, option_and_then, find, [], ◌∷◌}
+use Rattle.std.specs.Prelude.{◌≡◌, ◌⊎◌, ℕ, ◌-◌, Bool, true, false, cond, ◌&&◌, List, ◌++◌, length, take, drop, Option, Some, None, Result, Ok, Err, refl, option_and_then, find, IsErrAnd, IsErrOf, [], ◌∷◌}
 use Rattle.std.specs.Option.{option_map}
 use Rattle.std.proofs.Common.{inl, inr, sym, ◌∙◌, ap, arith, append_assoc, length-drop}
 use Rattle.std.proofs.lemmas.List.{take_all}
@@ -54,6 +54,11 @@ and_some f (Some x) y e = (x, refl, e)
 pub and_none : {A B : Type 0} (f : A → Option B) (o : Option A) → option_and_then f o ≡ None → (o ≡ None) ⊎ ((x : A) × (o ≡ Some x) × (f x ≡ None))
 and_none f None e = inl refl
 and_none f (Some x) e = inr (x, refl, e)
+
+-- what was handed on is what was answered
+pub error_same : {E : Type 0} (T U : Type 0) (r : Result T E) (e x : E) → IsErrAnd r (λ y. y ≡ e) → IsErrOf r x → IsErrOf {T = U} (Err e) x
+error_same T U (Ok v) e x gives is = absurd gives
+error_same T U (Err y) e x gives is = let h : y ≡ x = cc in ap (λ z. Err z) (sym gives ∙ h)
 
 -- what is found in a list passes the test
 pub find_passes : {X : Type 0} (p : X → Bool) (xs : List X) (x : X) → find p xs ≡ Some x → p x ≡ true

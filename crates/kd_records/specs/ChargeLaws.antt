@@ -17,13 +17,13 @@ record_length r = 29 + length r.1
 
 -- so many records, each with its key and the length of its value, fit into the pages that they are charged
 abbrev pub ChargedRecordsFit : Type 0
-ChargedRecordsFit = (block pages : ℕ) (records : List Record) → IsBlockSize block → total_charge block records ≤ pages → 64 + sum_by record_length records ≤ 8192 + pages * block
+ChargedRecordsFit = (blksize pages : ℕ) (records : List Record) → IsBlockSize blksize → total_charge blksize records ≤ pages → 64 + sum_by record_length records ≤ 8192 + pages * blksize
 
-pub block_from : (block : ℕ) → IsBlockSize block → 2048 ≤ block
-block_from block h = elim h [ inl e ↦ omega arith | inr h ↦ elim h [ inl e ↦ omega arith | inr e ↦ omega arith ] ]
+pub block_from : (blksize : ℕ) → IsBlockSize blksize → 2048 ≤ blksize
+block_from blksize h = elim h [ inl e ↦ omega arith | inr h ↦ elim h [ inl e ↦ omega arith | inr e ↦ omega arith ] ]
 
-pub block_upto : (block : ℕ) → IsBlockSize block → block ≤ 8192
-block_upto block h = elim h [ inl e ↦ omega arith | inr h ↦ elim h [ inl e ↦ omega arith | inr e ↦ omega arith ] ]
+pub block_upto : (blksize : ℕ) → IsBlockSize blksize → blksize ≤ 8192
+block_upto blksize h = elim h [ inl e ↦ omega arith | inr h ↦ elim h [ inl e ↦ omega arith | inr e ↦ omega arith ] ]
 
 -- ---- one record
 
@@ -44,92 +44,92 @@ ceil_by m q r h =
 ceil_is : (n m : ℕ) → 0 < m → n / m + min 1 (n % m) ≡ (n + (m - 1)) / m
 ceil_is n m h = ceil_by m (n / m) (n % m) (mod_below n m h) ∙ ap (λ (x : ℕ). (x + (m - 1)) / m) (div-add-mod' n m)
 
-pub charge_is : (block n : ℕ) → 2048 ≤ block → charge_of block n ≡ max 1 (div_ceil n (block - 48))
-charge_is block n h =
-    let less : block - 49 ≡ (block - 48) - 1 = omega arith in
-    ap (λ (x : ℕ). max 1 ((n + x) / (block - 48))) less ∙ ap (λ (x : ℕ). max 1 x) (sym (ceil_is n (block - 48) (omega arith)))
+pub charge_is : (blksize n : ℕ) → 2048 ≤ blksize → charge_of blksize n ≡ max 1 (div_ceil n (blksize - 48))
+charge_is blksize n h =
+    let less : blksize - 49 ≡ (blksize - 48) - 1 = omega arith in
+    ap (λ (x : ℕ). max 1 ((n + x) / (blksize - 48))) less ∙ ap (λ (x : ℕ). max 1 x) (sym (ceil_is n (blksize - 48) (omega arith)))
 
-covers : (block m c d n : ℕ) → block ≡ m + 48 → c ≡ max 1 d → n ≤ d * m → 29 + n ≤ c * block
-covers block m c d n e is h =
+covers : (blksize m c d n : ℕ) → blksize ≡ m + 48 → c ≡ max 1 d → n ≤ d * m → 29 + n ≤ c * blksize
+covers blksize m c d n e is h =
     let more : d ≤ c = omega arith in
     let some : 1 ≤ c = omega arith in
     omega (arith, ap (λ (x : ℕ). c * x) e, mul-le-mul_left m more)
 
 -- the pages of one record have room for its value, its key and the length
-pub charge_covers : (block n : ℕ) → 2048 ≤ block → 29 + n ≤ charge_of block n * block
-charge_covers block n h =
-    covers block (block - 48) (charge_of block n) (div_ceil n (block - 48)) n (omega arith) (charge_is block n h)
-    (div_ceil_times n (block - 48) (omega arith)).0
+pub charge_covers : (blksize n : ℕ) → 2048 ≤ blksize → 29 + n ≤ charge_of blksize n * blksize
+charge_covers blksize n h =
+    covers blksize (blksize - 48) (charge_of blksize n) (div_ceil n (blksize - 48)) n (omega arith) (charge_is blksize n h)
+    (div_ceil_times n (blksize - 48) (omega arith)).0
 
 one_le_max : (n : ℕ) → 1 ≤ max 1 n
 one_le_max n = omega arith
 
-pub charge_from_one : (block n : ℕ) → 1 ≤ charge_of block n
-charge_from_one block n = one_le_max ((n + (block - 49)) / (block - 48))
+pub charge_from_one : (blksize n : ℕ) → 1 ≤ charge_of blksize n
+charge_from_one blksize n = one_le_max ((n + (blksize - 49)) / (blksize - 48))
 
-small : (block c n : ℕ) → 29 + n ≤ c * block → c ≤ 30000 → block ≤ 8192 → n < 2 ^ 32
-small block c n h few upto = omega (arith, mul-le-mul_left block few)
+small : (blksize c n : ℕ) → 29 + n ≤ c * blksize → c ≤ 30000 → blksize ≤ 8192 → n < 2 ^ 32
+small blksize c n h few upto = omega (arith, mul-le-mul_left blksize few)
 
 -- ---- all records
 
 abbrev charge_at : ℕ → Record → ℕ
-charge_at block r = charge_of block (length r.1)
+charge_at blksize r = charge_of blksize (length r.1)
 
-more_room : (block a b x y c t : ℕ) → a ≡ x + y → b ≡ c + t → x ≤ c * block → y ≤ t * block → a ≤ b * block
-more_room block a b x y c t e is h k = omega (arith, ap (λ (z : ℕ). z * block) is)
+more_room : (blksize a b x y c t : ℕ) → a ≡ x + y → b ≡ c + t → x ≤ c * blksize → y ≤ t * blksize → a ≤ b * blksize
+more_room blksize a b x y c t e is h k = omega (arith, ap (λ (z : ℕ). z * blksize) is)
 
-pub room_within : (block : ℕ) (records : List Record) → 2048 ≤ block → sum_by record_length records ≤ total_charge block records * block
-room_within block [] h = omega arith
-room_within block (r ∷ records) h =
-    more_room block (sum_by record_length (r ∷ records)) (total_charge block (r ∷ records)) (record_length r) (sum_by record_length records) (charge_at block r) (total_charge block records)
+pub room_within : (blksize : ℕ) (records : List Record) → 2048 ≤ blksize → sum_by record_length records ≤ total_charge blksize records * blksize
+room_within blksize [] h = omega arith
+room_within blksize (r ∷ records) h =
+    more_room blksize (sum_by record_length (r ∷ records)) (total_charge blksize (r ∷ records)) (record_length r) (sum_by record_length records) (charge_at blksize r) (total_charge blksize records)
     (sum_by-cons record_length r records)
-    (sum_by-cons (charge_at block) r records)
-    (charge_covers block (length r.1) h)
-    (room_within block records h)
+    (sum_by-cons (charge_at blksize) r records)
+    (charge_covers blksize (length r.1) h)
+    (room_within blksize records h)
 
-all_room : (block pages room charge : ℕ) → room ≤ charge * block → charge ≤ pages → 64 + room ≤ 8192 + pages * block
-all_room block pages room charge h few = omega (arith, mul-le-mul_left block few)
+all_room : (blksize pages room charge : ℕ) → room ≤ charge * blksize → charge ≤ pages → 64 + room ≤ 8192 + pages * blksize
+all_room blksize pages room charge h few = omega (arith, mul-le-mul_left blksize few)
 
 pub charged_records_fit : ChargedRecordsFit
-charged_records_fit block pages records is few =
-    all_room block pages (sum_by record_length records) (total_charge block records) (room_within block records (block_from block is)) few
+charged_records_fit blksize pages records is few =
+    all_room blksize pages (sum_by record_length records) (total_charge blksize records) (room_within blksize records (block_from blksize is)) few
 
 more_few : (n a c t : ℕ) → a ≡ c + t → 1 ≤ c → n ≤ t → suc n ≤ a
 more_few n a c t e h k = omega arith
 
 -- there are no more records than pages that they are charged
-pub length_within : (block : ℕ) (records : List Record) → length records ≤ total_charge block records
-length_within block [] = omega arith
-length_within block (r ∷ records) =
-    more_few (length records) (total_charge block (r ∷ records)) (charge_at block r) (total_charge block records)
-    (sum_by-cons (charge_at block) r records)
-    (charge_from_one block (length r.1))
-    (length_within block records)
+pub length_within : (blksize : ℕ) (records : List Record) → length records ≤ total_charge blksize records
+length_within blksize [] = omega arith
+length_within blksize (r ∷ records) =
+    more_few (length records) (total_charge blksize (r ∷ records)) (charge_at blksize r) (total_charge blksize records)
+    (sum_by-cons (charge_at blksize) r records)
+    (charge_from_one blksize (length r.1))
+    (length_within blksize records)
 
 at_most : (a b c t : ℕ) → a ≡ c + t → (b ≤ t → b ≤ a) × (c ≤ a)
 at_most a b c t e = (λ h. omega arith, omega arith)
 
 -- no record is charged more than all together
-pub each_within : (block : ℕ) (records : List Record) → All (λ r. charge_at block r ≤ total_charge block records) records
-each_within block [] = All-nil (λ r. charge_at block r ≤ total_charge block [])
-each_within block (r ∷ records) =
-    let whole = total_charge block (r ∷ records) in
-    let e : whole ≡ charge_at block r + total_charge block records = sum_by-cons (charge_at block) r records in
-    All-cons (λ s. charge_at block s ≤ whole) r records
-    (at_most whole 0 (charge_at block r) (total_charge block records) e).1
-    (All-weaker (λ s. charge_at block s ≤ total_charge block records) (λ s. charge_at block s ≤ whole)
-    (λ s h. (at_most whole (charge_at block s) (charge_at block r) (total_charge block records) e).0 h)
-    records (each_within block records))
+pub each_within : (blksize : ℕ) (records : List Record) → All (λ r. charge_at blksize r ≤ total_charge blksize records) records
+each_within blksize [] = All-nil (λ r. charge_at blksize r ≤ total_charge blksize [])
+each_within blksize (r ∷ records) =
+    let whole = total_charge blksize (r ∷ records) in
+    let e : whole ≡ charge_at blksize r + total_charge blksize records = sum_by-cons (charge_at blksize) r records in
+    All-cons (λ s. charge_at blksize s ≤ whole) r records
+    (at_most whole 0 (charge_at blksize r) (total_charge blksize records) e).1
+    (All-weaker (λ s. charge_at blksize s ≤ total_charge blksize records) (λ s. charge_at blksize s ≤ whole)
+    (λ s h. (at_most whole (charge_at blksize s) (charge_at blksize r) (total_charge blksize records) e).0 h)
+    records (each_within blksize records))
 
 -- so the length of a value has four bytes
-pub values_fit : (block pages : ℕ) (records : List Record) → IsBlockSize block → pages ≤ 30000 → total_charge block records ≤ pages
+pub values_fit : (blksize pages : ℕ) (records : List Record) → IsBlockSize blksize → pages ≤ 30000 → total_charge blksize records ≤ pages
     → All (λ r. length r.1 < 2 ^ 32) records
-values_fit block pages records is most few =
-    let least = block_from block is in
-    let upto = block_upto block is in
-    All-weaker (λ r. charge_at block r ≤ total_charge block records) (λ r. length r.1 < 2 ^ 32)
-    (λ r h. small block (charge_at block r) (length r.1) (charge_covers block (length r.1) least) (within (charge_at block r) (total_charge block records) pages h few most) upto)
-    records (each_within block records)
+values_fit blksize pages records is most few =
+    let least = block_from blksize is in
+    let upto = block_upto blksize is in
+    All-weaker (λ r. charge_at blksize r ≤ total_charge blksize records) (λ r. length r.1 < 2 ^ 32)
+    (λ r h. small blksize (charge_at blksize r) (length r.1) (charge_covers blksize (length r.1) least) (within (charge_at blksize r) (total_charge blksize records) pages h few most) upto)
+    records (each_within blksize records)
   where
     within : (c t pages : ℕ) → c ≤ t → t ≤ pages → pages ≤ 30000 → c ≤ 30000
     within c t pages a b c' = omega arith

@@ -38,7 +38,7 @@ PatchKeepsOrder = (x : Content) (p : Patch) → IsTrue (is_sorted key_cmp x.item
 
 -- a patch makes a content that a file can keep, if there are pages for it
 abbrev pub PatchKeepsContent : Type 0
-PatchKeepsContent = (block pages : ℕ) (x : Content) (p : Patch) → IsBlockSize block → pages ≤ 30000 → IsContent x → IsPatch p → p.clock < 2 ^ 64 → p.next_job < 2 ^ 64 → total_charge block (patched x p).items ≤ pages → IsContent (patched x p)
+PatchKeepsContent = (blksize pages : ℕ) (x : Content) (p : Patch) → IsBlockSize blksize → pages ≤ 30000 → IsContent x → IsPatch p → p.clock < 2 ^ 64 → p.next_job < 2 ^ 64 → total_charge blksize (patched x p).items ≤ pages → IsContent (patched x p)
 
 -- ---- tests
 
@@ -161,10 +161,10 @@ few_enough : (n charge pages : ℕ) → n ≤ charge → charge ≤ pages → pa
 few_enough n charge pages a b c = omega arith
 
 pub patch_keeps_content : PatchKeepsContent
-patch_keeps_content block pages x p is most content patch clock next_job few =
+patch_keeps_content blksize pages x p is most content patch clock next_job few =
     let items = (patched x p).items in
     let keys : All HasKey items = keys_changed_all p.items x.items patch.keys (λ k d h. record_key _ (content.records k d h)) in
-    let values : All (λ (r : Record). length r.1 < 2 ^ 32) items = values_fit block pages items is most few in
+    let values : All (λ (r : Record). length r.1 < 2 ^ 32) items = values_fit blksize pages items is most few in
     record {
       clock = clock;
       next_job = next_job;
@@ -175,5 +175,5 @@ patch_keeps_content block pages x p is most content patch clock next_job few =
         value_length = values k d h;
       };
       ascending = patch_keeps_order x p content.ascending;
-      few = few_enough (length items) (total_charge block items) pages (length_within block items) few most;
+      few = few_enough (length items) (total_charge blksize items) pages (length_within blksize items) few most;
     }

@@ -136,10 +136,10 @@ module _ (rest : List ℕ) (a b d e : State) (la lb ld le : ℕ → List ℕ →
 -- the whole of a making: reserve to r, all writes to b
 module _ (i : Identity) (is : IsIdentity i) (rest : List ℕ) (rest_is : rest ≡ fresh_rest i) where
   pub made_stands : Stands i false fresh (75 ∷ rest)
-  made_stands = subst (λ (l : List ℕ). Stands i false fresh (75 ∷ l)) (sym rest_is) (fresh_stands i is 8175 (8128 + i.pages * i.block) refl)
+  made_stands = subst (λ (l : List ℕ). Stands i false fresh (75 ∷ l)) (sym rest_is) (fresh_stands i is 8175 (8128 + i.pages * i.blksize) refl)
 
   pub made_length : length (75 ∷ rest) ≡ 8192 + 2 * image_size i
-  made_length = ap (λ (l : List ℕ). length (75 ∷ l)) rest_is ∙ length-fresh i is 8175 (8128 + i.pages * i.block) refl ∙ omega arith
+  made_length = ap (λ (l : List ℕ). length (75 ∷ l)) rest_is ∙ length-fresh i is 8175 (8128 + i.pages * i.blksize) refl ∙ omega arith
 
   pub in_making : (a r b : State) (la lr lb : ℕ → List ℕ → List ℕ → Type 0) → a.holds ≡ [] → Only a.holds a la → Quiet a r la lr → LeavesOnly r b lr lb (ShutOr rest r.sent) → LeavesOnly a b la lb (Made i a.sent)
   in_making a r b la lr lb empty only quiet to_b =

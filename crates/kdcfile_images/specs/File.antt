@@ -9,14 +9,14 @@ use Rattle.kd_records.specs.Identity.{Identity, IsIdentity}
 
 -- the first bytes: an open gate, the mark, form 1, and the sizes
 abbrev pub mark : Identity → List ℕ
-mark i = codes "UTMKDCF" ++ 1 ∷ [] ++ to_be_bytes w32 i.block ++ to_be_bytes w32 i.pages
+mark i = codes "UTMKDCF" ++ 1 ∷ [] ++ to_be_bytes w32 i.blksize ++ to_be_bytes w32 i.pages
 
 abbrev pub head : Identity → List ℕ
 head i = 75 ∷ mark i
 
 -- how many bytes an image may have
 abbrev pub image_size : Identity → ℕ
-image_size i = 8192 + i.pages * i.block
+image_size i = 8192 + i.pages * i.blksize
 
 -- where image A or B stands
 abbrev pub place : Identity → Bool → ℕ

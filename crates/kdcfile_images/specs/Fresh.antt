@@ -10,7 +10,7 @@ zeros n = replicate n 0
 
 -- a list, and zero bytes up to the end of an image
 abbrev pub in_image : Identity → List ℕ → List ℕ
-in_image i part = part ++ zeros (8128 + i.pages * i.block)
+in_image i part = part ++ zeros (8128 + i.pages * i.blksize)
 
 -- behind the gate: the mark, and two images with no records
 abbrev pub fresh_rest : Identity → List ℕ

@@ -13,7 +13,7 @@ pub record Opened : Type 0 where
 
 -- what the file was made with
 abbrev pub identity_of : Opened → Identity
-identity_of i = record { block = i.blksize; pages = i.root.pgpool; fingerprint = i.root.fingerprint }
+identity_of i = record { blksize = i.blksize; pages = i.root.pgpool; fingerprint = i.root.fingerprint }
 
 -- what the file is made with once this root stands in it: its sizes, and the fingerprint of the root
 abbrev pub renewed : Opened → Root → Identity

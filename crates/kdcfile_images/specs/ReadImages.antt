@@ -90,13 +90,13 @@ root_written whole i x body f =
 
 -- what is known of a file, from what it was made with
 abbrev pub opened : Identity → Content → Bool → Opened
-opened i x second = record { blksize = i.block; root = root_made i x; second = second }
+opened i x second = record { blksize = i.blksize; root = root_made i x; second = second }
 
 abbrev pub head_made : Identity → Bool → Head
-head_made i second = record { block = i.block; pages = i.pages; second = second }
+head_made i second = record { blksize = i.blksize; pages = i.pages; second = second }
 
 abbrev pub records_in : Head → List ℕ → Root → Option (Opened × List Record)
-records_in h image r = option_map (λ items. (record { blksize = h.block; root = r; second = h.second }, items)) (records_of None r.records (drop 64 image))
+records_in h image r = option_map (λ items. (record { blksize = h.blksize; root = r; second = h.second }, items)) (records_of None r.records (drop 64 image))
 
 image_written : (i : Identity) (x : Content) (second : Bool) (tail : List ℕ) → IsIdentity i → IsContent x → image_of (head_made i second) (spelled i x ++ tail) ≡ Some (opened i x second, x.items)
 image_written i x second tail is content =
@@ -109,13 +109,13 @@ image_written i x second tail is content =
 
 -- an image that was read, with the bytes that it stands on
 record ReadImage (h : Head) (image : List ℕ) (o : Opened) (items : List Record) : Type 0 where
-  of_head : ◌≡◌ {A = Head} (record { block = o.blksize; pages = o.root.pgpool; second = o.second }) h
+  of_head : ◌≡◌ {A = Head} (record { blksize = o.blksize; pages = o.root.pgpool; second = o.second }) h
   identity : IsIdentity (identity_of o)
   content : IsContent (content_in o.root items)
   stands : (tail : List ℕ) × (image ≡ spelled (identity_of o) (content_in o.root items) ++ tail)
 
-image_made : (h : Head) (image : List ℕ) (items : List Record) → HasSizes h.block h.pages → AreBytes image → 64 ≤ length image → is_root h.pages image ≡ true → records_of None (number w32 56 image) (drop 64 image) ≡ Some items
-    → ReadImage h image (record { blksize = h.block; root = root_with h.pages image; second = h.second }) items
+image_made : (h : Head) (image : List ℕ) (items : List Record) → HasSizes h.blksize h.pages → AreBytes image → 64 ≤ length image → is_root h.pages image ≡ true → records_of None (number w32 56 image) (drop 64 image) ≡ Some items
+    → ReadImage h image (record { blksize = h.blksize; root = root_with h.pages image; second = h.second }) items
 image_made h image items sizes bytes long passes found =
     let rs = records_read None (number w32 56 image) (drop 64 image) items (AreBytes-drop 64 image bytes) found in
     let tests = and_parts (eqb (number w32 48 image) h.pages && eqb (number w32 52 image) 0) (bytes_eq (take 4 (drop 60 image)) (codes "ROOT")) passes in
@@ -132,11 +132,11 @@ image_made h image items sizes bytes long passes found =
     (parted 52 4 image ∙ ap (λ (l : List ℕ). l ++ drop 56 image) (sym (read_4 52 image bytes (omega (arith, long))) ∙ ap (λ (n : ℕ). to_be_bytes w32 n) directory))
     (parted 56 4 image ∙ ap (λ (l : List ℕ). l ++ drop 60 image) (sym (read_4 56 image bytes (omega (arith, long))) ∙ ap (λ (n : ℕ). to_be_bytes w32 n) (sym rs.count)))
     (parted 60 4 image ∙ ap (λ (l : List ℕ). l ++ drop 64 image) mark) in
-    let i : Identity = record { block = h.block; pages = h.pages; fingerprint = take 32 image } in
+    let i : Identity = record { blksize = h.blksize; pages = h.pages; fingerprint = take 32 image } in
     let x : Content = record { clock = number w64 32 image; next_job = number w64 40 image; items = items } in
     record {
       of_head = refl;
-      identity = record { block = sizes.size; least = sizes.least; most = sizes.most; fingerprint = length-piece 0 32 image (omega (arith, long)) };
+      identity = record { blksize = sizes.size; least = sizes.least; most = sizes.most; fingerprint = length-piece 0 32 image (omega (arith, long)) };
       content = record {
         clock = small_8 32 image bytes;
         next_job = small_8 40 image bytes;
@@ -147,14 +147,14 @@ image_made h image items sizes bytes long passes found =
       stands = (rs.spelled.0, whole ∙ ap (λ (l : List ℕ). root i x ++ l) rs.spelled.1 ∙ sym (append_assoc (root i x) (flat_map spelled_record items) rs.spelled.0));
     }
 
-image_read : (h : Head) (image : List ℕ) (o : Opened) (items : List Record) → HasSizes h.block h.pages → AreBytes image → image_of h image ≡ Some (o, items) → ReadImage h image o items
+image_read : (h : Head) (image : List ℕ) (o : Opened) (items : List Record) → HasSizes h.blksize h.pages → AreBytes image → image_of h image ≡ Some (o, items) → ReadImage h image o items
 image_read h image o items sizes bytes e =
     let found = bound (λ r. records_in h image r) (root_of h.pages image) (o, items) e in
     let long = unless (ltb (length image) 64) _ found.0 found.1 in
     let passes = when (is_root h.pages image) _ found.0 long.1 in
     let r_is : root_with h.pages image ≡ found.0 = same_Some (root_with h.pages image) found.0 passes.1 in
     let Q : Root → Type 0 = λ r. records_in h image r ≡ Some (o, items) in
-    let more = mapped (λ (l : List Record). (record { blksize = h.block; root = root_with h.pages image; second = h.second }, l)) (records_of None (number w32 56 image) (drop 64 image)) (o, items) (subst Q (sym r_is) found.2) in
+    let more = mapped (λ (l : List Record). (record { blksize = h.blksize; root = root_with h.pages image; second = h.second }, l)) (records_of None (number w32 56 image) (drop 64 image)) (o, items) (subst Q (sym r_is) found.2) in
     let P : Opened × List Record → Type 0 = λ p. ReadImage h image p.0 p.1 in
     subst P more.2 (image_made h image more.0 sizes bytes (ltb-false (length image) 64 long.0) passes.0 more.1)
 
@@ -207,7 +207,7 @@ module _ (holds front : List ℕ) (front_is : front ≡ take 4097 (drop 0 holds)
         let known = subst P (sym read.of_head) (headed, image_is) in
         stands_of holds front front_is o items image known.0 known.1 read.identity read.content read.stands.0 read.stands.1
       where
-        stands_of : (holds front : List ℕ) → front ≡ take 4097 (drop 0 holds) → (o : Opened) (items : List Record) (image : List ℕ) → Headed (record { block = o.blksize; pages = o.root.pgpool; second = o.second }) front
+        stands_of : (holds front : List ℕ) → front ≡ take 4097 (drop 0 holds) → (o : Opened) (items : List Record) (image : List ℕ) → Headed (record { blksize = o.blksize; pages = o.root.pgpool; second = o.second }) front
             → image ≡ take (image_size (identity_of o)) (drop (place (identity_of o) o.second) holds) → IsIdentity (identity_of o) → IsContent (content_in o.root items) → (tail : List ℕ) → image ≡ spelled (identity_of o) (content_in o.root items) ++ tail
             → Stands (identity_of o) o.second (content_in o.root items) holds
         stands_of holds front front_is o items image headed image_is identity content tail spelled_is =

@@ -20,16 +20,16 @@ unfoldable pub number : Width → ℕ → List ℕ → ℕ
 number w at bytes = from_be_bytes w (take (byte_len w) (drop at bytes))
 
 -- the sizes that a file may have
-pub record HasSizes (block pages : ℕ) : Type 0 where
-  pub size : (block ≡ 2048) ⊎ ((block ≡ 4096) ⊎ (block ≡ 8192))
+pub record HasSizes (blksize pages : ℕ) : Type 0 where
+  pub size : (blksize ≡ 2048) ⊎ ((blksize ≡ 4096) ⊎ (blksize ≡ 8192))
   pub least : 16 ≤ pages
   pub most : pages ≤ 30000
 
 abbrev pub has_sizes : ℕ → ℕ → Bool
-has_sizes block pages = (block == 2048 || block == 4096 || block == 8192) && nat_le 16 pages && nat_le pages 30000
+has_sizes blksize pages = (blksize == 2048 || blksize == 4096 || blksize == 8192) && nat_le 16 pages && nat_le pages 30000
 
 abbrev pub size_of : Head → ℕ
-size_of h = 8192 + h.pages * h.block
+size_of h = 8192 + h.pages * h.blksize
 
 abbrev pub place_of : Head → ℕ
 place_of h = if h.second then 8192 + size_of h else 8192
@@ -39,7 +39,7 @@ abbrev pub gate : List ℕ
 gate = 75 ∷ codes "UTMKDCF" ++ 1 ∷ []
 
 abbrev pub sized : ℕ → ℕ → Bool → Option Head
-sized block pages second = if has_sizes block pages then Some (record { block = block; pages = pages; second = second }) else None
+sized blksize pages second = if has_sizes blksize pages then Some (record { blksize = blksize; pages = pages; second = second }) else None
 
 -- what the first bytes say, up to the selector
 abbrev pub head_of : List ℕ → Option Head
@@ -90,5 +90,5 @@ records_of previous (suc n) left =
 abbrev pub image_of : Head → List ℕ → Option (Opened × List Record)
 image_of h image =
     option_and_then
-    (λ root. option_map (λ items. (record { blksize = h.block; root = root; second = h.second }, items)) (records_of None root.records (drop 64 image)))
+    (λ root. option_map (λ items. (record { blksize = h.blksize; root = root; second = h.second }, items)) (records_of None root.records (drop 64 image)))
     (root_of h.pages image)

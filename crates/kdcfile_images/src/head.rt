@@ -2,13 +2,15 @@
 ghost use Rattle.std.specs.{Prelude.{◌≡◌, ◌+◌, ◌*◌, ◌≤◌, length, IfSome}, Int.{w32, w64}};
 ghost use Rattle.kdcfile_images.specs.Reading.{AreBytes, HasSizes, has_sizes, head_of, number, size_of, place_of};
 
+use kd_base::Reader;
+
 /// The length of the first bytes, with the selector behind them.
 pub const FRONT_LEN: usize = 4097;
 
 /// The sizes of a file, and whether image B is selected.
 #[derive(Clone, Copy, Debug)]
 pub struct Head {
-    pub block: u32,
+    pub blksize: u32,
     pub pages: u32,
     pub second: bool,
 }
@@ -16,15 +18,15 @@ pub struct Head {
 impl Head {
     /// How many bytes an image may have.
     pub fn image_size(self) -> usize
-        requires { HasSizes self.block self.pages }
+        requires { HasSizes self.blksize self.pages }
         ensures { result ≡ size_of self }
     {
-        8192 + self.pages as usize * self.block as usize
+        8192 + self.pages as usize * self.blksize as usize
     }
 
     /// Where the selected image stands.
     pub fn place(self) -> u64
-        requires { HasSizes self.block self.pages }
+        requires { HasSizes self.blksize self.pages }
         ensures { result ≡ place_of self }
     {
         if self.second {
@@ -42,8 +44,7 @@ pub fn u32_in(bytes: &[u8], at: usize) -> u32
     ensures { result ≡ number w32 at bytes.now }
 {
     let (_, behind) = bytes.split_at(at);
-    let (field, _) = behind.split_at(4);
-    u32::from_be_bytes([field[0], field[1], field[2], field[3]])
+    Reader::new(behind).u32_at().unwrap()
 }
 
 #[tactic(auto, unfolding(crate::specs::Reading::number))]
@@ -53,34 +54,31 @@ pub fn u64_in(bytes: &[u8], at: usize) -> u64
     ensures { result ≡ number w64 at bytes.now }
 {
     let (_, behind) = bytes.split_at(at);
-    let (field, _) = behind.split_at(8);
-    u64::from_be_bytes([
-        field[0], field[1], field[2], field[3], field[4], field[5], field[6], field[7],
-    ])
+    Reader::new(behind).u64_at().unwrap()
 }
 
-fn has_sizes(block: u32, pages: u32) -> bool
-    ensures { result ≡ has_sizes block pages }
+fn has_sizes(blksize: u32, pages: u32) -> bool
+    ensures { result ≡ has_sizes blksize pages }
 {
-    (block == 2048 || block == 4096 || block == 8192) && 16 <= pages && pages <= 30_000
+    (blksize == 2048 || blksize == 4096 || blksize == 8192) && 16 <= pages && pages <= 30_000
 }
 
 /// The head of a file that begins so, where it is one.
 pub fn head_of(front: &[u8]) -> Option<Head>
     ensures value { result ≡ head_of front.now }
-    ensures sizes { IfSome result (λ h. HasSizes h.block h.pages) }
+    ensures sizes { IfSome result (λ h. HasSizes h.blksize h.pages) }
     ensures bytes { AreBytes front.now }
 {
     if front.len() < FRONT_LEN || &front[..9] != b"KUTMKDCF\x01".as_slice() {
         return None;
     }
-    let block = u32_in(front, 9);
+    let blksize = u32_in(front, 9);
     let pages = u32_in(front, 13);
-    if !has_sizes(block, pages) {
+    if !has_sizes(blksize, pages) {
         return None;
     }
     Some(Head {
-        block,
+        blksize,
         pages,
         second: front[4096] % 2 == 1,
     })

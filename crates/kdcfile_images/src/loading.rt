@@ -14,7 +14,7 @@ use std::alloc::Global;
 
 // The image that these bytes begin with, in a file of that head.
 fn image_of(alloc: Global, head: Head, bytes: &[u8]) -> Result<Option<Loaded>, DeviceError>
-    requires { HasSizes head.block head.pages }
+    requires { HasSizes head.blksize head.pages }
     ensures value { IfOk result (λ found. option_map (λ l. (l.image, l.records)) found ≡ image_of head bytes.now) }
     ensures bytes { AreBytes bytes.now }
     ensures read { IsErrOf result DeviceError.Failed → ⊥ }
@@ -27,7 +27,7 @@ fn image_of(alloc: Global, head: Head, bytes: &[u8]) -> Result<Option<Loaded>, D
         return Ok(None);
     };
     Ok(Some(Loaded {
-        image: Image::new(head.block, root, head.second),
+        image: Image::new(head.blksize, root, head.second),
         records,
     }))
 }

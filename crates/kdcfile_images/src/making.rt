@@ -48,7 +48,7 @@ fn rest_bytes(
     requires root { length root.now ≡ 64 }
     requires gap { gap < 2 ^ 16 }
     requires left { left < 2 ^ 28 }
-    ensures { IfOk result (λ v. (fingerprint : List ℕ) → v.items ≡ mark (record { block = blksize; pages = pgpool; fingerprint = fingerprint }) ++ zeros gap ++ (root.now ++ zeros left) ++ (root.now ++ zeros left)) }
+    ensures { IfOk result (λ v. (fingerprint : List ℕ) → v.items ≡ mark (record { blksize = blksize; pages = pgpool; fingerprint = fingerprint }) ++ zeros gap ++ (root.now ++ zeros left) ++ (root.now ++ zeros left)) }
 {
     let mut rest = Vec::with_capacity(alloc, 144 + gap + 2 * left)?;
     rest.extend_from_slice(b"UTMKDCF\x01")?;
@@ -73,9 +73,9 @@ fn make(
     pgpool: u32,
     fingerprint: &[u8; 32],
 ) -> Result<Draft, OutOfMemory>
-    requires { IsIdentity (record { block = blksize; pages = pgpool; fingerprint = fingerprint.now }) }
-    ensures image { IfOk result (λ m. m.image ≡ record { blksize = blksize; root = fresh_root (record { block = blksize; pages = pgpool; fingerprint = fingerprint.now }); second = false }) }
-    ensures rest { IfOk result (λ m. m.rest.items ≡ fresh_rest (record { block = blksize; pages = pgpool; fingerprint = fingerprint.now })) }
+    requires { IsIdentity (record { blksize = blksize; pages = pgpool; fingerprint = fingerprint.now }) }
+    ensures image { IfOk result (λ m. m.image ≡ record { blksize = blksize; root = fresh_root (record { blksize = blksize; pages = pgpool; fingerprint = fingerprint.now }); second = false }) }
+    ensures rest { IfOk result (λ m. m.rest.items ≡ fresh_rest (record { blksize = blksize; pages = pgpool; fingerprint = fingerprint.now })) }
 {
     let root = Root {
         fingerprint: *fingerprint,
@@ -122,20 +122,20 @@ pub fn create<D: Device>(
     pgpool: u32,
     fingerprint: &[u8; 32],
 ) -> Result<Image, DeviceError>
-    requires identity { IsIdentity (record { block = blksize; pages = pgpool; fingerprint = fingerprint.now }) }
+    requires identity { IsIdentity (record { blksize = blksize; pages = pgpool; fingerprint = fingerprint.now }) }
     requires empty { IsTrue (D.state device.old).told → (D.state device.old).holds ≡ [] }
     requires settled { IsTrue (D.state device.old).told → Only (D.state device.old).holds (D.state device.old) (D.leaves device.old) }
-    ensures image { IfOk result (λ i. i ≡ record { blksize = blksize; root = fresh_root (record { block = blksize; pages = pgpool; fingerprint = fingerprint.now }); second = false }) }
-    ensures stands { OnOk result (IsTrue (D.state device.old).told → Stands (record { block = blksize; pages = pgpool; fingerprint = fingerprint.now }) false fresh (D.state device.new).holds) }
+    ensures image { IfOk result (λ i. i ≡ record { blksize = blksize; root = fresh_root (record { blksize = blksize; pages = pgpool; fingerprint = fingerprint.now }); second = false }) }
+    ensures stands { OnOk result (IsTrue (D.state device.old).told → Stands (record { blksize = blksize; pages = pgpool; fingerprint = fingerprint.now }) false fresh (D.state device.new).holds) }
 
     // Both images are there, and every byte that is not theirs, the gate's or the mark's is zero.
-    ensures holds { OnOk result (IsTrue (D.state device.old).told → (D.state device.new).holds ≡ fresh_file (record { block = blksize; pages = pgpool; fingerprint = fingerprint.now })) }
-    ensures length { OnOk result (IsTrue (D.state device.old).told → length (D.state device.new).holds ≡ 8192 + 2 * image_size (record { block = blksize; pages = pgpool; fingerprint = fingerprint.now })) }
+    ensures holds { OnOk result (IsTrue (D.state device.old).told → (D.state device.new).holds ≡ fresh_file (record { blksize = blksize; pages = pgpool; fingerprint = fingerprint.now })) }
+    ensures length { OnOk result (IsTrue (D.state device.old).told → length (D.state device.new).holds ≡ 8192 + 2 * image_size (record { blksize = blksize; pages = pgpool; fingerprint = fingerprint.now })) }
     ensures settled { OnOk result (IsTrue (D.state device.old).told → Only (D.state device.new).holds (D.state device.new) (D.leaves device.new)) }
     ensures sent { IsTrue (D.state device.old).told → (D.state device.new).sent ≡ (D.state device.old).sent }
     ensures put { OnOk result (IsTrue (D.state device.old).told → (D.state device.new).put ≡ (D.state device.old).put + length (D.state device.new).holds + 1) }
     ensures any_moment { IsTrue (D.state device.old).told
-        → LeavesOnly (D.state device.old) (D.state device.new) (D.leaves device.old) (D.leaves device.new) (Made (record { block = blksize; pages = pgpool; fingerprint = fingerprint.now }) (D.state device.old).sent) }
+        → LeavesOnly (D.state device.old) (D.state device.new) (D.leaves device.old) (D.leaves device.new) (Made (record { blksize = blksize; pages = pgpool; fingerprint = fingerprint.now }) (D.state device.old).sent) }
     ensures failed { IsErrOf result DeviceError.Failed → Rose (D.state device.old).disk_faults (D.state device.new).disk_faults }
     ensures memory { IsErrOf result DeviceError.Memory → IsTrue (D.state device.old).told → Rests (D.state device.old) (D.state device.new) (D.leaves device.old) (D.leaves device.new) }
     ensures frame { Frame (D.state device.old) (D.state device.new) }

@@ -21,10 +21,10 @@ length-root i y is = let print : length i.fingerprint ≡ 32 = is.fingerprint in
 
 module _ (o : Opened) (y : Content) (body : List ℕ) (is : IsIdentity (identity_of o)) (few : total_charge o.blksize y.items ≤ o.root.pgpool) where
   body_fits : length body ≡ sum_by record_length y.items → 64 + length body ≤ image_size (identity_of o)
-  body_fits long = let h = charged_records_fit o.blksize o.root.pgpool y.items is.block few in omega (arith, h, long)
+  body_fits long = let h = charged_records_fit o.blksize o.root.pgpool y.items is.blksize few in omega (arith, h, long)
 
   pub small_values : All (λ (r : Record). length r.1 < 2 ^ 32) y.items
-  small_values = values_fit o.blksize o.root.pgpool y.items is.block is.most few
+  small_values = values_fit o.blksize o.root.pgpool y.items is.blksize is.most few
 
   pub few_records : length y.items < 2 ^ 32
   few_records = omega (arith, length_within o.blksize y.items, few, is.most)

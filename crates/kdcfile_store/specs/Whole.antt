@@ -18,7 +18,7 @@ HasFile s bytes = Stands s.identity s.second s.content bytes
 
 -- what a file with these limits and this fingerprint is made with
 abbrev pub identity_with : StoreLimits → List ℕ → Identity
-identity_with l fingerprint = record { block = l.blksize; pages = l.pgpool; fingerprint = fingerprint }
+identity_with l fingerprint = record { blksize = l.blksize; pages = l.pgpool; fingerprint = fingerprint }
 
 -- within a making nothing more is sent, and the file is no image yet, or has the first content
 abbrev pub Made : Identity → List ℕ → List ℕ → List ℕ → Type 0

@@ -30,8 +30,8 @@ pub trait Store<D: Device> {
     fn commit(&mut self, alloc: Global, device: &mut D, patch: &Patch) -> Result<(), DeviceError>
         requires kept { IsTrue (D.state device.old).told → IsKept (file self.old) (D.state device.old) (D.leaves device.old) }
         requires patch { IsPatch patch.now }
-        requires charge_before { total_charge (identity self.old).block (kept self.old).items ≤ (identity self.old).pages }
-        requires charge_after { total_charge (identity self.old).block (patched (kept self.old) patch.now).items ≤ (identity self.old).pages }
+        requires charge_before { total_charge (identity self.old).blksize (kept self.old).items ≤ (identity self.old).pages }
+        requires charge_after { total_charge (identity self.old).blksize (patched (kept self.old) patch.now).items ≤ (identity self.old).pages }
 
         ensures content { OnOk result (kept self.new ≡ patched (kept self.old) patch.now) }
         ensures identity { identity self.new ≡ identity self.old }

@@ -164,7 +164,7 @@ impl WholeStore {
 
     /// The sizes that the file holds.
     pub fn limits(&self) -> StoreLimits
-        ensures blksize { result.blksize ≡ self.now.identity.block }
+        ensures blksize { result.blksize ≡ self.now.identity.blksize }
         ensures pgpool { result.pgpool ≡ self.now.identity.pages }
     {
         StoreLimits {

@@ -1,5 +1,6 @@
 //! What the monitor does to the outside.
 ghost use Rattle.std.specs.Prelude.{◌≡◌};
+ghost use Rattle.kdcs_types.specs.Tables.{row_key, change_key};
 
 use crate::key::{Key, ServiceId};
 use crate::service::{JobValue, Service};
@@ -33,6 +34,34 @@ pub enum Change {
 
 /// Changes of rows, in ascending order of their keys where a commit has them.
 pub type RowChanges = Sequence<Change>;
+
+impl Row {
+    /// The key that the row stands at.
+    pub fn key(&self) -> Key
+        ensures { result ≡ row_key self.now }
+    {
+        match self {
+            Row::Gssb(name, _) => Key::Gssb(*name),
+            Row::Tls(block, lterm, _) => Key::Tls(*block, *lterm),
+            Row::Uls(block, user, _) => Key::Uls(*block, *user),
+            Row::Service(id, _) => Key::Service(*id),
+            Row::Job(number, _) => Key::Job(*number),
+            Row::Shown(lterm, _) => Key::Shown(*lterm),
+        }
+    }
+}
+
+impl Change {
+    /// The key of the row that it sets or removes.
+    pub fn key(&self) -> Key
+        ensures { result ≡ change_key self.now }
+    {
+        match self {
+            Change::Set(row) => row.key(),
+            Change::Remove(key) => *key,
+        }
+    }
+}
 
 impl Clone for Row {
     ghost is_clone = { λ row copy. copy ≡ row };

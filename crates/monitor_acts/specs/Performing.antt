@@ -59,8 +59,8 @@ content_after x (Emit line ∷ acts) = content_after x acts
 pub record CanCommit (i : Identity) (x : Content) (c : Changes) : Type 0 where
   pub short : All HasShortChange c.items
   pub patch : IsPatch (patch_of c)
-  pub before : total_charge i.block x.items ≤ i.pages
-  pub after : total_charge i.block (patched x (patch_of c)).items ≤ i.pages
+  pub before : total_charge i.blksize x.items ≤ i.pages
+  pub after : total_charge i.blksize (patched x (patch_of c)).items ≤ i.pages
 
 -- and all commits of some acts, one after another
 abbrev pub AreCommittable : Identity → Content → List Act → Type 0

@@ -1,13 +1,11 @@
--- Which error was handed on.
-use Rattle.std.proofs.Common.{◌≡◌, ℕ, List, refl, sym, ap, ◌∙◌}
+-- Which error of a device was handed on as one of the opening.
+use Rattle.std.proofs.Common.{◌≡◌, ℕ, List, refl}
 use Rattle.std.specs.Prelude.{Result, Ok, Err, IsErrAnd, IsErrOf}
 use Rattle.kd_device.specs.declared.error.DeviceError.{DeviceError}
 use Rattle.kd_device.specs.declared.error.DeviceError.TheVariants as device
 use Rattle.warm_start.specs.declared.error.OpenError.{OpenError}
 use Rattle.warm_start.specs.declared.error.OpenError.TheVariants as opening
 use Rattle.warm_start.specs.Causes.{of_device}
-
--- ---- one of a device
 
 pub act_failed : (T U : Type 0) (r : Result T OpenError) (e : DeviceError) → IsErrAnd r (λ x. x ≡ of_device e) → IsErrOf r opening.Failed → IsErrOf {T = U} (Err e) device.Failed
 act_failed T U r device.Failed gives is = refl
@@ -23,9 +21,3 @@ pub act_knows_no_other : (T : Type 0) (r : Result T OpenError) (e : DeviceError)
 act_knows_no_other T (Ok x) e stored gives is = gives
 act_knows_no_other T (Err x) device.Failed stored gives is = cc
 act_knows_no_other T (Err x) device.Memory stored gives is = cc
-
--- ---- one of the opening, which stays as it is
-
-pub error_same : (T U : Type 0) (r : Result T OpenError) (e v : OpenError) → IsErrAnd r (λ x. x ≡ e) → IsErrOf r v → IsErrOf {T = U} (Err e) v
-error_same T U (Ok x) e v gives is = absurd gives
-error_same T U (Err x) e v gives is = let h : x ≡ v = cc in ap (λ (y : OpenError). Err y) (sym gives ∙ h)

@@ -1,6 +1,6 @@
 //! Tables as contents, and changes as patches.
 ghost use Rattle.std.specs.Prelude.{◌≡◌, ◌++◌, ◌∷◌, [], ◌<◌, ◌^◌, List, ℕ, length, map, All, IfOk, OnOk};
-ghost use Rattle.kdcs_types.specs.{declared.service.Service.{Service as ServiceIs}, declared.service.Job.{Job as JobIs}, declared.service.JobValue.{JobValue as JobValueIs}, Tables.{row_key, gssb_row, tls_row, uls_row, service_row, job_row, shown_row}};
+ghost use Rattle.kdcs_types.specs.{declared.service.Service.{Service as ServiceIs}, declared.service.Job.{Job as JobIs}, declared.service.JobValue.{JobValue as JobValueIs}, Tables.{gssb_row, tls_row, uls_row, service_row, job_row, shown_row}};
 ghost use Rattle.record_codec.specs.{Values.{service_bytes, job_bytes, record_of, record_change, HasShortChange}, Records.{content_of_tables, patch_of, HasShortValues}};
 
 use crate::keys::record_key;
@@ -101,26 +101,12 @@ pub fn records(alloc: Global, tables: &Tables) -> Result<Content, OutOfMemory>
     })
 }
 
-/// The key of a row. It takes no memory.
-pub fn key_of(row: &Row) -> Key
-    ensures { result ≡ row_key row.now }
-{
-    match row {
-        Row::Gssb(name, _) => Key::Gssb(*name),
-        Row::Tls(block, lterm, _) => Key::Tls(*block, *lterm),
-        Row::Uls(block, user, _) => Key::Uls(*block, *user),
-        Row::Service(id, _) => Key::Service(*id),
-        Row::Job(number, _) => Key::Job(*number),
-        Row::Shown(lterm, _) => Key::Shown(*lterm),
-    }
-}
-
 fn put_change(alloc: Global, change: &Change, items: &mut PatchItems) -> Result<(), OutOfMemory>
     requires { HasShortChange change.now }
     ensures { OnOk result (items.new ≡ items.old ++ record_change change.now ∷ []) }
 {
     match change {
-        Change::Set(row) => items.push((record_key(&key_of(row)), Some(row_value(alloc, row)?))),
+        Change::Set(row) => items.push((record_key(&row.key()), Some(row_value(alloc, row)?))),
         Change::Remove(key) => items.push((record_key(key), None)),
     }
 }

@@ -19,6 +19,6 @@ mod values;
 
 pub use ascending::ascend;
 pub use decode::tables_of;
-pub use encode::{difference, key_of, records};
+pub use encode::{difference, records};
 pub use laws::{keys_keep_their_order, patches_follow_changes, records_are_one_to_one};
 pub use rows::row_of;

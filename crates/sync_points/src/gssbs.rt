@@ -15,25 +15,11 @@ fn made(change: &Change) -> u64
     }
 }
 
-pub(crate) fn key_of(change: &Change) -> Key
-    ensures { result ≡ change_key change.now }
-{
-    match change {
-        Change::Set(Row::Gssb(name, _)) => Key::Gssb(*name),
-        Change::Set(Row::Tls(block, lterm, _)) => Key::Tls(*block, *lterm),
-        Change::Set(Row::Uls(block, user, _)) => Key::Uls(*block, *user),
-        Change::Set(Row::Service(id, _)) => Key::Service(*id),
-        Change::Set(Row::Job(number, _)) => Key::Job(*number),
-        Change::Set(Row::Shown(lterm, _)) => Key::Shown(*lterm),
-        Change::Remove(key) => *key,
-    }
-}
-
 // 1 where a GSSB's row stands at the key of the change.
 fn replaced(tables: &Tables, change: &Change) -> u64
     ensures { result ≡ row_weight gssb_weight (row_at tables.now (change_key change.now)) }
 {
-    match key_of(change) {
+    match change.key() {
         Key::Gssb(name) => match tables.content(&Area::Gssb(name)) {
             Some(_) => 1,
             None => 0,

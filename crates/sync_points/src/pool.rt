@@ -8,7 +8,6 @@ ghost use Rattle.monitor_tables.specs.PointLaws.{AreSound};
 ghost use Rattle.sync_points.specs.{Pages.{is_short}, PointChanges.{row_left}, Refusals.{row_charge}, Short.{leaves_short}, Weights.{row_weight}};
 ghost use Rattle.table_fit.specs.Lengths.{value_length};
 
-use crate::gssbs::key_of;
 use crate::pages::durable_pages;
 use kd_base::Bytes;
 use kd_records::charge;
@@ -67,7 +66,7 @@ fn replaced(tables: &Tables, change: &Change, blksize: u32) -> u64
     requires short { IsTrue (is_short (row_at tables.now (change_key change.now))) }
     ensures { result ≡ row_weight (row_charge blksize) (row_at tables.now (change_key change.now)) }
 {
-    match length_at(tables, key_of(change)) {
+    match length_at(tables, change.key()) {
         Some(length) => charge(length, blksize),
         None => 0,
     }

@@ -1,7 +1,7 @@
 //! The texts of a call, read from the room, and what they say.
 ghost use Rattle.std.specs.Prelude.{◌≡◌, ◌++◌, List, ℕ, IsTrue, IfOk, IsErrOf, IsSome, IsSomeAnd, Ok, Err};
 ghost use Rattle.kd_device.specs.{Device.{Rose}, Room.{SameRoom, text_of}};
-ghost use Rattle.utm_cli.specs.{Asking.{Errand, Reading, AskFor, CanRun, ScriptIs, ReadsFor, AreThere, WereRead, shown_of}, Doing.{IsOverFile}, Words.{IsForm}, declared.error.Refusal.{Refusal}};
+ghost use Rattle.utm_cli.specs.{Asking.{Reading, AskFor, CanRun, ScriptIs, ReadsFor, AreThere, WereRead, shown_of}, Doing.{IsOverFile}, Words.{IsForm}, declared.error.Refusal.{Refusal}};
 ghost use Rattle.made_run.specs.Input.{definition_text as made_definition, units_text as made_units, script_text as made_script};
 ghost use Rattle.kdcdef_types.specs.Statements.{IsWithin};
 
@@ -21,7 +21,7 @@ use warm_start::fingerprint_of;
 
 /// What a call asks for.
 #[derive(Drop)]
-pub(crate) struct Asked {
+pub(crate) struct Errand {
     pub word: Word,
     pub application: Application,
     /// That of the definition and the units.
@@ -30,10 +30,10 @@ pub(crate) struct Asked {
     pub commands: Vec<Command>,
 }
 
-impl Model for Asked {
-    ghost use Rattle.utm_cli.specs.Asking.{Errand};
+impl Model for Errand {
+    ghost use Rattle.utm_cli.specs.Asking.{Errand as Seen};
 
-    ghost Value = { Errand };
+    ghost Value = { Seen };
 
     ghost view = { λ a. record { word = a.word; application = a.application; fingerprint = a.fingerprint; commands = a.commands.items } };
 }
@@ -150,7 +150,7 @@ fn asked_of(
     definition: &[u8],
     units: &[u8],
     script: &[u8],
-) -> Result<Asked, TextError>
+) -> Result<Errand, TextError>
     ensures word { IfOk result (λ e. e.word ≡ word) }
     ensures found { IfOk result (λ e. AskFor word definition.now units.now script.now (Ok e)) }
     ensures can { IfOk result CanRun }
@@ -163,7 +163,7 @@ fn asked_of(
     let commands = read_script(alloc, &application.generation, script)?;
     fitted_units_make_an_application(&application.generation, &application.units);
     commands_are_said();
-    Ok(Asked {
+    Ok(Errand {
         word,
         application,
         fingerprint: fingerprint_of(definition, units),
@@ -177,7 +177,7 @@ pub(crate) fn read_texts<R: Room>(
     room: &mut R,
     word: Word,
     base: &[u8],
-) -> Result<Asked, TextError>
+) -> Result<Errand, TextError>
     requires { IsForm word }
     ensures word { IfOk result (λ e. e.word ≡ word) }
     ensures found { IfOk result (λ e. IsTrue (R.room room.old).told → ReadsFor word base.now (R.room room.old) (Ok e)) }

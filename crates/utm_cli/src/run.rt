@@ -12,7 +12,7 @@ ghost use Rattle.monitor_acts.specs.{Said.{SameDisk, Said, SaidPart}, Performing
 ghost use Rattle.made_run.specs.Report.{report_of};
 
 use crate::opening::{look, open};
-use crate::reading::Asked;
+use crate::reading::Errand;
 use crate::refuse::{refuse, refuse_other};
 use crate::report::report;
 use crate::status::Status;
@@ -38,7 +38,7 @@ fn perform_report<D: Device>(
     alloc: Global,
     device: &mut D,
     mut store: WholeStore,
-    asked: &Asked,
+    asked: &Errand,
 ) -> Result<(), DeviceError>
     requires word { asked.now.word ≡ Gen }
     requires kept { IsTrue (D.state device.old).told → IsKept (HasFile store) (D.state device.old) (D.leaves device.old) }
@@ -56,7 +56,7 @@ fn perform_script<D: Device>(
     device: &mut D,
     store: WholeStore,
     tables: Tables,
-    asked: Asked,
+    asked: Errand,
 ) -> Result<u64, OpenError>
     requires word { asked.word ≡ Run }
     requires can { CanRun asked }
@@ -69,7 +69,7 @@ fn perform_script<D: Device>(
     ensures refused { IsErrOf result OpenError.NotKdcfile → IsTrue (D.state device.old).told → ⊥ }
     ensures other { (stored : List ℕ) → IsErrOf result (OpenError.OtherGeneration stored) → IsTrue (D.state device.old).told → ⊥ }
 {
-    let Asked {
+    let Errand {
         word: _word,
         application,
         fingerprint,
@@ -85,7 +85,7 @@ fn perform<D: Device>(
     device: &mut D,
     store: WholeStore,
     tables: Tables,
-    asked: Asked,
+    asked: Errand,
 ) -> Result<(), OpenError>
     requires stored { MakesFile asked.word }
     requires can { CanRun asked }
@@ -113,7 +113,7 @@ fn run_stored<D: Device>(
     alloc: Global,
     device: &mut D,
     name: &[u8],
-    asked: Asked,
+    asked: Errand,
 ) -> Result<(), OpenError>
     requires stored { MakesFile asked.word }
     requires can { CanRun asked }
@@ -142,7 +142,7 @@ fn show_over<D: Device>(
     alloc: Global,
     device: &mut D,
     name: &[u8],
-    asked: &Asked,
+    asked: &Errand,
 ) -> Result<(), OpenError>
     ensures done { OnOk result (IsTrue (D.state device.old).told → (t : TableRows) × Opens asked.now (D.state device.old).holds t × Said (listing t) (D.state device.old) (D.state device.new)) }
     ensures refused { IsErrOf result OpenError.NotKdcfile → IsTrue (D.state device.old).told → IsRefused asked.now.application.generation asked.now.fingerprint (D.state device.old).holds }
@@ -168,7 +168,7 @@ fn make<D: Device>(
     alloc: Global,
     device: &mut D,
     inputs: u32,
-    asked: Asked,
+    asked: Errand,
 ) -> Result<(), OpenError>
     requires inputs { IsWithin 1 20000 inputs }
     requires can { CanRun asked }
@@ -180,7 +180,7 @@ fn make<D: Device>(
     ensures frame { Frame (D.state device.old) (D.state device.new) }
     ensures names { SameNames (D.state device.old) (D.state device.new) }
 {
-    let Asked {
+    let Errand {
         word: _word,
         application,
         fingerprint,
@@ -196,7 +196,7 @@ fn run_over<D: Device>(
     alloc: Global,
     device: &mut D,
     name: &[u8],
-    asked: Asked,
+    asked: Errand,
 ) -> Result<(), OpenError>
     requires form { IsForm asked.word }
     requires can { CanRun asked }
@@ -223,7 +223,7 @@ fn run_over<D: Device>(
 }
 
 /// Does what is asked for, over the KDCFILE of this BASE where the word has one.
-pub(crate) fn run<D: Device>(alloc: Global, device: &mut D, base: &[u8], asked: Asked) -> Status
+pub(crate) fn run<D: Device>(alloc: Global, device: &mut D, base: &[u8], asked: Errand) -> Status
     requires form { IsForm asked.word }
     requires can { CanRun asked }
     ensures code { IsOneOf (0 ∷ 4 ∷ 5 ∷ 7 ∷ []) result.code }

@@ -32,17 +32,17 @@ module _ (g : Generated) (fingerprint : List ℕ) (s : Whole) (t : TableRows) (k
   only_these : (i : Identity) (u : TableRows) → KeepsTables i s u → u ≡ t
   only_these i u h = one_table u t h.tables k.tables (sym h.content ∙ k.content)
 
-  keeps_unsuited : s.identity.fingerprint ≡ fingerprint → (SuitsFrom g s.identity.block s.identity.pages t → ⊥) → KeepsNoneFor g fingerprint s
+  keeps_unsuited : s.identity.fingerprint ≡ fingerprint → (SuitsFrom g s.identity.blksize s.identity.pages t → ⊥) → KeepsNoneFor g fingerprint s
   keeps_unsuited own not_suited = record {
     own_texts = λ i u h. ap (λ (j : Identity). j.fingerprint) (sym h.identity_is) ∙ own;
-    unsuited = λ i u h suits. not_suited (subst (λ (v : TableRows). SuitsFrom g s.identity.block s.identity.pages v) (only_these i u h) (subst (λ (j : Identity). SuitsFrom g j.block j.pages u) (sym h.identity_is) suits));
+    unsuited = λ i u h suits. not_suited (subst (λ (v : TableRows). SuitsFrom g s.identity.blksize s.identity.pages v) (only_these i u h) (subst (λ (j : Identity). SuitsFrom g j.blksize j.pages u) (sym h.identity_is) suits));
   }
 
 pub none_suited : (g : Generated) (fingerprint : List ℕ) (s : Whole) (x : Content) (t : TableRows) → x ≡ s.content → AreTablesOf x t → AreProperTables t → (stored : List ℕ) → stored ≡ s.identity.fingerprint → stored ≡ fingerprint
-    → (block pages : ℕ) → block ≡ s.identity.block → pages ≡ s.identity.pages → (SuitsFrom g block pages t → ⊥) → KeepsNoneFor g fingerprint s
-none_suited g fingerprint s x t is are proper stored made own block pages block_is pages_are not_suited =
+    → (blksize pages : ℕ) → blksize ≡ s.identity.blksize → pages ≡ s.identity.pages → (SuitsFrom g blksize pages t → ⊥) → KeepsNoneFor g fingerprint s
+none_suited g fingerprint s x t is are proper stored made own blksize pages blksize_is pages_are not_suited =
     keeps_unsuited g fingerprint s t (keeps s x t is are proper) (sym made ∙ own)
-    (λ suits. not_suited (record { pages = block_is ∙ suits.pages; pool = pages_are ∙ suits.pool; tables = suits.tables }))
+    (λ suits. not_suited (record { pages = blksize_is ∙ suits.pages; pool = pages_are ∙ suits.pool; tables = suits.tables }))
 
 -- fingerprints that were compared and found equal
 pub same_print : (r : Bool) (a b : List ℕ) → r ≡ false → r ≡ not (pointwise nat_eq a b) → a ≡ b
@@ -82,6 +82,6 @@ empty_are_tables = record {
 }
 
 -- there are pages for what the store keeps, where one was opened
-pub room_there : (g : Generated) (fingerprint : List ℕ) (r : Result (Whole × TableRows) OpenError) → IfOk r (λ o. KeepsTables (identity_for g fingerprint) o.0 o.1) → IfOk r (λ o. Suits g o.1) → IfOk r (λ o. records_charge o.0.identity.block o.0.content.items ≤ o.0.identity.pages)
+pub room_there : (g : Generated) (fingerprint : List ℕ) (r : Result (Whole × TableRows) OpenError) → IfOk r (λ o. KeepsTables (identity_for g fingerprint) o.0 o.1) → IfOk r (λ o. Suits g o.1) → IfOk r (λ o. records_charge o.0.identity.blksize o.0.content.items ≤ o.0.identity.pages)
 room_there g fingerprint (Ok o) keeps suits = has_room g fingerprint o.0 o.1 keeps suits
 room_there g fingerprint (Err e) keeps suits = tt

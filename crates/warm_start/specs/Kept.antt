@@ -10,7 +10,7 @@ use Rattle.warm_start.specs.Stands.{KeepsTables}
 -- the store keeps no tables, or some of these texts that do not suit the generation
 pub record KeepsNoneFor (g : Generated) (fingerprint : List ℕ) (store : Whole) : Type 0 where
   pub own_texts : (i : Identity) (t : TableRows) → KeepsTables i store t → i.fingerprint ≡ fingerprint
-  pub unsuited : (i : Identity) (t : TableRows) → KeepsTables i store t → SuitsFrom g i.block i.pages t → ⊥
+  pub unsuited : (i : Identity) (t : TableRows) → KeepsTables i store t → SuitsFrom g i.blksize i.pages t → ⊥
 
 -- the store keeps some tables of texts with another fingerprint
 pub record KeepsOthers (stored fingerprint : List ℕ) (store : Whole) : Type 0 where

@@ -15,7 +15,7 @@ StartsFrom g fingerprint bytes t = ((bytes ≡ []) × (t ≡ empty_tables)) ⊎ 
 -- the bytes stand for no tables, or for some of these texts that do not suit the generation
 pub record HasNoTablesFor (g : Generated) (fingerprint bytes : List ℕ) : Type 0 where
   pub own_texts : (i : Identity) (t : TableRows) → StandsForTables i t bytes → i.fingerprint ≡ fingerprint
-  pub unsuited : (i : Identity) (t : TableRows) → StandsForTables i t bytes → SuitsFrom g i.block i.pages t → ⊥
+  pub unsuited : (i : Identity) (t : TableRows) → StandsForTables i t bytes → SuitsFrom g i.blksize i.pages t → ⊥
 
 -- it starts from no tables, and the file is not empty
 abbrev pub IsRefused : Generated → (fingerprint bytes : List ℕ) → Type 0

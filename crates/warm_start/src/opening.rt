@@ -134,7 +134,7 @@ pub fn open_tables<D: Device>(
     ensures suits { IfOk result (λ o. Suits generation.now o.1) }
 
     // There are pages for what the store keeps, as a commit asks.
-    ensures room { IfOk result (λ o. total_charge o.0.identity.block o.0.content.items ≤ o.0.identity.pages) }
+    ensures room { IfOk result (λ o. total_charge o.0.identity.blksize o.0.content.items ≤ o.0.identity.pages) }
 
     ensures starts { IfOk result (λ o. IsTrue (D.state device.old).told → StartsFrom generation.now fingerprint.now (D.state device.old).holds o.1) }
     ensures kept { IfOk result (λ o. IsTrue (D.state device.old).told → IsKept (HasFile o.0) (D.state device.new) (D.leaves device.new)) }

@@ -5,20 +5,20 @@ use Rattle.kdcfile_images.proofs.making.create.Goals as goal
 
 pub returns-in_err-write_file-clause-any_moment : goal.returns-in_err-write_file-clause-any_moment
 returns-in_err-write_file-clause-any_moment g c = λ told.
-    in_making (record { block = c.args.blksize; pages = c.args.pgpool; fingerprint = c.args.fingerprint.now }) c.requires.identity c.deref.result.now (c.deref.ensures.value ∙ c.in_ok-draft.ensures.rest) _ _ _ _ _ _ (c.requires.empty told) (c.requires.settled told) (c.reserve.ensures.content told)
+    in_making (record { blksize = c.args.blksize; pages = c.args.pgpool; fingerprint = c.args.fingerprint.now }) c.requires.identity c.deref.result.now (c.deref.ensures.value ∙ c.in_ok-draft.ensures.rest) _ _ _ _ _ _ (c.requires.empty told) (c.requires.settled told) (c.reserve.ensures.content told)
     (c.write_file.ensures.any_moment (rw c.reserve.ensures.frame.told told))
 
 pub returns-clause-any_moment : goal.returns-clause-any_moment
 returns-clause-any_moment g c = λ told.
-    in_making (record { block = c.args.blksize; pages = c.args.pgpool; fingerprint = c.args.fingerprint.now }) c.requires.identity c.deref.result.now (c.deref.ensures.value ∙ c.in_ok-draft.ensures.rest) _ _ _ _ _ _ (c.requires.empty told) (c.requires.settled told) (c.reserve.ensures.content told)
+    in_making (record { blksize = c.args.blksize; pages = c.args.pgpool; fingerprint = c.args.fingerprint.now }) c.requires.identity c.deref.result.now (c.deref.ensures.value ∙ c.in_ok-draft.ensures.rest) _ _ _ _ _ _ (c.requires.empty told) (c.requires.settled told) (c.reserve.ensures.content told)
     (c.write_file.ensures.any_moment (rw c.reserve.ensures.frame.told told))
 
 pub returns-clause-stands : goal.returns-clause-stands
 returns-clause-stands g c = λ told.
     let told_r : IsTrue (g.D.Device.state c.reserve.new.self).told = rw c.reserve.ensures.frame.told told in
-    rw ((c.in_ok-write_file.ensures.ok told_r).holds) (made_stands (record { block = c.args.blksize; pages = c.args.pgpool; fingerprint = c.args.fingerprint.now }) c.requires.identity c.deref.result.now (c.deref.ensures.value ∙ c.in_ok-draft.ensures.rest))
+    rw ((c.in_ok-write_file.ensures.ok told_r).holds) (made_stands (record { blksize = c.args.blksize; pages = c.args.pgpool; fingerprint = c.args.fingerprint.now }) c.requires.identity c.deref.result.now (c.deref.ensures.value ∙ c.in_ok-draft.ensures.rest))
 
 pub returns-clause-length : goal.returns-clause-length
 returns-clause-length g c = λ told.
     let told_r : IsTrue (g.D.Device.state c.reserve.new.self).told = rw c.reserve.ensures.frame.told told in
-    ap (λ (l : List ℕ). length l) ((c.in_ok-write_file.ensures.ok told_r).holds) ∙ made_length (record { block = c.args.blksize; pages = c.args.pgpool; fingerprint = c.args.fingerprint.now }) c.requires.identity c.deref.result.now (c.deref.ensures.value ∙ c.in_ok-draft.ensures.rest)
+    ap (λ (l : List ℕ). length l) ((c.in_ok-write_file.ensures.ok told_r).holds) ∙ made_length (record { blksize = c.args.blksize; pages = c.args.pgpool; fingerprint = c.args.fingerprint.now }) c.requires.identity c.deref.result.now (c.deref.ensures.value ∙ c.in_ok-draft.ensures.rest)

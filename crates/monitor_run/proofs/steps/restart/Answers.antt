@@ -1,6 +1,7 @@
 use Rattle.std.proofs.Common.{inl, inr, arith}
 use Rattle.monitor_run.proofs.Restarting.{opening_performs, restart_performs, did_restart}
-use Rattle.monitor_run.specs.HandedOn.{act_failed, act_refuses_nothing, act_knows_no_other, error_same}
+use Rattle.kd_base.specs.Tools.{error_same}
+use Rattle.monitor_run.specs.HandedOn.{act_failed, act_refuses_nothing, act_knows_no_other}
 use Rattle.monitor_run.proofs.Errors.{no_error}
 use Rattle.monitor_run.proofs.steps.restart.Goals as goal
 

@@ -1,7 +1,7 @@
 use Rattle.std.proofs.Common.{ap, sym, ◌∙◌}
 use Rattle.monitor_semantics.specs.State.{Application}
 use Rattle.monitor_run.proofs.Restarting.{not_empty, never_refused, never_other, starts_again}
-use Rattle.monitor_run.specs.HandedOn.{error_same}
+use Rattle.kd_base.specs.Tools.{error_same}
 use Rattle.monitor_run.proofs.steps.start_again.Goals as goal
 
 pub returns-in_err-tables-clause-rests : goal.returns-in_err-tables-clause-rests

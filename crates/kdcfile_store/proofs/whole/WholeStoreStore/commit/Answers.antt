@@ -14,4 +14,4 @@ write_content-requires-clause-fits g c = λ told.
     let made : c.in_ok-next.next ≡ patched x p = c.in_ok-next.ensures.content ∙ ap (λ (y : Content). patched y p) (ap (λ (s : Whole). s.content) c.self.view_is) in
     let clock : p.clock < 2 ^ 64 = omega (arith, c.in_ok-next.ensures.clock, ap (λ (y : Content). y.clock) made) in
     let next_job : p.next_job < 2 ^ 64 = omega (arith, c.in_ok-next.ensures.next_job, ap (λ (y : Content). y.next_job) made) in
-    subst IsContent (sym made) (patch_keeps_content i.block i.pages x p file.identity.block file.identity.most file.content c.requires.patch clock next_job c.requires.charge_after)
+    subst IsContent (sym made) (patch_keeps_content i.blksize i.pages x p file.identity.blksize file.identity.most file.content c.requires.patch clock next_job c.requires.charge_after)
