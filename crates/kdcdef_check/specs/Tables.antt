@@ -1,11 +1,11 @@
 -- A generation's tables in memory, and what they stand for.
 use Rattle.kdcdef_types.specs.Generation.{Generated}
-use Rattle.kdcdef_check.specs.declared.generation.Generation.TheInside.{Inside}
+use Rattle.kdcdef_check.specs.declared.generation.GenerationParts.{GenerationParts}
 use Rattle.kdcdef_check.specs.Soundness.{IsSound}
 
-abbrev pub generated_of : Inside → Generated
+abbrev pub generated_of : GenerationParts → Generated
 generated_of g = record { limits = g.limits; programs = g.programs.entries; tacs = g.tacs.entries; users = g.users.entries; pterms = g.pterms.entries; lterms = g.lterms.entries; tls = g.tls.keys; uls = g.uls.keys; classes = g.classes.entries; counts = g.counts }
 
 -- what the tables stand for keeps what every generation keeps
-abbrev pub IsSoundInside : Inside → Type 0
-IsSoundInside g = IsSound (generated_of g)
+abbrev pub AreSoundParts : GenerationParts → Type 0
+AreSoundParts g = IsSound (generated_of g)

@@ -1,19 +1,19 @@
 //! A generation: what the statements of a KDCDEF text say together.
-ghost use Rattle.std.specs.{Prelude.{◌≡◌, ◌≤◌, IfSome}, Option.{option_copied}};
+ghost use Rattle.std.specs.{Prelude.{◌≡◌, ◌≤◌, IfOk, IfSome}, Option.{option_copied}};
 ghost use Rattle.kdcdef_types.specs.{Statements.{IsTacInRange, IsUserInRange}, Generation.{tac_of, user_of, pterm_of, lterm_of, has_tls, has_uls, class_limit}};
 ghost use Rattle.kdcdef_check.specs.{Soundness.{AreLimits, IsSound}, Steps.{made_of}};
 
 use crate::hashing::NameHashing;
 use crate::tables::Tables;
 use indexmap::{IndexMap, IndexSet};
-use kd_base::{Name, ProgName};
+use kd_base::{Name, OutOfMemory, ProgName};
 use kdcdef_types::{Counts, Limits, LtermEntry, PtermEntry, TacEntry, UserEntry};
+use std::alloc::Global;
 use std::marker::Model;
 
-/// What the statements of a KDCDEF text generate. Contracts see its limits, its tables in the order of their statements,
-/// and its counts. No call of it takes memory.
+/// The parts of a generation.
 #[derive(Drop)]
-pub struct Generation {
+pub(crate) struct GenerationParts {
     limits: Limits,
     programs: IndexMap<ProgName, u32, NameHashing>,
     tacs: IndexMap<Name, TacEntry, NameHashing>,
@@ -26,23 +26,35 @@ pub struct Generation {
     counts: Counts,
 }
 
+/// What the statements of a KDCDEF text generate. Contracts see its limits, its tables in the order of their statements,
+/// and its counts. No call of it takes memory. It is handed from owner to owner, so its parts stand in a box.
+#[derive(Drop)]
+pub struct Generation {
+    parts: Box<GenerationParts, Global>,
+}
+
 impl Model for Generation {
     ghost use Rattle.kdcdef_types.specs.Generation.{Generated};
-    ghost use Rattle.kdcdef_check.specs.Tables.{generated_of, IsSoundInside};
+    ghost use Rattle.kdcdef_check.specs.Tables.{generated_of, AreSoundParts};
 
     ghost Value = { Generated };
 
-    ghost view = { generated_of };
+    ghost view = { λ g. generated_of g.parts.value };
 
-    ghost invariant = { IsSoundInside };
+    ghost invariant = { λ g. AreSoundParts g.parts.value };
 }
 
 impl Generation {
-    pub(crate) fn of(tables: Tables, limits: Limits, counts: Counts) -> Generation
+    pub(crate) fn of(
+        alloc: Global,
+        tables: Tables,
+        limits: Limits,
+        counts: Counts,
+    ) -> Result<Generation, OutOfMemory>
         requires { IsSound (made_of tables limits counts) }
-        ensures { result ≡ made_of tables limits counts }
+        ensures { IfOk result (λ generation. generation ≡ made_of tables limits counts) }
     {
-        Generation {
+        let parts = GenerationParts {
             limits,
             programs: tables.programs,
             tacs: tables.tacs,
@@ -53,7 +65,10 @@ impl Generation {
             uls: tables.uls,
             classes: tables.classes,
             counts,
-        }
+        };
+        Ok(Generation {
+            parts: Box::new(alloc, parts)?,
+        })
     }
 
     /// The numbers of the MAX statements.
@@ -62,7 +77,7 @@ impl Generation {
         ensures ranges { AreLimits result.now }
         ensures sound { IsSound self.now }
     {
-        &self.limits
+        &self.parts.limits
     }
 
     /// What the TAC statement of this name says, if there is one.
@@ -70,7 +85,7 @@ impl Generation {
         ensures entry { option_copied result ≡ tac_of self.now name }
         ensures ranges { IfSome result (λ e. IsTacInRange e.now) }
     {
-        self.tacs.get(&name)
+        self.parts.tacs.get(&name)
     }
 
     /// What the USER statement of this name says, if there is one.
@@ -78,35 +93,35 @@ impl Generation {
         ensures entry { option_copied result ≡ user_of self.now name }
         ensures ranges { IfSome result (λ e. IsUserInRange e.now) }
     {
-        self.users.get(&name)
+        self.parts.users.get(&name)
     }
 
     /// What the PTERM statement of this name says, if there is one that names an LTERM.
     pub fn pterm(&self, name: Name) -> Option<&PtermEntry>
         ensures { option_copied result ≡ pterm_of self.now name }
     {
-        self.pterms.get(&name)
+        self.parts.pterms.get(&name)
     }
 
     /// What the LTERM statement of this name says, if there is one.
     pub fn lterm(&self, name: Name) -> Option<&LtermEntry>
         ensures { option_copied result ≡ lterm_of self.now name }
     {
-        self.lterms.get(&name)
+        self.parts.lterms.get(&name)
     }
 
     /// Whether a TLS statement names this block.
     pub fn has_tls(&self, name: Name) -> bool
         ensures { result ≡ has_tls self.now name }
     {
-        self.tls.contains(&name)
+        self.parts.tls.contains(&name)
     }
 
     /// Whether a ULS statement names this block.
     pub fn has_uls(&self, name: Name) -> bool
         ensures { result ≡ has_uls self.now name }
     {
-        self.uls.contains(&name)
+        self.parts.uls.contains(&name)
     }
 
     /// How many tasks may work for a TAC class, from 0 to 240, if a TACCLASS statement says so.
@@ -114,27 +129,27 @@ impl Generation {
         ensures limit { result ≡ class_limit self.now class }
         ensures ranges { IfSome result (λ tasks. tasks ≤ 240) }
     {
-        self.classes.get(&class).copied()
+        self.parts.classes.get(&class).copied()
     }
 
     /// The program units, in the order of their statements, each with the line of its statement.
     pub fn programs(&self) -> &IndexMap<ProgName, u32, NameHashing>
         ensures { result.now.entries ≡ self.now.programs }
     {
-        &self.programs
+        &self.parts.programs
     }
 
     /// The TACs, in the order of their statements.
     pub fn tacs(&self) -> &IndexMap<Name, TacEntry, NameHashing>
         ensures { result.now.entries ≡ self.now.tacs }
     {
-        &self.tacs
+        &self.parts.tacs
     }
 
     /// How many statements of a kind there are, and what was passed over.
     pub fn counts(&self) -> Counts
         ensures { result ≡ self.now.counts }
     {
-        self.counts
+        self.parts.counts
     }
 }

@@ -6,7 +6,7 @@ ghost use Rattle.unit_check.specs.{declared.fault.FitFault.TheVariants.{Memory},
 use crate::earlier::earlier;
 use crate::fault::FitFault;
 use crate::unit::unit_fault;
-use crate::units::Units;
+use crate::units::{Fitted, Units};
 use indexmap::IndexMap;
 use kd_base::{Name, OutOfMemory, ProgName};
 use kdcdef_check::{Generation, NameHashing};
@@ -94,10 +94,12 @@ pub fn fit(alloc: Global, units: Vec<Unit>, generation: &Generation) -> Result<U
     if let Some(fault) = lacking(listed, &places, generation).or(units_fault(listed, generation)) {
         return Err(fault);
     }
-    Ok(Units {
+    let fitted = Fitted {
         units,
         limits: *generation.max(),
         tacs: tacs_of(generation)?,
         places,
-    })
+    };
+    let units = Units::of(alloc, fitted)?;
+    Ok(units)
 }

@@ -1,19 +1,20 @@
 //! Units that fit a generation.
-ghost use Rattle.std.specs.{Prelude.{◌≡◌, ◌↔◌, IfSome, IsSome}, Option.{option_copied}};
+ghost use Rattle.std.specs.{Prelude.{◌≡◌, ◌↔◌, IfOk, IfSome, IsSome}, Option.{option_copied}};
 ghost use Rattle.kdcdef_types.specs.Generation.{entry_of};
 ghost use Rattle.unit_check.specs.Fitted.{unit_named, unit_of, IsFitted, AreFit};
 
 use indexmap::IndexMap;
-use kd_base::{Name, ProgName};
+use kd_base::{Name, OutOfMemory, ProgName};
 use kdcdef_check::NameHashing;
 use kdcdef_types::{Limits, TacEntry};
+use std::alloc::Global;
 use std::collections::BTreeMap;
 use std::marker::Model;
 use unit_types::Unit;
 
-/// Units that fit a generation. Contracts see the units in their order, and the limits and TACs of the generation.
+/// What is known of units that fit a generation.
 #[derive(Drop)]
-pub struct Units {
+pub(crate) struct Fitted {
     pub(crate) units: Vec<Unit>,
     pub(crate) limits: Limits,
     pub(crate) tacs: IndexMap<Name, TacEntry, NameHashing>,
@@ -21,7 +22,7 @@ pub struct Units {
     pub(crate) places: BTreeMap<ProgName, usize>,
 }
 
-impl Model for Units {
+impl Model for Fitted {
     ghost use Rattle.unit_check.specs.Fitted.{FittedUnits};
 
     ghost Value = { FittedUnits };
@@ -33,18 +34,15 @@ impl Model for Units {
     ghost invariant = { λ u. AreUnitPlaces u.places u.units.items × AreFit u.limits u.tacs.entries u.units.items };
 }
 
-impl Units {
-    /// The units, in their order.
-    pub fn all(&self) -> &[Unit]
+impl Fitted {
+    fn all(&self) -> &[Unit]
         ensures all { result.now ≡ self.now.units }
         ensures fit { AreFit self.now.limits self.now.tacs self.now.units }
     {
         self.units.as_slice()
     }
 
-    /// The unit that a TAC runs, in a time that grows only with the logarithm of the number of units; none where the
-    /// generation has no such TAC.
-    pub fn unit_of(&self, tac: Name) -> Option<&Unit>
+    fn unit_of(&self, tac: Name) -> Option<&Unit>
         ensures unit { option_copied result ≡ unit_of self.now tac }
         ensures found { IsSome result ↔ IsSome (entry_of self.now.tacs tac) }
         ensures fitted { IfSome result (λ unit. IsFitted self.now.limits self.now.tacs unit.now) }
@@ -63,5 +61,48 @@ impl Units {
             Some(place) => self.units.get(*place),
             None => None,
         }
+    }
+}
+
+/// Units that fit a generation. Contracts see the units in their order, and the limits and TACs of the generation. They
+/// are handed from owner to owner, so what is known of them stands in a box.
+#[derive(Drop)]
+pub struct Units {
+    fitted: Box<Fitted, Global>,
+}
+
+impl Model for Units {
+    ghost use Rattle.unit_check.specs.Fitted.{FittedUnits};
+
+    ghost Value = { FittedUnits };
+
+    ghost view = { λ u. u.fitted.value };
+}
+
+impl Units {
+    pub(crate) fn of(alloc: Global, fitted: Fitted) -> Result<Units, OutOfMemory>
+        ensures { IfOk result (λ units. units ≡ fitted) }
+    {
+        Ok(Units {
+            fitted: Box::new(alloc, fitted)?,
+        })
+    }
+
+    /// The units, in their order.
+    pub fn all(&self) -> &[Unit]
+        ensures all { result.now ≡ self.now.units }
+        ensures fit { AreFit self.now.limits self.now.tacs self.now.units }
+    {
+        self.fitted.all()
+    }
+
+    /// The unit that a TAC runs, in a time that grows only with the logarithm of the number of units; none where the
+    /// generation has no such TAC.
+    pub fn unit_of(&self, tac: Name) -> Option<&Unit>
+        ensures unit { option_copied result ≡ unit_of self.now tac }
+        ensures found { IsSome result ↔ IsSome (entry_of self.now.tacs tac) }
+        ensures fitted { IfSome result (λ unit. IsFitted self.now.limits self.now.tacs unit.now) }
+    {
+        self.fitted.unit_of(tac)
     }
 }

@@ -45,12 +45,12 @@ of-requires c =
 pub returns-clause-found : goal.returns-clause-found
 returns-clause-found c =
     let free : AreFaultless c.as_slice-statements.result.now = none_found c.as_slice-statements.result.now _ _ c.earlier.result c.in_ok-filled.ensures.first c.first_outer_fault-outer.ensures c.earlier.ensures c.in_default.is in
-    let made = c.of.ensures ∙ all_made c.as_slice-statements.result.now c.in_ok-filled.filled.tables c.in_ok-filled.filled.tally c.of-whole.result.max c.passed_operands.result c.limits_of.result c.counts-counts.result
+    let made = c.in_ok-generation.ensures ∙ all_made c.as_slice-statements.result.now c.in_ok-filled.filled.tables c.in_ok-filled.filled.tally c.of-whole.result.max c.passed_operands.result c.limits_of.result c.counts-counts.result
     c.in_ok-filled.ensures.tables c.in_ok-filled.ensures.tally c.of-whole.ensures.max c.passed_operands.ensures c.limits_of.ensures c.counts-counts.ensures free in
-    subst (λ (ss : List Statement). (c.of.result ≡ generated ss) × AreFaultless ss) c.as_slice-statements.ensures.value (made, free)
+    subst (λ (ss : List Statement). (c.in_ok-generation.generation ≡ generated ss) × AreFaultless ss) c.as_slice-statements.ensures.value (made, free)
 
 pub returns-clause-only : goal.returns-clause-only
-returns-clause-only c = only_that c.args.statements.now.items (Ok c.of.result) (returns-clause-found c) tt
+returns-clause-only c = only_that c.args.statements.now.items (Ok c.in_ok-generation.generation) (returns-clause-found c) tt
 
 pub returns-clause-refused : goal.returns-clause-refused
-returns-clause-refused c = refused_for c.args.statements.now.items (Ok c.of.result) (returns-clause-found c) tt
+returns-clause-refused c = refused_for c.args.statements.now.items (Ok c.in_ok-generation.generation) (returns-clause-found c) tt

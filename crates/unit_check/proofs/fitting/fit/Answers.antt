@@ -1,10 +1,11 @@
-use Rattle.std.proofs.Common.{◌≡◌, List, refl, sym, ap, ◌∙◌}
+use Rattle.std.proofs.Common.{◌≡◌, List, refl, sym, subst, ap, ◌∙◌}
 use Rattle.std.specs.Prelude.{Option, Ok, Err, bytes_eq}
 use Rattle.std.specs.List.{position_from}
 use Rattle.std.specs.Option.{option_or}
 use Rattle.unit_types.specs.UnitText.{UnitText}
 use Rattle.unit_check.specs.declared.fault.FitFault.{FitFault}
 use Rattle.unit_check.specs.Finding.{fit_fault}
+use Rattle.unit_check.specs.Fitted.{AreFittedTo}
 use Rattle.unit_check.proofs.Laws.{HasNoFault, no_fault, found_first}
 use Rattle.unit_check.proofs.Answered.{only_that, refused_for}
 use Rattle.unit_check.proofs.fitting.fit.Goals as goal
@@ -25,12 +26,16 @@ faultless : (c : goal.In_ok-tacs_of) → HasNoFault c.args.generation.now c.args
 faultless c =
     no_fault c.args.generation.now c.args.units.items c.max.ensures.sound c.requires.whole (ap (fit_fault c.args.generation.now) (sym c.as_slice-listed.ensures.value) ∙ of_both c.lacking.ensures c.units_fault.ensures ∙ sym c.in_default.ensures)
 
-pub invariant_of-result : goal.invariant_of-result
-invariant_of-result c =
+pub invariant_of-fitted : goal.invariant_of-fitted
+invariant_of-fitted c =
     (λ name. c.in_ok-places.ensures name ∙ ap (λ (units : List UnitText). position_from (λ (u : UnitText). bytes_eq name u.name) 0 units) c.as_slice-listed.ensures.value, rw (c.max.ensures.limits, c.in_ok-tacs_of.ensures) (faultless c).fit)
 
 pub returns-clause-found : goal.returns-clause-found
-returns-clause-found c = record { units = refl; limits = c.max.ensures.limits; tacs = c.in_ok-tacs_of.ensures; programs = (faultless c).programs; fit = (faultless c).fit }
+returns-clause-found c =
+    let free : HasNoFault c.args.generation.now c.args.units.items =
+    no_fault c.args.generation.now c.args.units.items c.max.ensures.sound c.requires.whole (ap (fit_fault c.args.generation.now) (sym c.as_slice-listed.ensures.value) ∙ of_both c.lacking.ensures c.units_fault.ensures ∙ sym c.in_default.ensures) in
+    subst (AreFittedTo c.args.generation.now c.args.units.items) (sym c.in_ok-units.ensures)
+    (record { units = refl; limits = c.max.ensures.limits; tacs = c.in_ok-tacs_of.ensures; programs = free.programs; fit = free.fit })
 
 pub returns-clause-only : goal.returns-clause-only
 returns-clause-only c = only_that c.args.generation.now c.args.units.items (Ok _) (returns-clause-found c) tt

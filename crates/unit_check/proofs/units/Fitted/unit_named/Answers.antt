@@ -3,7 +3,7 @@ use Rattle.std.specs.Prelude.{slice_get, Some, None}
 use Rattle.unit_types.specs.Places.{lent_at}
 use Rattle.unit_types.specs.UnitText.{UnitText}
 use Rattle.unit_check.proofs.Places.{unit_at}
-use Rattle.unit_check.proofs.units.Units.unit_named.Goals as goal
+use Rattle.unit_check.proofs.units.Fitted.unit_named.Goals as goal
 
 pub returns-in-Some : goal.returns-in-Some
 returns-in-Some c =

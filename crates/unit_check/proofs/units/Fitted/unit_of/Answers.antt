@@ -2,7 +2,7 @@ use Rattle.std.proofs.Common.{sym, ap, subst, ◌∙◌}
 use Rattle.kdcdef_types.specs.Generation.{entry_of}
 use Rattle.unit_check.specs.Fitted.{FittedUnits, AreFit}
 use Rattle.unit_check.proofs.Places.{lent_unit}
-use Rattle.unit_check.proofs.units.Units.unit_of.Goals as goal
+use Rattle.unit_check.proofs.units.Fitted.unit_of.Goals as goal
 
 pub returns-in-Some : goal.returns-in-Some
 returns-in-Some c =
