@@ -1,6 +1,6 @@
 //! The keywords that statements begin with.
 ghost use Rattle.std.specs.Prelude.{◌≡◌, ◌≤◌, find, length, drop};
-ghost use Rattle.unit_read.specs.Keys.{keywords_of, is_front, keyword_count, begins_with, key_of};
+ghost use Rattle.unit_read.specs.Keys.{variant_keyword, first_keyword, second_keyword, is_front, keyword_count, begins_with, key_of};
 
 use crate::line::same;
 use crate::word::Word;
@@ -82,49 +82,66 @@ const KEYS: [Key; 38] = [
     Key::Pend(Variant::Rs),
 ];
 
-// The keyword of the call or the plain statement, and that of the operation or the variant; empty where there is none.
-fn keywords_of(key: Key) -> (&'static [u8], &'static [u8])
-    ensures { (result.0.now, result.1.now) ≡ keywords_of key }
+fn variant_keyword(variant: Variant) -> &'static [u8]
+    ensures { result.now ≡ variant_keyword variant }
+{
+    match variant {
+        Variant::Kp => b"KP",
+        Variant::Pr => b"PR",
+        Variant::Pa => b"PA",
+        Variant::Re => b"RE",
+        Variant::Sp => b"SP",
+        Variant::Fi => b"FI",
+        Variant::Fc => b"FC",
+        Variant::Fr => b"FR",
+        Variant::Er => b"ER",
+        Variant::Rs => b"RS",
+    }
+}
+
+// The keyword of the call or the plain statement.
+fn first_keyword(key: Key) -> &'static [u8]
+    ensures { result.now ≡ first_keyword key }
 {
     match key {
-        Key::Move => (b"MOVE", b""),
-        Key::Join => (b"JOIN", b""),
-        Key::Add => (b"ADD", b""),
-        Key::Sub => (b"SUB", b""),
-        Key::Mul => (b"MUL", b""),
-        Key::Div => (b"DIV", b""),
-        Key::If => (b"IF", b""),
-        Key::Jump => (b"JUMP", b""),
-        Key::Init => (b"INIT", b""),
-        Key::Mget => (b"MGET", b""),
-        Key::Mput => (b"MPUT", b""),
-        Key::Fget => (b"FGET", b""),
-        Key::Fput => (b"FPUT", b""),
-        Key::Dput => (b"DPUT", b""),
-        Key::SgetGb => (b"SGET", b"GB"),
-        Key::SputGb => (b"SPUT", b"GB"),
-        Key::SrelGb => (b"SREL", b"GB"),
-        Key::SgetKp => (b"SGET", b"KP"),
-        Key::SgetRl => (b"SGET", b"RL"),
-        Key::SputMs => (b"SPUT", b"MS"),
-        Key::SrelLb => (b"SREL", b"LB"),
-        Key::SgetUs => (b"SGET", b"US"),
-        Key::SputUs => (b"SPUT", b"US"),
-        Key::Gtda => (b"GTDA", b""),
-        Key::Ptda => (b"PTDA", b""),
-        Key::UnlkGb => (b"UNLK", b"GB"),
-        Key::UnlkUs => (b"UNLK", b"US"),
-        Key::UnlkDa => (b"UNLK", b"DA"),
-        Key::Pend(Variant::Kp) => (b"PEND", b"KP"),
-        Key::Pend(Variant::Pr) => (b"PEND", b"PR"),
-        Key::Pend(Variant::Pa) => (b"PEND", b"PA"),
-        Key::Pend(Variant::Re) => (b"PEND", b"RE"),
-        Key::Pend(Variant::Sp) => (b"PEND", b"SP"),
-        Key::Pend(Variant::Fi) => (b"PEND", b"FI"),
-        Key::Pend(Variant::Fc) => (b"PEND", b"FC"),
-        Key::Pend(Variant::Fr) => (b"PEND", b"FR"),
-        Key::Pend(Variant::Er) => (b"PEND", b"ER"),
-        Key::Pend(Variant::Rs) => (b"PEND", b"RS"),
+        Key::Move => b"MOVE",
+        Key::Join => b"JOIN",
+        Key::Add => b"ADD",
+        Key::Sub => b"SUB",
+        Key::Mul => b"MUL",
+        Key::Div => b"DIV",
+        Key::If => b"IF",
+        Key::Jump => b"JUMP",
+        Key::Init => b"INIT",
+        Key::Mget => b"MGET",
+        Key::Mput => b"MPUT",
+        Key::Fget => b"FGET",
+        Key::Fput => b"FPUT",
+        Key::Dput => b"DPUT",
+        Key::SgetGb | Key::SgetKp | Key::SgetRl | Key::SgetUs => b"SGET",
+        Key::SputGb | Key::SputMs | Key::SputUs => b"SPUT",
+        Key::SrelGb | Key::SrelLb => b"SREL",
+        Key::Gtda => b"GTDA",
+        Key::Ptda => b"PTDA",
+        Key::UnlkGb | Key::UnlkUs | Key::UnlkDa => b"UNLK",
+        Key::Pend(_) => b"PEND",
+    }
+}
+
+// The keyword of the operation or the variant; empty where there is none.
+fn second_keyword(key: Key) -> &'static [u8]
+    ensures { result.now ≡ second_keyword key }
+{
+    match key {
+        Key::SgetGb | Key::SputGb | Key::SrelGb | Key::UnlkGb => b"GB",
+        Key::SgetKp => b"KP",
+        Key::SgetRl => b"RL",
+        Key::SputMs => b"MS",
+        Key::SrelLb => b"LB",
+        Key::SgetUs | Key::SputUs | Key::UnlkUs => b"US",
+        Key::UnlkDa => b"DA",
+        Key::Pend(variant) => variant_keyword(variant),
+        _ => b"",
     }
 }
 
@@ -142,10 +159,10 @@ fn is_front(words: &[Word], wanted: &[u8]) -> bool
 fn begins_with(words: &[Word], key: Key) -> bool
     ensures { result ≡ begins_with words.now key }
 {
-    let (first, second) = keywords_of(key);
-    if !is_front(words, first) {
+    if !is_front(words, first_keyword(key)) {
         return false;
     }
+    let second = second_keyword(key);
     second.is_empty() || is_front(&words[1..], second)
 }
 
@@ -172,8 +189,7 @@ pub(crate) fn key_of(words: &[Word]) -> Option<Key>
 fn keyword_count(key: Key) -> usize
     ensures { result ≡ keyword_count key }
 {
-    let (_, second) = keywords_of(key);
-    if second.is_empty() { 1 } else { 2 }
+    if second_keyword(key).is_empty() { 1 } else { 2 }
 }
 
 /// What stands behind the keywords.

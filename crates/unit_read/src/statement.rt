@@ -1,12 +1,12 @@
 //! A statement from its words: the table of keywords and operands.
-ghost use Rattle.std.specs.Prelude.{◌≡◌, IfOk};
+ghost use Rattle.std.specs.{Prelude.{◌≡◌, IfOk, IsOkAnd, IsSomeAnd, MatchOption, None}, Option.{ForSome}};
 ghost use Rattle.unit_read.specs.Statements.{takes_follow_up, pend_action, delayed_action, action_at, action_of};
 
 use crate::key::{Key, behind_keywords, key_of};
 use crate::said::Said;
 use crate::shape::{
-    DelayedMessage, compared, delayed, name_and_operand, name_and_two, one_name, one_operand,
-    operand_and_name, two_operands,
+    DelayedMessage, Found, compared, delayed, name_and_operand, name_and_two, one_name,
+    one_operand, operand_and_name, two_operands,
 };
 use crate::word::Word;
 use kd_base::{OutOfMemory, Variant};
@@ -22,15 +22,22 @@ fn takes_follow_up(variant: Variant) -> bool
     )
 }
 
-fn pend_action(
-    alloc: Global,
-    variant: Variant,
-    words: &[Word],
-) -> Result<Option<Action>, OutOfMemory>
+// The action that is made of what was found.
+fn made<T: Drop, F: FnOnce(T) -> Action>(found: Found<T>, make: F) -> Found<Action>
+    requires { IfOk found (λ o. ForSome o (F.pre make)) }
+    ensures { IfOk result (λ action. IsOkAnd found (λ o. MatchOption o (action ≡ None) (λ x. IsSomeAnd action (F.post make x)))) }
+{
+    Ok(found?.map(make))
+}
+
+fn pend_action(alloc: Global, variant: Variant, words: &[Word]) -> Found<Action>
     ensures { IfOk result (λ found. found ≡ pend_action variant words.now) }
 {
     if takes_follow_up(variant) {
-        return Ok(one_operand(alloc, words)?.map(|next| Action::Pend(variant, Some(next))));
+        return made(
+            one_operand(alloc, words),
+            |next| Action::Pend(variant, Some(next)),
+        );
     }
     Ok(match words {
         [] => Some(Action::Pend(variant, None)),
@@ -38,7 +45,7 @@ fn pend_action(
     })
 }
 
-fn delayed_action(alloc: Global, words: &[Word]) -> Result<Option<Action>, OutOfMemory>
+fn delayed_action(alloc: Global, words: &[Word]) -> Found<Action>
     ensures { IfOk result (λ found. found ≡ delayed_action words.now) }
 {
     let Some(
@@ -56,41 +63,59 @@ fn delayed_action(alloc: Global, words: &[Word]) -> Result<Option<Action>, OutOf
 }
 
 // The statement with these keywords, from its operands.
-fn action_at(alloc: Global, key: Key, words: &[Word]) -> Result<Option<Action>, OutOfMemory>
+fn action_at(alloc: Global, key: Key, words: &[Word]) -> Found<Action>
     ensures { IfOk result (λ found. found ≡ action_at key words.now) }
 {
     match key {
-        Key::Move => Ok(name_and_operand(alloc, words)?.map(|(f, o)| Action::Move(f, o))),
-        Key::Join => Ok(name_and_two(alloc, words)?.map(|(f, o, p)| Action::Join(f, o, p))),
-        Key::Add => Ok(name_and_operand(alloc, words)?.map(|(f, o)| Action::Add(f, o))),
-        Key::Sub => Ok(name_and_operand(alloc, words)?.map(|(f, o)| Action::Sub(f, o))),
-        Key::Mul => Ok(name_and_operand(alloc, words)?.map(|(f, o)| Action::Mul(f, o))),
-        Key::Div => Ok(name_and_operand(alloc, words)?.map(|(f, o)| Action::Div(f, o))),
-        Key::If => Ok(compared(alloc, words)?.map(|(o, r, p, l)| Action::If(o, r, p, l))),
-        Key::Jump => Ok(one_name(words)?.map(|l| Action::Jump(l))),
+        Key::Move => made(name_and_operand(alloc, words), |(f, o)| Action::Move(f, o)),
+        Key::Join => made(
+            name_and_two(alloc, words),
+            |(f, o, p)| Action::Join(f, o, p),
+        ),
+        Key::Add => made(name_and_operand(alloc, words), |(f, o)| Action::Add(f, o)),
+        Key::Sub => made(name_and_operand(alloc, words), |(f, o)| Action::Sub(f, o)),
+        Key::Mul => made(name_and_operand(alloc, words), |(f, o)| Action::Mul(f, o)),
+        Key::Div => made(name_and_operand(alloc, words), |(f, o)| Action::Div(f, o)),
+        Key::If => made(
+            compared(alloc, words),
+            |(o, r, p, l)| Action::If(o, r, p, l),
+        ),
+        Key::Jump => made(one_name(words), |l| Action::Jump(l)),
         Key::Init => match words {
             [] => Ok(Some(Action::Init)),
             _ => Ok(None),
         },
-        Key::Mget => Ok(one_name(words)?.map(|f| Action::Mget(f))),
-        Key::Mput => Ok(one_operand(alloc, words)?.map(|o| Action::Mput(o))),
-        Key::Fget => Ok(one_name(words)?.map(|f| Action::Fget(f))),
-        Key::Fput => Ok(two_operands(alloc, words)?.map(|(t, o)| Action::Fput(t, o))),
+        Key::Mget => made(one_name(words), |f| Action::Mget(f)),
+        Key::Mput => made(one_operand(alloc, words), |o| Action::Mput(o)),
+        Key::Fget => made(one_name(words), |f| Action::Fget(f)),
+        Key::Fput => made(two_operands(alloc, words), |(t, o)| Action::Fput(t, o)),
         Key::Dput => delayed_action(alloc, words),
-        Key::SgetGb => Ok(operand_and_name(alloc, words)?.map(|(n, f)| Action::SgetGb(n, f))),
-        Key::SputGb => Ok(two_operands(alloc, words)?.map(|(n, o)| Action::SputGb(n, o))),
-        Key::SrelGb => Ok(one_operand(alloc, words)?.map(|n| Action::SrelGb(n))),
-        Key::SgetKp => Ok(operand_and_name(alloc, words)?.map(|(n, f)| Action::SgetKp(n, f))),
-        Key::SgetRl => Ok(operand_and_name(alloc, words)?.map(|(n, f)| Action::SgetRl(n, f))),
-        Key::SputMs => Ok(two_operands(alloc, words)?.map(|(n, o)| Action::SputMs(n, o))),
-        Key::SrelLb => Ok(one_operand(alloc, words)?.map(|n| Action::SrelLb(n))),
-        Key::SgetUs => Ok(operand_and_name(alloc, words)?.map(|(n, f)| Action::SgetUs(n, f))),
-        Key::SputUs => Ok(two_operands(alloc, words)?.map(|(n, o)| Action::SputUs(n, o))),
-        Key::Gtda => Ok(operand_and_name(alloc, words)?.map(|(n, f)| Action::Gtda(n, f))),
-        Key::Ptda => Ok(two_operands(alloc, words)?.map(|(n, o)| Action::Ptda(n, o))),
-        Key::UnlkGb => Ok(one_operand(alloc, words)?.map(|n| Action::UnlkGb(n))),
-        Key::UnlkUs => Ok(one_operand(alloc, words)?.map(|n| Action::UnlkUs(n))),
-        Key::UnlkDa => Ok(one_operand(alloc, words)?.map(|n| Action::UnlkDa(n))),
+        Key::SgetGb => made(
+            operand_and_name(alloc, words),
+            |(n, f)| Action::SgetGb(n, f),
+        ),
+        Key::SputGb => made(two_operands(alloc, words), |(n, o)| Action::SputGb(n, o)),
+        Key::SrelGb => made(one_operand(alloc, words), |n| Action::SrelGb(n)),
+        Key::SgetKp => made(
+            operand_and_name(alloc, words),
+            |(n, f)| Action::SgetKp(n, f),
+        ),
+        Key::SgetRl => made(
+            operand_and_name(alloc, words),
+            |(n, f)| Action::SgetRl(n, f),
+        ),
+        Key::SputMs => made(two_operands(alloc, words), |(n, o)| Action::SputMs(n, o)),
+        Key::SrelLb => made(one_operand(alloc, words), |n| Action::SrelLb(n)),
+        Key::SgetUs => made(
+            operand_and_name(alloc, words),
+            |(n, f)| Action::SgetUs(n, f),
+        ),
+        Key::SputUs => made(two_operands(alloc, words), |(n, o)| Action::SputUs(n, o)),
+        Key::Gtda => made(operand_and_name(alloc, words), |(n, f)| Action::Gtda(n, f)),
+        Key::Ptda => made(two_operands(alloc, words), |(n, o)| Action::Ptda(n, o)),
+        Key::UnlkGb => made(one_operand(alloc, words), |n| Action::UnlkGb(n)),
+        Key::UnlkUs => made(one_operand(alloc, words), |n| Action::UnlkUs(n)),
+        Key::UnlkDa => made(one_operand(alloc, words), |n| Action::UnlkDa(n)),
         Key::Pend(variant) => pend_action(alloc, variant, words),
     }
 }

@@ -1,13 +1,28 @@
 //! The KDCS call that a statement asks for.
 ghost use Rattle.std.specs.Prelude.{◌≡◌, All, IfOk, IsTrue, OnErr};
-ghost use Rattle.unit_semantics.specs.{Ready.{IsInside}, Statement.{done_by, takes_memory}};
+ghost use Rattle.unit_semantics.specs.{Fields.{value_of}, Ready.{IsInside}, Statement.{done_by, takes_memory}};
 ghost use Rattle.unit_step.specs.Answers.{IsAsked, IsCall};
 
 use crate::operand::{bytes_of, room};
-use kd_base::OutOfMemory;
+use kd_base::{Bytes, OutOfMemory};
 use kdcs_types::{Call, RunState};
 use std::alloc::Global;
-use unit_types::{Action, Unit};
+use unit_types::{Action, Operand, Unit};
+
+// The bytes of two operands.
+fn two(
+    alloc: Global,
+    unit: &Unit,
+    run: &RunState,
+    first: &Operand,
+    second: &Operand,
+) -> Result<(Bytes, Bytes), OutOfMemory>
+    requires { All (IsInside run.now) unit.now.fields }
+    ensures { IfOk result (λ p. (p.0 ≡ value_of unit.now run.now first.now) × (p.1 ≡ value_of unit.now run.now second.now)) }
+{
+    let first = bytes_of(alloc, unit, run, first)?;
+    Ok((first, bytes_of(alloc, unit, run, second)?))
+}
 
 /// The call with its operands as bytes, and a target field as its length.
 #[tactic(auto, unfolding(unit_semantics::specs::Statement::done_by))]
@@ -27,27 +42,24 @@ pub fn call_of(
         Action::Mget(field) => Ok(Call::Mget(room(unit, field))),
         Action::Mput(message) => Ok(Call::Mput(bytes_of(alloc, unit, run, message)?)),
         Action::Fget(field) => Ok(Call::Fget(room(unit, field))),
-        Action::Fput(to, message) => Ok(Call::Fput(
-            bytes_of(alloc, unit, run, to)?,
-            bytes_of(alloc, unit, run, message)?,
-        )),
-        Action::Dput(to, mode, days, hours, minutes, seconds, message) => Ok(Call::Dput(
-            bytes_of(alloc, unit, run, to)?,
-            *mode,
-            bytes_of(alloc, unit, run, days)?,
-            bytes_of(alloc, unit, run, hours)?,
-            bytes_of(alloc, unit, run, minutes)?,
-            bytes_of(alloc, unit, run, seconds)?,
-            bytes_of(alloc, unit, run, message)?,
-        )),
+        Action::Fput(to, message) => {
+            let (to, message) = two(alloc, unit, run, to, message)?;
+            Ok(Call::Fput(to, message))
+        }
+        Action::Dput(to, mode, days, hours, minutes, seconds, message) => {
+            let (to, days) = two(alloc, unit, run, to, days)?;
+            let (hours, minutes) = two(alloc, unit, run, hours, minutes)?;
+            let (seconds, message) = two(alloc, unit, run, seconds, message)?;
+            Ok(Call::Dput(to, *mode, days, hours, minutes, seconds, message))
+        }
         Action::SgetGb(name, field) => Ok(Call::SgetGb(
             bytes_of(alloc, unit, run, name)?,
             room(unit, field),
         )),
-        Action::SputGb(name, content) => Ok(Call::SputGb(
-            bytes_of(alloc, unit, run, name)?,
-            bytes_of(alloc, unit, run, content)?,
-        )),
+        Action::SputGb(name, content) => {
+            let (name, content) = two(alloc, unit, run, name, content)?;
+            Ok(Call::SputGb(name, content))
+        }
         Action::SrelGb(name) => Ok(Call::SrelGb(bytes_of(alloc, unit, run, name)?)),
         Action::SgetKp(name, field) => Ok(Call::SgetKp(
             bytes_of(alloc, unit, run, name)?,
@@ -57,27 +69,27 @@ pub fn call_of(
             bytes_of(alloc, unit, run, name)?,
             room(unit, field),
         )),
-        Action::SputMs(name, content) => Ok(Call::SputMs(
-            bytes_of(alloc, unit, run, name)?,
-            bytes_of(alloc, unit, run, content)?,
-        )),
+        Action::SputMs(name, content) => {
+            let (name, content) = two(alloc, unit, run, name, content)?;
+            Ok(Call::SputMs(name, content))
+        }
         Action::SrelLb(name) => Ok(Call::SrelLb(bytes_of(alloc, unit, run, name)?)),
         Action::SgetUs(name, field) => Ok(Call::SgetUs(
             bytes_of(alloc, unit, run, name)?,
             room(unit, field),
         )),
-        Action::SputUs(name, content) => Ok(Call::SputUs(
-            bytes_of(alloc, unit, run, name)?,
-            bytes_of(alloc, unit, run, content)?,
-        )),
+        Action::SputUs(name, content) => {
+            let (name, content) = two(alloc, unit, run, name, content)?;
+            Ok(Call::SputUs(name, content))
+        }
         Action::Gtda(name, field) => Ok(Call::Gtda(
             bytes_of(alloc, unit, run, name)?,
             room(unit, field),
         )),
-        Action::Ptda(name, content) => Ok(Call::Ptda(
-            bytes_of(alloc, unit, run, name)?,
-            bytes_of(alloc, unit, run, content)?,
-        )),
+        Action::Ptda(name, content) => {
+            let (name, content) = two(alloc, unit, run, name, content)?;
+            Ok(Call::Ptda(name, content))
+        }
         Action::UnlkGb(name) => Ok(Call::UnlkGb(bytes_of(alloc, unit, run, name)?)),
         Action::UnlkUs(name) => Ok(Call::UnlkUs(bytes_of(alloc, unit, run, name)?)),
         Action::UnlkDa(name) => Ok(Call::UnlkDa(bytes_of(alloc, unit, run, name)?)),
