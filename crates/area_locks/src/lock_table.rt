@@ -13,7 +13,7 @@ use std::alloc::Global;
 use std::marker::Model;
 
 /// Who holds which area, and who waits for which. Contracts see the two lists.
-#[derive(Debug, Drop)]
+#[derive(Drop)]
 pub struct LockTable {
     holders: SortedPairs<Area, ServiceId>,
     // the area, and the clock of the first request of this wait

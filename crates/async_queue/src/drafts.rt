@@ -13,7 +13,7 @@ use timer_queue::due_at;
 
 /// The jobs that FPUT and DPUT made since the last synchronisation point, in order. They have no numbers yet. Contracts
 /// see the list.
-#[derive(Debug, Drop)]
+#[derive(Drop)]
 pub struct DraftJobs {
     items: Sequence<Draft>,
 }

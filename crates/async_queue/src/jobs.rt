@@ -15,7 +15,7 @@ use std::marker::Model;
 /// The jobs of the tables in ascending order of their numbers, each with a mark that says whether an open service has
 /// taken it. A job that is taken stays until it is removed, so that it is there again where its service rolls back.
 /// Contracts see the list.
-#[derive(Debug, Drop)]
+#[derive(Drop)]
 pub struct Jobs {
     queue: Vec<QueuedJob>,
 }

@@ -5,7 +5,7 @@ ghost use Rattle.async_queue.specs.Queue.{IsAscending, IsPlace, lesser_count};
 use kdcs_types::Job;
 
 /// A job of the tables.
-#[derive(Debug, Drop)]
+#[derive(Drop)]
 pub struct QueuedJob {
     pub job: Job,
     /// An open service has taken it.

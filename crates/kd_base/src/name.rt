@@ -9,7 +9,7 @@ use std::hash::{Hash, Hasher};
 use std::marker::Model;
 
 /// 1 to N letters, digits, `$`, `#`, `@` and `_`. Contracts see the list of these bytes.
-#[derive(Clone, Copy, Debug)]
+#[derive(Clone, Copy)]
 pub struct NameOf<const N: usize> {
     cells: [u8; N],
     used: usize,

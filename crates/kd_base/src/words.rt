@@ -1,7 +1,7 @@
 //! The words of KDCS calls that several crates share.
 
 /// How a PEND ends a program unit run: its variant.
-#[derive(Clone, Copy, Debug, PartialEq, Eq)]
+#[derive(Clone, Copy, PartialEq, Eq)]
 pub enum Variant {
     /// The transaction stays open over the next input, which the follow-up unit reads.
     Kp,
@@ -26,7 +26,7 @@ pub enum Variant {
 }
 
 /// Whether a DPUT names a moment from now on, or one of the clock.
-#[derive(Clone, Copy, Debug, PartialEq, Eq)]
+#[derive(Clone, Copy, PartialEq, Eq)]
 pub enum Mode {
     Relative,
     Absolute,

@@ -3,7 +3,7 @@ ghost use Rattle.std.specs.Prelude.{◌≡◌};
 ghost use Rattle.kd_device.specs.Count.{raised};
 
 /// A kind of call of a device.
-#[derive(Clone, Copy, Debug, PartialEq, Eq)]
+#[derive(Clone, Copy, PartialEq, Eq)]
 pub enum CallKind {
     Attach,
     Size,
@@ -14,7 +14,7 @@ pub enum CallKind {
 }
 
 /// How many calls of each kind were made.
-#[derive(Clone, Copy, Debug, PartialEq, Eq)]
+#[derive(Clone, Copy, PartialEq, Eq)]
 pub struct Made {
     pub attach: u64,
     pub size: u64,

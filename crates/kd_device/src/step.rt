@@ -1,14 +1,14 @@
 //! What a device in memory keeps of its past calls.
 
 /// So many bytes of a buffer, behind this place.
-#[derive(Clone, Copy, Debug, PartialEq, Eq)]
+#[derive(Clone, Copy, PartialEq, Eq)]
 pub struct Span {
     pub from: usize,
     pub len: usize,
 }
 
 /// A call that a stop may come after, and whether it was done. Its bytes lie in one buffer.
-#[derive(Clone, Copy, Debug, PartialEq, Eq)]
+#[derive(Clone, Copy, PartialEq, Eq)]
 pub enum Step {
     Write { at: usize, span: Span, done: bool },
     Sync { done: bool },

@@ -7,7 +7,7 @@ use crate::step::Step;
 use std::alloc::{AllocError, Global};
 
 /// How much of a write that was not synced a stop leaves.
-#[derive(Clone, Copy, Debug, PartialEq, Eq)]
+#[derive(Clone, Copy, PartialEq, Eq)]
 enum Part {
     Nothing,
     All,

@@ -82,7 +82,7 @@ fn has_key_at(records: &[(RecordKey, Bytes)], place: usize, key: &RecordKey) -> 
 
 /// What a KDCFILE keeps, its fingerprint and sizes apart: the clock in ticks, the next job number, and records in
 /// ascending order of their keys without repeats.
-#[derive(Debug, Drop)]
+#[derive(Drop)]
 pub struct Content {
     pub clock: u64,
     pub next_job: u64,
@@ -110,7 +110,7 @@ pub type PatchItems = Sequence<(RecordKey, Option<Bytes>)>;
 
 /// What one commit changes: the new clock and next job number, and records that are set or removed, in ascending
 /// order of their keys without repeats.
-#[derive(Debug, Drop)]
+#[derive(Drop)]
 pub struct Patch {
     pub clock: u64,
     pub next_job: u64,

@@ -5,7 +5,7 @@ ghost use Rattle.kd_records.specs.Keys.{key_cmp};
 use std::cmp::Ordering;
 
 /// The kind of a row, from 1, and its key, filled with zero bytes. Kind 0 is no record's.
-#[derive(Clone, Copy, Debug, PartialEq, Eq, PartialOrd, Ord)]
+#[derive(Clone, Copy, PartialEq, Eq, PartialOrd, Ord)]
 pub struct RecordKey {
     pub kind: u8,
     pub bytes: [u8; 24],

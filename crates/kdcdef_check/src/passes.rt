@@ -15,7 +15,7 @@ use std::alloc::Global;
 /// What the first pass gives.
 #[derive(Drop)]
 pub(crate) struct Filled {
-    pub(crate) tables: Tables,
+    pub(crate) tables: Box<Tables>,
     pub(crate) tally: Tally,
     /// The first of the faults that show at a statement and those before it.
     pub(crate) first: Option<CheckFault>,
@@ -35,12 +35,12 @@ fn know_name(said: &Said)
 
 /// Fills the tables and finds the first of the statements' own faults.
 pub(crate) fn fill(alloc: Global, statements: &[Statement]) -> Result<Filled, OutOfMemory>
-    ensures tables { IfOk result (λ f. AreFilled f.tables statements.now) }
+    ensures tables { IfOk result (λ f. AreFilled f.tables.value statements.now) }
     ensures tally { IfOk result (λ f. IsTallyOf f.tally statements.now) }
     ensures named { IfOk result (λ _. AllNamed statements.now) }
     ensures first { IfOk result (λ f. IsFirstOf (AmongFirst statements.now (OwnFault statements.now) (length statements.now)) f.first) }
 {
-    let mut tables = Tables::new(alloc, NameHashing::of(statements));
+    let mut tables = Box::new(alloc, Tables::new(alloc, NameHashing::of(statements)))?;
     let mut tally = Tally::new();
     let mut first = None;
     for statement in statements {

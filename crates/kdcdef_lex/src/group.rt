@@ -8,7 +8,7 @@ use std::alloc::Global;
 use texts::next_line;
 
 /// The lines of one statement, joined, with the numbers of the first and the last.
-#[derive(Debug, Drop)]
+#[derive(Drop)]
 pub(crate) struct Group {
     pub first: u32,
     pub last: u32,

@@ -2,7 +2,7 @@
 use kd_base::{Bytes, Sequence};
 
 /// An item of a list: a word, or the bytes of a quoted value.
-#[derive(Debug, Drop)]
+#[derive(Drop)]
 pub enum RawItem {
     Word(Bytes),
     Quoted(Bytes),
@@ -12,7 +12,7 @@ pub enum RawItem {
 pub type Items = Sequence<Option<RawItem>>;
 
 /// The value of an operand: a word, the bytes of a quoted value, or a list in parentheses.
-#[derive(Debug, Drop)]
+#[derive(Drop)]
 pub enum RawValue {
     Word(Bytes),
     Quoted(Bytes),
@@ -20,7 +20,7 @@ pub enum RawValue {
 }
 
 /// An operand: a value, with a key and `=` before it or alone.
-#[derive(Debug, Drop)]
+#[derive(Drop)]
 pub struct RawOperand {
     pub key: Option<Bytes>,
     pub value: RawValue,
@@ -30,7 +30,7 @@ pub struct RawOperand {
 pub type Operands = Sequence<RawOperand>;
 
 /// A statement: its keyword, its operands, and the number of its first line, counted from 1.
-#[derive(Debug, Drop)]
+#[derive(Drop)]
 pub struct RawStatement {
     pub line: u32,
     pub keyword: Bytes,

@@ -8,7 +8,7 @@ use std::alloc::Global;
 use texts::{Part, quoted_at};
 
 /// A piece of a statement.
-#[derive(Debug, Drop)]
+#[derive(Drop)]
 pub(crate) enum Token {
     Word(Bytes),
     /// What stands before the quote, and the bytes between the quotes.

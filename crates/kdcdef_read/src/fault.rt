@@ -47,7 +47,7 @@ pub enum ReadFault {
 }
 
 /// Why an operand or its statement is refused.
-#[derive(Clone, Copy, Debug)]
+#[derive(Clone, Copy)]
 pub(crate) enum Cause {
     OperandTwice,
     OperandMissing,

@@ -12,7 +12,7 @@ use kdcdef_lex::RawOperand;
 pub(crate) type Taken = [bool; KEYS];
 
 /// What has been given so far.
-#[derive(Clone, Copy, Debug)]
+#[derive(Clone, Copy)]
 pub(crate) struct Given {
     /// What the operands of this statement say, each at the place of its key.
     pub slots: [Option<Value>; KEYS],

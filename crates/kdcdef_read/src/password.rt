@@ -5,7 +5,7 @@ ghost use Rattle.kdcdef_read.specs.Passwords.{password_of};
 use std::marker::Model;
 
 /// A password: 1 to 16 bytes. Contracts see the list of them.
-#[derive(Clone, Copy, Debug)]
+#[derive(Clone, Copy)]
 pub struct Password {
     cells: [u8; 16],
     used: u8,

@@ -8,7 +8,7 @@ use crate::words::{Key, Keyword};
 use kdcdef_types::CallUse;
 
 /// Operands whose value is one of a few words.
-#[derive(Clone, Copy, Debug)]
+#[derive(Clone, Copy)]
 pub enum Choice {
     /// D or A.
     Type,
@@ -25,7 +25,7 @@ pub enum Choice {
 }
 
 /// What an operand may have as its value.
-#[derive(Clone, Copy, Debug)]
+#[derive(Clone, Copy)]
 pub enum Kind {
     Name,
     ProgName,
@@ -47,7 +47,7 @@ pub enum Kind {
 }
 
 /// A row of the table. An operand with no default is missing where it is not given, or says nothing there.
-#[derive(Clone, Copy, Debug)]
+#[derive(Clone, Copy)]
 pub struct Row {
     pub kind: Kind,
     pub default: Option<Value>,

@@ -11,7 +11,7 @@ use kdcdef_types::{Said, Statement};
 use std::alloc::Global;
 
 /// Where the reading stands.
-#[derive(Clone, Copy, Debug)]
+#[derive(Clone, Copy)]
 pub(crate) struct Progress {
     /// The operands that the MAX statements so far have given.
     pub taken: Taken,

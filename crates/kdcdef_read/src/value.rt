@@ -11,7 +11,7 @@ use kdcdef_lex::{RawItem, RawValue};
 use kdcdef_types::CallUse;
 
 /// What an operand says.
-#[derive(Clone, Copy, Debug)]
+#[derive(Clone, Copy)]
 pub enum Value {
     Name(Name),
     ProgName(ProgName),

@@ -3,7 +3,7 @@ ghost use Rattle.std.specs.{Prelude.{◌≡◌, ◌<◌}, Str.{str_eq_ignore_asc
 ghost use Rattle.kdcdef_read.specs.Words.{kept_of, is_passed, form_of, limit_key, entry_key, key_of, place_of};
 
 /// A statement with operands that are kept.
-#[derive(Clone, Copy, Debug)]
+#[derive(Clone, Copy)]
 pub enum Keyword {
     Max,
     Program,
@@ -17,7 +17,7 @@ pub enum Keyword {
 }
 
 /// What a keyword stands for.
-#[derive(Clone, Copy, Debug)]
+#[derive(Clone, Copy)]
 pub enum Form {
     Kept(Keyword),
     /// A statement that is read and not kept.
@@ -28,7 +28,7 @@ pub enum Form {
 }
 
 /// The key of an operand that a statement may have.
-#[derive(Clone, Copy, Debug)]
+#[derive(Clone, Copy)]
 pub enum Key {
     /// The first operand, which has no key.
     First,

@@ -3,7 +3,7 @@
 use kd_base::{Bytes, Name, ProgName};
 
 /// Where in a service a TAC may stand: the operand CALL.
-#[derive(Clone, Copy, Debug, PartialEq, Eq)]
+#[derive(Clone, Copy, PartialEq, Eq)]
 pub enum CallUse {
     /// At the beginning and as a follow-up.
     Both,
@@ -14,7 +14,7 @@ pub enum CallUse {
 }
 
 /// A TAC statement, its defaults filled in.
-#[derive(Clone, Copy, Debug)]
+#[derive(Clone, Copy)]
 pub struct TacEntry {
     /// The program unit that runs.
     pub program: ProgName,
@@ -30,7 +30,7 @@ pub struct TacEntry {
 }
 
 /// A USER statement, its defaults filled in.
-#[derive(Debug, Drop)]
+#[derive(Drop)]
 pub struct UserEntry {
     /// PASS: 1 to 16 bytes, if there is a password.
     pub pass: Option<Bytes>,
@@ -39,14 +39,14 @@ pub struct UserEntry {
 }
 
 /// A PTERM statement.
-#[derive(Clone, Copy, Debug)]
+#[derive(Clone, Copy)]
 pub struct PtermEntry {
     /// The LTERM that the terminal works as.
     pub lterm: Name,
 }
 
 /// An LTERM statement, its defaults filled in.
-#[derive(Clone, Copy, Debug)]
+#[derive(Clone, Copy)]
 pub struct LtermEntry {
     /// USAGE=O, an output medium; a dialogue terminal has USAGE=D.
     pub printer: bool,

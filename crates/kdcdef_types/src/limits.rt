@@ -3,7 +3,7 @@
 use kd_base::Name;
 
 /// What the MAX statements give together, their defaults filled in.
-#[derive(Clone, Copy, Debug)]
+#[derive(Clone, Copy)]
 pub struct Limits {
     pub appliname: Name,
     /// 1 to 240.
@@ -29,7 +29,7 @@ pub struct Limits {
 }
 
 /// How many statements of a kind there are, and what was passed over.
-#[derive(Clone, Copy, Debug, PartialEq, Eq)]
+#[derive(Clone, Copy, PartialEq, Eq)]
 pub struct Counts {
     pub users: u32,
     pub pterms: u32,

@@ -4,7 +4,7 @@ use crate::entry::{LtermEntry, PtermEntry, TacEntry, UserEntry};
 use kd_base::{Name, ProgName};
 
 /// What one MAX statement gives; `None` where it does not give the operand. The ranges are those of `Limits`.
-#[derive(Clone, Copy, Debug)]
+#[derive(Clone, Copy)]
 pub struct MaxOperands {
     pub appliname: Option<Name>,
     pub tasks: Option<u16>,
@@ -20,7 +20,7 @@ pub struct MaxOperands {
 }
 
 /// What a statement says.
-#[derive(Debug, Drop)]
+#[derive(Drop)]
 pub enum Said {
     Max(MaxOperands),
     Program(ProgName),
@@ -40,7 +40,7 @@ pub enum Said {
 }
 
 /// A statement, with the number of its first line, counted from 1.
-#[derive(Debug, Drop)]
+#[derive(Drop)]
 pub struct Statement {
     pub line: u32,
     /// How many of its operands are read and not kept.

@@ -8,7 +8,7 @@ use kd_base::Reader;
 pub const FRONT_LEN: usize = 4097;
 
 /// The sizes of a file, and whether image B is selected.
-#[derive(Clone, Copy, Debug)]
+#[derive(Clone, Copy)]
 pub struct Head {
     pub blksize: u32,
     pub pages: u32,

@@ -8,7 +8,7 @@ use std::marker::Model;
 
 /// What stands at the beginning of an image: the fingerprint of the texts, the clock in ticks, the next job number,
 /// PGPOOL in pages, and the number of records.
-#[derive(Clone, Copy, Debug)]
+#[derive(Clone, Copy)]
 pub struct Root {
     pub fingerprint: [u8; 32],
     pub clock: u64,
@@ -18,7 +18,7 @@ pub struct Root {
 }
 
 /// The selected image of a file, whose sizes are those that a file may have.
-#[derive(Debug, Drop)]
+#[derive(Drop)]
 pub struct Image {
     blksize: u32,
     root: Root,
@@ -81,7 +81,7 @@ impl Image {
 }
 
 /// What a load gives: the selected image, and its records.
-#[derive(Debug, Drop)]
+#[derive(Drop)]
 pub struct Loaded {
     pub image: Image,
     pub records: Records,

@@ -53,7 +53,7 @@ pub trait Store<D: Device> {
 }
 
 /// What a file is made with: BLKSIZE in bytes and PGPOOL in pages.
-#[derive(Clone, Copy, Debug, PartialEq, Eq)]
+#[derive(Clone, Copy, PartialEq, Eq)]
 pub struct StoreLimits {
     pub blksize: u32,
     pub pgpool: u32,

@@ -15,7 +15,7 @@ use std::alloc::Global;
 use std::marker::Model;
 
 /// A content in a file of two whole images.
-#[derive(Debug, Drop)]
+#[derive(Drop)]
 pub struct WholeStore {
     image: Image,
     content: Content,

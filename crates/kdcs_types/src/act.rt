@@ -8,7 +8,7 @@ use kd_base::{Bytes, Name, Sequence};
 use std::alloc::AllocError;
 
 /// A row of the tables: a key with its value.
-#[derive(Debug, Drop)]
+#[derive(Drop)]
 pub enum Row {
     Gssb(Name, Bytes),
     /// A block, its LTERM, and a content that is not empty.
@@ -24,7 +24,7 @@ pub enum Row {
 }
 
 /// What happens to the row of one key.
-#[derive(Debug, Drop)]
+#[derive(Drop)]
 pub enum Change {
     /// It is this row.
     Set(Row),
@@ -90,7 +90,7 @@ impl Clone for Change {
 }
 
 /// What one commit changes: the durable tables before it become those after it.
-#[derive(Debug, Drop)]
+#[derive(Drop)]
 pub struct Changes {
     /// The new clock.
     pub clock: u64,
@@ -100,7 +100,7 @@ pub struct Changes {
 }
 
 /// A commit to the KDCFILE, or a line that is sent.
-#[derive(Debug, Drop)]
+#[derive(Drop)]
 pub enum Act {
     Commit(Changes),
     Emit(Bytes),

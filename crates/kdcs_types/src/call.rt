@@ -3,7 +3,7 @@
 use kd_base::{Bytes, Mode, Variant};
 
 /// The return code of a call: KCRCCC.
-#[derive(Clone, Copy, Debug, PartialEq, Eq)]
+#[derive(Clone, Copy, PartialEq, Eq)]
 pub enum Code {
     /// `000`.
     Done,
@@ -32,7 +32,7 @@ pub enum Code {
 }
 
 /// Why a service ends abnormally.
-#[derive(Clone, Copy, Debug, PartialEq, Eq)]
+#[derive(Clone, Copy, PartialEq, Eq)]
 pub enum Cause {
     /// INIT is missing or repeated.
     E01,
@@ -63,7 +63,7 @@ pub enum Cause {
 }
 
 /// A KDCS call with its operands as bytes. A target field stands as its length.
-#[derive(Debug, Drop)]
+#[derive(Drop)]
 pub enum Call {
     Init,
     Mget(u32),
@@ -92,7 +92,7 @@ pub enum Call {
 }
 
 /// What a call answers.
-#[derive(Debug, Drop)]
+#[derive(Drop)]
 pub struct Reply {
     pub code: Code,
     /// The true length of what was read, from 0 to 99,999: KCRLM.

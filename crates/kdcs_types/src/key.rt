@@ -6,7 +6,7 @@ use kd_base::Name;
 use std::cmp::Ordering;
 
 /// A block of storage that services share, and lock. Areas are ordered as the keys of their rows.
-#[derive(Clone, Copy, Debug)]
+#[derive(Clone, Copy)]
 pub enum Area {
     /// A global secondary storage area of the application, by its name.
     Gssb(Name),
@@ -17,7 +17,7 @@ pub enum Area {
 }
 
 /// Which service it is. Asynchronous services, by number, stand before dialogue services, by user.
-#[derive(Clone, Copy, Debug)]
+#[derive(Clone, Copy)]
 pub enum ServiceId {
     /// The dialogue service of this user.
     Dialogue(Name),
@@ -26,7 +26,7 @@ pub enum ServiceId {
 }
 
 /// Where a job's message goes.
-#[derive(Clone, Copy, Debug, PartialEq, Eq)]
+#[derive(Clone, Copy, PartialEq, Eq)]
 pub enum Target {
     /// An asynchronous TAC, whose service reads it.
     Tac(Name),
@@ -36,7 +36,7 @@ pub enum Target {
 
 /// The key of a row. Keys are ordered as the keys of records in a KDCFILE are: by kind in the order of the variants,
 /// then by the bytes of names and numbers, an asynchronous service before a dialogue one.
-#[derive(Clone, Copy, Debug)]
+#[derive(Clone, Copy)]
 pub enum Key {
     Gssb(Name),
     /// A block and its LTERM.

@@ -12,7 +12,7 @@ use kd_base::{Bytes, Name, OutOfMemory};
 use std::alloc::Global;
 
 /// The rows of the tables, each list in ascending order of its keys without repeats.
-#[derive(Debug, Drop)]
+#[derive(Drop)]
 pub(crate) struct RowLists {
     pub(crate) gssbs: Vec<(Name, Bytes)>,
     pub(crate) tlss: Vec<(Name, Name, Bytes)>,

@@ -4,7 +4,7 @@ use crate::call::Code;
 use kd_base::{Bytes, Name};
 
 /// What a program unit reads of itself: the KB header.
-#[derive(Clone, Copy, Debug, PartialEq, Eq)]
+#[derive(Clone, Copy, PartialEq, Eq)]
 pub struct Header {
     /// KCBENID, the user.
     pub benid: Name,
@@ -17,7 +17,7 @@ pub struct Header {
 }
 
 /// A program unit run between two statements.
-#[derive(Debug, Drop)]
+#[derive(Drop)]
 pub struct RunState {
     /// The number of the next statement, from 1.
     pub place: u32,

@@ -9,7 +9,7 @@ use kd_base::{Bytes, Name};
 use std::alloc::AllocError;
 
 /// A service at its last synchronisation point.
-#[derive(Debug, Drop)]
+#[derive(Drop)]
 pub struct Service {
     pub id: ServiceId,
     /// The TAC that started it: KCTACVG.
@@ -32,7 +32,7 @@ pub struct Service {
 }
 
 /// What a job is, beside its number.
-#[derive(Debug, Drop)]
+#[derive(Drop)]
 pub struct JobValue {
     pub to: Target,
     /// The clock from which on it may be taken.
@@ -45,14 +45,14 @@ pub struct JobValue {
 }
 
 /// A job: an asynchronous message by its number, from 1 on.
-#[derive(Debug, Drop)]
+#[derive(Drop)]
 pub struct Job {
     pub number: u64,
     pub value: JobValue,
 }
 
 /// What a transaction was told of a lock, and which its replay has to be told again.
-#[derive(Debug, Drop)]
+#[derive(Drop)]
 pub enum Note {
     /// It released this area, in which it saw this content.
     Released(Area, Option<Bytes>),
@@ -61,7 +61,7 @@ pub enum Note {
 }
 
 /// How a transaction ended.
-#[derive(Clone, Copy, Debug, PartialEq, Eq)]
+#[derive(Clone, Copy, PartialEq, Eq)]
 pub enum Ending {
     /// By a synchronisation point.
     Synced,
@@ -72,7 +72,7 @@ pub enum Ending {
 }
 
 /// What a transaction keeps for its replay.
-#[derive(Debug, Drop)]
+#[derive(Drop)]
 pub struct Settled {
     pub service: ServiceId,
     /// The service's row as the transaction began, or none for a service without a row.

@@ -14,7 +14,7 @@ use std::alloc::Global;
 use std::marker::Model;
 
 /// The durable tables. Contracts see the two numbers and the lists, each in ascending order of its keys without repeats.
-#[derive(Debug, Drop)]
+#[derive(Drop)]
 pub struct Tables {
     clock: u64,
     next_job: u64,

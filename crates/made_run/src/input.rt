@@ -47,7 +47,7 @@ const UNITS: &[u8] = b"UNIT ADD\n\
 const SIGN_ONS: &[u8] = b"IN P1 KDCSIGN U1\nIN P2 KDCSIGN U2\nIN P3 KDCSIGN U3\nIN P4 KDCSIGN U4\n";
 
 /// The texts of the made application and its script.
-#[derive(Debug, Drop)]
+#[derive(Drop)]
 pub struct MadeInput {
     /// The definition of a generation.
     pub definition: Bytes,

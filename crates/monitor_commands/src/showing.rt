@@ -15,7 +15,7 @@ use std::alloc::Global;
 use sync_points::is_real;
 
 /// Where the message of a job is shown.
-#[derive(Clone, Copy, Debug, PartialEq, Eq)]
+#[derive(Clone, Copy, PartialEq, Eq)]
 pub enum Shown {
     Terminal,
     Printer,

@@ -5,7 +5,7 @@ use kd_base::{Name, Variant};
 use kdcs_types::{Cause, Ending, Reply};
 
 /// How a request for an area is answered.
-#[derive(Clone, Copy, Debug, PartialEq, Eq)]
+#[derive(Clone, Copy, PartialEq, Eq)]
 pub enum LockAnswer {
     /// The service holds the area.
     Granted,
@@ -18,7 +18,7 @@ pub enum LockAnswer {
 }
 
 /// What a KDCS call does, beside the change of its open transaction.
-#[derive(Debug, Drop)]
+#[derive(Drop)]
 pub enum Called {
     /// It is answered.
     Replied(Reply),
@@ -31,7 +31,7 @@ pub enum Called {
 }
 
 /// What the next statement of a service does, beside the change of its open transaction.
-#[derive(Clone, Copy, Debug, PartialEq, Eq)]
+#[derive(Clone, Copy, PartialEq, Eq)]
 pub enum Happened {
     /// It is done, and the service goes on: a plain statement, an answered call, or PEND PR.
     Went,

@@ -3,7 +3,7 @@
 use kd_base::{Bytes, Name};
 
 /// A command of a script. PTERMs and tasks are those of the generation.
-#[derive(Debug, Drop)]
+#[derive(Drop)]
 pub enum Command {
     /// `IN`: an input at this PTERM.
     Input(Name, Bytes),

@@ -4,7 +4,7 @@ use kd_base::Bytes;
 use kdcs_types::Target;
 
 /// When a job is due, in ticks.
-#[derive(Clone, Copy, Debug, PartialEq, Eq)]
+#[derive(Clone, Copy, PartialEq, Eq)]
 pub enum Due {
     /// So many ticks after its synchronisation point.
     After(u64),
@@ -13,7 +13,7 @@ pub enum Due {
 }
 
 /// A job that FPUT or DPUT made, and that has no number yet.
-#[derive(Debug, Drop)]
+#[derive(Drop)]
 pub struct Draft {
     pub to: Target,
     pub due: Due,

@@ -3,7 +3,7 @@
 use kd_base::{Bytes, Name};
 
 /// Why a KDCSIGN is refused.
-#[derive(Clone, Copy, Debug, PartialEq, Eq)]
+#[derive(Clone, Copy, PartialEq, Eq)]
 pub enum SignFault {
     /// No user name stands behind it.
     BadForm,
@@ -14,7 +14,7 @@ pub enum SignFault {
 }
 
 /// Why no service starts with a TAC.
-#[derive(Clone, Copy, Debug, PartialEq, Eq)]
+#[derive(Clone, Copy, PartialEq, Eq)]
 pub enum TacFault {
     UnknownTac,
     /// TYPE=A or CALL=NEXT.
@@ -24,7 +24,7 @@ pub enum TacFault {
 }
 
 /// What the dialogue service of a signed-on user does.
-#[derive(Clone, Copy, Debug, PartialEq, Eq)]
+#[derive(Clone, Copy, PartialEq, Eq)]
 pub enum ServiceState {
     NoService,
     /// It awaits an input.
@@ -34,7 +34,7 @@ pub enum ServiceState {
 }
 
 /// The use of an input.
-#[derive(Debug, Drop)]
+#[derive(Drop)]
 pub enum Use {
     /// KDCSIGN: this user signs on.
     Sign(Name),

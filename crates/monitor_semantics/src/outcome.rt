@@ -3,7 +3,7 @@
 use kd_base::Name;
 
 /// What a PEND that is not refused does, with its follow-up TAC.
-#[derive(Clone, Copy, Debug, PartialEq, Eq)]
+#[derive(Clone, Copy, PartialEq, Eq)]
 pub enum Outcome {
     /// PR: the same task goes on, in the same transaction.
     Stay(Name),

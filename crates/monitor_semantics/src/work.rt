@@ -3,7 +3,7 @@
 use kdcs_types::ServiceId;
 
 /// The work that a free task takes.
-#[derive(Clone, Copy, Debug, PartialEq, Eq)]
+#[derive(Clone, Copy, PartialEq, Eq)]
 pub enum Work {
     /// A service of the ready list.
     Service(ServiceId),

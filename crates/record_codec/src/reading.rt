@@ -7,7 +7,7 @@ use kdcs_types::{JobValue, Service, ServiceId, Target};
 use std::alloc::Global;
 
 /// Why no row was read.
-#[derive(Debug, Drop)]
+#[derive(Drop)]
 pub(crate) enum Unread {
     /// The bytes are no row's.
     NoRow,

@@ -5,7 +5,7 @@ use kd_base::{Bytes, Name};
 use std::marker::Model;
 
 /// A user who is signed on, and the last dialogue message of this session.
-#[derive(Debug, Drop)]
+#[derive(Drop)]
 pub struct Session {
     user: Name,
     last: Option<Bytes>,

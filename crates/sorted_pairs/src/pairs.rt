@@ -7,7 +7,7 @@ use std::alloc::Global;
 use std::marker::Model;
 
 /// Pairs of keys and values, in ascending order of the keys without repeats. Contracts see the list of pairs.
-#[derive(Debug, Drop)]
+#[derive(Drop)]
 pub struct SortedPairs<K: Ord, V> {
     pairs: Vec<(K, V)>,
 }

@@ -16,7 +16,7 @@ use std::marker::Model;
 
 /// The services that are ready, front first, and the service that each task holds, if any, each with the class of its
 /// current TAC. Tasks count from 1, and classes are 1 to 16, and 0 for a TAC with none. Contracts see both lists.
-#[derive(Debug, Drop)]
+#[derive(Drop)]
 pub struct Scheduler {
     ready: Vec<Classed>,
     places: Vec<Option<Classed>>,

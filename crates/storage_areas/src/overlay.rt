@@ -14,7 +14,7 @@ use std::alloc::Global;
 use std::marker::Model;
 
 /// The areas that a transaction wrote or deleted, and its LSSBs. Contracts see the two lists, in the order of the keys.
-#[derive(Debug, Drop)]
+#[derive(Drop)]
 pub struct Overlay {
     // none where the area is deleted
     written: SortedPairs<Area, Option<Bytes>>,

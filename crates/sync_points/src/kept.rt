@@ -22,6 +22,20 @@ fn inputs_behind(
     Ok(Parts::from_vec(kept))
 }
 
+// What it keeps, with the inputs as they came.
+fn settled_of(work: OpenTransaction, ending: Ending) -> Settled
+    ensures { result ≡ record { service = work.id; began = work.began; inputs = work.inputs; notes = work.notes; statements = work.statements; ending = ending } }
+{
+    Settled {
+        service: work.id,
+        began: work.began,
+        inputs: work.inputs,
+        notes: work.notes,
+        statements: work.statements,
+        ending,
+    }
+}
+
 pub(crate) fn kept_record(
     alloc: Global,
     work: OpenTransaction,
@@ -29,13 +43,16 @@ pub(crate) fn kept_record(
 ) -> Result<Settled, OutOfMemory>
     ensures { IfOk result (λ kept. kept ≡ kept_record work.id (work_of work) ending) }
 {
-    let inputs = inputs_behind(alloc, work.first, work.lterm, work.inputs)?;
+    let first = work.first;
+    let lterm = work.lterm;
+    let kept = settled_of(work, ending);
+    let inputs = inputs_behind(alloc, first, lterm, kept.inputs)?;
     Ok(Settled {
-        service: work.id,
-        began: work.began,
+        service: kept.service,
+        began: kept.began,
         inputs,
-        notes: work.notes,
-        statements: work.statements,
-        ending,
+        notes: kept.notes,
+        statements: kept.statements,
+        ending: kept.ending,
     })
 }

@@ -6,7 +6,7 @@ ghost use Rattle.unit_step.specs.Calculation.{calculation_of, limited};
 use kd_base::{decimal_of, trim_end};
 
 /// What ADD, SUB, MUL and DIV make of two numbers.
-#[derive(Clone, Copy, Debug)]
+#[derive(Clone, Copy)]
 pub enum Calculation {
     Sum,
     Difference,

@@ -11,7 +11,7 @@ use std::alloc::Global;
 use unit_types::{Field, HeaderName, Operand, Unit};
 
 /// At most 8 bytes: those of a header name.
-#[derive(Clone, Copy, Debug)]
+#[derive(Clone, Copy)]
 pub struct Cells {
     pub bytes: [u8; 8],
     pub used: usize,

@@ -3,7 +3,7 @@
 use kdcs_types::{Call, Cause};
 
 /// What came of the next statement.
-#[derive(Debug, Drop)]
+#[derive(Drop)]
 pub enum Stepped {
     /// It was a plain one, and it is done.
     Plain,

@@ -3,7 +3,7 @@
 use kd_base::{Bytes, Mode, Variant};
 
 /// What a unit can read of its run and of the last call.
-#[derive(Clone, Copy, Debug, PartialEq, Eq)]
+#[derive(Clone, Copy, PartialEq, Eq)]
 pub enum HeaderName {
     /// KCBENID, the user.
     Benid,
@@ -20,7 +20,7 @@ pub enum HeaderName {
 }
 
 /// What a statement reads.
-#[derive(Debug, Drop)]
+#[derive(Drop)]
 pub enum Operand {
     /// The bytes of a field.
     Field(Bytes),
@@ -34,7 +34,7 @@ pub enum Operand {
 }
 
 /// How two operands are to compare; the shorter is filled with spaces.
-#[derive(Clone, Copy, Debug, PartialEq, Eq)]
+#[derive(Clone, Copy, PartialEq, Eq)]
 pub enum Relation {
     Eq,
     Ne,
@@ -43,7 +43,7 @@ pub enum Relation {
 }
 
 /// What a statement does. A target is the name of a field, a jump goes to the name of a label.
-#[derive(Debug, Drop)]
+#[derive(Drop)]
 pub enum Action {
     Move(Bytes, Operand),
     Join(Bytes, Operand, Operand),
@@ -80,7 +80,7 @@ pub enum Action {
 }
 
 /// A statement, with the number of its line, counted from 1.
-#[derive(Debug, Drop)]
+#[derive(Drop)]
 pub struct UnitStatement {
     pub line: u32,
     pub action: Action,

@@ -9,7 +9,7 @@ use std::collections::BTreeMap;
 use std::marker::Model;
 
 /// A field: a named part of the communication area KB or of the working area SPAB.
-#[derive(Debug, Drop)]
+#[derive(Drop)]
 pub struct Field {
     pub name: Bytes,
     /// The line of its FIELD statement, counted from 1.
@@ -24,7 +24,7 @@ pub struct Field {
 
 /// A program unit. Contracts see its name, its line, its fields, its labels with the number of the statement that each
 /// stands before, and its statements.
-#[derive(Debug, Drop)]
+#[derive(Drop)]
 pub struct Unit {
     name: ProgName,
     line: u32,

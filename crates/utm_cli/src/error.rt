@@ -6,7 +6,7 @@ use script_read::ScriptFault;
 use thiserror::Error;
 
 /// Why a call does nothing with its texts.
-#[derive(Clone, Copy, Debug, PartialEq, Eq)]
+#[derive(Debug, Clone, Copy, PartialEq, Eq)]
 pub(crate) enum Refusal {
     /// The definition and the units make no application.
     Application(ApplicationFault),

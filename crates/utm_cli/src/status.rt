@@ -1,7 +1,7 @@
 //! The answer of a call.
 
 /// How a call ended: its exit status.
-#[derive(Clone, Copy, Debug, PartialEq, Eq)]
+#[derive(Clone, Copy, PartialEq, Eq)]
 pub struct Status {
     /// From 0 to 7.
     pub code: u8,

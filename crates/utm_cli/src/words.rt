@@ -13,7 +13,7 @@ const LONGEST_BASE: usize = 200;
 const MOST_INPUTS: u64 = 20_000;
 
 /// What a call may ask for.
-#[derive(Clone, Copy, Debug, PartialEq, Eq)]
+#[derive(Clone, Copy, PartialEq, Eq)]
 pub(crate) enum Word {
     /// The report of the generation.
     Gen,

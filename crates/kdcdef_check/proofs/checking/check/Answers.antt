@@ -10,7 +10,7 @@ use Rattle.kdcdef_check.proofs.checking.check.Goals as goal
 
 pub first_outer_fault-outer-requires-clause-names :
     goal.first_outer_fault-outer-requires-clause-names
-first_outer_fault-outer-requires-clause-names c = filled_names _ _ c.in_ok-filled.ensures.tables
+first_outer_fault-outer-requires-clause-names c = rw c.deref.ensures (filled_names _ _ c.in_ok-filled.ensures.tables)
 
 pub returns-in-Some-clause-fault : goal.returns-in-Some-clause-fault
 returns-in-Some-clause-fault c = λ _. subst (λ (ss : List Statement). IsFirstFault ss c.in-Some.fault) c.as_slice-statements.ensures.value
@@ -37,16 +37,16 @@ pub of-requires : goal.of-requires
 of-requires c =
     let free : AreFaultless c.as_slice-statements.result.now = none_found c.as_slice-statements.result.now _ _ c.earlier.result c.in_ok-filled.ensures.first c.first_outer_fault-outer.ensures c.earlier.ensures c.in_default.is in
     let read : AreRead c.as_slice-statements.result.now = subst (λ (ss : List Statement). AreRead ss) (sym c.as_slice-statements.ensures.value) c.requires in
-    all_sound c.as_slice-statements.result.now _
-    (all_made c.as_slice-statements.result.now c.in_ok-filled.filled.tables c.in_ok-filled.filled.tally c.of-whole.result.max c.passed_operands.result c.limits_of.result c.counts-counts.result
+    rw c.into_inner.ensures (all_sound c.as_slice-statements.result.now _
+    (all_made c.as_slice-statements.result.now c.in_ok-filled.filled.tables.value c.in_ok-filled.filled.tally c.of-whole.result.max c.passed_operands.result c.limits_of.result c.counts-counts.result
     c.in_ok-filled.ensures.tables c.in_ok-filled.ensures.tally c.of-whole.ensures.max c.passed_operands.ensures c.limits_of.ensures c.counts-counts.ensures free)
-    read c.in_ok-filled.ensures.named free
+    read c.in_ok-filled.ensures.named free)
 
 pub returns-clause-found : goal.returns-clause-found
 returns-clause-found c =
     let free : AreFaultless c.as_slice-statements.result.now = none_found c.as_slice-statements.result.now _ _ c.earlier.result c.in_ok-filled.ensures.first c.first_outer_fault-outer.ensures c.earlier.ensures c.in_default.is in
-    let made = c.in_ok-generation.ensures ∙ all_made c.as_slice-statements.result.now c.in_ok-filled.filled.tables c.in_ok-filled.filled.tally c.of-whole.result.max c.passed_operands.result c.limits_of.result c.counts-counts.result
-    c.in_ok-filled.ensures.tables c.in_ok-filled.ensures.tally c.of-whole.ensures.max c.passed_operands.ensures c.limits_of.ensures c.counts-counts.ensures free in
+    let made = c.in_ok-generation.ensures ∙ rw c.into_inner.ensures (all_made c.as_slice-statements.result.now c.in_ok-filled.filled.tables.value c.in_ok-filled.filled.tally c.of-whole.result.max c.passed_operands.result c.limits_of.result c.counts-counts.result
+    c.in_ok-filled.ensures.tables c.in_ok-filled.ensures.tally c.of-whole.ensures.max c.passed_operands.ensures c.limits_of.ensures c.counts-counts.ensures free) in
     subst (λ (ss : List Statement). (c.in_ok-generation.generation ≡ generated ss) × AreFaultless ss) c.as_slice-statements.ensures.value (made, free)
 
 pub returns-clause-only : goal.returns-clause-only

@@ -2,7 +2,8 @@ use Rattle.std.proofs.Common.{ℕ, ◌∙◌, refl, ap, arith, subst, take}
 use Rattle.std.proofs.lemmas.List.{take_all}
 use Rattle.kdcdef_check.specs.Generating.{generated}
 use Rattle.kdcdef_check.specs.Faults.{kind_of}
-use Rattle.kdcdef_check.specs.Steps.{own_fault, OwnFault, AllNamed}
+use Rattle.kdcdef_check.specs.declared.tables.Tables.{Tables}
+use Rattle.kdcdef_check.specs.Steps.{own_fault, IsAdded, OwnFault, AllNamed}
 use Rattle.kdcdef_check.proofs.Tallies.{kind_within, count_within, next_tally}
 use Rattle.kdcdef_check.proofs.Filling.{next_filled, filled_names, next_named}
 use Rattle.kdcdef_check.proofs.FirstOfFaults.{next_first}
@@ -23,9 +24,9 @@ loop-statement-preserved c =
     let was = c.loop-statement.invariant in
     let before = generated (take i ss) in
     let counted = c.count.ensures ∙ was.tally.counts (kind_of s.said) (kind_within s.said) in
-    let fault = c.own_fault.ensures before (filled_names c.loop-statement.tables (take i ss) was.tables) ∙ ap (λ (n : ℕ). own_fault before n s) counted in
+    let fault = c.own_fault.ensures before (rw c.deref.ensures (filled_names c.loop-statement.tables.value (take i ss) was.tables)) ∙ ap (λ (n : ℕ). own_fault before n s) counted in
     record {
-      tables = next_filled ss i s c.loop-statement.tables c.add.new.self within is was.tables c.in_ok-add.ensures;
+      tables = next_filled ss i s c.loop-statement.tables.value c.add.new.self within is was.tables (subst (λ (t : Tables). IsAdded t c.add.new.self s.line s.said) c.deref_mut.ensures.value c.in_ok-add.ensures);
       tally = next_tally ss i s c.loop-statement.tally c.add-in-loop-statement.new.self (kind_of s.said) within is refl (kind_within s.said) was.tally c.add-in-loop-statement.ensures;
       named = next_named ss i s within is was.named c.know_name.ensures;
       first = rw c.earlier-first.ensures (next_first ss (OwnFault ss) i s c.loop-statement.first c.own_fault.result within is was.first (rw fault (own_first ss i s)));
