@@ -135,9 +135,39 @@ fn accepted_of(alloc: Global, accepted: bool, handed: &Parts) -> Result<Parts, O
     }
 }
 
+/// What a transaction begins with, as far as it takes memory.
+#[derive(Drop)]
+struct Beginning {
+    inputs: Parts,
+    run: RunState,
+    lssbs: Areas,
+}
+
+fn begin_with(
+    alloc: Global,
+    generation: &Generation,
+    began: &Option<Service>,
+    header: Header,
+    handed: &Parts,
+    accepted: bool,
+) -> Result<Beginning, OutOfMemory>
+    requires { HasOrder began.now }
+    ensures inputs { IfOk result (λ b. b.inputs ≡ accepted_of accepted handed.now) }
+    ensures run { IfOk result (λ b. b.run ≡ fresh_run generation.now (kb_of generation.now began.now) header) }
+    ensures lssbs { IfOk result (λ b. b.lssbs ≡ lssbs_of began.now) }
+    ensures ascending { IfOk result (λ b. IsTrue (is_sorted bytes_cmp b.lssbs)) }
+{
+    let inputs = accepted_of(alloc, accepted, handed)?;
+    let lssbs = lssbs_of(alloc, began)?;
+    let kb = kb_of(alloc, generation, began)?;
+    let run = fresh_run(alloc, generation, kb, header)?;
+    Ok(Beginning { inputs, run, lssbs })
+}
+
 impl OpenTransaction {
     /// A transaction of a service opens, from its row if it has one. Its unit run has the parts `handed` to read, which
-    /// are an input that it accepted, or a message that was handed on or is a job's.
+    /// are an input that it accepted, or a message that was handed on or is a job's. It stands in a box, since it is wide
+    /// and has several owners one after another.
     #[tactic(auto, unfolding(monitor_semantics::specs::Endings::opened))]
     pub fn begin(
         alloc: Global,
@@ -147,32 +177,33 @@ impl OpenTransaction {
         header: Header,
         handed: Parts,
         accepted: bool,
-    ) -> Result<OpenTransaction, OutOfMemory>
+    ) -> Result<Box<OpenTransaction>, OutOfMemory>
         requires { HasOrder began }
-        ensures exact { IfOk result (λ work. work_of work ≡ opened generation.now began header handed (accepted_of accepted handed)) }
-        ensures id { IfOk result (λ work. work.id ≡ id) }
-        ensures nb { IfOk result (λ work. work.messages.nb ≡ generation.now.limits.nb) }
+        ensures exact { IfOk result (λ work. work_of work.value ≡ opened generation.now began header handed (accepted_of accepted handed)) }
+        ensures id { IfOk result (λ work. work.value.id ≡ id) }
+        ensures nb { IfOk result (λ work. work.value.messages.nb ≡ generation.now.limits.nb) }
     {
-        let inputs = accepted_of(alloc, accepted, &handed)?;
-        let kb = kb_of(alloc, generation, &began)?;
-        let lssbs = lssbs_of(alloc, &began)?;
-        Ok(OpenTransaction {
-            id,
-            began,
-            first: header.tacvg,
-            user: header.benid,
-            lterm: header.logter,
-            inputs,
-            current: header.tacal,
-            run: fresh_run(alloc, generation, kb, header)?,
-            inited: false,
-            messages: MessageArea::new(alloc, handed, generation.max().nb),
-            areas: Overlay::new(alloc, lssbs),
-            drafts: DraftJobs::new(alloc),
-            touched: HeldAreas::new(alloc),
-            notes: Notes::new(alloc),
-            statements: 0,
-        })
+        let beginning = begin_with(alloc, generation, &began, header, &handed, accepted)?;
+        Ok(Box::new(
+            alloc,
+            OpenTransaction {
+                id,
+                began,
+                first: header.tacvg,
+                user: header.benid,
+                lterm: header.logter,
+                inputs: beginning.inputs,
+                current: header.tacal,
+                run: beginning.run,
+                inited: false,
+                messages: MessageArea::new(alloc, handed, generation.max().nb),
+                areas: Overlay::new(alloc, beginning.lssbs),
+                drafts: DraftJobs::new(alloc),
+                touched: HeldAreas::new(alloc),
+                notes: Notes::new(alloc),
+                statements: 0,
+            },
+        )?)
     }
 
     /// The message that was put, its parts joined.
