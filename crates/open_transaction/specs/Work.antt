@@ -1,5 +1,6 @@
 -- What an open transaction of the code stands for.
-use Rattle.std.specs.Prelude.{Bool, true, false, IsTrue, List, [], Option, Some, None, IfSome}
+use Rattle.std.specs.Prelude.{Bool, true, false, Box, IsTrue, List, [], Option, Some, None, IfSome}
+use Rattle.std.specs.declared.alloc.Global.{Global}
 use Rattle.std.specs.FinMap.{is_sorted}
 use Rattle.kdcs_types.specs.declared.service.Service.{Service}
 use Rattle.kdcdef_types.specs.Generation.{Generated}
@@ -28,6 +29,13 @@ work_of x = record {
   notes = x.notes;
   statements = x.statements;
 }
+
+-- an open transaction of the code in its box
+abbrev pub Boxed : Type 0
+Boxed = Box OpenTransaction Global
+
+abbrev pub boxed_work : Boxed → Work
+boxed_work b = work_of b.value
 
 -- the LSSBs of a row ascend without repeats
 abbrev pub HasOrder : Option Service → Type 0

@@ -38,15 +38,15 @@ fn end_changes(
 /// The transaction can go on, and its service's row stands in the tables as it began; their durable part suits the
 /// generation. The transaction is lost where memory runs out.
 pub fn broken(
-    work: OpenTransaction,
+    work: Box<OpenTransaction>,
     alloc: Global,
     generation: &Generation,
     tables: &Tables,
     ending: Ending,
 ) -> Result<(Changes, Settled), OutOfMemory>
-    requires stands { Stands generation.now tables.now work.id (work_of work) }
-    ensures changes { IfOk result (λ ended. ended.0 ≡ difference (durable generation.now tables.now) (durable generation.now (broken tables.now work.id (work_of work)))) }
-    ensures kept { IfOk result (λ ended. ended.1 ≡ kept_record work.id (work_of work) ending) }
+    requires stands { Stands generation.now tables.now work.value.id (work_of work.value) }
+    ensures changes { IfOk result (λ ended. ended.0 ≡ difference (durable generation.now tables.now) (durable generation.now (broken tables.now work.value.id (work_of work.value)))) }
+    ensures kept { IfOk result (λ ended. ended.1 ≡ kept_record work.value.id (work_of work.value) ending) }
 {
     let changes = end_changes(alloc, generation, tables, &work)?;
     let kept = kept_record(alloc, work, ending)?;

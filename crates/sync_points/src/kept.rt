@@ -4,9 +4,10 @@ ghost use Rattle.monitor_semantics.specs.Statements.{kept_record};
 ghost use Rattle.open_transaction.specs.Work.{work_of};
 
 use kd_base::{Bytes, Name, OutOfMemory};
-use kdcs_types::{Ending, Parts, Settled};
+use kdcs_types::{Ending, Notes, Parts, Settled};
 use open_transaction::OpenTransaction;
 use std::alloc::Global;
+use std::mem;
 
 fn inputs_behind(
     alloc: Global,
@@ -22,37 +23,21 @@ fn inputs_behind(
     Ok(Parts::from_vec(kept))
 }
 
-// What it keeps, with the inputs as they came.
-fn settled_of(work: OpenTransaction, ending: Ending) -> Settled
-    ensures { result ≡ record { service = work.id; began = work.began; inputs = work.inputs; notes = work.notes; statements = work.statements; ending = ending } }
-{
-    Settled {
-        service: work.id,
-        began: work.began,
-        inputs: work.inputs,
-        notes: work.notes,
-        statements: work.statements,
-        ending,
-    }
-}
-
 pub(crate) fn kept_record(
     alloc: Global,
-    work: OpenTransaction,
+    mut work: Box<OpenTransaction>,
     ending: Ending,
 ) -> Result<Settled, OutOfMemory>
-    ensures { IfOk result (λ kept. kept ≡ kept_record work.id (work_of work) ending) }
+    ensures { IfOk result (λ kept. kept ≡ kept_record work.value.id (work_of work.value) ending) }
 {
-    let first = work.first;
-    let lterm = work.lterm;
-    let kept = settled_of(work, ending);
-    let inputs = inputs_behind(alloc, first, lterm, kept.inputs)?;
+    let inputs = mem::replace(&mut work.inputs, Parts::new(alloc));
+    let inputs = inputs_behind(alloc, work.first, work.lterm, inputs)?;
     Ok(Settled {
-        service: kept.service,
-        began: kept.began,
+        service: work.id,
+        began: work.began.take(),
         inputs,
-        notes: kept.notes,
-        statements: kept.statements,
-        ending: kept.ending,
+        notes: mem::replace(&mut work.notes, Notes::new(alloc)),
+        statements: work.statements,
+        ending,
     })
 }

@@ -26,7 +26,7 @@ pub enum SettleAnswer {
     /// what the transaction keeps for its replay.
     Synced(Changes, Option<Service>, Settled),
     /// E10, E11 or E09, and the transaction as it was.
-    Refused(Cause, OpenTransaction),
+    Refused(Cause, Box<OpenTransaction>),
 }
 
 // The same, before the transaction is taken apart.
@@ -114,14 +114,14 @@ fn point_of(
 /// each; the test for E09 goes over all rows. The transaction can go on, and its service's row stands in the tables as it
 /// began; their durable part suits the generation. The transaction is lost where memory runs out.
 pub fn settle(
-    work: OpenTransaction,
+    work: Box<OpenTransaction>,
     alloc: Global,
     generation: &Generation,
     tables: &Tables,
     outcome: Outcome,
 ) -> Result<SettleAnswer, OutOfMemory>
-    requires stands { Stands generation.now tables.now work.id (work_of work) }
-    ensures { IfOk result (λ answer. answer ≡ answer_by generation.now tables.now work outcome (refusal generation.now (durable generation.now (synchronised generation.now tables.now work.id (work_of work) outcome)))) }
+    requires stands { Stands generation.now tables.now work.value.id (work_of work.value) }
+    ensures { IfOk result (λ answer. answer ≡ answer_by generation.now tables.now work outcome (refusal generation.now (durable generation.now (synchronised generation.now tables.now work.value.id (work_of work.value) outcome)))) }
 {
     match point_of(alloc, generation, tables, &work, outcome)? {
         Point::Refused(cause) => Ok(SettleAnswer::Refused(cause, work)),

@@ -5,4 +5,5 @@ use Rattle.sync_points.proofs.ends.broken.Goals as goal
 
 pub returns-clause-changes : goal.returns-clause-changes
 returns-clause-changes c =
-    c.in_ok-changes.ensures ∙ sym (ends_change c.args.generation.now c.args.tables.now c.args.work.id (work_of c.args.work) c.requires.stands)
+    c.in_ok-changes.ensures
+    ∙ rw c.deref.ensures (sym (ends_change c.args.generation.now c.args.tables.now c.args.work.value.id (work_of c.args.work.value) c.requires.stands))
