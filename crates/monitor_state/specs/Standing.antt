@@ -6,8 +6,7 @@ use Rattle.kdcs_types.specs.declared.key.ServiceId.{ServiceId}
 use Rattle.kdcs_types.specs.Keys.{id_cmp}
 use Rattle.kdcdef_types.specs.Generation.{Generated}
 use Rattle.area_locks.specs.Asked.{holds_area}
-use Rattle.open_transaction.specs.declared.open.OpenTransaction.{OpenTransaction as Work}
-use Rattle.open_transaction.specs.Work.{work_of}
+use Rattle.open_transaction.specs.Work.{Boxed, boxed_work}
 use Rattle.step_scheduler.specs.Schedule.{service_in}
 use Rattle.monitor_semantics.specs.Locks.{Active, holds}
 use Rattle.monitor_semantics.specs.Picks.{Classed, class_of, current_by}
@@ -18,10 +17,10 @@ use Rattle.async_queue.specs.Marks.{queue_of}
 -- ---- the state
 
 -- an open transaction of the code, as that of the definition
-abbrev pub entry_of : ServiceId × Work → ServiceId × OpenTransaction
-entry_of e = (e.0, work_of e.1)
+abbrev pub entry_of : ServiceId × Boxed → ServiceId × OpenTransaction
+entry_of e = (e.0, boxed_work e.1)
 
-abbrev pub active_of : List (ServiceId × Work) → Active
+abbrev pub active_of : List (ServiceId × Boxed) → Active
 active_of works = map entry_of works
 
 -- a service of the ready list without its class
@@ -54,10 +53,10 @@ abbrev pub PlaceHasClass : Generated → Active → Option Classed → Type 0
 PlaceHasClass g active place = IfSome place (HasClass g active)
 
 -- a transaction of the code knows its service and the greatest length of a message
-pub record IsOwned (g : Generated) (steps : ℕ) (e : ServiceId × Work) : Type 0 where
-  pub id : e.1.id ≡ e.0
-  pub nb : e.1.messages.nb ≡ g.limits.nb
-  pub counted : e.1.statements ≤ steps
+pub record IsOwned (g : Generated) (steps : ℕ) (e : ServiceId × Boxed) : Type 0 where
+  pub id : e.1.value.id ≡ e.0
+  pub nb : e.1.value.messages.nb ≡ g.limits.nb
+  pub counted : e.1.value.statements ≤ steps
 
 -- classes, locks and marks are those of the state
 pub record IsIndexed (p : MonitorParts) : Type 0 where

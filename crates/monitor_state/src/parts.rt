@@ -21,8 +21,8 @@ pub struct MonitorParts {
     pub sessions: Sessions,
     /// The ready list and the tasks, with the classes of the services there.
     pub scheduler: Scheduler,
-    /// The open transactions by their services.
-    pub active: SortedPairs<ServiceId, OpenTransaction>,
+    /// The open transactions by their services, each in a box, so that nothing wide is moved.
+    pub active: SortedPairs<ServiceId, Box<OpenTransaction>>,
     /// The areas that the open transactions hold, and the requests that wait.
     pub locks: LockTable,
     /// The jobs of the tables, with marks on those that open services have taken.

@@ -11,7 +11,7 @@ use open_transaction::OpenTransaction;
 use sorted_pairs::SortedPairs;
 
 /// The open transactions by their services.
-type Works = SortedPairs<ServiceId, OpenTransaction>;
+type Works = SortedPairs<ServiceId, Box<OpenTransaction>>;
 
 // The job is taken where its service is open.
 fn mark_if_open(jobs: &mut Jobs, active: &Works, number: u64)

@@ -2,7 +2,7 @@
 ghost use Rattle.std.specs.{Prelude.{◌≡◌, IfSome, None, OnOk, false}, Option.{option_map}, FinMap.{find}};
 ghost use Rattle.kdcs_types.specs.Keys.{id_cmp};
 ghost use Rattle.monitor_semantics.specs.{Endings.{opened}, Sessions.{is_running}, Turns.{with_open, without_open}};
-ghost use Rattle.open_transaction.specs.Work.{accepted_of, work_of, HasOrder};
+ghost use Rattle.open_transaction.specs.Work.{accepted_of, boxed_work, HasOrder};
 ghost use Rattle.monitor_state.specs.{Queue.{marked_for}, Standing.{IsIndexed, IsOwned, SameApplication, state_of}};
 
 use crate::parts::MonitorParts;
@@ -63,13 +63,13 @@ impl MonitorParts {
 
     /// The open transaction of a service that is neither ready nor in a task is over: the service holds no area and waits
     /// for none, and its job is free. It takes no memory.
-    pub fn close(&mut self, id: &ServiceId) -> Option<OpenTransaction>
+    pub fn close(&mut self, id: &ServiceId) -> Option<Box<OpenTransaction>>
         requires indexed { IsIndexed self.old }
         requires unplaced { is_running (state_of self.old) id.now ≡ false }
         ensures indexed { IsIndexed self.new }
         ensures same { SameApplication self.old self.new }
         ensures state { state_of self.new ≡ without_open (state_of self.old) id.now }
-        ensures found { option_map work_of result ≡ find id_cmp id.now (state_of self.old).active }
+        ensures found { option_map boxed_work result ≡ find id_cmp id.now (state_of self.old).active }
         ensures owned { IfSome result (λ work. IsOwned self.old.generation self.old.steps (id.now, work)) }
     {
         let work = self.active.remove(id);

@@ -30,8 +30,7 @@ use Rattle.monitor_semantics.specs.Statements.{kept_record}
 use Rattle.monitor_semantics.specs.Turns.{Turned, abnormal, after_point, committed, dump_acts, ended_acts, message_acts, message_sent, moved_to, settled, settled_by, told_user, user_acts, with_open, with_task, without_open, without_work}
 use Rattle.monitor_places.specs.Entries.{found_put, found_without}
 use Rattle.monitor_tables.specs.PointLaws.{Stands}
-use Rattle.open_transaction.specs.declared.open.OpenTransaction.{OpenTransaction as Work}
-use Rattle.open_transaction.specs.Work.{work_of, HasOrder}
+use Rattle.open_transaction.specs.Work.{Boxed, boxed_work, HasOrder}
 use Rattle.monitor_state.specs.declared.parts.MonitorParts.{MonitorParts}
 use Rattle.monitor_state.specs.Kept.{found_work}
 use Rattle.monitor_state.specs.Standing.{IsOwned, SameApplication, state_of}
@@ -45,8 +44,8 @@ use Rattle.service_ends.specs.Ending.{CanGoOn, IsClosed, Works, behind_end, behi
 
 -- ---- the parts behind a step
 
-pub found_one : (o : Option Work) (work : Work) (found : Option OpenTransaction) (x : OpenTransaction) → o ≡ Some work → option_map work_of o ≡ found → found ≡ Some x → work_of work ≡ x
-found_one o work found x is found_is x_is = under (sym (ap (option_map work_of) is) ∙ found_is ∙ x_is)
+pub found_one : (o : Option Boxed) (work : Boxed) (found : Option OpenTransaction) (x : OpenTransaction) → o ≡ Some work → option_map boxed_work o ≡ found → found ≡ Some x → boxed_work work ≡ x
+found_one o work found x is found_is x_is = under (sym (ap (option_map boxed_work) is) ∙ found_is ∙ x_is)
   where
     under : {A : Type 0} {a b : A} → Some a ≡ Some b → a ≡ b
     under e = cc
@@ -56,21 +55,21 @@ stands_as g h t u i j x y a b c d s =
     subst (λ k. Stands k u j y) (sym a) (subst (λ k. Stands g k j y) (sym b) (subst (λ k. Stands g t k y) (sym c) (subst (λ k. Stands g t i k) (sym d) s)))
 
 -- the transaction that was closed
-pub closed_work : (p q : MonitorParts) (task : ℕ) (id : ServiceId) (x : OpenTransaction) (work : Work) → Works p task id x → SameApplication p q
-    → state_of q ≡ without_work (state_of p) task id → work.id ≡ id → work_of work ≡ x → IsClosed q work
+pub closed_work : (p q : MonitorParts) (task : ℕ) (id : ServiceId) (x : OpenTransaction) (work : Boxed) → Works p task id x → SameApplication p q
+    → state_of q ≡ without_work (state_of p) task id → work.value.id ≡ id → boxed_work work ≡ x → IsClosed q work
 closed_work p q task id x work works same state own is = record {
   closed = (λ i. find id_cmp (own i) (state i).active) ∙ found_without id (state_of p).active;
   unplaced = (λ i. is_running (state i) (own i)) ∙ works.alone;
-  stands = stands_as p.generation q.generation p.tables q.tables id work.id x (work_of work) same.generation (ap (λ (s : State). s.tables) state) own is works.stands;
+  stands = stands_as p.generation q.generation p.tables q.tables id work.value.id x (boxed_work work) same.generation (ap (λ (s : State). s.tables) state) own is works.stands;
 }
 
 -- it can go on from a row in order
-pub goes_on : (p : MonitorParts) (work : Work) (id : ServiceId) (row : Option Service) → IsClosed p work → id ≡ work.id → HasOrder row → CanGoOn p id row
+pub goes_on : (p : MonitorParts) (work : Boxed) (id : ServiceId) (row : Option Service) → IsClosed p work → id ≡ work.value.id → HasOrder row → CanGoOn p id row
 goes_on p work id row h own order = record { closed = (λ i. find id_cmp (own i) (state_of p).active) ∙ h.closed; unplaced = (λ i. is_running (state_of p) (own i)) ∙ h.unplaced; order = order }
 
-pub closed_result : (p m q : MonitorParts) (task : ℕ) (id : ServiceId) (o : Option Work) → ((x : OpenTransaction) × Works p task id x) → SameApplication p m → SameApplication m q
-    → state_of m ≡ with_task (state_of p) task None → state_of q ≡ without_open (state_of m) id → option_map work_of o ≡ find id_cmp id (state_of m).active
-    → IfSome o (λ (work : Work). IsOwned m.generation m.steps (id, work)) → IfSome o (λ (work : Work). IsClosed q work)
+pub closed_result : (p m q : MonitorParts) (task : ℕ) (id : ServiceId) (o : Option Boxed) → ((x : OpenTransaction) × Works p task id x) → SameApplication p m → SameApplication m q
+    → state_of m ≡ with_task (state_of p) task None → state_of q ≡ without_open (state_of m) id → option_map boxed_work o ≡ find id_cmp id (state_of m).active
+    → IfSome o (λ (work : Boxed). IsOwned m.generation m.steps (id, work)) → IfSome o (λ (work : Boxed). IsClosed q work)
 closed_result p m q task id None works a b s t found own = tt
 closed_result p m q task id (Some work) works a b s t found own =
     closed_work p q task id works.0 work works.1 (same_twice p m q a b) (t ∙ ap (λ (u : State). without_open u id) s) own.id
@@ -81,8 +80,8 @@ row_order : (t : TableRows) (id : ServiceId) (o : Option Service) → IsSortedTa
 row_order t id None h e = tt
 row_order t id (Some row) h e = (both_true (lterm_fits row.id row.lterm) (is_sorted bytes_cmp row.lssbs) (found_passes service_key service_fits (key.Service id) t.services row h.services_fit e)).1
 
-pub began_order : (p : MonitorParts) (work : Work) → IsClosed p work → HasOrder work.began
-began_order p work h = row_order p.tables work.id work.began h.stands.sound.order h.stands.rooted.began
+pub began_order : (p : MonitorParts) (work : Boxed) → IsClosed p work → HasOrder work.value.began
+began_order p work h = row_order p.tables work.value.id work.value.began h.stands.sound.order h.stands.rooted.began
 
 -- a service that opened a transaction has it
 pub opened_open : (p q : MonitorParts) (id : ServiceId) (x : OpenTransaction) → state_of q ≡ with_open (state_of p) id x → IsSome (find id_cmp id (state_of q).active)
@@ -91,9 +90,9 @@ opened_open p q id x e = subst (λ (o : Option OpenTransaction). IsSome o) (sym 
 -- ---- ends
 
 -- what a transaction that was closed comes to, where that is the definition's
-pub over_as : {E : Type 0} (r : Result Did E) (p m q : MonitorParts) (task : ℕ) (id : ServiceId) (work : Work) (f : Application → State → ServiceId → OpenTransaction → Turned) (g : OpenTransaction → Turned)
-    → ((x : OpenTransaction) → f (app_of p) (without_work (state_of p) task id) id x ≡ g x) → SameApplication p m → state_of m ≡ without_work (state_of p) task id → work.id ≡ id
-    → Some (work_of work) ≡ find id_cmp id (state_of p).active → IfOk r (λ (did : Did). turned_to (state_of q) did ≡ f (app_of m) (state_of m) work.id (work_of work))
+pub over_as : {E : Type 0} (r : Result Did E) (p m q : MonitorParts) (task : ℕ) (id : ServiceId) (work : Boxed) (f : Application → State → ServiceId → OpenTransaction → Turned) (g : OpenTransaction → Turned)
+    → ((x : OpenTransaction) → f (app_of p) (without_work (state_of p) task id) id x ≡ g x) → SameApplication p m → state_of m ≡ without_work (state_of p) task id → work.value.id ≡ id
+    → Some (boxed_work work) ≡ find id_cmp id (state_of p).active → IfOk r (λ (did : Did). turned_to (state_of q) did ≡ f (app_of m) (state_of m) work.value.id (boxed_work work))
     → IfOk r (λ (did : Did). (x : OpenTransaction) → find id_cmp id (state_of p).active ≡ Some x → turned_to (state_of q) did ≡ g x)
 over_as r p m q task id work f g law same state own found =
     IfOk-weaker r _ _ (λ did e x is. e ∙ (λ k. f (same_app p m same.generation same.units k) (state k) (own k) (found_one (Some work) work _ x refl found is k)) ∙ law x)
@@ -115,29 +114,29 @@ unfolding settled
 settles app s task id x o = settles_by app s task id x o _
 
 -- an abnormal end behind its commit
-pub breaks_as : (p : MonitorParts) (w : Work) (e : Ending) (id : ServiceId) (dump : Option (List ℕ)) (changes : Changes) (kept : Settled) → changes ≡ durable_difference p.generation p.tables (broken p.tables w.id (work_of w))
-    → kept ≡ kept_record w.id (work_of w) e → emitted dump ≡ dump_acts w.id (work_of w) e → id ≡ w.id → Stands p.generation p.tables w.id (work_of w)
-    → behind_end (record (state_of p) { tables = with_service (changed p.tables changes) id None }) id dump (Commit changes) kept ≡ broken_to (app_of p) (state_of p) w.id (work_of w) e
+pub breaks_as : (p : MonitorParts) (w : Boxed) (e : Ending) (id : ServiceId) (dump : Option (List ℕ)) (changes : Changes) (kept : Settled) → changes ≡ durable_difference p.generation p.tables (broken p.tables w.value.id (boxed_work w))
+    → kept ≡ kept_record w.value.id (boxed_work w) e → emitted dump ≡ dump_acts w.value.id (boxed_work w) e → id ≡ w.value.id → Stands p.generation p.tables w.value.id (boxed_work w)
+    → behind_end (record (state_of p) { tables = with_service (changed p.tables changes) id None }) id dump (Commit changes) kept ≡ broken_to (app_of p) (state_of p) w.value.id (boxed_work w) e
 breaks_as p w e id dump changes kept c k d i stands =
     (λ j. committed (record (state_of p) { tables = with_service (changed p.tables (c j)) (i j) None }) (Commit (c j)) (k j) (d j ++ ended_acts (record (state_of p) { tables = with_service (changed p.tables (c j)) (i j) None }) (i j)))
-    ∙ ap (λ (t : TableRows). committed (record (state_of p) { tables = t }) (Commit (durable_difference p.generation p.tables (broken p.tables w.id (work_of w)))) (kept_record w.id (work_of w) e) (dump_acts w.id (work_of w) e ++ ended_acts (record (state_of p) { tables = t }) w.id))
-    (end_made p.generation p.tables w.id (work_of w) stands.sound.order).tables
-    ∙ by w.id
+    ∙ ap (λ (t : TableRows). committed (record (state_of p) { tables = t }) (Commit (durable_difference p.generation p.tables (broken p.tables w.value.id (boxed_work w)))) (kept_record w.value.id (boxed_work w) e) (dump_acts w.value.id (boxed_work w) e ++ ended_acts (record (state_of p) { tables = t }) w.value.id))
+    (end_made p.generation p.tables w.value.id (boxed_work w) stands.sound.order).tables
+    ∙ by w.value.id
   where
-    by : (id : ServiceId) → committed (record (state_of p) { tables = broken p.tables id (work_of w) }) (Commit (durable_difference p.generation p.tables (broken p.tables id (work_of w)))) (kept_record id (work_of w) e) (dump_acts id (work_of w) e ++ ended_acts (record (state_of p) { tables = broken p.tables id (work_of w) }) id) ≡ broken_to (app_of p) (state_of p) id (work_of w) e
+    by : (id : ServiceId) → committed (record (state_of p) { tables = broken p.tables id (boxed_work w) }) (Commit (durable_difference p.generation p.tables (broken p.tables id (boxed_work w)))) (kept_record id (boxed_work w) e) (dump_acts id (boxed_work w) e ++ ended_acts (record (state_of p) { tables = broken p.tables id (boxed_work w) }) id) ≡ broken_to (app_of p) (state_of p) id (boxed_work w) e
     by (Dialogue user) = refl
     by (Asynchronous number) = refl
 
 -- ---- points
 
 -- what a point that passes answers
-pub record IsPassed (g : Generated) (t : TableRows) (w : Work) (o : Outcome) (r : Option Cause) (changes : Changes) (row : Option Service) (kept : Settled) : Type 0 where
+pub record IsPassed (g : Generated) (t : TableRows) (w : Boxed) (o : Outcome) (r : Option Cause) (changes : Changes) (row : Option Service) (kept : Settled) : Type 0 where
   pub none : r ≡ None
-  pub changes_are : changes ≡ durable_difference g t (synchronised g t w.id (work_of w) o)
-  pub row_is : row ≡ row_after g w.id (work_of w) o
-  pub kept_is : kept ≡ kept_record w.id (work_of w) ending.Synced
+  pub changes_are : changes ≡ durable_difference g t (synchronised g t w.value.id (boxed_work w) o)
+  pub row_is : row ≡ row_after g w.value.id (boxed_work w) o
+  pub kept_is : kept ≡ kept_record w.value.id (boxed_work w) ending.Synced
 
-pub passed_as : (g : Generated) (t : TableRows) (w : Work) (o : Outcome) (r : Option Cause) (changes : Changes) (row : Option Service) (kept : Settled)
+pub passed_as : (g : Generated) (t : TableRows) (w : Boxed) (o : Outcome) (r : Option Cause) (changes : Changes) (row : Option Service) (kept : Settled)
     → Synced changes row kept ≡ answer_by g t w o r → IsPassed g t w o r changes row kept
 passed_as g t w o None changes row kept e = record { none = refl; changes_are = first _ _ _ _ _ _ e; row_is = second _ _ _ _ _ _ e; kept_is = third _ _ _ _ _ _ e }
   where
@@ -155,7 +154,7 @@ passed_as g t w o (Some cause) changes row kept e = absurd (apart e)
     apart e = cc
 
 -- what a point that is refused answers
-pub refused_as : (g : Generated) (t : TableRows) (w v : Work) (o : Outcome) (r : Option Cause) (cause : Cause) → Refused cause v ≡ answer_by g t w o r → (r ≡ Some cause) × (v ≡ w)
+pub refused_as : (g : Generated) (t : TableRows) (w v : Boxed) (o : Outcome) (r : Option Cause) (cause : Cause) → Refused cause v ≡ answer_by g t w o r → (r ≡ Some cause) × (v ≡ w)
 refused_as g t w v o None cause e = absurd (apart _ _ _ e)
   where
     apart : (a : Changes) (c : Option Service) (k : Settled) → Refused cause v ≡ Synced a c k → ⊥
@@ -173,11 +172,11 @@ row_after_order id None h = tt
 row_after_order id (Some row) h = (both_true (lterm_fits row.id row.lterm) (is_sorted bytes_cmp row.lssbs) (both_true (id_eq row.id id) (service_fits row) h).1).1
 
 -- the abnormal end that refuses a point
-pub refuses_as : (p : MonitorParts) (w v : Work) (o : Outcome) (r : Option Cause) (cause : Cause) → Refused cause v ≡ answer_by p.generation p.tables w o r
-    → broken_to (app_of p) (state_of p) v.id (work_of v) (ending.Broken cause) ≡ settled_to (app_of p) (state_of p) w.id (work_of w) o r
+pub refuses_as : (p : MonitorParts) (w v : Boxed) (o : Outcome) (r : Option Cause) (cause : Cause) → Refused cause v ≡ answer_by p.generation p.tables w o r
+    → broken_to (app_of p) (state_of p) v.value.id (boxed_work v) (ending.Broken cause) ≡ settled_to (app_of p) (state_of p) w.value.id (boxed_work w) o r
 refuses_as p w v o r cause e =
     let is = refused_as p.generation p.tables w v o r cause e in
-    (λ k. broken_to (app_of p) (state_of p) (is.1 k).id (work_of (is.1 k)) (ending.Broken cause)) ∙ sym (ap (settled_to (app_of p) (state_of p) w.id (work_of w) o) is.0)
+    (λ k. broken_to (app_of p) (state_of p) (is.1 k).value.id (boxed_work (is.1 k)) (ending.Broken cause)) ∙ sym (ap (settled_to (app_of p) (state_of p) w.value.id (boxed_work w) o) is.0)
 
 -- behind its commit a point goes on as it does
 goes_as : (app : Application) (s : State) (id : ServiceId) (x : OpenTransaction) (row : Option Service) (o : Outcome) (commit : Act) (kept : Settled)
@@ -197,17 +196,17 @@ goes_as app s id x row Break commit kept = refl
 goes_as app s id x row Back commit kept = refl
 
 -- a point that passes
-pub points_as : (p : MonitorParts) (w : Work) (o : Outcome) (r : Option Cause) (id : ServiceId) (outcome : Outcome) (changes : Changes) (row : Option Service) (kept : Settled) (message lterm : Bytes)
-    → IsPassed p.generation p.tables w o r changes row kept → Stands p.generation p.tables w.id (work_of w) → id ≡ w.id → outcome ≡ o → message ≡ joined (work_of w).parts → lterm ≡ (work_of w).lterm
+pub points_as : (p : MonitorParts) (w : Boxed) (o : Outcome) (r : Option Cause) (id : ServiceId) (outcome : Outcome) (changes : Changes) (row : Option Service) (kept : Settled) (message lterm : Bytes)
+    → IsPassed p.generation p.tables w o r changes row kept → Stands p.generation p.tables w.value.id (boxed_work w) → id ≡ w.value.id → outcome ≡ o → message ≡ joined (boxed_work w).parts → lterm ≡ (boxed_work w).lterm
     → behind_point (app_of p) (record (state_of p) { tables = with_service (changed p.tables changes) id row }) id row outcome message lterm (Commit changes) kept
-    ≡ settled_to (app_of p) (state_of p) w.id (work_of w) o r
+    ≡ settled_to (app_of p) (state_of p) w.value.id (boxed_work w) o r
 points_as p w o r id outcome changes row kept message lterm passed stands i out m l =
-    let new = synchronised p.generation p.tables w.id (work_of w) o in
+    let new = synchronised p.generation p.tables w.value.id (boxed_work w) o in
     (λ k. behind_point (app_of p) (record (state_of p) { tables = with_service (changed p.tables (passed.changes_are k)) (i k) (passed.row_is k) }) (i k) (passed.row_is k) (out k) (m k) (l k) (Commit (passed.changes_are k)) (passed.kept_is k))
-    ∙ ap (λ (t : TableRows). behind_point (app_of p) (record (state_of p) { tables = t }) w.id (row_after p.generation w.id (work_of w) o) o (joined (work_of w).parts) (work_of w).lterm (Commit (durable_difference p.generation p.tables new)) (kept_record w.id (work_of w) ending.Synced))
-    (point_made p.generation p.tables w.id (work_of w) o stands).tables
-    ∙ goes_as (app_of p) (record (state_of p) { tables = new }) w.id (work_of w) (row_after p.generation w.id (work_of w) o) o (Commit (durable_difference p.generation p.tables new)) (kept_record w.id (work_of w) ending.Synced)
-    ∙ sym (ap (settled_to (app_of p) (state_of p) w.id (work_of w) o) passed.none)
+    ∙ ap (λ (t : TableRows). behind_point (app_of p) (record (state_of p) { tables = t }) w.value.id (row_after p.generation w.value.id (boxed_work w) o) o (joined (boxed_work w).parts) (boxed_work w).lterm (Commit (durable_difference p.generation p.tables new)) (kept_record w.value.id (boxed_work w) ending.Synced))
+    (point_made p.generation p.tables w.value.id (boxed_work w) o stands).tables
+    ∙ goes_as (app_of p) (record (state_of p) { tables = new }) w.value.id (boxed_work w) (row_after p.generation w.value.id (boxed_work w) o) o (Commit (durable_difference p.generation p.tables new)) (kept_record w.value.id (boxed_work w) ending.Synced)
+    ∙ sym (ap (settled_to (app_of p) (state_of p) w.value.id (boxed_work w) o) passed.none)
 
 -- ---- PEND KP
 
@@ -221,15 +220,15 @@ holds_as s q r task id x acts e f a =
     (λ k. moved_to ((f ∙ ap (λ u. message_sent u id x) e) k) ((a ∙ ap (λ u. message_acts u id x) e ∙ same_acts s task id x) k))
 
 -- the message of the transaction that is found
-pub found_is : (p : MonitorParts) (id : ServiceId) (work : Work) (x : OpenTransaction) → Some work ≡ find id_cmp id p.active → find id_cmp id (state_of p).active ≡ Some x → work_of work ≡ x
+pub found_is : (p : MonitorParts) (id : ServiceId) (work : Boxed) (x : OpenTransaction) → Some work ≡ find id_cmp id p.active → find id_cmp id (state_of p).active ≡ Some x → boxed_work work ≡ x
 found_is p id work x e f = found_one (Some work) work _ x refl (found_work p id (Some work) e) f
 
-pub sends_as : (p q : MonitorParts) (id : ServiceId) (user message : Bytes) (work : Work) (x : OpenTransaction) → id ≡ Dialogue user → message ≡ joined work.messages.parts → Some work ≡ find id_cmp id p.active
+pub sends_as : (p q : MonitorParts) (id : ServiceId) (user message : Bytes) (work : Boxed) (x : OpenTransaction) → id ≡ Dialogue user → message ≡ joined work.value.messages.parts → Some work ≡ find id_cmp id p.active
     → find id_cmp id (state_of p).active ≡ Some x → state_of q ≡ told_user (state_of p) user message → state_of q ≡ message_sent (state_of p) id x
 sends_as p q id user message work x is m found f e =
-    e ∙ ap (told_user (state_of p) user) m ∙ sym (ap (λ i. message_sent (state_of p) i (work_of work)) is) ∙ ap (message_sent (state_of p) id) (found_is p id work x found f)
+    e ∙ ap (told_user (state_of p) user) m ∙ sym (ap (λ i. message_sent (state_of p) i (boxed_work work)) is) ∙ ap (message_sent (state_of p) id) (found_is p id work x found f)
 
-pub sends_acts : (p : MonitorParts) (id : ServiceId) (user message : Bytes) (work : Work) (x : OpenTransaction) (before after : List Act) → id ≡ Dialogue user → message ≡ joined work.messages.parts → Some work ≡ find id_cmp id p.active
+pub sends_acts : (p : MonitorParts) (id : ServiceId) (user message : Bytes) (work : Boxed) (x : OpenTransaction) (before after : List Act) → id ≡ Dialogue user → message ≡ joined work.value.messages.parts → Some work ≡ find id_cmp id p.active
     → find id_cmp id (state_of p).active ≡ Some x → after ≡ before ++ user_acts (state_of p) user message → after ≡ before ++ message_acts (state_of p) id x
 sends_acts p id user message work x before after is m found f e =
-    e ∙ ap (λ l. before ++ l) (ap (user_acts (state_of p) user) m ∙ sym (ap (λ i. message_acts (state_of p) i (work_of work)) is) ∙ ap (message_acts (state_of p) id) (found_is p id work x found f))
+    e ∙ ap (λ l. before ++ l) (ap (user_acts (state_of p) user) m ∙ sym (ap (λ i. message_acts (state_of p) i (boxed_work work)) is) ∙ ap (message_acts (state_of p) id) (found_is p id work x found f))

@@ -21,8 +21,7 @@ use Rattle.monitor_semantics.specs.State.{Application, OpenTransaction, State}
 use Rattle.monitor_semantics.specs.Turns.{Turned, after_point, commit_of, committed, dump_acts, ended_acts, queued, told_user, user_acts, with_task}
 use Rattle.monitor_tables.specs.PointLaws.{Stands}
 use Rattle.step_scheduler.specs.Schedule.{IsTask}
-use Rattle.open_transaction.specs.declared.open.OpenTransaction.{OpenTransaction as Work}
-use Rattle.open_transaction.specs.Work.{work_of, HasOrder}
+use Rattle.open_transaction.specs.Work.{Boxed, boxed_work, HasOrder}
 use Rattle.service_ends.specs.declared.turned.Turned.{Turned as Did}
 use Rattle.monitor_state.specs.declared.parts.MonitorParts.{MonitorParts}
 use Rattle.monitor_state.specs.Standing.{IsIndexed, state_of}
@@ -112,7 +111,7 @@ pub record CanGoOn (p : MonitorParts) (id : ServiceId) (row : Option Service) : 
   pub order : HasOrder row
 
 -- a transaction that was closed: its service stands nowhere, and tables may take it
-pub record IsClosed (p : MonitorParts) (work : Work) : Type 0 where
-  pub closed : find id_cmp work.id (state_of p).active ≡ None
-  pub unplaced : is_running (state_of p) work.id ≡ false
-  pub stands : Stands p.generation p.tables work.id (work_of work)
+pub record IsClosed (p : MonitorParts) (work : Boxed) : Type 0 where
+  pub closed : find id_cmp work.value.id (state_of p).active ≡ None
+  pub unplaced : is_running (state_of p) work.value.id ≡ false
+  pub stands : Stands p.generation p.tables work.value.id (boxed_work work)

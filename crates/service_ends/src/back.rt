@@ -2,7 +2,7 @@
 ghost use Rattle.std.specs.{Prelude.{◌≡◌, true, Some, None, IfOk, OnOk}, FinMap.{find}};
 ghost use Rattle.kdcs_types.specs.Keys.{id_cmp};
 ghost use Rattle.monitor_semantics.specs.{State.{OpenTransaction as Work}, Turns.{back, back_by, ended_acts, last_again, moved_to, without_work}};
-ghost use Rattle.open_transaction.specs.Work.{work_of};
+ghost use Rattle.open_transaction.specs.Work.{boxed_work};
 ghost use Rattle.service_ends.specs.Ending.{turned_to, CanGoOn, IsClosed, Works};
 ghost use Rattle.monitor_state.specs.{Standing.{IsIndexed, SameApplication, state_of}, Whole.{app_of}};
 
@@ -82,20 +82,17 @@ fn over(parts: &MonitorParts, alloc: Global, id: &ServiceId) -> Result<Turned, O
 fn back_from(
     parts: &mut MonitorParts,
     alloc: Global,
-    work: OpenTransaction,
+    mut work: Box<OpenTransaction>,
 ) -> Result<Turned, OutOfMemory>
     requires indexed { IsIndexed parts.old }
     requires closed { IsClosed parts.old work }
-    ensures exact { IfOk result (λ did. turned_to (state_of parts.new) did ≡ back (app_of parts.old) (state_of parts.old) work.id (work_of work) work.began) }
+    ensures exact { IfOk result (λ did. turned_to (state_of parts.new) did ≡ back (app_of parts.old) (state_of parts.old) work.value.id (boxed_work work) work.value.began) }
     ensures indexed { OnOk result (IsIndexed parts.new) }
     ensures same { OnOk result (SameApplication parts.old parts.new) }
 {
-    let id = work.id;
-    let lterm = work.lterm;
-    let began = work.began;
-    match began {
-        None => over(parts, alloc, &id),
-        Some(row) => back_at(parts, alloc, &id, row, &lterm),
+    match work.began.take() {
+        None => over(parts, alloc, &work.id),
+        Some(row) => back_at(parts, alloc, &work.id, row, &work.lterm),
     }
 }
 

@@ -2,7 +2,7 @@
 ghost use Rattle.std.specs.{Prelude.{◌≡◌, ◌++◌, ◌∷◌, [], Some, None, IfOk, OnOk}, FinMap.{find}};
 ghost use Rattle.kdcs_types.specs.{Keys.{id_cmp}, Tables.{changed, AreChanges}, declared.act.Act.TheVariants.{Commit}};
 ghost use Rattle.monitor_semantics.specs.{Endings.{service_change, with_service}, State.{OpenTransaction as Work}, Turns.{abnormal, dump_acts}};
-ghost use Rattle.open_transaction.specs.Work.{work_of};
+ghost use Rattle.open_transaction.specs.Work.{boxed_work, work_of};
 ghost use Rattle.service_ends.specs.Ending.{behind_end, broken_to, emitted, turned_to, IsClosed, Works};
 ghost use Rattle.monitor_state.specs.{Standing.{IsIndexed, SameApplication, state_of}, Whole.{app_of}};
 
@@ -78,12 +78,12 @@ fn break_off(
 pub(crate) fn end_work(
     parts: &mut MonitorParts,
     alloc: Global,
-    work: OpenTransaction,
+    work: Box<OpenTransaction>,
     ending: Ending,
 ) -> Result<Turned, OutOfMemory>
     requires indexed { IsIndexed parts.old }
     requires closed { IsClosed parts.old work }
-    ensures exact { IfOk result (λ did. turned_to (state_of parts.new) did ≡ broken_to (app_of parts.old) (state_of parts.old) work.id (work_of work) ending) }
+    ensures exact { IfOk result (λ did. turned_to (state_of parts.new) did ≡ broken_to (app_of parts.old) (state_of parts.old) work.value.id (boxed_work work) ending) }
     ensures indexed { OnOk result (IsIndexed parts.new) }
     ensures same { OnOk result (SameApplication parts.old parts.new) }
 {

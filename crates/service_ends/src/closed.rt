@@ -2,7 +2,7 @@
 ghost use Rattle.std.specs.{Prelude.{◌≡◌, IfSome}, Option.{option_map}, FinMap.{find}};
 ghost use Rattle.kdcs_types.specs.Keys.{id_cmp};
 ghost use Rattle.monitor_semantics.specs.{State.{OpenTransaction as Work}, Turns.{without_work}};
-ghost use Rattle.open_transaction.specs.Work.{work_of};
+ghost use Rattle.open_transaction.specs.Work.{boxed_work};
 ghost use Rattle.service_ends.specs.Ending.{IsClosed, Works};
 ghost use Rattle.monitor_state.specs.Standing.{IsIndexed, SameApplication, state_of};
 
@@ -15,13 +15,13 @@ pub(crate) fn close_work(
     parts: &mut MonitorParts,
     task: u16,
     id: &ServiceId,
-) -> Option<OpenTransaction>
+) -> Option<Box<OpenTransaction>>
     requires works { (x : Work) × Works parts.old task id.now x }
     ensures indexed { IsIndexed parts.new }
     ensures same { SameApplication parts.old parts.new }
     ensures state { state_of parts.new ≡ without_work (state_of parts.old) task id.now }
-    ensures found { option_map work_of result ≡ find id_cmp id.now (state_of parts.old).active }
-    ensures own { IfSome result (λ work. work.id ≡ id.now) }
+    ensures found { option_map boxed_work result ≡ find id_cmp id.now (state_of parts.old).active }
+    ensures own { IfSome result (λ work. work.value.id ≡ id.now) }
     ensures closed { IfSome result (λ work. IsClosed parts.new work) }
 {
     parts.free_task(task);

@@ -2,7 +2,7 @@
 ghost use Rattle.std.specs.{Prelude.{◌≡◌, ◌++◌, ◌∷◌, [], Some, IfOk, OnOk}, FinMap.{find}};
 ghost use Rattle.kdcs_types.specs.{Keys.{id_cmp}, Tables.{changed, AreChanges}, declared.act.Act.TheVariants.{Commit}};
 ghost use Rattle.monitor_semantics.specs.{Endings.{joined, service_change, with_service}, State.{OpenTransaction as Work}, Turns.{settled}};
-ghost use Rattle.open_transaction.specs.Work.{work_of};
+ghost use Rattle.open_transaction.specs.Work.{boxed_work, work_of};
 ghost use Rattle.service_ends.specs.Ending.{behind_point, goes_on_from, pointed_to, sent_by, turned_to, CanGoOn, IsClosed, Works};
 ghost use Rattle.monitor_state.specs.{Standing.{IsIndexed, SameApplication, state_of}, Whole.{app_of}};
 
@@ -107,12 +107,12 @@ fn synchronise(
 fn settle_work(
     parts: &mut MonitorParts,
     alloc: Global,
-    work: OpenTransaction,
+    work: Box<OpenTransaction>,
     outcome: Outcome,
 ) -> Result<Turned, OutOfMemory>
     requires indexed { IsIndexed parts.old }
     requires closed { IsClosed parts.old work }
-    ensures exact { IfOk result (λ did. turned_to (state_of parts.new) did ≡ pointed_to (app_of parts.old) (state_of parts.old) work.id (work_of work) outcome) }
+    ensures exact { IfOk result (λ did. turned_to (state_of parts.new) did ≡ pointed_to (app_of parts.old) (state_of parts.old) work.value.id (boxed_work work) outcome) }
     ensures indexed { OnOk result (IsIndexed parts.new) }
     ensures same { OnOk result (SameApplication parts.old parts.new) }
 {

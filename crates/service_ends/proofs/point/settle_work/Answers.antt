@@ -7,8 +7,7 @@ use Rattle.kdcs_types.specs.declared.service.Service.{Service}
 use Rattle.kdcs_types.specs.Tables.{AreChanges}
 use Rattle.commit_laws.specs.Ends.{point_made, point_row-fits}
 use Rattle.monitor_semantics.specs.Endings.{service_change}
-use Rattle.open_transaction.specs.declared.open.OpenTransaction.{OpenTransaction}
-use Rattle.open_transaction.specs.Work.{work_of, HasOrder}
+use Rattle.open_transaction.specs.Work.{Boxed, boxed_work, HasOrder}
 use Rattle.service_ends.specs.declared.point.Ended.{Ended}
 use Rattle.service_ends.specs.Ending.{IsClosed}
 use Rattle.service_ends.proofs.Ended.{goes_on, passed_as, points_as, refused_as, refuses_as, row_after_order}
@@ -17,27 +16,27 @@ use Rattle.service_ends.proofs.point.settle_work.Goals as goal
 pub end_work-requires-clause-closed : goal.end_work-requires-clause-closed
 end_work-requires-clause-closed c =
     let p = c.args.parts.now in
-    subst (λ (w : OpenTransaction). IsClosed p w) (sym (refused_as p.generation p.tables c.args.work c.in-Refused.work c.args.outcome _ c.in-Refused.cause (sym c.in-Refused.is ∙ c.in_ok-cause.ensures)).1) c.requires.closed
+    subst (λ (w : Boxed). IsClosed p w) (sym (refused_as p.generation p.tables c.args.work c.in-Refused.work c.args.outcome _ c.in-Refused.cause (sym c.in-Refused.is ∙ c.in_ok-cause.ensures)).1) c.requires.closed
 
 pub synchronise-requires-clause-changes : goal.synchronise-requires-clause-changes
 synchronise-requires-clause-changes c =
     let p = c.args.parts.now in
     let passed = passed_as p.generation p.tables c.args.work c.args.outcome _ c.in-Synced.changes c.in-Synced.row c.in-Synced.kept (sym c.in-Synced.is ∙ c.in_ok-cause.ensures) in
-    subst (λ (cs : Changes). AreChanges cs.items) (sym passed.changes_are) (point_made p.generation p.tables c.args.work.id (work_of c.args.work) c.args.outcome c.requires.closed.stands).changes
+    subst (λ (cs : Changes). AreChanges cs.items) (sym passed.changes_are) (point_made p.generation p.tables c.args.work.value.id (boxed_work c.args.work) c.args.outcome c.requires.closed.stands).changes
 
 pub synchronise-requires-clause-own : goal.synchronise-requires-clause-own
 synchronise-requires-clause-own c =
     let p = c.args.parts.now in
     let passed = passed_as p.generation p.tables c.args.work c.args.outcome _ c.in-Synced.changes c.in-Synced.row c.in-Synced.kept (sym c.in-Synced.is ∙ c.in_ok-cause.ensures) in
     subst (λ (i : ServiceId). AreChanges (service_change i c.in-Synced.row ∷ [])) (sym (ap (λ (e : Ended). e.id) c.in_ok-ended.ensures))
-    (subst (λ (row : Option Service). AreChanges (service_change c.args.work.id row ∷ [])) (sym passed.row_is) (point_made p.generation p.tables c.args.work.id (work_of c.args.work) c.args.outcome c.requires.closed.stands).own)
+    (subst (λ (row : Option Service). AreChanges (service_change c.args.work.value.id row ∷ [])) (sym passed.row_is) (point_made p.generation p.tables c.args.work.value.id (boxed_work c.args.work) c.args.outcome c.requires.closed.stands).own)
 
 pub synchronise-requires-clause-rests : goal.synchronise-requires-clause-rests
 synchronise-requires-clause-rests c =
     let p = c.args.parts.now in
     let passed = passed_as p.generation p.tables c.args.work c.args.outcome _ c.in-Synced.changes c.in-Synced.row c.in-Synced.kept (sym c.in-Synced.is ∙ c.in_ok-cause.ensures) in
     goes_on p c.args.work _ c.in-Synced.row c.requires.closed (ap (λ (e : Ended). e.id) c.in_ok-ended.ensures)
-    (subst HasOrder (sym passed.row_is) (row_after_order c.args.work.id _ (point_row-fits p.generation c.args.work.id (work_of c.args.work) c.args.outcome c.requires.closed.stands.can.lssbs_order)))
+    (subst HasOrder (sym passed.row_is) (row_after_order c.args.work.value.id _ (point_row-fits p.generation c.args.work.value.id (boxed_work c.args.work) c.args.outcome c.requires.closed.stands.can.lssbs_order)))
 
 pub returns-in-Refused-clause-exact : goal.returns-in-Refused-clause-exact
 returns-in-Refused-clause-exact c =
