@@ -90,9 +90,11 @@ fn back_from(
     ensures indexed { OnOk result (IsIndexed parts.new) }
     ensures same { OnOk result (SameApplication parts.old parts.new) }
 {
+    let id = work.id;
+    let lterm = work.lterm;
     match work.began.take() {
-        None => over(parts, alloc, &work.id),
-        Some(row) => back_at(parts, alloc, &work.id, row, &work.lterm),
+        None => over(parts, alloc, &id),
+        Some(row) => back_at(parts, alloc, &id, row, &lterm),
     }
 }
 

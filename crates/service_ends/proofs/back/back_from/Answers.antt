@@ -1,8 +1,10 @@
-use Rattle.std.specs.Prelude.{refl}
-use Rattle.std.proofs.Common.{subst}
+use Rattle.std.proofs.Common.{ap, subst}
+use Rattle.open_transaction.specs.declared.open.OpenTransaction.{OpenTransaction}
 use Rattle.open_transaction.specs.Work.{HasOrder}
 use Rattle.service_ends.proofs.Ended.{began_order, goes_on}
 use Rattle.service_ends.proofs.back.back_from.Goals as goal
 
 pub back_at-requires-clause-rests : goal.back_at-requires-clause-rests
-back_at-requires-clause-rests c = goes_on c.args.parts.now c.args.work c.args.work.value.id _ c.requires.closed refl (subst HasOrder c.in-Some.is (began_order c.args.parts.now c.args.work c.requires.closed))
+back_at-requires-clause-rests c =
+    goes_on c.args.parts.now c.args.work _ _ c.requires.closed (ap (λ (w : OpenTransaction). w.id) c.deref.ensures)
+    (subst HasOrder c.in-Some.is (rw c.take.ensures.value (rw c.deref_mut.ensures.value (began_order c.args.parts.now c.args.work c.requires.closed))))

@@ -1,9 +1,11 @@
-use Rattle.std.proofs.Common.{refl, subst, sym, ◌∙◌}
+use Rattle.std.proofs.Common.{ap, subst, sym, ◌∙◌}
 use Rattle.std.proofs.lemmas.Result.{IfOk-weaker}
 use Rattle.kdcs_types.specs.declared.act.Changes.{Changes}
 use Rattle.kdcs_types.specs.Tables.{AreChanges}
 use Rattle.commit_laws.specs.Ends.{end_made}
-use Rattle.open_transaction.specs.Work.{boxed_work}
+use Rattle.monitor_semantics.specs.Turns.{dump_acts}
+use Rattle.open_transaction.specs.declared.open.OpenTransaction.{OpenTransaction}
+use Rattle.open_transaction.specs.Work.{boxed_work, work_of}
 use Rattle.service_ends.proofs.Ended.{breaks_as}
 use Rattle.service_ends.proofs.broken.end_work.Goals as goal
 
@@ -15,10 +17,11 @@ break_off-requires-clause-changes c =
 pub break_off-requires-clause-own : goal.break_off-requires-clause-own
 break_off-requires-clause-own c =
     let p = c.args.parts.now in
-    (end_made p.generation p.tables c.args.work.value.id (boxed_work c.args.work) c.requires.closed.stands.sound.order).own
+    rw c.deref.ensures (end_made p.generation p.tables c.args.work.value.id (boxed_work c.args.work) c.requires.closed.stands.sound.order).own
 
 pub returns-clause-exact : goal.returns-clause-exact
 returns-clause-exact c =
     IfOk-weaker c.break_off.result _ _
-    (λ did e. e ∙ breaks_as c.args.parts.now c.args.work c.args.ending c.args.work.value.id c.in_ok-dump.dump c.in_ok-changes.changes c.in_ok-changes.kept c.in_ok-changes.ensures.changes c.in_ok-changes.ensures.kept c.in_ok-dump.ensures refl c.requires.closed.stands)
+    (λ did e. e ∙ breaks_as c.args.parts.now c.args.work c.args.ending _ c.in_ok-dump.dump c.in_ok-changes.changes c.in_ok-changes.kept c.in_ok-changes.ensures.changes c.in_ok-changes.ensures.kept
+    (c.in_ok-dump.ensures ∙ ap (λ (w : OpenTransaction). dump_acts w.id (work_of w) c.args.ending) c.deref-2.ensures) (ap (λ (w : OpenTransaction). w.id) c.deref.ensures) c.requires.closed.stands)
     c.break_off.ensures.exact

@@ -1,7 +1,9 @@
 use Rattle.std.specs.Prelude.{Option, IsSome}
-use Rattle.std.proofs.Common.{refl, subst, sym}
+use Rattle.std.proofs.Common.{ap, refl, subst, sym, ◌∙◌}
 use Rattle.std.proofs.lemmas.Result.{on_ok_weaker}
+use Rattle.monitor_semantics.specs.Endings.{joined}
 use Rattle.monitor_semantics.specs.State.{OpenTransaction}
+use Rattle.open_transaction.specs.declared.open.OpenTransaction.{OpenTransaction as Work}
 use Rattle.monitor_state.specs.Kept.{none_found}
 use Rattle.service_ends.proofs.Ended.{sends_as, sends_acts}
 use Rattle.service_ends.proofs.places.send_message.Goals as goal
@@ -14,8 +16,8 @@ returns-in-None-clause-acts c = λ x e. absurd (none_found c.args.parts.now c.ar
 
 pub returns-in_ok-message-in-Some-clause-state : goal.returns-in_ok-message-in-Some-clause-state
 returns-in_ok-message-in-Some-clause-state c =
-    on_ok_weaker c.tell.result (λ e x f. sends_as c.args.parts.now c.tell.new.parts c.args.id.now _ _ c.in-Some.work.now x c.in-Dialogue.is c.in_ok-message-in-Some.ensures c.in-Some.ensures.value f e) c.tell.ensures.state
+    on_ok_weaker c.tell.result (λ e x f. sends_as c.args.parts.now c.tell.new.parts c.args.id.now _ _ c.in-Some.work.now x c.in-Dialogue.is (c.in_ok-message-in-Some.ensures ∙ ap (λ (w : Work). joined w.messages.parts) c.deref.ensures) c.in-Some.ensures.value f e) c.tell.ensures.state
 
 pub returns-in_ok-message-in-Some-clause-acts : goal.returns-in_ok-message-in-Some-clause-acts
 returns-in_ok-message-in-Some-clause-acts c =
-    on_ok_weaker c.tell.result (λ e x f. sends_acts c.args.parts.now c.args.id.now _ _ c.in-Some.work.now x c.args.acts.now _ c.in-Dialogue.is c.in_ok-message-in-Some.ensures c.in-Some.ensures.value f e) c.tell.ensures.acts
+    on_ok_weaker c.tell.result (λ e x f. sends_acts c.args.parts.now c.args.id.now _ _ c.in-Some.work.now x c.args.acts.now _ c.in-Dialogue.is (c.in_ok-message-in-Some.ensures ∙ ap (λ (w : Work). joined w.messages.parts) c.deref.ensures) c.in-Some.ensures.value f e) c.tell.ensures.acts

@@ -6,7 +6,8 @@ use Rattle.kdcs_types.specs.declared.key.ServiceId.{ServiceId}
 use Rattle.kdcs_types.specs.declared.service.Service.{Service}
 use Rattle.kdcs_types.specs.Tables.{AreChanges}
 use Rattle.commit_laws.specs.Ends.{point_made, point_row-fits}
-use Rattle.monitor_semantics.specs.Endings.{service_change}
+use Rattle.monitor_semantics.specs.Endings.{joined, service_change}
+use Rattle.open_transaction.specs.declared.open.OpenTransaction.{OpenTransaction}
 use Rattle.open_transaction.specs.Work.{Boxed, boxed_work, HasOrder}
 use Rattle.service_ends.specs.declared.point.Ended.{Ended}
 use Rattle.service_ends.specs.Ending.{IsClosed}
@@ -28,14 +29,14 @@ pub synchronise-requires-clause-own : goal.synchronise-requires-clause-own
 synchronise-requires-clause-own c =
     let p = c.args.parts.now in
     let passed = passed_as p.generation p.tables c.args.work c.args.outcome _ c.in-Synced.changes c.in-Synced.row c.in-Synced.kept (sym c.in-Synced.is ∙ c.in_ok-cause.ensures) in
-    subst (λ (i : ServiceId). AreChanges (service_change i c.in-Synced.row ∷ [])) (sym (ap (λ (e : Ended). e.id) c.in_ok-ended.ensures))
+    subst (λ (i : ServiceId). AreChanges (service_change i c.in-Synced.row ∷ [])) (sym (ap (λ (e : Ended). e.id) c.in_ok-ended.ensures ∙ ap (λ (w : OpenTransaction). w.id) c.deref.ensures))
     (subst (λ (row : Option Service). AreChanges (service_change c.args.work.value.id row ∷ [])) (sym passed.row_is) (point_made p.generation p.tables c.args.work.value.id (boxed_work c.args.work) c.args.outcome c.requires.closed.stands).own)
 
 pub synchronise-requires-clause-rests : goal.synchronise-requires-clause-rests
 synchronise-requires-clause-rests c =
     let p = c.args.parts.now in
     let passed = passed_as p.generation p.tables c.args.work c.args.outcome _ c.in-Synced.changes c.in-Synced.row c.in-Synced.kept (sym c.in-Synced.is ∙ c.in_ok-cause.ensures) in
-    goes_on p c.args.work _ c.in-Synced.row c.requires.closed (ap (λ (e : Ended). e.id) c.in_ok-ended.ensures)
+    goes_on p c.args.work _ c.in-Synced.row c.requires.closed (ap (λ (e : Ended). e.id) c.in_ok-ended.ensures ∙ ap (λ (w : OpenTransaction). w.id) c.deref.ensures)
     (subst HasOrder (sym passed.row_is) (row_after_order c.args.work.value.id _ (point_row-fits p.generation c.args.work.value.id (boxed_work c.args.work) c.args.outcome c.requires.closed.stands.can.lssbs_order)))
 
 pub returns-in-Refused-clause-exact : goal.returns-in-Refused-clause-exact
@@ -53,5 +54,8 @@ returns-in-Synced-clause-exact c =
     (λ did e.
     e
     ∙ points_as p c.args.work c.args.outcome _ ended.id ended.outcome c.in-Synced.changes c.in-Synced.row c.in-Synced.kept ended.message ended.lterm passed c.requires.closed.stands
-    (ap (λ (e : Ended). e.id) c.in_ok-ended.ensures) (ap (λ (e : Ended). e.outcome) c.in_ok-ended.ensures) (ap (λ (e : Ended). e.message) c.in_ok-ended.ensures) (ap (λ (e : Ended). e.lterm) c.in_ok-ended.ensures))
+    (ap (λ (e : Ended). e.id) c.in_ok-ended.ensures ∙ ap (λ (w : OpenTransaction). w.id) c.deref.ensures)
+    (ap (λ (e : Ended). e.outcome) c.in_ok-ended.ensures)
+    (ap (λ (e : Ended). e.message) c.in_ok-ended.ensures ∙ ap (λ (w : OpenTransaction). joined w.messages.parts) c.deref.ensures)
+    (ap (λ (e : Ended). e.lterm) c.in_ok-ended.ensures ∙ ap (λ (w : OpenTransaction). w.lterm) c.deref.ensures))
     c.synchronise.ensures.exact
