@@ -1,7 +1,7 @@
 //! Abnormal ends.
 ghost use Rattle.std.specs.{Prelude.{◌≡◌, ◌++◌, ◌∷◌, [], Some, None, IfOk, OnOk}, FinMap.{find}};
 ghost use Rattle.kdcs_types.specs.{Keys.{id_cmp}, Tables.{changed, AreChanges}, declared.act.Act.TheVariants.{Commit}};
-ghost use Rattle.monitor_semantics.specs.{Endings.{service_change, with_service}, State.{OpenTransaction as Work}, Turns.{abnormal, dump_acts}};
+ghost use Rattle.monitor_semantics.specs.{Endings.{service_change, with_service}, State.{OpenTransaction as Work}, Turns.{abnormal, dump_acts, ended_acts}};
 ghost use Rattle.open_transaction.specs.Work.{boxed_work, work_of};
 ghost use Rattle.service_ends.specs.Ending.{behind_end, broken_to, emitted, turned_to, IsClosed, Works};
 ghost use Rattle.monitor_state.specs.{Standing.{IsIndexed, SameApplication, state_of}, Whole.{app_of}};
@@ -48,6 +48,29 @@ fn send(acts: &mut Acts, line: Option<Bytes>) -> Result<(), OutOfMemory>
 }
 
 // The commit of an abnormal end, and its lines.
+fn end_acts(
+    parts: &mut MonitorParts,
+    alloc: Global,
+    id: &ServiceId,
+    dump: Option<Bytes>,
+    changes: Changes,
+) -> Result<Acts, OutOfMemory>
+    requires indexed { IsIndexed parts.old }
+    requires changes { AreChanges changes.items }
+    requires own { AreChanges (service_change id.now None ∷ []) }
+    ensures acts { IfOk result (λ acts. acts ≡ Commit changes ∷ (emitted dump ++ ended_acts (state_of parts.new) id.now)) }
+    ensures state { OnOk result (state_of parts.new ≡ record (state_of parts.old) { tables = with_service (changed parts.old.tables changes) id.now None }) }
+    ensures indexed { OnOk result (IsIndexed parts.new) }
+    ensures same { OnOk result (SameApplication parts.old parts.new) }
+{
+    let mut acts = Acts::new(alloc);
+    commit(parts, alloc, id, &None, changes, &mut acts)?;
+    send(&mut acts, dump)?;
+    say_ended(parts, alloc, id, &mut acts)?;
+    Ok(acts)
+}
+
+// The turn of an abnormal end.
 fn break_off(
     parts: &mut MonitorParts,
     alloc: Global,
@@ -63,10 +86,7 @@ fn break_off(
     ensures indexed { OnOk result (IsIndexed parts.new) }
     ensures same { OnOk result (SameApplication parts.old parts.new) }
 {
-    let mut acts = Acts::new(alloc);
-    commit(parts, alloc, id, &None, changes, &mut acts)?;
-    send(&mut acts, dump)?;
-    say_ended(parts, alloc, id, &mut acts)?;
+    let acts = end_acts(parts, alloc, id, dump, changes)?;
     Ok(Turned {
         moved: true,
         acts,

@@ -76,6 +76,30 @@ fn go_behind(
 }
 
 // The commit of a point, and what follows it.
+fn point_acts(
+    parts: &mut MonitorParts,
+    alloc: Global,
+    ended: Ended,
+    changes: Changes,
+    row: Option<Service>,
+) -> Result<Acts, OutOfMemory>
+    requires indexed { IsIndexed parts.old }
+    requires changes { AreChanges changes.items }
+    requires own { AreChanges (service_change ended.id row ∷ []) }
+    requires rests { CanGoOn parts.old ended.id row }
+    ensures acts { IfOk result (λ acts. acts ≡ Commit changes ∷ sent_by (record (state_of parts.old) { tables = with_service (changed parts.old.tables changes) ended.id row }) ended.id ended.outcome ended.message) }
+    ensures state { OnOk result (state_of parts.new ≡ goes_on_from (app_of parts.old) (record (state_of parts.old) { tables = with_service (changed parts.old.tables changes) ended.id row }) ended.id row ended.outcome ended.message ended.lterm) }
+    ensures indexed { OnOk result (IsIndexed parts.new) }
+    ensures same { OnOk result (SameApplication parts.old parts.new) }
+{
+    let id = ended.id;
+    let mut acts = Acts::new(alloc);
+    commit(parts, alloc, &id, &row, changes, &mut acts)?;
+    go_behind(parts, alloc, ended, row, &mut acts)?;
+    Ok(acts)
+}
+
+// The turn of a point.
 fn synchronise(
     parts: &mut MonitorParts,
     alloc: Global,
@@ -92,10 +116,7 @@ fn synchronise(
     ensures indexed { OnOk result (IsIndexed parts.new) }
     ensures same { OnOk result (SameApplication parts.old parts.new) }
 {
-    let id = ended.id;
-    let mut acts = Acts::new(alloc);
-    commit(parts, alloc, &id, &row, changes, &mut acts)?;
-    go_behind(parts, alloc, ended, row, &mut acts)?;
+    let acts = point_acts(parts, alloc, ended, changes, row)?;
     Ok(Turned {
         moved: true,
         acts,
