@@ -69,9 +69,8 @@ impl Core {
         // The tables are in order, and the limits in their ranges.
         let _clock = tables.clock();
         let _limits = generation.max();
-        let parts = parts_of(alloc, generation, units, tables)?;
         Ok(Core {
-            parts: Box::new(alloc, parts)?,
+            parts: parts_of(alloc, generation, units, tables)?,
         })
     }
 

@@ -137,17 +137,18 @@ pub fn parts_of(
     generation: Generation,
     units: Units,
     tables: Tables,
-) -> Result<MonitorParts, OutOfMemory>
-    ensures state { IfOk result (λ parts. state_of parts ≡ started (app_of parts) tables) }
-    ensures indexed { IfOk result (λ parts. IsIndexed parts) }
-    ensures generation { IfOk result (λ parts. parts.generation ≡ generation) }
-    ensures units { IfOk result (λ parts. parts.units ≡ units) }
-    ensures steps { IfOk result (λ parts. parts.steps ≡ 0) }
+) -> Result<Box<MonitorParts>, OutOfMemory>
+    ensures state { IfOk result (λ parts. state_of parts.value ≡ started (app_of parts.value) tables) }
+    ensures indexed { IfOk result (λ parts. IsIndexed parts.value) }
+    ensures generation { IfOk result (λ parts. parts.value.generation ≡ generation) }
+    ensures units { IfOk result (λ parts. parts.value.units ≡ units) }
+    ensures steps { IfOk result (λ parts. parts.value.steps ≡ 0) }
 {
     // The tables are in order.
     let _clock = tables.clock();
     let (scheduler, jobs) = queues(alloc, &generation, &tables)?;
-    let mut parts = at_rest(alloc, generation, units, tables, scheduler, jobs);
+    let resting = at_rest(alloc, generation, units, tables, scheduler, jobs);
+    let mut parts = Box::new(alloc, resting)?;
     open_services(&mut parts, alloc)?;
     Ok(parts)
 }

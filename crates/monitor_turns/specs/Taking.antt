@@ -11,8 +11,7 @@ use Rattle.kdcs_types.specs.Keys.{id_cmp}
 use Rattle.kdcs_types.specs.Tables.{IsSortedTables, job_of}
 use Rattle.commit_laws.specs.Numbers.{free_not_placed}
 use Rattle.async_queue.specs.Queue.{free, with_mark}
-use Rattle.open_transaction.specs.declared.open.OpenTransaction.{OpenTransaction as Open}
-use Rattle.open_transaction.specs.Work.{work_of}
+use Rattle.open_transaction.specs.Work.{Boxed, boxed_work}
 use Rattle.step_scheduler.specs.Schedule.{Schedule, class_of_target, picked, service_in, took_job}
 use Rattle.monitor_semantics.specs.declared.work.Work.{Work}
 use Rattle.monitor_semantics.specs.declared.work.Work.TheVariants as work
@@ -96,7 +95,7 @@ module _ (p : MonitorParts) (task : ℕ) (schedule : Schedule) (j : Job) (h : Is
       (ap (λ (s : Schedule). state_of (with_schedule p s)) is
       ∙ ap (λ (l : List (Option ServiceId)). record (state_of p) { tasks = l }) (map_set service_in p.scheduler.places (task - 1) (Some (id, class_of_target p.generation j.value.to))))
 
-  opened_with : (work : Open) → work_of work ≡ opened_by_job p.generation j.value t.tac → work.id ≡ id → work.messages.nb ≡ p.generation.limits.nb
+  opened_with : (work : Boxed) → boxed_work work ≡ opened_by_job p.generation j.value t.tac → work.value.id ≡ id → work.value.messages.nb ≡ p.generation.limits.nb
       → IsIndexed (with_active p (put id_cmp id work p.active) p.locks (with_mark j.number true p.jobs))
   opened_with work exact same nb =
       let fresh = opened_fresh p.generation None (record { benid = j.value.user; logter = j.value.lterm; tacvg = t.tac; tacal = t.tac }) (j.value.message ∷ []) [] in
@@ -105,11 +104,11 @@ module _ (p : MonitorParts) (task : ℕ) (schedule : Schedule) (j : Job) (h : Is
       (not_open _ t.free)
       (ap (λ (x : OpenTransaction). x.touched) exact ∙ fresh.0)
 
-  job_class : (work : Open) → work_of work ≡ opened_by_job p.generation j.value t.tac → HasClass p.generation (active_of (put id_cmp id work p.active)) (id, class_of_target p.generation j.value.to)
+  job_class : (work : Boxed) → boxed_work work ≡ opened_by_job p.generation j.value t.tac → HasClass p.generation (active_of (put id_cmp id work p.active)) (id, class_of_target p.generation j.value.to)
   job_class work exact =
       ap (class_of_target p.generation) t.to
       ∙ sym (ap (λ (o : Option OpenTransaction). class_of p.generation (current_by o))
-      (ap (find id_cmp id) (sym (Rattle.sorted_pairs.specs.Mapped.put_mapped id_cmp work_of id work p.active)) ∙ found_put id (work_of work) (active_of p.active) ∙ ap (λ (x : OpenTransaction). Some x) exact)
+      (ap (find id_cmp id) (sym (Rattle.sorted_pairs.specs.Mapped.put_mapped id_cmp boxed_work id work p.active)) ∙ found_put id (boxed_work work) (active_of p.active) ∙ ap (λ (x : OpenTransaction). Some x) exact)
       ∙ ap (class_of p.generation) (current_opened p.generation j.value t.tac))
 
   job_indexed : (q : MonitorParts) → IsBegun q → IsIndexed q

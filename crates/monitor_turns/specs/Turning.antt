@@ -15,8 +15,7 @@ use Rattle.monitor_semantics.specs.Endings.{opened_by_job}
 use Rattle.monitor_semantics.specs.State.{Application, OpenTransaction, State}
 use Rattle.monitor_semantics.specs.Statements.{area_of}
 use Rattle.monitor_semantics.specs.Turns.{waiting_for, with_open, without_wait}
-use Rattle.open_transaction.specs.declared.open.OpenTransaction.{OpenTransaction as Work}
-use Rattle.open_transaction.specs.Work.{work_of}
+use Rattle.open_transaction.specs.Work.{Boxed, boxed_work}
 use Rattle.monitor_state.specs.declared.parts.MonitorParts.{MonitorParts}
 use Rattle.monitor_state.specs.Kept.{with_active}
 use Rattle.monitor_state.specs.Standing.{IsIndexed, state_of}
@@ -29,10 +28,10 @@ IsHeldBy s task id = slice_get s.tasks (task - 1) ≡ Some (Some id)
 
 -- the service of a job for this TAC is open, and the job is marked as taken
 pub record Begun (p q : MonitorParts) (number : ℕ) (job : JobValue) (tac : Bytes) : Type 0 where
-  pub work : Work
-  pub exact : work_of work ≡ opened_by_job p.generation job tac
-  pub id : work.id ≡ Asynchronous number
-  pub nb : work.messages.nb ≡ p.generation.limits.nb
+  pub work : Boxed
+  pub exact : boxed_work work ≡ opened_by_job p.generation job tac
+  pub id : work.value.id ≡ Asynchronous number
+  pub nb : work.value.messages.nb ≡ p.generation.limits.nb
   pub parts : q ≡ with_active p (put id_cmp (Asynchronous number) work p.active) p.locks (with_mark number true p.jobs)
 
 -- a job for an LTERM begins no service
