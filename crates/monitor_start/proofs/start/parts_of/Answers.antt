@@ -10,5 +10,5 @@ open_services-requires-clause-fresh c =
 
 pub returns-clause-state : goal.returns-clause-state
 returns-clause-state c =
-    started_there c.at_rest-resting.result c.open_services.new.parts c.args.generation c.args.tables (asynchronous_rows c.at_rest-resting.result.tables) c.in_ok-open_services.ensures.same c.at_rest-resting.ensures.generation c.at_rest-resting.ensures.state
-    (ap (λ (s : State). asynchronous_rows s.tables) c.at_rest-resting.ensures.state) c.clock-clock.ensures.sorted c.in_ok-open_services.ensures.state
+    started_there c.at_rest-resting.result c.open_services.new.parts c.args.generation c.args.tables (asynchronous_rows c.at_rest-resting.result.tables) (rw (c.deref_mut.ensures.value, c.in_ok-parts.ensures.ok) at c.in_ok-open_services.ensures.same) c.at_rest-resting.ensures.generation c.at_rest-resting.ensures.state
+    (ap (λ (s : State). asynchronous_rows s.tables) c.at_rest-resting.ensures.state) c.clock-clock.ensures.sorted (rw (c.deref_mut.ensures.value, c.in_ok-parts.ensures.ok) at c.in_ok-open_services.ensures.state)
