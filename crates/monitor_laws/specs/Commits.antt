@@ -143,7 +143,7 @@ pub record ServiceLaw (app : Application) (before : State) (after : TableRows) (
 -- the durable tables after a commit of a transaction are those of the tables that its record, run in one go, makes of those before it
 pub record IsAtomicCommit (app : Application) (before after : TableRows) (kept : Settled) : Type 0 where
   pub whole : TableRows
-  pub atomic : IsAtomic app (with_began before (kept_of kept)) whole kept
+  pub atomic : IsAtomic app (with_began app.generation before (kept_of kept)) whole kept
   pub kept_part : after ≡ durable app.generation whole
 
 -- TICK, KDCOUT and PRINT are no transactions
@@ -151,19 +151,6 @@ abbrev pub AtomicLaw : Application → TableRows → TableRows → Maker → Typ
 AtomicLaw app before after (ByTick ticks) = Unit {0}
 AtomicLaw app before after (ByShow lterm) = Unit {0}
 AtomicLaw app before after (ByTransaction kept) = IsAtomicCommit app before after kept
-
--- a step without a commit keeps the tables
-abbrev pub CommitIsLawful : Application → State → ScriptStep → Option Maker → Type 0
-CommitIsLawful app before d None = Unit {0}
-CommitIsLawful app before d (Some by) =
-    QueueLaw app (durable app.generation before.tables) (durable app.generation d.after.tables) by d.acts
-    × ServiceLaw app before d.after.tables by
-    × AtomicLaw app (durable app.generation before.tables) (durable app.generation d.after.tables) by
-
--- the commits of a history, each after the state before it, meet the three laws
-abbrev pub IsLawful : Application → State → List ScriptStep → Type 0
-IsLawful app s [] = Unit {0}
-IsLawful app s (d ∷ ds) = CommitIsLawful app s d d.by × IsLawful app d.after ds
 
 -- ---- the third law as a test of a history
 
@@ -198,7 +185,7 @@ abbrev pub is_atomic_by : Application → TableRows → TableRows → Option Mak
 is_atomic_by app before after None = true
 is_atomic_by app before after (Some (ByTick ticks)) = true
 is_atomic_by app before after (Some (ByShow lterm)) = true
-is_atomic_by app before after (Some (ByTransaction kept)) = is_result app after kept (atomic app (with_began before (kept_of kept)) (kept_of kept))
+is_atomic_by app before after (Some (ByTransaction kept)) = is_result app after kept (atomic app (with_began app.generation before (kept_of kept)) (kept_of kept))
 
 -- all commits of transactions in a history pass
 unfoldable pub is_serial : Application → TableRows → List ScriptStep → Bool

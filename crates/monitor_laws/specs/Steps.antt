@@ -41,11 +41,15 @@ TurnsCommitOnce = (app : Application) (s : State) (task : ℕ) → CommitsOnce a
 abbrev pub CommandsCommitOnce : Type 0
 CommandsCommitOnce = (app : Application) (s : State) (c : Command) → CommitsOnce app s (command_of app s c)
 
--- the durable tables before a step with its commit are those after it, where both stand in order
+-- the commit of a step makes of the durable tables before it those after it; a step without one keeps them
+abbrev pub MakesItsTables : Application → State → ScriptStep → Type 0
+MakesItsTables app before d = tables_after (durable app.generation before.tables) d.acts ≡ durable app.generation d.after.tables
+
+-- each step does, where both tables stand in order
 abbrev pub StepsMakeTheirTables : Type 0
 StepsMakeTheirTables =
     (app : Application) (before : State) (d : ScriptStep)
     → IsSortedTables before.tables
     → IsSortedTables d.after.tables
     → CommitsOnce app before d
-    → tables_after (durable app.generation before.tables) d.acts ≡ durable app.generation d.after.tables
+    → MakesItsTables app before d
