@@ -1,5 +1,7 @@
 -- What each step of a script makes of the durable tables: it has at most one commit, which stands first and is the difference that the step makes.
-use Rattle.std.specs.Prelude.{◌≡◌, ◌⊎◌, ℕ, List, [], ◌∷◌, Some, None}
+use Rattle.std.specs.Prelude.{◌≡◌, ◌⊎◌, refl, ℕ, ◌+◌, cond, List, [], ◌∷◌, ◌++◌, Some, None}
+use Rattle.std.proofs.Common.{ap, ◌∙◌}
+use Rattle.std.proofs.lemmas.List.Sums.{sum_by-cons, sum_by-append}
 use Rattle.kdcs_types.specs.declared.act.Act.{Act}
 use Rattle.kdcs_types.specs.declared.act.Act.TheVariants.{Commit, Emit}
 use Rattle.kdcs_types.specs.Tables.{IsSortedTables}
@@ -8,7 +10,9 @@ use Rattle.monitor_semantics.specs.Endings.{durable}
 use Rattle.monitor_semantics.specs.Turns.{commit_of, turn_of}
 use Rattle.monitor_semantics.specs.declared.command.Command.{Command}
 use Rattle.monitor_semantics.specs.Commands.{ScriptStep, Maker, turned_step, command_of}
+use Rattle.monitor_semantics.specs.Made.{is_commit}
 use Rattle.monitor_semantics.specs.Trace.{tables_after}
+use Rattle.monitor_laws.specs.Cut.{commits_in}
 
 -- lines alone
 abbrev pub AreLines : List Act → Type 0
@@ -53,3 +57,21 @@ StepsMakeTheirTables =
     → IsSortedTables d.after.tables
     → CommitsOnce app before d
     → MakesItsTables app before d
+
+-- ---- how many commits
+
+-- what one act adds
+abbrev of_act : Act → ℕ
+of_act act = cond (is_commit act) 1 0
+
+pub commits_both : (xs ys : List Act) → commits_in (xs ++ ys) ≡ commits_in xs + commits_in ys
+commits_both xs ys = sum_by-append of_act xs ys
+
+pub lines_commit_nothing : (acts : List Act) → AreLines acts → commits_in acts ≡ 0
+lines_commit_nothing [] h = refl
+lines_commit_nothing (Emit line ∷ acts) h = sum_by-cons of_act (Emit line) acts ∙ ap (λ n. 0 + n) (lines_commit_nothing acts h)
+lines_commit_nothing (Commit changes ∷ acts) h = absurd h
+
+-- a commit and its lines
+pub commit_counts : (app : Application) (s u : State) (lines : List Act) → AreLines lines → commits_in (commit_of app s.tables u.tables ∷ lines) ≡ 1
+commit_counts app s u lines h = sum_by-cons of_act (commit_of app s.tables u.tables) lines ∙ ap (λ n. 1 + n) (lines_commit_nothing lines h)
