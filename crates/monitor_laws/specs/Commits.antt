@@ -20,14 +20,14 @@ use Rattle.kdcs_types.specs.Keys.{id_cmp, id_eq}
 use Rattle.kdcs_types.specs.Tables.{TableRows, job_key, service_of, shown_of}
 use Rattle.monitor_semantics.specs.Bytes.{Bytes}
 use Rattle.monitor_semantics.specs.State.{Application, OpenTransaction, State}
-use Rattle.monitor_semantics.specs.Endings.{row_after, synchronised, is_durable, durable, refusal}
+use Rattle.monitor_semantics.specs.Endings.{row_after, with_service, synchronised, is_durable, durable, refusal}
 use Rattle.monitor_semantics.specs.declared.answer.Happened.{Happened}
 use Rattle.monitor_semantics.specs.declared.answer.Happened.TheVariants.{Went, Queued, Waited, Held, Settles, Breaks, Returns}
-use Rattle.monitor_semantics.specs.Statements.{kept_record, kept_of}
+use Rattle.monitor_semantics.specs.Statements.{Kept, kept_record, kept_of}
 use Rattle.monitor_semantics.specs.Lines.{asy_line, prt_line, cause_text}
 use Rattle.monitor_semantics.specs.Turns.{statement_now}
 use Rattle.monitor_semantics.specs.Commands.{ScriptStep, Maker, ByTick, ByShow, ByTransaction, lterm_at}
-use Rattle.monitor_laws.specs.Replay.{Ended, IsAtomic, atomic, with_began}
+use Rattle.monitor_laws.specs.Replay.{Ended, IsAtomic, accepted, replay, atomic, with_began}
 
 -- ---- jobs
 
@@ -180,12 +180,22 @@ abbrev pub is_result : Application → TableRows → Settled → Option Ended �
 is_result app after kept None = false
 is_result app after kept (Some result) = same_tables after (durable app.generation result.tables) && same_ending kept.ending result.ending
 
+-- the record names the row that stands in these tables, and its replay on them reads as many inputs and makes as many notes as it has
+abbrev pub is_record_on : Application → TableRows → Kept → Bool
+is_record_on app t r =
+    let x = replay app t r r.statements in
+    same_tables (with_service t r.service r.began) t && length x.inputs == length (accepted r) && length x.notes == length r.notes
+
+-- a record and its result on these tables
+abbrev pub is_atomic_on : Application → (before after : TableRows) → Settled → Bool
+is_atomic_on app before after kept = is_record_on app before (kept_of kept) && is_result app after kept (atomic app before (kept_of kept))
+
 -- the commit of a transaction is that of its record
 abbrev pub is_atomic_by : Application → TableRows → TableRows → Option Maker → Bool
 is_atomic_by app before after None = true
 is_atomic_by app before after (Some (ByTick ticks)) = true
 is_atomic_by app before after (Some (ByShow lterm)) = true
-is_atomic_by app before after (Some (ByTransaction kept)) = is_result app after kept (atomic app (with_began app.generation before (kept_of kept)) (kept_of kept))
+is_atomic_by app before after (Some (ByTransaction kept)) = is_atomic_on app (with_began app.generation before (kept_of kept)) after kept
 
 -- all commits of transactions in a history pass
 unfoldable pub is_serial : Application → TableRows → List ScriptStep → Bool

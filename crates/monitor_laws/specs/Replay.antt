@@ -38,6 +38,17 @@ noted_area (Refused area code) = area
 abbrev pub notes_on : Area → List Note → List Note
 notes_on area notes = filter (λ (n : Note). area_eq area (noted_area n)) notes
 
+-- the codes that refuse a request
+abbrev pub refuses : Code → Bool
+refuses K04 = true
+refuses K05 = true
+refuses _ = false
+
+-- a note that a run makes: an area was released, or a request was refused
+abbrev pub is_made : Note → Bool
+is_made (Released area content) = true
+is_made (Refused area code) = refuses code
+
 -- the notes of a record on an area, without those that its replay has used: it makes these again
 abbrev pub unused : Kept → OpenTransaction → Area → List Note
 unused r x area = drop (length (notes_on area x.notes)) (notes_on area r.notes)

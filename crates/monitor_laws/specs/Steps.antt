@@ -64,8 +64,8 @@ StepsMakeTheirTables =
 abbrev of_act : Act → ℕ
 of_act act = cond (is_commit act) 1 0
 
-pub commits_both : (xs ys : List Act) → commits_in (xs ++ ys) ≡ commits_in xs + commits_in ys
-commits_both xs ys = sum_by-append of_act xs ys
+pub commits_of_both : (xs ys : List Act) → commits_in (xs ++ ys) ≡ commits_in xs + commits_in ys
+commits_of_both xs ys = sum_by-append of_act xs ys
 
 pub lines_commit_nothing : (acts : List Act) → AreLines acts → commits_in acts ≡ 0
 lines_commit_nothing [] h = refl

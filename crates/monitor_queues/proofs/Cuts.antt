@@ -18,7 +18,7 @@ use Rattle.monitor_laws.specs.DurableLaws.{durable_sorted}
 use Rattle.monitor_laws.specs.Facts.{IsSignedOn}
 use Rattle.monitor_laws.specs.Keeping.{HasFacts}
 use Rattle.monitor_laws.specs.Cut.{commits_in}
-use Rattle.monitor_laws.specs.Steps.{AreLines, CommitsOnce, StepsMakeTheirTables, commits_both, lines_commit_nothing, commit_counts}
+use Rattle.monitor_laws.specs.Steps.{AreLines, CommitsOnce, StepsMakeTheirTables, commits_of_both, lines_commit_nothing, commit_counts}
 use Rattle.monitor_places.specs.Rows.{kept_at, durable_service}
 use Rattle.monitor_laws.specs.EachStep.{EachStep}
 use Rattle.monitor_runs.specs.RunLaws.{HistoriesCommitOnce, StartsHaveFacts, ScriptsKeepFacts}
@@ -184,7 +184,7 @@ module _ (makes : StepsMakeTheirTables) (app : Application) where
       by (inr r) later =
           later_steps s d ds done r.more once.0
           (ap (tables_after (durable app.generation s.tables)) r.is ∙ tables_both (durable app.generation s.tables) d.acts r.more ∙ ap (λ (u : TableRows). tables_after u r.more) made)
-          (ap commits_in r.is ∙ commits_both d.acts r.more)
+          (ap commits_in r.is ∙ commits_of_both d.acts r.more)
           (later r.more r.rest)
 
 -- ---- going on
