@@ -152,7 +152,7 @@ AtomicLaw app before after (ByTick ticks) = Unit {0}
 AtomicLaw app before after (ByShow lterm) = Unit {0}
 AtomicLaw app before after (ByTransaction kept) = IsAtomicCommit app before after kept
 
--- ---- the third law as a test of a history
+-- ---- a test of the third law on a history
 
 -- nothing differs
 abbrev pub no_changes : List Change → Bool
