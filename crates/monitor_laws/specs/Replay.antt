@@ -26,6 +26,7 @@ use Rattle.monitor_semantics.specs.declared.answer.Happened.TheVariants.{Went, Q
 use Rattle.monitor_semantics.specs.Calls.{Told, nothing_told, or_empty}
 use Rattle.monitor_semantics.specs.Endings.{is_asynchronous, opened, header_of, opened_by_start, opened_by_input, opened_by_row, opened_by_job, lterm_of_row, followed_by_input, with_service, synchronised, broken, is_durable, durable, refusal}
 use Rattle.monitor_semantics.specs.Statements.{Stated, statement, area_of, Kept, kept_so_far, kept_of}
+use Rattle.monitor_laws.specs.Transactions.{HasOwnJob}
 
 -- ---- notes
 
@@ -187,9 +188,10 @@ IsReplayed app t id x = replay app t (kept_so_far id x) x.statements ≡ x
 abbrev pub IsReplayable : Application → State → Type 0
 IsReplayable app s = (id : ServiceId) (x : OpenTransaction) → find id_cmp id s.active ≡ Some x → IsReplayed app s.tables id x
 
--- a record determines its replay on these tables, where its service has the row with which it began, and its ending and these tables are those of the replay
+-- a record determines its replay on these tables, where its service has the row with which it began, or in its first transaction its job, and its ending and these tables are those of the replay
 pub record IsAtomic (app : Application) (before after : TableRows) (r : Settled) : Type 0 where
   pub began : service_of before r.service ≡ r.began
+  pub job : HasOwnJob before r.service r.began
   pub determined : IsDetermined app before (kept_of r)
   pub result : atomic app before (kept_of r) ≡ Some (record { tables = after; ending = r.ending })
 

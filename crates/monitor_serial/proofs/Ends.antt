@@ -9,7 +9,7 @@ use Rattle.kdcs_types.specs.declared.key.ServiceId.TheVariants.{Dialogue, Asynch
 use Rattle.kdcs_types.specs.declared.service.Ending.{Ending}
 use Rattle.kdcs_types.specs.declared.service.JobValue.{JobValue}
 use Rattle.kdcs_types.specs.declared.service.Service.{Service}
-use Rattle.kdcs_types.specs.Tables.{TableRows, job_of, service_of}
+use Rattle.kdcs_types.specs.Tables.{TableRows, job_of}
 use Rattle.unit_types.specs.UnitText.{UnitText}
 use Rattle.monitor_semantics.specs.declared.answer.Called.{Called}
 use Rattle.monitor_semantics.specs.declared.answer.Called.TheVariants.{Replied, Waits, Abnormal, Pends}
@@ -24,6 +24,7 @@ use Rattle.monitor_semantics.specs.Calls.{Told, Performed, touches, touching, an
 use Rattle.monitor_semantics.specs.Endings.{is_asynchronous, opened, durable, broken, synchronised, refusal, followed_by_input}
 use Rattle.monitor_semantics.specs.Statements.{Kept, Stated, area_of, kept_so_far, kept_record, by_call, by_performed, statement}
 use Rattle.monitor_laws.specs.Replay.{dialogue_from, job_from, opened_from, went_on, replay_told, replay_statement, replay_step, replay, Ended, settled_as, ended_by, atomic, GoesOn, IsReplayed, IsAtomic}
+use Rattle.monitor_laws.specs.Transactions.{IsRooted}
 use Rattle.monitor_serial.specs.Replays.{GoesOnAtOnce, kept_and, told_of, told_rest}
 use Rattle.monitor_places.specs.Shapes.{IsAnswered, AnsweredBy, StatementLeaves, StatementLooks, StatementAlone, StatementLocks, StatementUnlocks, statement_looks}
 
@@ -205,7 +206,7 @@ module _ (app : Application) (t : TableRows) (r : Kept) where
 
 -- ---- the record of a transaction that ends
 
-module _ (app : Application) (t : TableRows) (id : ServiceId) (x : OpenTransaction) (replayed : IsReplayed app t id x) (began : service_of t id ≡ x.began) (v : Told) where
+module _ (app : Application) (t : TableRows) (id : ServiceId) (x : OpenTransaction) (replayed : IsReplayed app t id x) (rooted : IsRooted t id x) (v : Told) where
   abbrev so_far : Kept
   so_far = kept_so_far id x
 
@@ -226,7 +227,8 @@ module _ (app : Application) (t : TableRows) (id : ServiceId) (x : OpenTransacti
   pub ends_atomic : (u : TableRows) (ending : Ending) → Ends (statement app v (is_asynchronous id) x).1
       → ended_by app t id x (statement app v (is_asynchronous id) x).1 ≡ Some (record { tables = u; ending = ending }) → IsAtomic app t u (kept_record id x ending)
   ends_atomic u ending ends is = record {
-    began = began;
+    began = rooted.began;
+    job = rooted.job;
     determined = record {
       goes_on = goes_on_each app t so_far x.statements (ap (λ (y : OpenTransaction). y.statements) replayed);
       ends = ap is_some (result_is ends ∙ is);
