@@ -1,18 +1,18 @@
 -- A monitor that starts from the empty tables, and the lines on its run.
 use Rattle.std.proofs.Common.{◌≡◌, ℕ, List, refl, sym, ap, subst, ◌∙◌}
-use Rattle.std.specs.Prelude.{Result, Ok, Err, IfOk, count_by}
+use Rattle.std.specs.Prelude.{Result, Ok, Err, IfOk}
 use Rattle.kdcdef_check.specs.Soundness.{AreLimits}
 use Rattle.kdcfile_store.specs.Whole.{Whole}
 use Rattle.kdcs_types.specs.declared.act.Act.{Act}
 use Rattle.kdcs_types.specs.Tables.{TableRows, empty_tables}
 use Rattle.monitor_laws.specs.Applications.{IsApplication}
+use Rattle.monitor_laws.specs.Cut.{commits_in}
 use Rattle.monitor_laws.specs.Keeping.{HasFacts, IsScriptOf}
 use Rattle.monitor_laws.specs.Suits.{Suits}
 use Rattle.monitor_semantics.specs.Commands.{started, acts_of}
 use Rattle.monitor_semantics.specs.declared.command.Command.{Command}
 use Rattle.monitor_semantics.specs.Endings.{durable}
 use Rattle.monitor_semantics.specs.Bytes.{Bytes}
-use Rattle.monitor_semantics.specs.Made.{is_commit}
 use Rattle.monitor_semantics.specs.State.{Application}
 use Rattle.monitor_semantics.specs.Trace.{history, trace, tables_after, bytes_of}
 use Rattle.kdcs_monitor.specs.CoreValue.{CoreValue}
@@ -57,7 +57,7 @@ module _ (app : Application) (fingerprint : List ℕ) (t : TableRows) (is : t �
   script_is commands names = subst (λ (a : Application). IsScriptOf a commands) (sym application) names
 
 -- the lines by what was counted, sent and stored are those by the acts
-pub reported : (n : ℕ) (t : TableRows) (acts : List Act) (commits : ℕ) (sent : Bytes) (u : TableRows) → commits ≡ count_by is_commit acts → sent ≡ bytes_of acts → u ≡ tables_after t acts
+pub reported : (n : ℕ) (t : TableRows) (acts : List Act) (commits : ℕ) (sent : Bytes) (u : TableRows) → commits ≡ commits_in acts → sent ≡ bytes_of acts → u ≡ tables_after t acts
     → {E : Type 0} (r : Result Bytes E) → IfOk r (λ lines. lines ≡ report_with n commits sent u) → IfOk r (λ lines. lines ≡ report_by n t acts)
 reported n t acts commits sent u counted said stored {E} (Ok lines) is = is ∙ (λ i. report_with n (counted i) (said i) (stored i))
 reported n t acts commits sent u counted said stored {E} (Err e) is = tt

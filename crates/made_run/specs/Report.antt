@@ -8,10 +8,11 @@ use Rattle.kdcs_types.specs.Tables.{TableRows, empty_tables}
 use Rattle.monitor_semantics.specs.Bytes.{Bytes}
 use Rattle.monitor_semantics.specs.Lines.{line}
 use Rattle.monitor_semantics.specs.Listing.{listing}
-use Rattle.monitor_semantics.specs.Made.{number_line, total_line, is_commit}
+use Rattle.monitor_semantics.specs.Made.{number_line, total_line}
 use Rattle.monitor_semantics.specs.State.{Application}
 use Rattle.monitor_semantics.specs.Trace.{trace, tables_after, bytes_of}
 use Rattle.monitor_semantics.specs.declared.command.Command.{Command}
+use Rattle.monitor_laws.specs.Cut.{commits_in}
 
 -- how many lines were sent: each ends in LF, and has no other
 abbrev pub lines_in : (sent : Bytes) → ℕ
@@ -37,7 +38,7 @@ report_with n commits sent t =
 
 -- the lines on n inputs by the acts that were done from these tables
 abbrev pub report_by : (n : ℕ) → TableRows → List Act → Bytes
-report_by n t acts = report_with n (count_by is_commit acts) (bytes_of acts) (tables_after t acts)
+report_by n t acts = report_with n (commits_in acts) (bytes_of acts) (tables_after t acts)
 
 -- the lines on n inputs by the trace of the commands from the empty tables
 abbrev pub report_of : (n : ℕ) → Application → List Command → Bytes

@@ -33,7 +33,7 @@ rule_rows = record { sign_on = refl; too_long_input = refl; at_the_limit = refl;
 
 pub serial_rows : SerialRows
 unfolding monitor
-serial_rows = record { counted = refl; crossed = refl; late = refl; unlocked = refl; causes = refl; follow = refl; back = refl; numbered = refl; not_durable = refl; jobs = refl; made = refl }
+serial_rows = record { counted = refl; crossed = refl; late = refl; unlocked = refl; causes = refl; follow = refl; back = refl; numbered = refl; not_durable = refl; stale_row = refl; idle_note = refl; no_refusal = refl; jobs = refl; made = refl }
 
 pub made_rows : MadeRows
 unfolding monitor

@@ -1,13 +1,16 @@
 -- Worked rows of the sample application: what scripts print, and which tables they leave.
-use Rattle.std.specs.Prelude.{◌≡◌, IsTrue, List, [], ◌∷◌, ◌++◌, Bool, true, replicate, Option, Some, None, codes}
+use Rattle.std.specs.Prelude.{◌≡◌, IsTrue, List, [], ◌∷◌, ◌++◌, Bool, true, false, map, replicate, Option, Some, None, codes, option_map}
 use Rattle.kd_base.specs.declared.words.Mode.TheVariants.{Relative, Absolute}
 use Rattle.kd_base.specs.declared.words.Variant.TheVariants.{Pr, Re, Sp, Fi, Fr}
 use Rattle.unit_types.specs.declared.action.Action.TheVariants.{Move, Join, Add, Init, Mget, Mput, Fget, Fput, Dput, SgetGb, SputGb, SrelGb, SgetKp, SgetRl, SputMs, SgetUs, UnlkGb, Pend}
 use Rattle.unit_types.specs.declared.action.HeaderName.TheVariants.{Crccc, Rlm}
 use Rattle.unit_types.specs.declared.action.Operand.TheVariants.{Field as FieldOf, Literal, Digits, Header}
+use Rattle.kdcs_types.specs.declared.call.Code.TheVariants.{K01}
 use Rattle.kdcs_types.specs.declared.key.Area.TheVariants.{Gssb}
 use Rattle.kdcs_types.specs.declared.service.Note.{Note}
-use Rattle.kdcs_types.specs.declared.service.Note.TheVariants.{Released}
+use Rattle.kdcs_types.specs.declared.service.Note.TheVariants.{Released, Refused}
+use Rattle.kdcs_types.specs.declared.service.Service.{Service}
+use Rattle.kdcs_types.specs.declared.service.Settled.{Settled}
 use Rattle.kdcs_types.specs.Tables.{empty_tables}
 use Rattle.monitor_semantics.specs.declared.command.Command.{Command}
 use Rattle.monitor_semantics.specs.declared.command.Command.TheVariants.{Tick, Run, Turn, Drop, Print, PrintLast, Restart}
@@ -16,6 +19,7 @@ use Rattle.monitor_semantics.specs.Trace.{history}
 use Rattle.monitor_semantics.specs.Listing.{listing}
 use Rattle.monitor_semantics.specs.Made.{made_lines, made_application, made_script}
 use Rattle.monitor_laws.specs.Commits.{is_serial}
+use Rattle.monitor_laws.specs.Replay.{noted_area}
 use Rattle.monitor_examples.specs.Sample.{shop, hello_as, classed}
 use Rattle.monitor_examples.specs.SampleUnits.{field, at}
 use Rattle.monitor_examples.specs.Words.{prints, prints_from, stores, stores_from, lists, p1, p2, s1, s2, signed_1, signed_both}
@@ -34,6 +38,32 @@ notes_kept (d ∷ ds) = notes_by d.by (notes_kept ds)
 -- each commit of a transaction in the script is that of its record
 abbrev pub serial_after : List Command → Bool
 serial_after script = is_serial shop empty_tables (history shop (started shop empty_tables) script)
+
+-- a step whose commit is by this record in place of its own
+abbrev pub with_record : (Settled → Settled) → ScriptStep → ScriptStep
+with_record f d = record d { by = by_record d.by }
+  where
+    by_record : Option Maker → Option Maker
+    by_record None = None
+    by_record (Some (ByTick ticks)) = Some (ByTick ticks)
+    by_record (Some (ByShow lterm)) = Some (ByShow lterm)
+    by_record (Some (ByTransaction kept)) = Some (ByTransaction (f kept))
+
+-- the same where each record is another
+abbrev pub serial_by : (Settled → Settled) → List Command → Bool
+serial_by f script = is_serial shop empty_tables (map (with_record f) (history shop (started shop empty_tables) script))
+
+-- a record with a row that has another last message than the one of its service
+abbrev pub with_stale_row : Settled → Settled
+with_stale_row kept = record kept { began = option_map (λ (row : Service). record row { last = Some [] }) kept.began }
+
+-- a record with one more note
+abbrev pub with_note : Note → Settled → Settled
+with_note n kept = record kept { notes = kept.notes ++ n ∷ [] }
+
+-- a record with a note of K01, which refuses no request, in place of each of its own
+abbrev pub with_other_code : Settled → Settled
+with_other_code kept = record kept { notes = map (λ (n : Note). Refused (noted_area n) K01) kept.notes }
 
 -- the clock
 pub record ClockRows : Type 0 where
@@ -204,6 +234,12 @@ pub record SerialRows : Type 0 where
   pub numbered : IsTrue (serial_after (s1 ∷ s2 ∷ p1 (codes "FER") ∷ Run 20 ∷ p2 (codes "KDCOUT") ∷ p1 (codes "FSP") ∷ Run 30 ∷ p2 (codes "KDCOUT") ∷ p2 (codes "KDCLAST") ∷ []))
   -- a user with RESTART=NO
   pub not_durable : IsTrue (serial_after (s2 ∷ p2 (codes "ORD1 APPLE") ∷ Run 20 ∷ p2 (codes "5") ∷ Run 20 ∷ []))
+  -- a record that names a stale row of a user with RESTART=YES is none of its commit
+  pub stale_row : serial_by with_stale_row (s1 ∷ p1 (codes "ORD1 APPLE") ∷ Run 20 ∷ p1 (codes "5") ∷ Run 20 ∷ []) ≡ false
+  -- nor is one with a note that its replay does not use
+  pub idle_note : serial_by (with_note (Released (Gssb (codes "CNT")) None)) (s1 ∷ p1 (codes "ADD1") ∷ Run 20 ∷ []) ≡ false
+  -- nor one with a note of a code that refuses no request
+  pub no_refusal : serial_by with_other_code (s1 ∷ p1 (codes "UNL") ∷ Run 20 ∷ []) ≡ false
   -- jobs that services take
   pub jobs : IsTrue (serial_after (s1 ∷ p1 (codes "MAKEJ") ∷ Run 40 ∷ p1 (codes "FILL") ∷ Run 200 ∷ p1 (codes "MAKEJ") ∷ Run 20 ∷ []))
   -- the made input

@@ -20,14 +20,14 @@ use Rattle.kdcs_types.specs.Keys.{id_cmp, id_eq}
 use Rattle.kdcs_types.specs.Tables.{TableRows, job_key, service_of, shown_of}
 use Rattle.monitor_semantics.specs.Bytes.{Bytes}
 use Rattle.monitor_semantics.specs.State.{Application, OpenTransaction, State}
-use Rattle.monitor_semantics.specs.Endings.{row_after, synchronised, is_durable, durable, refusal}
+use Rattle.monitor_semantics.specs.Endings.{row_after, with_service, synchronised, is_durable, durable, refusal}
 use Rattle.monitor_semantics.specs.declared.answer.Happened.{Happened}
 use Rattle.monitor_semantics.specs.declared.answer.Happened.TheVariants.{Went, Queued, Waited, Held, Settles, Breaks, Returns}
-use Rattle.monitor_semantics.specs.Statements.{kept_record, kept_of}
+use Rattle.monitor_semantics.specs.Statements.{Kept, kept_record, kept_of}
 use Rattle.monitor_semantics.specs.Lines.{asy_line, prt_line, cause_text}
 use Rattle.monitor_semantics.specs.Turns.{statement_now}
 use Rattle.monitor_semantics.specs.Commands.{ScriptStep, Maker, ByTick, ByShow, ByTransaction, lterm_at}
-use Rattle.monitor_laws.specs.Replay.{Ended, IsAtomic, atomic, with_began}
+use Rattle.monitor_laws.specs.Replay.{Ended, IsAtomic, accepted, replay, atomic, with_began}
 
 -- ---- jobs
 
@@ -143,7 +143,7 @@ pub record ServiceLaw (app : Application) (before : State) (after : TableRows) (
 -- the durable tables after a commit of a transaction are those of the tables that its record, run in one go, makes of those before it
 pub record IsAtomicCommit (app : Application) (before after : TableRows) (kept : Settled) : Type 0 where
   pub whole : TableRows
-  pub atomic : IsAtomic app (with_began before (kept_of kept)) whole kept
+  pub atomic : IsAtomic app (with_began app.generation before (kept_of kept)) whole kept
   pub kept_part : after ≡ durable app.generation whole
 
 -- TICK, KDCOUT and PRINT are no transactions
@@ -152,20 +152,7 @@ AtomicLaw app before after (ByTick ticks) = Unit {0}
 AtomicLaw app before after (ByShow lterm) = Unit {0}
 AtomicLaw app before after (ByTransaction kept) = IsAtomicCommit app before after kept
 
--- a step without a commit keeps the tables
-abbrev pub CommitIsLawful : Application → State → ScriptStep → Option Maker → Type 0
-CommitIsLawful app before d None = Unit {0}
-CommitIsLawful app before d (Some by) =
-    QueueLaw app (durable app.generation before.tables) (durable app.generation d.after.tables) by d.acts
-    × ServiceLaw app before d.after.tables by
-    × AtomicLaw app (durable app.generation before.tables) (durable app.generation d.after.tables) by
-
--- the commits of a history, each after the state before it, meet the three laws
-abbrev pub IsLawful : Application → State → List ScriptStep → Type 0
-IsLawful app s [] = Unit {0}
-IsLawful app s (d ∷ ds) = CommitIsLawful app s d d.by × IsLawful app d.after ds
-
--- ---- the third law as a test of a history
+-- ---- a test of the third law on a history
 
 -- nothing differs
 abbrev pub no_changes : List Change → Bool
@@ -193,12 +180,22 @@ abbrev pub is_result : Application → TableRows → Settled → Option Ended �
 is_result app after kept None = false
 is_result app after kept (Some result) = same_tables after (durable app.generation result.tables) && same_ending kept.ending result.ending
 
+-- the record names the row that stands in these tables, and its replay on them reads as many inputs and makes as many notes as it has
+abbrev pub is_record_on : Application → TableRows → Kept → Bool
+is_record_on app t r =
+    let x = replay app t r r.statements in
+    same_tables (with_service t r.service r.began) t && length x.inputs == length (accepted r) && length x.notes == length r.notes
+
+-- a record and its result on these tables
+abbrev pub is_atomic_on : Application → (before after : TableRows) → Settled → Bool
+is_atomic_on app before after kept = is_record_on app before (kept_of kept) && is_result app after kept (atomic app before (kept_of kept))
+
 -- the commit of a transaction is that of its record
 abbrev pub is_atomic_by : Application → TableRows → TableRows → Option Maker → Bool
 is_atomic_by app before after None = true
 is_atomic_by app before after (Some (ByTick ticks)) = true
 is_atomic_by app before after (Some (ByShow lterm)) = true
-is_atomic_by app before after (Some (ByTransaction kept)) = is_result app after kept (atomic app (with_began before (kept_of kept)) (kept_of kept))
+is_atomic_by app before after (Some (ByTransaction kept)) = is_atomic_on app (with_began app.generation before (kept_of kept)) after kept
 
 -- all commits of transactions in a history pass
 unfoldable pub is_serial : Application → TableRows → List ScriptStep → Bool

@@ -1,10 +1,15 @@
 -- The cut of a trace: what was sent and what is stored, at some moment of a run.
-use Rattle.std.specs.Prelude.{◌≡◌, ◌⊎◌, ℕ, List, [], ◌∷◌, ◌++◌, take}
+use Rattle.std.specs.Prelude.{◌≡◌, ◌⊎◌, ℕ, List, [], ◌∷◌, ◌++◌, take, count_by}
 use Rattle.kdcs_types.specs.declared.act.Act.{Act}
 use Rattle.kdcs_types.specs.declared.act.Act.TheVariants.{Emit}
 use Rattle.kdcs_types.specs.Tables.{TableRows}
 use Rattle.monitor_semantics.specs.Bytes.{Bytes}
+use Rattle.monitor_semantics.specs.Made.{is_commit}
 use Rattle.monitor_semantics.specs.Trace.{tables_after, bytes_of}
+
+-- how many commits are among some acts
+abbrev pub commits_in : List Act → ℕ
+commits_in acts = count_by is_commit acts
 
 -- the bytes are those of the acts that are done, and perhaps a part of the line that is next
 abbrev pub SentBy : List Act → List Act → Bytes → Type 0

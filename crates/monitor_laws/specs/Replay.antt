@@ -1,6 +1,5 @@
 -- A kept record, run again in one go, with no other service and against tables alone.
-use Rattle.std.specs.Prelude.{◌≡◌, ◌<◌, ◌≤◌, IsTrue, ℕ, zero, suc, Bool, true, false, List, [], drop, length, filter, slice_get, nat_le, Option, Some, None, IsSome}
-use Rattle.std.specs.List.{list_all}
+use Rattle.std.specs.Prelude.{◌≡◌, ◌<◌, ℕ, zero, suc, Bool, true, false, cond, List, [], drop, length, filter, slice_get, Option, Some, None, IsSome}
 use Rattle.std.specs.FinMap.{find}
 use Rattle.kdcs_types.specs.declared.call.Cause.{Cause}
 use Rattle.kdcs_types.specs.declared.call.Code.{Code}
@@ -17,15 +16,17 @@ use Rattle.kdcs_types.specs.declared.service.Service.{Service}
 use Rattle.kdcs_types.specs.declared.service.Settled.{Settled}
 use Rattle.kdcs_types.specs.Keys.{area_eq, id_cmp}
 use Rattle.kdcs_types.specs.Tables.{TableRows, content_of, job_of, service_of}
+use Rattle.kdcdef_types.specs.Generation.{Generated}
 use Rattle.monitor_semantics.specs.Bytes.{Bytes}
 use Rattle.monitor_semantics.specs.State.{Application, OpenTransaction, State}
 use Rattle.monitor_semantics.specs.declared.answer.LockAnswer.{LockAnswer}
-use Rattle.monitor_semantics.specs.declared.answer.LockAnswer.TheVariants.{Granted, Busy, Deadlock}
+use Rattle.monitor_semantics.specs.declared.answer.LockAnswer.TheVariants.{Granted, Wait, Busy, Deadlock}
 use Rattle.monitor_semantics.specs.declared.answer.Happened.{Happened}
 use Rattle.monitor_semantics.specs.declared.answer.Happened.TheVariants.{Went, Queued, Held, Settles, Breaks}
 use Rattle.monitor_semantics.specs.Calls.{Told, nothing_told, or_empty}
-use Rattle.monitor_semantics.specs.Endings.{is_asynchronous, opened, header_of, opened_by_start, opened_by_input, opened_by_row, opened_by_job, lterm_of_row, followed_by_input, with_service, synchronised, broken, durable, refusal}
+use Rattle.monitor_semantics.specs.Endings.{is_asynchronous, opened, header_of, opened_by_start, opened_by_input, opened_by_row, opened_by_job, lterm_of_row, followed_by_input, with_service, synchronised, broken, is_durable, durable, refusal}
 use Rattle.monitor_semantics.specs.Statements.{Stated, statement, area_of, Kept, kept_so_far, kept_of}
+use Rattle.monitor_laws.specs.Transactions.{HasOwnJob}
 
 -- ---- notes
 
@@ -38,6 +39,17 @@ noted_area (Refused area code) = area
 abbrev pub notes_on : Area → List Note → List Note
 notes_on area notes = filter (λ (n : Note). area_eq area (noted_area n)) notes
 
+-- the codes that refuse a request
+abbrev pub refuses : Code → Bool
+refuses K04 = true
+refuses K05 = true
+refuses _ = false
+
+-- a note that a run makes: an area was released, or a request was refused
+abbrev pub is_made : Note → Bool
+is_made (Released area content) = true
+is_made (Refused area code) = refuses code
+
 -- the notes of a record on an area, without those that its replay has used: it makes these again
 abbrev pub unused : Kept → OpenTransaction → Area → List Note
 unused r x area = drop (length (notes_on area x.notes)) (notes_on area r.notes)
@@ -46,11 +58,11 @@ unused r x area = drop (length (notes_on area x.notes)) (notes_on area r.notes)
 abbrev pub first_unused : Kept → OpenTransaction → Area → Option Note
 first_unused r x area = slice_get (unused r x area) 0
 
--- the answer that had this code; a note of another code than K04 and K05 is none that a run makes
+-- the answer that had this code; a note of another code than K04 and K05 is none that a run makes, and its request is never answered
 abbrev pub answer_of_code : Code → LockAnswer
 answer_of_code K04 = Busy
 answer_of_code K05 = Deadlock
-answer_of_code _ = Granted
+answer_of_code _ = Wait
 
 -- K04 or K05 where the note says so; else the request is granted
 abbrev pub answer_by_note : Option Note → LockAnswer
@@ -160,21 +172,11 @@ GoesOn Queued = Unit {0}
 GoesOn (Held tac) = Unit {0}
 GoesOn _ = ⊥
 
--- the replay used as many notes on each area as the record has, or fewer
-abbrev pub notes_suffice : Kept → OpenTransaction → Bool
-notes_suffice r x = list_all (λ (n : Note). nat_le (length (notes_on (noted_area n) x.notes)) (length (notes_on (noted_area n) r.notes))) x.notes
-
--- each note of the record was used
-abbrev pub all_notes_used : Kept → OpenTransaction → Bool
-all_notes_used r x = list_all (λ (n : Note). nat_le (length (notes_on (noted_area n) r.notes)) (length (notes_on (noted_area n) x.notes))) r.notes
-
--- the opening and each PEND KP find the input that they read; so does each UNLK its note; exactly so many statements leave it open, and the next one ends it
+-- exactly so many statements leave it open, and the next one ends it; and the replay keeps just this record: it reads each of its inputs, makes each of its notes again, and no other
 pub record IsDetermined (app : Application) (t : TableRows) (r : Kept) : Type 0 where
   pub goes_on : (n : ℕ) → n < r.statements → GoesOn (replay_statement app t r (replay app t r n)).1
   pub ends : IsSome (atomic app t r)
-  pub inputs : length (replay app t r r.statements).inputs ≤ length (accepted r)
-  pub notes : IsTrue (notes_suffice r (replay app t r r.statements))
-  pub used : IsTrue (all_notes_used r (replay app t r r.statements))
+  pub keeps : kept_so_far r.service (replay app t r r.statements) ≡ r
 
 -- ---- serial equivalence
 
@@ -186,9 +188,10 @@ IsReplayed app t id x = replay app t (kept_so_far id x) x.statements ≡ x
 abbrev pub IsReplayable : Application → State → Type 0
 IsReplayable app s = (id : ServiceId) (x : OpenTransaction) → find id_cmp id s.active ≡ Some x → IsReplayed app s.tables id x
 
--- a record determines its replay on these tables, where its service has the row with which it began, and its ending and these tables are those of the replay
+-- a record determines its replay on these tables, where its service has the row with which it began, or in its first transaction its job, and its ending and these tables are those of the replay
 pub record IsAtomic (app : Application) (before after : TableRows) (r : Settled) : Type 0 where
   pub began : service_of before r.service ≡ r.began
+  pub job : HasOwnJob before r.service r.began
   pub determined : IsDetermined app before (kept_of r)
   pub result : atomic app before (kept_of r) ≡ Some (record { tables = after; ending = r.ending })
 
@@ -197,11 +200,6 @@ abbrev pub SettlesAs : Application → TableRows → TableRows → Option Settle
 SettlesAs app before after None = Unit {0}
 SettlesAs app before after (Some r) = IsAtomic app before after r
 
--- durable tables, with the row at the beginning of a dialogue service that is not durable
-abbrev pub with_began : TableRows → Kept → TableRows
-with_began t r = began_by t r.service r.began
-  where
-    began_by : TableRows → ServiceId → Option Service → TableRows
-    began_by u (Dialogue user) None = u
-    began_by u (Dialogue user) (Some row) = with_service u (Dialogue user) (Some row)
-    began_by u (Asynchronous number) row = u
+-- durable tables, which have the row of each service that outlives a stop; the service of a user with RESTART=NO gets the row with which it began
+abbrev pub with_began : Generated → TableRows → Kept → TableRows
+with_began g t r = cond (is_durable g r.service) t (with_service t r.service r.began)

@@ -1,5 +1,7 @@
 -- What each step of a script makes of the durable tables: it has at most one commit, which stands first and is the difference that the step makes.
-use Rattle.std.specs.Prelude.{◌≡◌, ◌⊎◌, ℕ, List, [], ◌∷◌, Some, None}
+use Rattle.std.specs.Prelude.{◌≡◌, ◌⊎◌, refl, ℕ, ◌+◌, cond, List, [], ◌∷◌, ◌++◌, Some, None}
+use Rattle.std.proofs.Common.{ap, ◌∙◌}
+use Rattle.std.proofs.lemmas.List.Sums.{sum_by-cons, sum_by-append}
 use Rattle.kdcs_types.specs.declared.act.Act.{Act}
 use Rattle.kdcs_types.specs.declared.act.Act.TheVariants.{Commit, Emit}
 use Rattle.kdcs_types.specs.Tables.{IsSortedTables}
@@ -8,7 +10,9 @@ use Rattle.monitor_semantics.specs.Endings.{durable}
 use Rattle.monitor_semantics.specs.Turns.{commit_of, turn_of}
 use Rattle.monitor_semantics.specs.declared.command.Command.{Command}
 use Rattle.monitor_semantics.specs.Commands.{ScriptStep, Maker, turned_step, command_of}
+use Rattle.monitor_semantics.specs.Made.{is_commit}
 use Rattle.monitor_semantics.specs.Trace.{tables_after}
+use Rattle.monitor_laws.specs.Cut.{commits_in}
 
 -- lines alone
 abbrev pub AreLines : List Act → Type 0
@@ -41,11 +45,33 @@ TurnsCommitOnce = (app : Application) (s : State) (task : ℕ) → CommitsOnce a
 abbrev pub CommandsCommitOnce : Type 0
 CommandsCommitOnce = (app : Application) (s : State) (c : Command) → CommitsOnce app s (command_of app s c)
 
--- the durable tables before a step with its commit are those after it, where both stand in order
+-- the commit of a step makes of the durable tables before it those after it; a step without one keeps them
+abbrev pub MakesItsTables : Application → State → ScriptStep → Type 0
+MakesItsTables app before d = tables_after (durable app.generation before.tables) d.acts ≡ durable app.generation d.after.tables
+
+-- each step does, where both tables stand in order
 abbrev pub StepsMakeTheirTables : Type 0
 StepsMakeTheirTables =
     (app : Application) (before : State) (d : ScriptStep)
     → IsSortedTables before.tables
     → IsSortedTables d.after.tables
     → CommitsOnce app before d
-    → tables_after (durable app.generation before.tables) d.acts ≡ durable app.generation d.after.tables
+    → MakesItsTables app before d
+
+-- ---- how many commits
+
+-- what one act adds
+abbrev of_act : Act → ℕ
+of_act act = cond (is_commit act) 1 0
+
+pub commits_of_both : (xs ys : List Act) → commits_in (xs ++ ys) ≡ commits_in xs + commits_in ys
+commits_of_both xs ys = sum_by-append of_act xs ys
+
+pub lines_commit_nothing : (acts : List Act) → AreLines acts → commits_in acts ≡ 0
+lines_commit_nothing [] h = refl
+lines_commit_nothing (Emit line ∷ acts) h = sum_by-cons of_act (Emit line) acts ∙ ap (λ n. 0 + n) (lines_commit_nothing acts h)
+lines_commit_nothing (Commit changes ∷ acts) h = absurd h
+
+-- a commit and its lines
+pub commit_counts : (app : Application) (s u : State) (lines : List Act) → AreLines lines → commits_in (commit_of app s.tables u.tables ∷ lines) ≡ 1
+commit_counts app s u lines h = sum_by-cons of_act (commit_of app s.tables u.tables) lines ∙ ap (λ n. 1 + n) (lines_commit_nothing lines h)

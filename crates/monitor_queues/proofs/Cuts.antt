@@ -1,6 +1,6 @@
 -- A stop leaves the durable tables of a state between two steps, and a start from them goes on there.
-use Rattle.std.specs.Prelude.{false, ◌≡◌, ◌⊎◌, refl, IsTrue, ℕ, Bool, cond, List, [], ◌∷◌, ◌++◌, Some, None, All}
-use Rattle.std.proofs.Common.{sym, ap, subst, ◌∙◌, inl, inr, true≢false}
+use Rattle.std.specs.Prelude.{false, ◌≡◌, ◌⊎◌, refl, IsTrue, ℕ, suc, ◌+◌, Bool, cond, List, [], ◌∷◌, ◌++◌, length, Option, Some, None, All}
+use Rattle.std.proofs.Common.{sym, ap, subst, ◌∙◌, inl, inr, arith, true≢false}
 use Rattle.std.proofs.lemmas.List.Elements.{All-head, All-tail}
 use Rattle.kdcs_types.specs.declared.act.Act.{Act}
 use Rattle.kdcs_types.specs.declared.act.Act.TheVariants.{Commit, Emit}
@@ -12,16 +12,19 @@ use Rattle.monitor_semantics.specs.Endings.{is_durable, durable, restarts, lterm
 use Rattle.monitor_semantics.specs.State.{Application, State}
 use Rattle.monitor_semantics.specs.Trace.{history, trace, tables_after}
 use Rattle.monitor_semantics.specs.Turns.{pterm_of_user}
-use Rattle.monitor_semantics.specs.Commands.{ScriptStep, started, signed_on, state_after, acts_of}
+use Rattle.monitor_semantics.specs.Commands.{ScriptStep, Maker, started, signed_on, state_after, acts_of}
 use Rattle.monitor_laws.specs.Applications.{IsApplication}
 use Rattle.monitor_laws.specs.DurableLaws.{durable_sorted}
 use Rattle.monitor_laws.specs.Facts.{IsSignedOn}
 use Rattle.monitor_laws.specs.Keeping.{HasFacts}
-use Rattle.monitor_laws.specs.Steps.{AreLines, CommitsOnce, StepsMakeTheirTables}
+use Rattle.monitor_laws.specs.Cut.{commits_in}
+use Rattle.monitor_laws.specs.Steps.{AreLines, CommitsOnce, StepsMakeTheirTables, commits_of_both, lines_commit_nothing, commit_counts}
 use Rattle.monitor_places.specs.Rows.{kept_at, durable_service}
 use Rattle.monitor_laws.specs.EachStep.{EachStep}
 use Rattle.monitor_runs.specs.RunLaws.{HistoriesCommitOnce, StartsHaveFacts, ScriptsKeepFacts}
 use Rattle.monitor_runs.specs.Lists.{tables_both}
+use Rattle.monitor_serial.specs.SerialRuns.{makers_of}
+use Rattle.monitor_queues.specs.Stored.{StepsDone}
 use Rattle.monitor_queues.specs.ResumeLaws.{IsReadyAt, StartsResume, SignOnResumes, SignOnsResume, CutsResume}
 
 -- ---- lists of acts
@@ -79,43 +82,91 @@ unfolding tables_after
 commit_makes t (Commit c) xs ys a b = lines_keep (changed t c) xs a ∙ sym (lines_keep (changed t c) ys b)
 commit_makes t (Emit bytes) xs ys a b = lines_keep t xs a ∙ sym (lines_keep t ys b)
 
+-- the acts make nothing of the tables, and none of them is a commit
+abbrev MakesNone : TableRows → List Act → Type 0
+MakesNone t done = (tables_after t done ≡ t) × (commits_in done ≡ 0)
+
+-- they make what all acts of the step make, and have its commits
+abbrev MakesAll : TableRows → (done all : List Act) → Type 0
+MakesAll t done all = (tables_after t done ≡ tables_after t all) × (commits_in done ≡ commits_in all)
+
 -- some first acts of a step make nothing, or all that the step makes
-within_step : (app : Application) (s : State) (d : ScriptStep) (t : TableRows) (done over : List Act) → CommitsOnce app s d → d.acts ≡ done ++ over → (tables_after t done ≡ t) ⊎ (tables_after t done ≡ tables_after t d.acts)
-within_step app s d t done over (inl none) e = inl (lines_keep t done (first_lines done over (subst AreLines e none.lines)))
-within_step app s d t [] over (inr one) e = inl (lines_keep t [] tt)
+within_step : (app : Application) (s : State) (d : ScriptStep) (t : TableRows) (done over : List Act) → CommitsOnce app s d → d.acts ≡ done ++ over → MakesNone t done ⊎ MakesAll t done d.acts
+within_step app s d t done over (inl none) e = let lines = first_lines done over (subst AreLines e none.lines) in inl (lines_keep t done lines, lines_commit_nothing done lines)
+within_step app s d t [] over (inr one) e = inl (lines_keep t [] tt, lines_commit_nothing [] tt)
 within_step app s d t (a ∷ more) over (inr one) e =
     let same : _ ∷ one.rest ≡ a ∷ more ++ over = sym one.acts ∙ e in
+    let head = sym (cons_head _ a one.rest (more ++ over) same) in
     let lines : AreLines more = first_lines more over (subst AreLines (cons_tail _ a one.rest (more ++ over) same) one.lines) in
-    inr (commit_makes t a more one.rest lines one.lines ∙ ap (λ (act : Act). tables_after t (act ∷ one.rest)) (sym (cons_head _ a one.rest (more ++ over) same)) ∙ ap (tables_after t) (sym one.acts))
+    inr (
+      commit_makes t a more one.rest lines one.lines ∙ ap (λ (act : Act). tables_after t (act ∷ one.rest)) head ∙ ap (tables_after t) (sym one.acts),
+      ap (λ (act : Act). commits_in (act ∷ more)) head ∙ commit_counts app s d.after more lines ∙ sym (ap commits_in one.acts ∙ commit_counts app s d.after one.rest one.lines),
+    )
+
+-- ---- makers and commits
+
+makers_more : (d : ScriptStep) (ds : List ScriptStep) → length (makers_of (d ∷ ds)) ≡ length (makers_of (d ∷ [])) + length (makers_of ds)
+makers_more d ds = by d.by
+  where
+    none_more : (n : ℕ) → n ≡ 0 + n
+    none_more n = omega arith
+
+    one_more : (n : ℕ) → suc n ≡ 1 + n
+    one_more n = omega arith
+
+    by : (o : Option Maker) → length (makers_of (record d { by = o } ∷ ds)) ≡ length (makers_of (record d { by = o } ∷ [])) + length (makers_of ds)
+    by None = none_more (length (makers_of ds))
+    by (Some maker) = one_more (length (makers_of ds))
+
+-- a step has a maker for its commit, and none without one
+makers_commit : (app : Application) (s : State) (d : ScriptStep) → CommitsOnce app s d → length (makers_of (d ∷ [])) ≡ commits_in d.acts
+makers_commit app s d once = by once
+  where
+    makers : Option Maker → ℕ
+    makers o = length (makers_of (record d { by = o } ∷ []))
+
+    by : CommitsOnce app s d → makers d.by ≡ commits_in d.acts
+    by (inl none) = ap makers none.by ∙ sym (lines_commit_nothing d.acts none.lines)
+    by (inr one) = ap makers one.by ∙ sym (ap commits_in one.acts ∙ commit_counts app s d.after one.rest one.lines)
 
 -- ---- between two steps
 
 record Between (app : Application) (s : State) (steps : List ScriptStep) (done : List Act) : Type 0 where
-  first : List ScriptStep
-  rest : List ScriptStep
-  whole : steps ≡ first ++ rest
-  stored : tables_after (durable app.generation s.tables) done ≡ durable app.generation (state_after s first).tables
-  facts : HasFacts app (state_after s first)
+  behind : StepsDone steps done
+  stored : tables_after (durable app.generation s.tables) done ≡ durable app.generation (state_after s behind.first).tables
+  facts : HasFacts app (state_after s behind.first)
 
 module _ (makes : StepsMakeTheirTables) (app : Application) where
   abbrev Facts : ScriptStep → Type 0
   Facts d = HasFacts app d.after
 
-  no_step : (s : State) (steps : List ScriptStep) (done : List Act) → HasFacts app s → tables_after (durable app.generation s.tables) done ≡ durable app.generation s.tables → Between app s steps done
+  no_step : (s : State) (steps : List ScriptStep) (done : List Act) → HasFacts app s → MakesNone (durable app.generation s.tables) done → Between app s steps done
   unfolding state_after
-  no_step s steps done facts e = record { first = []; rest = steps; whole = refl; stored = e; facts = facts }
+  no_step s steps done facts e = record { behind = record { first = []; rest = steps; whole = refl; commits = sym e.1 }; stored = e.0; facts = facts }
 
-  one_step : (s : State) (d : ScriptStep) (ds : List ScriptStep) (done : List Act) → HasFacts app d.after → tables_after (durable app.generation s.tables) done ≡ durable app.generation d.after.tables → Between app s (d ∷ ds) done
+  one_step : (s : State) (d : ScriptStep) (ds : List ScriptStep) (done : List Act) → HasFacts app d.after → CommitsOnce app s d
+      → tables_after (durable app.generation s.tables) done ≡ durable app.generation d.after.tables → commits_in done ≡ commits_in d.acts → Between app s (d ∷ ds) done
   unfolding state_after
-  one_step s d ds done facts e = record { first = d ∷ []; rest = ds; whole = refl; stored = e; facts = facts }
+  one_step s d ds done facts once e k =
+      record { behind = record { first = d ∷ []; rest = ds; whole = refl; commits = makers_commit app s d once ∙ sym k }; stored = e; facts = facts }
 
-  later_steps : (s : State) (d : ScriptStep) (ds : List ScriptStep) (done more : List Act) → tables_after (durable app.generation s.tables) done ≡ tables_after (durable app.generation d.after.tables) more → Between app d.after ds more → Between app s (d ∷ ds) done
+  later_steps : (s : State) (d : ScriptStep) (ds : List ScriptStep) (done more : List Act) → CommitsOnce app s d
+      → tables_after (durable app.generation s.tables) done ≡ tables_after (durable app.generation d.after.tables) more → commits_in done ≡ commits_in d.acts + commits_in more
+      → Between app d.after ds more → Between app s (d ∷ ds) done
   unfolding state_after
-  later_steps s d ds done more e b =
-      record { first = d ∷ b.first; rest = b.rest; whole = ap (λ (l : List ScriptStep). d ∷ l) b.whole; stored = e ∙ b.stored; facts = b.facts }
+  later_steps s d ds done more once e k b = record {
+    behind = record {
+      first = d ∷ b.behind.first;
+      rest = b.behind.rest;
+      whole = ap (λ (l : List ScriptStep). d ∷ l) b.behind.whole;
+      commits = makers_more d b.behind.first ∙ ap (λ n. n + length (makers_of b.behind.first)) (makers_commit app s d once) ∙ ap (λ n. commits_in d.acts + n) b.behind.commits ∙ sym k;
+    };
+    stored = e ∙ b.stored;
+    facts = b.facts;
+  }
 
   cut : (s : State) (steps : List ScriptStep) → HasFacts app s → EachStep (CommitsOnce app) s steps → All Facts steps → (done left : List Act) → acts_of steps ≡ done ++ left → Between app s steps done
-  cut s [] facts once all done left e = no_step s [] done facts (lines_keep (durable app.generation s.tables) done (subst AreLines (sym (none_done done left e)) tt))
+  cut s [] facts once all done left e = let lines : AreLines done = subst AreLines (sym (none_done done left e)) tt in no_step s [] done facts (lines_keep (durable app.generation s.tables) done lines, lines_commit_nothing done lines)
   cut s (d ∷ ds) facts once all done left e = by (parted d.acts (acts_of ds) done left e) (λ more rest. cut d.after ds (All-head Facts d ds all) once.1 (All-tail Facts d ds all) more left rest)
     where
       here : HasFacts app d.after
@@ -124,15 +175,16 @@ module _ (makes : StepsMakeTheirTables) (app : Application) where
       made : tables_after (durable app.generation s.tables) d.acts ≡ durable app.generation d.after.tables
       made = makes app s d facts.1.order here.1.order once.0
 
-      inside : (tables_after (durable app.generation s.tables) done ≡ durable app.generation s.tables) ⊎ (tables_after (durable app.generation s.tables) done ≡ tables_after (durable app.generation s.tables) d.acts) → Between app s (d ∷ ds) done
+      inside : MakesNone (durable app.generation s.tables) done ⊎ MakesAll (durable app.generation s.tables) done d.acts → Between app s (d ∷ ds) done
       inside (inl before) = no_step s (d ∷ ds) done facts before
-      inside (inr after) = one_step s d ds done here (after ∙ made)
+      inside (inr after) = one_step s d ds done here once.0 (after.0 ∙ made) after.1
 
       by : EndsWithin d.acts done ⊎ ReachesInto d.acts (acts_of ds) done left → ((more : List Act) → acts_of ds ≡ more ++ left → Between app d.after ds more) → Between app s (d ∷ ds) done
       by (inl w) later = inside (within_step app s d (durable app.generation s.tables) done w.over once.0 w.whole)
       by (inr r) later =
-          later_steps s d ds done r.more
+          later_steps s d ds done r.more once.0
           (ap (tables_after (durable app.generation s.tables)) r.is ∙ tables_both (durable app.generation s.tables) d.acts r.more ∙ ap (λ (u : TableRows). tables_after u r.more) made)
+          (ap commits_in r.is ∙ commits_of_both d.acts r.more)
           (later r.more r.rest)
 
 -- ---- going on
@@ -145,7 +197,7 @@ module _ (starts : StartsResume) (sign_ons : SignOnsResume) (starts_facts : Star
   from_facts : HasFacts app (started app found)
   from_facts = subst (λ (t : TableRows). HasFacts app (started app t)) (sym is) (starts_facts app (durable app.generation u.tables) is_app (durable_sorted app.generation u.tables facts.1.order) facts.1.suits)
 
-  from_asynchronous : (number : ℕ) (row : Service) → service_of u.tables (Asynchronous number) ≡ Some row → IsReadyAt (started app found) (Asynchronous number) row (lterm_of_row row.lterm)
+  from_asynchronous : (number : ℕ) (row : Service) → service_of u.tables (Asynchronous number) ≡ Some row → IsReadyAt app (started app found) (Asynchronous number) row (lterm_of_row row.lterm)
   from_asynchronous number row e =
       (starts app found).asynchronous number row (ap (λ (t : TableRows). service_of t (Asynchronous number)) is ∙ durable_service app.generation u.tables number ∙ e)
 
@@ -172,12 +224,10 @@ cuts_resume makes once starts_facts scripts starts sign_ons app t script is_app 
     let s = started app t in
     let facts = starts_facts app t is_app order suits in
     let b = cut makes app s (history app s script) facts (once app s script) (scripts app s script is_app names facts) done left e in
-    let u = state_after s b.first in
+    let u = state_after s b.behind.first in
     let found = tables_after (durable app.generation t) done in
     record {
-      first = b.first;
-      rest = b.rest;
-      whole = b.whole;
+      steps = b.behind;
       stored = b.stored;
       facts = from_facts starts sign_ons starts_facts app is_app u b.facts found b.stored;
       asynchronous = from_asynchronous starts sign_ons starts_facts app is_app u b.facts found b.stored;

@@ -23,14 +23,17 @@ use Rattle.monitor_semantics.specs.Endings.{durable}
 use Rattle.monitor_semantics.specs.Turns.{turn_of}
 use Rattle.monitor_semantics.specs.Commands.{ScriptStep, Maker, turned_step, command_of, state_after}
 use Rattle.monitor_laws.specs.Commits.{without_gone, Takes, QueueLaw}
-use Rattle.monitor_laws.specs.Keeping.{Leads, HasFacts}
+use Rattle.monitor_semantics.specs.declared.command.Command.{Command}
+use Rattle.monitor_semantics.specs.Trace.{history}
+use Rattle.monitor_laws.specs.Applications.{IsApplication}
+use Rattle.monitor_laws.specs.Keeping.{Leads, HasFacts, IsScriptOf}
 use Rattle.monitor_laws.specs.Steps.{CommitsOnce, TurnsCommitOnce, CommandsCommitOnce}
 use Rattle.monitor_tables.specs.Items.{IsIn}
 use Rattle.monitor_laws.specs.EachStep.{EachStep, each_split}
 use Rattle.monitor_runs.specs.Lists.{after_both}
 use Rattle.monitor_places.specs.Along.{StepLaw}
 use Rattle.monitor_queues.specs.Along.{EachMeets, meets_along}
-use Rattle.monitor_queues.specs.QueueLaws.{MeetsBoth, TurnsKeepQueues, CommandsKeepQueues, IsTakenAt, IsTakenIn, NoJobIsLost}
+use Rattle.monitor_queues.specs.QueueLaws.{MeetsBoth, TurnsKeepQueues, CommandsKeepQueues, IsTakenAt, IsTakenIn}
 use Rattle.monitor_queues.proofs.Numbers.{at, value as value_of, same_number, not_made, at_both}
 
 -- ---- jobs by number
@@ -157,17 +160,17 @@ module _ (app : Application) (number : ℕ) (value : JobValue) where
   abbrev job : Job
   job = record { number = number; value = value }
 
-  all_stay : (s : State) (steps : List ScriptStep) → EachStep (StaysLaw app) s steps → job_of s.tables number ≡ Some value → (job_of (state_after s steps).tables number ≡ Some value) ⊎ IsTakenIn app job steps
+  all_stay : (s : State) (steps : List ScriptStep) → EachStep (StaysLaw app) s steps → job_of s.tables number ≡ Some value → (job_of (state_after s steps).tables number ≡ Some value) ⊎ IsTakenIn app steps job
   unfolding state_after
   all_stay s [] h e = inl e
   all_stay s (d ∷ ds) h e = by (h.0 number value e) (λ k. all_stay d.after ds h.1 k)
     where
-      later : (job_of (state_after d.after ds).tables number ≡ Some value) ⊎ IsTakenIn app job ds → (job_of (state_after d.after ds).tables number ≡ Some value) ⊎ (IsTakenAt app d job ⊎ IsTakenIn app job ds)
+      later : (job_of (state_after d.after ds).tables number ≡ Some value) ⊎ IsTakenIn app ds job → (job_of (state_after d.after ds).tables number ≡ Some value) ⊎ (IsTakenAt app d job ⊎ IsTakenIn app ds job)
       later (inl stays) = inl stays
       later (inr taken) = inr (inr taken)
 
-      by : (job_of d.after.tables number ≡ Some value) ⊎ IsTakenAt app d job → (job_of d.after.tables number ≡ Some value → (job_of (state_after d.after ds).tables number ≡ Some value) ⊎ IsTakenIn app job ds)
-          → (job_of (state_after d.after ds).tables number ≡ Some value) ⊎ (IsTakenAt app d job ⊎ IsTakenIn app job ds)
+      by : (job_of d.after.tables number ≡ Some value) ⊎ IsTakenAt app d job → (job_of d.after.tables number ≡ Some value → (job_of (state_after d.after ds).tables number ≡ Some value) ⊎ IsTakenIn app ds job)
+          → (job_of (state_after d.after ds).tables number ≡ Some value) ⊎ (IsTakenAt app d job ⊎ IsTakenIn app ds job)
       by (inl stays) rest = later (rest stays)
       by (inr taken) rest = inr (inl taken)
 
@@ -178,9 +181,12 @@ module _ (kept : Leads HasFacts HasFacts) (turns_once : TurnsCommitOnce) (comman
     commands = λ app s c facts. step_stays app s (command_of app s c) facts (commands_once app s c) (commands app s c facts);
   }
 
-  pub no_job_is_lost : NoJobIsLost
+  pub no_job_is_lost : (app : Application) (s : State) (script : List Command) → IsApplication app → IsScriptOf app script → HasFacts app s
+      → (first more rest : List ScriptStep) → history app s script ≡ first ++ more ++ rest
+      → (number : ℕ) (value : JobValue) → job_of (state_after s first).tables number ≡ Some value
+      → (job_of (state_after s (first ++ more)).tables number ≡ Some value) ⊎ IsTakenIn app more (record { number = number; value = value })
   no_job_is_lost app s script is_app names facts first more rest e number value there =
       let all = meets_along StaysLaw kept stays_each app s script is_app names facts in
       let sooner = (each_split (StaysLaw app) s (first ++ more) rest (subst (λ (l : List ScriptStep). EachStep (StaysLaw app) s l) e all)).0 in
       let middle = (each_split (StaysLaw app) s first more sooner).1 in
-      subst (λ (u : State). (job_of u.tables number ≡ Some value) ⊎ IsTakenIn app (record { number = number; value = value }) more) (sym (after_both s first more)) (all_stay app number value (state_after s first) more middle there)
+      subst (λ (u : State). (job_of u.tables number ≡ Some value) ⊎ IsTakenIn app more (record { number = number; value = value })) (sym (after_both s first more)) (all_stay app number value (state_after s first) more middle there)

@@ -5,3 +5,4 @@ mod Numbers
 mod Kept
 mod Resuming
 mod Cuts
+mod ManyRuns

@@ -18,7 +18,10 @@ use Rattle.monitor_semantics.specs.Endings.{durable}
 use Rattle.monitor_semantics.specs.Turns.{turn_of}
 use Rattle.monitor_semantics.specs.Commands.{ScriptStep, Maker, ByTick, ByShow, ByTransaction, turned_step, command_of, state_after}
 use Rattle.monitor_laws.specs.Commits.{AreNumberedFrom, without_gone, QueueLaw, ServiceLaw}
-use Rattle.monitor_laws.specs.Keeping.{Leads, HasFacts}
+use Rattle.monitor_semantics.specs.declared.command.Command.{Command}
+use Rattle.monitor_semantics.specs.Trace.{history}
+use Rattle.monitor_laws.specs.Applications.{IsApplication}
+use Rattle.monitor_laws.specs.Keeping.{Leads, HasFacts, IsScriptOf}
 use Rattle.monitor_laws.specs.Steps.{CommitsOnce, TurnsCommitOnce, CommandsCommitOnce}
 use Rattle.monitor_laws.specs.Transactions.{HasOwnJob}
 use Rattle.monitor_places.specs.Rows.{durable_service}
@@ -26,7 +29,7 @@ use Rattle.monitor_laws.specs.EachStep.{EachStep, each_split}
 use Rattle.monitor_runs.specs.Lists.{after_both}
 use Rattle.monitor_places.specs.Along.{StepLaw}
 use Rattle.monitor_queues.specs.Along.{EachMeets, meets_along}
-use Rattle.monitor_queues.specs.QueueLaws.{MeetsBoth, TurnsKeepQueues, CommandsKeepQueues, KeepsNumbers, NumbersAreDrawnOnce, IsOver, JobsAreDoneOnce}
+use Rattle.monitor_queues.specs.QueueLaws.{MeetsBoth, TurnsKeepQueues, CommandsKeepQueues, KeepsNumbers, IsOver}
 
 -- ---- jobs by number
 
@@ -87,7 +90,7 @@ durable-numbers : (app : Application) (t u : TableRows) → KeepsNumbers (durabl
 unfolding durable
 durable-numbers app t u k = record { next = k.next; drawn = k.drawn }
 
-same-numbers : (t u : TableRows) → u ≡ t → KeepsNumbers t u
+pub same-numbers : (t u : TableRows) → u ≡ t → KeepsNumbers t u
 same-numbers t u e = record { next = subst (λ (w : TableRows). t.next_job ≤ w.next_job) (sym e) (le_refl t.next_job); drawn = λ n less. inl (ap (λ (w : TableRows). job_of w n) e) }
 
 module _ (app : Application) (s : State) (d : ScriptStep) where
@@ -154,7 +157,7 @@ module _ (R : TableRows → TableRows → Type 0) (same : (t : TableRows) → R 
       let middle = (each_split Made s first more sooner).1 in
       subst (λ (u : State). R (state_after s first).tables u.tables) (sym (after_both s first more)) (all_make (state_after s first) more middle)
 
-numbers_joined : (t u w : TableRows) → KeepsNumbers t u → KeepsNumbers u w → KeepsNumbers t w
+pub numbers_joined : (t u w : TableRows) → KeepsNumbers t u → KeepsNumbers u w → KeepsNumbers t w
 numbers_joined t u w a b = record {
   next = let p = a.next in let q = b.next in omega arith;
   drawn = λ n less. by n (a.drawn n less) (b.drawn n (let p = a.next in omega arith));
@@ -166,8 +169,14 @@ numbers_joined t u w a b = record {
     by n x (inr y) = inr y
 
 -- what is over stays over
-abbrev StaysOver : TableRows → TableRows → Type 0
+abbrev pub StaysOver : TableRows → TableRows → Type 0
 StaysOver t u = (number : ℕ) → IsOver t number → IsOver u number
+
+-- from any state of a run to any later one
+abbrev pub LeadsAlong : (TableRows → TableRows → Type 0) → Type 0
+LeadsAlong R =
+    (app : Application) (s : State) (script : List Command) → IsApplication app → IsScriptOf app script → HasFacts app s
+    → (first more rest : List ScriptStep) → history app s script ≡ first ++ more ++ rest → R (state_after s first).tables (state_after s (first ++ more)).tables
 
 abbrev NumbersLaw : StepLaw
 NumbersLaw app s d = KeepsNumbers s.tables d.after.tables
@@ -188,10 +197,10 @@ module _ (kept : Leads HasFacts HasFacts) (turns_once : TurnsCommitOnce) (comman
     commands = λ app s c facts number over. stays_over app s (command_of app s c) facts number over (commands_once app s c) (commands app s c facts);
   }
 
-  pub numbers_are_drawn_once : NumbersAreDrawnOnce
+  pub numbers_are_drawn_once : LeadsAlong KeepsNumbers
   numbers_are_drawn_once app s script is_app names facts first more rest e =
       between KeepsNumbers (λ t. same-numbers t t refl) numbers_joined s _ first more rest e (meets_along NumbersLaw kept numbers_each app s script is_app names facts)
 
-  pub jobs_are_done_once : JobsAreDoneOnce
-  jobs_are_done_once app s script is_app names facts first more rest e =
+  pub jobs_stay_over : LeadsAlong StaysOver
+  jobs_stay_over app s script is_app names facts first more rest e =
       between StaysOver (λ t number over. over) (λ t u w a b number over. b number (a number over)) s _ first more rest e (meets_along OverLaw kept over_each app s script is_app names facts)

@@ -15,7 +15,7 @@ use Rattle.kdcs_types.specs.Keys.{id_cmp, id_eq}
 use Rattle.kdcs_types.specs.Tables.{TableRows, service_key, service_of}
 use Rattle.monitor_semantics.specs.declared.input_use.ServiceState.TheVariants.{Awaits}
 use Rattle.monitor_semantics.specs.Bytes.{Bytes}
-use Rattle.monitor_semantics.specs.Endings.{is_asynchronous, user_in_row, lterm_of_row, opened, opened_by_row, opened_by_input}
+use Rattle.monitor_semantics.specs.Endings.{is_asynchronous, lterm_of_row, opened_by_row, opened_by_input}
 use Rattle.monitor_semantics.specs.Sessions.{is_running, is_awaiting, awaits_by, service_state, service_state_by}
 use Rattle.monitor_semantics.specs.State.{Application, OpenTransaction, State}
 use Rattle.monitor_semantics.specs.Turns.{queued}
@@ -28,37 +28,7 @@ use Rattle.monitor_places.specs.Rows.{kept_at}
 use Rattle.monitor_tables.specs.RowParts.{row_parts}
 use Rattle.monitor_tables.specs.States.{parts_of, row_found}
 use Rattle.kd_base.specs.Tools.{both_true}
-use Rattle.monitor_queues.specs.ResumeLaws.{StandsAtPoint, IsReadyAt, StartsResume, AwaitsAt, SignOnResumes, SignOnsResume}
-
--- ---- at a point
-
-row-stands : (app : Application) (id : ServiceId) (row : Service) (lterm : Bytes) → StandsAtPoint row (opened_by_row app.generation id row lterm)
-unfolding opened
-row-stands app id row lterm = record {
-  began = refl;
-  first = refl;
-  current = refl;
-  place = refl;
-  inited = refl;
-  kb = refl;
-  lssbs = refl;
-  unread = refl;
-  inputs = refl;
-  parts = refl;
-  written = refl;
-  drafts = refl;
-  touched = refl;
-  notes = refl;
-  statements = refl;
-}
-
-row-user : (app : Application) (id : ServiceId) (row : Service) (lterm : Bytes) → (opened_by_row app.generation id row lterm).user ≡ user_in_row id row
-unfolding opened
-row-user app id row lterm = refl
-
-row-lterm : (app : Application) (id : ServiceId) (row : Service) (lterm : Bytes) → (opened_by_row app.generation id row lterm).lterm ≡ lterm
-unfolding opened
-row-lterm app id row lterm = refl
+use Rattle.monitor_queues.specs.ResumeLaws.{IsReadyAt, StartsResume, AwaitsAt, SignOnResumes, SignOnsResume}
 
 -- ---- starts
 
@@ -88,10 +58,13 @@ module _ (app : Application) where
     abbrev row_in : ServiceId → Option Service
     row_in id = item_at service_key (ServiceKey id) (asynchronous_rows t)
 
+    abbrev opened_as : OpenTransaction → Option OpenTransaction
+    opened_as x = Some x
+
     same_id : (i j : ServiceId) → ServiceKey i ≡ ServiceKey j → i ≡ j
     same_id i j e = cc
 
-    start-asynchronous : (number : ℕ) (row : Service) → service_of t (Asynchronous number) ≡ Some row → IsReadyAt (started app t) (Asynchronous number) row (lterm_of_row row.lterm)
+    start-asynchronous : (number : ℕ) (row : Service) → service_of t (Asynchronous number) ≡ Some row → IsReadyAt app (started app t) (Asynchronous number) row (lterm_of_row row.lterm)
     unfolding started
     start-asynchronous number row e =
         let id = Asynchronous number in
@@ -99,11 +72,7 @@ module _ (app : Application) where
         let own : row.id ≡ id = same_id row.id id (found_key service_key (ServiceKey id) t.services row e) in
         record {
           ready = ready_rows id (asynchronous_rows t) ∙ ap is_some found;
-          opens = opens_of row;
-          is_open = open_rows id (asynchronous_rows t) ∙ ap (option_map opens_of) found;
-          stands = row-stands app row.id row (lterm_of_row row.lterm);
-          user = row-user app row.id row (lterm_of_row row.lterm) ∙ ap (λ (i : ServiceId). user_in_row i row) own;
-          lterm = row-lterm app row.id row (lterm_of_row row.lterm);
+          opens = open_rows id (asynchronous_rows t) ∙ ap (option_map opens_of) found ∙ ap (λ (i : ServiceId). opened_as (opened_by_row app.generation i row (lterm_of_row row.lterm))) own;
         }
 
     is_row : (id : ServiceId) → IsTrue (is_some (row_in id)) → IsTrue (is_asynchronous id) × ((row : Service) × (service_of t id ≡ Some row))
@@ -135,14 +104,10 @@ at_back id (i ∷ is) = by (id_eq id i) (at_back id is)
     by true h = refl
     by false h = h
 
-queued-ready : (app : Application) (s : State) (id : ServiceId) (row : Service) (lterm : Bytes) → IsReadyAt (queued s id (opened_by_row app.generation id row lterm)) id row lterm
+queued-ready : (app : Application) (s : State) (id : ServiceId) (row : Service) (lterm : Bytes) → IsReadyAt app (queued s id (opened_by_row app.generation id row lterm)) id row lterm
 queued-ready app s id row lterm = record {
   ready = at_back id s.ready;
-  opens = opened_by_row app.generation id row lterm;
-  is_open = found_put id (opened_by_row app.generation id row lterm) s.active;
-  stands = row-stands app id row lterm;
-  user = row-user app id row lterm;
-  lterm = row-lterm app id row lterm;
+  opens = found_put id (opened_by_row app.generation id row lterm) s.active;
 }
 
 none_of : {A : Type 0} (o : Option A) → (IsSome o → ⊥) → o ≡ None
@@ -202,7 +167,7 @@ module _ (app : Application) (s : State) (pterm user : Bytes) (row : Service) (f
     acts = refl;
     by = refl;
     tables = resumed-tables row.awaits;
-    goes_on = λ a. subst (λ b. IsReadyAt (resumed b) id row (lterm_at app pterm)) (sym a) (queued-ready app signed id row (lterm_at app pterm));
+    goes_on = λ a. subst (λ b. IsReadyAt app (resumed b) id row (lterm_at app pterm)) (sym a) (queued-ready app signed id row (lterm_at app pterm));
     awaits = λ a. subst (λ b. AwaitsAt app (resumed b) user row) (sym a) (awaits-at a);
   }
 

@@ -3,7 +3,6 @@ use Rattle.std.specs.Prelude.{true, ◌≡◌, ◌⊎◌, ◌<◌, ◌≤◌, �
 use Rattle.kdcs_types.specs.declared.act.Act.TheVariants.{Emit}
 use Rattle.kdcs_types.specs.declared.key.ServiceId.TheVariants.{Dialogue, Asynchronous}
 use Rattle.kdcs_types.specs.declared.service.Job.{Job}
-use Rattle.kdcs_types.specs.declared.service.JobValue.{JobValue}
 use Rattle.kdcs_types.specs.declared.service.Service.{Service}
 use Rattle.kdcs_types.specs.Tables.{TableRows, job_of, service_of}
 use Rattle.monitor_semantics.specs.Bytes.{Bytes}
@@ -77,25 +76,17 @@ pub record KeepsNumbers (before after : TableRows) : Type 0 where
   pub next : before.next_job ≤ after.next_job
   pub drawn : (number : ℕ) → number < before.next_job → (job_of after number ≡ job_of before number) ⊎ (job_of after number ≡ None)
 
--- between any two states of a run: so no number is drawn twice, and a job that is gone does not come back
-abbrev pub NumbersAreDrawnOnce : Type 0
-NumbersAreDrawnOnce =
-    (app : Application) (s : State) (script : List Command) → IsApplication app → IsScriptOf app script → HasFacts app s
-    → (first more rest : List ScriptStep) → history app s script ≡ first ++ more ++ rest
-    → KeepsNumbers (state_after s first).tables (state_after s (first ++ more)).tables
-
 -- the job of this number and the service that it began are over
 pub record IsOver (t : TableRows) (number : ℕ) : Type 0 where
   pub drawn : number < t.next_job
   pub job : job_of t number ≡ None
   pub row : service_of t (Asynchronous number) ≡ None
 
--- and then so they are at each later state of a run
-abbrev pub JobsAreDoneOnce : Type 0
-JobsAreDoneOnce =
-    (app : Application) (s : State) (script : List Command) → IsApplication app → IsScriptOf app script → HasFacts app s
-    → (first more rest : List ScriptStep) → history app s script ≡ first ++ more ++ rest
-    → (number : ℕ) → IsOver (state_after s first).tables number → IsOver (state_after s (first ++ more)).tables number
+-- no number is drawn twice; a job stands with its value, or was taken in between; and one that is over stays over
+pub record KeepsJobs (before after : TableRows) (IsTaken : Job → Type 0) : Type 0 where
+  pub numbers : KeepsNumbers before after
+  pub lost : (job : Job) → job_of before job.number ≡ Some job.value → (job_of after job.number ≡ Some job.value) ⊎ IsTaken job
+  pub doubled : (number : ℕ) → IsOver before number → IsOver after number
 
 -- the commit of this step takes the job, which is gone behind it
 pub record IsTakenAt (app : Application) (d : ScriptStep) (job : Job) : Type 0 where
@@ -105,14 +96,15 @@ pub record IsTakenAt (app : Application) (d : ScriptStep) (job : Job) : Type 0 w
   pub gone : job_of d.after.tables job.number ≡ None
 
 -- one of these steps does
-abbrev pub IsTakenIn : Application → Job → List ScriptStep → Type 0
-IsTakenIn app job [] = ⊥
-IsTakenIn app job (d ∷ ds) = IsTakenAt app d job ⊎ IsTakenIn app job ds
+abbrev pub IsTakenIn : Application → List ScriptStep → Job → Type 0
+IsTakenIn app [] job = ⊥
+IsTakenIn app (d ∷ ds) job = IsTakenAt app d job ⊎ IsTakenIn app ds job
 
--- between any two states of a run a job stands with its value, or was taken by its own service or shown at its LTERM
-abbrev pub NoJobIsLost : Type 0
-NoJobIsLost =
-    (app : Application) (s : State) (script : List Command) → IsApplication app → IsScriptOf app script → HasFacts app s
-    → (first more rest : List ScriptStep) → history app s script ≡ first ++ more ++ rest
-    → (number : ℕ) (value : JobValue) → job_of (state_after s first).tables number ≡ Some value
-    → (job_of (state_after s (first ++ more)).tables number ≡ Some value) ⊎ IsTakenIn app (record { number = number; value = value }) more
+-- it is so from any state of these steps to any later one
+abbrev pub JobsAreKept : Application → State → List ScriptStep → Type 0
+JobsAreKept app s steps =
+    (first more rest : List ScriptStep) → steps ≡ first ++ more ++ rest → KeepsJobs (state_after s first).tables (state_after s (first ++ more)).tables (IsTakenIn app more)
+
+-- and so along a run
+abbrev pub JobsAreDoneOnce : Type 0
+JobsAreDoneOnce = (app : Application) (s : State) (script : List Command) → IsApplication app → IsScriptOf app script → HasFacts app s → JobsAreKept app s (history app s script)

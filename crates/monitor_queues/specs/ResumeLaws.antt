@@ -1,5 +1,5 @@
 -- What resuming means: from what a stop leaves, each service goes on at its last synchronisation point.
-use Rattle.std.specs.Prelude.{◌≡◌, IsTrue, ℕ, true, false, List, [], ◌∷◌, ◌++◌, Some, None, codes}
+use Rattle.std.specs.Prelude.{◌≡◌, IsTrue, ℕ, true, false, List, ◌∷◌, ◌++◌, Some, None, codes}
 use Rattle.std.specs.List.{list_any}
 use Rattle.std.specs.FinMap.{find}
 use Rattle.kdcs_types.specs.declared.act.Act.{Act}
@@ -11,10 +11,10 @@ use Rattle.kdcs_types.specs.Keys.{id_cmp, id_eq}
 use Rattle.kdcs_types.specs.Tables.{TableRows, IsSortedTables, service_of}
 use Rattle.monitor_semantics.specs.declared.input_use.ServiceState.TheVariants.{Awaits}
 use Rattle.monitor_semantics.specs.Bytes.{Bytes}
-use Rattle.monitor_semantics.specs.Endings.{is_asynchronous, user_in_row, lterm_of_row, opened_by_input, durable, restarts}
+use Rattle.monitor_semantics.specs.Endings.{is_asynchronous, lterm_of_row, opened_by_row, opened_by_input, durable, restarts}
 use Rattle.monitor_semantics.specs.Lines.{sys_line}
 use Rattle.monitor_semantics.specs.Sessions.{service_state}
-use Rattle.monitor_semantics.specs.State.{Application, OpenTransaction, State}
+use Rattle.monitor_semantics.specs.State.{Application, State}
 use Rattle.monitor_semantics.specs.Trace.{history, trace, tables_after}
 use Rattle.monitor_semantics.specs.Turns.{queued}
 use Rattle.monitor_semantics.specs.declared.command.Command.{Command}
@@ -23,42 +23,21 @@ use Rattle.monitor_laws.specs.Applications.{IsApplication}
 use Rattle.monitor_laws.specs.Facts.{IsSignedOn}
 use Rattle.monitor_laws.specs.Keeping.{HasFacts, IsScriptOf}
 use Rattle.monitor_laws.specs.Suits.{Suits}
+use Rattle.monitor_queues.specs.Stored.{StepsDone}
 
 -- ---- at the last point
 
--- the transaction stands before the first statement of the TAC that the point names, with KB, LSSBs and handed parts of the point; it has done nothing
-pub record StandsAtPoint (row : Service) (x : OpenTransaction) : Type 0 where
-  pub began : x.began ≡ Some row
-  pub first : x.first ≡ row.first
-  pub current : x.current ≡ row.next
-  pub place : x.run.place ≡ 1
-  pub inited : x.inited ≡ false
-  pub kb : x.run.kb ≡ row.kb
-  pub lssbs : x.lssbs ≡ row.lssbs
-  pub unread : x.unread ≡ row.handed
-  pub inputs : x.inputs ≡ []
-  pub parts : x.parts ≡ []
-  pub written : x.written ≡ []
-  pub drafts : x.drafts ≡ []
-  pub touched : x.touched ≡ []
-  pub notes : x.notes ≡ []
-  pub statements : x.statements ≡ 0
-
--- the service is ready, at the point of this row
-pub record IsReadyAt (s : State) (id : ServiceId) (row : Service) (at : Bytes) : Type 0 where
+-- the service is ready, and its open transaction is the one that its row opens: before the first statement of the TAC that the point names, with KB, LSSBs and handed parts of the point and a new SPAB, and nothing done
+pub record IsReadyAt (app : Application) (s : State) (id : ServiceId) (row : Service) (lterm : Bytes) : Type 0 where
   pub ready : IsTrue (list_any (id_eq id) s.ready)
-  pub opens : OpenTransaction
-  pub is_open : find id_cmp id s.active ≡ Some opens
-  pub stands : StandsAtPoint row opens
-  pub user : opens.user ≡ user_in_row id row
-  pub lterm : opens.lterm ≡ at
+  pub opens : find id_cmp id s.active ≡ Some (opened_by_row app.generation id row lterm)
 
 -- ---- starts
 
 -- the tables stay, each asynchronous service is ready at its last point, and nothing else is
 pub record StartResumes (app : Application) (t : TableRows) : Type 0 where
   pub tables : (started app t).tables ≡ t
-  pub asynchronous : (number : ℕ) (row : Service) → service_of t (Asynchronous number) ≡ Some row → IsReadyAt (started app t) (Asynchronous number) row (lterm_of_row row.lterm)
+  pub asynchronous : (number : ℕ) (row : Service) → service_of t (Asynchronous number) ≡ Some row → IsReadyAt app (started app t) (Asynchronous number) row (lterm_of_row row.lterm)
   pub others : (id : ServiceId) → IsTrue (list_any (id_eq id) (started app t).ready) → IsTrue (is_asynchronous id) × ((row : Service) × (service_of t id ≡ Some row))
 
 abbrev pub StartsResume : Type 0
@@ -78,7 +57,7 @@ pub record SignOnResumes (app : Application) (s : State) (pterm user : Bytes) (r
   pub acts : d.acts ≡ Emit (sys_line pterm (codes "SIGNED ON " ++ user)) ∷ out_again pterm row.last
   pub by : d.by ≡ None
   pub tables : d.after.tables ≡ s.tables
-  pub goes_on : row.awaits ≡ false → IsReadyAt d.after (Dialogue user) row (lterm_at app pterm)
+  pub goes_on : row.awaits ≡ false → IsReadyAt app d.after (Dialogue user) row (lterm_at app pterm)
   pub awaits : row.awaits ≡ true → AwaitsAt app d.after user row
 
 abbrev pub SignOnsResume : Type 0
@@ -88,17 +67,15 @@ SignOnsResume =
 
 -- ---- cuts
 
--- what is stored after some first acts of a run are the durable tables of a state between two of its steps; a start from them has its facts and all jobs of that state, and each service goes on at its last point there
+-- what is stored after some first acts of a run are the durable tables of the state behind the steps whose commits are done; a start from them has its facts and all jobs of that state, and each service goes on at its last point there
 pub record CutResumes (app : Application) (t : TableRows) (script : List Command) (done : List Act) : Type 0 where
-  pub first : List ScriptStep
-  pub rest : List ScriptStep
-  pub whole : history app (started app t) script ≡ first ++ rest
-  pub stored : tables_after (durable app.generation t) done ≡ durable app.generation (state_after (started app t) first).tables
+  pub steps : StepsDone (history app (started app t) script) done
+  pub stored : tables_after (durable app.generation t) done ≡ durable app.generation (state_after (started app t) steps.first).tables
   pub facts : HasFacts app (started app (tables_after (durable app.generation t) done))
-  pub jobs : (started app (tables_after (durable app.generation t) done)).tables.jobs ≡ (state_after (started app t) first).tables.jobs
-  pub asynchronous : (number : ℕ) (row : Service) → service_of (state_after (started app t) first).tables (Asynchronous number) ≡ Some row
-      → IsReadyAt (started app (tables_after (durable app.generation t) done)) (Asynchronous number) row (lterm_of_row row.lterm)
-  pub dialogue : (pterm user : Bytes) (row : Service) → IsTrue (restarts app.generation user) → service_of (state_after (started app t) first).tables (Dialogue user) ≡ Some row
+  pub jobs : (started app (tables_after (durable app.generation t) done)).tables.jobs ≡ (state_after (started app t) steps.first).tables.jobs
+  pub asynchronous : (number : ℕ) (row : Service) → service_of (state_after (started app t) steps.first).tables (Asynchronous number) ≡ Some row
+      → IsReadyAt app (started app (tables_after (durable app.generation t) done)) (Asynchronous number) row (lterm_of_row row.lterm)
+  pub dialogue : (pterm user : Bytes) (row : Service) → IsTrue (restarts app.generation user) → service_of (state_after (started app t) steps.first).tables (Dialogue user) ≡ Some row
       → SignOnResumes app (started app (tables_after (durable app.generation t) done)) pterm user row (signed_on app (started app (tables_after (durable app.generation t) done)) pterm user)
   -- a service of a user with RESTART=NO is over
   pub over : (user : Bytes) → restarts app.generation user ≡ false → service_of (started app (tables_after (durable app.generation t) done)).tables (Dialogue user) ≡ None

@@ -1,9 +1,9 @@
--- Whatever a stop leaves is stored by a serial run of the first commits.
+-- Whatever a stop leaves is stored by a serial run of the commits that are done.
 use Rattle.std.specs.Prelude.{◌≡◌, List, ◌++◌}
 use Rattle.kdcs_types.specs.declared.act.Act.{Act}
 use Rattle.kdcs_types.specs.Tables.{TableRows, IsSortedTables}
 use Rattle.monitor_semantics.specs.declared.command.Command.{Command}
-use Rattle.monitor_semantics.specs.Commands.{ScriptStep, started}
+use Rattle.monitor_semantics.specs.Commands.{started}
 use Rattle.monitor_semantics.specs.Endings.{durable}
 use Rattle.monitor_semantics.specs.State.{Application}
 use Rattle.monitor_semantics.specs.Trace.{history, trace, tables_after}
@@ -11,13 +11,12 @@ use Rattle.monitor_laws.specs.Applications.{IsApplication}
 use Rattle.monitor_laws.specs.Keeping.{IsScriptOf}
 use Rattle.monitor_laws.specs.Suits.{Suits}
 use Rattle.monitor_serial.specs.SerialRuns.{MakeInTurn, makers_of}
+use Rattle.monitor_queues.specs.Stored.{StepsDone}
 
--- what is stored after some first acts of a run is what the makers of its first commits make one after another
+-- what is stored after some first acts of a run is what the makers of the commits among them make one after another
 pub record IsSerialCut (app : Application) (t : TableRows) (script : List Command) (done : List Act) : Type 0 where
-  pub first : List ScriptStep
-  pub rest : List ScriptStep
-  pub whole : history app (started app t) script ≡ first ++ rest
-  pub run : MakeInTurn app (durable app.generation t) (tables_after (durable app.generation t) done) (makers_of first)
+  pub steps : StepsDone (history app (started app t) script) done
+  pub run : MakeInTurn app (durable app.generation t) (tables_after (durable app.generation t) done) (makers_of steps.first)
 
 abbrev pub CutsAreSerial : Type 0
 CutsAreSerial =

@@ -5,7 +5,7 @@
 //! program above it cite.
 #![tactic(auto)]
 
-ghost use Rattle.monitor_queues.specs.{QueueLaws.{TurnsDoSo, CommandsDoSo, TurnsKeepQueues, CommandsKeepQueues, HistoriesKeepQueues, HistoriesSendAtPoints, NumbersAreDrawnOnce, NoJobIsLost, JobsAreDoneOnce}, Lawful.{HistoriesAreLawful, RunsAreLawful}, ResumeLaws.{StartsResume, SignOnsResume, CutsResume}, SerialCuts.{CutsAreSerial}};
+ghost use Rattle.monitor_queues.specs.{QueueLaws.{TurnsDoSo, CommandsDoSo, TurnsKeepQueues, CommandsKeepQueues, HistoriesKeepQueues, HistoriesSendAtPoints, JobsAreDoneOnce}, Lawful.{HistoriesAreLawful, RunsAreLawful}, ResumeLaws.{StartsResume, SignOnsResume, CutsResume}, SerialCuts.{CutsAreSerial}, ManyRuns.{AllRunsKeepJobs}};
 
 use monitor_laws::steps_commit_once;
 use monitor_places::facts_hold_along;
@@ -40,13 +40,16 @@ pub fn runs_keep_queues()
     commits_keep_queues();
 }
 
-/// Every commit of a run meets all three laws: on jobs, on services' rows, and that it is what its transaction's record,
-/// run in one go on the durable tables before it, makes of them.
+/// Every step of a run is lawful. Without a maker it makes no commit; with one it makes one, which stands first and turns
+/// the durable tables before the step into those behind it. The commit meets the laws on jobs and on services' rows, it is
+/// what its transaction's record, run in one go on the durable tables before it, makes of them, and the message that the
+/// row keeps is the line behind it.
 pub fn runs_are_lawful()
     ensures histories { HistoriesAreLawful }
     ensures runs { RunsAreLawful }
 {
     facts_hold_along_every_script();
+    commits_make_the_tables();
     commits_are_serial();
     runs_keep_queues();
 }
@@ -56,9 +59,7 @@ pub fn runs_are_lawful()
 /// point or the abnormal end of its own service, or that of KDCOUT or PRINT, which show it. A job that is gone, and
 /// whose service is over, is never done again.
 pub fn jobs_are_done_once()
-    ensures numbers { NumbersAreDrawnOnce }
-    ensures lost { NoJobIsLost }
-    ensures doubled { JobsAreDoneOnce }
+    ensures { JobsAreDoneOnce }
 {
     facts_hold_along();
     states_stay_sound();
@@ -74,9 +75,9 @@ pub fn services_resume()
     ensures sign_ons { SignOnsResume }
 {}
 
-/// What is stored after some first acts of a run are the durable tables of a state between two of its steps. A start
-/// from them has the facts of a state, and goes on where that state stood: each asynchronous service at its last
-/// synchronisation point, and that of each user with RESTART=YES when the user signs on.
+/// What is stored after some first acts of a run are the durable tables of the state behind the steps whose commits are
+/// among them. A start from them has the facts of a state, and goes on where that state stood: each asynchronous service
+/// at its last synchronisation point, and that of each user with RESTART=YES when the user signs on.
 pub fn cuts_resume()
     ensures { CutsResume }
 {
@@ -86,10 +87,21 @@ pub fn cuts_resume()
     services_resume();
 }
 
-/// What a stop leaves, wherever it comes, is stored by a serial run of the first commits.
+/// What a stop leaves, wherever it comes, is stored by a serial run of the commits that are done.
 pub fn cuts_are_serial()
     ensures { CutsAreSerial }
 {
     cuts_resume();
     scripts_are_serial_runs();
+}
+
+/// The same over several runs, each from what a stop of the one before left: no number is drawn twice, a job stands with
+/// its value until a commit of one of them takes it, and one that is over is never done again. What they leave suits, so a
+/// further run can start from it.
+pub fn runs_keep_jobs()
+    ensures { AllRunsKeepJobs }
+{
+    facts_hold_along_every_script();
+    cuts_resume();
+    jobs_are_done_once();
 }

@@ -10,7 +10,8 @@ use Rattle.monitor_semantics.specs.State.{Application, State as MonitorState}
 use Rattle.monitor_semantics.specs.Turns.{turn_of}
 use Rattle.kdcs_monitor.specs.CoreValue.{CoreValue}
 use Rattle.monitor_commands.specs.Commanding.{IsSingle}
-use Rattle.monitor_run.specs.Running.{commits_in, turns_of, IsRunning, PerformsSteps, DidSteps}
+use Rattle.monitor_laws.specs.Cut.{commits_in}
+use Rattle.monitor_run.specs.Running.{turns_of, IsRunning, PerformsSteps, DidSteps}
 use Rattle.monitor_run.proofs.Counting.{commits_by, commits_of_one}
 use Rattle.monitor_run.proofs.Restarting.{acts_again}
 use Rattle.monitor_run.proofs.Stepping.{fingerprint_is}

@@ -1,41 +1,26 @@
 -- How many commits some steps make.
-use Rattle.std.proofs.Common.{◌≡◌, inl, inr, arith, ℕ, zero, suc, ◌+◌, ◌≤◌, cond, List, [], ◌∷◌, ◌++◌, refl, sym, ap, subst, ◌∙◌}
+use Rattle.std.proofs.Common.{◌≡◌, inl, inr, arith, ℕ, zero, suc, ◌+◌, ◌≤◌, List, [], ◌∷◌, ◌++◌, refl, sym, ap, subst, ◌∙◌}
 use Rattle.std.specs.Prelude.{Bool, true, false, ◌==◌}
-use Rattle.std.proofs.lemmas.List.Sums.{sum_by-cons, sum_by-append}
-use Rattle.kdcs_types.specs.declared.act.Act.{Act}
-use Rattle.kdcs_types.specs.declared.act.Act.TheVariants.{Commit, Emit}
-use Rattle.monitor_laws.specs.Steps.{AreLines, CommitsOnce, TurnsCommitOnce, CommandsCommitOnce}
+use Rattle.monitor_laws.specs.Steps.{CommitsOnce, TurnsCommitOnce, CommandsCommitOnce, commits_of_both, lines_commit_nothing, commit_counts}
 use Rattle.monitor_semantics.specs.State.{Application, State}
 use Rattle.monitor_semantics.specs.declared.command.Command.{Command}
 use Rattle.monitor_semantics.specs.declared.command.Command.TheVariants.{Input, Tick, Run, Turn, Drop, Print, PrintLast, Restart}
 use Rattle.monitor_semantics.specs.Commands.{ScriptStep, acts_of, command_of, in_a_row, next_task, rotated, steps_of, turned_step}
-use Rattle.monitor_semantics.specs.Made.{is_commit}
-use Rattle.monitor_semantics.specs.Turns.{turn_of, commit_of}
-use Rattle.monitor_run.specs.Running.{commits_in, turns_of}
+use Rattle.monitor_semantics.specs.Turns.{turn_of}
+use Rattle.monitor_laws.specs.Cut.{commits_in}
+use Rattle.monitor_run.specs.Running.{turns_of}
 use Rattle.monitor_run.proofs.Stepping.{acts_both, acts_of_one}
 
 -- the commits of some steps
 abbrev pub commits_by : List ScriptStep → ℕ
 commits_by steps = commits_in (acts_of steps)
 
--- what one act adds
-abbrev of_act : Act → ℕ
-of_act act = cond (is_commit act) 1 0
-
-lines_commit_nothing : (acts : List Act) → AreLines acts → commits_in acts ≡ 0
-lines_commit_nothing [] h = refl
-lines_commit_nothing (Emit line ∷ acts) h = sum_by-cons of_act (Emit line) acts ∙ ap (λ n. 0 + n) (lines_commit_nothing acts h)
-lines_commit_nothing (Commit changes ∷ acts) h = absurd h
-
 at_most_one : (app : Application) (s : State) (d : ScriptStep) → CommitsOnce app s d → commits_in d.acts ≤ 1
 at_most_one app s d (inl none) = subst (λ n. n ≤ 1) (sym (lines_commit_nothing d.acts none.lines)) (omega arith)
-at_most_one app s d (inr one) =
-    let is : commits_in d.acts ≡ 1 + commits_in one.rest = ap commits_in one.acts ∙ sum_by-cons of_act (commit_of app s.tables d.after.tables) one.rest in
-    let none = lines_commit_nothing one.rest one.lines in
-    subst (λ n. n ≤ 1) (sym (is ∙ ap (λ n. 1 + n) none)) (omega arith)
+at_most_one app s d (inr one) = subst (λ n. n ≤ 1) (sym (ap commits_in one.acts ∙ commit_counts app s d.after one.rest one.lines)) (omega arith)
 
 pub commits_both : (xs ys : List ScriptStep) → commits_by (xs ++ ys) ≡ commits_by xs + commits_by ys
-commits_both xs ys = ap commits_in (acts_both xs ys) ∙ sum_by-append of_act (acts_of xs) (acts_of ys)
+commits_both xs ys = ap commits_in (acts_both xs ys) ∙ commits_of_both (acts_of xs) (acts_of ys)
 
 pub commits_of_one : (d : ScriptStep) → commits_by (d ∷ []) ≡ commits_in d.acts
 commits_of_one d = ap commits_in (acts_of_one d)

@@ -11,7 +11,8 @@ use Rattle.monitor_semantics.specs.State.{Application, State as MonitorState}
 use Rattle.monitor_semantics.specs.Turns.{Turned, turn_of}
 use Rattle.monitor_semantics.specs.Commands.{ScriptStep, turned_step, rotated, next_task, in_a_row}
 use Rattle.kdcs_monitor.specs.CoreValue.{CoreValue}
-use Rattle.monitor_run.specs.Running.{IsRunning, PerformsSteps, DidSteps, commits_in}
+use Rattle.monitor_laws.specs.Cut.{commits_in}
+use Rattle.monitor_run.specs.Running.{IsRunning, PerformsSteps, DidSteps}
 use Rattle.monitor_run.proofs.Counting.{commits_by, commits_both, commits_of_one}
 use Rattle.monitor_run.proofs.Stepping.{fingerprint_is, Stepping, stepping_start, stepping_performs, stepping_more}
 

@@ -1,5 +1,5 @@
 -- A core and its store, between two steps of a script.
-use Rattle.std.specs.Prelude.{◌≡◌, ℕ, IsTrue, List, ◌++◌, count_by}
+use Rattle.std.specs.Prelude.{◌≡◌, ℕ, IsTrue, List, ◌++◌}
 use Rattle.kd_device.specs.Device.{State, Only}
 use Rattle.kd_records.specs.Identity.{Identity}
 use Rattle.kdcfile_store.specs.Kept.{IsKept}
@@ -12,7 +12,6 @@ use Rattle.monitor_semantics.specs.declared.command.Command.{Command}
 use Rattle.monitor_semantics.specs.declared.command.Command.TheVariants.{Input, Tick, Run, Turn, Drop, Print, PrintLast, Restart}
 use Rattle.monitor_semantics.specs.Commands.{ScriptStep, acts_of, started, state_after}
 use Rattle.monitor_semantics.specs.Endings.{durable}
-use Rattle.monitor_semantics.specs.Made.{is_commit}
 use Rattle.monitor_semantics.specs.Trace.{tables_after, bytes_of}
 use Rattle.monitor_laws.specs.Applications.{IsApplication}
 use Rattle.monitor_laws.specs.Cut.{IsCut}
@@ -56,10 +55,6 @@ pub record IsAgain (fingerprint : List ℕ) (c d : CoreValue) (store : Whole) (a
   pub state : IsTrue a.told → d.state ≡ started c.application (durable_of c)
   pub tables : IsTrue a.told → durable_of d ≡ durable_of c
   pub kept : IsTrue a.told → IsKept (HasFile store) b lb
-
--- how many commits are among some acts
-abbrev pub commits_in : List Act → ℕ
-commits_in acts = count_by is_commit acts
 
 -- how many turns and commands a command makes at most
 abbrev pub turns_of : Command → ℕ

@@ -1,7 +1,7 @@
 //! The commits among the acts of a step are counted.
 ghost use Rattle.std.specs.Prelude.{◌≡◌, ◌≤◌, ◌+◌, ◌^◌};
 ghost use Rattle.monitor_semantics.specs.Made.{is_commit};
-ghost use Rattle.monitor_run.specs.Running.{commits_in};
+ghost use Rattle.monitor_laws.specs.Cut.{commits_in};
 
 use kdcs_types::Act;
 

@@ -4,7 +4,8 @@ ghost use Rattle.kd_device.specs.Device.{Rose};
 ghost use Rattle.kdcfile_store.specs.{Kept.{IsKept}, Whole.{HasFile}};
 ghost use Rattle.monitor_laws.specs.Keeping.{IsScriptOf};
 ghost use Rattle.monitor_semantics.specs.{Commands.{acts_of}, Trace.{history}};
-ghost use Rattle.monitor_run.specs.Running.{commits_in, turns_of, Ran, IsRunning, PerformsSteps};
+ghost use Rattle.monitor_laws.specs.Cut.{commits_in};
+ghost use Rattle.monitor_run.specs.Running.{turns_of, Ran, IsRunning, PerformsSteps};
 
 use crate::steps::do_command;
 use kd_device::Device;

@@ -7,7 +7,8 @@ ghost use Rattle.monitor_semantics.specs.{CommandsOf.{IsCommandOf}, Commands.{ac
 ghost use Rattle.monitor_laws.specs.Suits.{Suits};
 ghost use Rattle.monitor_commands.specs.Commanding.{IsSingle};
 ghost use Rattle.warm_start.specs.{Opening.{StartsFrom, IsRefused, IsOfOtherTexts}, Stands.{KeepsTables, identity_for}};
-ghost use Rattle.monitor_run.specs.Running.{commits_in, turns_of, DidSteps, IsAgain, IsRunning, PerformsSteps};
+ghost use Rattle.monitor_laws.specs.Cut.{commits_in};
+ghost use Rattle.monitor_run.specs.Running.{turns_of, DidSteps, IsAgain, IsRunning, PerformsSteps};
 
 use crate::commits::count_commits;
 use kd_device::Device;

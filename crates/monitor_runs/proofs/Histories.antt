@@ -11,7 +11,7 @@ use Rattle.monitor_semantics.specs.declared.command.Command.TheVariants.{Input, 
 use Rattle.monitor_semantics.specs.Commands.{ScriptStep, rotated, next_task, in_a_row, steps_of, state_after, acts_of}
 use Rattle.monitor_semantics.specs.Trace.{history, tables_after}
 use Rattle.monitor_laws.specs.Keeping.{HasFacts}
-use Rattle.monitor_laws.specs.Steps.{CommitsOnce, TurnsCommitOnce, CommandsCommitOnce, StepsMakeTheirTables}
+use Rattle.monitor_laws.specs.Steps.{CommitsOnce, MakesItsTables, TurnsCommitOnce, CommandsCommitOnce, StepsMakeTheirTables}
 use Rattle.monitor_laws.specs.EachStep.{EachStep, each_both}
 use Rattle.monitor_runs.specs.Lists.{tables_both}
 
@@ -47,12 +47,15 @@ module _ (makes : StepsMakeTheirTables) (app : Application) where
   abbrev Facts : ScriptStep → Type 0
   Facts d = HasFacts app d.after
 
-  pub tables_made : (s : State) (steps : List ScriptStep) → IsSortedTables s.tables → EachStep (CommitsOnce app) s steps → All Facts steps
-      → tables_after (durable app.generation s.tables) (acts_of steps) ≡ durable app.generation (state_after s steps).tables
-  unfolding state_after tables_after
-  tables_made s [] sorted once facts = refl
-  tables_made s (d ∷ ds) sorted once facts =
-      let here = All-head Facts d ds facts in
-      tables_both (durable app.generation s.tables) d.acts (acts_of ds)
-      ∙ ap (λ t. tables_after t (acts_of ds)) (makes app s d sorted here.1.order once.0)
-      ∙ tables_made d.after ds here.1.order once.1 (All-tail Facts d ds facts)
+  pub each_makes : (s : State) (steps : List ScriptStep) → IsSortedTables s.tables → EachStep (CommitsOnce app) s steps → All Facts steps → EachStep (MakesItsTables app) s steps
+  each_makes s [] sorted once facts = tt
+  each_makes s (d ∷ ds) sorted once facts =
+      let here = All-head Facts d ds facts in (makes app s d sorted here.1.order once.0, each_makes d.after ds here.1.order once.1 (All-tail Facts d ds facts))
+
+-- what each step makes, all of them make together
+pub tables_made : (app : Application) (s : State) (steps : List ScriptStep) → EachStep (MakesItsTables app) s steps
+    → tables_after (durable app.generation s.tables) (acts_of steps) ≡ durable app.generation (state_after s steps).tables
+unfolding state_after tables_after
+tables_made app s [] made = refl
+tables_made app s (d ∷ ds) made =
+    tables_both (durable app.generation s.tables) d.acts (acts_of ds) ∙ ap (λ t. tables_after t (acts_of ds)) made.0 ∙ tables_made app d.after ds made.1

@@ -9,7 +9,7 @@ use Rattle.monitor_semantics.specs.Trace.{history, trace, tables_after}
 use Rattle.monitor_laws.specs.Applications.{IsApplication}
 use Rattle.monitor_laws.specs.EachStep.{EachStep}
 use Rattle.monitor_laws.specs.Keeping.{HasFacts, HoldsAlong, IsScriptOf}
-use Rattle.monitor_laws.specs.Steps.{CommitsOnce}
+use Rattle.monitor_laws.specs.Steps.{CommitsOnce, MakesItsTables}
 use Rattle.monitor_laws.specs.Suits.{Suits}
 
 -- a start from tables that suit has the facts
@@ -23,6 +23,11 @@ ScriptsKeepFacts = HoldsAlong HasFacts
 -- each step of a script commits once at most
 abbrev pub HistoriesCommitOnce : Type 0
 HistoriesCommitOnce = (app : Application) (s : State) (script : List Command) → EachStep (CommitsOnce app) s (history app s script)
+
+-- the commit of each step of a script, from a state with its facts, makes of the durable tables before the step those behind it; a step without one keeps them
+abbrev pub HistoriesMakeTables : Type 0
+HistoriesMakeTables =
+    (app : Application) (s : State) (script : List Command) → IsApplication app → IsScriptOf app script → HasFacts app s → EachStep (MakesItsTables app) s (history app s script)
 
 -- the commits of a script make, one after another, the durable tables of the state that it comes to
 abbrev pub CommitsMakeTables : Type 0

@@ -6,7 +6,7 @@
 //! and the program above it cite.
 #![tactic(auto)]
 
-ghost use Rattle.monitor_runs.specs.RunLaws.{StartsHaveFacts, ScriptsKeepFacts, HistoriesCommitOnce, CommitsMakeTables};
+ghost use Rattle.monitor_runs.specs.RunLaws.{StartsHaveFacts, ScriptsKeepFacts, HistoriesCommitOnce, HistoriesMakeTables, CommitsMakeTables};
 
 use monitor_laws::steps_commit_once;
 use monitor_places::{facts_hold_along, states_stay_consistent};
@@ -23,9 +23,11 @@ pub fn facts_hold_along_every_script()
     facts_hold_along();
 }
 
-/// Each step of a script commits once at most, and the commits make the durable tables of the state that it comes to.
+/// Each step of a script commits once at most, and its commit makes of the durable tables before it those behind it; so
+/// the commits of a script make the durable tables of the state that it comes to.
 pub fn commits_make_the_tables()
     ensures once { HistoriesCommitOnce }
+    ensures each { HistoriesMakeTables }
     ensures tables { CommitsMakeTables }
 {
     steps_commit_once();

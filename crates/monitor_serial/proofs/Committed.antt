@@ -4,7 +4,7 @@ use Rattle.std.proofs.Common.{sym, ap, ◌∙◌, subst, ⊎_elim, true≢false}
 use Rattle.std.specs.FinMap.{find}
 use Rattle.kdcs_types.specs.declared.call.Cause.{Cause}
 use Rattle.kdcs_types.specs.declared.key.ServiceId.{ServiceId}
-use Rattle.kdcs_types.specs.declared.key.ServiceId.TheVariants.{Dialogue}
+use Rattle.kdcs_types.specs.declared.key.ServiceId.TheVariants.{Dialogue, Asynchronous}
 use Rattle.kdcs_types.specs.declared.service.Ending.{Ending}
 use Rattle.kdcs_types.specs.declared.service.Job.{Job}
 use Rattle.kdcs_types.specs.declared.service.JobValue.{JobValue}
@@ -38,7 +38,8 @@ use Rattle.monitor_places.specs.Rows.{least_passes, filtered_pass}
 use Rattle.monitor_semantics.specs.Picks.{free_jobs}
 use Rattle.kd_base.specs.Tools.{both_true}
 use Rattle.std.proofs.lemmas.Bool.{leb-true}
-use Rattle.monitor_serial.specs.Replays.{LookAlike}
+use Rattle.monitor_laws.specs.Transactions.{HasOwnJob, IsRooted}
+use Rattle.monitor_serial.specs.Replays.{HasSameJob, LookAlike}
 use Rattle.monitor_serial.specs.SerialRuns.{Shows, MakeInTurn, makers_of, Makes, MakesItsCommit, TurnsMakeTheirCommits, CommandsMakeTheirCommits, ScriptsAreSerialRuns, StopsLeaveSerialRuns}
 use Rattle.monitor_serial.specs.SerialLaws.{HasReplays, StepsKeepReplays, IsSerialBy, IsSerialStep, TurnsCommitSerially, CommandsCommitSerially, HistoriesAreSerial}
 use Rattle.monitor_serial.proofs.Along.{replayed_over}
@@ -47,6 +48,12 @@ use Rattle.monitor_serial.proofs.Ends.{breaks_atomic, settles_atomic}
 use Rattle.monitor_serial.proofs.Settling.{IfSettled, turn_ends_so}
 
 -- ---- one transaction
+
+-- tables with the same job have the service's job too
+own_job_too : (t u : TableRows) (id : ServiceId) (began : Option Service) → HasSameJob t u id began → HasOwnJob t id began → HasOwnJob u id began
+own_job_too t u (Dialogue user) began same has = tt
+own_job_too t u (Asynchronous number) (Some row) same has = tt
+own_job_too t u (Asynchronous number) None same has = ap is_some same ∙ has
 
 module _ (app : Application) (s : State) (h : HasReplays app s) (id : ServiceId) (x : OpenTransaction) (is : find id_cmp id s.active ≡ Some x) where
   abbrev lasting : TableRows → TableRows
@@ -59,8 +66,11 @@ module _ (app : Application) (s : State) (h : HasReplays app s) (id : ServiceId)
   began : service_of s.tables id ≡ x.began
   began = (h.0.0.rooted id x is).began
 
-  began_before : service_of before id ≡ x.began
-  began_before = base_service app.generation s.tables h.0.1.order (x.first ∷ x.lterm ∷ x.inputs) x.notes x.statements id x.began began
+  rooted_before : IsRooted before id x
+  rooted_before = record {
+    began = base_service app.generation s.tables h.0.1.order (x.first ∷ x.lterm ∷ x.inputs) x.notes x.statements id x.began began;
+    job = own_job_too s.tables before id x.began (base_job app.generation s.tables h.0.1.order (x.first ∷ x.lterm ∷ x.inputs) x.notes x.statements id x.began) (h.0.0.rooted id x is).job;
+  }
 
   same_part : lasting s.tables ≡ lasting before
   same_part = sym (base_durable app.generation s.tables h.0.1.order (x.first ∷ x.lterm ∷ x.inputs) x.notes x.statements id x.began began)
@@ -89,18 +99,18 @@ module _ (app : Application) (s : State) (h : HasReplays app s) (id : ServiceId)
       (h.0.1.transactions id x is).lssbs_order same_part
 
   breaks_commits : (ending : Ending) → (statement_now app s id x).1 ≡ Breaks ending → IsAtomicCommit app (lasting s.tables) (lasting (broken s.tables id x)) (kept_record id x ending)
-  breaks_commits ending now = record { whole = broken before id x; atomic = breaks_atomic app before id x replayed began_before (told_here app s id x) ending now; kept_part = broken_same }
+  breaks_commits ending now = record { whole = broken before id x; atomic = breaks_atomic app before id x replayed rooted_before (told_here app s id x) ending now; kept_part = broken_same }
 
   settles_commits : (o : Outcome) (cause : Option Cause) → (statement_now app s id x).1 ≡ Settles o → refusal app.generation (lasting (synchronised app.generation s.tables id x o)) ≡ cause
       → (let e = settled_as app s.tables id x (synchronised app.generation s.tables id x o) cause in IsAtomicCommit app (lasting s.tables) (lasting e.tables) (kept_record id x e.ending))
   settles_commits o None now refused = record {
     whole = synchronised app.generation before id x o;
-    atomic = settles_atomic app before id x replayed began_before (told_here app s id x) o None now (ap (refusal app.generation) (sym (point_same o)) ∙ refused);
+    atomic = settles_atomic app before id x replayed rooted_before (told_here app s id x) o None now (ap (refusal app.generation) (sym (point_same o)) ∙ refused);
     kept_part = point_same o;
   }
   settles_commits o (Some cause) now refused = record {
     whole = broken before id x;
-    atomic = settles_atomic app before id x replayed began_before (told_here app s id x) o (Some cause) now (ap (refusal app.generation) (sym (point_same o)) ∙ refused);
+    atomic = settles_atomic app before id x replayed rooted_before (told_here app s id x) o (Some cause) now (ap (refusal app.generation) (sym (point_same o)) ∙ refused);
     kept_part = broken_same;
   }
 

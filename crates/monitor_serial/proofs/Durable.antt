@@ -1,12 +1,10 @@
--- Ends over the durable tables: what a stop leaves of the tables after one is what it makes of the durable tables, with the row at its beginning put back.
-use Rattle.std.specs.Prelude.{◌≡◌, refl, ℕ, Bool, true, false, cond, IsTrue, List, [], ◌∷◌, option_map, Option, Some, None}
+-- Ends over the durable tables: what a stop leaves of the tables after one is what it makes of the durable tables, with the row of a service that is not durable put back.
+use Rattle.std.specs.Prelude.{◌≡◌, refl, ℕ, Bool, true, false, cond, IsTrue, List, [], ◌∷◌, Option, Some, None}
 use Rattle.std.proofs.Common.{sym, ap, ◌∙◌}
 use Rattle.std.specs.FinMap.{is_sorted}
 use Rattle.kd_base.specs.Tools.{true_both}
 use Rattle.kdcs_types.specs.declared.act.Change.{Change}
 use Rattle.kdcs_types.specs.declared.act.Change.TheVariants.{Remove}
-use Rattle.kdcs_types.specs.declared.act.Row.{Row}
-use Rattle.kdcs_types.specs.declared.act.Row.TheVariants.{Service as ServiceRow}
 use Rattle.kdcs_types.specs.declared.key.Area.{Area}
 use Rattle.kdcs_types.specs.declared.key.Area.TheVariants.{Gssb, Tls, Uls}
 use Rattle.kdcs_types.specs.declared.key.Key.{Key}
@@ -15,11 +13,11 @@ use Rattle.kdcs_types.specs.declared.key.ServiceId.{ServiceId}
 use Rattle.kdcs_types.specs.declared.key.ServiceId.TheVariants.{Dialogue, Asynchronous}
 use Rattle.kdcs_types.specs.declared.service.Note.{Note}
 use Rattle.kdcs_types.specs.declared.service.Service.{Service}
-use Rattle.kdcs_types.specs.KeyedLaws.{item_at-with, found_key, found_passes}
-use Rattle.kdcs_types.specs.Keys.{id_eq, key_eq}
-use Rattle.kdcs_types.specs.KeyLaws.{id_eq-itself, key_eq-same}
-use Rattle.kdcs_types.specs.RowLaws.{row_at-with_change, sorted_with_change, same_tables}
-use Rattle.kdcs_types.specs.Tables.{TableRows, IsSortedTables, service_key, service_row, service_fits, lterm_fits, row_at, content_of, service_of, with_change, change_fits, change_key}
+use Rattle.kdcs_types.specs.KeyedLaws.{item_at-with, item_at-without, found_key, found_passes}
+use Rattle.kdcs_types.specs.Keys.{id_eq}
+use Rattle.kdcs_types.specs.KeyLaws.{id_eq-itself}
+use Rattle.kdcs_types.specs.RowLaws.{sorted_with_change}
+use Rattle.kdcs_types.specs.Tables.{TableRows, IsSortedTables, service_key, service_fits, lterm_fits, content_of, service_of, with_change, change_fits, change_key}
 use Rattle.kdcdef_types.specs.Generation.{Generated}
 use Rattle.monitor_semantics.specs.declared.outcome.Outcome.{Outcome}
 use Rattle.monitor_semantics.specs.declared.outcome.Outcome.TheVariants.{Wait, Point, Follow}
@@ -30,7 +28,7 @@ use Rattle.monitor_semantics.specs.State.{OpenTransaction}
 use Rattle.monitor_semantics.specs.Statements.{Kept}
 use Rattle.monitor_laws.specs.DurableLaws.{key_is_durable, durable_sorted, durable_again, durable_follows}
 use Rattle.monitor_laws.specs.Replay.{with_began}
-use Rattle.monitor_places.specs.Rows.{kept_at, durable_service}
+use Rattle.monitor_places.specs.Rows.{kept_at}
 use Rattle.monitor_serial.specs.Replays.{HasSameJob}
 use Rattle.monitor_serial.proofs.Frames.{service_content}
 
@@ -49,22 +47,6 @@ row_fits_there t id row sorted e =
     true_both (id_eq row.id id) (service_fits row) (ap (λ i. id_eq i id) (own_id t id row e) ∙ id_eq-itself id)
     (found_passes service_key service_fits (ServiceKey id) t.services row sorted.services_fit e)
 
--- the row that stands there, set again
-row_again : (u : TableRows) (id : ServiceId) (row : Service) → IsSortedTables u → service_of u id ≡ Some row → with_service u id (Some row) ≡ u
-row_again u id row sorted e =
-    same_tables (with_service u id (Some row)) u (sorted_with_change u (service_change id (Some row)) sorted fits) sorted refl refl
-    (λ q. row_at-with_change u (service_change id (Some row)) q fits ∙ by q (key_eq q (ServiceKey id)) refl)
-  where
-    fits : IsTrue (change_fits (service_change id (Some row)))
-    fits = row_fits_there u id row sorted e
-
-    as_row : ServiceId → Option Row
-    as_row i = Some (ServiceRow i row)
-
-    by : (q : Key) (b : Bool) → key_eq q (ServiceKey id) ≡ b → cond b (Some (ServiceRow id row)) (row_at u q) ≡ row_at u q
-    by q false k = refl
-    by q true k = sym (ap (row_at u) (key_eq-same q (ServiceKey id) k) ∙ ap (option_map service_row) e ∙ ap as_row (own_id u id row e))
-
 -- ---- the durable tables with the row at the beginning
 
 module _ (g : Generated) (t : TableRows) (sorted : IsSortedTables t) (inputs : List Bytes) (notes : List Note) (n : ℕ) where
@@ -73,45 +55,47 @@ module _ (g : Generated) (t : TableRows) (sorted : IsSortedTables t) (inputs : L
 
   -- the tables before a commit, as its record takes them
   abbrev pub base : ServiceId → Option Service → TableRows
-  base id began = with_began (durable g t) (record_of id began)
+  base id began = with_began g (durable g t) (record_of id began)
 
-  fits_base : (id : ServiceId) (row : Service) → service_of t id ≡ Some row → IsTrue (change_fits (service_change id (Some row)))
-  fits_base id row e = row_fits_there t id row sorted e
+  fits_base : (id : ServiceId) (began : Option Service) → service_of t id ≡ began → IsTrue (change_fits (service_change id began))
+  fits_base id None e = refl
+  fits_base id (Some row) e = row_fits_there t id row sorted e
+
+  own_key : (id : ServiceId) (began : Option Service) → change_key (service_change id began) ≡ ServiceKey id
+  own_key id None = refl
+  own_key id (Some row) = refl
 
   pub base_sorted : (id : ServiceId) (began : Option Service) → service_of t id ≡ began → IsSortedTables (base id began)
-  base_sorted (Dialogue user) None e = durable_sorted g t sorted
-  base_sorted (Dialogue user) (Some row) e = sorted_with_change (durable g t) (service_change (Dialogue user) (Some row)) (durable_sorted g t sorted) (fits_base (Dialogue user) row e)
-  base_sorted (Asynchronous number) began e = durable_sorted g t sorted
+  base_sorted id began e = by (is_durable g id)
+    where
+      by : (b : Bool) → IsSortedTables (cond b (durable g t) (with_service (durable g t) id began))
+      by true = durable_sorted g t sorted
+      by false = sorted_with_change (durable g t) (service_change id began) (durable_sorted g t sorted) (fits_base id began e)
 
   pub base_durable : (id : ServiceId) (began : Option Service) → service_of t id ≡ began → durable g (base id began) ≡ durable g t
-  unfolding durable
-  base_durable (Dialogue user) None e = durable_again g t
-  base_durable (Asynchronous number) began e = durable_again g t
-  base_durable (Dialogue user) (Some row) e =
-      durable_follows g (durable g t) (service_change (Dialogue user) (Some row)) (durable_sorted g t sorted) (fits_base (Dialogue user) row e)
-      ∙ by (is_durable g (Dialogue user)) refl
+  base_durable id began e = by (is_durable g id) refl
     where
-      by : (b : Bool) → is_durable g (Dialogue user) ≡ b → cond b (with_service (durable g (durable g t)) (Dialogue user) (Some row)) (durable g (durable g t)) ≡ durable g t
-      by false k = durable_again g t
-      by true k =
-          ap (λ u. with_service u (Dialogue user) (Some row)) (durable_again g t)
-          ∙ row_again (durable g t) (Dialogue user) row (durable_sorted g t sorted)
-          (kept_at (is_durable g) (Dialogue user) t.services ∙ ap (λ b. cond b (service_of t (Dialogue user)) None) k ∙ e)
+      by : (b : Bool) → is_durable g id ≡ b → durable g (cond b (durable g t) (with_service (durable g t) id began)) ≡ durable g t
+      by true k = durable_again g t
+      by false k =
+          durable_follows g (durable g t) (service_change id began) (durable_sorted g t sorted) (fits_base id began e)
+          ∙ ap (λ b. cond b (with_service (durable g (durable g t)) id began) (durable g (durable g t))) (ap (key_is_durable g) (own_key id began) ∙ k) ∙ durable_again g t
 
   pub base_service : (id : ServiceId) (began : Option Service) → service_of t id ≡ began → service_of (base id began) id ≡ began
   unfolding durable
-  base_service (Dialogue user) None e = kept_at (is_durable g) (Dialogue user) t.services ∙ ap (λ o. cond (is_durable g (Dialogue user)) o None) e ∙ none (is_durable g (Dialogue user))
+  base_service id began e = by (is_durable g id) refl
     where
-      no_row : Option Service
-      no_row = None
+      set : (o : Option Service) → service_of t id ≡ o → service_of (with_service (durable g t) id o) id ≡ o
+      set None k =
+          item_at-without service_key (ServiceKey id) (ServiceKey id) (durable g t).services
+          ∙ ap (λ b. cond b None (service_of (durable g t) id)) (id_eq-itself id)
+      set (Some row) k =
+          item_at-with service_key (ServiceKey id) row (durable g t).services
+          ∙ ap (λ b. cond b (Some row) (service_of (durable g t) id)) (ap (λ i. id_eq id i) (own_id t id row k) ∙ id_eq-itself id)
 
-      none : (b : Bool) → cond b no_row no_row ≡ no_row
-      none true = refl
-      none false = refl
-  base_service (Dialogue user) (Some row) e =
-      item_at-with service_key (ServiceKey (Dialogue user)) row (durable g t).services
-      ∙ ap (λ b. cond b (Some row) (service_of (durable g t) (Dialogue user))) (ap (λ i. id_eq (Dialogue user) i) (own_id t (Dialogue user) row e) ∙ id_eq-itself (Dialogue user))
-  base_service (Asynchronous number) began e = durable_service g t number ∙ e
+      by : (b : Bool) → is_durable g id ≡ b → service_of (cond b (durable g t) (with_service (durable g t) id began)) id ≡ began
+      by true k = kept_at (is_durable g) id t.services ∙ ap (λ b. cond b (service_of t id) None) k ∙ e
+      by false k = set began e
 
   durable_content : (area : Area) → content_of (durable g t) area ≡ content_of t area
   unfolding durable
@@ -120,9 +104,11 @@ module _ (g : Generated) (t : TableRows) (sorted : IsSortedTables t) (inputs : L
   durable_content (Uls block user) = refl
 
   pub base_content : (id : ServiceId) (began : Option Service) (area : Area) → content_of (base id began) area ≡ content_of t area
-  base_content (Dialogue user) None area = durable_content area
-  base_content (Dialogue user) (Some row) area = service_content (durable g t) (Dialogue user) (Some row) area ∙ durable_content area
-  base_content (Asynchronous number) began area = durable_content area
+  base_content id began area = by (is_durable g id)
+    where
+      by : (b : Bool) → content_of (cond b (durable g t) (with_service (durable g t) id began)) area ≡ content_of t area
+      by true = durable_content area
+      by false = service_content (durable g t) id began area ∙ durable_content area
 
   pub base_job : (id : ServiceId) (began : Option Service) → HasSameJob t (base id began) id began
   unfolding durable

@@ -1,18 +1,15 @@
 -- A transaction that ends does so as its record, run in one go.
-use Rattle.std.specs.Prelude.{◌≡◌, refl, ℕ, zero, suc, ◌+◌, ◌-◌, ◌<◌, ◌≤◌, ◌⊎◌, ◌&&◌, Bool, true, false, IsTrue, List, [], ◌∷◌, length, nat_le, is_some, Option, Some, None}
+use Rattle.std.specs.Prelude.{◌≡◌, refl, ℕ, zero, suc, ◌+◌, ◌-◌, ◌<◌, ◌≤◌, ◌⊎◌, Bool, true, false, [], ◌∷◌, is_some, Option, Some, None}
 use Rattle.std.proofs.Common.{sym, ap, ◌∙◌, subst, inl, inr, ⊎_elim, arith}
-use Rattle.std.proofs.lemmas.Bool.{le-leb}
 use Rattle.std.proofs.lemmas.List.{append-nil}
-use Rattle.std.specs.List.{list_all}
 use Rattle.kdcs_types.specs.declared.call.Cause.{Cause}
 use Rattle.kdcs_types.specs.declared.key.Area.{Area}
 use Rattle.kdcs_types.specs.declared.key.ServiceId.{ServiceId}
 use Rattle.kdcs_types.specs.declared.key.ServiceId.TheVariants.{Dialogue, Asynchronous}
 use Rattle.kdcs_types.specs.declared.service.Ending.{Ending}
 use Rattle.kdcs_types.specs.declared.service.JobValue.{JobValue}
-use Rattle.kdcs_types.specs.declared.service.Note.{Note}
 use Rattle.kdcs_types.specs.declared.service.Service.{Service}
-use Rattle.kdcs_types.specs.Tables.{TableRows, job_of, service_of}
+use Rattle.kdcs_types.specs.Tables.{TableRows, job_of}
 use Rattle.unit_types.specs.UnitText.{UnitText}
 use Rattle.monitor_semantics.specs.declared.answer.Called.{Called}
 use Rattle.monitor_semantics.specs.declared.answer.Called.TheVariants.{Replied, Waits, Abnormal, Pends}
@@ -26,7 +23,8 @@ use Rattle.monitor_semantics.specs.State.{Application, OpenTransaction}
 use Rattle.monitor_semantics.specs.Calls.{Told, Performed, touches, touching, answer_by, on_answer}
 use Rattle.monitor_semantics.specs.Endings.{is_asynchronous, opened, durable, broken, synchronised, refusal, followed_by_input}
 use Rattle.monitor_semantics.specs.Statements.{Kept, Stated, area_of, kept_so_far, kept_record, by_call, by_performed, statement}
-use Rattle.monitor_laws.specs.Replay.{noted_area, notes_on, notes_suffice, all_notes_used, dialogue_from, job_from, opened_from, went_on, replay_told, replay_statement, replay_step, replay, Ended, settled_as, ended_by, atomic, GoesOn, IsReplayed, IsAtomic}
+use Rattle.monitor_laws.specs.Replay.{dialogue_from, job_from, opened_from, went_on, replay_told, replay_statement, replay_step, replay, Ended, settled_as, ended_by, atomic, GoesOn, IsReplayed, IsAtomic}
+use Rattle.monitor_laws.specs.Transactions.{IsRooted}
 use Rattle.monitor_serial.specs.Replays.{GoesOnAtOnce, kept_and, told_of, told_rest}
 use Rattle.monitor_places.specs.Shapes.{IsAnswered, AnsweredBy, StatementLeaves, StatementLooks, StatementAlone, StatementLocks, StatementUnlocks, statement_looks}
 
@@ -208,14 +206,7 @@ module _ (app : Application) (t : TableRows) (r : Kept) where
 
 -- ---- the record of a transaction that ends
 
-used_itself : (p : Note → ℕ) (l : List Note) → IsTrue (list_all (λ (n : Note). nat_le (p n) (p n)) l)
-used_itself p [] = refl
-used_itself p (n ∷ l) = ap (λ b. b && list_all (λ (k : Note). nat_le (p k) (p k)) l) (le-leb (p n) (p n) (self (p n))) ∙ used_itself p l
-  where
-    self : (m : ℕ) → m ≤ m
-    self m = omega arith
-
-module _ (app : Application) (t : TableRows) (id : ServiceId) (x : OpenTransaction) (replayed : IsReplayed app t id x) (began : service_of t id ≡ x.began) (v : Told) where
+module _ (app : Application) (t : TableRows) (id : ServiceId) (x : OpenTransaction) (replayed : IsReplayed app t id x) (rooted : IsRooted t id x) (v : Told) where
   abbrev so_far : Kept
   so_far = kept_so_far id x
 
@@ -236,19 +227,15 @@ module _ (app : Application) (t : TableRows) (id : ServiceId) (x : OpenTransacti
   pub ends_atomic : (u : TableRows) (ending : Ending) → Ends (statement app v (is_asynchronous id) x).1
       → ended_by app t id x (statement app v (is_asynchronous id) x).1 ≡ Some (record { tables = u; ending = ending }) → IsAtomic app t u (kept_record id x ending)
   ends_atomic u ending ends is = record {
-    began = began;
+    began = rooted.began;
+    job = rooted.job;
     determined = record {
       goes_on = goes_on_each app t so_far x.statements (ap (λ (y : OpenTransaction). y.statements) replayed);
       ends = ap is_some (result_is ends ∙ is);
-      inputs = subst (λ (y : OpenTransaction). length y.inputs ≤ length x.inputs) (sym replayed) (self (length x.inputs));
-      notes = subst (λ (y : OpenTransaction). IsTrue (notes_suffice so_far y)) (sym replayed) (used_itself (λ n. length (notes_on (noted_area n) x.notes)) x.notes);
-      used = subst (λ (y : OpenTransaction). IsTrue (all_notes_used so_far y)) (sym replayed) (used_itself (λ n. length (notes_on (noted_area n) x.notes)) x.notes);
+      keeps = ap (kept_so_far id) replayed;
     };
     result = result_is ends ∙ is;
   }
-    where
-      self : (n : ℕ) → n ≤ n
-      self n = omega arith
 
   -- an abnormal end
   pub breaks_atomic : (ending : Ending) → (statement app v (is_asynchronous id) x).1 ≡ Breaks ending → IsAtomic app t (broken t id x) (kept_record id x ending)

@@ -2,6 +2,7 @@ pub mod Steps
 pub mod Openings
 pub mod Frames
 pub mod Ends
+pub mod Notes
 pub mod Turns
 pub mod Settling
 pub mod Commands

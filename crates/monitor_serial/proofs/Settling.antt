@@ -138,8 +138,8 @@ pub turns_are_serial : (app : Application) (s : State) (task : ℕ) → IsConsis
 turns_are_serial app s task c replayable =
     as_law (turn_of app s task).after.tables (turn_of app s task).settled
     (turn_ends_so app s task (λ t kept. IsAtomic app s.tables t kept)
-    (λ id x ending is now. breaks_atomic app s.tables id x (replayable id x is) (c.rooted id x is).began (told_here app s id x) ending now)
-    (λ id x o cause is now refused. settles_atomic app s.tables id x (replayable id x is) (c.rooted id x is).began (told_here app s id x) o cause now refused))
+    (λ id x ending is now. breaks_atomic app s.tables id x (replayable id x is) (c.rooted id x is) (told_here app s id x) ending now)
+    (λ id x o cause is now refused. settles_atomic app s.tables id x (replayable id x is) (c.rooted id x is) (told_here app s id x) o cause now refused))
   where
     as_law : (t : TableRows) (o : Option Settled) → IfSettled (λ u kept. IsAtomic app s.tables u kept) t o → SettlesAs app s.tables t o
     as_law t None h = tt

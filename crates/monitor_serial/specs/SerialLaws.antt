@@ -1,11 +1,13 @@
 -- Serial equivalence, step by step: each open transaction replays to itself, and each that ends does so as its record.
-use Rattle.std.specs.Prelude.{◌≡◌, ℕ, true, false, List, Option, Some, None}
+use Rattle.std.specs.Prelude.{◌≡◌, ℕ, true, false, IsTrue, List, Option, Some, None}
+use Rattle.std.specs.List.{list_all}
 use Rattle.kdcs_types.specs.declared.key.Area.{Area}
 use Rattle.kdcs_types.specs.declared.key.ServiceId.{ServiceId}
 use Rattle.kdcs_types.specs.declared.key.ServiceId.TheVariants.{Dialogue, Asynchronous}
 use Rattle.kdcs_types.specs.declared.service.JobValue.{JobValue}
 use Rattle.kdcs_types.specs.declared.service.Service.{Service}
-use Rattle.kdcs_types.specs.Tables.{TableRows, IsSortedTables, content_of, job_of}
+use Rattle.kdcs_types.specs.declared.service.Settled.{Settled}
+use Rattle.kdcs_types.specs.Tables.{TableRows, IsSortedTables, content_of, job_of, service_of}
 use Rattle.monitor_semantics.specs.declared.answer.Happened.TheVariants.{Held}
 use Rattle.monitor_semantics.specs.Bytes.{Bytes}
 use Rattle.monitor_semantics.specs.State.{Application, OpenTransaction, State}
@@ -13,16 +15,16 @@ use Rattle.monitor_semantics.specs.Calls.{Told}
 use Rattle.monitor_semantics.specs.declared.command.Command.{Command}
 use Rattle.monitor_semantics.specs.Commands.{ScriptStep, Maker, started, turned_step, command_of}
 use Rattle.monitor_semantics.specs.Trace.{history}
-use Rattle.monitor_semantics.specs.Endings.{is_asynchronous, durable, opened_by_start, opened_by_input, opened_by_row, opened_by_job, lterm_of_row, followed_by_input}
-use Rattle.monitor_semantics.specs.Statements.{area_of, statement}
+use Rattle.monitor_semantics.specs.Endings.{is_asynchronous, is_durable, durable, opened_by_start, opened_by_input, opened_by_row, opened_by_job, lterm_of_row, followed_by_input}
+use Rattle.monitor_semantics.specs.Statements.{Kept, area_of, statement}
 use Rattle.monitor_semantics.specs.Turns.{turn_of}
 use Rattle.monitor_laws.specs.Facts.{IsConsistent}
 use Rattle.monitor_laws.specs.Keeping.{Fact, Leads, HasFacts, HoldsAlong, IsScriptOf}
 use Rattle.monitor_laws.specs.Applications.{IsApplication}
-use Rattle.monitor_laws.specs.Commits.{AtomicLaw}
+use Rattle.monitor_laws.specs.Commits.{IsAtomicCommit, AtomicLaw}
 use Rattle.monitor_laws.specs.Suits.{Suits}
 use Rattle.monitor_laws.specs.EachStep.{EachStep}
-use Rattle.monitor_laws.specs.Replay.{IsReplayable, SettlesAs}
+use Rattle.monitor_laws.specs.Replay.{is_made, IsDetermined, IsReplayable, SettlesAs}
 use Rattle.monitor_serial.specs.Replays.{GoesOnAtOnce, SeesTheSame, ReplaysToItself, AllReplay}
 
 -- each way to open a transaction gives one that replays to itself
@@ -90,6 +92,15 @@ IsSerialBy app s after (Some by) = AtomicLaw app (durable app.generation s.table
 
 abbrev pub IsSerialStep : Application → State → ScriptStep → Type 0
 IsSerialStep app s d = IsSerialBy app s d.after.tables d.by
+
+-- the record of such a commit began with the row that stands in the durable tables, where its service outlives a stop
+abbrev pub CommitsBeginWithTheirRow : Type 0
+CommitsBeginWithTheirRow =
+    (app : Application) (before after : TableRows) (kept : Settled) → is_durable app.generation kept.service ≡ true → IsAtomicCommit app before after kept → service_of before kept.service ≡ kept.began
+
+-- a record that determines a replay has no other notes than a run makes
+abbrev pub RecordsHaveMadeNotes : Type 0
+RecordsHaveMadeNotes = (app : Application) (t : TableRows) (r : Kept) → IsDetermined app t r → IsTrue (list_all is_made r.notes)
 
 abbrev pub TurnsCommitSerially : Type 0
 TurnsCommitSerially = (app : Application) (s : State) (task : ℕ) → HasReplays app s → IsSerialStep app s (turned_step (turn_of app s task))

@@ -6,7 +6,7 @@
 //! says what replays to itself, `specs/SerialRuns.antt` what a serial run is.
 #![tactic(auto)]
 
-ghost use Rattle.monitor_serial.specs.{SerialLaws.{AllOpeningsReplay, StatementsReplay, InputsReplay, OtherTablesReplay, StepsKeepReplays, ScriptsKeepReplays, ReplaysAreRecords, TurnsEndSerially, TurnsCommitSerially, CommandsCommitSerially, HistoriesAreSerial, RunsAreSerial}, SerialRuns.{TurnsMakeTheirCommits, CommandsMakeTheirCommits, ScriptsAreSerialRuns, StopsLeaveSerialRuns}};
+ghost use Rattle.monitor_serial.specs.{SerialLaws.{AllOpeningsReplay, StatementsReplay, InputsReplay, OtherTablesReplay, StepsKeepReplays, ScriptsKeepReplays, ReplaysAreRecords, TurnsEndSerially, CommitsBeginWithTheirRow, RecordsHaveMadeNotes, TurnsCommitSerially, CommandsCommitSerially, HistoriesAreSerial, RunsAreSerial}, SerialRuns.{TurnsMakeTheirCommits, CommandsMakeTheirCommits, ScriptsAreSerialRuns, StopsLeaveSerialRuns}};
 
 use monitor_places::facts_hold_along;
 use monitor_runs::commits_make_the_tables;
@@ -36,6 +36,13 @@ pub fn replays_hold_along_every_script()
 /// tables and the same ending, and each statement, input and note of the record used.
 pub fn turns_end_serially()
     ensures { TurnsEndSerially }
+{}
+
+/// Such a record began with the row that the durable tables have, where its service outlives a stop; and it has no other
+/// notes than a run makes: of an area that was released, and of a request that K04 or K05 refused.
+pub fn records_are_of_runs()
+    ensures began { CommitsBeginWithTheirRow }
+    ensures notes { RecordsHaveMadeNotes }
 {}
 
 /// Each commit of a transaction is what its record, run in one go on the durable tables before the commit, makes of

@@ -5,7 +5,11 @@ use Rattle.kdcs_types.specs.RowLaws.{empty_sorted}
 use Rattle.kdcs_types.specs.Tables.{TableRows, IsSortedTables}
 use Rattle.monitor_laws.specs.EmptyTables.{empty_suit}
 use Rattle.monitor_laws.specs.Suits.{Suits}
+use Rattle.monitor_semantics.specs.Commands.{started}
+use Rattle.monitor_runs.specs.RunLaws.{StartsHaveFacts}
 use Rattle.monitor_queues.specs.Lawful.{RunsAreLawful}
+use Rattle.monitor_queues.specs.ManyRuns.{AllRunsKeepJobs}
+use Rattle.monitor_queues.specs.QueueLaws.{JobsAreDoneOnce}
 use Rattle.monitor_queues.specs.ResumeLaws.{CutsResume}
 use Rattle.monitor_queues.specs.SerialCuts.{CutsAreSerial}
 use Rattle.monitor_run.specs.Durable.{durable_same}
@@ -25,12 +29,15 @@ suited_by Run e bytes t starts = opened e bytes t starts
 suited_by Show e bytes t starts = opened e bytes t starts
 suited_by (Make n) e bytes t is = opened e [] t (inl (refl, is))
 
-pub runs_lawfully : (e : Errand) → CanRun e → RunsAreLawful → CutsResume → CutsAreSerial → (bytes : List ℕ) (t : TableRows) → Starts e bytes t → RunsLawfully (app_of e) t e.commands
-runs_lawfully e can lawful resume serial bytes t starts =
+pub runs_lawfully : (e : Errand) → CanRun e → StartsHaveFacts → RunsAreLawful → JobsAreDoneOnce → CutsResume → CutsAreSerial → AllRunsKeepJobs
+    → (bytes : List ℕ) (t : TableRows) → Starts e bytes t → RunsLawfully (app_of e) t e.commands
+runs_lawfully e can facts lawful once resume serial runs bytes t starts =
     let there = suited_by e.word e bytes t starts in
     record {
       lasting = durable_same e.application.generation t there.1;
-      commits = lawful (app_of e) t e.commands can.applies can.names there.0 there.1;
+      steps = lawful (app_of e) t e.commands can.applies can.names there.0 there.1;
+      jobs = λ first more rest whole. once (app_of e) (started (app_of e) t) e.commands can.applies can.names (facts (app_of e) t can.applies there.0 there.1) first more rest whole;
       resumes = λ done left whole. resume (app_of e) t e.commands can.applies can.names there.0 there.1 done left whole;
       serial = λ done left whole. serial (app_of e) t e.commands can.applies can.names there.0 there.1 done left whole;
+      runs = λ many are. runs (app_of e) t many can.applies there.0 there.1 are;
     }

@@ -12,7 +12,9 @@ use Rattle.monitor_semantics.specs.declared.command.Command.{Command}
 use Rattle.monitor_semantics.specs.Commands.{started}
 use Rattle.monitor_semantics.specs.Endings.{durable}
 use Rattle.monitor_semantics.specs.Trace.{history, trace, tables_after, bytes_of}
-use Rattle.monitor_laws.specs.Commits.{IsLawful}
+use Rattle.monitor_queues.specs.Lawful.{IsLawful}
+use Rattle.monitor_queues.specs.ManyRuns.{StoppedRun, AreRunsFrom, RunsKeepJobs}
+use Rattle.monitor_queues.specs.QueueLaws.{JobsAreKept}
 use Rattle.monitor_queues.specs.ResumeLaws.{CutResumes}
 use Rattle.monitor_queues.specs.SerialCuts.{IsSerialCut}
 use Rattle.warm_start.specs.Stands.{StandsForTables}
@@ -119,13 +121,15 @@ MakesFile Run = ⊤
 MakesFile Show = ⊥
 MakesFile (Make n) = ⊥
 
--- every commit of the script meets the laws of commits; wherever a stop cuts its acts, what is stored are tables from which all services go on, and a serial run of the first commits stores the same
+-- every step of the script is lawful, and jobs are kept from each of its states to each later one; wherever a stop cuts its acts, what is stored are tables from which all services go on, and a serial run of the commits that are done stores the same; and jobs are kept over runs of any scripts one after another
 pub record RunsLawfully (app : Application) (t : TableRows) (script : List Command) : Type 0 where
   -- all rows of the first tables outlive a stop
   pub lasting : durable app.generation t ≡ t
-  pub commits : IsLawful app (started app t) (history app (started app t) script)
+  pub steps : IsLawful app (started app t) (history app (started app t) script)
+  pub jobs : JobsAreKept app (started app t) (history app (started app t) script)
   pub resumes : (done left : List Act) → trace app t script ≡ done ++ left → CutResumes app t script done
   pub serial : (done left : List Act) → trace app t script ≡ done ++ left → IsSerialCut app t script done
+  pub runs : (runs : List StoppedRun) → AreRunsFrom app t runs → RunsKeepJobs app t runs
 
 -- this name, or none, was handed to attach
 abbrev pub MayAttach : List ℕ → State → State → Type 0

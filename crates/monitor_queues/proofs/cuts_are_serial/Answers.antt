@@ -7,8 +7,7 @@ pub returns : goal.returns
 returns c = λ app t script application names order suits done left whole.
     let k = c.cuts_resume.ensures app t script application names order suits done left whole in
     record {
-      first = k.first;
-      rest = k.rest;
-      whole = k.whole;
-      run = subst (λ u. MakeInTurn app (durable app.generation t) u (makers_of k.first)) (sym k.stored) (c.scripts_are_serial_runs.ensures.stops app t script application names order suits k.first k.rest k.whole);
+      steps = k.steps;
+      run = subst (λ u. MakeInTurn app (durable app.generation t) u (makers_of k.steps.first)) (sym k.stored)
+          (c.scripts_are_serial_runs.ensures.stops app t script application names order suits k.steps.first k.steps.rest k.steps.whole);
     }

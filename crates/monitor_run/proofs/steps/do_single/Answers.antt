@@ -4,7 +4,8 @@ use Rattle.monitor_semantics.specs.Trace.{tables_after}
 use Rattle.monitor_semantics.specs.Commands.{acts_of, command_of}
 use Rattle.warm_start.specs.Stands.{StandsForTables}
 use Rattle.monitor_run.specs.HandedOn.{act_failed, act_refuses_nothing, act_knows_no_other}
-use Rattle.monitor_run.specs.Running.{identity_of, durable_of, commits_in}
+use Rattle.monitor_laws.specs.Cut.{commits_in}
+use Rattle.monitor_run.specs.Running.{identity_of, durable_of}
 use Rattle.monitor_acts.specs.Acting.{performs_none}
 use Rattle.monitor_run.proofs.Stepping.{can_perform, performs_step, did_step}
 use Rattle.monitor_run.proofs.Storables.{command_can}
