@@ -33,11 +33,14 @@ SOURCE_LIST = OUT / "sources"
 PARTS = ("src", "specs", "proofs")
 
 NO_ANSWER = 9
+# rt also runs the program that it has built: with these words, which the program alone ends with this status.
+FIRST_WORDS = ["run", "nothing"]
+FIRST_STATUS = 6
 MOST_JOBS = 4
 GIGABYTE = 10**9
 # What a proof takes at most: memory for itself, for each line of code of the crate and of those below it, and for each
 # further job a part of the sum; and time for a line below, of that for a line of its own.
-MEMORY = 0.9 * GIGABYTE
+MEMORY = GIGABYTE
 MEMORY_OF_LINE = 500_000
 MEMORY_OF_LINE_BELOW = 100_000
 MEMORY_OF_JOB = 0.6
@@ -60,7 +63,8 @@ class Stopped(Exception):
 def say(text):
     """Tells the user something on standard error, where there is one: standard output is the program's own."""
     if sys.stderr is not None:
-        print(f"utm: {text}", file=sys.stderr, flush=True)
+        with contextlib.suppress(OSError):
+            print(f"utm: {text}", file=sys.stderr, flush=True)
 
 
 def count_of(number, word):
@@ -254,10 +258,11 @@ class Prover:
         self.out = self.room / "crates" / crate.name / "out"
         self.log = LOGS / f"{crate.name}.log"
         self.furnish()
-        words = ["rt", "run" if crate.is_program() else "lib", "--jobs", str(jobs)]
+        words = ["--jobs", str(jobs)]
+        words = ["run", *words, "--", *FIRST_WORDS] if crate.is_program() else ["lib", *words]
         with open(self.log, "wb") as log:
             self.process = subprocess.Popen(
-                words,
+                ["rt", *words],
                 cwd=self.out.parent,
                 stdin=subprocess.DEVNULL,
                 stdout=log,
@@ -278,8 +283,9 @@ class Prover:
         link_folder(self.crate.out / "incremental", self.out / "incremental")
 
     def is_done(self):
-        """Whether rt made what it had to. It also runs the program, which without words ends with 1."""
-        return self.crate.made_in(self.out).exists() and (self.process.returncode == 0 or self.crate.is_program())
+        """Whether rt made what it had to, and of a program, whether it also runs."""
+        wanted = FIRST_STATUS if self.crate.is_program() else 0
+        return self.process.returncode == wanted and self.crate.made_in(self.out).exists()
 
     def was_killed(self):
         """Whether rt was ended by a signal, or says that its prover was, as it is where memory is short."""
@@ -313,7 +319,7 @@ class Build:
         self.at_work, self.killed, self.has_failed = [], [], False
         self.processors, self.memory = processors(), free_memory()
         self.began = self.told = time.monotonic()
-        self.news = None
+        self.news, self.guard = None, None
 
     def run(self):
         """Proves all. Where a crate fails it starts no other, and waits for those at work, so that these are kept."""
@@ -409,7 +415,7 @@ class Build:
     def tell_failure(self, prover):
         """Says what failed, why as far as it shows, and what goes on."""
         lines = prover.log.read_text(errors="replace").splitlines()[-LINES_OF_LOG:]
-        say("\n".join([f"the build of {prover.crate.name} failed; its log ends with", *lines]))
+        say("\n".join([f"{prover.crate.name} failed; the end of its log:", *lines]))
         say(f"the whole log is {prover.log}")
         free = shutil.disk_usage(TOP).free
         if prover.was_killed():
