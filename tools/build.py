@@ -495,8 +495,11 @@ def main(words):
         remove(WORKSHOP)
         say("stopped: what is proved is kept, and the next start goes on with the rest")
         return 128 + stopped.args[0]
-    except (Failure, OSError, subprocess.SubprocessError) as error:
-        say(error)
+    except Failure as failure:
+        say(failure)
+        return NO_ANSWER
+    except (OSError, subprocess.SubprocessError) as error:
+        say(f"the build broke off: {error}; what is proved is kept: when this is mended, start again")
         return NO_ANSWER
     # Python ignores these two, and the program would inherit that.
     for it in (signal.SIGPIPE, signal.SIGXFSZ):
