@@ -6,25 +6,32 @@ ghost use Rattle.unit_check.specs.Faults.{is_memory as is_fit_memory};
 ghost use Rattle.application_read.specs.{declared.fault.ApplicationFault.TheVariants.{Definition, Units, Fit, Memory}, Faults.{line_of, name_of, text_of}};
 
 use generation_read::DefinitionFault;
+use std::fmt::{self, Debug, Display, Formatter, Write};
 use thiserror::Error;
 use unit_check::FitFault;
 use unit_read::UnitFault;
 
 /// The first fault of a definition and its units.
-#[derive(Clone, Copy, Debug, PartialEq, Eq, Error)]
+#[derive(Clone, Copy, Error)]
 pub enum ApplicationFault {
     /// The definition generates nothing.
-    #[error("{0}")]
+    #[error(transparent)]
     Definition(DefinitionFault),
     /// The text of the units spells no units.
-    #[error("{0}")]
+    #[error(transparent)]
     Units(UnitFault),
     /// The units do not fit the generation.
-    #[error("{0}")]
+    #[error(transparent)]
     Fit(FitFault),
     /// Memory ran out, which may be answered in place of anything else.
     #[error("out of memory")]
     Memory,
+}
+
+impl Debug for ApplicationFault {
+    fn fmt<W: Write>(&self, f: &mut Formatter<W>) -> fmt::Result {
+        Display::fmt(self, f)
+    }
 }
 
 impl From<DefinitionFault> for ApplicationFault {

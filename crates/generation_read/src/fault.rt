@@ -5,23 +5,30 @@ ghost use Rattle.generation_read.specs.{Faults.{line_of, name_of}, Causes.{of_le
 use kdcdef_check::CheckFault;
 use kdcdef_lex::LexFault;
 use kdcdef_read::ReadFault;
+use std::fmt::{self, Debug, Display, Formatter, Write};
 use thiserror::Error;
 
 /// The first fault of a definition.
-#[derive(Clone, Copy, Debug, PartialEq, Eq, Error)]
+#[derive(Clone, Copy, Error)]
 pub enum DefinitionFault {
     /// The text spells no statements.
-    #[error("{0}")]
+    #[error(transparent)]
     Lex(LexFault),
     /// A statement says nothing of this profile.
-    #[error("{0}")]
+    #[error(transparent)]
     Read(ReadFault),
     /// The statements together generate nothing.
-    #[error("{0}")]
+    #[error(transparent)]
     Check(CheckFault),
     /// Memory ran out, which may be answered in place of anything else.
     #[error("out of memory")]
     Memory,
+}
+
+impl Debug for DefinitionFault {
+    fn fmt<W: Write>(&self, f: &mut Formatter<W>) -> fmt::Result {
+        Display::fmt(self, f)
+    }
 }
 
 impl From<LexFault> for DefinitionFault {

@@ -42,6 +42,11 @@ pub fn check(alloc: Global, statements: &Vec<Statement>) -> Result<Generation, C
         return Err(fault);
     }
     let counts = filled.tally.counts(passed_operands(statements));
-    let generation = Generation::of(alloc, Box::into_inner(filled.tables), limits_of(&whole.max), counts)?;
+    let generation = Generation::of(
+        alloc,
+        Box::into_inner(filled.tables),
+        limits_of(&whole.max),
+        counts,
+    )?;
     Ok(generation)
 }

@@ -3,42 +3,33 @@ ghost use Rattle.std.specs.Prelude.{◌≡◌};
 ghost use Rattle.kdcdef_check.specs.{Faults.{row_of, line_of, name_of, comes_first}, Steps.{earlier}, declared.fault.CheckFault.TheVariants.{Memory}};
 
 use kd_base::OutOfMemory;
+use std::fmt::{self, Debug, Display, Formatter, Write};
 use thiserror::Error;
 
 /// The first fault of statements together, with the line of its statement, counted from 1.
 ///
 /// The fault of the least line is answered, and on one line the one that stands first here.
-#[derive(Clone, Copy, Debug, PartialEq, Eq, Error)]
+#[derive(Clone, Copy, Error)]
 pub enum CheckFault {
     /// A name that an earlier statement of the kind has, a class twice, or one name for a TAC and an LTERM.
-    #[error("line {0}: a name that an earlier statement has")]
     NameTwice(u32),
     /// A TAC that names no PROGRAM statement.
-    #[error("line {0}: no PROGRAM statement has this name")]
     NoProgram(u32),
     /// A PTERM that names no LTERM statement.
-    #[error("line {0}: no LTERM statement has this name")]
     NoLterm(u32),
     /// A PTERM whose LTERM an earlier one has.
-    #[error("line {0}: an earlier PTERM has this LTERM")]
     LtermTwice(u32),
     /// No MAX statement gives APPLINAME; the line of END.
-    #[error("line {0}: no MAX statement gives APPLINAME")]
     NoMax(u32),
     /// A dialogue TAC with a class from 9 to 16, or an asynchronous TAC with one from 1 to 8.
-    #[error("line {0}: a TAC with a class of the other kind")]
     ClassOfWrongKind(u32),
     /// PGPOOL is less than the users with RESTART=YES and the LTERMs together; the line of END.
-    #[error("line {0}: PGPOOL is too small for the users and LTERMs")]
     PoolTooSmall(u32),
     /// No USER statement; the line of END.
-    #[error("line {0}: no USER statement")]
     NoUser(u32),
     /// The 20,001st statement of a kind; all statements that are passed over are one kind.
-    #[error("line {0}: more than 20000 statements of a kind")]
     TooMany(u32),
     /// Memory ran out, which may be answered in place of anything else.
-    #[error("out of memory")]
     Memory,
 }
 
@@ -58,6 +49,22 @@ impl CheckFault {
             CheckFault::NoUser(line) => (line, 8, "NoUser"),
             CheckFault::TooMany(line) => (line, 9, "TooMany"),
             CheckFault::Memory => (0, 0, "Memory"),
+        }
+    }
+
+    // What it says of its line.
+    fn message(&self) -> &'static str {
+        match self {
+            CheckFault::NameTwice(_) => "a name that an earlier statement has",
+            CheckFault::NoProgram(_) => "no PROGRAM statement has this name",
+            CheckFault::NoLterm(_) => "no LTERM statement has this name",
+            CheckFault::LtermTwice(_) => "an earlier PTERM has this LTERM",
+            CheckFault::NoMax(_) => "no MAX statement gives APPLINAME",
+            CheckFault::ClassOfWrongKind(_) => "a TAC with a class of the other kind",
+            CheckFault::PoolTooSmall(_) => "PGPOOL is too small for the users and LTERMs",
+            CheckFault::NoUser(_) => "no USER statement",
+            CheckFault::TooMany(_) => "more than 20000 statements of a kind",
+            CheckFault::Memory => "out of memory",
         }
     }
 
@@ -81,6 +88,21 @@ impl CheckFault {
         let (line, number, _) = self.row();
         let (other_line, other_number, _) = other.row();
         line < other_line || (line == other_line && number <= other_number)
+    }
+}
+
+impl Display for CheckFault {
+    fn fmt<W: Write>(&self, f: &mut Formatter<W>) -> fmt::Result {
+        match self {
+            CheckFault::Memory => f.write_str(self.message()),
+            _ => write!(f, "line {}: {}", self.line(), self.message()),
+        }
+    }
+}
+
+impl Debug for CheckFault {
+    fn fmt<W: Write>(&self, f: &mut Formatter<W>) -> fmt::Result {
+        Display::fmt(self, f)
     }
 }
 

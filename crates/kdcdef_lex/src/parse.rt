@@ -1,6 +1,7 @@
 //! A statement from its tokens: keyword, operands, values and lists.
-ghost use Rattle.std.specs.{Prelude.{◌≡◌, ◌<◌, List, ℕ, length, ◌≤◌, IfOk, IfSome, Option}, Option.{option_map}};
-ghost use Rattle.kdcdef_lex.specs.Parsing.{hex_digit, hex_bytes, quoted_value, item_at, item_step, items_within, value_at, operand_at, operand_step, operands_within, operands_of, statement_at};
+ghost use Rattle.std.specs.{Prelude.{◌≡◌, ◌∷◌, length, IfOk}, Option.{option_map, option_copied}};
+ghost use Rattle.kdcdef_lex.specs.Parsing.{hex_digit, hex_bytes, quoted_value, item_at, item_step, items_within, value_at, with_key, operand_at, operand_step, operands_within, operands_of, statement_at};
+ghost use Rattle.kdcdef_lex.specs.declared.token.Token.TheVariants.{Word, Quoted, Open};
 
 use crate::statement::{Items, Operands, RawItem, RawOperand, RawStatement, RawValue};
 use crate::token::Token;
@@ -102,21 +103,69 @@ fn items_of(alloc: Global, tokens: &[Token]) -> Result<Option<(Items, &[Token])>
     Ok(None)
 }
 
+// A word as a value, and what follows.
+fn word_value<'a>(
+    word: &Bytes,
+    rest: &'a [Token],
+) -> Result<Option<(RawValue, &'a [Token])>, OutOfMemory>
+    ensures { IfOk result (λ found. option_map (λ v. (v.0, v.1.now)) found ≡ value_at (Word word.now ∷ rest.now)) }
+{
+    Ok(Some((RawValue::Word(word.clone()?), rest)))
+}
+
+// Quoted bytes as a value, and what follows.
+fn bytes_value<'a>(
+    alloc: Global,
+    form: &Bytes,
+    content: &Bytes,
+    rest: &'a [Token],
+) -> Result<Option<(RawValue, &'a [Token])>, OutOfMemory>
+    ensures { IfOk result (λ found. option_map (λ v. (v.0, v.1.now)) found ≡ value_at (Quoted form.now content.now ∷ rest.now)) }
+{
+    match quoted_value(alloc, form, content)? {
+        None => Ok(None),
+        Some(value) => Ok(Some((RawValue::Quoted(value), rest))),
+    }
+}
+
+// Behind `(`: a list as a value, and what follows.
+fn list_value(alloc: Global, inside: &[Token]) -> Result<Option<(RawValue, &[Token])>, OutOfMemory>
+    ensures { IfOk result (λ found. option_map (λ v. (v.0, v.1.now)) found ≡ value_at (Open ∷ inside.now)) }
+{
+    match items_of(alloc, inside)? {
+        None => Ok(None),
+        Some((items, rest)) => Ok(Some((RawValue::Listed(items), rest))),
+    }
+}
+
 // The value at the front, and what follows.
 fn value_of(alloc: Global, tokens: &[Token]) -> Result<Option<(RawValue, &[Token])>, OutOfMemory>
     ensures { IfOk result (λ found. option_map (λ v. (v.0, v.1.now)) found ≡ value_at tokens.now) }
 {
     match tokens {
-        [Token::Word(word), rest @ ..] => Ok(Some((RawValue::Word(word.clone()?), rest))),
-        [Token::Quoted(form, content), rest @ ..] => match quoted_value(alloc, form, content)? {
-            None => Ok(None),
-            Some(value) => Ok(Some((RawValue::Quoted(value), rest))),
-        },
-        [Token::Open, inside @ ..] => match items_of(alloc, inside)? {
-            None => Ok(None),
-            Some((items, rest)) => Ok(Some((RawValue::Listed(items), rest))),
-        },
+        [Token::Word(word), rest @ ..] => word_value(word, rest),
+        [Token::Quoted(form, content), rest @ ..] => bytes_value(alloc, form, content, rest),
+        [Token::Open, inside @ ..] => list_value(alloc, inside),
         _ => Ok(None),
+    }
+}
+
+// The key at the front, where there is one, and what follows its `=`.
+fn key_of(tokens: &[Token]) -> (Option<&Bytes>, &[Token])
+    ensures { operand_at tokens.now ≡ with_key (option_copied result.0) (value_at result.1.now) }
+{
+    match tokens {
+        [Token::Word(word), Token::Equals, rest @ ..] => (Some(word), rest),
+        _ => (None, tokens),
+    }
+}
+
+fn copied(key: Option<&Bytes>) -> Result<Option<Bytes>, OutOfMemory>
+    ensures { IfOk result (λ copy. copy ≡ option_copied key.entry) }
+{
+    match key {
+        Some(bytes) => Ok(Some(bytes.clone()?)),
+        None => Ok(None),
     }
 }
 
@@ -127,21 +176,11 @@ fn operand_of(
 ) -> Result<Option<(RawOperand, &[Token])>, OutOfMemory>
     ensures { IfOk result (λ found. option_map (λ o. (o.0, o.1.now)) found ≡ operand_at tokens.now) }
 {
-    match tokens {
-        [Token::Word(word), Token::Equals, rest @ ..] => match value_of(alloc, rest)? {
-            None => Ok(None),
-            Some((value, rest)) => Ok(Some((
-                RawOperand {
-                    key: Some(word.clone()?),
-                    value,
-                },
-                rest,
-            ))),
-        },
-        _ => match value_of(alloc, tokens)? {
-            None => Ok(None),
-            Some((value, rest)) => Ok(Some((RawOperand { key: None, value }, rest))),
-        },
+    let (key, rest) = key_of(tokens);
+    let key = copied(key)?;
+    match value_of(alloc, rest)? {
+        None => Ok(None),
+        Some((value, rest)) => Ok(Some((RawOperand { key, value }, rest))),
     }
 }
 

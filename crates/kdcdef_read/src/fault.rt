@@ -3,46 +3,36 @@ ghost use Rattle.std.specs.Prelude.{◌≡◌};
 ghost use Rattle.kdcdef_read.specs.{Faults.{at_line, line_of, name_of}, declared.fault.ReadFault.TheVariants.{Memory}};
 
 use kd_base::OutOfMemory;
+use std::fmt::{self, Debug, Display, Formatter, Write};
 use thiserror::Error;
 
 /// The first fault of a list of statements, with the number of its line, counted from 1.
 ///
 /// The first faulty statement is answered; within it the first faulty operand, and on one operand what stands first
 /// here. That an operand is missing comes last in its statement.
-#[derive(Clone, Copy, Debug, PartialEq, Eq, Error)]
+#[derive(Clone, Copy, Error)]
 pub enum ReadFault {
     /// A keyword that no statement has.
-    #[error("line {0}: no statement has this keyword")]
     UnknownStatement(u32),
     /// An operand that was given before, in this statement or in another MAX statement.
-    #[error("line {0}: an operand is given twice")]
     OperandTwice(u32),
     /// An operand that the statement must have is not given.
-    #[error("line {0}: an operand is missing")]
     OperandMissing(u32),
     /// A value that is no name.
-    #[error("line {0}: a value that is no name")]
     BadName(u32),
     /// A value that is not 1 to 18 digits.
-    #[error("line {0}: a value that is no number")]
     BadNumber(u32),
     /// A number outside its range, or a password that is empty or longer than 16 bytes.
-    #[error("line {0}: a value outside its range")]
     OutOfRange(u32),
     /// A value that is none of the choices, or has another form.
-    #[error("line {0}: a value that is none of the choices")]
     BadChoice(u32),
     /// Something of KDCDEF that this profile does not have.
-    #[error("line {0}: not in this profile")]
     NotInProfile(u32),
     /// A statement behind END.
-    #[error("line {0}: a statement behind END")]
     AfterEnd(u32),
     /// No END; the line is one more than that of the last statement, and 1 where there is none.
-    #[error("line {0}: no END")]
     NoEnd(u32),
     /// Memory ran out, which may be answered in place of anything else.
-    #[error("out of memory")]
     Memory,
 }
 
@@ -74,6 +64,23 @@ pub(crate) fn at_line(line: u32, cause: Cause) -> ReadFault
 }
 
 impl ReadFault {
+    // What it says of its line.
+    fn message(&self) -> &'static str {
+        match self {
+            ReadFault::UnknownStatement(_) => "no statement has this keyword",
+            ReadFault::OperandTwice(_) => "an operand is given twice",
+            ReadFault::OperandMissing(_) => "an operand is missing",
+            ReadFault::BadName(_) => "a value that is no name",
+            ReadFault::BadNumber(_) => "a value that is no number",
+            ReadFault::OutOfRange(_) => "a value outside its range",
+            ReadFault::BadChoice(_) => "a value that is none of the choices",
+            ReadFault::NotInProfile(_) => "not in this profile",
+            ReadFault::AfterEnd(_) => "a statement behind END",
+            ReadFault::NoEnd(_) => "no END",
+            ReadFault::Memory => "out of memory",
+        }
+    }
+
     /// The number of its line, counted from 1. It takes no memory.
     pub fn line(&self) -> u32
         ensures { result ≡ line_of self.now }
@@ -110,6 +117,21 @@ impl ReadFault {
             ReadFault::NoEnd(_) => "NoEnd",
             ReadFault::Memory => "Memory",
         }
+    }
+}
+
+impl Display for ReadFault {
+    fn fmt<W: Write>(&self, f: &mut Formatter<W>) -> fmt::Result {
+        match self {
+            ReadFault::Memory => f.write_str(self.message()),
+            _ => write!(f, "line {}: {}", self.line(), self.message()),
+        }
+    }
+}
+
+impl Debug for ReadFault {
+    fn fmt<W: Write>(&self, f: &mut Formatter<W>) -> fmt::Result {
+        Display::fmt(self, f)
     }
 }
 

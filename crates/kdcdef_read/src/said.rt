@@ -1,6 +1,6 @@
 //! What a statement says, from what its operands say.
 ghost use Rattle.std.specs.Prelude.{◌≡◌, IfOk};
-ghost use Rattle.kdcdef_read.specs.{Said.{name_at, prog_name_at, number_at, class_at, time_at, call_at, flag_at, password_at, max_said, class_of, tac_entry, tac_said, user_said, pterm_said, lterm_said, class_said, said_of}, Filling.{answer, answers}};
+ghost use Rattle.kdcdef_read.specs.{Said.{name_at, prog_name_at, number_at, class_at, time_at, call_at, flag_at, password_at, max_said, class_of, tac_entry, tac_said, user_said, pterm_said, lterm_said, class_said, said_of}, Filling.{answer, answers}, Operands.{default_in}, Table.{row_of}};
 ghost use Rattle.kdcdef_read.specs.declared.words.Keyword.TheVariants as keywords;
 ghost use Rattle.kdcdef_read.specs.declared.words.Key.TheVariants as keys;
 
@@ -12,18 +12,21 @@ use kd_base::{Bytes, Name, OutOfMemory, ProgName};
 use kdcdef_types::{CallUse, LtermEntry, MaxOperands, PtermEntry, Said, TacEntry, UserEntry};
 use std::alloc::Global;
 
-// What the operand with this key says, or its default.
-fn answer(keyword: Keyword, given: &Given, key: Key) -> Option<Value>
-    ensures { result ≡ answer keyword given.now.slots key }
+// What stands where no operand has this key.
+fn default_of(keyword: Keyword, key: Key) -> Option<Value>
+    ensures { result ≡ default_in (row_of keyword key) }
 {
-    let place = place_of(key);
-    if given.slots[place].is_some() {
-        return given.slots[place];
-    }
     match row_of(keyword, key) {
         Some(row) => row.default,
         None => None,
     }
+}
+
+// What the operand with this key says, or its default.
+fn answer(keyword: Keyword, given: &Given, key: Key) -> Option<Value>
+    ensures { result ≡ answer keyword given.now.slots key }
+{
+    given.slots[place_of(key)].or(default_of(keyword, key))
 }
 
 fn name_at(value: &Option<Value>) -> Option<Name>

@@ -81,7 +81,7 @@ fn time_in(raw: &RawValue) -> Result<Value, Cause>
 }
 
 // A choice of two words.
-fn flag_of(off: &[u8], on: &[u8], word: &[u8]) -> Option<Value>
+fn flag_of(off: &str, on: &str, word: &[u8]) -> Option<Value>
     ensures { result ≡ flag_of off.now on.now word.now }
 {
     if is(word, off) {
@@ -96,11 +96,11 @@ fn flag_of(off: &[u8], on: &[u8], word: &[u8]) -> Option<Value>
 fn call_of(word: &[u8]) -> Option<Value>
     ensures { result ≡ call_of word.now }
 {
-    if is(word, b"BOTH") {
+    if is(word, "BOTH") {
         Some(Value::Call(CallUse::Both))
-    } else if is(word, b"FIRST") {
+    } else if is(word, "FIRST") {
         Some(Value::Call(CallUse::First))
-    } else if is(word, b"NEXT") {
+    } else if is(word, "NEXT") {
         Some(Value::Call(CallUse::Next))
     } else {
         None
@@ -110,11 +110,11 @@ fn call_of(word: &[u8]) -> Option<Value>
 fn blksize_of(word: &[u8]) -> Option<Value>
     ensures { result ≡ blksize_of word.now }
 {
-    if is(word, b"2K") {
+    if is(word, "2K") {
         Some(Value::Number(2048))
-    } else if is(word, b"4K") {
+    } else if is(word, "4K") {
         Some(Value::Number(4096))
-    } else if is(word, b"8K") {
+    } else if is(word, "8K") {
         Some(Value::Number(8192))
     } else {
         None
@@ -125,11 +125,11 @@ fn choice_of(choice: Choice, word: &[u8]) -> Option<Value>
     ensures { result ≡ choice_of choice word.now }
 {
     match choice {
-        Choice::Type => flag_of(b"D", b"A", word),
+        Choice::Type => flag_of("D", "A", word),
         Choice::Call => call_of(word),
-        Choice::Status => flag_of(b"OFF", b"ON", word),
-        Choice::Restart => flag_of(b"NO", b"YES", word),
-        Choice::Usage => flag_of(b"D", b"O", word),
+        Choice::Status => flag_of("OFF", "ON", word),
+        Choice::Restart => flag_of("NO", "YES", word),
+        Choice::Usage => flag_of("D", "O", word),
         Choice::Blksize => blksize_of(word),
     }
 }
@@ -175,7 +175,7 @@ fn password_in(raw: &RawValue) -> Result<Value, Cause>
 }
 
 // A choice of two words, of which this profile has the first.
-fn first_of(kept: &[u8], other: &[u8], word: &[u8]) -> Result<Value, Cause>
+fn first_of(kept: &str, other: &str, word: &[u8]) -> Result<Value, Cause>
     ensures { result ≡ first_of kept.now other.now word.now }
 {
     if is(word, kept) {
@@ -195,8 +195,8 @@ fn file_in(raw: &RawValue) -> Result<Value, Cause>
         RawValue::Quoted(_) => Err(Cause::BadChoice),
         RawValue::Listed(items) => match items.as_slice() {
             [Some(RawItem::Word(_)), Some(RawItem::Word(word))] => first_of(
-                b"SINGLE",
-                b"DOUBLE",
+                "SINGLE",
+                "DOUBLE",
                 word.as_slice(),
             ),
             _ => Err(Cause::BadChoice),
@@ -208,7 +208,7 @@ fn mode_in(raw: &RawValue) -> Result<Value, Cause>
     ensures { result ≡ mode_in raw.now }
 {
     match raw {
-        RawValue::Word(word) => first_of(b"SECURE", b"FAST", word.as_slice()),
+        RawValue::Word(word) => first_of("SECURE", "FAST", word.as_slice()),
         _ => Err(Cause::BadChoice),
     }
 }

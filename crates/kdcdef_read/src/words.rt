@@ -2,6 +2,8 @@
 ghost use Rattle.std.specs.{Prelude.{◌≡◌, ◌<◌}, Str.{str_eq_ignore_ascii_case}};
 ghost use Rattle.kdcdef_read.specs.Words.{kept_of, is_passed, form_of, limit_key, entry_key, key_of, place_of};
 
+use texts::first_true;
+
 /// A statement with operands that are kept.
 #[derive(Clone, Copy)]
 pub enum Keyword {
@@ -62,51 +64,41 @@ pub enum Key {
 /// How many keys there are.
 pub const KEYS: usize = 26;
 
-pub(crate) fn is(word: &[u8], text: &[u8]) -> bool
+pub(crate) fn is(word: &[u8], text: &str) -> bool
     ensures { result ≡ str_eq_ignore_ascii_case word.now text.now }
 {
-    word.eq_ignore_ascii_case(text)
+    word.eq_ignore_ascii_case(text.as_bytes())
 }
 
 fn kept_of(word: &[u8]) -> Option<Keyword>
     ensures { result ≡ kept_of word.now }
 {
-    if is(word, b"MAX") {
-        Some(Keyword::Max)
-    } else if is(word, b"PROGRAM") {
-        Some(Keyword::Program)
-    } else if is(word, b"TAC") {
-        Some(Keyword::Tac)
-    } else if is(word, b"USER") {
-        Some(Keyword::User)
-    } else if is(word, b"PTERM") {
-        Some(Keyword::Pterm)
-    } else if is(word, b"LTERM") {
-        Some(Keyword::Lterm)
-    } else if is(word, b"TLS") {
-        Some(Keyword::Tls)
-    } else if is(word, b"ULS") {
-        Some(Keyword::Uls)
-    } else if is(word, b"TACCLASS") {
-        Some(Keyword::TacClass)
-    } else {
-        None
-    }
+    first_true(&[
+        (is(word, "MAX"), Keyword::Max),
+        (is(word, "PROGRAM"), Keyword::Program),
+        (is(word, "TAC"), Keyword::Tac),
+        (is(word, "USER"), Keyword::User),
+        (is(word, "PTERM"), Keyword::Pterm),
+        (is(word, "LTERM"), Keyword::Lterm),
+        (is(word, "TLS"), Keyword::Tls),
+        (is(word, "ULS"), Keyword::Uls),
+        (is(word, "TACCLASS"), Keyword::TacClass),
+    ])
 }
 
 // The nine statements that are read and not kept.
 fn is_passed(word: &[u8]) -> bool
     ensures { result ≡ is_passed word.now }
 {
-    is(word, b"FORMSYS")
-        || is(word, b"ROOT")
-        || is(word, b"OPTION")
-        || is(word, b"EXIT")
-        || is(word, b"MESSAGE")
-        || is(word, b"BCAMAPPL")
-        || is(word, b"RESERVE")
-        || is(word, b"SIGNON")
-        || is(word, b"ACCOUNT")
+    is(word, "FORMSYS")
+        || is(word, "ROOT")
+        || is(word, "OPTION")
+        || is(word, "EXIT")
+        || is(word, "MESSAGE")
+        || is(word, "BCAMAPPL")
+        || is(word, "RESERVE")
+        || is(word, "SIGNON")
+        || is(word, "ACCOUNT")
 }
 
 pub(crate) fn form_of(word: &[u8]) -> Option<Form>
@@ -116,9 +108,9 @@ pub(crate) fn form_of(word: &[u8]) -> Option<Form>
         Some(Form::Kept(keyword))
     } else if is_passed(word) {
         Some(Form::Passed)
-    } else if is(word, b"KSET") {
+    } else if is(word, "KSET") {
         Some(Form::KeySet)
-    } else if is(word, b"END") {
+    } else if is(word, "END") {
         Some(Form::End)
     } else {
         None
@@ -129,68 +121,41 @@ pub(crate) fn form_of(word: &[u8]) -> Option<Form>
 fn limit_key(word: &[u8]) -> Option<Key>
     ensures { result ≡ limit_key word.now }
 {
-    if is(word, b"APPLINAME") {
-        Some(Key::Appliname)
-    } else if is(word, b"KDCFILE") {
-        Some(Key::KdcFile)
-    } else if is(word, b"TASKS") {
-        Some(Key::Tasks)
-    } else if is(word, b"ASYNTASKS") {
-        Some(Key::Asyntasks)
-    } else if is(word, b"GSSBS") {
-        Some(Key::Gssbs)
-    } else if is(word, b"LSSBS") {
-        Some(Key::Lssbs)
-    } else if is(word, b"KB") {
-        Some(Key::Kb)
-    } else if is(word, b"SPAB") {
-        Some(Key::Spab)
-    } else if is(word, b"NB") {
-        Some(Key::Nb)
-    } else if is(word, b"PGPOOL") {
-        Some(Key::Pgpool)
-    } else if is(word, b"RESWAIT") {
-        Some(Key::Reswait)
-    } else if is(word, b"BLKSIZE") {
-        Some(Key::Blksize)
-    } else if is(word, b"APPLIMODE") {
-        Some(Key::Applimode)
-    } else {
-        None
-    }
+    first_true(&[
+        (is(word, "APPLINAME"), Key::Appliname),
+        (is(word, "KDCFILE"), Key::KdcFile),
+        (is(word, "TASKS"), Key::Tasks),
+        (is(word, "ASYNTASKS"), Key::Asyntasks),
+        (is(word, "GSSBS"), Key::Gssbs),
+        (is(word, "LSSBS"), Key::Lssbs),
+        (is(word, "KB"), Key::Kb),
+        (is(word, "SPAB"), Key::Spab),
+        (is(word, "NB"), Key::Nb),
+        (is(word, "PGPOOL"), Key::Pgpool),
+        (is(word, "RESWAIT"), Key::Reswait),
+        (is(word, "BLKSIZE"), Key::Blksize),
+        (is(word, "APPLIMODE"), Key::Applimode),
+    ])
 }
 
 // The other keys.
 fn entry_key(word: &[u8]) -> Option<Key>
     ensures { result ≡ entry_key word.now }
 {
-    if is(word, b"PROGRAM") {
-        Some(Key::Program)
-    } else if is(word, b"TYPE") {
-        Some(Key::Type)
-    } else if is(word, b"CALL") {
-        Some(Key::Call)
-    } else if is(word, b"STATUS") {
-        Some(Key::Status)
-    } else if is(word, b"TACCLASS") {
-        Some(Key::TacClass)
-    } else if is(word, b"TIME") {
-        Some(Key::Time)
-    } else if is(word, b"LOCK") {
-        Some(Key::Lock)
-    } else if is(word, b"PASS") {
-        Some(Key::Pass)
-    } else if is(word, b"RESTART") {
-        Some(Key::Restart)
-    } else if is(word, b"KSET") {
-        Some(Key::Kset)
-    } else if is(word, b"LTERM") {
-        Some(Key::Lterm)
-    } else if is(word, b"USAGE") {
-        Some(Key::Usage)
-    } else {
-        None
-    }
+    first_true(&[
+        (is(word, "PROGRAM"), Key::Program),
+        (is(word, "TYPE"), Key::Type),
+        (is(word, "CALL"), Key::Call),
+        (is(word, "STATUS"), Key::Status),
+        (is(word, "TACCLASS"), Key::TacClass),
+        (is(word, "TIME"), Key::Time),
+        (is(word, "LOCK"), Key::Lock),
+        (is(word, "PASS"), Key::Pass),
+        (is(word, "RESTART"), Key::Restart),
+        (is(word, "KSET"), Key::Kset),
+        (is(word, "LTERM"), Key::Lterm),
+        (is(word, "USAGE"), Key::Usage),
+    ])
 }
 
 pub(crate) fn key_of(word: &[u8]) -> Option<Key>

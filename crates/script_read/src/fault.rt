@@ -3,10 +3,11 @@ ghost use Rattle.std.specs.Prelude.{◌≡◌};
 ghost use Rattle.script_read.specs.declared.fault.ScriptFault.TheVariants.{Memory};
 
 use kd_base::OutOfMemory;
+use std::fmt::{self, Debug, Display, Formatter, Write};
 use thiserror::Error;
 
 /// The first fault of a script, with the number of its line from 1.
-#[derive(Clone, Copy, Debug, PartialEq, Eq, Error)]
+#[derive(Clone, Copy, Error)]
 pub enum ScriptFault {
     /// A line that is no command.
     #[error("line {0}: no command")]
@@ -19,6 +20,12 @@ pub enum ScriptFault {
     TooLong,
     #[error("out of memory")]
     Memory,
+}
+
+impl Debug for ScriptFault {
+    fn fmt<W: Write>(&self, f: &mut Formatter<W>) -> fmt::Result {
+        Display::fmt(self, f)
+    }
 }
 
 impl From<OutOfMemory> for ScriptFault {

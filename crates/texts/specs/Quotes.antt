@@ -1,5 +1,5 @@
 -- Bytes between two quotes.
-use Rattle.std.specs.Prelude.{ℕ, Bool, ◌==◌, List, [], ◌∷◌, Option, Some, None, if◌then◌else◌}
+use Rattle.std.specs.Prelude.{◌≡◌, ℕ, ◌<◌, Bool, ◌==◌, List, [], ◌∷◌, length, Option, Some, None, if◌then◌else◌}
 use Rattle.kd_base.specs.Tools.{onto_first}
 
 abbrev pub is_quote : ℕ → Bool
@@ -13,6 +13,12 @@ quoted_at (b ∷ c ∷ bytes) =
     if is_quote b
     then (if is_quote c then onto_first (39 ∷ []) (quoted_at bytes) else Some ([], c ∷ bytes))
     else onto_first (b ∷ []) (quoted_at (c ∷ bytes))
+
+-- the front of the bytes behind a quote is this: nothing, or a byte that it stands for or their end, and what follows
+abbrev pub IsFront : List ℕ → Option (Option ℕ × List ℕ) → Type 0
+IsFront bytes None = quoted_at bytes ≡ None
+IsFront bytes (Some (None, rest)) = quoted_at bytes ≡ Some ([], rest)
+IsFront bytes (Some (Some b, rest)) = (quoted_at bytes ≡ onto_first (b ∷ []) (quoted_at rest)) × (length rest < length bytes)
 
 -- each quote twice
 abbrev pub doubled : List ℕ → List ℕ

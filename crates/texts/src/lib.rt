@@ -1,16 +1,18 @@
 //! Lines, blanks, quoted bytes, and the parts of a line, as every reader of a text takes them.
 //!
 //! It stands on kd_base. To the readers of definitions, of units and of scripts its contract says what the first line of a
-//! text is without its end, what a line is without the blanks in front, what stands between two quotes, and which parts
-//! a line has, whatever a part is.
+//! text is without its end, what a line is without the blanks in front, what stands between two quotes, which parts
+//! a line has, whatever a part is, and what stands beside the first test that is true.
 #![tactic(auto)]
 
 mod blank;
+mod choice;
 mod line;
 mod part;
 mod quoted;
 
 pub use blank::{from_first, is_blank};
+pub use choice::first_true;
 pub use line::{len_before, next_line};
 pub use part::{Part, parts_of};
 pub use quoted::quoted_at;

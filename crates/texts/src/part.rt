@@ -29,7 +29,6 @@ fn part_step<P: Part>(alloc: Global, bytes: &[u8]) -> Result<Option<(P, &[u8])>,
 }
 
 /// The parts of a line; `None` where one has no end.
-#[tactic(auto, using(crate::specs::Parted::parts_end, crate::specs::Parted::parts_fail, crate::specs::Parted::parts_more))]
 pub fn parts_of<P: Part>(alloc: Global, line: &[u8]) -> Result<Option<Vec<P>>, OutOfMemory>
     ensures { IfOk result (λ found. option_map (λ ps. ps.items) found ≡ parts_of P.part_at line.now) }
 {

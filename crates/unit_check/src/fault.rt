@@ -3,13 +3,14 @@ ghost use Rattle.std.specs.Prelude.{◌≡◌};
 ghost use Rattle.unit_check.specs.{declared.fault.FitFault.TheVariants.{Memory}, Faults.{line_of, number_of, name_of}};
 
 use kd_base::OutOfMemory;
+use std::fmt::{self, Debug, Display, Formatter, Write};
 use thiserror::Error;
 
 /// The first reason why units do not fit a generation, with a line counted from 1.
 ///
 /// A PROGRAM statement without a unit comes before all others; of these the one of the least line is answered, and on one
 /// line the one that stands first here.
-#[derive(Clone, Copy, Debug, PartialEq, Eq, Error)]
+#[derive(Clone, Copy, Error)]
 pub enum FitFault {
     /// A PROGRAM statement, on this line of the definition, whose unit is missing.
     #[error("line {0} of the definition: no unit has this name")]
@@ -56,6 +57,12 @@ impl FitFault {
         ensures { result.now ≡ name_of self.now }
     {
         self.row().2
+    }
+}
+
+impl Debug for FitFault {
+    fn fmt<W: Write>(&self, f: &mut Formatter<W>) -> fmt::Result {
+        Display::fmt(self, f)
     }
 }
 

@@ -35,6 +35,10 @@ abbrev pub new_field : Word → Option (List ℕ)
 new_field (Plain word) = if is_name word && not (is_some (header_of word)) then Some word else None
 new_field (Literal bytes) = None
 
+-- name, whether it stands in SPAB, offset and length
+abbrev pub field_parts : Word → Word → Word → Word → Option (List ℕ × (Bool × (ℕ × ℕ)))
+field_parts n a o l = both (new_field n) (both (area_of a) (both (number_from 0 o) (number_from 1 l)))
+
 -- behind FIELD
 abbrev pub field_of : List Word → Option Piece
 field_of [] = None
@@ -42,7 +46,7 @@ field_of (n ∷ []) = None
 field_of (n ∷ a ∷ []) = None
 field_of (n ∷ a ∷ o ∷ []) = None
 field_of (n ∷ a ∷ o ∷ l ∷ []) =
-    option_map (λ (p : List ℕ × (Bool × (ℕ × ℕ))). pieces.Field p.0 p.1.0 p.1.1.0 p.1.1.1) (both (new_field n) (both (area_of a) (both (number_from 0 o) (number_from 1 l))))
+    option_map (λ (p : List ℕ × (Bool × (ℕ × ℕ))). pieces.Field p.0 p.1.0 p.1.1.0 p.1.1.1) (field_parts n a o l)
 field_of (n ∷ a ∷ o ∷ l ∷ x ∷ ws) = None
 
 -- behind UNIT

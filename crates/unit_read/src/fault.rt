@@ -3,37 +3,44 @@ ghost use Rattle.std.specs.Prelude.{◌≡◌};
 ghost use Rattle.unit_read.specs.{declared.fault.UnitFault.TheVariants.{Memory}, Faults.{line_of, name_of}};
 
 use kd_base::OutOfMemory;
+use std::fmt::{self, Debug, Display, Formatter, Write};
 use thiserror::Error;
 
 /// The first fault of a units text, with the number of its line, counted from 1.
 ///
 /// The fault of the least line is answered, and on one line the one that stands first here.
-#[derive(Clone, Copy, Debug, PartialEq, Eq, Error)]
+#[derive(Clone, Copy, Error)]
 pub enum UnitFault {
     /// A line that is no piece of a unit, or not one that may stand there.
-    #[error("line {0}: no statement of a unit")]
     BadStatement(u32),
     /// A field that is not defined, a field that is defined twice, or a header name where bytes are stored.
-    #[error("line {0}: a field that is not defined, or defined twice")]
     BadField(u32),
     /// A label that the unit already has.
-    #[error("line {0}: a label that stands twice")]
     LabelTwice(u32),
     /// A UNIT line, or the line behind the last, where a unit is open.
-    #[error("line {0}: a unit without its END")]
     NoEnd(u32),
     /// A UNIT line with the name of a unit above.
-    #[error("line {0}: a unit that stands twice")]
     UnitTwice(u32),
     /// The 10,001st statement of a unit, the 1,001st unit, or, with line 0, a text of more than 16,777,216 bytes.
-    #[error("line {0}: too long")]
     TooLong(u32),
     /// Memory ran out, which may be answered in place of anything else.
-    #[error("out of memory")]
     Memory,
 }
 
 impl UnitFault {
+    // What it says of its line.
+    fn message(&self) -> &'static str {
+        match self {
+            UnitFault::BadStatement(_) => "no statement of a unit",
+            UnitFault::BadField(_) => "a field that is not defined, or defined twice",
+            UnitFault::LabelTwice(_) => "a label that stands twice",
+            UnitFault::NoEnd(_) => "a unit without its END",
+            UnitFault::UnitTwice(_) => "a unit that stands twice",
+            UnitFault::TooLong(_) => "too long",
+            UnitFault::Memory => "out of memory",
+        }
+    }
+
     /// The number of its line, counted from 1; 0 for a text that is too long. It takes no memory.
     pub fn line(&self) -> u32
         ensures { result ≡ line_of self.now }
@@ -62,6 +69,21 @@ impl UnitFault {
             UnitFault::TooLong(_) => "TooLong",
             UnitFault::Memory => "Memory",
         }
+    }
+}
+
+impl Display for UnitFault {
+    fn fmt<W: Write>(&self, f: &mut Formatter<W>) -> fmt::Result {
+        match self {
+            UnitFault::Memory => f.write_str(self.message()),
+            _ => write!(f, "line {}: {}", self.line(), self.message()),
+        }
+    }
+}
+
+impl Debug for UnitFault {
+    fn fmt<W: Write>(&self, f: &mut Formatter<W>) -> fmt::Result {
+        Display::fmt(self, f)
     }
 }
 

@@ -82,71 +82,71 @@ const KEYS: [Key; 38] = [
     Key::Pend(Variant::Rs),
 ];
 
-fn variant_keyword(variant: Variant) -> &'static [u8]
+fn variant_keyword(variant: Variant) -> &'static str
     ensures { result.now ≡ variant_keyword variant }
 {
     match variant {
-        Variant::Kp => b"KP",
-        Variant::Pr => b"PR",
-        Variant::Pa => b"PA",
-        Variant::Re => b"RE",
-        Variant::Sp => b"SP",
-        Variant::Fi => b"FI",
-        Variant::Fc => b"FC",
-        Variant::Fr => b"FR",
-        Variant::Er => b"ER",
-        Variant::Rs => b"RS",
+        Variant::Kp => "KP",
+        Variant::Pr => "PR",
+        Variant::Pa => "PA",
+        Variant::Re => "RE",
+        Variant::Sp => "SP",
+        Variant::Fi => "FI",
+        Variant::Fc => "FC",
+        Variant::Fr => "FR",
+        Variant::Er => "ER",
+        Variant::Rs => "RS",
     }
 }
 
 // The keyword of the call or the plain statement.
-fn first_keyword(key: Key) -> &'static [u8]
+fn first_keyword(key: Key) -> &'static str
     ensures { result.now ≡ first_keyword key }
 {
     match key {
-        Key::Move => b"MOVE",
-        Key::Join => b"JOIN",
-        Key::Add => b"ADD",
-        Key::Sub => b"SUB",
-        Key::Mul => b"MUL",
-        Key::Div => b"DIV",
-        Key::If => b"IF",
-        Key::Jump => b"JUMP",
-        Key::Init => b"INIT",
-        Key::Mget => b"MGET",
-        Key::Mput => b"MPUT",
-        Key::Fget => b"FGET",
-        Key::Fput => b"FPUT",
-        Key::Dput => b"DPUT",
-        Key::SgetGb | Key::SgetKp | Key::SgetRl | Key::SgetUs => b"SGET",
-        Key::SputGb | Key::SputMs | Key::SputUs => b"SPUT",
-        Key::SrelGb | Key::SrelLb => b"SREL",
-        Key::Gtda => b"GTDA",
-        Key::Ptda => b"PTDA",
-        Key::UnlkGb | Key::UnlkUs | Key::UnlkDa => b"UNLK",
-        Key::Pend(_) => b"PEND",
+        Key::Move => "MOVE",
+        Key::Join => "JOIN",
+        Key::Add => "ADD",
+        Key::Sub => "SUB",
+        Key::Mul => "MUL",
+        Key::Div => "DIV",
+        Key::If => "IF",
+        Key::Jump => "JUMP",
+        Key::Init => "INIT",
+        Key::Mget => "MGET",
+        Key::Mput => "MPUT",
+        Key::Fget => "FGET",
+        Key::Fput => "FPUT",
+        Key::Dput => "DPUT",
+        Key::SgetGb | Key::SgetKp | Key::SgetRl | Key::SgetUs => "SGET",
+        Key::SputGb | Key::SputMs | Key::SputUs => "SPUT",
+        Key::SrelGb | Key::SrelLb => "SREL",
+        Key::Gtda => "GTDA",
+        Key::Ptda => "PTDA",
+        Key::UnlkGb | Key::UnlkUs | Key::UnlkDa => "UNLK",
+        Key::Pend(_) => "PEND",
     }
 }
 
 // The keyword of the operation or the variant; empty where there is none.
-fn second_keyword(key: Key) -> &'static [u8]
+fn second_keyword(key: Key) -> &'static str
     ensures { result.now ≡ second_keyword key }
 {
     match key {
-        Key::SgetGb | Key::SputGb | Key::SrelGb | Key::UnlkGb => b"GB",
-        Key::SgetKp => b"KP",
-        Key::SgetRl => b"RL",
-        Key::SputMs => b"MS",
-        Key::SrelLb => b"LB",
-        Key::SgetUs | Key::SputUs | Key::UnlkUs => b"US",
-        Key::UnlkDa => b"DA",
+        Key::SgetGb | Key::SputGb | Key::SrelGb | Key::UnlkGb => "GB",
+        Key::SgetKp => "KP",
+        Key::SgetRl => "RL",
+        Key::SputMs => "MS",
+        Key::SrelLb => "LB",
+        Key::SgetUs | Key::SputUs | Key::UnlkUs => "US",
+        Key::UnlkDa => "DA",
         Key::Pend(variant) => variant_keyword(variant),
-        _ => b"",
+        _ => "",
     }
 }
 
 // Whether the word in front is this one.
-fn is_front(words: &[Word], wanted: &[u8]) -> bool
+fn is_front(words: &[Word], wanted: &str) -> bool
     ensures { result ≡ is_front words.now wanted.now }
 {
     match words {

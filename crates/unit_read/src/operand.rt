@@ -3,10 +3,11 @@ ghost use Rattle.std.specs.{Prelude.{◌≡◌, IfOk, Option, length, option_cop
 ghost use Rattle.kd_base.specs.Text.{is_digit};
 ghost use Rattle.unit_read.specs.Operands.{is_letter, is_name_byte, is_name, are_digits, name_of, header_of, in_trim, plain_operand, operand_of, relation_of, mode_of};
 
-use crate::line::{first_true, same};
+use crate::line::same;
 use crate::word::Word;
 use kd_base::{Bytes, LONGEST_CONTENT, Mode, OutOfMemory};
 use std::alloc::Global;
+use texts::first_true;
 use unit_types::{HeaderName, Operand, Relation};
 
 fn is_letter(b: u8) -> bool
@@ -66,12 +67,12 @@ pub(crate) fn header_of(name: &[u8]) -> Option<HeaderName>
     ensures { result ≡ header_of name.now }
 {
     first_true(&[
-        (same(name, b"KCBENID"), HeaderName::Benid),
-        (same(name, b"KCLOGTER"), HeaderName::Logter),
-        (same(name, b"KCTACVG"), HeaderName::Tacvg),
-        (same(name, b"KCTACAL"), HeaderName::Tacal),
-        (same(name, b"KCRCCC"), HeaderName::Crccc),
-        (same(name, b"KCRLM"), HeaderName::Rlm),
+        (same(name, "KCBENID"), HeaderName::Benid),
+        (same(name, "KCLOGTER"), HeaderName::Logter),
+        (same(name, "KCTACVG"), HeaderName::Tacvg),
+        (same(name, "KCTACAL"), HeaderName::Tacal),
+        (same(name, "KCRCCC"), HeaderName::Crccc),
+        (same(name, "KCRLM"), HeaderName::Rlm),
     ])
 }
 
@@ -84,7 +85,7 @@ fn in_trim(word: &[u8]) -> Option<&[u8]>
     }
     let (front, rest) = word.split_at(5);
     let (inside, end) = rest.split_at(rest.len() - 1);
-    if !same(front, b"TRIM(") || !same(end, b")") {
+    if !same(front, "TRIM(") || !same(end, ")") {
         return None;
     }
     Some(inside)
@@ -128,10 +129,10 @@ pub(crate) fn relation_of(word: &Word) -> Option<Relation>
     };
     let bytes = bytes.as_slice();
     first_true(&[
-        (same(bytes, b"EQ"), Relation::Eq),
-        (same(bytes, b"NE"), Relation::Ne),
-        (same(bytes, b"LT"), Relation::Lt),
-        (same(bytes, b"GT"), Relation::Gt),
+        (same(bytes, "EQ"), Relation::Eq),
+        (same(bytes, "NE"), Relation::Ne),
+        (same(bytes, "LT"), Relation::Lt),
+        (same(bytes, "GT"), Relation::Gt),
     ])
 }
 
@@ -141,9 +142,9 @@ pub(crate) fn mode_of(word: &Word) -> Option<Mode>
     let Word::Plain(bytes) = word else {
         return None;
     };
-    if same(bytes.as_slice(), b"R") {
+    if same(bytes.as_slice(), "R") {
         Some(Mode::Relative)
-    } else if same(bytes.as_slice(), b"A") {
+    } else if same(bytes.as_slice(), "A") {
         Some(Mode::Absolute)
     } else {
         None

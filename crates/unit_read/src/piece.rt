@@ -1,6 +1,6 @@
 //! The pieces of units, one to a line.
-ghost use Rattle.std.specs.Prelude.{◌≡◌, ◌<◌, ◌≤◌, IfOk, length, option_copied};
-ghost use Rattle.unit_read.specs.Pieces.{plain, number_from, area_of, new_field, field_of, unit_of, before_colon, label_in, inner_of, piece_of};
+ghost use Rattle.std.specs.{Prelude.{◌≡◌, ◌<◌, ◌≤◌, IfOk, length, option_copied}, Option.{option_map}};
+ghost use Rattle.unit_read.specs.Pieces.{plain, number_from, area_of, new_field, field_parts, field_of, unit_of, before_colon, label_in, inner_of, piece_of};
 
 use crate::line::same;
 use crate::operand::{header_of, is_name};
@@ -46,9 +46,9 @@ fn area_of(word: &Word) -> Option<bool>
     ensures { result ≡ area_of word.now }
 {
     let area = plain(word)?;
-    if same(area, b"SPAB") {
+    if same(area, "SPAB") {
         Some(true)
-    } else if same(area, b"KB") {
+    } else if same(area, "KB") {
         Some(false)
     } else {
         None
@@ -66,6 +66,23 @@ fn new_field(word: &Word) -> Option<&[u8]>
     Some(name)
 }
 
+// Name, whether it stands in SPAB, offset and length.
+fn field_parts<'a>(
+    name: &'a Word,
+    area: &Word,
+    offset: &Word,
+    length: &Word,
+) -> Option<(&'a [u8], bool, u32, u32)>
+    ensures { option_map (λ p. (p.0.now, (p.1, (p.2, p.3)))) result ≡ field_parts name.now area.now offset.now length.now }
+{
+    Some((
+        new_field(name)?,
+        area_of(area)?,
+        number_from(0, offset)?,
+        number_from(1, length)?,
+    ))
+}
+
 // Behind FIELD.
 fn field_of(alloc: Global, words: &[Word]) -> Result<Option<Piece>, OutOfMemory>
     ensures { IfOk result (λ found. found ≡ field_of words.now) }
@@ -73,20 +90,13 @@ fn field_of(alloc: Global, words: &[Word]) -> Result<Option<Piece>, OutOfMemory>
     let [name, area, offset, length] = words else {
         return Ok(None);
     };
-    let Some(name) = new_field(name) else {
-        return Ok(None);
-    };
-    let Some(spab) = area_of(area) else {
-        return Ok(None);
-    };
-    let Some(offset) = number_from(0, offset) else {
-        return Ok(None);
-    };
-    let Some(length) = number_from(1, length) else {
-        return Ok(None);
-    };
-    let name = Bytes::from_slice(alloc, name)?;
-    Ok(Some(Piece::Field(name, spab, offset, length)))
+    match field_parts(name, area, offset, length) {
+        Some((name, spab, offset, length)) => {
+            let name = Bytes::from_slice(alloc, name)?;
+            Ok(Some(Piece::Field(name, spab, offset, length)))
+        }
+        None => Ok(None),
+    }
 }
 
 // Behind UNIT.
@@ -144,13 +154,13 @@ pub(crate) fn piece_of(alloc: Global, words: &[Word]) -> Result<Option<Piece>, O
     let [Word::Plain(first), rest @ ..] = words else {
         return Ok(None);
     };
-    if same(first.as_slice(), b"UNIT") {
+    if same(first.as_slice(), "UNIT") {
         return Ok(unit_of(rest));
     }
-    if same(first.as_slice(), b"FIELD") {
+    if same(first.as_slice(), "FIELD") {
         return field_of(alloc, rest);
     }
-    if same(first.as_slice(), b"END") && rest.is_empty() {
+    if same(first.as_slice(), "END") && rest.is_empty() {
         return Ok(Some(Piece::End));
     }
     inner_of(alloc, words)

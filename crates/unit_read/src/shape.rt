@@ -1,6 +1,6 @@
 //! The operands of a statement, by how many there are and of what kind.
-ghost use Rattle.std.specs.Prelude.{◌≡◌, IfOk};
-ghost use Rattle.unit_read.specs.Shapes.{both, one_name, one_operand, name_and_operand, operand_and_name, two_operands, name_and_two, compared, moment_of, delayed};
+ghost use Rattle.std.specs.{Prelude.{◌≡◌, IfOk}, Option.{option_map}};
+ghost use Rattle.unit_read.specs.{Operands.{mode_of, operand_of}, Shapes.{both, one_name, one_operand, name_and_operand, operand_and_name, two_operands, name_and_two, compared, moment_of, delayed}};
 
 use crate::operand::{mode_of, name_of, operand_of, relation_of};
 use crate::word::Word;
@@ -18,6 +18,25 @@ fn both<A: Drop, B: Drop>(first: Option<A>, second: Option<B>) -> Option<(A, B)>
     match (first, second) {
         (Some(first), Some(second)) => Some((first, second)),
         _ => None,
+    }
+}
+
+// The same things side by side.
+fn three<A: Drop, B: Drop, C: Drop>(found: Option<(A, (B, C))>) -> Option<(A, B, C)>
+    ensures { result ≡ option_map (λ p. (p.0, p.1.0, p.1.1)) found }
+{
+    match found {
+        Some((a, (b, c))) => Some((a, b, c)),
+        None => None,
+    }
+}
+
+fn four<A: Drop, B: Drop, C: Drop, D: Drop>(found: Option<(A, (B, (C, D)))>) -> Option<(A, B, C, D)>
+    ensures { result ≡ option_map (λ p. (p.0, p.1.0, p.1.1.0, p.1.1.1)) found }
+{
+    match found {
+        Some((a, (b, (c, d)))) => Some((a, b, c, d)),
+        None => None,
     }
 }
 
@@ -72,10 +91,7 @@ pub(crate) fn name_and_two(alloc: Global, words: &[Word]) -> Found<(Bytes, Opera
     let [name, rest @ ..] = words else {
         return Ok(None);
     };
-    match both(name_of(name)?, two_operands(alloc, rest)?) {
-        Some((name, (first, second))) => Ok(Some((name, first, second))),
-        None => Ok(None),
-    }
+    Ok(three(both(name_of(name)?, two_operands(alloc, rest)?)))
 }
 
 // Operand, relation, operand and label.
@@ -86,10 +102,7 @@ pub(crate) fn compared(alloc: Global, words: &[Word]) -> Found<(Operand, Relatio
         return Ok(None);
     };
     let later = both(relation_of(relation), operand_and_name(alloc, rest)?);
-    match both(operand_of(alloc, first)?, later) {
-        Some((first, (relation, (second, label)))) => { Ok(Some((first, relation, second, label))) }
-        None => Ok(None),
-    }
+    Ok(four(both(operand_of(alloc, first)?, later)))
 }
 
 // Hours and minutes, and seconds and message, of a DPUT.
@@ -100,12 +113,7 @@ fn moment_of(alloc: Global, words: &[Word]) -> Found<(Operand, Operand, Operand,
         return Ok(None);
     };
     let later = both(operand_of(alloc, minutes)?, two_operands(alloc, rest)?);
-    match both(operand_of(alloc, hours)?, later) {
-        Some((hours, (minutes, (seconds, message)))) => {
-            Ok(Some((hours, minutes, seconds, message)))
-        }
-        None => Ok(None),
-    }
+    Ok(four(both(operand_of(alloc, hours)?, later)))
 }
 
 /// What a DPUT says: to, relative or absolute, days, and then hours, minutes, seconds and the message.
@@ -117,28 +125,46 @@ pub(crate) struct DelayedMessage {
     pub rest: (Operand, Operand, Operand, Operand),
 }
 
+// The mode and what is behind it.
+fn behind_to(
+    alloc: Global,
+    mode: &Word,
+    days: &Word,
+    rest: &[Word],
+) -> Found<(Mode, (Operand, (Operand, Operand, Operand, Operand)))>
+    ensures { IfOk result (λ found. found ≡ both (mode_of mode.now) (both (operand_of days.now) (moment_of rest.now))) }
+{
+    let days = operand_of(alloc, days)?;
+    Ok(both(mode_of(mode), both(days, moment_of(alloc, rest)?)))
+}
+
+fn message_of(
+    found: Option<
+        (
+            Operand,
+            (Mode, (Operand, (Operand, Operand, Operand, Operand))),
+        ),
+    >,
+) -> Option<DelayedMessage>
+    ensures { result ≡ option_map (λ p. record { to = p.0; mode = p.1.0; days = p.1.1.0; rest = p.1.1.1 }) found }
+{
+    match found {
+        Some((to, (mode, (days, rest)))) => Some(DelayedMessage {
+            to,
+            mode,
+            days,
+            rest,
+        }),
+        None => None,
+    }
+}
+
 pub(crate) fn delayed(alloc: Global, words: &[Word]) -> Found<DelayedMessage>
     ensures { IfOk result (λ found. found ≡ delayed words.now) }
 {
     let [to, mode, days, rest @ ..] = words else {
         return Ok(None);
     };
-    let Some(to) = operand_of(alloc, to)? else {
-        return Ok(None);
-    };
-    let Some(mode) = mode_of(mode) else {
-        return Ok(None);
-    };
-    let Some(days) = operand_of(alloc, days)? else {
-        return Ok(None);
-    };
-    let Some(rest) = moment_of(alloc, rest)? else {
-        return Ok(None);
-    };
-    Ok(Some(DelayedMessage {
-        to,
-        mode,
-        days,
-        rest,
-    }))
+    let later = behind_to(alloc, mode, days, rest)?;
+    Ok(message_of(both(operand_of(alloc, to)?, later)))
 }

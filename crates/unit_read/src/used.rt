@@ -1,8 +1,9 @@
 //! The fields that a statement names.
-ghost use Rattle.std.specs.Prelude.{◌≡◌};
+ghost use Rattle.std.specs.Prelude.{◌≡◌, ◌&&◌};
 ghost use Rattle.unit_read.specs.{Names.{holds}, Used.{operand_uses, uses}};
 
 use crate::names::{Names, holds};
+use kd_base::Bytes;
 use unit_types::{Action, Operand};
 
 fn operand_is_defined(operand: &Operand, names: &Names) -> bool
@@ -12,6 +13,42 @@ fn operand_is_defined(operand: &Operand, names: &Names) -> bool
         Operand::Field(name) | Operand::Trim(name) => holds(names, name),
         Operand::Literal(_) | Operand::Digits(_) | Operand::Header(_) => true,
     }
+}
+
+fn are_defined(first: &Operand, second: &Operand, names: &Names) -> bool
+    ensures { result ≡ (operand_uses (holds names.now) first.now && operand_uses (holds names.now) second.now) }
+{
+    operand_is_defined(first, names) && operand_is_defined(second, names)
+}
+
+// The field that is written, and the operand beside it.
+fn target_is_defined(field: &Bytes, operand: &Operand, names: &Names) -> bool
+    ensures { result ≡ (holds names.now field.now && operand_uses (holds names.now) operand.now) }
+{
+    holds(names, field) && operand_is_defined(operand, names)
+}
+
+fn join_is_defined(field: &Bytes, first: &Operand, second: &Operand, names: &Names) -> bool
+    ensures { result ≡ (holds names.now field.now && operand_uses (holds names.now) first.now && operand_uses (holds names.now) second.now) }
+{
+    holds(names, field) && are_defined(first, second, names)
+}
+
+// The operands of a DPUT.
+fn delayed_is_defined(
+    to: &Operand,
+    days: &Operand,
+    hours: &Operand,
+    minutes: &Operand,
+    seconds: &Operand,
+    message: &Operand,
+    names: &Names,
+) -> bool
+    ensures { result ≡ (operand_uses (holds names.now) to.now && operand_uses (holds names.now) days.now && operand_uses (holds names.now) hours.now && operand_uses (holds names.now) minutes.now && operand_uses (holds names.now) seconds.now && operand_uses (holds names.now) message.now) }
+{
+    are_defined(to, days, names)
+        && are_defined(hours, minutes, names)
+        && are_defined(seconds, message, names)
 }
 
 /// Whether the names are those of all fields that the statement names.
@@ -28,10 +65,8 @@ pub(crate) fn is_defined(action: &Action, names: &Names) -> bool
         | Action::SgetKp(o, f)
         | Action::SgetRl(o, f)
         | Action::SgetUs(o, f)
-        | Action::Gtda(o, f) => holds(names, f) && operand_is_defined(o, names),
-        Action::Join(f, o, p) => {
-            holds(names, f) && operand_is_defined(o, names) && operand_is_defined(p, names)
-        }
+        | Action::Gtda(o, f) => target_is_defined(f, o, names),
+        Action::Join(f, o, p) => join_is_defined(f, o, p, names),
         Action::Mget(f) | Action::Fget(f) => holds(names, f),
         Action::Mput(o)
         | Action::SrelGb(o)
@@ -45,15 +80,8 @@ pub(crate) fn is_defined(action: &Action, names: &Names) -> bool
         | Action::SputGb(o, p)
         | Action::SputMs(o, p)
         | Action::SputUs(o, p)
-        | Action::Ptda(o, p) => operand_is_defined(o, names) && operand_is_defined(p, names),
-        Action::Dput(to, _, d, h, m, s, o) => {
-            operand_is_defined(to, names)
-                && operand_is_defined(d, names)
-                && operand_is_defined(h, names)
-                && operand_is_defined(m, names)
-                && operand_is_defined(s, names)
-                && operand_is_defined(o, names)
-        }
+        | Action::Ptda(o, p) => are_defined(o, p, names),
+        Action::Dput(to, _, d, h, m, s, o) => delayed_is_defined(to, d, h, m, s, o, names),
         Action::Jump(_) | Action::Init | Action::Pend(_, None) => true,
     }
 }

@@ -6,7 +6,7 @@ use script_read::ScriptFault;
 use thiserror::Error;
 
 /// Why a call does nothing with its texts.
-#[derive(Debug, Clone, Copy, PartialEq, Eq)]
+#[derive(Debug, Clone, Copy)]
 pub(crate) enum Refusal {
     /// The definition and the units make no application.
     Application(ApplicationFault),
@@ -15,7 +15,7 @@ pub(crate) enum Refusal {
 }
 
 /// Why the texts of a call ask for nothing.
-#[derive(Clone, Copy, Debug, PartialEq, Eq, Error)]
+#[derive(Clone, Copy, Debug, Error)]
 pub(crate) enum TextError {
     /// A text is not there, or could not be read.
     #[error("a text could not be read")]

@@ -1,9 +1,9 @@
-use Rattle.std.proofs.Common.{ℕ, ◌∙◌, refl, ap, arith, subst, take}
+use Rattle.std.proofs.Common.{◌≡◌, ℕ, ◌∙◌, length, refl, ap, arith, subst, take}
 use Rattle.std.proofs.lemmas.List.{take_all}
 use Rattle.kdcdef_check.specs.Generating.{generated}
 use Rattle.kdcdef_check.specs.Faults.{kind_of}
 use Rattle.kdcdef_check.specs.declared.tables.Tables.{Tables}
-use Rattle.kdcdef_check.specs.Steps.{own_fault, IsAdded, OwnFault, AllNamed}
+use Rattle.kdcdef_check.specs.Steps.{own_fault, IsAdded, OwnFault}
 use Rattle.kdcdef_check.proofs.Tallies.{kind_within, count_within, next_tally}
 use Rattle.kdcdef_check.proofs.Filling.{next_filled, filled_names, next_named}
 use Rattle.kdcdef_check.proofs.FirstOfFaults.{next_first}
@@ -32,5 +32,28 @@ loop-statement-preserved c =
       first = rw c.earlier-first.ensures (next_first ss (OwnFault ss) i s c.loop-statement.first c.own_fault.result within is was.first (rw fault (own_first ss i s)));
     }
 
+-- behind the last statement all are taken
+at_end : (c : goal.After-loop-statement) → take c.loop-statement.statement-index c.args.statements.now ≡ c.args.statements.now
+at_end c = take_all c.loop-statement.statement-index c.args.statements.now (omega (arith, c.loop-statement-test.false))
+
+pub loop-statement-init : goal.loop-statement-init
+loop-statement-init c = record {
+  tables = rw c.in_ok-tables.ensures.ok c.new.ensures;
+  tally = c.new-tally.ensures;
+  named = λ k d lt. absurd (omega arith);
+  first = λ fault among. absurd (omega (arith, among.2));
+}
+
+pub returns-clause-tables : goal.returns-clause-tables
+returns-clause-tables c = rw (at_end c) at c.loop-statement.invariant.tables
+
+pub returns-clause-tally : goal.returns-clause-tally
+returns-clause-tally c = rw (at_end c) at c.loop-statement.invariant.tally
+
 pub returns-clause-named : goal.returns-clause-named
-returns-clause-named c = subst AllNamed (take_all c.loop-statement.statement-index c.args.statements.now (omega (arith, c.loop-statement-test.false))) c.loop-statement.invariant.named
+returns-clause-named c = rw (at_end c) at c.loop-statement.invariant.named
+
+pub returns-clause-first : goal.returns-clause-first
+returns-clause-first c =
+    let whole : c.loop-statement.statement-index ≡ length c.args.statements.now = omega arith in
+    rw whole at c.loop-statement.invariant.first
