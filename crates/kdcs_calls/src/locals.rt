@@ -1,6 +1,6 @@
 //! The calls on LSSBs.
 ghost use Rattle.std.specs.{Prelude.{◌≡◌, IfOk, IfSome}, FinMap.{find}};
-ghost use Rattle.monitor_semantics.specs.{Bytes.{Bytes, bytes_cmp}, Calls.{name_in_operand, read_away, with_name}};
+ghost use Rattle.monitor_semantics.specs.{Bytes.{Bytes, bytes_cmp}, Calls.{name_in_operand, read_away, with_name, write_local}};
 ghost use Rattle.open_transaction.specs.Work.{work_of};
 ghost use Rattle.kdcs_calls.specs.{Calling.{IsShort}, Parts.{local_call}};
 
@@ -42,6 +42,23 @@ fn read_away(work: &mut OpenTransaction, name: Name, room: u32) -> Result<Called
     }
 }
 
+// SPUT MS.
+fn write(
+    generation: &Generation,
+    work: &mut OpenTransaction,
+    name: Name,
+    bytes: &Bytes,
+) -> Result<Called, OutOfMemory>
+    ensures exact { IfOk result (λ called. (work_of work.new, called) ≡ write_local generation.now (work_of work.old) name bytes.now) }
+    ensures id { work.new.id ≡ work.old.id }
+    ensures statements { work.new.statements ≡ work.old.statements }
+    ensures nb { work.new.messages.nb ≡ work.old.messages.nb }
+{
+    let limit = generation.max().lssbs;
+    let code = work.areas.write_local(name, bytes.clone()?, limit)?;
+    Ok(replied(code))
+}
+
 /// The calls on the LSSB in their operand.
 pub(crate) fn access_local(
     generation: &Generation,
@@ -64,11 +81,7 @@ pub(crate) fn access_local(
             Ok(read_or(Code::K03, room, found))
         }
         Local::ReadAway(room) => read_away(work, name, room),
-        Local::Write(bytes) => {
-            let limit = generation.max().lssbs;
-            let code = work.areas.write_local(name, bytes.clone()?, limit)?;
-            Ok(replied(code))
-        }
+        Local::Write(bytes) => write(generation, work, name, bytes),
         Local::Delete => Ok(replied(work.areas.delete_local(name))),
     }
 }

@@ -36,6 +36,10 @@ IsCall (action.If x relation y label) = ⊥
 IsCall (action.Jump label) = ⊥
 IsCall _ = Unit {0}
 
+abbrev pub IsDput : Action → Type 0
+IsDput (action.Dput to mode d h m s x) = Unit {0}
+IsDput _ = ⊥
+
 -- the statement asks for this call
 abbrev pub IsAsked : Meaning → Call → Type 0
 IsAsked (Plain after) call = ⊥

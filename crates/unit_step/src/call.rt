@@ -1,7 +1,7 @@
 //! The KDCS call that a statement asks for.
 ghost use Rattle.std.specs.Prelude.{◌≡◌, All, IfOk, IsTrue, OnErr};
 ghost use Rattle.unit_semantics.specs.{Fields.{value_of}, Ready.{IsInside}, Statement.{done_by, takes_memory}};
-ghost use Rattle.unit_step.specs.Answers.{IsAsked, IsCall};
+ghost use Rattle.unit_step.specs.Answers.{IsAsked, IsCall, IsDput};
 
 use crate::operand::{bytes_of, room};
 use kd_base::{Bytes, OutOfMemory};
@@ -24,6 +24,22 @@ fn two(
     Ok((first, bytes_of(alloc, unit, run, second)?))
 }
 
+// A DPUT, with its operands as bytes.
+#[tactic(auto, unfolding(unit_semantics::specs::Statement::done_by))]
+fn dput(alloc: Global, unit: &Unit, run: &RunState, action: &Action) -> Result<Call, OutOfMemory>
+    requires inside { All (IsInside run.now) unit.now.fields }
+    requires call { IsDput action.now }
+    ensures { IfOk result (λ call. IsAsked (done_by unit.now run.now action.now) call) }
+{
+    let Action::Dput(to, mode, days, hours, minutes, seconds, message) = action else {
+        unreachable!();
+    };
+    let (to, days) = two(alloc, unit, run, to, days)?;
+    let (hours, minutes) = two(alloc, unit, run, hours, minutes)?;
+    let (seconds, message) = two(alloc, unit, run, seconds, message)?;
+    Ok(Call::Dput(to, *mode, days, hours, minutes, seconds, message))
+}
+
 /// The call with its operands as bytes, and a target field as its length.
 #[tactic(auto, unfolding(unit_semantics::specs::Statement::done_by))]
 pub fn call_of(
@@ -40,59 +56,56 @@ pub fn call_of(
     match action {
         Action::Init => Ok(Call::Init),
         Action::Mget(field) => Ok(Call::Mget(room(unit, field))),
-        Action::Mput(message) => Ok(Call::Mput(bytes_of(alloc, unit, run, message)?)),
         Action::Fget(field) => Ok(Call::Fget(room(unit, field))),
-        Action::Fput(to, message) => {
-            let (to, message) = two(alloc, unit, run, to, message)?;
-            Ok(Call::Fput(to, message))
+        Action::Mput(operand)
+        | Action::SrelGb(operand)
+        | Action::SrelLb(operand)
+        | Action::UnlkGb(operand)
+        | Action::UnlkUs(operand)
+        | Action::UnlkDa(operand) => {
+            let bytes = bytes_of(alloc, unit, run, operand)?;
+            Ok(match action {
+                Action::Mput(_) => Call::Mput(bytes),
+                Action::SrelGb(_) => Call::SrelGb(bytes),
+                Action::SrelLb(_) => Call::SrelLb(bytes),
+                Action::UnlkGb(_) => Call::UnlkGb(bytes),
+                Action::UnlkUs(_) => Call::UnlkUs(bytes),
+                Action::UnlkDa(_) => Call::UnlkDa(bytes),
+                _ => unreachable!(),
+            })
         }
-        Action::Dput(to, mode, days, hours, minutes, seconds, message) => {
-            let (to, days) = two(alloc, unit, run, to, days)?;
-            let (hours, minutes) = two(alloc, unit, run, hours, minutes)?;
-            let (seconds, message) = two(alloc, unit, run, seconds, message)?;
-            Ok(Call::Dput(to, *mode, days, hours, minutes, seconds, message))
+        Action::Fput(first, second)
+        | Action::SputGb(first, second)
+        | Action::SputMs(first, second)
+        | Action::SputUs(first, second)
+        | Action::Ptda(first, second) => {
+            let (first, second) = two(alloc, unit, run, first, second)?;
+            Ok(match action {
+                Action::Fput(..) => Call::Fput(first, second),
+                Action::SputGb(..) => Call::SputGb(first, second),
+                Action::SputMs(..) => Call::SputMs(first, second),
+                Action::SputUs(..) => Call::SputUs(first, second),
+                Action::Ptda(..) => Call::Ptda(first, second),
+                _ => unreachable!(),
+            })
         }
-        Action::SgetGb(name, field) => Ok(Call::SgetGb(
-            bytes_of(alloc, unit, run, name)?,
-            room(unit, field),
-        )),
-        Action::SputGb(name, content) => {
-            let (name, content) = two(alloc, unit, run, name, content)?;
-            Ok(Call::SputGb(name, content))
-        }
-        Action::SrelGb(name) => Ok(Call::SrelGb(bytes_of(alloc, unit, run, name)?)),
-        Action::SgetKp(name, field) => Ok(Call::SgetKp(
-            bytes_of(alloc, unit, run, name)?,
-            room(unit, field),
-        )),
-        Action::SgetRl(name, field) => Ok(Call::SgetRl(
-            bytes_of(alloc, unit, run, name)?,
-            room(unit, field),
-        )),
-        Action::SputMs(name, content) => {
-            let (name, content) = two(alloc, unit, run, name, content)?;
-            Ok(Call::SputMs(name, content))
-        }
-        Action::SrelLb(name) => Ok(Call::SrelLb(bytes_of(alloc, unit, run, name)?)),
-        Action::SgetUs(name, field) => Ok(Call::SgetUs(
-            bytes_of(alloc, unit, run, name)?,
-            room(unit, field),
-        )),
-        Action::SputUs(name, content) => {
-            let (name, content) = two(alloc, unit, run, name, content)?;
-            Ok(Call::SputUs(name, content))
-        }
-        Action::Gtda(name, field) => Ok(Call::Gtda(
-            bytes_of(alloc, unit, run, name)?,
-            room(unit, field),
-        )),
-        Action::Ptda(name, content) => {
-            let (name, content) = two(alloc, unit, run, name, content)?;
-            Ok(Call::Ptda(name, content))
-        }
-        Action::UnlkGb(name) => Ok(Call::UnlkGb(bytes_of(alloc, unit, run, name)?)),
-        Action::UnlkUs(name) => Ok(Call::UnlkUs(bytes_of(alloc, unit, run, name)?)),
-        Action::UnlkDa(name) => Ok(Call::UnlkDa(bytes_of(alloc, unit, run, name)?)),
+        Action::Dput(..) => dput(alloc, unit, run, action),
+        Action::SgetGb(name, field)
+        | Action::SgetKp(name, field)
+        | Action::SgetRl(name, field)
+        | Action::SgetUs(name, field)
+        | Action::Gtda(name, field) => {
+            let name = bytes_of(alloc, unit, run, name)?;
+            let room = room(unit, field);
+            Ok(match action {
+                Action::SgetGb(..) => Call::SgetGb(name, room),
+                Action::SgetKp(..) => Call::SgetKp(name, room),
+                Action::SgetRl(..) => Call::SgetRl(name, room),
+                Action::SgetUs(..) => Call::SgetUs(name, room),
+                Action::Gtda(..) => Call::Gtda(name, room),
+                _ => unreachable!(),
+            })
+        },
         Action::Pend(variant, Some(follow_up)) => Ok(Call::Pend(
             *variant,
             Some(bytes_of(alloc, unit, run, follow_up)?),
