@@ -7,7 +7,7 @@ use Rattle.monitor_semantics.specs.State.{Application, State}
 use Rattle.monitor_semantics.specs.declared.command.Command.{Command}
 use Rattle.monitor_semantics.specs.Commands.{command_of, turned_step}
 use Rattle.monitor_semantics.specs.Turns.{Turned, turn_of}
-use Rattle.monitor_commands.specs.Commanding.{Comes}
+use Rattle.kdcs_monitor.specs.Commanding.{Comes}
 use Rattle.monitor_laws.specs.Applications.{IsApplication}
 use Rattle.monitor_semantics.specs.CommandsOf.{IsCommandOf}
 use Rattle.monitor_laws.specs.Replay.{SettlesAs}
@@ -20,7 +20,7 @@ use Rattle.monitor_state.specs.Whole.{IsWhole, app_of}
 use Rattle.kdcs_monitor.specs.CoreValue.{CoreValue, core_value}
 use Rattle.kdcs_monitor.specs.Sound.{IsSound}
 use Rattle.kdcs_monitor.specs.Steps.{came_to}
-use Rattle.kdcs_monitor.proofs.Starting.{same_application}
+use Rattle.kdcs_monitor.proofs.SoundStart.{same_application}
 
 -- ---- sound parts, and what a core with them is seen as
 

@@ -1,2 +1,9 @@
+mod Entering
+mod Shows
+mod Signs
+mod Starts
+mod Ticks
+mod Uses
+pub mod Opening
 pub mod Going
-pub mod Starting
+pub mod SoundStart

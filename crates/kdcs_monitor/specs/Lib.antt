@@ -1,3 +1,14 @@
+pub mod Turning
+pub mod Alone
+pub mod Locking
+pub mod Picking
+pub mod Taking
+pub mod Stepping
+pub mod Stated
+pub mod Whole
+pub mod Commanding
+pub mod Counted
+pub mod Starting
 pub mod CoreValue
 pub mod Sound
 pub mod Steps

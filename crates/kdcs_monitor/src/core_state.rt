@@ -10,20 +10,22 @@ ghost use Rattle.monitor_semantics.specs.{CommandsOf.{IsCommandOf}, Commands.{co
 ghost use Rattle.monitor_queues.specs.QueueLaws.{KeepsQueues};
 ghost use Rattle.monitor_serial.specs.{Replays.{AllReplay}, SerialLaws.{IsSerialStep}};
 ghost use Rattle.service_ends.specs.Ending.{turned_to};
-ghost use Rattle.monitor_commands.specs.Commanding.{Comes, IsSingle};
+ghost use Rattle.kdcs_monitor.specs.Commanding.{Comes, IsSingle};
 ghost use Rattle.kdcs_monitor.specs.{CoreValue.{OneStep}, Steps.{came_to}};
 
+use crate::applying::apply;
+use crate::input::use_of;
+use crate::start::parts_of;
+use crate::turning::turn;
 use application_facts::fitted_units_make_an_application;
 use kd_base::{Name, OutOfMemory};
 use kdcdef_check::Generation;
 use kdcs_types::{Acts, Tables};
-use monitor_commands::{apply, use_of};
 use monitor_queues::commits_keep_queues;
 use monitor_semantics::{Command, Use};
 use monitor_serial::{commits_are_serial, replays_hold_along_every_script, turns_end_serially};
-use monitor_start::parts_of;
 use monitor_state::MonitorParts;
-use monitor_turns::{Turned, turn};
+use service_ends::Turned;
 use std::alloc::Global;
 use std::marker::Model;
 use unit_check::Units;

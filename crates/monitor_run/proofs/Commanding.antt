@@ -9,7 +9,7 @@ use Rattle.monitor_semantics.specs.Commands.{ScriptStep, command_of, rotated, st
 use Rattle.monitor_semantics.specs.State.{Application, State as MonitorState}
 use Rattle.monitor_semantics.specs.Turns.{turn_of}
 use Rattle.kdcs_monitor.specs.CoreValue.{CoreValue}
-use Rattle.monitor_commands.specs.Commanding.{IsSingle}
+use Rattle.kdcs_monitor.specs.Commanding.{IsSingle}
 use Rattle.monitor_laws.specs.Cut.{commits_in}
 use Rattle.monitor_run.specs.Running.{turns_of, IsRunning, PerformsSteps, DidSteps}
 use Rattle.monitor_run.proofs.Counting.{commits_by, commits_of_one}

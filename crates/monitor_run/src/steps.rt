@@ -5,7 +5,7 @@ ghost use Rattle.kdcfile_store.specs.{Kept.{IsKept}, Whole.{HasFile}};
 ghost use Rattle.kdcdef_types.specs.Statements.{IsWithin};
 ghost use Rattle.monitor_semantics.specs.{CommandsOf.{IsCommandOf}, Commands.{acts_of, command_of, in_a_row, rotated, steps_of, turned_step}, Turns.{turn_of}, declared.command.Command.TheVariants.{Restart}};
 ghost use Rattle.monitor_laws.specs.Suits.{Suits};
-ghost use Rattle.monitor_commands.specs.Commanding.{IsSingle};
+ghost use Rattle.kdcs_monitor.specs.Commanding.{IsSingle};
 ghost use Rattle.warm_start.specs.{Opening.{StartsFrom, IsRefused, IsOfOtherTexts}, Stands.{KeepsTables, identity_for}};
 ghost use Rattle.monitor_laws.specs.Cut.{commits_in};
 ghost use Rattle.monitor_run.specs.Running.{turns_of, DidSteps, IsAgain, IsRunning, PerformsSteps};

@@ -1,4 +1,4 @@
-use Rattle.kdcs_monitor.proofs.Starting.{sound_start}
+use Rattle.kdcs_monitor.proofs.SoundStart.{sound_start}
 use Rattle.kdcs_monitor.proofs.core_state.Core.start.Goals as goal
 
 pub invariant_of-result : goal.invariant_of-result

@@ -1,6 +1,0 @@
-mod Entering
-mod Shows
-mod Signs
-mod Starts
-mod Ticks
-mod Uses

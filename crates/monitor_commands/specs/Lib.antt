@@ -1,2 +1,0 @@
-pub mod Commanding
-pub mod Counted
