@@ -112,7 +112,11 @@ pub(crate) fn show_again(
 }
 
 /// KDCDISP: the last dialogue message of this session, once more.
-pub(crate) fn display(parts: &MonitorParts, alloc: Global, pterm: &Name) -> Result<Acts, OutOfMemory>
+pub(crate) fn display(
+    parts: &MonitorParts,
+    alloc: Global,
+    pterm: &Name,
+) -> Result<Acts, OutOfMemory>
     ensures exact { IfOk result (λ acts. Comes (state_of parts.now) acts (display (state_of parts.now) pterm.now (last_by (find bytes_cmp pterm.now (state_of parts.now).signed)))) }
 {
     let line = match parts.sessions.last(*pterm) {

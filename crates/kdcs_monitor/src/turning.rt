@@ -49,7 +49,11 @@ fn work(
 /// One turn of a task, from 1 to TASKS: a free task takes work, another does the next statement of its service, or repeats
 /// its request for an area. Fewer than 2^64 - 1 turns and commands were done. When memory runs out, the parts are of no
 /// use any more.
-pub(crate) fn turn(parts: &mut MonitorParts, alloc: Global, task: u16) -> Result<Turned, OutOfMemory>
+pub(crate) fn turn(
+    parts: &mut MonitorParts,
+    alloc: Global,
+    task: u16,
+) -> Result<Turned, OutOfMemory>
     requires whole { IsWhole parts.old }
     requires task { IsWithin 1 parts.old.generation.limits.tasks task }
     requires steps { parts.old.steps + 1 < 2 ^ 64 }
