@@ -7,7 +7,7 @@ use Rattle.kdcs_types.specs.Tables.{TableRows}
 use Rattle.utm_cli.specs.declared.error.Refusal.{Refusal}
 use Rattle.utm_cli.specs.declared.words.Word.{Word}
 use Rattle.utm_cli.specs.declared.words.Word.TheVariants.{Gen, Run, Show, Make}
-use Rattle.made_run.specs.Input.{definition_text as made_definition, units_text as made_units, script_text as made_script}
+use Rattle.utm_cli.specs.MadeTexts.{definition_text as made_definition, units_text as made_units, script_text as made_script}
 use Rattle.utm_cli.specs.Words.{definition_name, units_name, script_name}
 use Rattle.utm_cli.specs.Asking.{Errand, Reading, AreThere, ReadsFor}
 use Rattle.utm_cli.specs.Doing.{Starts}

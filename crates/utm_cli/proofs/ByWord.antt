@@ -11,7 +11,7 @@ use Rattle.monitor_semantics.specs.Listing.{listing}
 use Rattle.monitor_semantics.specs.Trace.{bytes_of}
 use Rattle.warm_start.specs.Meaning.{answers_exclude_each_other}
 use Rattle.monitor_acts.specs.Said.{Said, SaidPart}
-use Rattle.made_run.specs.Report.{report_of}
+use Rattle.utm_cli.specs.MadeReport.{report_of}
 use Rattle.utm_cli.specs.declared.words.Word.{Word}
 use Rattle.utm_cli.specs.declared.words.Word.TheVariants.{Gen, Run, Show, Make}
 use Rattle.utm_cli.specs.Asking.{Errand, app_of}

@@ -10,3 +10,7 @@ pub mod Doing
 pub mod Ends
 pub mod Asking
 pub mod Codes
+pub mod MadeTexts
+pub mod MadeExamples
+pub mod MadeReadAgain
+pub mod MadeStarted

@@ -34,7 +34,7 @@ use Rattle.utm_cli.specs.declared.words.Word.{Word}
 use Rattle.utm_cli.specs.declared.words.Word.TheVariants.{Gen, Run, Show, Make}
 use Rattle.utm_cli.specs.Causes.{of_room, of_application, of_fault}
 use Rattle.utm_cli.specs.Words.{definition_name, units_name, script_name}
-use Rattle.made_run.specs.Input.{definition_text as made_definition, units_text as made_units, script_text as made_script}
+use Rattle.utm_cli.specs.MadeTexts.{definition_text as made_definition, units_text as made_units, script_text as made_script}
 use Rattle.utm_cli.specs.Doing.{IsOverFile}
 use Rattle.utm_cli.specs.Asking.{shown_of, IsLong, AreAlike, Reading, AskFor, TextIs, ScriptIs, WereRead, ReadsFor}
 

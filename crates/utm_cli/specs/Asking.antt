@@ -13,7 +13,7 @@ use Rattle.monitor_laws.specs.Keeping.{IsScriptOf}
 use Rattle.script_read.specs.Commands.{script_in}
 use Rattle.warm_start.specs.Fingerprints.{fingerprint as print_of}
 use Rattle.monitor_run.specs.Running.{turns_of}
-use Rattle.made_run.specs.Input.{definition_text as made_definition, units_text as made_units, script_text as made_script}
+use Rattle.utm_cli.specs.MadeTexts.{definition_text as made_definition, units_text as made_units, script_text as made_script}
 use Rattle.utm_cli.specs.declared.error.Refusal.{Refusal}
 use Rattle.utm_cli.specs.declared.error.Refusal.TheVariants.{Application, Script}
 use Rattle.utm_cli.specs.declared.words.Word.{Word}

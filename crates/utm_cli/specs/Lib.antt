@@ -4,3 +4,6 @@ pub mod Asking
 pub mod Doing
 pub mod Causes
 pub mod Promise
+pub mod MadeTexts
+pub mod MadeReport
+pub mod MadeExamples

@@ -7,6 +7,7 @@
 
 mod error;
 mod lawful;
+mod made_run;
 mod opening;
 mod reading;
 mod refuse;

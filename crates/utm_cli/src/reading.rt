@@ -2,17 +2,17 @@
 ghost use Rattle.std.specs.Prelude.{◌≡◌, ◌++◌, List, ℕ, IsTrue, IfOk, IsErrOf, IsSome, IsSomeAnd, Ok, Err};
 ghost use Rattle.kd_device.specs.{Device.{Rose}, Room.{SameRoom, text_of}};
 ghost use Rattle.utm_cli.specs.{Asking.{Reading, AskFor, CanRun, ScriptIs, ReadsFor, AreThere, WereRead, shown_of}, Doing.{IsOverFile}, Words.{IsForm}, declared.error.Refusal.{Refusal}};
-ghost use Rattle.made_run.specs.Input.{definition_text as made_definition, units_text as made_units, script_text as made_script};
+ghost use Rattle.utm_cli.specs.MadeTexts.{definition_text as made_definition, units_text as made_units, script_text as made_script};
 ghost use Rattle.kdcdef_types.specs.Statements.{IsWithin};
 
 use crate::error::TextError;
+use crate::made_run::made;
 use crate::text::named;
 use crate::words::Word;
 use application_facts::fitted_units_make_an_application;
 use application_read::{Application, read_application};
 use kd_base::{LONGEST_TEXT, OutOfMemory};
 use kd_device::{DeviceError, Room};
-use made_run::made;
 use monitor_semantics::Command;
 use script_read::{commands_are_said, read_script};
 use std::alloc::Global;

@@ -9,8 +9,9 @@ ghost use Rattle.monitor_semantics.specs.{Listing.{listing}, Trace.{tables_after
 ghost use Rattle.warm_start.specs.{Opening.{IsRefused, IsOfOtherTexts}, Stands.{StandsForTables, KeepsTables}};
 ghost use Rattle.utm_cli.specs.{Words.{IsForm, file_name, not_a_kdcfile_line, other_generation_line}, declared.words.Word.TheVariants.{Gen, Run}, Asking.{CanRun, app_of}, Doing.{Opens, Starts, Refuses, IsOfOthers, identity_of, acts_of}, Promise.{IsOneOf, RanOver, Ran, IsCutOver, IsCutOfRun, SaysFront, MakesFile, MayAttach, MayHandOn, HandsOn, AttachedBy}};
 ghost use Rattle.monitor_acts.specs.{Said.{SameDisk, Said, SaidPart}, Performing.{Performs, commits_nothing}};
-ghost use Rattle.made_run.specs.Report.{report_of};
+ghost use Rattle.utm_cli.specs.MadeReport.{report_of};
 
+use crate::made_run::made_report;
 use crate::opening::{look, open};
 use crate::reading::Errand;
 use crate::refuse::{refuse, refuse_other};
@@ -23,7 +24,6 @@ use kd_device::{Device, DeviceError};
 use kdcfile_store::WholeStore;
 use kdcs_monitor::Core;
 use kdcs_types::Tables;
-use made_run::made_report;
 use monitor_acts::{perform_acts, say};
 use monitor_run::run_script;
 use std::alloc::Global;

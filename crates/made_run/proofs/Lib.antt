@@ -1,4 +1,0 @@
-pub mod Texts
-pub mod Examples
-pub mod ReadAgain
-pub mod Started
