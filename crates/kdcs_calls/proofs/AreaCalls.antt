@@ -20,8 +20,16 @@ use Rattle.monitor_semantics.specs.Locks.{Locks, told_now}
 use Rattle.monitor_semantics.specs.Statements.{area_of_call}
 use Rattle.monitor_semantics.specs.State.{OpenTransaction as Work}
 use Rattle.kdcs_calls.specs.Calling.{after_release, after_request, is_declared, locks_by_call, may_release}
-use Rattle.kdcs_calls.specs.Parts.{area_by, asked_in, delete_area, goes_on, in_area, read_area, released_in, told_of}
+use Rattle.kdcs_calls.specs.Parts.{area_by, asked_in, goes_on, in_area, released_in, told_of}
 use Rattle.kdcs_calls.proofs.Holders.{IsQuiet}
+
+-- SGET GB
+abbrev read_area : Told → Work → Area → (room : ℕ) → Performed
+read_area v x area room = locked v x area (λ y. read_or K03 y room (seen v y area))
+
+-- SREL GB
+abbrev delete_area : Told → Work → Area → Performed
+delete_area v x area = locked v x area (λ y. deleted y area (seen v y area))
 
 -- ---- what a call answers
 

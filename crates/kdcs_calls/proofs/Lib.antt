@@ -3,3 +3,4 @@ pub mod CallHolders
 pub mod CallWaits
 pub mod Holders
 pub mod Locking
+pub mod LaterCalls

@@ -1,17 +1,20 @@
 -- Parts of a call: the area in its operand, and how it goes on once its lock is answered.
 use Rattle.std.specs.Prelude.{ℕ, Option, Some, None, Result, Ok, Err, if◌then◌else◌, option_map}
+use Rattle.kdcs_types.specs.declared.call.Call.{Call}
+use Rattle.kdcs_types.specs.declared.call.Call.TheVariants.{SgetUs, SputUs, Gtda, Ptda, UnlkUs, UnlkDa}
 use Rattle.kdcs_types.specs.declared.call.Code.{Code}
 use Rattle.kdcs_types.specs.declared.call.Code.TheVariants.{K03, K08, K11}
 use Rattle.kdcs_types.specs.declared.key.Area.{Area}
 use Rattle.kdcs_types.specs.declared.key.Area.TheVariants.{Gssb, Tls, Uls}
 use Rattle.kdcs_types.specs.declared.key.ServiceId.{ServiceId}
+use Rattle.kdcs_types.specs.Keys.{area_cmp}
 use Rattle.kdcs_types.specs.Tables.{TableRows, content_of}
 use Rattle.std.specs.FinMap.{find}
 use Rattle.kdcdef_types.specs.Generation.{Generated}
 use Rattle.area_locks.specs.Asked.{asked, unlocked}
 use Rattle.monitor_semantics.specs.declared.answer.Called.{Called}
 use Rattle.monitor_semantics.specs.Bytes.{Bytes, bytes_cmp}
-use Rattle.monitor_semantics.specs.Calls.{Told, Performed, declared, replied, locked, read_away, read_block, read_or, seen, delete_local, deleted, with_name, write_block, write_local}
+use Rattle.monitor_semantics.specs.Calls.{Told, Performed, declared, replied, locked, or_empty, read_answer, read_away, read_or, shown_by, delete_local, deleted, with_name, write_local, wrote}
 use Rattle.monitor_semantics.specs.Locks.{Locks, answer_of, told_now}
 use Rattle.monitor_semantics.specs.State.{OpenTransaction as Work}
 use Rattle.kdcs_calls.specs.declared.operand.Owner.{Owner}
@@ -33,6 +36,16 @@ abbrev pub named_by : Owner → Bytes → Area
 named_by All name = Gssb name
 named_by (User user) name = Uls name user
 named_by (Lterm lterm) name = Tls name lterm
+
+-- whose area a call names
+abbrev pub owner_of : Work → Call → Owner
+owner_of x (SgetUs name room) = User x.user
+owner_of x (SputUs name bytes) = User x.user
+owner_of x (UnlkUs name) = User x.user
+owner_of x (Gtda name room) = Lterm x.lterm
+owner_of x (Ptda name bytes) = Lterm x.lterm
+owner_of x (UnlkDa name) = Lterm x.lterm
+owner_of x _ = All
 
 -- K11 where the operand is no name, K08 where it names a block that is not declared
 abbrev pub area_by : Generated → (Bytes → Area) → Option Bytes → Result Area Code
@@ -61,20 +74,20 @@ abbrev pub released_in : Locks → ServiceId → Work → Result Area Code → L
 released_in l id x (Err code) = l
 released_in l id x (Ok area) = if may_release x area then unlocked l id area else l
 
--- SGET GB of the area in an operand
-abbrev pub read_area : Told → Work → Area → (room : ℕ) → Performed
-read_area v x area room = locked v x area (λ y. read_or K03 y room (seen v y area))
+-- what a transaction sees of an area with this content in the tables
+abbrev pub seen_of : Option Bytes → Work → Area → Option Bytes
+seen_of content x area = shown_by (find area_cmp area x.written) content
 
--- SREL GB of the area in an operand
-abbrev pub delete_area : Told → Work → Area → Performed
-delete_area v x area = locked v x area (λ y. deleted y area (seen v y area))
+-- what a call does with an area that it holds, and that has this content in the tables
+abbrev pub held : Access → (content : Option Bytes) → Work → Area → Performed
+held (Read room) content x area = read_or K03 x room (seen_of content x area)
+held (ReadBlock room) content x area = read_answer x room (or_empty (seen_of content x area))
+held (Write bytes) content x area = wrote x area (Some bytes.now)
+held Delete content x area = deleted x area (seen_of content x area)
 
 -- what a call does with the area that it has locked
 abbrev pub accessed : Access → Told → Work → Area → Performed
-accessed (Read room) v x area = read_area v x area room
-accessed (ReadBlock room) v x area = read_block v x area room
-accessed (Write bytes) v x area = write_block v x area bytes.now
-accessed Delete v x area = delete_area v x area
+accessed access v x area = locked v x area (λ y. held access v.content y area)
 
 -- a call goes on with the area of the name in its operand, and is told of it
 abbrev pub goes_on : Generated → TableRows → Locks → ServiceId → Work → (Bytes → Area) → (Told → Area → Performed) → Option Bytes → Performed

@@ -1,9 +1,9 @@
 //! The calls on areas that are locked: GSSBs, and the blocks of users and LTERMs.
-ghost use Rattle.std.specs.{Prelude.{◌≡◌, IfOk, IfSome, OnOk, option_map}, FinMap.{find}};
+ghost use Rattle.std.specs.{Prelude.{◌≡◌, IfOk, IfSome, OnOk, Some, option_map}, FinMap.{find}};
 ghost use Rattle.kdcs_types.specs.{declared.key.Area.{Area as AnArea}, Keys.{area_cmp}, Tables.{content_of}};
-ghost use Rattle.monitor_semantics.specs.Calls.{name_in_operand, or_empty, shown_by, unlocked};
+ghost use Rattle.monitor_semantics.specs.Calls.{deleted, name_in_operand, or_empty, shown_by, unlocked, wrote};
 ghost use Rattle.open_transaction.specs.Work.{work_of};
-ghost use Rattle.kdcs_calls.specs.{Calling.{HoldsJust, IsShort, after_release, after_request}, Parts.{accessed, asked_in, goes_on, in_area, named_by, released_in, told_of}};
+ghost use Rattle.kdcs_calls.specs.{Calling.{HoldsJust, IsShort, after_release, after_request}, Parts.{accessed, asked_in, goes_on, held, in_area, named_by, released_in, seen_of, told_of}};
 
 use crate::answer::{read_or, read_reply, replied};
 use crate::lock::{lock, touches};
@@ -39,6 +39,58 @@ fn or_empty(alloc: Global, found: Option<Bytes>) -> Bytes
     }
 }
 
+// SPUT GB, SPUT US and PTDA, of an area that the transaction holds.
+fn write(work: &mut OpenTransaction, area: Area, bytes: &Bytes) -> Result<Called, OutOfMemory>
+    ensures exact { IfOk result (λ called. (work_of work.new, called) ≡ wrote (work_of work.old) area (Some bytes.now)) }
+    ensures id { work.new.id ≡ work.old.id }
+    ensures statements { work.new.statements ≡ work.old.statements }
+    ensures nb { work.new.messages.nb ≡ work.old.messages.nb }
+{
+    work.areas.write(area, bytes.clone()?)?;
+    Ok(replied(Code::Done))
+}
+
+// SREL GB, of an area that the transaction holds.
+fn delete(tables: &Tables, work: &mut OpenTransaction, area: Area) -> Result<Called, OutOfMemory>
+    ensures exact { IfOk result (λ called. (work_of work.new, called) ≡ deleted (work_of work.old) area (seen_of (content_of tables.now area) (work_of work.old) area)) }
+    ensures id { work.new.id ≡ work.old.id }
+    ensures statements { work.new.statements ≡ work.old.statements }
+    ensures nb { work.new.messages.nb ≡ work.old.messages.nb }
+{
+    if work.areas.read(tables, &area)?.is_none() {
+        return Ok(replied(Code::K03));
+    }
+    work.areas.delete(area)?;
+    Ok(replied(Code::Done))
+}
+
+// What a call does with an area that the transaction holds.
+fn access_held(
+    outside: &Outside,
+    work: &mut OpenTransaction,
+    area: Area,
+    access: Access,
+) -> Result<Called, OutOfMemory>
+    requires { IfSome (seen_of (content_of outside.now.tables.now area) (work_of work.old) area) IsShort }
+    ensures exact { IfOk result (λ called. (work_of work.new, called) ≡ held access.entry (content_of outside.now.tables.now area) (work_of work.old) area) }
+    ensures id { work.new.id ≡ work.old.id }
+    ensures statements { work.new.statements ≡ work.old.statements }
+    ensures nb { work.new.messages.nb ≡ work.old.messages.nb }
+{
+    match access {
+        Access::Read(room) => {
+            let found = work.areas.read(outside.tables, &area)?;
+            Ok(read_or(Code::K03, room, found))
+        }
+        Access::ReadBlock(room) => {
+            let found = work.areas.read(outside.tables, &area)?;
+            Ok(read_reply(room, or_empty(outside.alloc, found)))
+        }
+        Access::Write(bytes) => write(work, area, bytes),
+        Access::Delete => delete(outside.tables, work, area),
+    }
+}
+
 // The calls that lock the area first.
 fn access_locked(
     outside: &Outside,
@@ -62,27 +114,7 @@ fn access_locked(
     if let Some(called) = lock(outside, locks, work, &area)? {
         return Ok(called);
     }
-    match access {
-        Access::Read(room) => {
-            let found = work.areas.read(outside.tables, &area)?;
-            Ok(read_or(Code::K03, room, found))
-        }
-        Access::ReadBlock(room) => {
-            let found = work.areas.read(outside.tables, &area)?;
-            Ok(read_reply(room, or_empty(outside.alloc, found)))
-        }
-        Access::Write(bytes) => {
-            work.areas.write(area, bytes.clone()?)?;
-            Ok(replied(Code::Done))
-        }
-        Access::Delete => match work.areas.read(outside.tables, &area)? {
-            None => Ok(replied(Code::K03)),
-            Some(_bytes) => {
-                work.areas.delete(area)?;
-                Ok(replied(Code::Done))
-            }
-        },
-    }
+    access_held(outside, work, area, access)
 }
 
 /// The calls that lock the area in their operand first.

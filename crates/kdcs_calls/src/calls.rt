@@ -2,7 +2,7 @@
 ghost use Rattle.std.specs.Prelude.{◌≡◌, IfOk, OnOk};
 ghost use Rattle.monitor_semantics.specs.{Calls.{called, call_outcome, first_call}, Endings.{is_asynchronous}, Locks.{told_now}, Statements.{area_of_call}};
 ghost use Rattle.open_transaction.specs.Work.{work_of};
-ghost use Rattle.kdcs_calls.specs.Calling.{CanRead, HoldersFollow, HoldsJust, WaitsFollow, locks_after_call, locks_by_call, performed_now};
+ghost use Rattle.kdcs_calls.specs.{Calling.{CanRead, HoldersFollow, HoldsJust, WaitsFollow, locks_after_call, locks_by_call, performed_now}, Parts.{owner_of}};
 
 use crate::answer::replied;
 use crate::areas::{Access, access_area, unlock};
@@ -24,6 +24,17 @@ fn is_asynchronous(id: ServiceId) -> bool
     ensures { result ≡ is_asynchronous id }
 {
     matches!(id, ServiceId::Asynchronous(_))
+}
+
+// Whose area the call names.
+fn owner_of(work: &OpenTransaction, call: &Call) -> Owner
+    ensures { result ≡ owner_of (work_of work.now) call.now }
+{
+    match call {
+        Call::SgetUs(..) | Call::SputUs(..) | Call::UnlkUs(_) => Owner::User(work.user),
+        Call::Gtda(..) | Call::Ptda(..) | Call::UnlkDa(_) => Owner::Lterm(work.lterm),
+        _ => Owner::All,
+    }
 }
 
 // Before INIT is done, INIT alone is answered.
@@ -60,8 +71,7 @@ fn later_call(
     ensures nb { work.new.messages.nb ≡ work.old.messages.nb }
 {
     let g = outside.generation;
-    let user = Owner::User(work.user);
-    let lterm = Owner::Lterm(work.lterm);
+    let owner = owner_of(work, call);
     let asynchronous = is_asynchronous(work.id);
     match call {
         Call::Init => Ok(Called::Abnormal(Cause::E01)),
@@ -73,31 +83,22 @@ fn later_call(
             put_job(g, work, to, moment_in(*mode, d, h, m, s), message)
         }
         Call::SgetGb(name, room) => {
-            access_area(outside, locks, work, Owner::All, name, Access::Read(*room))
+            access_area(outside, locks, work, owner, name, Access::Read(*room))
         }
-        Call::SputGb(name, bytes) => {
-            access_area(outside, locks, work, Owner::All, name, Access::Write(bytes))
+        Call::SgetUs(name, room) | Call::Gtda(name, room) => {
+            access_area(outside, locks, work, owner, name, Access::ReadBlock(*room))
         }
-        Call::SrelGb(name) => access_area(outside, locks, work, Owner::All, name, Access::Delete),
+        Call::SputGb(name, bytes) | Call::SputUs(name, bytes) | Call::Ptda(name, bytes) => {
+            access_area(outside, locks, work, owner, name, Access::Write(bytes))
+        }
+        Call::SrelGb(name) => access_area(outside, locks, work, owner, name, Access::Delete),
+        Call::UnlkGb(name) | Call::UnlkUs(name) | Call::UnlkDa(name) => {
+            unlock(outside, locks, work, owner, name)
+        }
         Call::SgetKp(name, room) => access_local(g, work, name, Local::Read(*room)),
         Call::SgetRl(name, room) => access_local(g, work, name, Local::ReadAway(*room)),
         Call::SputMs(name, bytes) => access_local(g, work, name, Local::Write(bytes)),
         Call::SrelLb(name) => access_local(g, work, name, Local::Delete),
-        Call::SgetUs(name, room) => {
-            access_area(outside, locks, work, user, name, Access::ReadBlock(*room))
-        }
-        Call::SputUs(name, bytes) => {
-            access_area(outside, locks, work, user, name, Access::Write(bytes))
-        }
-        Call::Gtda(name, room) => {
-            access_area(outside, locks, work, lterm, name, Access::ReadBlock(*room))
-        }
-        Call::Ptda(name, bytes) => {
-            access_area(outside, locks, work, lterm, name, Access::Write(bytes))
-        }
-        Call::UnlkGb(name) => unlock(outside, locks, work, Owner::All, name),
-        Call::UnlkUs(name) => unlock(outside, locks, work, user, name),
-        Call::UnlkDa(name) => unlock(outside, locks, work, lterm, name),
         Call::Pend(variant, operand) => Ok(pend(g, asynchronous, work, *variant, operand)),
     }
 }
