@@ -152,7 +152,7 @@ def names_variable(items, name):
 
 def result_of(tree):
     """The items behind the last arrow: what is said where the arguments are given."""
-    at = max((k for k, it in enumerate(tree) if it == "→"), default=0)
+    at = max((k for k, it in enumerate(tree) if it == "→"), default=-1)
     items = tree[at + 1 :]
     while items and is_group_of_variables(items[0]):
         items = items[1:]
@@ -187,14 +187,17 @@ def split_at(items, mark):
 
 
 def predicates_of(pages):
-    """The names of records with parameters, and of definitions that give a type."""
-    found = set()
-    for page in pages:
-        for it in page.definitions:
-            has_parameters = it.shape in SHAPES and it.signature[:1] in (["("], ["{"])
-            if has_parameters or it.shape in ("abbrev", "unfoldable") and "Type" in it.signature[-2:]:
-                found.add(it.name)
-    return found
+    """The names of records with parameters, and of definitions that give a type, or a type that is named so."""
+    definitions = [it for page in pages for it in page.definitions]
+    kinds = {it.name for it in definitions if any("Type" in clause.right[-2:] for clause in it.clauses)}
+    return {it.name for it in definitions if is_predicate(it, kinds)}
+
+
+def is_predicate(definition, kinds):
+    if definition.shape in SHAPES:
+        return definition.signature[:1] in (["("], ["{"])
+    last = definition.signature[-2:]
+    return definition.shape != "plain" and ("Type" in last or not kinds.isdisjoint(last[-1:]))
 
 
 def groups_of(pages):
