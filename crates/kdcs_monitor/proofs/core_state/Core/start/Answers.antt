@@ -4,7 +4,7 @@ use Rattle.kdcs_monitor.proofs.core_state.Core.start.Goals as goal
 pub invariant_of-result : goal.invariant_of-result
 invariant_of-result c =
     let made = c.in_ok-parts_of.ensures in
-    sound_start c.in_ok-parts_of.parts_of.value c.args.generation c.args.units c.args.tables c.replays_hold_along_every_script.ensures.steps
+    sound_start c.in_ok-parts_of.field-0.value c.args.generation c.args.units c.args.tables c.replays_hold_along_every_script.ensures.steps
     c.requires.fit c.fitted_units_make_an_application.ensures c.clock-clock.ensures.sorted c.requires.suits made.generation made.units made.indexed made.state
 
 pub returns-clause-facts : goal.returns-clause-facts
