@@ -1,6 +1,6 @@
 //! The top call: what the words ask for is done, and answered as a status.
 ghost use Rattle.std.specs.{Prelude.{◌≡◌, ◌⊎◌, ◌∷◌, [], List, ℕ, IsTrue, true, map, Some, None, Ok, Err}, String.{string_bytes}};
-ghost use Rattle.kd_device.specs.{Device.{Rose, Frame, Only}, Room.{SameRoom}};
+ghost use Rattle.kd_device.specs.{Device.{Rose, Frame, Only, SameNames}, Room.{SameRoom}};
 ghost use Rattle.kdcs_types.specs.Tables.{TableRows};
 ghost use Rattle.utm_cli.specs.{Words.{request_of as request, usage_line, status_of, refusal_line, not_a_kdcfile_line, other_generation_line}, declared.error.Refusal.{Refusal}, declared.words.Word.{Word}, Asking.{Errand, app_of}, Doing.{Starts, Refuses, IsOfOthers, acts_of}, Promise.{IsOneOf, Request, Reads, Misses, Ran, IsCutOfRun, EndsInCut, MakesFile, RunsLawfully, AttachedBy}};
 ghost use Rattle.monitor_acts.specs.{Said.{SameDisk, Said, SaidPart}, Performing.{commits_nothing}};
@@ -40,12 +40,14 @@ pub fn utm<R: Room, D: Device>(
     ensures usage_only { result.code ≡ 1 → request (map string_bytes words.now.items) ≡ None }
     ensures usage_said { result.code ≡ 1 → IsTrue (D.state device.old).told → Said usage_line (D.state device.old) (D.state device.new) }
     ensures usage_part { request (map string_bytes words.now.items) ≡ None → IsTrue (D.state device.old).told → SaidPart usage_line (D.state device.old) (D.state device.new) }
+    ensures usage_names { request (map string_bytes words.now.items) ≡ None → SameNames (D.state device.old) (D.state device.new) }
 
     // 2 and 3: the definition and the units, or else the script, are refused. Nothing is done but the line of the first fault.
     ensures texts { IsTrue (R.room room.old).told → (why : Refusal) → Reads (map string_bytes words.now.items) (R.room room.old) (Err why) → IsOneOf (status_of why ∷ 6 ∷ 5 ∷ 7 ∷ []) result.code }
     ensures texts_only { IsOneOf (2 ∷ 3 ∷ []) result.code → IsTrue (R.room room.old).told
         → (why : Refusal) × Reads (map string_bytes words.now.items) (R.room room.old) (Err why) × (result.code ≡ status_of why) × (IsTrue (D.state device.old).told → Said (refusal_line why) (D.state device.old) (D.state device.new)) }
     ensures texts_part { IsTrue (R.room room.old).told → (why : Refusal) → Reads (map string_bytes words.now.items) (R.room room.old) (Err why) → IsTrue (D.state device.old).told → SaidPart (refusal_line why) (D.state device.old) (D.state device.new) }
+    ensures texts_names { IsTrue (R.room room.old).told → (why : Refusal) → Reads (map string_bytes words.now.items) (R.room room.old) (Err why) → SameNames (D.state device.old) (D.state device.new) }
 
     // 4: the file is refused, for its bytes or for its other texts. Nothing is done but the line that says which.
     ensures file { IsTrue (R.room room.old).told → IsTrue (D.state device.old).told → (e : Errand) → Reads (map string_bytes words.now.items) (R.room room.old) (Ok e) → Refuses e (D.state device.old).holds → IsOneOf (4 ∷ 6 ∷ 5 ∷ 7 ∷ []) result.code }
@@ -67,6 +69,7 @@ pub fn utm<R: Room, D: Device>(
     ensures room_said { result.code ≡ 6 → IsTrue (D.state device.old).told → Said [] (D.state device.old) (D.state device.new) }
     ensures missing { IsTrue (R.room room.old).told → Misses (map string_bytes words.now.items) (R.room room.old) → IsOneOf (6 ∷ 7 ∷ []) result.code }
     ensures missing_said { IsTrue (R.room room.old).told → IsTrue (D.state device.old).told → Misses (map string_bytes words.now.items) (R.room room.old) → Said [] (D.state device.old) (D.state device.new) }
+    ensures missing_names { IsTrue (R.room room.old).told → Misses (map string_bytes words.now.items) (R.room room.old) → SameNames (D.state device.old) (D.state device.new) }
 
     // 0: all was done. The lines of all acts were sent, and the file stands for the tables after them, or is as it was.
     ensures done { result.code ≡ 0 → IsTrue (R.room room.old).told → IsTrue (D.state device.old).told

@@ -41,6 +41,9 @@ returns-in-Ok-clause-texts g c = λ told why said. absurd (ok_not _ _ _ (one_sai
 pub returns-in-Ok-clause-texts_part : goal.returns-in-Ok-clause-texts_part
 returns-in-Ok-clause-texts_part g c = λ told why said. absurd (ok_not _ _ _ (one_said g c told) why said)
 
+pub returns-in-Ok-clause-texts_names : goal.returns-in-Ok-clause-texts_names
+returns-in-Ok-clause-texts_names g c = λ told why said. absurd (ok_not _ _ _ (one_said g c told) why said)
+
 pub returns-in-Ok-clause-texts_only : goal.returns-in-Ok-clause-texts_only
 returns-in-Ok-clause-texts_only g c = λ code. absurd (not_refused c.run.result.code c.run.ensures.code code)
 
@@ -82,6 +85,10 @@ returns-in-Ok-clause-laws g c = λ told attached f bytes t said.
 
 pub returns-in-Ok-clause-missing : goal.returns-in-Ok-clause-missing
 returns-in-Ok-clause-missing g c = λ told misses.
+    absurd (not_missed _ _ _ _ (asked_ok g c) (Ok c.in-Ok.asked) (c.in-Ok.ensures.found told) misses)
+
+pub returns-in-Ok-clause-missing_names : goal.returns-in-Ok-clause-missing_names
+returns-in-Ok-clause-missing_names g c = λ told misses.
     absurd (not_missed _ _ _ _ (asked_ok g c) (Ok c.in-Ok.asked) (c.in-Ok.ensures.found told) misses)
 
 pub returns-in-Ok-clause-missing_said : goal.returns-in-Ok-clause-missing_said
