@@ -1,1 +1,2 @@
+pub mod DefinitionLayers
 pub mod Layers

@@ -1,6 +1,6 @@
 -- The text and the line of a fault, and the name by which it is printed.
 use Rattle.std.specs.Prelude.{ℕ, List, codes}
-use Rattle.generation_read.specs.Faults.{line_of as line_of_definition, name_of as name_of_definition}
+use Rattle.application_read.specs.DefinitionFaults.{line_of as line_of_definition, name_of as name_of_definition}
 use Rattle.unit_read.specs.Faults.{line_of as line_of_units, name_of as name_of_units}
 use Rattle.unit_check.specs.declared.fault.FitFault.{FitFault}
 use Rattle.unit_check.specs.declared.fault.FitFault.TheVariants as fit

@@ -1,2 +1,6 @@
+pub mod Definition
+pub mod Causes
+pub mod DefinitionFaults
+pub mod Handed
 pub mod Texts
 pub mod Faults

@@ -2,7 +2,7 @@
 use Rattle.std.specs.Prelude.{ℕ, Bool, true, false, List, Result}
 use Rattle.kd_base.specs.FirstFaults.{GivesUnless}
 use Rattle.kdcdef_types.specs.Generation.{Generated}
-use Rattle.generation_read.specs.Definition.{Generates, HasFault}
+use Rattle.application_read.specs.Definition.{Generates, HasFault}
 use Rattle.unit_types.specs.UnitText.{UnitText}
 use Rattle.unit_read.specs.Spelling.{SpellsUnits}
 use Rattle.unit_read.specs.Faults.{HasTextFault}

@@ -3,8 +3,8 @@ ghost use Rattle.std.specs.Prelude.{◌≢◌, Ok, Err, IfOk, IfErr};
 ghost use Rattle.unit_check.specs.Fitted.{IsFit};
 ghost use Rattle.application_read.specs.{Texts.{TextsGenerate, TextsHaveFault, Gives}, declared.fault.ApplicationFault.{ApplicationFault as Fault}, declared.fault.ApplicationFault.TheVariants.{Memory}, declared.application.Application.{Application as Generated}};
 
+use crate::definition_text::generate;
 use crate::fault::ApplicationFault;
-use generation_read::generate;
 use kdcdef_check::Generation;
 use std::alloc::Global;
 use unit_check::{Units, fit};

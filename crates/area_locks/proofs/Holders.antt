@@ -12,9 +12,9 @@ use Rattle.kdcs_types.specs.declared.key.Area.{Area}
 use Rattle.kdcs_types.specs.declared.key.ServiceId.{ServiceId}
 use Rattle.kdcs_types.specs.Keys.{area_cmp, area_eq, id_eq}
 use Rattle.kdcs_types.specs.KeyLaws.{area_total, is_equal}
-use Rattle.monitor_semantics.specs.declared.answer.LockAnswer.{LockAnswer}
-use Rattle.monitor_semantics.specs.declared.answer.LockAnswer.TheVariants.{Granted, Wait, Busy, Deadlock}
-use Rattle.monitor_semantics.specs.Locks.{Locks, holder}
+use Rattle.abstract_monitor.specs.declared.answer.LockAnswer.{LockAnswer}
+use Rattle.abstract_monitor.specs.declared.answer.LockAnswer.TheVariants.{Granted, Wait, Busy, Deadlock}
+use Rattle.abstract_monitor.specs.Locks.{Locks, holder}
 use Rattle.area_locks.specs.Asked.{freed, given_back, holder_after, locks_after, other_than, with_holder, without_holder}
 
 abbrev Holders : Type 0

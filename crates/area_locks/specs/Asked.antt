@@ -5,9 +5,9 @@ use Rattle.std.specs.FinMap.Entries.{where_key}
 use Rattle.kdcs_types.specs.declared.key.Area.{Area}
 use Rattle.kdcs_types.specs.declared.key.ServiceId.{ServiceId}
 use Rattle.kdcs_types.specs.Keys.{area_cmp, area_eq, id_cmp, id_eq}
-use Rattle.monitor_semantics.specs.declared.answer.LockAnswer.{LockAnswer}
-use Rattle.monitor_semantics.specs.declared.answer.LockAnswer.TheVariants.{Granted, Wait, Busy, Deadlock}
-use Rattle.monitor_semantics.specs.Locks.{Locks, answer_of, holder, since}
+use Rattle.abstract_monitor.specs.declared.answer.LockAnswer.{LockAnswer}
+use Rattle.abstract_monitor.specs.declared.answer.LockAnswer.TheVariants.{Granted, Wait, Busy, Deadlock}
+use Rattle.abstract_monitor.specs.Locks.{Locks, answer_of, holder, since}
 
 -- nobody holds an area, and nobody waits
 abbrev pub no_locks : Locks

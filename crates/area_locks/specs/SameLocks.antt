@@ -4,7 +4,7 @@ use Rattle.std.proofs.Common.{ap, ◌∙◌}
 use Rattle.kdcs_types.specs.declared.key.Area.{Area}
 use Rattle.kdcs_types.specs.declared.key.ServiceId.{ServiceId}
 use Rattle.kdcs_types.specs.Keys.{id_eq}
-use Rattle.monitor_semantics.specs.Locks.{Locks, Waiting, answer_by_holder, answer_of, answer_of_held, awaited, holder, is_deadlocked, reaches, refused_by, since, since_by, wait_of, waits_for}
+use Rattle.abstract_monitor.specs.Locks.{Locks, Waiting, answer_by_holder, answer_of, answer_of_held, awaited, holder, is_deadlocked, reaches, refused_by, since, since_by, wait_of, waits_for}
 
 -- each area has the same holder, and the same services wait
 pub record HaveSameLocks (l m : Locks) : Type 0 where

@@ -1,13 +1,13 @@
 //! The lock table.
 ghost use Rattle.std.specs.{Prelude.{◌≡◌, ◌↔◌, false, IsTrue, IfOk, OnOk, OnErr, None, Some, ◌&&◌, if◌then◌else◌, ◌+◌, nat_le}, FinMap.{is_sorted}};
 ghost use Rattle.kdcs_types.specs.{declared.key.Area.{Area}, declared.key.ServiceId.{ServiceId}, Keys.{area_cmp, area_eq, id_eq}};
-ghost use Rattle.monitor_semantics.specs.declared.answer.LockAnswer.TheVariants as lock_answer;
-ghost use Rattle.monitor_semantics.specs.Locks.{holder, waits_for, since, is_deadlocked, answer_of, refused_by, IsDeadlocked};
+ghost use Rattle.abstract_monitor.specs.declared.answer.LockAnswer.TheVariants as lock_answer;
+ghost use Rattle.abstract_monitor.specs.Locks.{holder, waits_for, since, is_deadlocked, answer_of, refused_by, IsDeadlocked};
 ghost use Rattle.area_locks.specs.Asked.{no_locks, asked, locks_after, holder_after, holds_area, unlocked, without_wait, freed, other_than};
 
+use abstract_monitor::LockAnswer;
 use kd_base::OutOfMemory;
 use kdcs_types::{Area, ServiceId};
-use monitor_semantics::LockAnswer;
 use sorted_pairs::SortedPairs;
 use std::alloc::Global;
 use std::marker::Model;
@@ -21,7 +21,7 @@ pub struct LockTable {
 }
 
 impl Model for LockTable {
-    ghost use Rattle.monitor_semantics.specs.Locks.{Locks};
+    ghost use Rattle.abstract_monitor.specs.Locks.{Locks};
 
     ghost Value = { Locks };
 

@@ -2,8 +2,8 @@
 use Rattle.std.proofs.Common.{◌≡◌, ◌+◌, ◌<◌, ◌≤◌, ℕ, zero, suc, List, [], ◌∷◌, ◌++◌, length, get_or, drop, sym, ap, ◌∙◌, append_assoc, add-one, arith, drop-cons}
 use Rattle.std.proofs.lemmas.List.{drop_all, append-nil}
 use Rattle.kdcs_types.specs.declared.service.Job.{Job}
-use Rattle.monitor_semantics.specs.declared.draft.Draft.{Draft}
-use Rattle.monitor_semantics.specs.Endings.{numbered}
+use Rattle.abstract_monitor.specs.declared.draft.Draft.{Draft}
+use Rattle.abstract_monitor.specs.Endings.{numbered}
 use Rattle.async_queue.specs.Drafts.{IsInTicks, AreInTicks, job_of}
 
 pub in_ticks_push : (ds : List Draft) (d : Draft) → AreInTicks ds → IsInTicks d.due → AreInTicks (ds ++ d ∷ [])

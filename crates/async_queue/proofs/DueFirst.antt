@@ -5,7 +5,7 @@ use Rattle.std.proofs.lemmas.Bool.{le-leb, lt-leb}
 use Rattle.std.proofs.lemmas.List.{at_drop_all}
 use Rattle.kdcs_types.specs.declared.service.Job.{Job}
 use Rattle.kdcs_types.specs.declared.key.Target.{Target}
-use Rattle.monitor_semantics.specs.Picks.{due_job, least_job, earlier_of}
+use Rattle.abstract_monitor.specs.Picks.{due_job, least_job, earlier_of}
 use Rattle.async_queue.specs.declared.queue.QueuedJob.{QueuedJob}
 use Rattle.async_queue.specs.Queue.{free}
 

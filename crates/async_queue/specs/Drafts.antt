@@ -1,9 +1,9 @@
 -- How late a draft may be due, and the job that it becomes.
 use Rattle.std.specs.Prelude.{◌≤◌, ℕ, List, [], ◌∷◌}
 use Rattle.kdcs_types.specs.declared.service.Job.{Job}
-use Rattle.monitor_semantics.specs.declared.draft.Due.{Due}
-use Rattle.monitor_semantics.specs.declared.draft.Draft.{Draft}
-use Rattle.monitor_semantics.specs.Endings.{due_at}
+use Rattle.abstract_monitor.specs.declared.draft.Due.{Due}
+use Rattle.abstract_monitor.specs.declared.draft.Draft.{Draft}
+use Rattle.abstract_monitor.specs.Endings.{due_at}
 use Rattle.timer_queue.specs.Ticks.{ticks_of, last_ticks}
 
 -- the ticks are those that days, hours, minutes and seconds give

@@ -17,9 +17,9 @@ use Rattle.kdcs_types.specs.Keys.{id_cmp, id_eq, key_eq}
 use Rattle.kdcs_types.specs.KeyLaws.{id_total, key_total, same_id}
 use Rattle.kdcs_types.specs.Keyed.{without_item}
 use Rattle.kdcs_types.specs.Tables.{job_key}
-use Rattle.monitor_semantics.specs.State.{OpenTransaction}
-use Rattle.monitor_semantics.specs.Locks.{Active}
-use Rattle.monitor_semantics.specs.Picks.{is_free, free_jobs}
+use Rattle.abstract_monitor.specs.State.{OpenTransaction}
+use Rattle.abstract_monitor.specs.Locks.{Active}
+use Rattle.abstract_monitor.specs.Picks.{is_free, free_jobs}
 use Rattle.async_queue.specs.declared.queue.QueuedJob.{QueuedJob}
 use Rattle.async_queue.specs.Queue.{untaken, free, lesser_count, marked, with_job, with_mark, without_job}
 

@@ -1,6 +1,6 @@
 //! Which job is taken first.
 ghost use Rattle.std.specs.Prelude.{◌≡◌, Some, option_copied};
-ghost use Rattle.monitor_semantics.specs.Picks.{due_job, is_earlier, earlier_of};
+ghost use Rattle.abstract_monitor.specs.Picks.{due_job, is_earlier, earlier_of};
 ghost use Rattle.async_queue.specs.Queue.{free};
 
 use crate::allows::Allows;

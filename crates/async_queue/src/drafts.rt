@@ -1,12 +1,12 @@
 //! The jobs of a transaction before its synchronisation point.
 ghost use Rattle.std.specs.Prelude.{◌≡◌, ◌+◌, ◌≤◌, [], ◌∷◌, ◌++◌, length, IfOk, OnOk, OnErr};
 ghost use Rattle.kd_base.specs.Limits.{last_clock, last_next_job};
-ghost use Rattle.monitor_semantics.specs.Endings.{numbered};
+ghost use Rattle.abstract_monitor.specs.Endings.{numbered};
 ghost use Rattle.async_queue.specs.Drafts.{IsInTicks, job_of};
 
+use abstract_monitor::{Draft, Due};
 use kd_base::{Bytes, Name, OutOfMemory, Sequence};
 use kdcs_types::{Job, JobValue, Target};
-use monitor_semantics::{Draft, Due};
 use std::alloc::Global;
 use std::marker::Model;
 use timer_queue::due_at;
@@ -20,7 +20,7 @@ pub struct DraftJobs {
 
 impl Model for DraftJobs {
     ghost use Rattle.std.specs.{Prelude.{List}, List.{All}};
-    ghost use Rattle.monitor_semantics.specs.declared.draft.Draft.{Draft};
+    ghost use Rattle.abstract_monitor.specs.declared.draft.Draft.{Draft};
     ghost use Rattle.async_queue.specs.Drafts.{AreInTicks};
 
     ghost Value = { List Draft };

@@ -1,7 +1,7 @@
 //! The jobs of the tables, with marks.
 ghost use Rattle.std.specs.{Prelude.{◌≡◌, true, false, not, IfOk, OnOk, OnErr, None, map, option_copied}, Option.{option_map}};
 ghost use Rattle.kdcs_types.specs.{declared.service.Job.{Job}, Same.{target_eq}};
-ghost use Rattle.monitor_semantics.specs.Picks.{due_job};
+ghost use Rattle.abstract_monitor.specs.Picks.{due_job};
 ghost use Rattle.async_queue.specs.Queue.{untaken, queued_at, value_at, has_mark, with_job, with_mark, without_job, free};
 
 use crate::allows::Allows;

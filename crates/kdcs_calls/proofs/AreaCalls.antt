@@ -11,14 +11,14 @@ use Rattle.kdcs_types.specs.declared.key.ServiceId.{ServiceId}
 use Rattle.kdcs_types.specs.Tables.{TableRows}
 use Rattle.kdcdef_types.specs.Generation.{Generated}
 use Rattle.area_locks.specs.Asked.{asked, unlocked as unlocked_locks}
-use Rattle.monitor_semantics.specs.declared.answer.Called.{Called}
-use Rattle.monitor_semantics.specs.declared.answer.Called.TheVariants.{Replied, Waits, Abnormal, Pends}
-use Rattle.monitor_semantics.specs.Bytes.{Bytes}
-use Rattle.monitor_semantics.specs.Calls.{Told, Performed, called, declared, deleted, locked, name_in_operand, or_empty, read_answer, read_block, read_or, replied, seen, unlocked, write_block, wrote}
-use Rattle.monitor_semantics.specs.Endings.{is_asynchronous}
-use Rattle.monitor_semantics.specs.Locks.{Locks, told_now}
-use Rattle.monitor_semantics.specs.Statements.{area_of_call}
-use Rattle.monitor_semantics.specs.State.{OpenTransaction as Work}
+use Rattle.abstract_monitor.specs.declared.answer.Called.{Called}
+use Rattle.abstract_monitor.specs.declared.answer.Called.TheVariants.{Replied, Waits, Abnormal, Pends}
+use Rattle.abstract_monitor.specs.Bytes.{Bytes}
+use Rattle.abstract_monitor.specs.Calls.{Told, Performed, called, declared, deleted, locked, name_in_operand, or_empty, read_answer, read_block, read_or, replied, seen, unlocked, write_block, wrote}
+use Rattle.abstract_monitor.specs.Endings.{is_asynchronous}
+use Rattle.abstract_monitor.specs.Locks.{Locks, told_now}
+use Rattle.abstract_monitor.specs.Statements.{area_of_call}
+use Rattle.abstract_monitor.specs.State.{OpenTransaction as Work}
 use Rattle.kdcs_calls.specs.Calling.{after_release, after_request, is_declared, locks_by_call, may_release}
 use Rattle.kdcs_calls.specs.Parts.{area_by, asked_in, goes_on, in_area, released_in, told_of}
 use Rattle.kdcs_calls.proofs.Holders.{IsQuiet}

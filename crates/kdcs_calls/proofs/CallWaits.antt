@@ -10,14 +10,14 @@ use Rattle.kdcs_types.specs.Keys.{area_cmp, id_eq}
 use Rattle.kdcs_types.specs.Tables.{TableRows}
 use Rattle.kdcdef_types.specs.Generation.{Generated}
 use Rattle.area_locks.specs.Asked.{asked, given_back, holds_area, locks_after, without_wait, unlocked as unlocked_locks}
-use Rattle.monitor_semantics.specs.declared.answer.Called.{Called}
-use Rattle.monitor_semantics.specs.declared.answer.Called.TheVariants.{Replied, Waits, Abnormal, Pends}
-use Rattle.monitor_semantics.specs.declared.answer.LockAnswer.{LockAnswer}
-use Rattle.monitor_semantics.specs.declared.answer.LockAnswer.TheVariants.{Granted, Wait, Busy, Deadlock}
-use Rattle.monitor_semantics.specs.Calls.{Told, Performed, first_call, locked, on_answer, touches, touching, unlocked, unlocked_by}
-use Rattle.monitor_semantics.specs.Locks.{Locks, Waiting, answer_of}
-use Rattle.monitor_semantics.specs.State.{OpenTransaction as Work}
-use Rattle.monitor_semantics.specs.Statements.{area_of_call}
+use Rattle.abstract_monitor.specs.declared.answer.Called.{Called}
+use Rattle.abstract_monitor.specs.declared.answer.Called.TheVariants.{Replied, Waits, Abnormal, Pends}
+use Rattle.abstract_monitor.specs.declared.answer.LockAnswer.{LockAnswer}
+use Rattle.abstract_monitor.specs.declared.answer.LockAnswer.TheVariants.{Granted, Wait, Busy, Deadlock}
+use Rattle.abstract_monitor.specs.Calls.{Told, Performed, first_call, locked, on_answer, touches, touching, unlocked, unlocked_by}
+use Rattle.abstract_monitor.specs.Locks.{Locks, Waiting, answer_of}
+use Rattle.abstract_monitor.specs.State.{OpenTransaction as Work}
+use Rattle.abstract_monitor.specs.Statements.{area_of_call}
 use Rattle.kdcs_calls.specs.Calling.{HoldsJust, WaitsFollow, locks_by_call, may_release}
 use Rattle.kdcs_calls.specs.Parts.{told_of}
 use Rattle.kdcs_calls.proofs.AreaCalls.{IsReply, answer_to, performed_follows}

@@ -16,11 +16,11 @@ use Rattle.kdcs_types.specs.Keys.{area_cmp, area_eq}
 use Rattle.kdcs_types.specs.Tables.{TableRows}
 use Rattle.kdcdef_types.specs.Generation.{Generated}
 use Rattle.area_locks.specs.Asked.{asked, given_back, holds_area, is_holder, locks_after, other_than, with_holder, without_holder, without_wait, unlocked as unlocked_locks}
-use Rattle.monitor_semantics.specs.declared.answer.LockAnswer.{LockAnswer}
-use Rattle.monitor_semantics.specs.declared.answer.LockAnswer.TheVariants.{Granted, Wait, Busy, Deadlock}
-use Rattle.monitor_semantics.specs.Calls.{Told, Performed, locked, noted, on_answer, touches, touching, unlocked, unlocked_by}
-use Rattle.monitor_semantics.specs.Locks.{Locks, answer_of, holder}
-use Rattle.monitor_semantics.specs.State.{OpenTransaction as Work}
+use Rattle.abstract_monitor.specs.declared.answer.LockAnswer.{LockAnswer}
+use Rattle.abstract_monitor.specs.declared.answer.LockAnswer.TheVariants.{Granted, Wait, Busy, Deadlock}
+use Rattle.abstract_monitor.specs.Calls.{Told, Performed, locked, noted, on_answer, touches, touching, unlocked, unlocked_by}
+use Rattle.abstract_monitor.specs.Locks.{Locks, answer_of, holder}
+use Rattle.abstract_monitor.specs.State.{OpenTransaction as Work}
 use Rattle.kdcs_calls.specs.Calling.{HoldersFollow, HoldsJust, holder_then, may_release}
 use Rattle.kdcs_calls.specs.Holding.{kept, quiet_follows}
 use Rattle.kdcs_calls.specs.Parts.{told_of}

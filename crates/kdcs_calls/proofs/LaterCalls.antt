@@ -7,12 +7,12 @@ use Rattle.kdcs_types.specs.declared.key.Area.{Area}
 use Rattle.kdcs_types.specs.declared.key.ServiceId.{ServiceId}
 use Rattle.kdcs_types.specs.Tables.{TableRows}
 use Rattle.kdcdef_types.specs.Generation.{Generated}
-use Rattle.monitor_semantics.specs.declared.answer.Called.{Called}
-use Rattle.monitor_semantics.specs.Bytes.{Bytes}
-use Rattle.monitor_semantics.specs.Calls.{Performed, Told, called, name_in_operand, read_block, write_block}
-use Rattle.monitor_semantics.specs.Locks.{Locks, told_now}
-use Rattle.monitor_semantics.specs.Statements.{area_of_call}
-use Rattle.monitor_semantics.specs.State.{OpenTransaction as Work}
+use Rattle.abstract_monitor.specs.declared.answer.Called.{Called}
+use Rattle.abstract_monitor.specs.Bytes.{Bytes}
+use Rattle.abstract_monitor.specs.Calls.{Performed, Told, called, name_in_operand, read_block, write_block}
+use Rattle.abstract_monitor.specs.Locks.{Locks, told_now}
+use Rattle.abstract_monitor.specs.Statements.{area_of_call}
+use Rattle.abstract_monitor.specs.State.{OpenTransaction as Work}
 use Rattle.kdcs_calls.specs.declared.operand.Owner.{Owner}
 use Rattle.kdcs_calls.specs.Parts.{goes_on, named_by, owner_of}
 

@@ -7,11 +7,11 @@ use Rattle.kdcs_types.specs.Tables.{TableRows}
 use Rattle.kdcdef_types.specs.Generation.{Generated}
 use Rattle.kdcdef_types.specs.declared.limits.Limits.{Limits}
 use Rattle.area_locks.specs.Asked.{holds_area, is_holder}
-use Rattle.monitor_semantics.specs.declared.answer.LockAnswer.{LockAnswer}
-use Rattle.monitor_semantics.specs.declared.answer.LockAnswer.TheVariants.{Granted}
-use Rattle.monitor_semantics.specs.Calls.{answer_by, touches}
-use Rattle.monitor_semantics.specs.Locks.{Locks, answer_by_holder, answer_of, answer_of_held, holder}
-use Rattle.monitor_semantics.specs.State.{OpenTransaction as Work}
+use Rattle.abstract_monitor.specs.declared.answer.LockAnswer.{LockAnswer}
+use Rattle.abstract_monitor.specs.declared.answer.LockAnswer.TheVariants.{Granted}
+use Rattle.abstract_monitor.specs.Calls.{answer_by, touches}
+use Rattle.abstract_monitor.specs.Locks.{Locks, answer_by_holder, answer_of, answer_of_held, holder}
+use Rattle.abstract_monitor.specs.State.{OpenTransaction as Work}
 use Rattle.kdcs_calls.specs.Calling.{HoldsJust}
 use Rattle.kdcs_calls.specs.Parts.{told_of}
 

@@ -10,14 +10,14 @@ use Rattle.kdcs_types.specs.Keys.{area_cmp}
 use Rattle.kdcs_types.specs.Tables.{TableRows, content_of}
 use Rattle.kdcdef_types.specs.Generation.{Generated, has_tls, has_uls}
 use Rattle.area_locks.specs.Asked.{asked, holds_area, other_than, unlocked, with_wait, without_wait}
-use Rattle.monitor_semantics.specs.declared.answer.Called.{Called}
-use Rattle.monitor_semantics.specs.declared.answer.Called.TheVariants.{Replied, Waits, Abnormal, Pends}
-use Rattle.monitor_semantics.specs.Bytes.{Bytes, bytes_cmp}
-use Rattle.monitor_semantics.specs.Calls.{Performed, call_outcome, shown_by, touches}
-use Rattle.monitor_semantics.specs.Endings.{is_asynchronous}
-use Rattle.monitor_semantics.specs.Locks.{Locks, Waiting, holder, told_now}
-use Rattle.monitor_semantics.specs.Statements.{area_of_call}
-use Rattle.monitor_semantics.specs.State.{OpenTransaction as Work}
+use Rattle.abstract_monitor.specs.declared.answer.Called.{Called}
+use Rattle.abstract_monitor.specs.declared.answer.Called.TheVariants.{Replied, Waits, Abnormal, Pends}
+use Rattle.abstract_monitor.specs.Bytes.{Bytes, bytes_cmp}
+use Rattle.abstract_monitor.specs.Calls.{Performed, call_outcome, shown_by, touches}
+use Rattle.abstract_monitor.specs.Endings.{is_asynchronous}
+use Rattle.abstract_monitor.specs.Locks.{Locks, Waiting, holder, told_now}
+use Rattle.abstract_monitor.specs.Statements.{area_of_call}
+use Rattle.abstract_monitor.specs.State.{OpenTransaction as Work}
 
 -- ---- when a call may be performed
 

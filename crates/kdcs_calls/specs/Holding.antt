@@ -7,9 +7,9 @@ use Rattle.kdcs_types.specs.declared.key.ServiceId.{ServiceId}
 use Rattle.kdcs_types.specs.KeyLaws.{id_eq-itself, id_eq-same}
 use Rattle.kdcs_types.specs.Keys.{area_eq, id_eq}
 use Rattle.area_locks.specs.Asked.{is_holder, other_than}
-use Rattle.monitor_semantics.specs.Calls.{touches}
-use Rattle.monitor_semantics.specs.Locks.{Locks, holder}
-use Rattle.monitor_semantics.specs.State.{OpenTransaction as Work}
+use Rattle.abstract_monitor.specs.Calls.{touches}
+use Rattle.abstract_monitor.specs.Locks.{Locks, holder}
+use Rattle.abstract_monitor.specs.State.{OpenTransaction as Work}
 use Rattle.kdcs_calls.specs.Calling.{HoldersFollow, HoldsJust, holder_then}
 
 -- HoldsJust again

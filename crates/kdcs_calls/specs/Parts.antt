@@ -12,11 +12,11 @@ use Rattle.kdcs_types.specs.Tables.{TableRows, content_of}
 use Rattle.std.specs.FinMap.{find}
 use Rattle.kdcdef_types.specs.Generation.{Generated}
 use Rattle.area_locks.specs.Asked.{asked, unlocked}
-use Rattle.monitor_semantics.specs.declared.answer.Called.{Called}
-use Rattle.monitor_semantics.specs.Bytes.{Bytes, bytes_cmp}
-use Rattle.monitor_semantics.specs.Calls.{Told, Performed, declared, replied, locked, or_empty, read_answer, read_away, read_or, shown_by, delete_local, deleted, with_name, write_local, wrote}
-use Rattle.monitor_semantics.specs.Locks.{Locks, answer_of, told_now}
-use Rattle.monitor_semantics.specs.State.{OpenTransaction as Work}
+use Rattle.abstract_monitor.specs.declared.answer.Called.{Called}
+use Rattle.abstract_monitor.specs.Bytes.{Bytes, bytes_cmp}
+use Rattle.abstract_monitor.specs.Calls.{Told, Performed, declared, replied, locked, or_empty, read_answer, read_away, read_or, shown_by, delete_local, deleted, with_name, write_local, wrote}
+use Rattle.abstract_monitor.specs.Locks.{Locks, answer_of, told_now}
+use Rattle.abstract_monitor.specs.State.{OpenTransaction as Work}
 use Rattle.kdcs_calls.specs.declared.operand.Owner.{Owner}
 use Rattle.kdcs_calls.specs.declared.operand.Owner.TheVariants.{All, User, Lterm}
 use Rattle.kdcs_calls.specs.declared.areas.Access.{Access}

@@ -1,12 +1,12 @@
 //! Answers of calls.
 ghost use Rattle.std.specs.Prelude.{◌≡◌, ◌≤◌, IfSome, length};
-ghost use Rattle.monitor_semantics.specs.{State.{OpenTransaction as Work}, Calls.{plain_reply, read_or, read_reply}};
-ghost use Rattle.monitor_semantics.specs.declared.answer.Called.TheVariants as called;
+ghost use Rattle.abstract_monitor.specs.{State.{OpenTransaction as Work}, Calls.{plain_reply, read_or, read_reply}};
+ghost use Rattle.abstract_monitor.specs.declared.answer.Called.TheVariants as called;
 ghost use Rattle.kdcs_calls.specs.Calling.{IsShort};
 
+use abstract_monitor::Called;
 use kd_base::Bytes;
 use kdcs_types::{Code, Reply};
-use monitor_semantics::Called;
 
 /// A code alone, with KCRLM 0.
 pub(crate) fn replied(code: Code) -> Called

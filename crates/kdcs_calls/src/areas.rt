@@ -1,18 +1,18 @@
 //! The calls on areas that are locked: GSSBs, and the blocks of users and LTERMs.
 ghost use Rattle.std.specs.{Prelude.{◌≡◌, IfOk, IfSome, OnOk, Some, option_map}, FinMap.{find}};
 ghost use Rattle.kdcs_types.specs.{declared.key.Area.{Area as AnArea}, Keys.{area_cmp}, Tables.{content_of}};
-ghost use Rattle.monitor_semantics.specs.Calls.{deleted, name_in_operand, or_empty, shown_by, unlocked, wrote};
+ghost use Rattle.abstract_monitor.specs.Calls.{deleted, name_in_operand, or_empty, shown_by, unlocked, wrote};
 ghost use Rattle.open_transaction.specs.Work.{work_of};
 ghost use Rattle.kdcs_calls.specs.{Calling.{HoldsJust, IsShort, after_release, after_request}, Parts.{accessed, asked_in, goes_on, held, in_area, named_by, released_in, seen_of, told_of}};
 
+use abstract_monitor::Called;
+use area_locks::LockTable;
 use crate::answer::{read_or, read_reply, replied};
 use crate::lock::{lock, touches};
 use crate::operand::{Owner, area_in};
 use crate::outside::Outside;
-use area_locks::LockTable;
 use kd_base::{Bytes, OutOfMemory};
 use kdcs_types::{Area, Code, Note, Tables};
-use monitor_semantics::Called;
 use open_transaction::{OpenTransaction, release};
 use std::alloc::Global;
 

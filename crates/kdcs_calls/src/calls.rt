@@ -1,9 +1,11 @@
 //! All calls.
 ghost use Rattle.std.specs.Prelude.{◌≡◌, IfOk, OnOk};
-ghost use Rattle.monitor_semantics.specs.{Calls.{called, call_outcome, first_call}, Endings.{is_asynchronous}, Locks.{told_now}, Statements.{area_of_call}};
+ghost use Rattle.abstract_monitor.specs.{Calls.{called, call_outcome, first_call}, Endings.{is_asynchronous}, Locks.{told_now}, Statements.{area_of_call}};
 ghost use Rattle.open_transaction.specs.Work.{work_of};
 ghost use Rattle.kdcs_calls.specs.{Calling.{CanRead, HoldersFollow, HoldsJust, WaitsFollow, locks_after_call, locks_by_call, performed_now}, Parts.{owner_of}};
 
+use abstract_monitor::{Called, Due};
+use area_locks::LockTable;
 use crate::answer::replied;
 use crate::areas::{Access, access_area, unlock};
 use crate::jobs::{moment_in, put_job};
@@ -12,11 +14,9 @@ use crate::messages::{get, put};
 use crate::operand::Owner;
 use crate::outside::Outside;
 use crate::pend::pend;
-use area_locks::LockTable;
 use kd_base::OutOfMemory;
 use kdcdef_check::Generation;
 use kdcs_types::{Call, Cause, Code, ServiceId, Tables};
-use monitor_semantics::{Called, Due};
 use open_transaction::OpenTransaction;
 use std::alloc::Global;
 
@@ -54,7 +54,7 @@ fn first_call(work: &mut OpenTransaction, call: &Call) -> Called
 }
 
 // A call, once INIT is done.
-#[tactic(auto, unfolding(monitor_semantics::specs::Calls::called))]
+#[tactic(auto, unfolding(abstract_monitor::specs::Calls::called))]
 fn later_call(
     outside: &Outside,
     locks: &mut LockTable,
@@ -108,7 +108,7 @@ fn later_call(
 /// the wait, and is repeated as it stands. `locks` gives the service exactly the areas that its transaction holds. No
 /// part, area or LSSB that it may read is longer than 32,767 bytes. When memory runs out, the transaction and the locks
 /// are of no use any more.
-#[tactic(auto, unfolding(monitor_semantics::specs::Calls::call_outcome))]
+#[tactic(auto, unfolding(abstract_monitor::specs::Calls::call_outcome))]
 pub fn perform(
     alloc: Global,
     generation: &Generation,

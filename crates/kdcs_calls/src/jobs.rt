@@ -1,18 +1,18 @@
 //! FPUT and DPUT.
 ghost use Rattle.std.specs.Prelude.{◌≡◌, ◌≤◌, IfOk, IfSome};
 ghost use Rattle.kdcdef_types.specs.Generation.{lterm_of, tac_of};
-ghost use Rattle.monitor_semantics.specs.Calls.{drafted, job_target, moment_by, put_job, target_by};
+ghost use Rattle.abstract_monitor.specs.Calls.{drafted, job_target, moment_by, put_job, target_by};
 ghost use Rattle.unit_semantics.specs.Contents.{number_of};
 ghost use Rattle.open_transaction.specs.Work.{work_of};
 ghost use Rattle.async_queue.specs.Drafts.{IsInTicks};
 
+use abstract_monitor::{Called, Due};
 use crate::answer::replied;
 use crate::operand::name_in;
 use kd_base::{Bytes, Mode, Name, OutOfMemory};
 use kdcdef_check::Generation;
 use kdcdef_types::{CallUse, TacEntry};
 use kdcs_types::{Cause, Code, Target};
-use monitor_semantics::{Called, Due};
 use open_transaction::OpenTransaction;
 use timer_queue::moment;
 use unit_step::number_of;
@@ -29,7 +29,7 @@ fn tac_target(name: Name, entry: &TacEntry) -> Option<Target>
 }
 
 // Whom a job may go to.
-#[tactic(auto, unfolding(monitor_semantics::specs::Calls::job_target))]
+#[tactic(auto, unfolding(abstract_monitor::specs::Calls::job_target))]
 fn job_target(generation: &Generation, name: Name) -> Option<Target>
     ensures { result ≡ job_target generation.now name }
 {

@@ -1,15 +1,15 @@
 //! The calls on LSSBs.
 ghost use Rattle.std.specs.{Prelude.{◌≡◌, IfOk, IfSome}, FinMap.{find}};
-ghost use Rattle.monitor_semantics.specs.{Bytes.{Bytes, bytes_cmp}, Calls.{name_in_operand, read_away, with_name, write_local}};
+ghost use Rattle.abstract_monitor.specs.{Bytes.{Bytes, bytes_cmp}, Calls.{name_in_operand, read_away, with_name, write_local}};
 ghost use Rattle.open_transaction.specs.Work.{work_of};
 ghost use Rattle.kdcs_calls.specs.{Calling.{IsShort}, Parts.{local_call}};
 
+use abstract_monitor::Called;
 use crate::answer::{read_or, read_reply, replied};
 use crate::operand::name_in;
 use kd_base::{Bytes, Name, OutOfMemory};
 use kdcdef_check::Generation;
 use kdcs_types::Code;
-use monitor_semantics::Called;
 use open_transaction::OpenTransaction;
 
 /// What a call does with the LSSB in its operand: K03 where one that is read or deleted is absent.

@@ -1,16 +1,16 @@
 //! The request for the lock of an area.
 ghost use Rattle.std.specs.Prelude.{◌≡◌, IfOk, OnOk};
 ghost use Rattle.area_locks.specs.Asked.{asked};
-ghost use Rattle.monitor_semantics.specs.{Calls.{Performed, locked, on_answer, touches}, State.{OpenTransaction as Work}};
+ghost use Rattle.abstract_monitor.specs.{Calls.{Performed, locked, on_answer, touches}, State.{OpenTransaction as Work}};
 ghost use Rattle.open_transaction.specs.Work.{work_of};
 ghost use Rattle.kdcs_calls.specs.{Calling.{HoldsJust}, Parts.{after_lock, told_of}};
 
+use abstract_monitor::{Called, LockAnswer};
+use area_locks::LockTable;
 use crate::answer::replied;
 use crate::outside::Outside;
-use area_locks::LockTable;
 use kd_base::OutOfMemory;
 use kdcs_types::{Area, Code, Note};
-use monitor_semantics::{Called, LockAnswer};
 use open_transaction::OpenTransaction;
 
 /// Whether the transaction holds the area. It takes no memory.

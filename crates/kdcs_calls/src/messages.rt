@@ -1,15 +1,15 @@
 //! MGET, MPUT and FGET.
 ghost use Rattle.std.specs.Prelude.{◌≡◌, All, IfOk};
-ghost use Rattle.monitor_semantics.specs.Calls.{for_kind, got, put_part};
+ghost use Rattle.abstract_monitor.specs.Calls.{for_kind, got, put_part};
 ghost use Rattle.open_transaction.specs.Work.{work_of};
 ghost use Rattle.kdcdef_types.specs.Generation.{Generated};
 ghost use Rattle.kdcs_calls.specs.Calling.{IsShort};
 
+use abstract_monitor::Called;
 use crate::answer::{read_reply, replied};
 use kd_base::{Bytes, OutOfMemory};
 use kdcs_types::{Cause, Code};
 use message_area::PutError;
-use monitor_semantics::Called;
 use open_transaction::OpenTransaction;
 
 /// The next part of the message, where the call is for this kind of service.

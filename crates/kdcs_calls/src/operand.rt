@@ -1,6 +1,6 @@
 //! Names and numbers in operands.
 ghost use Rattle.std.specs.Prelude.{◌≡◌};
-ghost use Rattle.monitor_semantics.specs.Calls.{name_in_operand, name_by};
+ghost use Rattle.abstract_monitor.specs.Calls.{name_in_operand, name_by};
 ghost use Rattle.kdcs_calls.specs.{Calling.{is_declared}, Parts.{area_by, named_by}};
 
 use kd_base::{Bytes, Name, trim_end};

@@ -1,14 +1,14 @@
 //! PEND.
 ghost use Rattle.std.specs.{Prelude.{◌≡◌, option_and_then}, Option.{option_copied}};
 ghost use Rattle.kdcdef_types.specs.Generation.{tac_of};
-ghost use Rattle.monitor_semantics.specs.Calls.{pend};
+ghost use Rattle.abstract_monitor.specs.Calls.{pend};
 ghost use Rattle.open_transaction.specs.Work.{work_of};
 
+use abstract_monitor::Called;
 use crate::operand::name_if_given;
 use kd_base::{Bytes, Name, Variant};
 use kdcdef_check::Generation;
 use kdcdef_types::TacEntry;
-use monitor_semantics::Called;
 use open_transaction::OpenTransaction;
 use pend_rules::outcome;
 

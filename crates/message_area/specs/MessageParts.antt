@@ -1,6 +1,6 @@
 -- What contracts see of a message area.
 use Rattle.std.specs.Prelude.{ℕ, List}
-use Rattle.monitor_semantics.specs.Bytes.{Bytes}
+use Rattle.abstract_monitor.specs.Bytes.{Bytes}
 
 -- the parts that are still to be read, the parts put, and how many bytes these may have together
 pub record MessageParts : Type 0 where

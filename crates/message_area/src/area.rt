@@ -1,6 +1,6 @@
 //! The parts of a service in an open transaction.
 ghost use Rattle.std.specs.Prelude.{◌≡◌, ◌≤◌, ◌↔◌, [], ◌∷◌, ◌++◌, drop, false, length, slice_get, sum_by, IfErr, IsTrue, OnErr, OnOk};
-ghost use Rattle.monitor_semantics.specs.Calls.{fits_one_more, has_message};
+ghost use Rattle.abstract_monitor.specs.Calls.{fits_one_more, has_message};
 ghost use Rattle.message_area.specs.{declared.error.PutError.TheVariants.{TooLong}, MessageParts.{MessageParts}};
 
 use crate::error::PutError;

@@ -4,9 +4,9 @@ use Rattle.std.specs.declared.alloc.Global.{Global}
 use Rattle.std.specs.FinMap.{is_sorted}
 use Rattle.kdcs_types.specs.declared.service.Service.{Service}
 use Rattle.kdcdef_types.specs.Generation.{Generated}
-use Rattle.monitor_semantics.specs.Bytes.{Bytes, bytes_cmp}
-use Rattle.monitor_semantics.specs.State.{OpenTransaction as Work}
-use Rattle.monitor_semantics.specs.Endings.{followed, followed_by_input}
+use Rattle.abstract_monitor.specs.Bytes.{Bytes, bytes_cmp}
+use Rattle.abstract_monitor.specs.State.{OpenTransaction as Work}
+use Rattle.abstract_monitor.specs.Endings.{followed, followed_by_input}
 use Rattle.open_transaction.specs.declared.open.OpenTransaction.{OpenTransaction}
 
 -- the definition's open transaction

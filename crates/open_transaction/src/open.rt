@@ -2,12 +2,12 @@
 ghost use Rattle.std.specs.{Prelude.{◌≡◌, ◌+◌, ◌<◌, ◌^◌, ◌∷◌, [], ◌++◌, IfOk, IsTrue, OnOk, OnErr}, FinMap.{is_sorted}};
 ghost use Rattle.kdcdef_types.specs.Generation.{tac_of};
 ghost use Rattle.kdcs_types.specs.declared.call.Code.TheVariants as code;
-ghost use Rattle.monitor_semantics.specs.{Bytes.{bytes_cmp}, Endings.{joined, opened, spaces, budget_by, is_asynchronous, fresh_run, kb_of, lssbs_of, handed_on}, Statements.{counted}};
+ghost use Rattle.abstract_monitor.specs.{Bytes.{bytes_cmp}, Endings.{joined, opened, spaces, budget_by, is_asynchronous, fresh_run, kb_of, lssbs_of, handed_on}, Statements.{counted}};
 ghost use Rattle.unit_semantics.specs.Ready.{CanAnswer, IsReady};
 ghost use Rattle.open_transaction.specs.Work.{work_of, accepted_of, followed_with, HasOrder};
 
-use crate::held::HeldAreas;
 use async_queue::DraftJobs;
+use crate::held::HeldAreas;
 use kd_base::{Bytes, Name, OutOfMemory};
 use kdcdef_check::Generation;
 use kdcs_types::{Areas, Code, Header, Notes, Parts, Reply, RunState, Service, ServiceId};
@@ -168,7 +168,7 @@ impl OpenTransaction {
     /// A transaction of a service opens, from its row if it has one. Its unit run has the parts `handed` to read, which
     /// are an input that it accepted, or a message that was handed on or is a job's. It stands in a box, since it is wide
     /// and has several owners one after another.
-    #[tactic(auto, unfolding(monitor_semantics::specs::Endings::opened))]
+    #[tactic(auto, unfolding(abstract_monitor::specs::Endings::opened))]
     pub fn begin(
         alloc: Global,
         generation: &Generation,
@@ -220,7 +220,7 @@ impl OpenTransaction {
     /// A unit run of this TAC begins in the same transaction. With an input, which is accepted, that is the message to
     /// read, and the parts put are dropped. Without one the parts put are handed on; but an asynchronous service goes on
     /// reading its job's message. On an error nothing changes. Fewer than 2^64 - 1 statements were done.
-    #[tactic(auto, unfolding(monitor_semantics::specs::Endings::followed, monitor_semantics::specs::Endings::followed_by_input))]
+    #[tactic(auto, unfolding(abstract_monitor::specs::Endings::followed, abstract_monitor::specs::Endings::followed_by_input))]
     pub fn follow(
         &mut self,
         alloc: Global,

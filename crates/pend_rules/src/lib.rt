@@ -5,12 +5,12 @@
 #![tactic(auto)]
 
 ghost use Rattle.std.specs.{Prelude.{◌≡◌, if◌then◌else◌}, Option.{option_copied}};
-ghost use Rattle.monitor_semantics.specs.Outcomes.{goes_first, goes_within, fits_follow_up, is_for_kind, may_follow, needs_message, pend_outcome};
+ghost use Rattle.abstract_monitor.specs.Outcomes.{goes_first, goes_within, fits_follow_up, is_for_kind, may_follow, needs_message, pend_outcome};
 
+use abstract_monitor::Outcome;
 use kd_base::{Name, Variant};
 use kdcdef_types::{CallUse, TacEntry};
 use kdcs_types::Cause;
-use monitor_semantics::Outcome;
 
 // KP, RE and FC are of dialogue services alone.
 fn is_for_kind(asynchronous: bool, variant: Variant) -> bool
@@ -77,7 +77,7 @@ fn follow_up_of(
 /// none. `name` is the operand, `None` where it is no name, and `follow_up` is what the generation says of it. Refused by
 /// E05 where the variant is not for this kind of service, then by E04 where the variant wants a follow-up and the operand
 /// is none that it allows, then by E03 where it wants a message and there is none. It takes no memory.
-#[tactic(auto, unfolding(monitor_semantics::specs::Outcomes::pend_outcome))]
+#[tactic(auto, unfolding(abstract_monitor::specs::Outcomes::pend_outcome))]
 pub fn outcome(
     asynchronous: bool,
     variant: Variant,

@@ -8,12 +8,12 @@ use Rattle.std.proofs.lemmas.List.Elements.{All-nil, All-cons, All-append, All-s
 use Rattle.kd_base.specs.FirstFaults.{items_of}
 use Rattle.kdcdef_types.specs.declared.entry.PtermEntry.{PtermEntry}
 use Rattle.kdcdef_types.specs.Generation.{Generated}
-use Rattle.monitor_semantics.specs.declared.command.Command.{Command}
-use Rattle.monitor_semantics.specs.declared.command.Command.TheVariants.{Input, Turn, Drop, Print, PrintLast}
+use Rattle.abstract_monitor.specs.declared.command.Command.{Command}
+use Rattle.abstract_monitor.specs.declared.command.Command.TheVariants.{Input, Turn, Drop, Print, PrintLast}
 use Rattle.script_read.specs.declared.fault.ScriptFault.{ScriptFault}
 use Rattle.script_read.specs.Script.{Line, Says}
 use Rattle.script_read.specs.Reading.{Gives, commands_of}
-use Rattle.monitor_semantics.specs.CommandsOf.{is_pterm, IsCommandOf}
+use Rattle.abstract_monitor.specs.CommandsOf.{is_pterm, IsCommandOf}
 use Rattle.script_read.specs.Commands.{line_in}
 use Rattle.script_read.specs.Spelling.{IsPterm, IsSpelled}
 use Rattle.script_read.specs.Laws.{said, all_said}

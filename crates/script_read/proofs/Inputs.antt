@@ -10,8 +10,8 @@ use Rattle.kd_base.specs.Text.{is_space}
 use Rattle.kd_base.specs.Tools.{true_both}
 use Rattle.kd_base.specs.Fronts.{split_there}
 use Rattle.kdcdef_types.specs.Generation.{Generated}
-use Rattle.monitor_semantics.specs.declared.command.Command.{Command}
-use Rattle.monitor_semantics.specs.declared.command.Command.TheVariants.{Input}
+use Rattle.abstract_monitor.specs.declared.command.Command.{Command}
+use Rattle.abstract_monitor.specs.declared.command.Command.TheVariants.{Input}
 use Rattle.script_read.specs.Script.{Line, Says, IsOutOfRange, as_command}
 use Rattle.script_read.specs.Commands.{pterm_in, is_text_byte, begins_with_in, input_by, input, line_in}
 use Rattle.script_read.specs.Spelling.{IsPterm, IsInput}

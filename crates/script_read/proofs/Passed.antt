@@ -7,8 +7,8 @@ use Rattle.kd_base.specs.Text.{is_space, is_digit, decimal_value, name_of}
 use Rattle.kd_base.specs.Tools.{both_true}
 use Rattle.kd_base.specs.Limits.{last_clock}
 use Rattle.kdcdef_types.specs.Generation.{Generated}
-use Rattle.monitor_semantics.specs.declared.command.Command.{Command}
-use Rattle.monitor_semantics.specs.declared.command.Command.TheVariants.{Input, Tick, Run, Turn, Drop, Print, PrintLast}
+use Rattle.abstract_monitor.specs.declared.command.Command.{Command}
+use Rattle.abstract_monitor.specs.declared.command.Command.TheVariants.{Input, Tick, Run, Turn, Drop, Print, PrintLast}
 use Rattle.script_read.specs.declared.keyword.Keyword.{Keyword}
 use Rattle.script_read.specs.declared.keyword.Keyword.TheVariants as keywords
 use Rattle.script_read.specs.Script.{Line, Nothing, as_command, words, same, is_comment, is_passed, begins_with_space, line_by, is_count, number_in, number_by, numbered}

@@ -3,8 +3,8 @@ use Rattle.std.proofs.Common.{◌≡◌, inl, inr, ℕ, Bool, true, false, List,
 use Rattle.std.specs.Prelude.{drop}
 use Rattle.kd_base.specs.Limits.{last_clock}
 use Rattle.kdcdef_types.specs.Generation.{Generated}
-use Rattle.monitor_semantics.specs.declared.command.Command.{Command}
-use Rattle.monitor_semantics.specs.declared.command.Command.TheVariants.{Input, Tick, Run, Turn, Drop, Print, PrintLast, Restart}
+use Rattle.abstract_monitor.specs.declared.command.Command.{Command}
+use Rattle.abstract_monitor.specs.declared.command.Command.TheVariants.{Input, Tick, Run, Turn, Drop, Print, PrintLast, Restart}
 use Rattle.script_read.specs.declared.keyword.Keyword.TheVariants as keywords
 use Rattle.script_read.specs.Script.{Line, Says, IsBad, IsOutOfRange, words, is_passed, begins_with_space}
 use Rattle.script_read.specs.Commands.{last_turns, spelling, begins_with_in, line_of_words, command_by}

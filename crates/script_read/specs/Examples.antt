@@ -1,9 +1,9 @@
 -- Worked lines.
 use Rattle.std.specs.Prelude.{◌≡◌, ℕ, true, false, List, [], ◌∷◌, ◌++◌, map, codes, Ok, Err}
 use Rattle.kdcdef_types.specs.Generation.{Generated}
-use Rattle.monitor_semantics.specs.Made.{made_generation}
-use Rattle.monitor_semantics.specs.declared.command.Command.{Command}
-use Rattle.monitor_semantics.specs.declared.command.Command.TheVariants.{Input, Tick, Run, Turn, Drop, Print, PrintLast, Restart}
+use Rattle.abstract_monitor.specs.Made.{made_generation}
+use Rattle.abstract_monitor.specs.declared.command.Command.{Command}
+use Rattle.abstract_monitor.specs.declared.command.Command.TheVariants.{Input, Tick, Run, Turn, Drop, Print, PrintLast, Restart}
 use Rattle.script_read.specs.declared.fault.ScriptFault.TheVariants.{BadLine, OutOfRange}
 use Rattle.script_read.specs.Script.{Line, Nothing, Says, IsBad, IsOutOfRange}
 use Rattle.script_read.specs.Commands.{line_in, script_in}

@@ -2,13 +2,13 @@
 ghost use Rattle.std.specs.{Prelude.{◌≡◌, ◌≢◌, ◌<◌, ◌-◌, ◌^◌, List, ℕ, length, nat_lt, Ok, Err, IfOk, IfErr}, List.{All}, Str.Lines.{lines}};
 ghost use Rattle.kd_base.specs.FirstFaults.{items_of};
 ghost use Rattle.script_read.specs.{declared.fault.ScriptFault.TheVariants.{Memory}, Script.{Line, command_lines, is_too_long}, Commands.{script_in}, Reading.{outcome, Gives, commands_of}};
-ghost use Rattle.monitor_semantics.specs.CommandsOf.{IsCommandOf};
+ghost use Rattle.abstract_monitor.specs.CommandsOf.{IsCommandOf};
 
+use abstract_monitor::Command;
 use crate::fault::ScriptFault;
 use crate::line::is_passed;
 use kd_base::{LONGEST_TEXT, Sequence};
 use kdcdef_check::Generation;
-use monitor_semantics::Command;
 use std::alloc::Global;
 use texts::next_line;
 

@@ -19,26 +19,26 @@ use Rattle.kdcs_types.specs.Keys.{id_cmp, id_eq}
 use Rattle.kdcs_types.specs.KeyedLaws.{found_passes}
 use Rattle.kdcs_types.specs.Tables.{TableRows, IsSortedTables, change_fits, changed, lterm_fits, service_fits, service_key, service_of}
 use Rattle.kdcdef_types.specs.Generation.{Generated}
-use Rattle.monitor_semantics.specs.declared.outcome.Outcome.{Outcome}
-use Rattle.monitor_semantics.specs.declared.outcome.Outcome.TheVariants.{Hold, Stay, Queue, Wait, Point, Follow, Finish, Break, Back}
-use Rattle.monitor_semantics.specs.Bytes.{Bytes, bytes_cmp}
+use Rattle.abstract_monitor.specs.declared.outcome.Outcome.{Outcome}
+use Rattle.abstract_monitor.specs.declared.outcome.Outcome.TheVariants.{Hold, Stay, Queue, Wait, Point, Follow, Finish, Break, Back}
+use Rattle.abstract_monitor.specs.Bytes.{Bytes, bytes_cmp}
 use Rattle.std.specs.FinMap.{is_sorted}
-use Rattle.monitor_semantics.specs.Endings.{broken, joined, row_after, service_change, synchronised, with_service}
-use Rattle.monitor_semantics.specs.Sessions.{is_running}
-use Rattle.monitor_semantics.specs.State.{Application, OpenTransaction, State}
-use Rattle.monitor_semantics.specs.Statements.{kept_record}
-use Rattle.monitor_semantics.specs.Turns.{Turned, abnormal, after_point, committed, dump_acts, ended_acts, message_acts, message_sent, moved_to, settled, settled_by, told_user, user_acts, with_open, with_task, without_open, without_work}
-use Rattle.monitor_places.specs.Entries.{found_put, found_without}
-use Rattle.monitor_tables.specs.PointLaws.{Stands}
+use Rattle.abstract_monitor.specs.Endings.{broken, joined, row_after, service_change, synchronised, with_service}
+use Rattle.abstract_monitor.specs.Sessions.{is_running}
+use Rattle.abstract_monitor.specs.State.{Application, OpenTransaction, State}
+use Rattle.abstract_monitor.specs.Statements.{kept_record}
+use Rattle.abstract_monitor.specs.Turns.{Turned, abnormal, after_point, committed, dump_acts, ended_acts, message_acts, message_sent, moved_to, settled, settled_by, told_user, user_acts, with_open, with_task, without_open, without_work}
+use Rattle.laws_of_places.specs.Entries.{found_put, found_without}
+use Rattle.laws_of_tables.specs.PointLaws.{Stands}
 use Rattle.open_transaction.specs.Work.{Boxed, boxed_work, HasOrder}
-use Rattle.monitor_state.specs.declared.parts.MonitorParts.{MonitorParts}
-use Rattle.monitor_state.specs.Kept.{found_work}
-use Rattle.monitor_state.specs.Standing.{IsOwned, SameApplication, state_of}
-use Rattle.monitor_state.specs.Whole.{app_of, same_app, same_twice}
+use Rattle.core_state.specs.declared.parts.MonitorParts.{MonitorParts}
+use Rattle.core_state.specs.Kept.{found_work}
+use Rattle.core_state.specs.Standing.{IsOwned, SameApplication, state_of}
+use Rattle.core_state.specs.Whole.{app_of, same_app, same_twice}
 use Rattle.sync_points.specs.declared.points.SettleAnswer.TheVariants.{Refused, Synced}
 use Rattle.sync_points.specs.Answers.{answer_by}
-use Rattle.commit_laws.specs.CommitLaws.{durable_difference}
-use Rattle.commit_laws.specs.Ends.{end_made, point_made}
+use Rattle.laws_of_commits.specs.CommitLaws.{durable_difference}
+use Rattle.laws_of_commits.specs.Ends.{end_made, point_made}
 use Rattle.service_ends.specs.declared.turned.Turned.{Turned as Did}
 use Rattle.service_ends.specs.Ending.{CanGoOn, IsClosed, Works, behind_end, behind_point, broken_to, emitted, pointed_to, settled_to, turned_to}
 

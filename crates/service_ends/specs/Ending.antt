@@ -11,20 +11,20 @@ use Rattle.kdcs_types.specs.declared.service.Ending.TheVariants.{Synced, Broken}
 use Rattle.kdcs_types.specs.declared.key.ServiceId.TheVariants.{Dialogue, Asynchronous}
 use Rattle.kdcs_types.specs.declared.service.Service.{Service}
 use Rattle.kdcs_types.specs.declared.service.Settled.{Settled}
-use Rattle.monitor_semantics.specs.declared.outcome.Outcome.{Outcome}
-use Rattle.monitor_semantics.specs.declared.outcome.Outcome.TheVariants.{Hold, Stay, Queue, Wait, Point, Follow, Finish, Break, Back}
-use Rattle.monitor_semantics.specs.Bytes.{Bytes}
-use Rattle.monitor_semantics.specs.Endings.{broken, durable, opened_by_row, refusal, row_after, synchronised}
-use Rattle.monitor_semantics.specs.Statements.{kept_record}
-use Rattle.monitor_semantics.specs.Sessions.{is_running}
-use Rattle.monitor_semantics.specs.State.{Application, OpenTransaction, State}
-use Rattle.monitor_semantics.specs.Turns.{Turned, after_point, commit_of, committed, dump_acts, ended_acts, queued, told_user, user_acts, with_task}
-use Rattle.monitor_tables.specs.PointLaws.{Stands}
+use Rattle.abstract_monitor.specs.declared.outcome.Outcome.{Outcome}
+use Rattle.abstract_monitor.specs.declared.outcome.Outcome.TheVariants.{Hold, Stay, Queue, Wait, Point, Follow, Finish, Break, Back}
+use Rattle.abstract_monitor.specs.Bytes.{Bytes}
+use Rattle.abstract_monitor.specs.Endings.{broken, durable, opened_by_row, refusal, row_after, synchronised}
+use Rattle.abstract_monitor.specs.Statements.{kept_record}
+use Rattle.abstract_monitor.specs.Sessions.{is_running}
+use Rattle.abstract_monitor.specs.State.{Application, OpenTransaction, State}
+use Rattle.abstract_monitor.specs.Turns.{Turned, after_point, commit_of, committed, dump_acts, ended_acts, queued, told_user, user_acts, with_task}
+use Rattle.laws_of_tables.specs.PointLaws.{Stands}
 use Rattle.step_scheduler.specs.Schedule.{IsTask}
 use Rattle.open_transaction.specs.Work.{Boxed, boxed_work, HasOrder}
 use Rattle.service_ends.specs.declared.turned.Turned.{Turned as Did}
-use Rattle.monitor_state.specs.declared.parts.MonitorParts.{MonitorParts}
-use Rattle.monitor_state.specs.Standing.{IsIndexed, state_of}
+use Rattle.core_state.specs.declared.parts.MonitorParts.{MonitorParts}
+use Rattle.core_state.specs.Standing.{IsIndexed, state_of}
 
 -- a message to the user of a dialogue service
 abbrev pub told_by : State → ServiceId → (message : Bytes) → State

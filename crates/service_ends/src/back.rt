@@ -1,18 +1,18 @@
 //! The way back to the last synchronisation point.
 ghost use Rattle.std.specs.{Prelude.{◌≡◌, true, Some, None, IfOk, OnOk}, FinMap.{find}};
 ghost use Rattle.kdcs_types.specs.Keys.{id_cmp};
-ghost use Rattle.monitor_semantics.specs.{State.{OpenTransaction as Work}, Turns.{back, back_by, ended_acts, last_again, moved_to, without_work}};
+ghost use Rattle.abstract_monitor.specs.{State.{OpenTransaction as Work}, Turns.{back, back_by, ended_acts, last_again, moved_to, without_work}};
 ghost use Rattle.open_transaction.specs.Work.{boxed_work};
 ghost use Rattle.service_ends.specs.Ending.{turned_to, CanGoOn, IsClosed, Works};
-ghost use Rattle.monitor_state.specs.{Standing.{IsIndexed, SameApplication, state_of}, Whole.{app_of}};
+ghost use Rattle.core_state.specs.{Standing.{IsIndexed, SameApplication, state_of}, Whole.{app_of}};
 
+use core_state::MonitorParts;
 use crate::closed::close_work;
 use crate::row::go_on;
 use crate::terminal::{say_ended, tell};
 use crate::turned::Turned;
 use kd_base::{Bytes, Name, OutOfMemory};
 use kdcs_types::{Acts, Service, ServiceId};
-use monitor_state::MonitorParts;
 use open_transaction::OpenTransaction;
 use std::alloc::Global;
 

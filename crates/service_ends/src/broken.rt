@@ -1,20 +1,20 @@
 //! Abnormal ends.
 ghost use Rattle.std.specs.{Prelude.{◌≡◌, ◌++◌, ◌∷◌, [], Some, None, IfOk, OnOk}, FinMap.{find}};
 ghost use Rattle.kdcs_types.specs.{Keys.{id_cmp}, Tables.{changed, AreChanges}, declared.act.Act.TheVariants.{Commit}};
-ghost use Rattle.monitor_semantics.specs.{Endings.{service_change, with_service}, State.{OpenTransaction as Work}, Turns.{abnormal, dump_acts, ended_acts}};
+ghost use Rattle.abstract_monitor.specs.{Endings.{service_change, with_service}, State.{OpenTransaction as Work}, Turns.{abnormal, dump_acts, ended_acts}};
 ghost use Rattle.open_transaction.specs.Work.{boxed_work, work_of};
 ghost use Rattle.service_ends.specs.Ending.{behind_end, broken_to, emitted, turned_to, IsClosed, Works};
-ghost use Rattle.monitor_state.specs.{Standing.{IsIndexed, SameApplication, state_of}, Whole.{app_of}};
+ghost use Rattle.core_state.specs.{Standing.{IsIndexed, SameApplication, state_of}, Whole.{app_of}};
 
+use core_state::MonitorParts;
 use crate::closed::close_work;
 use crate::row::commit;
 use crate::terminal::say_ended;
 use crate::turned::Turned;
 use kd_base::{Bytes, OutOfMemory};
 use kdcs_types::{Act, Acts, Changes, Ending, ServiceId, Settled};
-use monitor_lines::dump_line;
-use monitor_state::MonitorParts;
 use open_transaction::OpenTransaction;
+use output_lines::dump_line;
 use std::alloc::Global;
 use sync_points::broken;
 

@@ -1,13 +1,13 @@
 //! Transactions that are over.
 ghost use Rattle.std.specs.{Prelude.{◌≡◌, IfSome}, Option.{option_map}, FinMap.{find}};
 ghost use Rattle.kdcs_types.specs.Keys.{id_cmp};
-ghost use Rattle.monitor_semantics.specs.{State.{OpenTransaction as Work}, Turns.{without_work}};
+ghost use Rattle.abstract_monitor.specs.{State.{OpenTransaction as Work}, Turns.{without_work}};
 ghost use Rattle.open_transaction.specs.Work.{boxed_work};
 ghost use Rattle.service_ends.specs.Ending.{IsClosed, Works};
-ghost use Rattle.monitor_state.specs.Standing.{IsIndexed, SameApplication, state_of};
+ghost use Rattle.core_state.specs.Standing.{IsIndexed, SameApplication, state_of};
 
+use core_state::MonitorParts;
 use kdcs_types::ServiceId;
-use monitor_state::MonitorParts;
 use open_transaction::OpenTransaction;
 
 /// The task is free, and the transaction of its service is over. It takes no memory.

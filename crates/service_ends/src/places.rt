@@ -1,16 +1,16 @@
 //! A service that waits for an input, or for a task.
 ghost use Rattle.std.specs.{Prelude.{◌≡◌, ◌++◌, ◌∷◌, [], IsSome, Some, None, IfOk, OnOk}, FinMap.{find}};
 ghost use Rattle.kdcs_types.specs.Keys.{id_cmp};
-ghost use Rattle.monitor_semantics.specs.{State.{OpenTransaction as Work}, Turns.{message_acts, message_sent, moved_to, with_task}};
+ghost use Rattle.abstract_monitor.specs.{State.{OpenTransaction as Work}, Turns.{message_acts, message_sent, moved_to, with_task}};
 ghost use Rattle.step_scheduler.specs.Schedule.{IsTask};
 ghost use Rattle.service_ends.specs.Ending.{turned_to};
-ghost use Rattle.monitor_state.specs.Standing.{IsIndexed, SameApplication, state_of};
+ghost use Rattle.core_state.specs.Standing.{IsIndexed, SameApplication, state_of};
 
+use core_state::MonitorParts;
 use crate::terminal::tell;
 use crate::turned::Turned;
 use kd_base::OutOfMemory;
 use kdcs_types::{Acts, ServiceId};
-use monitor_state::MonitorParts;
 use std::alloc::Global;
 
 // The message of a dialogue service is sent.

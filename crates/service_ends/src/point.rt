@@ -1,11 +1,13 @@
 //! Synchronisation points.
 ghost use Rattle.std.specs.{Prelude.{◌≡◌, ◌++◌, ◌∷◌, [], Some, IfOk, OnOk}, FinMap.{find}};
 ghost use Rattle.kdcs_types.specs.{Keys.{id_cmp}, Tables.{changed, AreChanges}, declared.act.Act.TheVariants.{Commit}};
-ghost use Rattle.monitor_semantics.specs.{Endings.{joined, service_change, with_service}, State.{OpenTransaction as Work}, Turns.{settled}};
+ghost use Rattle.abstract_monitor.specs.{Endings.{joined, service_change, with_service}, State.{OpenTransaction as Work}, Turns.{settled}};
 ghost use Rattle.open_transaction.specs.Work.{boxed_work, work_of};
 ghost use Rattle.service_ends.specs.Ending.{behind_point, goes_on_from, pointed_to, sent_by, turned_to, CanGoOn, IsClosed, Works};
-ghost use Rattle.monitor_state.specs.{Standing.{IsIndexed, SameApplication, state_of}, Whole.{app_of}};
+ghost use Rattle.core_state.specs.{Standing.{IsIndexed, SameApplication, state_of}, Whole.{app_of}};
 
+use abstract_monitor::Outcome;
+use core_state::MonitorParts;
 use crate::broken::end_work;
 use crate::closed::close_work;
 use crate::row::{commit, go_on};
@@ -13,8 +15,6 @@ use crate::terminal::tell;
 use crate::turned::Turned;
 use kd_base::{Bytes, Name, OutOfMemory};
 use kdcs_types::{Acts, Changes, Ending, Service, ServiceId, Settled};
-use monitor_semantics::Outcome;
-use monitor_state::MonitorParts;
 use open_transaction::OpenTransaction;
 use std::alloc::Global;
 use sync_points::SettleAnswer;

@@ -1,13 +1,13 @@
 //! Rows of services, and services that go on from them.
 ghost use Rattle.std.specs.{Prelude.{◌≡◌, ◌++◌, ◌∷◌, [], false, Some, None, IfOk, OnOk}, FinMap.{find}};
 ghost use Rattle.kdcs_types.specs.{Keys.{id_cmp}, declared.act.Act.TheVariants.{Commit}, Tables.{changed, AreChanges}};
-ghost use Rattle.monitor_semantics.specs.{Endings.{header_of_row, opened_by_row, service_change, user_in_row, with_service}, Sessions.{is_running}, Turns.{queued}};
+ghost use Rattle.abstract_monitor.specs.{Endings.{header_of_row, opened_by_row, service_change, user_in_row, with_service}, Sessions.{is_running}, Turns.{queued}};
 ghost use Rattle.open_transaction.specs.Work.{HasOrder};
-ghost use Rattle.monitor_state.specs.Standing.{IsIndexed, SameApplication, state_of};
+ghost use Rattle.core_state.specs.Standing.{IsIndexed, SameApplication, state_of};
 
+use core_state::MonitorParts;
 use kd_base::{Name, OutOfMemory};
 use kdcs_types::{Act, Acts, Change, Changes, Header, Key, Row, RowChanges, Service, ServiceId};
-use monitor_state::MonitorParts;
 use std::alloc::Global;
 
 fn service_change(id: &ServiceId, row: &Option<Service>) -> Result<Change, OutOfMemory>

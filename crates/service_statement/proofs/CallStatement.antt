@@ -12,21 +12,21 @@ use Rattle.unit_semantics.specs.Ready.{IsReady}
 use Rattle.unit_semantics.specs.Statement.{Asks, step}
 use Rattle.area_locks.specs.Asked.{without_wait}
 use Rattle.kdcs_calls.specs.Calling.{CanRead, HoldersFollow, WaitsFollow, performed_now}
-use Rattle.monitor_semantics.specs.declared.answer.Called.{Called}
-use Rattle.monitor_semantics.specs.declared.answer.Called.TheVariants.{Replied, Waits, Abnormal, Pends}
-use Rattle.monitor_semantics.specs.declared.answer.Happened.{Happened}
-use Rattle.monitor_semantics.specs.declared.outcome.Outcome.{Outcome}
-use Rattle.monitor_semantics.specs.declared.outcome.Outcome.TheVariants.{Hold, Stay, Queue, Wait, Point, Follow, Finish, Break, Back}
-use Rattle.monitor_semantics.specs.Endings.{followed, is_asynchronous}
-use Rattle.monitor_semantics.specs.Locks.{Locks, Waiting, told_now}
-use Rattle.monitor_semantics.specs.State.{Application, OpenTransaction as Work}
-use Rattle.monitor_semantics.specs.Statements.{area_of_call, by_call, by_outcome, by_performed}
-use Rattle.monitor_tables.specs.OpenLaws.{CallKeeps, CalledFits, StandsIn}
-use Rattle.monitor_tables.specs.PointLaws.{AreSound}
-use Rattle.monitor_tables.specs.Ready.{runs_are_ready}
-use Rattle.monitor_tables.specs.Stated.{calls_keep}
-use Rattle.monitor_tables.specs.States.{told-fits}
-use Rattle.monitor_semantics.specs.Bytes.{Bytes}
+use Rattle.abstract_monitor.specs.declared.answer.Called.{Called}
+use Rattle.abstract_monitor.specs.declared.answer.Called.TheVariants.{Replied, Waits, Abnormal, Pends}
+use Rattle.abstract_monitor.specs.declared.answer.Happened.{Happened}
+use Rattle.abstract_monitor.specs.declared.outcome.Outcome.{Outcome}
+use Rattle.abstract_monitor.specs.declared.outcome.Outcome.TheVariants.{Hold, Stay, Queue, Wait, Point, Follow, Finish, Break, Back}
+use Rattle.abstract_monitor.specs.Endings.{followed, is_asynchronous}
+use Rattle.abstract_monitor.specs.Locks.{Locks, Waiting, told_now}
+use Rattle.abstract_monitor.specs.State.{Application, OpenTransaction as Work}
+use Rattle.abstract_monitor.specs.Statements.{area_of_call, by_call, by_outcome, by_performed}
+use Rattle.laws_of_tables.specs.OpenLaws.{CallKeeps, CalledFits, StandsIn}
+use Rattle.laws_of_tables.specs.PointLaws.{AreSound}
+use Rattle.laws_of_tables.specs.Ready.{runs_are_ready}
+use Rattle.laws_of_tables.specs.Stated.{calls_keep}
+use Rattle.laws_of_tables.specs.States.{told-fits}
+use Rattle.abstract_monitor.specs.Bytes.{Bytes}
 use Rattle.open_transaction.specs.Work.{followed_with}
 use Rattle.service_statement.specs.Stating.{wait_ended, waits_by}
 use Rattle.service_statement.proofs.Reading.{can_read}

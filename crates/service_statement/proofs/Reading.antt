@@ -12,15 +12,15 @@ use Rattle.kdcs_types.specs.Tables.{TableRows, content_of}
 use Rattle.kdcdef_types.specs.Generation.{Generated}
 use Rattle.area_locks.specs.Asked.{no_locks}
 use Rattle.kdcs_calls.specs.Calling.{CanRead, IsShort}
-use Rattle.monitor_laws.specs.Suits.{fits_content}
-use Rattle.monitor_laws.specs.Transactions.{CanGoOn, area_is_declared, fits_if_there, written_fits}
-use Rattle.monitor_semantics.specs.Bytes.{Bytes, bytes_cmp}
-use Rattle.monitor_semantics.specs.Calls.{shown_by}
-use Rattle.monitor_semantics.specs.Locks.{told_now}
-use Rattle.monitor_semantics.specs.State.{OpenTransaction as Work}
-use Rattle.monitor_tables.specs.Lists.{found_passes}
-use Rattle.monitor_tables.specs.PointLaws.{AreSound}
-use Rattle.monitor_tables.specs.States.{told-fits}
+use Rattle.laws_of_steps.specs.Suits.{fits_content}
+use Rattle.laws_of_steps.specs.Transactions.{CanGoOn, area_is_declared, fits_if_there, written_fits}
+use Rattle.abstract_monitor.specs.Bytes.{Bytes, bytes_cmp}
+use Rattle.abstract_monitor.specs.Calls.{shown_by}
+use Rattle.abstract_monitor.specs.Locks.{told_now}
+use Rattle.abstract_monitor.specs.State.{OpenTransaction as Work}
+use Rattle.laws_of_tables.specs.Lists.{found_passes}
+use Rattle.laws_of_tables.specs.PointLaws.{AreSound}
+use Rattle.laws_of_tables.specs.States.{told-fits}
 
 short : (o : Option Bytes) → IsTrue (fits_if_there o) → IfSome o IsShort
 short None h = tt

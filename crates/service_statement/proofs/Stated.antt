@@ -14,14 +14,14 @@ use Rattle.unit_step.specs.declared.outcome.Stepped.TheVariants as stepped
 use Rattle.kdcs_calls.specs.Calling.{HoldersFollow, HoldsJust, performed_now}
 use Rattle.kdcs_calls.specs.Holding.{follow_holds, quiet_follows}
 use Rattle.kdcs_types.specs.declared.service.Ending.TheVariants.{Broken}
-use Rattle.monitor_semantics.specs.declared.answer.Happened.{Happened}
-use Rattle.monitor_semantics.specs.declared.answer.Happened.TheVariants.{Went, Queued, Waited, Held, Settles, Breaks, Returns}
-use Rattle.monitor_semantics.specs.Calls.{Told}
-use Rattle.monitor_semantics.specs.Endings.{is_asynchronous}
-use Rattle.monitor_semantics.specs.Locks.{Locks, told_now}
-use Rattle.monitor_semantics.specs.State.{Application, OpenTransaction as Work, unit_of}
-use Rattle.monitor_semantics.specs.Statements.{Stated, area_in_unit, area_of, area_of_call, area_of_step, by_performed, by_step, in_unit, statement}
-use Rattle.monitor_tables.specs.OpenLaws.{StandsIn}
+use Rattle.abstract_monitor.specs.declared.answer.Happened.{Happened}
+use Rattle.abstract_monitor.specs.declared.answer.Happened.TheVariants.{Went, Queued, Waited, Held, Settles, Breaks, Returns}
+use Rattle.abstract_monitor.specs.Calls.{Told}
+use Rattle.abstract_monitor.specs.Endings.{is_asynchronous}
+use Rattle.abstract_monitor.specs.Locks.{Locks, told_now}
+use Rattle.abstract_monitor.specs.State.{Application, OpenTransaction as Work, unit_of}
+use Rattle.abstract_monitor.specs.Statements.{Stated, area_in_unit, area_of, area_of_call, area_of_step, by_performed, by_step, in_unit, statement}
+use Rattle.laws_of_tables.specs.OpenLaws.{StandsIn}
 use Rattle.open_transaction.specs.declared.open.OpenTransaction.{OpenTransaction}
 use Rattle.open_transaction.specs.Work.{work_of}
 use Rattle.service_statement.specs.Stating.{StepLeaves, wait_ended, waits_after, waits_by}

@@ -8,11 +8,11 @@ use Rattle.unit_step.specs.declared.outcome.Stepped.{Stepped}
 use Rattle.unit_step.specs.declared.outcome.Stepped.TheVariants as stepped
 use Rattle.area_locks.specs.Asked.{without_wait}
 use Rattle.kdcs_calls.specs.Calling.{waits_for_area}
-use Rattle.monitor_semantics.specs.declared.answer.Happened.{Happened}
-use Rattle.monitor_semantics.specs.declared.answer.Happened.TheVariants.{Went, Queued, Waited, Held, Settles, Breaks, Returns}
-use Rattle.monitor_semantics.specs.Locks.{Locks, Waiting}
-use Rattle.monitor_semantics.specs.Statements.{area_of}
-use Rattle.monitor_semantics.specs.State.{Application, OpenTransaction as Work}
+use Rattle.abstract_monitor.specs.declared.answer.Happened.{Happened}
+use Rattle.abstract_monitor.specs.declared.answer.Happened.TheVariants.{Went, Queued, Waited, Held, Settles, Breaks, Returns}
+use Rattle.abstract_monitor.specs.Locks.{Locks, Waiting}
+use Rattle.abstract_monitor.specs.Statements.{area_of}
+use Rattle.abstract_monitor.specs.State.{Application, OpenTransaction as Work}
 
 -- a plain statement gives another unit run and is counted; a call, and an end, change nothing yet
 abbrev pub StepLeaves : (before after : OpenTransaction) → Stepped → Type 0

@@ -1,20 +1,20 @@
 //! A statement that is a KDCS call.
 ghost use Rattle.std.specs.Prelude.{◌≡◌, ◌+◌, ◌≤◌, ◌<◌, ◌^◌, IfOk, OnOk};
 ghost use Rattle.kdcs_calls.specs.Calling.{HoldersFollow, HoldsJust, performed_now};
-ghost use Rattle.monitor_semantics.specs.{Endings.{is_asynchronous}, Statements.{area_of_call, by_call, by_performed}};
-ghost use Rattle.monitor_tables.specs.{OpenLaws.{CalledFits, StandsIn}, PointLaws.{AreSound}};
+ghost use Rattle.abstract_monitor.specs.{Endings.{is_asynchronous}, Statements.{area_of_call, by_call, by_performed}};
+ghost use Rattle.laws_of_tables.specs.{OpenLaws.{CalledFits, StandsIn}, PointLaws.{AreSound}};
 ghost use Rattle.open_transaction.specs.Work.{work_of};
 ghost use Rattle.unit_semantics.specs.{Ready.{IsReady}, Statement.{Asks, step}};
-ghost use Rattle.application_facts.specs.Applied.{applied};
+ghost use Rattle.laws_of_applications.specs.Applied.{applied};
 ghost use Rattle.service_statement.specs.Stating.{wait_ended, waits_by};
 
+use abstract_monitor::{Called, Happened};
+use area_locks::LockTable;
 use crate::outside::Outside;
 use crate::pend::pend;
-use area_locks::LockTable;
 use kd_base::OutOfMemory;
 use kdcs_calls::perform;
 use kdcs_types::{Call, Ending};
-use monitor_semantics::{Called, Happened};
 use open_transaction::OpenTransaction;
 use unit_types::Unit;
 

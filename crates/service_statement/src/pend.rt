@@ -1,13 +1,13 @@
 //! What a PEND does that is not refused.
 ghost use Rattle.std.specs.Prelude.{◌≡◌, ◌+◌, ◌≤◌, ◌<◌, ◌^◌, IfOk, OnOk};
-ghost use Rattle.monitor_semantics.specs.{Endings.{is_asynchronous}, Statements.{break_ending, by_outcome}};
+ghost use Rattle.abstract_monitor.specs.{Endings.{is_asynchronous}, Statements.{break_ending, by_outcome}};
 ghost use Rattle.open_transaction.specs.Work.{work_of};
-ghost use Rattle.application_facts.specs.Applied.{applied};
+ghost use Rattle.laws_of_applications.specs.Applied.{applied};
 
+use abstract_monitor::{Happened, Outcome};
 use crate::outside::Outside;
 use kd_base::{OutOfMemory, Variant};
 use kdcs_types::{Cause, Ending};
-use monitor_semantics::{Happened, Outcome};
 use open_transaction::OpenTransaction;
 
 // PEND FR and PEND ER both break the transaction.

@@ -1,24 +1,24 @@
 //! The next statement of a service.
 ghost use Rattle.std.specs.Prelude.{◌≡◌, ◌+◌, ◌≤◌, ◌<◌, ◌^◌, IfOk, OnOk};
 ghost use Rattle.kdcs_calls.specs.Calling.{HoldersFollow, HoldsJust};
-ghost use Rattle.monitor_laws.specs.{Applications.{IsApplication}, Transactions.{CanGoOn}};
-ghost use Rattle.monitor_semantics.specs.{Endings.{is_asynchronous}, Locks.{told_now}, Statements.{area_of, statement}};
-ghost use Rattle.monitor_tables.specs.PointLaws.{AreSound};
+ghost use Rattle.laws_of_steps.specs.{Applications.{IsApplication}, Transactions.{CanGoOn}};
+ghost use Rattle.abstract_monitor.specs.{Endings.{is_asynchronous}, Locks.{told_now}, Statements.{area_of, statement}};
+ghost use Rattle.laws_of_tables.specs.PointLaws.{AreSound};
 ghost use Rattle.open_transaction.specs.Work.{work_of};
 ghost use Rattle.unit_semantics.specs.{Ready.{IsReady}, Statement.{step}};
 ghost use Rattle.unit_step.specs.Answers.{meaning_of};
-ghost use Rattle.application_facts.specs.Applied.{applied};
+ghost use Rattle.laws_of_applications.specs.Applied.{applied};
 ghost use Rattle.unit_check.specs.Fitted.{IsFit};
 ghost use Rattle.service_statement.specs.Stating.{StepLeaves, wait_ended, waits_after};
 
+use abstract_monitor::Happened;
+use area_locks::LockTable;
 use crate::call::perform_call;
 use crate::outside::Outside;
 use crate::waits::end_wait;
-use area_locks::LockTable;
 use kd_base::OutOfMemory;
 use kdcdef_check::Generation;
 use kdcs_types::{Ending, Tables};
-use monitor_semantics::Happened;
 use open_transaction::OpenTransaction;
 use std::alloc::Global;
 use unit_check::Units;

@@ -2,9 +2,9 @@
 ghost use Rattle.std.specs.Prelude.{◌≡◌};
 ghost use Rattle.service_statement.specs.Stating.{wait_ended};
 
+use abstract_monitor::Happened;
 use area_locks::LockTable;
 use kdcs_types::ServiceId;
-use monitor_semantics::Happened;
 
 /// A statement that is done, and PEND KP, end the wait of their service. It takes no memory.
 pub(crate) fn end_wait(locks: &mut LockTable, id: ServiceId, happened: &Happened)

@@ -1,10 +1,10 @@
 -- The terminal of a user, found by going over the sessions.
 use Rattle.std.proofs.Common.{◌≡◌, refl, ℕ, ◌<◌, ◌≤◌, zero, suc, true, false, List, [], ◌∷◌, length, drop, get_or, Some, None, is_some, ◌||◌, bytes_eq, arith}
 use Rattle.std.specs.List.{list_any}
-use Rattle.monitor_semantics.specs.Sessions.{has_user}
-use Rattle.monitor_semantics.specs.Bytes.{Bytes}
-use Rattle.monitor_semantics.specs.State.{Session}
-use Rattle.monitor_semantics.specs.Turns.{pterm_of_user, pterm_by}
+use Rattle.abstract_monitor.specs.Sessions.{has_user}
+use Rattle.abstract_monitor.specs.Bytes.{Bytes}
+use Rattle.abstract_monitor.specs.State.{Session}
+use Rattle.abstract_monitor.specs.Turns.{pterm_of_user, pterm_by}
 
 abbrev Signed : Type 0
 Signed = List (Bytes × Session)

@@ -9,9 +9,9 @@ use Rattle.std.specs.declared.cmp.Ordering.TheVariants.{Less, Equal, Greater}
 use Rattle.std.specs.FinMap.{find, put, nat_cmp-IsAntisymmetric, slice_cmp-IsAntisymmetric}
 use Rattle.std.specs.FinMap.Entries.{where_key, find-put, find-where_key}
 use Rattle.sorted_pairs.specs.Places.{without, kept, left_sorted}
-use Rattle.monitor_semantics.specs.Bytes.{Bytes, bytes_cmp}
-use Rattle.monitor_semantics.specs.State.{Session}
-use Rattle.monitor_semantics.specs.Turns.{pterm_of_user}
+use Rattle.abstract_monitor.specs.Bytes.{Bytes, bytes_cmp}
+use Rattle.abstract_monitor.specs.State.{Session}
+use Rattle.abstract_monitor.specs.Turns.{pterm_of_user}
 use Rattle.session_table.specs.Signed.{AreSessions}
 
 abbrev Signed : Type 0

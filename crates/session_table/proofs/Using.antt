@@ -2,10 +2,10 @@
 use Rattle.std.proofs.Common.{◌≡◌, refl, true, false, List, Some, None, is_some}
 use Rattle.std.specs.FinMap.{find}
 use Rattle.kdcdef_types.specs.Generation.{Generated}
-use Rattle.monitor_semantics.specs.declared.input_use.ServiceState.{ServiceState}
-use Rattle.monitor_semantics.specs.Bytes.{Bytes, bytes_cmp}
-use Rattle.monitor_semantics.specs.State.{Session}
-use Rattle.monitor_semantics.specs.Sessions.{Split, first_word, use_by, use_of, use_signed, use_unsigned}
+use Rattle.abstract_monitor.specs.declared.input_use.ServiceState.{ServiceState}
+use Rattle.abstract_monitor.specs.Bytes.{Bytes, bytes_cmp}
+use Rattle.abstract_monitor.specs.State.{Session}
+use Rattle.abstract_monitor.specs.Sessions.{Split, first_word, use_by, use_of, use_signed, use_unsigned}
 
 module _ (g : Generated) (signed : List (Bytes × Session)) (state : ServiceState) (pterm text : Bytes) (pieces : Split) where
   pub use_without : pieces ≡ first_word text → is_some (find bytes_cmp pterm signed) ≡ false → use_unsigned g signed pieces ≡ use_of g signed state pterm text

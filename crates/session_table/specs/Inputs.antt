@@ -1,7 +1,7 @@
 -- Which uses of an input hold text of it.
 use Rattle.std.specs.Prelude.{Bool, true, false}
-use Rattle.monitor_semantics.specs.declared.input_use.Use.{Use}
-use Rattle.monitor_semantics.specs.declared.input_use.Use.TheVariants.{Sign, SignRefused, SignFirst, AlreadySigned, Off, Display, Output, Again, Busy, TooLong, Next, Start, TacRefused}
+use Rattle.abstract_monitor.specs.declared.input_use.Use.{Use}
+use Rattle.abstract_monitor.specs.declared.input_use.Use.TheVariants.{Sign, SignRefused, SignFirst, AlreadySigned, Off, Display, Output, Again, Busy, TooLong, Next, Start, TacRefused}
 
 -- the message that a service reads
 abbrev pub holds_text : Use → Bool

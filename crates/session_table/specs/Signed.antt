@@ -1,9 +1,9 @@
 -- What lists of sessions keep.
 use Rattle.std.specs.Prelude.{◌≡◌, IsTrue, List, Some, None}
 use Rattle.std.specs.FinMap.{find, is_sorted}
-use Rattle.monitor_semantics.specs.Bytes.{Bytes, bytes_cmp}
-use Rattle.monitor_semantics.specs.State.{Session}
-use Rattle.monitor_semantics.specs.Turns.{pterm_of_user}
+use Rattle.abstract_monitor.specs.Bytes.{Bytes, bytes_cmp}
+use Rattle.abstract_monitor.specs.State.{Session}
+use Rattle.abstract_monitor.specs.Turns.{pterm_of_user}
 
 -- they stand in the order of their PTERMs, and a user is in one session at most
 pub record AreSessions (signed : List (Bytes × Session)) : Type 0 where

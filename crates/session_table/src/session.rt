@@ -12,7 +12,7 @@ pub struct Session {
 }
 
 impl Model for Session {
-    ghost use Rattle.monitor_semantics.specs.State.{Session as Signed};
+    ghost use Rattle.abstract_monitor.specs.State.{Session as Signed};
 
     ghost Value = { Signed };
 

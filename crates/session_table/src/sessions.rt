@@ -1,14 +1,14 @@
 //! The sessions.
 ghost use Rattle.std.specs.{Prelude.{◌≡◌, List, ℕ, [], MatchOption, Ok, Some, None, OnOk, OnErr, IfOk, IsTrue, bytes_eq, not}, Bool.{OnFalse}, Option.{option_copied, option_map}, List.{list_any}, FinMap.{find, put}, FinMap.Entries.{where_key}};
-ghost use Rattle.monitor_semantics.specs.{Bytes.{bytes_cmp}, Commands.{last_by}, Sessions.{has_user, use_of}, Turns.{pterm_of_user}, declared.input_use.Use.TheVariants.{Sign}};
+ghost use Rattle.abstract_monitor.specs.{Bytes.{bytes_cmp}, Commands.{last_by}, Sessions.{has_user, use_of}, Turns.{pterm_of_user}, declared.input_use.Use.TheVariants.{Sign}};
 ghost use Rattle.session_table.specs.{Inputs.{holds_text}, Signed.{AreSessions, CanSignOn}};
 
+use abstract_monitor::{ServiceState, Use};
 use crate::input::{use_signed, use_unsigned};
 use crate::session::Session;
 use crate::split::Split;
 use kd_base::{Bytes, Name, OutOfMemory};
 use kdcdef_check::Generation;
-use monitor_semantics::{ServiceState, Use};
 use sorted_pairs::SortedPairs;
 use std::alloc::Global;
 use std::marker::Model;
@@ -23,7 +23,7 @@ pub struct Sessions {
 
 impl Model for Sessions {
     ghost use Rattle.std.specs.Prelude.{List, ℕ};
-    ghost use Rattle.monitor_semantics.specs.State.{Session as Signed};
+    ghost use Rattle.abstract_monitor.specs.State.{Session as Signed};
     ghost use Rattle.session_table.specs.Signed.{AreSessions};
 
     ghost Value = { List (List ℕ × Signed) };

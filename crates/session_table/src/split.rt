@@ -1,6 +1,6 @@
 //! Bytes parted at the first byte of a kind.
 ghost use Rattle.std.specs.{Prelude.{◌≡◌}, Option.{option_copied}};
-ghost use Rattle.monitor_semantics.specs.Sessions.{after_word, split_at};
+ghost use Rattle.abstract_monitor.specs.Sessions.{after_word, split_at};
 
 use std::marker::Model;
 
@@ -13,7 +13,7 @@ pub struct Split<'a> {
 
 impl<'a> Model for Split<'a> {
     ghost use Rattle.std.specs.Option.{option_copied};
-    ghost use Rattle.monitor_semantics.specs.Sessions.{Split as Parted};
+    ghost use Rattle.abstract_monitor.specs.Sessions.{Split as Parted};
 
     ghost Value = { Parted };
 

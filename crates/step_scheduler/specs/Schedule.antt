@@ -8,7 +8,7 @@ use Rattle.kdcs_types.specs.declared.key.Target.TheVariants.{Tac, Lterm}
 use Rattle.kdcs_types.specs.declared.service.Job.{Job}
 use Rattle.kdcs_types.specs.Keys.{id_eq}
 use Rattle.kdcdef_types.specs.Generation.{Generated}
-use Rattle.monitor_semantics.specs.Picks.{Classed, class_of, due_job, place_passes, service_is_allowed, target_is_allowed}
+use Rattle.abstract_monitor.specs.Picks.{Classed, class_of, due_job, place_passes, service_is_allowed, target_is_allowed}
 
 -- services with the classes of their current TACs
 pub record Schedule : Type 0 where

@@ -1,7 +1,7 @@
 //! Which services and jobs a task may work for: the limits of TAC classes, and ASYNTASKS.
 ghost use Rattle.std.specs.Prelude.{◌≡◌, Bool, ◌==◌, find};
 ghost use Rattle.kdcs_types.specs.declared.key.Target.{Target};
-ghost use Rattle.monitor_semantics.specs.{Endings.{is_asynchronous}, Picks.{class_of, place_passes, tasks_with, class_is_free, asynchronous_is_free, is_allowed, service_is_allowed, target_is_allowed}};
+ghost use Rattle.abstract_monitor.specs.{Endings.{is_asynchronous}, Picks.{class_of, place_passes, tasks_with, class_is_free, asynchronous_is_free, is_allowed, service_is_allowed, target_is_allowed}};
 ghost use Rattle.step_scheduler.specs.Schedule.{class_of_target};
 
 use async_queue::Allows;

@@ -13,9 +13,9 @@ use Rattle.kdcs_types.specs.declared.key.Key.{Key}
 use Rattle.kdcs_types.specs.Keyed.{keyed}
 use Rattle.kdcs_types.specs.Keys.{area_cmp, area_key, key_cmp}
 use Rattle.kdcs_types.specs.Tables.{TableRows, AreChanges, change_fits, change_key, with_change, with_changes}
-use Rattle.monitor_semantics.specs.Bytes.{Bytes}
-use Rattle.monitor_semantics.specs.AreaLaws.{area_changes}
-use Rattle.monitor_semantics.specs.Endings.{area_change, with_areas}
+use Rattle.abstract_monitor.specs.Bytes.{Bytes}
+use Rattle.abstract_monitor.specs.AreaLaws.{area_changes}
+use Rattle.abstract_monitor.specs.Endings.{area_change, with_areas}
 use Rattle.storage_areas.specs.Areas.{changes_of}
 
 abbrev pub Written : Type 0

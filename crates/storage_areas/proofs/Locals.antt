@@ -5,9 +5,9 @@ use Rattle.std.specs.FinMap.{find}
 use Rattle.std.specs.FinMap.Entries.{where_key}
 use Rattle.std.specs.Cmp.Lexicographic.{texts_ties}
 use Rattle.kdcs_types.specs.declared.call.Code.TheVariants.{Done, K03}
-use Rattle.monitor_semantics.specs.Bytes.{Bytes, bytes_cmp}
-use Rattle.monitor_semantics.specs.Calls.{delete_local, delete_local_by, replied, without_local}
-use Rattle.monitor_semantics.specs.State.{OpenTransaction}
+use Rattle.abstract_monitor.specs.Bytes.{Bytes, bytes_cmp}
+use Rattle.abstract_monitor.specs.Calls.{delete_local, delete_local_by, replied, without_local}
+use Rattle.abstract_monitor.specs.State.{OpenTransaction}
 use Rattle.sorted_pairs.specs.Places.{without}
 
 without_is : (name : Bytes) (lssbs : List (Bytes × Bytes)) → without_local name lssbs ≡ without bytes_cmp name lssbs

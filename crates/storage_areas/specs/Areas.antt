@@ -3,9 +3,9 @@ use Rattle.std.specs.Prelude.{Bool, not, ◌&&◌, List, ℕ, Option, map, nat_l
 use Rattle.std.specs.FinMap.{find}
 use Rattle.kdcs_types.specs.declared.act.Change.{Change}
 use Rattle.kdcs_types.specs.declared.key.Area.{Area}
-use Rattle.monitor_semantics.specs.Bytes.{Bytes, bytes_cmp}
-use Rattle.monitor_semantics.specs.Endings.{area_change}
-use Rattle.monitor_semantics.specs.State.{OpenTransaction}
+use Rattle.abstract_monitor.specs.Bytes.{Bytes, bytes_cmp}
+use Rattle.abstract_monitor.specs.Endings.{area_change}
+use Rattle.abstract_monitor.specs.State.{OpenTransaction}
 
 -- the areas written, in the order of their keys, each with its last content, or none where it is deleted; and the LSSBs in the order of their names
 pub record PrivateAreas : Type 0 where

@@ -1,6 +1,6 @@
 //! What a write changes in the tables.
 ghost use Rattle.std.specs.Prelude.{◌≡◌, IfOk, Some};
-ghost use Rattle.monitor_semantics.specs.Endings.{area_change};
+ghost use Rattle.abstract_monitor.specs.Endings.{area_change};
 
 use kd_base::{Bytes, OutOfMemory};
 use kdcs_types::{Area, Change, Row};

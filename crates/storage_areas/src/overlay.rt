@@ -3,7 +3,7 @@ ghost use Rattle.std.specs.{Prelude.{◌≡◌, ◌≤◌, ◌↔◌, [], IsTrue
 ghost use Rattle.kdcdef_types.specs.Generation.{Generated};
 ghost use Rattle.kdcs_types.specs.{Keys.{area_cmp}, Tables.{TableRows, content_of, with_changes, AreChanges}};
 ghost use Rattle.kdcs_types.specs.declared.call.Code.TheVariants as kdcs_code;
-ghost use Rattle.monitor_semantics.specs.{Bytes.{bytes_cmp}, Calls.{delete_local, replied, shown_by, write_local}, Endings.{with_areas}, State.{OpenTransaction}};
+ghost use Rattle.abstract_monitor.specs.{Bytes.{bytes_cmp}, Calls.{delete_local, replied, shown_by, write_local}, Endings.{with_areas}, State.{OpenTransaction}};
 ghost use Rattle.storage_areas.specs.Areas.{PrivateAreas, changes_of, is_one_too_many, with_areas_of};
 
 use crate::change::area_change;

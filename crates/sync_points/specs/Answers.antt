@@ -5,9 +5,9 @@ use Rattle.kdcs_types.specs.declared.service.Ending.TheVariants as ending
 use Rattle.kdcs_types.specs.Difference.{difference}
 use Rattle.kdcs_types.specs.Tables.{TableRows}
 use Rattle.kdcdef_types.specs.Generation.{Generated}
-use Rattle.monitor_semantics.specs.declared.outcome.Outcome.{Outcome}
-use Rattle.monitor_semantics.specs.Endings.{durable, row_after, synchronised}
-use Rattle.monitor_semantics.specs.Statements.{kept_record}
+use Rattle.abstract_monitor.specs.declared.outcome.Outcome.{Outcome}
+use Rattle.abstract_monitor.specs.Endings.{durable, row_after, synchronised}
+use Rattle.abstract_monitor.specs.Statements.{kept_record}
 use Rattle.open_transaction.specs.declared.open.OpenTransaction.{OpenTransaction}
 use Rattle.open_transaction.specs.Work.{Boxed, work_of}
 use Rattle.sync_points.specs.declared.points.Point.{Point}

@@ -21,12 +21,12 @@ use Rattle.kdcs_types.specs.Keyed.{ascends, keyed}
 use Rattle.kdcs_types.specs.Keys.{area_cmp, area_key, key_cmp, key_kind, texts_behind, texts_cmp}
 use Rattle.kdcs_types.specs.Tables.{change_fits, change_key}
 use Rattle.kdcdef_types.specs.Generation.{Generated}
-use Rattle.monitor_semantics.specs.Bytes.{Bytes}
-use Rattle.monitor_semantics.specs.Endings.{area_change, is_durable, service_change}
-use Rattle.monitor_laws.specs.Commits.{AreNumberedFrom}
-use Rattle.monitor_laws.specs.DurableLaws.{key_is_durable}
-use Rattle.monitor_tables.specs.Items.{job_less}
-use Rattle.monitor_tables.specs.Lists.{all_append, all_imply}
+use Rattle.abstract_monitor.specs.Bytes.{Bytes}
+use Rattle.abstract_monitor.specs.Endings.{area_change, is_durable, service_change}
+use Rattle.laws_of_steps.specs.Commits.{AreNumberedFrom}
+use Rattle.laws_of_steps.specs.DurableLaws.{key_is_durable}
+use Rattle.laws_of_tables.specs.Items.{job_less}
+use Rattle.laws_of_tables.specs.Lists.{all_append, all_imply}
 use Rattle.storage_areas.specs.Areas.{changes_of}
 use Rattle.sync_points.specs.PointChanges.{job_changes, own_job_changes, service_changes}
 

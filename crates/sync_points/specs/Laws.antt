@@ -4,10 +4,10 @@ use Rattle.kdcs_types.specs.declared.key.ServiceId.{ServiceId}
 use Rattle.kdcs_types.specs.Difference.{difference}
 use Rattle.kdcs_types.specs.Tables.{TableRows}
 use Rattle.kdcdef_types.specs.Generation.{Generated}
-use Rattle.monitor_semantics.specs.declared.outcome.Outcome.{Outcome}
-use Rattle.monitor_semantics.specs.Endings.{broken, durable, synchronised}
-use Rattle.monitor_semantics.specs.State.{OpenTransaction}
-use Rattle.monitor_tables.specs.PointLaws.{Stands}
+use Rattle.abstract_monitor.specs.declared.outcome.Outcome.{Outcome}
+use Rattle.abstract_monitor.specs.Endings.{broken, durable, synchronised}
+use Rattle.abstract_monitor.specs.State.{OpenTransaction}
+use Rattle.laws_of_tables.specs.PointLaws.{Stands}
 use Rattle.sync_points.specs.PointChanges.{end_changes, point_changes}
 
 -- a synchronisation point

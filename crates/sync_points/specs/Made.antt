@@ -26,19 +26,19 @@ use Rattle.kdcs_types.specs.KeyLaws.{id_eq-itself}
 use Rattle.kdcs_types.specs.RowLaws.{changed_sorted, sorted_with_changes}
 use Rattle.kdcs_types.specs.Tables.{AreChanges, IsSortedTables, TableRows, change_fits, change_key, changed, job_key, lterm_fits, with_change, with_changes}
 use Rattle.kdcdef_types.specs.Generation.{Generated}
-use Rattle.monitor_semantics.specs.declared.outcome.Outcome.{Outcome}
-use Rattle.monitor_semantics.specs.declared.outcome.Outcome.TheVariants.{Wait, Point, Follow}
-use Rattle.monitor_semantics.specs.Bytes.{Bytes, bytes_cmp}
-use Rattle.monitor_semantics.specs.Endings.{area_change, broken, durable, is_durable, lterm_in_row, numbered, row_after, service_change, synchronised, with_areas, with_drafts, with_service, without_own_job}
-use Rattle.monitor_semantics.specs.State.{OpenTransaction}
-use Rattle.monitor_laws.specs.Commits.{AreNumberedFrom}
-use Rattle.monitor_laws.specs.DurableLaws.{durable_follows, durable_sorted}
-use Rattle.monitor_laws.specs.JobLaw.{new_jobs}
-use Rattle.monitor_laws.specs.JobLaws.{points_number}
-use Rattle.monitor_laws.specs.Transactions.{HasOwnJob}
-use Rattle.monitor_tables.specs.Items.{ascends_filter}
-use Rattle.monitor_tables.specs.Lists.{all_append, all_filter, all_imply}
-use Rattle.monitor_tables.specs.PointLaws.{Stands}
+use Rattle.abstract_monitor.specs.declared.outcome.Outcome.{Outcome}
+use Rattle.abstract_monitor.specs.declared.outcome.Outcome.TheVariants.{Wait, Point, Follow}
+use Rattle.abstract_monitor.specs.Bytes.{Bytes, bytes_cmp}
+use Rattle.abstract_monitor.specs.Endings.{area_change, broken, durable, is_durable, lterm_in_row, numbered, row_after, service_change, synchronised, with_areas, with_drafts, with_service, without_own_job}
+use Rattle.abstract_monitor.specs.State.{OpenTransaction}
+use Rattle.laws_of_steps.specs.Commits.{AreNumberedFrom}
+use Rattle.laws_of_steps.specs.DurableLaws.{durable_follows, durable_sorted}
+use Rattle.laws_of_steps.specs.JobLaw.{new_jobs}
+use Rattle.laws_of_steps.specs.JobLaws.{points_number}
+use Rattle.laws_of_steps.specs.Transactions.{HasOwnJob}
+use Rattle.laws_of_tables.specs.Items.{ascends_filter}
+use Rattle.laws_of_tables.specs.Lists.{all_append, all_filter, all_imply}
+use Rattle.laws_of_tables.specs.PointLaws.{Stands}
 use Rattle.storage_areas.specs.Areas.{changes_of}
 use Rattle.sync_points.specs.Ascending.{OwnIsBelow, areas_fit, ends_ascend, ends_durable, new_fits, own_fits, points_ascend, points_durable}
 use Rattle.sync_points.specs.Laws.{EndsChangeTheirOwnRows, PointsChangeWhatWasWritten}

@@ -21,10 +21,10 @@ use Rattle.kdcs_types.specs.Keyed.{item_at}
 use Rattle.kdcs_types.specs.Keys.{key_eq}
 use Rattle.kdcs_types.specs.Tables.{AreChanges, IsSortedTables, TableRows, change_key, changed, gssb_key, gssb_row, job_key, job_row, row_at, service_key, service_row, shown_key, shown_row, tls_key, tls_row, uls_key, uls_row}
 use Rattle.kdcdef_types.specs.Generation.{Generated}
-use Rattle.monitor_semantics.specs.Bytes.{Bytes}
-use Rattle.monitor_semantics.specs.Charges.{charge_of, job_length, service_length, total_charge}
-use Rattle.monitor_semantics.specs.Endings.{durable, is_durable}
-use Rattle.monitor_laws.specs.DurableLaws.{durable_sorted, key_is_durable, row_at-durable}
+use Rattle.abstract_monitor.specs.Bytes.{Bytes}
+use Rattle.abstract_monitor.specs.Charges.{charge_of, job_length, service_length, total_charge}
+use Rattle.abstract_monitor.specs.Endings.{durable, is_durable}
+use Rattle.laws_of_steps.specs.DurableLaws.{durable_sorted, key_is_durable, row_at-durable}
 use Rattle.table_fit.specs.Lengths.{value_length}
 use Rattle.sync_points.specs.Refusals.{pages_after, row_charge}
 use Rattle.sync_points.specs.Weights.{made_weight, replaced_weight, row_weight}

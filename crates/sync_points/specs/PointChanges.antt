@@ -12,10 +12,10 @@ use Rattle.kdcs_types.specs.declared.service.Service.{Service}
 use Rattle.kdcs_types.specs.Same.{row_same}
 use Rattle.kdcs_types.specs.Tables.{TableRows, change_key, job_row, row_at}
 use Rattle.kdcdef_types.specs.Generation.{Generated}
-use Rattle.monitor_semantics.specs.declared.outcome.Outcome.{Outcome}
-use Rattle.monitor_semantics.specs.Endings.{is_durable, row_after, service_change}
-use Rattle.monitor_semantics.specs.State.{OpenTransaction}
-use Rattle.monitor_laws.specs.JobLaw.{new_jobs}
+use Rattle.abstract_monitor.specs.declared.outcome.Outcome.{Outcome}
+use Rattle.abstract_monitor.specs.Endings.{is_durable, row_after, service_change}
+use Rattle.abstract_monitor.specs.State.{OpenTransaction}
+use Rattle.laws_of_steps.specs.JobLaw.{new_jobs}
 use Rattle.storage_areas.specs.Areas.{changes_of}
 
 -- the row that a change leaves

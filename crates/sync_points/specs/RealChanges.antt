@@ -21,10 +21,10 @@ use Rattle.kdcs_types.specs.SameLaws.{row_same-itself, row_same-only}
 use Rattle.kdcs_types.specs.TableLaws.{row_after}
 use Rattle.kdcs_types.specs.Tables.{AreChanges, IsSortedTables, TableRows, change_at, change_fits, change_key, changed, row_at}
 use Rattle.kdcdef_types.specs.Generation.{Generated}
-use Rattle.monitor_semantics.specs.Endings.{durable}
-use Rattle.monitor_laws.specs.DurableLaws.{key_is_durable, row_at-durable}
-use Rattle.monitor_tables.specs.Items.{ascends_filter}
-use Rattle.monitor_tables.specs.Lists.{all_filter}
+use Rattle.abstract_monitor.specs.Endings.{durable}
+use Rattle.laws_of_steps.specs.DurableLaws.{key_is_durable, row_at-durable}
+use Rattle.laws_of_tables.specs.Items.{ascends_filter}
+use Rattle.laws_of_tables.specs.Lists.{all_filter}
 use Rattle.sync_points.specs.PointChanges.{is_real, row_left}
 
 -- the item that was found, where it passes

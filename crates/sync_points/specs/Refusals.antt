@@ -15,11 +15,11 @@ use Rattle.kd_base.specs.Limits.{last_next_job}
 use Rattle.kdcs_types.specs.RowLaws.{numbers_changed}
 use Rattle.kdcs_types.specs.Tables.{AreChanges, IsSortedTables, TableRows, changed, gssb_row, job_row, service_row, shown_row, tls_row, uls_row, with_changes}
 use Rattle.kdcdef_types.specs.Generation.{Generated}
-use Rattle.monitor_semantics.specs.declared.outcome.Outcome.{Outcome}
-use Rattle.monitor_semantics.specs.Charges.{charge_of, total_charge}
-use Rattle.monitor_semantics.specs.Endings.{durable, refusal, row_after, synchronised, with_areas, with_drafts, with_service, without_own_job}
-use Rattle.monitor_semantics.specs.State.{OpenTransaction}
-use Rattle.monitor_tables.specs.PointLaws.{Stands}
+use Rattle.abstract_monitor.specs.declared.outcome.Outcome.{Outcome}
+use Rattle.abstract_monitor.specs.Charges.{charge_of, total_charge}
+use Rattle.abstract_monitor.specs.Endings.{durable, refusal, row_after, synchronised, with_areas, with_drafts, with_service, without_own_job}
+use Rattle.abstract_monitor.specs.State.{OpenTransaction}
+use Rattle.laws_of_tables.specs.PointLaws.{Stands}
 use Rattle.storage_areas.specs.Areas.{changes_of}
 use Rattle.sync_points.specs.PointChanges.{point_changes}
 use Rattle.sync_points.specs.Made.{points_make, written_made}

@@ -17,21 +17,21 @@ use Rattle.kdcs_types.specs.KeyedLaws.{found_passes}
 use Rattle.kdcs_types.specs.Tables.{TableRows, change_key, service_key, service_of}
 use Rattle.kdcdef_types.specs.Generation.{Generated}
 use Rattle.kdcdef_check.specs.Soundness.{AreLimits}
-use Rattle.monitor_semantics.specs.declared.draft.Draft.{Draft}
-use Rattle.monitor_semantics.specs.declared.outcome.Outcome.{Outcome}
-use Rattle.monitor_semantics.specs.declared.outcome.Outcome.TheVariants.{Wait, Point, Follow, Finish}
-use Rattle.monitor_semantics.specs.Bytes.{Bytes}
-use Rattle.monitor_semantics.specs.Calls.{job_target}
-use Rattle.monitor_semantics.specs.Charges.{last_length, list_length, service_length}
-use Rattle.monitor_semantics.specs.Endings.{area_change, is_durable, joined, last_of, new_row, numbered, point_row, row_after, service_change}
-use Rattle.monitor_semantics.specs.State.{OpenTransaction}
-use Rattle.monitor_laws.specs.DurableLaws.{key_is_durable}
-use Rattle.monitor_laws.specs.JobLaw.{new_jobs}
-use Rattle.monitor_laws.specs.Suits.{fits_content, fits_message, last_fits, service_suits, target_name, target_suits}
-use Rattle.monitor_laws.specs.Transactions.{area_is_declared, draft_fits, due_fits, fits_if_there, written_fits}
-use Rattle.monitor_tables.specs.Lists.{all_append, all_filter}
-use Rattle.monitor_tables.specs.PointLaws.{Stands}
-use Rattle.monitor_tables.specs.RowParts.{row_parts}
+use Rattle.abstract_monitor.specs.declared.draft.Draft.{Draft}
+use Rattle.abstract_monitor.specs.declared.outcome.Outcome.{Outcome}
+use Rattle.abstract_monitor.specs.declared.outcome.Outcome.TheVariants.{Wait, Point, Follow, Finish}
+use Rattle.abstract_monitor.specs.Bytes.{Bytes}
+use Rattle.abstract_monitor.specs.Calls.{job_target}
+use Rattle.abstract_monitor.specs.Charges.{last_length, list_length, service_length}
+use Rattle.abstract_monitor.specs.Endings.{area_change, is_durable, joined, last_of, new_row, numbered, point_row, row_after, service_change}
+use Rattle.abstract_monitor.specs.State.{OpenTransaction}
+use Rattle.laws_of_steps.specs.DurableLaws.{key_is_durable}
+use Rattle.laws_of_steps.specs.JobLaw.{new_jobs}
+use Rattle.laws_of_steps.specs.Suits.{fits_content, fits_message, last_fits, service_suits, target_name, target_suits}
+use Rattle.laws_of_steps.specs.Transactions.{area_is_declared, draft_fits, due_fits, fits_if_there, written_fits}
+use Rattle.laws_of_tables.specs.Lists.{all_append, all_filter}
+use Rattle.laws_of_tables.specs.PointLaws.{Stands}
+use Rattle.laws_of_tables.specs.RowParts.{row_parts}
 use Rattle.table_fit.specs.Small.{IsSmall, small_short}
 use Rattle.storage_areas.specs.Areas.{changes_of}
 use Rattle.sync_points.specs.Ascending.{points_durable}

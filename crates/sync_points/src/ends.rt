@@ -1,8 +1,8 @@
 //! Abnormal ends.
 ghost use Rattle.std.specs.Prelude.{◌≡◌, IfOk};
 ghost use Rattle.kdcs_types.specs.Difference.{difference};
-ghost use Rattle.monitor_semantics.specs.{Endings.{broken, durable}, Statements.{kept_record}};
-ghost use Rattle.monitor_tables.specs.PointLaws.{Stands};
+ghost use Rattle.abstract_monitor.specs.{Endings.{broken, durable}, Statements.{kept_record}};
+ghost use Rattle.laws_of_tables.specs.PointLaws.{Stands};
 ghost use Rattle.open_transaction.specs.Work.{work_of};
 ghost use Rattle.sync_points.specs.PointChanges.{end_changes};
 

@@ -1,6 +1,6 @@
 //! What a transaction keeps for its replay.
 ghost use Rattle.std.specs.Prelude.{◌≡◌, ◌∷◌, IfOk};
-ghost use Rattle.monitor_semantics.specs.Statements.{kept_record};
+ghost use Rattle.abstract_monitor.specs.Statements.{kept_record};
 ghost use Rattle.open_transaction.specs.Work.{work_of};
 
 use kd_base::{Bytes, Name, OutOfMemory};

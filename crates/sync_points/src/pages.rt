@@ -1,7 +1,7 @@
 //! How many pages the durable rows of the tables take.
 ghost use Rattle.std.specs.Prelude.{◌≡◌, ◌≤◌, ℕ, length, sum_by};
 ghost use Rattle.kdcdef_types.specs.Generation.{Generated};
-ghost use Rattle.monitor_semantics.specs.{Charges.{total_charge}, Endings.{durable}};
+ghost use Rattle.abstract_monitor.specs.{Charges.{total_charge}, Endings.{durable}};
 ghost use Rattle.sync_points.specs.Pages.{content_pages, job_pages, most_pages, pages_of, service_pages};
 
 use kd_base::{Bytes, Name};

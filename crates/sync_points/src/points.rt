@@ -1,12 +1,13 @@
 //! Synchronisation points.
 ghost use Rattle.std.specs.Prelude.{◌≡◌, ◌++◌, ◌+◌, ◌≤◌, IfOk, OnOk, length, nat_lt};
 ghost use Rattle.kd_base.specs.Limits.{last_clock, last_next_job};
-ghost use Rattle.monitor_semantics.specs.Endings.{durable, numbered, refusal, row_after, synchronised};
-ghost use Rattle.monitor_tables.specs.PointLaws.{Stands};
+ghost use Rattle.abstract_monitor.specs.Endings.{durable, numbered, refusal, row_after, synchronised};
+ghost use Rattle.laws_of_tables.specs.PointLaws.{Stands};
 ghost use Rattle.open_transaction.specs.Work.{work_of};
 ghost use Rattle.storage_areas.specs.Areas.{changes_of};
 ghost use Rattle.sync_points.specs.{Answers.{answer_by, point_by}, PointChanges.{changes_with, job_changes}};
 
+use abstract_monitor::Outcome;
 use crate::gssbs::has_too_many_gssbs;
 use crate::kept::kept_record;
 use crate::pool::is_pool_full;
@@ -15,7 +16,6 @@ use crate::writes::{real_of, write_own_job, write_service};
 use kd_base::{LAST_NEXT_JOB, OutOfMemory};
 use kdcdef_check::Generation;
 use kdcs_types::{Cause, Change, Changes, Ending, Job, Row, RowChanges, Service, Settled, Tables};
-use monitor_semantics::Outcome;
 use open_transaction::OpenTransaction;
 use std::alloc::Global;
 

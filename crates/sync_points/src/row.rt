@@ -1,12 +1,12 @@
 //! The row of a service behind a synchronisation point.
 ghost use Rattle.std.specs.Prelude.{◌≡◌, IfOk, Some};
-ghost use Rattle.monitor_semantics.specs.Endings.{last_of, lterm_in_row, new_row, point_row, row_after, spaces};
+ghost use Rattle.abstract_monitor.specs.Endings.{last_of, lterm_in_row, new_row, point_row, row_after, spaces};
 ghost use Rattle.open_transaction.specs.Work.{work_of};
 
+use abstract_monitor::Outcome;
 use kd_base::{Bytes, Name, OutOfMemory};
 use kdcdef_check::Generation;
 use kdcs_types::{Areas, Parts, Service, ServiceId};
-use monitor_semantics::Outcome;
 use open_transaction::OpenTransaction;
 use std::alloc::Global;
 
@@ -88,7 +88,7 @@ fn new_row(
     })
 }
 
-#[tactic(auto, unfolding(monitor_semantics::specs::Endings::row_after))]
+#[tactic(auto, unfolding(abstract_monitor::specs::Endings::row_after))]
 pub(crate) fn row_after(
     alloc: Global,
     generation: &Generation,

@@ -15,11 +15,11 @@ use Rattle.kdcs_types.specs.declared.service.Service.{Service}
 use Rattle.kdcs_types.specs.Tables.{TableRows}
 use Rattle.kdcdef_types.specs.Generation.{Generated, has_tls, has_uls}
 use Rattle.kdcdef_check.specs.Soundness.{AreLimits}
-use Rattle.monitor_semantics.specs.Bytes.{Bytes}
-use Rattle.monitor_semantics.specs.Calls.{job_target}
-use Rattle.monitor_semantics.specs.Charges.{charge_of, job_length, last_length, service_length, total_charge}
-use Rattle.monitor_semantics.specs.Endings.{is_asynchronous, is_durable}
-use Rattle.monitor_laws.specs.Suits.{fits_content, fits_message, gssb_suits, has_kind, is_lterm, is_user, job_suits, last_fits, lterm_suits, owner_suits, service_suits, shown_suits, target_name, target_suits, tls_suits, uls_suits, value_suits}
+use Rattle.abstract_monitor.specs.Bytes.{Bytes}
+use Rattle.abstract_monitor.specs.Calls.{job_target}
+use Rattle.abstract_monitor.specs.Charges.{charge_of, job_length, last_length, service_length, total_charge}
+use Rattle.abstract_monitor.specs.Endings.{is_asynchronous, is_durable}
+use Rattle.laws_of_steps.specs.Suits.{fits_content, fits_message, gssb_suits, has_kind, is_lterm, is_user, job_suits, last_fits, lterm_suits, owner_suits, service_suits, shown_suits, target_name, target_suits, tls_suits, uls_suits, value_suits}
 use Rattle.table_fit.specs.Small.{small_short}
 
 -- the names of a service's row, which are tested first

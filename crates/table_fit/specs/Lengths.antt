@@ -18,8 +18,8 @@ use Rattle.kdcs_types.specs.declared.key.Target.TheVariants.{Tac, Lterm}
 use Rattle.kdcs_types.specs.declared.service.JobValue.{JobValue}
 use Rattle.kdcs_types.specs.declared.service.Service.{Service}
 use Rattle.kdcs_types.specs.Tables.{TableRows, gssb_row, tls_row, uls_row, service_row, job_row, shown_row}
-use Rattle.monitor_semantics.specs.Bytes.{Bytes}
-use Rattle.monitor_semantics.specs.Charges.{charge_of, job_length, last_length, list_length, service_length, total_charge}
+use Rattle.abstract_monitor.specs.Bytes.{Bytes}
+use Rattle.abstract_monitor.specs.Charges.{charge_of, job_length, last_length, list_length, service_length, total_charge}
 use Rattle.record_codec.specs.Readings.{LtermFits, TargetFits}
 use Rattle.record_codec.specs.WholeValues.{JobFits, LssbFits, ServiceFits, job_lengths, service_lengths}
 use Rattle.record_codec.specs.Values.{counted, flag, job_bytes, last_bytes, lssb_bytes, lterm_bytes, record_of, service_bytes, target_bytes, value_bytes}

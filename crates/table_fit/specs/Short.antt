@@ -8,7 +8,7 @@ use Rattle.kd_records.specs.Charge.{total_charge}
 use Rattle.kd_records.specs.ChargeLaws.{values_fit}
 use Rattle.kd_records.specs.Contents.{Record}
 use Rattle.kdcs_types.specs.Tables.{TableRows}
-use Rattle.monitor_laws.specs.Suits.{Suits}
+use Rattle.laws_of_steps.specs.Suits.{Suits}
 use Rattle.record_codec.specs.Patches.{each_unmapped}
 use Rattle.record_codec.specs.Records.{HasShortValues, rows_of}
 use Rattle.record_codec.specs.TableReadings.{AreProperTables}

@@ -6,9 +6,9 @@ use Rattle.std.proofs.lemmas.List.Sums.{sum_by-cons}
 use Rattle.std.specs.List.{list_all}
 use Rattle.kd_base.specs.Tools.{both_true}
 use Rattle.kdcs_types.specs.declared.service.Service.{Service}
-use Rattle.monitor_semantics.specs.Bytes.{Bytes}
-use Rattle.monitor_semantics.specs.Charges.{last_length, list_length, service_length}
-use Rattle.monitor_laws.specs.Suits.{fits_content}
+use Rattle.abstract_monitor.specs.Bytes.{Bytes}
+use Rattle.abstract_monitor.specs.Charges.{last_length, list_length, service_length}
+use Rattle.laws_of_steps.specs.Suits.{fits_content}
 
 parts_sum : (ps : List Bytes) → sum_by list_length ps ≡ 4 * length ps + sum_by length ps
 parts_sum [] = refl

@@ -1,6 +1,6 @@
 //! Which areas suit.
 ghost use Rattle.std.specs.{Prelude.{◌≡◌}, List.{list_all}};
-ghost use Rattle.monitor_laws.specs.Suits.{gssb_suits, tls_suits, uls_suits};
+ghost use Rattle.laws_of_steps.specs.Suits.{gssb_suits, tls_suits, uls_suits};
 
 use crate::names::{fits_content, is_lterm, is_user};
 use kd_base::{Bytes, Name};

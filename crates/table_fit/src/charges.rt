@@ -1,7 +1,7 @@
 //! Whether the rows of tables fit into the page pool together.
 ghost use Rattle.std.specs.{Prelude.{◌≡◌, ◌-◌, ◌<◌, ◌≤◌, ◌^◌, ℕ, SomeIff, length, nat_le, sum_by, All}, List.{list_all}};
 ghost use Rattle.kd_records.specs.Charge.{IsBlockSize};
-ghost use Rattle.monitor_semantics.specs.Charges.{charge_of, job_length, service_length, total_charge};
+ghost use Rattle.abstract_monitor.specs.Charges.{charge_of, job_length, service_length, total_charge};
 ghost use Rattle.table_fit.specs.Charging.{AreShort, RowsSuit, has_few_bytes, left_after};
 
 use crate::lengths::{job_length, service_length};

@@ -1,7 +1,7 @@
 //! How many bytes the values of rows have.
 ghost use Rattle.std.specs.Prelude.{◌≡◌, ◌+◌, ◌<◌, ◌^◌, length, flat_map, sum_by};
 ghost use Rattle.kd_base.specs.Text.{padded};
-ghost use Rattle.monitor_semantics.specs.{Bytes.{Bytes as Content}, Charges.{job_length, last_length, list_length, service_length}};
+ghost use Rattle.abstract_monitor.specs.{Bytes.{Bytes as Content}, Charges.{job_length, last_length, list_length, service_length}};
 ghost use Rattle.record_codec.specs.Values.{job_bytes, lssb_bytes, lterm_bytes, service_bytes, target_bytes, value_bytes};
 ghost use Rattle.table_fit.specs.Lengths.{value_length};
 

@@ -1,8 +1,8 @@
 //! Which jobs and shown messages suit.
 ghost use Rattle.std.specs.{Prelude.{◌≡◌, ◌&&◌}, List.{list_all}};
 ghost use Rattle.kdcs_types.specs.declared.key.Target.TheVariants.{Tac};
-ghost use Rattle.monitor_laws.specs.Suits.{job_suits, shown_suits, target_name, target_suits, value_suits};
-ghost use Rattle.monitor_semantics.specs.{Calls.{job_target}, Outcomes.{goes_first}};
+ghost use Rattle.laws_of_steps.specs.Suits.{job_suits, shown_suits, target_name, target_suits, value_suits};
+ghost use Rattle.abstract_monitor.specs.{Calls.{job_target}, Outcomes.{goes_first}};
 
 use crate::names::{fits_message, is_lterm, is_user};
 use kd_base::Name;
@@ -28,7 +28,7 @@ fn starts_jobs(entry: &TacEntry) -> bool
 }
 
 // A TAC that jobs may go to, and no LTERM.
-#[tactic(auto, unfolding(monitor_semantics::specs::Calls::job_target))]
+#[tactic(auto, unfolding(abstract_monitor::specs::Calls::job_target))]
 fn is_job_tac(generation: &Generation, name: Name) -> bool
     ensures { result ≡ target_suits generation.now (Tac name) (job_target generation.now name) }
 {
@@ -40,7 +40,7 @@ fn is_job_tac(generation: &Generation, name: Name) -> bool
 }
 
 // An LTERM, or a TAC that jobs may go to.
-#[tactic(auto, unfolding(monitor_semantics::specs::Calls::job_target))]
+#[tactic(auto, unfolding(abstract_monitor::specs::Calls::job_target))]
 fn target_suits(generation: &Generation, to: Target) -> bool
     ensures { result ≡ target_suits generation.now to (job_target generation.now (target_name to)) }
 {

@@ -1,6 +1,6 @@
 //! Which names and lengths a generation allows.
 ghost use Rattle.std.specs.Prelude.{◌≡◌, length, nat_le};
-ghost use Rattle.monitor_laws.specs.Suits.{fits_content, fits_message, has_kind, is_lterm, is_user};
+ghost use Rattle.laws_of_steps.specs.Suits.{fits_content, fits_message, has_kind, is_lterm, is_user};
 
 use kd_base::{Bytes, LONGEST_CONTENT, Name};
 use kdcdef_check::Generation;

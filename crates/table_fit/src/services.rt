@@ -1,7 +1,7 @@
 //! Which services suit.
 ghost use Rattle.std.specs.{Prelude.{◌≡◌, length, nat_le, sum_by}, List.{list_all}};
-ghost use Rattle.monitor_semantics.specs.{Bytes.{Bytes as Content}, Endings.{is_asynchronous, is_durable}};
-ghost use Rattle.monitor_laws.specs.Suits.{awaits_rightly, fits_content, last_fits, lterm_suits, owner_suits, service_suits};
+ghost use Rattle.abstract_monitor.specs.{Bytes.{Bytes as Content}, Endings.{is_asynchronous, is_durable}};
+ghost use Rattle.laws_of_steps.specs.Suits.{awaits_rightly, fits_content, last_fits, lterm_suits, owner_suits, service_suits};
 ghost use Rattle.kdcs_types.specs.declared.service.Service.{Service as Row};
 ghost use Rattle.table_fit.specs.Charging.{names_suit};
 

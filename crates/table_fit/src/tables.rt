@@ -1,7 +1,7 @@
 //! Which tables suit a generation.
 ghost use Rattle.std.specs.{Prelude.{◌≡◌, ◌↔◌, ◌&&◌, not, IsTrue, is_some, length, nat_le, nat_lt}, List.{list_all}};
 ghost use Rattle.kdcs_types.specs.{declared.service.Job.{Job as JobRow}, declared.service.Service.{Service as ServiceRow}, declared.key.ServiceId.TheVariants.{Asynchronous}, Limits.{IsInRange}, Tables.{service_of}};
-ghost use Rattle.monitor_laws.specs.Suits.{SuitsFrom, number_is_below};
+ghost use Rattle.laws_of_steps.specs.Suits.{SuitsFrom, number_is_below};
 ghost use Rattle.table_fit.specs.{Charging.{RowsSuit}, Suiting.{AreNumbersApart}};
 
 use crate::areas::{gssbs_suit, tlss_suit, ulss_suit};

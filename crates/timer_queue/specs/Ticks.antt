@@ -1,7 +1,7 @@
 -- How many ticks a moment names.
 use Rattle.std.specs.Prelude.{ℕ}
-use Rattle.monitor_semantics.specs.declared.draft.Due.{Due}
-use Rattle.monitor_semantics.specs.declared.draft.Due.TheVariants.{After, At}
+use Rattle.abstract_monitor.specs.declared.draft.Due.{Due}
+use Rattle.abstract_monitor.specs.declared.draft.Due.TheVariants.{After, At}
 
 -- from now on, or of the clock
 abbrev pub ticks_of : Due → ℕ

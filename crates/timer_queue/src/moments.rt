@@ -1,15 +1,15 @@
 //! Moments of DPUT, and the clock at which a job is due. Neither call takes memory.
 ghost use Rattle.std.specs.Prelude.{◌≡◌, ◌≤◌, IfSome};
 ghost use Rattle.kd_base.specs.Limits.{last_clock};
-ghost use Rattle.monitor_semantics.specs.{Calls.{moment_of}, Endings.{due_at}};
+ghost use Rattle.abstract_monitor.specs.{Calls.{moment_of}, Endings.{due_at}};
 ghost use Rattle.timer_queue.specs.Ticks.{last_ticks, ticks_of};
 
+use abstract_monitor::Due;
 use kd_base::Mode;
-use monitor_semantics::Due;
 
 /// The moment after so many days, hours, minutes and seconds, or when the clock shows them, in ticks of a second. `None`
 /// where there are more than 9,999 days, 23 hours, 59 minutes or 59 seconds.
-#[tactic(auto, unfolding(monitor_semantics::specs::Calls::moment_of))]
+#[tactic(auto, unfolding(abstract_monitor::specs::Calls::moment_of))]
 pub fn moment(mode: Mode, d: u64, h: u64, m: u64, s: u64) -> Option<Due>
     ensures exact { result ≡ moment_of mode d h m s }
     ensures ticks { IfSome result (λ due. ticks_of due ≤ last_ticks) }

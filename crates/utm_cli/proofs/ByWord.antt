@@ -6,11 +6,11 @@ use Rattle.kd_device.specs.Time.{leaves_weaker, leaves_then}
 use Rattle.kd_device.specs.Rest.{Rests, Before}
 use Rattle.kdcs_types.specs.Tables.{TableRows, empty_tables}
 use Rattle.kdcs_types.specs.declared.act.Act.TheVariants.{Emit}
-use Rattle.monitor_semantics.specs.declared.command.Command.{Command}
-use Rattle.monitor_semantics.specs.Listing.{listing}
-use Rattle.monitor_semantics.specs.Trace.{bytes_of}
+use Rattle.abstract_monitor.specs.declared.command.Command.{Command}
+use Rattle.abstract_monitor.specs.Listing.{listing}
+use Rattle.abstract_monitor.specs.Trace.{bytes_of}
 use Rattle.warm_start.specs.Meaning.{answers_exclude_each_other}
-use Rattle.monitor_acts.specs.Said.{Said, SaidPart}
+use Rattle.device_acts.specs.Said.{Said, SaidPart}
 use Rattle.utm_cli.specs.MadeReport.{report_of}
 use Rattle.utm_cli.specs.declared.words.Word.{Word}
 use Rattle.utm_cli.specs.declared.words.Word.TheVariants.{Gen, Run, Show, Make}

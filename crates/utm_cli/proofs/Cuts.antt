@@ -9,9 +9,9 @@ use Rattle.kd_records.specs.declared.content.Content.{Content}
 use Rattle.kdcs_types.specs.declared.act.Act.{Act}
 use Rattle.kdcs_types.specs.declared.act.Act.TheVariants.{Commit, Emit}
 use Rattle.kdcs_types.specs.Tables.{TableRows}
-use Rattle.monitor_semantics.specs.Trace.{tables_after, bytes_of}
-use Rattle.monitor_acts.specs.Performing.{is_line, commits_nothing, content_after, IsCutOf, Performs}
-use Rattle.monitor_run.specs.Running.{IsCutSince}
+use Rattle.abstract_monitor.specs.Trace.{tables_after, bytes_of}
+use Rattle.device_acts.specs.Performing.{is_line, commits_nothing, content_after, IsCutOf, Performs}
+use Rattle.device_run.specs.Running.{IsCutSince}
 
 pub bytes_joined : (p q : List Act) → bytes_of (p ++ q) ≡ bytes_of p ++ bytes_of q
 unfolding bytes_of

@@ -10,18 +10,18 @@ use Rattle.kdcfile_store.specs.Whole.{Whole, HasFile}
 use Rattle.kdcdef_types.specs.Generation.{Generated}
 use Rattle.kdcs_types.specs.declared.act.Act.{Act}
 use Rattle.kdcs_types.specs.Tables.{TableRows}
-use Rattle.monitor_semantics.specs.State.{Application}
-use Rattle.monitor_semantics.specs.declared.command.Command.{Command}
-use Rattle.monitor_semantics.specs.Commands.{started, acts_of as acts_in}
-use Rattle.monitor_semantics.specs.Endings.{durable}
-use Rattle.monitor_semantics.specs.Trace.{history, tables_after, bytes_of, trace}
-use Rattle.monitor_laws.specs.Applications.{IsApplication}
-use Rattle.monitor_laws.specs.Keeping.{HasFacts, IsScriptOf}
-use Rattle.monitor_laws.specs.Suits.{Suits}
+use Rattle.abstract_monitor.specs.State.{Application}
+use Rattle.abstract_monitor.specs.declared.command.Command.{Command}
+use Rattle.abstract_monitor.specs.Commands.{started, acts_of as acts_in}
+use Rattle.abstract_monitor.specs.Endings.{durable}
+use Rattle.abstract_monitor.specs.Trace.{history, tables_after, bytes_of, trace}
+use Rattle.laws_of_steps.specs.Applications.{IsApplication}
+use Rattle.laws_of_steps.specs.Keeping.{HasFacts, IsScriptOf}
+use Rattle.laws_of_steps.specs.Suits.{Suits}
 use Rattle.warm_start.specs.Stands.{StandsForTables, KeepsTables, identity_for}
-use Rattle.kdcs_monitor.specs.CoreValue.{CoreValue}
-use Rattle.monitor_acts.specs.Performing.{commits_nothing, content_after, AreCommittable, Performs, Sent}
-use Rattle.monitor_run.specs.Running.{IsRunning, PerformsSteps, Ran as RanSteps}
+use Rattle.monitor_core.specs.CoreValue.{CoreValue}
+use Rattle.device_acts.specs.Performing.{commits_nothing, content_after, AreCommittable, Performs, Sent}
+use Rattle.device_run.specs.Running.{IsRunning, PerformsSteps, Ran as RanSteps}
 use Rattle.utm_cli.specs.declared.words.Word.{Word}
 use Rattle.utm_cli.specs.declared.words.Word.TheVariants.{Gen, Run}
 use Rattle.utm_cli.specs.Asking.{Errand, CanRun, app_of}
@@ -29,7 +29,7 @@ use Rattle.utm_cli.specs.Doing.{identity_of, acts_by, acts_of}
 use Rattle.utm_cli.specs.Report.{report}
 use Rattle.utm_cli.specs.Promise.{RanOver}
 use Rattle.utm_cli.proofs.Cuts.{tables_same, kept_content, lines_performed}
-use Rattle.monitor_run.specs.Durable.{durable_same, started_tables}
+use Rattle.device_run.specs.Durable.{durable_same, started_tables}
 
 -- what follows from two facts of a success
 pub on_ok_both : {X E : Type 0} (r : Result X E) (P Q R : Type 0) → (P → Q → R) → OnOk r P → OnOk r Q → OnOk r R

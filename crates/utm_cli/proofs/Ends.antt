@@ -5,9 +5,9 @@ use Rattle.kd_device.specs.Device.{State}
 use Rattle.kd_records.specs.Identity.{Identity}
 use Rattle.kdcs_types.specs.Tables.{TableRows}
 use Rattle.kdcs_types.specs.declared.act.Act.{Act}
-use Rattle.monitor_semantics.specs.Trace.{bytes_of}
-use Rattle.monitor_laws.specs.Cut.{SentBy}
-use Rattle.monitor_run.specs.Running.{IsCutSince}
+use Rattle.abstract_monitor.specs.Trace.{bytes_of}
+use Rattle.laws_of_steps.specs.Cut.{SentBy}
+use Rattle.device_run.specs.Running.{IsCutSince}
 use Rattle.utm_cli.specs.declared.words.Word.{Word}
 use Rattle.utm_cli.specs.declared.words.Word.TheVariants.{Gen, Run, Show, Make}
 use Rattle.utm_cli.specs.Asking.{Errand}

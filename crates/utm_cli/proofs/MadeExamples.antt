@@ -1,6 +1,6 @@
 use Rattle.std.proofs.Common.{refl}
 use Rattle.std.specs.Fmt.{digits}
-use Rattle.monitor_semantics.specs.Made.{made_rounds}
+use Rattle.abstract_monitor.specs.Made.{made_rounds}
 use Rattle.utm_cli.specs.MadeExamples.{ScriptRows}
 
 pub script_rows : ScriptRows

@@ -5,19 +5,19 @@ use Rattle.kdcdef_check.specs.Soundness.{AreLimits}
 use Rattle.kdcfile_store.specs.Whole.{Whole}
 use Rattle.kdcs_types.specs.declared.act.Act.{Act}
 use Rattle.kdcs_types.specs.Tables.{TableRows, empty_tables}
-use Rattle.monitor_laws.specs.Applications.{IsApplication}
-use Rattle.monitor_laws.specs.Cut.{commits_in}
-use Rattle.monitor_laws.specs.Keeping.{HasFacts, IsScriptOf}
-use Rattle.monitor_laws.specs.Suits.{Suits}
-use Rattle.monitor_semantics.specs.Commands.{started, acts_of}
-use Rattle.monitor_semantics.specs.declared.command.Command.{Command}
-use Rattle.monitor_semantics.specs.Endings.{durable}
-use Rattle.monitor_semantics.specs.Bytes.{Bytes}
-use Rattle.monitor_semantics.specs.State.{Application}
-use Rattle.monitor_semantics.specs.Trace.{history, trace, tables_after, bytes_of}
-use Rattle.kdcs_monitor.specs.CoreValue.{CoreValue}
-use Rattle.monitor_run.specs.Durable.{durable_same, started_tables}
-use Rattle.monitor_run.specs.Running.{durable_of, IsRunning}
+use Rattle.laws_of_steps.specs.Applications.{IsApplication}
+use Rattle.laws_of_steps.specs.Cut.{commits_in}
+use Rattle.laws_of_steps.specs.Keeping.{HasFacts, IsScriptOf}
+use Rattle.laws_of_steps.specs.Suits.{Suits}
+use Rattle.abstract_monitor.specs.Commands.{started, acts_of}
+use Rattle.abstract_monitor.specs.declared.command.Command.{Command}
+use Rattle.abstract_monitor.specs.Endings.{durable}
+use Rattle.abstract_monitor.specs.Bytes.{Bytes}
+use Rattle.abstract_monitor.specs.State.{Application}
+use Rattle.abstract_monitor.specs.Trace.{history, trace, tables_after, bytes_of}
+use Rattle.monitor_core.specs.CoreValue.{CoreValue}
+use Rattle.device_run.specs.Durable.{durable_same, started_tables}
+use Rattle.device_run.specs.Running.{durable_of, IsRunning}
 use Rattle.warm_start.specs.Stands.{KeepsTables, identity_for}
 use Rattle.utm_cli.specs.MadeReport.{report_with, report_by, report_of}
 

@@ -3,10 +3,10 @@ use Rattle.std.proofs.Common.{◌≡◌, refl, sym, ap, ◌∙◌, ℕ, suc, ◌
 use Rattle.std.proofs.lemmas.List.{append-nil}
 use Rattle.std.specs.Prelude.{OnOk, cond, flat_map, codes, ◌%◌, ◌==◌, ◌||◌}
 use Rattle.std.specs.Fmt.{digits}
-use Rattle.monitor_semantics.specs.Bytes.{Bytes}
-use Rattle.monitor_semantics.specs.Made.{for_four, sign_on_command, when, made_round, made_rounds}
-use Rattle.monitor_semantics.specs.declared.command.Command.{Command}
-use Rattle.monitor_semantics.specs.declared.command.Command.TheVariants.{Run, Tick}
+use Rattle.abstract_monitor.specs.Bytes.{Bytes}
+use Rattle.abstract_monitor.specs.Made.{for_four, sign_on_command, when, made_round, made_rounds}
+use Rattle.abstract_monitor.specs.declared.command.Command.{Command}
+use Rattle.abstract_monitor.specs.declared.command.Command.TheVariants.{Run, Tick}
 use Rattle.utm_cli.specs.MadeTexts.{definition_text, command_line, input_line, script_text}
 
 pub definition_is : codes "MAX APPLINAME=MAKE,TASKS=2,KB=16,SPAB=64,NB=80,PGPOOL=64,BLKSIZE=2K\nPROGRAM ADD\nPROGRAM TALLY\nTAC ADD,PROGRAM=ADD\nTAC TALLY,PROGRAM=TALLY,TYPE=A\nUSER U1\nLTERM L1\nPTERM P1,LTERM=L1\nUSER U2\nLTERM L2\nPTERM P2,LTERM=L2\nUSER U3\nLTERM L3\nPTERM P3,LTERM=L3\nUSER U4\nLTERM L4\nPTERM P4,LTERM=L4\nEND\n" ≡ definition_text

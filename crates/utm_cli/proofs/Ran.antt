@@ -6,13 +6,13 @@ use Rattle.kd_device.specs.Device.{State, Frame, Rose, LeavesOnly, Only}
 use Rattle.kd_device.specs.Time.{leaves_weaker, leaves_then}
 use Rattle.kd_device.specs.Rest.{Rests}
 use Rattle.kdcs_types.specs.Tables.{TableRows, empty_tables}
-use Rattle.monitor_semantics.specs.Trace.{tables_after}
+use Rattle.abstract_monitor.specs.Trace.{tables_after}
 use Rattle.warm_start.specs.Stands.{StandsForTables}
 use Rattle.warm_start.specs.Opening.{IsOpening, IsBeingMade}
 use Rattle.warm_start.specs.Meaning.{nothing_stands, answers_exclude_each_other}
-use Rattle.monitor_acts.specs.Said.{Said, SaidPart}
-use Rattle.monitor_acts.specs.Performing.{IsCutOf}
-use Rattle.monitor_run.specs.Running.{IsCutSince}
+use Rattle.device_acts.specs.Said.{Said, SaidPart}
+use Rattle.device_acts.specs.Performing.{IsCutOf}
+use Rattle.device_run.specs.Running.{IsCutSince}
 use Rattle.utm_cli.specs.Asking.{Errand}
 use Rattle.utm_cli.specs.Doing.{Opens, identity_of, acts_of}
 use Rattle.utm_cli.specs.Promise.{IsCutOver}

@@ -7,13 +7,13 @@ use Rattle.std.proofs.lemmas.List.Elements.{All-cons, All-nil}
 use Rattle.std.proofs.lemmas.List.Sums.{sum_by-cons, sum_by-le}
 use Rattle.kd_base.specs.Tools.{ok_is}
 use Rattle.kdcdef_types.specs.Generation.{Generated}
-use Rattle.monitor_semantics.specs.declared.command.Command.{Command}
-use Rattle.monitor_semantics.specs.declared.command.Command.TheVariants.{Input, Tick, Run, Turn, Drop, Print, PrintLast, Restart}
+use Rattle.abstract_monitor.specs.declared.command.Command.{Command}
+use Rattle.abstract_monitor.specs.declared.command.Command.TheVariants.{Input, Tick, Run, Turn, Drop, Print, PrintLast, Restart}
 use Rattle.script_read.specs.declared.fault.ScriptFault.{ScriptFault}
 use Rattle.script_read.specs.Script.{Line, Nothing, Says, IsBad, IsOutOfRange, begins_with_space, is_passed, line_by, line_then, script_from, script_by, command_lines, is_too_long}
 use Rattle.script_read.specs.Commands.{begins_with_in, command_by, line_in, script_in}
 use Rattle.script_read.specs.Spelling.{IsSpelled, CommandsOnly}
-use Rattle.monitor_run.specs.Running.{turns_of}
+use Rattle.device_run.specs.Running.{turns_of}
 
 -- ---- the turns
 

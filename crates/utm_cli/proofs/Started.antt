@@ -3,16 +3,16 @@ use Rattle.std.proofs.Common.{inl, inr, List, [], refl, sym, subst}
 use Rattle.std.specs.Prelude.{ℕ}
 use Rattle.kdcs_types.specs.RowLaws.{empty_sorted}
 use Rattle.kdcs_types.specs.Tables.{TableRows, IsSortedTables}
-use Rattle.monitor_laws.specs.EmptyTables.{empty_suit}
-use Rattle.monitor_laws.specs.Suits.{Suits}
-use Rattle.monitor_semantics.specs.Commands.{started}
-use Rattle.monitor_runs.specs.RunLaws.{StartsHaveFacts}
-use Rattle.monitor_queues.specs.Lawful.{RunsAreLawful}
-use Rattle.monitor_queues.specs.ManyRuns.{AllRunsKeepJobs}
-use Rattle.monitor_queues.specs.QueueLaws.{JobsAreDoneOnce}
-use Rattle.monitor_queues.specs.ResumeLaws.{CutsResume}
-use Rattle.monitor_queues.specs.SerialCuts.{CutsAreSerial}
-use Rattle.monitor_run.specs.Durable.{durable_same}
+use Rattle.laws_of_steps.specs.EmptyTables.{empty_suit}
+use Rattle.laws_of_steps.specs.Suits.{Suits}
+use Rattle.abstract_monitor.specs.Commands.{started}
+use Rattle.laws_of_runs.specs.RunLaws.{StartsHaveFacts}
+use Rattle.laws_of_jobs.specs.Lawful.{RunsAreLawful}
+use Rattle.laws_of_jobs.specs.ManyRuns.{AllRunsKeepJobs}
+use Rattle.laws_of_jobs.specs.QueueLaws.{JobsAreDoneOnce}
+use Rattle.laws_of_jobs.specs.ResumeLaws.{CutsResume}
+use Rattle.laws_of_jobs.specs.SerialCuts.{CutsAreSerial}
+use Rattle.device_run.specs.Durable.{durable_same}
 use Rattle.utm_cli.specs.Asking.{Errand, CanRun, app_of}
 use Rattle.utm_cli.specs.Doing.{Opens, StartsBy, Starts}
 use Rattle.utm_cli.specs.declared.words.Word.{Word}

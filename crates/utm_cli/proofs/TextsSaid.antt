@@ -9,10 +9,10 @@ use Rattle.kd_device.specs.declared.error.DeviceError.{DeviceError}
 use Rattle.kd_device.specs.declared.error.DeviceError.TheVariants as room
 use Rattle.kdcdef_lex.specs.declared.fault.LexFault.TheVariants as lex
 use Rattle.kdcdef_types.specs.Generation.{Generated}
-use Rattle.monitor_semantics.specs.declared.command.Command.{Command}
-use Rattle.generation_read.specs.declared.fault.DefinitionFault.{DefinitionFault}
-use Rattle.generation_read.specs.declared.fault.DefinitionFault.TheVariants as definition
-use Rattle.generation_read.specs.Definition.{Generates, HasFault}
+use Rattle.abstract_monitor.specs.declared.command.Command.{Command}
+use Rattle.application_read.specs.declared.definition_fault.DefinitionFault.{DefinitionFault}
+use Rattle.application_read.specs.declared.definition_fault.DefinitionFault.TheVariants as definition
+use Rattle.application_read.specs.Definition.{Generates, HasFault}
 use Rattle.unit_types.specs.UnitText.{UnitText}
 use Rattle.unit_read.specs.declared.fault.UnitFault.{UnitFault}
 use Rattle.unit_read.specs.Spelling.{SpellsUnits}

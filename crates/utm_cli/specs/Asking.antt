@@ -5,14 +5,14 @@ use Rattle.kd_device.specs.Room.{RoomState, text_of}
 use Rattle.unit_check.specs.Fitted.{IsFit}
 use Rattle.application_read.specs.declared.application.Application.{Application as Made}
 use Rattle.application_read.specs.Texts.{TextsGenerate, TextsHaveFault}
-use Rattle.application_facts.specs.Applied.{applied}
-use Rattle.monitor_semantics.specs.State.{Application as Monitored}
-use Rattle.monitor_semantics.specs.declared.command.Command.{Command}
-use Rattle.monitor_laws.specs.Applications.{IsApplication}
-use Rattle.monitor_laws.specs.Keeping.{IsScriptOf}
+use Rattle.laws_of_applications.specs.Applied.{applied}
+use Rattle.abstract_monitor.specs.State.{Application as Monitored}
+use Rattle.abstract_monitor.specs.declared.command.Command.{Command}
+use Rattle.laws_of_steps.specs.Applications.{IsApplication}
+use Rattle.laws_of_steps.specs.Keeping.{IsScriptOf}
 use Rattle.script_read.specs.Commands.{script_in}
 use Rattle.warm_start.specs.Fingerprints.{fingerprint as print_of}
-use Rattle.monitor_run.specs.Running.{turns_of}
+use Rattle.device_run.specs.Running.{turns_of}
 use Rattle.utm_cli.specs.MadeTexts.{definition_text as made_definition, units_text as made_units, script_text as made_script}
 use Rattle.utm_cli.specs.declared.error.Refusal.{Refusal}
 use Rattle.utm_cli.specs.declared.error.Refusal.TheVariants.{Application, Script}

@@ -4,10 +4,10 @@ use Rattle.kd_records.specs.Identity.{Identity}
 use Rattle.kdcs_types.specs.declared.act.Act.{Act}
 use Rattle.kdcs_types.specs.declared.act.Act.TheVariants.{Emit}
 use Rattle.kdcs_types.specs.Tables.{TableRows, empty_tables}
-use Rattle.monitor_semantics.specs.State.{Application}
-use Rattle.monitor_semantics.specs.declared.command.Command.{Command}
-use Rattle.monitor_semantics.specs.Listing.{listing}
-use Rattle.monitor_semantics.specs.Trace.{trace}
+use Rattle.abstract_monitor.specs.State.{Application}
+use Rattle.abstract_monitor.specs.declared.command.Command.{Command}
+use Rattle.abstract_monitor.specs.Listing.{listing}
+use Rattle.abstract_monitor.specs.Trace.{trace}
 use Rattle.warm_start.specs.Stands.{identity_for}
 use Rattle.warm_start.specs.Opening.{StartsFrom, IsRefused, IsOfOtherTexts}
 use Rattle.utm_cli.specs.MadeReport.{report_of}

@@ -1,7 +1,7 @@
 -- Worked texts.
 use Rattle.std.specs.Prelude.{◌≡◌, ◌++◌, flat_map, codes}
-use Rattle.monitor_semantics.specs.Bytes.{Bytes}
-use Rattle.monitor_semantics.specs.Made.{made_round}
+use Rattle.abstract_monitor.specs.Bytes.{Bytes}
+use Rattle.abstract_monitor.specs.Made.{made_round}
 use Rattle.utm_cli.specs.MadeTexts.{command_line, script_text}
 
 -- the four users sign on

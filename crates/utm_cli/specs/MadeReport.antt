@@ -5,14 +5,14 @@ use Rattle.sha2.specs.Sha256.{sha256}
 use Rattle.hex.specs.Hex.{encode_lower}
 use Rattle.kdcs_types.specs.declared.act.Act.{Act}
 use Rattle.kdcs_types.specs.Tables.{TableRows, empty_tables}
-use Rattle.monitor_semantics.specs.Bytes.{Bytes}
-use Rattle.monitor_semantics.specs.Lines.{line}
-use Rattle.monitor_semantics.specs.Listing.{listing}
-use Rattle.monitor_semantics.specs.Made.{number_line, total_line}
-use Rattle.monitor_semantics.specs.State.{Application}
-use Rattle.monitor_semantics.specs.Trace.{trace, tables_after, bytes_of}
-use Rattle.monitor_semantics.specs.declared.command.Command.{Command}
-use Rattle.monitor_laws.specs.Cut.{commits_in}
+use Rattle.abstract_monitor.specs.Bytes.{Bytes}
+use Rattle.abstract_monitor.specs.Lines.{line}
+use Rattle.abstract_monitor.specs.Listing.{listing}
+use Rattle.abstract_monitor.specs.Made.{number_line, total_line}
+use Rattle.abstract_monitor.specs.State.{Application}
+use Rattle.abstract_monitor.specs.Trace.{trace, tables_after, bytes_of}
+use Rattle.abstract_monitor.specs.declared.command.Command.{Command}
+use Rattle.laws_of_steps.specs.Cut.{commits_in}
 
 -- how many lines were sent: each ends in LF, and has no other
 abbrev pub lines_in : (sent : Bytes) → ℕ

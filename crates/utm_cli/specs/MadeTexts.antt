@@ -1,10 +1,10 @@
 -- The made input as texts: a definition, its units, and a script for each number of inputs.
 use Rattle.std.specs.Prelude.{ℕ, ◌+◌, ◌%◌, List, [], ◌∷◌, ◌++◌, flat_map, codes, decimal}
-use Rattle.monitor_semantics.specs.Bytes.{Bytes}
-use Rattle.monitor_semantics.specs.Lines.{line}
-use Rattle.monitor_semantics.specs.Made.{for_four, numbered_name, made_script}
-use Rattle.monitor_semantics.specs.declared.command.Command.{Command}
-use Rattle.monitor_semantics.specs.declared.command.Command.TheVariants.{Input, Tick, Run, Turn, Drop, Print, PrintLast, Restart}
+use Rattle.abstract_monitor.specs.Bytes.{Bytes}
+use Rattle.abstract_monitor.specs.Lines.{line}
+use Rattle.abstract_monitor.specs.Made.{for_four, numbered_name, made_script}
+use Rattle.abstract_monitor.specs.declared.command.Command.{Command}
+use Rattle.abstract_monitor.specs.declared.command.Command.TheVariants.{Input, Tick, Run, Turn, Drop, Print, PrintLast, Restart}
 
 -- lines, each ended by LF
 abbrev pub text_of : List Bytes → Bytes

@@ -7,19 +7,19 @@ use Rattle.kd_records.specs.Identity.{Identity}
 use Rattle.kdcfile_images.specs.File.{IsNoImage}
 use Rattle.kdcs_types.specs.Tables.{TableRows}
 use Rattle.kdcs_types.specs.declared.act.Act.{Act}
-use Rattle.monitor_semantics.specs.State.{Application}
-use Rattle.monitor_semantics.specs.declared.command.Command.{Command}
-use Rattle.monitor_semantics.specs.Commands.{started}
-use Rattle.monitor_semantics.specs.Endings.{durable}
-use Rattle.monitor_semantics.specs.Trace.{history, trace, tables_after, bytes_of}
-use Rattle.monitor_queues.specs.Lawful.{IsLawful}
-use Rattle.monitor_queues.specs.ManyRuns.{StoppedRun, AreRunsFrom, RunsKeepJobs}
-use Rattle.monitor_queues.specs.QueueLaws.{JobsAreKept}
-use Rattle.monitor_queues.specs.ResumeLaws.{CutResumes}
-use Rattle.monitor_queues.specs.SerialCuts.{IsSerialCut}
+use Rattle.abstract_monitor.specs.State.{Application}
+use Rattle.abstract_monitor.specs.declared.command.Command.{Command}
+use Rattle.abstract_monitor.specs.Commands.{started}
+use Rattle.abstract_monitor.specs.Endings.{durable}
+use Rattle.abstract_monitor.specs.Trace.{history, trace, tables_after, bytes_of}
+use Rattle.laws_of_jobs.specs.Lawful.{IsLawful}
+use Rattle.laws_of_jobs.specs.ManyRuns.{StoppedRun, AreRunsFrom, RunsKeepJobs}
+use Rattle.laws_of_jobs.specs.QueueLaws.{JobsAreKept}
+use Rattle.laws_of_jobs.specs.ResumeLaws.{CutResumes}
+use Rattle.laws_of_jobs.specs.SerialCuts.{IsSerialCut}
 use Rattle.warm_start.specs.Stands.{StandsForTables}
-use Rattle.monitor_acts.specs.Said.{Said, SaidPart}
-use Rattle.monitor_run.specs.Running.{IsCutSince}
+use Rattle.device_acts.specs.Said.{Said, SaidPart}
+use Rattle.device_run.specs.Running.{IsCutSince}
 use Rattle.utm_cli.specs.declared.words.Word.{Word}
 use Rattle.utm_cli.specs.declared.words.Word.TheVariants.{Gen, Run, Show, Make}
 use Rattle.utm_cli.specs.Words.{request_of, definition_name, units_name, script_name, file_name}

@@ -4,10 +4,10 @@ ghost use Rattle.kdcs_types.specs.Tables.{TableRows};
 ghost use Rattle.utm_cli.specs.{Asking.{CanRun, app_of}, Doing.{Starts}, Promise.{RunsLawfully}};
 
 use crate::reading::Errand;
-use monitor_queues::{
+use laws_of_jobs::{
     cuts_are_serial, cuts_resume, jobs_are_done_once, runs_are_lawful, runs_keep_jobs,
 };
-use monitor_runs::facts_hold_along_every_script;
+use laws_of_runs::facts_hold_along_every_script;
 
 /// From the tables that a file stands for, each step of the script is lawful and keeps jobs, each cut of it can be gone on
 /// from and is stored by a serial run, and runs one after another keep jobs too. It does nothing.

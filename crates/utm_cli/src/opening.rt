@@ -2,7 +2,7 @@
 ghost use Rattle.std.specs.Prelude.{◌≡◌, ◌++◌, ◌∷◌, [], List, ℕ, IsTrue, IfOk, OnOk, IsErrOf};
 ghost use Rattle.kd_device.specs.{Device.{Rose, Frame, LeavesOnly}, Rest.{Rests}};
 ghost use Rattle.kdcfile_store.specs.{Kept.{IsKept}, Whole.{HasFile}};
-ghost use Rattle.monitor_laws.specs.Suits.{Suits};
+ghost use Rattle.laws_of_steps.specs.Suits.{Suits};
 ghost use Rattle.warm_start.specs.{Stands.{KeepsTables, identity_for}, Opening.{StartsFrom, IsRefused, IsOfOtherTexts, IsOpening}};
 ghost use Rattle.utm_cli.specs.Promise.{MayAttach};
 

@@ -1,14 +1,14 @@
 //! A call that is refused sends one line, and does nothing else.
 ghost use Rattle.std.specs.{Prelude.{◌≡◌, ◌∷◌, [], IsTrue, IfOk}, String.{string_bytes}};
 ghost use Rattle.kd_device.specs.Device.{Rose, Frame, SameNames};
-ghost use Rattle.monitor_acts.specs.Said.{Said, SaidPart};
+ghost use Rattle.device_acts.specs.Said.{Said, SaidPart};
 ghost use Rattle.utm_cli.specs.{Promise.{IsOneOf}, Words.{fault_line, application_line, refusal_line, status_of, other_generation_line}};
 
+use application_read::ApplicationFault;
 use crate::error::Refusal;
 use crate::status::Status;
-use application_read::ApplicationFault;
+use device_acts::say;
 use kd_device::{Device, DeviceError};
-use monitor_acts::say;
 use script_read::ScriptFault;
 use std::alloc::{AllocError, Global};
 

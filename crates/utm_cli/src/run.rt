@@ -3,14 +3,15 @@ ghost use Rattle.std.specs.Prelude.{◌≡◌, ◌⊎◌, ◌++◌, ◌∷◌, [
 ghost use Rattle.kd_device.specs.{Device.{Rose, Frame, SameNames, LeavesOnly, Only}, Rest.{Rests}};
 ghost use Rattle.kdcfile_store.specs.{Kept.{IsKept}, Whole.{HasFile}};
 ghost use Rattle.kdcs_types.specs.Tables.{TableRows};
-ghost use Rattle.monitor_laws.specs.Suits.{Suits};
+ghost use Rattle.laws_of_steps.specs.Suits.{Suits};
 ghost use Rattle.kdcdef_types.specs.Statements.{IsWithin};
-ghost use Rattle.monitor_semantics.specs.{Listing.{listing}, Trace.{tables_after}};
+ghost use Rattle.abstract_monitor.specs.{Listing.{listing}, Trace.{tables_after}};
 ghost use Rattle.warm_start.specs.{Opening.{IsRefused, IsOfOtherTexts}, Stands.{StandsForTables, KeepsTables}};
 ghost use Rattle.utm_cli.specs.{Words.{IsForm, file_name, not_a_kdcfile_line, other_generation_line}, declared.words.Word.TheVariants.{Gen, Run}, Asking.{CanRun, app_of}, Doing.{Opens, Starts, Refuses, IsOfOthers, identity_of, acts_of}, Promise.{IsOneOf, RanOver, Ran, IsCutOver, IsCutOfRun, SaysFront, MakesFile, MayAttach, MayHandOn, HandsOn, AttachedBy}};
-ghost use Rattle.monitor_acts.specs.{Said.{SameDisk, Said, SaidPart}, Performing.{Performs, commits_nothing}};
+ghost use Rattle.device_acts.specs.{Said.{SameDisk, Said, SaidPart}, Performing.{Performs, commits_nothing}};
 ghost use Rattle.utm_cli.specs.MadeReport.{report_of};
 
+use application_read::Application;
 use crate::made_run::made_report;
 use crate::opening::{look, open};
 use crate::reading::Errand;
@@ -19,15 +20,14 @@ use crate::report::report;
 use crate::status::Status;
 use crate::text::named;
 use crate::words::Word;
-use application_read::Application;
+use device_acts::{perform_acts, say};
+use device_run::run_script;
 use kd_device::{Device, DeviceError};
 use kdcfile_store::WholeStore;
-use kdcs_monitor::Core;
 use kdcs_types::Tables;
-use monitor_acts::{perform_acts, say};
-use monitor_run::run_script;
+use monitor_core::Core;
+use output_lines::table_lines;
 use std::alloc::Global;
-use table_lines::table_lines;
 use warm_start::OpenError;
 
 /// What is sent where the file is no KDCFILE of this application.

@@ -3,7 +3,7 @@ ghost use Rattle.std.specs.{Prelude.{◌≡◌, ◌⊎◌, ◌∷◌, [], List, 
 ghost use Rattle.kd_device.specs.{Device.{Rose, Frame, Only, SameNames}, Room.{SameRoom}};
 ghost use Rattle.kdcs_types.specs.Tables.{TableRows};
 ghost use Rattle.utm_cli.specs.{Words.{request_of as request, usage_line, status_of, refusal_line, not_a_kdcfile_line, other_generation_line}, declared.error.Refusal.{Refusal}, declared.words.Word.{Word}, Asking.{Errand, app_of}, Doing.{Starts, Refuses, IsOfOthers, acts_of}, Promise.{IsOneOf, Request, Reads, Misses, Ran, IsCutOfRun, EndsInCut, MakesFile, RunsLawfully, AttachedBy}};
-ghost use Rattle.monitor_acts.specs.{Said.{SameDisk, Said, SaidPart}, Performing.{commits_nothing}};
+ghost use Rattle.device_acts.specs.{Said.{SameDisk, Said, SaidPart}, Performing.{commits_nothing}};
 
 use crate::error::TextError;
 use crate::lawful::scripts_run_lawfully;

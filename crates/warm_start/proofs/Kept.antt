@@ -12,7 +12,7 @@ use Rattle.kdcs_types.specs.Tables.{TableRows, empty_tables}
 use Rattle.kdcfile_images.specs.File.{IsNoImage}
 use Rattle.kdcfile_images.specs.ReadImages.{one_meaning}
 use Rattle.kdcfile_store.specs.Whole.{Whole, HasFile}
-use Rattle.monitor_laws.specs.Suits.{Suits, SuitsFrom}
+use Rattle.laws_of_steps.specs.Suits.{Suits, SuitsFrom}
 use Rattle.record_codec.specs.Records.{content_of_tables, AreTablesOf}
 use Rattle.record_codec.specs.RowReadings.{IsProperRow}
 use Rattle.record_codec.specs.TableReadings.{AreProperTables}

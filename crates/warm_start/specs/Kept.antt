@@ -4,7 +4,7 @@ use Rattle.kd_records.specs.Identity.{Identity}
 use Rattle.kdcdef_types.specs.Generation.{Generated}
 use Rattle.kdcs_types.specs.Tables.{TableRows}
 use Rattle.kdcfile_store.specs.Whole.{Whole}
-use Rattle.monitor_laws.specs.Suits.{SuitsFrom}
+use Rattle.laws_of_steps.specs.Suits.{SuitsFrom}
 use Rattle.warm_start.specs.Stands.{KeepsTables}
 
 -- the store keeps no tables, or some of these texts that do not suit the generation

@@ -8,8 +8,8 @@ use Rattle.kdcdef_types.specs.Generation.{Generated}
 use Rattle.kdcs_types.specs.Tables.{TableRows}
 use Rattle.kdcfile_images.specs.ReadImages.{one_meaning}
 use Rattle.kdcfile_store.specs.Whole.{Whole}
-use Rattle.monitor_semantics.specs.Charges.{total_charge}
-use Rattle.monitor_laws.specs.Suits.{Suits}
+use Rattle.abstract_monitor.specs.Charges.{total_charge}
+use Rattle.laws_of_steps.specs.Suits.{Suits}
 use Rattle.record_codec.specs.Records.{content_of_tables}
 use Rattle.record_codec.specs.OneToOne.{tables_are_one_to_one}
 use Rattle.table_fit.specs.Lengths.{charges_are_those_of_the_bytes}

@@ -5,7 +5,7 @@ use Rattle.kd_records.specs.Identity.{Identity}
 use Rattle.kdcdef_types.specs.Generation.{Generated}
 use Rattle.kdcs_types.specs.Tables.{TableRows, empty_tables}
 use Rattle.kdcfile_images.specs.File.{IsNoImage}
-use Rattle.monitor_laws.specs.Suits.{Suits, SuitsFrom}
+use Rattle.laws_of_steps.specs.Suits.{Suits, SuitsFrom}
 use Rattle.warm_start.specs.Stands.{StandsForTables, identity_for}
 
 -- an application starts from these tables: an empty file is made with the empty ones

@@ -5,7 +5,7 @@ ghost use Rattle.kd_records.specs.Charge.{total_charge};
 ghost use Rattle.kdcdef_types.specs.Statements.{IsBlksize, IsWithin};
 ghost use Rattle.kdcs_types.specs.Tables.{empty_tables};
 ghost use Rattle.kdcfile_store.specs.{Kept.{IsKept}, Whole.{HasFile, Made}};
-ghost use Rattle.monitor_laws.specs.Suits.{Suits};
+ghost use Rattle.laws_of_steps.specs.Suits.{Suits};
 ghost use Rattle.warm_start.specs.{Stands.{AreTables, KeepsTables, StandsForTables, identity_for, limits_of}, Kept.{KeepsNoneFor, KeepsOthers}, Opening.{StartsFrom, HasNoTablesFor, IsRefused, IsOfOtherTexts, IsOpening}};
 
 use crate::error::OpenError;

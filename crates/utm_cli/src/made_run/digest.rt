@@ -5,9 +5,9 @@ ghost use Rattle.utm_cli.specs.MadeReport.{digested};
 
 use kd_base::OutOfMemory;
 use kdcs_types::Tables;
+use output_lines::table_lines;
 use sha2::{Digest, Sha256};
 use std::alloc::Global;
-use table_lines::table_lines;
 
 /// The SHA-256 digest of the number of bytes sent as a big-endian u64, these bytes, and the lines of the tables.
 pub(crate) fn digest_of(

@@ -1,6 +1,6 @@
 //! The lines of a report.
 ghost use Rattle.std.specs.Prelude.{◌≡◌, ◌++◌, ◌∷◌, [], codes, IfOk, OnOk};
-ghost use Rattle.monitor_semantics.specs.{Lines.{line}, Made.{number_line, total_line}};
+ghost use Rattle.abstract_monitor.specs.{Lines.{line}, Made.{number_line, total_line}};
 ghost use Rattle.utm_cli.specs.MadeReport.{lines_in, digest_line, report_with};
 
 use crate::made_run::digest::digest_of;

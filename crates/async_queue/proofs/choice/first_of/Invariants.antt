@@ -1,5 +1,5 @@
 use Rattle.std.proofs.Common.{◌≡◌, drop, option_copied}
-use Rattle.monitor_semantics.specs.Picks.{due_job}
+use Rattle.abstract_monitor.specs.Picks.{due_job}
 use Rattle.async_queue.specs.Queue.{free}
 use Rattle.async_queue.proofs.choice.first_of.Given as goal
 

@@ -1,5 +1,5 @@
 use Rattle.kdcs_types.specs.declared.key.Area.{Area}
-use Rattle.monitor_semantics.specs.Calls.{Told}
+use Rattle.abstract_monitor.specs.Calls.{Told}
 use Rattle.open_transaction.specs.Work.{work_of}
 use Rattle.kdcs_calls.specs.Parts.{accessed, named_by}
 use Rattle.kdcs_calls.proofs.AreaCalls.{answers_in, locks_in}

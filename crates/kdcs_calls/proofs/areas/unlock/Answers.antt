@@ -1,5 +1,5 @@
 use Rattle.kdcs_types.specs.declared.key.Area.{Area}
-use Rattle.monitor_semantics.specs.Calls.{Told, unlocked}
+use Rattle.abstract_monitor.specs.Calls.{Told, unlocked}
 use Rattle.open_transaction.specs.Work.{work_of}
 use Rattle.kdcs_calls.specs.Parts.{named_by}
 use Rattle.kdcs_calls.proofs.AreaCalls.{answers_in, locks_out}

@@ -1,5 +1,5 @@
 -- proofs/calls/later_call/Answers.antt
-use Rattle.monitor_semantics.specs.Endings.{is_asynchronous}
+use Rattle.abstract_monitor.specs.Endings.{is_asynchronous}
 use Rattle.open_transaction.specs.Work.{work_of}
 use Rattle.kdcs_calls.proofs.LaterCalls.{reads, writes}
 use Rattle.kdcs_calls.proofs.calls.later_call.Goals as goal

@@ -2,9 +2,9 @@ use Rattle.std.specs.Prelude.{◌≡◌, ℕ, Some}
 use Rattle.std.proofs.Common.{ap, sym, ◌∙◌}
 use Rattle.std.specs.FinMap.{find}
 use Rattle.kdcs_types.specs.declared.call.Code.{Code}
-use Rattle.monitor_semantics.specs.Bytes.{Bytes, bytes_cmp}
-use Rattle.monitor_semantics.specs.Calls.{Performed, delete_local, delete_local_by, read_answer, read_away, read_away_by, replied, without_local}
-use Rattle.monitor_semantics.specs.State.{OpenTransaction as Work}
+use Rattle.abstract_monitor.specs.Bytes.{Bytes, bytes_cmp}
+use Rattle.abstract_monitor.specs.Calls.{Performed, delete_local, delete_local_by, read_answer, read_away, read_away_by, replied, without_local}
+use Rattle.abstract_monitor.specs.State.{OpenTransaction as Work}
 use Rattle.storage_areas.specs.Areas.{PrivateAreas, with_areas_of}
 use Rattle.open_transaction.specs.Work.{work_of}
 use Rattle.kdcs_calls.proofs.locals.read_away.Goals as goal

@@ -1,9 +1,9 @@
 use Rattle.std.specs.Prelude.{◌≡◌, Option, IfOk}
 use Rattle.std.proofs.Common.{subst}
-use Rattle.monitor_semantics.specs.declared.answer.Called.{Called}
-use Rattle.monitor_semantics.specs.declared.answer.LockAnswer.{LockAnswer}
-use Rattle.monitor_semantics.specs.Calls.{Performed, on_answer}
-use Rattle.monitor_semantics.specs.State.{OpenTransaction as Work}
+use Rattle.abstract_monitor.specs.declared.answer.Called.{Called}
+use Rattle.abstract_monitor.specs.declared.answer.LockAnswer.{LockAnswer}
+use Rattle.abstract_monitor.specs.Calls.{Performed, on_answer}
+use Rattle.abstract_monitor.specs.State.{OpenTransaction as Work}
 use Rattle.open_transaction.specs.Work.{work_of}
 use Rattle.kdcs_calls.specs.Parts.{after_lock}
 use Rattle.kdcs_calls.proofs.Locking.{told_answer}

@@ -2,8 +2,8 @@ use Rattle.std.proofs.Common.{ap, subst, sym, ◌∙◌}
 use Rattle.std.proofs.lemmas.Result.{IfOk-weaker}
 use Rattle.kdcs_types.specs.declared.act.Changes.{Changes}
 use Rattle.kdcs_types.specs.Tables.{AreChanges}
-use Rattle.commit_laws.specs.Ends.{end_made}
-use Rattle.monitor_semantics.specs.Turns.{dump_acts}
+use Rattle.laws_of_commits.specs.Ends.{end_made}
+use Rattle.abstract_monitor.specs.Turns.{dump_acts}
 use Rattle.open_transaction.specs.declared.open.OpenTransaction.{OpenTransaction}
 use Rattle.open_transaction.specs.Work.{boxed_work, work_of}
 use Rattle.service_ends.proofs.Ended.{breaks_as}

@@ -3,9 +3,9 @@ use Rattle.std.proofs.Common.{ap, ◌∙◌}
 use Rattle.std.specs.FinMap.{find}
 use Rattle.kdcs_types.specs.declared.act.Act.{Act}
 use Rattle.kdcs_types.specs.Keys.{id_cmp}
-use Rattle.monitor_semantics.specs.State.{State}
-use Rattle.monitor_semantics.specs.Turns.{message_acts}
-use Rattle.monitor_state.specs.Standing.{state_of}
+use Rattle.abstract_monitor.specs.State.{State}
+use Rattle.abstract_monitor.specs.Turns.{message_acts}
+use Rattle.core_state.specs.Standing.{state_of}
 use Rattle.service_ends.proofs.Ended.{holds_as}
 use Rattle.service_ends.proofs.places.hold.Goals as goal
 

@@ -1,6 +1,6 @@
-use Rattle.monitor_semantics.specs.Endings.{is_asynchronous}
+use Rattle.abstract_monitor.specs.Endings.{is_asynchronous}
 use Rattle.open_transaction.specs.Work.{work_of}
-use Rattle.application_facts.specs.Applied.{applied}
+use Rattle.laws_of_applications.specs.Applied.{applied}
 use Rattle.service_statement.proofs.CallStatement.{fits_then, holders_done, reads, ready_then}
 use Rattle.service_statement.proofs.call.perform_call.Goals as goal
 

@@ -1,4 +1,4 @@
-use Rattle.monitor_semantics.specs.Endings.{is_asynchronous}
+use Rattle.abstract_monitor.specs.Endings.{is_asynchronous}
 use Rattle.open_transaction.specs.Work.{work_of}
 use Rattle.service_statement.proofs.CallStatement.{followed_counts}
 use Rattle.service_statement.proofs.pend.pend.Goals as goal

@@ -1,5 +1,5 @@
 use Rattle.std.proofs.Common.{sym, ◌∙◌, arith}
-use Rattle.monitor_semantics.specs.Picks.{service_is_allowed}
+use Rattle.abstract_monitor.specs.Picks.{service_is_allowed}
 use Rattle.step_scheduler.proofs.Found.{found_here, found_later}
 use Rattle.step_scheduler.proofs.room.first_allowed.Goals as goal
 

@@ -1,6 +1,6 @@
 use Rattle.std.proofs.Common.{◌≡◌, drop}
 use Rattle.std.specs.Prelude.{find}
-use Rattle.monitor_semantics.specs.Picks.{service_is_allowed}
+use Rattle.abstract_monitor.specs.Picks.{service_is_allowed}
 use Rattle.step_scheduler.proofs.room.first_allowed.Given as goal
 
 abbrev pub invariant-loop-entry : goal.invariant-loop-entry

@@ -10,11 +10,11 @@ use Rattle.kdcs_types.specs.declared.service.Service.{Service}
 use Rattle.kd_base.specs.Limits.{last_next_job}
 use Rattle.kdcs_types.specs.Tables.{AreChanges, TableRows, change_key, changed, with_changes}
 use Rattle.kdcdef_types.specs.Generation.{Generated}
-use Rattle.monitor_laws.specs.DurableLaws.{key_is_durable}
-use Rattle.monitor_semantics.specs.declared.outcome.Outcome.{Outcome}
-use Rattle.monitor_semantics.specs.Charges.{total_charge}
-use Rattle.monitor_semantics.specs.Endings.{durable, refusal, row_after, synchronised}
-use Rattle.monitor_tables.specs.PointLaws.{Stands}
+use Rattle.laws_of_steps.specs.DurableLaws.{key_is_durable}
+use Rattle.abstract_monitor.specs.declared.outcome.Outcome.{Outcome}
+use Rattle.abstract_monitor.specs.Charges.{total_charge}
+use Rattle.abstract_monitor.specs.Endings.{durable, refusal, row_after, synchronised}
+use Rattle.laws_of_tables.specs.PointLaws.{Stands}
 use Rattle.open_transaction.specs.declared.open.OpenTransaction.{OpenTransaction}
 use Rattle.open_transaction.specs.Work.{work_of}
 use Rattle.storage_areas.specs.Areas.{changes_of}

@@ -8,9 +8,9 @@ use Rattle.kdcs_types.specs.declared.act.Change.{Change}
 use Rattle.kdcs_types.specs.declared.act.Changes.{Changes}
 use Rattle.kdcs_types.specs.Tables.{AreChanges, IsSortedTables, TableRows, change_key, changed}
 use Rattle.kdcdef_types.specs.Generation.{Generated}
-use Rattle.monitor_laws.specs.DurableLaws.{key_is_durable}
-use Rattle.monitor_semantics.specs.Charges.{total_charge}
-use Rattle.monitor_semantics.specs.Endings.{durable}
+use Rattle.laws_of_steps.specs.DurableLaws.{key_is_durable}
+use Rattle.abstract_monitor.specs.Charges.{total_charge}
+use Rattle.abstract_monitor.specs.Endings.{durable}
 use Rattle.sync_points.specs.Pages.{durable_short, pages_are, pages_changed, pages_of}
 use Rattle.sync_points.specs.Refusals.{lt_alike, row_charge}
 use Rattle.sync_points.specs.Weights.{made_weight, replaced_weight}

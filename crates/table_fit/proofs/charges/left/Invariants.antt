@@ -1,6 +1,6 @@
 use Rattle.std.proofs.Common.{◌≡◌, ◌+◌, take}
 use Rattle.std.specs.Prelude.{sum_by}
-use Rattle.monitor_semantics.specs.Charges.{charge_of}
+use Rattle.abstract_monitor.specs.Charges.{charge_of}
 use Rattle.table_fit.proofs.charges.left.Given as goal
 
 abbrev pub invariant-loop-row : goal.invariant-loop-row

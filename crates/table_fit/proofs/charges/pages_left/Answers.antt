@@ -3,8 +3,8 @@ use Rattle.std.specs.Prelude.{Option, Some, sum_by}
 use Rattle.kdcs_types.specs.declared.service.Job.{Job}
 use Rattle.kdcs_types.specs.declared.service.JobValue.{JobValue}
 use Rattle.kdcs_types.specs.declared.service.Service.{Service}
-use Rattle.monitor_semantics.specs.Bytes.{Bytes}
-use Rattle.monitor_semantics.specs.Charges.{charge_of, job_length, service_length, total_charge}
+use Rattle.abstract_monitor.specs.Bytes.{Bytes}
+use Rattle.abstract_monitor.specs.Charges.{charge_of, job_length, service_length, total_charge}
 use Rattle.table_fit.specs.Charging.{all_left, left_after}
 use Rattle.table_fit.proofs.charges.pages_left.Goals as goal
 

@@ -1,7 +1,7 @@
 use Rattle.std.proofs.Common.{◌≡◌, ◌∙◌, ap, arith, length, List}
 use Rattle.std.specs.Prelude.{flat_map, sum_by}
-use Rattle.monitor_semantics.specs.Bytes.{Bytes}
-use Rattle.monitor_semantics.specs.Charges.{list_length}
+use Rattle.abstract_monitor.specs.Bytes.{Bytes}
+use Rattle.abstract_monitor.specs.Charges.{list_length}
 use Rattle.record_codec.specs.Values.{lssb_bytes}
 use Rattle.table_fit.specs.Lengths.{service_parts}
 use Rattle.table_fit.proofs.lengths.service_length.Goals as goal

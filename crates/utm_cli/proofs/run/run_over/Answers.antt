@@ -1,7 +1,7 @@
 use Rattle.std.proofs.Common.{◌≡◌, ◌∙◌, sym, ap, subst, refl}
 use Rattle.std.proofs.lemmas.Result.{on_ok_weaker}
 use Rattle.kdcs_types.specs.Tables.{TableRows, empty_tables}
-use Rattle.monitor_semantics.specs.Listing.{listing}
+use Rattle.abstract_monitor.specs.Listing.{listing}
 use Rattle.utm_cli.specs.MadeReport.{report_of}
 use Rattle.utm_cli.specs.declared.words.Word.{Word}
 use Rattle.utm_cli.specs.declared.words.Word.TheVariants.{Show, Make}

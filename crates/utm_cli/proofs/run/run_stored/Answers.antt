@@ -3,11 +3,11 @@ use Rattle.std.specs.Prelude.{IsTrue, true}
 use Rattle.std.proofs.lemmas.Result.{on_ok_weaker}
 use Rattle.kd_device.specs.Device.{LeavesOnly}
 use Rattle.kdcs_types.specs.Tables.{TableRows}
-use Rattle.monitor_semantics.specs.Trace.{bytes_of}
+use Rattle.abstract_monitor.specs.Trace.{bytes_of}
 use Rattle.warm_start.specs.Opening.{IsOpening, IsRefused, IsOfOtherTexts}
 use Rattle.utm_cli.specs.Asking.{Errand}
 use Rattle.utm_cli.specs.Doing.{Opens, identity_of, acts_of}
-use Rattle.monitor_acts.specs.Performing.{commits_nothing}
+use Rattle.device_acts.specs.Performing.{commits_nothing}
 use Rattle.kd_base.specs.Tools.{error_same}
 use Rattle.utm_cli.proofs.ByWord.{not_empty, opened_once}
 use Rattle.utm_cli.proofs.Ran.{opening_cut, run_cut, rose_either, told_then}

@@ -4,10 +4,10 @@ use Rattle.std.specs.String.{string_bytes}
 use Rattle.utm_cli.specs.declared.error.Refusal.{Refusal}
 use Rattle.utm_cli.specs.declared.error.TextError.{TextError}
 use Rattle.utm_cli.specs.Words.{request_of, status_of, refusal_line, not_a_kdcfile_line, other_generation_line}
-use Rattle.monitor_acts.specs.Said.{SameDisk, Said, SaidPart}
+use Rattle.device_acts.specs.Said.{SameDisk, Said, SaidPart}
 use Rattle.utm_cli.specs.Asking.{Reading, AreThere, app_of}
 use Rattle.utm_cli.specs.Doing.{Starts, Refuses, IsOfOthers, acts_of}
-use Rattle.monitor_acts.specs.Performing.{commits_nothing}
+use Rattle.device_acts.specs.Performing.{commits_nothing}
 use Rattle.utm_cli.specs.declared.words.Word.{Word}
 use Rattle.utm_cli.specs.Promise.{IsOneOf, Request, Reads, IsCutOfRun, MakesFile, RunsLawfully, AttachedBy}
 use Rattle.utm_cli.proofs.Asking.{reads_of, one_reading, not_missed, misses_of, ok_not, moved, err_not, err_same, cut_at_call, cut_since_call}

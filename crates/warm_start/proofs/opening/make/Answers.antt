@@ -1,7 +1,7 @@
 use Rattle.std.proofs.Common.{sym, subst}
 use Rattle.kdcs_types.specs.Tables.{TableRows}
-use Rattle.monitor_laws.specs.EmptyTables.{empty_suit}
-use Rattle.monitor_laws.specs.Suits.{Suits}
+use Rattle.laws_of_steps.specs.EmptyTables.{empty_suit}
+use Rattle.laws_of_steps.specs.Suits.{Suits}
 use Rattle.warm_start.proofs.opening.make.Goals as goal
 
 pub create-requires-clause-identity : goal.create-requires-clause-identity

@@ -1,8 +1,8 @@
 use Rattle.std.proofs.Common.{sym, subst}
 use Rattle.kd_device.specs.Rest.{rests_then}
 use Rattle.kdcs_types.specs.Tables.{TableRows}
-use Rattle.monitor_laws.specs.EmptyTables.{empty_suit}
-use Rattle.monitor_laws.specs.Suits.{Suits}
+use Rattle.laws_of_steps.specs.EmptyTables.{empty_suit}
+use Rattle.laws_of_steps.specs.Suits.{Suits}
 use Rattle.warm_start.proofs.opening.read_tables.Goals as goal
 
 pub returns-then-size-eq0-clause-suits : goal.returns-then-size-eq0-clause-suits

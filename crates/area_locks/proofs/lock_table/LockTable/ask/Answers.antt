@@ -1,5 +1,5 @@
 use Rattle.std.proofs.Common.{◌∙◌, ap}
-use Rattle.monitor_semantics.specs.Locks.{Locks, holder}
+use Rattle.abstract_monitor.specs.Locks.{Locks, holder}
 use Rattle.area_locks.proofs.Answering.{deadlock_answered}
 use Rattle.area_locks.proofs.Holders.{holder_after_is}
 use Rattle.area_locks.proofs.lock_table.LockTable.ask.Goals as goal

@@ -1,5 +1,5 @@
 use Rattle.std.specs.Prelude.{◌≡◌, ◌-◌, Some, length}
-use Rattle.monitor_semantics.specs.Locks.{reaches}
+use Rattle.abstract_monitor.specs.Locks.{reaches}
 use Rattle.area_locks.proofs.lock_table.LockTable.is_deadlocked.Given as goal
 
 -- from where it stands the asker is reached in the steps that are left as it is from the beginning in all

@@ -1,6 +1,6 @@
 use Rattle.std.proofs.Common.{sym, ap, subst, ◌∙◌, arith}
-use Rattle.monitor_semantics.specs.declared.draft.Draft.{Draft}
-use Rattle.monitor_semantics.specs.Endings.{numbered}
+use Rattle.abstract_monitor.specs.declared.draft.Draft.{Draft}
+use Rattle.abstract_monitor.specs.Endings.{numbered}
 use Rattle.async_queue.specs.Drafts.{IsInTicks, AreInTicks}
 use Rattle.async_queue.proofs.DraftLemmas.{in_ticks_at, numbered_more, numbered_all}
 use Rattle.async_queue.proofs.drafts.DraftJobs.numbered.Goals as goal

@@ -1,5 +1,5 @@
 use Rattle.std.proofs.Common.{◌≡◌, ◌+◌, ◌++◌, drop}
-use Rattle.monitor_semantics.specs.Endings.{numbered}
+use Rattle.abstract_monitor.specs.Endings.{numbered}
 use Rattle.async_queue.proofs.drafts.DraftJobs.numbered.Given as goal
 
 abbrev pub invariant-loop-draft : goal.invariant-loop-draft

@@ -1,7 +1,7 @@
 use Rattle.std.proofs.Common.{◌≡◌, ◌+◌, ◌<◌, ◌++◌, ℕ, List, length, drop, get_or, ap, sym, ◌∙◌, append_assoc}
 use Rattle.std.proofs.lemmas.List.{at_drop_more}
-use Rattle.monitor_semantics.specs.Bytes.{Bytes}
-use Rattle.monitor_semantics.specs.Endings.{joined}
+use Rattle.abstract_monitor.specs.Bytes.{Bytes}
+use Rattle.abstract_monitor.specs.Endings.{joined}
 use Rattle.open_transaction.proofs.open.OpenTransaction.message.Goals as goal
 
 one_more_part : (done part message : Bytes) (parts : List Bytes) (i : ℕ) → i < length parts → part ≡ get_or parts i part → done ++ joined (drop i parts) ≡ message → (done ++ part) ++ joined (drop (i + 1) parts) ≡ message

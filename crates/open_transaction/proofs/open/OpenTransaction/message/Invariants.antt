@@ -1,5 +1,5 @@
 use Rattle.std.proofs.Common.{◌≡◌, ◌++◌, drop}
-use Rattle.monitor_semantics.specs.Endings.{joined}
+use Rattle.abstract_monitor.specs.Endings.{joined}
 use Rattle.open_transaction.proofs.open.OpenTransaction.message.Given as goal
 
 abbrev pub invariant-loop-part : goal.invariant-loop-part

@@ -1,5 +1,5 @@
 use Rattle.std.proofs.Common.{◌≡◌, drop}
-use Rattle.monitor_semantics.specs.Turns.{pterm_of_user}
+use Rattle.abstract_monitor.specs.Turns.{pterm_of_user}
 use Rattle.session_table.proofs.sessions.Sessions.pterm_of.Given as goal
 
 -- the sessions so far are others'

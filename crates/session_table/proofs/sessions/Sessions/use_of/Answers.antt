@@ -1,5 +1,5 @@
 use Rattle.std.proofs.Common.{◌≡◌, sym, ◌∙◌, subst, IfOk, OnErr, IsTrue}
-use Rattle.monitor_semantics.specs.declared.input_use.Use.{Use}
+use Rattle.abstract_monitor.specs.declared.input_use.Use.{Use}
 use Rattle.session_table.specs.Inputs.{holds_text}
 use Rattle.session_table.proofs.Using.{use_within, use_without}
 use Rattle.session_table.proofs.sessions.Sessions.use_of.Goals as goal

@@ -1,5 +1,5 @@
 use Rattle.std.proofs.Common.{true, ap, ◌∙◌}
-use Rattle.monitor_semantics.specs.Picks.{is_allowed}
+use Rattle.abstract_monitor.specs.Picks.{is_allowed}
 use Rattle.step_scheduler.proofs.room.RoomAllows.allows.Goals as goal
 
 pub returns-in-Tac : goal.returns-in-Tac

@@ -1,6 +1,6 @@
 use Rattle.std.proofs.Common.{Option, set, ap, sym, ◌∙◌, arith}
 use Rattle.std.proofs.lemmas.List.Edits.{map_over_more}
-use Rattle.monitor_semantics.specs.Picks.{Classed}
+use Rattle.abstract_monitor.specs.Picks.{Classed}
 use Rattle.step_scheduler.specs.Schedule.{left_by}
 use Rattle.step_scheduler.proofs.scheduler.Scheduler.release.Goals as goal
 

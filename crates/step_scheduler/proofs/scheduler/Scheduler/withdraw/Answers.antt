@@ -2,7 +2,7 @@ use Rattle.std.proofs.Common.{List, ap, rules}
 use Rattle.std.specs.Prelude.{not}
 use Rattle.std.proofs.lemmas.Fn.{filter_same}
 use Rattle.kdcs_types.specs.Keys.{id_eq}
-use Rattle.monitor_semantics.specs.Picks.{Classed}
+use Rattle.abstract_monitor.specs.Picks.{Classed}
 use Rattle.step_scheduler.specs.Schedule.{Schedule}
 use Rattle.step_scheduler.proofs.scheduler.Scheduler.withdraw.Goals as goal
 

@@ -1,4 +1,4 @@
-use Rattle.monitor_semantics.specs.Charges.{job_length}
+use Rattle.abstract_monitor.specs.Charges.{job_length}
 use Rattle.sync_points.specs.Pages.{few_pages}
 use Rattle.sync_points.proofs.pages.JobPaged.pages.Goals as goal
 

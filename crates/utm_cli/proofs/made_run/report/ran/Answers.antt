@@ -1,7 +1,7 @@
 use Rattle.std.proofs.Common.{◌∙◌, ◌++◌, refl, ap, List, ℕ}
-use Rattle.monitor_semantics.specs.Commands.{acts_of}
-use Rattle.monitor_semantics.specs.Trace.{history, tables_after, bytes_of}
-use Rattle.monitor_run.specs.Running.{durable_of, identity_of}
+use Rattle.abstract_monitor.specs.Commands.{acts_of}
+use Rattle.abstract_monitor.specs.Trace.{history, tables_after, bytes_of}
+use Rattle.device_run.specs.Running.{durable_of, identity_of}
 use Rattle.utm_cli.proofs.MadeStarted.{reported}
 use Rattle.utm_cli.proofs.made_run.report.ran.Goals as goal
 

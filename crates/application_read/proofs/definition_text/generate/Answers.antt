@@ -1,0 +1,57 @@
+use Rattle.std.proofs.Common.{Ok, Err, refl}
+use Rattle.kdcdef_check.specs.declared.fault.CheckFault.TheVariants as check
+use Rattle.kdcdef_check.specs.Faults.{is_memory as is_check_memory}
+use Rattle.application_read.specs.declared.definition_fault.DefinitionFault.TheVariants.{Check, Memory}
+use Rattle.application_read.specs.Definition.{HasFault, is_memory}
+use Rattle.application_read.specs.Causes.{of_lex, of_read, of_check}
+use Rattle.application_read.specs.Handed.{made_of, stands_in, stands}
+use Rattle.application_read.proofs.DefinitionLayers.{lex_only, lex_fault, read_only, read_fault, check_only, check_fault, all_only, all_fault}
+use Rattle.application_read.proofs.definition_text.generate.Goals as goal
+
+pub returns-in_err-raw-clause-only : goal.returns-in_err-raw-clause-only
+returns-in_err-raw-clause-only c = λ g h.
+    let e = c.in_err-raw.field-0.0 in
+    made_of is_memory c.from_residual.result (of_lex e) (Ok g) c.from_residual.ensures.1 (lex_only c.args.definition.now e c.in_err-raw.ensures.only g h)
+
+pub returns-in_err-raw-clause-refused : goal.returns-in_err-raw-clause-refused
+returns-in_err-raw-clause-refused c = λ f h.
+    let e = c.in_err-raw.field-0.0 in
+    made_of is_memory c.from_residual.result (of_lex e) (Err f) c.from_residual.ensures.1 (lex_fault c.args.definition.now e c.in_err-raw.ensures.only c.in_err-raw.ensures.refused f h)
+
+pub returns-in_err-statements-clause-only : goal.returns-in_err-statements-clause-only
+returns-in_err-statements-clause-only c = λ g h.
+    let e = c.in_err-statements.field-0.0 in
+    made_of is_memory c.from_residual-in_err-statements.result (of_read e) (Ok g) c.from_residual-in_err-statements.ensures.1
+    (read_only c.args.definition.now c.in_ok-raw.raw.items c.in_ok-raw.ensures.only c.in_ok-raw.ensures.refused e c.in_err-statements.ensures.only g h)
+
+pub returns-in_err-statements-clause-refused : goal.returns-in_err-statements-clause-refused
+returns-in_err-statements-clause-refused c = λ f h.
+    let e = c.in_err-statements.field-0.0 in
+    made_of is_memory c.from_residual-in_err-statements.result (of_read e) (Err f) c.from_residual-in_err-statements.ensures.1
+    (read_fault c.args.definition.now c.in_ok-raw.raw.items c.in_ok-raw.ensures.only c.in_ok-raw.ensures.refused e c.in_err-statements.ensures.only c.in_err-statements.ensures.refused f h)
+
+pub returns-in_err-check-clause-only : goal.returns-in_err-check-clause-only
+returns-in_err-check-clause-only c = λ g h.
+    let e = c.in_err-check.field-0.0 in
+    made_of is_memory c.from_residual-in_err-check.result (of_check e) (Ok g) c.from_residual-in_err-check.ensures.1
+    (check_only c.args.definition.now c.in_ok-raw.raw.items c.in_ok-raw.ensures.only c.in_ok-raw.ensures.refused c.in_ok-statements.statements.items c.in_ok-statements.ensures.only c.in_ok-statements.ensures.refused e c.in_err-check.ensures.only g h)
+
+pub returns-in_err-check-clause-refused : goal.returns-in_err-check-clause-refused
+returns-in_err-check-clause-refused c = λ f h.
+    let e = c.in_err-check.field-0.0 in
+    made_of is_memory c.from_residual-in_err-check.result (of_check e) (Err f) c.from_residual-in_err-check.ensures.1
+    (check_fault c.args.definition.now c.in_ok-raw.raw.items c.in_ok-raw.ensures.only c.in_ok-raw.ensures.refused c.in_ok-statements.statements.items c.in_ok-statements.ensures.only c.in_ok-statements.ensures.refused e c.in_err-check.ensures.only c.in_err-check.ensures.refused f h)
+
+pub returns-in_err-check-clause-fault : goal.returns-in_err-check-clause-fault
+returns-in_err-check-clause-fault c =
+    let e = c.in_err-check.field-0.0 in
+    stands_in Memory (HasFault c.args.definition.now) c.from_residual-in_err-check.result (of_check e) c.from_residual-in_err-check.ensures.1
+    (stands Memory is_check_memory (λ x. Check x) e (HasFault c.args.definition.now) check.Memory refl (λ some. (c.in_ok-statements.statements.items, (c.in_ok-raw.raw.items, c.in_ok-raw.ensures.found, c.in_ok-statements.ensures.found), c.in_err-check.ensures.fault some)))
+
+pub returns-clause-only : goal.returns-clause-only
+returns-clause-only c = λ g h.
+    all_only c.args.definition.now c.in_ok-raw.raw.items c.in_ok-raw.ensures.only c.in_ok-raw.ensures.refused c.in_ok-statements.statements.items c.in_ok-statements.ensures.only c.in_ok-statements.ensures.refused c.in_ok-check.field-0 c.in_ok-check.ensures.found.0 g h
+
+pub returns-clause-refused : goal.returns-clause-refused
+returns-clause-refused c = λ f h.
+    all_fault c.args.definition.now c.in_ok-raw.raw.items c.in_ok-raw.ensures.only c.in_ok-raw.ensures.refused c.in_ok-statements.statements.items c.in_ok-statements.ensures.only c.in_ok-statements.ensures.refused c.in_ok-check.field-0 c.in_ok-check.ensures.found.0 c.in_ok-check.ensures.refused f h

@@ -1,0 +1,26 @@
+//! From the text to the generation.
+ghost use Rattle.std.specs.Prelude.{◌≢◌, Ok, Err, IfOk, IfErr};
+ghost use Rattle.kdcdef_types.specs.Generation.{Generated};
+ghost use Rattle.application_read.specs.{Definition.{Generates, HasFault, Gives}, declared.definition_fault.DefinitionFault.{DefinitionFault}, declared.definition_fault.DefinitionFault.TheVariants.{Memory}};
+
+use crate::definition_fault::DefinitionFault;
+use kdcdef_check::{Generation, check};
+use kdcdef_lex::lines;
+use kdcdef_read::read;
+use std::alloc::Global;
+
+/// The generation that a KDCDEF text makes, or its first fault. A text has at most 16,777,216 bytes.
+pub fn generate(alloc: Global, definition: &[u8]) -> Result<Generation, DefinitionFault>
+    // The text generates what is answered.
+    ensures found { IfOk result (λ g. Generates definition.now g) }
+    // What the text generates is answered, unless memory runs out.
+    ensures only { (g : Generated) → Generates definition.now g → Gives result (Ok g) }
+    // The fault that is answered stands there.
+    ensures fault { IfErr result (λ e. e ≢ Memory → HasFault definition.now e) }
+    // A text with the fault is refused for it, unless memory runs out.
+    ensures refused { (e : DefinitionFault) → HasFault definition.now e → Gives result (Err e) }
+{
+    let raw = lines(alloc, definition)?;
+    let statements = read(alloc, &raw)?;
+    Ok(check(alloc, &statements)?)
+}

@@ -1,0 +1,80 @@
+//! The tables.
+ghost use Rattle.std.specs.Prelude.{◌≡◌, OnOk};
+ghost use Rattle.kdcs_types.specs.Tables.{changed, AreChanges};
+ghost use Rattle.core_state.specs.{Queue.{followed, followed_all, is_open_job, marked_if, with_marked}, Standing.{IsIndexed, SameApplication, active_of, state_of}};
+
+use async_queue::Jobs;
+use crate::parts::MonitorParts;
+use kd_base::OutOfMemory;
+use kdcs_types::{Change, Changes, Job, JobValue, Key, Row, ServiceId};
+use open_transaction::OpenTransaction;
+use sorted_pairs::SortedPairs;
+
+/// The open transactions by their services.
+type Works = SortedPairs<ServiceId, Box<OpenTransaction>>;
+
+// The job is taken where its service is open.
+fn mark_if_open(jobs: &mut Jobs, active: &Works, number: u64)
+    ensures { jobs.new ≡ marked_if (is_open_job (active_of active.now) number) number jobs.old }
+{
+    if active.contains_key(&ServiceId::Asynchronous(number)) {
+        jobs.take(number);
+    }
+}
+
+// The job stands in its place, with the mark of its service.
+fn set_job(
+    jobs: &mut Jobs,
+    active: &Works,
+    number: u64,
+    value: &JobValue,
+) -> Result<(), OutOfMemory>
+    ensures { OnOk result (jobs.new ≡ with_marked (active_of active.now) (record { number = number; value = value.now }) jobs.old) }
+{
+    jobs.remove(number);
+    let value = value.clone()?;
+    jobs.insert(Job { number, value })?;
+    mark_if_open(jobs, active, number);
+    Ok(())
+}
+
+// The marked jobs follow a change of the tables.
+fn follow(jobs: &mut Jobs, active: &Works, change: &Change) -> Result<(), OutOfMemory>
+    ensures { OnOk result (jobs.new ≡ followed (active_of active.now) change.now jobs.old) }
+{
+    match change {
+        Change::Set(Row::Job(number, value)) => set_job(jobs, active, *number, value),
+        Change::Remove(Key::Job(number)) => {
+            jobs.remove(*number);
+            Ok(())
+        }
+        _ => Ok(()),
+    }
+}
+
+fn follow_all(jobs: &mut Jobs, active: &Works, changes: &[Change]) -> Result<(), OutOfMemory>
+    ensures { OnOk result (jobs.new ≡ followed_all (active_of active.now) changes.now jobs.old) }
+{
+    for change in changes {
+        follow(jobs, active, change)?;
+    }
+    Ok(())
+}
+
+impl MonitorParts {
+    /// Makes the changes in the tables, which cost in proportion to their number, and to the rows behind those that come or
+    /// go.
+    pub fn change(&mut self, changes: &Changes) -> Result<(), OutOfMemory>
+        requires indexed { IsIndexed self.old }
+        requires changes { AreChanges changes.now.items }
+        ensures indexed { OnOk result (IsIndexed self.new) }
+        ensures same { OnOk result (SameApplication self.old self.new) }
+        ensures state { OnOk result (state_of self.new ≡ record (state_of self.old) { tables = changed self.old.tables changes.now }) }
+    {
+        // The tables are in order.
+        let _clock = self.tables.clock();
+        self.tables.change(changes)?;
+        follow_all(&mut self.jobs, &self.active, changes.items.as_slice())?;
+        Ok(())
+    }
+}

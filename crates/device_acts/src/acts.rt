@@ -1,0 +1,59 @@
+//! Acts: commits to the store, and lines that are sent, in their order.
+ghost use Rattle.std.specs.Prelude.{◌≡◌, ◌⊎◌, ◌∷◌, [], IsTrue, OnOk, IsErrOf};
+ghost use Rattle.kd_device.specs.Device.{Rose};
+ghost use Rattle.kdcfile_store.specs.Kept.{IsKept};
+ghost use Rattle.device_acts.specs.Performing.{content_after, AreCommittable, Performs, Sent};
+
+use crate::saying::say;
+use kd_device::{Device, DeviceError};
+use kdcfile_store::Store;
+use kdcs_types::Act;
+use record_codec::difference;
+use std::alloc::Global;
+
+/// One act: a commit, whole or absent, or a line.
+fn perform_act<D: Device, S: Store<D>>(
+    alloc: Global,
+    device: &mut D,
+    store: &mut S,
+    act: &Act,
+) -> Result<(), DeviceError>
+    requires kept { IsTrue (D.state device.old).told → IsKept (S.file store.old) (D.state device.old) (D.leaves device.old) }
+    requires can { AreCommittable (S.identity store.old) (S.kept store.old) (act.now ∷ []) }
+    ensures identity { S.identity store.new ≡ S.identity store.old }
+    ensures any { Performs content_after (S.stands (S.identity store.old)) (S.kept store.old) (act.now ∷ []) (D.state device.old) (D.state device.new) (D.leaves device.old) (D.leaves device.new) }
+    ensures content { OnOk result (S.kept store.new ≡ content_after (S.kept store.old) (act.now ∷ [])) }
+    ensures done { OnOk result (Sent (S.file store.new) (act.now ∷ []) (D.state device.old) (D.state device.new) (D.leaves device.new)) }
+    ensures failed { IsErrOf result DeviceError.Failed → Rose (D.state device.old).disk_faults (D.state device.new).disk_faults ⊎ Rose (D.state device.old).line_faults (D.state device.new).line_faults }
+{
+    match act {
+        Act::Commit(changes) => {
+            let patch = difference(alloc, changes)?;
+            store.commit(alloc, device, &patch)?;
+            Ok(())
+        }
+        Act::Emit(line) => say(device, line.as_slice()),
+    }
+}
+
+/// Acts in their order, which the store can take. At a stop, and at an error, what was sent and what the file stands for
+/// are a cut of them.
+pub fn perform_acts<D: Device, S: Store<D>>(
+    alloc: Global,
+    device: &mut D,
+    store: &mut S,
+    acts: &[Act],
+) -> Result<(), DeviceError>
+    requires kept { IsTrue (D.state device.old).told → IsKept (S.file store.old) (D.state device.old) (D.leaves device.old) }
+    requires can { AreCommittable (S.identity store.old) (S.kept store.old) acts.now }
+    ensures identity { S.identity store.new ≡ S.identity store.old }
+    ensures any { Performs content_after (S.stands (S.identity store.old)) (S.kept store.old) acts.now (D.state device.old) (D.state device.new) (D.leaves device.old) (D.leaves device.new) }
+    ensures content { OnOk result (S.kept store.new ≡ content_after (S.kept store.old) acts.now) }
+    ensures done { OnOk result (Sent (S.file store.new) acts.now (D.state device.old) (D.state device.new) (D.leaves device.new)) }
+    ensures failed { IsErrOf result DeviceError.Failed → Rose (D.state device.old).disk_faults (D.state device.new).disk_faults ⊎ Rose (D.state device.old).line_faults (D.state device.new).line_faults }
+{
+    for act in acts {
+        perform_act(alloc, device, store, act)?;
+    }
+    Ok(())
+}

@@ -1,0 +1,83 @@
+-- The steps of each command.
+use Rattle.std.proofs.Common.{◌≡◌, ◌⊎◌, inl, inr, arith, ℕ, ◌+◌, List, [], ◌∷◌, refl, sym, ap, subst, ◌∙◌}
+use Rattle.std.specs.Prelude.{false}
+use Rattle.kd_device.specs.Device.{State}
+use Rattle.kdcfile_store.specs.Whole.{Whole}
+use Rattle.abstract_monitor.specs.declared.command.Command.{Command}
+use Rattle.abstract_monitor.specs.declared.command.Command.TheVariants.{Input, Tick, Run, Turn, Drop, Print, PrintLast, Restart}
+use Rattle.abstract_monitor.specs.Commands.{ScriptStep, command_of, rotated, steps_of, turned_step}
+use Rattle.abstract_monitor.specs.State.{Application, State as MonitorState}
+use Rattle.abstract_monitor.specs.Turns.{turn_of}
+use Rattle.monitor_core.specs.CoreValue.{CoreValue}
+use Rattle.monitor_core.specs.Commanding.{IsSingle}
+use Rattle.laws_of_steps.specs.Cut.{commits_in}
+use Rattle.device_run.specs.Running.{turns_of, IsRunning, PerformsSteps, DidSteps}
+use Rattle.device_run.proofs.Counting.{commits_by, commits_of_one}
+use Rattle.device_run.proofs.Restarting.{acts_again}
+use Rattle.device_run.proofs.Stepping.{fingerprint_is}
+
+run_steps : (app : Application) (s : MonitorState) (turns : ℕ) → steps_of app s (Run turns) ≡ rotated app turns false s 1 0
+unfolding steps_of
+run_steps app s turns = refl
+
+turn_steps : (app : Application) (s : MonitorState) (task : ℕ) → steps_of app s (Turn task) ≡ turned_step (turn_of app s task) ∷ []
+unfolding steps_of command_of
+turn_steps app s task = refl
+
+restart_steps : (app : Application) (s : MonitorState) → steps_of app s Restart ≡ command_of app s Restart ∷ []
+unfolding steps_of
+restart_steps app s = refl
+
+single_steps : (app : Application) (s : MonitorState) (command : Command) → IsSingle command → steps_of app s command ≡ command_of app s command ∷ []
+unfolding steps_of
+single_steps app s (Input pterm text) single = refl
+single_steps app s (Tick ticks) single = refl
+single_steps app s (Run turns) single = absurd single
+single_steps app s (Turn task) single = absurd single
+single_steps app s (Drop pterm) single = refl
+single_steps app s (Print pterm) single = refl
+single_steps app s (PrintLast pterm) single = refl
+single_steps app s Restart single = absurd single
+
+-- a command, and the steps that it is
+pub steps_of_run : (app : Application) (s : MonitorState) (command : Command) (turns : ℕ) → command ≡ Run turns → steps_of app s command ≡ rotated app turns false s 1 0
+steps_of_run app s command turns is = ap (steps_of app s) is ∙ run_steps app s turns
+
+pub steps_of_turn : (app : Application) (s : MonitorState) (command : Command) (task : ℕ) → command ≡ Turn task → steps_of app s command ≡ turned_step (turn_of app s task) ∷ []
+steps_of_turn app s command task is = ap (steps_of app s) is ∙ turn_steps app s task
+
+pub steps_of_restart : (app : Application) (s : MonitorState) (command : Command) → command ≡ Restart → steps_of app s command ≡ command_of app s Restart ∷ []
+steps_of_restart app s command is = ap (steps_of app s) is ∙ restart_steps app s
+
+pub steps_of_single : (app : Application) (s : MonitorState) (command : Command) → IsSingle command → steps_of app s command ≡ command_of app s command ∷ []
+steps_of_single app s command single = single_steps app s command single
+
+pub single_of : (command : Command) → ((pterm : List ℕ) × (text : List ℕ) × (command ≡ Input pterm text)) ⊎ (((ticks : ℕ) × (command ≡ Tick ticks)) ⊎ (((pterm : List ℕ) × (command ≡ Drop pterm)) ⊎ (((pterm : List ℕ) × (command ≡ Print pterm)) ⊎ ((pterm : List ℕ) × (command ≡ PrintLast pterm)))))
+    → IsSingle command × (turns_of command ≡ 1)
+single_of command (inl (pterm, text, is)) = (subst IsSingle (sym is) tt, ap turns_of is)
+single_of command (inr (inl (ticks, is))) = (subst IsSingle (sym is) tt, ap turns_of is)
+single_of command (inr (inr (inl (pterm, is)))) = (subst IsSingle (sym is) tt, ap turns_of is)
+single_of command (inr (inr (inr (inl (pterm, is))))) = (subst IsSingle (sym is) tt, ap turns_of is)
+single_of command (inr (inr (inr (inr (pterm, is))))) = (subst IsSingle (sym is) tt, ap turns_of is)
+
+pub own_running : (fingerprint : List ℕ) (c : CoreValue) (store : Whole) → IsRunning fingerprint c store → IsRunning store.identity.fingerprint c store
+own_running fingerprint c store h = subst (λ f. IsRunning f c store) (sym (fingerprint_is fingerprint c store h)) h
+
+module _ (fingerprint : List ℕ) (c : CoreValue) (store : Whole) (running : IsRunning fingerprint c store) (command : Command) (steps : List ScriptStep) (is : steps_of c.application c.state command ≡ steps) where
+  pub performs_command : (a b : State) (la lb : ℕ → List ℕ → List ℕ → Type 0) → PerformsSteps store.identity.fingerprint c steps a b la lb → PerformsSteps fingerprint c (steps_of c.application c.state command) a b la lb
+  performs_command a b la lb h = subst (λ f. PerformsSteps f c (steps_of c.application c.state command) a b la lb) (fingerprint_is fingerprint c store running) (subst (λ (l : List ScriptStep). PerformsSteps store.identity.fingerprint c l a b la lb) (sym is) h)
+
+  pub did_command : (a b : State) (lb : ℕ → List ℕ → List ℕ → Type 0) (d : CoreValue) (store' : Whole) → DidSteps store.identity.fingerprint c steps d store' a b lb → DidSteps fingerprint c (steps_of c.application c.state command) d store' a b lb
+  did_command a b lb d store' h = subst (λ f. DidSteps f c (steps_of c.application c.state command) d store' a b lb) (fingerprint_is fingerprint c store running) (subst (λ (l : List ScriptStep). DidSteps store.identity.fingerprint c l d store' a b lb) (sym is) h)
+
+-- ---- its commits
+
+-- RESTART makes none
+pub restart_counts : (c : CoreValue) (command : Command) (n : ℕ) → command ≡ Restart → n ≡ n + commits_by (steps_of c.application c.state command)
+restart_counts c command n is =
+    let none : commits_by (steps_of c.application c.state command) ≡ 0 = ap commits_by (steps_of_restart c.application c.state command is) ∙ ap commits_in (acts_again c) in
+    omega (arith, none)
+
+-- a command of one step makes those of the step
+pub one_counts : (app : Application) (s : MonitorState) (command : Command) (step : ScriptStep) → steps_of app s command ≡ step ∷ [] → commits_by (steps_of app s command) ≡ commits_in step.acts
+one_counts app s command step is = ap commits_by is ∙ commits_of_one step

@@ -1,0 +1,184 @@
+-- Turns in rotation, one after another.
+use Rattle.std.proofs.Common.{◌≡◌, ℕ, suc, zero, ◌+◌, ◌-◌, ◌≤◌, ◌<◌, List, [], ◌∷◌, ◌++◌, refl, sym, ap, subst, ◌∙◌, arith, append_assoc}
+use Rattle.std.specs.Prelude.{IsTrue, Bool, true, false, ◌==◌, if◌then◌else◌}
+use Rattle.std.proofs.lemmas.Bool.{ne_eqb, eq-eqb}
+use Rattle.std.proofs.lemmas.List.{append-nil}
+use Rattle.kd_device.specs.Device.{State}
+use Rattle.kdcdef_types.specs.Statements.{IsWithin}
+use Rattle.kdcfile_store.specs.Kept.{IsKept}
+use Rattle.kdcfile_store.specs.Whole.{Whole, HasFile}
+use Rattle.abstract_monitor.specs.State.{Application, State as MonitorState}
+use Rattle.abstract_monitor.specs.Turns.{Turned, turn_of}
+use Rattle.abstract_monitor.specs.Commands.{ScriptStep, turned_step, rotated, next_task, in_a_row}
+use Rattle.monitor_core.specs.CoreValue.{CoreValue}
+use Rattle.laws_of_steps.specs.Cut.{commits_in}
+use Rattle.device_run.specs.Running.{IsRunning, PerformsSteps, DidSteps}
+use Rattle.device_run.proofs.Counting.{commits_by, commits_both, commits_of_one}
+use Rattle.device_run.proofs.Stepping.{fingerprint_is, Stepping, stepping_start, stepping_performs, stepping_more}
+
+-- no turns are left
+rotated_none : (app : Application) (s : MonitorState) (task unmoved : ℕ) → rotated app 0 false s task unmoved ≡ []
+unfolding rotated
+rotated_none app s task unmoved = refl
+
+-- enough turns in a row moved nothing
+rotated_ended : (app : Application) (n : ℕ) (s : MonitorState) (task unmoved : ℕ) → rotated app n true s task unmoved ≡ []
+unfolding rotated
+rotated_ended app zero s task unmoved = refl
+rotated_ended app (suc n) s task unmoved = refl
+
+-- one turn, and those behind it
+rotated_more : (app : Application) (n : ℕ) (s : MonitorState) (task unmoved : ℕ)
+    → rotated app (suc n) false s task unmoved
+    ≡ (turned_step (turn_of app s task) ∷ []) ++ rotated app n (in_a_row (turn_of app s task).moved unmoved == app.generation.limits.tasks) (turn_of app s task).after (next_task app task) (in_a_row (turn_of app s task).moved unmoved)
+unfolding rotated
+rotated_more app n s task unmoved = refl
+
+next_within : (limit n : ℕ) → IsWithin 1 limit n → IsWithin 1 limit (if n == limit then 1 else n + 1)
+next_within limit n w = by (n == limit) refl
+  where
+    by : (b : Bool) → (n == limit) ≡ b → IsWithin 1 limit (if b then 1 else n + 1)
+    by true e = (omega arith, omega (arith, w.0, w.1))
+    by false e = let a : n ≤ limit = w.1 in (omega arith, grind arith)
+
+row_within : (moved : Bool) (unmoved limit : ℕ) → unmoved < limit → (in_a_row moved unmoved ≡ limit → ⊥) → in_a_row moved unmoved < limit
+row_within true unmoved limit few ne = omega (arith, few)
+row_within false unmoved limit few ne = omega (arith, few, ne)
+
+abbrev pub all_turns : CoreValue → ℕ → List ScriptStep
+all_turns c turns = rotated c.application turns false c.state 1 0
+
+-- some first turns are done, and this task is next; their commits were counted from this number on
+pub record Rotation (fingerprint : List ℕ) (c d : CoreValue) (store : Whole) (turns at task unmoved start commits : ℕ) (a b : State) (la lb : ℕ → List ℕ → List ℕ → Type 0) : Type 0 where
+  pub within : IsWithin 1 d.application.generation.limits.tasks task
+  pub fewer : unmoved < d.application.generation.limits.tasks
+  pub steps : d.steps ≡ c.steps + at
+  pub done : List ScriptStep
+  pub whole : all_turns c turns ≡ done ++ rotated d.application (turns - at) false d.state task unmoved
+  pub counted : commits ≡ start + commits_by done
+  pub run : Stepping fingerprint c d store (all_turns c turns) done a b la lb
+
+pub rotation_start : (fingerprint : List ℕ) (c : CoreValue) (store : Whole) (turns start : ℕ) (a : State) (la : ℕ → List ℕ → List ℕ → Type 0) → IsRunning fingerprint c store → (IsTrue a.told → IsKept (HasFile store) a la) → Rotation fingerprint c c store turns 0 1 0 start start a a la la
+rotation_start fingerprint c store turns start a la running kept = record {
+  within = (omega arith, running.application.tasks);
+  fewer = omega (arith, running.application.tasks);
+  steps = omega arith;
+  done = [];
+  whole = let all : turns ≡ turns - 0 = omega arith in ap (λ n. rotated c.application n false c.state 1 0) all;
+  counted = omega arith;
+  run = stepping_start fingerprint c store (all_turns c turns) a la running kept;
+}
+
+module _ (fingerprint : List ℕ) (c d : CoreValue) (store : Whole) (turns at task unmoved start commits : ℕ) (a b : State) (la lb : ℕ → List ℕ → List ℕ → Type 0) (run : Rotation fingerprint c d store turns at task unmoved start commits a b la lb) where
+  all_done : turns ≡ at → all_turns c turns ≡ run.done
+  all_done over =
+      let none : turns - at ≡ 0 = omega (arith, over) in
+      let left : rotated d.application (turns - at) false d.state task unmoved ≡ [] = ap (λ n. rotated d.application n false d.state task unmoved) none ∙ rotated_none d.application d.state task unmoved in
+      run.whole ∙ ap (λ (l : List ScriptStep). run.done ++ l) left ∙ append-nil run.done
+
+  -- all turns are done
+  pub rotation_over : turns ≡ at → DidSteps fingerprint c (all_turns c turns) d store a b lb
+  rotation_over over = subst (λ (l : List ScriptStep). DidSteps fingerprint c l d store a b lb) (sym (all_done over)) run.run.did
+
+  pub rotation_counted : turns ≡ at → commits ≡ start + commits_by (all_turns c turns)
+  rotation_counted over = run.counted ∙ ap (λ (l : List ScriptStep). start + commits_by l) (sym (all_done over))
+
+  same_tasks : (tasks : ℕ) → tasks ≡ c.application.generation.limits.tasks → tasks ≡ d.application.generation.limits.tasks
+  same_tasks tasks is = is ∙ ap (λ (x : Application). x.generation.limits.tasks) (sym run.run.did.application)
+
+  pub rotation_fewer : (tasks : ℕ) → tasks ≡ c.application.generation.limits.tasks → unmoved < tasks
+  rotation_fewer tasks is = subst (λ n. unmoved < n) (sym (same_tasks tasks is)) run.fewer
+
+  pub rotation_within : (tasks : ℕ) → tasks ≡ c.application.generation.limits.tasks → task ≤ tasks
+  rotation_within tasks is = subst (λ n. task ≤ n) (sym (same_tasks tasks is)) run.within.1
+
+  pub rotation_running : IsRunning store.identity.fingerprint d store
+  rotation_running = subst (λ f. IsRunning f d store) (sym (fingerprint_is fingerprint d store run.run.did.running)) run.run.did.running
+
+  pub rotation_kept : IsTrue b.told → IsKept (HasFile store) b lb
+  rotation_kept told = run.run.did.acts.rest (subst IsTrue run.run.performs.frame.told told)
+
+  module _ (lt : at < turns) where
+    abbrev turned : Turned
+    turned = turn_of d.application d.state task
+
+    abbrev here : List ScriptStep
+    here = turned_step turned ∷ []
+
+    abbrev row : ℕ
+    row = in_a_row turned.moved unmoved
+
+    abbrev behind : Bool → List ScriptStep
+    behind ended = rotated d.application (turns - (at + 1)) ended turned.after (next_task d.application task) row
+
+    split : (ended : Bool) → (row == d.application.generation.limits.tasks) ≡ ended → all_turns c turns ≡ run.done ++ (here ++ behind ended)
+    split ended is =
+        let one_less : turns - at ≡ suc (turns - (at + 1)) = omega (arith, lt) in
+        run.whole
+        ∙ ap (λ n. run.done ++ rotated d.application n false d.state task unmoved) one_less
+        ∙ ap (λ (l : List ScriptStep). run.done ++ l) (rotated_more d.application (turns - (at + 1)) d.state task unmoved)
+        ∙ ap (λ (b : Bool). run.done ++ (here ++ behind b)) is
+
+    all_ended : row ≡ d.application.generation.limits.tasks → all_turns c turns ≡ run.done ++ here
+    all_ended ended =
+        split true (eq-eqb row d.application.generation.limits.tasks ended)
+        ∙ ap (λ (l : List ScriptStep). run.done ++ (here ++ l)) (rotated_ended d.application (turns - (at + 1)) turned.after (next_task d.application task) row)
+
+    counted_here : commits + commits_in turned.acts ≡ start + commits_by (run.done ++ here)
+    counted_here = sym (
+        ap (λ n. start + n) (commits_both run.done here ∙ ap (λ n. commits_by run.done + n) (commits_of_one (turned_step turned)))
+        ∙ omega (arith, run.counted)
+        )
+
+    -- the commits of the turn can be counted
+    pub rotation_room : (most : ℕ) → start + commits_by (all_turns c turns) ≤ most → commits + commits_in turned.acts ≤ most
+    rotation_room most room =
+        let ended = row == d.application.generation.limits.tasks in
+        let is : commits_by (all_turns c turns) ≡ commits_by (run.done ++ here) + commits_by (behind ended) = ap commits_by (split ended refl ∙ sym (append_assoc run.done here (behind ended))) ∙ commits_both (run.done ++ here) (behind ended) in
+        omega (arith, room, is, counted_here)
+
+    module _ (e : State) (le : ℕ → List ℕ → List ℕ → Type 0) (step : PerformsSteps store.identity.fingerprint d (turned_step (turn_of d.application d.state task) ∷ []) b e lb le) where
+      step_here : PerformsSteps fingerprint d here b e lb le
+      step_here = subst (λ f. PerformsSteps f d here b e lb le) (fingerprint_is fingerprint d store run.run.did.running) step
+
+      -- whatever became of the turn
+      pub rotation_performs : PerformsSteps fingerprint c (all_turns c turns) a e la le
+      rotation_performs =
+          stepping_performs fingerprint c d store (all_turns c turns) run.done here (behind (row == d.application.generation.limits.tasks)) a b e la lb le run.run (λ told. split (row == d.application.generation.limits.tasks) refl) step_here
+
+      module _ (next : CoreValue) (store' : Whole) (moved : Bool) (unmoved' tasks : ℕ) (did : DidSteps store.identity.fingerprint d (turned_step (turn_of d.application d.state task) ∷ []) next store' b e le) (moved_is : moved ≡ (turn_of d.application d.state task).moved) (row_is : unmoved' ≡ in_a_row moved unmoved) (tasks_are : tasks ≡ c.application.generation.limits.tasks) where
+        did_here : DidSteps fingerprint d here next store' b e le
+        did_here = subst (λ f. DidSteps f d here next store' b e le) (fingerprint_is fingerprint d store run.run.did.running) did
+
+        row_now : unmoved' ≡ row
+        row_now = row_is ∙ ap (λ m. in_a_row m unmoved) moved_is
+
+        row_ended : unmoved' ≡ tasks → row ≡ d.application.generation.limits.tasks
+        row_ended ended = sym row_now ∙ ended ∙ same_tasks tasks tasks_are
+
+        -- the last turn
+        pub rotation_ended : unmoved' ≡ tasks → DidSteps fingerprint c (all_turns c turns) next store' a e le
+        rotation_ended ended =
+            (stepping_more fingerprint c d store (all_turns c turns) run.done here (behind true) a b e la lb le run.run (λ told. split true (eq-eqb row d.application.generation.limits.tasks (row_ended ended))) step_here next store' (all_turns c turns) (λ told. all_ended (row_ended ended)) did_here).did
+
+        pub rotation_ended_counted : unmoved' ≡ tasks → (commits' : ℕ) → commits' ≡ commits + commits_in (turn_of d.application d.state task).acts → commits' ≡ start + commits_by (all_turns c turns)
+        rotation_ended_counted ended commits' counted = counted ∙ counted_here ∙ ap (λ (l : List ScriptStep). start + commits_by l) (sym (all_ended (row_ended ended)))
+
+        -- a turn that is not the last
+        pub rotation_more : (unmoved' ≡ tasks → ⊥) → next.state ≡ (turn_of d.application d.state task).after → next.steps ≡ d.steps + 1 → (task' : ℕ) → task' ≡ (if task == tasks then 1 else task + 1)
+            → (commits' : ℕ) → commits' ≡ commits + commits_in (turn_of d.application d.state task).acts → Rotation fingerprint c next store' turns (at + 1) task' unmoved' start commits' a e la le
+        rotation_more more state steps task' task_is commits' counted =
+            let limit = d.application.generation.limits.tasks in
+            let ne : row ≡ limit → ⊥ = λ h. more (row_now ∙ h ∙ sym (same_tasks tasks tasks_are)) in
+            let is = split false (ne_eqb row limit ne) in
+            let same : limit ≡ next.application.generation.limits.tasks = ap (λ (x : Application). x.generation.limits.tasks) (sym did.application) in
+            let task_now : task' ≡ next_task d.application task = task_is ∙ ap (λ n. if task == n then 1 else task + 1) (same_tasks tasks tasks_are) in
+            record {
+              within = subst (λ n. IsWithin 1 n task') same (subst (λ n. IsWithin 1 limit n) (sym task_now) (next_within d.application.generation.limits.tasks task run.within));
+              fewer = subst (λ n. unmoved' < n) same (subst (λ n. n < limit) (sym row_now) (row_within turned.moved unmoved limit run.fewer ne));
+              steps = omega (arith, steps, run.steps);
+              done = run.done ++ here;
+              whole = is ∙ sym (append_assoc run.done here (behind false)) ∙ (λ k. (run.done ++ here) ++ rotated (sym did.application k) (turns - (at + 1)) false (sym state k) (sym task_now k) (sym row_now k));
+              counted = counted ∙ counted_here;
+              run = stepping_more fingerprint c d store (all_turns c turns) run.done here (behind false) a b e la lb le run.run (λ told. is) step_here next store' (run.done ++ here) (λ told. refl) did_here;
+            }

@@ -1,0 +1,119 @@
+-- A script up to one of its commands.
+use Rattle.std.proofs.Common.{◌≡◌, arith, ℕ, ◌+◌, ◌<◌, ◌≤◌, subst, List, [], ◌∷◌, ◌++◌, length, take, drop, get_or, refl, sym, ap, ◌∙◌, append_assoc}
+use Rattle.std.specs.Prelude.{IsTrue, sum_by}
+use Rattle.std.proofs.lemmas.List.{append-nil, drop_more, take_all}
+use Rattle.std.proofs.lemmas.List.Sums.{sum_by-cons}
+use Rattle.kd_device.specs.Device.{State as Device}
+use Rattle.kdcfile_store.specs.Kept.{IsKept}
+use Rattle.kdcfile_store.specs.Whole.{Whole, HasFile}
+use Rattle.abstract_monitor.specs.CommandsOf.{IsCommandOf}
+use Rattle.laws_of_steps.specs.Keeping.{IsScriptOf}
+use Rattle.laws_of_steps.specs.Steps.{TurnsCommitOnce, CommandsCommitOnce}
+use Rattle.monitor_core.specs.CoreValue.{CoreValue}
+use Rattle.device_run.specs.Running.{turns_of, PerformsSteps, DidSteps}
+use Rattle.device_run.proofs.Counting.{commits_by, commits_both, command_commits}
+use Rattle.device_run.proofs.Stepping.{Stepping, stepping_performs, stepping_more}
+use Rattle.laws_of_runs.specs.Lists.{after_both}
+use Rattle.abstract_monitor.specs.declared.command.Command.{Command}
+use Rattle.abstract_monitor.specs.Commands.{ScriptStep, steps_of, state_after}
+use Rattle.abstract_monitor.specs.State.{Application, State}
+use Rattle.abstract_monitor.specs.Trace.{history}
+use Rattle.device_acts.specs.Acting.{around, one_more}
+
+module _ (app : Application) where
+  history_both : (s : State) (cs ds : List Command) → history app s (cs ++ ds) ≡ history app s cs ++ history app (state_after s (history app s cs)) ds
+  unfolding history state_after
+  history_both s [] ds = refl
+  history_both s (c ∷ cs) ds =
+      let steps = steps_of app s c in
+      let next = state_after s steps in
+      ap (λ (l : List ScriptStep). steps ++ l) (history_both next cs ds)
+      ∙ sym (append_assoc steps (history app next cs) (history app (state_after next (history app next cs)) ds))
+      ∙ ap (λ (u : State). (steps ++ history app next cs) ++ history app u ds) (sym (after_both s steps (history app next cs)))
+
+  history_one : (s : State) (c : Command) → history app s (c ∷ []) ≡ steps_of app s c
+  unfolding history
+  history_one s c = append-nil (steps_of app s c)
+
+  history_next : (s : State) (c : Command) (cs : List Command) → history app s (c ∷ cs) ≡ steps_of app s c ++ history app (state_after s (steps_of app s c)) cs
+  unfolding history
+  history_next s c cs = refl
+
+  -- the script around its command at i, which is c
+  module _ (s now : State) (cs : List Command) (i : ℕ) (c : Command) (is : c ≡ get_or cs i c) (lt : i < length cs) (reached : now ≡ state_after s (history app s (take i cs))) where
+    pub history_around : history app s cs ≡ history app s (take i cs) ++ (steps_of app now c ++ history app (state_after now (steps_of app now c)) (drop (i + 1) cs))
+    history_around =
+        ap (λ l. history app s l) (around cs i c c is lt)
+        ∙ history_both s (take i cs) (c ∷ drop (i + 1) cs)
+        ∙ ap (λ (u : State). history app s (take i cs) ++ history app u (c ∷ drop (i + 1) cs)) (sym reached)
+        ∙ ap (λ (l : List ScriptStep). history app s (take i cs) ++ l) (history_next now c (drop (i + 1) cs))
+
+    pub history_more : history app s (take (i + 1) cs) ≡ history app s (take i cs) ++ steps_of app now c
+    history_more =
+        ap (λ l. history app s l) (one_more cs i c c is lt)
+        ∙ history_both s (take i cs) (c ∷ [])
+        ∙ ap (λ (u : State). history app s (take i cs) ++ history app u (c ∷ [])) (sym reached)
+        ∙ ap (λ (l : List ScriptStep). history app s (take i cs) ++ l) (history_one now c)
+
+-- nothing is counted at the start
+pub nothing_counted : (app : Application) (s : State) → 0 ≡ commits_by (history app s [])
+unfolding history
+nothing_counted app s = refl
+
+-- ---- the commands so far
+
+module _ (fingerprint : List ℕ) (c d : CoreValue) (store : Whole) (cs : List Command) (i : ℕ) (a b : Device) (la lb : ℕ → List ℕ → List ℕ → Type 0) (run : Stepping fingerprint c d store (history c.application c.state cs) (history c.application c.state (take i cs)) a b la lb) where
+  pub script_kept : IsTrue b.told → IsKept (HasFile store) b lb
+  script_kept told = run.did.acts.rest (subst IsTrue run.performs.frame.told told)
+
+  -- all commands are done
+  pub script_over : length cs ≤ i → DidSteps fingerprint c (history c.application c.state cs) d store a b lb
+  script_over over = subst (λ (l : List Command). DidSteps fingerprint c (history c.application c.state l) d store a b lb) (take_all i cs over) run.did
+
+  -- and all their commits counted
+  pub script_counted_over : length cs ≤ i → (commits : ℕ) → commits ≡ commits_by (history c.application c.state (take i cs)) → commits ≡ commits_by (history c.application c.state cs)
+  script_counted_over over commits counted = counted ∙ ap (λ (l : List Command). commits_by (history c.application c.state l)) (take_all i cs over)
+
+  module _ (command : Command) (is : command ≡ get_or cs i command) (lt : i < length cs) where
+    pub script_names : IsScriptOf c.application cs → IsCommandOf d.application.generation command
+    script_names names = subst (λ (x : Command). IsCommandOf d.application.generation x) (sym is) (subst (λ (app : Application). IsCommandOf app.generation (get_or cs i command)) (sym run.did.application) (names i command lt))
+
+    pub script_turns : sum_by turns_of (drop i cs) ≡ turns_of command + sum_by turns_of (drop (i + 1) cs)
+    script_turns = ap (sum_by turns_of) (drop_more cs i command lt) ∙ sum_by-cons turns_of (get_or cs i command) (drop (i + 1) cs) ∙ ap (λ (x : Command). turns_of x + sum_by turns_of (drop (i + 1) cs)) (sym is)
+
+    same_steps : steps_of c.application d.state command ≡ steps_of d.application d.state command
+    same_steps = ap (λ (app : Application). steps_of app d.state command) (sym run.did.application)
+
+    split : IsTrue a.told → history c.application c.state cs ≡ history c.application c.state (take i cs) ++ (steps_of d.application d.state command ++ history c.application (state_after d.state (steps_of c.application d.state command)) (drop (i + 1) cs))
+    split told =
+        history_around c.application c.state d.state cs i command is lt (run.did.state told)
+        ∙ ap (λ (l : List ScriptStep). history c.application c.state (take i cs) ++ (l ++ history c.application (state_after d.state (steps_of c.application d.state command)) (drop (i + 1) cs))) same_steps
+
+    more : IsTrue a.told → history c.application c.state (take (i + 1) cs) ≡ history c.application c.state (take i cs) ++ steps_of d.application d.state command
+    more told = history_more c.application c.state d.state cs i command is lt (run.did.state told) ∙ ap (λ (l : List ScriptStep). history c.application c.state (take i cs) ++ l) same_steps
+
+    -- its commits are counted behind those before it
+    module _ (commits : ℕ) where
+      pub script_room : TurnsCommitOnce → CommandsCommitOnce → (most : ℕ) → commits + sum_by turns_of (drop i cs) ≤ most → commits + commits_by (steps_of d.application d.state command) ≤ most
+      script_room turns commands most room = omega (arith, room, script_turns, command_commits turns commands d.application d.state command)
+
+      module _ (commits' : ℕ) (counted : commits' ≡ commits + commits_by (steps_of d.application d.state command)) where
+        pub script_room_more : TurnsCommitOnce → CommandsCommitOnce → (most : ℕ) → commits + sum_by turns_of (drop i cs) ≤ most → commits' + sum_by turns_of (drop (i + 1) cs) ≤ most
+        script_room_more turns commands most room = omega (arith, room, counted, script_turns, command_commits turns commands d.application d.state command)
+
+        pub script_counted : IsTrue a.told → commits ≡ commits_by (history c.application c.state (take i cs)) → commits' ≡ commits_by (history c.application c.state (take (i + 1) cs))
+        script_counted told before =
+            counted
+            ∙ ap (λ n. n + commits_by (steps_of d.application d.state command)) before
+            ∙ sym (commits_both (history c.application c.state (take i cs)) (steps_of d.application d.state command))
+            ∙ ap commits_by (sym (more told))
+
+    module _ (e : Device) (le : ℕ → List ℕ → List ℕ → Type 0) (step : PerformsSteps fingerprint d (steps_of d.application d.state command) b e lb le) where
+      pub script_performs : PerformsSteps fingerprint c (history c.application c.state cs) a e la le
+      script_performs =
+          stepping_performs fingerprint c d store (history c.application c.state cs) (history c.application c.state (take i cs)) (steps_of d.application d.state command) (history c.application (state_after d.state (steps_of c.application d.state command)) (drop (i + 1) cs)) a b e la lb le run split step
+
+      pub script_more : (next : CoreValue) (store' : Whole) → DidSteps fingerprint d (steps_of d.application d.state command) next store' b e le → Stepping fingerprint c next store' (history c.application c.state cs) (history c.application c.state (take (i + 1) cs)) a e la le
+      script_more next store' did =
+          stepping_more fingerprint c d store (history c.application c.state cs) (history c.application c.state (take i cs)) (steps_of d.application d.state command) (history c.application (state_after d.state (steps_of c.application d.state command)) (drop (i + 1) cs)) a b e la lb le run split step next store'
+          (history c.application c.state (take (i + 1) cs)) more did

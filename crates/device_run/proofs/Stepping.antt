@@ -1,0 +1,182 @@
+-- How steps of a script go on from one another.
+use Rattle.std.proofs.Common.{◌≡◌, ◌⊎◌, inl, inr, arith, ℕ, List, [], ◌∷◌, ◌++◌, refl, sym, ap, subst, ◌∙◌}
+use Rattle.std.specs.Prelude.{IsTrue}
+use Rattle.std.proofs.lemmas.List.{append-nil}
+use Rattle.std.proofs.lemmas.Grind.{flat_map-append}
+use Rattle.kd_device.specs.Device.{State, Frame, Rose}
+use Rattle.kd_records.specs.Identity.{Identity}
+use Rattle.kd_records.specs.declared.content.Content.{Content}
+use Rattle.kdcfile_images.specs.File.{Stands, StandsFor}
+use Rattle.kdcfile_store.specs.Kept.{IsKept}
+use Rattle.kdcfile_store.specs.Whole.{Whole, HasFile}
+use Rattle.kdcs_types.specs.declared.act.Act.{Act}
+use Rattle.kdcs_types.specs.Tables.{TableRows, IsSortedTables}
+use Rattle.laws_of_steps.specs.Applications.{IsApplication}
+use Rattle.laws_of_steps.specs.Keeping.{HasFacts}
+use Rattle.laws_of_steps.specs.Steps.{CommitsOnce, StepsMakeTheirTables}
+use Rattle.laws_of_runs.specs.Lists.{after_both, tables_both}
+use Rattle.kdcdef_check.specs.Soundness.{AreLimits}
+use Rattle.abstract_monitor.specs.State.{Application, State as MonitorState}
+use Rattle.abstract_monitor.specs.declared.command.Command.{Command}
+use Rattle.abstract_monitor.specs.Commands.{ScriptStep, acts_of, state_after}
+use Rattle.abstract_monitor.specs.Endings.{durable}
+use Rattle.abstract_monitor.specs.Trace.{history, tables_after, bytes_of}
+use Rattle.record_codec.specs.Records.{content_of_tables}
+use Rattle.warm_start.specs.Stands.{AreTables, StandsForTables, identity_for}
+use Rattle.monitor_core.specs.CoreValue.{CoreValue}
+use Rattle.record_commits.specs.Storing.{AreStorable}
+use Rattle.device_acts.specs.Performing.{Performs, Sent, content_after, AreCommittable}
+use Rattle.device_run.specs.Running.{identity_of, durable_of, IsRunning, PerformsSteps, DidSteps, Ran}
+use Rattle.device_acts.specs.Acting.{Running, running_start, running_performs, running_more}
+use Rattle.device_run.proofs.Tables.{tables_go, tables_stay, contents_are, committable, performs_tables}
+
+pub acts_both : (xs ys : List ScriptStep) → acts_of (xs ++ ys) ≡ acts_of xs ++ acts_of ys
+acts_both xs ys = flat_map-append (λ (d : ScriptStep). d.acts) xs ys
+
+pub acts_of_one : (d : ScriptStep) → acts_of (d ∷ []) ≡ d.acts
+acts_of_one d = append-nil d.acts
+
+after_one : (s : MonitorState) (d : ScriptStep) → state_after s (d ∷ []) ≡ d.after
+unfolding state_after
+after_one s d = refl
+
+after_none : (s : MonitorState) → state_after s [] ≡ s
+unfolding state_after
+after_none s = refl
+
+-- the fingerprint that a running core's file was made with
+pub fingerprint_is : (fingerprint : List ℕ) (c : CoreValue) (store : Whole) → IsRunning fingerprint c store → store.identity.fingerprint ≡ fingerprint
+fingerprint_is fingerprint c store h = ap (λ (i : Identity). i.fingerprint) h.keeps.identity_is
+
+-- ---- one step whose acts are performed
+
+-- a step of a core, whose acts these are, and which its store can take
+pub record CanStep (fingerprint : List ℕ) (c : CoreValue) (store : Whole) (step : ScriptStep) (acts : List Act) : Type 0 where
+  pub running : IsRunning fingerprint c store
+  pub same : acts ≡ step.acts
+  pub storable : AreStorable c.application.generation.limits.blksize c.application.generation.limits.pgpool (durable_of c) step.acts
+
+module _ (fingerprint : List ℕ) (c : CoreValue) (store : Whole) (step : ScriptStep) (acts : List Act) (can : CanStep fingerprint c store step acts) where
+  kept_content : content_of_tables (durable_of c) ≡ store.content
+  kept_content = sym can.running.keeps.content
+
+  pub can_perform : AreCommittable store.identity store.content acts
+  can_perform =
+      subst (λ (i : Identity). AreCommittable i store.content acts) (sym can.running.keeps.identity_is)
+      (subst (λ (x : Content). AreCommittable (identity_of fingerprint c) x acts) kept_content
+      (subst (λ (l : List Act). AreCommittable (identity_of fingerprint c) (content_of_tables (durable_of c)) l) (sym can.same) (committable (identity_of fingerprint c) (durable_of c) step.acts can.storable)))
+
+  pub performs_step : (a b : State) (la lb : ℕ → List ℕ → List ℕ → Type 0) → Performs content_after (StandsFor store.identity) store.content acts a b la lb → PerformsSteps fingerprint c (step ∷ []) a b la lb
+  performs_step a b la lb p =
+      let i = identity_of fingerprint c in
+      let at_identity = subst (λ (j : Identity). Performs content_after (StandsFor j) store.content acts a b la lb) can.running.keeps.identity_is p in
+      let at_content = subst (λ (x : Content). Performs content_after (StandsFor i) x acts a b la lb) can.running.keeps.content at_identity in
+      let at_acts = subst (λ (l : List Act). Performs content_after (StandsFor i) (content_of_tables (durable_of c)) l a b la lb) can.same at_content in
+      subst (λ (l : List Act). Performs tables_after (StandsForTables i) (durable_of c) l a b la lb) (sym (acts_of_one step)) (performs_tables i (durable_of c) step.acts a b la lb can.running.keeps.tables can.storable at_acts)
+
+  pub did_step : StepsMakeTheirTables → CommitsOnce c.application c.state step → (d : CoreValue) (store' : Whole) (a b : State) (lb : ℕ → List ℕ → List ℕ → Type 0) → d.application ≡ c.application → HasFacts d.application d.state → d.state ≡ step.after
+      → store'.identity ≡ store.identity → store'.content ≡ content_after store.content acts → Sent (HasFile store') acts a b lb → DidSteps fingerprint c (step ∷ []) d store' a b lb
+  did_step make once d store' a b lb app facts after identity content sent =
+      let i = identity_of fingerprint c in
+      let made = make c.application c.state step can.running.facts.1.order (subst (λ (s : MonitorState). IsSortedTables s.tables) after facts.1.order) once in
+      let now : durable_of d ≡ durable c.application.generation step.after.tables = λ k. durable (app k).generation (after k).tables in
+      let tables_are : tables_after (durable_of c) step.acts ≡ durable_of d = made ∙ sym now in
+      let at_acts : store'.content ≡ content_after (content_of_tables (durable_of c)) step.acts = content ∙ (λ k. content_after (can.running.keeps.content k) (can.same k)) in
+      record {
+        application = app;
+        running = record {
+          application = subst IsApplication (sym app) can.running.application;
+          limits = subst (λ (x : Application). AreLimits x.generation.limits) (sym app) can.running.limits;
+          facts = facts;
+          keeps = record {
+            identity_is = identity ∙ can.running.keeps.identity_is ∙ ap (λ (x : Application). identity_for x.generation fingerprint) (sym app);
+            tables = subst AreTables tables_are (tables_stay i (durable_of c) step.acts can.running.keeps.tables can.storable);
+            content = at_acts ∙ contents_are i (durable_of c) step.acts can.storable ∙ ap content_of_tables tables_are;
+          };
+        };
+        state = λ told. after ∙ sym (after_one c.state step);
+        tables = λ told. sym tables_are ∙ ap (λ (l : List Act). tables_after (durable_of c) l) (sym (acts_of_one step));
+        acts = subst (λ (l : List Act). Sent (HasFile store') l a b lb) (can.same ∙ sym (acts_of_one step)) sent;
+      }
+
+-- ---- steps so far, of all
+
+-- some first steps of all are done: a is the device at the start, and b the device now
+pub record Stepping (fingerprint : List ℕ) (c d : CoreValue) (store : Whole) (all done : List ScriptStep) (a b : State) (la lb : ℕ → List ℕ → List ℕ → Type 0) : Type 0 where
+  pub performs : PerformsSteps fingerprint c all a b la lb
+  pub did : DidSteps fingerprint c done d store a b lb
+
+pub stepping_start : (fingerprint : List ℕ) (c : CoreValue) (store : Whole) (all : List ScriptStep) (a : State) (la : ℕ → List ℕ → List ℕ → Type 0) → IsRunning fingerprint c store → (IsTrue a.told → IsKept (HasFile store) a la) → Stepping fingerprint c c store all [] a a la la
+stepping_start fingerprint c store all a la running kept =
+    let start = running_start tables_after tables_go (StandsForTables (identity_of fingerprint c)) (HasFile store) (durable_of c) (acts_of all) a la kept in
+    record {
+      performs = start.performs;
+      did = record { application = refl; running = running; state = λ told. sym (after_none c.state); tables = λ told. sym (tables_go.none (durable_of c)); acts = start.sent };
+    }
+
+module _ (fingerprint : List ℕ) (c d : CoreValue) (store : Whole) (all done here rest : List ScriptStep) (a b e : State) (la lb le : ℕ → List ℕ → List ℕ → Type 0) (run : Stepping fingerprint c d store all done a b la lb) (split : IsTrue a.told → all ≡ done ++ (here ++ rest)) (step : PerformsSteps fingerprint d here b e lb le) where
+  told_then : IsTrue a.told → IsTrue b.told
+  told_then told = rw run.performs.frame.told told
+
+  same_identity : identity_of fingerprint d ≡ identity_of fingerprint c
+  same_identity = ap (λ (x : Application). identity_for x.generation fingerprint) run.did.application
+
+  step_here : Performs tables_after (StandsForTables (identity_of fingerprint c)) (durable_of d) (acts_of here) b e lb le
+  step_here = subst (λ (i : Identity). Performs tables_after (StandsForTables i) (durable_of d) (acts_of here) b e lb le) same_identity step
+
+  so_far : Running tables_after (StandsForTables (identity_of fingerprint c)) (HasFile store) (durable_of c) (acts_of all) (acts_of done) a b la lb
+  so_far = record { performs = run.performs; sent = run.did.acts }
+
+  split_acts : IsTrue a.told → acts_of all ≡ acts_of done ++ (acts_of here ++ acts_of rest)
+  split_acts told = ap acts_of (split told) ∙ acts_both done (here ++ rest) ∙ ap (λ (l : List Act). acts_of done ++ l) (acts_both here rest)
+
+  pub stepping_performs : PerformsSteps fingerprint c all a e la le
+  stepping_performs =
+      running_performs tables_after tables_go (StandsForTables (identity_of fingerprint c)) (HasFile store) (durable_of c) (durable_of d) (acts_of all) (acts_of done) (acts_of here) (acts_of rest) a b e la lb le run.did.tables split_acts so_far step_here
+
+  pub stepping_more : (next : CoreValue) (store' : Whole) (done' : List ScriptStep) → (IsTrue a.told → done' ≡ done ++ here) → DidSteps fingerprint d here next store' b e le → Stepping fingerprint c next store' all done' a e la le
+  stepping_more next store' done' more did =
+      let i = identity_of fingerprint c in
+      let acts_more : Running tables_after (StandsForTables i) (HasFile store') (durable_of c) (acts_of all) (acts_of done ++ acts_of here) a e la le =
+      running_more tables_after tables_go (StandsForTables i) (HasFile store) (durable_of c) (durable_of d) (acts_of all) (acts_of done) (acts_of here) (acts_of rest) a b e la lb le run.did.tables split_acts so_far step_here (HasFile store') did.acts in
+      let done_acts : IsTrue a.told → acts_of done' ≡ acts_of done ++ acts_of here = λ told. ap acts_of (more told) ∙ acts_both done here in
+      record {
+        performs = acts_more.performs;
+        did = record {
+          application = did.application ∙ run.did.application;
+          running = did.running;
+          state = λ told. did.state (told_then told) ∙ ap (λ (s : MonitorState). state_after s here) (run.did.state told) ∙ sym (after_both c.state done here) ∙ ap (λ (l : List ScriptStep). state_after c.state l) (sym (more told));
+          tables = λ told. did.tables (told_then told) ∙ ap (λ (t : TableRows). tables_after t (acts_of here)) (run.did.tables told) ∙ sym (tables_both (durable_of c) (acts_of done) (acts_of here)) ∙ ap (λ (l : List Act). tables_after (durable_of c) l) (sym (done_acts told));
+          acts = record {
+            rest = acts_more.sent.rest;
+            sent = λ told. acts_more.sent.sent told ∙ ap (λ (l : List Act). a.sent ++ bytes_of l) (sym (done_acts told));
+          };
+        };
+      }
+
+-- all steps were done
+pub steps_ran : (fingerprint : List ℕ) (c d : CoreValue) (store : Whole) (steps : List ScriptStep) (a b : State) (lb : ℕ → List ℕ → List ℕ → Type 0) → DidSteps fingerprint c steps d store a b lb → IsTrue a.told → Ran fingerprint c steps a b lb
+steps_ran fingerprint c d store steps a b lb did told =
+    let kept = did.acts.rest told in
+    let keeps = did.running.keeps in
+    let same : identity_of fingerprint d ≡ identity_of fingerprint c = ap (λ (x : Application). identity_for x.generation fingerprint) did.application in
+    let content : StandsFor (identity_of fingerprint d) (content_of_tables (durable_of d)) b.holds = (store.second, subst (λ (x : Content). Stands (identity_of fingerprint d) store.second x b.holds) keeps.content (subst (λ (i : Identity). Stands i store.second store.content b.holds) keeps.identity_is kept.bytes)) in
+    let stands : StandsForTables (identity_of fingerprint d) (durable_of d) b.holds = record { tables = keeps.tables; content = content } in
+    record {
+      sent = did.acts.sent told;
+      holds = subst (λ (t : TableRows). StandsForTables (identity_of fingerprint c) t b.holds) (did.tables told) (subst (λ (i : Identity). StandsForTables i (durable_of d) b.holds) same stands);
+      settled = kept.settled;
+    }
+
+no_history : (app : Application) (s : MonitorState) → history app s [] ≡ []
+unfolding history
+no_history app s = refl
+
+-- nothing of a script is done yet
+pub history_start : (fingerprint : List ℕ) (c : CoreValue) (store : Whole) (cs : List Command) (a : State) (la : ℕ → List ℕ → List ℕ → Type 0) → IsRunning fingerprint c store → (IsTrue a.told → IsKept (HasFile store) a la) → Stepping fingerprint c c store (history c.application c.state cs) (history c.application c.state []) a a la la
+history_start fingerprint c store cs a la running kept = subst (λ (l : List ScriptStep). Stepping fingerprint c c store (history c.application c.state cs) l a a la la) (sym (no_history c.application c.state)) (stepping_start fingerprint c store (history c.application c.state cs) a la running kept)
+
+-- a count that rose since a later moment rose since an earlier one
+pub failed_then : (a b d : State) → Frame a b → Rose b.disk_faults d.disk_faults ⊎ Rose b.line_faults d.line_faults → Rose a.disk_faults d.disk_faults ⊎ Rose a.line_faults d.line_faults
+failed_then a b d f (inl h) = inl (omega (arith, f.disk_faults, h))
+failed_then a b d f (inr h) = inr (omega (arith, f.line_faults, h))

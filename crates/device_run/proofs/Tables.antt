@@ -1,0 +1,73 @@
+-- What acts make of tables, where a store has the records of them.
+use Rattle.std.proofs.Common.{◌≡◌, ℕ, ◌≤◌, List, [], ◌∷◌, ◌++◌, refl, sym, ap, subst, ◌∙◌}
+use Rattle.kd_device.specs.Device.{State}
+use Rattle.kd_device.specs.Time.{leaves_weaker}
+use Rattle.kd_records.specs.Charge.{total_charge}
+use Rattle.kd_records.specs.Identity.{Identity}
+use Rattle.kd_records.specs.declared.content.Content.{Content}
+use Rattle.kdcfile_images.specs.File.{StandsFor}
+use Rattle.kdcs_types.specs.declared.act.Act.{Act}
+use Rattle.kdcs_types.specs.declared.act.Act.TheVariants.{Commit, Emit}
+use Rattle.kdcs_types.specs.Tables.{TableRows, changed}
+use Rattle.abstract_monitor.specs.Trace.{tables_after}
+use Rattle.laws_of_runs.specs.Lists.{tables_both}
+use Rattle.record_codec.specs.Records.{content_of_tables}
+use Rattle.warm_start.specs.Stands.{AreTables, StandsForTables}
+use Rattle.record_commits.specs.Storing.{AreStorable}
+use Rattle.device_acts.specs.Performing.{IsCutOf, Performs, content_after, AreCommittable}
+use Rattle.device_acts.specs.Acting.{Goes}
+
+tables_none : (t : TableRows) → tables_after t [] ≡ t
+unfolding tables_after
+tables_none t = refl
+
+pub tables_go : Goes tables_after
+tables_go = record { none = tables_none; joined = tables_both }
+
+module _ (i : Identity) where
+  storable_first : (t : TableRows) (p q : List Act) → AreStorable i.blksize i.pages t (p ++ q) → AreStorable i.blksize i.pages t p
+  storable_first t [] q s = tt
+  storable_first t (Commit c ∷ p) q s = (s.0, storable_first (changed t c) p q s.1)
+  storable_first t (Emit line ∷ p) q s = storable_first t p q s
+
+  pub tables_stay : (t : TableRows) (acts : List Act) → AreTables t → AreStorable i.blksize i.pages t acts → AreTables (tables_after t acts)
+  unfolding tables_after
+  tables_stay t [] h s = h
+  tables_stay t (Commit c ∷ acts) h s = tables_stay (changed t c) acts s.0.tables s.1
+  tables_stay t (Emit line ∷ acts) h s = tables_stay t acts h s
+
+  pub contents_are : (t : TableRows) (acts : List Act) → AreStorable i.blksize i.pages t acts → content_after (content_of_tables t) acts ≡ content_of_tables (tables_after t acts)
+  unfolding tables_after
+  contents_are t [] s = refl
+  contents_are t (Commit c ∷ acts) s = ap (λ (x : Content). content_after x acts) s.0.records ∙ contents_are (changed t c) acts s.1
+  contents_are t (Emit line ∷ acts) s = contents_are t acts s
+
+  pub committable : (t : TableRows) (acts : List Act) → AreStorable i.blksize i.pages t acts → AreCommittable i (content_of_tables t) acts
+  committable t [] s = tt
+  committable t (Commit c ∷ acts) s = (
+    record { short = s.0.short; patch = s.0.patch; before = s.0.before; after = subst (λ (x : Content). total_charge i.blksize x.items ≤ i.pages) (sym s.0.records) s.0.after },
+    subst (λ (x : Content). AreCommittable i x acts) (sym s.0.records) (committable (changed t c) acts s.1),
+  )
+  committable t (Emit line ∷ acts) s = committable t acts s
+
+  cut_of_tables : (t : TableRows) (all : List Act) (sent image out : List ℕ) → AreTables t → AreStorable i.blksize i.pages t all → IsCutOf content_after (StandsFor i) (content_of_tables t) all sent image out → IsCutOf tables_after (StandsForTables i) t all sent image out
+  cut_of_tables t all sent image out h s cut =
+      let first = storable_first t cut.done cut.left (subst (λ (l : List Act). AreStorable i.blksize i.pages t l) cut.whole s) in
+      record {
+        since = cut.since;
+        more = cut.more;
+        done = cut.done;
+        left = cut.left;
+        whole = cut.whole;
+        file = record { tables = tables_stay t cut.done h first; content = subst (λ (x : Content). StandsFor i x image) (contents_are t cut.done first) cut.file };
+        bytes = cut.bytes;
+      }
+
+  -- what acts make of a content is what they make of its tables
+  pub performs_tables : (t : TableRows) (acts : List Act) (a b : State) (la lb : ℕ → List ℕ → List ℕ → Type 0) → AreTables t → AreStorable i.blksize i.pages t acts → Performs content_after (StandsFor i) (content_of_tables t) acts a b la lb → Performs tables_after (StandsForTables i) t acts a b la lb
+  performs_tables t acts a b la lb h s p = record {
+    frame = p.frame;
+    names = p.names;
+    any_moment = λ told. leaves_weaker a b la lb (IsCutOf content_after (StandsFor i) (content_of_tables t) acts a.sent) (IsCutOf tables_after (StandsForTables i) t acts a.sent) (p.any_moment told) (λ image out cut. cut_of_tables t acts a.sent image out h s cut);
+    quiet = p.quiet;
+  }

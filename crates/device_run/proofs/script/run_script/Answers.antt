@@ -1,0 +1,67 @@
+use Rattle.std.proofs.Common.{◌^◌, arith, sym, subst}
+use Rattle.std.specs.Prelude.{IsTrue}
+use Rattle.abstract_monitor.specs.Trace.{history}
+use Rattle.kd_base.specs.Tools.{error_same}
+use Rattle.device_run.proofs.Scripts.{script_kept, script_over, script_names, script_turns, script_performs, script_more, script_room, script_room_more, script_counted, script_counted_over, nothing_counted}
+use Rattle.device_run.proofs.Stepping.{failed_then, history_start, steps_ran}
+use Rattle.device_run.proofs.script.run_script.Goals as goal
+
+pub loop-command-init : goal.loop-command-init
+loop-command-init g c = record {
+  steps = c.requires.steps;
+  room = omega (arith, c.requires.steps);
+  counted = λ told. nothing_counted c.args.core.application c.args.core.state;
+  run = history_start c.args.fingerprint.now c.args.core c.args.store c.args.commands.now (g.D.Device.state c.args.device.now) (g.D.Device.leaves c.args.device.now) c.requires.running c.requires.kept;
+}
+
+pub do_command-requires-clause-running : goal.do_command-requires-clause-running
+do_command-requires-clause-running g c = c.loop-command.invariant.run.did.running
+
+pub do_command-requires-clause-names : goal.do_command-requires-clause-names
+do_command-requires-clause-names g c = script_names c.args.fingerprint.now c.args.core c.loop-command.core c.loop-command.store c.args.commands.now c.loop-command.command-index (g.D.Device.state c.args.device.now) (g.D.Device.state c.loop-command.device) (g.D.Device.leaves c.args.device.now) (g.D.Device.leaves c.loop-command.device) c.loop-command.invariant.run c.command-item.result c.command-item.is c.loop-command-test.true c.requires.names
+
+pub do_command-requires-clause-steps : goal.do_command-requires-clause-steps
+do_command-requires-clause-steps g c = omega (arith, script_turns c.args.fingerprint.now c.args.core c.loop-command.core c.loop-command.store c.args.commands.now c.loop-command.command-index (g.D.Device.state c.args.device.now) (g.D.Device.state c.loop-command.device) (g.D.Device.leaves c.args.device.now) (g.D.Device.leaves c.loop-command.device) c.loop-command.invariant.run c.command-item.result c.command-item.is c.loop-command-test.true, c.loop-command.invariant.steps)
+
+pub do_command-requires-clause-room : goal.do_command-requires-clause-room
+do_command-requires-clause-room g c =
+    script_room c.args.fingerprint.now c.args.core c.loop-command.core c.loop-command.store c.args.commands.now c.loop-command.command-index (g.D.Device.state c.args.device.now) (g.D.Device.state c.loop-command.device) (g.D.Device.leaves c.args.device.now) (g.D.Device.leaves c.loop-command.device) c.loop-command.invariant.run c.command-item.result c.command-item.is c.loop-command-test.true
+    c.loop-command.commits c.steps_commit_once.ensures.turns c.steps_commit_once.ensures.commands (10 ^ 18) c.loop-command.invariant.room
+
+pub do_command-requires-clause-kept : goal.do_command-requires-clause-kept
+do_command-requires-clause-kept g c = script_kept c.args.fingerprint.now c.args.core c.loop-command.core c.loop-command.store c.args.commands.now c.loop-command.command-index (g.D.Device.state c.args.device.now) (g.D.Device.state c.loop-command.device) (g.D.Device.leaves c.args.device.now) (g.D.Device.leaves c.loop-command.device) c.loop-command.invariant.run
+
+pub returns-in_err-core-clause-any : goal.returns-in_err-core-clause-any
+returns-in_err-core-clause-any g c = script_performs c.args.fingerprint.now c.args.core c.loop-command.core c.loop-command.store c.args.commands.now c.loop-command.command-index (g.D.Device.state c.args.device.now) (g.D.Device.state c.loop-command.device) (g.D.Device.leaves c.args.device.now) (g.D.Device.leaves c.loop-command.device) c.loop-command.invariant.run c.command-item.result c.command-item.is c.loop-command-test.true (g.D.Device.state c.do_command.new.device) (g.D.Device.leaves c.do_command.new.device) c.do_command.ensures.any
+
+pub loop-command-preserved : goal.loop-command-preserved
+loop-command-preserved g c = record {
+  steps = omega (arith, script_turns c.args.fingerprint.now c.args.core c.loop-command.core c.loop-command.store c.args.commands.now c.loop-command.command-index (g.D.Device.state c.args.device.now) (g.D.Device.state c.loop-command.device) (g.D.Device.leaves c.args.device.now) (g.D.Device.leaves c.loop-command.device) c.loop-command.invariant.run c.command-item.result c.command-item.is c.loop-command-test.true, c.loop-command.invariant.steps, c.in_ok-core.ensures.steps);
+  room =
+      script_room_more c.args.fingerprint.now c.args.core c.loop-command.core c.loop-command.store c.args.commands.now c.loop-command.command-index (g.D.Device.state c.args.device.now) (g.D.Device.state c.loop-command.device) (g.D.Device.leaves c.args.device.now) (g.D.Device.leaves c.loop-command.device) c.loop-command.invariant.run c.command-item.result c.command-item.is c.loop-command-test.true
+      c.loop-command.commits c.do_command.new.commits c.in_ok-core.ensures.counted c.steps_commit_once.ensures.turns c.steps_commit_once.ensures.commands (10 ^ 18) c.loop-command.invariant.room;
+  counted = λ told.
+      script_counted c.args.fingerprint.now c.args.core c.loop-command.core c.loop-command.store c.args.commands.now c.loop-command.command-index (g.D.Device.state c.args.device.now) (g.D.Device.state c.loop-command.device) (g.D.Device.leaves c.args.device.now) (g.D.Device.leaves c.loop-command.device) c.loop-command.invariant.run c.command-item.result c.command-item.is c.loop-command-test.true
+      c.loop-command.commits c.do_command.new.commits c.in_ok-core.ensures.counted told (c.loop-command.invariant.counted told);
+  run = script_more c.args.fingerprint.now c.args.core c.loop-command.core c.loop-command.store c.args.commands.now c.loop-command.command-index (g.D.Device.state c.args.device.now) (g.D.Device.state c.loop-command.device) (g.D.Device.leaves c.args.device.now) (g.D.Device.leaves c.loop-command.device) c.loop-command.invariant.run c.command-item.result c.command-item.is c.loop-command-test.true (g.D.Device.state c.do_command.new.device) (g.D.Device.leaves c.do_command.new.device) c.do_command.ensures.any c.in_ok-core.core c.do_command.new.store c.in_ok-core.ensures.done;
+}
+
+pub returns-clause-any : goal.returns-clause-any
+returns-clause-any g c = c.loop-command.invariant.run.performs
+
+pub returns-clause-done : goal.returns-clause-done
+returns-clause-done g c = λ told.
+    steps_ran c.args.fingerprint.now c.args.core c.loop-command.core c.loop-command.store (history c.args.core.application c.args.core.state c.args.commands.now) (g.D.Device.state c.args.device.now) (g.D.Device.state c.loop-command.device) (g.D.Device.leaves c.loop-command.device)
+    (script_over c.args.fingerprint.now c.args.core c.loop-command.core c.loop-command.store c.args.commands.now c.loop-command.command-index (g.D.Device.state c.args.device.now) (g.D.Device.state c.loop-command.device) (g.D.Device.leaves c.args.device.now) (g.D.Device.leaves c.loop-command.device) c.loop-command.invariant.run (omega arith)) told
+
+pub returns-clause-counted : goal.returns-clause-counted
+returns-clause-counted g c = λ told.
+    script_counted_over c.args.fingerprint.now c.args.core c.loop-command.core c.loop-command.store c.args.commands.now c.loop-command.command-index (g.D.Device.state c.args.device.now) (g.D.Device.state c.loop-command.device) (g.D.Device.leaves c.args.device.now) (g.D.Device.leaves c.loop-command.device) c.loop-command.invariant.run (omega arith) c.loop-command.commits (c.loop-command.invariant.counted told)
+
+pub returns-in_err-core-clause-failed : goal.returns-in_err-core-clause-failed
+returns-in_err-core-clause-failed g c = λ is.
+    failed_then (g.D.Device.state c.args.device.now) (g.D.Device.state c.loop-command.device) (g.D.Device.state c.do_command.new.device) c.loop-command.invariant.run.performs.frame (c.in_err-core.ensures.failed (error_same _ _ c.from_residual.result c.in_err-core.field-0.0 _ c.from_residual.ensures.1 is))
+
+pub returns-in_err-core-clause-other : goal.returns-in_err-core-clause-other
+returns-in_err-core-clause-other g c = λ stored is told.
+    c.in_err-core.ensures.other stored (error_same _ _ c.from_residual.result c.in_err-core.field-0.0 _ c.from_residual.ensures.1 is) (subst IsTrue (sym c.loop-command.invariant.run.performs.frame.told) told)

@@ -1,0 +1,50 @@
+use Rattle.std.proofs.Common.{inl, inr, arith}
+use Rattle.device_run.proofs.Restarting.{opening_performs, restart_performs, did_restart}
+use Rattle.kd_base.specs.Tools.{error_same}
+use Rattle.device_run.specs.HandedOn.{act_failed, act_refuses_nothing, act_knows_no_other}
+use Rattle.device_run.proofs.Errors.{no_error}
+use Rattle.device_run.proofs.steps.restart.Goals as goal
+
+pub returns-in_err-next-clause-any : goal.returns-in_err-next-clause-any
+returns-in_err-next-clause-any g c = opening_performs c.args.fingerprint.now c.args.core c.args.store.now (g.D.Device.state c.args.device.now) (g.D.Device.leaves c.args.device.now) c.requires.running c.requires.kept (g.D.Device.state c.start_again.new.device) (g.D.Device.leaves c.start_again.new.device) c.start_again.ensures.frame c.start_again.ensures.names c.start_again.ensures.rests
+
+pub returns-in_err-next-clause-failed : goal.returns-in_err-next-clause-failed
+returns-in_err-next-clause-failed g c = λ is. inl (c.in_err-next.ensures.failed (error_same _ _ c.from_residual.result c.in_err-next.field-0.0 _ c.from_residual.ensures.1 is))
+
+pub returns-in_err-next-clause-refused : goal.returns-in_err-next-clause-refused
+returns-in_err-next-clause-refused g c = λ is told. c.in_err-next.ensures.refused (error_same _ _ c.from_residual.result c.in_err-next.field-0.0 _ c.from_residual.ensures.1 is) told
+
+pub returns-in_err-next-clause-other : goal.returns-in_err-next-clause-other
+returns-in_err-next-clause-other g c = λ stored is told. c.in_err-next.ensures.other stored (error_same _ _ c.from_residual.result c.in_err-next.field-0.0 _ c.from_residual.ensures.1 is) told
+
+pub returns-in_err-say-clause-any : goal.returns-in_err-say-clause-any
+returns-in_err-say-clause-any g c = restart_performs c.args.fingerprint.now c.args.core c.args.store.now (g.D.Device.state c.args.device.now) (g.D.Device.leaves c.args.device.now) c.requires.running c.requires.kept (g.D.Device.state c.start_again.new.device) (g.D.Device.leaves c.start_again.new.device) c.start_again.ensures.frame c.start_again.ensures.names c.start_again.ensures.rests c.in_ok-next.next c.start_again.new.store c.in_ok-next.ensures.again (g.D.Device.state c.say.new.device) (g.D.Device.leaves c.say.new.device) c.say.ensures.frame c.say.ensures.names c.say.ensures.part c.say.ensures.any_moment
+
+pub returns-in_err-say-clause-failed : goal.returns-in_err-say-clause-failed
+returns-in_err-say-clause-failed g c = λ is.
+    let said = c.in_err-say.ensures.failed (act_failed _ _ c.from_residual-in_err-say.result c.in_err-say.field-0.0 c.from_residual-in_err-say.ensures.1 is) in
+    inr (omega (arith, c.start_again.ensures.frame.line_faults, said))
+
+pub returns-in_err-say-clause-refused : goal.returns-in_err-say-clause-refused
+returns-in_err-say-clause-refused g c = λ is told. act_refuses_nothing _ c.from_residual-in_err-say.result c.in_err-say.field-0.0 c.from_residual-in_err-say.ensures.1 is
+
+pub returns-in_err-say-clause-other : goal.returns-in_err-say-clause-other
+returns-in_err-say-clause-other g c = λ stored is told. act_knows_no_other _ c.from_residual-in_err-say.result c.in_err-say.field-0.0 stored c.from_residual-in_err-say.ensures.1 is
+
+pub returns-clause-any : goal.returns-clause-any
+returns-clause-any g c = restart_performs c.args.fingerprint.now c.args.core c.args.store.now (g.D.Device.state c.args.device.now) (g.D.Device.leaves c.args.device.now) c.requires.running c.requires.kept (g.D.Device.state c.start_again.new.device) (g.D.Device.leaves c.start_again.new.device) c.start_again.ensures.frame c.start_again.ensures.names c.start_again.ensures.rests c.in_ok-next.next c.start_again.new.store c.in_ok-next.ensures.again (g.D.Device.state c.say.new.device) (g.D.Device.leaves c.say.new.device) c.say.ensures.frame c.say.ensures.names c.say.ensures.part c.say.ensures.any_moment
+
+pub returns-clause-done : goal.returns-clause-done
+returns-clause-done g c = did_restart c.args.fingerprint.now c.args.core c.args.store.now (g.D.Device.state c.args.device.now) (g.D.Device.leaves c.args.device.now) c.requires.running c.requires.kept (g.D.Device.state c.start_again.new.device) (g.D.Device.leaves c.start_again.new.device) c.start_again.ensures.frame c.start_again.ensures.names c.start_again.ensures.rests c.in_ok-next.next c.start_again.new.store c.in_ok-next.ensures.again (g.D.Device.state c.say.new.device) (g.D.Device.leaves c.say.new.device) c.say.ensures.frame c.say.ensures.names c.say.ensures.part c.say.ensures.any_moment c.in_ok-say.ensures.sent c.say.ensures.stop
+
+pub returns-clause-steps : goal.returns-clause-steps
+returns-clause-steps g c = c.in_ok-next.ensures.again.steps
+
+pub returns-clause-failed : goal.returns-clause-failed
+returns-clause-failed g c = λ is. absurd (no_error _ _ is)
+
+pub returns-clause-refused : goal.returns-clause-refused
+returns-clause-refused g c = λ is told. absurd (no_error _ _ is)
+
+pub returns-clause-other : goal.returns-clause-other
+returns-clause-other g c = λ stored is told. absurd (no_error _ _ is)

@@ -1,0 +1,80 @@
+-- A core and its store, between two steps of a script.
+use Rattle.std.specs.Prelude.{◌≡◌, ℕ, IsTrue, List, ◌++◌}
+use Rattle.kd_device.specs.Device.{State, Only}
+use Rattle.kd_records.specs.Identity.{Identity}
+use Rattle.kdcfile_store.specs.Kept.{IsKept}
+use Rattle.kdcfile_store.specs.Whole.{Whole, HasFile}
+use Rattle.kdcs_types.specs.declared.act.Act.{Act}
+use Rattle.kdcs_types.specs.Tables.{TableRows}
+use Rattle.kdcdef_check.specs.Soundness.{AreLimits}
+use Rattle.abstract_monitor.specs.Bytes.{Bytes}
+use Rattle.abstract_monitor.specs.declared.command.Command.{Command}
+use Rattle.abstract_monitor.specs.declared.command.Command.TheVariants.{Input, Tick, Run, Turn, Drop, Print, PrintLast, Restart}
+use Rattle.abstract_monitor.specs.Commands.{ScriptStep, acts_of, started, state_after}
+use Rattle.abstract_monitor.specs.Endings.{durable}
+use Rattle.abstract_monitor.specs.Trace.{tables_after, bytes_of}
+use Rattle.laws_of_steps.specs.Applications.{IsApplication}
+use Rattle.laws_of_steps.specs.Cut.{IsCut}
+use Rattle.laws_of_steps.specs.Keeping.{HasFacts}
+use Rattle.warm_start.specs.Stands.{StandsForTables, KeepsTables, identity_for}
+use Rattle.monitor_core.specs.CoreValue.{CoreValue}
+use Rattle.device_acts.specs.Performing.{Performs, Sent}
+
+-- what the file of this core was made with, from texts with this fingerprint
+abbrev pub identity_of : (fingerprint : List ℕ) → CoreValue → Identity
+identity_of fingerprint c = identity_for c.application.generation fingerprint
+
+-- the tables that the core's store keeps: what a stop leaves of its tables
+abbrev pub durable_of : CoreValue → TableRows
+durable_of c = durable c.application.generation c.state.tables
+
+-- the state has its facts, under an application within its ranges, and the store keeps its durable tables
+pub record IsRunning (fingerprint : List ℕ) (c : CoreValue) (store : Whole) : Type 0 where
+  pub application : IsApplication c.application
+  pub limits : AreLimits c.application.generation.limits
+  pub facts : HasFacts c.application c.state
+  pub keeps : KeepsTables (identity_of fingerprint c) store (durable_of c)
+
+-- whatever became of some steps of the core: at each moment, what was sent and what a stop leaves are a cut of their acts
+abbrev pub PerformsSteps : (fingerprint : List ℕ) → CoreValue → List ScriptStep → (a b : State) → (la lb : ℕ → List ℕ → List ℕ → Type 0) → Type 0
+PerformsSteps fingerprint c steps a b la lb = Performs tables_after (StandsForTables (identity_of fingerprint c)) (durable_of c) (acts_of steps) a b la lb
+
+-- the core came to the state behind some steps, and all their acts are done
+pub record DidSteps (fingerprint : List ℕ) (c : CoreValue) (steps : List ScriptStep) (d : CoreValue) (store : Whole) (a b : State) (lb : ℕ → List ℕ → List ℕ → Type 0) : Type 0 where
+  pub application : d.application ≡ c.application
+  pub running : IsRunning fingerprint d store
+  pub state : IsTrue a.told → d.state ≡ state_after c.state steps
+  pub tables : IsTrue a.told → durable_of d ≡ tables_after (durable_of c) (acts_of steps)
+  pub acts : Sent (HasFile store) (acts_of steps) a b lb
+
+-- the core is one that starts from the durable tables, which the store keeps, and a stop leaves just its bytes
+pub record IsAgain (fingerprint : List ℕ) (c d : CoreValue) (store : Whole) (a b : State) (lb : ℕ → List ℕ → List ℕ → Type 0) : Type 0 where
+  pub application : d.application ≡ c.application
+  pub running : IsRunning fingerprint d store
+  pub steps : d.steps ≡ 0
+  pub state : IsTrue a.told → d.state ≡ started c.application (durable_of c)
+  pub tables : IsTrue a.told → durable_of d ≡ durable_of c
+  pub kept : IsTrue a.told → IsKept (HasFile store) b lb
+
+-- how many turns and commands a command makes at most
+abbrev pub turns_of : Command → ℕ
+turns_of (Run turns) = turns
+turns_of (Input pterm text) = 1
+turns_of (Tick ticks) = 1
+turns_of (Turn task) = 1
+turns_of (Drop pterm) = 1
+turns_of (Print pterm) = 1
+turns_of (PrintLast pterm) = 1
+turns_of Restart = 1
+
+-- some first acts of all were done, the image stands for the durable tables after them, and these bytes were sent beyond those before
+pub record IsCutSince (stands : TableRows → Bytes → Type 0) (start : TableRows) (all : List Act) (sent image out : Bytes) : Type 0 where
+  pub since : Bytes
+  pub more : out ≡ sent ++ since
+  pub cut : IsCut stands start all image since
+
+-- all acts of the steps were done: their lines were sent, the file stands for the durable tables after them, and a stop leaves just it
+pub record Ran (fingerprint : List ℕ) (c : CoreValue) (steps : List ScriptStep) (a b : State) (lb : ℕ → List ℕ → List ℕ → Type 0) : Type 0 where
+  pub sent : b.sent ≡ a.sent ++ bytes_of (acts_of steps)
+  pub holds : StandsForTables (identity_of fingerprint c) (tables_after (durable_of c) (acts_of steps)) b.holds
+  pub settled : Only b.holds b lb

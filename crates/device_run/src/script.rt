@@ -1,0 +1,55 @@
+//! A whole script.
+ghost use Rattle.std.specs.Prelude.{◌≡◌, ◌⊎◌, ◌≤◌, ◌+◌, ◌^◌, ℕ, List, IsTrue, IfOk, OnOk, IsErrOf, sum_by};
+ghost use Rattle.kd_device.specs.Device.{Rose};
+ghost use Rattle.kdcfile_store.specs.{Kept.{IsKept}, Whole.{HasFile}};
+ghost use Rattle.laws_of_steps.specs.Keeping.{IsScriptOf};
+ghost use Rattle.abstract_monitor.specs.{Commands.{acts_of}, Trace.{history}};
+ghost use Rattle.laws_of_steps.specs.Cut.{commits_in};
+ghost use Rattle.device_run.specs.Running.{turns_of, Ran, IsRunning, PerformsSteps};
+
+use abstract_monitor::Command;
+use crate::steps::do_command;
+use kd_device::Device;
+use kdcfile_store::WholeStore;
+use laws_of_steps::steps_commit_once;
+use monitor_core::Core;
+use std::alloc::Global;
+use warm_start::OpenError;
+
+/// The commands of a script in their order, from a core whose durable tables the store keeps; its file was made with this
+/// fingerprint. Each act is done before the next turn or command. What is open at the end of the script is given up, and
+/// commits nothing. The answer is how many commits were made.
+pub fn run_script<D: Device>(
+    alloc: Global,
+    device: &mut D,
+    mut store: WholeStore,
+    mut core: Core,
+    fingerprint: &[u8; 32],
+    commands: &[Command],
+) -> Result<u64, OpenError>
+    requires running { IsRunning fingerprint.now core store }
+    requires names { IsScriptOf core.application commands.now }
+    requires steps { core.steps + sum_by turns_of commands.now ≤ 10 ^ 18 }
+    requires kept { IsTrue (D.state device.old).told → IsKept (HasFile store) (D.state device.old) (D.leaves device.old) }
+    ensures any { PerformsSteps fingerprint.now core (history core.application core.state commands.now) (D.state device.old) (D.state device.new) (D.leaves device.old) (D.leaves device.new) }
+    ensures done { OnOk result (IsTrue (D.state device.old).told → Ran fingerprint.now core (history core.application core.state commands.now) (D.state device.old) (D.state device.new) (D.leaves device.new)) }
+    ensures counted { IfOk result (λ n. IsTrue (D.state device.old).told → n ≡ commits_in (acts_of (history core.application core.state commands.now))) }
+    ensures failed { IsErrOf result OpenError.Failed → Rose (D.state device.old).disk_faults (D.state device.new).disk_faults ⊎ Rose (D.state device.old).line_faults (D.state device.new).line_faults }
+    ensures refused { IsErrOf result OpenError.NotKdcfile → IsTrue (D.state device.old).told → ⊥ }
+    ensures other { (stored : List ℕ) → IsErrOf result (OpenError.OtherGeneration stored) → IsTrue (D.state device.old).told → ⊥ }
+{
+    steps_commit_once();
+    let mut commits = 0;
+    for command in commands {
+        core = do_command(
+            alloc,
+            device,
+            &mut store,
+            core,
+            fingerprint,
+            command,
+            &mut commits,
+        )?;
+    }
+    Ok(commits)
+}

@@ -1,4 +1,0 @@
-pub mod Definition
-pub mod Causes
-pub mod Faults
-pub mod Handed

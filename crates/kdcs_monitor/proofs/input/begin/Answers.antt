@@ -1,6 +1,0 @@
-use Rattle.monitor_state.specs.Standing.{state_of}
-use Rattle.kdcs_monitor.proofs.Uses.{rests_here}
-use Rattle.kdcs_monitor.proofs.input.begin.Goals as goal
-
-pub start_service-requires-clause-rests : goal.start_service-requires-clause-rests
-start_service-requires-clause-rests c = rests_here (state_of c.args.parts.now) c.args.pterm.now c.in-Some.user c.in-Some.ensures c.requires.none

@@ -1,7 +1,0 @@
-use Rattle.std.proofs.Common.{sym, ◌∙◌}
-use Rattle.kdcs_types.specs.declared.key.ServiceId.TheVariants.{Dialogue}
-use Rattle.kdcs_monitor.proofs.Entering.{row_order}
-use Rattle.kdcs_monitor.proofs.signing.sign_on.Goals as goal
-
-pub resume-requires-clause-order : goal.resume-requires-clause-order
-resume-requires-clause-order c = row_order c.args.parts.now.tables (Dialogue c.args.user.now) c.in-Some.row c.requires.whole.facts.1.order (sym c.in-Some.is ∙ c.in_ok-row.ensures)

@@ -1,6 +1,0 @@
-use Rattle.monitor_state.specs.Standing.{state_of}
-use Rattle.kdcs_monitor.proofs.Starts.{opened_there}
-use Rattle.kdcs_monitor.proofs.starting.open_with.Goals as goal
-
-pub make_ready-requires-clause-is_open : goal.make_ready-requires-clause-is_open
-make_ready-requires-clause-is_open c = opened_there (state_of c.args.parts.now) (state_of c.open.new.self) c.args.id.now _ c.in_ok-open.ensures.state

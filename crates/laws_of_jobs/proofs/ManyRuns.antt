@@ -1,0 +1,98 @@
+-- Runs one after another keep jobs and numbers.
+use Rattle.std.specs.Prelude.{◌≡◌, ◌⊎◌, refl, List, [], ◌∷◌, Some}
+use Rattle.std.proofs.Common.{sym, ap, subst, ◌∙◌, inl, inr}
+use Rattle.kdcs_types.specs.declared.service.Job.{Job}
+use Rattle.kdcs_types.specs.Tables.{TableRows, IsSortedTables, job_of}
+use Rattle.kdcdef_types.specs.Generation.{Generated}
+use Rattle.abstract_monitor.specs.Endings.{durable}
+use Rattle.abstract_monitor.specs.State.{Application}
+use Rattle.abstract_monitor.specs.Commands.{started, state_after}
+use Rattle.laws_of_steps.specs.Applications.{IsApplication}
+use Rattle.laws_of_steps.specs.DurableLaws.{durable_again}
+use Rattle.laws_of_steps.specs.Suits.{Suits}
+use Rattle.laws_of_places.specs.Rows.{durable_service}
+use Rattle.laws_of_runs.specs.RunLaws.{StartsHaveFacts}
+use Rattle.laws_of_jobs.specs.ManyRuns.{StoppedRun, IsRunFrom, AreRunsFrom, left_by, left_by_all, TookJob, OneTookJob, RunsKeepJobs, AllRunsKeepJobs}
+use Rattle.laws_of_jobs.specs.QueueLaws.{KeepsJobs, IsTakenIn, JobsAreDoneOnce}
+use Rattle.laws_of_jobs.specs.ResumeLaws.{CutResumes, CutsResume}
+use Rattle.laws_of_jobs.proofs.Numbers.{numbers_joined, same-numbers}
+
+-- ---- one run
+
+-- what outlives a stop has all jobs, numbers and asynchronous services
+stored-jobs : (g : Generated) (t u : TableRows) (IsTaken : Job → Type 0) → KeepsJobs t u IsTaken → KeepsJobs t (durable g u) IsTaken
+unfolding durable
+stored-jobs g t u IsTaken k = record {
+  numbers = record { next = k.numbers.next; drawn = k.numbers.drawn };
+  lost = k.lost;
+  doubled = λ number over. let o = k.doubled number over in record { drawn = o.drawn; job = o.job; row = durable_service g u number ∙ o.row };
+}
+
+same-tables : (app : Application) (t : TableRows) → (started app t).tables ≡ t
+unfolding started
+same-tables app t = refl
+
+module _ (starts : StartsHaveFacts) (cuts : CutsResume) (jobs : JobsAreDoneOnce) (app : Application) (is_app : IsApplication app) where
+  module _ (t : TableRows) (run : StoppedRun) (order : IsSortedTables t) (suits : Suits app.generation t) (is : IsRunFrom app t run) where
+    cut : CutResumes app t run.script run.done
+    cut = cuts app t run.script is_app is.names order suits run.done is.left is.whole
+
+    abbrev left : TableRows
+    left = left_by app t run
+
+    left_order : IsSortedTables left
+    left_order = subst IsSortedTables (same-tables app left) cut.facts.1.order
+
+    lasting : durable app.generation left ≡ left
+    lasting = ap (durable app.generation) cut.stored ∙ durable_again app.generation (state_after (started app t) cut.steps.first).tables ∙ sym cut.stored
+
+    left_suits : Suits app.generation left
+    left_suits = subst (Suits app.generation) (ap (durable app.generation) (same-tables app left) ∙ lasting) cut.facts.1.suits
+
+    in_steps : KeepsJobs t (state_after (started app t) cut.steps.first).tables (IsTakenIn app cut.steps.first)
+    unfolding started state_after
+    in_steps = jobs app (started app t) run.script is_app is.names (starts app t is_app order suits) [] cut.steps.first cut.steps.rest cut.steps.whole
+
+    taken_is : (o : KeepsJobs t left (IsTakenIn app cut.steps.first)) → KeepsJobs t left (TookJob app t run)
+    taken_is o = record { numbers = o.numbers; lost = λ job there. either job (o.lost job there); doubled = o.doubled }
+      where
+        either : (job : Job) → (job_of left job.number ≡ Some job.value) ⊎ IsTakenIn app cut.steps.first job → (job_of left job.number ≡ Some job.value) ⊎ TookJob app t run job
+        either job (inl stays) = inl stays
+        either job (inr taken) = inr (record { steps = cut.steps; taken = taken })
+
+    one_run : KeepsJobs t left (TookJob app t run)
+    one_run = taken_is (subst (λ (w : TableRows). KeepsJobs t w (IsTakenIn app cut.steps.first)) (sym cut.stored) (stored-jobs app.generation t _ _ in_steps))
+
+  -- ---- all runs
+
+  none_kept : (t : TableRows) (IsTaken : Job → Type 0) → KeepsJobs t t IsTaken
+  none_kept t IsTaken = record { numbers = same-numbers t t refl; lost = λ job there. inl there; doubled = λ number over. over }
+
+  both_keep : (t u w : TableRows) (A B : Job → Type 0) → KeepsJobs t u A → KeepsJobs u w B → KeepsJobs t w (λ job. A job ⊎ B job)
+  both_keep t u w A B a b = record {
+    numbers = numbers_joined t u w a.numbers b.numbers;
+    lost = λ job there. by job (a.lost job there);
+    doubled = λ number over. b.doubled number (a.doubled number over);
+  }
+    where
+      later : (job : Job) → (job_of w job.number ≡ Some job.value) ⊎ B job → (job_of w job.number ≡ Some job.value) ⊎ (A job ⊎ B job)
+      later job (inl stays) = inl stays
+      later job (inr taken) = inr (inr taken)
+
+      by : (job : Job) → (job_of u job.number ≡ Some job.value) ⊎ A job → (job_of w job.number ≡ Some job.value) ⊎ (A job ⊎ B job)
+      by job (inl stays) = later job (b.lost job stays)
+      by job (inr taken) = inr (inl taken)
+
+  runs_keep : (t : TableRows) (runs : List StoppedRun) → IsSortedTables t → Suits app.generation t → AreRunsFrom app t runs → RunsKeepJobs app t runs
+  runs_keep t [] order suits are = record { jobs = none_kept t (OneTookJob app t []); order = order; suits = suits }
+  runs_keep t (run ∷ runs) order suits are =
+      let u = left_by app t run in
+      let rest = runs_keep u runs (left_order t run order suits are.0) (left_suits t run order suits are.0) are.1 in
+      record {
+        jobs = both_keep t u (left_by_all app u runs) (TookJob app t run) (OneTookJob app u runs) (one_run t run order suits are.0) rest.jobs;
+        order = rest.order;
+        suits = rest.suits;
+      }
+
+pub all_runs_keep_jobs : StartsHaveFacts → CutsResume → JobsAreDoneOnce → AllRunsKeepJobs
+all_runs_keep_jobs starts cuts jobs app t runs is_app order suits are = runs_keep starts cuts jobs app is_app t runs order suits are

@@ -1,0 +1,239 @@
+-- Each commit meets the law on jobs and the law on services' rows.
+use Rattle.std.specs.Prelude.{◌≡◌, refl, ℕ, ◌+◌, Bool, true, false, cond, IsSome, IfSome, List, [], ◌∷◌, ◌++◌, length, Option, Some, None, Contains}
+use Rattle.std.specs.Option.{option_map}
+use Rattle.std.proofs.Common.{sym, ap, subst, ◌∙◌, inl, inr, append-nil, add-zero, true≢false}
+use Rattle.kd_base.specs.Tools.{some_is}
+use Rattle.kdcs_types.specs.declared.act.Act.{Act}
+use Rattle.kdcs_types.specs.declared.key.Key.{Key}
+use Rattle.kdcs_types.specs.declared.key.Key.TheVariants.{Job as JobKey, Shown as ShownKey}
+use Rattle.kdcs_types.specs.declared.key.ServiceId.{ServiceId}
+use Rattle.kdcs_types.specs.declared.key.ServiceId.TheVariants.{Dialogue, Asynchronous}
+use Rattle.kdcs_types.specs.declared.service.Ending.{Ending}
+use Rattle.kdcs_types.specs.declared.service.Ending.TheVariants.{Synced, Broken, BrokenFr}
+use Rattle.kdcs_types.specs.declared.service.Job.{Job}
+use Rattle.kdcs_types.specs.declared.service.JobValue.{JobValue}
+use Rattle.kdcs_types.specs.declared.service.Service.{Service}
+use Rattle.kdcs_types.specs.declared.service.Settled.{Settled}
+use Rattle.kdcs_types.specs.Keyed.{item_at, without_item}
+use Rattle.kdcs_types.specs.KeyedLaws.{found_key, item_at-with}
+use Rattle.kdcs_types.specs.KeyLaws.{key_eq-itself}
+use Rattle.kdcs_types.specs.Keys.{id_eq, key_eq}
+use Rattle.kdcs_types.specs.Tables.{TableRows, job_key, shown_key, service_of, shown_of}
+use Rattle.abstract_monitor.specs.declared.answer.Happened.{Happened}
+use Rattle.abstract_monitor.specs.declared.answer.Happened.TheVariants.{Settles, Breaks}
+use Rattle.abstract_monitor.specs.Bytes.{Bytes}
+use Rattle.abstract_monitor.specs.State.{Application, OpenTransaction, State}
+use Rattle.abstract_monitor.specs.Endings.{is_durable, durable, broken}
+use Rattle.abstract_monitor.specs.Turns.{statement_now, turn_of}
+use Rattle.abstract_monitor.specs.Commands.{ScriptStep, Maker, ByTick, ByShow, ByTransaction, shown_tables, turned_step, command_of}
+use Rattle.laws_of_steps.specs.Commits.{AreNumberedFrom, without_gone, TakesOwn, Takes, MakesAtEnd, QueueLaw, row_by_ending, EndsSo, HasOwnRow, IsByAnother, ServiceLaw}
+use Rattle.laws_of_steps.specs.JobLaw.{jobs_left, new_jobs}
+use Rattle.laws_of_steps.specs.JobLaws.{points_number, ends_draw_none}
+use Rattle.laws_of_steps.specs.Keeping.{HasFacts}
+use Rattle.laws_of_steps.specs.Transactions.{HasOwnJob, IsRooted}
+use Rattle.laws_of_places.specs.Rows.{synchronised_own, synchronised_other, broken_own, broken_other, kept_at}
+use Rattle.laws_of_tables.specs.Items.{contains, IsIn}
+use Rattle.laws_of_tables.specs.Ends.{due-for, for-lterm}
+use Rattle.laws_of_jobs.specs.Doings.{tables_by, Settling, Showing, Ticking, StepMakes}
+use Rattle.laws_of_jobs.specs.QueueLaws.{MeetsBoth, TurnsDoSo, CommandsDoSo, TurnsKeepQueues, CommandsKeepQueues}
+
+-- ---- items
+
+found_in : (k : Key) (js : List Job) (j : Job) → item_at job_key k js ≡ Some j → IsIn j js
+found_in k [] j e = absurd cc
+found_in k (x ∷ xs) j e = by (key_eq k (job_key x)) e (found_in k xs j)
+  where
+    by : (b : Bool) → cond b (Some x) (item_at job_key k xs) ≡ Some j → (item_at job_key k xs ≡ Some j → IsIn j xs) → IsIn j (x ∷ xs)
+    by true is rest = inl (some_is x j is)
+    by false is rest = inr (rest is)
+
+-- ---- the job that a transaction takes
+
+record Goes (t : TableRows) (id : ServiceId) (began : Option Service) : Type 0 where
+  gone : Option Job
+  left : jobs_left id began t.jobs ≡ without_gone gone t.jobs
+  was_there : IfSome gone (λ (job : Job). Contains t.jobs job)
+  taken : TakesOwn id began gone
+
+goes : (t : TableRows) (id : ServiceId) (began : Option Service) → HasOwnJob t id began → Goes t id began
+goes t (Dialogue user) began has = record { gone = None; left = refl; was_there = tt; taken = refl }
+goes t (Asynchronous number) (Some row) has = record { gone = None; left = refl; was_there = tt; taken = refl }
+goes t (Asynchronous number) None has = by (item_at job_key (JobKey number) t.jobs) refl has
+  where
+    same : (n : ℕ) → JobKey n ≡ JobKey number → n ≡ number
+    same n f = cc
+
+    by : (o : Option Job) → item_at job_key (JobKey number) t.jobs ≡ o → IsSome (option_map (λ (j : Job). j.value) o) → Goes t (Asynchronous number) None
+    by None e h = absurd (true≢false (sym h))
+    by (Some j) e h =
+        let is = same j.number (found_key job_key (JobKey number) t.jobs j e) in
+        record {
+          gone = Some j;
+          left = ap (λ n. without_item job_key (JobKey n) t.jobs) (sym is);
+          was_there = contains j t.jobs (found_in (JobKey number) t.jobs j e);
+          taken = (j, (refl, is));
+        }
+
+-- ---- the jobs that it makes
+
+record Drawn (t u : TableRows) (id : ServiceId) (x : OpenTransaction) (e : Ending) : Type 0 where
+  made : List Job
+  jobs : u.jobs ≡ jobs_left id x.began t.jobs ++ made
+  numbers : AreNumberedFrom t.next_job made
+  next : u.next_job ≡ t.next_job + length made
+  makes : MakesAtEnd e made
+
+none_made : (e : Ending) → MakesAtEnd e []
+none_made Synced = tt
+none_made (Broken cause) = refl
+none_made BrokenFr = refl
+
+broken-drawn : (t : TableRows) (id : ServiceId) (x : OpenTransaction) (e : Ending) → Drawn t (broken t id x) id x e
+broken-drawn t id x e =
+    let q = ends_draw_none t id x in
+    record { made = []; jobs = q.jobs ∙ sym (append-nil (jobs_left id x.began t.jobs)); numbers = tt; next = q.next ∙ sym (add-zero t.next_job); makes = none_made e }
+
+module _ (app : Application) (t : TableRows) (id : ServiceId) (x : OpenTransaction) where
+  drawn : (h : Happened) (e : Ending) → EndsSo app t id x h e → Drawn t (tables_by app t id x h e) id x e
+  drawn (Settles o) Synced ends =
+      let q = points_number app.generation t id x o in
+      record { made = new_jobs t x; jobs = q.jobs; numbers = q.numbers; next = q.next; makes = tt }
+  drawn (Settles o) (Broken cause) ends = broken-drawn t id x (Broken cause)
+  drawn (Settles o) BrokenFr ends = broken-drawn t id x BrokenFr
+  drawn (Breaks by) e ends = broken-drawn t id x e
+  drawn _ e ends = absurd ends
+
+  -- ---- the rows of services
+
+  pub own_row : (h : Happened) (e : Ending) → service_of (tables_by app t id x h e) id ≡ row_by_ending app id x h e
+  own_row (Settles o) Synced = synchronised_own app.generation t id x o
+  own_row _ _ = broken_own t id x
+
+  other_row : (h : Happened) (e : Ending) (i : ServiceId) → id_eq i id ≡ false → service_of (tables_by app t id x h e) i ≡ service_of t i
+  other_row (Settles o) Synced i apart = synchronised_other app.generation t id x o i apart
+  other_row _ _ i apart = broken_other t id x i apart
+
+-- ---- durable tables
+
+durable_row : (app : Application) (t : TableRows) (id : ServiceId) → service_of (durable app.generation t) id ≡ cond (is_durable app.generation id) (service_of t id) None
+unfolding durable
+durable_row app t id = kept_at (is_durable app.generation) id t.services
+
+durable_taken : (app : Application) (u : TableRows) (acts : List Act) (by : Maker) (o : Option Job) → Takes app by o u acts → Takes app by o (durable app.generation u) acts
+unfolding durable
+durable_taken app u acts (ByTick ticks) o h = h
+durable_taken app u acts (ByShow lterm) o h = h
+durable_taken app u acts (ByTransaction kept) o h = h
+
+-- jobs are the same there
+durable_queue : (app : Application) (t u : TableRows) (by : Maker) (acts : List Act) → QueueLaw app t u by acts → QueueLaw app (durable app.generation t) (durable app.generation u) by acts
+unfolding durable
+durable_queue app t u by acts q = record {
+  gone = q.gone;
+  made = q.made;
+  jobs = q.jobs;
+  numbers = q.numbers;
+  next = q.next;
+  was_there = q.was_there;
+  taken = durable_taken app u acts by q.gone q.taken;
+  makes = q.makes;
+}
+
+-- where all rows but the own are kept
+services-law : (app : Application) (s : State) (after : TableRows) (by : Maker) → HasOwnRow app s after by → ((id : ServiceId) → IsByAnother by id → service_of after id ≡ service_of s.tables id) → ServiceLaw app s after by
+services-law app s after by own others = record {
+  own = own;
+  others = others;
+  durable_rows = durable_row app after;
+  durable_others = λ id another. durable_row app after id ∙ ap (λ (o : Option Service). cond (is_durable app.generation id) o None) (others id another) ∙ sym (durable_row app s.tables id);
+}
+
+-- ---- the commits
+
+module _ (app : Application) (s : State) (after : TableRows) (kept : Settled) (acts : List Act) (m : Settling app s kept after acts) where
+  abbrev h : Happened
+  h = (statement_now app s kept.service m.own).1
+
+  began_same : m.own.began ≡ kept.began
+  began_same = sym (ap (λ (k : Settled). k.began) m.kept_is)
+
+  transaction_queue : IsRooted s.tables kept.service m.own → QueueLaw app s.tables after (ByTransaction kept) acts
+  transaction_queue rooted =
+      let g = goes s.tables kept.service m.own.began rooted.job in
+      let d = drawn app s.tables kept.service m.own h kept.ending m.ends in
+      record {
+        gone = g.gone;
+        made = d.made;
+        jobs = ap (λ (t : TableRows). t.jobs) m.gives ∙ d.jobs ∙ ap (λ (l : List Job). l ++ d.made) g.left;
+        numbers = d.numbers;
+        next = ap (λ (t : TableRows). t.next_job) m.gives ∙ d.next;
+        was_there = g.was_there;
+        taken = subst (λ (o : Option Service). TakesOwn kept.service o g.gone) began_same g.taken;
+        makes = d.makes;
+      }
+
+  transaction_services : ServiceLaw app s after (ByTransaction kept)
+  transaction_services = services-law app s after (ByTransaction kept)
+      (record {
+        own = m.own;
+        was_open = m.was_open;
+        kept_is = m.kept_is;
+        ends = m.ends;
+        gives = ap (λ (t : TableRows). service_of t kept.service) m.gives ∙ own_row app s.tables kept.service m.own h kept.ending;
+      })
+      (λ id another. ap (λ (t : TableRows). service_of t id) m.gives ∙ other_row app s.tables kept.service m.own h kept.ending id another)
+
+module _ (app : Application) (s : State) (lterm : Bytes) (d : ScriptStep) (m : Showing app s lterm d) where
+  stands : (t : TableRows) → shown_of (shown_tables t lterm m.job) lterm ≡ Some m.job.value
+  stands t =
+      ap (option_map (λ (r : Bytes × JobValue). r.1)) (item_at-with shown_key (ShownKey lterm) (lterm, m.job.value) t.shown)
+      ∙ ap (λ b. option_map (λ (r : Bytes × JobValue). r.1) (cond b (Some (lterm, m.job.value)) (item_at shown_key (ShownKey lterm) t.shown))) (key_eq-itself (ShownKey lterm))
+
+  show_queue : QueueLaw app s.tables d.after.tables (ByShow lterm) d.acts
+  show_queue =
+      let is = due-for s lterm m.job m.due in
+      record {
+        gone = Some m.job;
+        made = [];
+        jobs = ap (λ (t : TableRows). t.jobs) m.gives ∙ sym (append-nil (without_item job_key (JobKey m.job.number) s.tables.jobs));
+        numbers = tt;
+        next = ap (λ (t : TableRows). t.next_job) m.gives ∙ sym (add-zero s.tables.next_job);
+        was_there = contains m.job s.tables.jobs is.there;
+        taken = (m.job, (refl, (for-lterm lterm m.job.value.to is.target, (ap (λ (t : TableRows). shown_of t lterm) m.gives ∙ stands s.tables, m.sends))));
+        makes = refl;
+      }
+
+  show_services : ServiceLaw app s d.after.tables (ByShow lterm)
+  show_services = services-law app s d.after.tables (ByShow lterm) tt (λ id another. ap (λ (t : TableRows). service_of t id) m.gives)
+
+module _ (app : Application) (s : State) (ticks : ℕ) (d : ScriptStep) (m : Ticking s d) where
+  tick_queue : QueueLaw app s.tables d.after.tables (ByTick ticks) d.acts
+  tick_queue = record {
+    gone = None;
+    made = [];
+    jobs = ap (λ (t : TableRows). t.jobs) m.gives ∙ sym (append-nil s.tables.jobs);
+    numbers = tt;
+    next = ap (λ (t : TableRows). t.next_job) m.gives ∙ sym (add-zero s.tables.next_job);
+    was_there = tt;
+    taken = refl;
+    makes = refl;
+  }
+
+  tick_services : ServiceLaw app s d.after.tables (ByTick ticks)
+  tick_services = services-law app s d.after.tables (ByTick ticks) tt (λ id another. ap (λ (t : TableRows). service_of t id) m.gives)
+
+-- a step that does as its maker says meets both laws
+meets : (app : Application) (s : State) (d : ScriptStep) → HasFacts app s → (o : Option Maker) → StepMakes app s d o → MeetsBoth app s d o
+meets app s d facts None m = tt
+meets app s d facts (Some (ByTick ticks)) m = (durable_queue app s.tables d.after.tables (ByTick ticks) d.acts (tick_queue app s ticks d m), tick_services app s ticks d m)
+meets app s d facts (Some (ByShow lterm)) m = (durable_queue app s.tables d.after.tables (ByShow lterm) d.acts (show_queue app s lterm d m), show_services app s lterm d m)
+meets app s d facts (Some (ByTransaction kept)) m = (
+  durable_queue app s.tables d.after.tables (ByTransaction kept) d.acts (transaction_queue app s d.after.tables kept d.acts m (facts.0.rooted kept.service m.own m.was_open)),
+  transaction_services app s d.after.tables kept d.acts m,
+)
+
+pub turns_keep_queues : TurnsDoSo → TurnsKeepQueues
+turns_keep_queues does app s task facts = meets app s (turned_step (turn_of app s task)) facts (turned_step (turn_of app s task)).by (does app s task)
+
+pub commands_keep_queues : CommandsDoSo → CommandsKeepQueues
+commands_keep_queues does app s c facts = meets app s (command_of app s c) facts (command_of app s c).by (does app s c)

@@ -1,0 +1,12 @@
+pub mod Histories
+pub mod Steps
+pub mod Openings
+pub mod Frames
+pub mod Ends
+pub mod Notes
+pub mod Turns
+pub mod Settling
+pub mod Commands
+pub mod Along
+pub mod Durable
+pub mod Committed

@@ -1,0 +1,5 @@
+pub mod Lists
+pub mod RunLaws
+pub mod Replays
+pub mod SerialRuns
+pub mod SerialLaws

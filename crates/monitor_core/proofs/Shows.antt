@@ -1,0 +1,104 @@
+-- The message that an LTERM shows: which job is due, and what its commit changes.
+use Rattle.std.specs.Prelude.{◌≡◌, refl, Bool, true, false, not, ◌++◌, ℕ, IsSome, List, [], ◌∷◌, Option, Some, None}
+use Rattle.std.proofs.Common.{sym, ap, subst, ◌∙◌}
+use Rattle.std.specs.Option.{option_eq}
+use Rattle.kdcs_types.specs.declared.act.Act.{Act}
+use Rattle.kdcs_types.specs.declared.act.Act.TheVariants.{Commit, Emit}
+use Rattle.kdcs_types.specs.declared.act.Change.{Change}
+use Rattle.kdcs_types.specs.declared.act.Change.TheVariants.{Set}
+use Rattle.kdcs_types.specs.declared.act.Changes.{Changes}
+use Rattle.kdcs_types.specs.declared.act.Row.TheVariants.{Shown as ShownRow}
+use Rattle.kdcs_types.specs.declared.key.Target.{Target}
+use Rattle.kdcs_types.specs.declared.key.Target.TheVariants.{Tac, Lterm}
+use Rattle.kdcs_types.specs.declared.service.Job.{Job}
+use Rattle.kdcs_types.specs.declared.service.JobValue.{JobValue}
+use Rattle.kdcs_types.specs.Same.{job_value_eq, target_eq}
+use Rattle.kdcs_types.specs.Tables.{TableRows, AreChanges, IsSortedTables, changed, shown_of}
+use Rattle.async_queue.specs.Marks.{free_of}
+use Rattle.async_queue.specs.Queue.{free}
+use Rattle.abstract_monitor.specs.Bytes.{Bytes}
+use Rattle.abstract_monitor.specs.Commands.{due_for, is_for, show_by, show_next}
+use Rattle.abstract_monitor.specs.Picks.{due_job}
+use Rattle.abstract_monitor.specs.State.{State}
+use Rattle.laws_of_commits.specs.CommitLaws.{ShownMade, shown_changes, shown_set}
+use Rattle.laws_of_commits.specs.Shows.{due_stands, shown_made}
+use Rattle.sync_points.specs.PointChanges.{is_real}
+use Rattle.sync_points.specs.Rows.{same_shown}
+use Rattle.core_state.specs.declared.parts.MonitorParts.{MonitorParts}
+use Rattle.core_state.specs.Standing.{IsIndexed, active_of, state_of}
+use Rattle.core_state.specs.Whole.{app_of}
+use Rattle.monitor_core.specs.Commanding.{Comes}
+
+module _ (t : TableRows) (lterm : Bytes) (value : JobValue) where
+  -- the LTERM shows the message
+  abbrev shows_it : Bool
+  shows_it = option_eq job_value_eq (Some value) (shown_of t lterm)
+
+  is_shown : (b : Bool) → is_real t (Set (ShownRow lterm value)) ≡ b → shows_it ≡ not b
+  is_shown b e = by shows_it (sym (ap not (same_shown t lterm value)) ∙ e)
+    where
+      by : (same : Bool) → not same ≡ b → same ≡ not b
+      by true h = ap not h
+      by false h = ap not h
+
+  none_behind : (items : List Change) → items ++ [] ≡ items
+  none_behind [] = refl
+  none_behind (c ∷ cs) = ap (λ (l : List Change). c ∷ l) (none_behind cs)
+
+  -- it is not set again
+  pub set_none : (items : List Change) → is_real t (Set (ShownRow lterm value)) ≡ false → items ≡ items ++ shown_set shows_it lterm value
+  set_none items e = sym (ap (λ b. items ++ shown_set b lterm value) (is_shown false e) ∙ none_behind items)
+
+  -- another one, or none
+  pub set_one : (items : List Change) → is_real t (Set (ShownRow lterm value)) ≡ true → items ++ Set (ShownRow lterm value) ∷ [] ≡ items ++ shown_set shows_it lterm value
+  set_one items e = sym (ap (λ b. items ++ shown_set b lterm value) (is_shown true e))
+
+for_lterm : (lterm : Bytes) (to : Target) → target_eq (Lterm lterm) to ≡ is_for lterm to
+for_lterm lterm (Tac tac) = refl
+for_lterm lterm (Lterm other) = refl
+
+-- the first allowed job of the queue is the due one of the state
+pub due_is : (p : MonitorParts) (lterm : Bytes) → IsIndexed p → due_job p.tables.clock (target_eq (Lterm lterm)) (free p.jobs) ≡ due_for (state_of p) lterm
+due_is p lterm indexed =
+    (λ i. due_job p.tables.clock (λ (to : Target). for_lterm lterm to i) (free p.jobs))
+    ∙ ap (due_job p.tables.clock (is_for lterm)) (ap free indexed.jobs ∙ free_of (active_of p.active) p.tables.jobs)
+
+some_stands : (o : Option JobValue) (v : JobValue) → o ≡ Some v → IsSome o
+some_stands o v e = subst (λ (p : Option JobValue). IsSome p) (sym e) refl
+
+module _ (p : MonitorParts) (lterm : Bytes) (job : Job) (indexed : IsIndexed p) (order : IsSortedTables p.tables) (now : ℕ) (clock : now ≡ p.tables.clock) (due : Some job ≡ due_job now (target_eq (Lterm lterm)) (free p.jobs)) where
+  is_due : due_for (state_of p) lterm ≡ Some job
+  is_due = sym (due ∙ ap (λ (n : ℕ). due_job n (target_eq (Lterm lterm)) (free p.jobs)) clock ∙ due_is p lterm indexed)
+
+  made : ShownMade p.generation p.tables lterm job
+  made = shown_made p.generation p.tables lterm job order (some_stands _ _ (due_stands (state_of p) lterm job order is_due))
+
+  -- the changes can be made
+  pub shown_fits : (changes : Changes) → changes ≡ shown_changes p.tables lterm job → AreChanges changes.items
+  shown_fits changes e = subst (λ (c : Changes). AreChanges c.items) (sym e) made.changes
+
+  -- the step of a job that is shown
+  pub shown_comes : (no_message : Bytes) (line_of : Bytes → Bytes) (changes : Changes) (line : Bytes) (after : State)
+      → changes ≡ shown_changes p.tables lterm job
+      → line ≡ line_of job.value.message
+      → after ≡ record (state_of p) { tables = changed p.tables changes }
+      → (acts : List Act) → acts ≡ Commit changes ∷ Emit line ∷ []
+      → Comes after acts (show_next (app_of p) (state_of p) lterm no_message line_of)
+  unfolding show_next
+  shown_comes no_message line_of changes line after is said came acts done =
+      subst (λ (o : Option Job). Comes after acts (show_by (app_of p) (state_of p) lterm no_message line_of o)) (sym is_due) record {
+        state = came ∙ ap (λ (t : TableRows). record (state_of p) { tables = t }) (ap (changed p.tables) is ∙ made.tables);
+        acts = done ∙ (λ i. Commit ((is ∙ sym made.exact) i) ∷ Emit (said i) ∷ []);
+      }
+
+-- the step without a due job
+pub nothing_comes : (p : MonitorParts) (lterm no_message : Bytes) (line_of : Bytes → Bytes) (line : Bytes) → IsIndexed p
+    → (now : ℕ) → now ≡ p.tables.clock → None ≡ due_job now (target_eq (Lterm lterm)) (free p.jobs)
+    → line ≡ no_message
+    → (acts : List Act) → acts ≡ Emit line ∷ []
+    → Comes (state_of p) acts (show_next (app_of p) (state_of p) lterm no_message line_of)
+unfolding show_next
+nothing_comes p lterm no_message line_of line indexed now clock none said acts done =
+    subst (λ (o : Option Job). Comes (state_of p) acts (show_by (app_of p) (state_of p) lterm no_message line_of o))
+    (none ∙ ap (λ (n : ℕ). due_job n (target_eq (Lterm lterm)) (free p.jobs)) clock ∙ due_is p lterm indexed)
+    record { state = refl; acts = done ∙ ap (λ (l : Bytes). Emit l ∷ []) said }

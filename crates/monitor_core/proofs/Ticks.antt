@@ -1,0 +1,36 @@
+-- The steps of TICK.
+use Rattle.std.specs.Prelude.{◌≡◌, ℕ, Bool, true, ◌+◌, ◌≤◌, List, [], ◌∷◌}
+use Rattle.std.proofs.Common.{sym, ap, subst, ◌∙◌}
+use Rattle.std.proofs.lemmas.Bool.{le-leb}
+use Rattle.kdcs_types.specs.declared.act.Act.{Act}
+use Rattle.kdcs_types.specs.declared.act.Act.TheVariants.{Commit, Emit}
+use Rattle.kdcs_types.specs.declared.act.Changes.{Changes}
+use Rattle.kd_base.specs.Limits.{last_clock}
+use Rattle.kdcs_types.specs.Tables.{TableRows, changed}
+use Rattle.abstract_monitor.specs.Bytes.{Bytes}
+use Rattle.abstract_monitor.specs.Commands.{tick_by, ticked}
+use Rattle.abstract_monitor.specs.Lines.{tick_line}
+use Rattle.abstract_monitor.specs.State.{State}
+use Rattle.laws_of_commits.specs.CommitLaws.{tick_changes}
+use Rattle.laws_of_commits.specs.Shows.{tick_made}
+use Rattle.core_state.specs.declared.parts.MonitorParts.{MonitorParts}
+use Rattle.core_state.specs.Standing.{state_of}
+use Rattle.core_state.specs.Whole.{app_of}
+use Rattle.monitor_core.specs.Commanding.{Comes}
+
+-- the greatest clock is not passed
+pub tick_comes : (p : MonitorParts) (ticks clock : ℕ) (changes : Changes) (line : Bytes) (after : State) (now : ℕ) → now ≡ p.tables.clock
+    → (now + ticks ≤ last_clock) × (clock ≡ now + ticks)
+    → changes ≡ tick_changes p.tables clock
+    → line ≡ tick_line clock
+    → after ≡ record (state_of p) { tables = changed p.tables changes }
+    → (acts : List Act) → acts ≡ Commit changes ∷ Emit line ∷ []
+    → Comes after acts (ticked (app_of p) (state_of p) ticks)
+tick_comes p ticks clock changes line after now is_now sum is said came acts done =
+    let made = tick_made p.generation p.tables clock in
+    let there : (p.tables.clock + ticks ≤ last_clock) × (clock ≡ p.tables.clock + ticks) = subst (λ (n : ℕ). (n + ticks ≤ last_clock) × (clock ≡ n + ticks)) is_now sum in
+    subst (λ (b : Bool). Comes after acts (tick_by (app_of p) (state_of p) ticks (p.tables.clock + ticks) b)) (sym (le-leb (p.tables.clock + ticks) last_clock there.0))
+    (subst (λ (n : ℕ). Comes after acts (tick_by (app_of p) (state_of p) ticks n true)) there.1 record {
+      state = came ∙ ap (λ (t : TableRows). record (state_of p) { tables = t }) (ap (changed p.tables) is ∙ made.tables);
+      acts = done ∙ (λ i. Commit ((is ∙ sym made.exact) i) ∷ Emit (said i) ∷ []);
+    })

@@ -1,0 +1,21 @@
+use Rattle.std.proofs.lemmas.Result.{on_ok_weaker}
+use Rattle.kdcs_types.specs.declared.key.ServiceId.TheVariants.{Dialogue}
+use Rattle.core_state.specs.Standing.{state_of}
+use Rattle.core_state.specs.Whole.{app_of}
+use Rattle.monitor_core.proofs.Signs.{rests, signs_off, signs_off_over}
+use Rattle.monitor_core.proofs.signing.sign_off.Goals as goal
+
+pub close-requires-clause-unplaced : goal.close-requires-clause-unplaced
+close-requires-clause-unplaced c = rests (state_of c.args.parts.now) (state_of c.withdraw.new.self) (Dialogue c.args.user.now) c.withdraw.ensures.state
+
+pub returns-then-keeps-clause-state : goal.returns-then-keeps-clause-state
+returns-then-keeps-clause-state c =
+    signs_off (app_of c.args.parts.now) c.args.pterm.now c.args.user.now (state_of c.args.parts.now) (state_of c.withdraw.new.self) (state_of c.close.new.self) (state_of c.sign_off.new.self)
+    c.withdraw.ensures.state c.close.ensures.state c.sign_off.ensures.state c.restarts-keeps.result c.restarts-keeps.ensures c.if-keeps.true
+
+pub returns-clause-state : goal.returns-clause-state
+returns-clause-state c =
+    on_ok_weaker c.set_row.result
+    (signs_off_over (app_of c.args.parts.now) c.args.pterm.now c.args.user.now (state_of c.args.parts.now) (state_of c.withdraw.new.self) (state_of c.close.new.self) (state_of c.sign_off.new.self)
+    c.withdraw.ensures.state c.close.ensures.state c.sign_off.ensures.state c.restarts-keeps.result c.restarts-keeps.ensures c.if-keeps.false _)
+    c.set_row.ensures.state

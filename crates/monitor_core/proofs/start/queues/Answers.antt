@@ -1,0 +1,7 @@
+use Rattle.std.proofs.Common.{ap, ◌∙◌}
+use Rattle.kdcdef_types.specs.declared.limits.Limits.{Limits}
+use Rattle.step_scheduler.specs.Schedule.{all_free}
+use Rattle.monitor_core.proofs.start.queues.Goals as goal
+
+pub returns-clause-scheduler : goal.returns-clause-scheduler
+returns-clause-scheduler c = c.in_ok-scheduler.ensures ∙ ap (λ (m : Limits). all_free m.tasks) c.max.ensures.limits

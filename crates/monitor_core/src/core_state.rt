@@ -1,0 +1,154 @@
+//! A monitor between two commands.
+ghost use Rattle.std.specs.Prelude.{◌≡◌, ◌<◌, ◌^◌, IfOk};
+ghost use Rattle.kdcdef_check.specs.Soundness.{AreLimits};
+ghost use Rattle.kdcdef_types.specs.Statements.{IsWithin};
+ghost use Rattle.kdcs_types.specs.Tables.{IsSortedTables};
+ghost use Rattle.unit_check.specs.Fitted.{IsFit};
+ghost use Rattle.laws_of_applications.specs.Applied.{applied};
+ghost use Rattle.laws_of_steps.specs.{Applications.{IsApplication}, Keeping.{HasFacts}, Replay.{SettlesAs}, Suits.{Suits}};
+ghost use Rattle.abstract_monitor.specs.{CommandsOf.{IsCommandOf}, Commands.{command_of, started, turned_step, use_now}, Endings.{durable}, Turns.{turn_of}};
+ghost use Rattle.laws_of_jobs.specs.QueueLaws.{KeepsQueues};
+ghost use Rattle.laws_of_runs.specs.{Replays.{AllReplay}, SerialLaws.{IsSerialStep}};
+ghost use Rattle.service_ends.specs.Ending.{turned_to};
+ghost use Rattle.monitor_core.specs.Commanding.{Comes, IsSingle};
+ghost use Rattle.monitor_core.specs.{CoreValue.{OneStep}, Steps.{came_to}};
+
+use abstract_monitor::{Command, Use};
+use core_state::MonitorParts;
+use crate::applying::apply;
+use crate::input::use_of;
+use crate::start::parts_of;
+use crate::turning::turn;
+use kd_base::{Name, OutOfMemory};
+use kdcdef_check::Generation;
+use kdcs_types::{Acts, Tables};
+use laws_of_applications::fitted_units_make_an_application;
+use laws_of_jobs::commits_keep_queues;
+use laws_of_runs::{commits_are_serial, replays_hold_along_every_script, turns_end_serially};
+use service_ends::Turned;
+use std::alloc::Global;
+use std::marker::Model;
+use unit_check::Units;
+
+/// A monitor that runs. Contracts see its application, the state of the abstract monitor, and how many turns and commands
+/// it has done. It is gone where memory runs out.
+#[derive(Drop)]
+pub struct Core {
+    parts: Box<MonitorParts, Global>,
+}
+
+impl Model for Core {
+    ghost use Rattle.monitor_core.specs.{CoreValue.{CoreValue, core_value}, Sound.{IsSound}};
+
+    ghost Value = { CoreValue };
+
+    ghost view = { λ c. core_value c.parts.value };
+
+    ghost invariant = { λ c. IsSound c.parts.value };
+}
+
+impl Core {
+    /// A warm or cold start from tables that suit the generation: nobody is signed on, all tasks are free, and every
+    /// asynchronous service is ready, in the order of the numbers. Each open transaction is the replay of what it has kept.
+    pub fn start(
+        alloc: Global,
+        generation: Generation,
+        units: Units,
+        tables: Tables,
+    ) -> Result<Core, OutOfMemory>
+        requires fit { IsFit generation units }
+        requires suits { Suits generation tables }
+        ensures application { IfOk result (λ core. core.application ≡ applied generation units) }
+        ensures application_is { IfOk result (λ core. IsApplication core.application) }
+        ensures state { IfOk result (λ core. core.state ≡ started core.application tables) }
+        ensures facts { IfOk result (λ core. HasFacts core.application core.state) }
+        ensures replays { IfOk result (λ core. AllReplay core.application core.state) }
+        ensures limits { IfOk result (λ core. AreLimits core.application.generation.limits) }
+        ensures steps { IfOk result (λ core. core.steps ≡ 0) }
+    {
+        fitted_units_make_an_application(&generation, &units);
+        replays_hold_along_every_script();
+        // The tables are in order, and the limits in their ranges.
+        let _clock = tables.clock();
+        let _limits = generation.max();
+        Ok(Core {
+            parts: parts_of(alloc, generation, units, tables)?,
+        })
+    }
+
+    /// A command that is no RUN, TURN or RESTART, and names what the generation has. Fewer than 10^18 turns and commands
+    /// were done. Its commit meets the laws on jobs and on services' rows, and one of a transaction is what its record, run
+    /// in one go, makes of the durable tables.
+    pub fn apply(self, alloc: Global, command: &Command) -> Result<(Core, Acts), OutOfMemory>
+        requires single { IsSingle command.now }
+        requires names { IsCommandOf self.application.generation command.now }
+        requires steps { self.steps < 10 ^ 18 }
+        ensures exact { IfOk result (λ done. Comes done.0.state done.1 (command_of self.application self.state command.now)) }
+        ensures one { IfOk result (λ done. OneStep self done.0) }
+        ensures facts { IfOk result (λ done. HasFacts done.0.application done.0.state) }
+        ensures replays { IfOk result (λ done. AllReplay done.0.application done.0.state) }
+        ensures serial { IfOk result (λ done. IsSerialStep self.application self.state (came_to done.0.state done.1 (command_of self.application self.state command.now).by)) }
+        ensures queues { IfOk result (λ done. KeepsQueues self.application self.state (came_to done.0.state done.1 (command_of self.application self.state command.now).by)) }
+    {
+        replays_hold_along_every_script();
+        commits_are_serial();
+        commits_keep_queues();
+        let mut parts = self.parts;
+        let acts = apply(&mut parts, alloc, command)?;
+        Ok((Core { parts }, acts))
+    }
+
+    /// One turn of a task, from 1 to TASKS. Fewer than 10^18 turns and commands were done. Its commit meets the same laws,
+    /// and a transaction that it ends comes to the tables and the ending of its record, run in one go on the tables before.
+    pub fn turn(self, alloc: Global, task: u16) -> Result<(Core, Turned), OutOfMemory>
+        requires task { IsWithin 1 self.application.generation.limits.tasks task }
+        requires steps { self.steps < 10 ^ 18 }
+        ensures exact { IfOk result (λ done. turned_to done.0.state done.1 ≡ turn_of self.application self.state task) }
+        ensures one { IfOk result (λ done. OneStep self done.0) }
+        ensures facts { IfOk result (λ done. HasFacts done.0.application done.0.state) }
+        ensures replays { IfOk result (λ done. AllReplay done.0.application done.0.state) }
+        ensures serial { IfOk result (λ done. IsSerialStep self.application self.state (turned_step (turned_to done.0.state done.1))) }
+        ensures ends { IfOk result (λ done. SettlesAs self.application self.state.tables done.0.state.tables done.1.settled) }
+        ensures queues { IfOk result (λ done. KeepsQueues self.application self.state (turned_step (turned_to done.0.state done.1))) }
+    {
+        replays_hold_along_every_script();
+        commits_are_serial();
+        turns_end_serially();
+        commits_keep_queues();
+        let mut parts = self.parts;
+        let did = turn(&mut parts, alloc, task)?;
+        Ok((Core { parts }, did))
+    }
+
+    /// TASKS of the generation. It takes no memory.
+    pub fn tasks(&self) -> u16
+        ensures { result ≡ self.now.application.generation.limits.tasks }
+    {
+        self.parts.generation.max().tasks
+    }
+
+    /// The tables, in order; what a stop leaves of them suits the generation. It takes no memory.
+    pub fn tables(&self) -> &Tables
+        ensures value { result.now ≡ self.now.state.tables }
+        ensures order { IsSortedTables self.now.state.tables }
+        ensures suits { Suits self.now.application.generation (durable self.now.application.generation self.now.state.tables) }
+    {
+        &self.parts.tables
+    }
+
+    /// What an input at this PTERM means, as the monitor stands.
+    pub fn use_of(&self, pterm: &Name, text: &[u8]) -> Result<Use, OutOfMemory>
+        ensures { IfOk result (λ u. u ≡ use_now self.now.application self.now.state pterm.now text.now) }
+    {
+        use_of(&self.parts, pterm, text)
+    }
+
+    /// The generation and the units, which a start after a RESTART takes again. It takes no memory.
+    pub fn into_application(self) -> (Generation, Units)
+        ensures application { self.application ≡ applied result.0 result.1 }
+        ensures fit { IsFit result.0 result.1 }
+    {
+        let parts = Box::into_inner(self.parts);
+        (parts.generation, parts.units)
+    }
+}

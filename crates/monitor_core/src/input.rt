@@ -1,0 +1,187 @@
+//! Terminal inputs: what they mean, and what is done.
+ghost use Rattle.std.specs.{Prelude.{◌≡◌, ◌<◌, ◌^◌, ◌++◌, [], IfOk, IsSome, IsTrue, OnOk, codes}, FinMap.{find}};
+ghost use Rattle.kdcdef_types.specs.Generation.{pterm_of};
+ghost use Rattle.abstract_monitor.specs.{CommandsOf.{is_pterm}, declared.command.Command.TheVariants.{Input}, declared.input_use.ServiceState.TheVariants.{Awaits, NoService}, Bytes.{bytes_cmp}, Commands.{command_of, lterm_at, lterm_by, next_input, says, signed_off, start_service, uncommitted, use_now, used, user_at}, Lines.{sys_line}, Sessions.{is_awaiting, service_state}};
+ghost use Rattle.core_state.specs.{Whole.{app_of, IsWhole}, Standing.{IsIndexed, SameApplication, state_of}};
+ghost use Rattle.monitor_core.specs.{Commanding.{Comes, HasService, IsFor}, Counted.{IsAhead}};
+
+use abstract_monitor::{ServiceState, Use};
+use core_state::MonitorParts;
+use crate::message::{line_alone, say};
+use crate::showing::{Shown, display, show_again, show_next};
+use crate::signing::{sign_off, sign_on};
+use crate::starting::{next_input, start_service};
+use kd_base::{Bytes, Name, OutOfMemory};
+use kdcdef_check::Generation;
+use kdcs_types::{Acts, ServiceId};
+use output_lines::{fault_text, refusal_text, signed_off_line};
+use std::alloc::Global;
+
+// Whether the dialogue service of a user awaits an input, where it is neither ready nor in a task.
+fn is_awaiting(parts: &MonitorParts, id: &ServiceId) -> bool
+    ensures { result ≡ is_awaiting (state_of parts.now) id.now }
+{
+    if parts.active.contains_key(id) {
+        return true;
+    }
+    match parts.tables.service(*id) {
+        Some(row) => row.awaits,
+        None => false,
+    }
+}
+
+// What the dialogue service of a user does.
+#[tactic(auto, using(crate::proofs::Signs::running_is), unfolding(abstract_monitor::specs::Sessions::service_state))]
+fn service_state(parts: &MonitorParts, user: &Name) -> ServiceState
+    ensures { result ≡ service_state (state_of parts.now) user.now }
+{
+    let id = ServiceId::Dialogue(*user);
+    if parts.scheduler.is_running(id) {
+        return ServiceState::Running;
+    }
+    if is_awaiting(parts, &ServiceId::Dialogue(*user)) {
+        return ServiceState::Awaits;
+    }
+    ServiceState::NoService
+}
+
+/// What an input at this PTERM means, as the monitor stands. Memory is wanted only for the text that a service reads.
+#[tactic(auto, unfolding(abstract_monitor::specs::Commands::use_now))]
+pub(crate) fn use_of(parts: &MonitorParts, pterm: &Name, text: &[u8]) -> Result<Use, OutOfMemory>
+    ensures { IfOk result (λ u. u ≡ use_now (app_of parts.now) (state_of parts.now) pterm.now text.now) }
+{
+    let state = match parts.sessions.user_at(*pterm) {
+        Some(user) => service_state(parts, &user),
+        None => ServiceState::NoService,
+    };
+    parts
+        .sessions
+        .use_of(&parts.generation, state, *pterm, text)
+}
+
+// KDCOFF of the user who is signed on at this PTERM.
+fn leave(parts: &mut MonitorParts, alloc: Global, pterm: &Name) -> Result<Acts, OutOfMemory>
+    requires indexed { IsIndexed parts.old }
+    requires signed { IsSome (find bytes_cmp pterm.now (state_of parts.old).signed) }
+    ensures exact { IfOk result (λ acts. Comes (state_of parts.new) acts (says (signed_off (app_of parts.old) (state_of parts.old) pterm.now (user_at (state_of parts.old) pterm.now)) (sys_line pterm.now (codes "SIGNED OFF " ++ user_at (state_of parts.old) pterm.now)))) }
+    ensures indexed { OnOk result (IsIndexed parts.new) }
+    ensures same { OnOk result (SameApplication parts.old parts.new) }
+{
+    let Some(user) = parts.sessions.user_at(*pterm) else {
+        unreachable!()
+    };
+    sign_off(parts, alloc, pterm, &user)?;
+    line_alone(alloc, signed_off_line(alloc, *pterm, user)?)
+}
+
+// The service of the user who is signed on at this PTERM reads the input that it awaits.
+fn read_next(
+    parts: &mut MonitorParts,
+    alloc: Global,
+    pterm: &Name,
+    lterm: &Name,
+    text: Bytes,
+) -> Result<Acts, OutOfMemory>
+    requires whole { IsWhole parts.old }
+    requires awaits { HasService (state_of parts.old) pterm.now Awaits }
+    requires ahead { IsAhead parts.old }
+    requires steps { parts.old.steps < 2 ^ 64 }
+    ensures exact { IfOk result (λ acts. Comes (state_of parts.new) acts (uncommitted (next_input (app_of parts.old) (state_of parts.old) (user_at (state_of parts.old) pterm.now) lterm.now text) [])) }
+    ensures indexed { OnOk result (IsIndexed parts.new) }
+    ensures same { OnOk result (SameApplication parts.old parts.new) }
+{
+    let Some(user) = parts.sessions.user_at(*pterm) else {
+        unreachable!()
+    };
+    next_input(parts, alloc, &user, lterm, text)?;
+    Ok(Acts::new(alloc))
+}
+
+// A service of the user who is signed on at this PTERM, and has none, starts with this TAC and reads this message.
+fn begin(
+    parts: &mut MonitorParts,
+    alloc: Global,
+    pterm: &Name,
+    lterm: &Name,
+    tac: &Name,
+    text: Bytes,
+) -> Result<Acts, OutOfMemory>
+    requires indexed { IsIndexed parts.old }
+    requires none { HasService (state_of parts.old) pterm.now NoService }
+    ensures exact { IfOk result (λ acts. Comes (state_of parts.new) acts (uncommitted (start_service (app_of parts.old) (state_of parts.old) (user_at (state_of parts.old) pterm.now) lterm.now tac.now text) [])) }
+    ensures indexed { OnOk result (IsIndexed parts.new) }
+    ensures same { OnOk result (SameApplication parts.old parts.new) }
+{
+    let Some(user) = parts.sessions.user_at(*pterm) else {
+        unreachable!()
+    };
+    start_service(parts, alloc, &user, lterm, tac, text)?;
+    Ok(Acts::new(alloc))
+}
+
+// What the use of an input does at this PTERM, which has this LTERM.
+#[tactic(auto, unfolding(abstract_monitor::specs::Commands::used))]
+fn use_it(
+    parts: &mut MonitorParts,
+    alloc: Global,
+    pterm: &Name,
+    lterm: &Name,
+    meaning: Use,
+) -> Result<Acts, OutOfMemory>
+    requires whole { IsWhole parts.old }
+    requires lterm { lterm.now ≡ lterm_at (app_of parts.old) pterm.now }
+    requires meant { IsFor (state_of parts.old) pterm.now meaning }
+    requires ahead { IsAhead parts.old }
+    requires steps { parts.old.steps < 2 ^ 64 }
+    ensures exact { IfOk result (λ acts. Comes (state_of parts.new) acts (used (app_of parts.old) (state_of parts.old) pterm.now lterm.now (user_at (state_of parts.old) pterm.now) meaning)) }
+    ensures indexed { OnOk result (IsIndexed parts.new) }
+    ensures same { OnOk result (SameApplication parts.old parts.new) }
+{
+    match meaning {
+        Use::Sign(name) => sign_on(parts, alloc, pterm, lterm, &name),
+        Use::SignRefused(fault) => say(alloc, pterm, fault_text(fault)),
+        Use::SignFirst => say(alloc, pterm, b"SIGN ON FIRST"),
+        Use::AlreadySigned => say(alloc, pterm, b"ALREADY SIGNED ON"),
+        Use::Off => leave(parts, alloc, pterm),
+        Use::Display => display(parts, alloc, pterm),
+        Use::Output => show_next(parts, alloc, Shown::Terminal, pterm, lterm),
+        Use::Again => show_again(parts, alloc, Shown::Terminal, pterm, lterm),
+        Use::Busy => say(alloc, pterm, b"SERVICE RUNNING"),
+        Use::TooLong => say(alloc, pterm, b"INPUT TOO LONG"),
+        Use::Next(text) => read_next(parts, alloc, pterm, lterm, text),
+        Use::Start(tac, text) => begin(parts, alloc, pterm, lterm, &tac, text),
+        Use::TacRefused(fault) => say(alloc, pterm, refusal_text(fault)),
+    }
+}
+
+// The LTERM of a PTERM of the generation.
+pub(crate) fn lterm_of(generation: &Generation, pterm: &Name) -> Name
+    requires pterm { IsTrue (is_pterm generation.now pterm.now) }
+    ensures { result ≡ lterm_by (pterm_of generation.now pterm.now) }
+{
+    match generation.pterm(*pterm) {
+        Some(entry) => entry.lterm,
+        None => unreachable!(),
+    }
+}
+
+// An input at a PTERM of the generation.
+#[tactic(auto, unfolding(abstract_monitor::specs::Commands::command_of))]
+pub(crate) fn input(
+    parts: &mut MonitorParts,
+    alloc: Global,
+    pterm: &Name,
+    text: &[u8],
+) -> Result<Acts, OutOfMemory>
+    requires whole { IsWhole parts.old }
+    requires pterm { IsTrue (is_pterm parts.old.generation pterm.now) }
+    requires ahead { IsAhead parts.old }
+    requires steps { parts.old.steps < 2 ^ 64 }
+    ensures exact { IfOk result (λ acts. Comes (state_of parts.new) acts (command_of (app_of parts.old) (state_of parts.old) (Input pterm.now text.now))) }
+    ensures indexed { OnOk result (IsIndexed parts.new) }
+    ensures same { OnOk result (SameApplication parts.old parts.new) }
+{
+    let lterm = lterm_of(&parts.generation, pterm);
+    let meaning = use_of(parts, pterm, text)?;
+    use_it(parts, alloc, pterm, &lterm, meaning)
+}

@@ -1,0 +1,127 @@
+//! The messages of jobs for LTERMs: KDCOUT and KDCLAST at a terminal, PRINT at a printer; and KDCDISP.
+ghost use Rattle.std.specs.{Prelude.{◌≡◌, ◌++◌, Some, IfOk, OnOk}, Option.{option_eq}, FinMap.{find}};
+ghost use Rattle.kdcs_types.specs.{Same.{job_value_eq}, Tables.{shown_of}};
+ghost use Rattle.abstract_monitor.specs.{Bytes.{bytes_cmp}, Commands.{display, last_by, show_again, show_next}, Lines.{no_message_line}};
+ghost use Rattle.core_state.specs.{Whole.{app_of}, Standing.{IsIndexed, SameApplication, state_of}};
+ghost use Rattle.laws_of_commits.specs.CommitLaws.{shown_changes, shown_set};
+ghost use Rattle.monitor_core.specs.Commanding.{shown_line, Comes};
+
+use core_state::MonitorParts;
+use crate::message::{line_alone, line_behind};
+use kd_base::{Bytes, Name, OutOfMemory};
+use kdcs_types::{Acts, Change, Changes, Job, JobValue, Key, Row, RowChanges, Tables, Target};
+use output_lines::{asy_line, no_message_line, out_line, prt_line};
+use std::alloc::Global;
+use sync_points::is_real;
+
+/// Where the message of a job is shown.
+#[derive(Clone, Copy, PartialEq, Eq)]
+pub(crate) enum Shown {
+    Terminal,
+    Printer,
+}
+
+fn shown_line(
+    alloc: Global,
+    shown: Shown,
+    pterm: &Name,
+    message: &[u8],
+) -> Result<Bytes, OutOfMemory>
+    ensures { IfOk result (λ line. line ≡ shown_line shown pterm.now message.now) }
+{
+    match shown {
+        Shown::Terminal => asy_line(alloc, *pterm, message),
+        Shown::Printer => prt_line(alloc, *pterm, message),
+    }
+}
+
+// The message is set, unless the LTERM shows it already.
+#[tactic(auto, using(crate::proofs::Shows::set_none, crate::proofs::Shows::set_one))]
+fn set_shown(
+    items: &mut RowChanges,
+    tables: &Tables,
+    lterm: &Name,
+    value: &JobValue,
+) -> Result<(), OutOfMemory>
+    ensures { OnOk result (items.new ≡ items.old ++ shown_set (option_eq job_value_eq (Some value.now) (shown_of tables.now lterm.now)) lterm.now value.now) }
+{
+    let shown = Change::Set(Row::Shown(*lterm, value.clone()?));
+    if !is_real(tables, &shown) {
+        return Ok(());
+    }
+    items.push(shown)
+}
+
+// The job goes, and its value is the shown message of this LTERM, if it is not so already.
+fn shown_changes(
+    alloc: Global,
+    tables: &Tables,
+    lterm: &Name,
+    job: &Job,
+) -> Result<Changes, OutOfMemory>
+    ensures { IfOk result (λ changes. changes ≡ shown_changes tables.now lterm.now job.now) }
+{
+    let mut items = RowChanges::new(alloc);
+    items.push(Change::Remove(Key::Job(job.number)))?;
+    set_shown(&mut items, tables, lterm, &job.value)?;
+    Ok(Changes {
+        clock: tables.clock(),
+        next_job: tables.next_job(),
+        items,
+    })
+}
+
+/// The next message for this LTERM, if one is due: its job leaves the tables in one commit, and it is shown.
+pub(crate) fn show_next(
+    parts: &mut MonitorParts,
+    alloc: Global,
+    shown: Shown,
+    pterm: &Name,
+    lterm: &Name,
+) -> Result<Acts, OutOfMemory>
+    requires indexed { IsIndexed parts.old }
+    ensures exact { IfOk result (λ acts. Comes (state_of parts.new) acts (show_next (app_of parts.old) (state_of parts.old) lterm.now (no_message_line pterm.now) (shown_line shown pterm.now))) }
+    ensures indexed { OnOk result (IsIndexed parts.new) }
+    ensures same { OnOk result (SameApplication parts.old parts.new) }
+{
+    let clock = parts.tables.clock();
+    let Some(job) = parts.jobs.first_allowed(&Target::Lterm(*lterm), clock) else {
+        return line_alone(alloc, no_message_line(alloc, *pterm)?);
+    };
+    let line = shown_line(alloc, shown, pterm, job.value.message.as_slice())?;
+    let changes = shown_changes(alloc, &parts.tables, lterm, job)?;
+    parts.change(&changes)?;
+    line_behind(alloc, changes, line)
+}
+
+/// The message that this LTERM shows, once more.
+pub(crate) fn show_again(
+    parts: &MonitorParts,
+    alloc: Global,
+    shown: Shown,
+    pterm: &Name,
+    lterm: &Name,
+) -> Result<Acts, OutOfMemory>
+    ensures exact { IfOk result (λ acts. Comes (state_of parts.now) acts (show_again (state_of parts.now) lterm.now (no_message_line pterm.now) (shown_line shown pterm.now))) }
+{
+    let line = match parts.tables.shown_at(*lterm) {
+        Some(value) => shown_line(alloc, shown, pterm, value.message.as_slice())?,
+        None => no_message_line(alloc, *pterm)?,
+    };
+    line_alone(alloc, line)
+}
+
+/// KDCDISP: the last dialogue message of this session, once more.
+pub(crate) fn display(
+    parts: &MonitorParts,
+    alloc: Global,
+    pterm: &Name,
+) -> Result<Acts, OutOfMemory>
+    ensures exact { IfOk result (λ acts. Comes (state_of parts.now) acts (display (state_of parts.now) pterm.now (last_by (find bytes_cmp pterm.now (state_of parts.now).signed)))) }
+{
+    let line = match parts.sessions.last(*pterm) {
+        Some(message) => out_line(alloc, *pterm, message.as_slice())?,
+        None => no_message_line(alloc, *pterm)?,
+    };
+    line_alone(alloc, line)
+}

@@ -1,0 +1,147 @@
+//! Signing on and off.
+ghost use Rattle.std.specs.{Prelude.{◌≡◌, ◌∷◌, ◌++◌, Some, IfOk, OnOk, codes}, FinMap.{find}};
+ghost use Rattle.kdcs_types.specs.{declared.act.Act.TheVariants.{Emit}, declared.key.ServiceId.TheVariants.{Dialogue}, Tables.{service_of}};
+ghost use Rattle.abstract_monitor.specs.{Bytes.{bytes_cmp}, Commands.{drop_by, lterm_at, out_again, resumed_by, signed_off, signed_on, with_session}, Endings.{restarts}, Lines.{sys_line}};
+ghost use Rattle.open_transaction.specs.Work.{HasOrder};
+ghost use Rattle.session_table.specs.Signed.{CanSignOn};
+ghost use Rattle.core_state.specs.{Whole.{app_of, IsWhole}, Standing.{IsIndexed, SameApplication, state_of}};
+ghost use Rattle.monitor_core.specs.Commanding.{Comes, Rests};
+
+use core_state::MonitorParts;
+use crate::message::{line_alone, say};
+use kd_base::{Bytes, Name, OutOfMemory};
+use kdcdef_check::Generation;
+use kdcs_types::{Act, Acts, Service, ServiceId, Tables};
+use output_lines::{out_line, signed_on_line};
+use service_ends::{go_on, set_row};
+use std::alloc::Global;
+
+// What a user sees who signs on: that it is so, and the last dialogue message of an open service again.
+fn greeting(
+    alloc: Global,
+    pterm: &Name,
+    user: &Name,
+    last: &Option<Bytes>,
+) -> Result<Acts, OutOfMemory>
+    ensures { IfOk result (λ acts. acts ≡ Emit (sys_line pterm.now (codes "SIGNED ON " ++ user.now)) ∷ out_again pterm.now last.now) }
+{
+    let mut acts = line_alone(alloc, signed_on_line(alloc, *pterm, *user)?)?;
+    match last {
+        Some(message) => {
+            acts.push(Act::Emit(out_line(alloc, *pterm, message.as_slice())?))?;
+            Ok(acts)
+        }
+        None => Ok(acts),
+    }
+}
+
+// The user is signed on, and the service goes on from its row, unless that awaits an input.
+fn resume(
+    parts: &mut MonitorParts,
+    alloc: Global,
+    pterm: &Name,
+    lterm: &Name,
+    user: &Name,
+    row: Service,
+) -> Result<(), OutOfMemory>
+    requires indexed { IsIndexed parts.old }
+    requires can { CanSignOn (state_of parts.old).signed pterm.now user.now }
+    requires order { HasOrder (Some row) }
+    requires rests { Rests (state_of parts.old) (Dialogue user.now) }
+    ensures state { OnOk result (state_of parts.new ≡ resumed_by (app_of parts.old) (with_session (state_of parts.old) pterm.now user.now row.last) user.now lterm.now row row.awaits) }
+    ensures indexed { OnOk result (IsIndexed parts.new) }
+    ensures same { OnOk result (SameApplication parts.old parts.new) }
+{
+    parts.sign_on(pterm, user, row.last.clone()?)?;
+    if row.awaits {
+        return Ok(());
+    }
+    go_on(parts, alloc, &ServiceId::Dialogue(*user), row, lterm)
+}
+
+/// The row of the user's dialogue service.
+pub(crate) fn row_of(tables: &Tables, user: &Name) -> Result<Option<Service>, OutOfMemory>
+    ensures { IfOk result (λ row. row ≡ service_of tables.now (Dialogue user.now)) }
+{
+    match tables.service(ServiceId::Dialogue(*user)) {
+        Some(row) => Ok(Some(row.clone()?)),
+        None => Ok(None),
+    }
+}
+
+/// KDCSIGN of a user who may sign on: a user with an open service sees its last dialogue message again, and a service that
+/// awaits no input becomes ready.
+pub(crate) fn sign_on(
+    parts: &mut MonitorParts,
+    alloc: Global,
+    pterm: &Name,
+    lterm: &Name,
+    user: &Name,
+) -> Result<Acts, OutOfMemory>
+    requires whole { IsWhole parts.old }
+    requires can { CanSignOn (state_of parts.old).signed pterm.now user.now }
+    requires lterm { lterm.now ≡ lterm_at (app_of parts.old) pterm.now }
+    ensures exact { IfOk result (λ acts. Comes (state_of parts.new) acts (signed_on (app_of parts.old) (state_of parts.old) pterm.now user.now)) }
+    ensures indexed { OnOk result (IsIndexed parts.new) }
+    ensures same { OnOk result (SameApplication parts.old parts.new) }
+{
+    let Some(row) = row_of(&parts.tables, user)? else {
+        parts.sign_on(pterm, user, None)?;
+        return greeting(alloc, pterm, user, &None);
+    };
+    let acts = greeting(alloc, pterm, user, &row.last)?;
+    resume(parts, alloc, pterm, lterm, user, row)?;
+    Ok(acts)
+}
+
+// Whether the user has RESTART=YES.
+fn restarts(generation: &Generation, user: &Name) -> bool
+    ensures { result ≡ restarts generation.now user.now }
+{
+    match generation.user(*user) {
+        Some(entry) => entry.restart,
+        None => false,
+    }
+}
+
+/// KDCOFF and DROP: the open transaction of the user's dialogue service is rolled back, and the service of a user with
+/// RESTART=NO is over. Neither is a commit.
+pub(crate) fn sign_off(
+    parts: &mut MonitorParts,
+    alloc: Global,
+    pterm: &Name,
+    user: &Name,
+) -> Result<(), OutOfMemory>
+    requires indexed { IsIndexed parts.old }
+    ensures state { OnOk result (state_of parts.new ≡ signed_off (app_of parts.old) (state_of parts.old) pterm.now user.now) }
+    ensures indexed { OnOk result (IsIndexed parts.new) }
+    ensures same { OnOk result (SameApplication parts.old parts.new) }
+{
+    let keeps = restarts(&parts.generation, user);
+    let id = ServiceId::Dialogue(*user);
+    parts.withdraw(&id);
+    parts.close(&id);
+    parts.sign_off(pterm);
+    if keeps {
+        return Ok(());
+    }
+    set_row(parts, alloc, &id, &None)
+}
+
+/// DROP: the connection of a terminal is lost.
+pub(crate) fn drop_terminal(
+    parts: &mut MonitorParts,
+    alloc: Global,
+    pterm: &Name,
+) -> Result<Acts, OutOfMemory>
+    requires indexed { IsIndexed parts.old }
+    ensures exact { IfOk result (λ acts. Comes (state_of parts.new) acts (drop_by (app_of parts.old) (state_of parts.old) pterm.now (find bytes_cmp pterm.now (state_of parts.old).signed))) }
+    ensures indexed { OnOk result (IsIndexed parts.new) }
+    ensures same { OnOk result (SameApplication parts.old parts.new) }
+{
+    let Some(user) = parts.sessions.user_at(*pterm) else {
+        return say(alloc, pterm, b"NOT SIGNED ON");
+    };
+    sign_off(parts, alloc, pterm, &user)?;
+    say(alloc, pterm, b"DROPPED")
+}

@@ -1,5 +1,0 @@
-use Rattle.monitor_examples.proofs.RowsHold.{job_rows}
-use Rattle.monitor_examples.proofs.job_rows.Goals as goal
-
-pub returns : goal.returns
-returns c = job_rows

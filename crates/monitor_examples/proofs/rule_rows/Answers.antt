@@ -1,5 +1,0 @@
-use Rattle.monitor_examples.proofs.RowsHold.{rule_rows}
-use Rattle.monitor_examples.proofs.rule_rows.Goals as goal
-
-pub returns : goal.returns
-returns c = rule_rows

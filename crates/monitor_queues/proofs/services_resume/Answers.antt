@@ -1,5 +1,0 @@
-use Rattle.monitor_queues.proofs.Resuming.{starts_resume, sign_ons_resume}
-use Rattle.monitor_queues.proofs.services_resume.Goals as goal
-
-pub returns : goal.returns
-returns c = record { starts = starts_resume; sign_ons = sign_ons_resume }

@@ -1,5 +1,0 @@
-use Rattle.monitor_serial.proofs.Notes.{commits_begin, records_have_made_notes}
-use Rattle.monitor_serial.proofs.records_are_of_runs.Goals as goal
-
-pub returns : goal.returns
-returns c = record { began = commits_begin; notes = records_have_made_notes }

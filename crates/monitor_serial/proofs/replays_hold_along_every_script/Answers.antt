@@ -1,9 +1,0 @@
-use Rattle.monitor_places.specs.Along.{holds_along}
-use Rattle.monitor_serial.specs.SerialLaws.{HasReplays}
-use Rattle.monitor_serial.proofs.Along.{replays_are_records, steps_keep}
-use Rattle.monitor_serial.proofs.replays_hold_along_every_script.Goals as goal
-
-pub returns : goal.returns
-returns c =
-    let steps = steps_keep (c.facts_hold_along.ensures.steps c.states_stay_sound.ensures) in
-    record { steps = steps; scripts = holds_along HasReplays steps; records = replays_are_records }

@@ -1,8 +1,0 @@
-use Rattle.std.specs.Prelude.{None}
-use Rattle.std.proofs.Common.{ap, ◌∙◌, ◌≡◌}
-use Rattle.async_queue.specs.Queue.{queued_at}
-use Rattle.monitor_state.specs.Queue.{gone}
-use Rattle.monitor_state.proofs.rows.set_job.Goals as goal
-
-pub insert-requires : goal.insert-requires
-insert-requires c = ap (queued_at c.args.number) c.remove.ensures.left ∙ gone c.args.number c.args.jobs.now

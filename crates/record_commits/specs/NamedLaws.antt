@@ -1,0 +1,99 @@
+-- Tables whose rows are named: those whose lists are, proper ones, and what named changes make of them.
+use Rattle.std.specs.Prelude.{ℕ, List, Option, Some, None, IfSome, All}
+use Rattle.std.proofs.lemmas.List.Elements.{All-from_recursion, All-weaker, recursion_from_All}
+use Rattle.kd_base.specs.Text.{IsName}
+use Rattle.kdcs_types.specs.declared.act.Change.{Change}
+use Rattle.kdcs_types.specs.declared.act.Change.TheVariants.{Set, Remove}
+use Rattle.kdcs_types.specs.declared.act.Changes.{Changes}
+use Rattle.kdcs_types.specs.declared.act.Row.{Row}
+use Rattle.kdcs_types.specs.declared.act.Row.TheVariants as row
+use Rattle.kdcs_types.specs.declared.key.ServiceId.{ServiceId}
+use Rattle.kdcs_types.specs.declared.key.ServiceId.TheVariants.{Dialogue, Asynchronous}
+use Rattle.kdcs_types.specs.declared.service.Job.{Job}
+use Rattle.kdcs_types.specs.declared.service.JobValue.{JobValue}
+use Rattle.kdcs_types.specs.declared.service.Service.{Service}
+use Rattle.kdcs_types.specs.Tables.{TableRows, AreChanges, change_key, changed, gssb_row, tls_row, uls_row, service_row, job_row, shown_row}
+use Rattle.record_codec.specs.Order.{IsProperKey}
+use Rattle.record_codec.specs.Patches.{EachRow, OfSet, all_rows, changes_keep, each_row}
+use Rattle.record_codec.specs.Readings.{LtermFits}
+use Rattle.record_codec.specs.Records.{rows_of}
+use Rattle.record_codec.specs.RowReadings.{IsProperRow, ValueFits}
+use Rattle.record_codec.specs.TableReadings.{AreProperTables}
+use Rattle.record_codec.specs.WholeValues.{JobFits, LssbFits, ServiceFits}
+use Rattle.record_commits.specs.Named.{HasAreaName, HasBlockNames, IsNamedChange, IsNamedJob, IsNamedRow, IsNamedService, IsNamedValue}
+
+-- the names of all rows are names
+abbrev pub AreNamedTables : TableRows → Type 0
+AreNamedTables t = All IsNamedRow (rows_of t)
+
+-- ---- lists
+
+pub lists_named : (t : TableRows) → All HasAreaName t.gssbs → All HasBlockNames t.tlss → All HasBlockNames t.ulss → All (λ (s : Service). IsNamedRow (service_row s)) t.services → All (λ (j : Job). IsNamedRow (job_row j)) t.jobs → All (λ (r : List ℕ × JobValue). IsNamedRow (shown_row r)) t.shown
+    → AreNamedTables t
+lists_named t gssbs tlss ulss services jobs shown = all_rows IsNamedRow t (record {
+  gssbs = recursion_from_All (λ (r : List ℕ × List ℕ). IsNamedRow (gssb_row r)) t.gssbs (All-weaker HasAreaName (λ (r : List ℕ × List ℕ). IsNamedRow (gssb_row r)) (λ r h. record { key = h; value = tt }) t.gssbs gssbs);
+  tlss = recursion_from_All (λ (r : List ℕ × List ℕ × List ℕ). IsNamedRow (tls_row r)) t.tlss (All-weaker HasBlockNames (λ (r : List ℕ × List ℕ × List ℕ). IsNamedRow (tls_row r)) (λ r h. record { key = h; value = tt }) t.tlss tlss);
+  ulss = recursion_from_All (λ (r : List ℕ × List ℕ × List ℕ). IsNamedRow (uls_row r)) t.ulss (All-weaker HasBlockNames (λ (r : List ℕ × List ℕ × List ℕ). IsNamedRow (uls_row r)) (λ r h. record { key = h; value = tt }) t.ulss ulss);
+  services = recursion_from_All (λ (s : Service). IsNamedRow (service_row s)) t.services services;
+  jobs = recursion_from_All (λ (j : Job). IsNamedRow (job_row j)) t.jobs jobs;
+  shown = recursion_from_All (λ (r : List ℕ × JobValue). IsNamedRow (shown_row r)) t.shown shown;
+})
+
+-- ---- proper rows
+
+lterm_named : (id : ServiceId) (lterm : Option (List ℕ)) → LtermFits id lterm → IfSome lterm IsName
+lterm_named id None fits = tt
+lterm_named (Dialogue user) (Some lterm) fits = absurd fits
+lterm_named (Asynchronous number) (Some lterm) fits = fits
+
+service_named : (s : Service) → ServiceFits s → IsNamedService s
+service_named s fits = record {
+  first = fits.first;
+  next = fits.next;
+  user = fits.user;
+  lterm = lterm_named s.id s.lterm fits.lterm;
+  lssbs = All-weaker LssbFits HasAreaName (λ l h. h.0) s.lssbs (All-from_recursion LssbFits s.lssbs fits.lssbs.1);
+}
+
+job_named : (v : JobValue) → JobFits v → IsNamedJob v
+job_named v fits = record { to = fits.to; due = fits.due; user = fits.user; lterm = fits.lterm }
+
+value_named : (r : Row) → ValueFits r → IsNamedValue r
+value_named (row.Gssb name content) fits = tt
+value_named (row.Tls block lterm content) fits = tt
+value_named (row.Uls block user content) fits = tt
+value_named (row.Service id service) fits = service_named service fits
+value_named (row.Job number value) fits = job_named value fits
+value_named (row.Shown lterm value) fits = job_named value fits
+
+row_named : (r : Row) → IsProperRow r → IsNamedRow r
+row_named r proper = record { key = proper.key; value = value_named r proper.value }
+
+pub proper_named : (t : TableRows) → AreProperTables t → AreNamedTables t
+proper_named t proper = All-weaker IsProperRow IsNamedRow row_named (rows_of t) proper
+
+-- ---- changes
+
+sets_named : (c : Change) → IsNamedChange c → OfSet IsNamedRow c
+sets_named (Set r) named = named
+sets_named (Remove k) named = tt
+
+pub named_changed : (t : TableRows) (c : Changes) → AreNamedTables t → All IsNamedChange c.items → AreChanges c.items → AreNamedTables (changed t c)
+named_changed t c rows changes are =
+    let kept = each_row IsNamedRow t rows in
+    let begun : EachRow IsNamedRow (record t { clock = c.clock; next_job = c.next_job }) = record { gssbs = kept.gssbs; tlss = kept.tlss; ulss = kept.ulss; services = kept.services; jobs = kept.jobs; shown = kept.shown } in
+    let sets = recursion_from_All (OfSet IsNamedRow) c.items (All-weaker IsNamedChange (OfSet IsNamedRow) sets_named c.items changes) in
+    all_rows IsNamedRow (changed t c) (changes_keep IsNamedRow c.items (record t { clock = c.clock; next_job = c.next_job }) begun sets are.fit)
+
+-- ---- keys
+
+-- the key of a change is proper
+abbrev pub HasProperChange : Change → Type 0
+HasProperChange c = IsProperKey (change_key c)
+
+key_named : (c : Change) → IsNamedChange c → HasProperChange c
+key_named (Set r) named = named.key
+key_named (Remove k) named = named
+
+pub keys_named : (cs : List Change) → All IsNamedChange cs → All HasProperChange cs
+keys_named cs named = All-weaker IsNamedChange HasProperChange key_named cs named
