@@ -8,7 +8,7 @@ pub mod AreaLaws
 pub mod Statements
 pub mod Lines
 pub mod Locks
-pub mod Deadlocks
+pub mod DeadlocksLaws
 pub mod Picks
 pub mod Turns
 pub mod Sessions

@@ -1,6 +1,6 @@
 -- The three readers together.
 use Rattle.std.proofs.Common.{◌≡◌, ℕ, List, Result, Ok, Err, refl, sym, ap, subst, ◌∙◌}
-use Rattle.kd_base.specs.Tools.{ok_is}
+use Rattle.kd_base.specs.ToolsLaws.{ok_is}
 use Rattle.kdcdef_lex.specs.declared.fault.LexFault.{LexFault}
 use Rattle.kdcdef_lex.specs.Reading.{is_memory as is_lex_memory, Gives as LexGives}
 use Rattle.kdcdef_lex.specs.Faults.{HasTextFault}
@@ -19,7 +19,7 @@ use Rattle.application_read.specs.declared.definition_fault.DefinitionFault.{Def
 use Rattle.application_read.specs.declared.definition_fault.DefinitionFault.TheVariants.{Lex, Read, Check, Memory}
 use Rattle.application_read.specs.Causes.{of_lex, of_read, of_check}
 use Rattle.application_read.specs.Definition.{Says, Generates, HasFault, is_memory, Gives}
-use Rattle.application_read.specs.Handed.{HandedOn, handed_on}
+use Rattle.application_read.specs.HandedLaws.{HandedOn, handed_on}
 
 by_lex : HandedOn Memory is_memory Generated (List RawStatement) LexFault is_lex_memory (λ x. Lex x)
 by_lex = handed_on Memory is_lex_memory (λ x. Lex x) is_memory refl

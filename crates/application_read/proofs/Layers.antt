@@ -1,12 +1,13 @@
 -- The three readers together.
 use Rattle.std.proofs.Common.{◌≡◌, ◌≢◌, ℕ, Bool, true, List, Result, Ok, Err, refl, ap, subst, ◌∙◌}
 use Rattle.std.specs.Prelude.{IsErrAnd, IfErr}
-use Rattle.kd_base.specs.Tools.{ok_of, ok_is}
+use Rattle.kd_base.specs.ToolsLaws.{ok_of, ok_is}
 use Rattle.kdcdef_types.specs.Generation.{Generated}
 use Rattle.application_read.specs.declared.definition_fault.DefinitionFault.{DefinitionFault}
 use Rattle.application_read.specs.declared.definition_fault.DefinitionFault.TheVariants as faults
 use Rattle.application_read.specs.Definition.{Generates, HasFault, is_memory as is_definition_memory, Gives as DefinitionGives}
-use Rattle.application_read.specs.Handed.{handed_in, HandedOn, handed_on, stands, made_of, stands_in}
+use Rattle.application_read.specs.Handed.{handed_in}
+use Rattle.application_read.specs.HandedLaws.{HandedOn, handed_on, stands, made_of, stands_in}
 use Rattle.unit_types.specs.UnitText.{UnitText}
 use Rattle.unit_read.specs.declared.fault.UnitFault.{UnitFault}
 use Rattle.unit_read.specs.declared.fault.UnitFault.TheVariants as unit_faults

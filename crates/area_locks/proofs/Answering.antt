@@ -7,7 +7,7 @@ use Rattle.kdcs_types.specs.Keys.{id_eq}
 use Rattle.abstract_monitor.specs.declared.answer.LockAnswer.{LockAnswer}
 use Rattle.abstract_monitor.specs.declared.answer.LockAnswer.TheVariants.{Granted, Deadlock}
 use Rattle.abstract_monitor.specs.Locks.{Locks, IsDeadlocked, answer_by_holder, answer_of, answer_of_held, holder, is_deadlocked, reaches, refused_by, since, waits_for}
-use Rattle.abstract_monitor.specs.Deadlocks.{deadlocks_found}
+use Rattle.abstract_monitor.specs.DeadlocksLaws.{deadlocks_found}
 
 module _ (l : Locks) (asker : ServiceId) where
   -- the asker is reached where one stands on it

@@ -1,3 +1,4 @@
 pub mod Queue
 pub mod Marks
+pub mod MarksLaws
 pub mod Drafts

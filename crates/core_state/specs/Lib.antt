@@ -1,5 +1,8 @@
 pub mod Queue
+pub mod QueueLaws
 pub mod Standing
-pub mod Changes
+pub mod ChangesLaws
 pub mod Kept
+pub mod KeptLaws
 pub mod Whole
+pub mod WholeLaws

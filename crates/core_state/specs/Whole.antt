@@ -1,24 +1,14 @@
 -- When the parts of a monitor can go on: the indexes are those of a state that has its facts, under an application.
-use Rattle.std.specs.Prelude.{◌≡◌}
-use Rattle.std.proofs.Common.{◌∙◌}
 use Rattle.unit_check.specs.Fitted.{IsFit}
 use Rattle.laws_of_steps.specs.Applications.{IsApplication}
 use Rattle.laws_of_steps.specs.Keeping.{HasFacts}
 use Rattle.abstract_monitor.specs.State.{Application}
 use Rattle.core_state.specs.declared.parts.MonitorParts.{MonitorParts}
-use Rattle.core_state.specs.Standing.{IsIndexed, SameApplication, state_of}
+use Rattle.core_state.specs.Standing.{IsIndexed, state_of}
 
 -- the application of the parts
 abbrev pub app_of : MonitorParts → Application
 app_of p = record { generation = p.generation; units = p.units.units }
-
--- where generation and units stay the same, so does the application
-pub same_app : (p q : MonitorParts) → q.generation ≡ p.generation → q.units ≡ p.units → app_of q ≡ app_of p
-same_app p q generation units = λ i. record { generation = generation i; units = (units i).units }
-
--- it stays the same over two changes
-pub same_twice : (p q r : MonitorParts) → SameApplication p q → SameApplication q r → SameApplication p r
-same_twice p q r a b = record { generation = b.generation ∙ a.generation; units = b.units ∙ a.units; steps = b.steps ∙ a.steps }
 
 -- the indexes are those of the state, the state has its facts, and the units were fitted to the generation
 pub record IsWhole (p : MonitorParts) : Type 0 where

@@ -1,4 +1,4 @@
 pub mod Said
 pub mod Performing
-pub mod Acting
-pub mod Contents
+pub mod ActingLaws
+pub mod ContentsLaws

@@ -4,7 +4,7 @@ use Rattle.std.specs.Prelude.{IsTrue}
 use Rattle.std.proofs.lemmas.List.{append-nil}
 use Rattle.kd_device.specs.Device.{State, Frame, SameNames, LeavesOnly}
 use Rattle.kd_device.specs.Rest.{Rests, Before}
-use Rattle.kd_device.specs.Time.{leaves_weaker}
+use Rattle.kd_device.specs.TimeLaws.{leaves_weaker}
 use Rattle.kd_records.specs.Identity.{Identity}
 use Rattle.kd_records.specs.declared.content.Content.{Content}
 use Rattle.kdcdef_types.specs.Generation.{Generated}
@@ -25,16 +25,16 @@ use Rattle.laws_of_steps.specs.Applications.{IsApplication}
 use Rattle.laws_of_steps.specs.Keeping.{HasFacts}
 use Rattle.laws_of_steps.specs.Suits.{Suits}
 use Rattle.record_codec.specs.Records.{content_of_tables}
-use Rattle.warm_start.specs.Meaning.{nothing_stands}
+use Rattle.warm_start.specs.MeaningLaws.{nothing_stands}
 use Rattle.warm_start.specs.Opening.{StartsFrom, IsRefused, IsOfOtherTexts, AnswersExcludeEachOther}
 use Rattle.warm_start.specs.Stands.{AreTables, StandsForTables, KeepsTables, identity_for}
 use Rattle.monitor_core.specs.CoreValue.{CoreValue}
 use Rattle.device_acts.specs.Performing.{IsCutOf, Performs, Sent}
-use Rattle.device_run.specs.Durable.{durable_same, started_tables}
+use Rattle.device_run.specs.DurableLaws.{durable_same, started_tables}
 use Rattle.device_run.specs.Running.{identity_of, durable_of, IsAgain, IsRunning, PerformsSteps, DidSteps}
 use Rattle.device_acts.specs.Said.{Said, SaidPart}
-use Rattle.device_acts.specs.Acting.{no_bytes, cut_none, Running, running_performs}
-use Rattle.device_acts.specs.Contents.{line_performs, line_sent}
+use Rattle.device_acts.specs.ActingLaws.{no_bytes, cut_none, Running, running_performs}
+use Rattle.device_acts.specs.ContentsLaws.{line_performs, line_sent}
 use Rattle.device_run.proofs.Tables.{tables_go}
 
 -- the bytes of a store that keeps tables stand for them

@@ -13,12 +13,12 @@ use Rattle.monitor_core.specs.CoreValue.{CoreValue}
 use Rattle.device_run.specs.Running.{turns_of, PerformsSteps, DidSteps}
 use Rattle.device_run.proofs.Counting.{commits_by, commits_both, command_commits}
 use Rattle.device_run.proofs.Stepping.{Stepping, stepping_performs, stepping_more}
-use Rattle.laws_of_runs.specs.Lists.{after_both}
+use Rattle.laws_of_runs.specs.ListsLaws.{after_both}
 use Rattle.abstract_monitor.specs.declared.command.Command.{Command}
 use Rattle.abstract_monitor.specs.Commands.{ScriptStep, steps_of, state_after}
 use Rattle.abstract_monitor.specs.State.{Application, State}
 use Rattle.abstract_monitor.specs.Trace.{history}
-use Rattle.device_acts.specs.Acting.{around, one_more}
+use Rattle.device_acts.specs.ActingLaws.{around, one_more}
 
 module _ (app : Application) where
   history_both : (s : State) (cs ds : List Command) → history app s (cs ++ ds) ≡ history app s cs ++ history app (state_after s (history app s cs)) ds

@@ -14,7 +14,7 @@ use Rattle.kdcs_types.specs.Tables.{TableRows, IsSortedTables}
 use Rattle.laws_of_steps.specs.Applications.{IsApplication}
 use Rattle.laws_of_steps.specs.Keeping.{HasFacts}
 use Rattle.laws_of_steps.specs.Steps.{CommitsOnce, StepsMakeTheirTables}
-use Rattle.laws_of_runs.specs.Lists.{after_both, tables_both}
+use Rattle.laws_of_runs.specs.ListsLaws.{after_both, tables_both}
 use Rattle.kdcdef_check.specs.Soundness.{AreLimits}
 use Rattle.abstract_monitor.specs.State.{Application, State as MonitorState}
 use Rattle.abstract_monitor.specs.declared.command.Command.{Command}
@@ -27,7 +27,7 @@ use Rattle.monitor_core.specs.CoreValue.{CoreValue}
 use Rattle.record_commits.specs.Storing.{AreStorable}
 use Rattle.device_acts.specs.Performing.{Performs, Sent, content_after, AreCommittable}
 use Rattle.device_run.specs.Running.{identity_of, durable_of, IsRunning, PerformsSteps, DidSteps, Ran}
-use Rattle.device_acts.specs.Acting.{Running, running_start, running_performs, running_more}
+use Rattle.device_acts.specs.ActingLaws.{Running, running_start, running_performs, running_more}
 use Rattle.device_run.proofs.Tables.{tables_go, tables_stay, contents_are, committable, performs_tables}
 
 pub acts_both : (xs ys : List ScriptStep) → acts_of (xs ++ ys) ≡ acts_of xs ++ acts_of ys

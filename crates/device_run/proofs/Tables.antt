@@ -1,7 +1,7 @@
 -- What acts make of tables, where a store has the records of them.
 use Rattle.std.proofs.Common.{◌≡◌, ℕ, ◌≤◌, List, [], ◌∷◌, ◌++◌, refl, sym, ap, subst, ◌∙◌}
 use Rattle.kd_device.specs.Device.{State}
-use Rattle.kd_device.specs.Time.{leaves_weaker}
+use Rattle.kd_device.specs.TimeLaws.{leaves_weaker}
 use Rattle.kd_records.specs.Charge.{total_charge}
 use Rattle.kd_records.specs.Identity.{Identity}
 use Rattle.kd_records.specs.declared.content.Content.{Content}
@@ -10,12 +10,12 @@ use Rattle.kdcs_types.specs.declared.act.Act.{Act}
 use Rattle.kdcs_types.specs.declared.act.Act.TheVariants.{Commit, Emit}
 use Rattle.kdcs_types.specs.Tables.{TableRows, changed}
 use Rattle.abstract_monitor.specs.Trace.{tables_after}
-use Rattle.laws_of_runs.specs.Lists.{tables_both}
+use Rattle.laws_of_runs.specs.ListsLaws.{tables_both}
 use Rattle.record_codec.specs.Records.{content_of_tables}
 use Rattle.warm_start.specs.Stands.{AreTables, StandsForTables}
 use Rattle.record_commits.specs.Storing.{AreStorable}
 use Rattle.device_acts.specs.Performing.{IsCutOf, Performs, content_after, AreCommittable}
-use Rattle.device_acts.specs.Acting.{Goes}
+use Rattle.device_acts.specs.ActingLaws.{Goes}
 
 tables_none : (t : TableRows) → tables_after t [] ≡ t
 unfolding tables_after

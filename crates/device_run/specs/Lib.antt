@@ -1,3 +1,3 @@
 pub mod Running
-pub mod Durable
-pub mod HandedOn
+pub mod DurableLaws
+pub mod HandedOnLaws

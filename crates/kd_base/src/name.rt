@@ -27,7 +27,7 @@ impl<const N: usize> Model for NameOf<N> {
 
     ghost Value = { List ℕ };
 
-    ghost use Rattle.kd_base.specs.NameCells.{IsNameCells, same_name};
+    ghost use Rattle.kd_base.specs.{NameCells.{IsNameCells}, NameCellsLaws.{same_name}};
 
     ghost view = { λ n. take n.used n.cells };
 

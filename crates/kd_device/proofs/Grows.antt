@@ -3,7 +3,8 @@ use Rattle.std.proofs.Common.{◌≡◌, ◌⊎◌, inl, inr, ⊎_elim, ℕ, zer
 use Rattle.std.specs.Prelude.{is_ok, OnOk, IsTrue}
 use Rattle.std.proofs.lemmas.List.{take_all, append-nil}
 use Rattle.kd_device.specs.Device.{Torn, LeavesOnly, Now, Remembers, Quiet, Writes, Emits, Only, written}
-use Rattle.kd_device.specs.History.{Event, Wrote, Synced, Emitted, Disk, fresh, step, after, Torns, AtRest, Within, Left, Since, now_to, now_from}
+use Rattle.kd_device.specs.History.{Event, Wrote, Synced, Emitted, Disk, fresh, step, after, Torns, AtRest, Within, Left, Since}
+use Rattle.kd_device.specs.HistoryLaws.{now_to, now_from}
 use Rattle.kd_device.specs.Tape.{Recording, disk_of, seen, left_by, put_by, with_event}
 use Rattle.kd_device.specs.Laws.{has_bytes}
 use Rattle.kd_device.proofs.Kept.{after_push}

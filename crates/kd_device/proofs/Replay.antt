@@ -7,7 +7,7 @@ use Rattle.kd_device.specs.Device.{Torn, written}
 use Rattle.kd_device.specs.History.{Event, Disk, Torns, AllDone, IsDone, AtRest, Since, fresh, step, after}
 use Rattle.kd_device.specs.Tape.{Recording, event, events, disk_at, IsInside, AllInside}
 use Rattle.kd_device.specs.Laws.{torns_push}
-use Rattle.kd_device.specs.Torn.{torn_over}
+use Rattle.kd_device.specs.TornLaws.{torn_over}
 use Rattle.kd_device.proofs.Kept.{after_push}
 
 pub torn_step : (s : Disk) (at upto first : ℕ) (bytes image image' : List ℕ) → bytes ≡ s.bytes → first ≡ min at (length bytes) → Torns s.pending s.base image → Torn first upto image image' → Torns (s.pending ++ (min at (length s.bytes), upto) ∷ []) s.base image'

@@ -60,15 +60,6 @@ Since zero s es c out = Left s es c out
 Since (suc t) s [] c out = ⊥
 Since (suc t) s (e ∷ es) c out = Since t (step s e) es c out
 
--- since the last call there is what a stop now leaves
-pub now_from : (s : Disk) (es : List Event) (c out : List ℕ) → Since (length es) s es c out → AtRest (after s es) c out
-now_from s [] c out left = left
-now_from s (e ∷ es) c out left = now_from (step s e) es c out left
-
-pub now_to : (s : Disk) (es : List Event) (c out : List ℕ) → AtRest (after s es) c out → Since (length es) s es c out
-now_to s [] c out rest = rest
-now_to s (e ∷ es) c out rest = now_to (step s e) es c out rest
-
 abbrev pub IsDone : Event → Type 0
 IsDone (Wrote at bytes done) = done ≡ true
 IsDone (Synced done) = Unit {0}

@@ -3,12 +3,13 @@ use Rattle.std.specs.Prelude.{◌≡◌, ◌≤◌, ℕ, zero, suc, ◌+◌, min
 use native.Mathlib.Omega.{arith}
 use Rattle.std.proofs.Common.{inr}
 use Rattle.kd_device.specs.Device.{Rose, Torn, Only}
-use Rattle.kd_device.specs.History.{Event, Wrote, Synced, Emitted, Disk, fresh, step, after, Torns, Left, Since, now_to, now_from}
+use Rattle.kd_device.specs.History.{Event, Wrote, Synced, Emitted, Disk, fresh, step, after, Torns, Left, Since}
+use Rattle.kd_device.specs.HistoryLaws.{now_to, now_from}
 use Rattle.kd_device.specs.declared.kind.CallKind.{CallKind}
 use Rattle.kd_device.specs.Tape.{blank}
 use Rattle.kd_device.specs.Memory.{unused, state_of, leaves_of}
 use Rattle.kd_device.specs.Sure.{sure_state, sure_leaves}
-use Rattle.kd_device.specs.Torn.{torn_done, torn_not}
+use Rattle.kd_device.specs.TornLaws.{torn_done, torn_not}
 
 pub torns_push : (rs : List (ℕ × ℕ)) (r : ℕ × ℕ) (old mid new : List ℕ) → Torns rs old mid → Torn r.0 r.1 mid new → Torns (rs ++ r ∷ []) old new
 torns_push [] r old mid new same torn = (new, (let P : List ℕ → Type 0 = λ l. Torn r.0 r.1 l new in subst_torn P mid old same torn), refl)

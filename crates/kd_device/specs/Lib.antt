@@ -1,6 +1,7 @@
 pub mod Count
 pub mod Device
 pub mod History
+pub mod HistoryLaws
 pub mod Laws
 pub mod Made
 pub mod Memory
@@ -8,6 +9,7 @@ pub mod Room
 pub mod Sure
 pub mod Tape
 pub mod Texts
-pub mod Time
-pub mod Torn
+pub mod TimeLaws
+pub mod TornLaws
 pub mod Rest
+pub mod RestLaws

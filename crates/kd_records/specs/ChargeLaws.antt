@@ -1,4 +1,4 @@
--- Records that are charged no more than the pages that there are fit into the bytes of these pages.
+-- Laws: records that are charged no more than the pages that there are fit into the bytes of these pages.
 use Rattle.std.specs.Prelude.{◌≡◌, ℕ, suc, ◌+◌, ◌-◌, ◌*◌, ◌/◌, ◌%◌, ◌^◌, ◌<◌, ◌≤◌, min, max, List, [], ◌∷◌, length, sum_by, All}
 use Rattle.std.proofs.Common.{sym, ◌∙◌, ap, inl, inr, arith}
 use Rattle.std.proofs.Math.Nat.{mul-le-mul_left}
@@ -10,14 +10,7 @@ use Rattle.std.proofs.lemmas.Grind.{div_ceil_times}
 use Rattle.std.specs.Int.{div_ceil}
 use Rattle.kd_records.specs.Contents.{Record}
 use Rattle.kd_records.specs.Charge.{IsBlockSize, charge_of, total_charge}
-
--- the key, the length of the value and the value
-abbrev pub record_length : Record → ℕ
-record_length r = 29 + length r.1
-
--- so many records, each with its key and the length of its value, fit into the pages that they are charged
-abbrev pub ChargedRecordsFit : Type 0
-ChargedRecordsFit = (blksize pages : ℕ) (records : List Record) → IsBlockSize blksize → total_charge blksize records ≤ pages → 64 + sum_by record_length records ≤ 8192 + pages * blksize
+use Rattle.kd_records.specs.Charged.{record_length, ChargedRecordsFit}
 
 pub block_from : (blksize : ℕ) → IsBlockSize blksize → 2048 ≤ blksize
 block_from blksize h = elim h [ inl e ↦ omega arith | inr h ↦ elim h [ inl e ↦ omega arith | inr e ↦ omega arith ] ]

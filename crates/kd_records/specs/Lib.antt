@@ -4,5 +4,7 @@ pub mod Contents
 pub mod Charge
 pub mod Places
 pub mod KeyLaws
+pub mod PatchStatements
 pub mod ContentLaws
+pub mod Charged
 pub mod ChargeLaws

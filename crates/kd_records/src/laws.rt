@@ -1,5 +1,5 @@
 //! Laws on the definitions, which all crates above may cite. The functions do nothing.
-ghost use Rattle.kd_records.specs.{ContentLaws.{PatchSaysWhatIsFound, ChangeSaysWhatIsFound, NoChangesChangeNothing, PatchKeepsContent, PatchKeepsOrder}, ChargeLaws.{ChargedRecordsFit}};
+ghost use Rattle.kd_records.specs.{PatchStatements.{PatchSaysWhatIsFound, ChangeSaysWhatIsFound, NoChangesChangeNothing, PatchKeepsContent, PatchKeepsOrder}, Charged.{ChargedRecordsFit}};
 
 /// A patch sets what it sets, removes what it removes, and leaves the rest.
 pub fn patches_say_what_is_found()

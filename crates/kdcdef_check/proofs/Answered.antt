@@ -1,8 +1,8 @@
 -- What an answer of the check says of the statements.
 use Rattle.std.proofs.Common.{◌≡◌, ◌≢◌, ℕ, ◌<◌, ◌≤◌, refl, sym, ◌∙◌, ap, subst, arith, false, List, length, Option, Some, None, is_none}
 use Rattle.std.specs.Prelude.{Result, Ok, Err, IfOk, IfErr, IsSome, slice_index}
-use Rattle.kd_base.specs.FirstFaults.{first_both}
-use Rattle.kd_base.specs.Tools.{ok_of, err_of}
+use Rattle.kd_base.specs.FirstFaultsLaws.{first_both}
+use Rattle.kd_base.specs.ToolsLaws.{ok_of, err_of}
 use Rattle.kdcdef_types.specs.declared.statement.Statement.{Statement}
 use Rattle.kdcdef_types.specs.Generation.{Generated}
 use Rattle.kdcdef_check.specs.declared.fault.CheckFault.{CheckFault}

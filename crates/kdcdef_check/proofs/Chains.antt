@@ -1,7 +1,8 @@
 -- The first of the faults of one statement.
 use Rattle.std.proofs.Common.{◌≡◌, ◌⊎◌, ℕ, refl, sym, subst, inl, inr, arith, Bool, true, List, [], ◌∷◌, length, take, Option}
 use Rattle.std.proofs.lemmas.Option.{slice_get_within}
-use Rattle.kd_base.specs.FirstFaults.{IsTested, chain_first, first_of_both}
+use Rattle.kd_base.specs.FirstFaults.{IsTested}
+use Rattle.kd_base.specs.FirstFaultsLaws.{chain_first, first_of_both}
 use Rattle.kdcdef_types.specs.declared.statement.Statement.{Statement}
 use Rattle.kdcdef_check.specs.declared.fault.CheckFault.{CheckFault}
 use Rattle.kdcdef_check.specs.declared.fault.CheckFault.TheVariants.{NameTwice, NoProgram, NoLterm, LtermTwice, NoMax, ClassOfWrongKind, PoolTooSmall, NoUser, TooMany, Memory}

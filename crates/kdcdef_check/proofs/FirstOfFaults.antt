@@ -1,8 +1,8 @@
 -- The first of the faults that were found.
 use Rattle.std.proofs.Common.{◌≡◌, ◌⊎◌, ℕ, ◌+◌, ◌<◌, get_or, refl, sym, ◌∙◌, ap, subst, inl, inr, arith, List, length, slice_get, Option, Some, None}
 use Rattle.std.proofs.lemmas.Option.{slice_get_read}
-use Rattle.kd_base.specs.Tools.{some_is}
-use Rattle.kd_base.specs.FirstFaults.{first_of_both}
+use Rattle.kd_base.specs.ToolsLaws.{some_is}
+use Rattle.kd_base.specs.FirstFaultsLaws.{first_of_both}
 use Rattle.kdcdef_types.specs.declared.statement.Statement.{Statement}
 use Rattle.kdcdef_check.specs.declared.fault.CheckFault.{CheckFault}
 use Rattle.kdcdef_check.specs.Faults.{line_of, number_of}

@@ -15,8 +15,8 @@ use Rattle.kdcdef_lex.specs.Lines.{is_mark, up_to_last, continued}
 use Rattle.kdcdef_lex.specs.Grammar.{written, AreTokens, IsStatement}
 use Rattle.kdcdef_lex.specs.Spelling.{Joins, BeginsStatement, Cut, AllSay, SpellsStatements}
 use Rattle.kdcdef_lex.specs.Bounds.{LinesUpTo, operand_count, AreWithinBounds}
-use Rattle.kd_base.specs.Tools.{chosen, some_is}
-use Rattle.texts.specs.Lines.{is_line_feed, first_line, last_line}
+use Rattle.kd_base.specs.ToolsLaws.{chosen, some_is}
+use Rattle.texts.specs.LinesLaws.{is_line_feed, first_line, last_line}
 use Rattle.kdcdef_lex.proofs.Words.{starts}
 use Rattle.kdcdef_lex.proofs.Statements.{operands_fit}
 

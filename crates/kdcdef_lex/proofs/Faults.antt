@@ -20,7 +20,7 @@ use Rattle.kd_base.specs.FirstFaults.{items_of}
 use Rattle.kdcdef_lex.specs.Grammar.{AreTokens, IsStatement}
 use Rattle.kdcdef_lex.specs.Spelling.{Joins, JoinsOpen, BeginsStatement, IsGroup, Cut, SpellsStatements}
 use Rattle.kdcdef_lex.specs.Faults.{IsText, HasFault, FirstFault, HasTextFault}
-use Rattle.kd_base.specs.Tools.{chosen, both_true, not_both, cases_option, err_of, err_is, bind_err}
+use Rattle.kd_base.specs.ToolsLaws.{chosen, both_true, not_both, cases_option, err_of, err_is, bind_err}
 use Rattle.kdcdef_lex.proofs.Words.{tokens_are, are_tokens}
 use Rattle.kdcdef_lex.proofs.Statements.{statement_is, is_statement}
 use Rattle.kdcdef_lex.proofs.Spelling.{group_says, group_reads, groups_passed, groups_begun, cons_joins, say_read, read_say}

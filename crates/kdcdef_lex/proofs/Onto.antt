@@ -1,6 +1,7 @@
 -- What is put in front of what is found, piece by piece.
 use Rattle.std.proofs.Common.{◌≡◌, ℕ, suc, ◌<◌, Bool, true, false, ◌+◌, ◌*◌, ◌≤◌, length, drop, get_or, arith, ◌-◌, List, [], ◌∷◌, ◌++◌, Option, Some, None, refl, sym, ap, ◌∙◌}
-use Rattle.kd_base.specs.Tools.{onto, onto_then, onto_first, onto_first_then}
+use Rattle.kd_base.specs.Tools.{onto, onto_first}
+use Rattle.kd_base.specs.ToolsLaws.{onto_then, onto_first_then}
 use Rattle.kdcdef_lex.specs.declared.token.Token.{Token}
 use Rattle.kdcdef_lex.specs.declared.statement.RawItem.{RawItem}
 use Rattle.kdcdef_lex.specs.declared.statement.RawOperand.{RawOperand}

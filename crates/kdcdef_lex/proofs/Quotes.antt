@@ -8,15 +8,17 @@ use Rattle.kdcdef_lex.specs.declared.token.Token.{Token}
 use Rattle.kdcdef_lex.specs.declared.token.Token.TheVariants.{Word, Quoted, Comma, Equals, Open, Close}
 use Rattle.texts.specs.Blanks.{is_blank, from_first}
 use Rattle.texts.specs.Quotes.{is_quote, quoted_at, doubled}
-use Rattle.texts.specs.Quoted.{first_quote}
+use Rattle.texts.specs.QuotedLaws.{first_quote}
 use Rattle.texts.specs.Parts.{part_step, parts_within}
 use Rattle.kdcdef_lex.specs.Lines.{is_word_byte}
 use Rattle.kdcdef_lex.specs.Tokens.{mark_of, marked, word_at, token_at, tokens_of}
 use Rattle.kdcdef_lex.specs.Grammar.{written, IsToken, AreTokens}
 use Rattle.kdcdef_lex.specs.Faults.{odd_quotes}
 use Rattle.kdcdef_lex.proofs.Words.{token_takes, tokens_are}
-use Rattle.kd_base.specs.Fronts.{begins, front_passes, stops}
-use Rattle.kd_base.specs.Tools.{chosen, both_true, map_some, map_none, and_none, onto, onto_first}
+use Rattle.kd_base.specs.Fronts.{begins}
+use Rattle.kd_base.specs.FrontsLaws.{front_passes, stops}
+use Rattle.kd_base.specs.ToolsLaws.{chosen, both_true, map_some, map_none, and_none}
+use Rattle.kd_base.specs.Tools.{onto, onto_first}
 
 twice : (b : Bool) → not (not b) ≡ b
 twice true = refl

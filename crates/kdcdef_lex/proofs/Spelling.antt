@@ -18,7 +18,7 @@ use Rattle.kdcdef_lex.specs.Parsing.{statement_at}
 use Rattle.kdcdef_lex.specs.Reading.{is_text_byte, leaves_open, operands_fault, tokens_fault, statement_of, with_front, statements_of}
 use Rattle.kdcdef_lex.specs.Grammar.{IsValue, IsKeyed, AreOperands, IsStatement}
 use Rattle.kdcdef_lex.specs.Spelling.{Joins, BeginsStatement, Says, AllSay}
-use Rattle.kd_base.specs.Tools.{chosen, both_true, ok_is, bind_ok}
+use Rattle.kd_base.specs.ToolsLaws.{chosen, both_true, ok_is, bind_ok}
 use Rattle.kdcdef_lex.proofs.Words.{tokens_are, are_tokens}
 use Rattle.kdcdef_lex.proofs.Statements.{statement_is, is_statement}
 

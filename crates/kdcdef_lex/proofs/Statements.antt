@@ -12,7 +12,8 @@ use Rattle.kdcdef_lex.specs.declared.statement.RawOperand.{RawOperand}
 use Rattle.kdcdef_lex.specs.declared.statement.RawStatement.{RawStatement}
 use Rattle.kdcdef_lex.specs.Parsing.{quoted_value, item_at, item_ended, item_step, items_within, value_at, with_key, operand_at, operand_ended, operand_step, operands_within, operands_of, statement_at}
 use Rattle.kdcdef_lex.specs.Grammar.{IsItem, AreItems, IsValue, IsKeyed, IsOperand, AreOperands, IsStatement}
-use Rattle.kd_base.specs.Tools.{map_some, some_is, chosen, and_some, onto, onto_first}
+use Rattle.kd_base.specs.ToolsLaws.{map_some, some_is, chosen, and_some}
+use Rattle.kd_base.specs.Tools.{onto, onto_first}
 
 -- ---- items
 

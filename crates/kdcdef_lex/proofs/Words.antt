@@ -10,13 +10,14 @@ use Rattle.kdcdef_lex.specs.declared.token.Token.{Token}
 use Rattle.kdcdef_lex.specs.declared.token.Token.TheVariants.{Word, Quoted, Comma, Equals, Open, Close}
 use Rattle.texts.specs.Blanks.{is_blank}
 use Rattle.texts.specs.Quotes.{is_quote, quoted_at, doubled}
-use Rattle.texts.specs.Quoted.{quoted_takes, quoted_again, first_quote}
-use Rattle.texts.specs.Parted.{Taken as TakenSo, ReadsWritten, parts_are, are_parts}
+use Rattle.texts.specs.QuotedLaws.{quoted_takes, quoted_again, first_quote}
+use Rattle.texts.specs.PartedLaws.{Taken as TakenSo, ReadsWritten, parts_are, are_parts}
 use Rattle.kdcdef_lex.specs.Lines.{is_word_byte}
 use Rattle.kdcdef_lex.specs.Tokens.{mark_of, marked, word_at, token_at, tokens_of}
 use Rattle.kdcdef_lex.specs.Grammar.{written, IsToken, Ends, AreTokens}
-use Rattle.kd_base.specs.Fronts.{begins, front_passes, stops, split_there}
-use Rattle.kd_base.specs.Tools.{map_some, chosen, some_is, both_true}
+use Rattle.kd_base.specs.Fronts.{begins}
+use Rattle.kd_base.specs.FrontsLaws.{front_passes, stops, split_there}
+use Rattle.kd_base.specs.ToolsLaws.{map_some, chosen, some_is, both_true}
 
 -- ---- bytes
 

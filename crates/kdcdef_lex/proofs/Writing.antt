@@ -8,8 +8,8 @@ use Rattle.std.proofs.lemmas.Bool.{cases_Bool, eqb-true, ltb-true, ltb-false, lt
 use Rattle.std.proofs.lemmas.Bool.Decides.{nat_tests}
 use Rattle.std.proofs.lemmas.List.{take_at, drop_at, append-nil}
 use Rattle.kd_base.specs.Text.{hex_digit as hex_of}
-use Rattle.kd_base.specs.Fronts.{split_there}
-use Rattle.kd_base.specs.Tools.{both_true, true_both}
+use Rattle.kd_base.specs.FrontsLaws.{split_there}
+use Rattle.kd_base.specs.ToolsLaws.{both_true, true_both}
 use Rattle.kdcdef_lex.specs.declared.token.Token.{Token}
 use Rattle.kdcdef_lex.specs.declared.token.Token.TheVariants as tokens
 use Rattle.kdcdef_lex.specs.declared.group.Group.{Group}
@@ -27,7 +27,7 @@ use Rattle.kdcdef_lex.specs.Reading.{is_text_byte}
 use Rattle.kdcdef_lex.specs.Grammar.{written, IsToken, Ends, AreTokens, IsItem, AreItems, IsValue, IsKeyed, AreOperands, IsStatement}
 use Rattle.kdcdef_lex.specs.Spelling.{IsGroup, Cut, Spells, AllSay}
 use Rattle.kdcdef_lex.specs.Writing.{hex_written, quoted_token, item_tokens, items_tokens, value_tokens, keyed_tokens, operands_tokens, statement_tokens, with_blanks, plain_line, plain_text, is_byte, IsWord, ItemIsWritable, ItemsAreWritable, ValueIsWritable, KeyedIsWritable, OperandsAreWritable, IsWritable, AreWritable, PlainTextSpells}
-use Rattle.texts.specs.Lines.{is_line_feed, first_line}
+use Rattle.texts.specs.LinesLaws.{is_line_feed, first_line}
 
 -- ---- hexadecimal digits
 

@@ -4,7 +4,7 @@ use Rattle.std.specs.Prelude.{is_some}
 use Rattle.std.specs.List.{All}
 use Rattle.std.proofs.lemmas.List.Elements.{All-nil, All-cons}
 use Rattle.std.specs.Option.{option_or}
-use Rattle.kd_base.specs.Tools.{some_is, ok_is}
+use Rattle.kd_base.specs.ToolsLaws.{some_is, ok_is}
 use Rattle.kdcdef_lex.specs.declared.statement.RawOperand.{RawOperand}
 use Rattle.kdcdef_lex.specs.declared.statement.RawStatement.{RawStatement}
 use Rattle.kdcdef_lex.specs.Bounds.{AreWithinBounds}

@@ -3,7 +3,8 @@ use Rattle.std.proofs.Common.{◌≡◌, ◌≢◌, ◌⊎◌, ℕ, ◌+◌, Boo
 use Rattle.std.specs.Prelude.{is_some}
 use Rattle.std.proofs.lemmas.Bool.{cases_Bool, false≢true}
 use Rattle.std.specs.Option.{option_or}
-use Rattle.kd_base.specs.Tools.{◌>>=◌, chosen, bind_ok, bind_err, ok_is, err_is, some_of}
+use Rattle.kd_base.specs.Tools.{◌>>=◌}
+use Rattle.kd_base.specs.ToolsLaws.{chosen, bind_ok, bind_err, ok_is, err_is, some_of}
 use Rattle.kdcdef_lex.specs.declared.statement.RawOperand.{RawOperand}
 use Rattle.kdcdef_read.specs.declared.fault.Cause.{Cause}
 use Rattle.kdcdef_read.specs.declared.fault.Cause.TheVariants.{OperandTwice}

@@ -5,7 +5,7 @@ use Rattle.std.specs.Result.{result_ok}
 use Rattle.std.proofs.lemmas.Bool.{cases_Bool, leb-true}
 use Rattle.std.specs.Option.{option_or}
 use Rattle.kd_base.specs.Text.{decimal_of}
-use Rattle.kd_base.specs.Tools.{chosen, both_true, some_is, bind_ok, ok_is, ok_of}
+use Rattle.kd_base.specs.ToolsLaws.{chosen, both_true, some_is, bind_ok, ok_is, ok_of}
 use Rattle.kdcdef_lex.specs.declared.statement.RawOperand.{RawOperand}
 use Rattle.kdcdef_lex.specs.declared.statement.RawValue.{RawValue}
 use Rattle.kdcdef_lex.specs.declared.statement.RawValue.TheVariants as raw

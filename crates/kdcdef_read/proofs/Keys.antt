@@ -3,7 +3,7 @@ use Rattle.std.proofs.Common.{◌≡◌, ◌<◌, true, List, [], ◌∷◌, Som
 use Rattle.std.proofs.lemmas.Option.{slice_get_within}
 use Rattle.std.specs.List.{slice_get}
 use Rattle.std.proofs.lemmas.Bool.{eqb-true}
-use Rattle.kd_base.specs.Tools.{some_is}
+use Rattle.kd_base.specs.ToolsLaws.{some_is}
 use Rattle.kdcdef_read.specs.declared.words.Key.{Key}
 use Rattle.kdcdef_read.specs.declared.words.Key.TheVariants as keys
 use Rattle.kdcdef_read.specs.Words.{place_of}

@@ -1,7 +1,8 @@
 -- A loop over a list, one item further.
 use Rattle.std.proofs.Common.{◌≡◌, ℕ, zero, suc, ◌+◌, ◌<◌, ◌≤◌, Bool, false, List, [], ◌∷◌, ◌++◌, length, drop, get_or, Result, Ok, Err, refl, sym, ap, ◌∙◌, subst, arith, add-one, append_assoc}
 use Rattle.std.proofs.Math.Seq.{drop-cons}
-use Rattle.kd_base.specs.Tools.{◌>>=◌, ok_of}
+use Rattle.kd_base.specs.Tools.{◌>>=◌}
+use Rattle.kd_base.specs.ToolsLaws.{ok_of}
 use Rattle.kdcdef_lex.specs.declared.statement.RawOperand.{RawOperand}
 use Rattle.kdcdef_lex.specs.declared.statement.RawStatement.{RawStatement}
 use Rattle.kdcdef_lex.specs.Bounds.{LinesUpTo, operand_count}

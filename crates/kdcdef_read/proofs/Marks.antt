@@ -3,7 +3,7 @@ use Rattle.std.proofs.Common.{◌≡◌, ◌⊎◌, ℕ, Bool, true, List, [], �
 use Rattle.std.proofs.Math.Path.{fun_ext}
 use Rattle.std.specs.Prelude.{is_some}
 use Rattle.std.specs.Option.{option_or}
-use Rattle.kd_base.specs.Tools.{bind_ok, bind_err, ok_is, err_is, ok_of, err_of}
+use Rattle.kd_base.specs.ToolsLaws.{bind_ok, bind_err, ok_is, err_is, ok_of, err_of}
 use Rattle.kdcdef_lex.specs.declared.statement.RawOperand.{RawOperand}
 use Rattle.kdcdef_lex.specs.declared.statement.RawStatement.{RawStatement}
 use Rattle.kdcdef_types.specs.declared.statement.Said.TheVariants as says

@@ -4,7 +4,7 @@ use Rattle.std.specs.Prelude.{IfSome, option_and_then}
 use Rattle.std.specs.Option.{option_map}
 use Rattle.std.specs.List.{All}
 use Rattle.std.proofs.lemmas.List.Elements.{All-nil, All-cons}
-use Rattle.kd_base.specs.Tools.{some_is, some_of, map_some, and_some, ok_is}
+use Rattle.kd_base.specs.ToolsLaws.{some_is, some_of, map_some, and_some, ok_is}
 use Rattle.kdcdef_lex.specs.declared.statement.RawOperand.{RawOperand}
 use Rattle.kdcdef_lex.specs.declared.statement.RawStatement.{RawStatement}
 use Rattle.kdcdef_lex.specs.Bounds.{LinesUpTo, operand_count}

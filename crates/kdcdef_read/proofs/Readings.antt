@@ -1,7 +1,8 @@
 -- What is read is what the statements stand for, and what is refused has the fault.
 use Rattle.std.proofs.Common.{◌≡◌, ℕ, ◌+◌, Bool, true, false, List, [], ◌∷◌, ◌++◌, Result, Ok, Err, refl, sym, ap, ◌∙◌, subst, inl, inr}
 use Rattle.std.proofs.lemmas.Bool.{cases_Bool}
-use Rattle.kd_base.specs.Tools.{◌>>=◌, bind_ok, bind_err, ok_is, err_is, err_of}
+use Rattle.kd_base.specs.Tools.{◌>>=◌}
+use Rattle.kd_base.specs.ToolsLaws.{bind_ok, bind_err, ok_is, err_is, err_of}
 use Rattle.kdcdef_lex.specs.declared.statement.RawOperand.{RawOperand}
 use Rattle.kdcdef_lex.specs.declared.statement.RawStatement.{RawStatement}
 use Rattle.kdcdef_types.specs.declared.statement.Said.{Said}

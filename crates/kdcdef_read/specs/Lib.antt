@@ -1,5 +1,6 @@
 pub mod Passwords
 pub mod PasswordCells
+pub mod PasswordCellsLaws
 pub mod Words
 pub mod Table
 pub mod Values

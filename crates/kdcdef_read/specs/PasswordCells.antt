@@ -1,6 +1,5 @@
 -- How a password lies in memory: its bytes, filled with spaces, and how many they are.
 use Rattle.std.specs.Prelude.{◌≡◌, ℕ, ◌≤◌, List, length, take}
-use Rattle.std.proofs.Common.{ap, sym, ◌∙◌}
 use Rattle.kd_base.specs.Text.{filled}
 use Rattle.kdcdef_read.specs.declared.password.Password.TheInside.{Inside}
 
@@ -9,9 +8,5 @@ pub record IsPasswordCells (n : Inside) : Type 0 where
   pub rest : n.cells ≡ filled 16 (take n.used n.cells)
   pub short : length (take n.used n.cells) ≤ 16
 
-abbrev cells_of : List ℕ → ℕ → Inside
+abbrev pub cells_of : List ℕ → ℕ → Inside
 cells_of cells used = record { cells = cells; used = used }
-
-pub same_password : (n : Inside) → IsPasswordCells n → cells_of (filled 16 (take n.used n.cells)) (length (take n.used n.cells)) ≡ n
-same_password n h =
-    ap (cells_of (filled 16 (take n.used n.cells))) h.used ∙ ap (λ (cells : List ℕ). cells_of cells n.used) (sym h.rest)

@@ -17,7 +17,7 @@ impl Model for Password {
 
     ghost Value = { List ℕ };
 
-    ghost use Rattle.kdcdef_read.specs.PasswordCells.{IsPasswordCells, same_password};
+    ghost use Rattle.kdcdef_read.specs.{PasswordCells.{IsPasswordCells}, PasswordCellsLaws.{same_password}};
 
     ghost view = { λ n. take n.used n.cells };
 

@@ -4,8 +4,8 @@ use Rattle.std.specs.Prelude.{codes}
 use Rattle.std.specs.Int.{w32, w64, to_be_bytes}
 use Rattle.std.specs.List.{flat_map}
 use Rattle.kd_device.specs.Device.{State, LeavesOnly, Only, Quiet, Torn, written}
-use Rattle.kd_device.specs.Torn.{torn_done, length-written}
-use Rattle.kd_device.specs.Time.{leaves_weaker, leaves_then, quiet_leaves}
+use Rattle.kd_device.specs.TornLaws.{torn_done, length-written}
+use Rattle.kd_device.specs.TimeLaws.{leaves_weaker, leaves_then, quiet_leaves}
 use Rattle.kd_records.specs.declared.content.Content.{Content}
 use Rattle.kd_records.specs.Identity.{Identity}
 use Rattle.kdcfile_images.specs.File.{Stands, StandsFor, StandsAt, spelled, spelled_record, root, image_size, place, head, selector}
@@ -13,7 +13,7 @@ use Rattle.kdcfile_images.specs.declared.image.Root.{Root}
 use Rattle.kdcfile_images.specs.Opened.{Opened, identity_of, renewed}
 use Rattle.kdcfile_images.specs.Commit.{spelled_root, other_place, other_end, staged, committed, Either, InImageOrSelector, Replaces}
 use Rattle.kdcfile_images.proofs.Torns.{torn_wider, torn_then, torn_back}
-use Rattle.kdcfile_images.specs.Parts.{within_file, byte_below, stands_below, stands_above, one_of_two}
+use Rattle.kdcfile_images.specs.PartsLaws.{within_file, byte_below, stands_below, stands_above, one_of_two}
 
 pub spelled_some : (i : Identity) (x : Content) → 0 < length (spelled i x)
 spelled_some i x =

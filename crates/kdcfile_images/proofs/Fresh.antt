@@ -4,7 +4,7 @@ use Rattle.std.proofs.lemmas.Bool.{cases_eq}
 use Rattle.std.proofs.lemmas.Grind.{common_steps}
 use Rattle.std.proofs.lemmas.List.{take_at, drop_at, get_or-take, get_or-append_right, get_or_append_left, get_or-replicate, length-replicate, append-nil, drop_more, take_all, drop_all, length-take}
 use Rattle.kd_device.specs.Device.{State, LeavesOnly, Only, Quiet, Torn, written}
-use Rattle.kd_device.specs.Time.{leaves_weaker, leaves_then, quiet_leaves}
+use Rattle.kd_device.specs.TimeLaws.{leaves_weaker, leaves_then, quiet_leaves}
 use Rattle.kd_records.specs.declared.content.Content.{Content}
 use Rattle.kd_records.specs.Identity.{Identity, IsIdentity}
 use Rattle.kd_records.specs.Contents.{IsContent}

@@ -5,7 +5,7 @@ use Rattle.std.proofs.lemmas.List.{append-nil}
 use Rattle.kd_records.specs.declared.key.RecordKey.{RecordKey}
 use Rattle.kd_records.specs.Contents.{Record}
 use Rattle.kdcfile_images.specs.Reading.{record_at, after_record, records_of, onto, follows}
-use Rattle.kdcfile_images.specs.ReadRecords.{one_and_more, no_more, none_left}
+use Rattle.kdcfile_images.specs.ReadRecordsLaws.{one_and_more, no_more, none_left}
 
 onto_onto : (a b : List Record) (o : Option (List Record)) → onto a (onto b o) ≡ onto (a ++ b) o
 onto_onto a b None = refl

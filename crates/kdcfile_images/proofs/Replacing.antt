@@ -1,7 +1,7 @@
 -- An image is written and synced, and then the selector.
 use Rattle.std.proofs.Common.{◌≡◌, inl, inr, ℕ, ◌+◌, min, List, length, ap, subst, ◌∙◌, arith}
 use Rattle.kd_device.specs.Device.{State, LeavesOnly, Torn, written}
-use Rattle.kd_device.specs.Time.{leaves_weaker, leaves_then}
+use Rattle.kd_device.specs.TimeLaws.{leaves_weaker, leaves_then}
 use Rattle.kdcfile_images.specs.Writes.{WritesOnly, IsSynced}
 use Rattle.kdcfile_images.specs.Commit.{InImageOrSelector, Replaces}
 

@@ -3,8 +3,8 @@ use Rattle.std.proofs.Common.{◌≡◌, ℕ, ◌+◌, ◌≤◌, min, List, len
 use Rattle.std.proofs.Common.{inl}
 use Rattle.std.specs.Prelude.{OnOk}
 use Rattle.kd_device.specs.Device.{State, LeavesOnly, Now, Only, Torn, Quiet, Writes, written}
-use Rattle.kd_device.specs.Torn.{torn_done, torn_not}
-use Rattle.kd_device.specs.Time.{leaves_weaker, leaves_then}
+use Rattle.kd_device.specs.TornLaws.{torn_done, torn_not}
+use Rattle.kd_device.specs.TimeLaws.{leaves_weaker, leaves_then}
 use Rattle.kdcfile_images.specs.Writes.{WritesOnly, IsPending, IsSynced}
 use Rattle.kdcfile_images.proofs.Torns.{torn_wider, torn_then}
 

@@ -5,10 +5,10 @@ pub mod Reading
 pub mod Writes
 pub mod Commit
 pub mod Fresh
-pub mod Tests
-pub mod Places
-pub mod Heads
-pub mod ReadRecords
-pub mod ReadImages
-pub mod Parts
-pub mod Written
+pub mod TestsLaws
+pub mod PlacesLaws
+pub mod HeadsLaws
+pub mod ReadRecordsLaws
+pub mod ReadImagesLaws
+pub mod PartsLaws
+pub mod WrittenLaws

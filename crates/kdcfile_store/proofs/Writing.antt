@@ -7,13 +7,14 @@ use Rattle.kd_device.specs.Device.{State, LeavesOnly}
 use Rattle.kd_records.specs.declared.content.Content.{Content}
 use Rattle.kd_records.specs.Contents.{Record, IsContent}
 use Rattle.kd_records.specs.Charge.{total_charge}
-use Rattle.kd_records.specs.ChargeLaws.{record_length, charged_records_fit, length_within, values_fit}
+use Rattle.kd_records.specs.Charged.{record_length}
+use Rattle.kd_records.specs.ChargeLaws.{charged_records_fit, length_within, values_fit}
 use Rattle.kd_records.specs.Identity.{Identity, IsIdentity}
 use Rattle.kdcfile_images.specs.File.{Stands, root, spelled_record, image_size}
 use Rattle.kdcfile_images.specs.Opened.{Opened, identity_of, renewed}
 use Rattle.kdcfile_images.specs.Commit.{committed, Either}
 use Rattle.kdcfile_images.specs.declared.image.Root.{Root}
-use Rattle.kdcfile_images.specs.Written.{records_stand}
+use Rattle.kdcfile_images.specs.WrittenLaws.{records_stand}
 use Rattle.kdcfile_store.specs.Whole.{root_with}
 
 pub length-root : (i : Identity) (y : Content) → IsIdentity i → length (root i y) ≡ 64

@@ -1,6 +1,6 @@
 //! Records as the bytes that stand behind the root of an image.
 ghost use Rattle.std.specs.{Prelude.{◌≡◌, ◌+◌, ◌<◌, ◌^◌, ◌++◌, length, sum_by, All, IfOk, OnOk}, List.{flat_map}};
-ghost use Rattle.kd_records.specs.{Contents.{Record}, ChargeLaws.{record_length}};
+ghost use Rattle.kd_records.specs.{Contents.{Record}, Charged.{record_length}};
 ghost use Rattle.kdcfile_images.specs.File.{spelled_record};
 
 use kd_base::{Bytes, OutOfMemory};

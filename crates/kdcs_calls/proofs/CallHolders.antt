@@ -25,7 +25,7 @@ use Rattle.abstract_monitor.specs.Endings.{is_asynchronous}
 use Rattle.abstract_monitor.specs.Locks.{Locks}
 use Rattle.abstract_monitor.specs.State.{OpenTransaction as Work}
 use Rattle.kdcs_calls.specs.Calling.{HoldersFollow, HoldsJust, locks_by_call}
-use Rattle.kdcs_calls.specs.Holding.{follow_holds, quiet_follows}
+use Rattle.kdcs_calls.specs.HoldingLaws.{follow_holds, quiet_follows}
 use Rattle.kdcs_calls.proofs.Holders.{IsQuiet, locked_follows, unlocked_follows}
 use Rattle.kdcs_calls.proofs.AreaCalls.{IsAlone, answer_to, performed_follows}
 

@@ -22,7 +22,7 @@ use Rattle.abstract_monitor.specs.Calls.{Told, Performed, locked, noted, on_answ
 use Rattle.abstract_monitor.specs.Locks.{Locks, answer_of, holder}
 use Rattle.abstract_monitor.specs.State.{OpenTransaction as Work}
 use Rattle.kdcs_calls.specs.Calling.{HoldersFollow, HoldsJust, holder_then, may_release}
-use Rattle.kdcs_calls.specs.Holding.{kept, quiet_follows}
+use Rattle.kdcs_calls.specs.HoldingLaws.{kept, quiet_follows}
 use Rattle.kdcs_calls.specs.Parts.{told_of}
 use Rattle.kdcs_calls.proofs.Locking.{same_answer}
 

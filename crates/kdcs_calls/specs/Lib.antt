@@ -1,3 +1,3 @@
 pub mod Calling
-pub mod Holding
+pub mod HoldingLaws
 pub mod Parts

@@ -8,7 +8,7 @@ use Rattle.std.specs.declared.cmp.Ordering.TheVariants.{Less, Equal, Greater}
 use Rattle.std.specs.Cmp.{eq_by_cmp_equiv}
 use Rattle.std.specs.FinMap.{find, put, is_sorted}
 use Rattle.std.specs.FinMap.Entries.{by_order, below_all, where_key, find-put, find-where_key, is_sorted-put, is_sorted-where_key, is_some-find, same_entries}
-use Rattle.kd_base.specs.Tools.{both_true, true_both}
+use Rattle.kd_base.specs.ToolsLaws.{both_true, true_both}
 use Rattle.kdcs_types.specs.declared.key.Key.{Key}
 use Rattle.kdcs_types.specs.Keys.{key_cmp, key_eq}
 use Rattle.kdcs_types.specs.Keyed.{keyed, ascends, item_at, with_item, without_item}

@@ -4,7 +4,7 @@ use Rattle.std.proofs.Common.{sym, ap, true≢false}
 use Rattle.std.proofs.lemmas.Bool.{eqb-true, eq-eqb}
 use Rattle.std.specs.Option.{option_eq}
 use Rattle.std.specs.Cmp.Lexicographic.{pointwise, bytes_decides}
-use Rattle.kd_base.specs.Tools.{both_true, true_both}
+use Rattle.kd_base.specs.ToolsLaws.{both_true, true_both}
 use Rattle.kdcs_types.specs.declared.key.Target.{Target}
 use Rattle.kdcs_types.specs.declared.key.Target.TheVariants as target
 use Rattle.kdcs_types.specs.declared.service.Service.{Service}

@@ -13,7 +13,7 @@ use Rattle.unit_types.specs.UnitText.{UnitText}
 use Rattle.unit_check.specs.Fitted.{FittedUnits, IsFit, IsFitted, AreFit, unit_named}
 use Rattle.abstract_monitor.specs.State.{unit_by, unit_of}
 use Rattle.laws_of_steps.specs.Applications.{IsFittedUnit, HasUnit, IsApplication}
-use Rattle.laws_of_tables.specs.Entries.{short_names}
+use Rattle.laws_of_tables.specs.EntriesLaws.{short_names}
 use Rattle.laws_of_applications.specs.Applied.{applied}
 
 -- what is found of items that all have it has it

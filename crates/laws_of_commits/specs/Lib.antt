@@ -1,5 +1,5 @@
 pub mod CommitLaws
-pub mod Making
-pub mod Ends
-pub mod Shows
-pub mod Numbers
+pub mod MakingLaws
+pub mod EndsLaws
+pub mod ShowsLaws
+pub mod NumbersLaws

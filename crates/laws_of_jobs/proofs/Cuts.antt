@@ -18,11 +18,12 @@ use Rattle.laws_of_steps.specs.DurableLaws.{durable_sorted}
 use Rattle.laws_of_steps.specs.Facts.{IsSignedOn}
 use Rattle.laws_of_steps.specs.Keeping.{HasFacts}
 use Rattle.laws_of_steps.specs.Cut.{commits_in}
-use Rattle.laws_of_steps.specs.Steps.{AreLines, CommitsOnce, StepsMakeTheirTables, commits_of_both, lines_commit_nothing, commit_counts}
-use Rattle.laws_of_places.specs.Rows.{kept_at, durable_service}
+use Rattle.laws_of_steps.specs.Steps.{AreLines, CommitsOnce, StepsMakeTheirTables}
+use Rattle.laws_of_steps.specs.StepsLaws.{commits_of_both, lines_commit_nothing, commit_counts}
+use Rattle.laws_of_places.specs.RowsLaws.{kept_at, durable_service}
 use Rattle.laws_of_steps.specs.EachStep.{EachStep}
 use Rattle.laws_of_runs.specs.RunLaws.{HistoriesCommitOnce, StartsHaveFacts, ScriptsKeepFacts}
-use Rattle.laws_of_runs.specs.Lists.{tables_both}
+use Rattle.laws_of_runs.specs.ListsLaws.{tables_both}
 use Rattle.laws_of_runs.specs.SerialRuns.{makers_of}
 use Rattle.laws_of_jobs.specs.Stored.{StepsDone}
 use Rattle.laws_of_jobs.specs.ResumeLaws.{IsReadyAt, StartsResume, SignOnResumes, SignOnsResume, CutsResume}

@@ -29,8 +29,8 @@ use Rattle.abstract_monitor.specs.Statements.{kept_record}
 use Rattle.abstract_monitor.specs.Turns.{out_acts, message_acts, Turned, without_work, pterm_of_user, after_point, settled_by, settled, abnormal, last_again, back_by, back, happens, statement_now, worked, turn_of, commit_of}
 use Rattle.abstract_monitor.specs.declared.command.Command.TheVariants.{Input, Tick, Run, Turn, Drop, Print, PrintLast, Restart}
 use Rattle.abstract_monitor.specs.Commands.{signed_on_by, show_next, show_by, show_again_by, due_for, display, last_by, used, use_now, tick_by, drop_by, command_of, lterm_at, maker_of, turned_step}
-use Rattle.laws_of_steps.specs.TablesStay.{sent-tables, goes-tables}
-use Rattle.laws_of_steps.specs.EachTurn.{of_turn}
+use Rattle.laws_of_steps.specs.TablesStayLaws.{sent-tables, goes-tables}
+use Rattle.laws_of_steps.specs.EachTurnLaws.{of_turn}
 use Rattle.laws_of_steps.specs.Commits.{EndsSo, ending_by}
 use Rattle.laws_of_jobs.specs.Doings.{tables_by, point_lines, lines_by, Settling, StepMakes}
 use Rattle.laws_of_jobs.specs.QueueLaws.{TurnsDoSo, CommandsDoSo}

@@ -7,7 +7,7 @@ use Rattle.std.proofs.lemmas.Bool.{ltb-true}
 use Rattle.std.specs.List.{list_all}
 use Rattle.std.proofs.Common.{sym, ap, subst, ◌∙◌, inl, inr, arith, true≢false}
 use Rattle.std.specs.FinMap.Entries.{below_all}
-use Rattle.kd_base.specs.Tools.{both_true, map_some}
+use Rattle.kd_base.specs.ToolsLaws.{both_true, map_some}
 use Rattle.kdcs_types.specs.declared.act.Act.{Act}
 use Rattle.kdcs_types.specs.declared.key.Key.{Key}
 use Rattle.kdcs_types.specs.declared.key.Key.TheVariants.{Job as JobKey}
@@ -28,11 +28,12 @@ use Rattle.abstract_monitor.specs.Trace.{history}
 use Rattle.laws_of_steps.specs.Applications.{IsApplication}
 use Rattle.laws_of_steps.specs.Keeping.{Leads, HasFacts, IsScriptOf}
 use Rattle.laws_of_steps.specs.Steps.{CommitsOnce, TurnsCommitOnce, CommandsCommitOnce}
-use Rattle.laws_of_tables.specs.Items.{IsIn}
-use Rattle.laws_of_steps.specs.EachStep.{EachStep, each_split}
-use Rattle.laws_of_runs.specs.Lists.{after_both}
+use Rattle.laws_of_tables.specs.ItemsLaws.{IsIn}
+use Rattle.laws_of_steps.specs.EachStep.{EachStep}
+use Rattle.laws_of_steps.specs.EachStepLaws.{each_split}
+use Rattle.laws_of_runs.specs.ListsLaws.{after_both}
 use Rattle.laws_of_places.specs.Along.{StepLaw}
-use Rattle.laws_of_jobs.specs.Along.{EachMeets, meets_along}
+use Rattle.laws_of_jobs.specs.AlongLaws.{EachMeets, meets_along}
 use Rattle.laws_of_jobs.specs.QueueLaws.{MeetsBoth, TurnsKeepQueues, CommandsKeepQueues, IsTakenAt, IsTakenIn}
 use Rattle.laws_of_jobs.proofs.Numbers.{at, value as value_of, same_number, not_made, at_both}
 

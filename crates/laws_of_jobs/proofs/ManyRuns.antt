@@ -10,7 +10,7 @@ use Rattle.abstract_monitor.specs.Commands.{started, state_after}
 use Rattle.laws_of_steps.specs.Applications.{IsApplication}
 use Rattle.laws_of_steps.specs.DurableLaws.{durable_again}
 use Rattle.laws_of_steps.specs.Suits.{Suits}
-use Rattle.laws_of_places.specs.Rows.{durable_service}
+use Rattle.laws_of_places.specs.RowsLaws.{durable_service}
 use Rattle.laws_of_runs.specs.RunLaws.{StartsHaveFacts}
 use Rattle.laws_of_jobs.specs.ManyRuns.{StoppedRun, IsRunFrom, AreRunsFrom, left_by, left_by_all, TookJob, OneTookJob, RunsKeepJobs, AllRunsKeepJobs}
 use Rattle.laws_of_jobs.specs.QueueLaws.{KeepsJobs, IsTakenIn, JobsAreDoneOnce}

@@ -24,11 +24,12 @@ use Rattle.laws_of_steps.specs.Applications.{IsApplication}
 use Rattle.laws_of_steps.specs.Keeping.{Leads, HasFacts, IsScriptOf}
 use Rattle.laws_of_steps.specs.Steps.{CommitsOnce, TurnsCommitOnce, CommandsCommitOnce}
 use Rattle.laws_of_steps.specs.Transactions.{HasOwnJob}
-use Rattle.laws_of_places.specs.Rows.{durable_service}
-use Rattle.laws_of_steps.specs.EachStep.{EachStep, each_split}
-use Rattle.laws_of_runs.specs.Lists.{after_both}
+use Rattle.laws_of_places.specs.RowsLaws.{durable_service}
+use Rattle.laws_of_steps.specs.EachStep.{EachStep}
+use Rattle.laws_of_steps.specs.EachStepLaws.{each_split}
+use Rattle.laws_of_runs.specs.ListsLaws.{after_both}
 use Rattle.laws_of_places.specs.Along.{StepLaw}
-use Rattle.laws_of_jobs.specs.Along.{EachMeets, meets_along}
+use Rattle.laws_of_jobs.specs.AlongLaws.{EachMeets, meets_along}
 use Rattle.laws_of_jobs.specs.QueueLaws.{MeetsBoth, TurnsKeepQueues, CommandsKeepQueues, KeepsNumbers, IsOver}
 
 -- ---- jobs by number

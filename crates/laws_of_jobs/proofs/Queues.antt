@@ -2,7 +2,7 @@
 use Rattle.std.specs.Prelude.{◌≡◌, refl, ℕ, ◌+◌, Bool, true, false, cond, IsSome, IfSome, List, [], ◌∷◌, ◌++◌, length, Option, Some, None, Contains}
 use Rattle.std.specs.Option.{option_map}
 use Rattle.std.proofs.Common.{sym, ap, subst, ◌∙◌, inl, inr, append-nil, add-zero, true≢false}
-use Rattle.kd_base.specs.Tools.{some_is}
+use Rattle.kd_base.specs.ToolsLaws.{some_is}
 use Rattle.kdcs_types.specs.declared.act.Act.{Act}
 use Rattle.kdcs_types.specs.declared.key.Key.{Key}
 use Rattle.kdcs_types.specs.declared.key.Key.TheVariants.{Job as JobKey, Shown as ShownKey}
@@ -31,9 +31,9 @@ use Rattle.laws_of_steps.specs.JobLaw.{jobs_left, new_jobs}
 use Rattle.laws_of_steps.specs.JobLaws.{points_number, ends_draw_none}
 use Rattle.laws_of_steps.specs.Keeping.{HasFacts}
 use Rattle.laws_of_steps.specs.Transactions.{HasOwnJob, IsRooted}
-use Rattle.laws_of_places.specs.Rows.{synchronised_own, synchronised_other, broken_own, broken_other, kept_at}
-use Rattle.laws_of_tables.specs.Items.{contains, IsIn}
-use Rattle.laws_of_tables.specs.Ends.{due-for, for-lterm}
+use Rattle.laws_of_places.specs.RowsLaws.{synchronised_own, synchronised_other, broken_own, broken_other, kept_at}
+use Rattle.laws_of_tables.specs.ItemsLaws.{contains, IsIn}
+use Rattle.laws_of_tables.specs.EndsLaws.{due-for, for-lterm}
 use Rattle.laws_of_jobs.specs.Doings.{tables_by, Settling, Showing, Ticking, StepMakes}
 use Rattle.laws_of_jobs.specs.QueueLaws.{MeetsBoth, TurnsDoSo, CommandsDoSo, TurnsKeepQueues, CommandsKeepQueues}
 

@@ -23,11 +23,11 @@ use Rattle.abstract_monitor.specs.Commands.{asynchronous_rows, opened_row, start
 use Rattle.laws_of_steps.specs.Facts.{IsSignedOn}
 use Rattle.laws_of_steps.specs.Keeping.{HasFacts}
 use Rattle.laws_of_steps.specs.Suits.{is_empty, awaits_rightly}
-use Rattle.laws_of_places.specs.Entries.{found_put}
-use Rattle.laws_of_places.specs.Rows.{kept_at}
-use Rattle.laws_of_tables.specs.RowParts.{row_parts}
-use Rattle.laws_of_tables.specs.States.{parts_of, row_found}
-use Rattle.kd_base.specs.Tools.{both_true}
+use Rattle.laws_of_places.specs.EntriesLaws.{found_put}
+use Rattle.laws_of_places.specs.RowsLaws.{kept_at}
+use Rattle.laws_of_tables.specs.RowPartsLaws.{row_parts}
+use Rattle.laws_of_tables.specs.StatesLaws.{parts_of, row_found}
+use Rattle.kd_base.specs.ToolsLaws.{both_true}
 use Rattle.laws_of_jobs.specs.ResumeLaws.{IsReadyAt, StartsResume, AwaitsAt, SignOnResumes, SignOnsResume}
 
 -- ---- starts

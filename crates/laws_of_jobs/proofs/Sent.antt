@@ -2,7 +2,7 @@
 use Rattle.std.specs.Prelude.{◌≡◌, refl, IsSome, true, false, List, ◌∷◌, Option, Some, None, is_some}
 use Rattle.std.proofs.Common.{sym, ap, ◌∙◌, true≢false}
 use Rattle.std.specs.FinMap.{find}
-use Rattle.kd_base.specs.Tools.{some_is}
+use Rattle.kd_base.specs.ToolsLaws.{some_is}
 use Rattle.kdcs_types.specs.declared.act.Act.{Act}
 use Rattle.kdcs_types.specs.declared.key.ServiceId.{ServiceId}
 use Rattle.kdcs_types.specs.declared.key.ServiceId.TheVariants.{Dialogue}
@@ -24,7 +24,7 @@ use Rattle.abstract_monitor.specs.Commands.{ScriptStep, Maker, ByTick, ByShow, B
 use Rattle.laws_of_steps.specs.Commits.{row_by_ending}
 use Rattle.laws_of_steps.specs.Facts.{IsOpen}
 use Rattle.laws_of_steps.specs.Keeping.{HasFacts}
-use Rattle.laws_of_jobs.specs.Along.{EachMeets}
+use Rattle.laws_of_jobs.specs.AlongLaws.{EachMeets}
 use Rattle.laws_of_jobs.specs.Doings.{lines_by, Settling, StepMakes}
 use Rattle.laws_of_jobs.specs.QueueLaws.{TurnsDoSo, CommandsDoSo, AwaitingSends, SendsAtPoints}
 use Rattle.laws_of_jobs.proofs.Queues.{own_row}

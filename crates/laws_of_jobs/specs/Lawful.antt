@@ -1,5 +1,5 @@
 -- Every step of a run is lawful: its commit, if it makes one, makes the tables behind it, meets the laws on jobs and on services' rows, and is what its record, run in one go, makes.
-use Rattle.std.specs.Prelude.{List, [], ◌∷◌}
+use Rattle.std.specs.Prelude.{List}
 use Rattle.kdcs_types.specs.Tables.{TableRows, IsSortedTables}
 use Rattle.abstract_monitor.specs.State.{Application, State}
 use Rattle.abstract_monitor.specs.declared.command.Command.{Command}
@@ -39,12 +39,3 @@ abbrev pub RunsAreLawful : Type 0
 RunsAreLawful =
     (app : Application) (t : TableRows) (script : List Command) → IsApplication app → IsScriptOf app script → IsSortedTables t → Suits app.generation t
     → IsLawful app (started app t) (history app (started app t) script)
-
-pub all_lawful : (app : Application) (s : State) (steps : List ScriptStep)
-    → EachStep (CommitsOnce app) s steps → EachStep (MakesItsTables app) s steps → EachStep (KeepsQueues app) s steps → EachStep (IsSerialStep app) s steps → EachStep (SendsAtPoints app) s steps
-    → IsLawful app s steps
-all_lawful app s [] once tables queues serial messages = tt
-all_lawful app s (d ∷ ds) once tables queues serial messages = (
-  record { once = once.0; tables = tables.0; queues = queues.0; serial = serial.0; messages = messages.0 },
-  all_lawful app d.after ds once.1 tables.1 queues.1 serial.1 messages.1,
-)

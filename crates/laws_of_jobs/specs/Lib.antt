@@ -1,8 +1,10 @@
 pub mod Along
+pub mod AlongLaws
 pub mod Doings
 pub mod QueueLaws
 pub mod Stored
 pub mod ResumeLaws
 pub mod ManyRuns
 pub mod Lawful
+pub mod LawfulLaws
 pub mod SerialCuts

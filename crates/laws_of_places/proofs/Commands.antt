@@ -3,7 +3,7 @@ use Rattle.std.specs.Prelude.{◌≡◌, refl, ℕ, zero, suc, ◌+◌, ◌≤�
 use Rattle.std.proofs.Common.{sym, ap, ◌∙◌, subst, inl, true≢false, arith}
 use Rattle.std.specs.FinMap.{find}
 use Rattle.std.specs.List.{list_any}
-use Rattle.kd_base.specs.Tools.{some_is}
+use Rattle.kd_base.specs.ToolsLaws.{some_is}
 use Rattle.kdcs_types.specs.declared.key.ServiceId.{ServiceId}
 use Rattle.kdcs_types.specs.declared.key.ServiceId.TheVariants.{Dialogue, Asynchronous}
 use Rattle.kdcs_types.specs.declared.service.Job.{Job}
@@ -27,15 +27,15 @@ use Rattle.abstract_monitor.specs.UseLaws.{IsAtRest, IsFor, use_fits}
 use Rattle.laws_of_steps.specs.Facts.{IsOpen, IsConsistent}
 use Rattle.laws_of_steps.specs.Keeping.{HasFacts}
 use Rattle.laws_of_steps.specs.Transactions.{HasOwnJob, IsRooted}
-use Rattle.laws_of_steps.specs.TablesStay.{again_stays, display_stays}
-use Rattle.laws_of_places.specs.Counts.{times, none_counted, times_without_itself, times_freed_itself}
-use Rattle.laws_of_places.specs.Entries.{found_put, found_without}
-use Rattle.laws_of_places.specs.Terminals.{signed_at, left_at, Signed, bytes_itself, signed_more, signed_fewer}
-use Rattle.laws_of_places.specs.Places.{still_signed, times_ready, times_held, is_signed_for, IsPlaced, IsLeft, placed_of, rests_placed, placed_running, placed_closed}
-use Rattle.laws_of_places.specs.Changes.{KeepsRows, alters_then, queued_alters, withdrawn_alters, tables_alter, session_alters, off_alters, counted_signed, signed_counted}
-use Rattle.laws_of_places.specs.Rows.{job_stays, job_there, rolled_other, kept_ascends}
-use Rattle.laws_of_places.specs.Areas.{HoldsNew, closed_holds, new_holds, same_holds}
-use Rattle.laws_of_places.specs.After.{consistent_after, consistent_left, sessions_of, no_wait, rooted_still, rooted_row}
+use Rattle.laws_of_steps.specs.TablesStayLaws.{again_stays, display_stays}
+use Rattle.laws_of_places.specs.CountsLaws.{times, none_counted, times_without_itself, times_freed_itself}
+use Rattle.laws_of_places.specs.EntriesLaws.{found_put, found_without}
+use Rattle.laws_of_places.specs.TerminalsLaws.{signed_at, left_at, Signed, bytes_itself, signed_more, signed_fewer}
+use Rattle.laws_of_places.specs.PlacesLaws.{still_signed, times_ready, times_held, is_signed_for, IsPlaced, IsLeft, placed_of, rests_placed, placed_running, placed_closed}
+use Rattle.laws_of_places.specs.ChangesLaws.{KeepsRows, alters_then, queued_alters, withdrawn_alters, tables_alter, session_alters, off_alters, counted_signed, signed_counted}
+use Rattle.laws_of_places.specs.RowsLaws.{job_stays, job_there, rolled_other, kept_ascends}
+use Rattle.laws_of_places.specs.AreasLaws.{HoldsNew, closed_holds, new_holds, same_holds}
+use Rattle.laws_of_places.specs.AfterLaws.{consistent_after, consistent_left, sessions_of, no_wait, rooted_still, rooted_row}
 use Rattle.laws_of_places.proofs.Turns.{times_queued}
 use Rattle.laws_of_places.proofs.Taking.{IsFreeJob, due_free, turns_consistent}
 use Rattle.laws_of_places.proofs.Starts.{started_consistent}

@@ -1,6 +1,6 @@
 -- The steps of a script keep both kinds of facts, where they keep the tables and transactions sound.
 use Rattle.laws_of_steps.specs.Keeping.{HasFacts}
-use Rattle.laws_of_places.specs.Along.{holds_along}
+use Rattle.laws_of_places.specs.AlongLaws.{holds_along}
 use Rattle.laws_of_places.specs.Laws.{TurnsStayConsistent, CommandsStayConsistent, StartsAreConsistent, SoundStepsKeepFacts, FactsHoldAlong}
 use Rattle.laws_of_places.proofs.Commands.{commands_consistent}
 use Rattle.laws_of_places.proofs.Starts.{started_consistent}

@@ -6,7 +6,7 @@ use Rattle.std.specs.FinMap.{find, is_sorted}
 use Rattle.std.specs.FinMap.Entries.{below_all, is_some-find}
 use Rattle.std.specs.List.{list_any}
 use Rattle.std.specs.Ordering.{is_lt}
-use Rattle.kd_base.specs.Tools.{some_is, both_true}
+use Rattle.kd_base.specs.ToolsLaws.{some_is, both_true}
 use Rattle.kdcs_types.specs.declared.key.Area.{Area}
 use Rattle.kdcs_types.specs.declared.key.Key.TheVariants.{Service as ServiceKey}
 use Rattle.kdcs_types.specs.declared.key.ServiceId.{ServiceId}
@@ -23,11 +23,11 @@ use Rattle.abstract_monitor.specs.Sessions.{in_place}
 use Rattle.abstract_monitor.specs.State.{Application, OpenTransaction}
 use Rattle.abstract_monitor.specs.Turns.{pterm_of_user}
 use Rattle.laws_of_steps.specs.Facts.{IsOpen, IsConsistent}
-use Rattle.laws_of_places.specs.Counts.{times, counted_any, any_counted}
-use Rattle.laws_of_places.specs.Entries.{none_below}
-use Rattle.laws_of_places.specs.Places.{is_signed_for, consistent_from}
-use Rattle.laws_of_places.specs.Rows.{kept_at, kept_ascends}
-use Rattle.laws_of_places.specs.After.{rooted_row}
+use Rattle.laws_of_places.specs.CountsLaws.{times, counted_any, any_counted}
+use Rattle.laws_of_places.specs.EntriesLaws.{none_below}
+use Rattle.laws_of_places.specs.PlacesLaws.{is_signed_for, consistent_from}
+use Rattle.laws_of_places.specs.RowsLaws.{kept_at, kept_ascends}
+use Rattle.laws_of_places.specs.AfterLaws.{rooted_row}
 
 abbrev ids_of : List Service → List ServiceId
 ids_of rows = map (λ (s : Service). s.id) rows

@@ -3,7 +3,7 @@ use Rattle.std.specs.Prelude.{◌≡◌, refl, ℕ, zero, suc, ◌+◌, ◌-◌,
 use Rattle.std.proofs.Common.{sym, ap, ◌∙◌, subst, inl, true≢false, arith}
 use Rattle.std.specs.FinMap.{find}
 use Rattle.std.specs.List.{list_all, list_any}
-use Rattle.kd_base.specs.Tools.{some_is}
+use Rattle.kd_base.specs.ToolsLaws.{some_is}
 use Rattle.kdcs_types.specs.declared.key.ServiceId.{ServiceId}
 use Rattle.kdcs_types.specs.declared.key.ServiceId.TheVariants.{Asynchronous}
 use Rattle.kdcs_types.specs.declared.key.Target.{Target}
@@ -27,13 +27,13 @@ use Rattle.abstract_monitor.specs.Turns.{with_open, with_task, took_job_for, too
 use Rattle.laws_of_steps.specs.Facts.{IsConsistent}
 use Rattle.laws_of_steps.specs.Keeping.{HasFacts}
 use Rattle.laws_of_steps.specs.Suits.{Suits}
-use Rattle.laws_of_places.specs.Counts.{times, times_set, times_without_itself, any_counted}
-use Rattle.laws_of_places.specs.Entries.{found_put}
-use Rattle.laws_of_places.specs.Places.{still_signed, times_ready, times_held, IsPlaced, placed_of, placed_running}
-use Rattle.laws_of_places.specs.Changes.{alters_then, without_ready, open_alters, taken_alters, unready_alters}
-use Rattle.laws_of_places.specs.Rows.{least_passes, all_filtered, filtered_pass, durable_service}
-use Rattle.laws_of_places.specs.Areas.{new_holds}
-use Rattle.laws_of_places.specs.After.{consistent_after}
+use Rattle.laws_of_places.specs.CountsLaws.{times, times_set, times_without_itself, any_counted}
+use Rattle.laws_of_places.specs.EntriesLaws.{found_put}
+use Rattle.laws_of_places.specs.PlacesLaws.{still_signed, times_ready, times_held, IsPlaced, placed_of, placed_running}
+use Rattle.laws_of_places.specs.ChangesLaws.{alters_then, without_ready, open_alters, taken_alters, unready_alters}
+use Rattle.laws_of_places.specs.RowsLaws.{least_passes, all_filtered, filtered_pass, durable_service}
+use Rattle.laws_of_places.specs.AreasLaws.{new_holds}
+use Rattle.laws_of_places.specs.AfterLaws.{consistent_after}
 use Rattle.laws_of_places.proofs.Turns.{worked_consistent}
 
 -- ---- what is picked

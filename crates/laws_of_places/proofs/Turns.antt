@@ -2,7 +2,7 @@
 use Rattle.std.specs.Prelude.{◌≡◌, refl, ℕ, suc, ◌+◌, ◌-◌, ◌≤◌, Bool, true, false, cond, [], slice_get, Option, Some, None, is_some, if◌then◌else◌}
 use Rattle.std.proofs.Common.{sym, ap, ◌∙◌, subst, inl, true≢false, arith}
 use Rattle.std.specs.FinMap.{find}
-use Rattle.kd_base.specs.Tools.{some_is}
+use Rattle.kd_base.specs.ToolsLaws.{some_is}
 use Rattle.kdcs_types.specs.declared.act.Act.{Act}
 use Rattle.kdcs_types.specs.declared.key.Area.{Area}
 use Rattle.kdcs_types.specs.declared.key.ServiceId.{ServiceId}
@@ -23,19 +23,19 @@ use Rattle.abstract_monitor.specs.Locks.{Waiting, locks_of, since, since_by}
 use Rattle.abstract_monitor.specs.State.{Application, OpenTransaction, State}
 use Rattle.abstract_monitor.specs.Statements.{area_of}
 use Rattle.abstract_monitor.specs.Turns.{with_open, without_wait, with_task, queued, without_work, abnormal, after_point, settled, back_by, back, waiting, waiting_for, happens, told_here, statement_now, worked}
-use Rattle.laws_of_steps.specs.EachTurn.{of_point}
+use Rattle.laws_of_steps.specs.EachTurnLaws.{of_point}
 use Rattle.laws_of_steps.specs.Facts.{IsConsistent}
 use Rattle.laws_of_steps.specs.Transactions.{IsRooted}
-use Rattle.laws_of_steps.specs.TablesStay.{last_again_stays}
+use Rattle.laws_of_steps.specs.TablesStayLaws.{last_again_stays}
 use Rattle.laws_of_steps.specs.JobLaws.{points_number, ends_draw_none}
-use Rattle.laws_of_places.specs.Counts.{times, times_push}
-use Rattle.laws_of_places.specs.Entries.{found_put, found_without}
-use Rattle.laws_of_places.specs.Places.{still_signed, times_ready, times_held, is_signed_for, IsPlaced, placed_of, placed_running, placed_kept, placed_closed}
-use Rattle.laws_of_places.specs.Changes.{KeepsRows, alters_then, open_alters, unwaiting_alters, wait_alters, freed_alters, queued_alters, work_alters, tables_alter}
-use Rattle.laws_of_places.specs.Kept.{StatementKeeps, statement_keeps, held_alike}
-use Rattle.laws_of_places.specs.Rows.{synchronised_jobs, broken_jobs, synchronised_other, synchronised_own, broken_other, broken_own}
-use Rattle.laws_of_places.specs.Areas.{closed_holds, new_holds, statement_holds}
-use Rattle.laws_of_places.specs.After.{consistent_after, no_wait, IsInTask, in_task, rooted_still, rooted_row, last_consistent, sent_consistent}
+use Rattle.laws_of_places.specs.CountsLaws.{times, times_push}
+use Rattle.laws_of_places.specs.EntriesLaws.{found_put, found_without}
+use Rattle.laws_of_places.specs.PlacesLaws.{still_signed, times_ready, times_held, is_signed_for, IsPlaced, placed_of, placed_running, placed_kept, placed_closed}
+use Rattle.laws_of_places.specs.ChangesLaws.{KeepsRows, alters_then, open_alters, unwaiting_alters, wait_alters, freed_alters, queued_alters, work_alters, tables_alter}
+use Rattle.laws_of_places.specs.KeptLaws.{StatementKeeps, statement_keeps, held_alike}
+use Rattle.laws_of_places.specs.RowsLaws.{synchronised_jobs, broken_jobs, synchronised_other, synchronised_own, broken_other, broken_own}
+use Rattle.laws_of_places.specs.AreasLaws.{closed_holds, new_holds, statement_holds}
+use Rattle.laws_of_places.specs.AfterLaws.{consistent_after, no_wait, IsInTask, in_task, rooted_still, rooted_row, last_consistent, sent_consistent}
 
 row-new : (app : Application) (id : ServiceId) (row : Service) (lterm : Bytes) → (opened_by_row app.generation id row lterm).touched ≡ []
 unfolding opened

@@ -8,7 +8,8 @@ use Rattle.abstract_monitor.specs.State.{Application, OpenTransaction}
 use Rattle.abstract_monitor.specs.Statements.{Kept, kept_so_far}
 use Rattle.laws_of_steps.specs.Keeping.{Leads, HasFacts}
 use Rattle.laws_of_steps.specs.Replay.{replay, IsReplayed}
-use Rattle.laws_of_runs.specs.Replays.{kept_and, LookAlike, ReplaysToItself, alike_itself}
+use Rattle.laws_of_runs.specs.Replays.{kept_and, LookAlike, ReplaysToItself}
+use Rattle.laws_of_runs.specs.ReplaysLaws.{alike_itself}
 use Rattle.laws_of_runs.specs.SerialLaws.{StepsKeepReplays, ReplaysAreRecords}
 use Rattle.laws_of_runs.proofs.Commands.{starts_replay, commands_replay}
 use Rattle.laws_of_runs.proofs.Turns.{turns_replay}

@@ -2,7 +2,7 @@
 use Rattle.std.specs.Prelude.{◌≡◌, refl, ℕ, Bool, true, false, cond, not, ◌||◌, List, [], ◌∷◌, filter, map, is_some, option_map, Option, Some, None}
 use Rattle.std.proofs.Common.{sym, ap, ◌∙◌, subst, true≢false}
 use Rattle.std.specs.FinMap.{find}
-use Rattle.kd_base.specs.Tools.{some_is}
+use Rattle.kd_base.specs.ToolsLaws.{some_is}
 use Rattle.kdcs_types.specs.declared.key.Area.{Area}
 use Rattle.kdcs_types.specs.declared.key.Area.TheVariants.{Gssb, Tls, Uls}
 use Rattle.kdcs_types.specs.declared.key.ServiceId.{ServiceId}
@@ -27,9 +27,9 @@ use Rattle.abstract_monitor.specs.Statements.{Stated}
 use Rattle.abstract_monitor.specs.Turns.{queued}
 use Rattle.abstract_monitor.specs.UseLaws.{IsFor, use_fits}
 use Rattle.laws_of_steps.specs.Keeping.{HasFacts}
-use Rattle.laws_of_steps.specs.TablesStay.{again_stays, display_stays}
-use Rattle.laws_of_places.specs.Entries.{found_put, found_without, other_put, other_without}
-use Rattle.laws_of_places.specs.Rows.{least_passes, all_filtered, filtered_pass}
+use Rattle.laws_of_steps.specs.TablesStayLaws.{again_stays, display_stays}
+use Rattle.laws_of_places.specs.EntriesLaws.{found_put, found_without, other_put, other_without}
+use Rattle.laws_of_places.specs.RowsLaws.{least_passes, all_filtered, filtered_pass}
 use Rattle.laws_of_runs.specs.Replays.{HasSameJob, SeesTheSame, ReplaysToItself, AllReplay}
 use Rattle.laws_of_runs.proofs.Frames.{still_replays, service_content, job_kept}
 use Rattle.laws_of_runs.proofs.Openings.{start_replays, awaited_replays, asynchronous_row_replays}

@@ -28,15 +28,17 @@ use Rattle.abstract_monitor.specs.Trace.{history}
 use Rattle.abstract_monitor.specs.Turns.{told_here, statement_now, turn_of}
 use Rattle.laws_of_steps.specs.Commits.{IsAtomicCommit}
 use Rattle.laws_of_steps.specs.Replay.{settled_as, IsReplayed}
-use Rattle.laws_of_places.specs.Along.{MeetsAlong, meets_along}
-use Rattle.laws_of_steps.specs.EachStep.{EachStep, each_split}
+use Rattle.laws_of_places.specs.Along.{MeetsAlong}
+use Rattle.laws_of_places.specs.AlongLaws.{meets_along}
+use Rattle.laws_of_steps.specs.EachStep.{EachStep}
+use Rattle.laws_of_steps.specs.EachStepLaws.{each_split}
 use Rattle.laws_of_runs.specs.RunLaws.{HistoriesCommitOnce}
 use Rattle.laws_of_steps.specs.Steps.{CommitsOnce, MakesNoCommit, MakesOneCommit}
-use Rattle.laws_of_tables.specs.Items.{contains}
-use Rattle.laws_of_tables.specs.Ends.{due-for, for-lterm}
-use Rattle.laws_of_places.specs.Rows.{least_passes, filtered_pass}
+use Rattle.laws_of_tables.specs.ItemsLaws.{contains}
+use Rattle.laws_of_tables.specs.EndsLaws.{due-for, for-lterm}
+use Rattle.laws_of_places.specs.RowsLaws.{least_passes, filtered_pass}
 use Rattle.abstract_monitor.specs.Picks.{free_jobs}
-use Rattle.kd_base.specs.Tools.{both_true}
+use Rattle.kd_base.specs.ToolsLaws.{both_true}
 use Rattle.std.proofs.lemmas.Bool.{leb-true}
 use Rattle.laws_of_steps.specs.Transactions.{HasOwnJob, IsRooted}
 use Rattle.laws_of_runs.specs.Replays.{HasSameJob, LookAlike}

@@ -2,7 +2,7 @@
 use Rattle.std.specs.Prelude.{◌≡◌, refl, ℕ, Bool, true, false, cond, IsTrue, List, [], ◌∷◌, Option, Some, None}
 use Rattle.std.proofs.Common.{sym, ap, ◌∙◌}
 use Rattle.std.specs.FinMap.{is_sorted}
-use Rattle.kd_base.specs.Tools.{true_both}
+use Rattle.kd_base.specs.ToolsLaws.{true_both}
 use Rattle.kdcs_types.specs.declared.act.Change.{Change}
 use Rattle.kdcs_types.specs.declared.act.Change.TheVariants.{Remove}
 use Rattle.kdcs_types.specs.declared.key.Area.{Area}
@@ -26,9 +26,10 @@ use Rattle.abstract_monitor.specs.Bytes.{Bytes, bytes_cmp}
 use Rattle.abstract_monitor.specs.Endings.{is_durable, durable, area_change, with_areas, service_change, with_service, without_own_job, with_drafts, lterm_in_row, row_after, synchronised, broken}
 use Rattle.abstract_monitor.specs.State.{OpenTransaction}
 use Rattle.abstract_monitor.specs.Statements.{Kept}
-use Rattle.laws_of_steps.specs.DurableLaws.{key_is_durable, durable_sorted, durable_again, durable_follows}
+use Rattle.laws_of_steps.specs.DurableKeys.{key_is_durable}
+use Rattle.laws_of_steps.specs.DurableLaws.{durable_sorted, durable_again, durable_follows}
 use Rattle.laws_of_steps.specs.Replay.{with_began}
-use Rattle.laws_of_places.specs.Rows.{kept_at}
+use Rattle.laws_of_places.specs.RowsLaws.{kept_at}
 use Rattle.laws_of_runs.specs.Replays.{HasSameJob}
 use Rattle.laws_of_runs.proofs.Frames.{service_content}
 

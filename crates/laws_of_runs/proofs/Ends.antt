@@ -25,8 +25,9 @@ use Rattle.abstract_monitor.specs.Endings.{is_asynchronous, opened, durable, bro
 use Rattle.abstract_monitor.specs.Statements.{Kept, Stated, area_of, kept_so_far, kept_record, by_call, by_performed, statement}
 use Rattle.laws_of_steps.specs.Replay.{dialogue_from, job_from, opened_from, went_on, replay_told, replay_statement, replay_step, replay, Ended, settled_as, ended_by, atomic, GoesOn, IsReplayed, IsAtomic}
 use Rattle.laws_of_steps.specs.Transactions.{IsRooted}
-use Rattle.laws_of_runs.specs.Replays.{GoesOnAtOnce, kept_and, told_of, told_rest}
-use Rattle.laws_of_places.specs.Shapes.{IsAnswered, AnsweredBy, StatementLeaves, StatementLooks, StatementAlone, StatementLocks, StatementUnlocks, statement_looks}
+use Rattle.laws_of_runs.specs.Replays.{GoesOnAtOnce, kept_and}
+use Rattle.laws_of_runs.specs.ReplaysLaws.{told_of, told_rest}
+use Rattle.laws_of_places.specs.ShapesLaws.{IsAnswered, AnsweredBy, StatementLeaves, StatementLooks, StatementAlone, StatementLocks, StatementUnlocks, statement_looks}
 
 -- ---- an end looks at nothing
 

@@ -2,7 +2,7 @@
 use Rattle.std.specs.Prelude.{◌≡◌, refl, ℕ, Bool, true, false, cond, not, IsTrue, List, [], ◌∷◌, ◌++◌, Option, Some, None, is_some, option_map}
 use Rattle.std.proofs.Common.{sym, ap, ◌∙◌, true≢false}
 use Rattle.std.specs.List.{list_all}
-use Rattle.kd_base.specs.Tools.{both_true, true_both}
+use Rattle.kd_base.specs.ToolsLaws.{both_true, true_both}
 use Rattle.kdcs_types.specs.declared.key.Area.{Area}
 use Rattle.kdcs_types.specs.declared.key.Area.TheVariants.{Gssb, Tls, Uls}
 use Rattle.kdcs_types.specs.declared.key.Key.TheVariants.{Gssb as GssbKey, Tls as TlsKey, Uls as UlsKey, Job as JobKey}
@@ -25,7 +25,7 @@ use Rattle.abstract_monitor.specs.Endings.{area_change, with_areas, with_service
 use Rattle.laws_of_steps.specs.JobLaw.{jobs_left, new_jobs}
 use Rattle.laws_of_steps.specs.JobLaws.{points_number, ends_draw_none}
 use Rattle.laws_of_steps.specs.Transactions.{HasOwnJob}
-use Rattle.laws_of_places.specs.Rows.{has_job, job_there}
+use Rattle.laws_of_places.specs.RowsLaws.{has_job, job_there}
 use Rattle.laws_of_runs.specs.Replays.{SeesTheSame, HasSameJob, ReplaysToItself}
 
 then_same : (t u w : TableRows) (id : ServiceId) (began : Option Service) → HasSameJob t u id began → HasSameJob u w id began → HasSameJob t w id began

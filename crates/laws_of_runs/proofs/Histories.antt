@@ -12,8 +12,9 @@ use Rattle.abstract_monitor.specs.Commands.{ScriptStep, rotated, next_task, in_a
 use Rattle.abstract_monitor.specs.Trace.{history, tables_after}
 use Rattle.laws_of_steps.specs.Keeping.{HasFacts}
 use Rattle.laws_of_steps.specs.Steps.{CommitsOnce, MakesItsTables, TurnsCommitOnce, CommandsCommitOnce, StepsMakeTheirTables}
-use Rattle.laws_of_steps.specs.EachStep.{EachStep, each_both}
-use Rattle.laws_of_runs.specs.Lists.{tables_both}
+use Rattle.laws_of_steps.specs.EachStep.{EachStep}
+use Rattle.laws_of_steps.specs.EachStepLaws.{each_both}
+use Rattle.laws_of_runs.specs.ListsLaws.{tables_both}
 
 module _ (turns : TurnsCommitOnce) (commands : CommandsCommitOnce) (app : Application) where
   rotated-once : (n : ℕ) (ended : Bool) (s : State) (task row : ℕ) → EachStep (CommitsOnce app) s (rotated app n ended s task row)

@@ -3,7 +3,7 @@ use Rattle.std.specs.Prelude.{◌≡◌, refl, ℕ, zero, suc, Bool, true, false
 use Rattle.std.proofs.Common.{sym, ap, ◌∙◌, subst}
 use Rattle.std.proofs.lemmas.List.Folds.{list_all-append}
 use Rattle.std.specs.List.{list_all}
-use Rattle.kd_base.specs.Tools.{true_both}
+use Rattle.kd_base.specs.ToolsLaws.{true_both}
 use Rattle.kdcs_types.specs.declared.key.Area.{Area}
 use Rattle.kdcs_types.specs.declared.key.ServiceId.{ServiceId}
 use Rattle.kdcs_types.specs.declared.key.ServiceId.TheVariants.{Dialogue, Asynchronous}
@@ -24,7 +24,7 @@ use Rattle.abstract_monitor.specs.Endings.{is_asynchronous, opened, with_service
 use Rattle.abstract_monitor.specs.Statements.{Kept, Stated, area_of, by_call, by_performed, statement}
 use Rattle.laws_of_steps.specs.Replay.{is_made, dialogue_from, job_from, opened_from, went_on, replay_told, replay}
 use Rattle.laws_of_runs.specs.SerialLaws.{CommitsBeginWithTheirRow, RecordsHaveMadeNotes}
-use Rattle.laws_of_places.specs.Shapes.{IsAnswered, AnsweredBy, StatementLeaves, StatementLooks, StatementAlone, StatementLocks, StatementUnlocks, statement_looks}
+use Rattle.laws_of_places.specs.ShapesLaws.{IsAnswered, AnsweredBy, StatementLeaves, StatementLooks, StatementAlone, StatementLocks, StatementUnlocks, statement_looks}
 
 -- the row at the beginning is that of the durable tables
 pub commits_begin : CommitsBeginWithTheirRow

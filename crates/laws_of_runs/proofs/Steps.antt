@@ -25,9 +25,10 @@ use Rattle.abstract_monitor.specs.Calls.{Told, Performed, touches, touching, not
 use Rattle.abstract_monitor.specs.Endings.{is_asynchronous, followed_by_input}
 use Rattle.abstract_monitor.specs.Statements.{Kept, Stated, area_of, by_call, by_performed, statement}
 use Rattle.laws_of_steps.specs.Replay.{noted_area, notes_on, answer_by_note, content_by_note, went_on, replay_step, replay}
-use Rattle.laws_of_tables.specs.Lists.{any_last, any_append, any_filter}
-use Rattle.laws_of_places.specs.Shapes.{Becomes, IsCounted, IsAnswered, AnsweredBy, StatementLeaves, StatementLooks, StatementAlone, StatementLocks, StatementUnlocks, statement_looks}
-use Rattle.laws_of_runs.specs.Replays.{GoesOnAtOnce, kept_and, told_by, told_of, HasSameJob, LookAlike, ReplaysToItself, told_rest, replay_next, replays_counted}
+use Rattle.laws_of_tables.specs.ListsLaws.{any_last, any_append, any_filter}
+use Rattle.laws_of_places.specs.ShapesLaws.{Becomes, IsCounted, IsAnswered, AnsweredBy, StatementLeaves, StatementLooks, StatementAlone, StatementLocks, StatementUnlocks, statement_looks}
+use Rattle.laws_of_runs.specs.Replays.{GoesOnAtOnce, kept_and, told_by, HasSameJob, LookAlike, ReplaysToItself}
+use Rattle.laws_of_runs.specs.ReplaysLaws.{told_of, told_rest, replay_next, replays_counted}
 
 -- y is x with one statement more, and these inputs and notes
 pub record Advances (x y : OpenTransaction) (more : List Bytes) (new : List Note) : Type 0 where

@@ -2,7 +2,7 @@
 use Rattle.std.specs.Prelude.{◌≡◌, refl, ℕ, ◌-◌, Bool, true, false, IsTrue, [], slice_get, is_some, Option, Some, None}
 use Rattle.std.proofs.Common.{sym, ap, ◌∙◌, subst, true≢false}
 use Rattle.std.specs.FinMap.{find}
-use Rattle.kd_base.specs.Tools.{some_is}
+use Rattle.kd_base.specs.ToolsLaws.{some_is}
 use Rattle.kdcs_types.specs.declared.act.Act.{Act}
 use Rattle.kdcs_types.specs.declared.key.Area.{Area}
 use Rattle.kdcs_types.specs.declared.key.ServiceId.{ServiceId}
@@ -31,12 +31,13 @@ use Rattle.abstract_monitor.specs.Picks.{pick}
 use Rattle.abstract_monitor.specs.State.{Application, OpenTransaction, Session, State}
 use Rattle.abstract_monitor.specs.Statements.{Stated, area_of}
 use Rattle.abstract_monitor.specs.Turns.{pterm_of_user, noted_last, last_told, message_sent, with_open, without_wait, with_task, queued, without_work, abnormal, goes_on, after_point, settled, back_by, back, waiting_for, happens, told_here, statement_now, worked, took_job_for, took_job, took, turn_by, turn_of}
-use Rattle.laws_of_steps.specs.EachTurn.{of_point}
+use Rattle.laws_of_steps.specs.EachTurnLaws.{of_point}
 use Rattle.laws_of_steps.specs.Keeping.{HasFacts}
 use Rattle.laws_of_steps.specs.Replay.{opened_from}
-use Rattle.laws_of_steps.specs.TablesStay.{last_again_stays}
-use Rattle.laws_of_places.specs.Entries.{found_put, found_without, other_put, other_without}
-use Rattle.laws_of_runs.specs.Replays.{alike_itself, kept_and, GoesOnAtOnce, SeesTheSame, ReplaysToItself, AllReplay, same_job}
+use Rattle.laws_of_steps.specs.TablesStayLaws.{last_again_stays}
+use Rattle.laws_of_places.specs.EntriesLaws.{found_put, found_without, other_put, other_without}
+use Rattle.laws_of_runs.specs.ReplaysLaws.{alike_itself, same_job}
+use Rattle.laws_of_runs.specs.Replays.{kept_and, GoesOnAtOnce, SeesTheSame, ReplaysToItself, AllReplay}
 use Rattle.laws_of_runs.proofs.Ends.{replay_lterm}
 use Rattle.laws_of_runs.proofs.Frames.{still_replays, synchronised_seen, broken_seen}
 use Rattle.laws_of_runs.proofs.Openings.{dialogue_row_replays, asynchronous_row_replays, job_replays}

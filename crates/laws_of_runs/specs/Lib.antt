@@ -1,5 +1,6 @@
-pub mod Lists
+pub mod ListsLaws
 pub mod RunLaws
 pub mod Replays
+pub mod ReplaysLaws
 pub mod SerialRuns
 pub mod SerialLaws

@@ -31,9 +31,9 @@ use Rattle.abstract_monitor.specs.Turns.{Turned, commit_of, committed, without_w
 use Rattle.abstract_monitor.specs.declared.command.Command.TheVariants.{Input, Tick, Run, Turn, Drop, Print, PrintLast, Restart}
 use Rattle.abstract_monitor.specs.Commands.{Maker, ByTransaction, started, signed_on_by, resumed_by, with_session, signed_off, rolled_tables, show_next, show_by, show_again_by, due_for, display, last_by, next_by, used, use_now, tick_by, drop_by, command_of, turned_step, lterm_at, uncommitted, says, committing, maker_of, out_again, restarted}
 use Rattle.abstract_monitor.specs.Trace.{tables_after}
-use Rattle.laws_of_steps.specs.TablesStay.{last-tables, sent-tables, goes-tables}
+use Rattle.laws_of_steps.specs.TablesStayLaws.{last-tables, sent-tables, goes-tables}
 use Rattle.laws_of_steps.specs.DurableLaws.{durable_sorted, durable_again, durable_without}
-use Rattle.laws_of_steps.specs.EachTurn.{of_point, of_turn}
+use Rattle.laws_of_steps.specs.EachTurnLaws.{of_point, of_turn}
 use Rattle.laws_of_steps.specs.Steps.{AreLines, CommitsOnce, TurnsCommitOnce, CommandsCommitOnce, StepsMakeTheirTables}
 
 -- ---- lines

@@ -39,10 +39,10 @@ use Rattle.abstract_monitor.specs.Picks.{pick}
 use Rattle.abstract_monitor.specs.Turns.{without_work, with_task, without_wait, without_open, with_open, queued, waiting_for, pterm_of_user, noted_last, last_told, message_sent, goes_on, after_point, settled, abnormal, back_by, back, happens, worked, took_job_for, took_job, took, turn_by, turn_of}
 use Rattle.abstract_monitor.specs.declared.command.Command.TheVariants.{Input, Tick, Run, Turn, Drop, Print, PrintLast, Restart}
 use Rattle.abstract_monitor.specs.Commands.{signed_on_by, resumed_by, with_session, signed_off, rolled_tables, show_next, show_by, due_for, last_by, next_by, used, use_now, tick_by, drop_by, command_of, lterm_at}
-use Rattle.laws_of_steps.specs.EachTurn.{of_point}
+use Rattle.laws_of_steps.specs.EachTurnLaws.{of_point}
 use Rattle.laws_of_steps.specs.Frames.{LeavesOthers, TurnsLeaveOthers, TouchesOne, CommandsTouchOne}
 use Rattle.laws_of_steps.specs.OwnRowLaws.{points_set, ends_remove}
-use Rattle.laws_of_steps.specs.TablesStay.{last_again_stays, again_stays, display_stays}
+use Rattle.laws_of_steps.specs.TablesStayLaws.{last_again_stays, again_stays, display_stays}
 
 -- ---- lists by services
 

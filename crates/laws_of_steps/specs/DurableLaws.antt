@@ -1,10 +1,10 @@
--- What outlives a stop: the rows of durable tables, and what a change makes of them.
+-- Laws: what outlives a stop: the rows of durable tables, and what a change makes of them.
 use Rattle.std.specs.Prelude.{◌≡◌, refl, Bool, true, false, cond, IsTrue, List, [], ◌∷◌, filter, not, Option, Some, None}
 use Rattle.std.proofs.Common.{sym, ap, ◌∙◌}
 use Rattle.std.specs.FinMap.{find, is_sorted}
 use Rattle.std.specs.List.{list_all}
 use Rattle.std.specs.Option.{option_map}
-use Rattle.kd_base.specs.Tools.{both_true, true_both}
+use Rattle.kd_base.specs.ToolsLaws.{both_true, true_both}
 use Rattle.std.specs.FinMap.Entries.{where_key, find-where_key, is_sorted-where_key}
 use Rattle.kdcs_types.specs.declared.key.Key.{Key}
 use Rattle.kdcs_types.specs.declared.key.Key.TheVariants as key
@@ -22,17 +22,7 @@ use Rattle.kdcs_types.specs.TableLaws.{row_after}
 use Rattle.kdcs_types.specs.RowLaws.{row_at-with_change, sorted_with_change, same_tables}
 use Rattle.kdcdef_types.specs.Generation.{Generated}
 use Rattle.abstract_monitor.specs.Endings.{is_durable, durable, with_service}
-
--- the row of the key outlives a stop
-abbrev pub key_is_durable : Generated → Key → Bool
-key_is_durable g (key.Service id) = is_durable g id
-key_is_durable g _ = true
-
--- a change is one of the durable part, or of no part of it
-abbrev pub DurableFollows : Type 0
-DurableFollows =
-    (g : Generated) (t : TableRows) (c : Change) → IsSortedTables t → IsTrue (change_fits c)
-    → durable g (with_change t c) ≡ cond (key_is_durable g (change_key c)) (with_change (durable g t) c) (durable g t)
+use Rattle.laws_of_steps.specs.DurableKeys.{key_is_durable, DurableFollows}
 
 -- ---- the rows of durable tables
 

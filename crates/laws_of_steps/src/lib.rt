@@ -5,7 +5,7 @@
 //! which all crates above may cite.
 #![tactic(auto)]
 
-ghost use Rattle.laws_of_steps.specs.{DeadlockLaw.{DeadlocksAreFound}, DurableLaws.{DurableFollows}, Frames.{TurnsLeaveOthers, CommandsTouchOne, ShowsAtItsTerminal}, Steps.{TurnsCommitOnce, CommandsCommitOnce, StepsMakeTheirTables}, JobLaw.{PointsNumberJobs, EndsDrawNoNumber}, RowLaw.{PointsSetOwnRow, EndsRemoveOwnRow}};
+ghost use Rattle.laws_of_steps.specs.{DeadlockLaw.{DeadlocksAreFound}, DurableKeys.{DurableFollows}, Frames.{TurnsLeaveOthers, CommandsTouchOne, ShowsAtItsTerminal}, Steps.{TurnsCommitOnce, CommandsCommitOnce, StepsMakeTheirTables}, JobLaw.{PointsNumberJobs, EndsDrawNoNumber}, RowLaw.{PointsSetOwnRow, EndsRemoveOwnRow}};
 
 /// A request that is answered K05 waits in a chain that ends at its own service, and no other does.
 pub fn deadlocks_are_found()

@@ -22,11 +22,11 @@ use Rattle.abstract_monitor.specs.State.{unit_of}
 use Rattle.abstract_monitor.specs.Made.{made_tac, made_generation, add_unit, tally_unit, made_application}
 use Rattle.laws_of_steps.specs.Applications.{LiesInside, IsFittedUnit, HasUnit, IsApplication}
 use Rattle.abstract_monitor.specs.Commands.{started}
-use Rattle.laws_of_steps.specs.EmptyTables.{empty_suit}
+use Rattle.laws_of_steps.specs.EmptyTablesLaws.{empty_suit}
 use Rattle.laws_of_steps.specs.Facts.{IsSoundState}
 use Rattle.laws_of_steps.specs.Suits.{is_lterm}
-use Rattle.laws_of_tables.specs.Entries.{entries_have, short_names}
-use Rattle.laws_of_tables.specs.Commanded.{states_stay_sound}
+use Rattle.laws_of_tables.specs.EntriesLaws.{entries_have, short_names}
+use Rattle.laws_of_tables.specs.CommandedLaws.{states_stay_sound}
 
 -- what a test says of each item
 all_by : {X : Type 0} (P : X → Type 0) (test : X → Bool) → ((x : X) → test x ≡ true → P x) → (xs : List X) → list_all test xs ≡ true → All P xs

@@ -2,7 +2,7 @@
 use Rattle.std.specs.Prelude.{◌≡◌, refl, ◌++◌, List, [], ◌∷◌, Option, Some, None, IsSome, codes}
 use Rattle.std.proofs.Common.{sym, ap, subst, ◌∙◌, true≢false}
 use Rattle.std.specs.FinMap.{find, is_sorted}
-use Rattle.kd_base.specs.Tools.{both_true}
+use Rattle.kd_base.specs.ToolsLaws.{both_true}
 use Rattle.kdcs_types.specs.declared.act.Act.{Act}
 use Rattle.kdcs_types.specs.declared.act.Act.TheVariants.{Emit}
 use Rattle.kdcs_types.specs.declared.key.Key.TheVariants as key
@@ -18,7 +18,7 @@ use Rattle.abstract_monitor.specs.Lines.{sys_line}
 use Rattle.abstract_monitor.specs.Sessions.{is_running}
 use Rattle.abstract_monitor.specs.State.{Application, OpenTransaction, State}
 use Rattle.laws_of_steps.specs.Keeping.{HasFacts}
-use Rattle.laws_of_commits.specs.Numbers.{closed_not_placed}
+use Rattle.laws_of_commits.specs.NumbersLaws.{closed_not_placed}
 use Rattle.open_transaction.specs.Work.{HasOrder}
 use Rattle.session_table.specs.Signed.{CanSignOn}
 use Rattle.monitor_core.specs.Commanding.{Comes, Rests}

@@ -8,7 +8,7 @@ use Rattle.kdcs_types.specs.declared.service.Service.{Service}
 use Rattle.kdcs_types.specs.Tables.{TableRows, IsSortedTables}
 use Rattle.kdcdef_types.specs.Generation.{Generated}
 use Rattle.area_locks.specs.Asked.{no_locks}
-use Rattle.async_queue.specs.Marks.{untaken_of}
+use Rattle.async_queue.specs.MarksLaws.{untaken_of}
 use Rattle.async_queue.specs.Queue.{untaken}
 use Rattle.step_scheduler.specs.Schedule.{all_free, service_in}
 use Rattle.abstract_monitor.specs.Commands.{asynchronous_rows, started}
@@ -16,8 +16,10 @@ use Rattle.abstract_monitor.specs.Picks.{is_free}
 use Rattle.abstract_monitor.specs.State.{Application, State}
 use Rattle.core_state.specs.declared.parts.MonitorParts.{MonitorParts}
 use Rattle.core_state.specs.Standing.{Each, IsIndexed, PlaceHasClass, SameApplication, state_of}
-use Rattle.core_state.specs.Whole.{app_of, same_app}
-use Rattle.monitor_core.specs.Starting.{AreFresh, all_opened, at_rest, fresh_of, fresh_then, opened_then, started_so}
+use Rattle.core_state.specs.Whole.{app_of}
+use Rattle.core_state.specs.WholeLaws.{same_app}
+use Rattle.monitor_core.specs.Starting.{AreFresh, all_opened, at_rest, opened_then}
+use Rattle.monitor_core.specs.StartingLaws.{fresh_of, fresh_then, started_so}
 
 module _ (p q r : MonitorParts) (row : Service) (all rest : List Service) (same : SameApplication p q) (steps : all ≡ row ∷ rest) (state : state_of r ≡ opened_then (app_of q) (state_of q) row) where
   pub fresh_more : AreFresh (state_of q) all → AreFresh (state_of r) rest

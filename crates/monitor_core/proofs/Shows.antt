@@ -14,16 +14,16 @@ use Rattle.kdcs_types.specs.declared.service.Job.{Job}
 use Rattle.kdcs_types.specs.declared.service.JobValue.{JobValue}
 use Rattle.kdcs_types.specs.Same.{job_value_eq, target_eq}
 use Rattle.kdcs_types.specs.Tables.{TableRows, AreChanges, IsSortedTables, changed, shown_of}
-use Rattle.async_queue.specs.Marks.{free_of}
+use Rattle.async_queue.specs.MarksLaws.{free_of}
 use Rattle.async_queue.specs.Queue.{free}
 use Rattle.abstract_monitor.specs.Bytes.{Bytes}
 use Rattle.abstract_monitor.specs.Commands.{due_for, is_for, show_by, show_next}
 use Rattle.abstract_monitor.specs.Picks.{due_job}
 use Rattle.abstract_monitor.specs.State.{State}
 use Rattle.laws_of_commits.specs.CommitLaws.{ShownMade, shown_changes, shown_set}
-use Rattle.laws_of_commits.specs.Shows.{due_stands, shown_made}
+use Rattle.laws_of_commits.specs.ShowsLaws.{due_stands, shown_made}
 use Rattle.sync_points.specs.PointChanges.{is_real}
-use Rattle.sync_points.specs.Rows.{same_shown}
+use Rattle.sync_points.specs.RowsLaws.{same_shown}
 use Rattle.core_state.specs.declared.parts.MonitorParts.{MonitorParts}
 use Rattle.core_state.specs.Standing.{IsIndexed, active_of, state_of}
 use Rattle.core_state.specs.Whole.{app_of}

@@ -21,7 +21,7 @@ use Rattle.abstract_monitor.specs.Turns.{without_open}
 use Rattle.step_scheduler.specs.Schedule as schedule
 use Rattle.step_scheduler.specs.Schedule.{holds, service_in}
 use Rattle.core_state.specs.declared.parts.MonitorParts.{MonitorParts}
-use Rattle.core_state.specs.Kept.{found_open}
+use Rattle.core_state.specs.KeptLaws.{found_open}
 use Rattle.core_state.specs.Whole.{app_of}
 use Rattle.core_state.specs.Standing.{id_of, state_of}
 use Rattle.monitor_core.specs.Commanding.{Comes}

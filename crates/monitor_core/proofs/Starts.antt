@@ -4,7 +4,7 @@ use Rattle.std.proofs.Common.{ap, sym, subst, ◌∙◌, true≢false, arith}
 use Rattle.std.specs.List.{list_any}
 use Rattle.std.specs.FinMap.{find, put}
 use Rattle.std.specs.FinMap.Entries.{where_key}
-use Rattle.kd_base.specs.Tools.{some_is}
+use Rattle.kd_base.specs.ToolsLaws.{some_is}
 use Rattle.kdcs_types.specs.declared.key.Area.{Area}
 use Rattle.kdcs_types.specs.declared.key.ServiceId.{ServiceId}
 use Rattle.kdcs_types.specs.declared.key.ServiceId.TheVariants.{Dialogue}
@@ -14,7 +14,7 @@ use Rattle.kdcs_types.specs.Keys.{area_eq, id_cmp, id_eq}
 use Rattle.kdcs_types.specs.KeyLaws.{id_eq-same}
 use Rattle.kdcs_types.specs.Tables.{service_of}
 use Rattle.kdcdef_types.specs.Generation.{Generated}
-use Rattle.sorted_pairs.specs.Mapped.{put_mapped}
+use Rattle.sorted_pairs.specs.MappedLaws.{put_mapped}
 use Rattle.area_locks.specs.Asked.{is_holder, other_than}
 use Rattle.async_queue.specs.Marks.{queue_of}
 use Rattle.kdcs_calls.specs.Calling.{HoldersFollow, HoldsJust}
@@ -35,12 +35,13 @@ use Rattle.abstract_monitor.specs.Statements.{Stated, statement}
 use Rattle.abstract_monitor.specs.Turns.{queued, with_open}
 use Rattle.laws_of_steps.specs.Facts.{IsConsistent, StandsAtKeep}
 use Rattle.laws_of_steps.specs.Transactions.{CanGoOn}
-use Rattle.laws_of_places.specs.Entries.{found_put, other_put}
+use Rattle.laws_of_places.specs.EntriesLaws.{found_put, other_put}
 use Rattle.service_statement.specs.Stating.{waits_after}
 use Rattle.core_state.specs.declared.parts.MonitorParts.{MonitorParts}
-use Rattle.core_state.specs.Changes.{SameHolds, each_found, each_put, neither_of, places_stay, put_others, ready_stay}
-use Rattle.core_state.specs.Kept.{found_open, found_owned, found_work, opened_state, with_active}
-use Rattle.core_state.specs.Queue.{kept_queue}
+use Rattle.core_state.specs.ChangesLaws.{SameHolds, each_found, each_put, neither_of, places_stay, put_others, ready_stay}
+use Rattle.core_state.specs.KeptLaws.{found_open, found_owned, found_work, opened_state}
+use Rattle.core_state.specs.Kept.{with_active}
+use Rattle.core_state.specs.QueueLaws.{kept_queue}
 use Rattle.core_state.specs.Standing.{Each, HasClass, IsIndexed, IsOwned, PlaceHasClass, active_of, id_of, state_of}
 use Rattle.core_state.specs.Whole.{IsWhole, app_of}
 use Rattle.monitor_core.specs.Commanding.{Rests}

@@ -12,7 +12,7 @@ use Rattle.abstract_monitor.specs.Commands.{tick_by, ticked}
 use Rattle.abstract_monitor.specs.Lines.{tick_line}
 use Rattle.abstract_monitor.specs.State.{State}
 use Rattle.laws_of_commits.specs.CommitLaws.{tick_changes}
-use Rattle.laws_of_commits.specs.Shows.{tick_made}
+use Rattle.laws_of_commits.specs.ShowsLaws.{tick_made}
 use Rattle.core_state.specs.declared.parts.MonitorParts.{MonitorParts}
 use Rattle.core_state.specs.Standing.{state_of}
 use Rattle.core_state.specs.Whole.{app_of}

@@ -1,12 +1,9 @@
 -- Turns and commands are counted before what they do.
-use Rattle.std.specs.Prelude.{ℕ, ◌+◌, ◌≤◌, List, [], ◌∷◌}
-use Rattle.std.proofs.Common.{arith}
+use Rattle.std.specs.Prelude.{ℕ, ◌+◌, ◌≤◌}
 use Rattle.kdcs_types.specs.declared.key.ServiceId.{ServiceId}
-use Rattle.kdcdef_types.specs.Generation.{Generated}
 use Rattle.open_transaction.specs.Work.{Boxed}
 use Rattle.core_state.specs.declared.parts.MonitorParts.{MonitorParts}
-use Rattle.core_state.specs.Standing.{Each, IsIndexed, IsOwned}
-use Rattle.core_state.specs.Whole.{IsWhole}
+use Rattle.core_state.specs.Standing.{Each}
 
 -- the transaction has room for one more statement within the count
 abbrev pub HasRoom : (steps : ℕ) → ServiceId × Boxed → Type 0
@@ -15,24 +12,3 @@ HasRoom steps e = e.1.value.statements + 1 ≤ steps
 -- a turn or command is counted that no open transaction has done
 abbrev pub IsAhead : MonitorParts → Type 0
 IsAhead p = Each (HasRoom p.steps) p.active
-
-room : (g : Generated) (n : ℕ) (es : List (ServiceId × Boxed)) → Each (IsOwned g n) es → Each (HasRoom (n + 1)) es
-room g n [] h = tt
-room g n (e ∷ es) h = (let a : e.1.value.statements ≤ n = h.0.counted in omega arith, room g n es h.1)
-
--- so it is once one more is counted
-pub one_ahead : (p : MonitorParts) → IsIndexed p → IsAhead (record p { steps = p.steps + 1 })
-one_ahead p h = room p.generation p.steps p.active h.owned
-
-counted : (g : Generated) (n : ℕ) (es : List (ServiceId × Boxed)) → Each (IsOwned g n) es → Each (IsOwned g (n + 1)) es
-counted g n [] h = tt
-counted g n (e ∷ es) h = (record { id = h.0.id; nb = h.0.nb; counted = (let a : e.1.value.statements ≤ n = h.0.counted in omega (arith, a)) }, counted g n es h.1)
-
--- and the parts stay whole
-pub one_counted : (p : MonitorParts) → IsWhole p → IsWhole (record p { steps = p.steps + 1 })
-one_counted p h = record {
-  indexed = record { owned = counted p.generation p.steps p.active h.indexed.owned; ready = h.indexed.ready; places = h.indexed.places; locks = h.indexed.locks; jobs = h.indexed.jobs };
-  fit = h.fit;
-  application = h.application;
-  facts = h.facts;
-}

@@ -4,7 +4,8 @@ use Rattle.std.proofs.Common.{sym, ap, ◌∙◌}
 use Rattle.std.proofs.lemmas.List.{drop_more}
 use Rattle.std.specs.Option.{option_map}
 use Rattle.std.specs.Result.{IsErr, IsErrAnd}
-use Rattle.kd_base.specs.Tools.{onto, onto_then}
+use Rattle.kd_base.specs.Tools.{onto}
+use Rattle.kd_base.specs.ToolsLaws.{onto_then}
 use Rattle.kd_records.specs.Contents.{Record}
 use Rattle.kdcs_types.specs.declared.act.Row.{Row}
 use Rattle.kdcs_types.specs.declared.act.Change.{Change}

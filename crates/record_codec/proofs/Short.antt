@@ -7,7 +7,7 @@ use Rattle.kdcs_types.specs.declared.service.JobValue.{JobValue}
 use Rattle.kdcs_types.specs.Tables.{TableRows, service_row, job_row, shown_row}
 use Rattle.record_codec.specs.Values.{service_bytes, job_bytes, HasShortValue}
 use Rattle.record_codec.specs.Records.{HasShortValues}
-use Rattle.record_codec.specs.Patches.{each_row}
+use Rattle.record_codec.specs.PatchesLaws.{each_row}
 
 pub short_services : (t : TableRows) → HasShortValues t → All (λ (s : Service). length (service_bytes s) < 2 ^ 32) t.services
 short_services t h = All-from_recursion (λ (s : Service). HasShortValue (service_row s)) t.services (each_row HasShortValue t h).services

@@ -3,7 +3,8 @@ use Rattle.std.specs.Prelude.{◌≡◌, ℕ, zero, suc, ◌+◌, ◌-◌, ◌<�
 use Rattle.std.proofs.Common.{sym, ap, subst, ◌∙◌, append-nil, arith}
 use Rattle.std.specs.Result.{IsErr, IsErrAnd}
 use Rattle.std.specs.Option.{option_map}
-use Rattle.kd_base.specs.Tools.{onto_first, onto_first_then}
+use Rattle.kd_base.specs.Tools.{onto_first}
+use Rattle.kd_base.specs.ToolsLaws.{onto_first_then}
 use Rattle.record_codec.specs.Fields.{items}
 use Rattle.record_codec.specs.Reads.{Reads}
 use Rattle.record_codec.specs.declared.reading.Unread.{Unread}

@@ -1,7 +1,8 @@
 pub mod Named
+pub mod NamedTables
 pub mod NamedLaws
-pub mod Proper
-pub mod Patching
-pub mod Short
+pub mod ProperLaws
+pub mod PatchingLaws
+pub mod ShortLaws
 pub mod Storing
-pub mod Stored
+pub mod StoredLaws

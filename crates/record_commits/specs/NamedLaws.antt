@@ -1,4 +1,4 @@
--- Tables whose rows are named: those whose lists are, proper ones, and what named changes make of them.
+-- Laws: tables whose rows are named: those whose lists are, proper ones, and what named changes make of them.
 use Rattle.std.specs.Prelude.{ℕ, List, Option, Some, None, IfSome, All}
 use Rattle.std.proofs.lemmas.List.Elements.{All-from_recursion, All-weaker, recursion_from_All}
 use Rattle.kd_base.specs.Text.{IsName}
@@ -14,17 +14,14 @@ use Rattle.kdcs_types.specs.declared.service.JobValue.{JobValue}
 use Rattle.kdcs_types.specs.declared.service.Service.{Service}
 use Rattle.kdcs_types.specs.Tables.{TableRows, AreChanges, change_key, changed, gssb_row, tls_row, uls_row, service_row, job_row, shown_row}
 use Rattle.record_codec.specs.Order.{IsProperKey}
-use Rattle.record_codec.specs.Patches.{EachRow, OfSet, all_rows, changes_keep, each_row}
+use Rattle.record_codec.specs.PatchesLaws.{EachRow, OfSet, all_rows, changes_keep, each_row}
 use Rattle.record_codec.specs.Readings.{LtermFits}
 use Rattle.record_codec.specs.Records.{rows_of}
 use Rattle.record_codec.specs.RowReadings.{IsProperRow, ValueFits}
 use Rattle.record_codec.specs.TableReadings.{AreProperTables}
 use Rattle.record_codec.specs.WholeValues.{JobFits, LssbFits, ServiceFits}
 use Rattle.record_commits.specs.Named.{HasAreaName, HasBlockNames, IsNamedChange, IsNamedJob, IsNamedRow, IsNamedService, IsNamedValue}
-
--- the names of all rows are names
-abbrev pub AreNamedTables : TableRows → Type 0
-AreNamedTables t = All IsNamedRow (rows_of t)
+use Rattle.record_commits.specs.NamedTables.{AreNamedTables}
 
 -- ---- lists
 

@@ -6,7 +6,7 @@ ghost use Rattle.kdcdef_check.specs.Soundness.{AreLimits};
 ghost use Rattle.kdcdef_types.specs.Generation.{Generated};
 ghost use Rattle.laws_of_steps.specs.Suits.{Suits};
 ghost use Rattle.record_codec.specs.{Order.{IsProperKey}, Readings.{TargetFits}, TableReadings.{AreProperTables}};
-ghost use Rattle.record_commits.specs.{Named.{HasAreaName, HasBlockNames, IsNamedAct, IsNamedChange, IsNamedJob, IsNamedRow, IsNamedService}, NamedLaws.{AreNamedTables}};
+ghost use Rattle.record_commits.specs.{Named.{HasAreaName, HasBlockNames, IsNamedAct, IsNamedChange, IsNamedJob, IsNamedRow, IsNamedService}, NamedTables.{AreNamedTables}};
 
 use kd_base::{Bytes, Name};
 use kdcs_types::{Act, Change, Job, JobValue, Key, Row, Service, ServiceId, Tables, Target};

@@ -1,7 +1,7 @@
 -- Faults are those of the first faulty line, and commands those of the lines.
 use Rattle.std.proofs.Common.{◌≡◌, ◌⊎◌, inl, inr, subst, suc, ℕ, ◌+◌, Bool, true, false, List, [], ◌∷◌, ◌++◌, length, Result, Ok, Err, refl, sym, ap, ◌∙◌, arith}
 use Rattle.std.specs.Str.Lines.{lines}
-use Rattle.kd_base.specs.Tools.{ok_is, err_is}
+use Rattle.kd_base.specs.ToolsLaws.{ok_is, err_is}
 use Rattle.script_read.specs.declared.fault.ScriptFault.{ScriptFault}
 use Rattle.script_read.specs.declared.fault.ScriptFault.TheVariants.{BadLine, OutOfRange, TooLong}
 use Rattle.script_read.specs.Script.{Line, Nothing, Says, IsBad, IsOutOfRange, before, line_then, script_from, script_by, is_too_long, script_of}

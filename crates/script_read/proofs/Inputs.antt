@@ -7,8 +7,8 @@ use Rattle.std.proofs.lemmas.List.{take-append-drop, take_at, drop_at, take_all,
 use Rattle.std.proofs.lemmas.List.Elements.{All-head, All-tail}
 use Rattle.std.proofs.lemmas.List.Sums.{passes_at_first}
 use Rattle.kd_base.specs.Text.{is_space}
-use Rattle.kd_base.specs.Tools.{true_both}
-use Rattle.kd_base.specs.Fronts.{split_there}
+use Rattle.kd_base.specs.ToolsLaws.{true_both}
+use Rattle.kd_base.specs.FrontsLaws.{split_there}
 use Rattle.kdcdef_types.specs.Generation.{Generated}
 use Rattle.abstract_monitor.specs.declared.command.Command.{Command}
 use Rattle.abstract_monitor.specs.declared.command.Command.TheVariants.{Input}

@@ -1,7 +1,7 @@
 -- The lines of a keyword and its words.
 use Rattle.std.proofs.Common.{◌≡◌, inl, inr, ℕ, ◌≤◌, Bool, true, false, List, [], ◌∷◌, ◌++◌, length, Option, Some, None, refl, sym, ap, subst, ◌∙◌}
 use Rattle.std.specs.Prelude.{codes}
-use Rattle.kd_base.specs.Tools.{find_passes}
+use Rattle.kd_base.specs.ToolsLaws.{find_passes}
 use Rattle.kd_base.specs.Limits.{last_clock}
 use Rattle.kdcdef_types.specs.Generation.{Generated}
 use Rattle.abstract_monitor.specs.declared.command.Command.{Command}

@@ -5,7 +5,7 @@ use Rattle.std.specs.List.{list_all}
 use Rattle.std.proofs.lemmas.Bool.{leb-true}
 use Rattle.std.proofs.lemmas.Bool.Decides.{nat_tests}
 use Rattle.kd_base.specs.Text.{is_name_byte, is_space, IsName, name_of}
-use Rattle.kd_base.specs.Tools.{both_true, chosen, some_is, and_some}
+use Rattle.kd_base.specs.ToolsLaws.{both_true, chosen, some_is, and_some}
 use Rattle.kdcdef_types.specs.declared.entry.PtermEntry.{PtermEntry}
 use Rattle.kdcdef_types.specs.declared.entry.LtermEntry.{LtermEntry}
 use Rattle.kdcdef_types.specs.Generation.{Generated, pterm_of, lterm_of}

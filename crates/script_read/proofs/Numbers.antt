@@ -6,7 +6,7 @@ use Rattle.std.proofs.lemmas.Bool.{cases_Bool, ltb-true}
 use Rattle.std.proofs.lemmas.Bool.Decides.{nat_tests}
 use Rattle.std.proofs.lemmas.List.Elements.{All-nil, All-cons}
 use Rattle.kd_base.specs.Text.{is_space, is_digit, decimal_value}
-use Rattle.kd_base.specs.Tools.{both_true, true_both}
+use Rattle.kd_base.specs.ToolsLaws.{both_true, true_both}
 use Rattle.script_read.specs.Script.{Line, Says, IsOutOfRange, is_count, number_in, number_by, numbered}
 use Rattle.script_read.specs.Spelling.{IsNumber}
 use Rattle.script_read.proofs.Parted.{IsWord}

@@ -3,7 +3,7 @@ use Rattle.std.specs.Prelude.{◌≡◌, refl, ℕ, List, ◌++◌, Option, Some
 use Rattle.std.proofs.Common.{ap, sym, subst, ◌∙◌}
 use Rattle.std.proofs.lemmas.Result.{IfOk-weaker}
 use Rattle.std.specs.FinMap.{find}
-use Rattle.kd_base.specs.Tools.{both_true}
+use Rattle.kd_base.specs.ToolsLaws.{both_true}
 use Rattle.kdcs_types.specs.declared.act.Act.{Act}
 use Rattle.kdcs_types.specs.declared.act.Act.TheVariants.{Commit}
 use Rattle.kdcs_types.specs.declared.act.Changes.{Changes}
@@ -28,17 +28,18 @@ use Rattle.abstract_monitor.specs.Sessions.{is_running}
 use Rattle.abstract_monitor.specs.State.{Application, OpenTransaction, State}
 use Rattle.abstract_monitor.specs.Statements.{kept_record}
 use Rattle.abstract_monitor.specs.Turns.{Turned, abnormal, after_point, committed, dump_acts, ended_acts, message_acts, message_sent, moved_to, settled, settled_by, told_user, user_acts, with_open, with_task, without_open, without_work}
-use Rattle.laws_of_places.specs.Entries.{found_put, found_without}
+use Rattle.laws_of_places.specs.EntriesLaws.{found_put, found_without}
 use Rattle.laws_of_tables.specs.PointLaws.{Stands}
 use Rattle.open_transaction.specs.Work.{Boxed, boxed_work, HasOrder}
 use Rattle.core_state.specs.declared.parts.MonitorParts.{MonitorParts}
-use Rattle.core_state.specs.Kept.{found_work}
+use Rattle.core_state.specs.KeptLaws.{found_work}
 use Rattle.core_state.specs.Standing.{IsOwned, SameApplication, state_of}
-use Rattle.core_state.specs.Whole.{app_of, same_app, same_twice}
+use Rattle.core_state.specs.Whole.{app_of}
+use Rattle.core_state.specs.WholeLaws.{same_app, same_twice}
 use Rattle.sync_points.specs.declared.points.SettleAnswer.TheVariants.{Refused, Synced}
 use Rattle.sync_points.specs.Answers.{answer_by}
 use Rattle.laws_of_commits.specs.CommitLaws.{durable_difference}
-use Rattle.laws_of_commits.specs.Ends.{end_made, point_made}
+use Rattle.laws_of_commits.specs.EndsLaws.{end_made, point_made}
 use Rattle.service_ends.specs.declared.turned.Turned.{Turned as Did}
 use Rattle.service_ends.specs.Ending.{CanGoOn, IsClosed, Works, behind_end, behind_point, broken_to, emitted, pointed_to, settled_to, turned_to}
 

@@ -23,9 +23,9 @@ use Rattle.abstract_monitor.specs.State.{Application, OpenTransaction as Work}
 use Rattle.abstract_monitor.specs.Statements.{area_of_call, by_call, by_outcome, by_performed}
 use Rattle.laws_of_tables.specs.OpenLaws.{CallKeeps, CalledFits, StandsIn}
 use Rattle.laws_of_tables.specs.PointLaws.{AreSound}
-use Rattle.laws_of_tables.specs.Ready.{runs_are_ready}
-use Rattle.laws_of_tables.specs.Stated.{calls_keep}
-use Rattle.laws_of_tables.specs.States.{told-fits}
+use Rattle.laws_of_tables.specs.ReadyLaws.{runs_are_ready}
+use Rattle.laws_of_tables.specs.StatedLaws.{calls_keep}
+use Rattle.laws_of_tables.specs.StatesLaws.{told-fits}
 use Rattle.abstract_monitor.specs.Bytes.{Bytes}
 use Rattle.open_transaction.specs.Work.{followed_with}
 use Rattle.service_statement.specs.Stating.{wait_ended, waits_by}

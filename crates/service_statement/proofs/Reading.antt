@@ -4,7 +4,7 @@ use Rattle.std.proofs.Common.{arith}
 use Rattle.std.proofs.lemmas.Bool.{leb-true}
 use Rattle.std.proofs.lemmas.List.Sums.{get_or-le-sum_by}
 use Rattle.std.specs.FinMap.{find}
-use Rattle.kd_base.specs.Tools.{both_true}
+use Rattle.kd_base.specs.ToolsLaws.{both_true}
 use Rattle.kdcs_types.specs.declared.key.Area.{Area}
 use Rattle.kdcs_types.specs.declared.key.ServiceId.{ServiceId}
 use Rattle.kdcs_types.specs.Keys.{area_cmp}
@@ -18,9 +18,9 @@ use Rattle.abstract_monitor.specs.Bytes.{Bytes, bytes_cmp}
 use Rattle.abstract_monitor.specs.Calls.{shown_by}
 use Rattle.abstract_monitor.specs.Locks.{told_now}
 use Rattle.abstract_monitor.specs.State.{OpenTransaction as Work}
-use Rattle.laws_of_tables.specs.Lists.{found_passes}
+use Rattle.laws_of_tables.specs.ListsLaws.{found_passes}
 use Rattle.laws_of_tables.specs.PointLaws.{AreSound}
-use Rattle.laws_of_tables.specs.States.{told-fits}
+use Rattle.laws_of_tables.specs.StatesLaws.{told-fits}
 
 short : (o : Option Bytes) → IsTrue (fits_if_there o) → IfSome o IsShort
 short None h = tt

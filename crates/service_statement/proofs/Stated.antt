@@ -12,7 +12,7 @@ use Rattle.unit_step.specs.Answers.{meaning_of}
 use Rattle.unit_step.specs.declared.outcome.Stepped.{Stepped}
 use Rattle.unit_step.specs.declared.outcome.Stepped.TheVariants as stepped
 use Rattle.kdcs_calls.specs.Calling.{HoldersFollow, HoldsJust, performed_now}
-use Rattle.kdcs_calls.specs.Holding.{follow_holds, quiet_follows}
+use Rattle.kdcs_calls.specs.HoldingLaws.{follow_holds, quiet_follows}
 use Rattle.kdcs_types.specs.declared.service.Ending.TheVariants.{Broken}
 use Rattle.abstract_monitor.specs.declared.answer.Happened.{Happened}
 use Rattle.abstract_monitor.specs.declared.answer.Happened.TheVariants.{Went, Queued, Waited, Held, Settles, Breaks, Returns}

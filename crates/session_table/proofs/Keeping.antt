@@ -8,7 +8,8 @@ use Rattle.std.specs.declared.cmp.Ordering.{Ordering}
 use Rattle.std.specs.declared.cmp.Ordering.TheVariants.{Less, Equal, Greater}
 use Rattle.std.specs.FinMap.{find, put, nat_cmp-IsAntisymmetric, slice_cmp-IsAntisymmetric}
 use Rattle.std.specs.FinMap.Entries.{where_key, find-put, find-where_key}
-use Rattle.sorted_pairs.specs.Places.{without, kept, left_sorted}
+use Rattle.sorted_pairs.specs.Places.{without}
+use Rattle.sorted_pairs.specs.PlacesLaws.{kept, left_sorted}
 use Rattle.abstract_monitor.specs.Bytes.{Bytes, bytes_cmp}
 use Rattle.abstract_monitor.specs.State.{Session}
 use Rattle.abstract_monitor.specs.Turns.{pterm_of_user}

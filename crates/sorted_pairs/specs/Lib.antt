@@ -1,3 +1,4 @@
 pub mod Places
+pub mod PlacesLaws
 pub mod Lends
-pub mod Mapped
+pub mod MappedLaws

@@ -6,7 +6,7 @@ use Rattle.std.specs.Ordering.{is_lt}
 use Rattle.std.specs.FinMap.{is_sorted}
 use Rattle.std.specs.FinMap.Entries.{below_all}
 use Rattle.std.specs.List.{list_all}
-use Rattle.kd_base.specs.Tools.{both_true, true_both}
+use Rattle.kd_base.specs.ToolsLaws.{both_true, true_both}
 use Rattle.kdcs_types.specs.declared.act.Change.{Change}
 use Rattle.kdcs_types.specs.declared.key.Area.{Area}
 use Rattle.kdcs_types.specs.declared.key.Key.{Key}

@@ -2,7 +2,7 @@
 ghost use Rattle.std.specs.{Prelude.{◌≡◌, ◌<◌, ◌^◌, IsTrue, length, nat_lt, option_copied}, Option.{option_map}, List.{list_all}};
 ghost use Rattle.kd_records.specs.Charge.{IsBlockSize};
 ghost use Rattle.kdcs_types.specs.{Tables.{AreChanges, change_key, changed, row_at}, declared.act.Change.{Change as Changed}};
-ghost use Rattle.laws_of_steps.specs.DurableLaws.{key_is_durable};
+ghost use Rattle.laws_of_steps.specs.DurableKeys.{key_is_durable};
 ghost use Rattle.abstract_monitor.specs.{Charges.{total_charge}, Endings.{durable}};
 ghost use Rattle.laws_of_tables.specs.PointLaws.{AreSound};
 ghost use Rattle.sync_points.specs.{Pages.{is_short}, PointChanges.{row_left}, Refusals.{row_charge}, Short.{leaves_short}, Weights.{row_weight}};

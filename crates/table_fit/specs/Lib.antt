@@ -1,5 +1,8 @@
 pub mod Lengths
-pub mod Small
+pub mod LengthsLaws
+pub mod SmallLaws
 pub mod Charging
+pub mod ChargingLaws
 pub mod Suiting
 pub mod Short
+pub mod ShortLaws

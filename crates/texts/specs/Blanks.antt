@@ -1,9 +1,6 @@
 -- Blanks.
-use Rattle.std.specs.Prelude.{◌≡◌, ℕ, ◌≤◌, Bool, false, IsTrue, ◌||◌, ◌==◌, List, ◌++◌, length, drop, refl}
-use Rattle.std.specs.List.{list_all, prefix_len}
-use Rattle.std.proofs.Common.{arith, length-drop}
-use Rattle.std.proofs.lemmas.List.{drop_at}
-use Rattle.kd_base.specs.Fronts.{begins, split_there}
+use Rattle.std.specs.Prelude.{ℕ, Bool, ◌||◌, ◌==◌, List, drop}
+use Rattle.std.specs.List.{prefix_len}
 
 -- a space or a tab
 abbrev pub is_blank : ℕ → Bool
@@ -12,9 +9,3 @@ is_blank b = b == 32 || b == 9
 -- the bytes from the first that is no blank
 abbrev pub from_first : List ℕ → List ℕ
 from_first line = drop (prefix_len is_blank line) line
-
-pub from_gap : (gap rest : List ℕ) → IsTrue (list_all is_blank gap) → begins is_blank rest ≡ false → from_first (gap ++ rest) ≡ rest
-from_gap gap rest h k = rw (split_there is_blank gap rest h k, drop_at gap rest (length gap) refl) refl
-
-pub shorter : (rest : List ℕ) → length (from_first rest) ≤ length rest
-shorter rest = omega (arith, length-drop (prefix_len is_blank rest) rest)

@@ -1,6 +1,7 @@
-pub mod Lines
+pub mod LinesLaws
 pub mod Blanks
+pub mod BlanksLaws
 pub mod Quotes
-pub mod Quoted
+pub mod QuotedLaws
 pub mod Parts
-pub mod Parted
+pub mod PartedLaws

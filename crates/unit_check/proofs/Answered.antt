@@ -3,8 +3,8 @@ use Rattle.std.proofs.Common.{◌≡◌, ◌≢◌, ◌⊎◌, ℕ, refl, sym, �
 use Rattle.std.specs.Prelude.{Result, Ok, Err, IfOk, IfErr, All, Any, IsSome, IfSome}
 use Rattle.std.specs.Option.{IsSomeAnd}
 use Rattle.std.proofs.lemmas.List.Elements.{All-head, All-tail}
-use Rattle.kd_base.specs.FirstFaults.{holds_unless}
-use Rattle.kd_base.specs.Tools.{ok_of, err_of}
+use Rattle.kd_base.specs.FirstFaultsLaws.{holds_unless}
+use Rattle.kd_base.specs.ToolsLaws.{ok_of, err_of}
 use Rattle.kdcdef_types.specs.declared.entry.TacEntry.{TacEntry}
 use Rattle.kdcdef_types.specs.declared.limits.Limits.{Limits}
 use Rattle.kdcdef_types.specs.Generation.{Generated}

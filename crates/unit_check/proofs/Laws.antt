@@ -6,7 +6,7 @@ use Rattle.std.specs.Option.{IsSomeAnd, option_or}
 use Rattle.std.proofs.lemmas.Bool.{cases_Bool, leb-true, leb-false}
 use Rattle.std.proofs.lemmas.List.Elements.{All-nil, All-cons, All-head, All-tail, All-weaker}
 use Rattle.std.proofs.lemmas.Slice.Eq.{bytes_eq-Decides}
-use Rattle.kd_base.specs.FirstFaults.{first_of_both, first_as, earlier_none}
+use Rattle.kd_base.specs.FirstFaultsLaws.{first_of_both, first_as, earlier_none}
 use Rattle.kdcdef_types.specs.declared.entry.TacEntry.{TacEntry}
 use Rattle.kdcdef_types.specs.declared.limits.Limits.{Limits}
 use Rattle.kdcdef_types.specs.Generation.{Generated, entry_of}

@@ -2,7 +2,8 @@
 use Rattle.std.proofs.Common.{◌≡◌, ◌⊎◌, refl, sym, inl, inr, arith, List, [], ◌∷◌, Option, Some, None, IsTrue, zero, suc, subst}
 use Rattle.std.specs.Prelude.{fold, Any, All}
 use Rattle.std.proofs.lemmas.List.Elements.{All-nil, All-cons}
-use Rattle.kd_base.specs.FirstFaults.{IsFirstBy, first_self, first_both, first_of_both, first_as, earlier_none}
+use Rattle.kd_base.specs.FirstFaults.{IsFirstBy}
+use Rattle.kd_base.specs.FirstFaultsLaws.{first_self, first_both, first_of_both, first_as, earlier_none}
 use Rattle.unit_check.specs.declared.fault.FitFault.{FitFault}
 use Rattle.unit_check.specs.declared.fault.FitFault.TheVariants.{NoUnit, NoLabel, FieldPastArea, LiteralFollowUp, Memory}
 use Rattle.unit_check.specs.Faults.{line_of, number_of, comes_first}

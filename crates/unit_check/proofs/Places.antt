@@ -5,7 +5,7 @@ use Rattle.std.specs.List.{position_from}
 use Rattle.std.specs.Option.{option_copied}
 use Rattle.std.proofs.lemmas.Bool.{cases_Bool}
 use Rattle.std.proofs.lemmas.Map.Entries.{All-lookup}
-use Rattle.unit_types.specs.Places.{found_at, found_passes}
+use Rattle.unit_types.specs.PlacesLaws.{found_at, found_passes}
 use Rattle.unit_types.specs.UnitText.{UnitText}
 use Rattle.unit_check.specs.declared.fault.FitFault.TheVariants.{NoUnit}
 use Rattle.unit_check.specs.Finding.{lacking}

@@ -9,7 +9,7 @@ use Rattle.unit_read.specs.declared.fault.UnitFault.TheVariants.{Memory}
 use Rattle.unit_read.specs.Outcomes.{Gives}
 use Rattle.unit_read.specs.Reading.{read_text}
 use Rattle.unit_read.specs.Spelling.{SpellsUnits}
-use Rattle.unit_read.specs.Whole.{spelled_whole}
+use Rattle.unit_read.specs.WholeLaws.{spelled_whole}
 use Rattle.unit_read.specs.Faults.{HasTextFault}
 use Rattle.unit_read.proofs.FaultsAt.{text_is, text_again, fault_stands, fault_answered}
 

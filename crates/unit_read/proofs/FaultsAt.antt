@@ -5,7 +5,8 @@ use Rattle.std.specs.Str.Lines.{lines}
 use Rattle.std.proofs.lemmas.Bool.{cases_Bool, leb-true, ltb-true, ltb-false}
 use Rattle.std.proofs.lemmas.Bool.Decides.{nat_tests}
 use Rattle.std.proofs.lemmas.List.{append-nil}
-use Rattle.kd_base.specs.Tools.{◌>>=◌, chosen, ok_is, err_is, ok_of, err_of, bind_ok, bind_err}
+use Rattle.kd_base.specs.Tools.{◌>>=◌}
+use Rattle.kd_base.specs.ToolsLaws.{chosen, ok_is, err_is, ok_of, err_of, bind_ok, bind_err}
 use Rattle.unit_types.specs.declared.unit.Field.{Field}
 use Rattle.unit_types.specs.UnitText.{UnitText}
 use Rattle.unit_read.specs.declared.fault.UnitFault.{UnitFault}

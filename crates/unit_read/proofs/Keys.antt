@@ -1,7 +1,7 @@
 -- The keywords that words begin with.
 use Rattle.std.proofs.Common.{◌≡◌, ℕ, ◌≤◌, Bool, true, false, cond, List, [], ◌∷◌, ◌++◌, length, drop, Some, refl, ap, ◌∙◌, arith, length-append}
 use Rattle.std.specs.Prelude.{◌==◌, ◌||◌}
-use Rattle.kd_base.specs.Tools.{find_passes, both_true}
+use Rattle.kd_base.specs.ToolsLaws.{find_passes, both_true}
 use Rattle.unit_read.specs.declared.word.Word.{Word}
 use Rattle.unit_read.specs.declared.word.Word.TheVariants.{Plain, Literal}
 use Rattle.unit_read.specs.declared.key.Key.{Key}

@@ -9,7 +9,7 @@ use Rattle.std.proofs.lemmas.Slice.Eq.{bytes_eq-Decides}
 use Rattle.kd_base.specs.declared.words.Mode.{Mode}
 use Rattle.kd_base.specs.declared.words.Mode.TheVariants.{Relative, Absolute}
 use Rattle.kd_base.specs.Text.{is_digit, IsDecimal}
-use Rattle.kd_base.specs.Tools.{chosen, both_true, true_both, some_is}
+use Rattle.kd_base.specs.ToolsLaws.{chosen, both_true, true_both, some_is}
 use Rattle.unit_types.specs.declared.action.HeaderName.{HeaderName}
 use Rattle.unit_types.specs.declared.action.HeaderName.TheVariants.{Benid, Logter, Tacvg, Tacal, Crccc, Rlm}
 use Rattle.unit_types.specs.declared.action.Operand.{Operand}

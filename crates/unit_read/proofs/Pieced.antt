@@ -1,7 +1,7 @@
 -- A line and the piece that it spells.
 use Rattle.std.proofs.Common.{◌≡◌, ℕ, false, List, Some, ap, ◌∙◌}
 use Rattle.std.specs.Prelude.{option_and_then}
-use Rattle.kd_base.specs.Tools.{and_some}
+use Rattle.kd_base.specs.ToolsLaws.{and_some}
 use Rattle.unit_read.specs.declared.piece.Piece.{Piece}
 use Rattle.unit_read.specs.Lines.{is_passed}
 use Rattle.unit_read.specs.Words.{words_of}

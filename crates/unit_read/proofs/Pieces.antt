@@ -6,7 +6,7 @@ use Rattle.std.specs.List.{list_all}
 use Rattle.std.proofs.lemmas.Bool.{cases_Bool, eqb-true}
 use Rattle.std.proofs.lemmas.List.{take-append-drop, take_at, nil_from_length}
 use Rattle.kd_base.specs.Text.{IsProgName, IsDecimal, prog_name_of, decimal_of, decimal_value, is_digit, is_name_byte}
-use Rattle.kd_base.specs.Tools.{map_some, some_is, and_some, chosen, both_true}
+use Rattle.kd_base.specs.ToolsLaws.{map_some, some_is, and_some, chosen, both_true}
 use Rattle.unit_types.specs.declared.action.HeaderName.{HeaderName}
 use Rattle.unit_types.specs.declared.action.Action.{Action}
 use Rattle.unit_types.specs.declared.action.Action.TheVariants as actions

@@ -1,7 +1,7 @@
 -- The operands of a statement: what is read is written so, and what is written so is read.
 use Rattle.std.proofs.Common.{◌≡◌, ℕ, List, [], ◌∷◌, Option, Some, None, refl, ap, subst}
 use Rattle.kd_base.specs.declared.words.Mode.{Mode}
-use Rattle.kd_base.specs.Tools.{map_some, some_is}
+use Rattle.kd_base.specs.ToolsLaws.{map_some, some_is}
 use Rattle.unit_types.specs.declared.action.Operand.{Operand}
 use Rattle.unit_types.specs.declared.action.Relation.{Relation}
 use Rattle.unit_read.specs.declared.word.Word.{Word}

@@ -5,7 +5,7 @@ use Rattle.std.specs.Option.{option_map}
 use Rattle.std.proofs.lemmas.List.{append-nil}
 use Rattle.kd_base.specs.declared.words.Variant.{Variant}
 use Rattle.kd_base.specs.declared.words.Variant.TheVariants as variants
-use Rattle.kd_base.specs.Tools.{map_some, some_is, and_some, chosen}
+use Rattle.kd_base.specs.ToolsLaws.{map_some, some_is, and_some, chosen}
 use Rattle.unit_types.specs.declared.action.Operand.{Operand}
 use Rattle.unit_types.specs.declared.action.Relation.{Relation}
 use Rattle.unit_types.specs.declared.action.Action.{Action}

@@ -5,14 +5,15 @@ use Rattle.std.specs.List.{list_all, prefix_len, take_while}
 use Rattle.std.proofs.lemmas.Bool.{cases_Bool, eqb-true}
 use Rattle.std.proofs.lemmas.List.Folds.{length-prefix_len}
 use Rattle.std.proofs.lemmas.List.{take-append-drop, take_at, drop_at}
-use Rattle.kd_base.specs.Fronts.{begins, front_passes, stops, split_there, one_add}
-use Rattle.kd_base.specs.Tools.{some_is, chosen, both_true}
+use Rattle.kd_base.specs.Fronts.{begins}
+use Rattle.kd_base.specs.FrontsLaws.{front_passes, stops, split_there, one_add}
+use Rattle.kd_base.specs.ToolsLaws.{some_is, chosen, both_true}
 use Rattle.unit_read.specs.declared.word.Word.{Word}
 use Rattle.unit_read.specs.declared.word.Word.TheVariants.{Plain, Literal}
 use Rattle.texts.specs.Blanks.{is_blank}
 use Rattle.texts.specs.Quotes.{is_quote, quoted_at, doubled}
-use Rattle.texts.specs.Quoted.{quoted_takes, quoted_again, first_quote}
-use Rattle.texts.specs.Parted.{Taken as TakenSo, ReadsWritten, parts_are, are_parts}
+use Rattle.texts.specs.QuotedLaws.{quoted_takes, quoted_again, first_quote}
+use Rattle.texts.specs.PartedLaws.{Taken as TakenSo, ReadsWritten, parts_are, are_parts}
 use Rattle.unit_read.specs.Lines.{is_word_byte}
 use Rattle.unit_read.specs.Words.{literal_at, word_at, words_of}
 use Rattle.unit_read.specs.Grammar.{written, IsWord, WordEnds, AreWords}

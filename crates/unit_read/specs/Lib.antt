@@ -14,4 +14,4 @@ pub mod Reading
 pub mod Grammar
 pub mod Spelling
 pub mod Faults
-pub mod Whole
+pub mod WholeLaws

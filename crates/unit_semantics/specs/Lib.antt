@@ -3,3 +3,4 @@ pub mod Fields
 pub mod Statement
 pub mod Ready
 pub mod KeepsReady
+pub mod KeepsReadyLaws

@@ -1,7 +1,7 @@
 -- A run that asks for a call is at a statement of its unit.
 use Rattle.std.proofs.Common.{◌≡◌, ℕ, zero, suc, ◌≤◌, ◌<◌, length, inl, inr, arith, Some}
 use Rattle.std.proofs.lemmas.Option.{slice_get_within}
-use Rattle.kd_base.specs.Tools.{cases_option}
+use Rattle.kd_base.specs.ToolsLaws.{cases_option}
 use Rattle.kdcs_types.specs.declared.run_state.RunState.{RunState}
 use Rattle.unit_types.specs.declared.action.UnitStatement.{UnitStatement}
 use Rattle.unit_types.specs.UnitText.{UnitText, statement_at}

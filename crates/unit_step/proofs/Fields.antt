@@ -6,7 +6,7 @@ use Rattle.std.proofs.lemmas.List.{take_all, take_at, take-append-le, take-appen
 use Rattle.unit_step.proofs.Writing.{is_cut}
 use Rattle.kdcs_types.specs.declared.run_state.RunState.{RunState}
 use Rattle.unit_types.specs.declared.unit.Field.{Field}
-use Rattle.unit_types.specs.Places.{found_passes}
+use Rattle.unit_types.specs.PlacesLaws.{found_passes}
 use Rattle.unit_types.specs.UnitText.{UnitText, field_named}
 use Rattle.unit_semantics.specs.Contents.{fitted}
 use Rattle.unit_semantics.specs.Fields.{stored, stored_in, written}

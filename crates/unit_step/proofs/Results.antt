@@ -5,7 +5,7 @@ use Rattle.std.proofs.lemmas.Bool.{cases_Bool, cases_lt, le-ltb}
 use Rattle.std.proofs.lemmas.Bool.Decides.{nat_tests}
 use Rattle.std.proofs.lemmas.List.{append-nil, replicate-append-replicate, take_at}
 use Rattle.std.proofs.Math.Nat.{add-suc, add-zero, pow-zero, pow-suc, pow-le-pow_right, div-eq_of_lt, div-div-eq-div-mul, lt-div-mul-add}
-use Rattle.kd_base.specs.Tools.{chosen}
+use Rattle.kd_base.specs.ToolsLaws.{chosen}
 use Rattle.unit_semantics.specs.Contents.{in_digits, number_in, fitted}
 use Rattle.unit_semantics.specs.Statement.{calculated}
 use Rattle.kdcs_types.specs.declared.run_state.RunState.{RunState}

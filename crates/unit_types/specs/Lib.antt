@@ -1,3 +1,3 @@
 pub mod UnitText
 pub mod Index
-pub mod Places
+pub mod PlacesLaws

@@ -1,6 +1,6 @@
 -- What the words and the texts say, and what is said of it.
 use Rattle.std.proofs.Common.{◌≡◌, ◌⊎◌, inl, inr, ⊎_elim, ℕ, List, [], Some, None, Ok, Err, refl, sym, ap, subst, ◌∙◌, arith}
-use Rattle.kd_base.specs.Tools.{cases_option}
+use Rattle.kd_base.specs.ToolsLaws.{cases_option}
 use Rattle.kd_device.specs.Device.{State, LeavesOnly, Only}
 use Rattle.kd_device.specs.Room.{RoomState, text_of}
 use Rattle.kdcs_types.specs.Tables.{TableRows}

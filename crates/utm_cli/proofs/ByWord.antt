@@ -2,14 +2,14 @@
 use Rattle.std.proofs.Common.{◌≡◌, ◌⊎◌, inl, inr, ℕ, List, [], ◌∷◌, ◌++◌, take, refl, sym, ap, subst, ◌∙◌}
 use Rattle.std.proofs.lemmas.List.{append-nil}
 use Rattle.kd_device.specs.Device.{State, LeavesOnly, Only}
-use Rattle.kd_device.specs.Time.{leaves_weaker, leaves_then}
+use Rattle.kd_device.specs.TimeLaws.{leaves_weaker, leaves_then}
 use Rattle.kd_device.specs.Rest.{Rests, Before}
 use Rattle.kdcs_types.specs.Tables.{TableRows, empty_tables}
 use Rattle.kdcs_types.specs.declared.act.Act.TheVariants.{Emit}
 use Rattle.abstract_monitor.specs.declared.command.Command.{Command}
 use Rattle.abstract_monitor.specs.Listing.{listing}
 use Rattle.abstract_monitor.specs.Trace.{bytes_of}
-use Rattle.warm_start.specs.Meaning.{answers_exclude_each_other}
+use Rattle.warm_start.specs.MeaningLaws.{answers_exclude_each_other}
 use Rattle.device_acts.specs.Said.{Said, SaidPart}
 use Rattle.utm_cli.specs.MadeReport.{report_of}
 use Rattle.utm_cli.specs.declared.words.Word.{Word}

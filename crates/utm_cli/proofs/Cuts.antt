@@ -2,9 +2,9 @@
 use Rattle.std.proofs.Common.{◌≡◌, inl, ℕ, true, List, [], ◌∷◌, ◌++◌, refl, sym, ap, subst, ◌∙◌, append_assoc}
 use Rattle.std.proofs.lemmas.List.{append-nil}
 use Rattle.std.proofs.lemmas.List.Folds.{list_all-append}
-use Rattle.kd_base.specs.Tools.{both_true}
+use Rattle.kd_base.specs.ToolsLaws.{both_true}
 use Rattle.kd_device.specs.Device.{State}
-use Rattle.kd_device.specs.Time.{leaves_weaker}
+use Rattle.kd_device.specs.TimeLaws.{leaves_weaker}
 use Rattle.kd_records.specs.declared.content.Content.{Content}
 use Rattle.kdcs_types.specs.declared.act.Act.{Act}
 use Rattle.kdcs_types.specs.declared.act.Act.TheVariants.{Commit, Emit}

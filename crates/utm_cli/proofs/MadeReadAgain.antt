@@ -8,11 +8,11 @@ use Rattle.kdcs_types.specs.Tables.{TableRows}
 use Rattle.kdcfile_images.specs.declared.fault.LoadError.{LoadError}
 use Rattle.kdcfile_images.specs.declared.fault.LoadError.TheVariants as load
 use Rattle.kdcfile_images.specs.File.{IsNoImage}
-use Rattle.kdcfile_images.specs.ReadImages.{one_meaning}
+use Rattle.kdcfile_images.specs.ReadImagesLaws.{one_meaning}
 use Rattle.kdcfile_store.specs.Whole.{Whole, HasFile}
 use Rattle.record_codec.specs.Records.{content_of_tables, AreTablesOf}
 use Rattle.record_codec.specs.TableReadings.{AreProperTables}
-use Rattle.warm_start.specs.Meaning.{one_table}
+use Rattle.warm_start.specs.MeaningLaws.{one_table}
 use Rattle.warm_start.specs.Stands.{StandsForTables}
 
 pub never_rose : Rose 0 0 → ⊥

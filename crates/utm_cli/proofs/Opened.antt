@@ -1,7 +1,7 @@
 -- What a stop within the opening of the KDCFILE leaves.
 use Rattle.std.proofs.Common.{inl, inr, ⊎_elim, ℕ, List, sym, ◌∙◌}
 use Rattle.kd_device.specs.Device.{State, LeavesOnly}
-use Rattle.kd_device.specs.Time.{leaves_weaker, leaves_then}
+use Rattle.kd_device.specs.TimeLaws.{leaves_weaker, leaves_then}
 use Rattle.kd_device.specs.Rest.{Rests, Before}
 use Rattle.kd_records.specs.Identity.{Identity}
 use Rattle.warm_start.specs.Opening.{IsOpening}

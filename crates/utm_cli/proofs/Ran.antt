@@ -3,13 +3,13 @@ use Rattle.std.proofs.Common.{◌≡◌, ◌⊎◌, inl, inr, ⊎_elim, ℕ, Lis
 use Rattle.std.proofs.lemmas.List.{append-nil}
 use Rattle.std.specs.Prelude.{IsTrue}
 use Rattle.kd_device.specs.Device.{State, Frame, Rose, LeavesOnly, Only}
-use Rattle.kd_device.specs.Time.{leaves_weaker, leaves_then}
+use Rattle.kd_device.specs.TimeLaws.{leaves_weaker, leaves_then}
 use Rattle.kd_device.specs.Rest.{Rests}
 use Rattle.kdcs_types.specs.Tables.{TableRows, empty_tables}
 use Rattle.abstract_monitor.specs.Trace.{tables_after}
 use Rattle.warm_start.specs.Stands.{StandsForTables}
 use Rattle.warm_start.specs.Opening.{IsOpening, IsBeingMade}
-use Rattle.warm_start.specs.Meaning.{nothing_stands, answers_exclude_each_other}
+use Rattle.warm_start.specs.MeaningLaws.{nothing_stands, answers_exclude_each_other}
 use Rattle.device_acts.specs.Said.{Said, SaidPart}
 use Rattle.device_acts.specs.Performing.{IsCutOf}
 use Rattle.device_run.specs.Running.{IsCutSince}

@@ -3,7 +3,7 @@ use Rattle.std.proofs.Common.{inl, inr, List, [], refl, sym, subst}
 use Rattle.std.specs.Prelude.{ℕ}
 use Rattle.kdcs_types.specs.RowLaws.{empty_sorted}
 use Rattle.kdcs_types.specs.Tables.{TableRows, IsSortedTables}
-use Rattle.laws_of_steps.specs.EmptyTables.{empty_suit}
+use Rattle.laws_of_steps.specs.EmptyTablesLaws.{empty_suit}
 use Rattle.laws_of_steps.specs.Suits.{Suits}
 use Rattle.abstract_monitor.specs.Commands.{started}
 use Rattle.laws_of_runs.specs.RunLaws.{StartsHaveFacts}
@@ -12,7 +12,7 @@ use Rattle.laws_of_jobs.specs.ManyRuns.{AllRunsKeepJobs}
 use Rattle.laws_of_jobs.specs.QueueLaws.{JobsAreDoneOnce}
 use Rattle.laws_of_jobs.specs.ResumeLaws.{CutsResume}
 use Rattle.laws_of_jobs.specs.SerialCuts.{CutsAreSerial}
-use Rattle.device_run.specs.Durable.{durable_same}
+use Rattle.device_run.specs.DurableLaws.{durable_same}
 use Rattle.utm_cli.specs.Asking.{Errand, CanRun, app_of}
 use Rattle.utm_cli.specs.Doing.{Opens, StartsBy, Starts}
 use Rattle.utm_cli.specs.declared.words.Word.{Word}

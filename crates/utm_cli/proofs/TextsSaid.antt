@@ -3,7 +3,7 @@ use Rattle.std.proofs.Common.{◌≡◌, ◌≢◌, ◌⊎◌, inl, inr, ⊎_eli
 use Rattle.std.specs.Prelude.{nat_lt, IsSomeAnd, IsErrOf, IsErrAnd, IfOk}
 use Rattle.std.proofs.lemmas.List.{take_all, length-take}
 use Rattle.std.proofs.lemmas.Bool.Decides.{nat_tests}
-use Rattle.kd_base.specs.Tools.{err_is}
+use Rattle.kd_base.specs.ToolsLaws.{err_is}
 use Rattle.kd_device.specs.Room.{RoomState, text_of}
 use Rattle.kd_device.specs.declared.error.DeviceError.{DeviceError}
 use Rattle.kd_device.specs.declared.error.DeviceError.TheVariants as room

@@ -3,14 +3,14 @@ use Rattle.std.proofs.Common.{◌≡◌, ℕ, ◌≤◌, Bool, true, false, not,
 use Rattle.std.specs.Prelude.{nat_eq, IfOk}
 use Rattle.std.specs.Cmp.Lexicographic.{pointwise}
 use Rattle.std.proofs.lemmas.List.Elements.{All-nil}
-use Rattle.kd_base.specs.Order.{equal_is_same}
+use Rattle.kd_base.specs.OrderLaws.{equal_is_same}
 use Rattle.kd_records.specs.Identity.{Identity}
 use Rattle.kd_records.specs.Charge.{total_charge as records_charge}
 use Rattle.kd_records.specs.declared.content.Content.{Content}
 use Rattle.kdcdef_types.specs.Generation.{Generated}
 use Rattle.kdcs_types.specs.Tables.{TableRows, empty_tables}
 use Rattle.kdcfile_images.specs.File.{IsNoImage}
-use Rattle.kdcfile_images.specs.ReadImages.{one_meaning}
+use Rattle.kdcfile_images.specs.ReadImagesLaws.{one_meaning}
 use Rattle.kdcfile_store.specs.Whole.{Whole, HasFile}
 use Rattle.laws_of_steps.specs.Suits.{Suits, SuitsFrom}
 use Rattle.record_codec.specs.Records.{content_of_tables, AreTablesOf}
@@ -19,7 +19,7 @@ use Rattle.record_codec.specs.TableReadings.{AreProperTables}
 use Rattle.warm_start.specs.Stands.{AreTables, StandsForTables, KeepsTables, identity_for}
 use Rattle.warm_start.specs.Kept.{KeepsNoneFor}
 use Rattle.warm_start.specs.Opening.{HasNoTablesFor}
-use Rattle.warm_start.specs.Meaning.{one_table, has_room}
+use Rattle.warm_start.specs.MeaningLaws.{one_table, has_room}
 use Rattle.warm_start.specs.declared.error.OpenError.{OpenError}
 
 -- ---- tables that are read from what a store keeps

@@ -2,7 +2,7 @@
 use Rattle.std.proofs.Common.{◌≡◌, inl, inr, ⊎_elim, ℕ, List, [], sym, ap, ◌∙◌, Result, Ok, Err, refl}
 use Rattle.std.specs.Prelude.{IsErrOf, IsErrAnd}
 use Rattle.kd_device.specs.Device.{State, LeavesOnly}
-use Rattle.kd_device.specs.Time.{leaves_weaker, leaves_then}
+use Rattle.kd_device.specs.TimeLaws.{leaves_weaker, leaves_then}
 use Rattle.kd_device.specs.Rest.{Rests, Before}
 use Rattle.kd_records.specs.Identity.{Identity}
 use Rattle.kdcfile_images.specs.declared.fault.LoadError.{LoadError}

@@ -3,5 +3,5 @@ pub mod TextLaws
 pub mod Stands
 pub mod Kept
 pub mod Opening
-pub mod Meaning
+pub mod MeaningLaws
 pub mod Causes

@@ -1,4 +1,4 @@
-use Rattle.laws_of_commits.specs.Shows.{due_stands, shown_made, tick_made}
+use Rattle.laws_of_commits.specs.ShowsLaws.{due_stands, shown_made, tick_made}
 use Rattle.laws_of_commits.proofs.commands_make_tables.Goals as goal
 
 pub returns : goal.returns

@@ -1,4 +1,4 @@
-use Rattle.laws_of_commits.specs.Making.{are_changes, makes, makes_with_row, one_row}
+use Rattle.laws_of_commits.specs.MakingLaws.{are_changes, makes, makes_with_row, one_row}
 use Rattle.laws_of_commits.proofs.differences_make_tables.Goals as goal
 
 pub returns : goal.returns

@@ -1,4 +1,4 @@
-use Rattle.laws_of_commits.specs.Numbers.{closed_not_placed, free_not_placed, job_has_no_row, open_drawn}
+use Rattle.laws_of_commits.specs.NumbersLaws.{closed_not_placed, free_not_placed, job_has_no_row, open_drawn}
 use Rattle.laws_of_commits.proofs.open_services_and_jobs.Goals as goal
 
 pub returns : goal.returns

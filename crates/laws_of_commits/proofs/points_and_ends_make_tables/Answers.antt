@@ -1,4 +1,4 @@
-use Rattle.laws_of_commits.specs.Ends.{end_made, point_made}
+use Rattle.laws_of_commits.specs.EndsLaws.{end_made, point_made}
 use Rattle.laws_of_commits.proofs.points_and_ends_make_tables.Goals as goal
 
 pub returns : goal.returns

@@ -1,6 +1,6 @@
 use Rattle.abstract_monitor.specs.Commands.{started}
 use Rattle.abstract_monitor.specs.Trace.{history}
-use Rattle.laws_of_jobs.specs.Lawful.{all_lawful}
+use Rattle.laws_of_jobs.specs.LawfulLaws.{all_lawful}
 use Rattle.laws_of_jobs.proofs.runs_are_lawful.Goals as goal
 
 pub returns : goal.returns

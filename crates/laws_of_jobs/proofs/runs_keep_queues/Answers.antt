@@ -1,4 +1,4 @@
-use Rattle.laws_of_jobs.specs.Along.{meets_along}
+use Rattle.laws_of_jobs.specs.AlongLaws.{meets_along}
 use Rattle.laws_of_jobs.specs.QueueLaws.{KeepsQueues, SendsAtPoints}
 use Rattle.laws_of_jobs.proofs.Sent.{sends_each}
 use Rattle.laws_of_jobs.proofs.runs_keep_queues.Goals as goal

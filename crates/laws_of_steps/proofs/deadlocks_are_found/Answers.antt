@@ -1,4 +1,4 @@
-use Rattle.abstract_monitor.specs.Deadlocks.{deadlocks_found}
+use Rattle.abstract_monitor.specs.DeadlocksLaws.{deadlocks_found}
 use Rattle.laws_of_steps.proofs.deadlocks_are_found.Goals as goal
 
 pub returns : goal.returns

@@ -1,4 +1,4 @@
-use Rattle.laws_of_tables.specs.Ready.{opens_have_units, runs_are_ready, operands_are_short}
+use Rattle.laws_of_tables.specs.ReadyLaws.{opens_have_units, runs_are_ready, operands_are_short}
 use Rattle.laws_of_tables.proofs.runs_are_ready.Goals as goal
 
 pub returns : goal.returns

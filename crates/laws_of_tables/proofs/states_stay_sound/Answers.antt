@@ -1,4 +1,4 @@
-use Rattle.laws_of_tables.specs.Commanded.{states_stay_sound}
+use Rattle.laws_of_tables.specs.CommandedLaws.{states_stay_sound}
 use Rattle.laws_of_tables.proofs.states_stay_sound.Goals as goal
 
 pub returns : goal.returns

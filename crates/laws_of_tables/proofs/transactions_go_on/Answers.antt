@@ -1,5 +1,5 @@
-use Rattle.laws_of_tables.specs.Stated.{calls_keep, statements_keep}
-use Rattle.laws_of_tables.specs.Openings.{further_runs_go_on, openings_go_on}
+use Rattle.laws_of_tables.specs.StatedLaws.{calls_keep, statements_keep}
+use Rattle.laws_of_tables.specs.OpeningsLaws.{further_runs_go_on, openings_go_on}
 use Rattle.laws_of_tables.proofs.transactions_go_on.Goals as goal
 
 pub returns : goal.returns

@@ -1,4 +1,4 @@
-use Rattle.sync_points.specs.Made.{ends_change, points_change}
+use Rattle.sync_points.specs.MadeLaws.{ends_change, points_change}
 use Rattle.sync_points.proofs.points_change_what_was_written.Goals as goal
 
 pub returns-clause-points : goal.returns-clause-points

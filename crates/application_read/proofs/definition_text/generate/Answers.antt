@@ -4,7 +4,7 @@ use Rattle.kdcdef_check.specs.Faults.{is_memory as is_check_memory}
 use Rattle.application_read.specs.declared.definition_fault.DefinitionFault.TheVariants.{Check, Memory}
 use Rattle.application_read.specs.Definition.{HasFault, is_memory}
 use Rattle.application_read.specs.Causes.{of_lex, of_read, of_check}
-use Rattle.application_read.specs.Handed.{made_of, stands_in, stands}
+use Rattle.application_read.specs.HandedLaws.{made_of, stands_in, stands}
 use Rattle.application_read.proofs.DefinitionLayers.{lex_only, lex_fault, read_only, read_fault, check_only, check_fault, all_only, all_fault}
 use Rattle.application_read.proofs.definition_text.generate.Goals as goal
 

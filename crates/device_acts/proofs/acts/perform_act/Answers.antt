@@ -2,7 +2,7 @@ use Rattle.std.proofs.Common.{ap, sym, ◌∙◌}
 use Rattle.std.proofs.lemmas.Result.{on_ok_weaker}
 use Rattle.kdcs_types.specs.declared.act.Act.TheVariants.{Emit}
 use Rattle.device_acts.specs.Performing.{content_after}
-use Rattle.device_acts.specs.Contents.{content_goes, commit_performs, commit_sent, settled_stands, line_performs, line_sent}
+use Rattle.device_acts.specs.ContentsLaws.{content_goes, commit_performs, commit_sent, settled_stands, line_performs, line_sent}
 use Rattle.device_acts.proofs.acts.perform_act.Goals as goal
 
 pub returns-in_err-commit-in-Commit-clause-any : goal.returns-in_err-commit-in-Commit-clause-any

@@ -2,8 +2,8 @@ use Rattle.std.proofs.Common.{◌∙◌, ◌∷◌, [], refl, sym, subst}
 use Rattle.std.specs.Prelude.{IsTrue}
 use Rattle.kd_records.specs.Identity.{Identity}
 use Rattle.device_acts.specs.Performing.{Performs, content_after, AreCommittable}
-use Rattle.device_acts.specs.Acting.{running_start, act_performs, act_more}
-use Rattle.device_acts.specs.Contents.{content_goes, content_more, can_here, can_more}
+use Rattle.device_acts.specs.ActingLaws.{running_start, act_performs, act_more}
+use Rattle.device_acts.specs.ContentsLaws.{content_goes, content_more, can_here, can_more}
 use Rattle.device_acts.proofs.acts.perform_acts.Goals as goal
 
 pub loop-act-init : goal.loop-act-init

@@ -1,6 +1,6 @@
 use Rattle.std.proofs.Common.{◌≡◌, take, drop}
 use Rattle.device_acts.specs.Performing.{content_after, AreCommittable}
-use Rattle.device_acts.specs.Acting.{Running}
+use Rattle.device_acts.specs.ActingLaws.{Running}
 use Rattle.device_acts.proofs.acts.perform_acts.Given as goal
 
 abbrev pub invariant-loop-act : goal.invariant-loop-act

@@ -1,7 +1,7 @@
 use Rattle.std.proofs.Common.{◌^◌, arith, sym, subst}
 use Rattle.std.specs.Prelude.{IsTrue}
 use Rattle.abstract_monitor.specs.Trace.{history}
-use Rattle.kd_base.specs.Tools.{error_same}
+use Rattle.kd_base.specs.ToolsLaws.{error_same}
 use Rattle.device_run.proofs.Scripts.{script_kept, script_over, script_names, script_turns, script_performs, script_more, script_room, script_room_more, script_counted, script_counted_over, nothing_counted}
 use Rattle.device_run.proofs.Stepping.{failed_then, history_start, steps_ran}
 use Rattle.device_run.proofs.script.run_script.Goals as goal

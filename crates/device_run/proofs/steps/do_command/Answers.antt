@@ -8,7 +8,7 @@ use Rattle.abstract_monitor.specs.CommandsOf.{IsCommandOf}
 use Rattle.device_run.specs.Running.{turns_of, PerformsSteps, DidSteps}
 use Rattle.device_run.proofs.Counting.{commits_by}
 use Rattle.device_run.proofs.Commanding.{own_running, steps_of_run, steps_of_turn, steps_of_restart, steps_of_single, single_of, performs_command, did_command, one_counts, restart_counts}
-use Rattle.kd_base.specs.Tools.{error_same}
+use Rattle.kd_base.specs.ToolsLaws.{error_same}
 use Rattle.device_run.proofs.Errors.{err_is_no_value, no_error}
 use Rattle.device_run.proofs.steps.do_command.Goals as goal
 

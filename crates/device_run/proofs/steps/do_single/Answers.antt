@@ -3,10 +3,10 @@ use Rattle.kdcs_types.specs.declared.act.Act.{Act}
 use Rattle.abstract_monitor.specs.Trace.{tables_after}
 use Rattle.abstract_monitor.specs.Commands.{acts_of, command_of}
 use Rattle.warm_start.specs.Stands.{StandsForTables}
-use Rattle.device_run.specs.HandedOn.{act_failed, act_refuses_nothing, act_knows_no_other}
+use Rattle.device_run.specs.HandedOnLaws.{act_failed, act_refuses_nothing, act_knows_no_other}
 use Rattle.laws_of_steps.specs.Cut.{commits_in}
 use Rattle.device_run.specs.Running.{identity_of, durable_of}
-use Rattle.device_acts.specs.Acting.{performs_none}
+use Rattle.device_acts.specs.ActingLaws.{performs_none}
 use Rattle.device_run.proofs.Stepping.{can_perform, performs_step, did_step}
 use Rattle.device_run.proofs.Storables.{command_can}
 use Rattle.device_run.proofs.Tables.{tables_go}

@@ -1,7 +1,7 @@
 use Rattle.std.proofs.Common.{inl, inr, arith}
 use Rattle.device_run.proofs.Restarting.{opening_performs, restart_performs, did_restart}
-use Rattle.kd_base.specs.Tools.{error_same}
-use Rattle.device_run.specs.HandedOn.{act_failed, act_refuses_nothing, act_knows_no_other}
+use Rattle.kd_base.specs.ToolsLaws.{error_same}
+use Rattle.device_run.specs.HandedOnLaws.{act_failed, act_refuses_nothing, act_knows_no_other}
 use Rattle.device_run.proofs.Errors.{no_error}
 use Rattle.device_run.proofs.steps.restart.Goals as goal
 

@@ -1,4 +1,4 @@
-use Rattle.kd_base.specs.Tools.{error_same}
+use Rattle.kd_base.specs.ToolsLaws.{error_same}
 use Rattle.device_run.proofs.Rotating.{rotation_start, rotation_over, rotation_counted, rotation_running, rotation_kept, rotation_room, rotation_performs, rotation_ended, rotation_ended_counted, rotation_more}
 use Rattle.device_run.proofs.Stepping.{failed_then}
 use Rattle.std.proofs.Common.{◌^◌, arith}

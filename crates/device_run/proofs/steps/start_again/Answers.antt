@@ -1,7 +1,7 @@
 use Rattle.std.proofs.Common.{ap, sym, ◌∙◌}
 use Rattle.abstract_monitor.specs.State.{Application}
 use Rattle.device_run.proofs.Restarting.{not_empty, never_refused, never_other, starts_again}
-use Rattle.kd_base.specs.Tools.{error_same}
+use Rattle.kd_base.specs.ToolsLaws.{error_same}
 use Rattle.device_run.proofs.steps.start_again.Goals as goal
 
 pub returns-in_err-tables-clause-rests : goal.returns-in_err-tables-clause-rests

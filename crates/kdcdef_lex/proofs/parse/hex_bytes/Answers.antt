@@ -1,6 +1,6 @@
 use Rattle.std.proofs.Common.{sym, ◌∙◌}
 use Rattle.kdcdef_lex.proofs.Onto.{hex_step}
-use Rattle.kd_base.specs.Tools.{behind}
+use Rattle.kd_base.specs.ToolsLaws.{behind}
 use Rattle.kdcdef_lex.proofs.parse.hex_bytes.Goals as goal
 
 pub loop-rest-preserved : goal.loop-rest-preserved

@@ -1,5 +1,5 @@
 use Rattle.std.proofs.Common.{◌≡◌, Bool, List, Result, ap, ◌∙◌, subst}
-use Rattle.kd_base.specs.Tools.{ok_of}
+use Rattle.kd_base.specs.ToolsLaws.{ok_of}
 use Rattle.kdcdef_lex.specs.declared.statement.RawOperand.{RawOperand}
 use Rattle.kdcdef_read.specs.declared.fault.Cause.{Cause}
 use Rattle.kdcdef_read.specs.declared.operands.Given.{Given}

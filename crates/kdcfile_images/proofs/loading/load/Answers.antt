@@ -3,7 +3,7 @@ use Rattle.std.specs.Option.{option_map}
 use Rattle.kd_records.specs.Contents.{Record}
 use Rattle.kdcfile_images.specs.declared.image.Loaded.{Loaded}
 use Rattle.kdcfile_images.specs.Opened.{Opened}
-use Rattle.kdcfile_images.specs.ReadImages.{image_taken, no_head, no_image, stands_read}
+use Rattle.kdcfile_images.specs.ReadImagesLaws.{image_taken, no_head, no_image, stands_read}
 use Rattle.kdcfile_images.proofs.loading.load.Goals as goal
 
 pub returns-in_default-clause-none : goal.returns-in_default-clause-none

@@ -1,7 +1,7 @@
 use Rattle.std.proofs.Common.{◌≡◌, length, take}
 use Rattle.std.specs.Prelude.{sum_by}
 use Rattle.std.specs.List.{flat_map}
-use Rattle.kd_records.specs.ChargeLaws.{record_length}
+use Rattle.kd_records.specs.Charged.{record_length}
 use Rattle.kdcfile_images.specs.File.{spelled_record}
 use Rattle.kdcfile_store.proofs.spell.records_bytes.Given as goal
 

@@ -1,7 +1,7 @@
 use Rattle.open_transaction.specs.Work.{work_of}
 use Rattle.kdcs_calls.proofs.CallHolders.{first_performed, later_performed, still_holds}
 use Rattle.kdcs_calls.proofs.CallWaits.{first_waits, later_waited}
-use Rattle.kdcs_calls.specs.Holding.{follow_holds}
+use Rattle.kdcs_calls.specs.HoldingLaws.{follow_holds}
 use Rattle.kdcs_calls.proofs.calls.perform.Goals as goal
 
 pub returns-then-not-open_work-clause-holders : goal.returns-then-not-open_work-clause-holders

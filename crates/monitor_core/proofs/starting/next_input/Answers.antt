@@ -1,7 +1,7 @@
 use Rattle.std.proofs.Common.{sym, ◌∙◌}
 use Rattle.std.proofs.lemmas.Result.{on_ok_weaker}
 use Rattle.kdcs_types.specs.declared.key.ServiceId.TheVariants.{Dialogue}
-use Rattle.core_state.specs.Kept.{found_open}
+use Rattle.core_state.specs.KeptLaws.{found_open}
 use Rattle.core_state.specs.Standing.{state_of}
 use Rattle.core_state.specs.Whole.{app_of}
 use Rattle.monitor_core.proofs.Entering.{row_order}

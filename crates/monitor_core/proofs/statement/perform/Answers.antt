@@ -1,9 +1,9 @@
 use Rattle.std.specs.Prelude.{is_some}
 use Rattle.std.proofs.Common.{ap, ◌∙◌}
-use Rattle.core_state.specs.Kept.{none_found}
-use Rattle.monitor_core.specs.Stated.{can_go_on, fits_count, holds_just, indexed_with, owned, state_with, then_exact, then_for, then_indexed}
-use Rattle.monitor_core.specs.Stepping.{is_seated, stepped}
-use Rattle.monitor_core.specs.Whole.{more_steps}
+use Rattle.core_state.specs.KeptLaws.{none_found}
+use Rattle.monitor_core.specs.StatedLaws.{can_go_on, fits_count, holds_just, indexed_with, owned, state_with, then_exact, then_for, then_indexed}
+use Rattle.monitor_core.specs.SteppingLaws.{is_seated, stepped}
+use Rattle.monitor_core.specs.WholeLaws.{more_steps}
 use Rattle.monitor_core.proofs.statement.perform.Goals as goal
 
 pub returns-in_default-clause-exact : goal.returns-in_default-clause-exact

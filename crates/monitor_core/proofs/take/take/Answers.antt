@@ -1,8 +1,8 @@
 use Rattle.std.specs.Prelude.{None}
 use Rattle.std.proofs.Common.{ap, sym, ◌∙◌}
-use Rattle.kd_base.specs.Tools.{some_of}
+use Rattle.kd_base.specs.ToolsLaws.{some_of}
 use Rattle.service_ends.specs.Ending.{turned_to}
-use Rattle.monitor_core.specs.Taking.{answered, begun_indexed, picked_for, ready_indexed, took_begun, took_none, took_picked, took_ready}
+use Rattle.monitor_core.specs.TakingLaws.{answered, begun_indexed, picked_for, ready_indexed, took_begun, took_none, took_picked, took_ready}
 use Rattle.monitor_core.proofs.take.take.Goals as goal
 
 pub returns-in-None-clause-exact : goal.returns-in-None-clause-exact

@@ -4,7 +4,7 @@ use Rattle.std.proofs.lemmas.Result.{IfOk-weaker}
 use Rattle.service_ends.specs.Ending.{turned_to}
 use Rattle.core_state.specs.Standing.{state_of}
 use Rattle.core_state.specs.Whole.{app_of}
-use Rattle.monitor_core.specs.Whole.{is_task, more_steps, seat_of, turned_free, turned_held, whole_after, whole_worked}
+use Rattle.monitor_core.specs.WholeLaws.{is_task, more_steps, seat_of, turned_free, turned_held, whole_after, whole_worked}
 use Rattle.monitor_core.proofs.turning.turn.Goals as goal
 
 pub returns-in_ok-did-in-None-clause-exact : goal.returns-in_ok-did-in-None-clause-exact

@@ -4,7 +4,8 @@ use Rattle.std.specs.FinMap.{is_sorted}
 use Rattle.kd_records.specs.Contents.{Record}
 use Rattle.kd_records.specs.Keys.{key_cmp}
 use Rattle.record_codec.specs.Records.{AreTablesOf}
-use Rattle.record_codec.specs.TableReadings.{AreRecordBytes, sets_read, changes_of, changes_are, tables_there, tables_proper, AreProperTables, no_tables_unread, no_tables_unsorted}
+use Rattle.record_codec.specs.TableReadings.{AreRecordBytes, sets_read, changes_of, AreProperTables}
+use Rattle.record_codec.specs.TableReadingsLaws.{changes_are, tables_there, tables_proper, no_tables_unread, no_tables_unsorted}
 use Rattle.record_codec.proofs.Failed.{not_read}
 use Rattle.record_codec.proofs.decode.tables_of.Goals as goal
 

@@ -1,5 +1,5 @@
-use Rattle.record_codec.specs.OneToOne.{tables_are_one_to_one}
-use Rattle.record_codec.specs.RowReadings.{records_are_one_to_one}
+use Rattle.record_codec.specs.OneToOneLaws.{tables_are_one_to_one}
+use Rattle.record_codec.specs.RowReadingsLaws.{records_are_one_to_one}
 use Rattle.record_codec.proofs.laws.records_are_one_to_one.Goals as goal
 
 pub returns-clause-rows : goal.returns-clause-rows

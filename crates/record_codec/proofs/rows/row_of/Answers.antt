@@ -1,4 +1,4 @@
-use Rattle.record_codec.specs.RowReadings.{row_there, no_row}
+use Rattle.record_codec.specs.RowReadingsLaws.{row_there, no_row}
 use Rattle.record_codec.proofs.Failed.{not_read}
 use Rattle.record_codec.proofs.rows.row_of.Goals as goal
 

@@ -1,4 +1,4 @@
-use Rattle.record_commits.specs.Stored.{commands_stored, turns_stored}
+use Rattle.record_commits.specs.StoredLaws.{commands_stored, turns_stored}
 use Rattle.record_commits.proofs.laws.steps_can_be_stored.Goals as goal
 
 pub returns-clause-turns : goal.returns-clause-turns

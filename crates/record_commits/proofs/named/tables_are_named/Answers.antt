@@ -5,7 +5,7 @@ use Rattle.kdcs_types.specs.declared.service.Service.{Service}
 use Rattle.kdcs_types.specs.Tables.{job_row, service_row, shown_row}
 use Rattle.record_commits.specs.Named.{HasAreaName, HasBlockNames, IsNamedRow}
 use Rattle.record_commits.specs.NamedLaws.{lists_named}
-use Rattle.record_commits.specs.Proper.{named_proper}
+use Rattle.record_commits.specs.ProperLaws.{named_proper}
 use Rattle.record_commits.proofs.named.tables_are_named.Goals as goal
 
 pub returns-clause-named : goal.returns-clause-named

@@ -2,7 +2,7 @@ use Rattle.std.proofs.Common.{ap, subst, sym, ◌∙◌}
 use Rattle.std.proofs.lemmas.Result.{IfOk-weaker}
 use Rattle.kdcs_types.specs.declared.act.Changes.{Changes}
 use Rattle.kdcs_types.specs.Tables.{AreChanges}
-use Rattle.laws_of_commits.specs.Ends.{end_made}
+use Rattle.laws_of_commits.specs.EndsLaws.{end_made}
 use Rattle.abstract_monitor.specs.Turns.{dump_acts}
 use Rattle.open_transaction.specs.declared.open.OpenTransaction.{OpenTransaction}
 use Rattle.open_transaction.specs.Work.{boxed_work, work_of}

@@ -5,7 +5,7 @@ use Rattle.kdcs_types.specs.declared.act.Changes.{Changes}
 use Rattle.kdcs_types.specs.declared.key.ServiceId.{ServiceId}
 use Rattle.kdcs_types.specs.declared.service.Service.{Service}
 use Rattle.kdcs_types.specs.Tables.{AreChanges}
-use Rattle.laws_of_commits.specs.Ends.{point_made, point_row-fits}
+use Rattle.laws_of_commits.specs.EndsLaws.{point_made, point_row-fits}
 use Rattle.abstract_monitor.specs.Endings.{joined, service_change}
 use Rattle.open_transaction.specs.declared.open.OpenTransaction.{OpenTransaction}
 use Rattle.open_transaction.specs.Work.{Boxed, boxed_work, HasOrder}

@@ -1,6 +1,7 @@
 use Rattle.std.proofs.Common.{sym, ◌∙◌}
 use Rattle.open_transaction.specs.Work.{work_of}
-use Rattle.laws_of_applications.specs.Applied.{applied, unit_found}
+use Rattle.laws_of_applications.specs.Applied.{applied}
+use Rattle.laws_of_applications.specs.AppliedLaws.{unit_found}
 use Rattle.service_statement.proofs.Stated.{asks_exact, asks_stands, asks_waits, ends_exact, ends_holders, plain_exact, plain_holders}
 use Rattle.service_statement.proofs.statement.next_statement.Goals as goal
 

@@ -1,6 +1,6 @@
 use Rattle.std.proofs.Common.{sym, ◌∙◌}
 use Rattle.open_transaction.specs.Work.{work_of}
-use Rattle.sync_points.specs.Made.{ends_change}
+use Rattle.sync_points.specs.MadeLaws.{ends_change}
 use Rattle.sync_points.proofs.ends.broken.Goals as goal
 
 pub returns-clause-changes : goal.returns-clause-changes

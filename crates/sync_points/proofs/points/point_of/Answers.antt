@@ -10,7 +10,7 @@ use Rattle.kdcs_types.specs.declared.service.Service.{Service}
 use Rattle.kd_base.specs.Limits.{last_next_job}
 use Rattle.kdcs_types.specs.Tables.{AreChanges, TableRows, change_key, changed, with_changes}
 use Rattle.kdcdef_types.specs.Generation.{Generated}
-use Rattle.laws_of_steps.specs.DurableLaws.{key_is_durable}
+use Rattle.laws_of_steps.specs.DurableKeys.{key_is_durable}
 use Rattle.abstract_monitor.specs.declared.outcome.Outcome.{Outcome}
 use Rattle.abstract_monitor.specs.Charges.{total_charge}
 use Rattle.abstract_monitor.specs.Endings.{durable, refusal, row_after, synchronised}
@@ -20,10 +20,11 @@ use Rattle.open_transaction.specs.Work.{work_of}
 use Rattle.storage_areas.specs.Areas.{changes_of}
 use Rattle.sync_points.specs.declared.points.Point.TheVariants.{Passed}
 use Rattle.sync_points.specs.Answers.{point_by}
-use Rattle.sync_points.specs.Made.{points_are, points_change}
+use Rattle.sync_points.specs.MadeLaws.{points_are, points_change}
 use Rattle.sync_points.specs.PointChanges.{changes_with, point_changes}
-use Rattle.sync_points.specs.Refusals.{full, passed, refusal_is, refused_by, spent, too_many}
-use Rattle.sync_points.specs.Short.{leaves_short, points_kept, points_short}
+use Rattle.sync_points.specs.RefusalsLaws.{full, passed, refusal_is, refused_by, spent, too_many}
+use Rattle.sync_points.specs.Short.{leaves_short}
+use Rattle.sync_points.specs.ShortLaws.{points_kept, points_short}
 use Rattle.sync_points.proofs.points.point_of.Goals as goal
 
 module _ (g : Generated) (t : TableRows) (w : OpenTransaction) (o : Outcome) (s : Stands g t w.id (work_of w)) where

@@ -8,12 +8,14 @@ use Rattle.kdcs_types.specs.declared.act.Change.{Change}
 use Rattle.kdcs_types.specs.declared.act.Changes.{Changes}
 use Rattle.kdcs_types.specs.Tables.{AreChanges, IsSortedTables, TableRows, change_key, changed}
 use Rattle.kdcdef_types.specs.Generation.{Generated}
-use Rattle.laws_of_steps.specs.DurableLaws.{key_is_durable}
+use Rattle.laws_of_steps.specs.DurableKeys.{key_is_durable}
 use Rattle.abstract_monitor.specs.Charges.{total_charge}
 use Rattle.abstract_monitor.specs.Endings.{durable}
-use Rattle.sync_points.specs.Pages.{durable_short, pages_are, pages_changed, pages_of}
-use Rattle.sync_points.specs.Refusals.{lt_alike, row_charge}
-use Rattle.sync_points.specs.Weights.{made_weight, replaced_weight}
+use Rattle.sync_points.specs.PagesLaws.{durable_short, pages_are, pages_changed}
+use Rattle.sync_points.specs.Pages.{pages_of}
+use Rattle.sync_points.specs.RefusalsLaws.{lt_alike}
+use Rattle.sync_points.specs.Refusals.{row_charge}
+use Rattle.sync_points.specs.WeightsLaws.{made_weight, replaced_weight}
 use Rattle.sync_points.proofs.pool.is_pool_full.Goals as goal
 
 pub durable_pages-requires : goal.durable_pages-requires

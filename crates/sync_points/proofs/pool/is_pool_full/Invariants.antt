@@ -1,7 +1,7 @@
 use Rattle.std.proofs.Common.{◌≡◌, ◌+◌, ◌*◌, ◌^◌, ◌≤◌, take}
 use Rattle.sync_points.specs.Pages.{pages_of}
 use Rattle.sync_points.specs.Refusals.{row_charge}
-use Rattle.sync_points.specs.Weights.{made_weight, replaced_weight}
+use Rattle.sync_points.specs.WeightsLaws.{made_weight, replaced_weight}
 use Rattle.sync_points.proofs.pool.is_pool_full.Given as goal
 
 abbrev pub invariant-loop-change : goal.invariant-loop-change

@@ -1,7 +1,7 @@
 use Rattle.std.proofs.Common.{sym, ap, ◌∙◌, Some}
 use Rattle.std.specs.Option.{option_eq}
 use Rattle.kdcs_types.specs.Same.{job_value_eq, service_eq}
-use Rattle.sync_points.specs.Rows.{same_gssb, same_tls, same_uls, same_service, same_job, same_shown}
+use Rattle.sync_points.specs.RowsLaws.{same_gssb, same_tls, same_uls, same_service, same_job, same_shown}
 use Rattle.sync_points.proofs.real.has_row.Goals as goal
 
 pub returns-in-Gssb : goal.returns-in-Gssb

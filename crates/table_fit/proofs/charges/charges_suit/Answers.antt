@@ -1,6 +1,7 @@
 use Rattle.std.proofs.Common.{ap, sym, ◌∙◌}
 use Rattle.std.specs.List.{list_all}
-use Rattle.table_fit.specs.Charging.{charged_too_much, has_few_bytes, rows_short}
+use Rattle.table_fit.specs.ChargingLaws.{charged_too_much, rows_short}
+use Rattle.table_fit.specs.Charging.{has_few_bytes}
 use Rattle.table_fit.proofs.charges.charges_suit.Goals as goal
 
 pub pages_left-requires-clause-short : goal.pages_left-requires-clause-short

@@ -5,7 +5,8 @@ use Rattle.kdcs_types.specs.declared.service.JobValue.{JobValue}
 use Rattle.kdcs_types.specs.declared.service.Service.{Service}
 use Rattle.abstract_monitor.specs.Bytes.{Bytes}
 use Rattle.abstract_monitor.specs.Charges.{charge_of, job_length, service_length, total_charge}
-use Rattle.table_fit.specs.Charging.{all_left, left_after}
+use Rattle.table_fit.specs.ChargingLaws.{all_left}
+use Rattle.table_fit.specs.Charging.{left_after}
 use Rattle.table_fit.proofs.charges.pages_left.Goals as goal
 
 -- the rows that are gone over are those of the tables

@@ -3,7 +3,7 @@ use Rattle.std.specs.Prelude.{flat_map, sum_by}
 use Rattle.abstract_monitor.specs.Bytes.{Bytes}
 use Rattle.abstract_monitor.specs.Charges.{list_length}
 use Rattle.record_codec.specs.Values.{lssb_bytes}
-use Rattle.table_fit.specs.Lengths.{service_parts}
+use Rattle.table_fit.specs.LengthsLaws.{service_parts}
 use Rattle.table_fit.proofs.lengths.service_length.Goals as goal
 
 pub returns-clause-bytes : goal.returns-clause-bytes

@@ -1,7 +1,7 @@
 use Rattle.std.proofs.Common.{◌≡◌, ◌-◌, ◌<◌, List, length, Some, sym, ap, ◌∙◌, arith, rules}
 use Rattle.std.proofs.lemmas.Bool.{eqb-true}
 use Rattle.std.proofs.lemmas.List.{append-nil}
-use Rattle.texts.specs.Parted.{parts_end, parts_fail, parts_more}
+use Rattle.texts.specs.PartedLaws.{parts_end, parts_fail, parts_more}
 use Rattle.texts.proofs.part.parts_of.Goals as goal
 
 pub returns-then-is_empty : goal.returns-then-is_empty

@@ -2,7 +2,7 @@ use Rattle.std.proofs.Common.{ℕ, List}
 use Rattle.std.specs.BTreeMap.{get_by}
 use Rattle.std.specs.Cmp.Lexicographic.{slice_cmp}
 use Rattle.std.specs.Ordering.{nat_cmp}
-use Rattle.unit_types.specs.Places.{item_more}
+use Rattle.unit_types.specs.PlacesLaws.{item_more}
 use Rattle.unit_types.specs.UnitText.{UnitText}
 use Rattle.unit_check.proofs.fitting.places_of.Goals as goal
 

@@ -2,7 +2,7 @@ use Rattle.std.proofs.Common.{ℕ, List}
 use Rattle.std.specs.BTreeMap.{get_by}
 use Rattle.std.specs.Cmp.Lexicographic.{slice_cmp}
 use Rattle.std.specs.Ordering.{nat_cmp}
-use Rattle.unit_types.specs.Places.{put_last, others_kept, none_found}
+use Rattle.unit_types.specs.PlacesLaws.{put_last, others_kept, none_found}
 use Rattle.unit_check.proofs.fitting.put_first.Goals as goal
 
 pub returns-in_ok-insert : goal.returns-in_ok-insert

@@ -1,5 +1,5 @@
 use Rattle.std.proofs.Common.{arith}
-use Rattle.unit_semantics.specs.KeepsReady.{time_left}
+use Rattle.unit_semantics.specs.KeepsReadyLaws.{time_left}
 use Rattle.unit_step.proofs.Asking.{asks_at}
 use Rattle.unit_step.proofs.answer.answered.Goals as goal
 

@@ -1,5 +1,5 @@
 use Rattle.unit_types.specs.Index.{at_name}
-use Rattle.unit_types.specs.Places.{item_more}
+use Rattle.unit_types.specs.PlacesLaws.{item_more}
 use Rattle.unit_types.specs.declared.unit.Field.{Field}
 use Rattle.unit_types.proofs.index.field_index.Goals as goal
 

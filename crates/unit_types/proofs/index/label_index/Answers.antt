@@ -1,6 +1,6 @@
 use Rattle.std.proofs.Common.{refl}
 use Rattle.unit_types.specs.Index.{at_name}
-use Rattle.unit_types.specs.Places.{label_more}
+use Rattle.unit_types.specs.PlacesLaws.{label_more}
 use Rattle.unit_types.proofs.index.label_index.Goals as goal
 
 pub loop-label-preserved : goal.loop-label-preserved

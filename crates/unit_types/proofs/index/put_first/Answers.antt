@@ -1,7 +1,7 @@
 use Rattle.std.proofs.Common.{ℕ, ap, sym, ◌∙◌}
 use Rattle.std.specs.Global.{Vec as Bytes}
 use Rattle.unit_types.specs.Index.{at_name}
-use Rattle.unit_types.specs.Places.{put_last, others_kept, none_found}
+use Rattle.unit_types.specs.PlacesLaws.{put_last, others_kept, none_found}
 use Rattle.unit_types.proofs.index.put_first.Goals as goal
 
 pub returns-in_ok-insert : goal.returns-in_ok-insert

@@ -1,4 +1,4 @@
-use Rattle.device_run.specs.HandedOn.{act_failed, act_refuses_nothing, act_knows_no_other}
+use Rattle.device_run.specs.HandedOnLaws.{act_failed, act_refuses_nothing, act_knows_no_other}
 use Rattle.utm_cli.proofs.run.perform.Goals as goal
 
 pub returns-in_ok-perform_report-in-Gen-clause-done : goal.returns-in_ok-perform_report-in-Gen-clause-done

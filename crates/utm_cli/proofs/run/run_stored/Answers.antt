@@ -8,7 +8,7 @@ use Rattle.warm_start.specs.Opening.{IsOpening, IsRefused, IsOfOtherTexts}
 use Rattle.utm_cli.specs.Asking.{Errand}
 use Rattle.utm_cli.specs.Doing.{Opens, identity_of, acts_of}
 use Rattle.device_acts.specs.Performing.{commits_nothing}
-use Rattle.kd_base.specs.Tools.{error_same}
+use Rattle.kd_base.specs.ToolsLaws.{error_same}
 use Rattle.utm_cli.proofs.ByWord.{not_empty, opened_once}
 use Rattle.utm_cli.proofs.Ran.{opening_cut, run_cut, rose_either, told_then}
 use Rattle.utm_cli.proofs.run.run_stored.Given.{Over}

@@ -1,6 +1,6 @@
 use Rattle.std.proofs.Common.{sym, subst}
 use Rattle.kdcs_types.specs.Tables.{TableRows}
-use Rattle.laws_of_steps.specs.EmptyTables.{empty_suit}
+use Rattle.laws_of_steps.specs.EmptyTablesLaws.{empty_suit}
 use Rattle.laws_of_steps.specs.Suits.{Suits}
 use Rattle.warm_start.proofs.opening.make.Goals as goal
 

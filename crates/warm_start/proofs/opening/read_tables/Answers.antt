@@ -1,7 +1,7 @@
 use Rattle.std.proofs.Common.{sym, subst}
-use Rattle.kd_device.specs.Rest.{rests_then}
+use Rattle.kd_device.specs.RestLaws.{rests_then}
 use Rattle.kdcs_types.specs.Tables.{TableRows}
-use Rattle.laws_of_steps.specs.EmptyTables.{empty_suit}
+use Rattle.laws_of_steps.specs.EmptyTablesLaws.{empty_suit}
 use Rattle.laws_of_steps.specs.Suits.{Suits}
 use Rattle.warm_start.proofs.opening.read_tables.Goals as goal
 

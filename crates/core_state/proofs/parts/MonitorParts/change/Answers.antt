@@ -1,7 +1,7 @@
 use Rattle.std.specs.Prelude.{List}
 use Rattle.std.proofs.Common.{ap, ◌∙◌}
 use Rattle.kdcs_types.specs.declared.act.Change.{Change}
-use Rattle.core_state.specs.Kept.{changed_indexed}
+use Rattle.core_state.specs.KeptLaws.{changed_indexed}
 use Rattle.core_state.specs.Queue.{followed_all}
 use Rattle.core_state.specs.Standing.{active_of}
 use Rattle.core_state.proofs.parts.MonitorParts.change.Goals as goal

@@ -1,5 +1,5 @@
 use Rattle.std.proofs.Common.{◌∙◌}
-use Rattle.core_state.specs.Kept.{found_class, none_found}
+use Rattle.core_state.specs.KeptLaws.{found_class, none_found}
 use Rattle.core_state.proofs.parts.MonitorParts.class_at.Goals as goal
 
 pub returns-in-Some : goal.returns-in-Some

@@ -1,4 +1,4 @@
-use Rattle.core_state.specs.Kept.{closed_indexed, closed_state, found_owned, found_work}
+use Rattle.core_state.specs.KeptLaws.{closed_indexed, closed_state, found_owned, found_work}
 use Rattle.core_state.proofs.parts.MonitorParts.close.Goals as goal
 
 pub returns-clause-indexed : goal.returns-clause-indexed

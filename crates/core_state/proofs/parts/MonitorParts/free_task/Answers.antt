@@ -1,4 +1,4 @@
-use Rattle.core_state.specs.Kept.{freed_task, freed_task_state}
+use Rattle.core_state.specs.KeptLaws.{freed_task, freed_task_state}
 use Rattle.core_state.proofs.parts.MonitorParts.free_task.Goals as goal
 
 pub returns-clause-indexed : goal.returns-clause-indexed

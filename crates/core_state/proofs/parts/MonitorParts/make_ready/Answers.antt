@@ -1,4 +1,4 @@
-use Rattle.core_state.specs.Kept.{made_ready, made_ready_state}
+use Rattle.core_state.specs.KeptLaws.{made_ready, made_ready_state}
 use Rattle.core_state.proofs.parts.MonitorParts.make_ready.Goals as goal
 
 pub returns-clause-indexed : goal.returns-clause-indexed

@@ -1,7 +1,7 @@
 use Rattle.std.specs.Prelude.{◌≤◌}
 use Rattle.std.proofs.Common.{ap, sym, subst, arith, ◌∙◌}
-use Rattle.core_state.specs.Changes.{opened_fresh}
-use Rattle.core_state.specs.Kept.{opened_indexed, opened_state}
+use Rattle.core_state.specs.ChangesLaws.{opened_fresh}
+use Rattle.core_state.specs.KeptLaws.{opened_indexed, opened_state}
 use Rattle.core_state.proofs.parts.MonitorParts.open.Goals as goal
 
 pub returns-clause-indexed : goal.returns-clause-indexed

@@ -1,6 +1,6 @@
 use Rattle.std.proofs.Common.{ap, sym, ◌∙◌}
 use Rattle.abstract_monitor.specs.Commands.{with_session}
-use Rattle.core_state.specs.Changes.{first_last}
+use Rattle.core_state.specs.ChangesLaws.{first_last}
 use Rattle.core_state.specs.Standing.{state_of}
 use Rattle.core_state.proofs.parts.MonitorParts.sign_on.Goals as goal
 

@@ -1,6 +1,6 @@
 use Rattle.std.proofs.Common.{ap, ◌∙◌}
 use Rattle.step_scheduler.specs.Schedule.{released}
-use Rattle.core_state.specs.Kept.{withdrawn_indexed, withdrawn_state}
+use Rattle.core_state.specs.KeptLaws.{withdrawn_indexed, withdrawn_state}
 use Rattle.core_state.proofs.parts.MonitorParts.withdraw.Goals as goal
 
 pub returns-clause-indexed : goal.returns-clause-indexed

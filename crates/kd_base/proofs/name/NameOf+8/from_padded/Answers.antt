@@ -1,5 +1,5 @@
 use Rattle.std.proofs.Common.{rules, None}
-use Rattle.kd_base.specs.RoundTrips.{field_found, field_only}
+use Rattle.kd_base.specs.RoundTripsLaws.{field_found, field_only}
 use Rattle.kd_base.proofs.name.NameOf+8.from_padded.Goals as goal
 
 pub returns-then-not-are_spaces-clause-only : goal.returns-then-not-are_spaces-clause-only

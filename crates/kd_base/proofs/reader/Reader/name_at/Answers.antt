@@ -1,6 +1,6 @@
 use Rattle.std.proofs.Common.{arith, Some}
 use Rattle.std.proofs.lemmas.Grind.{common_steps}
-use Rattle.kd_base.specs.RoundTrips.{name_only}
+use Rattle.kd_base.specs.RoundTripsLaws.{name_only}
 use Rattle.kd_base.proofs.reader.Reader.name_at.Goals as goal
 
 pub returns-in_err-name-clause-only : goal.returns-in_err-name-clause-only

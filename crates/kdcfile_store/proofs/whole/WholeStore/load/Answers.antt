@@ -1,5 +1,5 @@
 use Rattle.kdcfile_images.specs.declared.fault.LoadError.TheVariants as load
-use Rattle.kd_base.specs.Tools.{error_same}
+use Rattle.kd_base.specs.ToolsLaws.{error_same}
 use Rattle.kdcfile_store.proofs.whole.WholeStore.load.Goals as goal
 
 pub returns-in_err-loaded-clause-none : goal.returns-in_err-loaded-clause-none

@@ -1,6 +1,6 @@
 use Rattle.std.proofs.Common.{IsTrue, length, refl, sym, ap, subst, ◌∙◌}
 use Rattle.std.specs.List.{list_all}
-use Rattle.kd_base.specs.Tools.{both_true}
+use Rattle.kd_base.specs.ToolsLaws.{both_true}
 use Rattle.kdcs_types.specs.Tables.{IsSortedTables, change_fits, with_changes}
 use Rattle.kdcs_types.specs.RowLaws.{sorted_with_change}
 use Rattle.kdcs_types.specs.RowsKept.{tables_in, HasRoom}

@@ -1,4 +1,4 @@
-use Rattle.sorted_pairs.specs.Places.{found_entry, none_found}
+use Rattle.sorted_pairs.specs.PlacesLaws.{found_entry, none_found}
 use Rattle.sorted_pairs.proofs.pairs.SortedPairs.get.Goals as goal
 
 pub returns-in-Ok-clause-value : goal.returns-in-Ok-clause-value

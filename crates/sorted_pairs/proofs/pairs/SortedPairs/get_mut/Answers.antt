@@ -1,5 +1,5 @@
 use Rattle.std.proofs.Common.{refl}
-use Rattle.sorted_pairs.specs.Places.{none_found}
+use Rattle.sorted_pairs.specs.PlacesLaws.{none_found}
 use Rattle.sorted_pairs.proofs.pairs.SortedPairs.get_mut.Goals as goal
 
 pub returns-in-Err : goal.returns-in-Err

@@ -1,7 +1,7 @@
 use Rattle.std.proofs.Common.{◌∙◌, sym, subst}
 use Rattle.std.specs.Prelude.{IsTrue, List}
 use Rattle.std.specs.FinMap.{is_sorted}
-use Rattle.sorted_pairs.specs.Places.{put_entry, inserted_entry, kept}
+use Rattle.sorted_pairs.specs.PlacesLaws.{put_entry, inserted_entry, kept}
 use Rattle.sorted_pairs.proofs.pairs.SortedPairs.put.Goals as goal
 
 pub returns-in-Ok-clause-ok : goal.returns-in-Ok-clause-ok

@@ -1,7 +1,7 @@
 use Rattle.std.proofs.Common.{◌∙◌, sym, subst}
 use Rattle.std.specs.Prelude.{IsTrue, List}
 use Rattle.std.specs.FinMap.{is_sorted}
-use Rattle.sorted_pairs.specs.Places.{found_entry, none_found, removed_entry, none_to_remove, left_sorted}
+use Rattle.sorted_pairs.specs.PlacesLaws.{found_entry, none_found, removed_entry, none_to_remove, left_sorted}
 use Rattle.sorted_pairs.proofs.pairs.SortedPairs.remove.Goals as goal
 
 pub returns-in-Ok-clause-value : goal.returns-in-Ok-clause-value

@@ -2,7 +2,7 @@ use Rattle.std.proofs.Common.{List, rules, sym, subst}
 use Rattle.std.specs.Prelude.{IsTrue, not}
 use Rattle.std.specs.FinMap.{is_sorted}
 use Rattle.std.proofs.lemmas.Fn.{filter_same}
-use Rattle.sorted_pairs.specs.Places.{filtered_sorted}
+use Rattle.sorted_pairs.specs.PlacesLaws.{filtered_sorted}
 use Rattle.sorted_pairs.proofs.pairs.SortedPairs.remove_value.Goals as goal
 
 pub returns-clause-left : goal.returns-clause-left

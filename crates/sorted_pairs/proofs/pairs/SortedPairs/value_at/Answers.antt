@@ -1,7 +1,8 @@
 use Rattle.std.proofs.Common.{List, sym, subst, refl}
 use Rattle.std.specs.Prelude.{IsTrue}
 use Rattle.std.specs.FinMap.{is_sorted}
-use Rattle.sorted_pairs.specs.Places.{put_entry, found_entry, kept, IsPlace}
+use Rattle.sorted_pairs.specs.PlacesLaws.{put_entry, found_entry, kept}
+use Rattle.sorted_pairs.specs.Places.{IsPlace}
 use Rattle.std.specs.Prelude.{Ok}
 use Rattle.sorted_pairs.proofs.pairs.SortedPairs.value_at.Goals as goal
 

@@ -1,5 +1,5 @@
 use Rattle.abstract_monitor.specs.Charges.{job_length}
-use Rattle.sync_points.specs.Pages.{few_pages}
+use Rattle.sync_points.specs.PagesLaws.{few_pages}
 use Rattle.sync_points.proofs.pages.JobPaged.pages.Goals as goal
 
 pub job_length-requires : goal.job_length-requires

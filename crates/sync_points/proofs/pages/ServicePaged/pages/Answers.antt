@@ -1,7 +1,8 @@
 use Rattle.std.proofs.Common.{sym, subst, ◌∙◌, ◌≤◌, Bool}
 use Rattle.std.specs.Prelude.{cond}
 use Rattle.abstract_monitor.specs.Charges.{charge_of, service_length}
-use Rattle.sync_points.specs.Pages.{few_pages, most_pages}
+use Rattle.sync_points.specs.PagesLaws.{few_pages}
+use Rattle.sync_points.specs.Pages.{most_pages}
 use Rattle.sync_points.proofs.pages.ServicePaged.pages.Goals as goal
 
 pub service_length-requires : goal.service_length-requires

@@ -1,4 +1,4 @@
-use Rattle.sync_points.specs.Pages.{few_pages}
+use Rattle.sync_points.specs.PagesLaws.{few_pages}
 use Rattle.sync_points.proofs.pages.Tuple2NameJobValuePaged.pages.Goals as goal
 
 pub job_length-requires : goal.job_length-requires

@@ -1,6 +1,6 @@
 use Rattle.std.proofs.Common.{List, ap, ◌∙◌}
 use Rattle.std.specs.Prelude.{slice_get, Some, None}
-use Rattle.unit_types.specs.Places.{lent_at}
+use Rattle.unit_types.specs.PlacesLaws.{lent_at}
 use Rattle.unit_types.specs.UnitText.{UnitText}
 use Rattle.unit_check.proofs.Places.{unit_at}
 use Rattle.unit_check.proofs.units.Fitted.unit_named.Goals as goal

@@ -2,7 +2,7 @@ use Rattle.std.proofs.Common.{List, ap, ◌∙◌}
 use Rattle.std.specs.Prelude.{bytes_eq, slice_get}
 use Rattle.std.specs.Option.{option_and_then}
 use Rattle.unit_types.specs.declared.unit.Field.{Field}
-use Rattle.unit_types.specs.Places.{found_at, lent_at}
+use Rattle.unit_types.specs.PlacesLaws.{found_at, lent_at}
 use Rattle.unit_types.proofs.unit.Unit.field.Goals as goal
 
 pub returns-in-Some : goal.returns-in-Some
