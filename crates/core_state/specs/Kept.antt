@@ -2,7 +2,7 @@
 use Rattle.std.specs.Prelude.{List}
 use Rattle.kdcs_types.specs.declared.key.ServiceId.{ServiceId}
 use Rattle.async_queue.specs.declared.queue.QueuedJob.{QueuedJob}
-use Rattle.open_transaction.specs.Work.{Boxed}
+use Rattle.open_transaction.specs.Transactions.{Boxed}
 use Rattle.abstract_monitor.specs.Locks.{Locks}
 use Rattle.core_state.specs.declared.parts.MonitorParts.{MonitorParts}
 

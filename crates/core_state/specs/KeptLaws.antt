@@ -13,7 +13,7 @@ use Rattle.sorted_pairs.specs.MappedLaws.{find_mapped, put_mapped, where_key_map
 use Rattle.sorted_pairs.specs.Places.{without}
 use Rattle.area_locks.specs.Asked.{freed, other_than}
 use Rattle.async_queue.specs.declared.queue.QueuedJob.{QueuedJob}
-use Rattle.open_transaction.specs.Work.{Boxed, boxed_work}
+use Rattle.open_transaction.specs.Transactions.{Boxed, boxed_transaction}
 use Rattle.step_scheduler.specs.Schedule.{Schedule, with_ready, without_ready, released, with_place, service_in}
 use Rattle.abstract_monitor.specs.Commands.{no_place}
 use Rattle.abstract_monitor.specs.Locks.{Locks, holder}
@@ -90,7 +90,7 @@ module _ (p : MonitorParts) (id : ServiceId) (h : IsIndexed p) (unplaced : IsUnp
   closed_done : ((area : Area) → holder (freed p.locks id) area ≡ other_than id (holder p.locks area))
       → IsIndexed (with_active p (where_key id_cmp (λ i. not (id_eq id i)) p.active) (freed p.locks id) (marked_for false id p.jobs))
   closed_done follow =
-      let left = where_key_mapped id_cmp boxed_work (λ i. not (id_eq id i)) p.active in
+      let left = where_key_mapped id_cmp boxed_transaction (λ i. not (id_eq id i)) p.active in
       record {
         owned = each_where _ _ p.active h.owned;
         ready = subst (λ a. Each (HasClass p.generation a) p.scheduler.ready) left (ready_stay p.generation (active_of p.active) _ id (without_others id (active_of p.active)) p.scheduler.ready nowhere.0 h.ready);
@@ -103,54 +103,54 @@ module _ (p : MonitorParts) (id : ServiceId) (h : IsIndexed p) (unplaced : IsUnp
       → ((area : Area) → holder locks area ≡ other_than id (holder p.locks area)) → jobs ≡ marked_for false id p.jobs → IsIndexed (with_active p active locks jobs)
   closed_indexed active locks jobs a l follow j = closed_as (closed_done (subst (λ (m : Locks). (area : Area) → holder m area ≡ other_than id (holder p.locks area)) l follow)) active locks jobs a l j
 
-  pub opened_indexed : (work : Boxed) (active : List (ServiceId × Boxed)) (jobs : List QueuedJob) → active ≡ put id_cmp id work p.active → jobs ≡ marked_for true id p.jobs
-      → IsOwned p.generation p.steps (id, work) → find id_cmp id (active_of p.active) ≡ None → (boxed_work work).touched ≡ [] → IsIndexed (with_active p active p.locks jobs)
-  opened_indexed work active jobs a j owned closed none =
-      let there = put_mapped id_cmp boxed_work id work p.active in
+  pub opened_indexed : (transaction : Boxed) (active : List (ServiceId × Boxed)) (jobs : List QueuedJob) → active ≡ put id_cmp id transaction p.active → jobs ≡ marked_for true id p.jobs
+      → IsOwned p.generation p.steps (id, transaction) → find id_cmp id (active_of p.active) ≡ None → (boxed_transaction transaction).touched ≡ [] → IsIndexed (with_active p active p.locks jobs)
+  opened_indexed transaction active jobs a j owned closed none =
+      let there = put_mapped id_cmp boxed_transaction id transaction p.active in
       subst (λ x. IsIndexed (with_active p x p.locks jobs)) (sym a)
       record {
-        owned = each_put (IsOwned p.generation p.steps) id work p.active owned h.owned;
-        ready = subst (λ a. Each (HasClass p.generation a) p.scheduler.ready) there (ready_stay p.generation (active_of p.active) _ id (put_others id (boxed_work work) (active_of p.active)) p.scheduler.ready nowhere.0 h.ready);
-        places = subst (λ a. Each (PlaceHasClass p.generation a) p.scheduler.places) there (places_stay p.generation (active_of p.active) _ id (put_others id (boxed_work work) (active_of p.active)) p.scheduler.places nowhere.1 h.places);
-        locks = subst (λ a. Rattle.core_state.specs.Changes.SameHolds p.locks a) there (opened_holds p.locks (active_of p.active) id (boxed_work work) closed none h.locks);
-        jobs = j ∙ ap (marked_for true id) h.jobs ∙ opened_queue id (boxed_work work) (active_of p.active) p.tables.jobs ∙ ap (λ a. queue_of a p.tables.jobs) there;
+        owned = each_put (IsOwned p.generation p.steps) id transaction p.active owned h.owned;
+        ready = subst (λ a. Each (HasClass p.generation a) p.scheduler.ready) there (ready_stay p.generation (active_of p.active) _ id (put_others id (boxed_transaction transaction) (active_of p.active)) p.scheduler.ready nowhere.0 h.ready);
+        places = subst (λ a. Each (PlaceHasClass p.generation a) p.scheduler.places) there (places_stay p.generation (active_of p.active) _ id (put_others id (boxed_transaction transaction) (active_of p.active)) p.scheduler.places nowhere.1 h.places);
+        locks = subst (λ a. Rattle.core_state.specs.Changes.SameHolds p.locks a) there (opened_holds p.locks (active_of p.active) id (boxed_transaction transaction) closed none h.locks);
+        jobs = j ∙ ap (marked_for true id) h.jobs ∙ opened_queue id (boxed_transaction transaction) (active_of p.active) p.tables.jobs ∙ ap (λ a. queue_of a p.tables.jobs) there;
       }
 
 pub closed_state : (p : MonitorParts) (id : ServiceId) (active : List (ServiceId × Boxed)) (locks : Locks) (jobs : List QueuedJob) → active ≡ without id_cmp id p.active → locks ≡ freed p.locks id
     → state_of (with_active p active locks jobs) ≡ without_open (state_of p) id
 closed_state p id active locks jobs a l =
     (λ i. state_of (with_active p (a i) (l i) jobs))
-    ∙ ap (λ (x : List (ServiceId × OpenTransaction)). record (without_open (state_of p) id) { active = x }) (sym (where_key_mapped id_cmp boxed_work (λ i. not (id_eq id i)) p.active))
+    ∙ ap (λ (x : List (ServiceId × OpenTransaction)). record (without_open (state_of p) id) { active = x }) (sym (where_key_mapped id_cmp boxed_transaction (λ i. not (id_eq id i)) p.active))
 
-pub opened_state : (p : MonitorParts) (id : ServiceId) (work : Boxed) (x : OpenTransaction) (active : List (ServiceId × Boxed)) (jobs : List QueuedJob) → active ≡ put id_cmp id work p.active → boxed_work work ≡ x
+pub opened_state : (p : MonitorParts) (id : ServiceId) (transaction : Boxed) (x : OpenTransaction) (active : List (ServiceId × Boxed)) (jobs : List QueuedJob) → active ≡ put id_cmp id transaction p.active → boxed_transaction transaction ≡ x
     → state_of (with_active p active p.locks jobs) ≡ with_open (state_of p) id x
-opened_state p id work x active jobs a e =
+opened_state p id transaction x active jobs a e =
     ap (λ l. state_of (with_active p l p.locks jobs)) a
-    ∙ ap (λ (l : List (ServiceId × OpenTransaction)). record (state_of p) { active = l }) (sym (put_mapped id_cmp boxed_work id work p.active))
+    ∙ ap (λ (l : List (ServiceId × OpenTransaction)). record (state_of p) { active = l }) (sym (put_mapped id_cmp boxed_transaction id transaction p.active))
     ∙ ap (λ (y : OpenTransaction). with_open (state_of p) id y) e
 
 -- the transaction that is found
-pub found_work : (p : MonitorParts) (id : ServiceId) (result : Option Boxed) → result ≡ find id_cmp id p.active → option_map boxed_work result ≡ find id_cmp id (state_of p).active
-found_work p id result e = ap (option_map boxed_work) e ∙ sym (find_mapped id_cmp boxed_work id p.active)
+pub found_work : (p : MonitorParts) (id : ServiceId) (result : Option Boxed) → result ≡ find id_cmp id p.active → option_map boxed_transaction result ≡ find id_cmp id (state_of p).active
+found_work p id result e = ap (option_map boxed_transaction) e ∙ sym (find_mapped id_cmp boxed_transaction id p.active)
 
-pub found_owned : (p : MonitorParts) (id : ServiceId) (result : Option Boxed) → result ≡ find id_cmp id p.active → IsIndexed p → IfSome result (λ (work : Boxed). IsOwned p.generation p.steps (id, work))
-found_owned p id result e h = subst (λ o. IfSome o (λ (work : Boxed). IsOwned p.generation p.steps (id, work))) (sym e) (each_found (IsOwned p.generation p.steps) id p.active h.owned)
+pub found_owned : (p : MonitorParts) (id : ServiceId) (result : Option Boxed) → result ≡ find id_cmp id p.active → IsIndexed p → IfSome result (λ (transaction : Boxed). IsOwned p.generation p.steps (id, transaction))
+found_owned p id result e h = subst (λ o. IfSome o (λ (transaction : Boxed). IsOwned p.generation p.steps (id, transaction))) (sym e) (each_found (IsOwned p.generation p.steps) id p.active h.owned)
 
 -- the class of the transaction that is found
-pub found_class : (p : MonitorParts) (id : ServiceId) (work : Boxed) → Some work ≡ find id_cmp id p.active → class_of p.generation work.value.current ≡ class_of p.generation (current_by (find id_cmp id (active_of p.active)))
-found_class p id work e = ap (λ o. class_of p.generation (current_by (option_map boxed_work o))) e ∙ ap (λ o. class_of p.generation (current_by o)) (sym (find_mapped id_cmp boxed_work id p.active))
+pub found_class : (p : MonitorParts) (id : ServiceId) (transaction : Boxed) → Some transaction ≡ find id_cmp id p.active → class_of p.generation transaction.value.current ≡ class_of p.generation (current_by (find id_cmp id (active_of p.active)))
+found_class p id transaction e = ap (λ o. class_of p.generation (current_by (option_map boxed_transaction o))) e ∙ ap (λ o. class_of p.generation (current_by o)) (sym (find_mapped id_cmp boxed_transaction id p.active))
 
 pub none_found : (p : MonitorParts) (id : ServiceId) → None ≡ find id_cmp id p.active → IsSome (find id_cmp id (active_of p.active)) → ⊥
 none_found p id e there =
-    let none : find id_cmp id (active_of p.active) ≡ None = find_mapped id_cmp boxed_work id p.active ∙ ap (option_map boxed_work) (sym e) in
+    let none : find id_cmp id (active_of p.active) ≡ None = find_mapped id_cmp boxed_transaction id p.active ∙ ap (option_map boxed_transaction) (sym e) in
     true≢false (sym (subst (λ (o : Option OpenTransaction). IsSome o) none there))
 
 pub found_open : (works : List (ServiceId × Boxed)) (id : ServiceId) → is_some (find id_cmp id works) ≡ is_some (find id_cmp id (active_of works))
-found_open works id = by (find id_cmp id works) ∙ ap is_some (sym (find_mapped id_cmp boxed_work id works))
+found_open works id = by (find id_cmp id works) ∙ ap is_some (sym (find_mapped id_cmp boxed_transaction id works))
   where
-    by : (o : Option Boxed) → is_some o ≡ is_some (option_map boxed_work o)
+    by : (o : Option Boxed) → is_some o ≡ is_some (option_map boxed_transaction o)
     by None = refl
-    by (Some work) = refl
+    by (Some transaction) = refl
 
 -- other numbers leave the rows in order
 numbers_apart : (t : TableRows) (clock next : ℕ) → IsSortedTables t → IsSortedTables (record t { clock = clock; next_job = next })

@@ -6,7 +6,7 @@ use Rattle.kdcs_types.specs.declared.key.ServiceId.{ServiceId}
 use Rattle.kdcs_types.specs.Keys.{id_cmp}
 use Rattle.kdcdef_types.specs.Generation.{Generated}
 use Rattle.area_locks.specs.Asked.{holds_area}
-use Rattle.open_transaction.specs.Work.{Boxed, boxed_work}
+use Rattle.open_transaction.specs.Transactions.{Boxed, boxed_transaction}
 use Rattle.step_scheduler.specs.Schedule.{service_in}
 use Rattle.abstract_monitor.specs.Locks.{Active, holds}
 use Rattle.abstract_monitor.specs.Picks.{Classed, class_of, current_by}
@@ -18,7 +18,7 @@ use Rattle.async_queue.specs.Marks.{queue_of}
 
 -- an open transaction of the code, as that of the definition
 abbrev pub entry_of : ServiceId × Boxed → ServiceId × OpenTransaction
-entry_of e = (e.0, boxed_work e.1)
+entry_of e = (e.0, boxed_transaction e.1)
 
 abbrev pub active_of : List (ServiceId × Boxed) → Active
 active_of works = map entry_of works

@@ -9,6 +9,6 @@ mod parts;
 mod places;
 mod rows;
 mod terminals;
-mod work;
+mod transactions;
 
 pub use parts::MonitorParts;

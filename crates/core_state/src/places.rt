@@ -41,7 +41,7 @@ impl MonitorParts {
         ensures { result ≡ class_of self.now.generation (current_by (find id_cmp id.now (state_of self.now).active)) }
     {
         match self.active.get(id) {
-            Some(work) => class_of(&self.generation, work.current),
+            Some(transaction) => class_of(&self.generation, transaction.current),
             None => 0,
         }
     }

@@ -18,22 +18,22 @@ use Rattle.abstract_monitor.specs.Calls.{Told, Performed, called, declared, dele
 use Rattle.abstract_monitor.specs.Endings.{is_asynchronous}
 use Rattle.abstract_monitor.specs.Locks.{Locks, told_now}
 use Rattle.abstract_monitor.specs.Statements.{area_of_call}
-use Rattle.abstract_monitor.specs.State.{OpenTransaction as Work}
+use Rattle.abstract_monitor.specs.State.{OpenTransaction as Transaction}
 use Rattle.kdcs_calls.specs.Calling.{after_release, after_request, is_declared, locks_by_call, may_release}
 use Rattle.kdcs_calls.specs.Parts.{area_by, asked_in, goes_on, in_area, released_in, told_of}
 use Rattle.kdcs_calls.proofs.Holders.{IsQuiet}
 
 -- SGET GB
-abbrev read_area : Told → Work → Area → (room : ℕ) → Performed
+abbrev read_area : Told → Transaction → Area → (room : ℕ) → Performed
 read_area v x area room = locked v x area (λ y. read_or K03 y room (seen v y area))
 
 -- SREL GB
-abbrev delete_area : Told → Work → Area → Performed
+abbrev delete_area : Told → Transaction → Area → Performed
 delete_area v x area = locked v x area (λ y. deleted y area (seen v y area))
 
 -- ---- what a call answers
 
-module _ (g : Generated) (t : TableRows) (l : Locks) (id : ServiceId) (x : Work) (named : Bytes → Area) where
+module _ (g : Generated) (t : TableRows) (l : Locks) (id : ServiceId) (x : Transaction) (named : Bytes → Area) where
   area_call : (go : Told → Area → Performed) (o : Option Bytes) → in_area x (area_by g named o) (λ a. go (told_of g t l id a) a) ≡ goes_on g t l id x named go o
   unfolding told_now
   area_call go None = refl
@@ -60,7 +60,7 @@ module _ (g : Generated) (t : TableRows) (l : Locks) (id : ServiceId) (x : Work)
       by false = refl
 
   module _ {E : Type 0} (r : Result Called E) (o : Option Bytes) (area : Result Area Code) (is : area ≡ area_by g named o) where
-    pub answers_in : (y : Work) (go : Told → Area → Performed) → IfOk r (λ (answer : Called). (y, answer) ≡ in_area x area (λ a. go (told_of g t l id a) a)) → IfOk r (λ (answer : Called). (y, answer) ≡ goes_on g t l id x named go o)
+    pub answers_in : (y : Transaction) (go : Told → Area → Performed) → IfOk r (λ (answer : Called). (y, answer) ≡ in_area x area (λ a. go (told_of g t l id a) a)) → IfOk r (λ (answer : Called). (y, answer) ≡ goes_on g t l id x named go o)
     answers_in y go h = subst (λ (p : Performed). IfOk r (λ (answer : Called). (y, answer) ≡ p)) (ap (λ (a : Result Area Code). in_area x a (λ a. go (told_of g t l id a) a)) is ∙ area_call go o) h
 
     pub locks_in : (new : Locks) → OnOk r (new ≡ asked_in g t.clock l id area) → OnOk r (new ≡ after_request g t.clock l id (option_map named o))
@@ -78,14 +78,14 @@ IsReply (Abnormal cause) = ⊥
 IsReply (Pends variant o) = ⊥
 
 -- a call that is answered, and whose transaction touches the same areas
-abbrev pub IsPlain : Work → Performed → Type 0
+abbrev pub IsPlain : Transaction → Performed → Type 0
 IsPlain x p = IsQuiet x p × IsReply p.1
 
-plain_read : (x : Work) (room : ℕ) (o : Option Bytes) → IsPlain x (read_or K03 x room o)
+plain_read : (x : Transaction) (room : ℕ) (o : Option Bytes) → IsPlain x (read_or K03 x room o)
 plain_read x room None = (refl, tt)
 plain_read x room (Some bytes) = (refl, tt)
 
-plain_delete : (x : Work) (area : Area) (o : Option Bytes) → IsPlain x (deleted x area o)
+plain_delete : (x : Transaction) (area : Area) (o : Option Bytes) → IsPlain x (deleted x area o)
 plain_delete x area None = (refl, tt)
 plain_delete x area (Some bytes) = (refl, tt)
 
@@ -103,7 +103,7 @@ IsAlone (UnlkUs name) = ⊥
 IsAlone (UnlkDa name) = ⊥
 IsAlone _ = ⊤
 
-module _ (g : Generated) (t : TableRows) (l : Locks) (id : ServiceId) (x : Work) where
+module _ (g : Generated) (t : TableRows) (l : Locks) (id : ServiceId) (x : Transaction) where
   -- what the definition says of a call
   abbrev pub answer_to : Call → Performed
   answer_to call = called g (told_now l g.limits.reswait t id (area_of_call x call)) (is_asynchronous id) x call
@@ -111,7 +111,7 @@ module _ (g : Generated) (t : TableRows) (l : Locks) (id : ServiceId) (x : Work)
   -- what follows from refusals, from requests for a lock, from UNLK and from the calls on no area, follows from all
   module _ (Follows : Locks → Option Area → Performed → Type 0)
       (refuses : (area : Option Area) (code : Code) → Follows l area (replied x code))
-      (locks : (area : Area) (go : Work → Performed) → ((y : Work) → IsPlain y (go y)) → Follows (asked l g.limits.reswait t.clock id area) (Some area) (locked (told_of g t l id area) x area go))
+      (locks : (area : Area) (go : Transaction → Performed) → ((y : Transaction) → IsPlain y (go y)) → Follows (asked l g.limits.reswait t.clock id area) (Some area) (locked (told_of g t l id area) x area go))
       (releases : (v : Told) (area : Area) → Follows (if may_release x area then unlocked_locks l id area else l) (Some area) (unlocked v x area))
       (alone : (call : Call) → IsAlone call → Follows l None (answer_to call)) where
     abbrev Asks : (go : Told → Area → Performed) → Type 0
@@ -166,7 +166,7 @@ module _ (g : Generated) (t : TableRows) (l : Locks) (id : ServiceId) (x : Work)
     follows (UnlkDa name) = released_follows tls (name_in_operand name)
     follows call = alone call tt
 
-    pub performed_follows : {E : Type 0} (call : Call) (new : Locks) (y : Work) (r : Result Called E)
+    pub performed_follows : {E : Type 0} (call : Call) (new : Locks) (y : Transaction) (r : Result Called E)
         → IfOk r (λ (answer : Called). (y, answer) ≡ answer_to call)
         → OnOk r (new ≡ locks_by_call g t.clock l id x call)
         → IfOk r (λ (answer : Called). Follows new (area_of_call x call) (y, answer))

@@ -23,7 +23,7 @@ use Rattle.abstract_monitor.specs.Outcomes.{pend_outcome}
 use Rattle.unit_semantics.specs.Contents.{number_of}
 use Rattle.abstract_monitor.specs.Endings.{is_asynchronous}
 use Rattle.abstract_monitor.specs.Locks.{Locks}
-use Rattle.abstract_monitor.specs.State.{OpenTransaction as Work}
+use Rattle.abstract_monitor.specs.State.{OpenTransaction as Transaction}
 use Rattle.kdcs_calls.specs.Calling.{HoldersFollow, HoldsJust, locks_by_call}
 use Rattle.kdcs_calls.specs.HoldingLaws.{follow_holds, quiet_follows}
 use Rattle.kdcs_calls.proofs.Holders.{IsQuiet, locked_follows, unlocked_follows}
@@ -31,59 +31,59 @@ use Rattle.kdcs_calls.proofs.AreaCalls.{IsAlone, answer_to, performed_follows}
 
 -- ---- calls that touch no other area
 
-quiet_name : (x : Work) (o : Option Bytes) (go : Bytes → Performed) → ((n : Bytes) → IsQuiet x (go n)) → IsQuiet x (with_name x o go)
+quiet_name : (x : Transaction) (o : Option Bytes) (go : Bytes → Performed) → ((n : Bytes) → IsQuiet x (go n)) → IsQuiet x (with_name x o go)
 quiet_name x None go still = refl
 quiet_name x (Some n) go still = still n
 
-quiet_kind : (x : Work) (b : Bool) (p : Performed) → IsQuiet x p → IsQuiet x (for_kind x b p)
+quiet_kind : (x : Transaction) (b : Bool) (p : Performed) → IsQuiet x p → IsQuiet x (for_kind x b p)
 quiet_kind x true p still = still
 quiet_kind x false p still = refl
 
-quiet_length : (x : Work) (b : Bool) (p : Performed) → IsQuiet x p → IsQuiet x (within_length x b p)
+quiet_length : (x : Transaction) (b : Bool) (p : Performed) → IsQuiet x p → IsQuiet x (within_length x b p)
 quiet_length x true p still = still
 quiet_length x false p still = refl
 
-quiet_got : (x : Work) (room : ℕ) (parts : List Bytes) → IsQuiet x (got_by x room parts)
+quiet_got : (x : Transaction) (room : ℕ) (parts : List Bytes) → IsQuiet x (got_by x room parts)
 quiet_got x room [] = refl
 quiet_got x room (p ∷ ps) = refl
 
-quiet_draft : (x : Work) (to : Option Target) (due : Option Due) (message : Bytes) → IsQuiet x (drafted x to due message)
+quiet_draft : (x : Transaction) (to : Option Target) (due : Option Due) (message : Bytes) → IsQuiet x (drafted x to due message)
 quiet_draft x None due message = refl
 quiet_draft x (Some to) None message = refl
 quiet_draft x (Some to) (Some due) message = refl
 
-quiet_job : (g : Generated) (x : Work) (to : Bytes) (due : Option Due) (message : Bytes) → IsQuiet x (put_job g x to due message)
+quiet_job : (g : Generated) (x : Transaction) (to : Bytes) (due : Option Due) (message : Bytes) → IsQuiet x (put_job g x to due message)
 quiet_job g x to due message =
     quiet_length x (nat_le (length message) g.limits.nb) (with_name x (name_in_operand to) (λ n. drafted x (job_target g n) due message))
     (quiet_name x (name_in_operand to) (λ n. drafted x (job_target g n) due message) (λ n. quiet_draft x (job_target g n) due message))
 
-quiet_read : (code : Code) (x : Work) (room : ℕ) (o : Option Bytes) → IsQuiet x (read_or code x room o)
+quiet_read : (code : Code) (x : Transaction) (room : ℕ) (o : Option Bytes) → IsQuiet x (read_or code x room o)
 quiet_read code x room None = refl
 quiet_read code x room (Some bytes) = refl
 
-quiet_away : (x : Work) (name : Bytes) (room : ℕ) (o : Option Bytes) → IsQuiet x (read_away_by x name room o)
+quiet_away : (x : Transaction) (name : Bytes) (room : ℕ) (o : Option Bytes) → IsQuiet x (read_away_by x name room o)
 quiet_away x name room None = refl
 quiet_away x name room (Some bytes) = refl
 
-quiet_write : (x : Work) (b : Bool) (p q : Performed) → IsQuiet x p → IsQuiet x q → IsQuiet x (if b then p else q)
+quiet_write : (x : Transaction) (b : Bool) (p q : Performed) → IsQuiet x p → IsQuiet x q → IsQuiet x (if b then p else q)
 quiet_write x true p q a c = a
 quiet_write x false p q a c = c
 
-quiet_delete_local : (x : Work) (name : Bytes) (o : Option Bytes) → IsQuiet x (delete_local_by x name o)
+quiet_delete_local : (x : Transaction) (name : Bytes) (o : Option Bytes) → IsQuiet x (delete_local_by x name o)
 quiet_delete_local x name None = refl
 quiet_delete_local x name (Some bytes) = refl
 
-quiet_pend : (x : Work) (variant : Variant) (r : Result Outcome Cause) → IsQuiet x (pended x variant r)
+quiet_pend : (x : Transaction) (variant : Variant) (r : Result Outcome Cause) → IsQuiet x (pended x variant r)
 quiet_pend x variant (Ok o) = refl
 quiet_pend x variant (Err cause) = refl
 
-quiet_first : (x : Work) (call : Call) → IsQuiet x (first_call x call)
+quiet_first : (x : Transaction) (call : Call) → IsQuiet x (first_call x call)
 quiet_first x Init = refl
 quiet_first x _ = refl
 
 -- ---- all calls
 
-module _ (g : Generated) (t : TableRows) (l : Locks) (id : ServiceId) (x : Work) (h : HoldsJust l id x) where
+module _ (g : Generated) (t : TableRows) (l : Locks) (id : ServiceId) (x : Transaction) (h : HoldsJust l id x) where
   abbrev Follows : Locks → Option Area → Performed → Type 0
   Follows m area p = HoldersFollow l m id p.0
 
@@ -108,11 +108,11 @@ module _ (g : Generated) (t : TableRows) (l : Locks) (id : ServiceId) (x : Work)
   quiet_alone _ alone = absurd alone
 
   -- before INIT is done
-  pub first_performed : (call : Call) (y : Work) (answer : Called) → (y, answer) ≡ first_call x call → HoldersFollow l l id y
+  pub first_performed : (call : Call) (y : Transaction) (answer : Called) → (y, answer) ≡ first_call x call → HoldersFollow l l id y
   first_performed call y answer exact = subst (λ (p : Performed). HoldersFollow l l id p.0) (sym exact) (quiet_follows l id x h (first_call x call).0 (quiet_first x call))
 
   -- once INIT is done
-  pub later_performed : {E : Type 0} (call : Call) (new : Locks) (y : Work) (r : Result Called E)
+  pub later_performed : {E : Type 0} (call : Call) (new : Locks) (y : Transaction) (r : Result Called E)
       → IfOk r (λ (answer : Called). (y, answer) ≡ answer_to g t l id x call)
       → OnOk r (new ≡ locks_by_call g t.clock l id x call)
       → OnOk r (HoldersFollow l new id y)
@@ -123,6 +123,6 @@ module _ (g : Generated) (t : TableRows) (l : Locks) (id : ServiceId) (x : Work)
       (λ call alone. quiet_follows l id x h (answer_to g t l id x call).0 (quiet_alone call alone))
 
   -- so the locks give the service just what its transaction touches, again
-  pub still_holds : {E : Type 0} (new : Locks) (y : Work) (r : Result Called E) → OnOk r (HoldersFollow l new id y) → OnOk r (HoldsJust new id y)
+  pub still_holds : {E : Type 0} (new : Locks) (y : Transaction) (r : Result Called E) → OnOk r (HoldersFollow l new id y) → OnOk r (HoldsJust new id y)
   still_holds new y (Ok answer) follow = follow_holds l new id y follow
   still_holds new y (Err e) follow = tt

@@ -16,7 +16,7 @@ use Rattle.abstract_monitor.specs.declared.answer.LockAnswer.{LockAnswer}
 use Rattle.abstract_monitor.specs.declared.answer.LockAnswer.TheVariants.{Granted, Wait, Busy, Deadlock}
 use Rattle.abstract_monitor.specs.Calls.{Told, Performed, first_call, locked, on_answer, touches, touching, unlocked, unlocked_by}
 use Rattle.abstract_monitor.specs.Locks.{Locks, Waiting, answer_of}
-use Rattle.abstract_monitor.specs.State.{OpenTransaction as Work}
+use Rattle.abstract_monitor.specs.State.{OpenTransaction as Transaction}
 use Rattle.abstract_monitor.specs.Statements.{area_of_call}
 use Rattle.kdcs_calls.specs.Calling.{HoldsJust, WaitsFollow, locks_by_call, may_release}
 use Rattle.kdcs_calls.specs.Parts.{told_of}
@@ -52,8 +52,8 @@ module _ (l : Locks) (id : ServiceId) (now : ℕ) where
   ended_twice : (without_wait (without_wait l id) id).waits ≡ (without_wait l id).waits
   ended_twice = twice (λ (e : ServiceId × Waiting). not (id_eq id e.0)) l.waits
 
-  module _ (x : Work) (area : Area) where
-    answer_waits : (go : Work → Performed) → ((y : Work) → IsReply (go y).1) → (answer : LockAnswer) → WaitsFollow l (locks_after answer l now id area) id now (Some area) (on_answer x area answer go).1
+  module _ (x : Transaction) (area : Area) where
+    answer_waits : (go : Transaction → Performed) → ((y : Transaction) → IsReply (go y).1) → (answer : LockAnswer) → WaitsFollow l (locks_after answer l now id area) id now (Some area) (on_answer x area answer go).1
     answer_waits go still Granted = answered_waits (locks_after Granted l now id area) (Some area) (go (touching x area (touches x area))) ended_twice (still (touching x area (touches x area)))
     answer_waits go still Wait = refl
     answer_waits go still Busy = ended_twice
@@ -67,20 +67,20 @@ module _ (l : Locks) (id : ServiceId) (now : ℕ) where
     released_waits v true false false = refl
 
 -- before INIT is done
-first_by_call : (l : Locks) (id : ServiceId) (now : ℕ) (x : Work) (call : Call) → WaitsFollow l l id now (area_of_call x call) (first_call x call).1
+first_by_call : (l : Locks) (id : ServiceId) (now : ℕ) (x : Transaction) (call : Call) → WaitsFollow l l id now (area_of_call x call) (first_call x call).1
 first_by_call l id now x Init = refl
 first_by_call l id now x _ = refl
 
-pub first_waits : (l : Locks) (t : TableRows) (id : ServiceId) (x : Work) (call : Call) (y : Work) (answer : Called) → (y, answer) ≡ first_call x call → WaitsFollow l l id t.clock (area_of_call x call) answer
+pub first_waits : (l : Locks) (t : TableRows) (id : ServiceId) (x : Transaction) (call : Call) (y : Transaction) (answer : Called) → (y, answer) ≡ first_call x call → WaitsFollow l l id t.clock (area_of_call x call) answer
 first_waits l t id x call y answer exact = subst (λ (p : Performed). WaitsFollow l l id t.clock (area_of_call x call) p.1) (sym exact) (first_by_call l id t.clock x call)
 
 -- ---- once INIT is done
 
-module _ (g : Generated) (t : TableRows) (l : Locks) (id : ServiceId) (x : Work) (h : HoldsJust l id x) where
+module _ (g : Generated) (t : TableRows) (l : Locks) (id : ServiceId) (x : Transaction) (h : HoldsJust l id x) where
   abbrev Follows : Locks → Option Area → Performed → Type 0
   Follows m area p = WaitsFollow l m id t.clock area p.1
 
-  locked_waits : (area : Area) (go : Work → Performed) → ((y : Work) → IsReply (go y).1) → Follows (asked l g.limits.reswait t.clock id area) (Some area) (locked (told_of g t l id area) x area go)
+  locked_waits : (area : Area) (go : Transaction → Performed) → ((y : Transaction) → IsReply (go y).1) → Follows (asked l g.limits.reswait t.clock id area) (Some area) (locked (told_of g t l id area) x area go)
   locked_waits area go still =
       subst (λ (a : LockAnswer). Follows (asked l g.limits.reswait t.clock id area) (Some area) (on_answer x area a go))
       (sym (same_answer g t l id x area h))
@@ -89,7 +89,7 @@ module _ (g : Generated) (t : TableRows) (l : Locks) (id : ServiceId) (x : Work)
   unlocked_waits : (v : Told) (area : Area) → Follows (if may_release x area then unlocked_locks l id area else l) (Some area) (unlocked v x area)
   unlocked_waits v area = released_waits l id t.clock x area v (touches x area) (is_some (find area_cmp area x.written)) (holds_area l id area)
 
-  pub later_waited : {E : Type 0} (call : Call) (new : Locks) (y : Work) (r : Result Called E)
+  pub later_waited : {E : Type 0} (call : Call) (new : Locks) (y : Transaction) (r : Result Called E)
       → IfOk r (λ (answer : Called). (y, answer) ≡ answer_to g t l id x call)
       → OnOk r (new ≡ locks_by_call g t.clock l id x call)
       → IfOk r (λ (answer : Called). WaitsFollow l new id t.clock (area_of_call x call) answer)

@@ -20,14 +20,14 @@ use Rattle.abstract_monitor.specs.declared.answer.LockAnswer.{LockAnswer}
 use Rattle.abstract_monitor.specs.declared.answer.LockAnswer.TheVariants.{Granted, Wait, Busy, Deadlock}
 use Rattle.abstract_monitor.specs.Calls.{Told, Performed, locked, noted, on_answer, touches, touching, unlocked, unlocked_by}
 use Rattle.abstract_monitor.specs.Locks.{Locks, answer_of, holder}
-use Rattle.abstract_monitor.specs.State.{OpenTransaction as Work}
+use Rattle.abstract_monitor.specs.State.{OpenTransaction as Transaction}
 use Rattle.kdcs_calls.specs.Calling.{HoldersFollow, HoldsJust, holder_then, may_release}
 use Rattle.kdcs_calls.specs.HoldingLaws.{kept, quiet_follows}
 use Rattle.kdcs_calls.specs.Parts.{told_of}
 use Rattle.kdcs_calls.proofs.Locking.{same_answer}
 
 -- the transaction that a call leaves touches the same areas
-abbrev pub IsQuiet : Work → Performed → Type 0
+abbrev pub IsQuiet : Transaction → Performed → Type 0
 IsQuiet x p = p.0.touched ≡ x.touched
 
 or_true : (b : Bool) → (b || true) ≡ true
@@ -41,7 +41,7 @@ or_false false = refl
 area_eq-sym : (a b : Area) → area_eq a b ≡ area_eq b a
 area_eq-sym a b = (eq_by_cmp_equiv area_total).symm a b
 
-module _ (l : Locks) (id : ServiceId) (x : Work) (h : HoldsJust l id x) where
+module _ (l : Locks) (id : ServiceId) (x : Transaction) (h : HoldsJust l id x) where
   -- ---- a request
 
   module _ (area : Area) where
@@ -57,7 +57,7 @@ module _ (l : Locks) (id : ServiceId) (x : Work) (h : HoldsJust l id x) where
         by true t = or_true t
         by false t = or_false t
 
-    granted_follows : (y : Work) → y.touched ≡ (touching x area (touches x area)).touched → HoldersFollow l (without_wait (with_holder l id area) id) id y
+    granted_follows : (y : Transaction) → y.touched ≡ (touching x area (touches x area)).touched → HoldersFollow l (without_wait (with_holder l id area) id) id y
     granted_follows y e a =
         find-put area_cmp area_total a area id l.holders
         ∙ by (area_eq a area) (kept l id x h a)
@@ -68,13 +68,13 @@ module _ (l : Locks) (id : ServiceId) (x : Work) (h : HoldsJust l id x) where
         by true k = refl
         by false k = k
 
-    answer_follows : (now : ℕ) (go : Work → Performed) → ((y : Work) → IsQuiet y (go y)) → (answer : LockAnswer) → HoldersFollow l (locks_after answer l now id area) id (on_answer x area answer go).0
+    answer_follows : (now : ℕ) (go : Transaction → Performed) → ((y : Transaction) → IsQuiet y (go y)) → (answer : LockAnswer) → HoldersFollow l (locks_after answer l now id area) id (on_answer x area answer go).0
     answer_follows now go still Granted = granted_follows (go (touching x area (touches x area))).0 (still (touching x area (touches x area)))
     answer_follows now go still Wait = quiet_follows l id x h x refl
     answer_follows now go still Busy = quiet_follows l id x h (noted x area K04) refl
     answer_follows now go still Deadlock = quiet_follows l id x h (noted x area K05) refl
 
-    pub locked_follows : (g : Generated) (t : TableRows) (go : Work → Performed) → ((y : Work) → IsQuiet y (go y)) → HoldersFollow l (asked l g.limits.reswait t.clock id area) id (locked (told_of g t l id area) x area go).0
+    pub locked_follows : (g : Generated) (t : TableRows) (go : Transaction → Performed) → ((y : Transaction) → IsQuiet y (go y)) → HoldersFollow l (asked l g.limits.reswait t.clock id area) id (locked (told_of g t l id area) x area go).0
     locked_follows g t go still =
         subst (λ (a : LockAnswer). HoldersFollow l (asked l g.limits.reswait t.clock id area) id (on_answer x area a go).0)
         (sym (same_answer g t l id x area h))
@@ -94,7 +94,7 @@ module _ (l : Locks) (id : ServiceId) (x : Work) (h : HoldsJust l id x) where
     none_else None e = absurd (true≢false (sym e))
     none_else (Some other) e = sym (ap (λ (b : Bool). if b then None else Some other) e)
 
-    released_follows : (y : Work) → y.touched ≡ without x.touched → touches x area ≡ true → HoldersFollow l (unlocked_locks l id area) id y
+    released_follows : (y : Transaction) → y.touched ≡ without x.touched → touches x area ≡ true → HoldersFollow l (unlocked_locks l id area) id y
     released_follows y e held =
         subst (λ (b : Bool). HoldersFollow l (given_back l area b) id y) (sym (h area ∙ held)) left
       where

@@ -11,7 +11,7 @@ use Rattle.abstract_monitor.specs.declared.answer.LockAnswer.{LockAnswer}
 use Rattle.abstract_monitor.specs.declared.answer.LockAnswer.TheVariants.{Granted}
 use Rattle.abstract_monitor.specs.Calls.{answer_by, touches}
 use Rattle.abstract_monitor.specs.Locks.{Locks, answer_by_holder, answer_of, answer_of_held, holder}
-use Rattle.abstract_monitor.specs.State.{OpenTransaction as Work}
+use Rattle.abstract_monitor.specs.State.{OpenTransaction as Transaction}
 use Rattle.kdcs_calls.specs.Calling.{HoldsJust}
 use Rattle.kdcs_calls.specs.Parts.{told_of}
 
@@ -24,14 +24,14 @@ unfolding answer_of
 granted_if_held l reswait now id area e = granted_by l reswait now id area (holder l area) e
 
 -- so what the call is told is what the locks answer, held or not
-pub same_answer : (g : Generated) (t : TableRows) (l : Locks) (id : ServiceId) (x : Work) (area : Area) → HoldsJust l id x → answer_by (told_of g t l id area) (touches x area) ≡ answer_of l g.limits.reswait t.clock id area
+pub same_answer : (g : Generated) (t : TableRows) (l : Locks) (id : ServiceId) (x : Transaction) (area : Area) → HoldsJust l id x → answer_by (told_of g t l id area) (touches x area) ≡ answer_of l g.limits.reswait t.clock id area
 same_answer g t l id x area h = by (touches x area) refl
   where
     by : (b : Bool) → touches x area ≡ b → answer_by (told_of g t l id area) b ≡ answer_of l g.limits.reswait t.clock id area
     by true e = sym (granted_if_held l g.limits.reswait t.clock id area (h area ∙ e))
     by false e = refl
 
-pub told_answer : (g : Generated) (t : TableRows) (l : Locks) (id : ServiceId) (x : Work) (area : Area) (answer : LockAnswer) (limits : Limits) (now : ℕ) → HoldsJust l id x → limits ≡ g.limits → now ≡ t.clock → answer ≡ answer_of l limits.reswait now id area → answer ≡ answer_by (told_of g t l id area) (touches x area)
+pub told_answer : (g : Generated) (t : TableRows) (l : Locks) (id : ServiceId) (x : Transaction) (area : Area) (answer : LockAnswer) (limits : Limits) (now : ℕ) → HoldsJust l id x → limits ≡ g.limits → now ≡ t.clock → answer ≡ answer_of l limits.reswait now id area → answer ≡ answer_by (told_of g t l id area) (touches x area)
 told_answer g t l id x area answer limits now h max clock is =
     is
     ∙ ap (λ (m : Limits). answer_of l m.reswait now id area) max

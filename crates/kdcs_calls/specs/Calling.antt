@@ -17,12 +17,12 @@ use Rattle.abstract_monitor.specs.Calls.{Performed, call_outcome, shown_by, touc
 use Rattle.abstract_monitor.specs.Endings.{is_asynchronous}
 use Rattle.abstract_monitor.specs.Locks.{Locks, Waiting, holder, told_now}
 use Rattle.abstract_monitor.specs.Statements.{area_of_call}
-use Rattle.abstract_monitor.specs.State.{OpenTransaction as Work}
+use Rattle.abstract_monitor.specs.State.{OpenTransaction as Transaction}
 
 -- ---- when a call may be performed
 
 -- the locks give the service exactly the areas that its transaction touches
-abbrev pub HoldsJust : Locks → ServiceId → Work → Type 0
+abbrev pub HoldsJust : Locks → ServiceId → Transaction → Type 0
 HoldsJust l id x = (area : Area) → holds_area l id area ≡ touches x area
 
 -- a content that a call may read
@@ -30,17 +30,17 @@ abbrev pub IsShort : Bytes → Type 0
 IsShort bytes = length bytes ≤ 32767
 
 -- each part, area and LSSB that the transaction may read is short
-pub record CanRead (t : TableRows) (x : Work) : Type 0 where
+pub record CanRead (t : TableRows) (x : Transaction) : Type 0 where
   pub parts : All IsShort x.unread
   pub areas : (area : Area) → IfSome (shown_by (find area_cmp area x.written) (content_of t area)) IsShort
   pub lssbs : (name : Bytes) → IfSome (find bytes_cmp name x.lssbs) IsShort
 
 -- the service holds what its transaction touches, and no other area changes hands
-abbrev pub holder_then : ServiceId → Work → Area → (before : Option ServiceId) → Option ServiceId
+abbrev pub holder_then : ServiceId → Transaction → Area → (before : Option ServiceId) → Option ServiceId
 holder_then id x area before = if touches x area then Some id else other_than id before
 
 -- so it is with each area, from these locks to those
-abbrev pub HoldersFollow : (before after : Locks) → ServiceId → Work → Type 0
+abbrev pub HoldersFollow : (before after : Locks) → ServiceId → Transaction → Type 0
 HoldersFollow l m id x = (area : Area) → holder m area ≡ holder_then id x area (holder l area)
 
 -- only a call that asks of an area waits: since the first request of this wait
@@ -58,7 +58,7 @@ WaitsFollow l m id now area (Pends variant o) = m.waits ≡ l.waits
 -- ---- what it answers
 
 -- the call, told what the locks and the tables say now
-abbrev pub performed_now : Generated → TableRows → Locks → ServiceId → Work → Call → Performed
+abbrev pub performed_now : Generated → TableRows → Locks → ServiceId → Transaction → Call → Performed
 performed_now g t l id x call = call_outcome g (told_now l g.limits.reswait t id (area_of_call x call)) (is_asynchronous id) x call
 
 -- ---- what becomes of the locks
@@ -75,16 +75,16 @@ after_request g now l id None = l
 after_request g now l id (Some area) = if is_declared g area then asked l g.limits.reswait now id area else l
 
 -- the transaction holds the area, and has not written or deleted it
-abbrev pub may_release : Work → Area → Bool
+abbrev pub may_release : Transaction → Area → Bool
 may_release x area = touches x area && not (is_some (find area_cmp area x.written))
 
 -- UNLK gives back an area that may be released
-abbrev pub after_release : Generated → Locks → ServiceId → Work → Option Area → Locks
+abbrev pub after_release : Generated → Locks → ServiceId → Transaction → Option Area → Locks
 after_release g l id x None = l
 after_release g l id x (Some area) = if is_declared g area && may_release x area then unlocked l id area else l
 
 -- the locks after a call, once INIT is done
-abbrev pub locks_by_call : Generated → (now : ℕ) → Locks → ServiceId → Work → Call → Locks
+abbrev pub locks_by_call : Generated → (now : ℕ) → Locks → ServiceId → Transaction → Call → Locks
 locks_by_call g now l id x (SgetGb name room) = after_request g now l id (area_of_call x (SgetGb name room))
 locks_by_call g now l id x (SputGb name bytes) = after_request g now l id (area_of_call x (SputGb name bytes))
 locks_by_call g now l id x (SrelGb name) = after_request g now l id (area_of_call x (SrelGb name))
@@ -98,5 +98,5 @@ locks_by_call g now l id x (UnlkDa name) = after_release g l id x (area_of_call 
 locks_by_call g now l id x _ = l
 
 -- the locks after a call; before INIT is done, no lock is asked for
-abbrev pub locks_after_call : Generated → (now : ℕ) → Locks → ServiceId → Work → Call → Locks
+abbrev pub locks_after_call : Generated → (now : ℕ) → Locks → ServiceId → Transaction → Call → Locks
 locks_after_call g now l id x call = if x.inited then locks_by_call g now l id x call else l

@@ -9,11 +9,11 @@ use Rattle.kdcs_types.specs.Keys.{area_eq, id_eq}
 use Rattle.area_locks.specs.Asked.{is_holder, other_than}
 use Rattle.abstract_monitor.specs.Calls.{touches}
 use Rattle.abstract_monitor.specs.Locks.{Locks, holder}
-use Rattle.abstract_monitor.specs.State.{OpenTransaction as Work}
+use Rattle.abstract_monitor.specs.State.{OpenTransaction as Transaction}
 use Rattle.kdcs_calls.specs.Calling.{HoldersFollow, HoldsJust, holder_then}
 
 -- HoldsJust again
-pub follow_holds : (l m : Locks) (id : ServiceId) (x : Work) → HoldersFollow l m id x → HoldsJust m id x
+pub follow_holds : (l m : Locks) (id : ServiceId) (x : Transaction) → HoldersFollow l m id x → HoldsJust m id x
 follow_holds l m id x follow area = ap (λ (o : Option ServiceId). is_holder o id) (follow area) ∙ by (holder l area) (touches x area)
   where
     other : (o : ServiceId) (b : Bool) → id_eq o id ≡ b → is_holder (if b then None else Some o) id ≡ false
@@ -25,7 +25,7 @@ follow_holds l m id x follow area = ap (λ (o : Option ServiceId). is_holder o i
     by None false = refl
     by (Some o) false = other o (id_eq o id) refl
 
-module _ (l : Locks) (id : ServiceId) (x : Work) (h : HoldsJust l id x) where
+module _ (l : Locks) (id : ServiceId) (x : Transaction) (h : HoldsJust l id x) where
   pub kept : (area : Area) → holder l area ≡ holder_then id x area (holder l area)
   kept area = by (holder l area) (touches x area) (h area)
     where
@@ -35,6 +35,6 @@ module _ (l : Locks) (id : ServiceId) (x : Work) (h : HoldsJust l id x) where
       by (Some other) true e = ap (λ (i : ServiceId). Some i) (id_eq-same other id e)
       by (Some other) false e = sym (ap (λ (b : Bool). if b then None else Some other) e)
 
-  pub quiet_follows : (y : Work) → y.touched ≡ x.touched → HoldersFollow l l id y
+  pub quiet_follows : (y : Transaction) → y.touched ≡ x.touched → HoldersFollow l l id y
   quiet_follows y e area =
       kept area ∙ ap (λ (held : List Area). if list_any (λ (k : Area). area_eq k area) held then Some id else other_than id (holder l area)) (sym e)

@@ -16,7 +16,7 @@ use Rattle.abstract_monitor.specs.declared.answer.Called.{Called}
 use Rattle.abstract_monitor.specs.Bytes.{Bytes, bytes_cmp}
 use Rattle.abstract_monitor.specs.Calls.{Told, Performed, declared, replied, locked, or_empty, read_answer, read_away, read_or, shown_by, delete_local, deleted, with_name, write_local, wrote}
 use Rattle.abstract_monitor.specs.Locks.{Locks, answer_of, told_now}
-use Rattle.abstract_monitor.specs.State.{OpenTransaction as Work}
+use Rattle.abstract_monitor.specs.State.{OpenTransaction as Transaction}
 use Rattle.kdcs_calls.specs.declared.operand.Owner.{Owner}
 use Rattle.kdcs_calls.specs.declared.operand.Owner.TheVariants.{All, User, Lterm}
 use Rattle.kdcs_calls.specs.declared.areas.Access.{Access}
@@ -38,7 +38,7 @@ named_by (User user) name = Uls name user
 named_by (Lterm lterm) name = Tls name lterm
 
 -- whose area a call names
-abbrev pub owner_of : Work → Call → Owner
+abbrev pub owner_of : Transaction → Call → Owner
 owner_of x (SgetUs name room) = User x.user
 owner_of x (SputUs name bytes) = User x.user
 owner_of x (UnlkUs name) = User x.user
@@ -53,14 +53,14 @@ area_by g named None = Err K11
 area_by g named (Some name) = if is_declared g (named name) then Ok (named name) else Err K08
 
 -- a call goes on with the area in its operand
-abbrev pub in_area : Work → Result Area Code → (Area → Performed) → Performed
+abbrev pub in_area : Transaction → Result Area Code → (Area → Performed) → Performed
 in_area x (Err code) go = replied x code
 in_area x (Ok area) go = go area
 
 -- ---- locks
 
 -- the call goes on with the lock, or answers without it
-abbrev pub after_lock : Option Called → Work → (Work → Performed) → Performed
+abbrev pub after_lock : Option Called → Transaction → (Transaction → Performed) → Performed
 after_lock None x go = go x
 after_lock (Some called) x go = (x, called)
 
@@ -70,31 +70,31 @@ asked_in g now l id (Err code) = l
 asked_in g now l id (Ok area) = asked l g.limits.reswait now id area
 
 -- the locks after UNLK of the area in an operand
-abbrev pub released_in : Locks → ServiceId → Work → Result Area Code → Locks
+abbrev pub released_in : Locks → ServiceId → Transaction → Result Area Code → Locks
 released_in l id x (Err code) = l
 released_in l id x (Ok area) = if may_release x area then unlocked l id area else l
 
 -- what a transaction sees of an area with this content in the tables
-abbrev pub seen_of : Option Bytes → Work → Area → Option Bytes
+abbrev pub seen_of : Option Bytes → Transaction → Area → Option Bytes
 seen_of content x area = shown_by (find area_cmp area x.written) content
 
 -- what a call does with an area that it holds, and that has this content in the tables
-abbrev pub held : Access → (content : Option Bytes) → Work → Area → Performed
+abbrev pub held : Access → (content : Option Bytes) → Transaction → Area → Performed
 held (Read room) content x area = read_or K03 x room (seen_of content x area)
 held (ReadBlock room) content x area = read_answer x room (or_empty (seen_of content x area))
 held (Write bytes) content x area = wrote x area (Some bytes.now)
 held Delete content x area = deleted x area (seen_of content x area)
 
 -- what a call does with the area that it has locked
-abbrev pub accessed : Access → Told → Work → Area → Performed
+abbrev pub accessed : Access → Told → Transaction → Area → Performed
 accessed access v x area = locked v x area (λ y. held access v.content y area)
 
 -- a call goes on with the area of the name in its operand, and is told of it
-abbrev pub goes_on : Generated → TableRows → Locks → ServiceId → Work → (Bytes → Area) → (Told → Area → Performed) → Option Bytes → Performed
+abbrev pub goes_on : Generated → TableRows → Locks → ServiceId → Transaction → (Bytes → Area) → (Told → Area → Performed) → Option Bytes → Performed
 goes_on g t l id x named go o = with_name x o (λ name. declared x (is_declared g (named name)) (go (told_now l g.limits.reswait t id (option_map named o)) (named name)))
 
 -- what a call does with an LSSB
-abbrev pub local_call : Generated → Local → Work → Bytes → Performed
+abbrev pub local_call : Generated → Local → Transaction → Bytes → Performed
 local_call g (local.Read room) x name = read_or K03 x room (find bytes_cmp name x.lssbs)
 local_call g (local.ReadAway room) x name = read_away x name room
 local_call g (local.Write bytes) x name = write_local g x name bytes.now

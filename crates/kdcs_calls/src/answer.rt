@@ -1,6 +1,6 @@
 //! Answers of calls.
 ghost use Rattle.std.specs.Prelude.{◌≡◌, ◌≤◌, IfSome, length};
-ghost use Rattle.abstract_monitor.specs.{State.{OpenTransaction as Work}, Calls.{plain_reply, read_or, read_reply}};
+ghost use Rattle.abstract_monitor.specs.{State.{OpenTransaction as Transaction}, Calls.{plain_reply, read_or, read_reply}};
 ghost use Rattle.abstract_monitor.specs.declared.answer.Called.TheVariants as called;
 ghost use Rattle.kdcs_calls.specs.Calling.{IsShort};
 
@@ -40,7 +40,7 @@ pub(crate) fn read_reply(room: u32, bytes: Bytes) -> Called
 /// What was read, or this code where there is nothing.
 pub(crate) fn read_or(code: Code, room: u32, found: Option<Bytes>) -> Called
     requires { IfSome found IsShort }
-    ensures { (x : Work) → (x, result) ≡ read_or code x room found }
+    ensures { (x : Transaction) → (x, result) ≡ read_or code x room found }
 {
     match found {
         None => replied(code),

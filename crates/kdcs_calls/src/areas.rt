@@ -2,7 +2,7 @@
 ghost use Rattle.std.specs.{Prelude.{◌≡◌, IfOk, IfSome, OnOk, Some, option_map}, FinMap.{find}};
 ghost use Rattle.kdcs_types.specs.{declared.key.Area.{Area as AnArea}, Keys.{area_cmp}, Tables.{content_of}};
 ghost use Rattle.abstract_monitor.specs.Calls.{deleted, name_in_operand, or_empty, shown_by, unlocked, wrote};
-ghost use Rattle.open_transaction.specs.Work.{work_of};
+ghost use Rattle.open_transaction.specs.Transactions.{transaction_of};
 ghost use Rattle.kdcs_calls.specs.{Calling.{HoldsJust, IsShort, after_release, after_request}, Parts.{accessed, asked_in, goes_on, held, in_area, named_by, released_in, seen_of, told_of}};
 
 use abstract_monitor::Called;
@@ -40,54 +40,54 @@ fn or_empty(alloc: Global, found: Option<Bytes>) -> Bytes
 }
 
 // SPUT GB, SPUT US and PTDA, of an area that the transaction holds.
-fn write(work: &mut OpenTransaction, area: Area, bytes: &Bytes) -> Result<Called, OutOfMemory>
-    ensures exact { IfOk result (λ called. (work_of work.new, called) ≡ wrote (work_of work.old) area (Some bytes.now)) }
-    ensures id { work.new.id ≡ work.old.id }
-    ensures statements { work.new.statements ≡ work.old.statements }
-    ensures nb { work.new.messages.nb ≡ work.old.messages.nb }
+fn write(transaction: &mut OpenTransaction, area: Area, bytes: &Bytes) -> Result<Called, OutOfMemory>
+    ensures exact { IfOk result (λ called. (transaction_of transaction.new, called) ≡ wrote (transaction_of transaction.old) area (Some bytes.now)) }
+    ensures id { transaction.new.id ≡ transaction.old.id }
+    ensures statements { transaction.new.statements ≡ transaction.old.statements }
+    ensures nb { transaction.new.messages.nb ≡ transaction.old.messages.nb }
 {
-    work.areas.write(area, bytes.clone()?)?;
+    transaction.areas.write(area, bytes.clone()?)?;
     Ok(replied(Code::Done))
 }
 
 // SREL GB, of an area that the transaction holds.
-fn delete(tables: &Tables, work: &mut OpenTransaction, area: Area) -> Result<Called, OutOfMemory>
-    ensures exact { IfOk result (λ called. (work_of work.new, called) ≡ deleted (work_of work.old) area (seen_of (content_of tables.now area) (work_of work.old) area)) }
-    ensures id { work.new.id ≡ work.old.id }
-    ensures statements { work.new.statements ≡ work.old.statements }
-    ensures nb { work.new.messages.nb ≡ work.old.messages.nb }
+fn delete(tables: &Tables, transaction: &mut OpenTransaction, area: Area) -> Result<Called, OutOfMemory>
+    ensures exact { IfOk result (λ called. (transaction_of transaction.new, called) ≡ deleted (transaction_of transaction.old) area (seen_of (content_of tables.now area) (transaction_of transaction.old) area)) }
+    ensures id { transaction.new.id ≡ transaction.old.id }
+    ensures statements { transaction.new.statements ≡ transaction.old.statements }
+    ensures nb { transaction.new.messages.nb ≡ transaction.old.messages.nb }
 {
-    if work.areas.read(tables, &area)?.is_none() {
+    if transaction.areas.read(tables, &area)?.is_none() {
         return Ok(replied(Code::K03));
     }
-    work.areas.delete(area)?;
+    transaction.areas.delete(area)?;
     Ok(replied(Code::Done))
 }
 
 // What a call does with an area that the transaction holds.
 fn access_held(
     outside: &Outside,
-    work: &mut OpenTransaction,
+    transaction: &mut OpenTransaction,
     area: Area,
     access: Access,
 ) -> Result<Called, OutOfMemory>
-    requires { IfSome (seen_of (content_of outside.now.tables.now area) (work_of work.old) area) IsShort }
-    ensures exact { IfOk result (λ called. (work_of work.new, called) ≡ held access.entry (content_of outside.now.tables.now area) (work_of work.old) area) }
-    ensures id { work.new.id ≡ work.old.id }
-    ensures statements { work.new.statements ≡ work.old.statements }
-    ensures nb { work.new.messages.nb ≡ work.old.messages.nb }
+    requires { IfSome (seen_of (content_of outside.now.tables.now area) (transaction_of transaction.old) area) IsShort }
+    ensures exact { IfOk result (λ called. (transaction_of transaction.new, called) ≡ held access.entry (content_of outside.now.tables.now area) (transaction_of transaction.old) area) }
+    ensures id { transaction.new.id ≡ transaction.old.id }
+    ensures statements { transaction.new.statements ≡ transaction.old.statements }
+    ensures nb { transaction.new.messages.nb ≡ transaction.old.messages.nb }
 {
     match access {
         Access::Read(room) => {
-            let found = work.areas.read(outside.tables, &area)?;
+            let found = transaction.areas.read(outside.tables, &area)?;
             Ok(read_or(Code::K03, room, found))
         }
         Access::ReadBlock(room) => {
-            let found = work.areas.read(outside.tables, &area)?;
+            let found = transaction.areas.read(outside.tables, &area)?;
             Ok(read_reply(room, or_empty(outside.alloc, found)))
         }
-        Access::Write(bytes) => write(work, area, bytes),
-        Access::Delete => delete(outside.tables, work, area),
+        Access::Write(bytes) => write(transaction, area, bytes),
+        Access::Delete => delete(outside.tables, transaction, area),
     }
 }
 
@@ -95,47 +95,47 @@ fn access_held(
 fn access_locked(
     outside: &Outside,
     locks: &mut LockTable,
-    work: &mut OpenTransaction,
+    transaction: &mut OpenTransaction,
     area: Result<Area, Code>,
     access: Access,
 ) -> Result<Called, OutOfMemory>
-    requires holds { HoldsJust locks.old work.old.id (work_of work.old) }
-    requires short { (a : AnArea) → IfSome (shown_by (find area_cmp a work.old.areas.written) (content_of outside.now.tables.now a)) IsShort }
-    ensures exact { IfOk result (λ called. (work_of work.new, called) ≡ in_area (work_of work.old) area (λ a. accessed access.entry (told_of outside.now.generation.now outside.now.tables.now locks.old work.old.id a) (work_of work.old) a)) }
-    ensures locks { OnOk result (locks.new ≡ asked_in outside.now.generation.now outside.now.tables.now.clock locks.old work.old.id area) }
-    ensures id { work.new.id ≡ work.old.id }
-    ensures statements { work.new.statements ≡ work.old.statements }
-    ensures nb { work.new.messages.nb ≡ work.old.messages.nb }
+    requires holds { HoldsJust locks.old transaction.old.id (transaction_of transaction.old) }
+    requires short { (a : AnArea) → IfSome (shown_by (find area_cmp a transaction.old.areas.written) (content_of outside.now.tables.now a)) IsShort }
+    ensures exact { IfOk result (λ called. (transaction_of transaction.new, called) ≡ in_area (transaction_of transaction.old) area (λ a. accessed access.entry (told_of outside.now.generation.now outside.now.tables.now locks.old transaction.old.id a) (transaction_of transaction.old) a)) }
+    ensures locks { OnOk result (locks.new ≡ asked_in outside.now.generation.now outside.now.tables.now.clock locks.old transaction.old.id area) }
+    ensures id { transaction.new.id ≡ transaction.old.id }
+    ensures statements { transaction.new.statements ≡ transaction.old.statements }
+    ensures nb { transaction.new.messages.nb ≡ transaction.old.messages.nb }
 {
     let area = match area {
         Ok(area) => area,
         Err(code) => return Ok(replied(code)),
     };
-    if let Some(called) = lock(outside, locks, work, &area)? {
+    if let Some(called) = lock(outside, locks, transaction, &area)? {
         return Ok(called);
     }
-    access_held(outside, work, area, access)
+    access_held(outside, transaction, area, access)
 }
 
 /// The calls that lock the area in their operand first.
 pub(crate) fn access_area(
     outside: &Outside,
     locks: &mut LockTable,
-    work: &mut OpenTransaction,
+    transaction: &mut OpenTransaction,
     owner: Owner,
     operand: &Bytes,
     access: Access,
 ) -> Result<Called, OutOfMemory>
-    requires holds { HoldsJust locks.old work.old.id (work_of work.old) }
-    requires short { (a : AnArea) → IfSome (shown_by (find area_cmp a work.old.areas.written) (content_of outside.now.tables.now a)) IsShort }
-    ensures exact { IfOk result (λ called. (work_of work.new, called) ≡ goes_on outside.now.generation.now outside.now.tables.now locks.old work.old.id (work_of work.old) (named_by owner) (λ v a. accessed access.entry v (work_of work.old) a) (name_in_operand operand.now)) }
-    ensures locks { OnOk result (locks.new ≡ after_request outside.now.generation.now outside.now.tables.now.clock locks.old work.old.id (option_map (named_by owner) (name_in_operand operand.now))) }
-    ensures id { work.new.id ≡ work.old.id }
-    ensures statements { work.new.statements ≡ work.old.statements }
-    ensures nb { work.new.messages.nb ≡ work.old.messages.nb }
+    requires holds { HoldsJust locks.old transaction.old.id (transaction_of transaction.old) }
+    requires short { (a : AnArea) → IfSome (shown_by (find area_cmp a transaction.old.areas.written) (content_of outside.now.tables.now a)) IsShort }
+    ensures exact { IfOk result (λ called. (transaction_of transaction.new, called) ≡ goes_on outside.now.generation.now outside.now.tables.now locks.old transaction.old.id (transaction_of transaction.old) (named_by owner) (λ v a. accessed access.entry v (transaction_of transaction.old) a) (name_in_operand operand.now)) }
+    ensures locks { OnOk result (locks.new ≡ after_request outside.now.generation.now outside.now.tables.now.clock locks.old transaction.old.id (option_map (named_by owner) (name_in_operand operand.now))) }
+    ensures id { transaction.new.id ≡ transaction.old.id }
+    ensures statements { transaction.new.statements ≡ transaction.old.statements }
+    ensures nb { transaction.new.messages.nb ≡ transaction.old.messages.nb }
 {
     let area = area_in(outside.generation, owner, operand);
-    access_locked(outside, locks, work, area, access)
+    access_locked(outside, locks, transaction, area, access)
 }
 
 // The content of an area in the tables.
@@ -152,24 +152,24 @@ fn content(tables: &Tables, area: &Area) -> Result<Option<Bytes>, OutOfMemory>
 fn unlock_held(
     outside: &Outside,
     locks: &mut LockTable,
-    work: &mut OpenTransaction,
+    transaction: &mut OpenTransaction,
     area: Result<Area, Code>,
 ) -> Result<Called, OutOfMemory>
-    ensures exact { IfOk result (λ called. (work_of work.new, called) ≡ in_area (work_of work.old) area (λ a. unlocked (told_of outside.now.generation.now outside.now.tables.now locks.old work.old.id a) (work_of work.old) a)) }
-    ensures locks { OnOk result (locks.new ≡ released_in locks.old work.old.id (work_of work.old) area) }
-    ensures id { work.new.id ≡ work.old.id }
-    ensures statements { work.new.statements ≡ work.old.statements }
-    ensures nb { work.new.messages.nb ≡ work.old.messages.nb }
+    ensures exact { IfOk result (λ called. (transaction_of transaction.new, called) ≡ in_area (transaction_of transaction.old) area (λ a. unlocked (told_of outside.now.generation.now outside.now.tables.now locks.old transaction.old.id a) (transaction_of transaction.old) a)) }
+    ensures locks { OnOk result (locks.new ≡ released_in locks.old transaction.old.id (transaction_of transaction.old) area) }
+    ensures id { transaction.new.id ≡ transaction.old.id }
+    ensures statements { transaction.new.statements ≡ transaction.old.statements }
+    ensures nb { transaction.new.messages.nb ≡ transaction.old.messages.nb }
 {
     match area {
         Err(code) => Ok(replied(code)),
-        Ok(area) if !touches(work, &area) => Ok(replied(Code::K06)),
-        Ok(area) if work.areas.changed(&area) => Ok(replied(Code::K07)),
+        Ok(area) if !touches(transaction, &area) => Ok(replied(Code::K06)),
+        Ok(area) if transaction.areas.changed(&area) => Ok(replied(Code::K07)),
         Ok(area) => {
             let content = content(outside.tables, &area)?;
-            work.notes.push(Note::Released(area, content))?;
-            release(outside.alloc, &mut work.touched, &area);
-            let _held = locks.unlock(work.id, &area);
+            transaction.notes.push(Note::Released(area, content))?;
+            release(outside.alloc, &mut transaction.touched, &area);
+            let _held = locks.unlock(transaction.id, &area);
             Ok(replied(Code::Done))
         }
     }
@@ -179,16 +179,16 @@ fn unlock_held(
 pub(crate) fn unlock(
     outside: &Outside,
     locks: &mut LockTable,
-    work: &mut OpenTransaction,
+    transaction: &mut OpenTransaction,
     owner: Owner,
     operand: &Bytes,
 ) -> Result<Called, OutOfMemory>
-    ensures exact { IfOk result (λ called. (work_of work.new, called) ≡ goes_on outside.now.generation.now outside.now.tables.now locks.old work.old.id (work_of work.old) (named_by owner) (λ v a. unlocked v (work_of work.old) a) (name_in_operand operand.now)) }
-    ensures locks { OnOk result (locks.new ≡ after_release outside.now.generation.now locks.old work.old.id (work_of work.old) (option_map (named_by owner) (name_in_operand operand.now))) }
-    ensures id { work.new.id ≡ work.old.id }
-    ensures statements { work.new.statements ≡ work.old.statements }
-    ensures nb { work.new.messages.nb ≡ work.old.messages.nb }
+    ensures exact { IfOk result (λ called. (transaction_of transaction.new, called) ≡ goes_on outside.now.generation.now outside.now.tables.now locks.old transaction.old.id (transaction_of transaction.old) (named_by owner) (λ v a. unlocked v (transaction_of transaction.old) a) (name_in_operand operand.now)) }
+    ensures locks { OnOk result (locks.new ≡ after_release outside.now.generation.now locks.old transaction.old.id (transaction_of transaction.old) (option_map (named_by owner) (name_in_operand operand.now))) }
+    ensures id { transaction.new.id ≡ transaction.old.id }
+    ensures statements { transaction.new.statements ≡ transaction.old.statements }
+    ensures nb { transaction.new.messages.nb ≡ transaction.old.messages.nb }
 {
     let area = area_in(outside.generation, owner, operand);
-    unlock_held(outside, locks, work, area)
+    unlock_held(outside, locks, transaction, area)
 }

@@ -1,7 +1,7 @@
 //! All calls.
 ghost use Rattle.std.specs.Prelude.{◌≡◌, IfOk, OnOk};
 ghost use Rattle.abstract_monitor.specs.{Calls.{called, call_outcome, first_call}, Endings.{is_asynchronous}, Locks.{told_now}, Statements.{area_of_call}};
-ghost use Rattle.open_transaction.specs.Work.{work_of};
+ghost use Rattle.open_transaction.specs.Transactions.{transaction_of};
 ghost use Rattle.kdcs_calls.specs.{Calling.{CanRead, HoldersFollow, HoldsJust, WaitsFollow, locks_after_call, locks_by_call, performed_now}, Parts.{owner_of}};
 
 use abstract_monitor::{Called, Due};
@@ -27,26 +27,26 @@ fn is_asynchronous(id: ServiceId) -> bool
 }
 
 // Whose area the call names.
-fn owner_of(work: &OpenTransaction, call: &Call) -> Owner
-    ensures { result ≡ owner_of (work_of work.now) call.now }
+fn owner_of(transaction: &OpenTransaction, call: &Call) -> Owner
+    ensures { result ≡ owner_of (transaction_of transaction.now) call.now }
 {
     match call {
-        Call::SgetUs(..) | Call::SputUs(..) | Call::UnlkUs(_) => Owner::User(work.user),
-        Call::Gtda(..) | Call::Ptda(..) | Call::UnlkDa(_) => Owner::Lterm(work.lterm),
+        Call::SgetUs(..) | Call::SputUs(..) | Call::UnlkUs(_) => Owner::User(transaction.user),
+        Call::Gtda(..) | Call::Ptda(..) | Call::UnlkDa(_) => Owner::Lterm(transaction.lterm),
         _ => Owner::All,
     }
 }
 
 // Before INIT is done, INIT alone is answered.
-fn first_call(work: &mut OpenTransaction, call: &Call) -> Called
-    ensures exact { (work_of work.new, result) ≡ first_call (work_of work.old) call.now }
-    ensures id { work.new.id ≡ work.old.id }
-    ensures statements { work.new.statements ≡ work.old.statements }
-    ensures nb { work.new.messages.nb ≡ work.old.messages.nb }
+fn first_call(transaction: &mut OpenTransaction, call: &Call) -> Called
+    ensures exact { (transaction_of transaction.new, result) ≡ first_call (transaction_of transaction.old) call.now }
+    ensures id { transaction.new.id ≡ transaction.old.id }
+    ensures statements { transaction.new.statements ≡ transaction.old.statements }
+    ensures nb { transaction.new.messages.nb ≡ transaction.old.messages.nb }
 {
     match call {
         Call::Init => {
-            work.inited = true;
+            transaction.inited = true;
             replied(Code::Done)
         }
         _ => Called::Abnormal(Cause::E01),
@@ -58,48 +58,48 @@ fn first_call(work: &mut OpenTransaction, call: &Call) -> Called
 fn later_call(
     outside: &Outside,
     locks: &mut LockTable,
-    work: &mut OpenTransaction,
+    transaction: &mut OpenTransaction,
     call: &Call,
 ) -> Result<Called, OutOfMemory>
-    requires holds { HoldsJust locks.old work.old.id (work_of work.old) }
-    requires short { CanRead outside.now.tables.now (work_of work.old) }
-    requires nb { work.old.messages.nb ≡ outside.now.generation.now.limits.nb }
-    ensures exact { IfOk result (λ c. (work_of work.new, c) ≡ called outside.now.generation.now (told_now locks.old outside.now.generation.now.limits.reswait outside.now.tables.now work.old.id (area_of_call (work_of work.old) call.now)) (is_asynchronous work.old.id) (work_of work.old) call.now) }
-    ensures locks { OnOk result (locks.new ≡ locks_by_call outside.now.generation.now outside.now.tables.now.clock locks.old work.old.id (work_of work.old) call.now) }
-    ensures id { work.new.id ≡ work.old.id }
-    ensures statements { work.new.statements ≡ work.old.statements }
-    ensures nb { work.new.messages.nb ≡ work.old.messages.nb }
+    requires holds { HoldsJust locks.old transaction.old.id (transaction_of transaction.old) }
+    requires short { CanRead outside.now.tables.now (transaction_of transaction.old) }
+    requires nb { transaction.old.messages.nb ≡ outside.now.generation.now.limits.nb }
+    ensures exact { IfOk result (λ c. (transaction_of transaction.new, c) ≡ called outside.now.generation.now (told_now locks.old outside.now.generation.now.limits.reswait outside.now.tables.now transaction.old.id (area_of_call (transaction_of transaction.old) call.now)) (is_asynchronous transaction.old.id) (transaction_of transaction.old) call.now) }
+    ensures locks { OnOk result (locks.new ≡ locks_by_call outside.now.generation.now outside.now.tables.now.clock locks.old transaction.old.id (transaction_of transaction.old) call.now) }
+    ensures id { transaction.new.id ≡ transaction.old.id }
+    ensures statements { transaction.new.statements ≡ transaction.old.statements }
+    ensures nb { transaction.new.messages.nb ≡ transaction.old.messages.nb }
 {
     let g = outside.generation;
-    let owner = owner_of(work, call);
-    let asynchronous = is_asynchronous(work.id);
+    let owner = owner_of(transaction, call);
+    let asynchronous = is_asynchronous(transaction.id);
     match call {
         Call::Init => Ok(Called::Abnormal(Cause::E01)),
-        Call::Mget(room) => Ok(get(work, !asynchronous, *room)),
-        Call::Mput(part) => put(work, !asynchronous, part),
-        Call::Fget(room) => Ok(get(work, asynchronous, *room)),
-        Call::Fput(to, message) => put_job(g, work, to, Some(Due::After(0)), message),
+        Call::Mget(room) => Ok(get(transaction, !asynchronous, *room)),
+        Call::Mput(part) => put(transaction, !asynchronous, part),
+        Call::Fget(room) => Ok(get(transaction, asynchronous, *room)),
+        Call::Fput(to, message) => put_job(g, transaction, to, Some(Due::After(0)), message),
         Call::Dput(to, mode, d, h, m, s, message) => {
-            put_job(g, work, to, moment_in(*mode, d, h, m, s), message)
+            put_job(g, transaction, to, moment_in(*mode, d, h, m, s), message)
         }
         Call::SgetGb(name, room) => {
-            access_area(outside, locks, work, owner, name, Access::Read(*room))
+            access_area(outside, locks, transaction, owner, name, Access::Read(*room))
         }
         Call::SgetUs(name, room) | Call::Gtda(name, room) => {
-            access_area(outside, locks, work, owner, name, Access::ReadBlock(*room))
+            access_area(outside, locks, transaction, owner, name, Access::ReadBlock(*room))
         }
         Call::SputGb(name, bytes) | Call::SputUs(name, bytes) | Call::Ptda(name, bytes) => {
-            access_area(outside, locks, work, owner, name, Access::Write(bytes))
+            access_area(outside, locks, transaction, owner, name, Access::Write(bytes))
         }
-        Call::SrelGb(name) => access_area(outside, locks, work, owner, name, Access::Delete),
+        Call::SrelGb(name) => access_area(outside, locks, transaction, owner, name, Access::Delete),
         Call::UnlkGb(name) | Call::UnlkUs(name) | Call::UnlkDa(name) => {
-            unlock(outside, locks, work, owner, name)
+            unlock(outside, locks, transaction, owner, name)
         }
-        Call::SgetKp(name, room) => access_local(g, work, name, Local::Read(*room)),
-        Call::SgetRl(name, room) => access_local(g, work, name, Local::ReadAway(*room)),
-        Call::SputMs(name, bytes) => access_local(g, work, name, Local::Write(bytes)),
-        Call::SrelLb(name) => access_local(g, work, name, Local::Delete),
-        Call::Pend(variant, operand) => Ok(pend(g, asynchronous, work, *variant, operand)),
+        Call::SgetKp(name, room) => access_local(g, transaction, name, Local::Read(*room)),
+        Call::SgetRl(name, room) => access_local(g, transaction, name, Local::ReadAway(*room)),
+        Call::SputMs(name, bytes) => access_local(g, transaction, name, Local::Write(bytes)),
+        Call::SrelLb(name) => access_local(g, transaction, name, Local::Delete),
+        Call::Pend(variant, operand) => Ok(pend(g, asynchronous, transaction, *variant, operand)),
     }
 }
 
@@ -117,14 +117,14 @@ pub fn perform(
     open_work: &mut OpenTransaction,
     call: &Call,
 ) -> Result<Called, OutOfMemory>
-    requires holds { HoldsJust locks.old open_work.old.id (work_of open_work.old) }
-    requires short { CanRead tables.now (work_of open_work.old) }
+    requires holds { HoldsJust locks.old open_work.old.id (transaction_of open_work.old) }
+    requires short { CanRead tables.now (transaction_of open_work.old) }
     requires nb { open_work.old.messages.nb ≡ generation.now.limits.nb }
-    ensures exact { IfOk result (λ c. (work_of open_work.new, c) ≡ performed_now generation.now tables.now locks.old open_work.old.id (work_of open_work.old) call.now) }
-    ensures locks { OnOk result (locks.new ≡ locks_after_call generation.now tables.now.clock locks.old open_work.old.id (work_of open_work.old) call.now) }
-    ensures holders { OnOk result (HoldersFollow locks.old locks.new open_work.old.id (work_of open_work.new)) }
-    ensures holds { OnOk result (HoldsJust locks.new open_work.old.id (work_of open_work.new)) }
-    ensures waits { IfOk result (λ c. WaitsFollow locks.old locks.new open_work.old.id tables.now.clock (area_of_call (work_of open_work.old) call.now) c) }
+    ensures exact { IfOk result (λ c. (transaction_of open_work.new, c) ≡ performed_now generation.now tables.now locks.old open_work.old.id (transaction_of open_work.old) call.now) }
+    ensures locks { OnOk result (locks.new ≡ locks_after_call generation.now tables.now.clock locks.old open_work.old.id (transaction_of open_work.old) call.now) }
+    ensures holders { OnOk result (HoldersFollow locks.old locks.new open_work.old.id (transaction_of open_work.new)) }
+    ensures holds { OnOk result (HoldsJust locks.new open_work.old.id (transaction_of open_work.new)) }
+    ensures waits { IfOk result (λ c. WaitsFollow locks.old locks.new open_work.old.id tables.now.clock (area_of_call (transaction_of open_work.old) call.now) c) }
     ensures id { open_work.new.id ≡ open_work.old.id }
     ensures statements { open_work.new.statements ≡ open_work.old.statements }
     ensures nb { open_work.new.messages.nb ≡ open_work.old.messages.nb }

@@ -3,7 +3,7 @@ ghost use Rattle.std.specs.Prelude.{◌≡◌, ◌≤◌, IfOk, IfSome};
 ghost use Rattle.kdcdef_types.specs.Generation.{lterm_of, tac_of};
 ghost use Rattle.abstract_monitor.specs.Calls.{drafted, job_target, moment_by, put_job, target_by};
 ghost use Rattle.unit_semantics.specs.Contents.{number_of};
-ghost use Rattle.open_transaction.specs.Work.{work_of};
+ghost use Rattle.open_transaction.specs.Transactions.{transaction_of};
 ghost use Rattle.async_queue.specs.Drafts.{IsInTicks};
 
 use abstract_monitor::{Called, Due};
@@ -58,16 +58,16 @@ pub(crate) fn moment_in(mode: Mode, d: &Bytes, h: &Bytes, m: &Bytes, s: &Bytes) 
 
 // A new draft, once its target and then its moment are found.
 fn draft(
-    work: &mut OpenTransaction,
+    transaction: &mut OpenTransaction,
     to: Option<Target>,
     due: Option<Due>,
     message: &Bytes,
 ) -> Result<Called, OutOfMemory>
     requires { IfSome due IsInTicks }
-    ensures exact { IfOk result (λ called. (work_of work.new, called) ≡ drafted (work_of work.old) to due message.now) }
-    ensures id { work.new.id ≡ work.old.id }
-    ensures statements { work.new.statements ≡ work.old.statements }
-    ensures nb { work.new.messages.nb ≡ work.old.messages.nb }
+    ensures exact { IfOk result (λ called. (transaction_of transaction.new, called) ≡ drafted (transaction_of transaction.old) to due message.now) }
+    ensures id { transaction.new.id ≡ transaction.old.id }
+    ensures statements { transaction.new.statements ≡ transaction.old.statements }
+    ensures nb { transaction.new.messages.nb ≡ transaction.old.messages.nb }
 {
     let Some(to) = to else {
         return Ok(replied(Code::K08));
@@ -75,29 +75,29 @@ fn draft(
     let Some(due) = due else {
         return Ok(replied(Code::K10));
     };
-    work.drafts.add(to, due, message.clone()?)?;
+    transaction.drafts.add(to, due, message.clone()?)?;
     Ok(replied(Code::Done))
 }
 
 /// FPUT, and DPUT where its operands name the moment `due`.
 pub(crate) fn put_job(
     generation: &Generation,
-    work: &mut OpenTransaction,
+    transaction: &mut OpenTransaction,
     to: &Bytes,
     due: Option<Due>,
     message: &Bytes,
 ) -> Result<Called, OutOfMemory>
     requires { IfSome due IsInTicks }
-    ensures exact { IfOk result (λ called. (work_of work.new, called) ≡ put_job generation.now (work_of work.old) to.now due message.now) }
-    ensures id { work.new.id ≡ work.old.id }
-    ensures statements { work.new.statements ≡ work.old.statements }
-    ensures nb { work.new.messages.nb ≡ work.old.messages.nb }
+    ensures exact { IfOk result (λ called. (transaction_of transaction.new, called) ≡ put_job generation.now (transaction_of transaction.old) to.now due message.now) }
+    ensures id { transaction.new.id ≡ transaction.old.id }
+    ensures statements { transaction.new.statements ≡ transaction.old.statements }
+    ensures nb { transaction.new.messages.nb ≡ transaction.old.messages.nb }
 {
     if message.len() > generation.max().nb as usize {
         return Ok(Called::Abnormal(Cause::E12));
     }
     match name_in(to) {
         None => Ok(replied(Code::K11)),
-        Some(name) => draft(work, job_target(generation, name), due, message),
+        Some(name) => draft(transaction, job_target(generation, name), due, message),
     }
 }

@@ -1,8 +1,8 @@
 //! The request for the lock of an area.
 ghost use Rattle.std.specs.Prelude.{◌≡◌, IfOk, OnOk};
 ghost use Rattle.area_locks.specs.Asked.{asked};
-ghost use Rattle.abstract_monitor.specs.{Calls.{Performed, locked, on_answer, touches}, State.{OpenTransaction as Work}};
-ghost use Rattle.open_transaction.specs.Work.{work_of};
+ghost use Rattle.abstract_monitor.specs.{Calls.{Performed, locked, on_answer, touches}, State.{OpenTransaction as Transaction}};
+ghost use Rattle.open_transaction.specs.Transactions.{transaction_of};
 ghost use Rattle.kdcs_calls.specs.{Calling.{HoldsJust}, Parts.{after_lock, told_of}};
 
 use abstract_monitor::{Called, LockAnswer};
@@ -14,37 +14,37 @@ use kdcs_types::{Area, Code, Note};
 use open_transaction::OpenTransaction;
 
 /// Whether the transaction holds the area. It takes no memory.
-pub(crate) fn touches(work: &OpenTransaction, area: &Area) -> bool
-    ensures { result ≡ touches (work_of work.now) area.now }
+pub(crate) fn touches(transaction: &OpenTransaction, area: &Area) -> bool
+    ensures { result ≡ touches (transaction_of transaction.now) area.now }
 {
-    work.touched.as_slice().contains(area)
+    transaction.touched.as_slice().contains(area)
 }
 
 // A lock that is granted is held from now on, and a refusal is noted.
 fn take_answer(
-    work: &mut OpenTransaction,
+    transaction: &mut OpenTransaction,
     area: &Area,
     answer: LockAnswer,
 ) -> Result<Option<Called>, OutOfMemory>
-    ensures exact { IfOk result (λ called. (go : Work → Performed) → after_lock called (work_of work.new) go ≡ on_answer (work_of work.old) area.now answer go) }
-    ensures areas { work.new.areas ≡ work.old.areas }
-    ensures id { work.new.id ≡ work.old.id }
-    ensures statements { work.new.statements ≡ work.old.statements }
-    ensures messages { work.new.messages ≡ work.old.messages }
+    ensures exact { IfOk result (λ called. (go : Transaction → Performed) → after_lock called (transaction_of transaction.new) go ≡ on_answer (transaction_of transaction.old) area.now answer go) }
+    ensures areas { transaction.new.areas ≡ transaction.old.areas }
+    ensures id { transaction.new.id ≡ transaction.old.id }
+    ensures statements { transaction.new.statements ≡ transaction.old.statements }
+    ensures messages { transaction.new.messages ≡ transaction.old.messages }
 {
     match answer {
-        LockAnswer::Granted if touches(work, area) => Ok(None),
+        LockAnswer::Granted if touches(transaction, area) => Ok(None),
         LockAnswer::Granted => {
-            work.touched.push(*area)?;
+            transaction.touched.push(*area)?;
             Ok(None)
         }
         LockAnswer::Wait => Ok(Some(Called::Waits)),
         LockAnswer::Busy => {
-            work.notes.push(Note::Refused(*area, Code::K04))?;
+            transaction.notes.push(Note::Refused(*area, Code::K04))?;
             Ok(Some(replied(Code::K04)))
         }
         LockAnswer::Deadlock => {
-            work.notes.push(Note::Refused(*area, Code::K05))?;
+            transaction.notes.push(Note::Refused(*area, Code::K05))?;
             Ok(Some(replied(Code::K05)))
         }
     }
@@ -54,18 +54,18 @@ fn take_answer(
 pub(crate) fn lock(
     outside: &Outside,
     locks: &mut LockTable,
-    work: &mut OpenTransaction,
+    transaction: &mut OpenTransaction,
     area: &Area,
 ) -> Result<Option<Called>, OutOfMemory>
-    requires { HoldsJust locks.old work.old.id (work_of work.old) }
-    ensures exact { IfOk result (λ called. (go : Work → Performed) → after_lock called (work_of work.new) go ≡ locked (told_of outside.now.generation.now outside.now.tables.now locks.old work.old.id area.now) (work_of work.old) area.now go) }
-    ensures locks { OnOk result (locks.new ≡ asked locks.old outside.now.generation.now.limits.reswait outside.now.tables.now.clock work.old.id area.now) }
-    ensures areas { work.new.areas ≡ work.old.areas }
-    ensures id { work.new.id ≡ work.old.id }
-    ensures statements { work.new.statements ≡ work.old.statements }
-    ensures messages { work.new.messages ≡ work.old.messages }
+    requires { HoldsJust locks.old transaction.old.id (transaction_of transaction.old) }
+    ensures exact { IfOk result (λ called. (go : Transaction → Performed) → after_lock called (transaction_of transaction.new) go ≡ locked (told_of outside.now.generation.now outside.now.tables.now locks.old transaction.old.id area.now) (transaction_of transaction.old) area.now go) }
+    ensures locks { OnOk result (locks.new ≡ asked locks.old outside.now.generation.now.limits.reswait outside.now.tables.now.clock transaction.old.id area.now) }
+    ensures areas { transaction.new.areas ≡ transaction.old.areas }
+    ensures id { transaction.new.id ≡ transaction.old.id }
+    ensures statements { transaction.new.statements ≡ transaction.old.statements }
+    ensures messages { transaction.new.messages ≡ transaction.old.messages }
 {
     let reswait = outside.generation.max().reswait;
-    let answer = locks.ask(work.id, *area, outside.tables.clock(), reswait)?;
-    take_answer(work, area, answer)
+    let answer = locks.ask(transaction.id, *area, outside.tables.clock(), reswait)?;
+    take_answer(transaction, area, answer)
 }

@@ -1,7 +1,7 @@
 //! MGET, MPUT and FGET.
 ghost use Rattle.std.specs.Prelude.{◌≡◌, All, IfOk};
 ghost use Rattle.abstract_monitor.specs.Calls.{for_kind, got, put_part};
-ghost use Rattle.open_transaction.specs.Work.{work_of};
+ghost use Rattle.open_transaction.specs.Transactions.{transaction_of};
 ghost use Rattle.kdcdef_types.specs.Generation.{Generated};
 ghost use Rattle.kdcs_calls.specs.Calling.{IsShort};
 
@@ -13,17 +13,17 @@ use message_area::PutError;
 use open_transaction::OpenTransaction;
 
 /// The next part of the message, where the call is for this kind of service.
-pub(crate) fn get(work: &mut OpenTransaction, allowed: bool, room: u32) -> Called
-    requires { All IsShort work.old.messages.unread }
-    ensures exact { (work_of work.new, result) ≡ for_kind (work_of work.old) allowed (got (work_of work.old) room) }
-    ensures id { work.new.id ≡ work.old.id }
-    ensures statements { work.new.statements ≡ work.old.statements }
-    ensures nb { work.new.messages.nb ≡ work.old.messages.nb }
+pub(crate) fn get(transaction: &mut OpenTransaction, allowed: bool, room: u32) -> Called
+    requires { All IsShort transaction.old.messages.unread }
+    ensures exact { (transaction_of transaction.new, result) ≡ for_kind (transaction_of transaction.old) allowed (got (transaction_of transaction.old) room) }
+    ensures id { transaction.new.id ≡ transaction.old.id }
+    ensures statements { transaction.new.statements ≡ transaction.old.statements }
+    ensures nb { transaction.new.messages.nb ≡ transaction.old.messages.nb }
 {
     if !allowed {
         return Called::Abnormal(Cause::E02);
     }
-    match work.messages.get() {
+    match transaction.messages.get() {
         Some(part) => read_reply(room, part),
         None => replied(Code::K01),
     }
@@ -31,19 +31,19 @@ pub(crate) fn get(work: &mut OpenTransaction, allowed: bool, room: u32) -> Calle
 
 /// One more part of the message, where the call is for this kind of service.
 pub(crate) fn put(
-    work: &mut OpenTransaction,
+    transaction: &mut OpenTransaction,
     allowed: bool,
     part: &Bytes,
 ) -> Result<Called, OutOfMemory>
-    ensures exact { IfOk result (λ called. (g : Generated) → work.old.messages.nb ≡ g.limits.nb → (work_of work.new, called) ≡ for_kind (work_of work.old) allowed (put_part g (work_of work.old) part.now)) }
-    ensures id { work.new.id ≡ work.old.id }
-    ensures statements { work.new.statements ≡ work.old.statements }
-    ensures nb { work.new.messages.nb ≡ work.old.messages.nb }
+    ensures exact { IfOk result (λ called. (g : Generated) → transaction.old.messages.nb ≡ g.limits.nb → (transaction_of transaction.new, called) ≡ for_kind (transaction_of transaction.old) allowed (put_part g (transaction_of transaction.old) part.now)) }
+    ensures id { transaction.new.id ≡ transaction.old.id }
+    ensures statements { transaction.new.statements ≡ transaction.old.statements }
+    ensures nb { transaction.new.messages.nb ≡ transaction.old.messages.nb }
 {
     if !allowed {
         return Ok(Called::Abnormal(Cause::E02));
     }
-    match work.messages.put(part.clone()?) {
+    match transaction.messages.put(part.clone()?) {
         Ok(()) => Ok(replied(Code::Done)),
         Err(PutError::TooLong) => Ok(Called::Abnormal(Cause::E12)),
         Err(PutError::Memory) => Err(OutOfMemory),

@@ -2,7 +2,7 @@
 ghost use Rattle.std.specs.{Prelude.{◌≡◌, option_and_then}, Option.{option_copied}};
 ghost use Rattle.kdcdef_types.specs.Generation.{tac_of};
 ghost use Rattle.abstract_monitor.specs.Calls.{pend};
-ghost use Rattle.open_transaction.specs.Work.{work_of};
+ghost use Rattle.open_transaction.specs.Transactions.{transaction_of};
 
 use abstract_monitor::Called;
 use crate::operand::name_if_given;
@@ -25,15 +25,15 @@ fn follow_up<'a>(generation: &'a Generation, name: &Option<Name>) -> Option<&'a 
 pub(crate) fn pend(
     generation: &Generation,
     asynchronous: bool,
-    work: &OpenTransaction,
+    transaction: &OpenTransaction,
     variant: Variant,
     operand: &Option<Bytes>,
 ) -> Called
-    ensures { (work_of work.now, result) ≡ pend generation.now asynchronous (work_of work.now) variant operand.now }
+    ensures { (transaction_of transaction.now, result) ≡ pend generation.now asynchronous (transaction_of transaction.now) variant operand.now }
 {
     let name = name_if_given(operand);
     let entry = follow_up(generation, &name);
-    let has_message = work.messages.has_message();
+    let has_message = transaction.messages.has_message();
     match outcome(asynchronous, variant, has_message, entry, name) {
         Ok(outcome) => Called::Pends(variant, outcome),
         Err(cause) => Called::Abnormal(cause),

@@ -19,7 +19,7 @@ use Rattle.abstract_monitor.specs.Sessions.{is_running}
 use Rattle.abstract_monitor.specs.State.{Application, OpenTransaction, State}
 use Rattle.laws_of_steps.specs.Keeping.{HasFacts}
 use Rattle.laws_of_commits.specs.NumbersLaws.{closed_not_placed}
-use Rattle.open_transaction.specs.Work.{HasOrder}
+use Rattle.open_transaction.specs.Transactions.{HasOrder}
 use Rattle.session_table.specs.Signed.{CanSignOn}
 use Rattle.monitor_core.specs.Commanding.{Comes, Rests}
 

@@ -19,7 +19,7 @@ use Rattle.area_locks.specs.Asked.{is_holder, other_than}
 use Rattle.async_queue.specs.Marks.{queue_of}
 use Rattle.kdcs_calls.specs.Calling.{HoldersFollow, HoldsJust}
 use Rattle.step_scheduler.specs.Schedule.{service_in}
-use Rattle.open_transaction.specs.Work.{Boxed, boxed_work}
+use Rattle.open_transaction.specs.Transactions.{Boxed, boxed_transaction}
 use Rattle.abstract_monitor.specs.declared.answer.Happened.{Happened}
 use Rattle.abstract_monitor.specs.declared.answer.Happened.TheVariants.{Held, Settles}
 use Rattle.abstract_monitor.specs.declared.outcome.Outcome.{Outcome}
@@ -146,46 +146,46 @@ further g x tac input = (refl, refl)
 
 -- ---- the transaction that stands at a PEND KP
 
-module _ (p : MonitorParts) (user : Bytes) (work : Boxed) (whole : IsWhole p) (there : Some work ≡ find id_cmp (Dialogue user) p.active) where
+module _ (p : MonitorParts) (user : Bytes) (transaction : Boxed) (whole : IsWhole p) (there : Some transaction ≡ find id_cmp (Dialogue user) p.active) where
   abbrev its : ServiceId
   its = Dialogue user
 
   abbrev x : OpenTransaction
-  x = boxed_work work
+  x = boxed_transaction transaction
 
-  own : IsOwned p.generation p.steps (its, work)
-  own = found_owned p its (Some work) there whole.indexed
+  own : IsOwned p.generation p.steps (its, transaction)
+  own = found_owned p its (Some transaction) there whole.indexed
 
   open_at : find id_cmp its (state_of p).active ≡ Some x
-  open_at = sym (found_work p its (Some work) there)
+  open_at = sym (found_work p its (Some transaction) there)
 
-  pub can_go_on : CanGoOn p.generation work.value.id x
+  pub can_go_on : CanGoOn p.generation transaction.value.id x
   can_go_on = subst (λ (i : ServiceId). CanGoOn p.generation i x) (sym own.id) (whole.facts.1.transactions its x open_at)
 
-  pub holds_just : HoldsJust p.locks work.value.id x
+  pub holds_just : HoldsJust p.locks transaction.value.id x
   holds_just = subst (λ (i : ServiceId). HoldsJust p.locks i x) (sym own.id) (λ area. whole.indexed.locks its area ∙ ap (λ (o : Option OpenTransaction). touched_by o area) open_at)
 
-  pub has_nb : work.value.messages.nb ≡ p.generation.limits.nb
+  pub has_nb : transaction.value.messages.nb ≡ p.generation.limits.nb
   has_nb = own.nb
 
-  has_room : IsAhead p → work.value.statements + 1 ≤ p.steps
+  has_room : IsAhead p → transaction.value.statements + 1 ≤ p.steps
   has_room ahead = subst (λ (o : Option Boxed). IfSome o (λ (w : Boxed). HasRoom p.steps (its, w))) (sym there) (each_found (HasRoom p.steps) its p.active ahead)
 
-  pub fits_count : IsAhead p → p.steps < 2 ^ 64 → work.value.statements + 1 < 2 ^ 64
-  fits_count ahead le = let a : work.value.statements + 1 ≤ p.steps = has_room ahead in omega arith
+  pub fits_count : IsAhead p → p.steps < 2 ^ 64 → transaction.value.statements + 1 < 2 ^ 64
+  fits_count ahead le = let a : transaction.value.statements + 1 ≤ p.steps = has_room ahead in omega arith
 
   module _ (rests : is_running (state_of p) its ≡ false) (told : Told) (after : Boxed) (now : Happened)
-      (does : (boxed_work after, now) ≡ statement (app_of p) told (is_asynchronous work.value.id) x) where
+      (does : (boxed_transaction after, now) ≡ statement (app_of p) told (is_asynchronous transaction.value.id) x) where
     stands : StandsAtKeep (app_of p) its x
     stands = whole.facts.0.kept its x open_at rests
 
     abbrev kept : Stated
     kept = (x, Held stands.0)
 
-    comes_to : (boxed_work after, now) ≡ kept
+    comes_to : (boxed_transaction after, now) ≡ kept
     comes_to = does ∙ ap (λ (i : ServiceId). statement (app_of p) told (is_asynchronous i) x) own.id ∙ stands.1 told
 
-    unchanged : boxed_work after ≡ x
+    unchanged : boxed_transaction after ≡ x
     unchanged = ap (λ (r : Stated). r.0) comes_to
 
     is_held : now ≡ Held stands.0
@@ -203,24 +203,24 @@ module _ (p : MonitorParts) (user : Bytes) (work : Boxed) (whole : IsWhole p) (t
 
     pub still_fits : IsAhead p → p.steps < 2 ^ 64 → after.value.statements + 1 < 2 ^ 64
     still_fits ahead le =
-        let a : work.value.statements + 1 ≤ p.steps = has_room ahead in
-        let b : after.value.statements ≡ work.value.statements = ap (λ (y : OpenTransaction). y.statements) unchanged in
+        let a : transaction.value.statements + 1 ≤ p.steps = has_room ahead in
+        let b : after.value.statements ≡ transaction.value.statements = ap (λ (y : OpenTransaction). y.statements) unchanged in
         omega arith
 
-    module _ (tac text : Bytes) (held : now ≡ Held tac) (next : Boxed) (goes : boxed_work next ≡ followed_by_input p.generation (boxed_work after) tac text) (locks : Locks)
-        (waits : locks.waits ≡ waits_after (app_of p) p.tables p.locks work.value.id x now) where
+    module _ (tac text : Bytes) (held : now ≡ Held tac) (next : Boxed) (goes : boxed_transaction next ≡ followed_by_input p.generation (boxed_transaction after) tac text) (locks : Locks)
+        (waits : locks.waits ≡ waits_after (app_of p) p.tables p.locks transaction.value.id x now) where
       -- the TAC is the follow-up that the statement names, whatever it is told
       tac_is : tac ≡ held_tac (app_of p) x
       tac_is =
           ap follow_up_of (sym held ∙ is_held) ∙ sym (ap (λ (r : Stated). follow_up_of r.1) (stands.1 nothing_told))
 
-      further_run : boxed_work next ≡ followed_by_input p.generation x (held_tac (app_of p) x) text
+      further_run : boxed_transaction next ≡ followed_by_input p.generation x (held_tac (app_of p) x) text
       further_run = goes ∙ (λ i. followed_by_input p.generation (unchanged i) (tac_is i) text)
 
       -- no wait ends, as there is none
       same_waits : locks.waits ≡ p.locks.waits
       same_waits =
-          waits ∙ ap (waits_after (app_of p) p.tables p.locks work.value.id x) is_held ∙ ap (λ (i : ServiceId). where_key id_cmp (λ j. not (id_eq i j)) p.locks.waits) own.id
+          waits ∙ ap (waits_after (app_of p) p.tables p.locks transaction.value.id x) is_held ∙ ap (λ (i : ServiceId). where_key id_cmp (λ j. not (id_eq i j)) p.locks.waits) own.id
           ∙ absent its p.locks.waits (waits_none (app_of p) (state_of p) its whole.facts.0 rests)
 
       -- the parts before the service is ready
@@ -239,24 +239,24 @@ module _ (p : MonitorParts) (user : Bytes) (work : Boxed) (whole : IsWhole p) (t
           e ∙ ap (λ (t : State). record t { ready = t.ready ++ its ∷ [] }) gone_state
           ∙ ap (λ (z : OpenTransaction). queued (state_of p) its (followed_by_input p.generation z (held_tac (app_of p) z) text)) (some_is x y (sym open_at ∙ is))
 
-      pub gone_indexed : IsAhead p → HoldersFollow p.locks locks work.value.id (boxed_work after) → next.value.id ≡ after.value.id → after.value.id ≡ work.value.id → next.value.messages.nb ≡ p.generation.limits.nb → IsIndexed gone_on
+      pub gone_indexed : IsAhead p → HoldersFollow p.locks locks transaction.value.id (boxed_transaction after) → next.value.id ≡ after.value.id → after.value.id ≡ transaction.value.id → next.value.messages.nb ≡ p.generation.limits.nb → IsIndexed gone_on
       gone_indexed ahead follow own_next own_after nb =
-          let there_now = put_mapped id_cmp boxed_work its next p.active in
+          let there_now = put_mapped id_cmp boxed_transaction its next p.active in
           let nowhere = neither_of (list_any (id_eq its) (map id_of p.scheduler.ready)) (list_any (in_place its) (map service_in p.scheduler.places)) rests in
-          let others = put_others its (boxed_work next) (active_of p.active) in
-          let runs = further p.generation (boxed_work after) tac text in
-          let room : work.value.statements + 1 ≤ p.steps = has_room ahead in
+          let others = put_others its (boxed_transaction next) (active_of p.active) in
+          let runs = further p.generation (boxed_transaction after) tac text in
+          let room : transaction.value.statements + 1 ≤ p.steps = has_room ahead in
           let count : next.value.statements ≡ after.value.statements + 1 = ap (λ (y : OpenTransaction). y.statements) goes ∙ runs.1 in
-          let same : after.value.statements ≡ work.value.statements = ap (λ (y : OpenTransaction). y.statements) unchanged in
-          let same_touched : (boxed_work next).touched ≡ x.touched = ap (λ (y : OpenTransaction). y.touched) goes ∙ runs.0 ∙ ap (λ (y : OpenTransaction). y.touched) unchanged in
+          let same : after.value.statements ≡ transaction.value.statements = ap (λ (y : OpenTransaction). y.statements) unchanged in
+          let same_touched : (boxed_transaction next).touched ≡ x.touched = ap (λ (y : OpenTransaction). y.touched) goes ∙ runs.0 ∙ ap (λ (y : OpenTransaction). y.touched) unchanged in
           let followed : HoldersFollow p.locks locks its x =
-          subst (λ (i : ServiceId). HoldersFollow p.locks locks i x) own.id (subst (HoldersFollow p.locks locks work.value.id) unchanged follow) in
+          subst (λ (i : ServiceId). HoldersFollow p.locks locks i x) own.id (subst (HoldersFollow p.locks locks transaction.value.id) unchanged follow) in
           let just : HoldsJust p.locks its x = subst (λ (i : ServiceId). HoldsJust p.locks i x) own.id holds_just in
           record {
             owned = each_put (IsOwned p.generation p.steps) its next p.active (record { id = own_next ∙ own_after ∙ own.id; nb = nb; counted = omega arith }) whole.indexed.owned;
             ready = subst (λ a. Each (HasClass p.generation a) p.scheduler.ready) there_now (ready_stay p.generation (active_of p.active) _ its others p.scheduler.ready nowhere.0 whole.indexed.ready);
             places = subst (λ a. Each (PlaceHasClass p.generation a) p.scheduler.places) there_now (places_stay p.generation (active_of p.active) _ its others p.scheduler.places nowhere.1 whole.indexed.places);
             locks = subst (SameHolds locks) there_now
-                (same_holds p.locks locks (active_of p.active) its x (boxed_work next) open_at same_touched (same_holder p.locks locks its x just followed) whole.indexed.locks);
-            jobs = whole.indexed.jobs ∙ kept_queue its (boxed_work next) (active_of p.active) p.tables.jobs (ap is_some open_at) ∙ ap (λ a. queue_of a p.tables.jobs) there_now;
+                (same_holds p.locks locks (active_of p.active) its x (boxed_transaction next) open_at same_touched (same_holder p.locks locks its x just followed) whole.indexed.locks);
+            jobs = whole.indexed.jobs ∙ kept_queue its (boxed_transaction next) (active_of p.active) p.tables.jobs (ap is_some open_at) ∙ ap (λ a. queue_of a p.tables.jobs) there_now;
           }

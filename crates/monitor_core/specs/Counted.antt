@@ -1,7 +1,7 @@
 -- Turns and commands are counted before what they do.
 use Rattle.std.specs.Prelude.{ℕ, ◌+◌, ◌≤◌}
 use Rattle.kdcs_types.specs.declared.key.ServiceId.{ServiceId}
-use Rattle.open_transaction.specs.Work.{Boxed}
+use Rattle.open_transaction.specs.Transactions.{Boxed}
 use Rattle.core_state.specs.declared.parts.MonitorParts.{MonitorParts}
 use Rattle.core_state.specs.Standing.{Each}
 

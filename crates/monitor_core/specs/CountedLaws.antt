@@ -3,7 +3,7 @@ use Rattle.std.specs.Prelude.{ℕ, ◌+◌, ◌≤◌, List, [], ◌∷◌}
 use Rattle.std.proofs.Common.{arith}
 use Rattle.kdcs_types.specs.declared.key.ServiceId.{ServiceId}
 use Rattle.kdcdef_types.specs.Generation.{Generated}
-use Rattle.open_transaction.specs.Work.{Boxed}
+use Rattle.open_transaction.specs.Transactions.{Boxed}
 use Rattle.core_state.specs.declared.parts.MonitorParts.{MonitorParts}
 use Rattle.core_state.specs.Standing.{Each, IsIndexed, IsOwned}
 use Rattle.core_state.specs.Whole.{IsWhole}

@@ -6,7 +6,7 @@ use Rattle.kdcs_types.specs.declared.service.Service.{Service}
 use Rattle.kdcs_types.specs.Keys.{id_cmp, id_eq}
 use Rattle.kdcs_types.specs.Tables.{TableRows}
 use Rattle.kdcdef_types.specs.Generation.{Generated}
-use Rattle.open_transaction.specs.Work.{HasOrder}
+use Rattle.open_transaction.specs.Transactions.{HasOrder}
 use Rattle.abstract_monitor.specs.Endings.{lterm_of_row, opened_by_row}
 use Rattle.abstract_monitor.specs.Sessions.{is_running}
 use Rattle.abstract_monitor.specs.State.{Application, State}

@@ -10,7 +10,7 @@ use Rattle.kdcs_types.specs.declared.key.Area.{Area}
 use Rattle.kdcs_types.specs.declared.key.ServiceId.{ServiceId}
 use Rattle.kdcs_types.specs.Keys.{id_cmp, id_eq}
 use Rattle.sorted_pairs.specs.MappedLaws.{put_mapped}
-use Rattle.open_transaction.specs.Work.{Boxed, boxed_work}
+use Rattle.open_transaction.specs.Transactions.{Boxed, boxed_transaction}
 use Rattle.step_scheduler.specs.Schedule.{place_by, place_of, service_in, with_class, with_place}
 use Rattle.abstract_monitor.specs.declared.answer.Happened.{Happened}
 use Rattle.abstract_monitor.specs.declared.answer.Happened.TheVariants.{Went, Queued, Waited, Held, Settles, Breaks, Returns}
@@ -127,9 +127,9 @@ one_more g n (e ∷ es) h = (record { id = h.0.id; nb = h.0.nb; counted = omega 
 
 -- the service has this transaction, the locks follow it, and the task has its class
 abbrev pub stepped : MonitorParts → (task : ℕ) → ServiceId → Boxed → Locks → (class : ℕ) → MonitorParts
-stepped p task id work locks class = record p {
+stepped p task id transaction locks class = record p {
   steps = p.steps + 1;
-  active = put id_cmp id work p.active;
+  active = put id_cmp id transaction p.active;
   locks = locks;
   scheduler = with_place task (with_class class (place_of task p.scheduler)) p.scheduler;
 }
@@ -145,51 +145,51 @@ module _ (p : MonitorParts) (task : ℕ) (id : ServiceId) (x : OpenTransaction) 
   not_elsewhere : list_any (in_place id) (map service_in (slice_set p.scheduler.places (task - 1) None)) ≡ false
   not_elsewhere = ap (list_any (in_place id)) (map_set service_in p.scheduler.places (task - 1) None) ∙ counted_none (in_place id) (slice_set (state_of p).tasks (task - 1) None) alone.freed
 
-  module _ (work : Boxed) (locks : Locks) (now : Happened) (does : statement_now (app_of p) (state_of p) id x ≡ (boxed_work work, now)) where
+  module _ (transaction : Boxed) (locks : Locks) (now : Happened) (does : statement_now (app_of p) (state_of p) id x ≡ (boxed_transaction transaction, now)) where
     abbrev after : Active
-    after = put id_cmp id (boxed_work work) (active_of p.active)
+    after = put id_cmp id (boxed_transaction transaction) (active_of p.active)
 
     exclusive : IsExclusive after
     exclusive =
         let keeps = statement_keeps (app_of p) (told_here (app_of p) (state_of p) id x) (is_asynchronous id) x in
-        exclusive_after (active_of p.active) after id (λ i apart. other_put i id (boxed_work work) (active_of p.active) apart)
-        (statement_holds (state_of p) p.generation.limits.reswait after id x (boxed_work work) (area_of (app_of p) x) c.active is (found_put id (boxed_work work) (active_of p.active))
+        exclusive_after (active_of p.active) after id (λ i apart. other_put i id (boxed_transaction transaction) (active_of p.active) apart)
+        (statement_holds (state_of p) p.generation.limits.reswait after id x (boxed_transaction transaction) (area_of (app_of p) x) c.active is (found_put id (boxed_transaction transaction) (active_of p.active))
         (subst (λ (y : OpenTransaction). Rattle.laws_of_places.specs.Kept.HoldsNoMore (told_here (app_of p) (state_of p) id x) (area_of (app_of p) x) x y) (ap (λ (r : Stated). r.0) does) keeps.touched))
         c.exclusive
 
-    class_now : (class : ℕ) → class ≡ class_of p.generation work.value.current → HasClass p.generation after (id, class)
-    class_now class e = e ∙ sym (ap (λ (o : Option OpenTransaction). class_of p.generation (current_by o)) (found_put id (boxed_work work) (active_of p.active)))
+    class_now : (class : ℕ) → class ≡ class_of p.generation transaction.value.current → HasClass p.generation after (id, class)
+    class_now class e = e ∙ sym (ap (λ (o : Option OpenTransaction). class_of p.generation (current_by o)) (found_put id (boxed_transaction transaction) (active_of p.active)))
 
-    places_after : (class : ℕ) → class ≡ class_of p.generation work.value.current → Each (PlaceHasClass p.generation after) (slice_set p.scheduler.places (task - 1) (with_class class (place_of task p.scheduler)))
+    places_after : (class : ℕ) → class ≡ class_of p.generation transaction.value.current → Each (PlaceHasClass p.generation after) (slice_set p.scheduler.places (task - 1) (with_class class (place_of task p.scheduler)))
     places_after class e =
         let none = slice_set p.scheduler.places (task - 1) None in
         let others = each_set (PlaceHasClass p.generation (active_of p.active)) p.scheduler.places (task - 1) None tt h.places in
-        let stay = places_stay p.generation (active_of p.active) after id (put_others id (boxed_work work) (active_of p.active)) none not_elsewhere others in
+        let stay = places_stay p.generation (active_of p.active) after id (put_others id (boxed_transaction transaction) (active_of p.active)) none not_elsewhere others in
         subst (Each (PlaceHasClass p.generation after))
         (set_again p.scheduler.places (task - 1) None (Some (id, class)) ∙ ap (slice_set p.scheduler.places (task - 1)) (sym (place_set p.scheduler.places (task - 1) id class at)))
         (each_set (PlaceHasClass p.generation after) none (task - 1) (Some (id, class)) (class_now class e) stay)
 
-    pub stepped_indexed : (class : ℕ) → class ≡ class_of p.generation work.value.current → FollowsAreas p.locks locks id (boxed_work work)
-        → IsOwned p.generation (p.steps + 1) (id, work) → IsIndexed (stepped p task id work locks class)
+    pub stepped_indexed : (class : ℕ) → class ≡ class_of p.generation transaction.value.current → FollowsAreas p.locks locks id (boxed_transaction transaction)
+        → IsOwned p.generation (p.steps + 1) (id, transaction) → IsIndexed (stepped p task id transaction locks class)
     stepped_indexed class e follow owned =
-        let there = put_mapped id_cmp boxed_work id work p.active in
+        let there = put_mapped id_cmp boxed_transaction id transaction p.active in
         record {
-          owned = each_put (IsOwned p.generation (p.steps + 1)) id work p.active owned (one_more p.generation p.steps p.active h.owned);
-          ready = subst (λ a. Each (HasClass p.generation a) p.scheduler.ready) there (ready_stay p.generation (active_of p.active) after id (put_others id (boxed_work work) (active_of p.active)) p.scheduler.ready not_ready h.ready);
+          owned = each_put (IsOwned p.generation (p.steps + 1)) id transaction p.active owned (one_more p.generation p.steps p.active h.owned);
+          ready = subst (λ a. Each (HasClass p.generation a) p.scheduler.ready) there (ready_stay p.generation (active_of p.active) after id (put_others id (boxed_transaction transaction) (active_of p.active)) p.scheduler.ready not_ready h.ready);
           places = subst (λ a. Each (PlaceHasClass p.generation a) (slice_set p.scheduler.places (task - 1) (with_class class (place_of task p.scheduler)))) there (places_after class e);
-          locks = subst (λ a. SameHolds locks a) there (stated_holds p.locks locks (active_of p.active) id (boxed_work work) follow h.locks exclusive);
-          jobs = h.jobs ∙ kept_queue id (boxed_work work) (active_of p.active) p.tables.jobs (ap is_some is) ∙ ap (λ a. Rattle.async_queue.specs.Marks.queue_of a p.tables.jobs) there;
+          locks = subst (λ a. SameHolds locks a) there (stated_holds p.locks locks (active_of p.active) id (boxed_transaction transaction) follow h.locks exclusive);
+          jobs = h.jobs ∙ kept_queue id (boxed_transaction transaction) (active_of p.active) p.tables.jobs (ap is_some is) ∙ ap (λ a. Rattle.async_queue.specs.Marks.queue_of a p.tables.jobs) there;
         }
 
     -- the tasks hold the services that they held
-    pub stepped_state : (class : ℕ) → state_of (stepped p task id work locks class) ≡ record (with_open (state_of p) id (boxed_work work)) { waits = locks.waits }
+    pub stepped_state : (class : ℕ) → state_of (stepped p task id transaction locks class) ≡ record (with_open (state_of p) id (boxed_transaction transaction)) { waits = locks.waits }
     stepped_state class = λ i. record (state_of p) {
       tasks = (ap (λ (o : Option Classed). map service_in (slice_set p.scheduler.places (task - 1) o)) (place_set p.scheduler.places (task - 1) id class at)
           ∙ map_set service_in p.scheduler.places (task - 1) (Some (id, class)) ∙ set_same (state_of p).tasks (task - 1) (Some id) at) i;
-      active = sym (put_mapped id_cmp boxed_work id work p.active) i;
+      active = sym (put_mapped id_cmp boxed_transaction id transaction p.active) i;
       waits = locks.waits;
     }
 
     -- a transaction that did not change is the one that was there
-    pub unchanged_active : boxed_work work ≡ x → put id_cmp id (boxed_work work) (active_of p.active) ≡ (state_of p).active
+    pub unchanged_active : boxed_transaction transaction ≡ x → put id_cmp id (boxed_transaction transaction) (active_of p.active) ≡ (state_of p).active
     unchanged_active same = ap (λ (y : OpenTransaction). put id_cmp id y (active_of p.active)) same ∙ put_same id x (active_of p.active) c.active is

@@ -11,7 +11,7 @@ use Rattle.kdcs_types.specs.Keys.{id_cmp}
 use Rattle.kdcs_types.specs.Tables.{IsSortedTables, job_of}
 use Rattle.laws_of_commits.specs.NumbersLaws.{free_not_placed}
 use Rattle.async_queue.specs.Queue.{free, with_mark}
-use Rattle.open_transaction.specs.Work.{Boxed, boxed_work}
+use Rattle.open_transaction.specs.Transactions.{Boxed, boxed_transaction}
 use Rattle.step_scheduler.specs.Schedule.{Schedule, class_of_target, picked, service_in, took_job}
 use Rattle.abstract_monitor.specs.declared.work.Work.{Work}
 use Rattle.abstract_monitor.specs.declared.work.Work.TheVariants as work
@@ -35,9 +35,9 @@ use Rattle.monitor_core.specs.Turning.{Begun, BegunBy, BegunFor}
 
 -- what it answered at the clock of the tables
 module _ (p : MonitorParts) (task : ℕ) (schedule : Schedule) (w : Option Work) (now : ℕ) (h : IsIndexed p) (order : IsSortedTables p.tables) (clock : now ≡ p.tables.clock)
-    (work : w ≡ pick_work p.generation p.scheduler.ready p.scheduler.places now (free p.jobs)) (state : schedule ≡ picked p.generation task now (free p.jobs) p.scheduler) where
+    (transaction : w ≡ pick_work p.generation p.scheduler.ready p.scheduler.places now (free p.jobs)) (state : schedule ≡ picked p.generation task now (free p.jobs) p.scheduler) where
   pub answered : w ≡ pick_of p
-  answered = work ∙ ap (λ (n : ℕ). pick_work p.generation p.scheduler.ready p.scheduler.places n (free p.jobs)) clock
+  answered = transaction ∙ ap (λ (n : ℕ). pick_work p.generation p.scheduler.ready p.scheduler.places n (free p.jobs)) clock
 
   pub picked_for : Picked p task schedule w
   picked_for =
@@ -91,35 +91,35 @@ module _ (p : MonitorParts) (task : ℕ) (schedule : Schedule) (j : Job) (h : Is
   job_state : (q : MonitorParts) → IsBegun q → state_of q ≡ with_open (with_task (state_of p) task (Some id)) id (opened_by_job p.generation j.value t.tac)
   job_state q b =
       ap state_of b.parts
-      ∙ opened_state (with_schedule p schedule) id b.work (opened_by_job p.generation j.value t.tac) (put id_cmp id b.work p.active) (with_mark j.number true p.jobs) refl b.exact
+      ∙ opened_state (with_schedule p schedule) id b.transaction (opened_by_job p.generation j.value t.tac) (put id_cmp id b.transaction p.active) (with_mark j.number true p.jobs) refl b.exact
       ∙ ap (λ (s : State). with_open s id (opened_by_job p.generation j.value t.tac))
       (ap (λ (s : Schedule). state_of (with_schedule p s)) is
       ∙ ap (λ (l : List (Option ServiceId)). record (state_of p) { tasks = l }) (map_set service_in p.scheduler.places (task - 1) (Some (id, class_of_target p.generation j.value.to))))
 
-  opened_with : (work : Boxed) → boxed_work work ≡ opened_by_job p.generation j.value t.tac → work.value.id ≡ id → work.value.messages.nb ≡ p.generation.limits.nb
-      → IsIndexed (with_active p (put id_cmp id work p.active) p.locks (with_mark j.number true p.jobs))
-  opened_with work exact same nb =
+  opened_with : (transaction : Boxed) → boxed_transaction transaction ≡ opened_by_job p.generation j.value t.tac → transaction.value.id ≡ id → transaction.value.messages.nb ≡ p.generation.limits.nb
+      → IsIndexed (with_active p (put id_cmp id transaction p.active) p.locks (with_mark j.number true p.jobs))
+  opened_with transaction exact same nb =
       let fresh = opened_fresh p.generation None (record { benid = j.value.user; logter = j.value.lterm; tacvg = t.tac; tacal = t.tac }) (j.value.message ∷ []) [] in
-      opened_indexed p id h (free_not_placed (app_of p) (state_of p) c j t.free) work _ _ refl refl
+      opened_indexed p id h (free_not_placed (app_of p) (state_of p) c j t.free) transaction _ _ refl refl
       record { id = same; nb = nb; counted = subst (λ n. n ≤ p.steps) (sym (ap (λ (x : OpenTransaction). x.statements) exact ∙ fresh.1)) (omega arith) }
       (not_open _ t.free)
       (ap (λ (x : OpenTransaction). x.touched) exact ∙ fresh.0)
 
-  job_class : (work : Boxed) → boxed_work work ≡ opened_by_job p.generation j.value t.tac → HasClass p.generation (active_of (put id_cmp id work p.active)) (id, class_of_target p.generation j.value.to)
-  job_class work exact =
+  job_class : (transaction : Boxed) → boxed_transaction transaction ≡ opened_by_job p.generation j.value t.tac → HasClass p.generation (active_of (put id_cmp id transaction p.active)) (id, class_of_target p.generation j.value.to)
+  job_class transaction exact =
       ap (class_of_target p.generation) t.to
       ∙ sym (ap (λ (o : Option OpenTransaction). class_of p.generation (current_by o))
-      (ap (find id_cmp id) (sym (Rattle.sorted_pairs.specs.Mapped.put_mapped id_cmp boxed_work id work p.active)) ∙ found_put id (boxed_work work) (active_of p.active) ∙ ap (λ (x : OpenTransaction). Some x) exact)
+      (ap (find id_cmp id) (sym (Rattle.sorted_pairs.specs.Mapped.put_mapped id_cmp boxed_transaction id transaction p.active)) ∙ found_put id (boxed_transaction transaction) (active_of p.active) ∙ ap (λ (x : OpenTransaction). Some x) exact)
       ∙ ap (class_of p.generation) (current_opened p.generation j.value t.tac))
 
   job_indexed : (q : MonitorParts) → IsBegun q → IsIndexed q
   job_indexed q b =
-      let open_now = opened_with b.work b.exact b.id b.nb in
-      let active = put id_cmp id b.work p.active in
+      let open_now = opened_with b.transaction b.exact b.id b.nb in
+      let active = put id_cmp id b.transaction p.active in
       let next = with_active p active p.locks (with_mark j.number true p.jobs) in
       let there = took_job p.generation task j p.scheduler in
       subst IsIndexed (sym (b.parts ∙ ap (λ (s : Schedule). with_schedule next s) is))
-      (scheduled next there open_now open_now.ready (each_set (PlaceHasClass p.generation (active_of active)) p.scheduler.places (task - 1) (Some (id, class_of_target p.generation j.value.to)) (job_class b.work b.exact) open_now.places))
+      (scheduled next there open_now open_now.ready (each_set (PlaceHasClass p.generation (active_of active)) p.scheduler.places (task - 1) (Some (id, class_of_target p.generation j.value.to)) (job_class b.transaction b.exact) open_now.places))
 
   job_exact : (q : MonitorParts) → IsBegun q → moved_to (state_of q) [] ≡ took_by p task (Some (work.Job j.number))
   job_exact q b =

@@ -15,7 +15,7 @@ use Rattle.abstract_monitor.specs.Endings.{opened_by_job}
 use Rattle.abstract_monitor.specs.State.{Application, OpenTransaction, State}
 use Rattle.abstract_monitor.specs.Statements.{area_of}
 use Rattle.abstract_monitor.specs.Turns.{waiting_for, with_open, without_wait}
-use Rattle.open_transaction.specs.Work.{Boxed, boxed_work}
+use Rattle.open_transaction.specs.Transactions.{Boxed, boxed_transaction}
 use Rattle.core_state.specs.declared.parts.MonitorParts.{MonitorParts}
 use Rattle.core_state.specs.Kept.{with_active}
 use Rattle.core_state.specs.Standing.{IsIndexed, state_of}
@@ -28,11 +28,11 @@ IsHeldBy s task id = slice_get s.tasks (task - 1) ≡ Some (Some id)
 
 -- the service of a job for this TAC is open, and the job is marked as taken
 pub record Begun (p q : MonitorParts) (number : ℕ) (job : JobValue) (tac : Bytes) : Type 0 where
-  pub work : Boxed
-  pub exact : boxed_work work ≡ opened_by_job p.generation job tac
-  pub id : work.value.id ≡ Asynchronous number
-  pub nb : work.value.messages.nb ≡ p.generation.limits.nb
-  pub parts : q ≡ with_active p (put id_cmp (Asynchronous number) work p.active) p.locks (with_mark number true p.jobs)
+  pub transaction : Boxed
+  pub exact : boxed_transaction transaction ≡ opened_by_job p.generation job tac
+  pub id : transaction.value.id ≡ Asynchronous number
+  pub nb : transaction.value.messages.nb ≡ p.generation.limits.nb
+  pub parts : q ≡ with_active p (put id_cmp (Asynchronous number) transaction p.active) p.locks (with_mark number true p.jobs)
 
 -- a job for an LTERM begins no service
 abbrev pub BegunFor : (p q : MonitorParts) → (number : ℕ) → JobValue → Target → Type 0

@@ -2,7 +2,7 @@
 ghost use Rattle.std.specs.{Prelude.{◌≡◌, ◌∷◌, ◌++◌, Some, IfOk, OnOk, codes}, FinMap.{find}};
 ghost use Rattle.kdcs_types.specs.{declared.act.Act.TheVariants.{Emit}, declared.key.ServiceId.TheVariants.{Dialogue}, Tables.{service_of}};
 ghost use Rattle.abstract_monitor.specs.{Bytes.{bytes_cmp}, Commands.{drop_by, lterm_at, out_again, resumed_by, signed_off, signed_on, with_session}, Endings.{restarts}, Lines.{sys_line}};
-ghost use Rattle.open_transaction.specs.Work.{HasOrder};
+ghost use Rattle.open_transaction.specs.Transactions.{HasOrder};
 ghost use Rattle.session_table.specs.Signed.{CanSignOn};
 ghost use Rattle.core_state.specs.{Whole.{app_of, IsWhole}, Standing.{IsIndexed, SameApplication, state_of}};
 ghost use Rattle.monitor_core.specs.Commanding.{Comes, Rests};

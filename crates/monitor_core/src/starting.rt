@@ -1,8 +1,8 @@
 //! Inputs that services read.
 ghost use Rattle.std.specs.{Prelude.{◌≡◌, ◌∷◌, [], ◌<◌, ◌^◌, false, Some, OnOk}, FinMap.{find}};
 ghost use Rattle.kdcs_types.specs.{declared.key.ServiceId.TheVariants.{Dialogue}, Keys.{id_cmp}};
-ghost use Rattle.abstract_monitor.specs.{declared.input_use.ServiceState.TheVariants.{Awaits}, Commands.{held_tac, next_input, start_service}, Endings.{followed_by_input, opened}, Sessions.{is_running, service_state}, State.{OpenTransaction as Work}, Turns.{queued}};
-ghost use Rattle.open_transaction.specs.Work.{HasOrder};
+ghost use Rattle.abstract_monitor.specs.{declared.input_use.ServiceState.TheVariants.{Awaits}, Commands.{held_tac, next_input, start_service}, Endings.{followed_by_input, opened}, Sessions.{is_running, service_state}, State.{OpenTransaction as Transaction}, Turns.{queued}};
+ghost use Rattle.open_transaction.specs.Transactions.{HasOrder};
 ghost use Rattle.core_state.specs.{Whole.{app_of, IsWhole}, Standing.{IsIndexed, SameApplication, state_of}};
 ghost use Rattle.monitor_core.specs.{Commanding.{Rests}, Counted.{IsAhead}};
 
@@ -80,12 +80,12 @@ fn follow_keep(
     requires rests { is_running (state_of parts.old) (Dialogue user.now) ≡ false }
     requires ahead { IsAhead parts.old }
     requires steps { parts.old.steps < 2 ^ 64 }
-    ensures state { OnOk result ((x : Work) → find id_cmp (Dialogue user.now) (state_of parts.old).active ≡ Some x → state_of parts.new ≡ queued (state_of parts.old) (Dialogue user.now) (followed_by_input parts.old.generation x (held_tac (app_of parts.old) x) text)) }
+    ensures state { OnOk result ((x : Transaction) → find id_cmp (Dialogue user.now) (state_of parts.old).active ≡ Some x → state_of parts.new ≡ queued (state_of parts.old) (Dialogue user.now) (followed_by_input parts.old.generation x (held_tac (app_of parts.old) x) text)) }
     ensures indexed { OnOk result (IsIndexed parts.new) }
     ensures same { OnOk result (SameApplication parts.old parts.new) }
 {
     let id = ServiceId::Dialogue(*user);
-    let Some(work) = parts.active.get_mut(&id) else {
+    let Some(transaction) = parts.active.get_mut(&id) else {
         return Ok(());
     };
     match perform_statement(
@@ -94,10 +94,10 @@ fn follow_keep(
         &parts.units,
         &parts.tables,
         &mut parts.locks,
-        work,
+        transaction,
     )? {
         Happened::Held(tac) => {
-            work.follow(alloc, &parts.generation, tac, Some(text))?;
+            transaction.follow(alloc, &parts.generation, tac, Some(text))?;
             parts.make_ready(&id)
         }
         // It stands at no other statement.

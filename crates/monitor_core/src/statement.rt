@@ -1,7 +1,7 @@
 //! The next statement of a service.
 ghost use Rattle.std.specs.{Prelude.{◌≡◌, ◌+◌, ◌<◌, ◌^◌, false, Some, IfOk, IfSome, IsSome, OnOk}, FinMap.{find}};
 ghost use Rattle.kdcs_types.specs.Keys.{id_cmp};
-ghost use Rattle.abstract_monitor.specs.{Sessions.{is_running}, State.{OpenTransaction as Work}, Turns.{statement_now, with_task}};
+ghost use Rattle.abstract_monitor.specs.{Sessions.{is_running}, State.{OpenTransaction as Transaction}, Turns.{statement_now, with_task}};
 ghost use Rattle.step_scheduler.specs.Schedule.{IsTask};
 ghost use Rattle.core_state.specs.{Standing.{IsIndexed, state_of}, Whole.{IsWhole, app_of}};
 ghost use Rattle.monitor_core.specs.Turning.{state_then, IsHeldBy};
@@ -26,15 +26,15 @@ pub(crate) fn perform(
     requires task { IsTask task parts.old.scheduler }
     requires held { IsHeldBy (state_of parts.old) task id.now }
     requires steps { parts.old.steps + 1 < 2 ^ 64 }
-    ensures exact { IfOk result (λ happened. (x : Work) → find id_cmp id.now (state_of parts.old).active ≡ Some x → happened ≡ (statement_now (app_of parts.old) (state_of parts.old) id.now x).1) }
-    ensures state { IfOk result (λ happened. (x : Work) → find id_cmp id.now (state_of parts.old).active ≡ Some x → state_of parts.new ≡ state_then (app_of parts.old) (state_of parts.old) id.now x (statement_now (app_of parts.old) (state_of parts.old) id.now x).0 happened) }
+    ensures exact { IfOk result (λ happened. (x : Transaction) → find id_cmp id.now (state_of parts.old).active ≡ Some x → happened ≡ (statement_now (app_of parts.old) (state_of parts.old) id.now x).1) }
+    ensures state { IfOk result (λ happened. (x : Transaction) → find id_cmp id.now (state_of parts.old).active ≡ Some x → state_of parts.new ≡ state_then (app_of parts.old) (state_of parts.old) id.now x (statement_now (app_of parts.old) (state_of parts.old) id.now x).0 happened) }
     ensures indexed { OnOk result (IsIndexed parts.new) }
     ensures generation { OnOk result (parts.new.generation ≡ parts.old.generation) }
     ensures units { OnOk result (parts.new.units ≡ parts.old.units) }
     ensures steps { OnOk result (parts.new.steps ≡ parts.old.steps + 1) }
 {
     parts.steps += 1;
-    let Some(work) = parts.active.get_mut(id) else {
+    let Some(transaction) = parts.active.get_mut(id) else {
         return Ok(Happened::Returns);
     };
     let happened = perform_statement(
@@ -43,9 +43,9 @@ pub(crate) fn perform(
         &parts.units,
         &parts.tables,
         &mut parts.locks,
-        work,
+        transaction,
     )?;
-    let class = class_of(&parts.generation, work.current);
+    let class = class_of(&parts.generation, transaction.current);
     parts.scheduler.stay(task, class);
     Ok(happened)
 }

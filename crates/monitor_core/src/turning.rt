@@ -19,7 +19,7 @@ use service_ends::{Turned, end, go_back, hold, queue, settle};
 use std::alloc::Global;
 
 // The statement of the service in this task, and what follows it.
-fn work(
+fn serve(
     parts: &mut MonitorParts,
     alloc: Global,
     task: u16,
@@ -71,6 +71,6 @@ pub(crate) fn turn(
             parts.steps += 1;
             Ok(did)
         }
-        Some(id) => work(parts, alloc, task, &id),
+        Some(id) => serve(parts, alloc, task, &id),
     }
 }

@@ -4,7 +4,7 @@ ghost use Rattle.kdcdef_types.specs.Generation.{tac_of};
 ghost use Rattle.kdcs_types.specs.declared.call.Code.TheVariants as code;
 ghost use Rattle.abstract_monitor.specs.{Bytes.{bytes_cmp}, Endings.{joined, opened, spaces, budget_by, is_asynchronous, fresh_run, kb_of, lssbs_of, handed_on}, Statements.{counted}};
 ghost use Rattle.unit_semantics.specs.Ready.{CanAnswer, IsReady};
-ghost use Rattle.open_transaction.specs.Work.{work_of, accepted_of, followed_with, HasOrder};
+ghost use Rattle.open_transaction.specs.Transactions.{transaction_of, accepted_of, followed_with, HasOrder};
 
 use async_queue::DraftJobs;
 use crate::held::HeldAreas;
@@ -179,9 +179,9 @@ impl OpenTransaction {
         accepted: bool,
     ) -> Result<Box<OpenTransaction>, OutOfMemory>
         requires { HasOrder began }
-        ensures exact { IfOk result (λ work. work_of work.value ≡ opened generation.now began header handed (accepted_of accepted handed)) }
-        ensures id { IfOk result (λ work. work.value.id ≡ id) }
-        ensures nb { IfOk result (λ work. work.value.messages.nb ≡ generation.now.limits.nb) }
+        ensures exact { IfOk result (λ transaction. transaction_of transaction.value ≡ opened generation.now began header handed (accepted_of accepted handed)) }
+        ensures id { IfOk result (λ transaction. transaction.value.id ≡ id) }
+        ensures nb { IfOk result (λ transaction. transaction.value.messages.nb ≡ generation.now.limits.nb) }
     {
         let beginning = begin_with(alloc, generation, &began, header, &handed, accepted)?;
         Ok(Box::new(
@@ -229,7 +229,7 @@ impl OpenTransaction {
         input: Option<Bytes>,
     ) -> Result<(), OutOfMemory>
         requires { self.old.statements + 1 < 2 ^ 64 }
-        ensures ok { OnOk result (work_of self.new ≡ followed_with generation.now (is_asynchronous self.old.id) (work_of self.old) tac input) }
+        ensures ok { OnOk result (transaction_of self.new ≡ followed_with generation.now (is_asynchronous self.old.id) (transaction_of self.old) tac input) }
         ensures err { OnErr result (self.new ≡ self.old) }
         ensures id { self.new.id ≡ self.old.id }
         ensures nb { self.old.messages.nb ≡ generation.now.limits.nb → self.new.messages.nb ≡ generation.now.limits.nb }
@@ -252,7 +252,7 @@ impl OpenTransaction {
         requires ready { IsReady unit.now self.old.run }
         requires can { CanAnswer unit.now self.old.run reply.now }
         requires statements { self.old.statements + 1 < 2 ^ 64 }
-        ensures exact { work_of self.new ≡ counted unit.now (work_of self.old) reply.now }
+        ensures exact { transaction_of self.new ≡ counted unit.now (transaction_of self.old) reply.now }
         ensures id { self.new.id ≡ self.old.id }
         ensures nb { self.new.messages.nb ≡ self.old.messages.nb }
     {
@@ -274,7 +274,7 @@ impl OpenTransaction {
 
     // The parts put are the message to read, but the message of a job stays to be read.
     fn hand_on(&mut self, alloc: Global, nb: u32)
-        ensures exact { (work_of self.new) ≡ record (work_of self.old) { unread = handed_on (is_asynchronous self.old.id) (work_of self.old); parts = [] } }
+        ensures exact { (transaction_of self.new) ≡ record (transaction_of self.old) { unread = handed_on (is_asynchronous self.old.id) (transaction_of self.old); parts = [] } }
         ensures id { self.new.id ≡ self.old.id }
         ensures nb { self.old.messages.nb ≡ nb → self.new.messages.nb ≡ nb }
     {

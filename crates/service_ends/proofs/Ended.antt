@@ -30,7 +30,7 @@ use Rattle.abstract_monitor.specs.Statements.{kept_record}
 use Rattle.abstract_monitor.specs.Turns.{Turned, abnormal, after_point, committed, dump_acts, ended_acts, message_acts, message_sent, moved_to, settled, settled_by, told_user, user_acts, with_open, with_task, without_open, without_work}
 use Rattle.laws_of_places.specs.EntriesLaws.{found_put, found_without}
 use Rattle.laws_of_tables.specs.PointLaws.{Stands}
-use Rattle.open_transaction.specs.Work.{Boxed, boxed_work, HasOrder}
+use Rattle.open_transaction.specs.Transactions.{Boxed, boxed_transaction, HasOrder}
 use Rattle.core_state.specs.declared.parts.MonitorParts.{MonitorParts}
 use Rattle.core_state.specs.KeptLaws.{found_work}
 use Rattle.core_state.specs.Standing.{IsOwned, SameApplication, state_of}
@@ -45,8 +45,8 @@ use Rattle.service_ends.specs.Ending.{CanGoOn, IsClosed, Works, behind_end, behi
 
 -- ---- the parts behind a step
 
-pub found_one : (o : Option Boxed) (work : Boxed) (found : Option OpenTransaction) (x : OpenTransaction) → o ≡ Some work → option_map boxed_work o ≡ found → found ≡ Some x → boxed_work work ≡ x
-found_one o work found x is found_is x_is = under (sym (ap (option_map boxed_work) is) ∙ found_is ∙ x_is)
+pub found_one : (o : Option Boxed) (transaction : Boxed) (found : Option OpenTransaction) (x : OpenTransaction) → o ≡ Some transaction → option_map boxed_transaction o ≡ found → found ≡ Some x → boxed_transaction transaction ≡ x
+found_one o transaction found x is found_is x_is = under (sym (ap (option_map boxed_transaction) is) ∙ found_is ∙ x_is)
   where
     under : {A : Type 0} {a b : A} → Some a ≡ Some b → a ≡ b
     under e = cc
@@ -56,33 +56,33 @@ stands_as g h t u i j x y a b c d s =
     subst (λ k. Stands k u j y) (sym a) (subst (λ k. Stands g k j y) (sym b) (subst (λ k. Stands g t k y) (sym c) (subst (λ k. Stands g t i k) (sym d) s)))
 
 -- the transaction that was closed
-pub closed_work : (p q : MonitorParts) (task : ℕ) (id : ServiceId) (x : OpenTransaction) (work : Boxed) → Works p task id x → SameApplication p q
-    → state_of q ≡ without_work (state_of p) task id → work.value.id ≡ id → boxed_work work ≡ x → IsClosed q work
-closed_work p q task id x work works same state own is = record {
+pub closed_work : (p q : MonitorParts) (task : ℕ) (id : ServiceId) (x : OpenTransaction) (transaction : Boxed) → Works p task id x → SameApplication p q
+    → state_of q ≡ without_work (state_of p) task id → transaction.value.id ≡ id → boxed_transaction transaction ≡ x → IsClosed q transaction
+closed_work p q task id x transaction works same state own is = record {
   closed = (λ i. find id_cmp (own i) (state i).active) ∙ found_without id (state_of p).active;
   unplaced = (λ i. is_running (state i) (own i)) ∙ works.alone;
-  stands = stands_as p.generation q.generation p.tables q.tables id work.value.id x (boxed_work work) same.generation (ap (λ (s : State). s.tables) state) own is works.stands;
+  stands = stands_as p.generation q.generation p.tables q.tables id transaction.value.id x (boxed_transaction transaction) same.generation (ap (λ (s : State). s.tables) state) own is works.stands;
 }
 
 -- it can go on from a row in order
-pub goes_on : (p : MonitorParts) (work : Boxed) (id : ServiceId) (row : Option Service) → IsClosed p work → id ≡ work.value.id → HasOrder row → CanGoOn p id row
-goes_on p work id row h own order = record { closed = (λ i. find id_cmp (own i) (state_of p).active) ∙ h.closed; unplaced = (λ i. is_running (state_of p) (own i)) ∙ h.unplaced; order = order }
+pub goes_on : (p : MonitorParts) (transaction : Boxed) (id : ServiceId) (row : Option Service) → IsClosed p transaction → id ≡ transaction.value.id → HasOrder row → CanGoOn p id row
+goes_on p transaction id row h own order = record { closed = (λ i. find id_cmp (own i) (state_of p).active) ∙ h.closed; unplaced = (λ i. is_running (state_of p) (own i)) ∙ h.unplaced; order = order }
 
 pub closed_result : (p m q : MonitorParts) (task : ℕ) (id : ServiceId) (o : Option Boxed) → ((x : OpenTransaction) × Works p task id x) → SameApplication p m → SameApplication m q
-    → state_of m ≡ with_task (state_of p) task None → state_of q ≡ without_open (state_of m) id → option_map boxed_work o ≡ find id_cmp id (state_of m).active
-    → IfSome o (λ (work : Boxed). IsOwned m.generation m.steps (id, work)) → IfSome o (λ (work : Boxed). IsClosed q work)
+    → state_of m ≡ with_task (state_of p) task None → state_of q ≡ without_open (state_of m) id → option_map boxed_transaction o ≡ find id_cmp id (state_of m).active
+    → IfSome o (λ (transaction : Boxed). IsOwned m.generation m.steps (id, transaction)) → IfSome o (λ (transaction : Boxed). IsClosed q transaction)
 closed_result p m q task id None works a b s t found own = tt
-closed_result p m q task id (Some work) works a b s t found own =
-    closed_work p q task id works.0 work works.1 (same_twice p m q a b) (t ∙ ap (λ (u : State). without_open u id) s) own.id
-    (found_one (Some work) work _ works.0 refl (found ∙ ap (λ (u : State). find id_cmp id u.active) s) works.1.is_open)
+closed_result p m q task id (Some transaction) works a b s t found own =
+    closed_work p q task id works.0 transaction works.1 (same_twice p m q a b) (t ∙ ap (λ (u : State). without_open u id) s) own.id
+    (found_one (Some transaction) transaction _ works.0 refl (found ∙ ap (λ (u : State). find id_cmp id u.active) s) works.1.is_open)
 
 -- LSSBs of a row that stands in the tables ascend
 row_order : (t : TableRows) (id : ServiceId) (o : Option Service) → IsSortedTables t → service_of t id ≡ o → HasOrder o
 row_order t id None h e = tt
 row_order t id (Some row) h e = (both_true (lterm_fits row.id row.lterm) (is_sorted bytes_cmp row.lssbs) (found_passes service_key service_fits (key.Service id) t.services row h.services_fit e)).1
 
-pub began_order : (p : MonitorParts) (work : Boxed) → IsClosed p work → HasOrder work.value.began
-began_order p work h = row_order p.tables work.value.id work.value.began h.stands.sound.order h.stands.rooted.began
+pub began_order : (p : MonitorParts) (transaction : Boxed) → IsClosed p transaction → HasOrder transaction.value.began
+began_order p transaction h = row_order p.tables transaction.value.id transaction.value.began h.stands.sound.order h.stands.rooted.began
 
 -- a service that opened a transaction has it
 pub opened_open : (p q : MonitorParts) (id : ServiceId) (x : OpenTransaction) → state_of q ≡ with_open (state_of p) id x → IsSome (find id_cmp id (state_of q).active)
@@ -91,12 +91,12 @@ opened_open p q id x e = subst (λ (o : Option OpenTransaction). IsSome o) (sym 
 -- ---- ends
 
 -- what a transaction that was closed comes to, where that is the definition's
-pub over_as : {E : Type 0} (r : Result Did E) (p m q : MonitorParts) (task : ℕ) (id : ServiceId) (work : Boxed) (f : Application → State → ServiceId → OpenTransaction → Turned) (g : OpenTransaction → Turned)
-    → ((x : OpenTransaction) → f (app_of p) (without_work (state_of p) task id) id x ≡ g x) → SameApplication p m → state_of m ≡ without_work (state_of p) task id → work.value.id ≡ id
-    → Some (boxed_work work) ≡ find id_cmp id (state_of p).active → IfOk r (λ (did : Did). turned_to (state_of q) did ≡ f (app_of m) (state_of m) work.value.id (boxed_work work))
+pub over_as : {E : Type 0} (r : Result Did E) (p m q : MonitorParts) (task : ℕ) (id : ServiceId) (transaction : Boxed) (f : Application → State → ServiceId → OpenTransaction → Turned) (g : OpenTransaction → Turned)
+    → ((x : OpenTransaction) → f (app_of p) (without_work (state_of p) task id) id x ≡ g x) → SameApplication p m → state_of m ≡ without_work (state_of p) task id → transaction.value.id ≡ id
+    → Some (boxed_transaction transaction) ≡ find id_cmp id (state_of p).active → IfOk r (λ (did : Did). turned_to (state_of q) did ≡ f (app_of m) (state_of m) transaction.value.id (boxed_transaction transaction))
     → IfOk r (λ (did : Did). (x : OpenTransaction) → find id_cmp id (state_of p).active ≡ Some x → turned_to (state_of q) did ≡ g x)
-over_as r p m q task id work f g law same state own found =
-    IfOk-weaker r _ _ (λ did e x is. e ∙ (λ k. f (same_app p m same.generation same.units k) (state k) (own k) (found_one (Some work) work _ x refl found is k)) ∙ law x)
+over_as r p m q task id transaction f g law same state own found =
+    IfOk-weaker r _ _ (λ did e x is. e ∙ (λ k. f (same_app p m same.generation same.units k) (state k) (own k) (found_one (Some transaction) transaction _ x refl found is k)) ∙ law x)
 
 -- an abnormal end of a transaction that was closed
 pub breaks : (app : Application) (s : State) (task : ℕ) (id : ServiceId) (x : OpenTransaction) (e : Ending) → broken_to app (without_work s task id) id x e ≡ abnormal app s task id x e
@@ -115,16 +115,16 @@ unfolding settled
 settles app s task id x o = settles_by app s task id x o _
 
 -- an abnormal end behind its commit
-pub breaks_as : (p : MonitorParts) (w : Boxed) (e : Ending) (id : ServiceId) (dump : Option (List ℕ)) (changes : Changes) (kept : Settled) → changes ≡ durable_difference p.generation p.tables (broken p.tables w.value.id (boxed_work w))
-    → kept ≡ kept_record w.value.id (boxed_work w) e → emitted dump ≡ dump_acts w.value.id (boxed_work w) e → id ≡ w.value.id → Stands p.generation p.tables w.value.id (boxed_work w)
-    → behind_end (record (state_of p) { tables = with_service (changed p.tables changes) id None }) id dump (Commit changes) kept ≡ broken_to (app_of p) (state_of p) w.value.id (boxed_work w) e
+pub breaks_as : (p : MonitorParts) (w : Boxed) (e : Ending) (id : ServiceId) (dump : Option (List ℕ)) (changes : Changes) (kept : Settled) → changes ≡ durable_difference p.generation p.tables (broken p.tables w.value.id (boxed_transaction w))
+    → kept ≡ kept_record w.value.id (boxed_transaction w) e → emitted dump ≡ dump_acts w.value.id (boxed_transaction w) e → id ≡ w.value.id → Stands p.generation p.tables w.value.id (boxed_transaction w)
+    → behind_end (record (state_of p) { tables = with_service (changed p.tables changes) id None }) id dump (Commit changes) kept ≡ broken_to (app_of p) (state_of p) w.value.id (boxed_transaction w) e
 breaks_as p w e id dump changes kept c k d i stands =
     (λ j. committed (record (state_of p) { tables = with_service (changed p.tables (c j)) (i j) None }) (Commit (c j)) (k j) (d j ++ ended_acts (record (state_of p) { tables = with_service (changed p.tables (c j)) (i j) None }) (i j)))
-    ∙ ap (λ (t : TableRows). committed (record (state_of p) { tables = t }) (Commit (durable_difference p.generation p.tables (broken p.tables w.value.id (boxed_work w)))) (kept_record w.value.id (boxed_work w) e) (dump_acts w.value.id (boxed_work w) e ++ ended_acts (record (state_of p) { tables = t }) w.value.id))
-    (end_made p.generation p.tables w.value.id (boxed_work w) stands.sound.order).tables
+    ∙ ap (λ (t : TableRows). committed (record (state_of p) { tables = t }) (Commit (durable_difference p.generation p.tables (broken p.tables w.value.id (boxed_transaction w)))) (kept_record w.value.id (boxed_transaction w) e) (dump_acts w.value.id (boxed_transaction w) e ++ ended_acts (record (state_of p) { tables = t }) w.value.id))
+    (end_made p.generation p.tables w.value.id (boxed_transaction w) stands.sound.order).tables
     ∙ by w.value.id
   where
-    by : (id : ServiceId) → committed (record (state_of p) { tables = broken p.tables id (boxed_work w) }) (Commit (durable_difference p.generation p.tables (broken p.tables id (boxed_work w)))) (kept_record id (boxed_work w) e) (dump_acts id (boxed_work w) e ++ ended_acts (record (state_of p) { tables = broken p.tables id (boxed_work w) }) id) ≡ broken_to (app_of p) (state_of p) id (boxed_work w) e
+    by : (id : ServiceId) → committed (record (state_of p) { tables = broken p.tables id (boxed_transaction w) }) (Commit (durable_difference p.generation p.tables (broken p.tables id (boxed_transaction w)))) (kept_record id (boxed_transaction w) e) (dump_acts id (boxed_transaction w) e ++ ended_acts (record (state_of p) { tables = broken p.tables id (boxed_transaction w) }) id) ≡ broken_to (app_of p) (state_of p) id (boxed_transaction w) e
     by (Dialogue user) = refl
     by (Asynchronous number) = refl
 
@@ -133,9 +133,9 @@ breaks_as p w e id dump changes kept c k d i stands =
 -- what a point that passes answers
 pub record IsPassed (g : Generated) (t : TableRows) (w : Boxed) (o : Outcome) (r : Option Cause) (changes : Changes) (row : Option Service) (kept : Settled) : Type 0 where
   pub none : r ≡ None
-  pub changes_are : changes ≡ durable_difference g t (synchronised g t w.value.id (boxed_work w) o)
-  pub row_is : row ≡ row_after g w.value.id (boxed_work w) o
-  pub kept_is : kept ≡ kept_record w.value.id (boxed_work w) ending.Synced
+  pub changes_are : changes ≡ durable_difference g t (synchronised g t w.value.id (boxed_transaction w) o)
+  pub row_is : row ≡ row_after g w.value.id (boxed_transaction w) o
+  pub kept_is : kept ≡ kept_record w.value.id (boxed_transaction w) ending.Synced
 
 pub passed_as : (g : Generated) (t : TableRows) (w : Boxed) (o : Outcome) (r : Option Cause) (changes : Changes) (row : Option Service) (kept : Settled)
     → Synced changes row kept ≡ answer_by g t w o r → IsPassed g t w o r changes row kept
@@ -174,10 +174,10 @@ row_after_order id (Some row) h = (both_true (lterm_fits row.id row.lterm) (is_s
 
 -- the abnormal end that refuses a point
 pub refuses_as : (p : MonitorParts) (w v : Boxed) (o : Outcome) (r : Option Cause) (cause : Cause) → Refused cause v ≡ answer_by p.generation p.tables w o r
-    → broken_to (app_of p) (state_of p) v.value.id (boxed_work v) (ending.Broken cause) ≡ settled_to (app_of p) (state_of p) w.value.id (boxed_work w) o r
+    → broken_to (app_of p) (state_of p) v.value.id (boxed_transaction v) (ending.Broken cause) ≡ settled_to (app_of p) (state_of p) w.value.id (boxed_transaction w) o r
 refuses_as p w v o r cause e =
     let is = refused_as p.generation p.tables w v o r cause e in
-    (λ k. broken_to (app_of p) (state_of p) (is.1 k).value.id (boxed_work (is.1 k)) (ending.Broken cause)) ∙ sym (ap (settled_to (app_of p) (state_of p) w.value.id (boxed_work w) o) is.0)
+    (λ k. broken_to (app_of p) (state_of p) (is.1 k).value.id (boxed_transaction (is.1 k)) (ending.Broken cause)) ∙ sym (ap (settled_to (app_of p) (state_of p) w.value.id (boxed_transaction w) o) is.0)
 
 -- behind its commit a point goes on as it does
 goes_as : (app : Application) (s : State) (id : ServiceId) (x : OpenTransaction) (row : Option Service) (o : Outcome) (commit : Act) (kept : Settled)
@@ -198,16 +198,16 @@ goes_as app s id x row Back commit kept = refl
 
 -- a point that passes
 pub points_as : (p : MonitorParts) (w : Boxed) (o : Outcome) (r : Option Cause) (id : ServiceId) (outcome : Outcome) (changes : Changes) (row : Option Service) (kept : Settled) (message lterm : Bytes)
-    → IsPassed p.generation p.tables w o r changes row kept → Stands p.generation p.tables w.value.id (boxed_work w) → id ≡ w.value.id → outcome ≡ o → message ≡ joined (boxed_work w).parts → lterm ≡ (boxed_work w).lterm
+    → IsPassed p.generation p.tables w o r changes row kept → Stands p.generation p.tables w.value.id (boxed_transaction w) → id ≡ w.value.id → outcome ≡ o → message ≡ joined (boxed_transaction w).parts → lterm ≡ (boxed_transaction w).lterm
     → behind_point (app_of p) (record (state_of p) { tables = with_service (changed p.tables changes) id row }) id row outcome message lterm (Commit changes) kept
-    ≡ settled_to (app_of p) (state_of p) w.value.id (boxed_work w) o r
+    ≡ settled_to (app_of p) (state_of p) w.value.id (boxed_transaction w) o r
 points_as p w o r id outcome changes row kept message lterm passed stands i out m l =
-    let new = synchronised p.generation p.tables w.value.id (boxed_work w) o in
+    let new = synchronised p.generation p.tables w.value.id (boxed_transaction w) o in
     (λ k. behind_point (app_of p) (record (state_of p) { tables = with_service (changed p.tables (passed.changes_are k)) (i k) (passed.row_is k) }) (i k) (passed.row_is k) (out k) (m k) (l k) (Commit (passed.changes_are k)) (passed.kept_is k))
-    ∙ ap (λ (t : TableRows). behind_point (app_of p) (record (state_of p) { tables = t }) w.value.id (row_after p.generation w.value.id (boxed_work w) o) o (joined (boxed_work w).parts) (boxed_work w).lterm (Commit (durable_difference p.generation p.tables new)) (kept_record w.value.id (boxed_work w) ending.Synced))
-    (point_made p.generation p.tables w.value.id (boxed_work w) o stands).tables
-    ∙ goes_as (app_of p) (record (state_of p) { tables = new }) w.value.id (boxed_work w) (row_after p.generation w.value.id (boxed_work w) o) o (Commit (durable_difference p.generation p.tables new)) (kept_record w.value.id (boxed_work w) ending.Synced)
-    ∙ sym (ap (settled_to (app_of p) (state_of p) w.value.id (boxed_work w) o) passed.none)
+    ∙ ap (λ (t : TableRows). behind_point (app_of p) (record (state_of p) { tables = t }) w.value.id (row_after p.generation w.value.id (boxed_transaction w) o) o (joined (boxed_transaction w).parts) (boxed_transaction w).lterm (Commit (durable_difference p.generation p.tables new)) (kept_record w.value.id (boxed_transaction w) ending.Synced))
+    (point_made p.generation p.tables w.value.id (boxed_transaction w) o stands).tables
+    ∙ goes_as (app_of p) (record (state_of p) { tables = new }) w.value.id (boxed_transaction w) (row_after p.generation w.value.id (boxed_transaction w) o) o (Commit (durable_difference p.generation p.tables new)) (kept_record w.value.id (boxed_transaction w) ending.Synced)
+    ∙ sym (ap (settled_to (app_of p) (state_of p) w.value.id (boxed_transaction w) o) passed.none)
 
 -- ---- PEND KP
 
@@ -221,15 +221,15 @@ holds_as s q r task id x acts e f a =
     (λ k. moved_to ((f ∙ ap (λ u. message_sent u id x) e) k) ((a ∙ ap (λ u. message_acts u id x) e ∙ same_acts s task id x) k))
 
 -- the message of the transaction that is found
-pub found_is : (p : MonitorParts) (id : ServiceId) (work : Boxed) (x : OpenTransaction) → Some work ≡ find id_cmp id p.active → find id_cmp id (state_of p).active ≡ Some x → boxed_work work ≡ x
-found_is p id work x e f = found_one (Some work) work _ x refl (found_work p id (Some work) e) f
+pub found_is : (p : MonitorParts) (id : ServiceId) (transaction : Boxed) (x : OpenTransaction) → Some transaction ≡ find id_cmp id p.active → find id_cmp id (state_of p).active ≡ Some x → boxed_transaction transaction ≡ x
+found_is p id transaction x e f = found_one (Some transaction) transaction _ x refl (found_work p id (Some transaction) e) f
 
-pub sends_as : (p q : MonitorParts) (id : ServiceId) (user message : Bytes) (work : Boxed) (x : OpenTransaction) → id ≡ Dialogue user → message ≡ joined work.value.messages.parts → Some work ≡ find id_cmp id p.active
+pub sends_as : (p q : MonitorParts) (id : ServiceId) (user message : Bytes) (transaction : Boxed) (x : OpenTransaction) → id ≡ Dialogue user → message ≡ joined transaction.value.messages.parts → Some transaction ≡ find id_cmp id p.active
     → find id_cmp id (state_of p).active ≡ Some x → state_of q ≡ told_user (state_of p) user message → state_of q ≡ message_sent (state_of p) id x
-sends_as p q id user message work x is m found f e =
-    e ∙ ap (told_user (state_of p) user) m ∙ sym (ap (λ i. message_sent (state_of p) i (boxed_work work)) is) ∙ ap (message_sent (state_of p) id) (found_is p id work x found f)
+sends_as p q id user message transaction x is m found f e =
+    e ∙ ap (told_user (state_of p) user) m ∙ sym (ap (λ i. message_sent (state_of p) i (boxed_transaction transaction)) is) ∙ ap (message_sent (state_of p) id) (found_is p id transaction x found f)
 
-pub sends_acts : (p : MonitorParts) (id : ServiceId) (user message : Bytes) (work : Boxed) (x : OpenTransaction) (before after : List Act) → id ≡ Dialogue user → message ≡ joined work.value.messages.parts → Some work ≡ find id_cmp id p.active
+pub sends_acts : (p : MonitorParts) (id : ServiceId) (user message : Bytes) (transaction : Boxed) (x : OpenTransaction) (before after : List Act) → id ≡ Dialogue user → message ≡ joined transaction.value.messages.parts → Some transaction ≡ find id_cmp id p.active
     → find id_cmp id (state_of p).active ≡ Some x → after ≡ before ++ user_acts (state_of p) user message → after ≡ before ++ message_acts (state_of p) id x
-sends_acts p id user message work x before after is m found f e =
-    e ∙ ap (λ l. before ++ l) (ap (user_acts (state_of p) user) m ∙ sym (ap (λ i. message_acts (state_of p) i (boxed_work work)) is) ∙ ap (message_acts (state_of p) id) (found_is p id work x found f))
+sends_acts p id user message transaction x before after is m found f e =
+    e ∙ ap (λ l. before ++ l) (ap (user_acts (state_of p) user) m ∙ sym (ap (λ i. message_acts (state_of p) i (boxed_transaction transaction)) is) ∙ ap (message_acts (state_of p) id) (found_is p id transaction x found f))

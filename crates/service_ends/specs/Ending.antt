@@ -21,7 +21,7 @@ use Rattle.abstract_monitor.specs.State.{Application, OpenTransaction, State}
 use Rattle.abstract_monitor.specs.Turns.{Turned, after_point, commit_of, committed, dump_acts, ended_acts, queued, told_user, user_acts, with_task}
 use Rattle.laws_of_tables.specs.PointLaws.{Stands}
 use Rattle.step_scheduler.specs.Schedule.{IsTask}
-use Rattle.open_transaction.specs.Work.{Boxed, boxed_work, HasOrder}
+use Rattle.open_transaction.specs.Transactions.{Boxed, boxed_transaction, HasOrder}
 use Rattle.service_ends.specs.declared.turned.Turned.{Turned as Did}
 use Rattle.core_state.specs.declared.parts.MonitorParts.{MonitorParts}
 use Rattle.core_state.specs.Standing.{IsIndexed, state_of}
@@ -111,7 +111,7 @@ pub record CanGoOn (p : MonitorParts) (id : ServiceId) (row : Option Service) : 
   pub order : HasOrder row
 
 -- a transaction that was closed: its service stands nowhere, and tables may take it
-pub record IsClosed (p : MonitorParts) (work : Boxed) : Type 0 where
-  pub closed : find id_cmp work.value.id (state_of p).active ≡ None
-  pub unplaced : is_running (state_of p) work.value.id ≡ false
-  pub stands : Stands p.generation p.tables work.value.id (boxed_work work)
+pub record IsClosed (p : MonitorParts) (transaction : Boxed) : Type 0 where
+  pub closed : find id_cmp transaction.value.id (state_of p).active ≡ None
+  pub unplaced : is_running (state_of p) transaction.value.id ≡ false
+  pub stands : Stands p.generation p.tables transaction.value.id (boxed_transaction transaction)

@@ -1,13 +1,13 @@
 //! The way back to the last synchronisation point.
 ghost use Rattle.std.specs.{Prelude.{◌≡◌, true, Some, None, IfOk, OnOk}, FinMap.{find}};
 ghost use Rattle.kdcs_types.specs.Keys.{id_cmp};
-ghost use Rattle.abstract_monitor.specs.{State.{OpenTransaction as Work}, Turns.{back, back_by, ended_acts, last_again, moved_to, without_work}};
-ghost use Rattle.open_transaction.specs.Work.{boxed_work};
+ghost use Rattle.abstract_monitor.specs.{State.{OpenTransaction as Transaction}, Turns.{back, back_by, ended_acts, last_again, moved_to, without_work}};
+ghost use Rattle.open_transaction.specs.Transactions.{boxed_transaction};
 ghost use Rattle.service_ends.specs.Ending.{turned_to, CanGoOn, IsClosed, Works};
 ghost use Rattle.core_state.specs.{Standing.{IsIndexed, SameApplication, state_of}, Whole.{app_of}};
 
 use core_state::MonitorParts;
-use crate::closed::close_work;
+use crate::closed::close_transaction;
 use crate::row::go_on;
 use crate::terminal::{say_ended, tell};
 use crate::turned::Turned;
@@ -58,7 +58,7 @@ fn back_at(
 ) -> Result<Turned, OutOfMemory>
     requires indexed { IsIndexed parts.old }
     requires rests { CanGoOn parts.old id.now (Some row) }
-    ensures exact { IfOk result (λ did. (x : Work) → x.lterm ≡ lterm.now → turned_to (state_of parts.new) did ≡ back_by (app_of parts.old) (state_of parts.old) id.now x row row.awaits) }
+    ensures exact { IfOk result (λ did. (x : Transaction) → x.lterm ≡ lterm.now → turned_to (state_of parts.new) did ≡ back_by (app_of parts.old) (state_of parts.old) id.now x row row.awaits) }
     ensures indexed { OnOk result (IsIndexed parts.new) }
     ensures same { OnOk result (SameApplication parts.old parts.new) }
 {
@@ -82,17 +82,17 @@ fn over(parts: &MonitorParts, alloc: Global, id: &ServiceId) -> Result<Turned, O
 fn back_from(
     parts: &mut MonitorParts,
     alloc: Global,
-    mut work: Box<OpenTransaction>,
+    mut transaction: Box<OpenTransaction>,
 ) -> Result<Turned, OutOfMemory>
     requires indexed { IsIndexed parts.old }
-    requires closed { IsClosed parts.old work }
-    ensures exact { IfOk result (λ did. turned_to (state_of parts.new) did ≡ back (app_of parts.old) (state_of parts.old) work.value.id (boxed_work work) work.value.began) }
+    requires closed { IsClosed parts.old transaction }
+    ensures exact { IfOk result (λ did. turned_to (state_of parts.new) did ≡ back (app_of parts.old) (state_of parts.old) transaction.value.id (boxed_transaction transaction) transaction.value.began) }
     ensures indexed { OnOk result (IsIndexed parts.new) }
     ensures same { OnOk result (SameApplication parts.old parts.new) }
 {
-    let id = work.id;
-    let lterm = work.lterm;
-    match work.began.take() {
+    let id = transaction.id;
+    let lterm = transaction.lterm;
+    match transaction.began.take() {
         None => over(parts, alloc, &id),
         Some(row) => back_at(parts, alloc, &id, row, &lterm),
     }
@@ -107,13 +107,13 @@ pub fn go_back(
     task: u16,
     id: &ServiceId,
 ) -> Result<Turned, OutOfMemory>
-    requires works { (x : Work) × Works parts.old task id.now x }
-    ensures exact { IfOk result (λ did. (x : Work) → find id_cmp id.now (state_of parts.old).active ≡ Some x → turned_to (state_of parts.new) did ≡ back (app_of parts.old) (without_work (state_of parts.old) task id.now) id.now x x.began) }
+    requires works { (x : Transaction) × Works parts.old task id.now x }
+    ensures exact { IfOk result (λ did. (x : Transaction) → find id_cmp id.now (state_of parts.old).active ≡ Some x → turned_to (state_of parts.new) did ≡ back (app_of parts.old) (without_work (state_of parts.old) task id.now) id.now x x.began) }
     ensures indexed { OnOk result (IsIndexed parts.new) }
     ensures same { OnOk result (SameApplication parts.old parts.new) }
 {
-    match close_work(parts, task, id) {
-        Some(work) => back_from(parts, alloc, work),
+    match close_transaction(parts, task, id) {
+        Some(transaction) => back_from(parts, alloc, transaction),
         None => Ok(Turned::quiet(alloc, true)),
     }
 }

@@ -1,13 +1,13 @@
 //! Abnormal ends.
 ghost use Rattle.std.specs.{Prelude.{◌≡◌, ◌++◌, ◌∷◌, [], Some, None, IfOk, OnOk}, FinMap.{find}};
 ghost use Rattle.kdcs_types.specs.{Keys.{id_cmp}, Tables.{changed, AreChanges}, declared.act.Act.TheVariants.{Commit}};
-ghost use Rattle.abstract_monitor.specs.{Endings.{service_change, with_service}, State.{OpenTransaction as Work}, Turns.{abnormal, dump_acts, ended_acts}};
-ghost use Rattle.open_transaction.specs.Work.{boxed_work, work_of};
+ghost use Rattle.abstract_monitor.specs.{Endings.{service_change, with_service}, State.{OpenTransaction as Transaction}, Turns.{abnormal, dump_acts, ended_acts}};
+ghost use Rattle.open_transaction.specs.Transactions.{boxed_transaction, transaction_of};
 ghost use Rattle.service_ends.specs.Ending.{behind_end, broken_to, emitted, turned_to, IsClosed, Works};
 ghost use Rattle.core_state.specs.{Standing.{IsIndexed, SameApplication, state_of}, Whole.{app_of}};
 
 use core_state::MonitorParts;
-use crate::closed::close_work;
+use crate::closed::close_transaction;
 use crate::row::commit;
 use crate::terminal::say_ended;
 use crate::turned::Turned;
@@ -21,18 +21,18 @@ use sync_points::broken;
 // The dump line of an abnormal end; PEND FR has none.
 fn dump_of(
     alloc: Global,
-    work: &OpenTransaction,
+    transaction: &OpenTransaction,
     ending: Ending,
 ) -> Result<Option<Bytes>, OutOfMemory>
-    ensures { IfOk result (λ dump. emitted dump ≡ dump_acts work.now.id (work_of work.now) ending) }
+    ensures { IfOk result (λ dump. emitted dump ≡ dump_acts transaction.now.id (transaction_of transaction.now) ending) }
 {
     match ending {
         Ending::Broken(cause) => Ok(Some(dump_line(
             alloc,
-            work.id,
-            work.current,
+            transaction.id,
+            transaction.current,
             cause,
-            work.run.place,
+            transaction.run.place,
         )?)),
         Ending::Synced | Ending::BrokenFr => Ok(None),
     }
@@ -95,21 +95,21 @@ fn break_off(
 }
 
 // The transaction, which is closed, ends abnormally.
-pub(crate) fn end_work(
+pub(crate) fn end_transaction(
     parts: &mut MonitorParts,
     alloc: Global,
-    work: Box<OpenTransaction>,
+    transaction: Box<OpenTransaction>,
     ending: Ending,
 ) -> Result<Turned, OutOfMemory>
     requires indexed { IsIndexed parts.old }
-    requires closed { IsClosed parts.old work }
-    ensures exact { IfOk result (λ did. turned_to (state_of parts.new) did ≡ broken_to (app_of parts.old) (state_of parts.old) work.value.id (boxed_work work) ending) }
+    requires closed { IsClosed parts.old transaction }
+    ensures exact { IfOk result (λ did. turned_to (state_of parts.new) did ≡ broken_to (app_of parts.old) (state_of parts.old) transaction.value.id (boxed_transaction transaction) ending) }
     ensures indexed { OnOk result (IsIndexed parts.new) }
     ensures same { OnOk result (SameApplication parts.old parts.new) }
 {
-    let id = work.id;
-    let dump = dump_of(alloc, &work, ending)?;
-    let (changes, kept) = broken(work, alloc, &parts.generation, &parts.tables, ending)?;
+    let id = transaction.id;
+    let dump = dump_of(alloc, &transaction, ending)?;
+    let (changes, kept) = broken(transaction, alloc, &parts.generation, &parts.tables, ending)?;
     break_off(parts, alloc, &id, dump, changes, kept)
 }
 
@@ -122,13 +122,13 @@ pub fn end(
     id: &ServiceId,
     ending: Ending,
 ) -> Result<Turned, OutOfMemory>
-    requires works { (x : Work) × Works parts.old task id.now x }
-    ensures exact { IfOk result (λ did. (x : Work) → find id_cmp id.now (state_of parts.old).active ≡ Some x → turned_to (state_of parts.new) did ≡ abnormal (app_of parts.old) (state_of parts.old) task id.now x ending) }
+    requires works { (x : Transaction) × Works parts.old task id.now x }
+    ensures exact { IfOk result (λ did. (x : Transaction) → find id_cmp id.now (state_of parts.old).active ≡ Some x → turned_to (state_of parts.new) did ≡ abnormal (app_of parts.old) (state_of parts.old) task id.now x ending) }
     ensures indexed { OnOk result (IsIndexed parts.new) }
     ensures same { OnOk result (SameApplication parts.old parts.new) }
 {
-    match close_work(parts, task, id) {
-        Some(work) => end_work(parts, alloc, work, ending),
+    match close_transaction(parts, task, id) {
+        Some(transaction) => end_transaction(parts, alloc, transaction, ending),
         None => Ok(Turned::quiet(alloc, true)),
     }
 }

@@ -1,8 +1,8 @@
 //! Transactions that are over.
 ghost use Rattle.std.specs.{Prelude.{◌≡◌, IfSome}, Option.{option_map}, FinMap.{find}};
 ghost use Rattle.kdcs_types.specs.Keys.{id_cmp};
-ghost use Rattle.abstract_monitor.specs.{State.{OpenTransaction as Work}, Turns.{without_work}};
-ghost use Rattle.open_transaction.specs.Work.{boxed_work};
+ghost use Rattle.abstract_monitor.specs.{State.{OpenTransaction as Transaction}, Turns.{without_work}};
+ghost use Rattle.open_transaction.specs.Transactions.{boxed_transaction};
 ghost use Rattle.service_ends.specs.Ending.{IsClosed, Works};
 ghost use Rattle.core_state.specs.Standing.{IsIndexed, SameApplication, state_of};
 
@@ -11,18 +11,18 @@ use kdcs_types::ServiceId;
 use open_transaction::OpenTransaction;
 
 /// The task is free, and the transaction of its service is over. It takes no memory.
-pub(crate) fn close_work(
+pub(crate) fn close_transaction(
     parts: &mut MonitorParts,
     task: u16,
     id: &ServiceId,
 ) -> Option<Box<OpenTransaction>>
-    requires works { (x : Work) × Works parts.old task id.now x }
+    requires works { (x : Transaction) × Works parts.old task id.now x }
     ensures indexed { IsIndexed parts.new }
     ensures same { SameApplication parts.old parts.new }
     ensures state { state_of parts.new ≡ without_work (state_of parts.old) task id.now }
-    ensures found { option_map boxed_work result ≡ find id_cmp id.now (state_of parts.old).active }
-    ensures own { IfSome result (λ work. work.value.id ≡ id.now) }
-    ensures closed { IfSome result (λ work. IsClosed parts.new work) }
+    ensures found { option_map boxed_transaction result ≡ find id_cmp id.now (state_of parts.old).active }
+    ensures own { IfSome result (λ transaction. transaction.value.id ≡ id.now) }
+    ensures closed { IfSome result (λ transaction. IsClosed parts.new transaction) }
 {
     parts.free_task(task);
     parts.close(id)

@@ -1,7 +1,7 @@
 //! A service that waits for an input, or for a task.
 ghost use Rattle.std.specs.{Prelude.{◌≡◌, ◌++◌, ◌∷◌, [], IsSome, Some, None, IfOk, OnOk}, FinMap.{find}};
 ghost use Rattle.kdcs_types.specs.Keys.{id_cmp};
-ghost use Rattle.abstract_monitor.specs.{State.{OpenTransaction as Work}, Turns.{message_acts, message_sent, moved_to, with_task}};
+ghost use Rattle.abstract_monitor.specs.{State.{OpenTransaction as Transaction}, Turns.{message_acts, message_sent, moved_to, with_task}};
 ghost use Rattle.step_scheduler.specs.Schedule.{IsTask};
 ghost use Rattle.service_ends.specs.Ending.{turned_to};
 ghost use Rattle.core_state.specs.Standing.{IsIndexed, SameApplication, state_of};
@@ -23,15 +23,15 @@ fn send_message(
     requires indexed { IsIndexed parts.old }
     ensures indexed { OnOk result (IsIndexed parts.new) }
     ensures same { OnOk result (SameApplication parts.old parts.new) }
-    ensures state { OnOk result ((x : Work) → find id_cmp id.now (state_of parts.old).active ≡ Some x → state_of parts.new ≡ message_sent (state_of parts.old) id.now x) }
-    ensures acts { OnOk result ((x : Work) → find id_cmp id.now (state_of parts.old).active ≡ Some x → acts.new ≡ acts.old ++ message_acts (state_of parts.old) id.now x) }
+    ensures state { OnOk result ((x : Transaction) → find id_cmp id.now (state_of parts.old).active ≡ Some x → state_of parts.new ≡ message_sent (state_of parts.old) id.now x) }
+    ensures acts { OnOk result ((x : Transaction) → find id_cmp id.now (state_of parts.old).active ≡ Some x → acts.new ≡ acts.old ++ message_acts (state_of parts.old) id.now x) }
 {
     let ServiceId::Dialogue(user) = id else {
         return Ok(());
     };
     match parts.active.get(id) {
-        Some(work) => {
-            let message = work.message(alloc)?;
+        Some(transaction) => {
+            let message = transaction.message(alloc)?;
             tell(parts, alloc, user, message, acts)
         }
         None => Ok(()),
@@ -47,7 +47,7 @@ pub fn hold(
 ) -> Result<Turned, OutOfMemory>
     requires indexed { IsIndexed parts.old }
     requires task { IsTask task parts.old.scheduler }
-    ensures exact { IfOk result (λ did. (x : Work) → find id_cmp id.now (state_of parts.old).active ≡ Some x → turned_to (state_of parts.new) did ≡ moved_to (message_sent (with_task (state_of parts.old) task None) id.now x) (message_acts (state_of parts.old) id.now x)) }
+    ensures exact { IfOk result (λ did. (x : Transaction) → find id_cmp id.now (state_of parts.old).active ≡ Some x → turned_to (state_of parts.new) did ≡ moved_to (message_sent (with_task (state_of parts.old) task None) id.now x) (message_acts (state_of parts.old) id.now x)) }
     ensures indexed { OnOk result (IsIndexed parts.new) }
     ensures same { OnOk result (SameApplication parts.old parts.new) }
 {

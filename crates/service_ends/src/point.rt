@@ -1,15 +1,15 @@
 //! Synchronisation points.
 ghost use Rattle.std.specs.{Prelude.{◌≡◌, ◌++◌, ◌∷◌, [], Some, IfOk, OnOk}, FinMap.{find}};
 ghost use Rattle.kdcs_types.specs.{Keys.{id_cmp}, Tables.{changed, AreChanges}, declared.act.Act.TheVariants.{Commit}};
-ghost use Rattle.abstract_monitor.specs.{Endings.{joined, service_change, with_service}, State.{OpenTransaction as Work}, Turns.{settled}};
-ghost use Rattle.open_transaction.specs.Work.{boxed_work, work_of};
+ghost use Rattle.abstract_monitor.specs.{Endings.{joined, service_change, with_service}, State.{OpenTransaction as Transaction}, Turns.{settled}};
+ghost use Rattle.open_transaction.specs.Transactions.{boxed_transaction, transaction_of};
 ghost use Rattle.service_ends.specs.Ending.{behind_point, goes_on_from, pointed_to, sent_by, turned_to, CanGoOn, IsClosed, Works};
 ghost use Rattle.core_state.specs.{Standing.{IsIndexed, SameApplication, state_of}, Whole.{app_of}};
 
 use abstract_monitor::Outcome;
 use core_state::MonitorParts;
-use crate::broken::end_work;
-use crate::closed::close_work;
+use crate::broken::end_transaction;
+use crate::closed::close_transaction;
 use crate::row::{commit, go_on};
 use crate::terminal::tell;
 use crate::turned::Turned;
@@ -29,14 +29,14 @@ struct Ended {
     message: Bytes,
 }
 
-fn ended_by(alloc: Global, work: &OpenTransaction, outcome: &Outcome) -> Result<Ended, OutOfMemory>
-    ensures { IfOk result (λ ended. ended ≡ record { id = work.now.id; outcome = outcome.now; lterm = (work_of work.now).lterm; message = joined (work_of work.now).parts }) }
+fn ended_by(alloc: Global, transaction: &OpenTransaction, outcome: &Outcome) -> Result<Ended, OutOfMemory>
+    ensures { IfOk result (λ ended. ended ≡ record { id = transaction.now.id; outcome = outcome.now; lterm = (transaction_of transaction.now).lterm; message = joined (transaction_of transaction.now).parts }) }
 {
     Ok(Ended {
-        id: work.id,
+        id: transaction.id,
         outcome: *outcome,
-        lterm: work.lterm,
-        message: work.message(alloc)?,
+        lterm: transaction.lterm,
+        message: transaction.message(alloc)?,
     })
 }
 
@@ -125,21 +125,21 @@ fn synchronise(
 }
 
 // The transaction, which is closed, comes to a synchronisation point, or to the abnormal end that refuses it.
-fn settle_work(
+fn settle_transaction(
     parts: &mut MonitorParts,
     alloc: Global,
-    work: Box<OpenTransaction>,
+    transaction: Box<OpenTransaction>,
     outcome: Outcome,
 ) -> Result<Turned, OutOfMemory>
     requires indexed { IsIndexed parts.old }
-    requires closed { IsClosed parts.old work }
-    ensures exact { IfOk result (λ did. turned_to (state_of parts.new) did ≡ pointed_to (app_of parts.old) (state_of parts.old) work.value.id (boxed_work work) outcome) }
+    requires closed { IsClosed parts.old transaction }
+    ensures exact { IfOk result (λ did. turned_to (state_of parts.new) did ≡ pointed_to (app_of parts.old) (state_of parts.old) transaction.value.id (boxed_transaction transaction) outcome) }
     ensures indexed { OnOk result (IsIndexed parts.new) }
     ensures same { OnOk result (SameApplication parts.old parts.new) }
 {
-    let ended = ended_by(alloc, &work, &outcome)?;
-    match sync_points::settle(work, alloc, &parts.generation, &parts.tables, outcome)? {
-        SettleAnswer::Refused(cause, work) => end_work(parts, alloc, work, Ending::Broken(cause)),
+    let ended = ended_by(alloc, &transaction, &outcome)?;
+    match sync_points::settle(transaction, alloc, &parts.generation, &parts.tables, outcome)? {
+        SettleAnswer::Refused(cause, transaction) => end_transaction(parts, alloc, transaction, Ending::Broken(cause)),
         SettleAnswer::Synced(changes, row, kept) => {
             synchronise(parts, alloc, ended, changes, row, kept)
         }
@@ -155,13 +155,13 @@ pub fn settle(
     id: &ServiceId,
     outcome: Outcome,
 ) -> Result<Turned, OutOfMemory>
-    requires works { (x : Work) × Works parts.old task id.now x }
-    ensures exact { IfOk result (λ did. (x : Work) → find id_cmp id.now (state_of parts.old).active ≡ Some x → turned_to (state_of parts.new) did ≡ settled (app_of parts.old) (state_of parts.old) task id.now x outcome) }
+    requires works { (x : Transaction) × Works parts.old task id.now x }
+    ensures exact { IfOk result (λ did. (x : Transaction) → find id_cmp id.now (state_of parts.old).active ≡ Some x → turned_to (state_of parts.new) did ≡ settled (app_of parts.old) (state_of parts.old) task id.now x outcome) }
     ensures indexed { OnOk result (IsIndexed parts.new) }
     ensures same { OnOk result (SameApplication parts.old parts.new) }
 {
-    match close_work(parts, task, id) {
-        Some(work) => settle_work(parts, alloc, work, outcome),
+    match close_transaction(parts, task, id) {
+        Some(transaction) => settle_transaction(parts, alloc, transaction, outcome),
         None => Ok(Turned::quiet(alloc, true)),
     }
 }

@@ -2,7 +2,7 @@
 ghost use Rattle.std.specs.{Prelude.{◌≡◌, ◌++◌, ◌∷◌, [], false, Some, None, IfOk, OnOk}, FinMap.{find}};
 ghost use Rattle.kdcs_types.specs.{Keys.{id_cmp}, declared.act.Act.TheVariants.{Commit}, Tables.{changed, AreChanges}};
 ghost use Rattle.abstract_monitor.specs.{Endings.{header_of_row, opened_by_row, service_change, user_in_row, with_service}, Sessions.{is_running}, Turns.{queued}};
-ghost use Rattle.open_transaction.specs.Work.{HasOrder};
+ghost use Rattle.open_transaction.specs.Transactions.{HasOrder};
 ghost use Rattle.core_state.specs.Standing.{IsIndexed, SameApplication, state_of};
 
 use core_state::MonitorParts;

@@ -19,7 +19,7 @@ use Rattle.abstract_monitor.specs.declared.outcome.Outcome.{Outcome}
 use Rattle.abstract_monitor.specs.declared.outcome.Outcome.TheVariants.{Hold, Stay, Queue, Wait, Point, Follow, Finish, Break, Back}
 use Rattle.abstract_monitor.specs.Endings.{followed, is_asynchronous}
 use Rattle.abstract_monitor.specs.Locks.{Locks, Waiting, told_now}
-use Rattle.abstract_monitor.specs.State.{Application, OpenTransaction as Work}
+use Rattle.abstract_monitor.specs.State.{Application, OpenTransaction as Transaction}
 use Rattle.abstract_monitor.specs.Statements.{area_of_call, by_call, by_outcome, by_performed}
 use Rattle.laws_of_tables.specs.OpenLaws.{CallKeeps, CalledFits, StandsIn}
 use Rattle.laws_of_tables.specs.PointLaws.{AreSound}
@@ -27,20 +27,20 @@ use Rattle.laws_of_tables.specs.ReadyLaws.{runs_are_ready}
 use Rattle.laws_of_tables.specs.StatedLaws.{calls_keep}
 use Rattle.laws_of_tables.specs.StatesLaws.{told-fits}
 use Rattle.abstract_monitor.specs.Bytes.{Bytes}
-use Rattle.open_transaction.specs.Work.{followed_with}
+use Rattle.open_transaction.specs.Transactions.{followed_with}
 use Rattle.service_statement.specs.Stating.{wait_ended, waits_by}
 use Rattle.service_statement.proofs.Reading.{can_read}
 
 -- ---- what the answer finds
 
-module _ (app : Application) (t : TableRows) (l : Locks) (id : ServiceId) (x : Work) (unit : UnitText) (call : Call) (stands : StandsIn app id x unit) (sound : AreSound app.generation t) where
+module _ (app : Application) (t : TableRows) (l : Locks) (id : ServiceId) (x : Transaction) (unit : UnitText) (call : Call) (stands : StandsIn app id x unit) (sound : AreSound app.generation t) where
   pub reads : CanRead t x
   reads = can_read app.generation t id x (omega (arith, stands.application.nb)) sound stands.can
 
-  abbrev performed : Work × Called
+  abbrev performed : Transaction × Called
   performed = performed_now app.generation t l id x call
 
-  module _ (asks : step unit x.run ≡ Asks call) (y : Work) (c : Called) (exact : (y, c) ≡ performed) where
+  module _ (asks : step unit x.run ≡ Asks call) (y : Transaction) (c : Called) (exact : (y, c) ≡ performed) where
     kept : CallKeeps app.generation id x unit (y, c)
     kept =
         subst (CallKeeps app.generation id x unit) (sym exact)
@@ -54,19 +54,19 @@ module _ (app : Application) (t : TableRows) (l : Locks) (id : ServiceId) (x : W
 
   -- ---- what the statement does
 
-  pub performs : (y : Work) (c : Called) → (y, c) ≡ performed → (i : ServiceId) → i ≡ id → (z : Work) (h : Happened)
+  pub performs : (y : Transaction) (c : Called) → (y, c) ≡ performed → (i : ServiceId) → i ≡ id → (z : Transaction) (h : Happened)
       → (z, h) ≡ by_call app (is_asynchronous i) unit y c → (z, h) ≡ by_performed app (is_asynchronous id) unit performed
   performs y c exact i same z h e =
       e ∙ ap (λ (k : ServiceId). by_call app (is_asynchronous k) unit y c) same ∙ ap (by_performed app (is_asynchronous id) unit) exact
 
 -- a further unit run counts one statement
-pub followed_counts : (g : Generated) (asynchronous : Bool) (x y : Work) (tac : Bytes) → y ≡ followed_with g asynchronous x tac None → y.statements ≤ x.statements + 1
+pub followed_counts : (g : Generated) (asynchronous : Bool) (x y : Transaction) (tac : Bytes) → y ≡ followed_with g asynchronous x tac None → y.statements ≤ x.statements + 1
 unfolding followed
-followed_counts g asynchronous x y tac e = let counts : y.statements ≡ x.statements + 1 = ap (λ (w : Work). w.statements) e in omega arith
+followed_counts g asynchronous x y tac e = let counts : y.statements ≡ x.statements + 1 = ap (λ (w : Transaction). w.statements) e in omega arith
 
 -- ---- what becomes of the locks
 
-module _ (app : Application) (asynchronous : Bool) (unit : UnitText) (y : Work) where
+module _ (app : Application) (asynchronous : Bool) (unit : UnitText) (y : Transaction) where
   touched_by_outcome : (variant : Variant) (o : Outcome) → (by_outcome app asynchronous y variant o).0.touched ≡ y.touched
   unfolding followed
   touched_by_outcome variant (Stay tac) = refl
@@ -77,12 +77,12 @@ module _ (app : Application) (asynchronous : Bool) (unit : UnitText) (y : Work) 
   touched_by_call _ = refl
 
   -- what follows the call touches no other area
-  holders_stay : (l m : Locks) (id : ServiceId) (z : Work) (h : Happened) (c : Called) → HoldersFollow l m id y → (z, h) ≡ by_call app asynchronous unit y c → HoldersFollow l m id z
+  holders_stay : (l m : Locks) (id : ServiceId) (z : Transaction) (h : Happened) (c : Called) → HoldersFollow l m id y → (z, h) ≡ by_call app asynchronous unit y c → HoldersFollow l m id z
   holders_stay l m id z h c follow e =
       subst (λ (held : List Area). HoldersFollow l m id (record z { touched = held }))
-      (sym (ap (λ (s : Work × Happened). s.0.touched) e ∙ touched_by_call c)) follow
+      (sym (ap (λ (s : Transaction × Happened). s.0.touched) e ∙ touched_by_call c)) follow
 
-  pub holders_done : {E : Type 0} (l m : Locks) (id : ServiceId) (z : Work) (c : Called) (r : Result Happened E) → HoldersFollow l m id y
+  pub holders_done : {E : Type 0} (l m : Locks) (id : ServiceId) (z : Transaction) (c : Called) (r : Result Happened E) → HoldersFollow l m id y
       → IfOk r (λ (h : Happened). (z, h) ≡ by_call app asynchronous unit y c) → OnOk r (HoldersFollow l m id z)
   holders_done l m id z c (Ok h) follow e = holders_stay l m id z h c follow e
   holders_done l m id z c (Err e) follow is = tt
@@ -104,5 +104,5 @@ module _ (app : Application) (asynchronous : Bool) (unit : UnitText) (y : Work) 
     waits_by_call (Pends variant o) follow = waits_by_outcome variant o follow
     waits_by_call _ follow = follow
 
-    pub waits_come : (z : Work) (h : Happened) (c : Called) → WaitsFollow l m id now area c → (z, h) ≡ by_call app asynchronous unit y c → Come h
-    waits_come z h c follow e = subst (λ (s : Work × Happened). Come s.1) (sym e) (waits_by_call c follow)
+    pub waits_come : (z : Transaction) (h : Happened) (c : Called) → WaitsFollow l m id now area c → (z, h) ≡ by_call app asynchronous unit y c → Come h
+    waits_come z h c follow e = subst (λ (s : Transaction × Happened). Come s.1) (sym e) (waits_by_call c follow)

@@ -17,7 +17,7 @@ use Rattle.laws_of_steps.specs.Transactions.{CanGoOn, area_is_declared, fits_if_
 use Rattle.abstract_monitor.specs.Bytes.{Bytes, bytes_cmp}
 use Rattle.abstract_monitor.specs.Calls.{shown_by}
 use Rattle.abstract_monitor.specs.Locks.{told_now}
-use Rattle.abstract_monitor.specs.State.{OpenTransaction as Work}
+use Rattle.abstract_monitor.specs.State.{OpenTransaction as Transaction}
 use Rattle.laws_of_tables.specs.ListsLaws.{found_passes}
 use Rattle.laws_of_tables.specs.PointLaws.{AreSound}
 use Rattle.laws_of_tables.specs.StatesLaws.{told-fits}
@@ -26,7 +26,7 @@ short : (o : Option Bytes) → IsTrue (fits_if_there o) → IfSome o IsShort
 short None h = tt
 short (Some bytes) h = leb-true (length bytes) 32767 h
 
-module _ (g : Generated) (t : TableRows) (id : ServiceId) (x : Work) (nb : g.limits.nb ≤ 32767) (sound : AreSound g t) (can : CanGoOn g id x) where
+module _ (g : Generated) (t : TableRows) (id : ServiceId) (x : Transaction) (nb : g.limits.nb ≤ 32767) (sound : AreSound g t) (can : CanGoOn g id x) where
   content_fits : (area : Area) → IsTrue (fits_if_there (content_of t area))
   unfolding told_now
   content_fits area = told-fits g t no_locks 0 id (Some area) sound

@@ -12,7 +12,7 @@ use Rattle.abstract_monitor.specs.declared.answer.Happened.{Happened}
 use Rattle.abstract_monitor.specs.declared.answer.Happened.TheVariants.{Went, Queued, Waited, Held, Settles, Breaks, Returns}
 use Rattle.abstract_monitor.specs.Locks.{Locks, Waiting}
 use Rattle.abstract_monitor.specs.Statements.{area_of}
-use Rattle.abstract_monitor.specs.State.{Application, OpenTransaction as Work}
+use Rattle.abstract_monitor.specs.State.{Application, OpenTransaction as Transaction}
 
 -- a plain statement gives another unit run and is counted; a call, and an end, change nothing yet
 abbrev pub StepLeaves : (before after : OpenTransaction) → Stepped → Type 0
@@ -30,7 +30,7 @@ waits_by l id now area Returns = l.waits
 waits_by l id now area _ = (without_wait l id).waits
 
 -- the waits after the next statement of a service
-abbrev pub waits_after : Application → TableRows → Locks → ServiceId → Work → Happened → List (ServiceId × Waiting)
+abbrev pub waits_after : Application → TableRows → Locks → ServiceId → Transaction → Happened → List (ServiceId × Waiting)
 waits_after app t l id x h = waits_by l id t.clock (area_of app x) h
 
 -- a statement that is done, and PEND KP, leave no wait of their service

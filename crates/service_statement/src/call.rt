@@ -3,7 +3,7 @@ ghost use Rattle.std.specs.Prelude.{◌≡◌, ◌+◌, ◌≤◌, ◌<◌, ◌^
 ghost use Rattle.kdcs_calls.specs.Calling.{HoldersFollow, HoldsJust, performed_now};
 ghost use Rattle.abstract_monitor.specs.{Endings.{is_asynchronous}, Statements.{area_of_call, by_call, by_performed}};
 ghost use Rattle.laws_of_tables.specs.{OpenLaws.{CalledFits, StandsIn}, PointLaws.{AreSound}};
-ghost use Rattle.open_transaction.specs.Work.{work_of};
+ghost use Rattle.open_transaction.specs.Transactions.{transaction_of};
 ghost use Rattle.unit_semantics.specs.{Ready.{IsReady}, Statement.{Asks, step}};
 ghost use Rattle.laws_of_applications.specs.Applied.{applied};
 ghost use Rattle.service_statement.specs.Stating.{wait_ended, waits_by};
@@ -22,25 +22,25 @@ use unit_types::Unit;
 fn after_call(
     outside: &Outside,
     unit: &Unit,
-    work: &mut OpenTransaction,
+    transaction: &mut OpenTransaction,
     called: Called,
 ) -> Result<Happened, OutOfMemory>
-    requires ready { IsReady unit.now work.old.run }
-    requires fits { CalledFits outside.now.generation.now (is_asynchronous work.old.id) unit.now work.old.run called }
-    requires statements { work.old.statements + 1 < 2 ^ 64 }
-    ensures exact { IfOk result (λ h. (work_of work.new, h) ≡ by_call (applied outside.now.generation.now outside.now.units.now) (is_asynchronous work.old.id) unit.now (work_of work.old) called) }
-    ensures id { work.new.id ≡ work.old.id }
-    ensures counted { OnOk result (work.new.statements ≤ work.old.statements + 1) }
-    ensures nb { work.old.messages.nb ≡ outside.now.generation.now.limits.nb → work.new.messages.nb ≡ outside.now.generation.now.limits.nb }
+    requires ready { IsReady unit.now transaction.old.run }
+    requires fits { CalledFits outside.now.generation.now (is_asynchronous transaction.old.id) unit.now transaction.old.run called }
+    requires statements { transaction.old.statements + 1 < 2 ^ 64 }
+    ensures exact { IfOk result (λ h. (transaction_of transaction.new, h) ≡ by_call (applied outside.now.generation.now outside.now.units.now) (is_asynchronous transaction.old.id) unit.now (transaction_of transaction.old) called) }
+    ensures id { transaction.new.id ≡ transaction.old.id }
+    ensures counted { OnOk result (transaction.new.statements ≤ transaction.old.statements + 1) }
+    ensures nb { transaction.old.messages.nb ≡ outside.now.generation.now.limits.nb → transaction.new.messages.nb ≡ outside.now.generation.now.limits.nb }
 {
     match called {
         Called::Replied(reply) => {
-            work.count(unit, &reply);
+            transaction.count(unit, &reply);
             Ok(Happened::Went)
         }
         Called::Waits => Ok(Happened::Waited),
         Called::Abnormal(cause) => Ok(Happened::Breaks(Ending::Broken(cause))),
-        Called::Pends(variant, outcome) => pend(outside, work, variant, outcome),
+        Called::Pends(variant, outcome) => pend(outside, transaction, variant, outcome),
     }
 }
 
@@ -49,29 +49,29 @@ pub(crate) fn perform_call(
     outside: &Outside,
     unit: &Unit,
     locks: &mut LockTable,
-    work: &mut OpenTransaction,
+    transaction: &mut OpenTransaction,
     call: &Call,
 ) -> Result<Happened, OutOfMemory>
-    requires stands { StandsIn (applied outside.now.generation.now outside.now.units.now) work.old.id (work_of work.old) unit.now }
+    requires stands { StandsIn (applied outside.now.generation.now outside.now.units.now) transaction.old.id (transaction_of transaction.old) unit.now }
     requires sound { AreSound outside.now.generation.now outside.now.tables.now }
-    requires asks { step unit.now work.old.run ≡ Asks call.now }
-    requires holds { HoldsJust locks.old work.old.id (work_of work.old) }
-    requires nb { work.old.messages.nb ≡ outside.now.generation.now.limits.nb }
-    requires statements { work.old.statements + 1 < 2 ^ 64 }
-    ensures exact { IfOk result (λ h. (work_of work.new, h) ≡ by_performed (applied outside.now.generation.now outside.now.units.now) (is_asynchronous work.old.id) unit.now (performed_now outside.now.generation.now outside.now.tables.now locks.old work.old.id (work_of work.old) call.now)) }
-    ensures waits { IfOk result (λ h. (wait_ended locks.new work.old.id h).waits ≡ waits_by locks.old work.old.id outside.now.tables.now.clock (area_of_call (work_of work.old) call.now) h) }
-    ensures holders { OnOk result (HoldersFollow locks.old locks.new work.old.id (work_of work.new)) }
-    ensures id { work.new.id ≡ work.old.id }
-    ensures counted { OnOk result (work.new.statements ≤ work.old.statements + 1) }
-    ensures nb { work.new.messages.nb ≡ work.old.messages.nb }
+    requires asks { step unit.now transaction.old.run ≡ Asks call.now }
+    requires holds { HoldsJust locks.old transaction.old.id (transaction_of transaction.old) }
+    requires nb { transaction.old.messages.nb ≡ outside.now.generation.now.limits.nb }
+    requires statements { transaction.old.statements + 1 < 2 ^ 64 }
+    ensures exact { IfOk result (λ h. (transaction_of transaction.new, h) ≡ by_performed (applied outside.now.generation.now outside.now.units.now) (is_asynchronous transaction.old.id) unit.now (performed_now outside.now.generation.now outside.now.tables.now locks.old transaction.old.id (transaction_of transaction.old) call.now)) }
+    ensures waits { IfOk result (λ h. (wait_ended locks.new transaction.old.id h).waits ≡ waits_by locks.old transaction.old.id outside.now.tables.now.clock (area_of_call (transaction_of transaction.old) call.now) h) }
+    ensures holders { OnOk result (HoldersFollow locks.old locks.new transaction.old.id (transaction_of transaction.new)) }
+    ensures id { transaction.new.id ≡ transaction.old.id }
+    ensures counted { OnOk result (transaction.new.statements ≤ transaction.old.statements + 1) }
+    ensures nb { transaction.new.messages.nb ≡ transaction.old.messages.nb }
 {
     let called = perform(
         outside.alloc,
         outside.generation,
         outside.tables,
         locks,
-        work,
+        transaction,
         call,
     )?;
-    after_call(outside, unit, work, called)
+    after_call(outside, unit, transaction, called)
 }

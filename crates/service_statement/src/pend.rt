@@ -1,7 +1,7 @@
 //! What a PEND does that is not refused.
 ghost use Rattle.std.specs.Prelude.{◌≡◌, ◌+◌, ◌≤◌, ◌<◌, ◌^◌, IfOk, OnOk};
 ghost use Rattle.abstract_monitor.specs.{Endings.{is_asynchronous}, Statements.{break_ending, by_outcome}};
-ghost use Rattle.open_transaction.specs.Work.{work_of};
+ghost use Rattle.open_transaction.specs.Transactions.{transaction_of};
 ghost use Rattle.laws_of_applications.specs.Applied.{applied};
 
 use abstract_monitor::{Happened, Outcome};
@@ -23,23 +23,23 @@ fn break_ending(variant: Variant) -> Ending
 /// PR goes on and PA is queued in a further unit run of the same transaction; the others leave the transaction as it is.
 pub(crate) fn pend(
     outside: &Outside,
-    work: &mut OpenTransaction,
+    transaction: &mut OpenTransaction,
     variant: Variant,
     outcome: Outcome,
 ) -> Result<Happened, OutOfMemory>
-    requires { work.old.statements + 1 < 2 ^ 64 }
-    ensures exact { IfOk result (λ h. (work_of work.new, h) ≡ by_outcome (applied outside.now.generation.now outside.now.units.now) (is_asynchronous work.old.id) (work_of work.old) variant outcome) }
-    ensures id { work.new.id ≡ work.old.id }
-    ensures counted { OnOk result (work.new.statements ≤ work.old.statements + 1) }
-    ensures nb { work.old.messages.nb ≡ outside.now.generation.now.limits.nb → work.new.messages.nb ≡ outside.now.generation.now.limits.nb }
+    requires { transaction.old.statements + 1 < 2 ^ 64 }
+    ensures exact { IfOk result (λ h. (transaction_of transaction.new, h) ≡ by_outcome (applied outside.now.generation.now outside.now.units.now) (is_asynchronous transaction.old.id) (transaction_of transaction.old) variant outcome) }
+    ensures id { transaction.new.id ≡ transaction.old.id }
+    ensures counted { OnOk result (transaction.new.statements ≤ transaction.old.statements + 1) }
+    ensures nb { transaction.old.messages.nb ≡ outside.now.generation.now.limits.nb → transaction.new.messages.nb ≡ outside.now.generation.now.limits.nb }
 {
     match outcome {
         Outcome::Stay(tac) => {
-            work.follow(outside.alloc, outside.generation, tac, None)?;
+            transaction.follow(outside.alloc, outside.generation, tac, None)?;
             Ok(Happened::Went)
         }
         Outcome::Queue(tac) => {
-            work.follow(outside.alloc, outside.generation, tac, None)?;
+            transaction.follow(outside.alloc, outside.generation, tac, None)?;
             Ok(Happened::Queued)
         }
         Outcome::Hold(tac) => Ok(Happened::Held(tac)),

@@ -4,7 +4,7 @@ ghost use Rattle.kdcs_calls.specs.Calling.{HoldersFollow, HoldsJust};
 ghost use Rattle.laws_of_steps.specs.{Applications.{IsApplication}, Transactions.{CanGoOn}};
 ghost use Rattle.abstract_monitor.specs.{Endings.{is_asynchronous}, Locks.{told_now}, Statements.{area_of, statement}};
 ghost use Rattle.laws_of_tables.specs.PointLaws.{AreSound};
-ghost use Rattle.open_transaction.specs.Work.{work_of};
+ghost use Rattle.open_transaction.specs.Transactions.{transaction_of};
 ghost use Rattle.unit_semantics.specs.{Ready.{IsReady}, Statement.{step}};
 ghost use Rattle.unit_step.specs.Answers.{meaning_of};
 ghost use Rattle.laws_of_applications.specs.Applied.{applied};
@@ -26,17 +26,17 @@ use unit_step::{Stepped, step};
 use unit_types::Unit;
 
 // A plain statement is done and counted; else nothing changes.
-fn step_unit(alloc: Global, unit: &Unit, work: &mut OpenTransaction) -> Result<Stepped, OutOfMemory>
-    requires ready { IsReady unit.now work.old.run }
-    requires statements { work.old.statements + 1 < 2 ^ 64 }
-    ensures meaning { IfOk result (λ stepped. meaning_of stepped work.new.run ≡ step unit.now work.old.run) }
-    ensures leaves { IfOk result (λ stepped. StepLeaves work.old work.new stepped) }
-    ensures id { work.new.id ≡ work.old.id }
-    ensures nb { work.new.messages.nb ≡ work.old.messages.nb }
+fn step_unit(alloc: Global, unit: &Unit, transaction: &mut OpenTransaction) -> Result<Stepped, OutOfMemory>
+    requires ready { IsReady unit.now transaction.old.run }
+    requires statements { transaction.old.statements + 1 < 2 ^ 64 }
+    ensures meaning { IfOk result (λ stepped. meaning_of stepped transaction.new.run ≡ step unit.now transaction.old.run) }
+    ensures leaves { IfOk result (λ stepped. StepLeaves transaction.old transaction.new stepped) }
+    ensures id { transaction.new.id ≡ transaction.old.id }
+    ensures nb { transaction.new.messages.nb ≡ transaction.old.messages.nb }
 {
-    let stepped = step(alloc, unit, &mut work.run)?;
+    let stepped = step(alloc, unit, &mut transaction.run)?;
     if let Stepped::Plain = &stepped {
-        work.statements += 1;
+        transaction.statements += 1;
     }
     Ok(stepped)
 }
@@ -45,28 +45,28 @@ fn step_unit(alloc: Global, unit: &Unit, work: &mut OpenTransaction) -> Result<S
 fn next_statement(
     outside: &Outside,
     locks: &mut LockTable,
-    work: &mut OpenTransaction,
+    transaction: &mut OpenTransaction,
 ) -> Result<Happened, OutOfMemory>
     requires fit { IsFit outside.now.generation.now outside.now.units.now }
     requires application { IsApplication (applied outside.now.generation.now outside.now.units.now) }
-    requires can { CanGoOn outside.now.generation.now work.old.id (work_of work.old) }
+    requires can { CanGoOn outside.now.generation.now transaction.old.id (transaction_of transaction.old) }
     requires sound { AreSound outside.now.generation.now outside.now.tables.now }
-    requires holds { HoldsJust locks.old work.old.id (work_of work.old) }
-    requires nb { work.old.messages.nb ≡ outside.now.generation.now.limits.nb }
-    requires statements { work.old.statements + 1 < 2 ^ 64 }
-    ensures exact { IfOk result (λ h. (work_of work.new, h) ≡ statement (applied outside.now.generation.now outside.now.units.now) (told_now locks.old outside.now.generation.now.limits.reswait outside.now.tables.now work.old.id (area_of (applied outside.now.generation.now outside.now.units.now) (work_of work.old))) (is_asynchronous work.old.id) (work_of work.old)) }
-    ensures waits { IfOk result (λ h. (wait_ended locks.new work.old.id h).waits ≡ waits_after (applied outside.now.generation.now outside.now.units.now) outside.now.tables.now locks.old work.old.id (work_of work.old) h) }
-    ensures holders { OnOk result (HoldersFollow locks.old locks.new work.old.id (work_of work.new)) }
-    ensures id { work.new.id ≡ work.old.id }
-    ensures nb { work.new.messages.nb ≡ work.old.messages.nb }
-    ensures counted { OnOk result (work.new.statements ≤ work.old.statements + 1) }
+    requires holds { HoldsJust locks.old transaction.old.id (transaction_of transaction.old) }
+    requires nb { transaction.old.messages.nb ≡ outside.now.generation.now.limits.nb }
+    requires statements { transaction.old.statements + 1 < 2 ^ 64 }
+    ensures exact { IfOk result (λ h. (transaction_of transaction.new, h) ≡ statement (applied outside.now.generation.now outside.now.units.now) (told_now locks.old outside.now.generation.now.limits.reswait outside.now.tables.now transaction.old.id (area_of (applied outside.now.generation.now outside.now.units.now) (transaction_of transaction.old))) (is_asynchronous transaction.old.id) (transaction_of transaction.old)) }
+    ensures waits { IfOk result (λ h. (wait_ended locks.new transaction.old.id h).waits ≡ waits_after (applied outside.now.generation.now outside.now.units.now) outside.now.tables.now locks.old transaction.old.id (transaction_of transaction.old) h) }
+    ensures holders { OnOk result (HoldersFollow locks.old locks.new transaction.old.id (transaction_of transaction.new)) }
+    ensures id { transaction.new.id ≡ transaction.old.id }
+    ensures nb { transaction.new.messages.nb ≡ transaction.old.messages.nb }
+    ensures counted { OnOk result (transaction.new.statements ≤ transaction.old.statements + 1) }
 {
-    let Some(unit) = outside.units.unit_of(work.current) else {
+    let Some(unit) = outside.units.unit_of(transaction.current) else {
         return Ok(Happened::Returns);
     };
-    match step_unit(outside.alloc, unit, work)? {
+    match step_unit(outside.alloc, unit, transaction)? {
         Stepped::Plain => Ok(Happened::Went),
-        Stepped::Asks(call) => perform_call(outside, unit, locks, work, &call),
+        Stepped::Asks(call) => perform_call(outside, unit, locks, transaction, &call),
         Stepped::Ends(cause) => Ok(Happened::Breaks(Ending::Broken(cause))),
     }
 }
@@ -81,22 +81,22 @@ pub fn perform_statement<'a>(
     units: &'a Units,
     tables: &'a Tables,
     locks: &mut LockTable,
-    work: &mut OpenTransaction,
+    transaction: &mut OpenTransaction,
 ) -> Result<Happened, OutOfMemory>
     requires fit { IsFit generation.now units.now }
     requires application { IsApplication (applied generation.now units.now) }
-    requires can { CanGoOn generation.now work.old.id (work_of work.old) }
+    requires can { CanGoOn generation.now transaction.old.id (transaction_of transaction.old) }
     requires sound { AreSound generation.now tables.now }
-    requires holds { HoldsJust locks.old work.old.id (work_of work.old) }
-    requires nb { work.old.messages.nb ≡ generation.now.limits.nb }
-    requires statements { work.old.statements + 1 < 2 ^ 64 }
-    ensures exact { IfOk result (λ h. (work_of work.new, h) ≡ statement (applied generation.now units.now) (told_now locks.old generation.now.limits.reswait tables.now work.old.id (area_of (applied generation.now units.now) (work_of work.old))) (is_asynchronous work.old.id) (work_of work.old)) }
-    ensures waits { IfOk result (λ h. locks.new.waits ≡ waits_after (applied generation.now units.now) tables.now locks.old work.old.id (work_of work.old) h) }
-    ensures holders { OnOk result (HoldersFollow locks.old locks.new work.old.id (work_of work.new)) }
-    ensures holds { OnOk result (HoldsJust locks.new work.old.id (work_of work.new)) }
-    ensures id { work.new.id ≡ work.old.id }
-    ensures nb { work.new.messages.nb ≡ work.old.messages.nb }
-    ensures counted { OnOk result (work.new.statements ≤ work.old.statements + 1) }
+    requires holds { HoldsJust locks.old transaction.old.id (transaction_of transaction.old) }
+    requires nb { transaction.old.messages.nb ≡ generation.now.limits.nb }
+    requires statements { transaction.old.statements + 1 < 2 ^ 64 }
+    ensures exact { IfOk result (λ h. (transaction_of transaction.new, h) ≡ statement (applied generation.now units.now) (told_now locks.old generation.now.limits.reswait tables.now transaction.old.id (area_of (applied generation.now units.now) (transaction_of transaction.old))) (is_asynchronous transaction.old.id) (transaction_of transaction.old)) }
+    ensures waits { IfOk result (λ h. locks.new.waits ≡ waits_after (applied generation.now units.now) tables.now locks.old transaction.old.id (transaction_of transaction.old) h) }
+    ensures holders { OnOk result (HoldersFollow locks.old locks.new transaction.old.id (transaction_of transaction.new)) }
+    ensures holds { OnOk result (HoldsJust locks.new transaction.old.id (transaction_of transaction.new)) }
+    ensures id { transaction.new.id ≡ transaction.old.id }
+    ensures nb { transaction.new.messages.nb ≡ transaction.old.messages.nb }
+    ensures counted { OnOk result (transaction.new.statements ≤ transaction.old.statements + 1) }
 {
     let outside = Outside {
         alloc,
@@ -104,7 +104,7 @@ pub fn perform_statement<'a>(
         units,
         tables,
     };
-    let happened = next_statement(&outside, locks, work)?;
-    end_wait(locks, work.id, &happened);
+    let happened = next_statement(&outside, locks, transaction)?;
+    end_wait(locks, transaction.id, &happened);
     Ok(happened)
 }

@@ -9,7 +9,7 @@ use Rattle.abstract_monitor.specs.declared.outcome.Outcome.{Outcome}
 use Rattle.abstract_monitor.specs.Endings.{durable, row_after, synchronised}
 use Rattle.abstract_monitor.specs.Statements.{kept_record}
 use Rattle.open_transaction.specs.declared.open.OpenTransaction.{OpenTransaction}
-use Rattle.open_transaction.specs.Work.{Boxed, work_of}
+use Rattle.open_transaction.specs.Transactions.{Boxed, transaction_of}
 use Rattle.sync_points.specs.declared.points.Point.{Point}
 use Rattle.sync_points.specs.declared.points.Point.TheVariants.{Passed}
 use Rattle.sync_points.specs.declared.points.Point.TheVariants as point
@@ -18,11 +18,11 @@ use Rattle.sync_points.specs.declared.points.SettleAnswer.TheVariants.{Refused, 
 
 -- refused for a cause, or the difference of the durable tables and the service's row
 abbrev pub point_by : Generated → TableRows → OpenTransaction → Outcome → Option Cause → Point
-point_by g t w o None = Passed (difference (durable g t) (durable g (synchronised g t w.id (work_of w) o))) (row_after g w.id (work_of w) o)
+point_by g t w o None = Passed (difference (durable g t) (durable g (synchronised g t w.id (transaction_of w) o))) (row_after g w.id (transaction_of w) o)
 point_by g t w o (Some cause) = point.Refused cause
 
 -- refused for a cause, with the transaction as it was; or the difference of the durable tables, the service's row, and the kept record
 abbrev pub answer_by : Generated → TableRows → Boxed → Outcome → Option Cause → SettleAnswer
 answer_by g t b o None = let w = b.value in
-    Synced (difference (durable g t) (durable g (synchronised g t w.id (work_of w) o))) (row_after g w.id (work_of w) o) (kept_record w.id (work_of w) ending.Synced)
+    Synced (difference (durable g t) (durable g (synchronised g t w.id (transaction_of w) o))) (row_after g w.id (transaction_of w) o) (kept_record w.id (transaction_of w) ending.Synced)
 answer_by g t b o (Some cause) = Refused cause b

@@ -3,7 +3,7 @@ ghost use Rattle.std.specs.Prelude.{◌≡◌, IfOk};
 ghost use Rattle.kdcs_types.specs.Difference.{difference};
 ghost use Rattle.abstract_monitor.specs.{Endings.{broken, durable}, Statements.{kept_record}};
 ghost use Rattle.laws_of_tables.specs.PointLaws.{Stands};
-ghost use Rattle.open_transaction.specs.Work.{work_of};
+ghost use Rattle.open_transaction.specs.Transactions.{transaction_of};
 ghost use Rattle.sync_points.specs.PointChanges.{end_changes};
 
 use crate::kept::kept_record;
@@ -18,13 +18,13 @@ fn end_changes(
     alloc: Global,
     generation: &Generation,
     tables: &Tables,
-    work: &OpenTransaction,
+    transaction: &OpenTransaction,
 ) -> Result<Changes, OutOfMemory>
-    ensures { IfOk result (λ changes. changes ≡ end_changes generation.now tables.now work.now.id (work_of work.now)) }
+    ensures { IfOk result (λ changes. changes ≡ end_changes generation.now tables.now transaction.now.id (transaction_of transaction.now)) }
 {
     let mut changes = RowChanges::new(alloc);
-    write_service(&mut changes, generation, work.id, &None)?;
-    write_own_job(&mut changes, work.id, &work.began)?;
+    write_service(&mut changes, generation, transaction.id, &None)?;
+    write_own_job(&mut changes, transaction.id, &transaction.began)?;
     Ok(Changes {
         clock: tables.clock(),
         next_job: tables.next_job(),
@@ -38,17 +38,17 @@ fn end_changes(
 /// The transaction can go on, and its service's row stands in the tables as it began; their durable part suits the
 /// generation. The transaction is lost where memory runs out.
 pub fn broken(
-    work: Box<OpenTransaction>,
+    transaction: Box<OpenTransaction>,
     alloc: Global,
     generation: &Generation,
     tables: &Tables,
     ending: Ending,
 ) -> Result<(Changes, Settled), OutOfMemory>
-    requires stands { Stands generation.now tables.now work.value.id (work_of work.value) }
-    ensures changes { IfOk result (λ ended. ended.0 ≡ difference (durable generation.now tables.now) (durable generation.now (broken tables.now work.value.id (work_of work.value)))) }
-    ensures kept { IfOk result (λ ended. ended.1 ≡ kept_record work.value.id (work_of work.value) ending) }
+    requires stands { Stands generation.now tables.now transaction.value.id (transaction_of transaction.value) }
+    ensures changes { IfOk result (λ ended. ended.0 ≡ difference (durable generation.now tables.now) (durable generation.now (broken tables.now transaction.value.id (transaction_of transaction.value)))) }
+    ensures kept { IfOk result (λ ended. ended.1 ≡ kept_record transaction.value.id (transaction_of transaction.value) ending) }
 {
-    let changes = end_changes(alloc, generation, tables, &work)?;
-    let kept = kept_record(alloc, work, ending)?;
+    let changes = end_changes(alloc, generation, tables, &transaction)?;
+    let kept = kept_record(alloc, transaction, ending)?;
     Ok((changes, kept))
 }

@@ -1,7 +1,7 @@
 //! What a transaction keeps for its replay.
 ghost use Rattle.std.specs.Prelude.{◌≡◌, ◌∷◌, IfOk};
 ghost use Rattle.abstract_monitor.specs.Statements.{kept_record};
-ghost use Rattle.open_transaction.specs.Work.{work_of};
+ghost use Rattle.open_transaction.specs.Transactions.{transaction_of};
 
 use kd_base::{Bytes, Name, OutOfMemory};
 use kdcs_types::{Ending, Notes, Parts, Settled};
@@ -25,19 +25,19 @@ fn inputs_behind(
 
 pub(crate) fn kept_record(
     alloc: Global,
-    mut work: Box<OpenTransaction>,
+    mut transaction: Box<OpenTransaction>,
     ending: Ending,
 ) -> Result<Settled, OutOfMemory>
-    ensures { IfOk result (λ kept. kept ≡ kept_record work.value.id (work_of work.value) ending) }
+    ensures { IfOk result (λ kept. kept ≡ kept_record transaction.value.id (transaction_of transaction.value) ending) }
 {
-    let inputs = mem::replace(&mut work.inputs, Parts::new(alloc));
-    let inputs = inputs_behind(alloc, work.first, work.lterm, inputs)?;
+    let inputs = mem::replace(&mut transaction.inputs, Parts::new(alloc));
+    let inputs = inputs_behind(alloc, transaction.first, transaction.lterm, inputs)?;
     Ok(Settled {
-        service: work.id,
-        began: work.began.take(),
+        service: transaction.id,
+        began: transaction.began.take(),
         inputs,
-        notes: mem::replace(&mut work.notes, Notes::new(alloc)),
-        statements: work.statements,
+        notes: mem::replace(&mut transaction.notes, Notes::new(alloc)),
+        statements: transaction.statements,
         ending,
     })
 }

@@ -3,7 +3,7 @@ ghost use Rattle.std.specs.Prelude.{◌≡◌, ◌++◌, ◌+◌, ◌≤◌, IfO
 ghost use Rattle.kd_base.specs.Limits.{last_clock, last_next_job};
 ghost use Rattle.abstract_monitor.specs.Endings.{durable, numbered, refusal, row_after, synchronised};
 ghost use Rattle.laws_of_tables.specs.PointLaws.{Stands};
-ghost use Rattle.open_transaction.specs.Work.{work_of};
+ghost use Rattle.open_transaction.specs.Transactions.{transaction_of};
 ghost use Rattle.storage_areas.specs.Areas.{changes_of};
 ghost use Rattle.sync_points.specs.{Answers.{answer_by, point_by}, PointChanges.{changes_with, job_changes}};
 
@@ -46,38 +46,38 @@ fn write_jobs(changes: &mut RowChanges, jobs: Vec<Job>) -> Result<(), OutOfMemor
 }
 
 // The last number of a job would be too great.
-fn spends_numbers(tables: &Tables, work: &OpenTransaction) -> bool
+fn spends_numbers(tables: &Tables, transaction: &OpenTransaction) -> bool
     requires { tables.now.next_job ≤ last_next_job }
-    ensures { result ≡ nat_lt last_next_job (tables.now.next_job + length (work_of work.now).drafts) }
+    ensures { result ≡ nat_lt last_next_job (tables.now.next_job + length (transaction_of transaction.now).drafts) }
 {
-    work.drafts.len() as u64 > LAST_NEXT_JOB - tables.next_job()
+    transaction.drafts.len() as u64 > LAST_NEXT_JOB - tables.next_job()
 }
 
 fn point_changes(
     alloc: Global,
     generation: &Generation,
     tables: &Tables,
-    work: &OpenTransaction,
+    transaction: &OpenTransaction,
     areas: RowChanges,
     row: &Option<Service>,
 ) -> Result<Changes, OutOfMemory>
-    requires areas { areas ≡ changes_of (work_of work.now).written }
+    requires areas { areas ≡ changes_of (transaction_of transaction.now).written }
     requires clock { tables.now.clock ≤ last_clock }
-    requires next { tables.now.next_job + length (work_of work.now).drafts ≤ last_next_job }
-    ensures { IfOk result (λ changes. changes ≡ changes_with generation.now tables.now work.now.id (work_of work.now) row.now) }
+    requires next { tables.now.next_job + length (transaction_of transaction.now).drafts ≤ last_next_job }
+    ensures { IfOk result (λ changes. changes ≡ changes_with generation.now tables.now transaction.now.id (transaction_of transaction.now) row.now) }
 {
     let mut changes = areas;
     let clock = tables.clock();
     let next = tables.next_job();
-    let jobs = work
+    let jobs = transaction
         .drafts
-        .numbered(next, clock, work.user, work.lterm, alloc)?;
-    write_service(&mut changes, generation, work.id, row)?;
-    write_own_job(&mut changes, work.id, &work.began)?;
+        .numbered(next, clock, transaction.user, transaction.lterm, alloc)?;
+    write_service(&mut changes, generation, transaction.id, row)?;
+    write_own_job(&mut changes, transaction.id, &transaction.began)?;
     write_jobs(&mut changes, jobs)?;
     Ok(Changes {
         clock,
-        next_job: next + work.drafts.len() as u64,
+        next_job: next + transaction.drafts.len() as u64,
         items: real_of(tables, changes),
     })
 }
@@ -86,22 +86,22 @@ fn point_of(
     alloc: Global,
     generation: &Generation,
     tables: &Tables,
-    work: &OpenTransaction,
+    transaction: &OpenTransaction,
     outcome: Outcome,
 ) -> Result<Point, OutOfMemory>
-    requires stands { Stands generation.now tables.now work.now.id (work_of work.now) }
-    ensures { IfOk result (λ point. point ≡ point_by generation.now tables.now work.now outcome (refusal generation.now (durable generation.now (synchronised generation.now tables.now work.now.id (work_of work.now) outcome)))) }
+    requires stands { Stands generation.now tables.now transaction.now.id (transaction_of transaction.now) }
+    ensures { IfOk result (λ point. point ≡ point_by generation.now tables.now transaction.now outcome (refusal generation.now (durable generation.now (synchronised generation.now tables.now transaction.now.id (transaction_of transaction.now) outcome)))) }
 {
     let limits = generation.max();
-    let areas = work.areas.changes(alloc)?;
+    let areas = transaction.areas.changes(alloc)?;
     if has_too_many_gssbs(tables, &areas, limits.gssbs) {
         return Ok(Point::Refused(Cause::E10));
     }
-    if spends_numbers(tables, work) {
+    if spends_numbers(tables, transaction) {
         return Ok(Point::Refused(Cause::E11));
     }
-    let row = row_after(alloc, generation, work, outcome)?;
-    let changes = point_changes(alloc, generation, tables, work, areas, &row)?;
+    let row = row_after(alloc, generation, transaction, outcome)?;
+    let changes = point_changes(alloc, generation, tables, transaction, areas, &row)?;
     if is_pool_full(generation, tables, &changes) {
         return Ok(Point::Refused(Cause::E09));
     }
@@ -114,19 +114,19 @@ fn point_of(
 /// each; the test for E09 goes over all rows. The transaction can go on, and its service's row stands in the tables as it
 /// began; their durable part suits the generation. The transaction is lost where memory runs out.
 pub fn settle(
-    work: Box<OpenTransaction>,
+    transaction: Box<OpenTransaction>,
     alloc: Global,
     generation: &Generation,
     tables: &Tables,
     outcome: Outcome,
 ) -> Result<SettleAnswer, OutOfMemory>
-    requires stands { Stands generation.now tables.now work.value.id (work_of work.value) }
-    ensures { IfOk result (λ answer. answer ≡ answer_by generation.now tables.now work outcome (refusal generation.now (durable generation.now (synchronised generation.now tables.now work.value.id (work_of work.value) outcome)))) }
+    requires stands { Stands generation.now tables.now transaction.value.id (transaction_of transaction.value) }
+    ensures { IfOk result (λ answer. answer ≡ answer_by generation.now tables.now transaction outcome (refusal generation.now (durable generation.now (synchronised generation.now tables.now transaction.value.id (transaction_of transaction.value) outcome)))) }
 {
-    match point_of(alloc, generation, tables, &work, outcome)? {
-        Point::Refused(cause) => Ok(SettleAnswer::Refused(cause, work)),
+    match point_of(alloc, generation, tables, &transaction, outcome)? {
+        Point::Refused(cause) => Ok(SettleAnswer::Refused(cause, transaction)),
         Point::Passed(changes, row) => {
-            let kept = kept_record(alloc, work, Ending::Synced)?;
+            let kept = kept_record(alloc, transaction, Ending::Synced)?;
             Ok(SettleAnswer::Synced(changes, row, kept))
         }
     }

@@ -1,7 +1,7 @@
 //! The row of a service behind a synchronisation point.
 ghost use Rattle.std.specs.Prelude.{◌≡◌, IfOk, Some};
 ghost use Rattle.abstract_monitor.specs.Endings.{last_of, lterm_in_row, new_row, point_row, row_after, spaces};
-ghost use Rattle.open_transaction.specs.Work.{work_of};
+ghost use Rattle.open_transaction.specs.Transactions.{transaction_of};
 
 use abstract_monitor::Outcome;
 use kd_base::{Bytes, Name, OutOfMemory};
@@ -34,34 +34,34 @@ fn last_of(began: &Option<Service>) -> Result<Option<Bytes>, OutOfMemory>
     }
 }
 
-fn parts_put(alloc: Global, work: &OpenTransaction) -> Result<Parts, OutOfMemory>
-    ensures { IfOk result (λ parts. parts ≡ (work_of work.now).parts) }
+fn parts_put(alloc: Global, transaction: &OpenTransaction) -> Result<Parts, OutOfMemory>
+    ensures { IfOk result (λ parts. parts ≡ (transaction_of transaction.now).parts) }
 {
-    Ok(Parts::from_vec(work.messages.parts().to_vec(alloc)?))
+    Ok(Parts::from_vec(transaction.messages.parts().to_vec(alloc)?))
 }
 
 // The row of a service that goes on.
 fn point_row(
     alloc: Global,
-    work: &OpenTransaction,
+    transaction: &OpenTransaction,
     next: Name,
     awaits: bool,
     handed: Parts,
     last: Option<Bytes>,
 ) -> Result<Service, OutOfMemory>
-    ensures { IfOk result (λ row. row ≡ point_row work.now.id (work_of work.now) next awaits handed last) }
+    ensures { IfOk result (λ row. row ≡ point_row transaction.now.id (transaction_of transaction.now) next awaits handed last) }
 {
     Ok(Service {
-        id: work.id,
-        first: work.first,
+        id: transaction.id,
+        first: transaction.first,
         next,
         awaits,
-        user: work.user,
-        lterm: lterm_in_row(work.id, work.lterm),
-        kb: Bytes::from_slice(alloc, work.run.kb.as_slice())?,
+        user: transaction.user,
+        lterm: lterm_in_row(transaction.id, transaction.lterm),
+        kb: Bytes::from_slice(alloc, transaction.run.kb.as_slice())?,
         handed,
         last,
-        lssbs: Areas::from_vec(work.areas.lssbs().to_vec(alloc)?),
+        lssbs: Areas::from_vec(transaction.areas.lssbs().to_vec(alloc)?),
     })
 }
 
@@ -69,20 +69,20 @@ fn point_row(
 fn new_row(
     alloc: Global,
     generation: &Generation,
-    work: &OpenTransaction,
+    transaction: &OpenTransaction,
     first: Name,
 ) -> Result<Service, OutOfMemory>
-    ensures { IfOk result (λ row. row ≡ new_row generation.now work.now.id (work_of work.now) first) }
+    ensures { IfOk result (λ row. row ≡ new_row generation.now transaction.now.id (transaction_of transaction.now) first) }
 {
     Ok(Service {
-        id: work.id,
+        id: transaction.id,
         first,
         next: first,
         awaits: false,
-        user: work.user,
-        lterm: lterm_in_row(work.id, work.lterm),
+        user: transaction.user,
+        lterm: lterm_in_row(transaction.id, transaction.lterm),
         kb: spaces(alloc, generation.max().kb)?,
-        handed: parts_put(alloc, work)?,
+        handed: parts_put(alloc, transaction)?,
         last: None,
         lssbs: Areas::new(alloc),
     })
@@ -92,23 +92,23 @@ fn new_row(
 pub(crate) fn row_after(
     alloc: Global,
     generation: &Generation,
-    work: &OpenTransaction,
+    transaction: &OpenTransaction,
     outcome: Outcome,
 ) -> Result<Option<Service>, OutOfMemory>
-    ensures { IfOk result (λ row. row ≡ row_after generation.now work.now.id (work_of work.now) outcome) }
+    ensures { IfOk result (λ row. row ≡ row_after generation.now transaction.now.id (transaction_of transaction.now) outcome) }
 {
     match outcome {
         Outcome::Wait(tac) => {
-            let message = work.message(alloc)?;
-            let row = point_row(alloc, work, tac, true, Parts::new(alloc), Some(message))?;
+            let message = transaction.message(alloc)?;
+            let row = point_row(alloc, transaction, tac, true, Parts::new(alloc), Some(message))?;
             Ok(Some(row))
         }
         Outcome::Point(tac) => {
-            let parts = parts_put(alloc, work)?;
-            let row = point_row(alloc, work, tac, false, parts, last_of(&work.began)?)?;
+            let parts = parts_put(alloc, transaction)?;
+            let row = point_row(alloc, transaction, tac, false, parts, last_of(&transaction.began)?)?;
             Ok(Some(row))
         }
-        Outcome::Follow(tac) => Ok(Some(new_row(alloc, generation, work, tac)?)),
+        Outcome::Follow(tac) => Ok(Some(new_row(alloc, generation, transaction, tac)?)),
         Outcome::Finish
         | Outcome::Hold(_)
         | Outcome::Stay(_)

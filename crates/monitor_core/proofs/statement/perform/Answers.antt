@@ -13,35 +13,35 @@ pub returns-in_default-clause-indexed : goal.returns-in_default-clause-indexed
 returns-in_default-clause-indexed c = more_steps c.args.parts.now c.requires.whole.indexed
 
 pub perform_statement-requires-clause-can : goal.perform_statement-requires-clause-can
-perform_statement-requires-clause-can c = rw c.deref_mut.ensures.value (can_go_on c.args.parts.now c.args.id.now c.in-Some.work.now c.requires.whole.indexed c.requires.whole.facts c.in-Some.ensures.value)
+perform_statement-requires-clause-can c = rw c.deref_mut.ensures.value (can_go_on c.args.parts.now c.args.id.now c.in-Some.transaction.now c.requires.whole.indexed c.requires.whole.facts c.in-Some.ensures.value)
 
 pub perform_statement-requires-clause-holds : goal.perform_statement-requires-clause-holds
-perform_statement-requires-clause-holds c = rw c.deref_mut.ensures.value (holds_just c.args.parts.now c.args.id.now c.in-Some.work.now c.requires.whole.indexed c.requires.whole.facts c.in-Some.ensures.value)
+perform_statement-requires-clause-holds c = rw c.deref_mut.ensures.value (holds_just c.args.parts.now c.args.id.now c.in-Some.transaction.now c.requires.whole.indexed c.requires.whole.facts c.in-Some.ensures.value)
 
 pub perform_statement-requires-clause-nb : goal.perform_statement-requires-clause-nb
-perform_statement-requires-clause-nb c = rw c.deref_mut.ensures.value ((owned c.args.parts.now c.args.id.now c.in-Some.work.now c.requires.whole.indexed c.requires.whole.facts c.in-Some.ensures.value).nb)
+perform_statement-requires-clause-nb c = rw c.deref_mut.ensures.value ((owned c.args.parts.now c.args.id.now c.in-Some.transaction.now c.requires.whole.indexed c.requires.whole.facts c.in-Some.ensures.value).nb)
 
 pub perform_statement-requires-clause-statements : goal.perform_statement-requires-clause-statements
 perform_statement-requires-clause-statements c =
-    rw c.deref_mut.ensures.value (fits_count c.args.parts.now c.args.id.now c.in-Some.work.now c.requires.whole.indexed c.requires.whole.facts c.in-Some.ensures.value c.requires.steps)
+    rw c.deref_mut.ensures.value (fits_count c.args.parts.now c.args.id.now c.in-Some.transaction.now c.requires.whole.indexed c.requires.whole.facts c.in-Some.ensures.value c.requires.steps)
 
 pub stay-requires-clause-held : goal.stay-requires-clause-held
 stay-requires-clause-held c = is_seated c.args.parts.now.scheduler.places _ c.args.id.now c.requires.held
 
 pub returns-clause-exact : goal.returns-clause-exact
 returns-clause-exact c =
-    then_exact c.args.parts.now c.args.task c.args.id.now c.in-Some.work.now (record c.in-Some.work.now { value = c.perform_statement.new.work }) c.requires.whole.indexed c.requires.whole.facts c.requires.held c.in-Some.ensures.value
+    then_exact c.args.parts.now c.args.task c.args.id.now c.in-Some.transaction.now (record c.in-Some.transaction.now { value = c.perform_statement.new.transaction }) c.requires.whole.indexed c.requires.whole.facts c.requires.held c.in-Some.ensures.value
     c.perform_statement.new.locks c.in_ok-happened.happened (rw c.deref_mut.ensures.value at c.in_ok-happened.ensures.exact)
 
 pub returns-clause-state : goal.returns-clause-state
 returns-clause-state c = λ x e.
     state_with (stepped c.args.parts.now c.args.task c.args.id.now _ c.perform_statement.new.locks c.class_of-class.result) c.stay.new.self c.stay.ensures
-    ∙ then_for c.args.parts.now c.args.task c.args.id.now c.in-Some.work.now _ c.requires.whole.indexed c.requires.whole.facts c.requires.held c.in-Some.ensures.value
+    ∙ then_for c.args.parts.now c.args.task c.args.id.now c.in-Some.transaction.now _ c.requires.whole.indexed c.requires.whole.facts c.requires.held c.in-Some.ensures.value
     c.perform_statement.new.locks c.in_ok-happened.happened (rw c.deref_mut.ensures.value at c.in_ok-happened.ensures.exact) c.class_of-class.result (rw c.deref_mut.ensures.value at c.in_ok-happened.ensures.waits) x e
 
 pub returns-clause-indexed : goal.returns-clause-indexed
 returns-clause-indexed c =
     indexed_with (stepped c.args.parts.now c.args.task c.args.id.now _ c.perform_statement.new.locks c.class_of-class.result) c.stay.new.self c.stay.ensures
-    (then_indexed c.args.parts.now c.args.task c.args.id.now c.in-Some.work.now _ c.requires.whole.indexed c.requires.whole.facts c.requires.held c.in-Some.ensures.value
+    (then_indexed c.args.parts.now c.args.task c.args.id.now c.in-Some.transaction.now _ c.requires.whole.indexed c.requires.whole.facts c.requires.held c.in-Some.ensures.value
     c.perform_statement.new.locks c.in_ok-happened.happened (rw c.deref_mut.ensures.value at c.in_ok-happened.ensures.exact) c.class_of-class.result (rw c.deref.ensures at c.class_of-class.ensures)
     (rw c.deref_mut.ensures.value at c.in_ok-happened.ensures.holders) (rw c.deref_mut.ensures.value at c.in_ok-happened.ensures.id) (rw c.deref_mut.ensures.value at c.in_ok-happened.ensures.nb) (rw c.deref_mut.ensures.value at c.in_ok-happened.ensures.counted))

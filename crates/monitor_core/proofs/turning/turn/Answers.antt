@@ -22,12 +22,12 @@ returns-in_ok-did-in-None-clause-whole c =
 
 pub returns-in-Some-clause-exact : goal.returns-in-Some-clause-exact
 returns-in-Some-clause-exact c =
-    IfOk-weaker c.work.result _ _ (λ did e.
+    IfOk-weaker c.serve.result _ _ (λ did e.
     e ∙ turned_held (app_of c.args.parts.now) (state_of c.args.parts.now) c.args.task c.in-Some.id (seat_of c.args.parts.now c.args.task (is_task (app_of c.args.parts.now) (state_of c.args.parts.now) c.args.parts.now c.args.task c.requires.whole.facts.0 c.requires.task refl) (Some c.in-Some.id) c.in-Some.ensures))
-    c.work.ensures.exact
+    c.serve.ensures.exact
 
 pub returns-in-Some-clause-whole : goal.returns-in-Some-clause-whole
 returns-in-Some-clause-whole c =
-    whole_worked c.args.parts.now c.work.new.parts c.args.task c.in-Some.id c.states_stay_consistent.ensures.turns c.states_stay_sound.ensures c.requires.whole c.requires.task
+    whole_worked c.args.parts.now c.serve.new.parts c.args.task c.in-Some.id c.states_stay_consistent.ensures.turns c.states_stay_sound.ensures c.requires.whole c.requires.task
     (seat_of c.args.parts.now c.args.task (is_task (app_of c.args.parts.now) (state_of c.args.parts.now) c.args.parts.now c.args.task c.requires.whole.facts.0 c.requires.task refl) (Some c.in-Some.id) c.in-Some.ensures)
-    c.work.result c.work.ensures.exact c.work.ensures.indexed c.work.ensures.generation c.work.ensures.units
+    c.serve.result c.serve.ensures.exact c.serve.ensures.indexed c.serve.ensures.generation c.serve.ensures.units

@@ -1,5 +1,5 @@
 use Rattle.abstract_monitor.specs.Endings.{is_asynchronous}
-use Rattle.open_transaction.specs.Work.{work_of}
+use Rattle.open_transaction.specs.Transactions.{transaction_of}
 use Rattle.laws_of_applications.specs.Applied.{applied}
 use Rattle.service_statement.proofs.CallStatement.{fits_then, holders_done, reads, ready_then}
 use Rattle.service_statement.proofs.call.perform_call.Goals as goal
@@ -7,22 +7,22 @@ use Rattle.service_statement.proofs.call.perform_call.Goals as goal
 pub perform-requires-clause-short : goal.perform-requires-clause-short
 perform-requires-clause-short c =
     let o = c.args.outside.now in
-    reads (applied o.generation.now o.units.now) o.tables.now c.args.locks.now c.args.work.now.id (work_of c.args.work.now) c.args.unit.now c.args.call.now c.requires.stands c.requires.sound
+    reads (applied o.generation.now o.units.now) o.tables.now c.args.locks.now c.args.transaction.now.id (transaction_of c.args.transaction.now) c.args.unit.now c.args.call.now c.requires.stands c.requires.sound
 
 pub after_call-requires-clause-ready : goal.after_call-requires-clause-ready
 after_call-requires-clause-ready c =
     let o = c.args.outside.now in
-    ready_then (applied o.generation.now o.units.now) o.tables.now c.args.locks.now c.args.work.now.id (work_of c.args.work.now) c.args.unit.now c.args.call.now c.requires.stands c.requires.sound
-    c.requires.asks (work_of c.perform.new.open_work) c.in_ok-called.called c.in_ok-called.ensures.exact
+    ready_then (applied o.generation.now o.units.now) o.tables.now c.args.locks.now c.args.transaction.now.id (transaction_of c.args.transaction.now) c.args.unit.now c.args.call.now c.requires.stands c.requires.sound
+    c.requires.asks (transaction_of c.perform.new.open_work) c.in_ok-called.called c.in_ok-called.ensures.exact
 
 pub after_call-requires-clause-fits : goal.after_call-requires-clause-fits
 after_call-requires-clause-fits c =
     let o = c.args.outside.now in
-    fits_then (applied o.generation.now o.units.now) o.tables.now c.args.locks.now c.args.work.now.id (work_of c.args.work.now) c.args.unit.now c.args.call.now c.requires.stands c.requires.sound
-    c.requires.asks (work_of c.perform.new.open_work) c.in_ok-called.called c.in_ok-called.ensures.exact c.perform.new.open_work.id c.perform.ensures.id
+    fits_then (applied o.generation.now o.units.now) o.tables.now c.args.locks.now c.args.transaction.now.id (transaction_of c.args.transaction.now) c.args.unit.now c.args.call.now c.requires.stands c.requires.sound
+    c.requires.asks (transaction_of c.perform.new.open_work) c.in_ok-called.called c.in_ok-called.ensures.exact c.perform.new.open_work.id c.perform.ensures.id
 
 pub returns-clause-holders : goal.returns-clause-holders
 returns-clause-holders c =
     let o = c.args.outside.now in
-    holders_done (applied o.generation.now o.units.now) (is_asynchronous c.perform.new.open_work.id) c.args.unit.now (work_of c.perform.new.open_work) c.args.locks.now c.perform.new.locks c.args.work.now.id
-    (work_of c.after_call.new.work) c.in_ok-called.called c.after_call.result c.in_ok-called.ensures.holders c.after_call.ensures.exact
+    holders_done (applied o.generation.now o.units.now) (is_asynchronous c.perform.new.open_work.id) c.args.unit.now (transaction_of c.perform.new.open_work) c.args.locks.now c.perform.new.locks c.args.transaction.now.id
+    (transaction_of c.after_call.new.transaction) c.in_ok-called.called c.after_call.result c.in_ok-called.ensures.holders c.after_call.ensures.exact

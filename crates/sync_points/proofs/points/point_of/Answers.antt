@@ -16,7 +16,7 @@ use Rattle.abstract_monitor.specs.Charges.{total_charge}
 use Rattle.abstract_monitor.specs.Endings.{durable, refusal, row_after, synchronised}
 use Rattle.laws_of_tables.specs.PointLaws.{Stands}
 use Rattle.open_transaction.specs.declared.open.OpenTransaction.{OpenTransaction}
-use Rattle.open_transaction.specs.Work.{work_of}
+use Rattle.open_transaction.specs.Transactions.{transaction_of}
 use Rattle.storage_areas.specs.Areas.{changes_of}
 use Rattle.sync_points.specs.declared.points.Point.TheVariants.{Passed}
 use Rattle.sync_points.specs.Answers.{point_by}
@@ -27,7 +27,7 @@ use Rattle.sync_points.specs.Short.{leaves_short}
 use Rattle.sync_points.specs.ShortLaws.{points_kept, points_short}
 use Rattle.sync_points.proofs.points.point_of.Goals as goal
 
-module _ (g : Generated) (t : TableRows) (w : OpenTransaction) (o : Outcome) (s : Stands g t w.id (work_of w)) where
+module _ (g : Generated) (t : TableRows) (w : OpenTransaction) (o : Outcome) (s : Stands g t w.id (transaction_of w)) where
   abbrev gssbs : ℕ
   gssbs = length (with_changes t (changes_of w.areas.written)).gssbs
 
@@ -38,17 +38,17 @@ module _ (g : Generated) (t : TableRows) (w : OpenTransaction) (o : Outcome) (s 
   charge changes = total_charge g.limits.blksize (changed (durable g t) changes)
 
   abbrev points : Changes
-  points = point_changes g t w.id (work_of w) o
+  points = point_changes g t w.id (transaction_of w) o
 
   -- the changes that were made, with the row behind the point
-  made : {changes : Changes} {row : Option Service} → changes ≡ changes_with g t w.id (work_of w) row → row ≡ row_after g w.id (work_of w) o → changes ≡ points
-  made e r = e ∙ ap (changes_with g t w.id (work_of w)) r
+  made : {changes : Changes} {row : Option Service} → changes ≡ changes_with g t w.id (transaction_of w) row → row ≡ row_after g w.id (transaction_of w) o → changes ≡ points
+  made e r = e ∙ ap (changes_with g t w.id (transaction_of w)) r
 
   abbrev Answers : Option Cause → Type 0
-  Answers answer = point_by g t w o answer ≡ point_by g t w o (refusal g (durable g (synchronised g t w.id (work_of w) o)))
+  Answers answer = point_by g t w o answer ≡ point_by g t w o (refusal g (durable g (synchronised g t w.id (transaction_of w) o)))
 
   by_tests : (answer : Option Cause) → refused_by g gssbs next (charge points) ≡ answer → Answers answer
-  by_tests answer e = sym (ap (point_by g t w o) (refusal_is g t w.id (work_of w) o s ∙ e))
+  by_tests answer e = sym (ap (point_by g t w o) (refusal_is g t w.id (transaction_of w) o s ∙ e))
 
   -- the test of the GSSBs
   module _ {many : Bool} (limits : Limits) (areas : List Change) (e : many ≡ nat_lt limits.gssbs (length (with_changes t areas).gssbs)) (l : limits ≡ g.limits) (a : areas ≡ changes_of w.areas.written) where
@@ -71,9 +71,9 @@ module _ (g : Generated) (t : TableRows) (w : OpenTransaction) (o : Outcome) (s 
         fills_pool : fills ≡ true → Answers (Some E09)
         fills_pool is = by_tests (Some E09) (full g gssbs next (charge points) (counted false few) (sym n ∙ leaves) (charged true is))
 
-        passes : fills ≡ false → (row : Option Service) → row ≡ row_after g w.id (work_of w) o → Passed changes row ≡ point_by g t w o (refusal g (durable g (synchronised g t w.id (work_of w) o)))
+        passes : fills ≡ false → (row : Option Service) → row ≡ row_after g w.id (transaction_of w) o → Passed changes row ≡ point_by g t w o (refusal g (durable g (synchronised g t w.id (transaction_of w) o)))
         passes is row r =
-            (λ i. Passed ((m ∙ sym (points_change g t w.id (work_of w) o s)) i) (r i))
+            (λ i. Passed ((m ∙ sym (points_change g t w.id (transaction_of w) o s)) i) (r i))
             ∙ by_tests None (passed g gssbs next (charge points) (counted false few) (sym n ∙ leaves) (charged false is))
 
 pub spends_numbers-requires : goal.spends_numbers-requires
@@ -88,30 +88,30 @@ pub is_pool_full-requires : goal.is_pool_full-requires
 is_pool_full-requires c =
     let g = c.args.generation.now in
     let t = c.args.tables.now in
-    let w = c.args.work.now in
+    let w = c.args.transaction.now in
     let limits = c.max-limits.ensures.sound.limits in
     let is_made = sym (made g t w c.args.outcome c.requires.stands c.in_ok-changes.ensures c.in_ok-row.ensures) in
     record {
       sound = c.requires.stands.sound;
-      changes = subst (λ (cs : Changes). AreChanges cs.items) is_made (points_are g t w.id (work_of w) c.args.outcome c.requires.stands);
-      kept = subst (λ (cs : Changes). IsTrue (list_all (λ (d : Change). key_is_durable g (change_key d)) cs.items)) is_made (points_kept g limits t w.id (work_of w) c.requires.stands c.args.outcome);
-      short = subst (λ (cs : Changes). IsTrue (list_all leaves_short cs.items)) is_made (points_short g limits t w.id (work_of w) c.requires.stands c.args.outcome);
+      changes = subst (λ (cs : Changes). AreChanges cs.items) is_made (points_are g t w.id (transaction_of w) c.args.outcome c.requires.stands);
+      kept = subst (λ (cs : Changes). IsTrue (list_all (λ (d : Change). key_is_durable g (change_key d)) cs.items)) is_made (points_kept g limits t w.id (transaction_of w) c.requires.stands c.args.outcome);
+      short = subst (λ (cs : Changes). IsTrue (list_all leaves_short cs.items)) is_made (points_short g limits t w.id (transaction_of w) c.requires.stands c.args.outcome);
     }
 
 pub returns-then-has_too_many_gssbs : goal.returns-then-has_too_many_gssbs
 returns-then-has_too_many_gssbs c =
-    has_many _ _ c.args.work.now c.args.outcome c.requires.stands _ _ c.has_too_many_gssbs.ensures c.max-limits.ensures.limits c.in_ok-areas.ensures.exact c.if-has_too_many_gssbs.true
+    has_many _ _ c.args.transaction.now c.args.outcome c.requires.stands _ _ c.has_too_many_gssbs.ensures c.max-limits.ensures.limits c.in_ok-areas.ensures.exact c.if-has_too_many_gssbs.true
 
 pub returns-then-spends_numbers : goal.returns-then-spends_numbers
 returns-then-spends_numbers c =
-    spends_all _ _ c.args.work.now c.args.outcome c.requires.stands _ _ c.has_too_many_gssbs.ensures c.max-limits.ensures.limits c.in_ok-areas.ensures.exact c.if-has_too_many_gssbs.false c.spends_numbers.ensures c.if-spends_numbers.true
+    spends_all _ _ c.args.transaction.now c.args.outcome c.requires.stands _ _ c.has_too_many_gssbs.ensures c.max-limits.ensures.limits c.in_ok-areas.ensures.exact c.if-has_too_many_gssbs.false c.spends_numbers.ensures c.if-spends_numbers.true
 
 pub returns-then-is_pool_full : goal.returns-then-is_pool_full
 returns-then-is_pool_full c =
-    fills_pool _ _ c.args.work.now c.args.outcome c.requires.stands _ _ c.has_too_many_gssbs.ensures c.max-limits.ensures.limits c.in_ok-areas.ensures.exact c.if-has_too_many_gssbs.false c.spends_numbers.ensures c.if-spends_numbers.false _ c.is_pool_full.ensures
-    (made _ _ c.args.work.now c.args.outcome c.requires.stands c.in_ok-changes.ensures c.in_ok-row.ensures) c.if-is_pool_full.true
+    fills_pool _ _ c.args.transaction.now c.args.outcome c.requires.stands _ _ c.has_too_many_gssbs.ensures c.max-limits.ensures.limits c.in_ok-areas.ensures.exact c.if-has_too_many_gssbs.false c.spends_numbers.ensures c.if-spends_numbers.false _ c.is_pool_full.ensures
+    (made _ _ c.args.transaction.now c.args.outcome c.requires.stands c.in_ok-changes.ensures c.in_ok-row.ensures) c.if-is_pool_full.true
 
 pub returns : goal.returns
 returns c =
-    passes _ _ c.args.work.now c.args.outcome c.requires.stands _ _ c.has_too_many_gssbs.ensures c.max-limits.ensures.limits c.in_ok-areas.ensures.exact c.if-has_too_many_gssbs.false c.spends_numbers.ensures c.if-spends_numbers.false _ c.is_pool_full.ensures
-    (made _ _ c.args.work.now c.args.outcome c.requires.stands c.in_ok-changes.ensures c.in_ok-row.ensures) c.if-is_pool_full.false _ c.in_ok-row.ensures
+    passes _ _ c.args.transaction.now c.args.outcome c.requires.stands _ _ c.has_too_many_gssbs.ensures c.max-limits.ensures.limits c.in_ok-areas.ensures.exact c.if-has_too_many_gssbs.false c.spends_numbers.ensures c.if-spends_numbers.false _ c.is_pool_full.ensures
+    (made _ _ c.args.transaction.now c.args.outcome c.requires.stands c.in_ok-changes.ensures c.in_ok-row.ensures) c.if-is_pool_full.false _ c.in_ok-row.ensures

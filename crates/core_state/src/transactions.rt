@@ -2,7 +2,7 @@
 ghost use Rattle.std.specs.{Prelude.{◌≡◌, IfSome, None, OnOk, false}, Option.{option_map}, FinMap.{find}};
 ghost use Rattle.kdcs_types.specs.Keys.{id_cmp};
 ghost use Rattle.abstract_monitor.specs.{Endings.{opened}, Sessions.{is_running}, Turns.{with_open, without_open}};
-ghost use Rattle.open_transaction.specs.Work.{accepted_of, boxed_work, HasOrder};
+ghost use Rattle.open_transaction.specs.Transactions.{accepted_of, boxed_transaction, HasOrder};
 ghost use Rattle.core_state.specs.{Queue.{marked_for}, Standing.{IsIndexed, IsOwned, SameApplication, state_of}};
 
 use async_queue::Jobs;
@@ -47,7 +47,7 @@ impl MonitorParts {
         ensures same { OnOk result (SameApplication self.old self.new) }
         ensures state { OnOk result (state_of self.new ≡ with_open (state_of self.old) id.now (opened self.old.generation began header handed (accepted_of accepted handed))) }
     {
-        let work = OpenTransaction::begin(
+        let transaction = OpenTransaction::begin(
             alloc,
             &self.generation,
             *id,
@@ -56,7 +56,7 @@ impl MonitorParts {
             handed,
             accepted,
         )?;
-        self.active.put(*id, work)?;
+        self.active.put(*id, transaction)?;
         mark(&mut self.jobs, id, true);
         Ok(())
     }
@@ -69,12 +69,12 @@ impl MonitorParts {
         ensures indexed { IsIndexed self.new }
         ensures same { SameApplication self.old self.new }
         ensures state { state_of self.new ≡ without_open (state_of self.old) id.now }
-        ensures found { option_map boxed_work result ≡ find id_cmp id.now (state_of self.old).active }
-        ensures owned { IfSome result (λ work. IsOwned self.old.generation self.old.steps (id.now, work)) }
+        ensures found { option_map boxed_transaction result ≡ find id_cmp id.now (state_of self.old).active }
+        ensures owned { IfSome result (λ transaction. IsOwned self.old.generation self.old.steps (id.now, transaction)) }
     {
-        let work = self.active.remove(id);
+        let transaction = self.active.remove(id);
         self.locks.free_all(*id);
         mark(&mut self.jobs, id, false);
-        work
+        transaction
     }
 }

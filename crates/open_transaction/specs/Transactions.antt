@@ -5,13 +5,13 @@ use Rattle.std.specs.FinMap.{is_sorted}
 use Rattle.kdcs_types.specs.declared.service.Service.{Service}
 use Rattle.kdcdef_types.specs.Generation.{Generated}
 use Rattle.abstract_monitor.specs.Bytes.{Bytes, bytes_cmp}
-use Rattle.abstract_monitor.specs.State.{OpenTransaction as Work}
+use Rattle.abstract_monitor.specs.State.{OpenTransaction as Transaction}
 use Rattle.abstract_monitor.specs.Endings.{followed, followed_by_input}
 use Rattle.open_transaction.specs.declared.open.OpenTransaction.{OpenTransaction}
 
 -- the definition's open transaction
-abbrev pub work_of : OpenTransaction → Work
-work_of x = record {
+abbrev pub transaction_of : OpenTransaction → Transaction
+transaction_of x = record {
   began = x.began;
   first = x.first;
   user = x.user;
@@ -34,8 +34,8 @@ work_of x = record {
 abbrev pub Boxed : Type 0
 Boxed = Box OpenTransaction Global
 
-abbrev pub boxed_work : Boxed → Work
-boxed_work b = work_of b.value
+abbrev pub boxed_transaction : Boxed → Transaction
+boxed_transaction b = transaction_of b.value
 
 -- the LSSBs of a row ascend without repeats
 abbrev pub HasOrder : Option Service → Type 0
@@ -47,6 +47,6 @@ accepted_of true handed = handed
 accepted_of false handed = []
 
 -- a further unit run, after PEND PR and PA, or with the input that came after PEND KP
-abbrev pub followed_with : Generated → (asynchronous : Bool) → Work → (tac : Bytes) → Option Bytes → Work
+abbrev pub followed_with : Generated → (asynchronous : Bool) → Transaction → (tac : Bytes) → Option Bytes → Transaction
 followed_with g asynchronous x tac None = followed g asynchronous x tac
 followed_with g asynchronous x tac (Some input) = followed_by_input g x tac input

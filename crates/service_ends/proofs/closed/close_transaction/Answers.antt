@@ -1,5 +1,5 @@
 use Rattle.service_ends.proofs.Ended.{closed_result}
-use Rattle.service_ends.proofs.closed.close_work.Goals as goal
+use Rattle.service_ends.proofs.closed.close_transaction.Goals as goal
 
 pub returns-clause-closed : goal.returns-clause-closed
 returns-clause-closed c =

@@ -3,7 +3,7 @@ use Rattle.std.proofs.lemmas.Result.{IfOk-weaker}
 use Rattle.service_ends.specs.Ending.{turned_to}
 use Rattle.core_state.specs.Standing.{state_of}
 use Rattle.monitor_core.specs.WholeLaws.{Exact, StateThen, breaks, breaks_works, holds_it, queued_there, queues, returns, returns_works, settles, settles_works, task_then, waited, went}
-use Rattle.monitor_core.proofs.turning.work.Goals as goal
+use Rattle.monitor_core.proofs.turning.serve.Goals as goal
 
 pub queue-requires-clause-task : goal.queue-requires-clause-task
 queue-requires-clause-task c =
