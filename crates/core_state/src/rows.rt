@@ -3,8 +3,8 @@ ghost use Rattle.std.specs.Prelude.{◌≡◌, OnOk};
 ghost use Rattle.kdcs_types.specs.Tables.{changed, AreChanges};
 ghost use Rattle.core_state.specs.{Queue.{followed, followed_all, is_open_job, marked_if, with_marked}, Standing.{IsIndexed, SameApplication, active_of, state_of}};
 
-use async_queue::Jobs;
 use crate::parts::MonitorParts;
+use async_queue::Jobs;
 use kd_base::OutOfMemory;
 use kdcs_types::{Change, Changes, Job, JobValue, Key, Row, ServiceId};
 use open_transaction::OpenTransaction;

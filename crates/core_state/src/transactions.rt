@@ -5,8 +5,8 @@ ghost use Rattle.abstract_monitor.specs.{Endings.{opened}, Sessions.{is_running}
 ghost use Rattle.open_transaction.specs.Transactions.{accepted_of, boxed_transaction, HasOrder};
 ghost use Rattle.core_state.specs.{Queue.{marked_for}, Standing.{IsIndexed, IsOwned, SameApplication, state_of}};
 
-use async_queue::Jobs;
 use crate::parts::MonitorParts;
+use async_queue::Jobs;
 use kd_base::OutOfMemory;
 use kdcs_types::{Header, Parts, Service, ServiceId};
 use open_transaction::OpenTransaction;

@@ -7,8 +7,8 @@ ghost use Rattle.abstract_monitor.specs.{Commands.{acts_of}, Trace.{history}};
 ghost use Rattle.laws_of_steps.specs.Cut.{commits_in};
 ghost use Rattle.device_run.specs.Running.{turns_of, Ran, IsRunning, PerformsSteps};
 
-use abstract_monitor::Command;
 use crate::steps::do_command;
+use abstract_monitor::Command;
 use kd_device::Device;
 use kdcfile_store::WholeStore;
 use laws_of_steps::steps_commit_once;

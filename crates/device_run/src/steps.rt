@@ -10,8 +10,8 @@ ghost use Rattle.warm_start.specs.{Opening.{StartsFrom, IsRefused, IsOfOtherText
 ghost use Rattle.laws_of_steps.specs.Cut.{commits_in};
 ghost use Rattle.device_run.specs.Running.{turns_of, DidSteps, IsAgain, IsRunning, PerformsSteps};
 
-use abstract_monitor::Command;
 use crate::commits::count_commits;
+use abstract_monitor::Command;
 use device_acts::{perform_acts, say};
 use kd_device::Device;
 use kdcdef_check::Generation;

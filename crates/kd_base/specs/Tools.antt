@@ -14,7 +14,6 @@ onto_first {A} {B} before found = option_map (λ (p : List A × B). (before ++ p
 
 -- the second step, where the first gave a value
 infixl 10 ◌>>=◌
-
 -- ---- `Result`
 
 abbrev pub ◌>>=◌ : {A B E : Type 0} → Result A E → (A → Result B E) → Result B E

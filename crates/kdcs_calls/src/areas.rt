@@ -5,12 +5,12 @@ ghost use Rattle.abstract_monitor.specs.Calls.{deleted, name_in_operand, or_empt
 ghost use Rattle.open_transaction.specs.Transactions.{transaction_of};
 ghost use Rattle.kdcs_calls.specs.{Calling.{HoldsJust, IsShort, after_release, after_request}, Parts.{accessed, asked_in, goes_on, held, in_area, named_by, released_in, seen_of, told_of}};
 
-use abstract_monitor::Called;
-use area_locks::LockTable;
 use crate::answer::{read_or, read_reply, replied};
 use crate::lock::{lock, touches};
 use crate::operand::{Owner, area_in};
 use crate::outside::Outside;
+use abstract_monitor::Called;
+use area_locks::LockTable;
 use kd_base::{Bytes, OutOfMemory};
 use kdcs_types::{Area, Code, Note, Tables};
 use open_transaction::{OpenTransaction, release};
@@ -40,7 +40,11 @@ fn or_empty(alloc: Global, found: Option<Bytes>) -> Bytes
 }
 
 // SPUT GB, SPUT US and PTDA, of an area that the transaction holds.
-fn write(transaction: &mut OpenTransaction, area: Area, bytes: &Bytes) -> Result<Called, OutOfMemory>
+fn write(
+    transaction: &mut OpenTransaction,
+    area: Area,
+    bytes: &Bytes,
+) -> Result<Called, OutOfMemory>
     ensures exact { IfOk result (λ called. (transaction_of transaction.new, called) ≡ wrote (transaction_of transaction.old) area (Some bytes.now)) }
     ensures id { transaction.new.id ≡ transaction.old.id }
     ensures statements { transaction.new.statements ≡ transaction.old.statements }
@@ -51,7 +55,11 @@ fn write(transaction: &mut OpenTransaction, area: Area, bytes: &Bytes) -> Result
 }
 
 // SREL GB, of an area that the transaction holds.
-fn delete(tables: &Tables, transaction: &mut OpenTransaction, area: Area) -> Result<Called, OutOfMemory>
+fn delete(
+    tables: &Tables,
+    transaction: &mut OpenTransaction,
+    area: Area,
+) -> Result<Called, OutOfMemory>
     ensures exact { IfOk result (λ called. (transaction_of transaction.new, called) ≡ deleted (transaction_of transaction.old) area (seen_of (content_of tables.now area) (transaction_of transaction.old) area)) }
     ensures id { transaction.new.id ≡ transaction.old.id }
     ensures statements { transaction.new.statements ≡ transaction.old.statements }

@@ -4,8 +4,6 @@ ghost use Rattle.abstract_monitor.specs.{Calls.{called, call_outcome, first_call
 ghost use Rattle.open_transaction.specs.Transactions.{transaction_of};
 ghost use Rattle.kdcs_calls.specs.{Calling.{CanRead, HoldersFollow, HoldsJust, WaitsFollow, locks_after_call, locks_by_call, performed_now}, Parts.{owner_of}};
 
-use abstract_monitor::{Called, Due};
-use area_locks::LockTable;
 use crate::answer::replied;
 use crate::areas::{Access, access_area, unlock};
 use crate::jobs::{moment_in, put_job};
@@ -14,6 +12,8 @@ use crate::messages::{get, put};
 use crate::operand::Owner;
 use crate::outside::Outside;
 use crate::pend::pend;
+use abstract_monitor::{Called, Due};
+use area_locks::LockTable;
 use kd_base::OutOfMemory;
 use kdcdef_check::Generation;
 use kdcs_types::{Call, Cause, Code, ServiceId, Tables};
@@ -83,13 +83,34 @@ fn later_call(
             put_job(g, transaction, to, moment_in(*mode, d, h, m, s), message)
         }
         Call::SgetGb(name, room) => {
-            access_area(outside, locks, transaction, owner, name, Access::Read(*room))
+            access_area(
+                outside,
+                locks,
+                transaction,
+                owner,
+                name,
+                Access::Read(*room),
+            )
         }
         Call::SgetUs(name, room) | Call::Gtda(name, room) => {
-            access_area(outside, locks, transaction, owner, name, Access::ReadBlock(*room))
+            access_area(
+                outside,
+                locks,
+                transaction,
+                owner,
+                name,
+                Access::ReadBlock(*room),
+            )
         }
         Call::SputGb(name, bytes) | Call::SputUs(name, bytes) | Call::Ptda(name, bytes) => {
-            access_area(outside, locks, transaction, owner, name, Access::Write(bytes))
+            access_area(
+                outside,
+                locks,
+                transaction,
+                owner,
+                name,
+                Access::Write(bytes),
+            )
         }
         Call::SrelGb(name) => access_area(outside, locks, transaction, owner, name, Access::Delete),
         Call::UnlkGb(name) | Call::UnlkUs(name) | Call::UnlkDa(name) => {

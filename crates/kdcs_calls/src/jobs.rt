@@ -6,9 +6,9 @@ ghost use Rattle.unit_semantics.specs.Contents.{number_of};
 ghost use Rattle.open_transaction.specs.Transactions.{transaction_of};
 ghost use Rattle.async_queue.specs.Drafts.{IsInTicks};
 
-use abstract_monitor::{Called, Due};
 use crate::answer::replied;
 use crate::operand::name_in;
+use abstract_monitor::{Called, Due};
 use kd_base::{Bytes, Mode, Name, OutOfMemory};
 use kdcdef_check::Generation;
 use kdcdef_types::{CallUse, TacEntry};

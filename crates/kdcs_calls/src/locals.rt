@@ -4,9 +4,9 @@ ghost use Rattle.abstract_monitor.specs.{Bytes.{Bytes, bytes_cmp}, Calls.{name_i
 ghost use Rattle.open_transaction.specs.Transactions.{transaction_of};
 ghost use Rattle.kdcs_calls.specs.{Calling.{IsShort}, Parts.{local_call}};
 
-use abstract_monitor::Called;
 use crate::answer::{read_or, read_reply, replied};
 use crate::operand::name_in;
+use abstract_monitor::Called;
 use kd_base::{Bytes, Name, OutOfMemory};
 use kdcdef_check::Generation;
 use kdcs_types::Code;
@@ -26,7 +26,11 @@ pub(crate) enum Local<'a> {
 }
 
 // What was read away, once it is deleted.
-fn read_away(transaction: &mut OpenTransaction, name: Name, room: u32) -> Result<Called, OutOfMemory>
+fn read_away(
+    transaction: &mut OpenTransaction,
+    name: Name,
+    room: u32,
+) -> Result<Called, OutOfMemory>
     requires { IfSome (find bytes_cmp name transaction.old.areas.lssbs) IsShort }
     ensures exact { IfOk result (λ called. (transaction_of transaction.new, called) ≡ read_away (transaction_of transaction.old) name room) }
     ensures id { transaction.new.id ≡ transaction.old.id }

@@ -5,10 +5,10 @@ ghost use Rattle.abstract_monitor.specs.{Calls.{Performed, locked, on_answer, to
 ghost use Rattle.open_transaction.specs.Transactions.{transaction_of};
 ghost use Rattle.kdcs_calls.specs.{Calling.{HoldsJust}, Parts.{after_lock, told_of}};
 
-use abstract_monitor::{Called, LockAnswer};
-use area_locks::LockTable;
 use crate::answer::replied;
 use crate::outside::Outside;
+use abstract_monitor::{Called, LockAnswer};
+use area_locks::LockTable;
 use kd_base::OutOfMemory;
 use kdcs_types::{Area, Code, Note};
 use open_transaction::OpenTransaction;

@@ -5,8 +5,8 @@ ghost use Rattle.open_transaction.specs.Transactions.{transaction_of};
 ghost use Rattle.kdcdef_types.specs.Generation.{Generated};
 ghost use Rattle.kdcs_calls.specs.Calling.{IsShort};
 
-use abstract_monitor::Called;
 use crate::answer::{read_reply, replied};
+use abstract_monitor::Called;
 use kd_base::{Bytes, OutOfMemory};
 use kdcs_types::{Cause, Code};
 use message_area::PutError;

@@ -4,8 +4,8 @@ ghost use Rattle.kdcdef_types.specs.Generation.{tac_of};
 ghost use Rattle.abstract_monitor.specs.Calls.{pend};
 ghost use Rattle.open_transaction.specs.Transactions.{transaction_of};
 
-use abstract_monitor::Called;
 use crate::operand::name_if_given;
+use abstract_monitor::Called;
 use kd_base::{Bytes, Name, Variant};
 use kdcdef_check::Generation;
 use kdcdef_types::TacEntry;

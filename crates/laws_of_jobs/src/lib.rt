@@ -8,8 +8,10 @@
 ghost use Rattle.laws_of_jobs.specs.{QueueLaws.{TurnsDoSo, CommandsDoSo, TurnsKeepQueues, CommandsKeepQueues, HistoriesKeepQueues, HistoriesSendAtPoints, JobsAreDoneOnce}, Lawful.{HistoriesAreLawful, RunsAreLawful}, ResumeLaws.{StartsResume, SignOnsResume, CutsResume}, SerialCuts.{CutsAreSerial}, ManyRuns.{AllRunsKeepJobs}};
 
 use laws_of_places::facts_hold_along;
-use laws_of_runs::{commits_are_serial, scripts_are_serial_runs};
-use laws_of_runs::{commits_make_the_tables, facts_hold_along_every_script};
+use laws_of_runs::{
+    commits_are_serial, commits_make_the_tables, facts_hold_along_every_script,
+    scripts_are_serial_runs,
+};
 use laws_of_steps::steps_commit_once;
 use laws_of_tables::states_stay_sound;
 

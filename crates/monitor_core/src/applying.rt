@@ -4,12 +4,12 @@ ghost use Rattle.abstract_monitor.specs.{CommandsOf.{is_pterm, IsCommandOf}, Com
 ghost use Rattle.core_state.specs.{Whole.{app_of, IsWhole}, Standing.{IsIndexed, SameApplication, state_of}};
 ghost use Rattle.monitor_core.specs.{Commanding.{printed, Comes, IsSingle}, Counted.{IsAhead}};
 
-use abstract_monitor::Command;
-use core_state::MonitorParts;
 use crate::clock::tick;
 use crate::input::{input, lterm_of};
 use crate::showing::{Shown, show_again, show_next};
 use crate::signing::drop_terminal;
+use abstract_monitor::Command;
+use core_state::MonitorParts;
 use kd_base::{Name, OutOfMemory};
 use kdcs_types::Acts;
 use laws_of_places::states_stay_consistent;

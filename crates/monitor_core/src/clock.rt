@@ -5,8 +5,8 @@ ghost use Rattle.abstract_monitor.specs.Commands.{ticked};
 ghost use Rattle.core_state.specs.{Whole.{app_of}, Standing.{IsIndexed, SameApplication, state_of}};
 ghost use Rattle.monitor_core.specs.Commanding.{Comes};
 
-use core_state::MonitorParts;
 use crate::message::{line_alone, line_behind};
+use core_state::MonitorParts;
 use kd_base::{LAST_CLOCK, OutOfMemory};
 use kdcs_types::{Acts, Changes, RowChanges};
 use output_lines::{tick_line, tick_refused_line};

@@ -13,12 +13,12 @@ ghost use Rattle.service_ends.specs.Ending.{turned_to};
 ghost use Rattle.monitor_core.specs.Commanding.{Comes, IsSingle};
 ghost use Rattle.monitor_core.specs.{CoreValue.{OneStep}, Steps.{came_to}};
 
-use abstract_monitor::{Command, Use};
-use core_state::MonitorParts;
 use crate::applying::apply;
 use crate::input::use_of;
 use crate::start::parts_of;
 use crate::turning::turn;
+use abstract_monitor::{Command, Use};
+use core_state::MonitorParts;
 use kd_base::{Name, OutOfMemory};
 use kdcdef_check::Generation;
 use kdcs_types::{Acts, Tables};

@@ -5,12 +5,12 @@ ghost use Rattle.abstract_monitor.specs.{CommandsOf.{is_pterm}, declared.command
 ghost use Rattle.core_state.specs.{Whole.{app_of, IsWhole}, Standing.{IsIndexed, SameApplication, state_of}};
 ghost use Rattle.monitor_core.specs.{Commanding.{Comes, HasService, IsFor}, Counted.{IsAhead}};
 
-use abstract_monitor::{ServiceState, Use};
-use core_state::MonitorParts;
 use crate::message::{line_alone, say};
 use crate::showing::{Shown, display, show_again, show_next};
 use crate::signing::{sign_off, sign_on};
 use crate::starting::{next_input, start_service};
+use abstract_monitor::{ServiceState, Use};
+use core_state::MonitorParts;
 use kd_base::{Bytes, Name, OutOfMemory};
 use kdcdef_check::Generation;
 use kdcs_types::{Acts, ServiceId};

@@ -6,8 +6,8 @@ ghost use Rattle.core_state.specs.{Whole.{app_of}, Standing.{IsIndexed, SameAppl
 ghost use Rattle.laws_of_commits.specs.CommitLaws.{shown_changes, shown_set};
 ghost use Rattle.monitor_core.specs.Commanding.{shown_line, Comes};
 
-use core_state::MonitorParts;
 use crate::message::{line_alone, line_behind};
+use core_state::MonitorParts;
 use kd_base::{Bytes, Name, OutOfMemory};
 use kdcs_types::{Acts, Change, Changes, Job, JobValue, Key, Row, RowChanges, Tables, Target};
 use output_lines::{asy_line, no_message_line, out_line, prt_line};

@@ -7,8 +7,8 @@ ghost use Rattle.session_table.specs.Signed.{CanSignOn};
 ghost use Rattle.core_state.specs.{Whole.{app_of, IsWhole}, Standing.{IsIndexed, SameApplication, state_of}};
 ghost use Rattle.monitor_core.specs.Commanding.{Comes, Rests};
 
-use core_state::MonitorParts;
 use crate::message::{line_alone, say};
+use core_state::MonitorParts;
 use kd_base::{Bytes, Name, OutOfMemory};
 use kdcdef_check::Generation;
 use kdcs_types::{Act, Acts, Service, ServiceId, Tables};

@@ -6,9 +6,9 @@ ghost use Rattle.open_transaction.specs.Transactions.{HasOrder};
 ghost use Rattle.core_state.specs.{Whole.{app_of, IsWhole}, Standing.{IsIndexed, SameApplication, state_of}};
 ghost use Rattle.monitor_core.specs.{Commanding.{Rests}, Counted.{IsAhead}};
 
+use crate::signing::row_of;
 use abstract_monitor::Happened;
 use core_state::MonitorParts;
-use crate::signing::row_of;
 use kd_base::{Bytes, Name, OutOfMemory};
 use kdcs_types::{Header, Parts, Service, ServiceId};
 use service_ends::header_of_row;

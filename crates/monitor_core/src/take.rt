@@ -34,8 +34,18 @@ fn begin_job(parts: &mut MonitorParts, alloc: Global, number: u64) -> Result<(),
     let mut handed = Parts::new(alloc);
     handed.push(job.message.clone()?)?;
     let id = ServiceId::Asynchronous(number);
-    let transaction = OpenTransaction::begin(alloc, &parts.generation, id, None, header, handed, false)?;
-    parts.active.put(ServiceId::Asynchronous(number), transaction)?;
+    let transaction = OpenTransaction::begin(
+        alloc,
+        &parts.generation,
+        id,
+        None,
+        header,
+        handed,
+        false,
+    )?;
+    parts
+        .active
+        .put(ServiceId::Asynchronous(number), transaction)?;
     parts.jobs.take(number);
     Ok(())
 }

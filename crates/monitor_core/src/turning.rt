@@ -7,10 +7,10 @@ ghost use Rattle.service_ends.specs.Ending.{turned_to};
 ghost use Rattle.core_state.specs.{Standing.{IsIndexed, state_of}, Whole.{IsWhole, app_of}};
 ghost use Rattle.monitor_core.specs.Turning.{IsHeldBy};
 
-use abstract_monitor::Happened;
-use core_state::MonitorParts;
 use crate::statement::perform;
 use crate::take::take;
+use abstract_monitor::Happened;
+use core_state::MonitorParts;
 use kd_base::OutOfMemory;
 use kdcs_types::ServiceId;
 use laws_of_places::states_stay_consistent;

@@ -6,8 +6,8 @@ ghost use Rattle.abstract_monitor.specs.{Bytes.{bytes_cmp}, Endings.{joined, ope
 ghost use Rattle.unit_semantics.specs.Ready.{CanAnswer, IsReady};
 ghost use Rattle.open_transaction.specs.Transactions.{transaction_of, accepted_of, followed_with, HasOrder};
 
-use async_queue::DraftJobs;
 use crate::held::HeldAreas;
+use async_queue::DraftJobs;
 use kd_base::{Bytes, Name, OutOfMemory};
 use kdcdef_check::Generation;
 use kdcs_types::{Areas, Code, Header, Notes, Parts, Reply, RunState, Service, ServiceId};

@@ -2,7 +2,6 @@
 ghost use Rattle.std.specs.{Prelude.{◌≡◌, ◌<◌, length}, List.{list_all}};
 ghost use Rattle.script_read.specs.{Script.{words, is_passed, begins_with_space}, Commands.{is_text_byte, input, alone, with_one, with_two, line_of_words, command_by, begins_with_in, line_in}, Reading.{outcome, found_of, Gives}};
 
-use abstract_monitor::Command;
 use crate::fault::ScriptFault;
 use crate::keyword::{Keyword, keyword_of};
 use crate::line::is_passed;
@@ -10,6 +9,7 @@ use crate::number::number_of;
 use crate::reading::LineReader;
 use crate::terminal::pterm_of;
 use crate::word::{next_word, same, split_at_space};
+use abstract_monitor::Command;
 use kd_base::{Bytes, LAST_CLOCK};
 use kdcdef_check::Generation;
 use std::alloc::Global;

@@ -4,9 +4,9 @@ ghost use Rattle.kd_base.specs.FirstFaults.{items_of};
 ghost use Rattle.script_read.specs.{declared.fault.ScriptFault.TheVariants.{Memory}, Script.{Line, command_lines, is_too_long}, Commands.{script_in}, Reading.{outcome, Gives, commands_of}};
 ghost use Rattle.abstract_monitor.specs.CommandsOf.{IsCommandOf};
 
-use abstract_monitor::Command;
 use crate::fault::ScriptFault;
 use crate::line::is_passed;
+use abstract_monitor::Command;
 use kd_base::{LONGEST_TEXT, Sequence};
 use kdcdef_check::Generation;
 use std::alloc::Global;

@@ -6,11 +6,11 @@ ghost use Rattle.open_transaction.specs.Transactions.{boxed_transaction};
 ghost use Rattle.service_ends.specs.Ending.{turned_to, CanGoOn, IsClosed, Works};
 ghost use Rattle.core_state.specs.{Standing.{IsIndexed, SameApplication, state_of}, Whole.{app_of}};
 
-use core_state::MonitorParts;
 use crate::closed::close_transaction;
 use crate::row::go_on;
 use crate::terminal::{say_ended, tell};
 use crate::turned::Turned;
+use core_state::MonitorParts;
 use kd_base::{Bytes, Name, OutOfMemory};
 use kdcs_types::{Acts, Service, ServiceId};
 use open_transaction::OpenTransaction;

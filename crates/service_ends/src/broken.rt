@@ -6,11 +6,11 @@ ghost use Rattle.open_transaction.specs.Transactions.{boxed_transaction, transac
 ghost use Rattle.service_ends.specs.Ending.{behind_end, broken_to, emitted, turned_to, IsClosed, Works};
 ghost use Rattle.core_state.specs.{Standing.{IsIndexed, SameApplication, state_of}, Whole.{app_of}};
 
-use core_state::MonitorParts;
 use crate::closed::close_transaction;
 use crate::row::commit;
 use crate::terminal::say_ended;
 use crate::turned::Turned;
+use core_state::MonitorParts;
 use kd_base::{Bytes, OutOfMemory};
 use kdcs_types::{Act, Acts, Changes, Ending, ServiceId, Settled};
 use open_transaction::OpenTransaction;

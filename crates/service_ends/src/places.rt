@@ -6,9 +6,9 @@ ghost use Rattle.step_scheduler.specs.Schedule.{IsTask};
 ghost use Rattle.service_ends.specs.Ending.{turned_to};
 ghost use Rattle.core_state.specs.Standing.{IsIndexed, SameApplication, state_of};
 
-use core_state::MonitorParts;
 use crate::terminal::tell;
 use crate::turned::Turned;
+use core_state::MonitorParts;
 use kd_base::OutOfMemory;
 use kdcs_types::{Acts, ServiceId};
 use std::alloc::Global;

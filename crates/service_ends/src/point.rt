@@ -6,13 +6,13 @@ ghost use Rattle.open_transaction.specs.Transactions.{boxed_transaction, transac
 ghost use Rattle.service_ends.specs.Ending.{behind_point, goes_on_from, pointed_to, sent_by, turned_to, CanGoOn, IsClosed, Works};
 ghost use Rattle.core_state.specs.{Standing.{IsIndexed, SameApplication, state_of}, Whole.{app_of}};
 
-use abstract_monitor::Outcome;
-use core_state::MonitorParts;
 use crate::broken::end_transaction;
 use crate::closed::close_transaction;
 use crate::row::{commit, go_on};
 use crate::terminal::tell;
 use crate::turned::Turned;
+use abstract_monitor::Outcome;
+use core_state::MonitorParts;
 use kd_base::{Bytes, Name, OutOfMemory};
 use kdcs_types::{Acts, Changes, Ending, Service, ServiceId, Settled};
 use open_transaction::OpenTransaction;
@@ -29,7 +29,11 @@ struct Ended {
     message: Bytes,
 }
 
-fn ended_by(alloc: Global, transaction: &OpenTransaction, outcome: &Outcome) -> Result<Ended, OutOfMemory>
+fn ended_by(
+    alloc: Global,
+    transaction: &OpenTransaction,
+    outcome: &Outcome,
+) -> Result<Ended, OutOfMemory>
     ensures { IfOk result (λ ended. ended ≡ record { id = transaction.now.id; outcome = outcome.now; lterm = (transaction_of transaction.now).lterm; message = joined (transaction_of transaction.now).parts }) }
 {
     Ok(Ended {
@@ -138,8 +142,19 @@ fn settle_transaction(
     ensures same { OnOk result (SameApplication parts.old parts.new) }
 {
     let ended = ended_by(alloc, &transaction, &outcome)?;
-    match sync_points::settle(transaction, alloc, &parts.generation, &parts.tables, outcome)? {
-        SettleAnswer::Refused(cause, transaction) => end_transaction(parts, alloc, transaction, Ending::Broken(cause)),
+    match sync_points::settle(
+        transaction,
+        alloc,
+        &parts.generation,
+        &parts.tables,
+        outcome,
+    )? {
+        SettleAnswer::Refused(cause, transaction) => end_transaction(
+            parts,
+            alloc,
+            transaction,
+            Ending::Broken(cause),
+        ),
         SettleAnswer::Synced(changes, row, kept) => {
             synchronise(parts, alloc, ended, changes, row, kept)
         }

@@ -8,10 +8,10 @@ ghost use Rattle.unit_semantics.specs.{Ready.{IsReady}, Statement.{Asks, step}};
 ghost use Rattle.laws_of_applications.specs.Applied.{applied};
 ghost use Rattle.service_statement.specs.Stating.{wait_ended, waits_by};
 
-use abstract_monitor::{Called, Happened};
-use area_locks::LockTable;
 use crate::outside::Outside;
 use crate::pend::pend;
+use abstract_monitor::{Called, Happened};
+use area_locks::LockTable;
 use kd_base::OutOfMemory;
 use kdcs_calls::perform;
 use kdcs_types::{Call, Ending};

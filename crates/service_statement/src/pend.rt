@@ -4,8 +4,8 @@ ghost use Rattle.abstract_monitor.specs.{Endings.{is_asynchronous}, Statements.{
 ghost use Rattle.open_transaction.specs.Transactions.{transaction_of};
 ghost use Rattle.laws_of_applications.specs.Applied.{applied};
 
-use abstract_monitor::{Happened, Outcome};
 use crate::outside::Outside;
+use abstract_monitor::{Happened, Outcome};
 use kd_base::{OutOfMemory, Variant};
 use kdcs_types::{Cause, Ending};
 use open_transaction::OpenTransaction;

@@ -11,11 +11,11 @@ ghost use Rattle.laws_of_applications.specs.Applied.{applied};
 ghost use Rattle.unit_check.specs.Fitted.{IsFit};
 ghost use Rattle.service_statement.specs.Stating.{StepLeaves, wait_ended, waits_after};
 
-use abstract_monitor::Happened;
-use area_locks::LockTable;
 use crate::call::perform_call;
 use crate::outside::Outside;
 use crate::waits::end_wait;
+use abstract_monitor::Happened;
+use area_locks::LockTable;
 use kd_base::OutOfMemory;
 use kdcdef_check::Generation;
 use kdcs_types::{Ending, Tables};
@@ -26,7 +26,11 @@ use unit_step::{Stepped, step};
 use unit_types::Unit;
 
 // A plain statement is done and counted; else nothing changes.
-fn step_unit(alloc: Global, unit: &Unit, transaction: &mut OpenTransaction) -> Result<Stepped, OutOfMemory>
+fn step_unit(
+    alloc: Global,
+    unit: &Unit,
+    transaction: &mut OpenTransaction,
+) -> Result<Stepped, OutOfMemory>
     requires ready { IsReady unit.now transaction.old.run }
     requires statements { transaction.old.statements + 1 < 2 ^ 64 }
     ensures meaning { IfOk result (λ stepped. meaning_of stepped transaction.new.run ≡ step unit.now transaction.old.run) }

@@ -3,9 +3,9 @@ ghost use Rattle.std.specs.{Prelude.{◌≡◌, List, ℕ, None, IfOk, IsTrue, O
 ghost use Rattle.abstract_monitor.specs.{Sessions.{after_word, off_use, same_password, sign_on_use, start_by, tac_named, use_signed, use_unsigned}, Turns.{pterm_of_user}, declared.input_use.Use.TheVariants.{Sign}};
 ghost use Rattle.session_table.specs.Inputs.{holds_text};
 
-use abstract_monitor::{ServiceState, SignFault, TacFault, Use};
 use crate::sessions::Sessions;
 use crate::split::Split;
+use abstract_monitor::{ServiceState, SignFault, TacFault, Use};
 use kd_base::{Bytes, Name, OutOfMemory};
 use kdcdef_check::Generation;
 use kdcdef_types::CallUse;

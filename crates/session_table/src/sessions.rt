@@ -3,10 +3,10 @@ ghost use Rattle.std.specs.{Prelude.{◌≡◌, List, ℕ, [], MatchOption, Ok, 
 ghost use Rattle.abstract_monitor.specs.{Bytes.{bytes_cmp}, Commands.{last_by}, Sessions.{has_user, use_of}, Turns.{pterm_of_user}, declared.input_use.Use.TheVariants.{Sign}};
 ghost use Rattle.session_table.specs.{Inputs.{holds_text}, Signed.{AreSessions, CanSignOn}};
 
-use abstract_monitor::{ServiceState, Use};
 use crate::input::{use_signed, use_unsigned};
 use crate::session::Session;
 use crate::split::Split;
+use abstract_monitor::{ServiceState, Use};
 use kd_base::{Bytes, Name, OutOfMemory};
 use kdcdef_check::Generation;
 use sorted_pairs::SortedPairs;

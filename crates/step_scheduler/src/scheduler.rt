@@ -5,9 +5,9 @@ ghost use Rattle.abstract_monitor.specs.Picks.{pick_work};
 ghost use Rattle.async_queue.specs.Queue.{free};
 ghost use Rattle.step_scheduler.specs.Schedule.{all_free, is_ready, is_running, holds, left_by, released, with_ready, without_ready, IsTask, place_of, service_in, with_class, with_place, took_service, took_job, picked};
 
+use crate::room::{Classed, Room, class_of_target, first_allowed};
 use abstract_monitor::Work;
 use async_queue::Jobs;
-use crate::room::{Classed, Room, class_of_target, first_allowed};
 use kd_base::OutOfMemory;
 use kdcdef_check::Generation;
 use kdcs_types::{Job, ServiceId};

@@ -7,12 +7,12 @@ ghost use Rattle.open_transaction.specs.Transactions.{transaction_of};
 ghost use Rattle.storage_areas.specs.Areas.{changes_of};
 ghost use Rattle.sync_points.specs.{Answers.{answer_by, point_by}, PointChanges.{changes_with, job_changes}};
 
-use abstract_monitor::Outcome;
 use crate::gssbs::has_too_many_gssbs;
 use crate::kept::kept_record;
 use crate::pool::is_pool_full;
 use crate::row::row_after;
 use crate::writes::{real_of, write_own_job, write_service};
+use abstract_monitor::Outcome;
 use kd_base::{LAST_NEXT_JOB, OutOfMemory};
 use kdcdef_check::Generation;
 use kdcs_types::{Cause, Change, Changes, Ending, Job, Row, RowChanges, Service, Settled, Tables};

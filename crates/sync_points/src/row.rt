@@ -100,12 +100,26 @@ pub(crate) fn row_after(
     match outcome {
         Outcome::Wait(tac) => {
             let message = transaction.message(alloc)?;
-            let row = point_row(alloc, transaction, tac, true, Parts::new(alloc), Some(message))?;
+            let row = point_row(
+                alloc,
+                transaction,
+                tac,
+                true,
+                Parts::new(alloc),
+                Some(message),
+            )?;
             Ok(Some(row))
         }
         Outcome::Point(tac) => {
             let parts = parts_put(alloc, transaction)?;
-            let row = point_row(alloc, transaction, tac, false, parts, last_of(&transaction.began)?)?;
+            let row = point_row(
+                alloc,
+                transaction,
+                tac,
+                false,
+                parts,
+                last_of(&transaction.began)?,
+            )?;
             Ok(Some(row))
         }
         Outcome::Follow(tac) => Ok(Some(new_row(alloc, generation, transaction, tac)?)),

@@ -5,12 +5,12 @@ ghost use Rattle.utm_cli.specs.{Asking.{Reading, AskFor, CanRun, ScriptIs, Reads
 ghost use Rattle.utm_cli.specs.MadeTexts.{definition_text as made_definition, units_text as made_units, script_text as made_script};
 ghost use Rattle.kdcdef_types.specs.Statements.{IsWithin};
 
-use abstract_monitor::Command;
-use application_read::{Application, read_application};
 use crate::error::TextError;
 use crate::made_run::made;
 use crate::text::named;
 use crate::words::Word;
+use abstract_monitor::Command;
+use application_read::{Application, read_application};
 use kd_base::{LONGEST_TEXT, OutOfMemory};
 use kd_device::{DeviceError, Room};
 use laws_of_applications::fitted_units_make_an_application;

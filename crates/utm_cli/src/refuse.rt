@@ -4,9 +4,9 @@ ghost use Rattle.kd_device.specs.Device.{Rose, Frame, SameNames};
 ghost use Rattle.device_acts.specs.Said.{Said, SaidPart};
 ghost use Rattle.utm_cli.specs.{Promise.{IsOneOf}, Words.{fault_line, application_line, refusal_line, status_of, other_generation_line}};
 
-use application_read::ApplicationFault;
 use crate::error::Refusal;
 use crate::status::Status;
+use application_read::ApplicationFault;
 use device_acts::say;
 use kd_device::{Device, DeviceError};
 use script_read::ScriptFault;

@@ -11,7 +11,6 @@ ghost use Rattle.utm_cli.specs.{Words.{IsForm, file_name, not_a_kdcfile_line, ot
 ghost use Rattle.device_acts.specs.{Said.{SameDisk, Said, SaidPart}, Performing.{Performs, commits_nothing}};
 ghost use Rattle.utm_cli.specs.MadeReport.{report_of};
 
-use application_read::Application;
 use crate::made_run::made_report;
 use crate::opening::{look, open};
 use crate::reading::Errand;
@@ -20,6 +19,7 @@ use crate::report::report;
 use crate::status::Status;
 use crate::text::named;
 use crate::words::Word;
+use application_read::Application;
 use device_acts::{perform_acts, say};
 use device_run::run_script;
 use kd_device::{Device, DeviceError};

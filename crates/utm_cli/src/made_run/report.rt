@@ -12,9 +12,9 @@ ghost use Rattle.device_run.specs.Running.{turns_of, durable_of, IsRunning};
 ghost use Rattle.warm_start.specs.Stands.{KeepsTables, identity_for};
 ghost use Rattle.utm_cli.specs.MadeReport.{report_by, report_of};
 
-use abstract_monitor::Command;
 use crate::made_run::lines::report;
 use crate::made_run::stored::stored_tables;
+use abstract_monitor::Command;
 use device_run::run_script;
 use kd_base::{Bytes, OutOfMemory};
 use kd_device::SureDevice;
