@@ -10,9 +10,9 @@
 
 mod applying;
 mod clock;
-mod core_state;
 mod input;
 mod message;
+mod monitor;
 mod showing;
 mod signing;
 mod start;
@@ -21,5 +21,5 @@ mod statement;
 mod take;
 mod turning;
 
-pub use core_state::Core;
+pub use monitor::Core;
 pub use service_ends::Turned;

@@ -4,7 +4,7 @@ use Rattle.core_state.specs.Standing.{state_of}
 use Rattle.monitor_core.specs.CoreValue.{core_value}
 use Rattle.monitor_core.specs.Sound.{IsSound}
 use Rattle.monitor_core.proofs.Going.{sound_command, serial_command, queues_command}
-use Rattle.monitor_core.proofs.core_state.Core.apply.Goals as goal
+use Rattle.monitor_core.proofs.monitor.Core.apply.Goals as goal
 
 pub invariant_of-result : goal.invariant_of-result
 invariant_of-result c =

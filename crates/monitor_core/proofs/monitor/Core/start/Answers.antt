@@ -1,5 +1,5 @@
 use Rattle.monitor_core.proofs.SoundStart.{sound_start}
-use Rattle.monitor_core.proofs.core_state.Core.start.Goals as goal
+use Rattle.monitor_core.proofs.monitor.Core.start.Goals as goal
 
 pub invariant_of-result : goal.invariant_of-result
 invariant_of-result c =
