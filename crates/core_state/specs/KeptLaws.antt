@@ -26,7 +26,7 @@ use Rattle.async_queue.specs.Marks.{queue_of}
 use Rattle.core_state.specs.Queue.{marked_for, followed_all}
 use Rattle.core_state.specs.QueueLaws.{all_followed, opened_queue, closed_queue}
 use Rattle.core_state.specs.Standing.{Each, HasClass, PlaceHasClass, IsIndexed, IsOwned, active_of, id_of, state_of}
-use Rattle.core_state.specs.ChangesLaws.{each_put, each_where, each_set, each_push, each_found, map_set, map_push, neither_of, ready_stay, places_stay, ready_without, places_left, classes_left, freed_holds, opened_holds, put_others, without_others}
+use Rattle.core_state.specs.ChangesLaws.{SameHolds, each_put, each_where, each_set, each_push, each_found, map_set, map_push, neither_of, ready_stay, places_stay, ready_without, places_left, classes_left, freed_holds, opened_holds, put_others, without_others}
 use Rattle.core_state.specs.Kept.{with_active}
 
 -- ---- ready list and tasks
@@ -95,7 +95,7 @@ module _ (p : MonitorParts) (id : ServiceId) (h : IsIndexed p) (unplaced : IsUnp
         owned = each_where _ _ p.active h.owned;
         ready = subst (λ a. Each (HasClass p.generation a) p.scheduler.ready) left (ready_stay p.generation (active_of p.active) _ id (without_others id (active_of p.active)) p.scheduler.ready nowhere.0 h.ready);
         places = subst (λ a. Each (PlaceHasClass p.generation a) p.scheduler.places) left (places_stay p.generation (active_of p.active) _ id (without_others id (active_of p.active)) p.scheduler.places nowhere.1 h.places);
-        locks = subst (λ a. Rattle.core_state.specs.Changes.SameHolds (freed p.locks id) a) left (freed_holds p.locks (freed p.locks id) (active_of p.active) id follow h.locks);
+        locks = subst (λ a. SameHolds (freed p.locks id) a) left (freed_holds p.locks (freed p.locks id) (active_of p.active) id follow h.locks);
         jobs = ap (marked_for false id) h.jobs ∙ closed_queue id (active_of p.active) p.tables.jobs ∙ ap (λ a. queue_of a p.tables.jobs) left;
       }
 
@@ -112,7 +112,7 @@ module _ (p : MonitorParts) (id : ServiceId) (h : IsIndexed p) (unplaced : IsUnp
         owned = each_put (IsOwned p.generation p.steps) id transaction p.active owned h.owned;
         ready = subst (λ a. Each (HasClass p.generation a) p.scheduler.ready) there (ready_stay p.generation (active_of p.active) _ id (put_others id (boxed_transaction transaction) (active_of p.active)) p.scheduler.ready nowhere.0 h.ready);
         places = subst (λ a. Each (PlaceHasClass p.generation a) p.scheduler.places) there (places_stay p.generation (active_of p.active) _ id (put_others id (boxed_transaction transaction) (active_of p.active)) p.scheduler.places nowhere.1 h.places);
-        locks = subst (λ a. Rattle.core_state.specs.Changes.SameHolds p.locks a) there (opened_holds p.locks (active_of p.active) id (boxed_transaction transaction) closed none h.locks);
+        locks = subst (λ a. SameHolds p.locks a) there (opened_holds p.locks (active_of p.active) id (boxed_transaction transaction) closed none h.locks);
         jobs = j ∙ ap (marked_for true id) h.jobs ∙ opened_queue id (boxed_transaction transaction) (active_of p.active) p.tables.jobs ∙ ap (λ a. queue_of a p.tables.jobs) there;
       }
 

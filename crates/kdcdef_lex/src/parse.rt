@@ -21,7 +21,7 @@ fn hex_digit(b: u8) -> Option<u8>
 }
 
 // The bytes of pairs of hexadecimal digits.
-#[tactic(auto, using(kd_base::specs::Tools::onto_then))]
+#[tactic(auto, using(kd_base::specs::ToolsLaws::onto_then))]
 fn hex_bytes(alloc: Global, digits: &[u8]) -> Result<Option<Bytes>, OutOfMemory>
     ensures { IfOk result (λ found. found ≡ hex_bytes digits.now) }
 {

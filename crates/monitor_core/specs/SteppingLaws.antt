@@ -154,7 +154,7 @@ module _ (p : MonitorParts) (task : ℕ) (id : ServiceId) (x : OpenTransaction) 
         let keeps = statement_keeps (app_of p) (told_here (app_of p) (state_of p) id x) (is_asynchronous id) x in
         exclusive_after (active_of p.active) after id (λ i apart. other_put i id (boxed_transaction transaction) (active_of p.active) apart)
         (statement_holds (state_of p) p.generation.limits.reswait after id x (boxed_transaction transaction) (area_of (app_of p) x) c.active is (found_put id (boxed_transaction transaction) (active_of p.active))
-        (subst (λ (y : OpenTransaction). Rattle.laws_of_places.specs.Kept.HoldsNoMore (told_here (app_of p) (state_of p) id x) (area_of (app_of p) x) x y) (ap (λ (r : Stated). r.0) does) keeps.touched))
+        (subst (λ (y : OpenTransaction). Rattle.laws_of_places.specs.KeptLaws.HoldsNoMore (told_here (app_of p) (state_of p) id x) (area_of (app_of p) x) x y) (ap (λ (r : Stated). r.0) does) keeps.touched))
         c.exclusive
 
     class_now : (class : ℕ) → class ≡ class_of p.generation transaction.value.current → HasClass p.generation after (id, class)

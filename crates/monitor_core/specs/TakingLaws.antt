@@ -109,7 +109,7 @@ module _ (p : MonitorParts) (task : ℕ) (schedule : Schedule) (j : Job) (h : Is
   job_class transaction exact =
       ap (class_of_target p.generation) t.to
       ∙ sym (ap (λ (o : Option OpenTransaction). class_of p.generation (current_by o))
-      (ap (find id_cmp id) (sym (Rattle.sorted_pairs.specs.Mapped.put_mapped id_cmp boxed_transaction id transaction p.active)) ∙ found_put id (boxed_transaction transaction) (active_of p.active) ∙ ap (λ (x : OpenTransaction). Some x) exact)
+      (ap (find id_cmp id) (sym (Rattle.sorted_pairs.specs.MappedLaws.put_mapped id_cmp boxed_transaction id transaction p.active)) ∙ found_put id (boxed_transaction transaction) (active_of p.active) ∙ ap (λ (x : OpenTransaction). Some x) exact)
       ∙ ap (class_of p.generation) (current_opened p.generation j.value t.tac))
 
   job_indexed : (q : MonitorParts) → IsBegun q → IsIndexed q

@@ -61,7 +61,7 @@ fn perform(parts: &mut MonitorParts, alloc: Global, command: &Command) -> Result
 
 /// A command that is no RUN, TURN or RESTART, and names what the generation has. Fewer than 2^64 - 1 turns and commands
 /// were done. When memory runs out, the parts are of no use any more.
-#[tactic(auto, using(crate::specs::Counted::one_counted, crate::specs::Counted::one_ahead))]
+#[tactic(auto, using(crate::specs::CountedLaws::one_counted, crate::specs::CountedLaws::one_ahead))]
 pub(crate) fn apply(
     parts: &mut MonitorParts,
     alloc: Global,

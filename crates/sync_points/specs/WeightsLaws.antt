@@ -73,25 +73,25 @@ module _ (m : Row → ℕ) where
       + sum_by (λ j. m (job_row j)) t.jobs
       + sum_by (λ r. m (shown_row r)) t.shown
 
-  mapped : {E : Type 0} (key_of : E → Key) (row_of : E → Row) (o : Option E) → row_weight (option_map row_of o) ≡ weighed key_of (λ e. m (row_of e)) o
+  mapped : {E : Type 0} (key_of : E → Key) (row_of : E → Row) (o : Option E) → row_weight m (option_map row_of o) ≡ weighed key_of (λ e. m (row_of e)) o
   mapped key_of row_of None = refl
   mapped key_of row_of (Some e) = refl
 
   set-weight : {E : Type 0} (key_of : E → Key) (row_of : E → Row) (e : E) (es : List E) → IsTrue (ascends key_of es)
-      → sum_by (λ e. m (row_of e)) (with_item key_of e es) + row_weight (option_map row_of (item_at key_of (key_of e) es)) ≡ sum_by (λ e. m (row_of e)) es + m (row_of e)
+      → sum_by (λ e. m (row_of e)) (with_item key_of e es) + row_weight m (option_map row_of (item_at key_of (key_of e) es)) ≡ sum_by (λ e. m (row_of e)) es + m (row_of e)
   set-weight key_of row_of e es up = ap (λ n. sum_by (λ e. m (row_of e)) (with_item key_of e es) + n) (mapped key_of row_of (item_at key_of (key_of e) es)) ∙ sum-with key_of (λ e. m (row_of e)) e es up
 
   gone-weight : {E : Type 0} (key_of : E → Key) (row_of : E → Row) (k : Key) (es : List E) → IsTrue (ascends key_of es)
-      → sum_by (λ e. m (row_of e)) (without_item key_of k es) + row_weight (option_map row_of (item_at key_of k es)) ≡ sum_by (λ e. m (row_of e)) es
+      → sum_by (λ e. m (row_of e)) (without_item key_of k es) + row_weight m (option_map row_of (item_at key_of k es)) ≡ sum_by (λ e. m (row_of e)) es
   gone-weight key_of row_of k es up = ap (λ n. sum_by (λ e. m (row_of e)) (without_item key_of k es) + n) (mapped key_of row_of (item_at key_of k es)) ∙ sum-without key_of (λ e. m (row_of e)) k es up
 
-  one-change : (t : TableRows) (c : Change) → IsSortedTables t → IsTrue (change_fits c) → weight (with_change t c) + row_weight (row_at t (change_key c)) ≡ weight t + row_weight (row_left c)
+  one-change : (t : TableRows) (c : Change) → IsSortedTables t → IsTrue (change_fits c) → weight (with_change t c) + row_weight m (row_at t (change_key c)) ≡ weight t + row_weight m (row_left c)
   one-change t (Set (GssbRow n c)) h f = let e = set-weight gssb_key gssb_row (n, c) t.gssbs h.gssbs in omega (arith, e)
   one-change t (Set (TlsRow b l c)) h f = let e = set-weight tls_key tls_row (b, l, c) t.tlss h.tlss in omega (arith, e)
   one-change t (Set (UlsRow b u c)) h f = let e = set-weight uls_key uls_row (b, u, c) t.ulss h.ulss in omega (arith, e)
   one-change t (Set (ServiceRow i s)) h f =
       subst
-      (λ (k : ServiceId). weight (with_change t (Set (ServiceRow k s))) + row_weight (row_at t (ServiceKey k)) ≡ weight t + m (ServiceRow k s))
+      (λ (k : ServiceId). weight (with_change t (Set (ServiceRow k s))) + row_weight m (row_at t (ServiceKey k)) ≡ weight t + m (ServiceRow k s))
       (id_eq-same s.id i (both_true (id_eq s.id i) (service_fits s) f).0)
       (let e = set-weight service_key service_row s t.services h.services in omega (arith, e))
   one-change t (Set (JobRow n v)) h f = let e = set-weight job_key job_row (record { number = n; value = v }) t.jobs h.jobs in omega (arith, e)
@@ -105,10 +105,10 @@ module _ (m : Row → ℕ) where
 
   -- what the changes make, and what they replace
   abbrev pub made_weight : List Change → ℕ
-  made_weight cs = sum_by (λ c. row_weight (row_left c)) cs
+  made_weight cs = sum_by (λ c. row_weight m (row_left c)) cs
 
   abbrev pub replaced_weight : TableRows → List Change → ℕ
-  replaced_weight t cs = sum_by (λ c. row_weight (row_at t (change_key c))) cs
+  replaced_weight t cs = sum_by (λ c. row_weight m (row_at t (change_key c))) cs
 
   apart : (a b : Key) → IsTrue (is_lt (key_cmp a b)) → key_eq b a ≡ false
   apart a b less = by (key_eq b a) refl
@@ -125,10 +125,10 @@ module _ (m : Row → ℕ) where
       row_at-with_change t c (change_key d) f ∙ ap (λ b. cond b (row_after (Some c) (row_at t (change_key d))) (row_at t (change_key d))) (apart (change_key c) (change_key d) parts.0) in
       omega (
         arith,
-        ap row_weight row,
+        ap (row_weight m) row,
         later-rows t c f ds parts.1,
-        sum_by-cons (λ c. row_weight (row_at t (change_key c))) d ds,
-        sum_by-cons (λ e. row_weight (row_at (with_change t c) (change_key e))) d ds,
+        sum_by-cons (λ c. row_weight m (row_at t (change_key c))) d ds,
+        sum_by-cons (λ e. row_weight m (row_at (with_change t c) (change_key e))) d ds,
       )
 
   -- the whole after changes, and what they replace, is the whole before and what they make
@@ -142,6 +142,6 @@ module _ (m : Row → ℕ) where
         changes_weigh (with_change t c) cs (sorted_with_change t c h fits.0) ups.1 fits.1,
         one-change t c h fits.0,
         later-rows t c fits.0 cs ups.0,
-        sum_by-cons (λ d. row_weight (row_at t (change_key d))) c cs,
-        sum_by-cons (λ d. row_weight (row_left d)) c cs,
+        sum_by-cons (λ d. row_weight m (row_at t (change_key d))) c cs,
+        sum_by-cons (λ d. row_weight m (row_left d)) c cs,
       )

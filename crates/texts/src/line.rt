@@ -23,7 +23,7 @@ fn without_return(line: &[u8]) -> &[u8]
 }
 
 /// The first line without its end, which is a line feed, or a carriage return and a line feed; and the text after it.
-#[tactic(auto, using(crate::specs::Lines::first_line, crate::specs::Lines::last_line))]
+#[tactic(auto, using(crate::specs::LinesLaws::first_line, crate::specs::LinesLaws::last_line))]
 pub fn next_line(text: &[u8]) -> (&[u8], &[u8])
     requires { 0 < length text.now }
     ensures lines { lines text.now ≡ result.0.now ∷ lines result.1.now }
