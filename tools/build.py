@@ -1,10 +1,10 @@
 #!/usr/bin/env python3
 """Proves the crates that the program utm stands on, builds it, and runs it with the words of this call.
 
-Each crate is proved by `rt lib` in a room of its own: a folder with the sources of the crate and of those below it, and
-with the libraries that are built of those. So crates are proved side by side, and no source is read that a proof does
-not need. What rt makes of a proved crate is moved into the crate's out/ when it is whole, with a digest of all that it
-was made from. So a stop loses only the crates at work, and the next start proves what has no library of its digest.
+Each crate is proved by the kit's prover, `rattle build`, from its sources and over the libraries of the crates below it,
+side by side with others. A library has the statements of its crate and not the proofs, as in the gate, so that those
+above read little. It is moved into the crate's out/ when it is whole, with a digest of all that it was made from. So a
+stop loses only the crates at work, and the next start proves what has no library of its digest.
 """
 
 import contextlib
@@ -26,14 +26,15 @@ OUT = CRATES / PROGRAM / "out"
 # There during a build; after a failure its logs stay.
 WORKSHOP = OUT / "build"
 SOURCES = WORKSHOP / "sources"
-ROOMS = WORKSHOP / "rooms"
+MADE = WORKSHOP / "made"
 LOGS = WORKSHOP / "logs"
 # The launcher asks whether one of the files below these folders is newer than the program.
 SOURCE_LIST = OUT / "sources"
 PARTS = ("src", "specs", "proofs")
 
 NO_ANSWER = 9
-# rt also runs the program that it has built: with these words, which the program alone ends with this status.
+TARGET = "x86_64-unknown-linux-gnu"
+# The program is tried before it is kept: with these words, which it ends with this status.
 FIRST_WORDS = ["run", "nothing"]
 FIRST_STATUS = 6
 MOST_JOBS = 4
@@ -45,8 +46,8 @@ MEMORY_OF_LINE = 500_000
 MEMORY_OF_LINE_BELOW = 100_000
 MEMORY_OF_JOB = 0.6
 TIME_OF_LINE_BELOW = 1 / 16
-# What rt leaves on the disk for each line of code, and what has to be free beside that.
-DISK_OF_LINE = 350_000
+# What is left on the disk for each line of code, and what has to be free beside that.
+DISK_OF_LINE = 100_000
 DISK_TO_WORK = 0.5 * GIGABYTE
 SECONDS_BETWEEN_REPORTS = 60
 LINES_OF_LOG = 20
@@ -86,10 +87,11 @@ class Crate:
         head, _, libraries = line.partition(":")
         self.name = head.split()[0]
         self.libraries = re.findall(r"[^\s,]+", libraries)
-        self.out = CRATES / self.name / "out"
-        self.product = PROGRAM if self.name == PROGRAM else "rlib"
-        # The crates of the repository that it stands on: by its line, and in all.
-        self.uses, self.below = [], set()
+        # What is made of it: the program, or a library. Beside it lies the digest of what it was made from.
+        self.made = OUT / PROGRAM if self.is_program() else CRATES / self.name / "out" / "proved" / f"{self.name}.rlib"
+        self.mark_file = self.made.parent / ("utm.digest" if self.is_program() else "digest")
+        # The libraries of the kit that it stands on, and the crates of the repository: by its line, and in all.
+        self.of_kit, self.uses, self.below = [], [], set()
         # Its lines of code, and the digest of all that it is made from.
         self.lines, self.digest = 0, None
         # The work of the longest chain of crates that begins with it and goes up.
@@ -102,22 +104,23 @@ class Crate:
         files = [file for part in PARTS for file in (CRATES / self.name / part).rglob("*")]
         return sorted(file for file in files if file.is_file())
 
-    def made_in(self, out):
-        """What rt has made where its work on the crate ended well."""
-        return out / PROGRAM if self.is_program() else out / "rlib" / f"{self.name}.rlib"
-
-    def mark_in(self, out):
-        """Where the digest of what it was made from lies. That of a library goes when rt removes the library."""
-        return out / "utm.digest" if self.is_program() else out / "rlib" / "digest"
-
-    def mark(self, out):
-        """The digest, and for a program, which rt may replace by another, the one of its bytes too."""
-        return f"{self.digest} {sum_of(out / PROGRAM)}" if self.is_program() else self.digest
+    def mark(self):
+        """The digest, and for a program, which the gate may replace by another, the one of its bytes too."""
+        return f"{self.digest} {sum_of(self.made)}" if self.is_program() else self.digest
 
     def is_proved(self):
         with contextlib.suppress(OSError):
-            return self.made_in(self.out).exists() and self.mark_in(self.out).read_text() == self.mark(self.out)
+            return self.made.exists() and self.mark_file.read_text() == self.mark()
         return False
+
+    def keep(self, made):
+        """Takes what was made of it, with the digest of what it was made from."""
+        self.made.parent.mkdir(parents=True, exist_ok=True)
+        self.mark_file.unlink(missing_ok=True)
+        if self.made.is_dir():
+            remove(self.made)
+        made.rename(self.made)
+        self.mark_file.write_text(self.mark())
 
     def lines_below(self):
         return sum(it.lines for it in self.below)
@@ -147,6 +150,7 @@ def read_crates():
             raise Failure(f"crates.txt: {crate.name} stands on itself")
         if crate not in found:
             crate.uses = [listed[name] for name in crate.libraries if name in listed]
+            crate.of_kit = ["std", *(name for name in crate.libraries if name not in listed)]
             for lower in crate.uses:
                 visit(lower, [*above, crate])
             crate.below = set(crate.uses).union(*(lower.below for lower in crate.uses))
@@ -156,11 +160,10 @@ def read_crates():
     return found
 
 
-def copy_sources(crates):
+def copy_sources(crates, version):
     """Copies the sources, so that what is edited meanwhile counts for the next start, and takes lines and digests."""
-    kit = subprocess.run(["rt", "version"], stdin=subprocess.DEVNULL, stdout=subprocess.PIPE, check=True).stdout
     for crate in crates:
-        read = hashlib.sha256(kit + crate.line.encode())
+        read = hashlib.sha256(version + crate.line.encode())
         for lower in crate.uses:
             read.update(lower.digest.encode())
         for file in crate.sources():
@@ -172,6 +175,41 @@ def copy_sources(crates):
         crate.digest = read.hexdigest()
     for crate in reversed(crates):
         crate.chain = crate.work() + max((it.chain for it in crates if crate in it.uses), default=0)
+
+
+# The kit
+
+
+class Kit:
+    """The kit whose command rt is on the PATH. `rattle build --help` says what the words of its prover mean."""
+
+    def __init__(self):
+        self.folder = Path(shutil.which("rt")).resolve().parent.parent
+        self.libraries = self.folder / "rlibs"
+        how = {"stdin": subprocess.DEVNULL, "stdout": subprocess.PIPE, "check": True}
+        self.version = subprocess.run(["rt", "version"], **how).stdout
+
+    def prove(self, crate, jobs, made):
+        """The words of the command that proves a crate, and makes a library of it or the object file of the program."""
+        root = "src/main.rt" if crate.is_program() else "src/lib.rt"
+        words = [self.folder / "bin" / "rattle", "build", "--crate-name", crate.name, root]
+        for name in crate.of_kit:
+            words += ["--extern", f"{name}={self.libraries / name}.rlib"]
+        words += ["-L", f"dependency={self.libraries}"]
+        for it in crate.uses:
+            words += ["--extern", f"{it.name}={it.made}"]
+        for it in sorted(crate.below, key=lambda it: it.name):
+            words += ["-L", f"dependency={it.made.parent}"]
+        words += ["--antt-project", self.folder / "rattle" / "logic" / "antt-project.json"]
+        words += ["--logic-built", self.folder / "logic_built", "--jobs", jobs]
+        words += ["--toolchain", self.folder / "toolchain"] if crate.is_program() else ["--statements"]
+        return [str(it) for it in [*words, "-o", made]]
+
+    def link(self, made, program):
+        """The words of the command that makes a program of an object file."""
+        words = [self.folder / "bin" / "rattle-link", "--target", TARGET, "--toolchain", self.folder / "toolchain"]
+        words += ["-o", program, made, self.folder / "c" / "libos_c.a", self.folder / "c" / "liblibc_c.a"]
+        return [str(it) for it in words]
 
 
 # What the machine has
@@ -217,20 +255,7 @@ def processors():
     return found
 
 
-# Rooms and provers
-
-
-def link_or_copy(source, target):
-    """Gives a file that nothing changes a second name, or copies it where the file system has no second names."""
-    try:
-        os.link(source, target)
-    except OSError:
-        shutil.copy2(source, target)
-
-
-def link_folder(source, target):
-    if source.is_dir():
-        shutil.copytree(source, target, copy_function=link_or_copy)
+# Provers
 
 
 def remove(folder):
@@ -250,70 +275,58 @@ def start_guard():
 
 
 class Prover:
-    """An rt at work on a crate, in a room of its own."""
+    """A prover at work on a crate. Of the program it makes an object file, which is then linked and tried."""
 
-    def __init__(self, crate, jobs, group, is_alone=False):
-        self.crate, self.jobs, self.is_alone = crate, jobs, is_alone
-        self.room = ROOMS / crate.name
-        self.out = self.room / "crates" / crate.name / "out"
+    def __init__(self, kit, crate, jobs, group, is_alone=False):
+        self.crate, self.jobs, self.is_alone, self.group = crate, jobs, is_alone, group
         self.log = LOGS / f"{crate.name}.log"
-        self.furnish()
-        words = ["--jobs", str(jobs)]
-        words = ["run", *words, "--", *FIRST_WORDS] if crate.is_program() else ["lib", *words]
-        with open(self.log, "wb") as log:
+        self.made = MADE / crate.name / crate.made.name
+        self.made.parent.mkdir(parents=True)
+        if crate.is_program():
+            object_file = self.made.with_suffix(".o")
+            prove = kit.prove(crate, jobs, object_file)
+            steps = [(prove, 0), (kit.link(object_file, self.made), 0), ([str(self.made), *FIRST_WORDS], FIRST_STATUS)]
+        else:
+            steps = [(kit.prove(crate, jobs, self.made), 0)]
+        self.steps = iter(steps)
+        self.log.unlink(missing_ok=True)
+        self.process, self.wanted = None, None
+        self.go_on()
+
+    def go_on(self):
+        """Starts the next step, and returns whether there was one."""
+        words, self.wanted = next(self.steps, (None, None))
+        if words is None:
+            return False
+        with open(self.log, "ab") as log:
             self.process = subprocess.Popen(
-                ["rt", *words],
-                cwd=self.out.parent,
+                words,
+                cwd=SOURCES / "crates" / self.crate.name,
                 stdin=subprocess.DEVNULL,
                 stdout=log,
                 stderr=log,
-                preexec_fn=lambda: os.setpgid(0, group),
+                preexec_fn=lambda: os.setpgid(0, self.group),
             )
+        return True
 
-    def furnish(self):
-        """Lays out the room: the sources, the libraries below, and what rt kept of its last work on the crate."""
-        crates = [*self.crate.below, self.crate]
-        self.room.mkdir(parents=True)
-        (self.room / "crates.txt").write_text("".join(f"{it.line}\n" for it in crates))
-        if (TOP / "HANDLES").exists():
-            shutil.copy(TOP / "HANDLES", self.room)
-        for it in crates:
-            link_folder(SOURCES / "crates" / it.name, self.room / "crates" / it.name)
-            link_folder(it.out / "rlib", self.room / "crates" / it.name / "out" / "rlib")
-        link_folder(self.crate.out / "incremental", self.out / "incremental")
+    def has_ended(self):
+        """Whether no step is at work or left. The next one starts when the one before has done what it had to."""
+        status = self.process.poll()
+        return status is not None and (status != self.wanted or not self.go_on())
 
     def is_done(self):
-        """Whether rt made what it had to, and of a program, whether it also runs."""
-        wanted = FIRST_STATUS if self.crate.is_program() else 0
-        return self.process.returncode == wanted and self.crate.made_in(self.out).exists()
+        return self.wanted is None and self.made.exists()
 
     def was_killed(self):
-        """Whether rt was ended by a signal, or says that its prover was, as it is where memory is short."""
+        """Whether the prover, or a command that it started, was ended by a signal, as it is where memory is short."""
         return self.process.returncode < 0 or self.process.returncode > 128
-
-    def keep(self):
-        """Moves what rt made to the crate's out/ if it is whole, and what it kept for its next work in any case."""
-        if self.is_done():
-            self.crate.mark_in(self.out).write_text(self.crate.mark(self.out))
-            self.move(self.crate.product)
-            if self.crate.is_program():
-                self.move(self.crate.mark_in(self.out).name)
-        self.move("incremental")
-
-    def move(self, name):
-        made, kept = self.out / name, self.crate.out / name
-        if made.exists():
-            kept.parent.mkdir(exist_ok=True)
-            if kept.exists():
-                kept.rename(self.room / f"old-{name}")
-            made.rename(kept)
 
 
 class Build:
     """Proves the crates that are not proved yet, as many side by side as processors and memory allow."""
 
-    def __init__(self, crates, signals):
-        self.crates, self.signals = crates, signals
+    def __init__(self, kit, crates, signals):
+        self.kit, self.crates, self.signals = kit, crates, signals
         self.proved = {it for it in crates if it.is_proved()}
         self.waiting = sorted((it for it in crates if it not in self.proved), key=lambda it: -it.chain)
         self.at_work, self.killed, self.has_failed = [], [], False
@@ -380,7 +393,7 @@ class Build:
             self.start(crate, jobs)
 
     def start(self, crate, jobs, is_alone=False):
-        self.at_work.append(Prover(crate, jobs, self.guard.pid, is_alone))
+        self.at_work.append(Prover(self.kit, crate, jobs, self.guard.pid, is_alone))
 
     def jobs_for(self, crate):
         """The processors that the crates beside it leave idle on average: while it runs it gets no more of them."""
@@ -398,11 +411,10 @@ class Build:
 
     def look_at_provers(self):
         """Takes what was made by those that have ended."""
-        for prover in [it for it in self.at_work if it.process.poll() is not None]:
+        for prover in [it for it in self.at_work if it.has_ended()]:
             self.at_work.remove(prover)
-            prover.keep()
-            remove(prover.room)
-            if prover.crate.is_proved():
+            if prover.is_done():
+                prover.crate.keep(prover.made)
                 prover.log.unlink()
                 self.proved.add(prover.crate)
             elif prover.was_killed() and not prover.is_alone:
@@ -411,6 +423,7 @@ class Build:
             else:
                 self.has_failed = True
                 self.tell_failure(prover)
+            remove(prover.made.parent)
 
     def tell_failure(self, prover):
         """Says what failed, why as far as it shows, and what goes on."""
@@ -477,10 +490,11 @@ def build(signals):
     try:
         LOGS.mkdir(parents=True)
         moment = time.time()
-        copy_sources(crates)
-        Build(crates, signals).run()
+        kit = Kit()
+        copy_sources(crates, kit.version)
+        Build(kit, crates, signals).run()
     finally:
-        remove(ROOMS)
+        remove(MADE)
         remove(SOURCES)
     remove(WORKSHOP)
     SOURCE_LIST.write_text("".join(f"crates/{it.name}/{part}\n" for it in crates for part in PARTS))

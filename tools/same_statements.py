@@ -97,11 +97,20 @@ class Normal:
             elif item == "λ":
                 at = self.take_lambda(items, at + 1, variables, found)
             else:
-                inner = self.group(item[1:], variables) if isinstance(item, list) else [self.word(item, variables)]
+                inner = self.inner(items, at, variables)
                 whole = found[-1:] in ([], ["→"]) and items[at + 1 : at + 2] in ([], ["→"])
                 found += as_argument(inner) if whole else in_brackets(inner)
                 at += 1
         return found
+
+    def inner(self, items, at, variables):
+        """The words of one item: of a bracket, or of a word, which names no variable where it is a label, as in
+        `record { label = x }`."""
+        item = items[at]
+        if isinstance(item, list):
+            return self.group(item[1:], variables)
+        is_label = items[at + 1 : at + 2] == ["="] and items[at - 1 : at] in ([], [";"])
+        return [item] if is_label else [self.word(item, variables)]
 
     def bound(self, group, behind, variables):
         """Each variable of the group for itself; one that nothing behind names is an argument without a name."""

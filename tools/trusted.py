@@ -11,7 +11,7 @@ of that one to theirs, down to the words of the kit.
 import re
 import sys
 from pathlib import Path
-from textwrap import fill
+from textwrap import fill, wrap
 
 sys.dont_write_bytecode = True
 
@@ -25,12 +25,15 @@ INTRODUCTION = """# What has to be read
 
 `tools/trusted.py` makes this page, and `.ci/program` checks that it is up to date.
 
-What `utm`, the one call of the program, promises is what its clauses say. They stand in utm_cli/src/top.rt, in words
+What `utm`, the one call of the program, promises is what its clauses say. They are in utm_cli/src/top.rt, in words
 that are defined elsewhere. This page lists each definition that they reach: the words of the clauses, the words of
 their definitions, and so on, down to the words of the kit. Whoever has read these definitions knows what is promised.
 The rest of `specs/` and all of `proofs/` are lemmas with their proofs, and definitions that only lemmas and the
 contracts of inner calls name. The prover checks them: what does not follow is refused. So they need not be read, and
 need not be trusted.
+
+In `specs/` a file has definitions alone, as `Stored.antt`, or its name ends in `Laws`, as `AlongLaws.antt`. What has to
+be read is in files without lemmas, but for the lemmas that are named below; `tools/laws_apart.py` tries this.
 
 {sums}
 
@@ -38,7 +41,7 @@ What counts:
 
 - Of `utm`, its comment, its signature and its clauses. Its body does not.
 - A definition, a record or a data type, with its clauses, helpers and fields, and with the comment right above it. All
-  that it names is reached. What stands behind `unfolding` is not, for it says only how a body is checked.
+  that it names is reached. What comes after `unfolding` is not, for it says only how a body is checked.
 - A Rust type, and its `impl Model` where it has one, which says what value stands for it. A constant, where a
   definition names it. A trait, with the clauses of its calls: they are what is asked of a device and of a room.
 {lemmas}
@@ -47,7 +50,8 @@ What counts:
 `main` in utm/src/main.rt, which hands the words to `utm` and ends with its status, is no part of the list, and neither
 are the device and the room of kd_host, which it hands on. [PROVED.md](PROVED.md) says in words what the clauses say.
 
-The number behind a name is that of its lines. Crates stand with the highest first, each on those below it.
+The number after a name is that of its lines. The highest crate comes first, and each before those that it uses. A row
+without a file goes on with the file above it.
 """
 
 SUMS = """In sum there are {} crates, {} definitions and {} lines: {} in `specs/` and {} in `src/`.
@@ -62,7 +66,7 @@ These {count} words are defined in the kit, or belong to the language.
 
 
 class Reached:
-    """A definition that is reached, and where it stands: `at` is its place within the file."""
+    """A definition that is reached, and where it is: `at` is its place within the file."""
 
     def __init__(self, page, name, counted, at, shape):
         self.crate, self.file = page.relative.split("/", 1)
@@ -289,15 +293,28 @@ def crate_text(crate, reached):
     for file in sorted({it.file for it in reached}):
         within = sorted((it for it in reached if it.file == file), key=lambda it: it.at)
         names = ", ".join(f"`{it.name}` {it.lines}" for it in within)
-        text += f"| {file} | {names} | {grouped(sum(it.lines for it in within))} |\n"
+        text += row_text(file, names, grouped(sum(it.lines for it in within)))
     return text
+
+
+def row_text(file, names, lines):
+    """The row of a file, or several where it would be too long."""
+    parts = wrapped(re.sub(r"` (?=\d)", "`\xa0", names), 120 - len(f"| {file} |  | {lines} |"))
+    return f"| {file} | {parts[0]} | {lines} |\n" + "".join(f"| | {it} | |\n" for it in parts[1:])
+
+
+def wrapped(text, width, indent=""):
+    """The lines of a text, broken at blanks alone; a blank that holds its words together becomes an ordinary one."""
+    found = wrap(text, width, subsequent_indent=indent, break_long_words=False, break_on_hyphens=False)
+    return [it.replace("\xa0", " ") for it in found]
 
 
 def kit_text(kit):
     text = KIT.format(count=len({word for _, word in kit}))
     for module in sorted({it for it, _ in kit}):
         words = sorted(word for it, word in kit if it == module)
-        text += f"- {module}: {', '.join(f'`{word}`' for word in words)}\n"
+        line = f"- {module}: {', '.join(f'`{word}`' for word in words)}"
+        text += "\n".join(wrapped(line, 120, "  ")) + "\n"
     return text
 
 
@@ -306,14 +323,15 @@ def kit_text(kit):
 
 def entries_of(text):
     """The definitions of a page, each with its lines."""
-    found, crate = {}, ""
+    found, crate, file = {}, "", ""
     for line in text.split("\n"):
         head = re.match(r"## (\w+):", line)
         crate = head.group(1) if head else crate
-        row = re.match(r"\| (\S+) \| (`.*) \| [\d,]+ \|$", line)
+        row = re.match(r"\| (?:(\S+) )?\| (`.*) \| [\d,]*", line)
         if row:
+            file = row.group(1) or file
             for name, lines in re.findall(r"`([^`]+)` (\d+)", row.group(2)):
-                found[f"{crate}/{row.group(1)}: {name}"] = lines
+                found[f"{crate}/{file}: {name}"] = lines
     return found
 
 

@@ -6,8 +6,8 @@
     python3 tools/uncited.py --write    writes that list as the repository stands
 
 Found are
-- functions of src/ that are public, and that no other file names but to hand them on; a law is one that is there for
-  its clauses alone;
+- functions of src/ that are public, and that no other file names but to hand them on; a law, which is there for its
+  clauses alone, only where no document of docs/ names it either;
 - definitions and lemmas of specs/ and proofs/ that no other definition, contract or tactic names; those by which a
   proof answers a goal of the kit, in the folder of its function, are named by the kit;
 - imports of .antt files whose word the file does not use.
@@ -42,12 +42,17 @@ def uncited_functions(pages):
     for relative, found in words.items():
         for word in found:
             files.setdefault(word, set()).add(relative)
+    told = words_of_documents()
     return [
         f"{'law' if is_law(page, name) else 'function'} {page.relative}: {name}"
         for page in pages
         for name in FUNCTION.findall(page.code)
-        if not files[name] - {page.relative}
+        if not files[name] - {page.relative} and not (name in told and is_law(page, name))
     ]
+
+
+def words_of_documents():
+    return {word for path in (TOP / "docs").glob("*.md") for word in re.findall(r"\w+", path.read_text(encoding="utf-8"))}
 
 
 def is_law(page, name):

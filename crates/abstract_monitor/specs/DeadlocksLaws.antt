@@ -10,7 +10,7 @@ use Rattle.std.proofs.lemmas.Map.Made.{length-le_from_is_member}
 use Rattle.kdcs_types.specs.declared.key.Area.{Area}
 use Rattle.kdcs_types.specs.declared.key.ServiceId.{ServiceId}
 use Rattle.kdcs_types.specs.Keys.{id_cmp, id_eq}
-use Rattle.kdcs_types.specs.KeyLaws.{id_total, id_eq-same, id_eq-itself}
+use Rattle.kdcs_types.specs.KeyLaws.{id_total, id_eq_same, id_eq_itself}
 use Rattle.abstract_monitor.specs.Locks.{Locks, Waiting, IsChain, IsDeadlocked, WaitsFor, awaited, holder, waits_for, reaches, is_deadlocked}
 
 -- the services that wait
@@ -49,8 +49,8 @@ one_less : (n m : ℕ) → suc n ≤ suc m → n ≤ m
 one_less n m h = omega arith
 
 module _ (l : Locks) where
-  waits-is : (id next : ServiceId) → WaitsFor l id next → waits_for l id ≡ Some next
-  waits-is id next w = ap (option_and_then (holder l)) w.awaits ∙ w.holds
+  waits_is : (id next : ServiceId) → WaitsFor l id next → waits_for l id ≡ Some next
+  waits_is id next w = ap (option_and_then (holder l)) w.awaits ∙ w.holds
 
   waiting : (id next : ServiceId) → waits_for l id ≡ Some next → WaitsFor l id next
   waiting id next e = by (awaited l id) refl e
@@ -82,21 +82,21 @@ module _ (l : Locks) where
     cut id (k ∷ ks) at way distinct m = by (id_eq at k) refl m (cut way.1.0 ks at way.1.2 distinct.1)
       where
         by : (b : Bool) → id_eq at k ≡ b → (b || list_any (id_eq at) ks) ≡ true → (list_any (id_eq at) ks ≡ true → DistinctWay at) → DistinctWay at
-        by true e n later = (k ∷ ks, subst (λ i. IsWay i (k ∷ ks)) (sym (id_eq-same at k e ∙ way.0)) way, distinct)
+        by true e n later = (k ∷ ks, subst (λ i. IsWay i (k ∷ ks)) (sym (id_eq_same at k e ∙ way.0)) way, distinct)
         by false e n later = later n
 
     -- each chain can be cut to one without repeats
-    way-from_chain : (id : ServiceId) (rest : List ServiceId) → IsChain l asker id rest → DistinctWay id
+    way_from_chain : (id : ServiceId) (rest : List ServiceId) → IsChain l asker id rest → DistinctWay id
     unfolding IsDistinct
-    way-from_chain id [] e = ([], e, tt)
-    way-from_chain id (next ∷ rest) c = by (way-from_chain next rest c.1)
+    way_from_chain id [] e = ([], e, tt)
+    way_from_chain id (next ∷ rest) c = by (way_from_chain next rest c.1)
       where
         by : DistinctWay next → DistinctWay id
         by w = on (list_any (id_eq id) w.0) refl
           where
             on : (b : Bool) → list_any (id_eq id) w.0 ≡ b → DistinctWay id
             on true m = cut next w.0 id w.1 w.2 m
-            on false m = (id ∷ w.0, (refl, (next, waits-is id next c.0, w.1)), (apart id w.0 m, w.2))
+            on false m = (id ∷ w.0, (refl, (next, waits_is id next c.0, w.1)), (apart id w.0 m, w.2))
 
     -- all services on a way wait
     members : (id : ServiceId) (ks : List ServiceId) → IsWay id ks → (q : ServiceId) → list_any (id_eq q) ks ≡ true → list_any (id_eq q) (waiters l) ≡ true
@@ -105,24 +105,24 @@ module _ (l : Locks) where
       where
         by : (b : Bool) → id_eq q k ≡ b → (b || list_any (id_eq q) ks) ≡ true → (list_any (id_eq q) ks ≡ true → list_any (id_eq q) (waiters l) ≡ true)
             → list_any (id_eq q) (waiters l) ≡ true
-        by true e n later = subst (λ i. list_any (id_eq i) (waiters l) ≡ true) (sym (id_eq-same q k e ∙ way.0)) (among id way.1.0 way.1.1)
+        by true e n later = subst (λ i. list_any (id_eq i) (waiters l) ≡ true) (sym (id_eq_same q k e ∙ way.0)) (among id way.1.0 way.1.1)
         by false e n later = later n
 
     -- so many steps are enough
     walked : (n : ℕ) (id : ServiceId) (ks : List ServiceId) → IsWay id ks → length ks ≤ n → IsTrue (reaches n l asker (Some id))
     unfolding reaches
-    walked zero id [] way h = subst (λ i. IsTrue (id_eq id i)) way (id_eq-itself id)
-    walked (suc n) id [] way h = or_left (id_eq id asker) (reaches n l asker (waits_for l id)) (subst (λ i. id_eq id i ≡ true) way (id_eq-itself id))
+    walked zero id [] way h = subst (λ i. IsTrue (id_eq id i)) way (id_eq_itself id)
+    walked (suc n) id [] way h = or_left (id_eq id asker) (reaches n l asker (waits_for l id)) (subst (λ i. id_eq id i ≡ true) way (id_eq_itself id))
     walked zero id (k ∷ ks) way h = absurd (none_below (length ks) h)
     walked (suc n) id (k ∷ ks) way h =
         or_right (id_eq id asker) (reaches n l asker (waits_for l id))
         (subst (λ o. IsTrue (reaches n l asker o)) (sym way.1.1) (walked n way.1.0 ks way.1.2 (one_less (length ks) n h)))
 
     -- and what so many steps reach is the end of a chain
-    chain-from_reaches : (n : ℕ) (id : ServiceId) → IsTrue (reaches n l asker (Some id)) → (rest : List ServiceId) × IsChain l asker id rest
+    chain_from_reaches : (n : ℕ) (id : ServiceId) → IsTrue (reaches n l asker (Some id)) → (rest : List ServiceId) × IsChain l asker id rest
     unfolding reaches
-    chain-from_reaches zero id h = ([], id_eq-same id asker h)
-    chain-from_reaches (suc n) id h = by (id_eq id asker) refl h (chain-from_reaches n)
+    chain_from_reaches zero id h = ([], id_eq_same id asker h)
+    chain_from_reaches (suc n) id h = by (id_eq id asker) refl h (chain_from_reaches n)
       where
         go_on : (o : Option ServiceId) → waits_for l id ≡ o → IsTrue (reaches n l asker o)
             → ((j : ServiceId) → IsTrue (reaches n l asker (Some j)) → (rest : List ServiceId) × IsChain l asker j rest)
@@ -133,7 +133,7 @@ module _ (l : Locks) where
         by : (b : Bool) → id_eq id asker ≡ b → IsTrue (b || reaches n l asker (waits_for l id))
             → ((j : ServiceId) → IsTrue (reaches n l asker (Some j)) → (rest : List ServiceId) × IsChain l asker j rest)
             → (rest : List ServiceId) × IsChain l asker id rest
-        by true e t f = ([], id_eq-same id asker e)
+        by true e t f = ([], id_eq_same id asker e)
         by false e t f = go_on (waits_for l id) refl t f
 
     -- a way without repeats is no longer than there are waits
@@ -145,8 +145,8 @@ module _ (l : Locks) where
 -- where another service holds the area, the test finds the relation, and nothing else
 pub deadlocks_found : (l : Locks) (asker other : ServiceId) (area : Area) → holder l area ≡ Some other → id_eq other asker ≡ false → IsTrue (is_deadlocked l asker other) ↔ IsDeadlocked l asker area
 deadlocks_found l asker other area held other_holds = (
-  λ h. let r = chain-from_reaches l asker (length l.waits) other h in
+  λ h. let r = chain_from_reaches l asker (length l.waits) other h in
       record { first = other; rest = r.0; holds = held; other = other_holds; chain = r.1 },
   λ d. let same = same_some d.first other (sym d.holds ∙ held) in
-      reached l asker other (way-from_chain l asker other d.rest (subst (λ i. IsChain l asker i d.rest) same d.chain)),
+      reached l asker other (way_from_chain l asker other d.rest (subst (λ i. IsChain l asker i d.rest) same d.chain)),
 )

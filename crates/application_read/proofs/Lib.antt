@@ -1,2 +1,4 @@
 pub mod DefinitionLayers
 pub mod Layers
+pub mod Named
+pub mod Generations

@@ -5,3 +5,4 @@ pub mod Handed
 pub mod HandedLaws
 pub mod Texts
 pub mod Faults
+pub mod Laws

@@ -11,8 +11,10 @@ mod application;
 mod definition_fault;
 mod definition_text;
 mod fault;
+mod laws;
 
 pub use application::{Application, read_application};
 pub use definition_fault::DefinitionFault;
 pub use definition_text::generate;
 pub use fault::ApplicationFault;
+pub use laws::generations_are_sound;

@@ -4,36 +4,33 @@ use Rattle.std.proofs.Common.{ap, sym, ◌∙◌}
 use Rattle.std.specs.Ordering.{is_eq, is_lt}
 use Rattle.std.specs.declared.cmp.Ordering.{Ordering}
 use Rattle.std.specs.declared.cmp.Ordering.TheVariants.{Less, Equal, Greater}
-use Rattle.std.specs.Cmp.{alike_right, eq_by_cmp_equiv}
+use Rattle.std.specs.Cmp.{alike_right, Equal-is}
 use Rattle.std.specs.FinMap.{find, is_sorted}
 use Rattle.std.specs.FinMap.Entries.{below_all, find-put, find-where_key}
 use Rattle.kd_base.specs.ToolsLaws.{both_true}
 use Rattle.kdcs_types.specs.declared.key.Area.{Area}
 use Rattle.kdcs_types.specs.declared.key.ServiceId.{ServiceId}
 use Rattle.kdcs_types.specs.Keys.{area_cmp, area_eq, id_eq}
-use Rattle.kdcs_types.specs.KeyLaws.{area_total, is_equal}
+use Rattle.kdcs_types.specs.KeyLaws.{area_total, area_eq_sym}
 use Rattle.abstract_monitor.specs.declared.answer.LockAnswer.{LockAnswer}
-use Rattle.abstract_monitor.specs.declared.answer.LockAnswer.TheVariants.{Granted, Wait, Busy, Deadlock}
+use Rattle.abstract_monitor.specs.declared.answer.LockAnswer.TheVariants.{Granted}
 use Rattle.abstract_monitor.specs.Locks.{Locks, holder}
 use Rattle.area_locks.specs.Asked.{freed, given_back, holder_after, locks_after, other_than, with_holder, without_holder}
 
 abbrev Holders : Type 0
 Holders = List (Area × ServiceId)
 
-same_way : (a b : Area) → area_eq a b ≡ area_eq b a
-same_way a b = (eq_by_cmp_equiv area_total).symm a b
-
 -- ---- an area is given
 
-pub holder-given : (l : Locks) (who : ServiceId) (area a : Area) → holder (with_holder l who area) a ≡ cond (area_eq a area) (Some who) (holder l a)
-holder-given l who area a = find-put area_cmp area_total a area who l.holders
+pub holder_given : (l : Locks) (who : ServiceId) (area a : Area) → holder (with_holder l who area) a ≡ cond (area_eq a area) (Some who) (holder l a)
+holder_given l who area a = find-put area_cmp area_total a area who l.holders
 
 after_granted : (who : ServiceId) (same : Bool) (before : Option ServiceId) → cond same (Some who) before ≡ holder_after Granted who same before
 after_granted who true before = refl
 after_granted who false before = refl
 
 pub holder_after_is : (answer : LockAnswer) (l : Locks) (now : ℕ) (who : ServiceId) (area a : Area) → holder (locks_after answer l now who area) a ≡ holder_after answer who (area_eq a area) (holder l a)
-holder_after_is Granted l now who area a = holder-given l who area a ∙ after_granted who (area_eq a area) (holder l a)
+holder_after_is Granted l now who area a = holder_given l who area a ∙ after_granted who (area_eq a area) (holder l a)
 holder_after_is _ l now who area a = refl
 
 -- ---- an area is given back
@@ -42,15 +39,15 @@ turned : (b : Bool) (o : Option ServiceId) → cond (not b) o None ≡ cond b No
 turned true o = refl
 turned false o = refl
 
-holder-back : (l : Locks) (area a : Area) → holder (without_holder l area) a ≡ cond (area_eq a area) None (holder l a)
-holder-back l area a =
+holder_back : (l : Locks) (area a : Area) → holder (without_holder l area) a ≡ cond (area_eq a area) None (holder l a)
+holder_back l area a =
     find-where_key area_cmp (λ x. not (area_eq area x)) a (λ x t. ap (λ r. not (is_eq r)) (sym (alike_right area_total a x area t))) l.holders
     ∙ turned (area_eq area a) (holder l a)
-    ∙ ap (λ b. cond b None (holder l a)) (same_way area a)
+    ∙ ap (λ b. cond b None (holder l a)) (area_eq_sym area a)
 
-pub holder-given_back : (l : Locks) (area a : Area) (held : Bool) → holder (given_back l area held) a ≡ (if held && area_eq a area then None else holder l a)
-holder-given_back l area a true = holder-back l area a
-holder-given_back l area a false = refl
+pub holder_given_back : (l : Locks) (area a : Area) (held : Bool) → holder (given_back l area held) a ≡ (if held && area_eq a area then None else holder l a)
+holder_given_back l area a true = holder_back l area a
+holder_given_back l area a false = refl
 
 -- ---- all areas of a service are given back
 
@@ -58,7 +55,7 @@ below_found : (a b : Area) (hs : Holders) → area_eq a b ≡ true → IsTrue (b
 below_found a b [] same below = refl
 below_found a b (h ∷ hs) same below =
     let parts = both_true (is_lt (area_cmp b h.0)) (below_all area_cmp b hs) below in
-    ap (λ c. cond c (Some h.1) (find area_cmp a hs)) (ap is_eq (area_total.congr a b h.0 (is_equal (area_cmp a b) same)) ∙ less (area_cmp b h.0) parts.0)
+    ap (λ c. cond c (Some h.1) (find area_cmp a hs)) (ap is_eq (area_total.congr a b h.0 ((Equal-is (area_cmp a b)).0 same)) ∙ less (area_cmp b h.0) parts.0)
     ∙ below_found a b hs same parts.1
   where
     less : (r : Ordering) → is_lt r ≡ true → is_eq r ≡ false
@@ -82,5 +79,5 @@ filtered who a (h ∷ hs) up =
     let parts = both_true (below_all area_cmp h.0 hs) (is_sorted area_cmp hs) up in
     kept_or_not who a h hs (area_eq a h.0) (id_eq h.1 who) refl refl (λ at. below_found a h.0 hs at parts.0) (filtered who a hs parts.1)
 
-pub holder-freed : (l : Locks) (who : ServiceId) (a : Area) → IsTrue (is_sorted area_cmp l.holders) → holder (freed l who) a ≡ other_than who (holder l a)
-holder-freed l who a up = filtered who a l.holders up
+pub holder_freed : (l : Locks) (who : ServiceId) (a : Area) → IsTrue (is_sorted area_cmp l.holders) → holder (freed l who) a ≡ other_than who (holder l a)
+holder_freed l who a up = filtered who a l.holders up

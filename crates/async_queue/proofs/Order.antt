@@ -1,9 +1,8 @@
 -- What keeps a queue in ascending order.
-use Rattle.std.proofs.Common.{◌≡◌, ◌+◌, ◌<◌, ℕ, suc, Bool, true, false, cond, IsTrue, List, [], ◌∷◌, map, Some, None, refl, sym, ap, subst, ◌∙◌, arith}
-use Rattle.std.specs.Prelude.{nat_lt, not, ◌==◌}
+use Rattle.std.proofs.Common.{◌≡◌, ◌+◌, ◌<◌, ℕ, Bool, true, false, cond, IsTrue, List, [], ◌∷◌, map, Some, None, refl, sym, ap, subst, ◌∙◌, arith}
+use Rattle.std.specs.Prelude.{nat_lt, not}
 use Rattle.std.specs.List.{insert}
-use Rattle.std.specs.Ordering.{is_lt, ordering_then}
-use Rattle.std.specs.declared.cmp.Ordering.TheVariants.{Less, Equal, Greater}
+use Rattle.std.specs.Ordering.{is_lt}
 use Rattle.std.specs.FinMap.{is_sorted}
 use Rattle.std.specs.FinMap.Entries.{below_all}
 use Rattle.std.proofs.lemmas.Bool.{ltb-true, ltb-false, eqb-false}
@@ -15,6 +14,8 @@ use Rattle.kdcs_types.specs.Keyed.{keyed, ascends}
 use Rattle.kdcs_types.specs.Tables.{job_key}
 use Rattle.async_queue.specs.declared.queue.QueuedJob.{QueuedJob}
 use Rattle.async_queue.specs.Queue.{IsBelowAll, IsAscending, has_number, queued_at, untaken, lesser_count, with_job, marked, with_mark, without_job}
+use Rattle.kdcs_types.specs.KeyLaws.{less_number}
+use Rattle.kd_base.specs.FrontsLaws.{one_add}
 
 pub below_less : (m n : ℕ) (qs : List QueuedJob) → m < n → IsBelowAll n qs → IsBelowAll m qs
 below_less m n [] lt h = tt
@@ -54,12 +55,9 @@ ascending_without n (q ∷ qs) h =
 
 -- ---- one more job
 
-one_more : (k : ℕ) → 1 + k ≡ suc k
-one_more k = omega arith
-
 -- whether the first job stays first
 pub with_step : (job : Job) (q : QueuedJob) (qs : List QueuedJob) (b : Bool) → nat_lt q.job.number job.number ≡ b → with_job job (q ∷ qs) ≡ cond b (q ∷ with_job job qs) (untaken job ∷ q ∷ qs)
-with_step job q qs true h = ap (λ i. insert (q ∷ qs) i (untaken job)) (ap (λ b. cond b (1 + lesser_count job.number qs) 0) h ∙ one_more (lesser_count job.number qs))
+with_step job q qs true h = ap (λ i. insert (q ∷ qs) i (untaken job)) (ap (λ b. cond b (1 + lesser_count job.number qs) 0) h ∙ one_add (lesser_count job.number qs))
 with_step job q qs false h = ap (λ i. insert (q ∷ qs) i (untaken job)) (ap (λ b. cond b (1 + lesser_count job.number qs) 0) h)
 
 -- a number that no job has
@@ -93,12 +91,6 @@ ascending_with job (q ∷ qs) h new =
     ] refl
 
 -- ---- the jobs of tables
-
-less_number : (a b : ℕ) → is_lt (key_cmp (key.Job a) (key.Job b)) ≡ true → a < b
-less_number a b e = ltb-true a b (elim (nat_lt a b) as (λ t. is_lt (ordering_then (ordering_then (cond t Less (cond (a == b) Equal Greater)) Equal) Equal) ≡ true → t ≡ true) [
-  | true ↦ λ h. refl
-  | false ↦ elim (a == b) as (λ u. is_lt (ordering_then (ordering_then (cond u Equal Greater) Equal) Equal) ≡ true → false ≡ true) [ true ↦ λ h. h | false ↦ λ h. h ]
-] e)
 
 below_untaken : (n : ℕ) (jobs : List Job) → below_all key_cmp (key.Job n) (keyed job_key jobs) ≡ true → IsBelowAll n (map untaken jobs)
 below_untaken n [] h = tt

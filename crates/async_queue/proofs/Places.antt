@@ -9,11 +9,9 @@ use Rattle.std.proofs.lemmas.Bool.{ltb-true, ltb-false, eq-eqb, ne_eqb}
 use Rattle.async_queue.specs.declared.queue.QueuedJob.{QueuedJob}
 use Rattle.async_queue.specs.Queue.{IsBelowAll, IsAscending, has_number, queued_at, lesser_count, value_at, has_mark, with_mark, without_job, StandsAt}
 use Rattle.async_queue.proofs.Order.{not_there}
+use Rattle.kd_base.specs.FrontsLaws.{one_add}
 
 -- ---- how many are lesser
-
-one_more : (k : ℕ) → 1 + k ≡ suc k
-one_more k = omega arith
 
 -- where the elements that pass end
 pub prefix_ends : {X : Type 0} (p : X → Bool) (xs : List X) (i : ℕ) → i ≤ length xs → AllWithin (λ x. p x ≡ true) xs 0 i → AllWithin (λ x. p x ≡ false) xs i (length xs) → i ≡ prefix_len p xs
@@ -22,7 +20,7 @@ prefix_ends p [] (suc i) le before at = absurd (omega arith)
 prefix_ends p (x ∷ xs) zero le before at = sym (ap (λ b. cond b (1 + prefix_len p xs) 0) (at zero x (omega arith) (omega arith)))
 prefix_ends p (x ∷ xs) (suc i) le before at =
     sym (ap (λ b. cond b (1 + prefix_len p xs) 0) (before zero x (omega arith) (omega arith))
-    ∙ one_more (prefix_len p xs)
+    ∙ one_add (prefix_len p xs)
     ∙ ap (λ (n : ℕ). suc n) (sym (prefix_ends p xs i (omega arith) (λ k d low high. before (suc k) d (omega arith) (omega arith)) (λ k d low high. at (suc k) d (omega arith) (omega arith)))))
 
 above_at : (n : ℕ) (qs : List QueuedJob) (j : ℕ) (d : QueuedJob) → IsBelowAll n qs → j < length qs → n < (get_or qs j d).job.number
@@ -54,7 +52,7 @@ absent n (q ∷ qs) h other =
     elim (nat_lt q.job.number n) as (λ b. nat_lt q.job.number n ≡ b → IsNotAt n (q ∷ qs) (cond b (1 + lesser_count n qs) 0) → queued_at n (q ∷ qs) ≡ None) [
       | true ↦ λ e o.
           let less : q.job.number < n = ltb-true q.job.number n e in
-          let later : IsNotAt n (q ∷ qs) (suc (lesser_count n qs)) = subst (IsNotAt n (q ∷ qs)) (one_more (lesser_count n qs)) o in
+          let later : IsNotAt n (q ∷ qs) (suc (lesser_count n qs)) = subst (IsNotAt n (q ∷ qs)) (one_add (lesser_count n qs)) o in
           ap (λ b. cond b (Some q) (queued_at n qs)) (ne_eqb q.job.number n (λ same. omega (arith, less, same)))
           ∙ absent n qs h.1 (λ d lt same. later d (omega (arith, lt)) same)
       | false ↦ λ e o.

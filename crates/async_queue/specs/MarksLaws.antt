@@ -1,8 +1,8 @@
 -- Laws: the queue of a state of the monitor: the jobs of its tables, of which those with an open service are taken. Each call on
 -- the queue is a step of the state.
-use Rattle.std.specs.Prelude.{◌≡◌, refl, ◌+◌, ℕ, suc, Option, Some, None, true, false, cond, not, ◌==◌, IsTrue, List, [], ◌∷◌, ◌++◌, map, filter, nat_lt, is_some}
+use Rattle.std.specs.Prelude.{◌≡◌, refl, ℕ, Option, Some, None, true, false, cond, not, ◌==◌, IsTrue, List, [], ◌∷◌, map, filter, nat_lt, is_some}
 use Rattle.std.proofs.Common.{sym, ap, ◌∙◌, arith}
-use Rattle.std.specs.List.{list_all, insert}
+use Rattle.std.specs.List.{list_all}
 use Rattle.std.specs.Ordering.{nat_cmp, is_eq, ordering_then}
 use Rattle.std.specs.declared.cmp.Ordering.TheVariants.{Less, Equal, Greater}
 use Rattle.std.specs.Cmp.{eq_by_cmp_equiv}
@@ -21,7 +21,7 @@ use Rattle.abstract_monitor.specs.State.{OpenTransaction}
 use Rattle.abstract_monitor.specs.Locks.{Active}
 use Rattle.abstract_monitor.specs.Picks.{is_free, free_jobs}
 use Rattle.async_queue.specs.declared.queue.QueuedJob.{QueuedJob}
-use Rattle.async_queue.specs.Queue.{untaken, free, lesser_count, marked, with_job, with_mark, without_job}
+use Rattle.async_queue.specs.Queue.{untaken, free, marked, with_mark, without_job}
 use Rattle.async_queue.specs.Marks.{queued_in, queue_of}
 
 -- ---- its free jobs
@@ -102,16 +102,3 @@ without_of active n (job ∷ jobs) =
     ]
     ∙ ap (λ b. queue_of active (cond (not b) (job ∷ without_item job_key (key.Job n) jobs) (without_item job_key (key.Job n) jobs)))
     (sym (same_job job.number n) ∙ sym ((eq_by_cmp_equiv key_total).symm (key.Job n) (key.Job job.number)))
-
--- ---- a job with a greater number comes in behind the others
-
-behind : (job : Job) (q : QueuedJob) (qs : List QueuedJob) → nat_lt q.job.number job.number ≡ true → with_job job (q ∷ qs) ≡ q ∷ with_job job qs
-behind job q qs h =
-    let one : 1 + lesser_count job.number qs ≡ suc (lesser_count job.number qs) = omega arith in
-    ap (λ (i : ℕ). insert (q ∷ qs) i (untaken job)) (ap (λ b. cond b (1 + lesser_count job.number qs) 0) h ∙ one)
-
-pub with_of : (active : Active) (job : Job) (jobs : List Job) → IsTrue (is_free active job) → IsTrue (list_all (λ (j : Job). nat_lt j.number job.number) jobs) → with_job job (queue_of active jobs) ≡ queue_of active (jobs ++ job ∷ [])
-with_of active job [] f h = ap (λ b. record { job = job; taken = not b } ∷ []) (sym f)
-with_of active job (j ∷ jobs) f h =
-    let parts = both_true (nat_lt j.number job.number) (list_all (λ (i : Job). nat_lt i.number job.number) jobs) h in
-    behind job (queued_in active j) (queue_of active jobs) parts.0 ∙ ap (λ (l : List QueuedJob). queued_in active j ∷ l) (with_of active job jobs f parts.1)

@@ -20,8 +20,7 @@ impl Allows for Target {
         match (self, to) {
             (Target::Tac(tac), Target::Tac(other)) => tac == other,
             (Target::Lterm(lterm), Target::Lterm(other)) => lterm == other,
-            (Target::Tac(_), Target::Lterm(_)) => false,
-            (Target::Lterm(_), Target::Tac(_)) => false,
+            (Target::Tac(_), Target::Lterm(_)) | (Target::Lterm(_), Target::Tac(_)) => false,
         }
     }
 }

@@ -1,6 +1,6 @@
 //! The jobs of the tables, with marks.
-ghost use Rattle.std.specs.{Prelude.{◌≡◌, true, false, not, IfOk, OnOk, OnErr, None, map, option_copied}, Option.{option_map}};
-ghost use Rattle.kdcs_types.specs.{declared.service.Job.{Job}, Same.{target_eq}};
+ghost use Rattle.std.specs.Prelude.{◌≡◌, true, false, not, IfOk, OnOk, OnErr, None, map, option_copied};
+ghost use Rattle.kdcs_types.specs.declared.service.Job.{Job};
 ghost use Rattle.abstract_monitor.specs.Picks.{due_job};
 ghost use Rattle.async_queue.specs.Queue.{untaken, queued_at, value_at, has_mark, with_job, with_mark, without_job, free};
 
@@ -8,7 +8,7 @@ use crate::allows::Allows;
 use crate::choice::first_of;
 use crate::queue::{QueuedJob, lesser_count, place_of};
 use kd_base::OutOfMemory;
-use kdcs_types::{Job, JobValue, Tables, Target};
+use kdcs_types::{Job, JobValue, Tables};
 use std::alloc::Global;
 use std::marker::Model;
 
@@ -44,8 +44,7 @@ impl Jobs {
                 taken: false,
             })?;
         }
-        // The tables are in order.
-        let _clock = tables.clock();
+        let _clock = tables.clock(); // for the proof
         Ok(Jobs { queue })
     }
 
@@ -108,13 +107,5 @@ impl Jobs {
         ensures { option_copied result ≡ due_job now (A.allows allowed.now) (free self.now) }
     {
         first_of(&self.queue, allowed, now)
-    }
-
-    /// The due and the number of the job for this target that is due first, if one is due and not taken.
-    pub fn first_due(&self, target: Target, now: u64) -> Option<(u64, u64)>
-        ensures { result ≡ option_map (λ (j : Job). (j.value.due, j.number)) (due_job now (target_eq target) (free self.now)) }
-    {
-        let job = self.first_allowed(&target, now)?;
-        Some((job.value.due, job.number))
     }
 }

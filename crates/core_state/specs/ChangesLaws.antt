@@ -1,8 +1,8 @@
 -- What becomes of the indexes when a service opens, goes on or is over.
-use Rattle.std.specs.Prelude.{◌≡◌, refl, ℕ, zero, suc, Bool, true, false, cond, not, ◌||◌, List, [], ◌∷◌, ◌++◌, map, filter, IfSome, Option, Some, None, slice_set, option_map, MatchOption, if◌then◌else◌}
+use Rattle.std.specs.Prelude.{◌≡◌, refl, ℕ, zero, suc, Bool, true, false, cond, not, ◌||◌, List, [], ◌∷◌, ◌++◌, map, filter, IfSome, Option, Some, None, slice_set, MatchOption, if◌then◌else◌}
 use Rattle.std.specs.List.{list_any}
 use Rattle.std.proofs.Common.{ap, sym, subst, ◌∙◌, true≢false}
-use Rattle.std.specs.Ordering.{eq_by_cmp, is_eq, ordering_reverse}
+use Rattle.std.specs.Ordering.{is_eq, ordering_reverse}
 use Rattle.std.specs.Cmp.{IsTotalOrder}
 use Rattle.std.specs.declared.cmp.Ordering.{Ordering}
 use Rattle.std.specs.declared.cmp.Ordering.TheVariants.{Less, Equal, Greater}
@@ -13,7 +13,7 @@ use Rattle.std.specs.FinMap.Entries.{by_order, where_key, find-put}
 use Rattle.kdcs_types.specs.declared.key.Area.{Area}
 use Rattle.kdcs_types.specs.declared.key.ServiceId.{ServiceId}
 use Rattle.kdcs_types.specs.Keys.{id_cmp, id_eq}
-use Rattle.kdcs_types.specs.KeyLaws.{id_total, same_id, id_eq-same, id_eq-itself}
+use Rattle.kdcs_types.specs.KeyLaws.{id_total, same_id, id_eq_same}
 use Rattle.kdcdef_types.specs.Generation.{Generated}
 use Rattle.area_locks.specs.Asked.{holds_area, is_holder, other_than}
 use Rattle.abstract_monitor.specs.Bytes.{Bytes, bytes_cmp}
@@ -72,7 +72,7 @@ each_found {X = X} P id [] ps = tt
 each_found {X = X} P id (e ∷ es) ps = by (id_eq id e.0) refl (each_found P id es ps.1)
   where
     by : (b : Bool) → id_eq id e.0 ≡ b → IfSome (find id_cmp id es) (λ (x : X). P (id, x)) → IfSome (cond b (Some e.1) (find id_cmp id es)) (λ (x : X). P (id, x))
-    by true h rest = subst (λ (i : ServiceId). P (i, e.1)) (sym (id_eq-same id e.0 h)) ps.0
+    by true h rest = subst (λ (i : ServiceId). P (i, e.1)) (sym (id_eq_same id e.0 h)) ps.0
     by false h rest = rest
 
 -- ---- classes
@@ -87,12 +87,9 @@ turned i j e = (eq_by_cmp_equiv id_total).symm j i ∙ e
 class_stays : (g : Generated) (before after : Active) (e : Classed) → find id_cmp e.0 after ≡ find id_cmp e.0 before → HasClass g before e → HasClass g after e
 class_stays g before after e same h = h ∙ ap (λ (o : Option OpenTransaction). class_of g (current_by o)) (sym same)
 
-neither : (a b : Bool) → (a || b) ≡ false → (a ≡ false) × (b ≡ false)
+pub neither : (a b : Bool) → (a || b) ≡ false → (a ≡ false) × (b ≡ false)
 neither true b h = absurd (true≢false h)
 neither false b h = (refl, h)
-
-pub neither_of : (a b : Bool) → (a || b) ≡ false → (a ≡ false) × (b ≡ false)
-neither_of = neither
 
 module _ (g : Generated) (before after : Active) (id : ServiceId) (others : OthersStay id before after) where
   pub ready_stay : (es : List Classed) → list_any (id_eq id) (map id_of es) ≡ false → Each (HasClass g before) es → Each (HasClass g after) es
@@ -167,10 +164,10 @@ apart who id (Some other) b e = by (id_eq other who) refl b e
     by : (c : Bool) → id_eq other who ≡ c → (b : Bool) → id_eq id who ≡ b → is_holder (if c then None else Some other) id ≡ (if b then false else id_eq other id)
     by true h true k = refl
     by true h false k =
-        let same : other ≡ who = id_eq-same other who h in
+        let same : other ≡ who = id_eq_same other who h in
         sym (ap (λ (o : ServiceId). id_eq o id) same ∙ turned id who k)
     by false h true k =
-        let same : id ≡ who = id_eq-same id who k in
+        let same : id ≡ who = id_eq_same id who k in
         ap (λ (i : ServiceId). id_eq other i) same ∙ h
     by false h false k = refl
 
@@ -181,7 +178,7 @@ freed_holds l m active who follow same id area = ap (λ o. is_holder o id) (foll
   where
     by : (b : Bool) → id_eq id who ≡ b → is_holder (other_than who (holder l area)) id ≡ holds (where_key id_cmp (λ i. not (id_eq who i)) active) id area
     by true e =
-        let is : id ≡ who = id_eq-same id who e in
+        let is : id ≡ who = id_eq_same id who e in
         apart who id (holder l area) true e
         ∙ sym (ap (λ (i : ServiceId). touched_by (find id_cmp i (where_key id_cmp (λ j. not (id_eq who j)) active)) area) is ∙ ap (λ o. touched_by o area) (found_without who active))
     by false e = apart who id (holder l area) false e ∙ same id area ∙ sym (ap (λ o. touched_by o area) (other_without id who active e))
@@ -193,7 +190,7 @@ opened_holds l active who x closed none same id area = by (id_eq id who) refl
   where
     by : (b : Bool) → id_eq id who ≡ b → holds_area l id area ≡ holds (put id_cmp who x active) id area
     by true e =
-        let is : id ≡ who = id_eq-same id who e in
+        let is : id ≡ who = id_eq_same id who e in
         same id area
         ∙ ap (λ (i : ServiceId). holds active i area) is ∙ ap (λ o. touched_by o area) closed
         ∙ sym (ap (λ (i : ServiceId). touched_by (find id_cmp i (put id_cmp who x active)) area) is ∙ ap (λ o. touched_by o area) (found_put who x active)

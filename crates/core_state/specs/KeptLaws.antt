@@ -26,8 +26,9 @@ use Rattle.async_queue.specs.Marks.{queue_of}
 use Rattle.core_state.specs.Queue.{marked_for, followed_all}
 use Rattle.core_state.specs.QueueLaws.{all_followed, opened_queue, closed_queue}
 use Rattle.core_state.specs.Standing.{Each, HasClass, PlaceHasClass, IsIndexed, IsOwned, active_of, id_of, state_of}
-use Rattle.core_state.specs.ChangesLaws.{SameHolds, each_put, each_where, each_set, each_push, each_found, map_set, map_push, neither_of, ready_stay, places_stay, ready_without, places_left, classes_left, freed_holds, opened_holds, put_others, without_others}
+use Rattle.core_state.specs.ChangesLaws.{SameHolds, each_put, each_where, each_set, each_push, each_found, map_set, map_push, ready_stay, places_stay, ready_without, places_left, classes_left, freed_holds, opened_holds, put_others, without_others, neither}
 use Rattle.core_state.specs.Kept.{with_active}
+use Rattle.kdcs_types.specs.RowLaws.{numbers_apart}
 
 -- ---- ready list and tasks
 
@@ -80,7 +81,7 @@ IsUnplaced p id = is_running (state_of p) id ≡ false
 
 module _ (p : MonitorParts) (id : ServiceId) (h : IsIndexed p) (unplaced : IsUnplaced p id) where
   abbrev nowhere : (list_any (id_eq id) (map id_of p.scheduler.ready) ≡ false) × (list_any (in_place id) (map service_in p.scheduler.places) ≡ false)
-  nowhere = neither_of (list_any (id_eq id) (map id_of p.scheduler.ready)) (list_any (in_place id) (map service_in p.scheduler.places)) unplaced
+  nowhere = neither (list_any (id_eq id) (map id_of p.scheduler.ready)) (list_any (in_place id) (map service_in p.scheduler.places)) unplaced
 
   closed_as : IsIndexed (with_active p (where_key id_cmp (λ i. not (id_eq id i)) p.active) (freed p.locks id) (marked_for false id p.jobs))
       → (active : List (ServiceId × Boxed)) (locks : Locks) (jobs : List QueuedJob)
@@ -151,11 +152,6 @@ found_open works id = by (find id_cmp id works) ∙ ap is_some (sym (find_mapped
     by : (o : Option Boxed) → is_some o ≡ is_some (option_map boxed_transaction o)
     by None = refl
     by (Some transaction) = refl
-
--- other numbers leave the rows in order
-numbers_apart : (t : TableRows) (clock next : ℕ) → IsSortedTables t → IsSortedTables (record t { clock = clock; next_job = next })
-numbers_apart t clock next h =
-    record { gssbs = h.gssbs; tlss = h.tlss; ulss = h.ulss; services = h.services; jobs = h.jobs; shown = h.shown; tlss_filled = h.tlss_filled; ulss_filled = h.ulss_filled; services_fit = h.services_fit }
 
 -- the changes of a commit, in the tables and in the marked jobs
 pub changed_indexed : (p : MonitorParts) (tables : TableRows) (jobs : List QueuedJob) (c : Changes) → IsIndexed p → IsSortedTables p.tables → AreChanges c.items

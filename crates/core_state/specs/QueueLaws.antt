@@ -18,7 +18,7 @@ use Rattle.kdcs_types.specs.declared.key.ServiceId.TheVariants.{Dialogue, Asynch
 use Rattle.kdcs_types.specs.declared.service.Job.{Job}
 use Rattle.kdcs_types.specs.Keyed.{ascends, keyed, with_item}
 use Rattle.kdcs_types.specs.Keys.{id_cmp, id_eq, key_cmp}
-use Rattle.kdcs_types.specs.KeyLaws.{id_eq-same}
+use Rattle.kdcs_types.specs.KeyLaws.{id_eq_same, less_number}
 use Rattle.kdcs_types.specs.RowLaws.{sorted_with_change}
 use Rattle.kdcs_types.specs.Tables.{TableRows, IsSortedTables, change_fits, job_key, with_change, with_changes}
 use Rattle.async_queue.specs.declared.queue.QueuedJob.{QueuedJob}
@@ -59,7 +59,7 @@ kept_queue id x active jobs is_open = same_queue active (put id_cmp id x active)
   where
     by : (job : Job) (b : Bool) → id_eq (Asynchronous job.number) id ≡ b → is_free active job ≡ is_free (put id_cmp id x active) job
     by job true e =
-        let same : Asynchronous job.number ≡ id = id_eq-same _ _ e in
+        let same : Asynchronous job.number ≡ id = id_eq_same _ _ e in
         ap (λ (i : ServiceId). not (is_some (find id_cmp i active))) same ∙ ap not is_open
         ∙ sym (ap (λ (i : ServiceId). not (is_some (find id_cmp i (put id_cmp id x active)))) same ∙ ap (λ (o : Option OpenTransaction). not (is_some o)) (found_put id x active))
     by job false e = free_by active (put id_cmp id x active) job (other_put (Asynchronous job.number) id x active e)
@@ -82,12 +82,6 @@ gone n (q ∷ qs) = by (has_number n q) refl (gone n qs)
 abbrev IsAbove : ℕ → List Job → Type 0
 IsAbove n [] = Unit {0}
 IsAbove n (job ∷ jobs) = (n < job.number) × IsAbove n jobs
-
-less_number : (a b : ℕ) → is_lt (key_cmp (key.Job a) (key.Job b)) ≡ true → a < b
-less_number a b e = ltb-true a b (elim (nat_lt a b) as (λ t. is_lt (ordering_then (ordering_then (cond t Less (cond (a == b) Equal Greater)) Equal) Equal) ≡ true → t ≡ true) [
-  | true ↦ λ h. refl
-  | false ↦ elim (a == b) as (λ u. is_lt (ordering_then (ordering_then (cond u Equal Greater) Equal) Equal) ≡ true → false ≡ true) [ true ↦ λ h. h | false ↦ λ h. h ]
-] e)
 
 above_of : (n : ℕ) (jobs : List Job) → below_all key_cmp (key.Job n) (keyed job_key jobs) ≡ true → IsAbove n jobs
 above_of n [] h = tt

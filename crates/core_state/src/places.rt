@@ -42,7 +42,7 @@ impl MonitorParts {
     {
         match self.active.get(id) {
             Some(transaction) => class_of(&self.generation, transaction.current),
-            None => 0,
+            None => unreachable!(),
         }
     }
 

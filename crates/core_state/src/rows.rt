@@ -71,8 +71,7 @@ impl MonitorParts {
         ensures same { OnOk result (SameApplication self.old self.new) }
         ensures state { OnOk result (state_of self.new ≡ record (state_of self.old) { tables = changed self.old.tables changes.now }) }
     {
-        // The tables are in order.
-        let _clock = self.tables.clock();
+        let _clock = self.tables.clock(); // for the proof
         self.tables.change(changes)?;
         follow_all(&mut self.jobs, &self.active, changes.items.as_slice())?;
         Ok(())

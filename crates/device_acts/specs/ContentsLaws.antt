@@ -14,7 +14,7 @@ use Rattle.kdcs_types.specs.declared.act.Act.TheVariants.{Commit, Emit}
 use Rattle.kdcs_types.specs.declared.act.Changes.{Changes}
 use Rattle.abstract_monitor.specs.Trace.{bytes_of}
 use Rattle.record_codec.specs.Records.{patch_of}
-use Rattle.device_acts.specs.Performing.{commits_nothing, IsCutOf, Performs, Sent, content_after, CanCommit, AreCommittable}
+use Rattle.device_acts.specs.Performing.{commits_nothing, IsCutOf, Performs, Sent, content_after, AreCommittable}
 use Rattle.device_acts.specs.Said.{Said, SaidPart}
 use Rattle.device_acts.specs.ActingLaws.{Goes, one_more, cut_none, cut_after, cut_within_line}
 
@@ -27,9 +27,6 @@ pub content_goes : Goes content_after
 content_goes = record { none = λ x. refl; joined = content_joined }
 
 -- ---- what can be committed
-
-pub can_commit : (i : Identity) (x : Content) (c : Changes) (act : Act) → act ≡ Commit c → AreCommittable i x (act ∷ []) → CanCommit i x c
-can_commit i x c act is can = (subst (λ (y : Act). AreCommittable i x (y ∷ [])) is can).0
 
 -- acts in two parts: the first, and the second behind it
 pub committable_parts : (i : Identity) (x : Content) (p q : List Act) → AreCommittable i x (p ++ q) → AreCommittable i x p × AreCommittable i (content_after x p) q

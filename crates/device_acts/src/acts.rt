@@ -12,7 +12,7 @@ use record_codec::difference;
 use std::alloc::Global;
 
 /// One act: a commit, whole or absent, or a line.
-fn perform_act<D: Device, S: Store<D>>(
+fn do_act<D: Device, S: Store<D>>(
     alloc: Global,
     device: &mut D,
     store: &mut S,
@@ -38,7 +38,7 @@ fn perform_act<D: Device, S: Store<D>>(
 
 /// Acts in their order, which the store can take. At a stop, and at an error, what was sent and what the file stands for
 /// are a cut of them.
-pub fn perform_acts<D: Device, S: Store<D>>(
+pub fn do_acts<D: Device, S: Store<D>>(
     alloc: Global,
     device: &mut D,
     store: &mut S,
@@ -53,7 +53,7 @@ pub fn perform_acts<D: Device, S: Store<D>>(
     ensures failed { IsErrOf result DeviceError.Failed → Rose (D.state device.old).disk_faults (D.state device.new).disk_faults ⊎ Rose (D.state device.old).line_faults (D.state device.new).line_faults }
 {
     for act in acts {
-        perform_act(alloc, device, store, act)?;
+        do_act(alloc, device, store, act)?;
     }
     Ok(())
 }

@@ -8,5 +8,5 @@
 mod acts;
 mod saying;
 
-pub use acts::perform_acts;
+pub use acts::do_acts;
 pub use saying::say;

@@ -28,16 +28,16 @@ restart_steps : (app : Application) (s : MonitorState) → steps_of app s Restar
 unfolding steps_of
 restart_steps app s = refl
 
-single_steps : (app : Application) (s : MonitorState) (command : Command) → IsSingle command → steps_of app s command ≡ command_of app s command ∷ []
+pub steps_of_single : (app : Application) (s : MonitorState) (command : Command) → IsSingle command → steps_of app s command ≡ command_of app s command ∷ []
 unfolding steps_of
-single_steps app s (Input pterm text) single = refl
-single_steps app s (Tick ticks) single = refl
-single_steps app s (Run turns) single = absurd single
-single_steps app s (Turn task) single = absurd single
-single_steps app s (Drop pterm) single = refl
-single_steps app s (Print pterm) single = refl
-single_steps app s (PrintLast pterm) single = refl
-single_steps app s Restart single = absurd single
+steps_of_single app s (Input pterm text) single = refl
+steps_of_single app s (Tick ticks) single = refl
+steps_of_single app s (Run turns) single = absurd single
+steps_of_single app s (Turn task) single = absurd single
+steps_of_single app s (Drop pterm) single = refl
+steps_of_single app s (Print pterm) single = refl
+steps_of_single app s (PrintLast pterm) single = refl
+steps_of_single app s Restart single = absurd single
 
 -- a command, and the steps that it is
 pub steps_of_run : (app : Application) (s : MonitorState) (command : Command) (turns : ℕ) → command ≡ Run turns → steps_of app s command ≡ rotated app turns false s 1 0
@@ -49,9 +49,6 @@ steps_of_turn app s command task is = ap (steps_of app s) is ∙ turn_steps app 
 pub steps_of_restart : (app : Application) (s : MonitorState) (command : Command) → command ≡ Restart → steps_of app s command ≡ command_of app s Restart ∷ []
 steps_of_restart app s command is = ap (steps_of app s) is ∙ restart_steps app s
 
-pub steps_of_single : (app : Application) (s : MonitorState) (command : Command) → IsSingle command → steps_of app s command ≡ command_of app s command ∷ []
-steps_of_single app s command single = single_steps app s command single
-
 pub single_of : (command : Command) → ((pterm : List ℕ) × (text : List ℕ) × (command ≡ Input pterm text)) ⊎ (((ticks : ℕ) × (command ≡ Tick ticks)) ⊎ (((pterm : List ℕ) × (command ≡ Drop pterm)) ⊎ (((pterm : List ℕ) × (command ≡ Print pterm)) ⊎ ((pterm : List ℕ) × (command ≡ PrintLast pterm)))))
     → IsSingle command × (turns_of command ≡ 1)
 single_of command (inl (pterm, text, is)) = (subst IsSingle (sym is) tt, ap turns_of is)
@@ -59,6 +56,16 @@ single_of command (inr (inl (ticks, is))) = (subst IsSingle (sym is) tt, ap turn
 single_of command (inr (inr (inl (pterm, is)))) = (subst IsSingle (sym is) tt, ap turns_of is)
 single_of command (inr (inr (inr (inl (pterm, is))))) = (subst IsSingle (sym is) tt, ap turns_of is)
 single_of command (inr (inr (inr (inr (pterm, is))))) = (subst IsSingle (sym is) tt, ap turns_of is)
+
+-- a command that is no RESTART
+pub run_no_restart : (command : Command) (turns : ℕ) → command ≡ Run turns → command ≡ Restart → ⊥
+run_no_restart command turns is restart = cc (sym is ∙ restart)
+
+pub turn_no_restart : (command : Command) (task : ℕ) → command ≡ Turn task → command ≡ Restart → ⊥
+turn_no_restart command task is restart = cc (sym is ∙ restart)
+
+pub single_no_restart : (command : Command) → IsSingle command → command ≡ Restart → ⊥
+single_no_restart command single restart = subst IsSingle restart single
 
 pub own_running : (fingerprint : List ℕ) (c : CoreValue) (store : Whole) → IsRunning fingerprint c store → IsRunning store.identity.fingerprint c store
 own_running fingerprint c store h = subst (λ f. IsRunning f c store) (sym (fingerprint_is fingerprint c store h)) h

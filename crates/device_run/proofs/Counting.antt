@@ -1,5 +1,5 @@
 -- How many commits some steps make.
-use Rattle.std.proofs.Common.{◌≡◌, inl, inr, arith, ℕ, zero, suc, ◌+◌, ◌≤◌, List, [], ◌∷◌, ◌++◌, refl, sym, ap, subst, ◌∙◌}
+use Rattle.std.proofs.Common.{◌≡◌, inl, inr, arith, ℕ, zero, suc, ◌+◌, ◌≤◌, List, [], ◌∷◌, ◌++◌, sym, ap, subst, ◌∙◌}
 use Rattle.std.specs.Prelude.{Bool, true, false, ◌==◌}
 use Rattle.laws_of_steps.specs.Steps.{CommitsOnce, TurnsCommitOnce, CommandsCommitOnce}
 use Rattle.laws_of_steps.specs.StepsLaws.{commits_of_both, lines_commit_nothing, commit_counts}

@@ -30,12 +30,13 @@ use Rattle.warm_start.specs.Opening.{StartsFrom, IsRefused, IsOfOtherTexts, Answ
 use Rattle.warm_start.specs.Stands.{AreTables, StandsForTables, KeepsTables, identity_for}
 use Rattle.monitor_core.specs.CoreValue.{CoreValue}
 use Rattle.device_acts.specs.Performing.{IsCutOf, Performs, Sent}
-use Rattle.device_run.specs.DurableLaws.{durable_same, started_tables}
 use Rattle.device_run.specs.Running.{identity_of, durable_of, IsAgain, IsRunning, PerformsSteps, DidSteps}
 use Rattle.device_acts.specs.Said.{Said, SaidPart}
 use Rattle.device_acts.specs.ActingLaws.{no_bytes, cut_none, Running, running_performs}
 use Rattle.device_acts.specs.ContentsLaws.{line_performs, line_sent}
 use Rattle.device_run.proofs.Tables.{tables_go}
+use Rattle.laws_of_tables.specs.EndsLaws.{durable_same}
+use Rattle.laws_of_steps.specs.TablesStayLaws.{started_tables}
 
 -- the bytes of a store that keeps tables stand for them
 pub kept_stands : (i : Identity) (store : Whole) (t : TableRows) (bytes : List ℕ) → KeepsTables i store t → HasFile store bytes → StandsForTables i t bytes

@@ -86,12 +86,6 @@ module _ (fingerprint : List ℕ) (c d : CoreValue) (store : Whole) (turns at ta
   same_tasks : (tasks : ℕ) → tasks ≡ c.application.generation.limits.tasks → tasks ≡ d.application.generation.limits.tasks
   same_tasks tasks is = is ∙ ap (λ (x : Application). x.generation.limits.tasks) (sym run.run.did.application)
 
-  pub rotation_fewer : (tasks : ℕ) → tasks ≡ c.application.generation.limits.tasks → unmoved < tasks
-  rotation_fewer tasks is = subst (λ n. unmoved < n) (sym (same_tasks tasks is)) run.fewer
-
-  pub rotation_within : (tasks : ℕ) → tasks ≡ c.application.generation.limits.tasks → task ≤ tasks
-  rotation_within tasks is = subst (λ n. task ≤ n) (sym (same_tasks tasks is)) run.within.1
-
   pub rotation_running : IsRunning store.identity.fingerprint d store
   rotation_running = subst (λ f. IsRunning f d store) (sym (fingerprint_is fingerprint d store run.run.did.running)) run.run.did.running
 

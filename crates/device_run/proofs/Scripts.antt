@@ -1,24 +1,29 @@
 -- A script up to one of its commands.
-use Rattle.std.proofs.Common.{◌≡◌, arith, ℕ, ◌+◌, ◌<◌, ◌≤◌, subst, List, [], ◌∷◌, ◌++◌, length, take, drop, get_or, refl, sym, ap, ◌∙◌, append_assoc}
+use Rattle.std.proofs.Common.{◌≡◌, ◌⊎◌, inl, inr, arith, ℕ, ◌+◌, ◌<◌, ◌≤◌, subst, List, [], ◌∷◌, ◌++◌, length, take, drop, get_or, refl, sym, ap, ◌∙◌, append_assoc}
 use Rattle.std.specs.Prelude.{IsTrue, sum_by}
 use Rattle.std.proofs.lemmas.List.{append-nil, drop_more, take_all}
 use Rattle.std.proofs.lemmas.List.Sums.{sum_by-cons}
-use Rattle.kd_device.specs.Device.{State as Device}
+use Rattle.kd_device.specs.Device.{Rose, State as Device}
 use Rattle.kdcfile_store.specs.Kept.{IsKept}
 use Rattle.kdcfile_store.specs.Whole.{Whole, HasFile}
 use Rattle.abstract_monitor.specs.CommandsOf.{IsCommandOf}
 use Rattle.laws_of_steps.specs.Keeping.{IsScriptOf}
 use Rattle.laws_of_steps.specs.Steps.{TurnsCommitOnce, CommandsCommitOnce}
+use Rattle.kdcs_types.specs.declared.act.Act.{Act}
+use Rattle.abstract_monitor.specs.Bytes.{Bytes}
+use Rattle.warm_start.specs.Stands.{StandsForTables}
 use Rattle.monitor_core.specs.CoreValue.{CoreValue}
-use Rattle.device_run.specs.Running.{turns_of, PerformsSteps, DidSteps}
+use Rattle.device_run.specs.Running.{turns_of, identity_of, durable_of, PerformsSteps, DidSteps, SaysNothing, SendsPart, StoppedIn}
 use Rattle.device_run.proofs.Counting.{commits_by, commits_both, command_commits}
 use Rattle.device_run.proofs.Stepping.{Stepping, stepping_performs, stepping_more}
 use Rattle.laws_of_runs.specs.ListsLaws.{after_both}
 use Rattle.abstract_monitor.specs.declared.command.Command.{Command}
-use Rattle.abstract_monitor.specs.Commands.{ScriptStep, steps_of, state_after}
+use Rattle.abstract_monitor.specs.declared.command.Command.TheVariants.{Restart}
+use Rattle.abstract_monitor.specs.Commands.{ScriptStep, acts_of, steps_of, state_after}
 use Rattle.abstract_monitor.specs.State.{Application, State}
-use Rattle.abstract_monitor.specs.Trace.{history}
-use Rattle.device_acts.specs.ActingLaws.{around, one_more}
+use Rattle.abstract_monitor.specs.Trace.{history, bytes_of, tables_after}
+use Rattle.device_acts.specs.ActingLaws.{around, no_bytes, one_more}
+use Rattle.device_acts.specs.Performing.{IsCutOf}
 
 module _ (app : Application) where
   history_both : (s : State) (cs ds : List Command) → history app s (cs ++ ds) ≡ history app s cs ++ history app (state_after s (history app s cs)) ds
@@ -59,6 +64,11 @@ module _ (app : Application) where
 pub nothing_counted : (app : Application) (s : State) → 0 ≡ commits_by (history app s [])
 unfolding history
 nothing_counted app s = refl
+
+-- what was sent, of a cut of some acts or where nothing was sent
+sends_part : {X : Type 0} (after : X → List Act → X) (stands : X → Bytes → Type 0) (start : X) (acts : List Act) (sent image out : Bytes) → (out ≡ sent) ⊎ IsCutOf after stands start acts sent image out → SendsPart acts sent out
+sends_part after stands start acts sent image out (inl same) = record { since = []; more = same ∙ sym (append-nil sent); done = []; left = acts; whole = refl; bytes = inl (sym no_bytes) }
+sends_part after stands start acts sent image out (inr h) = record { since = h.since; more = h.more; done = h.done; left = h.left; whole = h.whole; bytes = h.bytes }
 
 -- ---- the commands so far
 
@@ -117,3 +127,22 @@ module _ (fingerprint : List ℕ) (c d : CoreValue) (store : Whole) (cs : List C
       script_more next store' did =
           stepping_more fingerprint c d store (history c.application c.state cs) (history c.application c.state (take i cs)) (steps_of d.application d.state command) (history c.application (state_after d.state (steps_of c.application d.state command)) (drop (i + 1) cs)) a b e la lb le run split step next store'
           (history c.application c.state (take (i + 1) cs)) more did
+
+      -- the script stopped within this command
+      pub script_stopped : IsTrue a.told → (e.sent ≡ b.sent) ⊎ IsCutOf tables_after (StandsForTables (identity_of fingerprint d)) (durable_of d) (acts_of (steps_of d.application d.state command)) b.sent e.holds e.sent → (command ≡ Restart → SaysNothing b e) → StoppedIn c cs a e
+      script_stopped told cut unsaid =
+          let sent : b.sent ≡ a.sent ++ bytes_of (acts_of (history c.application c.state (take i cs))) = run.did.acts.sent told in
+          let steps : steps_of d.application d.state command ≡ steps_of c.application (state_after c.state (history c.application c.state (take i cs))) command = λ k. steps_of (run.did.application k) (run.did.state told k) command in
+          let part : SendsPart (acts_of (steps_of d.application d.state command)) b.sent e.sent = sends_part tables_after (StandsForTables (identity_of fingerprint d)) (durable_of d) (acts_of (steps_of d.application d.state command)) b.sent e.holds e.sent cut in
+          record {
+            before = take i cs;
+            command = command;
+            rest = drop (i + 1) cs;
+            split = around cs i command command is lt;
+            part = subst (λ (l : List ScriptStep). SendsPart (acts_of l) (a.sent ++ bytes_of (acts_of (history c.application c.state (take i cs)))) e.sent) steps (subst (λ (o : Bytes). SendsPart (acts_of (steps_of d.application d.state command)) o e.sent) sent part);
+            restart = λ restart. said (unsaid restart);
+          }
+        where
+          said : SaysNothing b e → (e.sent ≡ a.sent ++ bytes_of (acts_of (history c.application c.state (take i cs)))) ⊎ Rose a.line_faults e.line_faults
+          said (inl same) = inl (same ∙ run.did.acts.sent told)
+          said (inr rose) = let frame = run.performs.frame.line_faults in inr (omega (arith, frame, rose))

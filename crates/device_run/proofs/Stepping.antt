@@ -1,9 +1,9 @@
 -- How steps of a script go on from one another.
-use Rattle.std.proofs.Common.{◌≡◌, ◌⊎◌, inl, inr, arith, ℕ, List, [], ◌∷◌, ◌++◌, refl, sym, ap, subst, ◌∙◌}
+use Rattle.std.proofs.Common.{◌≡◌, ℕ, List, [], ◌∷◌, ◌++◌, refl, sym, ap, subst, ◌∙◌}
 use Rattle.std.specs.Prelude.{IsTrue}
 use Rattle.std.proofs.lemmas.List.{append-nil}
 use Rattle.std.proofs.lemmas.Grind.{flat_map-append}
-use Rattle.kd_device.specs.Device.{State, Frame, Rose}
+use Rattle.kd_device.specs.Device.{State}
 use Rattle.kd_records.specs.Identity.{Identity}
 use Rattle.kd_records.specs.declared.content.Content.{Content}
 use Rattle.kdcfile_images.specs.File.{Stands, StandsFor}
@@ -175,8 +175,3 @@ no_history app s = refl
 -- nothing of a script is done yet
 pub history_start : (fingerprint : List ℕ) (c : CoreValue) (store : Whole) (cs : List Command) (a : State) (la : ℕ → List ℕ → List ℕ → Type 0) → IsRunning fingerprint c store → (IsTrue a.told → IsKept (HasFile store) a la) → Stepping fingerprint c c store (history c.application c.state cs) (history c.application c.state []) a a la la
 history_start fingerprint c store cs a la running kept = subst (λ (l : List ScriptStep). Stepping fingerprint c c store (history c.application c.state cs) l a a la la) (sym (no_history c.application c.state)) (stepping_start fingerprint c store (history c.application c.state cs) a la running kept)
-
--- a count that rose since a later moment rose since an earlier one
-pub failed_then : (a b d : State) → Frame a b → Rose b.disk_faults d.disk_faults ⊎ Rose b.line_faults d.line_faults → Rose a.disk_faults d.disk_faults ⊎ Rose a.line_faults d.line_faults
-failed_then a b d f (inl h) = inl (omega (arith, f.disk_faults, h))
-failed_then a b d f (inr h) = inr (omega (arith, f.line_faults, h))

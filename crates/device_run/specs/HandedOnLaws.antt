@@ -1,5 +1,5 @@
 -- Which error of a device was handed on as one of the opening.
-use Rattle.std.proofs.Common.{◌≡◌, ℕ, List, refl}
+use Rattle.std.proofs.Common.{◌≡◌, ◌⊎◌, inl, inr, ℕ, List, refl}
 use Rattle.std.specs.Prelude.{Result, Ok, Err, IsErrAnd, IsErrOf}
 use Rattle.kd_device.specs.declared.error.DeviceError.{DeviceError}
 use Rattle.kd_device.specs.declared.error.DeviceError.TheVariants as device
@@ -21,3 +21,8 @@ pub act_knows_no_other : (T : Type 0) (r : Result T OpenError) (e : DeviceError)
 act_knows_no_other T (Ok x) e stored gives is = gives
 act_knows_no_other T (Err x) device.Failed stored gives is = cc
 act_knows_no_other T (Err x) device.Memory stored gives is = cc
+
+-- a call of a device fails for want of memory, or for the device
+pub either_cause : (T : Type 0) (P Q : Type 0) (e : DeviceError) → (IsErrOf {T = T} (Err e) device.Memory → P) → (IsErrOf {T = T} (Err e) device.Failed → Q) → P ⊎ Q
+either_cause T P Q device.Failed p q = inr (q refl)
+either_cause T P Q device.Memory p q = inl (p refl)

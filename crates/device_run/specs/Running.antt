@@ -1,6 +1,6 @@
 -- A core and its store, between two steps of a script.
-use Rattle.std.specs.Prelude.{◌≡◌, ℕ, IsTrue, List, ◌++◌}
-use Rattle.kd_device.specs.Device.{State, Only}
+use Rattle.std.specs.Prelude.{◌≡◌, ◌⊎◌, ℕ, IsTrue, List, [], ◌∷◌, ◌++◌}
+use Rattle.kd_device.specs.Device.{State, Only, Rose}
 use Rattle.kd_records.specs.Identity.{Identity}
 use Rattle.kdcfile_store.specs.Kept.{IsKept}
 use Rattle.kdcfile_store.specs.Whole.{Whole, HasFile}
@@ -10,11 +10,12 @@ use Rattle.kdcdef_check.specs.Soundness.{AreLimits}
 use Rattle.abstract_monitor.specs.Bytes.{Bytes}
 use Rattle.abstract_monitor.specs.declared.command.Command.{Command}
 use Rattle.abstract_monitor.specs.declared.command.Command.TheVariants.{Input, Tick, Run, Turn, Drop, Print, PrintLast, Restart}
-use Rattle.abstract_monitor.specs.Commands.{ScriptStep, acts_of, started, state_after}
+use Rattle.abstract_monitor.specs.Commands.{ScriptStep, acts_of, command_of, started, state_after, steps_of, turned_step}
 use Rattle.abstract_monitor.specs.Endings.{durable}
-use Rattle.abstract_monitor.specs.Trace.{tables_after, bytes_of}
+use Rattle.abstract_monitor.specs.Trace.{history, tables_after, bytes_of}
+use Rattle.abstract_monitor.specs.Turns.{turn_of}
 use Rattle.laws_of_steps.specs.Applications.{IsApplication}
-use Rattle.laws_of_steps.specs.Cut.{IsCut}
+use Rattle.laws_of_steps.specs.Cut.{IsCut, SentBy}
 use Rattle.laws_of_steps.specs.Keeping.{HasFacts}
 use Rattle.warm_start.specs.Stands.{StandsForTables, KeepsTables, identity_for}
 use Rattle.monitor_core.specs.CoreValue.{CoreValue}
@@ -34,6 +35,13 @@ pub record IsRunning (fingerprint : List ℕ) (c : CoreValue) (store : Whole) : 
   pub limits : AreLimits c.application.generation.limits
   pub facts : HasFacts c.application c.state
   pub keeps : KeepsTables (identity_of fingerprint c) store (durable_of c)
+
+-- one turn of a task, and one command, as steps
+abbrev pub turn_steps : CoreValue → (task : ℕ) → List ScriptStep
+turn_steps c task = turned_step (turn_of c.application c.state task) ∷ []
+
+abbrev pub command_steps : CoreValue → Command → List ScriptStep
+command_steps c command = command_of c.application c.state command ∷ []
 
 -- whatever became of some steps of the core: at each moment, what was sent and what a stop leaves are a cut of their acts
 abbrev pub PerformsSteps : (fingerprint : List ℕ) → CoreValue → List ScriptStep → (a b : State) → (la lb : ℕ → List ℕ → List ℕ → Type 0) → Type 0
@@ -78,3 +86,26 @@ pub record Ran (fingerprint : List ℕ) (c : CoreValue) (steps : List ScriptStep
   pub sent : b.sent ≡ a.sent ++ bytes_of (acts_of steps)
   pub holds : StandsForTables (identity_of fingerprint c) (tables_after (durable_of c) (acts_of steps)) b.holds
   pub settled : Only b.holds b lb
+
+-- no byte was sent, or a call of the line failed
+abbrev pub SaysNothing : (a b : State) → Type 0
+SaysNothing a b = (b.sent ≡ a.sent) ⊎ Rose a.line_faults b.line_faults
+
+-- some first acts were done, and their lines were sent beyond the bytes before, and perhaps a part of the line that is next
+pub record SendsPart (acts : List Act) (sent out : Bytes) : Type 0 where
+  pub since : Bytes
+  pub more : out ≡ sent ++ since
+  pub done : List Act
+  pub left : List Act
+  pub whole : acts ≡ done ++ left
+  pub bytes : SentBy done left since
+
+-- a script stopped within one of its commands: all before it were done, and it sent a part; a RESTART sent nothing,
+-- unless a call of the line failed
+pub record StoppedIn (c : CoreValue) (script : List Command) (a b : State) : Type 0 where
+  pub before : List Command
+  pub command : Command
+  pub rest : List Command
+  pub split : script ≡ before ++ command ∷ rest
+  pub part : SendsPart (acts_of (steps_of c.application (state_after c.state (history c.application c.state before)) command)) (a.sent ++ bytes_of (acts_of (history c.application c.state before))) b.sent
+  pub restart : command ≡ Restart → (b.sent ≡ a.sent ++ bytes_of (acts_of (history c.application c.state before))) ⊎ Rose a.line_faults b.line_faults

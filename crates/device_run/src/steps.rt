@@ -1,18 +1,18 @@
 //! The steps of a script: turns, and commands, each with its acts.
-ghost use Rattle.std.specs.Prelude.{◌≡◌, ◌⊎◌, ◌∷◌, ◌≤◌, ◌<◌, ◌+◌, ◌^◌, ◌==◌, if◌then◌else◌, [], false, ℕ, List, IsTrue, IfOk, OnOk, IsErrOf};
+ghost use Rattle.std.specs.Prelude.{◌≡◌, ◌⊎◌, ◌≤◌, ◌<◌, ◌+◌, ◌^◌, ◌==◌, if◌then◌else◌, [], false, ℕ, List, IsTrue, IfOk, OnOk, OnErr, IsErrOf};
 ghost use Rattle.kd_device.specs.{Device.{Rose, Frame, SameNames}, Rest.{Rests}};
 ghost use Rattle.kdcfile_store.specs.{Kept.{IsKept}, Whole.{HasFile}};
 ghost use Rattle.kdcdef_types.specs.Statements.{IsWithin};
-ghost use Rattle.abstract_monitor.specs.{CommandsOf.{IsCommandOf}, Commands.{acts_of, command_of, in_a_row, rotated, steps_of, turned_step}, Turns.{turn_of}, declared.command.Command.TheVariants.{Restart}};
+ghost use Rattle.abstract_monitor.specs.{CommandsOf.{IsCommandOf}, Commands.{acts_of, command_of, in_a_row, rotated, steps_of}, Turns.{turn_of}, declared.command.Command.TheVariants.{Restart}};
 ghost use Rattle.laws_of_steps.specs.Suits.{Suits};
 ghost use Rattle.monitor_core.specs.Commanding.{IsSingle};
 ghost use Rattle.warm_start.specs.{Opening.{StartsFrom, IsRefused, IsOfOtherTexts}, Stands.{KeepsTables, identity_for}};
 ghost use Rattle.laws_of_steps.specs.Cut.{commits_in};
-ghost use Rattle.device_run.specs.Running.{turns_of, DidSteps, IsAgain, IsRunning, PerformsSteps};
+ghost use Rattle.device_run.specs.Running.{command_steps, turn_steps, turns_of, DidSteps, IsAgain, IsRunning, PerformsSteps, SaysNothing};
 
 use crate::commits::count_commits;
 use abstract_monitor::Command;
-use device_acts::{perform_acts, say};
+use device_acts::{do_acts, say};
 use kd_device::Device;
 use kdcdef_check::Generation;
 use kdcfile_store::WholeStore;
@@ -37,8 +37,8 @@ fn do_turn<D: Device>(
     requires steps { core.steps < 10 ^ 18 }
     requires room { commits.old + commits_in (turn_of core.application core.state task).acts ≤ 10 ^ 18 }
     requires kept { IsTrue (D.state device.old).told → IsKept (HasFile store.old) (D.state device.old) (D.leaves device.old) }
-    ensures any { PerformsSteps store.old.identity.fingerprint core (turned_step (turn_of core.application core.state task) ∷ []) (D.state device.old) (D.state device.new) (D.leaves device.old) (D.leaves device.new) }
-    ensures done { IfOk result (λ next. DidSteps store.old.identity.fingerprint core (turned_step (turn_of core.application core.state task) ∷ []) next.0 store.new (D.state device.old) (D.state device.new) (D.leaves device.new)) }
+    ensures any { PerformsSteps store.old.identity.fingerprint core (turn_steps core task) (D.state device.old) (D.state device.new) (D.leaves device.old) (D.leaves device.new) }
+    ensures done { IfOk result (λ next. DidSteps store.old.identity.fingerprint core (turn_steps core task) next.0 store.new (D.state device.old) (D.state device.new) (D.leaves device.new)) }
     ensures moved { IfOk result (λ next. next.1 ≡ (turn_of core.application core.state task).moved) }
     ensures state { IfOk result (λ next. next.0.state ≡ (turn_of core.application core.state task).after) }
     ensures steps { IfOk result (λ next. next.0.steps ≡ core.steps + 1) }
@@ -51,8 +51,8 @@ fn do_turn<D: Device>(
     steps_can_be_stored();
     let (next, did) = core.turn(alloc, task)?;
     let acts = did.acts.as_slice();
-    acts_are_named(acts);
-    perform_acts(alloc, device, store, acts)?;
+    prove!(acts_are_named(acts)); // for the proof
+    do_acts(alloc, device, store, acts)?;
     count_commits(commits, acts);
     Ok((next, did.moved))
 }
@@ -124,8 +124,8 @@ fn do_single<D: Device>(
     requires steps { core.steps < 10 ^ 18 }
     requires room { commits.old + commits_in (command_of core.application core.state command.now).acts ≤ 10 ^ 18 }
     requires kept { IsTrue (D.state device.old).told → IsKept (HasFile store.old) (D.state device.old) (D.leaves device.old) }
-    ensures any { PerformsSteps store.old.identity.fingerprint core (command_of core.application core.state command.now ∷ []) (D.state device.old) (D.state device.new) (D.leaves device.old) (D.leaves device.new) }
-    ensures done { IfOk result (λ next. DidSteps store.old.identity.fingerprint core (command_of core.application core.state command.now ∷ []) next store.new (D.state device.old) (D.state device.new) (D.leaves device.new)) }
+    ensures any { PerformsSteps store.old.identity.fingerprint core (command_steps core command.now) (D.state device.old) (D.state device.new) (D.leaves device.old) (D.leaves device.new) }
+    ensures done { IfOk result (λ next. DidSteps store.old.identity.fingerprint core (command_steps core command.now) next store.new (D.state device.old) (D.state device.new) (D.leaves device.new)) }
     ensures steps { IfOk result (λ next. next.steps ≡ core.steps + 1) }
     ensures counted { OnOk result (commits.new ≡ commits.old + commits_in (command_of core.application core.state command.now).acts) }
     ensures failed { IsErrOf result OpenError.Failed → Rose (D.state device.old).disk_faults (D.state device.new).disk_faults ⊎ Rose (D.state device.old).line_faults (D.state device.new).line_faults }
@@ -136,8 +136,8 @@ fn do_single<D: Device>(
     steps_can_be_stored();
     let (next, did) = core.apply(alloc, command)?;
     let acts = did.as_slice();
-    acts_are_named(acts);
-    perform_acts(alloc, device, store, acts)?;
+    prove!(acts_are_named(acts)); // for the proof
+    do_acts(alloc, device, store, acts)?;
     count_commits(commits, acts);
     Ok(next)
 }
@@ -203,10 +203,11 @@ fn restart<D: Device>(
 ) -> Result<Core, OpenError>
     requires running { IsRunning fingerprint.now core store.old }
     requires kept { IsTrue (D.state device.old).told → IsKept (HasFile store.old) (D.state device.old) (D.leaves device.old) }
-    ensures any { PerformsSteps fingerprint.now core (command_of core.application core.state Restart ∷ []) (D.state device.old) (D.state device.new) (D.leaves device.old) (D.leaves device.new) }
-    ensures done { IfOk result (λ next. DidSteps fingerprint.now core (command_of core.application core.state Restart ∷ []) next store.new (D.state device.old) (D.state device.new) (D.leaves device.new)) }
+    ensures any { PerformsSteps fingerprint.now core (command_steps core Restart) (D.state device.old) (D.state device.new) (D.leaves device.old) (D.leaves device.new) }
+    ensures done { IfOk result (λ next. DidSteps fingerprint.now core (command_steps core Restart) next store.new (D.state device.old) (D.state device.new) (D.leaves device.new)) }
     ensures steps { IfOk result (λ next. next.steps ≡ 0) }
     ensures failed { IsErrOf result OpenError.Failed → Rose (D.state device.old).disk_faults (D.state device.new).disk_faults ⊎ Rose (D.state device.old).line_faults (D.state device.new).line_faults }
+    ensures unsaid { OnErr result (IsTrue (D.state device.old).told → SaysNothing (D.state device.old) (D.state device.new)) }
     ensures refused { IsErrOf result OpenError.NotKdcfile → IsTrue (D.state device.old).told → ⊥ }
     ensures other { (stored : List ℕ) → IsErrOf result (OpenError.OtherGeneration stored) → IsTrue (D.state device.old).told → ⊥ }
 {
@@ -235,6 +236,7 @@ pub(crate) fn do_command<D: Device>(
     ensures steps { IfOk result (λ next. next.steps ≤ core.steps + turns_of command.now) }
     ensures counted { OnOk result (commits.new ≡ commits.old + commits_in (acts_of (steps_of core.application core.state command.now))) }
     ensures failed { IsErrOf result OpenError.Failed → Rose (D.state device.old).disk_faults (D.state device.new).disk_faults ⊎ Rose (D.state device.old).line_faults (D.state device.new).line_faults }
+    ensures unsaid { OnErr result (command.now ≡ Restart → IsTrue (D.state device.old).told → SaysNothing (D.state device.old) (D.state device.new)) }
     ensures refused { IsErrOf result OpenError.NotKdcfile → IsTrue (D.state device.old).told → ⊥ }
     ensures other { (stored : List ℕ) → IsErrOf result (OpenError.OtherGeneration stored) → IsTrue (D.state device.old).told → ⊥ }
 {

@@ -62,11 +62,11 @@ no_name_byte : (k : ℕ) → begins is_name_byte (replicate k 32) ≡ false
 no_name_byte zero = refl
 no_name_byte (suc k) = refl
 
-spaces_only : (k : ℕ) → list_all is_space (replicate k 32) ≡ true
+pub spaces_only : (k : ℕ) → list_all is_space (replicate k 32) ≡ true
 spaces_only zero = refl
 spaces_only (suc k) = spaces_only k
 
-only_spaces : (bytes : List ℕ) → list_all is_space bytes ≡ true → bytes ≡ replicate (length bytes) 32
+pub only_spaces : (bytes : List ℕ) → list_all is_space bytes ≡ true → bytes ≡ replicate (length bytes) 32
 only_spaces [] h = refl
 only_spaces (b ∷ bytes) h =
     let a = both_true (is_space b) (list_all is_space bytes) h in
@@ -141,12 +141,6 @@ field_found field (Some name) len e = name_in_is field name len (sym e)
 
 pub field_only : (field : List ℕ) (o : Option (List ℕ)) → o ≡ name_in field → (name : List ℕ) → IsName name → field ≡ padded name → o ≡ Some name
 field_only field o e name h is = e ∙ ap name_in is ∙ name_in_padded name h
-
-pub name_found : (old new : List ℕ) (o : Option (List ℕ)) → o ≡ name_at old → new ≡ after_name old → IfSome o (λ name. IsName name × (old ≡ padded name ++ new))
-name_found old new None e left = tt
-name_found old new (Some name) e left =
-    let is = name_stands_there name old (sym e) in
-    (is.0, is.1 ∙ ap (λ (x : List ℕ). padded name ++ x) (sym left))
 
 pub name_only : (old : List ℕ) (o : Option (List ℕ)) → o ≡ name_at old → (name rest : List ℕ) → IsName name → old ≡ padded name ++ rest → o ≡ Some name
 name_only old o e name rest h is = e ∙ ap name_at is ∙ (name_comes_back name rest h).0

@@ -1,6 +1,6 @@
 -- Laws: small lemmas on `Option`, `Result`, `&&` and `cond`, for proofs about readers.
-use Rattle.std.specs.Prelude.{◌≡◌, ◌⊎◌, ℕ, ◌-◌, Bool, true, false, cond, ◌&&◌, List, ◌++◌, length, take, drop, Option, Some, None, Result, Ok, Err, refl, option_and_then, find, IsErrAnd, IsErrOf, [], ◌∷◌}
-use Rattle.std.specs.Option.{option_map}
+use Rattle.std.specs.Prelude.{◌≡◌, ◌⊎◌, ℕ, ◌-◌, Bool, true, false, cond, ◌&&◌, List, ◌++◌, length, take, drop, Option, Some, None, Result, Ok, Err, refl, option_and_then, find, IsErrAnd, IsErrOf, [], ◌∷◌, not, is_some}
+use Rattle.std.specs.Option.{option_map, option_or}
 use Rattle.std.proofs.Common.{inl, inr, sym, ◌∙◌, ap, arith, append_assoc, length-drop}
 use Rattle.std.proofs.lemmas.List.{take_all}
 use Rattle.kd_base.specs.Tools.{onto, onto_first, ◌>>=◌}
@@ -25,6 +25,11 @@ not_both true true h = absurd (h refl refl)
 not_both true false h = refl
 not_both false b h = refl
 
+-- two values, chosen the other way round
+pub cond_not : {A : Type 0} (b : Bool) (x y : A) → cond (not b) x y ≡ cond b y x
+cond_not true x y = refl
+cond_not false x y = refl
+
 -- ---- `Option`
 
 pub cases_option : {A : Type 0} (o : Option A) → (o ≡ None) ⊎ ((x : A) × (o ≡ Some x))
@@ -36,6 +41,22 @@ some_of x = Some x
 
 pub some_is : {A : Type 0} (x y : A) → some_of x ≡ some_of y → x ≡ y
 some_is x y e = cc
+
+pub none_is : {A : Type 0} (o : Option A) → is_some o ≡ false → o ≡ None
+none_is None h = refl
+none_is (Some x) h = absurd cc
+
+pub is_some_map : {A B : Type 0} (f : A → B) (o : Option A) → is_some (option_map f o) ≡ is_some o
+is_some_map f None = refl
+is_some_map f (Some x) = refl
+
+pub or_none : {A : Type 0} (o : Option A) → option_or o None ≡ o
+or_none None = refl
+or_none (Some x) = refl
+
+pub or_or : {A : Type 0} (a b c : Option A) → option_or (option_or a b) c ≡ option_or a (option_or b c)
+or_or None b c = refl
+or_or (Some x) b c = refl
 
 -- where something was found and changed
 pub map_some : {A B : Type 0} (f : A → B) (o : Option A) (y : B) → option_map f o ≡ Some y → (x : A) × (o ≡ Some x) × (f x ≡ y)

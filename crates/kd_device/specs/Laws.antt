@@ -1,14 +1,10 @@
 -- What holds of every history.
-use Rattle.std.specs.Prelude.{◌≡◌, ◌≤◌, ℕ, zero, suc, ◌+◌, min, true, false, List, [], ◌∷◌, ◌++◌, length, Result, Ok, Err, IsOk, OnErr, refl}
+use Rattle.std.specs.Prelude.{◌≡◌, ◌≤◌, ℕ, zero, suc, ◌+◌, min, true, false, List, [], ◌∷◌, ◌++◌, length, refl}
 use native.Mathlib.Omega.{arith}
 use Rattle.std.proofs.Common.{inr}
-use Rattle.kd_device.specs.Device.{Rose, Torn, Only}
+use Rattle.kd_device.specs.Device.{Torn}
 use Rattle.kd_device.specs.History.{Event, Wrote, Synced, Emitted, Disk, fresh, step, after, Torns, Left, Since}
 use Rattle.kd_device.specs.HistoryLaws.{now_to, now_from}
-use Rattle.kd_device.specs.declared.kind.CallKind.{CallKind}
-use Rattle.kd_device.specs.Tape.{blank}
-use Rattle.kd_device.specs.Memory.{unused, state_of, leaves_of}
-use Rattle.kd_device.specs.Sure.{sure_state, sure_leaves}
 use Rattle.kd_device.specs.TornLaws.{torn_done, torn_not}
 
 pub torns_push : (rs : List (ℕ × ℕ)) (r : ℕ × ℕ) (old mid new : List ℕ) → Torns rs old mid → Torn r.0 r.1 mid new → Torns (rs ++ r ∷ []) old new
@@ -46,15 +42,3 @@ since_less zero u s es c out le left = left_earlier u s es c out left
 since_less (suc t) zero s es c out le left = absurd (omega (arith, le))
 since_less (suc t) (suc u) s [] c out le left = absurd left
 since_less (suc t) (suc u) s (e ∷ es) c out le left = since_less t u (step s e) es c out (omega (arith, le)) left
-
--- a stop of a device of which no call was made leaves its file
-pub unused_only : (start : List ℕ) (failing : List (CallKind × ℕ)) → Only start (state_of (unused start failing)) (leaves_of (unused start failing))
-unused_only start failing c left = left.0
-
-pub blank_only : (start : List ℕ) → Only start (sure_state (blank start)) (sure_leaves (blank start))
-blank_only start c left = left.0
-
--- a call whose count of faults stays 0 does not fail
-pub is_ok_sure : {T E : Type 0} (r : Result T E) → OnErr r (Rose 0 0) → IsOk r
-is_ok_sure (Ok x) rose = refl
-is_ok_sure (Err e) rose = absurd (omega (arith, rose))

@@ -105,7 +105,7 @@ impl MemDevice {
     }
 
     /// Counts a call of the disk, and answers whether it fails.
-    pub(crate) fn fails_disk(&mut self, kind: CallKind) -> bool
+    fn fails_disk(&mut self, kind: CallKind) -> bool
         ensures fails { IsTrue result ↔ Fails kind self.old }
         ensures counted { self.new ≡ (if result then disk_fault (counted kind self.old) else counted kind self.old) }
     {
@@ -118,7 +118,7 @@ impl MemDevice {
     }
 
     /// Counts an emit, and answers whether it fails.
-    pub(crate) fn fails_line(&mut self) -> bool
+    fn fails_line(&mut self) -> bool
         ensures fails { IsTrue result ↔ Fails CallKind.Emit self.old }
         ensures counted { self.new ≡ (if result then line_fault (counted CallKind.Emit self.old) else counted CallKind.Emit self.old) }
     {

@@ -5,8 +5,15 @@ ghost use Rattle.kd_device.specs.Device.{Rose};
 use kd_device::Failed;
 use std::io;
 
-/// The value of a call of the outside. Where it failed, the count rises, and stands still at its type's end.
-pub(crate) fn counted<T: Drop>(outcome: io::Result<T>, faults: &mut u64) -> Result<T, Failed>
+/// The value of a call of the outside. Where it failed, the count rises, and stands still at its type's end; a line on
+/// standard error says which file and call it was, and why. If that line fails too, it is passed over.
+pub(crate) fn counted<T: Drop, R: Eprint>(
+    rt: &R,
+    file: &str,
+    call: &str,
+    outcome: io::Result<T>,
+    faults: &mut u64,
+) -> Result<T, Failed>
     ensures value { MatchResult outcome (λ value. result ≡ Ok value) (λ _. IsErr result) }
     ensures failed { OnErr result (Rose faults.old faults.new) }
     ensures done { OnOk result (faults.new ≡ faults.old) }
@@ -14,8 +21,9 @@ pub(crate) fn counted<T: Drop>(outcome: io::Result<T>, faults: &mut u64) -> Resu
 {
     match outcome {
         Ok(value) => Ok(value),
-        Err(_) => {
+        Err(error) => {
             *faults = faults.saturating_add(1);
+            let _ = eprintln!(rt; "utm: {file}: {call}: {error}");
             Err(Failed)
         }
     }

@@ -1,10 +1,11 @@
 //! The outside itself: a real file and the standard output as a device, and the files of the current folder as a room.
 //!
 //! It stands on kd_base and kd_device. It is the trusted edge: no contract can say what a file, a power cut or a line
-//! really does, so its device and its room tell nothing of their content. What is proved of them is that each call that
-//! fails raises its count of faults, and that no other call does. That a write reaches the file, that a sync makes it
-//! last, that an emit is sent, and that a descriptor which was closed is not given to a file of the user, rests on this
-//! crate's few lines, the library and the system below it.
+//! really does, so its device and its room tell nothing of their content. What is proved of them is that each call
+//! that fails raises its count of faults, and that no other call does. That a write reaches the file, that a sync
+//! makes it last, that an emit is sent, that the file is locked, that a fault is said on standard error, and that a
+//! descriptor which was closed is not given to a file of the user, rests on this crate's few lines, the library and
+//! the system below it.
 #![tactic(auto)]
 
 mod count;

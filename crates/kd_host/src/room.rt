@@ -13,12 +13,12 @@ use std::{fs, io};
 
 /// The files of the current folder. It tells nothing of them, and is never sure that a read succeeds.
 #[derive(Drop)]
-pub struct FolderRoom<'a, R: Files> {
+pub struct FolderRoom<'a, R: Files + Eprint> {
     rt: &'a R,
     faults: u64,
 }
 
-impl<'a, R: Files> Model for FolderRoom<'a, R> {
+impl<'a, R: Files + Eprint> Model for FolderRoom<'a, R> {
     ghost use Rattle.std.specs.Prelude.{ℕ};
 
     ghost Value = { ℕ };
@@ -26,7 +26,7 @@ impl<'a, R: Files> Model for FolderRoom<'a, R> {
     ghost view = { λ r. r.faults };
 }
 
-impl<'a, R: Files> FolderRoom<'a, R> {
+impl<'a, R: Files + Eprint> FolderRoom<'a, R> {
     pub fn new(rt: &'a R) -> FolderRoom<'a, R>
         ensures faults { (room_of result).faults ≡ 0 }
         ensures told { (room_of result).told ≡ false }
@@ -77,12 +77,13 @@ fn read_file<R: Files>(
     }
 }
 
-impl<'a, R: Files> Room for FolderRoom<'a, R> {
+impl<'a, R: Files + Eprint> Room for FolderRoom<'a, R> {
     ghost room = { room_of };
 
     fn read(&mut self, alloc: Global, name: &Vec<u8>, limit: u64) -> Result<Vec<u8>, DeviceError> {
         let text = read_file(self.rt, alloc, name, limit.saturating_add(1))?;
-        match counted(text, &mut self.faults) {
+        let file = str::from_utf8(name).unwrap_or_default();
+        match counted(self.rt, file, "read", text, &mut self.faults) {
             Ok(text) => Ok(text),
             Err(Failed) => Err(DeviceError::Failed),
         }

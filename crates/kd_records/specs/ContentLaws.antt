@@ -5,12 +5,12 @@ use Rattle.std.specs.Option.{unwrap_or}
 use Rattle.std.specs.Ordering.{eq_by_cmp, is_eq, is_lt}
 use Rattle.std.specs.declared.cmp.Ordering.{Ordering}
 use Rattle.std.specs.declared.cmp.Ordering.TheVariants.{Less, Equal, Greater}
-use Rattle.std.specs.Cmp.{eq_by_cmp_equiv}
+use Rattle.std.specs.Cmp.{eq_by_cmp_equiv, Equal-is}
 use Rattle.std.specs.FinMap.{find, put, is_sorted}
 use Rattle.std.specs.FinMap.Entries.{by_order, below_all, find-put, find-where_key, is_sorted-put, is_sorted-where_key}
 use Rattle.std.proofs.lemmas.Cmp.{tied_itself}
 use Rattle.std.proofs.lemmas.List.Elements.{All-nil, All-cons, All-head, All-tail, All-filter}
-use Rattle.kd_base.specs.ToolsLaws.{both_true}
+use Rattle.kd_base.specs.ToolsLaws.{both_true, cond_not}
 use Rattle.kd_records.specs.declared.key.RecordKey.{RecordKey}
 use Rattle.kd_records.specs.Keys.{key_cmp}
 use Rattle.kd_records.specs.Contents.{Record, Change, changed, changed_all, patched, IsRecord, IsKey}
@@ -28,29 +28,20 @@ is_true : (b : Bool) → T b → IsTrue b
 is_true true h = refl
 is_true false h = absurd h
 
-is_equal : (r : Ordering) → is_eq r ≡ true → r ≡ Equal
-is_equal Less e = cc e
-is_equal Equal e = refl
-is_equal Greater e = cc e
-
 -- ---- look-ups
-
-turned : {A : Type 0} (b : Bool) (x y : A) → cond (not b) x y ≡ cond b y x
-turned true x y = refl
-turned false x y = refl
 
 pub find_changed : (q : RecordKey) (records : List Record) (c : Change) → find key_cmp q (changed records c) ≡ cond (eq_by_cmp key_cmp q c.0) c.1 (find key_cmp q records)
 find_changed q records (k, Some value) = find-put key_cmp key_total q k value records
 find_changed q records (k, None) =
     find-where_key key_cmp (λ x. not (eq_by_cmp key_cmp k x)) q (λ x e. ap (λ y. not (eq_by_cmp key_cmp k y)) (sym (same_key q x e))) records
-    ∙ turned (eq_by_cmp key_cmp k q) (find key_cmp q records) None
+    ∙ cond_not (eq_by_cmp key_cmp k q) (find key_cmp q records) None
     ∙ ap (λ b. cond b None (find key_cmp q records)) ((eq_by_cmp_equiv key_total).symm k q)
 
 differs : (q k : RecordKey) → q ≢ k → eq_by_cmp key_cmp q k ≡ false
 differs q k apart = by (eq_by_cmp key_cmp q k) refl
   where
     by : (b : Bool) → eq_by_cmp key_cmp q k ≡ b → eq_by_cmp key_cmp q k ≡ false
-    by true e = absurd (apart (same_key q k (is_equal (key_cmp q k) e)))
+    by true e = absurd (apart (same_key q k ((Equal-is (key_cmp q k)).0 e)))
     by false e = e
 
 pub change_says_what_is_found : ChangeSaysWhatIsFound
@@ -83,7 +74,7 @@ find_changed_all q (c ∷ changes) records h = find_changed_all q changes (chang
     by : (b : Bool) → eq_by_cmp key_cmp q c.0 ≡ b
         → unwrap_or (find key_cmp q changes) (find key_cmp q (changed records c)) ≡ unwrap_or (cond b (Some c.1) (find key_cmp q changes)) (find key_cmp q records)
     by true e =
-        let here : q ≡ c.0 = same_key q c.0 (is_equal (key_cmp q c.0) e) in
+        let here : q ≡ c.0 = same_key q c.0 ((Equal-is (key_cmp q c.0)).0 e) in
         let no_more : find key_cmp q changes ≡ None = ap (λ k. find key_cmp k changes) here ∙ find_below c.0 changes (is_t (below_all key_cmp c.0 changes) parts.0) in
         ap (λ o. unwrap_or o (find key_cmp q (changed records c))) no_more ∙ found ∙ ap (λ b. cond b c.1 (find key_cmp q records)) e
     by false e = ap (λ o. unwrap_or (find key_cmp q changes) o) (found ∙ ap (λ b. cond b c.1 (find key_cmp q records)) e)

@@ -25,9 +25,9 @@ from_or_false true h = refl
 from_or_false false h = h
 
 -- the entries found in the one list or in the other
-there-append : {K V : Type 0} (test : K → Bool) (es fs : List (K × V)) → is_some (lookup test (es ++ fs)) ≡ (is_some (lookup test es) || is_some (lookup test fs))
-there-append test [] fs = refl
-there-append test (e ∷ es) fs = at_head (test e.0) e.1 (lookup test (es ++ fs)) ∙ ap (λ b. test e.0 || b) (there-append test es fs) ∙ grouped (test e.0) (is_some (lookup test es)) (is_some (lookup test fs)) ∙ ap (λ b. b || is_some (lookup test fs)) (sym (at_head (test e.0) e.1 (lookup test es)))
+there_append : {K V : Type 0} (test : K → Bool) (es fs : List (K × V)) → is_some (lookup test (es ++ fs)) ≡ (is_some (lookup test es) || is_some (lookup test fs))
+there_append test [] fs = refl
+there_append test (e ∷ es) fs = at_head (test e.0) e.1 (lookup test (es ++ fs)) ∙ ap (λ b. test e.0 || b) (there_append test es fs) ∙ grouped (test e.0) (is_some (lookup test es)) (is_some (lookup test fs)) ∙ ap (λ b. b || is_some (lookup test fs)) (sym (at_head (test e.0) e.1 (lookup test es)))
   where
     grouped : (a b c : Bool) → (a || (b || c)) ≡ ((a || b) || c)
     grouped true b c = refl
@@ -57,8 +57,8 @@ apart_said _ g free apart name h = or_false (is_some (lterm_of g name)) ∙ apar
 
 apart_push : (xs : List Statement) (s : Statement) → is_taken (generated xs) s.said ≡ false → AreApart (generated xs) → AreApart (generated (xs ++ s ∷ []))
 apart_push xs s free apart = λ name h.
-    let tacs = ap (λ es. is_some (lookup (bytes_eq name) es)) (filter_map-append (λ (t : Statement). as_tac t.said) xs (s ∷ [])) ∙ there-append (bytes_eq name) (said_as as_tac xs) (cons_option (as_tac s.said) []) in
-    let lterms = ap (λ es. is_some (lookup (bytes_eq name) es)) (filter_map-append (λ (t : Statement). as_lterm t.said) xs (s ∷ [])) ∙ there-append (bytes_eq name) (said_as as_lterm xs) (cons_option (as_lterm s.said) []) in
+    let tacs = ap (λ es. is_some (lookup (bytes_eq name) es)) (filter_map-append (λ (t : Statement). as_tac t.said) xs (s ∷ [])) ∙ there_append (bytes_eq name) (said_as as_tac xs) (cons_option (as_tac s.said) []) in
+    let lterms = ap (λ es. is_some (lookup (bytes_eq name) es)) (filter_map-append (λ (t : Statement). as_lterm t.said) xs (s ∷ [])) ∙ there_append (bytes_eq name) (said_as as_lterm xs) (cons_option (as_lterm s.said) []) in
     lterms ∙ apart_said s.said (generated xs) free apart name (sym tacs ∙ h)
 
 apart_to : (ss : List Statement) → AreFaultless ss → (n : ℕ) → n ≤ length ss → AreApart (generated (take n ss))

@@ -21,7 +21,7 @@ use Rattle.kdcdef_check.specs.Generating.{as_program, as_tac, as_user, as_pterm,
 use Rattle.kdcdef_check.specs.Faults.{is_taken, AreFaultless}
 use Rattle.kdcdef_check.specs.Steps.{put, put_key, filled_by, table_of, keys_table, AreFilled, made_of}
 use Rattle.kdcdef_check.proofs.Passing.{next_taken}
-use Rattle.kdcdef_check.proofs.Filling.{filled_by-push}
+use Rattle.kdcdef_check.proofs.Filling.{filled_by_push}
 use Rattle.kdcdef_check.proofs.Faultless.{not_taken}
 
 -- f makes nothing at a statement whose name the entries before it have
@@ -41,7 +41,7 @@ module _ {A : Type 0} (add : Option A → List A → List A) (f : Statement → 
       by (inl h) so_far =
           let e : suc n ≡ n + 1 = omega arith in
           let next : take (suc n) ss ≡ take n ss ++ h.0 ∷ [] = ap (λ (m : ℕ). take m ss) e ∙ next_taken ss n h.0 h.1 (sym h.3) in
-          rw next (filled_by-push add f (take n ss) h.0 ∙ ap (add (f h.0)) so_far ∙ adds n h.0 h.2 ∙ sym (filter_map-append f (take n ss) (h.0 ∷ [])))
+          rw next (filled_by_push add f (take n ss) h.0 ∙ ap (add (f h.0)) so_far ∙ adds n h.0 h.2 ∙ sym (filter_map-append f (take n ss) (h.0 ∷ [])))
       by (inr h) so_far = absurd (omega (arith, within, h.0))
 
   exact : filled_by add f ss ≡ filter_map f ss

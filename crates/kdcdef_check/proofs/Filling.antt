@@ -11,15 +11,15 @@ use Rattle.kdcdef_types.specs.declared.statement.Statement.{Statement}
 use Rattle.kdcdef_check.specs.declared.tables.Tables.{Tables}
 use Rattle.kdcdef_check.specs.Generating.{as_program, as_tac, as_user, as_pterm, as_lterm, as_tls, as_uls, as_class, said_as, generated}
 use Rattle.kdcdef_check.specs.Steps.{put, put_key, filled_by, lterm_said, IsAdded, AreFilled, HaveNames, IsNamed, AllNamed}
-use Rattle.kdcdef_check.proofs.Names.{exact_numbers, exact_bytes, there-table_of, among-keys_table}
+use Rattle.kdcdef_check.proofs.Names.{exact_numbers, exact_bytes, there_table_of, among_keys_table}
 use Rattle.kdcdef_check.proofs.Passing.{next_taken}
 
-pub filled_by-push : {A : Type 0} (add : Option A → List A → List A) (f : Statement → Option A) (ss : List Statement) (s : Statement) → filled_by add f (ss ++ s ∷ []) ≡ add (f s) (filled_by add f ss)
-filled_by-push {A} add f ss s = fold-append (λ (made : List A) (s : Statement). add (f s) made) [] ss (s ∷ [])
+pub filled_by_push : {A : Type 0} (add : Option A → List A → List A) (f : Statement → Option A) (ss : List Statement) (s : Statement) → filled_by add f (ss ++ s ∷ []) ≡ add (f s) (filled_by add f ss)
+filled_by_push {A} add f ss s = fold-append (λ (made : List A) (s : Statement). add (f s) made) [] ss (s ∷ [])
 
 -- a table, and the same with one more statement
 further : {A : Type 0} (add : Option A → List A → List A) (f : Statement → Option A) (ss : List Statement) (s : Statement) (old new : List A) → old ≡ filled_by add f ss → new ≡ add (f s) old → new ≡ filled_by add f (ss ++ s ∷ [])
-further add f ss s old new was is = is ∙ ap (add (f s)) was ∙ sym (filled_by-push add f ss s)
+further add f ss s old new was is = is ∙ ap (add (f s)) was ∙ sym (filled_by_push add f ss s)
 
 filled_further : (ss : List Statement) (s : Statement) (old new : Tables) → AreFilled old ss → IsAdded old new s.line s.said → AreFilled new (ss ++ s ∷ [])
 filled_further ss s old new was added = record {
@@ -54,13 +54,13 @@ served_by (s ∷ ss) name = served_so s.said name (filter_map (λ (s : Statement
 -- the tables that the statements filled have the names of what these generate
 pub filled_names : (t : Tables) (ss : List Statement) → AreFilled t ss → HaveNames t (generated ss)
 filled_names t ss filled = record {
-  programs = λ (name : List ℕ). ap (λ (es : List (List ℕ × _)). is_some (lookup (bytes_eq name) es)) filled.programs ∙ there-table_of bytes_eq exact_bytes (λ (s : Statement). as_program s.line s.said) ss name;
-  tacs = λ (name : List ℕ). ap (λ (es : List (List ℕ × _)). is_some (lookup (bytes_eq name) es)) filled.tacs ∙ there-table_of bytes_eq exact_bytes (λ (s : Statement). as_tac s.said) ss name;
-  users = λ (name : List ℕ). ap (λ (es : List (List ℕ × _)). is_some (lookup (bytes_eq name) es)) filled.users ∙ there-table_of bytes_eq exact_bytes (λ (s : Statement). as_user s.said) ss name;
-  pterms = λ (name : List ℕ). ap (λ (es : List (List ℕ × _)). is_some (lookup (bytes_eq name) es)) filled.pterms ∙ there-table_of bytes_eq exact_bytes (λ (s : Statement). as_pterm s.said) ss name;
-  lterms = λ (name : List ℕ). ap (λ (es : List (List ℕ × _)). is_some (lookup (bytes_eq name) es)) filled.lterms ∙ there-table_of bytes_eq exact_bytes (λ (s : Statement). as_lterm s.said) ss name;
-  classes = λ (class : ℕ). ap (λ (es : List (ℕ × ℕ)). is_some (lookup (nat_eq class) es)) filled.classes ∙ there-table_of nat_eq exact_numbers (λ (s : Statement). as_class s.said) ss class;
-  tls = λ (name : List ℕ). ap (λ (ks : List (List ℕ)). list_any (bytes_eq name) ks) filled.tls ∙ among-keys_table bytes_eq exact_bytes (λ (s : Statement). as_tls s.said) ss name;
-  uls = λ (name : List ℕ). ap (λ (ks : List (List ℕ)). list_any (bytes_eq name) ks) filled.uls ∙ among-keys_table bytes_eq exact_bytes (λ (s : Statement). as_uls s.said) ss name;
-  served = λ (name : List ℕ). ap (λ (ks : List (List ℕ)). list_any (bytes_eq name) ks) filled.served ∙ among-keys_table bytes_eq exact_bytes (λ (s : Statement). lterm_said s.said) ss name ∙ served_by ss name;
+  programs = λ (name : List ℕ). ap (λ (es : List (List ℕ × _)). is_some (lookup (bytes_eq name) es)) filled.programs ∙ there_table_of bytes_eq exact_bytes (λ (s : Statement). as_program s.line s.said) ss name;
+  tacs = λ (name : List ℕ). ap (λ (es : List (List ℕ × _)). is_some (lookup (bytes_eq name) es)) filled.tacs ∙ there_table_of bytes_eq exact_bytes (λ (s : Statement). as_tac s.said) ss name;
+  users = λ (name : List ℕ). ap (λ (es : List (List ℕ × _)). is_some (lookup (bytes_eq name) es)) filled.users ∙ there_table_of bytes_eq exact_bytes (λ (s : Statement). as_user s.said) ss name;
+  pterms = λ (name : List ℕ). ap (λ (es : List (List ℕ × _)). is_some (lookup (bytes_eq name) es)) filled.pterms ∙ there_table_of bytes_eq exact_bytes (λ (s : Statement). as_pterm s.said) ss name;
+  lterms = λ (name : List ℕ). ap (λ (es : List (List ℕ × _)). is_some (lookup (bytes_eq name) es)) filled.lterms ∙ there_table_of bytes_eq exact_bytes (λ (s : Statement). as_lterm s.said) ss name;
+  classes = λ (class : ℕ). ap (λ (es : List (ℕ × ℕ)). is_some (lookup (nat_eq class) es)) filled.classes ∙ there_table_of nat_eq exact_numbers (λ (s : Statement). as_class s.said) ss class;
+  tls = λ (name : List ℕ). ap (λ (ks : List (List ℕ)). list_any (bytes_eq name) ks) filled.tls ∙ among_keys_table bytes_eq exact_bytes (λ (s : Statement). as_tls s.said) ss name;
+  uls = λ (name : List ℕ). ap (λ (ks : List (List ℕ)). list_any (bytes_eq name) ks) filled.uls ∙ among_keys_table bytes_eq exact_bytes (λ (s : Statement). as_uls s.said) ss name;
+  served = λ (name : List ℕ). ap (λ (ks : List (List ℕ)). list_any (bytes_eq name) ks) filled.served ∙ among_keys_table bytes_eq exact_bytes (λ (s : Statement). lterm_said s.said) ss name ∙ served_by ss name;
 }

@@ -1,5 +1,5 @@
 -- The first of the faults that were found.
-use Rattle.std.proofs.Common.{◌≡◌, ◌⊎◌, ℕ, ◌+◌, ◌<◌, get_or, refl, sym, ◌∙◌, ap, subst, inl, inr, arith, List, length, slice_get, Option, Some, None}
+use Rattle.std.proofs.Common.{◌≡◌, ◌⊎◌, ℕ, ◌+◌, ◌<◌, get_or, refl, sym, ◌∙◌, ap, subst, inl, inr, arith, List, length, slice_get, Option, Some}
 use Rattle.std.proofs.lemmas.Option.{slice_get_read}
 use Rattle.kd_base.specs.ToolsLaws.{some_is}
 use Rattle.kd_base.specs.FirstFaultsLaws.{first_of_both}
@@ -7,10 +7,6 @@ use Rattle.kdcdef_types.specs.declared.statement.Statement.{Statement}
 use Rattle.kdcdef_check.specs.declared.fault.CheckFault.{CheckFault}
 use Rattle.kdcdef_check.specs.Faults.{line_of, number_of}
 use Rattle.kdcdef_check.specs.Steps.{earlier, IsFirstOf, AmongFirst}
-
--- no statement, no fault
-pub first_of_none : (ss : List Statement) (Such : ℕ → Statement → CheckFault → Type 0) → IsFirstOf (AmongFirst ss Such 0) None
-first_of_none ss Such = λ e among. absurd (omega (arith, among.2))
 
 same_place : (ss : List Statement) (n i : ℕ) (s t : Statement) → slice_get ss n ≡ Some s → slice_get ss i ≡ Some t → i ≡ n → t ≡ s
 same_place ss n i s t at_n at_i e = some_is t s (sym at_i ∙ ap (slice_get ss) e ∙ at_n)

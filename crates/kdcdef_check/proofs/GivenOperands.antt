@@ -1,18 +1,10 @@
 -- The operands of MAX statements, one more statement at a time.
-use Rattle.std.proofs.Common.{◌≡◌, ℕ, ◌+◌, ◌<◌, refl, sym, ◌∙◌, ap, List, [], ◌∷◌, ◌++◌, length, take, get_or, Option, Some, None}
-use Rattle.std.specs.Option.{option_or}
+use Rattle.std.proofs.Common.{◌≡◌, ℕ, ◌+◌, ◌<◌, sym, ◌∙◌, ap, List, [], ◌∷◌, ◌++◌, length, take, get_or}
 use Rattle.kdcdef_types.specs.declared.statement.MaxOperands.{MaxOperands}
 use Rattle.kdcdef_types.specs.declared.statement.Statement.{Statement}
 use Rattle.kdcdef_check.proofs.Passing.{next_taken}
 use Rattle.kdcdef_check.specs.Generating.{nothing_given, operands_said, both_given, max_given}
-
-or_none : {A : Type 0} (x : Option A) → option_or x None ≡ x
-or_none None = refl
-or_none (Some x) = refl
-
-or_or : {A : Type 0} (x y z : Option A) → option_or (option_or x y) z ≡ option_or x (option_or y z)
-or_or None y z = refl
-or_or (Some x) y z = refl
+use Rattle.kd_base.specs.ToolsLaws.{or_none, or_or}
 
 both_nothing : (m : MaxOperands) → both_given m nothing_given ≡ m
 both_nothing m = λ i. record {
@@ -45,14 +37,14 @@ both_both a b c = λ i. record {
 }
 
 -- one more statement
-pub max_given-push : (ss : List Statement) (s : Statement) → max_given (ss ++ s ∷ []) ≡ both_given (max_given ss) (operands_said s.said)
-max_given-push [] s = both_nothing (operands_said s.said)
-max_given-push (t ∷ ss) s =
-    ap (both_given (operands_said t.said)) (max_given-push ss s)
+pub max_given_push : (ss : List Statement) (s : Statement) → max_given (ss ++ s ∷ []) ≡ both_given (max_given ss) (operands_said s.said)
+max_given_push [] s = both_nothing (operands_said s.said)
+max_given_push (t ∷ ss) s =
+    ap (both_given (operands_said t.said)) (max_given_push ss s)
     ∙ sym (both_both (operands_said t.said) (max_given ss) (operands_said s.said))
 
 pub next_given : (ss : List Statement) (i : ℕ) (s : Statement) (given : MaxOperands) → i < length ss → s ≡ get_or ss i s → given ≡ max_given (take i ss) → both_given given (operands_said s.said) ≡ max_given (take (i + 1) ss)
 next_given ss i s given within is so_far =
     ap (λ (m : MaxOperands). both_given m (operands_said s.said)) so_far
-    ∙ sym (max_given-push (take i ss) s)
+    ∙ sym (max_given_push (take i ss) s)
     ∙ ap max_given (sym (next_taken ss i s within is))

@@ -49,20 +49,20 @@ at_head true v o = refl
 at_head false v o = refl
 
 -- what is found in what was filled, where a test finds what one entry has and what the rest has
-found-filled_by : {A : Type 0} (add : Option A → List A → List A) (found : List A → Bool) → found [] ≡ false → ((o : Option A) (es : List A) → found (add o es) ≡ (found (cons_option o []) || found es)) → ((o : Option A) (es : List A) → found (cons_option o es) ≡ (found (cons_option o []) || found es))
+found_filled_by : {A : Type 0} (add : Option A → List A → List A) (found : List A → Bool) → found [] ≡ false → ((o : Option A) (es : List A) → found (add o es) ≡ (found (cons_option o []) || found es)) → ((o : Option A) (es : List A) → found (cons_option o es) ≡ (found (cons_option o []) || found es))
     → (f : Statement → Option A) (ss : List Statement) (es : List A) → found (fold (λ (made : List A) (s : Statement). add (f s) made) es ss) ≡ (found es || found (filter_map f ss))
-found-filled_by add found none adds more f [] es = rw none (sym (or_false (found es)))
-found-filled_by add found none adds more f (s ∷ ss) es =
-    found-filled_by add found none adds more f ss (add (f s) es)
+found_filled_by add found none adds more f [] es = rw none (sym (or_false (found es)))
+found_filled_by add found none adds more f (s ∷ ss) es =
+    found_filled_by add found none adds more f ss (add (f s) es)
     ∙ ap (λ b. b || found (filter_map f ss)) (adds (f s) es)
     ∙ or_regrouped (found (cons_option (f s) [])) (found es) (found (filter_map f ss))
     ∙ ap (λ b. found es || b) (sym (more (f s) (filter_map f ss)))
 
 module _ {K V : Type 0} (eq : K → K → Bool) (exact : IsExact eq) where
   -- a name is there after an insertion where it was inserted, or was there
-  there-insert : (es : List (K × V)) (k new : K) (v : V) → is_some (lookup (eq k) (insert_entry eq es new v)) ≡ (eq k new || is_some (lookup (eq k) es))
-  there-insert [] k new v = at_head (eq k new) v None
-  there-insert (e ∷ es) k new v = go (there-insert es k new v) (eq new e.0) refl
+  there_insert : (es : List (K × V)) (k new : K) (v : V) → is_some (lookup (eq k) (insert_entry eq es new v)) ≡ (eq k new || is_some (lookup (eq k) es))
+  there_insert [] k new v = at_head (eq k new) v None
+  there_insert (e ∷ es) k new v = go (there_insert es k new v) (eq new e.0) refl
     where
       there : Bool
       there = is_some (lookup (eq k) es)
@@ -78,21 +78,21 @@ module _ {K V : Type 0} (eq : K → K → Bool) (exact : IsExact eq) where
           ∙ or_swapped (eq k e.0) (eq k new) there
           ∙ behind
 
-  there-put : (o : Option (K × V)) (es : List (K × V)) (k : K) → is_some (lookup (eq k) (put eq o es)) ≡ (is_some (lookup (eq k) (cons_option o [])) || is_some (lookup (eq k) es))
-  there-put None es k = refl
-  there-put (Some p) es k = there-insert es k p.0 p.1 ∙ ap (λ b. b || is_some (lookup (eq k) es)) (sym (at_head (eq k p.0) p.1 None ∙ or_false (eq k p.0)))
+  there_put : (o : Option (K × V)) (es : List (K × V)) (k : K) → is_some (lookup (eq k) (put eq o es)) ≡ (is_some (lookup (eq k) (cons_option o [])) || is_some (lookup (eq k) es))
+  there_put None es k = refl
+  there_put (Some p) es k = there_insert es k p.0 p.1 ∙ ap (λ b. b || is_some (lookup (eq k) es)) (sym (at_head (eq k p.0) p.1 None ∙ or_false (eq k p.0)))
 
-  there-cons : (o : Option (K × V)) (es : List (K × V)) (k : K) → is_some (lookup (eq k) (cons_option o es)) ≡ (is_some (lookup (eq k) (cons_option o [])) || is_some (lookup (eq k) es))
-  there-cons None es k = refl
-  there-cons (Some p) es k = at_head (eq k p.0) p.1 (lookup (eq k) es) ∙ ap (λ b. b || is_some (lookup (eq k) es)) (sym (at_head (eq k p.0) p.1 None ∙ or_false (eq k p.0)))
+  there_cons : (o : Option (K × V)) (es : List (K × V)) (k : K) → is_some (lookup (eq k) (cons_option o es)) ≡ (is_some (lookup (eq k) (cons_option o [])) || is_some (lookup (eq k) es))
+  there_cons None es k = refl
+  there_cons (Some p) es k = at_head (eq k p.0) p.1 (lookup (eq k) es) ∙ ap (λ b. b || is_some (lookup (eq k) es)) (sym (at_head (eq k p.0) p.1 None ∙ or_false (eq k p.0)))
 
   -- a filled table has the names that the statements make
-  pub there-table_of : (f : Statement → Option (K × V)) (ss : List Statement) (k : K) → is_some (lookup (eq k) (table_of eq f ss)) ≡ is_some (lookup (eq k) (filter_map f ss))
-  there-table_of f ss k = found-filled_by (put eq) (λ (es : List (K × V)). is_some (lookup (eq k) es)) refl (λ o es. there-put o es k) (λ o es. there-cons o es k) f ss []
+  pub there_table_of : (f : Statement → Option (K × V)) (ss : List Statement) (k : K) → is_some (lookup (eq k) (table_of eq f ss)) ≡ is_some (lookup (eq k) (filter_map f ss))
+  there_table_of f ss k = found_filled_by (put eq) (λ (es : List (K × V)). is_some (lookup (eq k) es)) refl (λ o es. there_put o es k) (λ o es. there_cons o es k) f ss []
 
 module _ {K : Type 0} (eq : K → K → Bool) (exact : IsExact eq) where
-  among-insert : (ks : List K) (k new : K) → list_any (eq k) (insert_key eq ks new) ≡ (eq k new || list_any (eq k) ks)
-  among-insert ks k new = go (list_any (eq new) ks) refl
+  among_insert : (ks : List K) (k new : K) → list_any (eq k) (insert_key eq ks new) ≡ (eq k new || list_any (eq k) ks)
+  among_insert ks k new = go (list_any (eq new) ks) refl
     where
       present : (b : Bool) → eq k new ≡ b → list_any (eq new) ks ≡ true → list_any (eq k) ks ≡ (b || list_any (eq k) ks)
       present true h is = rw (exact k new h) is
@@ -102,13 +102,13 @@ module _ {K : Type 0} (eq : K → K → Bool) (exact : IsExact eq) where
       go true h = present (eq k new) refl h
       go false h = list_any-append (eq k) ks (new ∷ []) ∙ ap (λ b. list_any (eq k) ks || b) (or_false (eq k new)) ∙ or_turned (list_any (eq k) ks) (eq k new)
 
-  among-put : (o : Option K) (ks : List K) (k : K) → list_any (eq k) (put_key eq o ks) ≡ (list_any (eq k) (cons_option o []) || list_any (eq k) ks)
-  among-put None ks k = refl
-  among-put (Some new) ks k = among-insert ks k new ∙ ap (λ b. b || list_any (eq k) ks) (sym (or_false (eq k new)))
+  among_put : (o : Option K) (ks : List K) (k : K) → list_any (eq k) (put_key eq o ks) ≡ (list_any (eq k) (cons_option o []) || list_any (eq k) ks)
+  among_put None ks k = refl
+  among_put (Some new) ks k = among_insert ks k new ∙ ap (λ b. b || list_any (eq k) ks) (sym (or_false (eq k new)))
 
-  among-cons : (o : Option K) (ks : List K) (k : K) → list_any (eq k) (cons_option o ks) ≡ (list_any (eq k) (cons_option o []) || list_any (eq k) ks)
-  among-cons None ks k = refl
-  among-cons (Some new) ks k = ap (λ b. b || list_any (eq k) ks) (sym (or_false (eq k new)))
+  among_cons : (o : Option K) (ks : List K) (k : K) → list_any (eq k) (cons_option o ks) ≡ (list_any (eq k) (cons_option o []) || list_any (eq k) ks)
+  among_cons None ks k = refl
+  among_cons (Some new) ks k = ap (λ b. b || list_any (eq k) ks) (sym (or_false (eq k new)))
 
-  pub among-keys_table : (f : Statement → Option K) (ss : List Statement) (k : K) → list_any (eq k) (keys_table eq f ss) ≡ list_any (eq k) (filter_map f ss)
-  among-keys_table f ss k = found-filled_by (put_key eq) (λ (ks : List K). list_any (eq k) ks) refl (λ o ks. among-put o ks k) (λ o ks. among-cons o ks k) f ss []
+  pub among_keys_table : (f : Statement → Option K) (ss : List Statement) (k : K) → list_any (eq k) (keys_table eq f ss) ≡ list_any (eq k) (filter_map f ss)
+  among_keys_table f ss k = found_filled_by (put_key eq) (λ (ks : List K). list_any (eq k) ks) refl (λ o ks. among_put o ks k) (λ o ks. among_cons o ks k) f ss []

@@ -4,17 +4,17 @@ use Rattle.kdcdef_types.specs.declared.statement.Statement.{Statement}
 use Rattle.kdcdef_types.specs.Statements.{passed_count}
 use Rattle.kdcdef_check.proofs.Passing.{next_taken}
 
-passed-push : (ss : List Statement) (s : Statement) → passed_count (ss ++ s ∷ []) ≡ passed_count ss + s.passed
-passed-push [] s = omega arith
-passed-push (t ∷ ss) s = omega (arith, passed-push ss s)
+passed_push : (ss : List Statement) (s : Statement) → passed_count (ss ++ s ∷ []) ≡ passed_count ss + s.passed
+passed_push [] s = omega arith
+passed_push (t ∷ ss) s = omega (arith, passed_push ss s)
 
-passed-take : (n : ℕ) (ss : List Statement) → passed_count (take n ss) ≤ passed_count ss
-passed-take zero ss = omega arith
-passed-take (suc n) [] = omega arith
-passed-take (suc n) (s ∷ ss) = omega (arith, passed-take n ss)
+passed_take : (n : ℕ) (ss : List Statement) → passed_count (take n ss) ≤ passed_count ss
+passed_take zero ss = omega arith
+passed_take (suc n) [] = omega arith
+passed_take (suc n) (s ∷ ss) = omega (arith, passed_take n ss)
 
 pub next_passed : (ss : List Statement) (i : ℕ) (s : Statement) (count : ℕ) → i < length ss → s ≡ get_or ss i s → count ≡ passed_count (take i ss) → count + s.passed ≡ passed_count (take (i + 1) ss)
-next_passed ss i s count within is so_far = omega (arith, so_far, passed-push (take i ss) s, ap passed_count (next_taken ss i s within is))
+next_passed ss i s count within is so_far = omega (arith, so_far, passed_push (take i ss) s, ap passed_count (next_taken ss i s within is))
 
 pub room_passed : (ss : List Statement) (i : ℕ) (s : Statement) (count : ℕ) → i < length ss → s ≡ get_or ss i s → count ≡ passed_count (take i ss) → count + s.passed ≤ passed_count ss
-room_passed ss i s count within is so_far = omega (arith, next_passed ss i s count within is so_far, passed-take (i + 1) ss)
+room_passed ss i s count within is so_far = omega (arith, next_passed ss i s count within is so_far, passed_take (i + 1) ss)

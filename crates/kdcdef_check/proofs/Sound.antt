@@ -1,5 +1,5 @@
 -- What the statements generate keeps its ranges, where they have no fault.
-use Rattle.std.proofs.Common.{◌≡◌, ℕ, suc, ◌≤◌, ◌==◌, refl, sym, inl, inr, arith, Bool, true, false, not, nat_lt, List, [], ◌∷◌, length, Option, Some, None, is_some, is_none, filter_map, IsTrue, unwrap_or}
+use Rattle.std.proofs.Common.{◌≡◌, ℕ, suc, ◌≤◌, ◌==◌, refl, sym, inl, inr, arith, true, false, nat_lt, List, [], ◌∷◌, length, Option, Some, None, is_some, is_none, filter_map, IsTrue, unwrap_or}
 use Rattle.std.specs.Prelude.{IfSome}
 use Rattle.std.specs.List.{All, cons_option}
 use Rattle.std.specs.Map.{values_of}
@@ -24,6 +24,7 @@ use Rattle.kdcdef_check.specs.Steps.{IsNamed, AllNamed}
 use Rattle.kdcdef_check.proofs.Counting.{program_count, tac_count, user_count, pterm_count, lterm_count, passed_statements}
 use Rattle.kdcdef_check.proofs.Faultless.{not_shown, all_at, few, some_user_said, pool_said}
 use Rattle.kdcdef_check.proofs.Apart.{names_apart}
+use Rattle.std.proofs.lemmas.Bool.{not-false}
 
 -- ---- lists
 
@@ -132,16 +133,12 @@ class_ranges : (said : Said) → IsInRange said → IfSome (as_class said) (λ (
 class_ranges (TacClass class tasks) h = h.1
 class_ranges _ h = tt
 
-not_not : (b : Bool) → not b ≡ false → b ≡ true
-not_not true h = refl
-not_not false h = absurd (grind (arith, h))
-
 not_none : {A : Type 0} (o : Option A) → is_none o ≡ false → is_some o ≡ true
 not_none None h = absurd (grind (arith, h))
 not_none (Some x) h = refl
 
 tac_kinds : (said : Said) → has_other_class said ≡ false → IfSome (as_tac said) (λ (p : List ℕ × TacEntry). IsTrue (fits_kind p.1))
-tac_kinds (Tac name entry) h = not_not (fits_kind entry) h
+tac_kinds (Tac name entry) h = not-false (fits_kind entry) h
 tac_kinds _ h = tt
 
 tac_programs : (g : Generated) (said : Said) → lacks_program g said ≡ false → IfSome (as_tac said) (λ (p : List ℕ × TacEntry). IsTrue (is_some (entry_of g.programs p.1.program)))

@@ -27,7 +27,7 @@ fn know_name(said: &Said)
 {
     match said {
         Said::Tac(name, _) | Said::User(name, _) | Said::Pterm(name, _) | Said::Lterm(name, _) => {
-            let _bytes = name.as_slice();
+            let _bytes = name.as_slice(); // for the proof
         }
         _ => {}
     }

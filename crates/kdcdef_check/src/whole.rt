@@ -29,7 +29,7 @@ fn is_restart(said: &Said) -> bool
 }
 
 /// How many USER statements have RESTART=YES.
-pub(crate) fn restart_count(statements: &[Statement]) -> usize
+fn restart_count(statements: &[Statement]) -> usize
     ensures count { result ≡ restart_count (said_as as_user statements.now) }
     ensures within { result ≤ length statements.now }
 {

@@ -131,9 +131,6 @@ value_again (values.Listed is) own rest h =
 abbrev OperandTaken : List Token → RawOperand × List Token → Type 0
 OperandTaken ts found = (own : List Token) × (ts ≡ own ++ found.1) × IsOperand found.0 own
 
-keyed : Option (List ℕ) → RawValue × List Token → RawOperand × List Token
-keyed key v = (record { key = key; value = v.0 }, v.1)
-
 keyless : (ts : List Token) (o : RawOperand) (rest : List Token) → with_key None (value_at ts) ≡ Some (o, rest) → OperandTaken ts (o, rest)
 keyless ts o rest e =
     let m = map_some (λ (v : RawValue × List Token). let x : RawOperand × List Token = (record { key = None; value = v.0 }, v.1) in x) (value_at ts) (o, rest) e in

@@ -8,3 +8,4 @@ pub mod Spelling
 pub mod Faults
 pub mod Bounds
 pub mod Writing
+pub mod Found

@@ -15,6 +15,6 @@ mod statement;
 mod token;
 
 pub use fault::LexFault;
-pub use laws::plain_text_spells;
+pub use laws::{plain_text_spells, read_statements_are_spelled};
 pub use read::lines;
 pub use statement::{Items, Operands, RawItem, RawOperand, RawStatement, RawValue};

@@ -4,7 +4,7 @@ use Rattle.std.specs.Prelude.{is_some}
 use Rattle.std.specs.List.{All}
 use Rattle.std.proofs.lemmas.List.Elements.{All-nil, All-cons}
 use Rattle.std.specs.Option.{option_or}
-use Rattle.kd_base.specs.ToolsLaws.{some_is, ok_is}
+use Rattle.kd_base.specs.ToolsLaws.{some_is, ok_is, or_none}
 use Rattle.kdcdef_lex.specs.declared.statement.RawOperand.{RawOperand}
 use Rattle.kdcdef_lex.specs.declared.statement.RawStatement.{RawStatement}
 use Rattle.kdcdef_lex.specs.Bounds.{AreWithinBounds}
@@ -27,7 +27,7 @@ use Rattle.kdcdef_read.specs.Operands.{same_key, operand_key, row_says, key_says
 use Rattle.kdcdef_read.specs.Said.{name_at, number_at, max_said, pterm_of}
 use Rattle.kdcdef_read.specs.Meaning.{statement, shared, form_says, Say, StandFor}
 use Rattle.kdcdef_read.proofs.Keys.{same_key_is}
-use Rattle.kdcdef_read.proofs.Filled.{or_none, both_none, some_or_first, said_more_max, said_append_max}
+use Rattle.kdcdef_read.proofs.Filled.{both_none, some_or_first, said_more_max, said_append_max}
 use Rattle.kdcdef_read.proofs.Ranges.{kept_is, program_is, tac_is, user_is, pterm_is, lterm_is, tls_is, uls_is, class_is, all_in_range, all_in_lines, few_are_passed}
 
 -- ---- operands
@@ -119,9 +119,6 @@ max_apart os before later behind fine = record {
 }
 
 -- ---- which statements say MAX
-
-max_same : (m n : MaxOperands) → Max m ≡ Max n → m ≡ n
-max_same m n e = cc
 
 pterm_not : (name : List ℕ) (lterm : Option (List ℕ)) (m : MaxOperands) → pterm_of name lterm ≡ Max m → ⊥
 pterm_not name None m e = cc

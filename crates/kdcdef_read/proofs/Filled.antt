@@ -4,7 +4,7 @@ use Rattle.std.specs.Prelude.{is_some}
 use Rattle.std.proofs.lemmas.Bool.{cases_Bool, false≢true}
 use Rattle.std.specs.Option.{option_or}
 use Rattle.kd_base.specs.Tools.{◌>>=◌}
-use Rattle.kd_base.specs.ToolsLaws.{chosen, bind_ok, bind_err, ok_is, err_is, some_of}
+use Rattle.kd_base.specs.ToolsLaws.{chosen, bind_ok, bind_err, ok_is, err_is, some_of, or_none, or_or, none_is}
 use Rattle.kdcdef_lex.specs.declared.statement.RawOperand.{RawOperand}
 use Rattle.kdcdef_read.specs.declared.fault.Cause.{Cause}
 use Rattle.kdcdef_read.specs.declared.fault.Cause.TheVariants.{OperandTwice}
@@ -24,18 +24,6 @@ use Rattle.kdcdef_read.proofs.Keys.{same_key_is}
 use Rattle.kdcdef_read.proofs.Slots.{slot_same, slot_other, taken_same, taken_other}
 
 -- ---- what may be given
-
-pub or_none : {A : Type 0} (o : Option A) → option_or o None ≡ o
-or_none None = refl
-or_none (Some v) = refl
-
-pub or_or : {A : Type 0} (a b c : Option A) → option_or (option_or a b) c ≡ option_or a (option_or b c)
-or_or None b c = refl
-or_or (Some v) b c = refl
-
-pub none_is : {A : Type 0} (o : Option A) → is_some o ≡ false → o ≡ None
-none_is None h = refl
-none_is (Some v) h = absurd cc
 
 some_or : {A : Type 0} (o : Option A) (v : A) → is_some (option_or o (Some v)) ≡ true
 some_or None v = refl

@@ -38,9 +38,6 @@ Fits kinds.Password (values.Password pass) = IsWithin 1 16 (length pass)
 Fits (kinds.OneOf choices.Blksize) (values.Number n) = IsBlksize n
 Fits kind value = Unit {0}
 
-fine : Value → Result Value Cause
-fine v = Ok v
-
 in_range_fits : (low high : ℕ) (o : Option ℕ) (n : ℕ) → in_range low high o ≡ Ok n → IsWithin low high n
 in_range_fits low high None n e = absurd cc
 in_range_fits low high (Some m) n e =

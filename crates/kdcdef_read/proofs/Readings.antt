@@ -19,15 +19,15 @@ use Rattle.kdcdef_read.proofs.Marks.{Marks, no_marks, form_ok, form_err, read_or
 
 -- ---- END
 
-is_end-end : (said : Said) → is_end said ≡ true → said ≡ says.End
-is_end-end says.End h = refl
-is_end-end said h = absurd cc
+is_end_end : (said : Said) → is_end said ≡ true → said ≡ says.End
+is_end_end says.End h = refl
+is_end_end said h = absurd cc
 
-end-is_end : (said : Said) → said ≡ says.End → is_end said ≡ true
-end-is_end said e = ap is_end e
+end_is_end : (said : Said) → said ≡ says.End → is_end said ≡ true
+end_is_end said e = ap is_end e
 
 not_end : (said : Said) → is_end said ≡ false → said ≡ says.End → ⊥
-not_end said h e = let t = end-is_end said e in cc
+not_end said h e = let t = end_is_end said e in cc
 
 ends_more : (s : Statement) (ss : List Statement) → is_end s.said ≡ false → EndsOnce ss → EndsOnce (s ∷ ss)
 ends_more s [] h e = absurd e
@@ -39,7 +39,7 @@ ends_rest s (t ∷ ss) h e = e.1
 
 ends_here : (s : Statement) (ss : List Statement) → is_end s.said ≡ true → EndsOnce (s ∷ ss) → ss ≡ []
 ends_here s [] h e = refl
-ends_here s (t ∷ ss) h e = absurd (e.0 (is_end-end s.said h))
+ends_here s (t ∷ ss) h e = absurd (e.0 (is_end_end s.said h))
 
 next_later : (said : Said) (rs : List RawStatement) (fault : ReadFault) (later : Type 0) → is_end said ≡ false → later → HasNextFault said rs fault later
 next_later says.End rs fault later h x = absurd cc
@@ -106,7 +106,7 @@ read_says before taken n (r ∷ rs) ss m e =
                 let Q : List RawStatement → Type 0 = λ x. Say before (r ∷ x) (q.0.0 ∷ b.0) in
                 let Q2 : List Statement → Type 0 = λ x. Say before (r ∷ []) (q.0.0 ∷ x) in
                 let E : List Statement → Type 0 = λ x. EndsOnce (q.0.0 ∷ x) in
-                (subst Q (sym z.0) (subst Q2 (sym z.1) (k.0, tt)), subst E (sym z.1) (is_end-end q.0.0.said h))
+                (subst Q (sym z.0) (subst Q2 (sym z.1) (k.0, tt)), subst E (sym z.1) (is_end_end q.0.0.said h))
             | inr h ↦
                 let R : Bool → Type 0 = λ x. read_from (at q.0.1 x (r.line + 1)) rs ≡ Ok b.0 in
                 let z = read_says (before ++ shared (form_of r.keyword) r.operands) q.0.1 (r.line + 1) rs b.0 k.1 (subst R h b.1) in

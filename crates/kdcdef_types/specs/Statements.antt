@@ -5,7 +5,7 @@ use Rattle.kdcdef_types.specs.declared.entry.TacEntry.{TacEntry}
 use Rattle.kdcdef_types.specs.declared.entry.UserEntry.{UserEntry}
 use Rattle.kdcdef_types.specs.declared.statement.MaxOperands.{MaxOperands}
 use Rattle.kdcdef_types.specs.declared.statement.Said.{Said}
-use Rattle.kdcdef_types.specs.declared.statement.Said.TheVariants.{Max, Program, Tac, User, Pterm, Lterm, Tls, Uls, TacClass, Passed, End}
+use Rattle.kdcdef_types.specs.declared.statement.Said.TheVariants.{Max, Tac, User, TacClass, End}
 use Rattle.kdcdef_types.specs.declared.statement.Statement.{Statement}
 
 -- n is from low to high

@@ -1,10 +1,10 @@
 -- What a stop within a commit leaves.
-use Rattle.std.proofs.Common.{◌≡◌, ◌⊎◌, inl, inr, ⊎_elim, ℕ, ◌+◌, ◌%◌, ◌<◌, ◌≤◌, min, Bool, true, false, not, List, [], ◌∷◌, ◌++◌, length, refl, ap, subst, get_or, ◌∙◌, arith, length-append}
+use Rattle.std.proofs.Common.{◌≡◌, ◌⊎◌, inl, inr, ⊎_elim, ℕ, ◌+◌, ◌%◌, ◌<◌, ◌≤◌, min, Bool, true, false, not, List, [], ◌∷◌, ◌++◌, length, ap, subst, get_or, ◌∙◌, arith, length-append}
 use Rattle.std.specs.Prelude.{codes}
 use Rattle.std.specs.Int.{w32, w64, to_be_bytes}
 use Rattle.std.specs.List.{flat_map}
 use Rattle.kd_device.specs.Device.{State, LeavesOnly, Only, Quiet, Torn, written}
-use Rattle.kd_device.specs.TornLaws.{torn_done, length-written}
+use Rattle.kd_device.specs.TornLaws.{torn_done, length_written}
 use Rattle.kd_device.specs.TimeLaws.{leaves_weaker, leaves_then, quiet_leaves}
 use Rattle.kd_records.specs.declared.content.Content.{Content}
 use Rattle.kd_records.specs.Identity.{Identity}
@@ -14,16 +14,12 @@ use Rattle.kdcfile_images.specs.Opened.{Opened, identity_of, renewed}
 use Rattle.kdcfile_images.specs.Commit.{spelled_root, other_place, other_end, staged, committed, Either, InImageOrSelector, Replaces}
 use Rattle.kdcfile_images.proofs.Torns.{torn_wider, torn_then, torn_back}
 use Rattle.kdcfile_images.specs.PartsLaws.{within_file, byte_below, stands_below, stands_above, one_of_two}
+use Rattle.kdcfile_images.specs.HeadsLaws.{place_past}
 
 pub spelled_some : (i : Identity) (x : Content) → 0 < length (spelled i x)
 spelled_some i x =
     omega
     (arith, length-append (root i x) (flat_map spelled_record x.items), length-append (i.fingerprint ++ to_be_bytes w64 x.clock ++ to_be_bytes w64 x.next_job ++ to_be_bytes w32 i.pages ++ to_be_bytes w32 0 ++ to_be_bytes w32 (length x.items)) (codes "ROOT"))
-
--- both images lie behind the selector
-pub past_selector : (i : Identity) (second : Bool) → 8192 ≤ place i second
-past_selector i true = omega arith
-past_selector i false = omega arith
 
 -- the records and the root, when both are written
 both_torn : (from upto behind : ℕ) (body h root : List ℕ) → from ≤ behind → behind + length body ≤ upto → from + length root ≤ upto → Torn (min from (length h)) upto h (written (written h behind body) from root)
@@ -31,14 +27,11 @@ both_torn from upto behind body h root order within inside =
     let m = written h behind body in
     torn_then (min from (length h)) upto h m (written m from root)
     (torn_wider (min behind (length h)) (behind + length body) (min from (length h)) upto h m (omega arith) within (torn_done h behind body))
-    (torn_wider (min from (length m)) (from + length root) (min from (length h)) upto m (written m from root) (omega (arith, length-written h behind body)) inside (torn_done m from root))
+    (torn_wider (min from (length m)) (from + length root) (min from (length h)) upto m (written m from root) (omega (arith, length_written h behind body)) inside (torn_done m from root))
 
 module _ (i : Identity) (x : Content) (h c : List ℕ) where
   pub reaches : (second : Bool) → Stands i second x h → place i second + length (spelled i x) ≤ length h
   reaches second stands = within_file (place i second) (spelled i x) h stands.image (spelled_some i x)
-
-  head_length : length (head i) ≡ 17
-  head_length = refl
 
   -- any bytes in the other image leave this one
   pub other_torn : (second : Bool) → Stands i second x h → Torn (min (place i (not second)) (length h)) (place i (not second) + image_size i) h c → Stands i second x c
@@ -67,7 +60,7 @@ module _ (i : Identity) (x : Content) (h c : List ℕ) where
   pub parts_kept : (second : Bool) → Stands i second x h → Torn 4096 4097 h c → StandsAt 0 (head i) c × StandsAt (place i second) (spelled i x) c
   parts_kept second stands torn = (
     stands_below 4096 4097 h c torn 0 (head i) stands.headed (omega arith),
-    stands_above 4096 4097 h c torn (place i second) (spelled i x) stands.image (omega (arith, past_selector i second)),
+    stands_above 4096 4097 h c torn (place i second) (spelled i x) stands.image (omega (arith, place_past i second)),
   )
 
 module _ (i : Identity) (print : List ℕ) (x y : Content) where
@@ -87,7 +80,7 @@ module _ (i : Identity) (print : List ℕ) (x y : Content) where
     old_in_m = other_torn i x h m second old staged
 
     long : 4097 ≤ length m
-    long = omega (arith, reaches i x m m second old_in_m, past_selector i second)
+    long = omega (arith, reaches i x m m second old_in_m, place_past i second)
 
     at_selector : (c : List ℕ) → Torn (min 4096 (length m)) 4097 m c → Torn 4096 4097 m c
     at_selector c torn = subst (λ (n : ℕ). Torn n 4097 m c) (omega (arith, long)) torn
@@ -95,7 +88,7 @@ module _ (i : Identity) (print : List ℕ) (x y : Content) where
     from_new : (c : List ℕ) → Torn 4096 4097 m c → Torn 4096 4097 (written m 4096 (selector (not second) ∷ [])) c
     from_new c torn =
         let e = written m 4096 (selector (not second) ∷ []) in
-        torn_then 4096 4097 e m c (torn_back 4096 4097 m e (at_selector e (torn_done m 4096 (selector (not second) ∷ []))) (omega (arith, length-written m 4096 (selector (not second) ∷ []), long))) torn
+        torn_then 4096 4097 e m c (torn_back 4096 4097 m e (at_selector e (torn_done m 4096 (selector (not second) ∷ []))) (omega (arith, length_written m 4096 (selector (not second) ∷ []), long))) torn
 
     selector_torn : (c : List ℕ) → Torn 4096 4097 m c → Stands i second x c ⊎ Stands (record i { fingerprint = print }) (not second) y c
     selector_torn c torn =

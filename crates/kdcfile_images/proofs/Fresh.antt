@@ -12,9 +12,9 @@ use Rattle.kdcfile_images.specs.File.{Stands, IsNoImage, spelled, root, head, ma
 use Rattle.kdcfile_images.specs.Writes.{WritesOnly, IsSynced}
 use Rattle.kdcfile_images.specs.Fresh.{zeros, fresh_rest, Made, IsShut, ShutOr}
 
-pub length-zeros : (n : ℕ) → length (zeros n) ≡ n
+pub length_zeros : (n : ℕ) → length (zeros n) ≡ n
 unfolding zeros
-length-zeros n = length-replicate n 0
+length_zeros n = length-replicate n 0
 
 zeros_at : (n i : ℕ) → i < n → get_or (zeros n) i 0 ≡ 0
 unfolding zeros
@@ -34,20 +34,17 @@ pub shut_no_image : (c : List ℕ) → IsShut c → IsNoImage c
 shut_no_image c (inl short) i x stands = absurd (omega (arith, ap (λ (l : List ℕ). length l) stands.1.headed, length-take 17 c))
 shut_no_image c (inr shut) i x stands = shut (first_byte i x stands.0 c stands.1)
 
-pub length-root : (i : Identity) → IsIdentity i → length (root i fresh) ≡ 64
-length-root i is =
+pub length_root : (i : Identity) → IsIdentity i → length (root i fresh) ≡ 64
+length_root i is =
     let sum : length (root i fresh) ≡ length i.fingerprint + 32 = grind (arith, common_steps) in
     omega (arith, sum, is.fingerprint)
 
 module _ (i : Identity) (is : IsIdentity i) (gap left : ℕ) (gap_is : gap ≡ 8175) where
-  an_image : List ℕ
-  an_image = root i fresh ++ zeros left
-
   split : 75 ∷ (mark i ++ zeros gap ++ (root i fresh ++ zeros left) ++ (root i fresh ++ zeros left)) ≡ (head i ++ zeros gap) ++ ((root i fresh ++ zeros left) ++ (root i fresh ++ zeros left))
   split = append_assoc (head i ++ zeros gap) (root i fresh ++ zeros left) (root i fresh ++ zeros left)
 
   front : length (head i ++ zeros gap) ≡ 8192
-  front = omega (arith, length-append (head i) (zeros gap), length-zeros gap)
+  front = omega (arith, length-append (head i) (zeros gap), length_zeros gap)
 
   plain : spelled i fresh ≡ root i fresh
   plain = append-nil (root i fresh)
@@ -64,16 +61,16 @@ module _ (i : Identity) (is : IsIdentity i) (gap left : ℕ) (gap_is : gap ≡ 8
         ap (λ (n : ℕ). n % 2)
         (ap (λ (l : List ℕ). get_or l 4096 0) (split ∙ append_assoc (head i) (zeros gap) (root i fresh ++ zeros left ++ (root i fresh ++ zeros left)))
         ∙ get_or-append_right (head i) (zeros gap ++ (root i fresh ++ zeros left ++ (root i fresh ++ zeros left))) 17 4096 0 refl (omega arith)
-        ∙ get_or_append_left (zeros gap) (root i fresh ++ zeros left ++ (root i fresh ++ zeros left)) 0 4079 (omega (arith, length-zeros gap))
+        ∙ get_or_append_left (zeros gap) (root i fresh ++ zeros left ++ (root i fresh ++ zeros left)) 0 4079 (omega (arith, length_zeros gap))
         ∙ zeros_at gap 4079 (omega arith));
     image =
         rw plain
         (ap (λ (l : List ℕ). take (length (root i fresh)) l) (ap (λ (l : List ℕ). drop 8192 l) split ∙ drop_at (head i ++ zeros gap) (root i fresh ++ zeros left ++ (root i fresh ++ zeros left)) 8192 front ∙ append_assoc (root i fresh) (zeros left) (root i fresh ++ zeros left)) ∙ take_at (root i fresh) (zeros left ++ (root i fresh ++ zeros left)) (length (root i fresh)) refl);
-    inside = omega (arith, ap (λ (l : List ℕ). length l) plain, length-root i is);
+    inside = omega (arith, ap (λ (l : List ℕ). length l) plain, length_root i is);
   }
 
-  pub length-fresh : length (75 ∷ (mark i ++ zeros gap ++ (root i fresh ++ zeros left) ++ (root i fresh ++ zeros left))) ≡ 8320 + 2 * left
-  length-fresh =
+  pub length_fresh : length (75 ∷ (mark i ++ zeros gap ++ (root i fresh ++ zeros left) ++ (root i fresh ++ zeros left))) ≡ 8320 + 2 * left
+  length_fresh =
       omega (
         arith,
         ap (λ (l : List ℕ). length l) split,
@@ -81,8 +78,8 @@ module _ (i : Identity) (is : IsIdentity i) (gap left : ℕ) (gap_is : gap ≡ 8
         front,
         length-append (root i fresh ++ zeros left) (root i fresh ++ zeros left),
         length-append (root i fresh) (zeros left),
-        length-zeros left,
-        length-root i is,
+        length_zeros left,
+        length_root i is,
       )
 
 second_written : (rest : List ℕ) → written (0 ∷ []) 1 rest ≡ 0 ∷ rest
@@ -139,7 +136,7 @@ module _ (i : Identity) (is : IsIdentity i) (rest : List ℕ) (rest_is : rest �
   made_stands = subst (λ (l : List ℕ). Stands i false fresh (75 ∷ l)) (sym rest_is) (fresh_stands i is 8175 (8128 + i.pages * i.blksize) refl)
 
   pub made_length : length (75 ∷ rest) ≡ 8192 + 2 * image_size i
-  made_length = ap (λ (l : List ℕ). length (75 ∷ l)) rest_is ∙ length-fresh i is 8175 (8128 + i.pages * i.blksize) refl ∙ omega arith
+  made_length = ap (λ (l : List ℕ). length (75 ∷ l)) rest_is ∙ length_fresh i is 8175 (8128 + i.pages * i.blksize) refl ∙ omega arith
 
   pub in_making : (a r b : State) (la lr lb : ℕ → List ℕ → List ℕ → Type 0) → a.holds ≡ [] → Only a.holds a la → Quiet a r la lr → LeavesOnly r b lr lb (ShutOr rest r.sent) → LeavesOnly a b la lb (Made i a.sent)
   in_making a r b la lr lb empty only quiet to_b =

@@ -12,9 +12,6 @@ synced_then m n at new bytes a b d lb ld first second =
     record { holds = second.holds ∙ same; put = omega (arith, second.put, first.put); settled = λ c left. second.settled c left ∙ same }
 
 module _ (from upto m : ℕ) (new : List ℕ) (a b : State) (la lb : ℕ → List ℕ → List ℕ → Type 0) (first : WritesOnly from upto m a b la lb) where
-  P : List ℕ → List ℕ → Type 0
-  P c out = (out ≡ a.sent) × InImageOrSelector from upto new a.holds c
-
   to_b : LeavesOnly a b la lb (λ c out. (out ≡ a.sent) × InImageOrSelector from upto new a.holds c)
   to_b =
       leaves_weaker a b la lb (λ c out. (out ≡ a.sent) × Torn (min from (length a.holds)) upto a.holds c) (λ c out. (out ≡ a.sent) × InImageOrSelector from upto new a.holds c) first.leaves

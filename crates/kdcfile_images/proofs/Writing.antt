@@ -28,9 +28,6 @@ writes_most from upto m n a b la lb le w = record { sent = w.sent; put = omega (
 
 -- from a to b writes, and from b to d one more write or a sync
 module _ (from upto n : ℕ) (new : List ℕ) (a b d : State) (la lb ld : ℕ → List ℕ → List ℕ → Type 0) (so_far : WritesOnly from upto n a b la lb) (pending : IsPending from upto n new a b lb) where
-  Left : List ℕ → List ℕ → Type 0
-  Left c out = (out ≡ a.sent) × Torn (min from (length a.holds)) upto a.holds c
-
   -- a call after which a stop leaves any bytes there
   then_any : ((c : List ℕ) → ld d.moment c d.sent → Torn (min from (length a.holds)) upto a.holds c) → d.sent ≡ b.sent → LeavesOnly b d lb ld (Now d ld)
       → LeavesOnly a d la ld (λ c out. (out ≡ a.sent) × Torn (min from (length a.holds)) upto a.holds c)

@@ -4,8 +4,9 @@ use Rattle.std.specs.Int.{w32, w64, to_be_bytes}
 use Rattle.kd_device.specs.Device.{State, LeavesOnly, Torn, written}
 use Rattle.kd_records.specs.declared.content.Content.{Content}
 use Rattle.kd_records.specs.Identity.{Identity}
-use Rattle.kdcfile_images.specs.File.{StandsFor, place, image_size, selector}
-use Rattle.kdcfile_images.specs.Opened.{Opened, identity_of}
+use Rattle.kdcfile_images.specs.File.{Stands, StandsFor, place, image_size, selector}
+use Rattle.kdcfile_images.specs.Opened.{Opened, identity_of, renewed}
+use Rattle.kdcfile_images.specs.Writes.{IsSynced, WritesOnly}
 use Rattle.kdcfile_images.specs.declared.image.Root.{Root}
 
 -- a root as 64 bytes
@@ -42,3 +43,30 @@ pub record Replaces (from upto : ℕ) (new : List ℕ) (n : ℕ) (a b : State) (
   pub sent : b.sent ≡ a.sent
   pub put : b.put ≤ a.put + n
   pub leaves : LeavesOnly a b la lb (λ c out. (out ≡ a.sent) × InImageOrSelector from upto new a.holds c)
+
+-- a file with these records and this root
+abbrev pub with_image : List ℕ → (behind at : ℕ) → (body root : List ℕ) → List ℕ
+with_image h behind at body root = written (written h behind body) at root
+
+-- from a to b no more than the records and the root were written, between the root and any place that both end before
+abbrev pub WritesImage : (behind at : ℕ) → (body root : List ℕ) → (a b : State) → (la lb : ℕ → List ℕ → List ℕ → Type 0) → Type 0
+WritesImage behind at body root a b la lb =
+    (upto : ℕ) → behind + length body ≤ upto → at + length root ≤ upto → WritesOnly at upto (length body + length root) a b la lb
+
+-- they were written, and are on the disk
+abbrev pub WroteImage : (behind at : ℕ) → (body root : List ℕ) → (a b : State) → (lb : ℕ → List ℕ → List ℕ → Type 0) → Type 0
+WroteImage behind at body root a b lb = IsSynced (length body + length root) (with_image a.holds behind at body root) a b lb
+
+-- the same, and then the selector
+abbrev pub ReplacesImage : (behind at : ℕ) → (body root : List ℕ) → (a b : State) → (la lb : ℕ → List ℕ → List ℕ → Type 0) → Type 0
+ReplacesImage behind at body root a b la lb =
+    (upto : ℕ) → behind + length body ≤ upto → at + length root ≤ upto → Replaces at upto (with_image a.holds behind at body root) (length body + length root + 1) a b la lb
+
+abbrev pub ReplacedImage : (behind at : ℕ) → (body root : List ℕ) → (selector : ℕ) → (a b : State) → (lb : ℕ → List ℕ → List ℕ → Type 0) → Type 0
+ReplacedImage behind at body root selector a b lb =
+    IsSynced (length body + length root + 1) (written (with_image a.holds behind at body root) 4096 (selector ∷ [])) a b lb
+
+-- where the file stands for a content, and would stand for another with this image selected, a stop leaves the one or the other
+abbrev pub LeavesEither : Opened → (body : List ℕ) → Root → (a b : State) → (la lb : ℕ → List ℕ → List ℕ → Type 0) → Type 0
+LeavesEither i body root a b la lb =
+    (x y : Content) → Stands (identity_of i) i.second x a.holds → Stands (renewed i root) (not i.second) y (committed i body root a.holds) → LeavesOnly a b la lb (Either (identity_of i) x (renewed i root) y a.sent)

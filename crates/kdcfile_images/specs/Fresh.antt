@@ -1,5 +1,6 @@
 -- A fresh file, and what a stop within its making leaves.
 use Rattle.std.specs.Prelude.{◌≡◌, ◌≤◌, ◌⊎◌, ℕ, ◌+◌, ◌*◌, List, ◌∷◌, ◌++◌, length, get_or, replicate}
+use Rattle.kd_device.specs.Device.{State, LeavesOnly}
 use Rattle.kd_records.specs.Identity.{Identity}
 use Rattle.kdcfile_images.specs.File.{StandsFor, IsNoImage, mark, root, fresh}
 use Rattle.kdcfile_images.specs.declared.image.Root.{Root}
@@ -8,6 +9,10 @@ use Rattle.kdcfile_images.specs.declared.image.Root.{Root}
 unfoldable pub zeros : ℕ → List ℕ
 zeros n = replicate n 0
 
+-- what a file with this BLKSIZE, PGPOOL and fingerprint is made with
+abbrev pub made_with : (blksize pages : ℕ) → (fingerprint : List ℕ) → Identity
+made_with blksize pages fingerprint = record { blksize = blksize; pages = pages; fingerprint = fingerprint }
+
 -- a list, and zero bytes up to the end of an image
 abbrev pub in_image : Identity → List ℕ → List ℕ
 in_image i part = part ++ zeros (8128 + i.pages * i.blksize)
@@ -15,6 +20,10 @@ in_image i part = part ++ zeros (8128 + i.pages * i.blksize)
 -- behind the gate: the mark, and two images with no records
 abbrev pub fresh_rest : Identity → List ℕ
 fresh_rest i = mark i ++ zeros 8175 ++ in_image i (root i fresh) ++ in_image i (root i fresh)
+
+-- behind the sizes: a gap, and two images with this root
+abbrev pub two_images : (root : List ℕ) → (gap left : ℕ) → List ℕ
+two_images root gap left = zeros gap ++ (root ++ zeros left) ++ (root ++ zeros left)
 
 -- a fresh file: the open gate, and what is behind it
 abbrev pub fresh_file : Identity → List ℕ
@@ -27,6 +36,10 @@ fresh_root i = record { fingerprint = i.fingerprint; clock = 0; next_job = 1; pg
 -- nothing more was sent, and the file is no image or stands for the fresh content
 abbrev pub Made : Identity → List ℕ → List ℕ → List ℕ → Type 0
 Made i sent c out = (out ≡ sent) × (IsNoImage c ⊎ StandsFor i fresh c)
+
+-- a stop within a making leaves no more
+abbrev pub LeavesMade : Identity → (a b : State) → (la lb : ℕ → List ℕ → List ℕ → Type 0) → Type 0
+LeavesMade i a b la lb = LeavesOnly a b la lb (Made i a.sent)
 
 -- the gate is not open, or nothing stands behind it
 abbrev pub IsShut : List ℕ → Type 0

@@ -17,10 +17,11 @@ use Rattle.kdcfile_images.specs.declared.image.Root.{Root}
 use Rattle.kdcfile_images.specs.Opened.{Opened, identity_of, content_in}
 use Rattle.kdcfile_images.specs.File.{Stands, IsNoImage, OneMeaning, root, spelled_record, spelled, place, image_size}
 use Rattle.kdcfile_images.specs.Reading.{AreBytes, HasSizes, head_of, number, is_root, root_with, root_of, records_of, image_of, size_of, place_of}
-use Rattle.kdcfile_images.specs.PlacesLaws.{after, field, parted, read_4, read_8, small_8, small_4, written_4, written_8, length-piece, AreBytes-drop}
-use Rattle.kdcfile_images.specs.TestsLaws.{unless, when, mapped, bound}
+use Rattle.kdcfile_images.specs.PlacesLaws.{after, field, parted, read_4, read_8, small_8, small_4, written_4, written_8, length_piece, AreBytes_drop}
+use Rattle.kdcfile_images.specs.TestsLaws.{unless, when}
 use Rattle.kdcfile_images.specs.HeadsLaws.{Headed, head_written, head_read}
 use Rattle.kdcfile_images.specs.ReadRecordsLaws.{records_written, records_read}
+use Rattle.kd_base.specs.ToolsLaws.{and_some, map_some}
 
 regrouped : (a b c d e f g h : List ℕ) → ((((((a ++ b) ++ c) ++ d) ++ e) ++ f) ++ g) ++ h ≡ a ++ (b ++ (c ++ (d ++ (e ++ (f ++ (g ++ h))))))
 regrouped a b c d e f g h = simp append_assoc
@@ -117,7 +118,7 @@ record ReadImage (h : Head) (image : List ℕ) (o : Opened) (items : List Record
 image_made : (h : Head) (image : List ℕ) (items : List Record) → HasSizes h.blksize h.pages → AreBytes image → 64 ≤ length image → is_root h.pages image ≡ true → records_of None (number w32 56 image) (drop 64 image) ≡ Some items
     → ReadImage h image (record { blksize = h.blksize; root = root_with h.pages image; second = h.second }) items
 image_made h image items sizes bytes long passes found =
-    let rs = records_read None (number w32 56 image) (drop 64 image) items (AreBytes-drop 64 image bytes) found in
+    let rs = records_read None (number w32 56 image) (drop 64 image) items (AreBytes_drop 64 image bytes) found in
     let tests = and_parts (eqb (number w32 48 image) h.pages && eqb (number w32 52 image) 0) (bytes_eq (take 4 (drop 60 image)) (codes "ROOT")) passes in
     let numbers = and_parts (eqb (number w32 48 image) h.pages) (eqb (number w32 52 image) 0) tests.0 in
     let pages : number w32 48 image ≡ h.pages = eqb-true (number w32 48 image) h.pages numbers.0 in
@@ -136,7 +137,7 @@ image_made h image items sizes bytes long passes found =
     let x : Content = record { clock = number w64 32 image; next_job = number w64 40 image; items = items } in
     record {
       of_head = refl;
-      identity = record { blksize = sizes.size; least = sizes.least; most = sizes.most; fingerprint = length-piece 0 32 image (omega (arith, long)) };
+      identity = record { blksize = sizes.size; least = sizes.least; most = sizes.most; fingerprint = length_piece 0 32 image (omega (arith, long)) };
       content = record {
         clock = small_8 32 image bytes;
         next_job = small_8 40 image bytes;
@@ -149,12 +150,12 @@ image_made h image items sizes bytes long passes found =
 
 image_read : (h : Head) (image : List ℕ) (o : Opened) (items : List Record) → HasSizes h.blksize h.pages → AreBytes image → image_of h image ≡ Some (o, items) → ReadImage h image o items
 image_read h image o items sizes bytes e =
-    let found = bound (λ r. records_in h image r) (root_of h.pages image) (o, items) e in
+    let found = and_some (λ r. records_in h image r) (root_of h.pages image) (o, items) e in
     let long = unless (ltb (length image) 64) _ found.0 found.1 in
     let passes = when (is_root h.pages image) _ found.0 long.1 in
     let r_is : root_with h.pages image ≡ found.0 = same_Some (root_with h.pages image) found.0 passes.1 in
     let Q : Root → Type 0 = λ r. records_in h image r ≡ Some (o, items) in
-    let more = mapped (λ (l : List Record). (record { blksize = h.blksize; root = root_with h.pages image; second = h.second }, l)) (records_of None (number w32 56 image) (drop 64 image)) (o, items) (subst Q (sym r_is) found.2) in
+    let more = map_some (λ (l : List Record). (record { blksize = h.blksize; root = root_with h.pages image; second = h.second }, l)) (records_of None (number w32 56 image) (drop 64 image)) (o, items) (subst Q (sym r_is) found.2) in
     let P : Opened × List Record → Type 0 = λ p. ReadImage h image p.0 p.1 in
     subst P more.2 (image_made h image more.0 sizes bytes (ltb-false (length image) 64 long.0) passes.0 more.1)
 

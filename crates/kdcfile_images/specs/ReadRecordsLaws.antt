@@ -8,8 +8,7 @@ use Rattle.std.specs.Cmp.{IsTotalOrder}
 use Rattle.std.specs.Cmp.Lexicographic.{on_texts}
 use Rattle.std.specs.FinMap.Entries.{below_all, is_sorted}
 use Rattle.std.specs.declared.cmp.Ordering.{Ordering}
-use Rattle.std.specs.declared.cmp.Ordering.TheVariants.{Less, Equal, Greater}
-use Rattle.std.proofs.lemmas.Bool.{false≢true, ltb-false, le-ltb, eqb-false, ne_eqb, and_parts, and_from, cond-true, cond-false}
+use Rattle.std.proofs.lemmas.Bool.{ltb-false, le-ltb, eqb-false, ne_eqb, and_parts, and_from, cond-true, cond-false}
 use Rattle.std.proofs.lemmas.List.Elements.{All-nil, All-cons, All-head, All-tail}
 use Rattle.std.proofs.lemmas.List.{drop_more}
 use Rattle.std.proofs.lemmas.Option.{same_Some}
@@ -18,14 +17,13 @@ use Rattle.kd_records.specs.Contents.{Record, IsRecord}
 use Rattle.kd_records.specs.Keys.{key_text, key_cmp}
 use Rattle.kdcfile_images.specs.File.{spelled_record}
 use Rattle.kdcfile_images.specs.Reading.{AreBytes, number, key_at, valued, record_at, after_record, records_of, onto, follows}
-use Rattle.kdcfile_images.specs.PlacesLaws.{after, field, parted, read_4, small_4, written_4, length-piece, AreBytes-drop}
-use Rattle.kdcfile_images.specs.TestsLaws.{unless, when, mapped, bound}
+use Rattle.kdcfile_images.specs.PlacesLaws.{after, field, parted, read_4, small_4, written_4, length_piece, AreBytes_drop}
+use Rattle.kdcfile_images.specs.TestsLaws.{unless, when}
+use Rattle.kd_base.specs.OrderLaws.{is_less}
+use Rattle.kd_base.specs.ToolsLaws.{and_some, map_some}
 
 -- one record, written in front of a rest
 module _ (r : Record) (rest : List ℕ) (is : IsRecord r) where
-  whole : List ℕ
-  whole = spelled_record r ++ rest
-
   from_key : spelled_record r ++ rest ≡ r.0.kind ∷ (r.0.bytes ++ (to_be_bytes w32 (length r.1) ++ (r.1 ++ rest)))
   from_key = ap (λ (l : List ℕ). r.0.kind ∷ l) (append_assoc r.0.bytes (to_be_bytes w32 (length r.1) ++ r.1) rest ∙ ap (λ (l : List ℕ). r.0.bytes ++ l) (append_assoc (to_be_bytes w32 (length r.1)) r.1 rest))
 
@@ -79,12 +77,12 @@ record_read left r bytes e =
   where
     made : 29 ≤ length left → (get_or left 0 0 ≡ 0 → ⊥) → 29 + number w32 25 left ≤ length left → ReadRecord left (key_at left, take (number w32 25 left) (drop 29 left))
     made long kind room =
-        let value_length : length (take (number w32 25 left) (drop 29 left)) ≡ number w32 25 left = length-piece 29 (number w32 25 left) left room in
+        let value_length : length (take (number w32 25 left) (drop 29 left)) ≡ number w32 25 left = length_piece 29 (number w32 25 left) left room in
         record {
           fits = record {
             kind_from_one = omega (arith, kind);
             kind_is_byte = bytes 0;
-            key_length = length-piece 1 24 left (omega arith);
+            key_length = length_piece 1 24 left (omega arith);
             value_length = omega (arith, value_length, small_4 25 left bytes);
           };
           spelled =
@@ -104,11 +102,6 @@ record_read left r bytes e =
 abbrev pub Behind : Option RecordKey → List Record → Type 0
 Behind None items = Unit {0}
 Behind (Some k) items = IsTrue (below_all key_cmp k items)
-
-is_less : (o : Ordering) → IsTrue (is_lt o) → o ≡ Less
-is_less Less p = refl
-is_less Equal p = absurd (false≢true p)
-is_less Greater p = absurd (false≢true p)
 
 keys_total : IsTotalOrder key_cmp
 keys_total = on_texts key_text
@@ -174,7 +167,7 @@ behind_none (Some k) = refl
 
 found_one : (previous : Option RecordKey) (n : ℕ) (left : List ℕ) (items : List Record) → records_of previous (suc n) left ≡ Some items → (r : Record) × (record_at left ≡ Some r) × (reads_on previous n left r ≡ Some items)
 unfolding records_of
-found_one previous n left items e = bound (λ r. reads_on previous n left r) (record_at left) items e
+found_one previous n left items e = and_some (λ r. reads_on previous n left r) (record_at left) items e
 
 pub records_read : (previous : Option RecordKey) (n : ℕ) (left : List ℕ) (items : List Record) → AreBytes left → records_of previous n left ≡ Some items → ReadRecords previous n left items
 records_read previous zero left items bytes e =
@@ -184,9 +177,9 @@ records_read previous (suc n) left items bytes e =
     let found = found_one previous n left items e in
     let r = found.0 in
     let rest = when (follows previous r.0) _ items found.2 in
-    let more = mapped (λ l. (r ∷ []) ++ l) (records_of (Some r.0) n (after_record r left)) items rest.1 in
+    let more = map_some (λ l. (r ∷ []) ++ l) (records_of (Some r.0) n (after_record r left)) items rest.1 in
     let one = record_read left r bytes found.1 in
-    let others = records_read (Some r.0) n (after_record r left) more.0 (AreBytes-drop (29 + length r.1) left bytes) more.1 in
+    let others = records_read (Some r.0) n (after_record r left) more.0 (AreBytes_drop (29 + length r.1) left bytes) more.1 in
     let P : List Record → Type 0 = λ l. ReadRecords previous (suc n) left l in
     subst P more.2 (record {
       count = ap (λ (k : ℕ). suc k) others.count;

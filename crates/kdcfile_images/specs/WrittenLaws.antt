@@ -4,17 +4,18 @@ use Rattle.std.specs.List.{flat_map}
 use Rattle.std.proofs.Math.Seq.{take-append-add}
 use Rattle.std.proofs.lemmas.List.{take-append-drop, drop-drop, take_at, drop_at, get_or-take, get_or-drop}
 use Rattle.kd_device.specs.Device.{written}
-use Rattle.kd_device.specs.TornLaws.{torn_done, length-front, length-written}
+use Rattle.kd_device.specs.TornLaws.{torn_done, length_front, length_written}
 use Rattle.kd_records.specs.declared.content.Content.{Content}
 use Rattle.kd_records.specs.Contents.{IsContent}
 use Rattle.kd_records.specs.Identity.{Identity}
 use Rattle.kdcfile_images.specs.File.{Stands, StandsAt, head, root, spelled, spelled_record, image_size, place, selector}
 use Rattle.kdcfile_images.specs.PartsLaws.{within_file, stands_below, stands_above}
+use Rattle.kdcfile_images.specs.HeadsLaws.{place_past}
 
 -- what was written stands there
 pub written_stands : (h : List ℕ) (at : ℕ) (part : List ℕ) → StandsAt at part (written h at part)
 written_stands h at part =
-    ap (λ (l : List ℕ). take (length part) l) (drop_at (take at (h ++ replicate (at - length h) 0)) (part ++ drop (at + length part) h) at (length-front h at part))
+    ap (λ (l : List ℕ). take (length part) l) (drop_at (take at (h ++ replicate (at - length h) 0)) (part ++ drop (at + length part) h) at (length_front h at part))
     ∙ take_at part (drop (at + length part) h) (length part) refl
 
 -- two parts, one behind the other
@@ -31,18 +32,11 @@ below_write h at bytes q part stands le inside = stands_below (min at (length h)
 pub above_write : (h : List ℕ) (at : ℕ) (bytes : List ℕ) (q : ℕ) (part : List ℕ) → StandsAt q part h → at + length bytes ≤ q → StandsAt q part (written h at bytes)
 above_write h at bytes q part stands le = stands_above (min at (length h)) (at + length bytes) h (written h at bytes) (torn_done h at bytes) q part stands le
 
-behind : (i : Identity) (second : Bool) → 8192 ≤ place i second
-behind i true = omega arith
-behind i false = omega arith
-
 small : (b : Bool) → selector b % 2 ≡ selector b
 small true = refl
 small false = refl
 
 module _ (i : Identity) (second : Bool) (x y : Content) (h body : List ℕ) (old : Stands i second x h) (fits : IsContent y) (inside : length (spelled i y) ≤ image_size i) (wide : length (root i y) ≡ 64) (is : body ≡ flat_map spelled_record y.items) where
-  p : ℕ
-  p = place i (not second)
-
   head_inside : 17 ≤ length h
   head_inside = within_file 0 (head i) h old.headed (omega arith)
 
@@ -50,13 +44,13 @@ module _ (i : Identity) (second : Bool) (x y : Content) (h body : List ℕ) (old
   pub records_stand : Stands i (not second) y (written (written (written h (place i (not second) + 64) body) (place i (not second)) (root i y)) 4096 (selector (not second) ∷ []))
   records_stand =
       let at = place i (not second) in
-      let far = behind i (not second) in
+      let far = place_past i (not second) in
       let r = root i y in
       let h1 = written h (at + 64) body in
       let h2 = written h1 at r in
       let h3 = written h2 4096 (selector (not second) ∷ []) in
-      let long1 : 17 ≤ length h1 = omega (arith, length-written h (at + 64) body, head_inside) in
-      let long2 : 17 ≤ length h2 = omega (arith, length-written h1 at r, long1) in
+      let long1 : 17 ≤ length h1 = omega (arith, length_written h (at + 64) body, head_inside) in
+      let long2 : 17 ≤ length h2 = omega (arith, length_written h1 at r, long1) in
       let head1 = below_write h (at + 64) body 0 (head i) old.headed (omega (arith, far)) head_inside in
       let head2 = below_write h1 at r 0 (head i) head1 (omega (arith, far)) long1 in
       let body1 : StandsAt (at + 64) body h1 = written_stands h (at + 64) body in

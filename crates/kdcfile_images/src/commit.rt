@@ -1,8 +1,8 @@
 //! The unselected image is written, and then selected.
-ghost use Rattle.std.specs.Prelude.{◌≡◌, ◌≤◌, ◌<◌, ◌+◌, ◌*◌, ◌^◌, ◌∷◌, [], List, ℕ, Bool, not, IsTrue, is_ok, if◌then◌else◌, length, OnOk, OnErr, IfOk, IsErrOf};
-ghost use Rattle.kd_device.specs.{Device.{State, Rose, Frame, SameNames, LeavesOnly, Only, written}, Rest.{Rests}};
-ghost use Rattle.kd_records.specs.{declared.content.Content.{Content}, Identity.{IsIdentity}};
-ghost use Rattle.kdcfile_images.specs.{File.{Stands, place as place_of, image_size as image_size_of, selector as selector_of}, Opened.{identity_of, renewed}, Writes.{UsesAll, WritesOnly, IsSynced}, Commit.{other_place, committed, Either, Replaces}};
+ghost use Rattle.std.specs.Prelude.{◌≡◌, ◌≤◌, ◌<◌, ◌+◌, ◌^◌, not, IsTrue, is_ok, if◌then◌else◌, length, OnOk, OnErr, IsErrOf};
+ghost use Rattle.kd_device.specs.{Device.{Rose, Frame, SameNames, Only}, Rest.{Rests}};
+ghost use Rattle.kd_records.specs.declared.content.Content.{Content};
+ghost use Rattle.kdcfile_images.specs.{File.{Stands, place as place_of, image_size as image_size_of, selector as selector_of}, Opened.{identity_of, renewed}, Writes.{UsesAll}, Commit.{other_place, committed, LeavesEither, ReplacedImage, ReplacesImage, WritesImage, WroteImage}};
 
 use crate::image::{Image, Root};
 use crate::root::root_bytes;
@@ -56,10 +56,8 @@ fn write_image<D: Device>(
     ensures frame { Frame (D.state device.old) (D.state device.new) }
     ensures names { SameNames (D.state device.old) (D.state device.new) }
     ensures spare { OnOk result (UsesAll 3 (length body.now + length root.now) (D.state device.old) (D.state device.new)) }
-    ensures any_moment { IsTrue (D.state device.old).told → (upto : ℕ) → behind + length body.now ≤ upto → at + length root.now ≤ upto
-        → WritesOnly at upto (length body.now + length root.now) (D.state device.old) (D.state device.new) (D.leaves device.old) (D.leaves device.new) }
-    ensures ok { OnOk result (IsTrue (D.state device.old).told
-        → IsSynced (length body.now + length root.now) (written (written (D.state device.old).holds behind body.now) at root.now) (D.state device.old) (D.state device.new) (D.leaves device.new)) }
+    ensures any_moment { IsTrue (D.state device.old).told → WritesImage behind at body.now root.now (D.state device.old) (D.state device.new) (D.leaves device.old) (D.leaves device.new) }
+    ensures ok { OnOk result (IsTrue (D.state device.old).told → WroteImage behind at body.now root.now (D.state device.old) (D.state device.new) (D.leaves device.new)) }
 {
     device.write_at(behind, body)?;
     device.write_at(at, root)?;
@@ -85,10 +83,8 @@ fn replace<D: Device>(
     ensures failed { OnErr result (Rose (D.state device.old).disk_faults (D.state device.new).disk_faults) }
     ensures frame { Frame (D.state device.old) (D.state device.new) }
     ensures names { SameNames (D.state device.old) (D.state device.new) }
-    ensures any_moment { IsTrue (D.state device.old).told → (upto : ℕ) → behind + length body.now ≤ upto → at + length root.now ≤ upto
-        → Replaces at upto (written (written (D.state device.old).holds behind body.now) at root.now) (length body.now + length root.now + 1) (D.state device.old) (D.state device.new) (D.leaves device.old) (D.leaves device.new) }
-    ensures ok { OnOk result (IsTrue (D.state device.old).told
-        → IsSynced (length body.now + length root.now + 1) (written (written (written (D.state device.old).holds behind body.now) at root.now) 4096 (selector ∷ [])) (D.state device.old) (D.state device.new) (D.leaves device.new)) }
+    ensures any_moment { IsTrue (D.state device.old).told → ReplacesImage behind at body.now root.now (D.state device.old) (D.state device.new) (D.leaves device.old) (D.leaves device.new) }
+    ensures ok { OnOk result (IsTrue (D.state device.old).told → ReplacedImage behind at body.now root.now selector (D.state device.old) (D.state device.new) (D.leaves device.new)) }
 {
     write_image(device, body, behind, at, root)?;
     write_synced(device, SELECTOR, &[selector])
@@ -116,9 +112,7 @@ pub fn commit_image<D: Device>(
     ensures sent { IsTrue (D.state device.old).told → (D.state device.new).sent ≡ (D.state device.old).sent }
 
     // A stop at any moment of the call leaves the old content or the new one.
-    ensures any_moment { IsTrue (D.state device.old).told → (x y : Content) → Stands (identity_of image.old) image.old.second x (D.state device.old).holds
-        → Stands (renewed image.old root.now) (not image.old.second) y (committed image.old body.now root.now (D.state device.old).holds)
-        → LeavesOnly (D.state device.old) (D.state device.new) (D.leaves device.old) (D.leaves device.new) (Either (identity_of image.old) x (renewed image.old root.now) y (D.state device.old).sent) }
+    ensures any_moment { IsTrue (D.state device.old).told → LeavesEither image.old body.now root.now (D.state device.old) (D.state device.new) (D.leaves device.old) (D.leaves device.new) }
 
     // The bytes written are those of the records, 64 of the root and 1 of the selector.
     ensures put { OnOk result (IsTrue (D.state device.old).told → (D.state device.new).put ≡ (D.state device.old).put + length body.now + 65) }

@@ -2,7 +2,7 @@
 ghost use Rattle.std.specs.Prelude.{◌≡◌, ◌≤◌, ◌<◌, ◌+◌, ◌-◌, ◌*◌, ◌^◌, ◌++◌, ◌∷◌, [], List, ℕ, Bool, false, IsTrue, length, IfOk, OnOk, OnErr, IsErrOf};
 ghost use Rattle.kd_device.specs.{Device.{State, Rose, Frame, SameNames, LeavesOnly, Only}, Rest.{Rests}};
 ghost use Rattle.kd_records.specs.Identity.{Identity, IsIdentity};
-ghost use Rattle.kdcfile_images.specs.{File.{Stands, mark, image_size, fresh}, Writes.{IsSynced}, Commit.{spelled_root}, Fresh.{zeros, in_image, fresh_rest, fresh_file, fresh_root, Made, ShutOr}};
+ghost use Rattle.kdcfile_images.specs.{File.{Stands, mark, image_size, fresh}, Writes.{IsSynced}, Commit.{spelled_root}, Fresh.{zeros, in_image, fresh_rest, fresh_file, fresh_root, LeavesMade, ShutOr, made_with, two_images}};
 
 use crate::image::{Image, Root};
 use crate::root::root_bytes;
@@ -48,7 +48,7 @@ fn rest_bytes(
     requires root { length root.now ≡ 64 }
     requires gap { gap < 2 ^ 16 }
     requires left { left < 2 ^ 28 }
-    ensures { IfOk result (λ v. (fingerprint : List ℕ) → v.items ≡ mark (record { blksize = blksize; pages = pgpool; fingerprint = fingerprint }) ++ zeros gap ++ (root.now ++ zeros left) ++ (root.now ++ zeros left)) }
+    ensures { IfOk result (λ v. (fingerprint : List ℕ) → v.items ≡ mark (record { blksize = blksize; pages = pgpool; fingerprint = fingerprint }) ++ two_images root.now gap left) }
 {
     let mut rest = Vec::with_capacity(alloc, 144 + gap + 2 * left)?;
     rest.extend_from_slice(b"UTMKDCF\x01")?;
@@ -122,20 +122,19 @@ pub fn create<D: Device>(
     pgpool: u32,
     fingerprint: &[u8; 32],
 ) -> Result<Image, DeviceError>
-    requires identity { IsIdentity (record { blksize = blksize; pages = pgpool; fingerprint = fingerprint.now }) }
+    requires identity { IsIdentity (made_with blksize pgpool fingerprint.now) }
     requires empty { IsTrue (D.state device.old).told → (D.state device.old).holds ≡ [] }
     requires settled { IsTrue (D.state device.old).told → Only (D.state device.old).holds (D.state device.old) (D.leaves device.old) }
-    ensures image { IfOk result (λ i. i ≡ record { blksize = blksize; root = fresh_root (record { blksize = blksize; pages = pgpool; fingerprint = fingerprint.now }); second = false }) }
-    ensures stands { OnOk result (IsTrue (D.state device.old).told → Stands (record { blksize = blksize; pages = pgpool; fingerprint = fingerprint.now }) false fresh (D.state device.new).holds) }
+    ensures image { IfOk result (λ i. i ≡ record { blksize = blksize; root = fresh_root (made_with blksize pgpool fingerprint.now); second = false }) }
+    ensures stands { OnOk result (IsTrue (D.state device.old).told → Stands (made_with blksize pgpool fingerprint.now) false fresh (D.state device.new).holds) }
 
     // Both images are there, and every byte that is not theirs, the gate's or the mark's is zero.
-    ensures holds { OnOk result (IsTrue (D.state device.old).told → (D.state device.new).holds ≡ fresh_file (record { blksize = blksize; pages = pgpool; fingerprint = fingerprint.now })) }
-    ensures length { OnOk result (IsTrue (D.state device.old).told → length (D.state device.new).holds ≡ 8192 + 2 * image_size (record { blksize = blksize; pages = pgpool; fingerprint = fingerprint.now })) }
+    ensures holds { OnOk result (IsTrue (D.state device.old).told → (D.state device.new).holds ≡ fresh_file (made_with blksize pgpool fingerprint.now)) }
+    ensures length { OnOk result (IsTrue (D.state device.old).told → length (D.state device.new).holds ≡ 8192 + 2 * image_size (made_with blksize pgpool fingerprint.now)) }
     ensures settled { OnOk result (IsTrue (D.state device.old).told → Only (D.state device.new).holds (D.state device.new) (D.leaves device.new)) }
     ensures sent { IsTrue (D.state device.old).told → (D.state device.new).sent ≡ (D.state device.old).sent }
     ensures put { OnOk result (IsTrue (D.state device.old).told → (D.state device.new).put ≡ (D.state device.old).put + length (D.state device.new).holds + 1) }
-    ensures any_moment { IsTrue (D.state device.old).told
-        → LeavesOnly (D.state device.old) (D.state device.new) (D.leaves device.old) (D.leaves device.new) (Made (record { blksize = blksize; pages = pgpool; fingerprint = fingerprint.now }) (D.state device.old).sent) }
+    ensures any_moment { IsTrue (D.state device.old).told → LeavesMade (made_with blksize pgpool fingerprint.now) (D.state device.old) (D.state device.new) (D.leaves device.old) (D.leaves device.new) }
     ensures failed { IsErrOf result DeviceError.Failed → Rose (D.state device.old).disk_faults (D.state device.new).disk_faults }
     ensures memory { IsErrOf result DeviceError.Memory → IsTrue (D.state device.old).told → Rests (D.state device.old) (D.state device.new) (D.leaves device.old) (D.leaves device.new) }
     ensures frame { Frame (D.state device.old) (D.state device.new) }

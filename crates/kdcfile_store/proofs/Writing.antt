@@ -1,6 +1,6 @@
 -- A content that is written as the unselected image.
 use Rattle.std.proofs.Common.{◌≡◌, ℕ, ◌+◌, ◌≤◌, ◌<◌, ◌^◌, not, List, length, sym, ap, subst, ◌∙◌, arith, length-append}
-use Rattle.std.specs.Prelude.{sum_by, All}
+use Rattle.std.specs.Prelude.{sum_by}
 use Rattle.std.specs.List.{flat_map}
 use Rattle.std.proofs.lemmas.Grind.{common_steps}
 use Rattle.kd_device.specs.Device.{State, LeavesOnly}
@@ -8,7 +8,7 @@ use Rattle.kd_records.specs.declared.content.Content.{Content}
 use Rattle.kd_records.specs.Contents.{Record, IsContent}
 use Rattle.kd_records.specs.Charge.{total_charge}
 use Rattle.kd_records.specs.Charged.{record_length}
-use Rattle.kd_records.specs.ChargeLaws.{charged_records_fit, length_within, values_fit}
+use Rattle.kd_records.specs.ChargeLaws.{charged_records_fit, length_within}
 use Rattle.kd_records.specs.Identity.{Identity, IsIdentity}
 use Rattle.kdcfile_images.specs.File.{Stands, root, spelled_record, image_size}
 use Rattle.kdcfile_images.specs.Opened.{Opened, identity_of, renewed}
@@ -17,22 +17,19 @@ use Rattle.kdcfile_images.specs.declared.image.Root.{Root}
 use Rattle.kdcfile_images.specs.WrittenLaws.{records_stand}
 use Rattle.kdcfile_store.specs.Whole.{root_with}
 
-pub length-root : (i : Identity) (y : Content) → IsIdentity i → length (root i y) ≡ 64
-length-root i y is = let print : length i.fingerprint ≡ 32 = is.fingerprint in grind (arith, common_steps)
+pub length_root : (i : Identity) (y : Content) → IsIdentity i → length (root i y) ≡ 64
+length_root i y is = let print : length i.fingerprint ≡ 32 = is.fingerprint in grind (arith, common_steps)
 
 module _ (o : Opened) (y : Content) (body : List ℕ) (is : IsIdentity (identity_of o)) (few : total_charge o.blksize y.items ≤ o.root.pgpool) where
   body_fits : length body ≡ sum_by record_length y.items → 64 + length body ≤ image_size (identity_of o)
   body_fits long = let h = charged_records_fit o.blksize o.root.pgpool y.items is.blksize few in omega (arith, h, long)
-
-  pub small_values : All (λ (r : Record). length r.1 < 2 ^ 32) y.items
-  small_values = values_fit o.blksize o.root.pgpool y.items is.blksize is.most few
 
   pub few_records : length y.items < 2 ^ 32
   few_records = omega (arith, length_within o.blksize y.items, few, is.most)
 
   would_stand : (x : Content) (h : List ℕ) → length body ≡ sum_by record_length y.items → body ≡ flat_map spelled_record y.items → IsContent y → Stands (identity_of o) o.second x h → Stands (identity_of o) (not o.second) y (committed o body (root_with o y) h)
   would_stand x h long spelled_is fits old =
-      let wide = length-root (identity_of o) y is in
+      let wide = length_root (identity_of o) y is in
       records_stand (identity_of o) o.second x y h body old fits
       (omega (arith, body_fits long, wide, length-append (root (identity_of o) y) (flat_map spelled_record y.items), ap (λ (l : List ℕ). length l) spelled_is))
       wide spelled_is

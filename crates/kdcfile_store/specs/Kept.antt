@@ -1,7 +1,9 @@
 -- What a store keeps, and what a stop within a commit leaves.
 use Rattle.std.specs.Prelude.{◌≡◌, ◌⊎◌, ℕ, List}
-use Rattle.kd_device.specs.Device.{State, Only}
+use Rattle.kd_device.specs.Device.{State, LeavesOnly, Only}
+use Rattle.kd_records.specs.Contents.{patched}
 use Rattle.kd_records.specs.declared.content.Content.{Content}
+use Rattle.kd_records.specs.declared.content.Patch.{Patch}
 
 -- the file is this store's, and a stop leaves just these bytes
 pub record IsKept (file : List ℕ → Type 0) (s : State) (leaves : ℕ → List ℕ → List ℕ → Type 0) : Type 0 where
@@ -11,3 +13,7 @@ pub record IsKept (file : List ℕ → Type 0) (s : State) (leaves : ℕ → Lis
 -- nothing more was sent, and the image stands for the old content or the new one
 abbrev pub OldOrNew : (Content → List ℕ → Type 0) → Content → Content → List ℕ → List ℕ → List ℕ → Type 0
 OldOrNew stands x y sent c out = (out ≡ sent) × (stands x c ⊎ stands y c)
+
+-- a stop within a commit leaves no more than the content with the patch or without it
+abbrev pub LeavesPatched : (Content → List ℕ → Type 0) → Content → Patch → (a b : State) → (la lb : ℕ → List ℕ → List ℕ → Type 0) → Type 0
+LeavesPatched stands x patch a b la lb = LeavesOnly a b la lb (OldOrNew stands x (patched x patch) a.sent)

@@ -1,8 +1,8 @@
 //! The trait of everything that keeps a content in a file.
 ghost use Rattle.std.specs.Prelude.{◌≡◌, ◌≤◌, List, ℕ, IsTrue, OnOk, IsErrOf};
-ghost use Rattle.kd_device.specs.{Device.{State, Rose, Frame, SameNames, LeavesOnly}, Rest.{Rests}};
+ghost use Rattle.kd_device.specs.{Device.{State, Rose, Frame, SameNames}, Rest.{Rests}};
 ghost use Rattle.kd_records.specs.{Identity.{Identity}, Contents.{IsPatch, patched}, declared.content.Content.{Content}, Charge.{total_charge}};
-ghost use Rattle.kdcfile_store.specs.Kept.{IsKept, OldOrNew};
+ghost use Rattle.kdcfile_store.specs.Kept.{IsKept, LeavesPatched};
 
 use kd_device::{Device, DeviceError};
 use kd_records::{Content, Patch};
@@ -39,8 +39,7 @@ pub trait Store<D: Device> {
         ensures sent { IsTrue (D.state device.old).told → (D.state device.new).sent ≡ (D.state device.old).sent }
 
         // A stop at any moment of the call leaves the content with the patch or without it.
-        ensures any_moment { IsTrue (D.state device.old).told
-            → LeavesOnly (D.state device.old) (D.state device.new) (D.leaves device.old) (D.leaves device.new) (OldOrNew (stands (identity self.old)) (kept self.old) (patched (kept self.old) patch.now) (D.state device.old).sent) }
+        ensures any_moment { IsTrue (D.state device.old).told → LeavesPatched (stands (identity self.old)) (kept self.old) patch.now (D.state device.old) (D.state device.new) (D.leaves device.old) (D.leaves device.new) }
 
         ensures failed { IsErrOf result DeviceError.Failed → Rose (D.state device.old).disk_faults (D.state device.new).disk_faults }
         ensures memory { IsErrOf result DeviceError.Memory → IsTrue (D.state device.old).told → Rests (D.state device.old) (D.state device.new) (D.leaves device.old) (D.leaves device.new) }

@@ -3,7 +3,7 @@ ghost use Rattle.std.specs.Prelude.{◌≡◌, ◌<◌, ◌≤◌, ◌^◌, [], 
 ghost use Rattle.kd_device.specs.{Device.{State, Rose, Frame, SameNames, LeavesOnly, Only}, Rest.{Rests}};
 ghost use Rattle.kd_records.specs.{Identity.{IsIdentity}, Contents.{IsContent, patched}, Charge.{total_charge}, declared.content.Content.{Content}};
 ghost use Rattle.kdcfile_images.specs.{File.{Stands, StandsFor, IsNoImage, fresh}, Opened.{identity_of}};
-ghost use Rattle.kdcfile_store.specs.{Kept.{IsKept, OldOrNew}, Whole.{HasFile, identity_with, Made, root_with}};
+ghost use Rattle.kdcfile_store.specs.{Kept.{IsKept, OldOrNew}, Whole.{HasFile, LeavesMade, LeavesOldOr, identity_with, root_with}};
 
 use crate::spell::records_bytes;
 use crate::store::{Store, StoreLimits};
@@ -66,8 +66,7 @@ fn write_content<D: Device>(
     ensures stands { OnOk result (IsTrue (D.state device.old).told → Stands (identity_of image.old) image.new.second content.now (D.state device.new).holds) }
     ensures settled { OnOk result (IsTrue (D.state device.old).told → Only (D.state device.new).holds (D.state device.new) (D.leaves device.new)) }
     ensures sent { IsTrue (D.state device.old).told → (D.state device.new).sent ≡ (D.state device.old).sent }
-    ensures any_moment { IsTrue (D.state device.old).told → (x : Content) → Stands (identity_of image.old) image.old.second x (D.state device.old).holds
-        → LeavesOnly (D.state device.old) (D.state device.new) (D.leaves device.old) (D.leaves device.new) (OldOrNew (StandsFor (identity_of image.old)) x content.now (D.state device.old).sent) }
+    ensures any_moment { IsTrue (D.state device.old).told → LeavesOldOr image.old content.now (D.state device.old) (D.state device.new) (D.leaves device.old) (D.leaves device.new) }
     ensures failed { IsErrOf result DeviceError.Failed → Rose (D.state device.old).disk_faults (D.state device.new).disk_faults }
     ensures memory { IsErrOf result DeviceError.Memory → IsTrue (D.state device.old).told → Rests (D.state device.old) (D.state device.new) (D.leaves device.old) (D.leaves device.new) }
     ensures frame { Frame (D.state device.old) (D.state device.new) }
@@ -108,8 +107,7 @@ impl WholeStore {
         ensures content { IfOk result (λ s. s.content ≡ fresh) }
         ensures kept { IfOk result (λ s. IsTrue (D.state device.old).told → IsKept (HasFile s) (D.state device.new) (D.leaves device.new)) }
         ensures sent { IsTrue (D.state device.old).told → (D.state device.new).sent ≡ (D.state device.old).sent }
-        ensures any_moment { IsTrue (D.state device.old).told
-            → LeavesOnly (D.state device.old) (D.state device.new) (D.leaves device.old) (D.leaves device.new) (Made (identity_with limits.now fingerprint.now) (D.state device.old).sent) }
+        ensures any_moment { IsTrue (D.state device.old).told → LeavesMade (identity_with limits.now fingerprint.now) (D.state device.old) (D.state device.new) (D.leaves device.old) (D.leaves device.new) }
         ensures failed { IsErrOf result DeviceError.Failed → Rose (D.state device.old).disk_faults (D.state device.new).disk_faults }
         ensures memory { IsErrOf result DeviceError.Memory → IsTrue (D.state device.old).told → Rests (D.state device.old) (D.state device.new) (D.leaves device.old) (D.leaves device.new) }
         ensures frame { Frame (D.state device.old) (D.state device.new) }
@@ -188,6 +186,7 @@ impl<D: Device> Store<D> for WholeStore {
     }
 
     fn commit(&mut self, alloc: Global, device: &mut D, patch: &Patch) -> Result<(), DeviceError> {
+        // A copy, since the old content is kept until the new one is on the disk.
         let next = next_content(alloc, &self.content, patch)?;
         write_content(alloc, device, &mut self.image, &next)?;
         self.content = next;

@@ -3,7 +3,6 @@ use Rattle.std.specs.Prelude.{◌≡◌, refl, ℕ, Bool, true, false, cond, ◌
 use Rattle.std.proofs.Common.{ap, sym, subst, ◌∙◌, true≢false}
 use Rattle.std.proofs.lemmas.List.Folds.{list_any-append}
 use Rattle.std.proofs.lemmas.Map.Views.{any-filter_same}
-use Rattle.std.specs.Cmp.{eq_by_cmp_equiv}
 use Rattle.std.specs.declared.cmp.Ordering.TheVariants.{Equal}
 use Rattle.std.specs.FinMap.{find}
 use Rattle.std.specs.FinMap.Entries.{find-put, find-where_key}
@@ -11,7 +10,7 @@ use Rattle.std.specs.List.{list_any}
 use Rattle.kdcs_types.specs.declared.call.Code.TheVariants.{K04, K05}
 use Rattle.kdcs_types.specs.declared.key.Area.{Area}
 use Rattle.kdcs_types.specs.declared.key.ServiceId.{ServiceId}
-use Rattle.kdcs_types.specs.KeyLaws.{area_total, same_area, area_eq-same}
+use Rattle.kdcs_types.specs.KeyLaws.{area_total, same_area, area_eq_same, area_eq_sym}
 use Rattle.kdcs_types.specs.Keys.{area_cmp, area_eq}
 use Rattle.kdcs_types.specs.Tables.{TableRows}
 use Rattle.kdcdef_types.specs.Generation.{Generated}
@@ -38,19 +37,16 @@ or_false : (b : Bool) → (b || false) ≡ b
 or_false true = refl
 or_false false = refl
 
-area_eq-sym : (a b : Area) → area_eq a b ≡ area_eq b a
-area_eq-sym a b = (eq_by_cmp_equiv area_total).symm a b
-
 module _ (l : Locks) (id : ServiceId) (x : Transaction) (h : HoldsJust l id x) where
   -- ---- a request
 
   module _ (area : Area) where
     touched_then : (held : Bool) → touches x area ≡ held → (a : Area) (same : Bool) → area_eq a area ≡ same → touches (touching x area held) a ≡ (same || touches x a)
-    touched_then true held a true same = ap (touches x) (area_eq-same a area same) ∙ held
+    touched_then true held a true same = ap (touches x) (area_eq_same a area same) ∙ held
     touched_then true held a false same = refl
     touched_then false held a same e =
         list_any-append (λ (k : Area). area_eq k a) x.touched (area ∷ [])
-        ∙ ap (λ (b : Bool). touches x a || (b || false)) (area_eq-sym area a ∙ e)
+        ∙ ap (λ (b : Bool). touches x a || (b || false)) (area_eq_sym area a ∙ e)
         ∙ by same (touches x a)
       where
         by : (s t : Bool) → (t || (s || false)) ≡ (s || t)
@@ -88,7 +84,7 @@ module _ (l : Locks) (id : ServiceId) (x : Transaction) (h : HoldsJust l id x) w
     without_is : (a : Area) → list_any (λ (k : Area). area_eq k a) (without x.touched) ≡ (not (area_eq area a) && touches x a)
     without_is a =
         any-filter_same (λ (k : Area). area_eq k a) (λ (k : Area). not (area_eq k area)) (not (area_eq area a))
-        (λ k same. ap (λ (i : Area). not (area_eq i area)) (area_eq-same k a same) ∙ ap not (area_eq-sym a area)) x.touched
+        (λ k same. ap (λ (i : Area). not (area_eq i area)) (area_eq_same k a same) ∙ ap not (area_eq_sym a area)) x.touched
 
     none_else : (o : Option ServiceId) → is_holder o id ≡ true → None ≡ other_than id o
     none_else None e = absurd (true≢false (sym e))
@@ -102,7 +98,7 @@ module _ (l : Locks) (id : ServiceId) (x : Transaction) (h : HoldsJust l id x) w
         alike a k same = ap (λ (i : Area). not (area_eq area i)) (sym (same_area a k same))
 
         by : (a : Area) (same : Bool) → area_eq area a ≡ same → cond (not same) (holder l a) None ≡ (if not same && touches x a then Some id else other_than id (holder l a))
-        by a true same = none_else (holder l a) (ap (λ (i : Area). holds_area l id i) (sym (area_eq-same area a same)) ∙ h area ∙ held)
+        by a true same = none_else (holder l a) (ap (λ (i : Area). holds_area l id i) (sym (area_eq_same area a same)) ∙ h area ∙ held)
         by a false same = kept l id x h a
 
         left : HoldersFollow l (without_holder l area) id y

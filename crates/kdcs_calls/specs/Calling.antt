@@ -13,7 +13,7 @@ use Rattle.area_locks.specs.Asked.{asked, holds_area, other_than, unlocked, with
 use Rattle.abstract_monitor.specs.declared.answer.Called.{Called}
 use Rattle.abstract_monitor.specs.declared.answer.Called.TheVariants.{Replied, Waits, Abnormal, Pends}
 use Rattle.abstract_monitor.specs.Bytes.{Bytes, bytes_cmp}
-use Rattle.abstract_monitor.specs.Calls.{Performed, call_outcome, shown_by, touches}
+use Rattle.abstract_monitor.specs.Calls.{Performed, call_outcome, called, shown_by, touches}
 use Rattle.abstract_monitor.specs.Endings.{is_asynchronous}
 use Rattle.abstract_monitor.specs.Locks.{Locks, Waiting, holder, told_now}
 use Rattle.abstract_monitor.specs.Statements.{area_of_call}
@@ -60,6 +60,10 @@ WaitsFollow l m id now area (Pends variant o) = m.waits ≡ l.waits
 -- the call, told what the locks and the tables say now
 abbrev pub performed_now : Generated → TableRows → Locks → ServiceId → Transaction → Call → Performed
 performed_now g t l id x call = call_outcome g (told_now l g.limits.reswait t id (area_of_call x call)) (is_asynchronous id) x call
+
+-- the same, once INIT is done
+abbrev pub called_now : Generated → TableRows → Locks → ServiceId → Transaction → Call → Performed
+called_now g t l id x call = called g (told_now l g.limits.reswait t id (area_of_call x call)) (is_asynchronous id) x call
 
 -- ---- what becomes of the locks
 

@@ -4,7 +4,7 @@ use Rattle.std.proofs.Common.{ap, sym, ◌∙◌, true≢false}
 use Rattle.std.specs.List.{list_any}
 use Rattle.kdcs_types.specs.declared.key.Area.{Area}
 use Rattle.kdcs_types.specs.declared.key.ServiceId.{ServiceId}
-use Rattle.kdcs_types.specs.KeyLaws.{id_eq-itself, id_eq-same}
+use Rattle.kdcs_types.specs.KeyLaws.{id_eq_itself, id_eq_same}
 use Rattle.kdcs_types.specs.Keys.{area_eq, id_eq}
 use Rattle.area_locks.specs.Asked.{is_holder, other_than}
 use Rattle.abstract_monitor.specs.Calls.{touches}
@@ -21,7 +21,7 @@ follow_holds l m id x follow area = ap (λ (o : Option ServiceId). is_holder o i
     other o false e = e
 
     by : (o : Option ServiceId) (b : Bool) → is_holder (if b then Some id else other_than id o) id ≡ b
-    by o true = id_eq-itself id
+    by o true = id_eq_itself id
     by None false = refl
     by (Some o) false = other o (id_eq o id) refl
 
@@ -32,7 +32,7 @@ module _ (l : Locks) (id : ServiceId) (x : Transaction) (h : HoldsJust l id x) w
       by : (o : Option ServiceId) (b : Bool) → is_holder o id ≡ b → o ≡ (if b then Some id else other_than id o)
       by None true e = absurd (true≢false (sym e))
       by None false e = refl
-      by (Some other) true e = ap (λ (i : ServiceId). Some i) (id_eq-same other id e)
+      by (Some other) true e = ap (λ (i : ServiceId). Some i) (id_eq_same other id e)
       by (Some other) false e = sym (ap (λ (b : Bool). if b then None else Some other) e)
 
   pub quiet_follows : (y : Transaction) → y.touched ≡ x.touched → HoldersFollow l l id y

@@ -1,5 +1,5 @@
 -- Parts of a call: the area in its operand, and how it goes on once its lock is answered.
-use Rattle.std.specs.Prelude.{ℕ, Option, Some, None, Result, Ok, Err, if◌then◌else◌, option_map}
+use Rattle.std.specs.Prelude.{◌≡◌, ℕ, Bool, Option, Some, None, Result, Ok, Err, if◌then◌else◌, option_map}
 use Rattle.kdcs_types.specs.declared.call.Call.{Call}
 use Rattle.kdcs_types.specs.declared.call.Call.TheVariants.{SgetUs, SputUs, Gtda, Ptda, UnlkUs, UnlkDa}
 use Rattle.kdcs_types.specs.declared.call.Code.{Code}
@@ -14,9 +14,12 @@ use Rattle.kdcdef_types.specs.Generation.{Generated}
 use Rattle.area_locks.specs.Asked.{asked, unlocked}
 use Rattle.abstract_monitor.specs.declared.answer.Called.{Called}
 use Rattle.abstract_monitor.specs.Bytes.{Bytes, bytes_cmp}
-use Rattle.abstract_monitor.specs.Calls.{Told, Performed, declared, replied, locked, or_empty, read_answer, read_away, read_or, shown_by, delete_local, deleted, with_name, write_local, wrote}
+use Rattle.abstract_monitor.specs.Calls.{Told, Performed, declared, for_kind, name_in_operand, put_part, replied, locked, or_empty, read_answer, read_away, read_or, shown_by, delete_local, deleted, with_name, write_local, wrote}
+use Rattle.abstract_monitor.specs.Calls as calls
 use Rattle.abstract_monitor.specs.Locks.{Locks, answer_of, told_now}
 use Rattle.abstract_monitor.specs.State.{OpenTransaction as Transaction}
+use Rattle.open_transaction.specs.declared.open.OpenTransaction.{OpenTransaction}
+use Rattle.open_transaction.specs.Transactions.{transaction_of}
 use Rattle.kdcs_calls.specs.declared.operand.Owner.{Owner}
 use Rattle.kdcs_calls.specs.declared.operand.Owner.TheVariants.{All, User, Lterm}
 use Rattle.kdcs_calls.specs.declared.areas.Access.{Access}
@@ -64,6 +67,10 @@ abbrev pub after_lock : Option Called → Transaction → (Transaction → Perfo
 after_lock None x go = go x
 after_lock (Some called) x go = (x, called)
 
+-- goes on as a call does that has asked for the lock of an area, with what the locks and the tables say of it
+abbrev pub AnswersLock : Generated → TableRows → Locks → OpenTransaction → Area → Option Called → Transaction → Type 0
+AnswersLock g t l w area called y = (go : Transaction → Performed) → after_lock called y go ≡ locked (told_of g t l w.id area) (transaction_of w) area go
+
 -- the locks after a request for the area in an operand
 abbrev pub asked_in : Generated → (now : ℕ) → Locks → ServiceId → Result Area Code → Locks
 asked_in g now l id (Err code) = l
@@ -93,9 +100,34 @@ accessed access v x area = locked v x area (λ y. held access v.content y area)
 abbrev pub goes_on : Generated → TableRows → Locks → ServiceId → Transaction → (Bytes → Area) → (Told → Area → Performed) → Option Bytes → Performed
 goes_on g t l id x named go o = with_name x o (λ name. declared x (is_declared g (named name)) (go (told_now l g.limits.reswait t id (option_map named o)) (named name)))
 
+-- what a call does with the area in its operand
+abbrev pub accessed_in : Generated → TableRows → Locks → OpenTransaction → Result Area Code → Access → Performed
+accessed_in g t l w area access = in_area (transaction_of w) area (λ a. accessed access (told_of g t l w.id a) (transaction_of w) a)
+
+abbrev pub accessed_by : Generated → TableRows → Locks → OpenTransaction → Owner → (operand : Bytes) → Access → Performed
+accessed_by g t l w owner operand access =
+    goes_on g t l w.id (transaction_of w) (named_by owner) (λ v a. accessed access v (transaction_of w) a) (name_in_operand operand)
+
+-- what UNLK does with it
+abbrev pub unlocked_in : Generated → TableRows → Locks → OpenTransaction → Result Area Code → Performed
+unlocked_in g t l w area = in_area (transaction_of w) area (λ a. calls.unlocked (told_of g t l w.id a) (transaction_of w) a)
+
+abbrev pub unlocked_by : Generated → TableRows → Locks → OpenTransaction → Owner → (operand : Bytes) → Performed
+unlocked_by g t l w owner operand =
+    goes_on g t l w.id (transaction_of w) (named_by owner) (λ v a. calls.unlocked v (transaction_of w) a) (name_in_operand operand)
+
+-- MPUT of a part, where the area of messages has this room
+abbrev pub PutsPart : OpenTransaction → (allowed : Bool) → (part : Bytes) → Performed → Type 0
+PutsPart w allowed part performed =
+    (g : Generated) → w.messages.nb ≡ g.limits.nb → performed ≡ for_kind (transaction_of w) allowed (put_part g (transaction_of w) part)
+
 -- what a call does with an LSSB
 abbrev pub local_call : Generated → Local → Transaction → Bytes → Performed
 local_call g (local.Read room) x name = read_or K03 x room (find bytes_cmp name x.lssbs)
 local_call g (local.ReadAway room) x name = read_away x name room
 local_call g (local.Write bytes) x name = write_local g x name bytes.now
 local_call g local.Delete x name = delete_local x name
+
+-- and with the LSSB in its operand
+abbrev pub local_by : Generated → Transaction → (operand : Bytes) → Local → Performed
+local_by g x operand access = with_name x (name_in_operand operand) (λ n. local_call g access x n)

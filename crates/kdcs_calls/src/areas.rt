@@ -1,9 +1,9 @@
 //! The calls on areas that are locked: GSSBs, and the blocks of users and LTERMs.
 ghost use Rattle.std.specs.{Prelude.{◌≡◌, IfOk, IfSome, OnOk, Some, option_map}, FinMap.{find}};
 ghost use Rattle.kdcs_types.specs.{declared.key.Area.{Area as AnArea}, Keys.{area_cmp}, Tables.{content_of}};
-ghost use Rattle.abstract_monitor.specs.Calls.{deleted, name_in_operand, or_empty, shown_by, unlocked, wrote};
+ghost use Rattle.abstract_monitor.specs.Calls.{deleted, name_in_operand, or_empty, shown_by, wrote};
 ghost use Rattle.open_transaction.specs.Transactions.{transaction_of};
-ghost use Rattle.kdcs_calls.specs.{Calling.{HoldsJust, IsShort, after_release, after_request}, Parts.{accessed, asked_in, goes_on, held, in_area, named_by, released_in, seen_of, told_of}};
+ghost use Rattle.kdcs_calls.specs.{Calling.{HoldsJust, IsShort, after_release, after_request}, Parts.{accessed_by, accessed_in, asked_in, held, named_by, released_in, seen_of, unlocked_by, unlocked_in}};
 
 use crate::answer::{read_or, read_reply, replied};
 use crate::lock::{lock, touches};
@@ -109,7 +109,7 @@ fn access_locked(
 ) -> Result<Called, OutOfMemory>
     requires holds { HoldsJust locks.old transaction.old.id (transaction_of transaction.old) }
     requires short { (a : AnArea) → IfSome (shown_by (find area_cmp a transaction.old.areas.written) (content_of outside.now.tables.now a)) IsShort }
-    ensures exact { IfOk result (λ called. (transaction_of transaction.new, called) ≡ in_area (transaction_of transaction.old) area (λ a. accessed access.entry (told_of outside.now.generation.now outside.now.tables.now locks.old transaction.old.id a) (transaction_of transaction.old) a)) }
+    ensures exact { IfOk result (λ called. (transaction_of transaction.new, called) ≡ accessed_in outside.now.generation.now outside.now.tables.now locks.old transaction.old area access.entry) }
     ensures locks { OnOk result (locks.new ≡ asked_in outside.now.generation.now outside.now.tables.now.clock locks.old transaction.old.id area) }
     ensures id { transaction.new.id ≡ transaction.old.id }
     ensures statements { transaction.new.statements ≡ transaction.old.statements }
@@ -136,7 +136,7 @@ pub(crate) fn access_area(
 ) -> Result<Called, OutOfMemory>
     requires holds { HoldsJust locks.old transaction.old.id (transaction_of transaction.old) }
     requires short { (a : AnArea) → IfSome (shown_by (find area_cmp a transaction.old.areas.written) (content_of outside.now.tables.now a)) IsShort }
-    ensures exact { IfOk result (λ called. (transaction_of transaction.new, called) ≡ goes_on outside.now.generation.now outside.now.tables.now locks.old transaction.old.id (transaction_of transaction.old) (named_by owner) (λ v a. accessed access.entry v (transaction_of transaction.old) a) (name_in_operand operand.now)) }
+    ensures exact { IfOk result (λ called. (transaction_of transaction.new, called) ≡ accessed_by outside.now.generation.now outside.now.tables.now locks.old transaction.old owner operand.now access.entry) }
     ensures locks { OnOk result (locks.new ≡ after_request outside.now.generation.now outside.now.tables.now.clock locks.old transaction.old.id (option_map (named_by owner) (name_in_operand operand.now))) }
     ensures id { transaction.new.id ≡ transaction.old.id }
     ensures statements { transaction.new.statements ≡ transaction.old.statements }
@@ -163,7 +163,7 @@ fn unlock_held(
     transaction: &mut OpenTransaction,
     area: Result<Area, Code>,
 ) -> Result<Called, OutOfMemory>
-    ensures exact { IfOk result (λ called. (transaction_of transaction.new, called) ≡ in_area (transaction_of transaction.old) area (λ a. unlocked (told_of outside.now.generation.now outside.now.tables.now locks.old transaction.old.id a) (transaction_of transaction.old) a)) }
+    ensures exact { IfOk result (λ called. (transaction_of transaction.new, called) ≡ unlocked_in outside.now.generation.now outside.now.tables.now locks.old transaction.old area) }
     ensures locks { OnOk result (locks.new ≡ released_in locks.old transaction.old.id (transaction_of transaction.old) area) }
     ensures id { transaction.new.id ≡ transaction.old.id }
     ensures statements { transaction.new.statements ≡ transaction.old.statements }
@@ -191,7 +191,7 @@ pub(crate) fn unlock(
     owner: Owner,
     operand: &Bytes,
 ) -> Result<Called, OutOfMemory>
-    ensures exact { IfOk result (λ called. (transaction_of transaction.new, called) ≡ goes_on outside.now.generation.now outside.now.tables.now locks.old transaction.old.id (transaction_of transaction.old) (named_by owner) (λ v a. unlocked v (transaction_of transaction.old) a) (name_in_operand operand.now)) }
+    ensures exact { IfOk result (λ called. (transaction_of transaction.new, called) ≡ unlocked_by outside.now.generation.now outside.now.tables.now locks.old transaction.old owner operand.now) }
     ensures locks { OnOk result (locks.new ≡ after_release outside.now.generation.now locks.old transaction.old.id (transaction_of transaction.old) (option_map (named_by owner) (name_in_operand operand.now))) }
     ensures id { transaction.new.id ≡ transaction.old.id }
     ensures statements { transaction.new.statements ≡ transaction.old.statements }

@@ -1,8 +1,8 @@
 //! All calls.
 ghost use Rattle.std.specs.Prelude.{◌≡◌, IfOk, OnOk};
-ghost use Rattle.abstract_monitor.specs.{Calls.{called, call_outcome, first_call}, Endings.{is_asynchronous}, Locks.{told_now}, Statements.{area_of_call}};
+ghost use Rattle.abstract_monitor.specs.{Calls.{call_outcome, first_call}, Endings.{is_asynchronous}, Statements.{area_of_call}};
 ghost use Rattle.open_transaction.specs.Transactions.{transaction_of};
-ghost use Rattle.kdcs_calls.specs.{Calling.{CanRead, HoldersFollow, HoldsJust, WaitsFollow, locks_after_call, locks_by_call, performed_now}, Parts.{owner_of}};
+ghost use Rattle.kdcs_calls.specs.{Calling.{CanRead, HoldersFollow, HoldsJust, WaitsFollow, called_now, locks_after_call, locks_by_call, performed_now}, Parts.{owner_of}};
 
 use crate::answer::replied;
 use crate::areas::{Access, access_area, unlock};
@@ -64,7 +64,7 @@ fn later_call(
     requires holds { HoldsJust locks.old transaction.old.id (transaction_of transaction.old) }
     requires short { CanRead outside.now.tables.now (transaction_of transaction.old) }
     requires nb { transaction.old.messages.nb ≡ outside.now.generation.now.limits.nb }
-    ensures exact { IfOk result (λ c. (transaction_of transaction.new, c) ≡ called outside.now.generation.now (told_now locks.old outside.now.generation.now.limits.reswait outside.now.tables.now transaction.old.id (area_of_call (transaction_of transaction.old) call.now)) (is_asynchronous transaction.old.id) (transaction_of transaction.old) call.now) }
+    ensures exact { IfOk result (λ c. (transaction_of transaction.new, c) ≡ called_now outside.now.generation.now outside.now.tables.now locks.old transaction.old.id (transaction_of transaction.old) call.now) }
     ensures locks { OnOk result (locks.new ≡ locks_by_call outside.now.generation.now outside.now.tables.now.clock locks.old transaction.old.id (transaction_of transaction.old) call.now) }
     ensures id { transaction.new.id ≡ transaction.old.id }
     ensures statements { transaction.new.statements ≡ transaction.old.statements }

@@ -1,8 +1,8 @@
 //! The calls on LSSBs.
 ghost use Rattle.std.specs.{Prelude.{◌≡◌, IfOk, IfSome}, FinMap.{find}};
-ghost use Rattle.abstract_monitor.specs.{Bytes.{Bytes, bytes_cmp}, Calls.{name_in_operand, read_away, with_name, write_local}};
+ghost use Rattle.abstract_monitor.specs.{Bytes.{Bytes, bytes_cmp}, Calls.{read_away, write_local}};
 ghost use Rattle.open_transaction.specs.Transactions.{transaction_of};
-ghost use Rattle.kdcs_calls.specs.{Calling.{IsShort}, Parts.{local_call}};
+ghost use Rattle.kdcs_calls.specs.{Calling.{IsShort}, Parts.{local_by}};
 
 use crate::answer::{read_or, read_reply, replied};
 use crate::operand::name_in;
@@ -71,7 +71,7 @@ pub(crate) fn access_local(
     access: Local,
 ) -> Result<Called, OutOfMemory>
     requires { (name : Bytes) → IfSome (find bytes_cmp name transaction.old.areas.lssbs) IsShort }
-    ensures exact { IfOk result (λ called. (transaction_of transaction.new, called) ≡ with_name (transaction_of transaction.old) (name_in_operand operand.now) (λ n. local_call generation.now access.entry (transaction_of transaction.old) n)) }
+    ensures exact { IfOk result (λ called. (transaction_of transaction.new, called) ≡ local_by generation.now (transaction_of transaction.old) operand.now access.entry) }
     ensures id { transaction.new.id ≡ transaction.old.id }
     ensures statements { transaction.new.statements ≡ transaction.old.statements }
     ensures nb { transaction.new.messages.nb ≡ transaction.old.messages.nb }

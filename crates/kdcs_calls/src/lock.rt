@@ -1,9 +1,9 @@
 //! The request for the lock of an area.
 ghost use Rattle.std.specs.Prelude.{◌≡◌, IfOk, OnOk};
 ghost use Rattle.area_locks.specs.Asked.{asked};
-ghost use Rattle.abstract_monitor.specs.{Calls.{Performed, locked, on_answer, touches}, State.{OpenTransaction as Transaction}};
+ghost use Rattle.abstract_monitor.specs.{Calls.{Performed, on_answer, touches}, State.{OpenTransaction as Transaction}};
 ghost use Rattle.open_transaction.specs.Transactions.{transaction_of};
-ghost use Rattle.kdcs_calls.specs.{Calling.{HoldsJust}, Parts.{after_lock, told_of}};
+ghost use Rattle.kdcs_calls.specs.{Calling.{HoldsJust}, Parts.{AnswersLock, after_lock}};
 
 use crate::answer::replied;
 use crate::outside::Outside;
@@ -58,7 +58,7 @@ pub(crate) fn lock(
     area: &Area,
 ) -> Result<Option<Called>, OutOfMemory>
     requires { HoldsJust locks.old transaction.old.id (transaction_of transaction.old) }
-    ensures exact { IfOk result (λ called. (go : Transaction → Performed) → after_lock called (transaction_of transaction.new) go ≡ locked (told_of outside.now.generation.now outside.now.tables.now locks.old transaction.old.id area.now) (transaction_of transaction.old) area.now go) }
+    ensures exact { IfOk result (λ called. AnswersLock outside.now.generation.now outside.now.tables.now locks.old transaction.old area.now called (transaction_of transaction.new)) }
     ensures locks { OnOk result (locks.new ≡ asked locks.old outside.now.generation.now.limits.reswait outside.now.tables.now.clock transaction.old.id area.now) }
     ensures areas { transaction.new.areas ≡ transaction.old.areas }
     ensures id { transaction.new.id ≡ transaction.old.id }

@@ -1,9 +1,8 @@
 //! MGET, MPUT and FGET.
 ghost use Rattle.std.specs.Prelude.{◌≡◌, All, IfOk};
-ghost use Rattle.abstract_monitor.specs.Calls.{for_kind, got, put_part};
+ghost use Rattle.abstract_monitor.specs.Calls.{for_kind, got};
 ghost use Rattle.open_transaction.specs.Transactions.{transaction_of};
-ghost use Rattle.kdcdef_types.specs.Generation.{Generated};
-ghost use Rattle.kdcs_calls.specs.Calling.{IsShort};
+ghost use Rattle.kdcs_calls.specs.{Calling.{IsShort}, Parts.{PutsPart}};
 
 use crate::answer::{read_reply, replied};
 use abstract_monitor::Called;
@@ -35,7 +34,7 @@ pub(crate) fn put(
     allowed: bool,
     part: &Bytes,
 ) -> Result<Called, OutOfMemory>
-    ensures exact { IfOk result (λ called. (g : Generated) → transaction.old.messages.nb ≡ g.limits.nb → (transaction_of transaction.new, called) ≡ for_kind (transaction_of transaction.old) allowed (put_part g (transaction_of transaction.old) part.now)) }
+    ensures exact { IfOk result (λ called. PutsPart transaction.old allowed part.now (transaction_of transaction.new, called)) }
     ensures id { transaction.new.id ≡ transaction.old.id }
     ensures statements { transaction.new.statements ≡ transaction.old.statements }
     ensures nb { transaction.new.messages.nb ≡ transaction.old.messages.nb }

@@ -1,6 +1,6 @@
 -- What stands at the place of a key is the item of that key, and a change there is the change at that key.
-use Rattle.std.specs.Prelude.{◌≡◌, refl, ℕ, zero, suc, ◌+◌, ◌<◌, ◌≤◌, true, false, cond, not, IsTrue, List, [], ◌∷◌, map, length, Option, Some, None, Result, Ok, Err, slice_get, slice_set, slice_index_or}
-use Rattle.std.proofs.Common.{sym, ap, subst, ◌∙◌, true≢false, arith, inl, inr}
+use Rattle.std.specs.Prelude.{◌≡◌, refl, ℕ, zero, suc, ◌+◌, ◌<◌, ◌≤◌, false, cond, not, IsTrue, List, [], ◌∷◌, map, length, Option, Some, None, Result, Ok, Err, slice_get, slice_set, slice_index_or}
+use Rattle.std.proofs.Common.{sym, ap, subst, ◌∙◌, arith, inl, inr}
 use Rattle.std.specs.List.{insert, remove, AllWithin, HoldsAt}
 use Rattle.std.specs.List.Sorted.{IsSortedBy}
 use Rattle.std.specs.Ordering.{is_eq, is_lt, ordering_reverse}
@@ -17,11 +17,7 @@ use Rattle.kdcs_types.specs.Keyed.{keyed, ascends, item_at, with_item, without_i
 use Rattle.kdcs_types.specs.KeyLaws.{key_total, same_key}
 use Rattle.kdcs_types.specs.KeyedLaws.{items_back}
 use Rattle.kdcs_types.specs.Places.{IsPlaceOf, found_at, placed_at, removed_at}
-
-less : (r : Ordering) → is_lt r ≡ true → r ≡ Less
-less Less e = refl
-less Equal e = absurd (true≢false (sym e))
-less Greater e = absurd (true≢false (sym e))
+use Rattle.kd_base.specs.OrderLaws.{is_less}
 
 turned : (a b : Key) {r : Ordering} → key_cmp a b ≡ r → key_cmp b a ≡ ordering_reverse r
 turned a b e = key_total.antisymm b a ∙ ap ordering_reverse e
@@ -29,7 +25,7 @@ turned a b e = key_total.antisymm b a ∙ ap ordering_reverse e
 module _ {E : Type 0} (key_of : E → Key) where
   below_at : (k : Key) (es : List E) (i : ℕ) (d : E) → IsTrue (below_all key_cmp k (keyed key_of es)) → i < length es → key_cmp k (key_of (slice_index_or es i d)) ≡ Less
   below_at k [] i d h lt = absurd (omega arith)
-  below_at k (x ∷ xs) zero d h lt = less _ (both_true (is_lt (key_cmp k (key_of x))) (below_all key_cmp k (keyed key_of xs)) h).0
+  below_at k (x ∷ xs) zero d h lt = is_less _ (both_true (is_lt (key_cmp k (key_of x))) (below_all key_cmp k (keyed key_of xs)) h).0
   below_at k (x ∷ xs) (suc i) d h lt = below_at k xs i d (both_true (is_lt (key_cmp k (key_of x))) (below_all key_cmp k (keyed key_of xs)) h).1 (omega arith)
 
   -- ---- a key that no item has

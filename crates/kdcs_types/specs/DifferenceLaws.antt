@@ -4,7 +4,7 @@ use Rattle.std.proofs.Common.{sym, ap, ◌∙◌, true≢false}
 use Rattle.std.proofs.lemmas.List.Folds.{list_any-append}
 use Rattle.std.specs.Option.{option_map}
 use Rattle.std.specs.List.{list_all, list_any}
-use Rattle.kd_base.specs.ToolsLaws.{true_both}
+use Rattle.kd_base.specs.ToolsLaws.{true_both, is_some_map}
 use Rattle.kdcs_types.specs.declared.key.Key.{Key}
 use Rattle.kdcs_types.specs.declared.key.Key.TheVariants as key
 use Rattle.kdcs_types.specs.declared.service.Service.{Service}
@@ -14,11 +14,11 @@ use Rattle.kdcs_types.specs.declared.act.Change.TheVariants.{Set, Remove}
 use Rattle.kdcs_types.specs.declared.act.Changes.{Changes}
 use Rattle.kdcs_types.specs.Keys.{key_eq}
 use Rattle.kdcs_types.specs.Keyed.{ascends, item_at}
-use Rattle.kdcs_types.specs.KeyLaws.{key_eq-same, id_eq-itself}
-use Rattle.kdcs_types.specs.KeyedLaws.{item_at-with, ascends-with, all-with, found_key, found_passes, found_among, same_items}
+use Rattle.kdcs_types.specs.KeyLaws.{key_eq_same, id_eq_itself}
+use Rattle.kdcs_types.specs.KeyedLaws.{item_at_with, ascends_with, all_with, found_key, found_passes, found_among, same_items}
 use Rattle.kdcs_types.specs.Tables.{TableRows, gssb_key, tls_key, uls_key, service_key, job_key, shown_key, gssb_row, tls_row, uls_row, service_row, job_row, shown_row, row_key, row_at, changed, is_filled, service_fits, row_fits, change_fits, change_key, change_at, AreChanges, IsSortedTables}
 use Rattle.kdcs_types.specs.Same.{row_same}
-use Rattle.kdcs_types.specs.SameLaws.{row_same-only, row_same-itself}
+use Rattle.kdcs_types.specs.SameLaws.{row_same_only, row_same_itself}
 use Rattle.kdcs_types.specs.Difference.{keys_of, change_to, noted_unless, differing, difference}
 use Rattle.kdcs_types.specs.TableLaws.{row_after, AreRealChanges}
 use Rattle.kdcs_types.specs.RowLaws.{rows_changed, numbers_changed, changed_sorted, same_tables}
@@ -36,33 +36,29 @@ module _ {E : Type 0} (key_of : E → Key) (row_of : E → Row) (keeps : (e : E)
   found_fits fits None h = refl
   found_fits fits (Some e) h = fits e h
 
-pub row_at-key : (t : TableRows) (k : Key) → change_key (change_to k (row_at t k)) ≡ k
-row_at-key t (key.Gssb n) = found_row gssb_key gssb_row (λ e. refl) (key.Gssb n) t.gssbs _ refl
-row_at-key t (key.Tls b l) = found_row tls_key tls_row (λ e. refl) (key.Tls b l) t.tlss _ refl
-row_at-key t (key.Uls b l) = found_row uls_key uls_row (λ e. refl) (key.Uls b l) t.ulss _ refl
-row_at-key t (key.Service i) = found_row service_key service_row (λ e. refl) (key.Service i) t.services _ refl
-row_at-key t (key.Job n) = found_row job_key job_row (λ e. refl) (key.Job n) t.jobs _ refl
-row_at-key t (key.Shown n) = found_row shown_key shown_row (λ e. refl) (key.Shown n) t.shown _ refl
+pub row_at_key : (t : TableRows) (k : Key) → change_key (change_to k (row_at t k)) ≡ k
+row_at_key t (key.Gssb n) = found_row gssb_key gssb_row (λ e. refl) (key.Gssb n) t.gssbs _ refl
+row_at_key t (key.Tls b l) = found_row tls_key tls_row (λ e. refl) (key.Tls b l) t.tlss _ refl
+row_at_key t (key.Uls b l) = found_row uls_key uls_row (λ e. refl) (key.Uls b l) t.ulss _ refl
+row_at_key t (key.Service i) = found_row service_key service_row (λ e. refl) (key.Service i) t.services _ refl
+row_at_key t (key.Job n) = found_row job_key job_row (λ e. refl) (key.Job n) t.jobs _ refl
+row_at_key t (key.Shown n) = found_row shown_key shown_row (λ e. refl) (key.Shown n) t.shown _ refl
 
-pub row_at-fits : (t : TableRows) → IsSortedTables t → (k : Key) → IsTrue (change_fits (change_to k (row_at t k)))
-row_at-fits t h (key.Gssb n) = found_fits gssb_key gssb_row (λ e. refl) (key.Gssb n) t.gssbs (λ e f. refl) _ refl
-row_at-fits t h (key.Tls b l) =
+pub row_at_fits : (t : TableRows) → IsSortedTables t → (k : Key) → IsTrue (change_fits (change_to k (row_at t k)))
+row_at_fits t h (key.Gssb n) = found_fits gssb_key gssb_row (λ e. refl) (key.Gssb n) t.gssbs (λ e f. refl) _ refl
+row_at_fits t h (key.Tls b l) =
     found_fits tls_key tls_row (λ e. refl) (key.Tls b l) t.tlss
     (λ e f. found_passes tls_key (λ r. is_filled r.2) (key.Tls b l) t.tlss e h.tlss_filled f) _ refl
-row_at-fits t h (key.Uls b l) =
+row_at_fits t h (key.Uls b l) =
     found_fits uls_key uls_row (λ e. refl) (key.Uls b l) t.ulss
     (λ e f. found_passes uls_key (λ r. is_filled r.2) (key.Uls b l) t.ulss e h.ulss_filled f) _ refl
-row_at-fits t h (key.Service i) =
+row_at_fits t h (key.Service i) =
     found_fits service_key service_row (λ e. refl) (key.Service i) t.services
-    (λ (e : Service) f. true_both _ _ (id_eq-itself e.id) (found_passes service_key service_fits (key.Service i) t.services e h.services_fit f)) _ refl
-row_at-fits t h (key.Job n) = found_fits job_key job_row (λ e. refl) (key.Job n) t.jobs (λ e f. refl) _ refl
-row_at-fits t h (key.Shown n) = found_fits shown_key shown_row (λ e. refl) (key.Shown n) t.shown (λ e f. refl) _ refl
+    (λ (e : Service) f. true_both _ _ (id_eq_itself e.id) (found_passes service_key service_fits (key.Service i) t.services e h.services_fit f)) _ refl
+row_at_fits t h (key.Job n) = found_fits job_key job_row (λ e. refl) (key.Job n) t.jobs (λ e f. refl) _ refl
+row_at_fits t h (key.Shown n) = found_fits shown_key shown_row (λ e. refl) (key.Shown n) t.shown (λ e f. refl) _ refl
 
 -- ---- the keys of all rows
-
-is_some-map : {A B : Type 0} (f : A → B) (o : Option A) → is_some (option_map f o) ≡ is_some o
-is_some-map f None = refl
-is_some-map f (Some x) = refl
 
 in_left : (p : Key → Bool) (xs ys : List Key) → IsTrue (list_any p xs) → IsTrue (list_any p (xs ++ ys))
 in_left p xs ys h = list_any-append p xs ys ∙ ap (λ b. b || list_any p ys) h
@@ -104,12 +100,12 @@ module _ (t : TableRows) where
     past_services h = past_ulss (in_right p (map service_key t.services) from_jobs h)
 
   pub has_key : (q : Key) → IsTrue (is_some (row_at t q)) → IsTrue (list_any (key_eq q) (keys_of t))
-  has_key (key.Gssb n) h = in_left _ (map gssb_key t.gssbs) from_tlss (found_among gssb_key (key.Gssb n) t.gssbs (sym (is_some-map gssb_row _) ∙ h))
-  has_key (key.Tls b l) h = past_gssbs _ (in_left _ (map tls_key t.tlss) from_ulss (found_among tls_key (key.Tls b l) t.tlss (sym (is_some-map tls_row _) ∙ h)))
-  has_key (key.Uls b l) h = past_tlss _ (in_left _ (map uls_key t.ulss) from_services (found_among uls_key (key.Uls b l) t.ulss (sym (is_some-map uls_row _) ∙ h)))
-  has_key (key.Service i) h = past_ulss _ (in_left _ (map service_key t.services) from_jobs (found_among service_key (key.Service i) t.services (sym (is_some-map service_row _) ∙ h)))
-  has_key (key.Job n) h = past_services _ (in_left _ (map job_key t.jobs) from_shown (found_among job_key (key.Job n) t.jobs (sym (is_some-map job_row _) ∙ h)))
-  has_key (key.Shown n) h = past_services _ (in_right _ (map job_key t.jobs) from_shown (found_among shown_key (key.Shown n) t.shown (sym (is_some-map shown_row _) ∙ h)))
+  has_key (key.Gssb n) h = in_left _ (map gssb_key t.gssbs) from_tlss (found_among gssb_key (key.Gssb n) t.gssbs (sym (is_some_map gssb_row _) ∙ h))
+  has_key (key.Tls b l) h = past_gssbs _ (in_left _ (map tls_key t.tlss) from_ulss (found_among tls_key (key.Tls b l) t.tlss (sym (is_some_map tls_row _) ∙ h)))
+  has_key (key.Uls b l) h = past_tlss _ (in_left _ (map uls_key t.ulss) from_services (found_among uls_key (key.Uls b l) t.ulss (sym (is_some_map uls_row _) ∙ h)))
+  has_key (key.Service i) h = past_ulss _ (in_left _ (map service_key t.services) from_jobs (found_among service_key (key.Service i) t.services (sym (is_some_map service_row _) ∙ h)))
+  has_key (key.Job n) h = past_services _ (in_left _ (map job_key t.jobs) from_shown (found_among job_key (key.Job n) t.jobs (sym (is_some_map job_row _) ∙ h)))
+  has_key (key.Shown n) h = past_services _ (in_right _ (map job_key t.jobs) from_shown (found_among shown_key (key.Shown n) t.shown (sym (is_some_map shown_row _) ∙ h)))
 
 -- ---- what differs
 
@@ -118,10 +114,10 @@ module _ (old new : TableRows) where
   abbrev needed : Key → Option Change
   needed q = cond (row_same (row_at old q) (row_at new q)) None (Some (change_to q (row_at new q)))
 
-  differing-at : (q : Key) (ks : List Key) → change_at q (differing old new ks) ≡ cond (list_any (key_eq q) ks) (needed q) None
+  differing_at : (q : Key) (ks : List Key) → change_at q (differing old new ks) ≡ cond (list_any (key_eq q) ks) (needed q) None
   unfolding differing
-  differing-at q [] = refl
-  differing-at q (k ∷ ks) = by (differing-at q ks) (row_same (row_at old k) (row_at new k)) refl
+  differing_at q [] = refl
+  differing_at q (k ∷ ks) = by (differing_at q ks) (row_same (row_at old k) (row_at new k)) refl
     where
       none : (a : Bool) (o : Option Change) → o ≡ None → cond a o None ≡ o
       none true o e = refl
@@ -131,14 +127,14 @@ module _ (old new : TableRows) where
       by rest true p =
           rest
           ∙ elim (key_eq q k) as (λ c. key_eq q k ≡ c → cond (list_any (key_eq q) ks) (needed q) None ≡ cond (c || list_any (key_eq q) ks) (needed q) None) [
-            | true ↦ λ e. none (list_any (key_eq q) ks) (needed q) (ap needed (key_eq-same q k e) ∙ ap (λ c. cond c None (Some (change_to k (row_at new k)))) p)
+            | true ↦ λ e. none (list_any (key_eq q) ks) (needed q) (ap needed (key_eq_same q k e) ∙ ap (λ c. cond c None (Some (change_to k (row_at new k)))) p)
             | false ↦ λ e. refl
           ] refl
       by rest false p =
-          item_at-with change_key q (change_to k (row_at new k)) (differing old new ks)
-          ∙ ap (λ j. cond (key_eq q j) (Some (change_to k (row_at new k))) (change_at q (differing old new ks))) (row_at-key new k)
+          item_at_with change_key q (change_to k (row_at new k)) (differing old new ks)
+          ∙ ap (λ j. cond (key_eq q j) (Some (change_to k (row_at new k))) (change_at q (differing old new ks))) (row_at_key new k)
           ∙ elim (key_eq q k) as (λ c. key_eq q k ≡ c → cond c (Some (change_to k (row_at new k))) (change_at q (differing old new ks)) ≡ cond (c || list_any (key_eq q) ks) (needed q) None) [
-            | true ↦ λ e. sym (ap needed (key_eq-same q k e) ∙ ap (λ c. cond c None (Some (change_to k (row_at new k)))) p)
+            | true ↦ λ e. sym (ap needed (key_eq_same q k e) ∙ ap (λ c. cond c None (Some (change_to k (row_at new k)))) p)
             | false ↦ λ e. rest
           ] refl
 
@@ -149,9 +145,9 @@ module _ (old new : TableRows) where
         | Some r ↦ λ e. absurd (true≢false (sym (has_key t q (ap is_some e)) ∙ h))
       ] refl
 
-  difference-at : (q : Key) → change_at q (difference old new).items ≡ needed q
-  difference-at q =
-      differing-at q (keys_of old ++ keys_of new)
+  difference_at : (q : Key) → change_at q (difference old new).items ≡ needed q
+  difference_at q =
+      differing_at q (keys_of old ++ keys_of new)
       ∙ elim (list_any (key_eq q) (keys_of old ++ keys_of new)) as (λ b. list_any (key_eq q) (keys_of old ++ keys_of new) ≡ b → cond b (needed q) None ≡ needed q) [
         | true ↦ λ e. refl
         | false ↦ λ e.
@@ -164,22 +160,22 @@ module _ (old new : TableRows) where
       absent true b there h = absurd (true≢false (sym (there refl) ∙ h))
       absent false b there h = refl
 
-  differing-ascends : (ks : List Key) → IsTrue (ascends change_key (differing old new ks))
+  differing_ascends : (ks : List Key) → IsTrue (ascends change_key (differing old new ks))
   unfolding differing
-  differing-ascends [] = refl
-  differing-ascends (k ∷ ks) =
+  differing_ascends [] = refl
+  differing_ascends (k ∷ ks) =
       elim (row_same (row_at old k) (row_at new k)) as (λ b. IsTrue (ascends change_key (noted_unless b (change_to k (row_at new k)) (differing old new ks)))) [
-        | true ↦ differing-ascends ks
-        | false ↦ ascends-with change_key (change_to k (row_at new k)) (differing old new ks) (differing-ascends ks)
+        | true ↦ differing_ascends ks
+        | false ↦ ascends_with change_key (change_to k (row_at new k)) (differing old new ks) (differing_ascends ks)
       ]
 
-  differing-fits : IsSortedTables new → (ks : List Key) → IsTrue (list_all change_fits (differing old new ks))
+  differing_fits : IsSortedTables new → (ks : List Key) → IsTrue (list_all change_fits (differing old new ks))
   unfolding differing
-  differing-fits h [] = refl
-  differing-fits h (k ∷ ks) =
+  differing_fits h [] = refl
+  differing_fits h (k ∷ ks) =
       elim (row_same (row_at old k) (row_at new k)) as (λ b. IsTrue (list_all change_fits (noted_unless b (change_to k (row_at new k)) (differing old new ks)))) [
-        | true ↦ differing-fits h ks
-        | false ↦ all-with change_key change_fits (change_to k (row_at new k)) (differing old new ks) (row_at-fits new h k) (differing-fits h ks)
+        | true ↦ differing_fits h ks
+        | false ↦ all_with change_key change_fits (change_to k (row_at new k)) (differing old new ks) (row_at_fits new h k) (differing_fits h ks)
       ]
 
 pub difference_exact : (old new : TableRows) (k : Key)
@@ -188,27 +184,27 @@ difference_exact old new k = (same, other)
   where
     same : row_at old k ≡ row_at new k → change_at k (difference old new).items ≡ None
     same e =
-        difference-at old new k
-        ∙ ap (λ b. cond b None (Some (change_to k (row_at new k)))) (ap (λ o. row_same o (row_at new k)) e ∙ row_same-itself (row_at new k))
+        difference_at old new k
+        ∙ ap (λ b. cond b None (Some (change_to k (row_at new k)))) (ap (λ o. row_same o (row_at new k)) e ∙ row_same_itself (row_at new k))
 
     other : row_at old k ≢ row_at new k → change_at k (difference old new).items ≡ Some (change_to k (row_at new k))
     other apart =
-        difference-at old new k
+        difference_at old new k
         ∙ elim (row_same (row_at old k) (row_at new k)) as (λ b. row_same (row_at old k) (row_at new k) ≡ b → cond b None (Some (change_to k (row_at new k))) ≡ Some (change_to k (row_at new k))) [
-          | true ↦ λ e. absurd (apart (row_same-only _ _ e))
+          | true ↦ λ e. absurd (apart (row_same_only _ _ e))
           | false ↦ λ e. refl
         ] refl
 
 pub difference_changes : (old new : TableRows) → IsSortedTables new → AreChanges (difference old new).items
 difference_changes old new h = record {
-  ascending = differing-ascends old new (keys_of old ++ keys_of new);
-  fit = differing-fits old new h (keys_of old ++ keys_of new);
+  ascending = differing_ascends old new (keys_of old ++ keys_of new);
+  fit = differing_fits old new h (keys_of old ++ keys_of new);
 }
 
 after_needed : (old new : TableRows) (k : Key) → row_after (needed old new k) (row_at old k) ≡ row_at new k
 after_needed old new k =
     elim (row_same (row_at old k) (row_at new k)) as (λ b. row_same (row_at old k) (row_at new k) ≡ b → row_after (cond b None (Some (change_to k (row_at new k)))) (row_at old k) ≡ row_at new k) [
-      | true ↦ λ e. row_same-only _ _ e
+      | true ↦ λ e. row_same_only _ _ e
       | false ↦ λ e. set_to (row_at new k)
     ] refl
   where
@@ -221,7 +217,7 @@ difference_makes_new old new g h =
     let are = difference_changes old new h in
     let numbers = numbers_changed old (difference old new) in
     same_tables (changed old (difference old new)) new (changed_sorted old (difference old new) g are) h numbers.0 numbers.1
-    (λ k. rows_changed old (difference old new) are k ∙ ap (λ o. row_after o (row_at old k)) (difference-at old new k) ∙ after_needed old new k)
+    (λ k. rows_changed old (difference old new) are k ∙ ap (λ o. row_after o (row_at old k)) (difference_at old new k) ∙ after_needed old new k)
 
 -- ---- the difference of tables and the same with changes
 

@@ -1,10 +1,10 @@
 -- The order of keys is total, and only equal keys tie; so it is for areas and services.
-use Rattle.std.specs.Prelude.{◌≡◌, refl, ℕ, true, List, [], ◌∷◌, slice_index, ◌==◌, if◌then◌else◌}
-use Rattle.std.proofs.Common.{sym, ap, ◌∙◌, true≢false}
-use Rattle.std.specs.Ordering.{is_eq, ordering_then}
+use Rattle.std.specs.Prelude.{◌≡◌, refl, ℕ, true, List, [], ◌∷◌, slice_index, ◌==◌, if◌then◌else◌, false, cond, nat_lt, ◌<◌}
+use Rattle.std.proofs.Common.{sym, ap, ◌∙◌}
+use Rattle.std.specs.Ordering.{is_eq, ordering_then, is_lt}
 use Rattle.std.specs.declared.cmp.Ordering.{Ordering}
 use Rattle.std.specs.declared.cmp.Ordering.TheVariants.{Less, Equal, Greater}
-use Rattle.std.specs.Cmp.{IsTotalOrder, on_total, tied_itself}
+use Rattle.std.specs.Cmp.{IsTotalOrder, on_total, tied_itself, Equal-is, eq_by_cmp_equiv}
 use Rattle.std.specs.Cmp.Lexicographic.{lists_total, nat_list_cmp_total}
 use Rattle.std.specs.FinMap.{IsAntisymmetric, slice_cmp-IsAntisymmetric, nat_cmp-IsAntisymmetric}
 use Rattle.kdcs_types.specs.declared.key.Area.{Area}
@@ -14,6 +14,7 @@ use Rattle.kdcs_types.specs.declared.key.ServiceId.TheVariants as id
 use Rattle.kdcs_types.specs.declared.key.Key.{Key}
 use Rattle.kdcs_types.specs.declared.key.Key.TheVariants as key
 use Rattle.kdcs_types.specs.Keys.{id_texts, key_texts, texts_cmp, key_cmp, key_eq, area_key, area_cmp, area_eq, id_cmp, id_eq}
+use Rattle.std.proofs.lemmas.Bool.{ltb-true}
 
 pub then_equal : (r : Ordering) → ordering_then r Equal ≡ r
 then_equal Less = refl
@@ -84,25 +85,32 @@ area_back (area.Uls block user) b = refl
 pub same_area : IsAntisymmetric area_cmp
 same_area a b e = sym (area_back a a) ∙ ap (area_in a) (same_key (area_key a) (area_key b) e) ∙ area_back b a
 
-pub is_equal : (r : Ordering) → is_eq r ≡ true → r ≡ Equal
-is_equal Less e = absurd (true≢false (sym e))
-is_equal Equal e = refl
-is_equal Greater e = absurd (true≢false (sym e))
+pub key_eq_same : (a b : Key) → key_eq a b ≡ true → a ≡ b
+key_eq_same a b e = same_key a b ((Equal-is _).0 e)
 
-pub key_eq-same : (a b : Key) → key_eq a b ≡ true → a ≡ b
-key_eq-same a b e = same_key a b (is_equal _ e)
+pub key_eq_itself : (a : Key) → key_eq a a ≡ true
+key_eq_itself a = ap is_eq (tied_itself key_total a)
 
-pub key_eq-itself : (a : Key) → key_eq a a ≡ true
-key_eq-itself a = ap is_eq (tied_itself key_total a)
+pub area_eq_same : (a b : Area) → area_eq a b ≡ true → a ≡ b
+area_eq_same a b e = same_area a b ((Equal-is _).0 e)
 
-pub area_eq-same : (a b : Area) → area_eq a b ≡ true → a ≡ b
-area_eq-same a b e = same_area a b (is_equal _ e)
+pub area_eq_itself : (a : Area) → area_eq a a ≡ true
+area_eq_itself a = ap is_eq (tied_itself area_total a)
 
-pub area_eq-itself : (a : Area) → area_eq a a ≡ true
-area_eq-itself a = ap is_eq (tied_itself area_total a)
+pub area_eq_sym : (a b : Area) → area_eq a b ≡ area_eq b a
+area_eq_sym a b = (eq_by_cmp_equiv area_total).symm a b
 
-pub id_eq-same : (i j : ServiceId) → id_eq i j ≡ true → i ≡ j
-id_eq-same i j e = same_id i j (is_equal _ e)
+pub id_eq_same : (i j : ServiceId) → id_eq i j ≡ true → i ≡ j
+id_eq_same i j e = same_id i j ((Equal-is _).0 e)
 
-pub id_eq-itself : (i : ServiceId) → id_eq i i ≡ true
-id_eq-itself i = ap is_eq (tied_itself id_total i)
+pub id_eq_itself : (i : ServiceId) → id_eq i i ≡ true
+id_eq_itself i = ap is_eq (tied_itself id_total i)
+
+pub less_number : (a b : ℕ) → is_lt (key_cmp (key.Job a) (key.Job b)) ≡ true → a < b
+less_number a b e = ltb-true a b (elim (nat_lt a b) as (λ t. is_lt (ordering_then (ordering_then (cond t Less (cond (a == b) Equal Greater)) Equal) Equal) ≡ true → t ≡ true) [
+  | true ↦ λ h. refl
+  | false ↦ elim (a == b) as (λ u. is_lt (ordering_then (ordering_then (cond u Equal Greater) Equal) Equal) ≡ true → false ≡ true) [ true ↦ λ h. h | false ↦ λ h. h ]
+] e)
+
+pub other_number : (n m : ℕ) → id_eq (id.Asynchronous n) (id.Asynchronous m) ≡ false → key_eq (key.Job n) (key.Job m) ≡ false
+other_number n m apart = apart

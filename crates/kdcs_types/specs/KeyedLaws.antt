@@ -1,35 +1,18 @@
 -- What look-ups find in lists of items in ascending order, after an item was put in or taken out.
-use Rattle.std.specs.Prelude.{◌≡◌, refl, Bool, true, false, cond, not, T, IsTrue, List, [], ◌∷◌, map, Some, None, is_some}
-use Rattle.std.proofs.Common.{sym, ap, subst, ◌∙◌, true≢false}
+use Rattle.std.specs.Prelude.{◌≡◌, refl, Bool, true, false, cond, not, IsTrue, List, [], ◌∷◌, map, Some, None, is_some}
+use Rattle.std.proofs.Common.{sym, ap, subst, ◌∙◌}
 use Rattle.std.specs.List.{list_all, list_any}
 use Rattle.std.specs.Ordering.{is_eq, is_lt}
-use Rattle.std.specs.declared.cmp.Ordering.{Ordering}
 use Rattle.std.specs.declared.cmp.Ordering.TheVariants.{Less, Equal, Greater}
 use Rattle.std.specs.Cmp.{eq_by_cmp_equiv}
 use Rattle.std.specs.FinMap.{find, put, is_sorted}
 use Rattle.std.specs.FinMap.Entries.{by_order, below_all, where_key, find-put, find-where_key, is_sorted-put, is_sorted-where_key, is_some-find, same_entries}
-use Rattle.kd_base.specs.ToolsLaws.{both_true, true_both}
+use Rattle.kd_base.specs.ToolsLaws.{both_true, true_both, cond_not}
 use Rattle.kdcs_types.specs.declared.key.Key.{Key}
 use Rattle.kdcs_types.specs.Keys.{key_cmp, key_eq}
 use Rattle.kdcs_types.specs.Keyed.{keyed, ascends, item_at, with_item, without_item}
-use Rattle.kdcs_types.specs.KeyLaws.{key_total, same_key, key_eq-same}
-
-pub holds : (b : Bool) → b ≡ true → T b
-holds true e = tt
-holds false e = absurd (true≢false (sym e))
-
-pub is_true : (b : Bool) → T b → b ≡ true
-is_true true h = refl
-is_true false h = absurd h
-
-pub less : (r : Ordering) → is_lt r ≡ true → r ≡ Less
-less Less e = refl
-less Equal e = absurd (true≢false (sym e))
-less Greater e = absurd (true≢false (sym e))
-
-turned : {A : Type 0} (b : Bool) (x y : A) → cond (not b) x y ≡ cond b y x
-turned true x y = refl
-turned false x y = refl
+use Rattle.kdcs_types.specs.KeyLaws.{key_total, same_key, key_eq_same}
+use Rattle.kd_base.specs.OrderLaws.{is_less, holds, is_true}
 
 module _ {E : Type 0} (key_of : E → Key) where
   pub items_back : (es : List E) → map (λ p. p.1) (keyed key_of es) ≡ es
@@ -40,61 +23,61 @@ module _ {E : Type 0} (key_of : E → Key) where
   keys_back [] = refl
   keys_back (x ∷ xs) = ap (λ (l : List Key). key_of x ∷ l) (keys_back xs)
 
-  pub keyed-with : (e : E) (es : List E) → keyed key_of (with_item key_of e es) ≡ put key_cmp (key_of e) e (keyed key_of es)
-  keyed-with e [] = refl
-  keyed-with e (x ∷ xs) =
+  pub keyed_with : (e : E) (es : List E) → keyed key_of (with_item key_of e es) ≡ put key_cmp (key_of e) e (keyed key_of es)
+  keyed_with e [] = refl
+  keyed_with e (x ∷ xs) =
       elim (key_cmp (key_of e) (key_of x)) as (λ r. key_cmp (key_of e) (key_of x) ≡ r
       → keyed key_of (map (λ p. p.1) (by_order r ((key_of e, e) ∷ (key_of x, x) ∷ keyed key_of xs) ((key_of x, e) ∷ keyed key_of xs) ((key_of x, x) ∷ put key_cmp (key_of e) e (keyed key_of xs))))
       ≡ by_order r ((key_of e, e) ∷ (key_of x, x) ∷ keyed key_of xs) ((key_of x, e) ∷ keyed key_of xs) ((key_of x, x) ∷ put key_cmp (key_of e) e (keyed key_of xs))) [
         | Less ↦ λ p. ap (λ (l : List E). (key_of e, e) ∷ (key_of x, x) ∷ keyed key_of l) (items_back xs)
         | Equal ↦ λ p i. (same_key (key_of e) (key_of x) p i, e) ∷ keyed key_of (items_back xs i)
-        | Greater ↦ λ p. ap (λ (l : List (Key × E)). (key_of x, x) ∷ l) (keyed-with e xs)
+        | Greater ↦ λ p. ap (λ (l : List (Key × E)). (key_of x, x) ∷ l) (keyed_with e xs)
       ] refl
 
-  pub keyed-without : (k : Key) (es : List E) → keyed key_of (without_item key_of k es) ≡ where_key key_cmp (λ x. not (key_eq k x)) (keyed key_of es)
-  keyed-without k [] = refl
-  keyed-without k (x ∷ xs) =
+  pub keyed_without : (k : Key) (es : List E) → keyed key_of (without_item key_of k es) ≡ where_key key_cmp (λ x. not (key_eq k x)) (keyed key_of es)
+  keyed_without k [] = refl
+  keyed_without k (x ∷ xs) =
       elim (not (key_eq k (key_of x))) as (λ b. keyed key_of (cond b (x ∷ without_item key_of k xs) (without_item key_of k xs)) ≡ cond b ((key_of x, x) ∷ where_key key_cmp (λ y. not (key_eq k y)) (keyed key_of xs)) (where_key key_cmp (λ y. not (key_eq k y)) (keyed key_of xs))) [
-        | true ↦ ap (λ (l : List (Key × E)). (key_of x, x) ∷ l) (keyed-without k xs)
-        | false ↦ keyed-without k xs
+        | true ↦ ap (λ (l : List (Key × E)). (key_of x, x) ∷ l) (keyed_without k xs)
+        | false ↦ keyed_without k xs
       ]
 
   -- what is found after a change
-  pub item_at-with : (q : Key) (e : E) (es : List E) → item_at key_of q (with_item key_of e es) ≡ cond (key_eq q (key_of e)) (Some e) (item_at key_of q es)
-  item_at-with q e es = ap (find key_cmp q) (keyed-with e es) ∙ find-put key_cmp key_total q (key_of e) e (keyed key_of es)
+  pub item_at_with : (q : Key) (e : E) (es : List E) → item_at key_of q (with_item key_of e es) ≡ cond (key_eq q (key_of e)) (Some e) (item_at key_of q es)
+  item_at_with q e es = ap (find key_cmp q) (keyed_with e es) ∙ find-put key_cmp key_total q (key_of e) e (keyed key_of es)
 
-  pub item_at-without : (q k : Key) (es : List E) → item_at key_of q (without_item key_of k es) ≡ cond (key_eq q k) None (item_at key_of q es)
-  item_at-without q k es =
-      ap (find key_cmp q) (keyed-without k es)
+  pub item_at_without : (q k : Key) (es : List E) → item_at key_of q (without_item key_of k es) ≡ cond (key_eq q k) None (item_at key_of q es)
+  item_at_without q k es =
+      ap (find key_cmp q) (keyed_without k es)
       ∙ find-where_key key_cmp (λ x. not (key_eq k x)) q (λ x e. ap (λ y. not (key_eq k y)) (sym (same_key q x e))) (keyed key_of es)
-      ∙ turned (key_eq k q) (item_at key_of q es) None
+      ∙ cond_not (key_eq k q) (item_at key_of q es) None
       ∙ ap (λ b. cond b None (item_at key_of q es)) ((eq_by_cmp_equiv key_total).symm k q)
 
   -- the order stays
-  pub ascends-with : (e : E) (es : List E) → IsTrue (ascends key_of es) → IsTrue (ascends key_of (with_item key_of e es))
-  ascends-with e es h = ap (is_sorted key_cmp) (keyed-with e es) ∙ is_true _ (is_sorted-put key_cmp key_total (key_of e) e (keyed key_of es) (holds _ h))
+  pub ascends_with : (e : E) (es : List E) → IsTrue (ascends key_of es) → IsTrue (ascends key_of (with_item key_of e es))
+  ascends_with e es h = ap (is_sorted key_cmp) (keyed_with e es) ∙ is_true _ (is_sorted-put key_cmp key_total (key_of e) e (keyed key_of es) (holds _ h))
 
-  pub ascends-without : (k : Key) (es : List E) → IsTrue (ascends key_of es) → IsTrue (ascends key_of (without_item key_of k es))
-  ascends-without k es h = ap (is_sorted key_cmp) (keyed-without k es) ∙ is_true _ (is_sorted-where_key key_cmp (λ x. not (key_eq k x)) (keyed key_of es) (holds _ h))
+  pub ascends_without : (k : Key) (es : List E) → IsTrue (ascends key_of es) → IsTrue (ascends key_of (without_item key_of k es))
+  ascends_without k es h = ap (is_sorted key_cmp) (keyed_without k es) ∙ is_true _ (is_sorted-where_key key_cmp (λ x. not (key_eq k x)) (keyed key_of es) (holds _ h))
 
   -- and so does what holds of each item
-  pub all-with : (p : E → Bool) (e : E) (es : List E) → IsTrue (p e) → IsTrue (list_all p es) → IsTrue (list_all p (with_item key_of e es))
-  all-with p e [] a h = true_both _ _ a refl
-  all-with p e (x ∷ xs) a h =
+  pub all_with : (p : E → Bool) (e : E) (es : List E) → IsTrue (p e) → IsTrue (list_all p es) → IsTrue (list_all p (with_item key_of e es))
+  all_with p e [] a h = true_both _ _ a refl
+  all_with p e (x ∷ xs) a h =
       let parts = both_true (p x) (list_all p xs) h in
       elim (key_cmp (key_of e) (key_of x)) as (λ r. IsTrue (list_all p (map (λ q. q.1) (by_order r ((key_of e, e) ∷ (key_of x, x) ∷ keyed key_of xs) ((key_of x, e) ∷ keyed key_of xs) ((key_of x, x) ∷ put key_cmp (key_of e) e (keyed key_of xs)))))) [
         | Less ↦ true_both _ _ a (ap (λ (l : List E). list_all p (x ∷ l)) (items_back xs) ∙ h)
         | Equal ↦ true_both _ _ a (ap (list_all p) (items_back xs) ∙ parts.1)
-        | Greater ↦ true_both _ _ parts.0 (all-with p e xs a parts.1)
+        | Greater ↦ true_both _ _ parts.0 (all_with p e xs a parts.1)
       ]
 
-  pub all-without : (p : E → Bool) (k : Key) (es : List E) → IsTrue (list_all p es) → IsTrue (list_all p (without_item key_of k es))
-  all-without p k [] h = refl
-  all-without p k (x ∷ xs) h =
+  pub all_without : (p : E → Bool) (k : Key) (es : List E) → IsTrue (list_all p es) → IsTrue (list_all p (without_item key_of k es))
+  all_without p k [] h = refl
+  all_without p k (x ∷ xs) h =
       let parts = both_true (p x) (list_all p xs) h in
       elim (not (key_eq k (key_of x))) as (λ b. IsTrue (list_all p (cond b (x ∷ without_item key_of k xs) (without_item key_of k xs)))) [
-        | true ↦ true_both _ _ parts.0 (all-without p k xs parts.1)
-        | false ↦ all-without p k xs parts.1
+        | true ↦ true_both _ _ parts.0 (all_without p k xs parts.1)
+        | false ↦ all_without p k xs parts.1
       ]
 
   -- nothing is found among greater keys, nor among keys of which none is this one
@@ -102,7 +85,7 @@ module _ {E : Type 0} (key_of : E → Key) where
   not_above q [] h = refl
   not_above q (e ∷ es) h =
       let parts = both_true (is_lt (key_cmp q e.0)) (below_all key_cmp q es) h in
-      ap (λ r. cond (is_eq r) (Some e.1) (find key_cmp q es)) (less _ parts.0) ∙ not_above q es parts.1
+      ap (λ r. cond (is_eq r) (Some e.1) (find key_cmp q es)) (is_less _ parts.0) ∙ not_above q es parts.1
 
   pub not_among : (q : Key) → ((e : E) → key_eq q (key_of e) ≡ false) → (es : List E) → item_at key_of q es ≡ None
   not_among q apart [] = refl
@@ -113,7 +96,7 @@ module _ {E : Type 0} (key_of : E → Key) where
   found_key q [] x h = absurd cc
   found_key q (e ∷ es) x h =
       elim (key_eq q (key_of e)) as (λ b. key_eq q (key_of e) ≡ b → cond b (Some e) (item_at key_of q es) ≡ Some x → key_of x ≡ q) [
-        | true ↦ λ t is. ap key_of (sym (some_same e x is)) ∙ sym (key_eq-same q (key_of e) t)
+        | true ↦ λ t is. ap key_of (sym (some_same e x is)) ∙ sym (key_eq_same q (key_of e) t)
         | false ↦ λ t is. found_key q es x is
       ] refl h
     where

@@ -19,8 +19,8 @@ use Rattle.kdcs_types.specs.declared.act.Change.TheVariants.{Set, Remove}
 use Rattle.kdcs_types.specs.declared.act.Changes.{Changes}
 use Rattle.kdcs_types.specs.Keys.{key_cmp, key_eq, id_eq}
 use Rattle.kdcs_types.specs.Keyed.{keyed, ascends, item_at, with_item, without_item}
-use Rattle.kdcs_types.specs.KeyLaws.{id_eq-same, key_eq-same}
-use Rattle.kdcs_types.specs.KeyedLaws.{item_at-with, item_at-without, ascends-with, ascends-without, all-with, all-without, not_above, not_among, same_items}
+use Rattle.kdcs_types.specs.KeyLaws.{id_eq_same, key_eq_same}
+use Rattle.kdcs_types.specs.KeyedLaws.{item_at_with, item_at_without, ascends_with, ascends_without, all_with, all_without, not_above, not_among, same_items}
 use Rattle.kdcs_types.specs.Tables.{TableRows, empty_tables, gssb_key, tls_key, uls_key, service_key, job_key, shown_key, gssb_row, tls_row, uls_row, service_row, job_row, shown_row, row_key, row_at, with_row, without_row, with_change, with_changes, changed, is_filled, service_fits, row_fits, change_fits, change_key, change_at, AreChanges, IsSortedTables}
 use Rattle.kdcs_types.specs.TableLaws.{row_after}
 
@@ -36,59 +36,59 @@ mapped_none f false o = refl
 
 module _ {E : Type 0} (key_of : E → Key) (row_of : E → Row) where
   set_item : (q : Key) (e : E) (es : List E) → option_map row_of (item_at key_of q (with_item key_of e es)) ≡ cond (key_eq q (key_of e)) (Some (row_of e)) (option_map row_of (item_at key_of q es))
-  set_item q e es = ap (option_map row_of) (item_at-with key_of q e es) ∙ mapped row_of (key_eq q (key_of e)) e (item_at key_of q es)
+  set_item q e es = ap (option_map row_of) (item_at_with key_of q e es) ∙ mapped row_of (key_eq q (key_of e)) e (item_at key_of q es)
 
   removed_item : (q k : Key) (es : List E) → option_map row_of (item_at key_of q (without_item key_of k es)) ≡ cond (key_eq q k) None (option_map row_of (item_at key_of q es))
-  removed_item q k es = ap (option_map row_of) (item_at-without key_of q k es) ∙ mapped_none row_of (key_eq q k) (item_at key_of q es)
+  removed_item q k es = ap (option_map row_of) (item_at_without key_of q k es) ∙ mapped_none row_of (key_eq q k) (item_at key_of q es)
 
-pub row_at-with : (t : TableRows) (r : Row) (q : Key) → IsTrue (row_fits r) → row_at (with_row t r) q ≡ cond (key_eq q (row_key r)) (Some r) (row_at t q)
-row_at-with t (row.Gssb n c) (key.Gssb m) h = set_item gssb_key gssb_row (key.Gssb m) (n, c) t.gssbs
-row_at-with t (row.Gssb n c) _ h = refl
-row_at-with t (row.Tls b l c) (key.Tls a k) h = set_item tls_key tls_row (key.Tls a k) (b, l, c) t.tlss
-row_at-with t (row.Tls b l c) _ h = refl
-row_at-with t (row.Uls b u c) (key.Uls a k) h = set_item uls_key uls_row (key.Uls a k) (b, u, c) t.ulss
-row_at-with t (row.Uls b u c) _ h = refl
-row_at-with t (row.Service i s) (key.Service j) h =
+pub row_at_with : (t : TableRows) (r : Row) (q : Key) → IsTrue (row_fits r) → row_at (with_row t r) q ≡ cond (key_eq q (row_key r)) (Some r) (row_at t q)
+row_at_with t (row.Gssb n c) (key.Gssb m) h = set_item gssb_key gssb_row (key.Gssb m) (n, c) t.gssbs
+row_at_with t (row.Gssb n c) _ h = refl
+row_at_with t (row.Tls b l c) (key.Tls a k) h = set_item tls_key tls_row (key.Tls a k) (b, l, c) t.tlss
+row_at_with t (row.Tls b l c) _ h = refl
+row_at_with t (row.Uls b u c) (key.Uls a k) h = set_item uls_key uls_row (key.Uls a k) (b, u, c) t.ulss
+row_at_with t (row.Uls b u c) _ h = refl
+row_at_with t (row.Service i s) (key.Service j) h =
     subst
     (λ (k : ServiceId). row_at (with_row t (row.Service k s)) (key.Service j) ≡ cond (key_eq (key.Service j) (key.Service k)) (Some (row.Service k s)) (row_at t (key.Service j)))
-    (id_eq-same s.id i ((both_true (id_eq s.id i) (service_fits s) h).0))
+    (id_eq_same s.id i ((both_true (id_eq s.id i) (service_fits s) h).0))
     (set_item service_key service_row (key.Service j) s t.services)
-row_at-with t (row.Service i s) _ h = refl
-row_at-with t (row.Job n v) (key.Job m) h = set_item job_key job_row (key.Job m) (record { number = n; value = v }) t.jobs
-row_at-with t (row.Job n v) _ h = refl
-row_at-with t (row.Shown l v) (key.Shown m) h = set_item shown_key shown_row (key.Shown m) (l, v) t.shown
-row_at-with t (row.Shown l v) _ h = refl
+row_at_with t (row.Service i s) _ h = refl
+row_at_with t (row.Job n v) (key.Job m) h = set_item job_key job_row (key.Job m) (record { number = n; value = v }) t.jobs
+row_at_with t (row.Job n v) _ h = refl
+row_at_with t (row.Shown l v) (key.Shown m) h = set_item shown_key shown_row (key.Shown m) (l, v) t.shown
+row_at_with t (row.Shown l v) _ h = refl
 
-pub row_at-without : (t : TableRows) (k : Key) (q : Key) → row_at (without_row t k) q ≡ cond (key_eq q k) None (row_at t q)
-row_at-without t (key.Gssb n) (key.Gssb m) = removed_item gssb_key gssb_row (key.Gssb m) (key.Gssb n) t.gssbs
-row_at-without t (key.Gssb n) _ = refl
-row_at-without t (key.Tls b l) (key.Tls a m) = removed_item tls_key tls_row (key.Tls a m) (key.Tls b l) t.tlss
-row_at-without t (key.Tls b l) _ = refl
-row_at-without t (key.Uls b l) (key.Uls a m) = removed_item uls_key uls_row (key.Uls a m) (key.Uls b l) t.ulss
-row_at-without t (key.Uls b l) _ = refl
-row_at-without t (key.Service i) (key.Service j) = removed_item service_key service_row (key.Service j) (key.Service i) t.services
-row_at-without t (key.Service i) _ = refl
-row_at-without t (key.Job n) (key.Job m) = removed_item job_key job_row (key.Job m) (key.Job n) t.jobs
-row_at-without t (key.Job n) _ = refl
-row_at-without t (key.Shown n) (key.Shown m) = removed_item shown_key shown_row (key.Shown m) (key.Shown n) t.shown
-row_at-without t (key.Shown n) _ = refl
+pub row_at_without : (t : TableRows) (k : Key) (q : Key) → row_at (without_row t k) q ≡ cond (key_eq q k) None (row_at t q)
+row_at_without t (key.Gssb n) (key.Gssb m) = removed_item gssb_key gssb_row (key.Gssb m) (key.Gssb n) t.gssbs
+row_at_without t (key.Gssb n) _ = refl
+row_at_without t (key.Tls b l) (key.Tls a m) = removed_item tls_key tls_row (key.Tls a m) (key.Tls b l) t.tlss
+row_at_without t (key.Tls b l) _ = refl
+row_at_without t (key.Uls b l) (key.Uls a m) = removed_item uls_key uls_row (key.Uls a m) (key.Uls b l) t.ulss
+row_at_without t (key.Uls b l) _ = refl
+row_at_without t (key.Service i) (key.Service j) = removed_item service_key service_row (key.Service j) (key.Service i) t.services
+row_at_without t (key.Service i) _ = refl
+row_at_without t (key.Job n) (key.Job m) = removed_item job_key job_row (key.Job m) (key.Job n) t.jobs
+row_at_without t (key.Job n) _ = refl
+row_at_without t (key.Shown n) (key.Shown m) = removed_item shown_key shown_row (key.Shown m) (key.Shown n) t.shown
+row_at_without t (key.Shown n) _ = refl
 
-pub row_at-with_change : (t : TableRows) (c : Change) (q : Key) → IsTrue (change_fits c) → row_at (with_change t c) q ≡ cond (key_eq q (change_key c)) (row_after (Some c) (row_at t q)) (row_at t q)
-row_at-with_change t (Set r) q h = row_at-with t r q h
-row_at-with_change t (Remove k) q h = row_at-without t k q
+pub row_at_with_change : (t : TableRows) (c : Change) (q : Key) → IsTrue (change_fits c) → row_at (with_change t c) q ≡ cond (key_eq q (change_key c)) (row_after (Some c) (row_at t q)) (row_at t q)
+row_at_with_change t (Set r) q h = row_at_with t r q h
+row_at_with_change t (Remove k) q h = row_at_without t k q
 
 -- ---- all changes
 
-pub row_at-with_changes : (t : TableRows) (cs : List Change) (q : Key) → IsTrue (ascends change_key cs) → IsTrue (list_all change_fits cs) → row_at (with_changes t cs) q ≡ row_after (change_at q cs) (row_at t q)
-row_at-with_changes t [] q up fit = refl
-row_at-with_changes t (c ∷ cs) q up fit =
+pub row_at_with_changes : (t : TableRows) (cs : List Change) (q : Key) → IsTrue (ascends change_key cs) → IsTrue (list_all change_fits cs) → row_at (with_changes t cs) q ≡ row_after (change_at q cs) (row_at t q)
+row_at_with_changes t [] q up fit = refl
+row_at_with_changes t (c ∷ cs) q up fit =
     let up2 = both_true (below_all key_cmp (change_key c) (keyed change_key cs)) (is_sorted key_cmp (keyed change_key cs)) up in
     let fit2 = both_true (change_fits c) (list_all change_fits cs) fit in
-    let one = row_at-with_change t c q fit2.0 in
-    row_at-with_changes (with_change t c) cs q up2.1 fit2.1
+    let one = row_at_with_change t c q fit2.0 in
+    row_at_with_changes (with_change t c) cs q up2.1 fit2.1
     ∙ ap (row_after (change_at q cs)) one
     ∙ elim (key_eq q (change_key c)) as (λ b. key_eq q (change_key c) ≡ b → row_after (change_at q cs) (cond b (row_after (Some c) (row_at t q)) (row_at t q)) ≡ row_after (cond b (Some c) (change_at q cs)) (row_at t q)) [
-      | true ↦ λ e. ap (λ o. row_after o (row_after (Some c) (row_at t q))) (subst (λ k. change_at k cs ≡ None) (sym (key_eq-same q (change_key c) e)) (not_above change_key (change_key c) (keyed change_key cs) up2.0))
+      | true ↦ λ e. ap (λ o. row_after o (row_after (Some c) (row_at t q))) (subst (λ k. change_at k cs ≡ None) (sym (key_eq_same q (change_key c) e)) (not_above change_key (change_key c) (keyed change_key cs) up2.0))
       | false ↦ λ e. refl
     ] refl
 
@@ -98,30 +98,30 @@ with_numbers t c _ = refl
 
 pub rows_changed : (t : TableRows) (c : Changes) → AreChanges c.items → (k : Key) → row_at (changed t c) k ≡ row_after (change_at k c.items) (row_at t k)
 rows_changed t c h k =
-    row_at-with_changes (record t { clock = c.clock; next_job = c.next_job }) c.items k h.ascending h.fit
+    row_at_with_changes (record t { clock = c.clock; next_job = c.next_job }) c.items k h.ascending h.fit
     ∙ ap (row_after (change_at k c.items)) (with_numbers t c k)
 
 -- ---- the numbers
 
-clock-with_change : (t : TableRows) (c : Change) → ((with_change t c).clock ≡ t.clock) × ((with_change t c).next_job ≡ t.next_job)
-clock-with_change t (Set (row.Gssb n c)) = (refl, refl)
-clock-with_change t (Set (row.Tls b l c)) = (refl, refl)
-clock-with_change t (Set (row.Uls b u c)) = (refl, refl)
-clock-with_change t (Set (row.Service i s)) = (refl, refl)
-clock-with_change t (Set (row.Job n v)) = (refl, refl)
-clock-with_change t (Set (row.Shown l v)) = (refl, refl)
-clock-with_change t (Remove (key.Gssb n)) = (refl, refl)
-clock-with_change t (Remove (key.Tls b l)) = (refl, refl)
-clock-with_change t (Remove (key.Uls b l)) = (refl, refl)
-clock-with_change t (Remove (key.Service i)) = (refl, refl)
-clock-with_change t (Remove (key.Job n)) = (refl, refl)
-clock-with_change t (Remove (key.Shown n)) = (refl, refl)
+clock_with_change : (t : TableRows) (c : Change) → ((with_change t c).clock ≡ t.clock) × ((with_change t c).next_job ≡ t.next_job)
+clock_with_change t (Set (row.Gssb n c)) = (refl, refl)
+clock_with_change t (Set (row.Tls b l c)) = (refl, refl)
+clock_with_change t (Set (row.Uls b u c)) = (refl, refl)
+clock_with_change t (Set (row.Service i s)) = (refl, refl)
+clock_with_change t (Set (row.Job n v)) = (refl, refl)
+clock_with_change t (Set (row.Shown l v)) = (refl, refl)
+clock_with_change t (Remove (key.Gssb n)) = (refl, refl)
+clock_with_change t (Remove (key.Tls b l)) = (refl, refl)
+clock_with_change t (Remove (key.Uls b l)) = (refl, refl)
+clock_with_change t (Remove (key.Service i)) = (refl, refl)
+clock_with_change t (Remove (key.Job n)) = (refl, refl)
+clock_with_change t (Remove (key.Shown n)) = (refl, refl)
 
 numbers_stay : (t : TableRows) (cs : List Change) → ((with_changes t cs).clock ≡ t.clock) × ((with_changes t cs).next_job ≡ t.next_job)
 numbers_stay t [] = (refl, refl)
 numbers_stay t (c ∷ cs) =
     let rest = numbers_stay (with_change t c) cs in
-    let one = clock-with_change t c in
+    let one = clock_with_change t c in
     (rest.0 ∙ one.0, rest.1 ∙ one.1)
 
 pub numbers_changed : (t : TableRows) (c : Changes) → ((changed t c).clock ≡ c.clock) × ((changed t c).next_job ≡ c.next_job)
@@ -133,20 +133,25 @@ pub empty_sorted : IsSortedTables empty_tables
 empty_sorted = record { gssbs = refl; tlss = refl; ulss = refl; services = refl; jobs = refl; shown = refl; tlss_filled = refl; ulss_filled = refl; services_fit = refl }
 
 pub sorted_with : (t : TableRows) (r : Row) → IsSortedTables t → IsTrue (row_fits r) → IsSortedTables (with_row t r)
-sorted_with t (row.Gssb n c) h f = record { gssbs = ascends-with gssb_key (n, c) t.gssbs h.gssbs; tlss = h.tlss; ulss = h.ulss; services = h.services; jobs = h.jobs; shown = h.shown; tlss_filled = h.tlss_filled; ulss_filled = h.ulss_filled; services_fit = h.services_fit }
-sorted_with t (row.Tls b l c) h f = record { gssbs = h.gssbs; tlss = ascends-with tls_key (b, l, c) t.tlss h.tlss; ulss = h.ulss; services = h.services; jobs = h.jobs; shown = h.shown; tlss_filled = all-with tls_key (λ r. is_filled r.2) (b, l, c) t.tlss f h.tlss_filled; ulss_filled = h.ulss_filled; services_fit = h.services_fit }
-sorted_with t (row.Uls b u c) h f = record { gssbs = h.gssbs; tlss = h.tlss; ulss = ascends-with uls_key (b, u, c) t.ulss h.ulss; services = h.services; jobs = h.jobs; shown = h.shown; tlss_filled = h.tlss_filled; ulss_filled = all-with uls_key (λ r. is_filled r.2) (b, u, c) t.ulss f h.ulss_filled; services_fit = h.services_fit }
-sorted_with t (row.Service i s) h f = record { gssbs = h.gssbs; tlss = h.tlss; ulss = h.ulss; services = ascends-with service_key s t.services h.services; jobs = h.jobs; shown = h.shown; tlss_filled = h.tlss_filled; ulss_filled = h.ulss_filled; services_fit = all-with service_key service_fits s t.services ((both_true (id_eq s.id i) (service_fits s) f).1) h.services_fit }
-sorted_with t (row.Job n v) h f = record { gssbs = h.gssbs; tlss = h.tlss; ulss = h.ulss; services = h.services; jobs = ascends-with job_key (record { number = n; value = v }) t.jobs h.jobs; shown = h.shown; tlss_filled = h.tlss_filled; ulss_filled = h.ulss_filled; services_fit = h.services_fit }
-sorted_with t (row.Shown l v) h f = record { gssbs = h.gssbs; tlss = h.tlss; ulss = h.ulss; services = h.services; jobs = h.jobs; shown = ascends-with shown_key (l, v) t.shown h.shown; tlss_filled = h.tlss_filled; ulss_filled = h.ulss_filled; services_fit = h.services_fit }
+sorted_with t (row.Gssb n c) h f = record { gssbs = ascends_with gssb_key (n, c) t.gssbs h.gssbs; tlss = h.tlss; ulss = h.ulss; services = h.services; jobs = h.jobs; shown = h.shown; tlss_filled = h.tlss_filled; ulss_filled = h.ulss_filled; services_fit = h.services_fit }
+sorted_with t (row.Tls b l c) h f = record { gssbs = h.gssbs; tlss = ascends_with tls_key (b, l, c) t.tlss h.tlss; ulss = h.ulss; services = h.services; jobs = h.jobs; shown = h.shown; tlss_filled = all_with tls_key (λ r. is_filled r.2) (b, l, c) t.tlss f h.tlss_filled; ulss_filled = h.ulss_filled; services_fit = h.services_fit }
+sorted_with t (row.Uls b u c) h f = record { gssbs = h.gssbs; tlss = h.tlss; ulss = ascends_with uls_key (b, u, c) t.ulss h.ulss; services = h.services; jobs = h.jobs; shown = h.shown; tlss_filled = h.tlss_filled; ulss_filled = all_with uls_key (λ r. is_filled r.2) (b, u, c) t.ulss f h.ulss_filled; services_fit = h.services_fit }
+sorted_with t (row.Service i s) h f = record { gssbs = h.gssbs; tlss = h.tlss; ulss = h.ulss; services = ascends_with service_key s t.services h.services; jobs = h.jobs; shown = h.shown; tlss_filled = h.tlss_filled; ulss_filled = h.ulss_filled; services_fit = all_with service_key service_fits s t.services ((both_true (id_eq s.id i) (service_fits s) f).1) h.services_fit }
+sorted_with t (row.Job n v) h f = record { gssbs = h.gssbs; tlss = h.tlss; ulss = h.ulss; services = h.services; jobs = ascends_with job_key (record { number = n; value = v }) t.jobs h.jobs; shown = h.shown; tlss_filled = h.tlss_filled; ulss_filled = h.ulss_filled; services_fit = h.services_fit }
+sorted_with t (row.Shown l v) h f = record { gssbs = h.gssbs; tlss = h.tlss; ulss = h.ulss; services = h.services; jobs = h.jobs; shown = ascends_with shown_key (l, v) t.shown h.shown; tlss_filled = h.tlss_filled; ulss_filled = h.ulss_filled; services_fit = h.services_fit }
 
 pub sorted_without : (t : TableRows) (k : Key) → IsSortedTables t → IsSortedTables (without_row t k)
-sorted_without t (key.Gssb n) h = record { gssbs = ascends-without gssb_key (key.Gssb n) t.gssbs h.gssbs; tlss = h.tlss; ulss = h.ulss; services = h.services; jobs = h.jobs; shown = h.shown; tlss_filled = h.tlss_filled; ulss_filled = h.ulss_filled; services_fit = h.services_fit }
-sorted_without t (key.Tls b l) h = record { gssbs = h.gssbs; tlss = ascends-without tls_key (key.Tls b l) t.tlss h.tlss; ulss = h.ulss; services = h.services; jobs = h.jobs; shown = h.shown; tlss_filled = all-without tls_key (λ r. is_filled r.2) (key.Tls b l) t.tlss h.tlss_filled; ulss_filled = h.ulss_filled; services_fit = h.services_fit }
-sorted_without t (key.Uls b u) h = record { gssbs = h.gssbs; tlss = h.tlss; ulss = ascends-without uls_key (key.Uls b u) t.ulss h.ulss; services = h.services; jobs = h.jobs; shown = h.shown; tlss_filled = h.tlss_filled; ulss_filled = all-without uls_key (λ r. is_filled r.2) (key.Uls b u) t.ulss h.ulss_filled; services_fit = h.services_fit }
-sorted_without t (key.Service i) h = record { gssbs = h.gssbs; tlss = h.tlss; ulss = h.ulss; services = ascends-without service_key (key.Service i) t.services h.services; jobs = h.jobs; shown = h.shown; tlss_filled = h.tlss_filled; ulss_filled = h.ulss_filled; services_fit = all-without service_key service_fits (key.Service i) t.services h.services_fit }
-sorted_without t (key.Job n) h = record { gssbs = h.gssbs; tlss = h.tlss; ulss = h.ulss; services = h.services; jobs = ascends-without job_key (key.Job n) t.jobs h.jobs; shown = h.shown; tlss_filled = h.tlss_filled; ulss_filled = h.ulss_filled; services_fit = h.services_fit }
-sorted_without t (key.Shown l) h = record { gssbs = h.gssbs; tlss = h.tlss; ulss = h.ulss; services = h.services; jobs = h.jobs; shown = ascends-without shown_key (key.Shown l) t.shown h.shown; tlss_filled = h.tlss_filled; ulss_filled = h.ulss_filled; services_fit = h.services_fit }
+sorted_without t (key.Gssb n) h = record { gssbs = ascends_without gssb_key (key.Gssb n) t.gssbs h.gssbs; tlss = h.tlss; ulss = h.ulss; services = h.services; jobs = h.jobs; shown = h.shown; tlss_filled = h.tlss_filled; ulss_filled = h.ulss_filled; services_fit = h.services_fit }
+sorted_without t (key.Tls b l) h = record { gssbs = h.gssbs; tlss = ascends_without tls_key (key.Tls b l) t.tlss h.tlss; ulss = h.ulss; services = h.services; jobs = h.jobs; shown = h.shown; tlss_filled = all_without tls_key (λ r. is_filled r.2) (key.Tls b l) t.tlss h.tlss_filled; ulss_filled = h.ulss_filled; services_fit = h.services_fit }
+sorted_without t (key.Uls b u) h = record { gssbs = h.gssbs; tlss = h.tlss; ulss = ascends_without uls_key (key.Uls b u) t.ulss h.ulss; services = h.services; jobs = h.jobs; shown = h.shown; tlss_filled = h.tlss_filled; ulss_filled = all_without uls_key (λ r. is_filled r.2) (key.Uls b u) t.ulss h.ulss_filled; services_fit = h.services_fit }
+sorted_without t (key.Service i) h = record { gssbs = h.gssbs; tlss = h.tlss; ulss = h.ulss; services = ascends_without service_key (key.Service i) t.services h.services; jobs = h.jobs; shown = h.shown; tlss_filled = h.tlss_filled; ulss_filled = h.ulss_filled; services_fit = all_without service_key service_fits (key.Service i) t.services h.services_fit }
+sorted_without t (key.Job n) h = record { gssbs = h.gssbs; tlss = h.tlss; ulss = h.ulss; services = h.services; jobs = ascends_without job_key (key.Job n) t.jobs h.jobs; shown = h.shown; tlss_filled = h.tlss_filled; ulss_filled = h.ulss_filled; services_fit = h.services_fit }
+sorted_without t (key.Shown l) h = record { gssbs = h.gssbs; tlss = h.tlss; ulss = h.ulss; services = h.services; jobs = h.jobs; shown = ascends_without shown_key (key.Shown l) t.shown h.shown; tlss_filled = h.tlss_filled; ulss_filled = h.ulss_filled; services_fit = h.services_fit }
+
+-- other numbers leave the rows in order
+pub numbers_apart : (t : TableRows) (clock next : ℕ) → IsSortedTables t → IsSortedTables (record t { clock = clock; next_job = next })
+numbers_apart t clock next h =
+    record { gssbs = h.gssbs; tlss = h.tlss; ulss = h.ulss; services = h.services; jobs = h.jobs; shown = h.shown; tlss_filled = h.tlss_filled; ulss_filled = h.ulss_filled; services_fit = h.services_fit }
 
 pub sorted_with_change : (t : TableRows) (c : Change) → IsSortedTables t → IsTrue (change_fits c) → IsSortedTables (with_change t c)
 sorted_with_change t (Set r) h f = sorted_with t r h f

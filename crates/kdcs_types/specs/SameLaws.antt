@@ -12,7 +12,7 @@ use Rattle.kdcs_types.specs.declared.service.JobValue.{JobValue}
 use Rattle.kdcs_types.specs.declared.act.Row.{Row}
 use Rattle.kdcs_types.specs.declared.act.Row.TheVariants as row
 use Rattle.kdcs_types.specs.Keys.{id_eq}
-use Rattle.kdcs_types.specs.KeyLaws.{id_eq-same, id_eq-itself}
+use Rattle.kdcs_types.specs.KeyLaws.{id_eq_same, id_eq_itself}
 use Rattle.kdcs_types.specs.Same.{bool_eq, both_eq, target_eq, job_value_eq, service_eq, row_eq, row_same}
 
 -- what passes is the same, and each passes with itself
@@ -27,7 +27,7 @@ nat_exact : IsExact nat_eq
 nat_exact = record { only = eqb-true; itself = λ x. eq-eqb x x refl }
 
 id_exact : IsExact id_eq
-id_exact = record { only = id_eq-same; itself = id_eq-itself }
+id_exact = record { only = id_eq_same; itself = id_eq_itself }
 
 bool_exact : IsExact bool_eq
 bool_exact = record { only = only; itself = itself }
@@ -188,15 +188,8 @@ row_exact = record { only = only; itself = itself }
 rows_exact : IsExact row_same
 rows_exact = option_exact row_eq row_exact
 
-pub row_same-only : (a b : Option Row) → row_same a b ≡ true → a ≡ b
-row_same-only a b e = rows_exact.only a b e
+pub row_same_only : (a b : Option Row) → row_same a b ≡ true → a ≡ b
+row_same_only a b e = rows_exact.only a b e
 
-pub row_same-itself : (a : Option Row) → row_same a a ≡ true
-row_same-itself a = rows_exact.itself a
-
--- what the rows of services and jobs hold, as other crates need it
-pub service_eq-only : (a b : Service) → service_eq a b ≡ true → a ≡ b
-service_eq-only a b e = service_exact.only a b e
-
-pub service_eq-itself : (a : Service) → service_eq a a ≡ true
-service_eq-itself a = service_exact.itself a
+pub row_same_itself : (a : Option Row) → row_same a a ≡ true
+row_same_itself a = rows_exact.itself a

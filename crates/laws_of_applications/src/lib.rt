@@ -18,6 +18,6 @@ pub fn fitted_units_make_an_application(generation: &Generation, units: &Units)
     requires fit { IsFit generation.now units.now }
     ensures { IsApplication (applied generation.now units.now) }
 {
-    let _limits = generation.max();
-    let _units = units.all();
+    let _limits = generation.max(); // for the proof
+    let _units = units.all(); // for the proof
 }

@@ -2,7 +2,6 @@
 use Rattle.std.specs.Prelude.{◌≡◌, refl, ℕ, ◌+◌, ◌≤◌, Bool, true, false, cond, IsTrue, List, [], ◌∷◌, ◌++◌, length, nat_le, nat_lt, Option, Some, None}
 use Rattle.std.proofs.Common.{arith, sym, ap, subst, ◌∙◌, true≢false}
 use Rattle.std.proofs.lemmas.Bool.{le-leb}
-use Rattle.std.specs.FinMap.{is_sorted}
 use Rattle.std.specs.List.{list_all}
 use Rattle.kd_base.specs.ToolsLaws.{true_both}
 use Rattle.kdcs_types.specs.declared.act.Change.TheVariants.{Set, Remove}
@@ -13,33 +12,32 @@ use Rattle.kdcs_types.specs.declared.key.ServiceId.TheVariants.{Dialogue, Asynch
 use Rattle.kdcs_types.specs.declared.service.Job.{Job}
 use Rattle.kdcs_types.specs.declared.service.Service.{Service}
 use Rattle.kdcs_types.specs.Keyed.{ascends}
-use Rattle.kdcs_types.specs.KeyedLaws.{all-without, ascends-without}
-use Rattle.kdcs_types.specs.KeyLaws.{id_eq-itself, id_eq-same}
+use Rattle.kdcs_types.specs.KeyedLaws.{all_without, ascends_without}
+use Rattle.kdcs_types.specs.KeyLaws.{id_eq_itself, id_eq_same}
 use Rattle.kdcs_types.specs.Keys.{id_eq}
 use Rattle.kdcs_types.specs.RowLaws.{sorted_with_change}
-use Rattle.kdcs_types.specs.Tables.{TableRows, AreChanges, IsSortedTables, change_fits, changed, job_key, lterm_fits, service_of}
+use Rattle.kdcs_types.specs.Tables.{TableRows, AreChanges, IsSortedTables, change_fits, changed, job_key, service_of}
 use Rattle.kdcdef_types.specs.Generation.{Generated}
 use Rattle.abstract_monitor.specs.declared.outcome.Outcome.{Outcome}
-use Rattle.abstract_monitor.specs.declared.outcome.Outcome.TheVariants.{Wait, Point, Follow}
 use Rattle.abstract_monitor.specs.AreaLaws.{areas_sorted, own_job_sorted}
-use Rattle.abstract_monitor.specs.Bytes.{Bytes, bytes_cmp}
-use Rattle.abstract_monitor.specs.Endings.{broken, durable, is_durable, lterm_in_row, row_after, service_change, synchronised, with_areas, with_drafts, with_service, without_own_job}
+use Rattle.abstract_monitor.specs.Endings.{broken, durable, is_durable, row_after, service_change, synchronised, with_areas, with_drafts, with_service, without_own_job}
 use Rattle.abstract_monitor.specs.State.{OpenTransaction}
 use Rattle.laws_of_steps.specs.Commits.{AreNumberedFrom}
 use Rattle.laws_of_steps.specs.JobLaw.{jobs_left, new_jobs}
-use Rattle.laws_of_steps.specs.JobLaws.{points_number}
+use Rattle.laws_of_steps.specs.JobLaws.{points_number, service_jobs}
 use Rattle.laws_of_steps.specs.OwnRowLaws.{points_set, ends_remove}
 use Rattle.laws_of_tables.specs.ItemsLaws.{ascends_append, ascends_behind}
 use Rattle.laws_of_tables.specs.PointLaws.{Stands}
 use Rattle.laws_of_commits.specs.CommitLaws.{durable_difference, KeepsVolatile, KeepsOtherVolatile, PointsMakeTables, EndsMakeTables}
 use Rattle.laws_of_commits.specs.MakingLaws.{are_changes, makes, makes_with_row}
+use Rattle.laws_of_tables.specs.PointsLaws.{point_row_fits}
 
 -- a service that outlives a stop is none of the others
 all_volatile : (g : Generated) (id : ServiceId) (t u : TableRows) → KeepsOtherVolatile g id t u → is_durable g id ≡ true → KeepsVolatile g t u
 all_volatile g id t u keeps d other volatile = by (id_eq other id) refl
   where
     by : (b : Bool) → id_eq other id ≡ b → service_of u other ≡ service_of t other
-    by true same = absurd (true≢false (sym d ∙ ap (is_durable g) (sym (id_eq-same other id same)) ∙ volatile))
+    by true same = absurd (true≢false (sym d ∙ ap (is_durable g) (sym (id_eq_same other id same)) ∙ volatile))
     by false apart = keeps other volatile apart
 
 -- the change of a service's row, where it may be there
@@ -54,25 +52,25 @@ row_sorted u id (Some r) h fits = sorted_with_change u (Set (ServiceRow id r)) h
 -- ---- abnormal ends
 
 module _ (g : Generated) (t : TableRows) (id : ServiceId) (x : OpenTransaction) (order : IsSortedTables t) where
-  end-sorted : IsSortedTables (broken t id x)
+  end_sorted : IsSortedTables (broken t id x)
   unfolding broken
-  end-sorted = row_sorted (without_own_job t id x.began) id None (own_job_sorted t id x.began order) refl
+  end_sorted = row_sorted (without_own_job t id x.began) id None (own_job_sorted t id x.began order) refl
 
-  end-others : KeepsOtherVolatile g id t (broken t id x)
-  end-others other volatile apart = ends_remove t id x other ∙ ap (λ b. cond b None (service_of t other)) apart
+  end_others : KeepsOtherVolatile g id t (broken t id x)
+  end_others other volatile apart = ends_remove t id x other ∙ ap (λ b. cond b None (service_of t other)) apart
 
-  end-own : service_of (broken t id x) id ≡ None
-  end-own = ends_remove t id x id ∙ ap (λ b. cond b None (service_of t id)) (id_eq-itself id)
+  end_own : service_of (broken t id x) id ≡ None
+  end_own = ends_remove t id x id ∙ ap (λ b. cond b None (service_of t id)) (id_eq_itself id)
 
 pub end_made : EndsMakeTables
 end_made g t id x order =
-    let after = end-sorted g t id x order in
-    let others = end-others g t id x order in
+    let after = end_sorted g t id x order in
+    let others = end_others g t id x order in
     record {
       changes = are_changes g t (broken t id x) after;
       own = row_change id None refl;
       order = after;
-      tables = ap (with_service (changed t (durable_difference g t (broken t id x))) id) (sym (end-own g t id x order)) ∙ makes_with_row g t (broken t id x) id order after others;
+      tables = ap (with_service (changed t (durable_difference g t (broken t id x))) id) (sym (end_own g t id x order)) ∙ makes_with_row g t (broken t id x) id order after others;
       alone = λ d. makes g t (broken t id x) order after (all_volatile g id t (broken t id x) others d);
     }
 
@@ -90,31 +88,16 @@ numbered_up n (j ∷ js) from = ascends_behind j js (numbered_high (j.number + 1
 left_up : (id : ServiceId) (began : Option Service) (js : List Job) → IsTrue (ascends job_key js) → IsTrue (ascends job_key (jobs_left id began js))
 left_up (Dialogue user) began js h = h
 left_up (Asynchronous number) (Some r) js h = h
-left_up (Asynchronous number) None js h = ascends-without job_key (JobKey number) js h
+left_up (Asynchronous number) None js h = ascends_without job_key (JobKey number) js h
 
 left_low : (p : Job → Bool) (id : ServiceId) (began : Option Service) (js : List Job) → IsTrue (list_all p js) → IsTrue (list_all p (jobs_left id began js))
 left_low p (Dialogue user) began js h = h
 left_low p (Asynchronous number) (Some r) js h = h
-left_low p (Asynchronous number) None js h = all-without job_key p (JobKey number) js h
-
-lterm_there : (id : ServiceId) (lterm : Bytes) → IsTrue (lterm_fits id (lterm_in_row id lterm))
-lterm_there (Dialogue user) lterm = refl
-lterm_there (Asynchronous number) lterm = refl
-
-pub point_row-fits : (g : Generated) (id : ServiceId) (x : OpenTransaction) (o : Outcome) → IsTrue (is_sorted bytes_cmp x.lssbs) → IsTrue (change_fits (service_change id (row_after g id x o)))
-unfolding row_after
-point_row-fits g id x (Wait tac) h = true_both _ _ (id_eq-itself id) (true_both _ _ (lterm_there id x.lterm) h)
-point_row-fits g id x (Point tac) h = true_both _ _ (id_eq-itself id) (true_both _ _ (lterm_there id x.lterm) h)
-point_row-fits g id x (Follow tac) h = true_both _ _ (id_eq-itself id) (true_both _ _ (lterm_there id x.lterm) refl)
-point_row-fits g id x _ h = refl
+left_low p (Asynchronous number) None js h = all_without job_key p (JobKey number) js h
 
 -- with jobs in order
 with_jobs : (u : TableRows) (jobs : List Job) (next : ℕ) → IsSortedTables u → IsTrue (ascends job_key jobs) → IsSortedTables (record u { jobs = jobs; next_job = next })
 with_jobs u jobs next h up = record { gssbs = h.gssbs; tlss = h.tlss; ulss = h.ulss; services = h.services; jobs = up; shown = h.shown; tlss_filled = h.tlss_filled; ulss_filled = h.ulss_filled; services_fit = h.services_fit }
-
-service_jobs : (u : TableRows) (id : ServiceId) (row : Option Service) → (with_service u id row).jobs ≡ u.jobs
-service_jobs u id None = refl
-service_jobs u id (Some r) = refl
 
 -- ---- synchronisation points
 
@@ -123,8 +106,8 @@ module _ (g : Generated) (t : TableRows) (id : ServiceId) (x : OpenTransaction) 
   unfolding durable
   low = s.sound.suits.job_numbers
 
-  jobs-up : IsTrue (ascends job_key (jobs_left id x.began t.jobs ++ new_jobs t x))
-  jobs-up =
+  jobs_up : IsTrue (ascends job_key (jobs_left id x.began t.jobs ++ new_jobs t x))
+  jobs_up =
       let from : AreNumberedFrom t.next_job (new_jobs t x) = (points_number g t id x o).numbers in
       ascends_append t.next_job (jobs_left id x.began t.jobs) (new_jobs t x)
       (left_up id x.began t.jobs s.sound.order.jobs)
@@ -132,35 +115,35 @@ module _ (g : Generated) (t : TableRows) (id : ServiceId) (x : OpenTransaction) 
       (left_low (λ (j : Job). nat_lt j.number t.next_job) id x.began t.jobs low)
       (numbered_high t.next_job t.next_job (new_jobs t x) (omega arith) from)
 
-  own-fits : IsTrue (change_fits (service_change id (row_after g id x o)))
-  own-fits = point_row-fits g id x o s.can.lssbs_order
+  own_fits : IsTrue (change_fits (service_change id (row_after g id x o)))
+  own_fits = point_row_fits g id x o s.can.lssbs_order
 
-  point-sorted : IsSortedTables (synchronised g t id x o)
+  point_sorted : IsSortedTables (synchronised g t id x o)
   unfolding synchronised
-  point-sorted =
+  point_sorted =
       let left = without_own_job (with_areas t x.written) id x.began in
       let jobs : (with_drafts left x).jobs ≡ jobs_left id x.began t.jobs ++ new_jobs t x = sym (service_jobs (with_drafts left x) id (row_after g id x o)) ∙ (points_number g t id x o).jobs in
       row_sorted (with_drafts left x) id (row_after g id x o)
       (with_jobs left (with_drafts left x).jobs (left.next_job + length x.drafts)
       (own_job_sorted (with_areas t x.written) id x.began (areas_sorted x.written t s.sound.order))
-      (subst (λ (js : List Job). IsTrue (ascends job_key js)) (sym jobs) jobs-up))
-      own-fits
+      (subst (λ (js : List Job). IsTrue (ascends job_key js)) (sym jobs) jobs_up))
+      own_fits
 
-  point-others : KeepsOtherVolatile g id t (synchronised g t id x o)
-  point-others other volatile apart = points_set g t id x o other ∙ ap (λ b. cond b (row_after g id x o) (service_of t other)) apart
+  point_others : KeepsOtherVolatile g id t (synchronised g t id x o)
+  point_others other volatile apart = points_set g t id x o other ∙ ap (λ b. cond b (row_after g id x o) (service_of t other)) apart
 
-  point-own : service_of (synchronised g t id x o) id ≡ row_after g id x o
-  point-own = points_set g t id x o id ∙ ap (λ b. cond b (row_after g id x o) (service_of t id)) (id_eq-itself id)
+  point_own : service_of (synchronised g t id x o) id ≡ row_after g id x o
+  point_own = points_set g t id x o id ∙ ap (λ b. cond b (row_after g id x o) (service_of t id)) (id_eq_itself id)
 
 pub point_made : PointsMakeTables
 point_made g t id x o s =
     let new = synchronised g t id x o in
-    let after : IsSortedTables new = point-sorted g t id x o s in
-    let others = point-others g t id x o s in
+    let after : IsSortedTables new = point_sorted g t id x o s in
+    let others = point_others g t id x o s in
     record {
       changes = are_changes g t new after;
-      own = row_change id (row_after g id x o) (own-fits g t id x o s);
+      own = row_change id (row_after g id x o) (own_fits g t id x o s);
       order = after;
-      tables = ap (with_service (changed t (durable_difference g t new)) id) (sym (point-own g t id x o s)) ∙ makes_with_row g t new id s.sound.order after others;
+      tables = ap (with_service (changed t (durable_difference g t new)) id) (sym (point_own g t id x o s)) ∙ makes_with_row g t new id s.sound.order after others;
       alone = λ d. makes g t new s.sound.order after (all_volatile g id t new others d);
     }

@@ -14,13 +14,12 @@ use Rattle.abstract_monitor.specs.Trace.{history, trace, tables_after}
 use Rattle.abstract_monitor.specs.Turns.{pterm_of_user}
 use Rattle.abstract_monitor.specs.Commands.{ScriptStep, Maker, started, signed_on, state_after, acts_of}
 use Rattle.laws_of_steps.specs.Applications.{IsApplication}
-use Rattle.laws_of_steps.specs.DurableLaws.{durable_sorted}
+use Rattle.laws_of_steps.specs.DurableLaws.{durable_sorted, kept_at, durable_service}
 use Rattle.laws_of_steps.specs.Facts.{IsSignedOn}
 use Rattle.laws_of_steps.specs.Keeping.{HasFacts}
 use Rattle.laws_of_steps.specs.Cut.{commits_in}
 use Rattle.laws_of_steps.specs.Steps.{AreLines, CommitsOnce, StepsMakeTheirTables}
-use Rattle.laws_of_steps.specs.StepsLaws.{commits_of_both, lines_commit_nothing, commit_counts}
-use Rattle.laws_of_places.specs.RowsLaws.{kept_at, durable_service}
+use Rattle.laws_of_steps.specs.StepsLaws.{commits_of_both, lines_commit_nothing, commit_counts, lines_after}
 use Rattle.laws_of_steps.specs.EachStep.{EachStep}
 use Rattle.laws_of_runs.specs.RunLaws.{HistoriesCommitOnce, StartsHaveFacts, ScriptsKeepFacts}
 use Rattle.laws_of_runs.specs.ListsLaws.{tables_both}
@@ -65,13 +64,6 @@ parted (x ∷ xs) ys (d ∷ ds) left e = by (parted xs ys ds left (cons_tail x d
     by (inl w) = inl (record { over = w.over; whole = cons_both x d xs (ds ++ w.over) same w.whole })
     by (inr r) = inr (record { more = r.more; is = cons_both d x ds (xs ++ r.more) (sym same) r.is; rest = r.rest })
 
--- lines change nothing
-lines_keep : (t : TableRows) (acts : List Act) → AreLines acts → tables_after t acts ≡ t
-unfolding tables_after
-lines_keep t [] are = refl
-lines_keep t (Commit c ∷ acts) are = absurd are
-lines_keep t (Emit bytes ∷ acts) are = lines_keep t acts are
-
 first_lines : (xs ys : List Act) → AreLines (xs ++ ys) → AreLines xs
 first_lines [] ys are = tt
 first_lines (Commit c ∷ xs) ys are = absurd are
@@ -80,8 +72,8 @@ first_lines (Emit bytes ∷ xs) ys are = first_lines xs ys are
 -- a commit and lines make what the commit makes
 commit_makes : (t : TableRows) (commit : Act) (xs ys : List Act) → AreLines xs → AreLines ys → tables_after t (commit ∷ xs) ≡ tables_after t (commit ∷ ys)
 unfolding tables_after
-commit_makes t (Commit c) xs ys a b = lines_keep (changed t c) xs a ∙ sym (lines_keep (changed t c) ys b)
-commit_makes t (Emit bytes) xs ys a b = lines_keep t xs a ∙ sym (lines_keep t ys b)
+commit_makes t (Commit c) xs ys a b = lines_after (changed t c) xs a ∙ sym (lines_after (changed t c) ys b)
+commit_makes t (Emit bytes) xs ys a b = lines_after t xs a ∙ sym (lines_after t ys b)
 
 -- the acts make nothing of the tables, and none of them is a commit
 abbrev MakesNone : TableRows → List Act → Type 0
@@ -93,8 +85,8 @@ MakesAll t done all = (tables_after t done ≡ tables_after t all) × (commits_i
 
 -- some first acts of a step make nothing, or all that the step makes
 within_step : (app : Application) (s : State) (d : ScriptStep) (t : TableRows) (done over : List Act) → CommitsOnce app s d → d.acts ≡ done ++ over → MakesNone t done ⊎ MakesAll t done d.acts
-within_step app s d t done over (inl none) e = let lines = first_lines done over (subst AreLines e none.lines) in inl (lines_keep t done lines, lines_commit_nothing done lines)
-within_step app s d t [] over (inr one) e = inl (lines_keep t [] tt, lines_commit_nothing [] tt)
+within_step app s d t done over (inl none) e = let lines = first_lines done over (subst AreLines e none.lines) in inl (lines_after t done lines, lines_commit_nothing done lines)
+within_step app s d t [] over (inr one) e = inl (lines_after t [] tt, lines_commit_nothing [] tt)
 within_step app s d t (a ∷ more) over (inr one) e =
     let same : _ ∷ one.rest ≡ a ∷ more ++ over = sym one.acts ∙ e in
     let head = sym (cons_head _ a one.rest (more ++ over) same) in
@@ -167,7 +159,7 @@ module _ (makes : StepsMakeTheirTables) (app : Application) where
   }
 
   cut : (s : State) (steps : List ScriptStep) → HasFacts app s → EachStep (CommitsOnce app) s steps → All Facts steps → (done left : List Act) → acts_of steps ≡ done ++ left → Between app s steps done
-  cut s [] facts once all done left e = let lines : AreLines done = subst AreLines (sym (none_done done left e)) tt in no_step s [] done facts (lines_keep (durable app.generation s.tables) done lines, lines_commit_nothing done lines)
+  cut s [] facts once all done left e = let lines : AreLines done = subst AreLines (sym (none_done done left e)) tt in no_step s [] done facts (lines_after (durable app.generation s.tables) done lines, lines_commit_nothing done lines)
   cut s (d ∷ ds) facts once all done left e = by (parted d.acts (acts_of ds) done left e) (λ more rest. cut d.after ds (All-head Facts d ds all) once.1 (All-tail Facts d ds all) more left rest)
     where
       here : HasFacts app d.after

@@ -29,7 +29,7 @@ use Rattle.abstract_monitor.specs.Statements.{kept_record}
 use Rattle.abstract_monitor.specs.Turns.{out_acts, message_acts, Turned, without_work, pterm_of_user, after_point, settled_by, settled, abnormal, last_again, back_by, back, happens, statement_now, worked, turn_of, commit_of}
 use Rattle.abstract_monitor.specs.declared.command.Command.TheVariants.{Input, Tick, Run, Turn, Drop, Print, PrintLast, Restart}
 use Rattle.abstract_monitor.specs.Commands.{signed_on_by, show_next, show_by, show_again_by, due_for, display, last_by, used, use_now, tick_by, drop_by, command_of, lterm_at, maker_of, turned_step}
-use Rattle.laws_of_steps.specs.TablesStayLaws.{sent-tables, goes-tables}
+use Rattle.laws_of_steps.specs.TablesStayLaws.{sent_tables, goes_tables}
 use Rattle.laws_of_steps.specs.EachTurnLaws.{of_turn}
 use Rattle.laws_of_steps.specs.Commits.{EndsSo, ending_by}
 use Rattle.laws_of_jobs.specs.Doings.{tables_by, point_lines, lines_by, Settling, StepMakes}
@@ -70,64 +70,64 @@ module _ (app : Application) (s : State) (task : ℕ) (id : ServiceId) (x : Open
   moved : (kept : Settled) (new after : TableRows) (acts lines : List Act) → after ≡ new → lines ≡ acts → Settling app s kept new acts → Settling app s kept after lines
   moved kept new after acts lines e f made = subst (λ (t : TableRows). Settling app s kept t lines) (sym e) (subst (λ (l : List Act). Settling app s kept new l) (sym f) made)
 
-  point-fine : (u : State) (new : TableRows) (kept : Settled) → u.tables ≡ new → u.signed ≡ s.signed → (o : Outcome) (row : Option Service) → Settling app s kept new (point new o) → Fine app s (after_point app u id x o row (commit_of app s.tables new) kept)
-  point-fine u new kept e f (Wait tac) row made = moved kept new _ _ _ (sent-tables u id x ∙ e) (ap (λ (l : List Act). commit_of app s.tables new ∷ l) (message_same u s id x f)) made
-  point-fine u new kept e f Finish row made = moved kept new _ _ _ (sent-tables u id x ∙ e) (ap (λ (l : List Act). commit_of app s.tables new ∷ l) (message_same u s id x f)) made
-  point-fine u new kept e f (Point tac) row made = moved kept new _ _ _ (goes-tables app u id x row ∙ e) refl made
-  point-fine u new kept e f (Follow tac) row made = moved kept new _ _ _ (goes-tables app u id x row ∙ e) refl made
-  point-fine u new kept e f _ row made = moved kept new _ _ _ e refl made
+  point_fine : (u : State) (new : TableRows) (kept : Settled) → u.tables ≡ new → u.signed ≡ s.signed → (o : Outcome) (row : Option Service) → Settling app s kept new (point new o) → Fine app s (after_point app u id x o row (commit_of app s.tables new) kept)
+  point_fine u new kept e f (Wait tac) row made = moved kept new _ _ _ (sent_tables u id x ∙ e) (ap (λ (l : List Act). commit_of app s.tables new ∷ l) (message_same u s id x f)) made
+  point_fine u new kept e f Finish row made = moved kept new _ _ _ (sent_tables u id x ∙ e) (ap (λ (l : List Act). commit_of app s.tables new ∷ l) (message_same u s id x f)) made
+  point_fine u new kept e f (Point tac) row made = moved kept new _ _ _ (goes_tables app u id x row ∙ e) refl made
+  point_fine u new kept e f (Follow tac) row made = moved kept new _ _ _ (goes_tables app u id x row ∙ e) refl made
+  point_fine u new kept e f _ row made = moved kept new _ _ _ e refl made
 
-  refused-fine : (o : Outcome) → (statement_now app s id x).1 ≡ Settles o → (cause : Cause) → EndsSo app s.tables id x (Settles o) (Broken cause) → Fine app s (abnormal app s task id x (Broken cause))
+  refused_fine : (o : Outcome) → (statement_now app s id x).1 ≡ Settles o → (cause : Cause) → EndsSo app s.tables id x (Settles o) (Broken cause) → Fine app s (abnormal app s task id x (Broken cause))
   unfolding abnormal
-  refused-fine o is cause ends = ending (Settles o) is (Broken cause) ends
+  refused_fine o is cause ends = ending (Settles o) is (Broken cause) ends
 
-  broken-fine : (e : Ending) → (statement_now app s id x).1 ≡ Breaks e → Fine app s (abnormal app s task id x e)
+  broken_fine : (e : Ending) → (statement_now app s id x).1 ≡ Breaks e → Fine app s (abnormal app s task id x e)
   unfolding abnormal
-  broken-fine e is = ending (Breaks e) is e refl
+  broken_fine e is = ending (Breaks e) is e refl
 
-  settled-fine : (o : Outcome) → (statement_now app s id x).1 ≡ Settles o → Fine app s (settled app s task id x o)
+  settled_fine : (o : Outcome) → (statement_now app s id x).1 ≡ Settles o → Fine app s (settled app s task id x o)
   unfolding settled
-  settled-fine o is = by (refusal app.generation (durable app.generation new)) refl
+  settled_fine o is = by (refusal app.generation (durable app.generation new)) refl
     where
       new : TableRows
       new = synchronised app.generation s.tables id x o
 
       by : (c : Option Cause) → refusal app.generation (durable app.generation new) ≡ c → Fine app s (settled_by app s task id x o new c)
-      by (Some cause) e = refused-fine o is cause (ap ending_by (sym e))
-      by None e = point-fine (record (without_work s task id) { tables = new }) new (kept_record id x Synced) refl refl o (row_after app.generation id x o) (ending (Settles o) is Synced (ap ending_by (sym e)))
+      by (Some cause) e = refused_fine o is cause (ap ending_by (sym e))
+      by None e = point_fine (record (without_work s task id) { tables = new }) new (kept_record id x Synced) refl refl o (row_after app.generation id x o) (ending (Settles o) is Synced (ap ending_by (sym e)))
 
-  again-fine : (u : State) (last : Option Bytes) → Fine app s (last_again u id last)
-  again-fine u None = tt
-  again-fine u (Some message) = by id
+  again_fine : (u : State) (last : Option Bytes) → Fine app s (last_again u id last)
+  again_fine u None = tt
+  again_fine u (Some message) = by id
     where
       by : (i : ServiceId) → Fine app s (last_again u i (Some message))
       by (Dialogue user) = tt
       by (Asynchronous number) = tt
 
-  back-fine : (u : State) (began : Option Service) → Fine app s (back app u id x began)
-  back-fine u None = tt
-  back-fine u (Some row) = by row.awaits
+  back_fine : (u : State) (began : Option Service) → Fine app s (back app u id x began)
+  back_fine u None = tt
+  back_fine u (Some row) = by row.awaits
     where
       by : (b : Bool) → Fine app s (back_by app u id x row b)
-      by true = again-fine u row.last
+      by true = again_fine u row.last
       by false = tt
 
-  happens-fine : (y : OpenTransaction) (h : Happened) → (statement_now app s id x).1 ≡ h → Fine app s (happens app s task id x y h)
+  happens_fine : (y : OpenTransaction) (h : Happened) → (statement_now app s id x).1 ≡ h → Fine app s (happens app s task id x y h)
   unfolding happens
-  happens-fine y (Settles o) is = settled-fine o is
-  happens-fine y (Breaks e) is = broken-fine e is
-  happens-fine y Returns is = back-fine (without_work s task id) x.began
-  happens-fine y _ is = tt
+  happens_fine y (Settles o) is = settled_fine o is
+  happens_fine y (Breaks e) is = broken_fine e is
+  happens_fine y Returns is = back_fine (without_work s task id) x.began
+  happens_fine y _ is = tt
 
-worked-fine : (app : Application) (s : State) (task : ℕ) (id : ServiceId) (o : Option OpenTransaction) → find id_cmp id s.active ≡ o → Fine app s (worked app s task id o)
-worked-fine app s task id None e = tt
-worked-fine app s task id (Some x) e = happens-fine app s task id x e (statement_now app s id x).0 (statement_now app s id x).1 refl
+worked_fine : (app : Application) (s : State) (task : ℕ) (id : ServiceId) (o : Option OpenTransaction) → find id_cmp id s.active ≡ o → Fine app s (worked app s task id o)
+worked_fine app s task id None e = tt
+worked_fine app s task id (Some x) e = happens_fine app s task id x e (statement_now app s id x).0 (statement_now app s id x).1 refl
 
-turn-fine : (app : Application) (s : State) (task : ℕ) → Fine app s (turn_of app s task)
-turn-fine app s task = of_turn app s task (Fine app s) (λ t r. subst (TurnMakes app s t.after.tables t.acts) (sym r.settled) tt) (λ id. worked-fine app s task id (find id_cmp id s.active) refl)
+turn_fine : (app : Application) (s : State) (task : ℕ) → Fine app s (turn_of app s task)
+turn_fine app s task = of_turn app s task (Fine app s) (λ t r. subst (TurnMakes app s t.after.tables t.acts) (sym r.settled) tt) (λ id. worked_fine app s task id (find id_cmp id s.active) refl)
 
 pub turns_do_so : TurnsDoSo
-turns_do_so app s task = by (turn_of app s task).settled (turn-fine app s task)
+turns_do_so app s task = by (turn_of app s task).settled (turn_fine app s task)
   where
     by : (o : Option Settled) → TurnMakes app s (turn_of app s task).after.tables (turn_of app s task).acts o → StepMakes app s (turned_step (turn_of app s task)) (maker_of o)
     by None h = tt
@@ -141,41 +141,41 @@ module _ (app : Application) (s : State) (pterm : Bytes) where
   shown line_of is none None e = tt
   shown line_of is none (Some job) e = record { job = job; due = e; gives = refl; sends = (pterm, (refl, is job.value.message)) }
 
-signed-none : (app : Application) (s : State) (pterm user lterm : Bytes) (row : Option Service) → StepMakes app s (signed_on_by app s pterm user lterm row) (signed_on_by app s pterm user lterm row).by
-signed-none app s pterm user lterm None = tt
-signed-none app s pterm user lterm (Some row) = tt
+signed_none : (app : Application) (s : State) (pterm user lterm : Bytes) (row : Option Service) → StepMakes app s (signed_on_by app s pterm user lterm row) (signed_on_by app s pterm user lterm row).by
+signed_none app s pterm user lterm None = tt
+signed_none app s pterm user lterm (Some row) = tt
 
-again-none : (app : Application) (s : State) (none : Bytes) (line_of : Bytes → Bytes) (value : Option JobValue) → StepMakes app s (show_again_by s none line_of value) (show_again_by s none line_of value).by
-again-none app s none line_of None = tt
-again-none app s none line_of (Some value) = tt
+again_none : (app : Application) (s : State) (none : Bytes) (line_of : Bytes → Bytes) (value : Option JobValue) → StepMakes app s (show_again_by s none line_of value) (show_again_by s none line_of value).by
+again_none app s none line_of None = tt
+again_none app s none line_of (Some value) = tt
 
-display-none : (app : Application) (s : State) (pterm : Bytes) (last : Option Bytes) → StepMakes app s (display s pterm last) (display s pterm last).by
-display-none app s pterm None = tt
-display-none app s pterm (Some message) = tt
+display_none : (app : Application) (s : State) (pterm : Bytes) (last : Option Bytes) → StepMakes app s (display s pterm last) (display s pterm last).by
+display_none app s pterm None = tt
+display_none app s pterm (Some message) = tt
 
-use-does : (app : Application) (s : State) (pterm user : Bytes) (u : Use) → StepMakes app s (used app s pterm (lterm_at app pterm) user u) (used app s pterm (lterm_at app pterm) user u).by
+use_does : (app : Application) (s : State) (pterm user : Bytes) (u : Use) → StepMakes app s (used app s pterm (lterm_at app pterm) user u) (used app s pterm (lterm_at app pterm) user u).by
 unfolding used show_next
-use-does app s pterm user (Sign name) = signed-none app s pterm name (lterm_at app pterm) (service_of s.tables (Dialogue name))
-use-does app s pterm user Display = display-none app s pterm (last_by (find bytes_cmp pterm s.signed))
-use-does app s pterm user Output = shown app s pterm (asy_line pterm) (λ m. inl refl) (no_message_line pterm) (due_for s (lterm_at app pterm)) refl
-use-does app s pterm user Again = again-none app s (no_message_line pterm) (asy_line pterm) (shown_of s.tables (lterm_at app pterm))
-use-does app s pterm user _ = tt
+use_does app s pterm user (Sign name) = signed_none app s pterm name (lterm_at app pterm) (service_of s.tables (Dialogue name))
+use_does app s pterm user Display = display_none app s pterm (last_by (find bytes_cmp pterm s.signed))
+use_does app s pterm user Output = shown app s pterm (asy_line pterm) (λ m. inl refl) (no_message_line pterm) (due_for s (lterm_at app pterm)) refl
+use_does app s pterm user Again = again_none app s (no_message_line pterm) (asy_line pterm) (shown_of s.tables (lterm_at app pterm))
+use_does app s pterm user _ = tt
 
-tick-does : (app : Application) (s : State) (ticks clock : ℕ) (b : Bool) → StepMakes app s (tick_by app s ticks clock b) (tick_by app s ticks clock b).by
-tick-does app s ticks clock true = record { clock = clock; gives = refl }
-tick-does app s ticks clock false = tt
+tick_does : (app : Application) (s : State) (ticks clock : ℕ) (b : Bool) → StepMakes app s (tick_by app s ticks clock b) (tick_by app s ticks clock b).by
+tick_does app s ticks clock true = record { clock = clock; gives = refl }
+tick_does app s ticks clock false = tt
 
-drop-none : (app : Application) (s : State) (pterm : Bytes) (v : Option Session) → StepMakes app s (drop_by app s pterm v) (drop_by app s pterm v).by
-drop-none app s pterm None = tt
-drop-none app s pterm (Some v) = tt
+drop_none : (app : Application) (s : State) (pterm : Bytes) (v : Option Session) → StepMakes app s (drop_by app s pterm v) (drop_by app s pterm v).by
+drop_none app s pterm None = tt
+drop_none app s pterm (Some v) = tt
 
 pub commands_do_so : CommandsDoSo
 unfolding command_of show_next
-commands_do_so app s (Input pterm text) = use-does app s pterm _ (use_now app s pterm text)
-commands_do_so app s (Tick ticks) = tick-does app s ticks (s.tables.clock + ticks) (nat_le (s.tables.clock + ticks) last_clock)
+commands_do_so app s (Input pterm text) = use_does app s pterm _ (use_now app s pterm text)
+commands_do_so app s (Tick ticks) = tick_does app s ticks (s.tables.clock + ticks) (nat_le (s.tables.clock + ticks) last_clock)
 commands_do_so app s (Run turns) = tt
 commands_do_so app s (Turn task) = turns_do_so app s task
-commands_do_so app s (Drop pterm) = drop-none app s pterm (find bytes_cmp pterm s.signed)
+commands_do_so app s (Drop pterm) = drop_none app s pterm (find bytes_cmp pterm s.signed)
 commands_do_so app s (Print pterm) = shown app s pterm (prt_line pterm) (λ m. inr refl) (no_message_line pterm) (due_for s (lterm_at app pterm)) refl
-commands_do_so app s (PrintLast pterm) = again-none app s (no_message_line pterm) (prt_line pterm) (shown_of s.tables (lterm_at app pterm))
+commands_do_so app s (PrintLast pterm) = again_none app s (no_message_line pterm) (prt_line pterm) (shown_of s.tables (lterm_at app pterm))
 commands_do_so app s Restart = tt

@@ -14,8 +14,8 @@ use Rattle.kdcs_types.specs.declared.key.Key.TheVariants.{Job as JobKey}
 use Rattle.kdcs_types.specs.declared.service.Job.{Job}
 use Rattle.kdcs_types.specs.declared.service.JobValue.{JobValue}
 use Rattle.kdcs_types.specs.Keyed.{keyed, ascends, without_item}
-use Rattle.kdcs_types.specs.KeyedLaws.{found_key, found_passes, item_at-without}
-use Rattle.kdcs_types.specs.KeyLaws.{key_eq-same, key_eq-itself}
+use Rattle.kdcs_types.specs.KeyedLaws.{found_key, found_passes, item_at_without}
+use Rattle.kdcs_types.specs.KeyLaws.{key_eq_same, key_eq_itself}
 use Rattle.kdcs_types.specs.Keys.{key_cmp, key_eq}
 use Rattle.kdcs_types.specs.Tables.{TableRows, job_key, job_of}
 use Rattle.abstract_monitor.specs.State.{Application, State}
@@ -54,7 +54,7 @@ below_in k g (x ∷ xs) h (inl same) = ap (λ (j : Job). is_lt (key_cmp k (job_k
 below_in k g (x ∷ xs) h (inr later) = below_in k g xs (both_true (is_lt (key_cmp k (job_key x))) (below_all key_cmp k (keyed job_key xs)) h).1 later
 
 not_below : (k : Key) → is_lt (key_cmp k k) ≡ true → ⊥
-not_below k h = by (key_cmp k k) h (key_eq-itself k)
+not_below k h = by (key_cmp k k) h (key_eq_itself k)
   where
     by : (r : Ordering) → is_lt r ≡ true → is_eq r ≡ true → ⊥
     by Less h e = true≢false (sym e)
@@ -66,13 +66,13 @@ other_key k q h = by (key_eq q k) refl
   where
     by : (b : Bool) → key_eq q k ≡ b → key_eq q k ≡ false
     by false e = e
-    by true e = absurd (not_below k (ap (λ (p : Key). is_lt (key_cmp k p)) (sym (key_eq-same q k e)) ∙ h))
+    by true e = absurd (not_below k (ap (λ (p : Key). is_lt (key_cmp k p)) (sym (key_eq_same q k e)) ∙ h))
 
 -- a job in a list in order is the one of its number
 in_found : (g : Job) (js : List Job) → IsTrue (ascends job_key js) → IsIn g js → at g.number js ≡ Some g
 in_found g [] h i = absurd i
 in_found g (x ∷ xs) h (inl same) =
-    ap (λ (b : Bool). cond b (Some x) (at g.number xs)) (ap (λ (j : Job). key_eq (JobKey g.number) (job_key j)) same ∙ key_eq-itself (JobKey g.number)) ∙ ap (λ (j : Job). Some j) same
+    ap (λ (b : Bool). cond b (Some x) (at g.number xs)) (ap (λ (j : Job). key_eq (JobKey g.number) (job_key j)) same ∙ key_eq_itself (JobKey g.number)) ∙ ap (λ (j : Job). Some j) same
 in_found g (x ∷ xs) h (inr later) =
     let parts = both_true (below_all key_cmp (job_key x) (keyed job_key xs)) (ascends job_key xs) h in
     ap (λ (b : Bool). cond b (Some x) (at g.number xs)) (other_key (job_key x) (job_key g) (below_in (job_key x) g xs parts.0 later)) ∙ in_found g xs parts.1 later
@@ -90,13 +90,13 @@ at_first n (x ∷ xs) ks j e = by (key_eq (JobKey n) (job_key x)) e (at_first n 
 stays_or_gone : (jobs : List Job) (gone : Option Job) → IsTrue (ascends job_key jobs) → IfSome gone (λ (job : Job). Contains jobs job) → (n : ℕ) (j : Job) → at n jobs ≡ Some j
     → (at n (without_gone gone jobs) ≡ Some j) ⊎ (gone ≡ Some j)
 stays_or_gone jobs None sorted there n j e = inl e
-stays_or_gone jobs (Some g) sorted there n j e = by (key_eq (JobKey n) (JobKey g.number)) refl (item_at-without job_key (JobKey n) (JobKey g.number) jobs)
+stays_or_gone jobs (Some g) sorted there n j e = by (key_eq (JobKey n) (JobKey g.number)) refl (item_at_without job_key (JobKey n) (JobKey g.number) jobs)
   where
     by : (b : Bool) → key_eq (JobKey n) (JobKey g.number) ≡ b → at n (without_item job_key (JobKey g.number) jobs) ≡ cond b None (at n jobs) → (at n (without_item job_key (JobKey g.number) jobs) ≡ Some j) ⊎ (Some g ≡ Some j)
     by false other is = inl (is ∙ e)
     by true same is =
         let here : at g.number jobs ≡ Some g = in_found g jobs sorted (is_in g jobs there.0 there.1 there.2) in
-        inr (sym here ∙ ap (λ m. at m jobs) (sym (same_number n g.number (key_eq-same (JobKey n) (JobKey g.number) same))) ∙ e)
+        inr (sym here ∙ ap (λ m. at m jobs) (sym (same_number n g.number (key_eq_same (JobKey n) (JobKey g.number) same))) ∙ e)
 
 module _ (app : Application) (t u : TableRows) (by : Maker) (acts : List Act) (q : QueueLaw app t u by acts) (sorted : IsTrue (ascends job_key t.jobs)) (below : IsTrue (list_all (λ (j : Job). nat_lt j.number t.next_job) t.jobs)) (number : ℕ) (value : JobValue) where
   -- it is taken, and gone
@@ -115,17 +115,17 @@ module _ (app : Application) (t u : TableRows) (by : Maker) (acts : List Act) (q
 
     left : at number (without_item job_key (JobKey j.number) t.jobs) ≡ None
     left =
-        item_at-without job_key (JobKey number) (JobKey j.number) t.jobs
-        ∙ ap (λ (b : Bool). cond b None (at number t.jobs)) (ap (λ (m : ℕ). key_eq (JobKey number) (JobKey m)) own ∙ key_eq-itself (JobKey number))
+        item_at_without job_key (JobKey number) (JobKey j.number) t.jobs
+        ∙ ap (λ (b : Bool). cond b None (at number t.jobs)) (ap (λ (m : ℕ). key_eq (JobKey number) (JobKey m)) own ∙ key_eq_itself (JobKey number))
 
-    gone-from : q.gone ≡ Some j → value_at number u.jobs ≡ None
-    gone-from gone =
+    gone_from : q.gone ≡ Some j → value_at number u.jobs ≡ None
+    gone_from gone =
         ap (value_at number) q.jobs
         ∙ ap value_of (at_both number (without_gone q.gone t.jobs) q.made (not_made q.made number t.next_job q.numbers drawn) ∙ ap (λ (o : Option Job). at number (without_gone o t.jobs)) gone ∙ left)
 
     either : (at number (without_gone q.gone t.jobs) ≡ Some j) ⊎ (q.gone ≡ Some j) → (value_at number u.jobs ≡ Some value) ⊎ Goes
     either (inl kept) = inl (ap (value_at number) q.jobs ∙ ap value_of (at_first number (without_gone q.gone t.jobs) q.made j kept) ∙ ap (λ (w : JobValue). Some w) is)
-    either (inr gone) = inr (subst (λ (o : Option Job). Takes app by o u acts) (gone ∙ whole) q.taken, gone-from gone)
+    either (inr gone) = inr (subst (λ (o : Option Job). Takes app by o u acts) (gone ∙ whole) q.taken, gone_from gone)
 
   stays_or_taken : value_at number t.jobs ≡ Some value → (value_at number u.jobs ≡ Some value) ⊎ Goes
   stays_or_taken e =

@@ -8,29 +8,25 @@ use Rattle.abstract_monitor.specs.Endings.{durable}
 use Rattle.abstract_monitor.specs.State.{Application}
 use Rattle.abstract_monitor.specs.Commands.{started, state_after}
 use Rattle.laws_of_steps.specs.Applications.{IsApplication}
-use Rattle.laws_of_steps.specs.DurableLaws.{durable_again}
+use Rattle.laws_of_steps.specs.DurableLaws.{durable_again, durable_service}
 use Rattle.laws_of_steps.specs.Suits.{Suits}
-use Rattle.laws_of_places.specs.RowsLaws.{durable_service}
 use Rattle.laws_of_runs.specs.RunLaws.{StartsHaveFacts}
 use Rattle.laws_of_jobs.specs.ManyRuns.{StoppedRun, IsRunFrom, AreRunsFrom, left_by, left_by_all, TookJob, OneTookJob, RunsKeepJobs, AllRunsKeepJobs}
 use Rattle.laws_of_jobs.specs.QueueLaws.{KeepsJobs, IsTakenIn, JobsAreDoneOnce}
 use Rattle.laws_of_jobs.specs.ResumeLaws.{CutResumes, CutsResume}
-use Rattle.laws_of_jobs.proofs.Numbers.{numbers_joined, same-numbers}
+use Rattle.laws_of_jobs.proofs.Numbers.{numbers_joined, same_numbers}
+use Rattle.laws_of_steps.specs.TablesStayLaws.{started_tables}
 
 -- ---- one run
 
 -- what outlives a stop has all jobs, numbers and asynchronous services
-stored-jobs : (g : Generated) (t u : TableRows) (IsTaken : Job → Type 0) → KeepsJobs t u IsTaken → KeepsJobs t (durable g u) IsTaken
+stored_jobs : (g : Generated) (t u : TableRows) (IsTaken : Job → Type 0) → KeepsJobs t u IsTaken → KeepsJobs t (durable g u) IsTaken
 unfolding durable
-stored-jobs g t u IsTaken k = record {
+stored_jobs g t u IsTaken k = record {
   numbers = record { next = k.numbers.next; drawn = k.numbers.drawn };
   lost = k.lost;
   doubled = λ number over. let o = k.doubled number over in record { drawn = o.drawn; job = o.job; row = durable_service g u number ∙ o.row };
 }
-
-same-tables : (app : Application) (t : TableRows) → (started app t).tables ≡ t
-unfolding started
-same-tables app t = refl
 
 module _ (starts : StartsHaveFacts) (cuts : CutsResume) (jobs : JobsAreDoneOnce) (app : Application) (is_app : IsApplication app) where
   module _ (t : TableRows) (run : StoppedRun) (order : IsSortedTables t) (suits : Suits app.generation t) (is : IsRunFrom app t run) where
@@ -41,13 +37,13 @@ module _ (starts : StartsHaveFacts) (cuts : CutsResume) (jobs : JobsAreDoneOnce)
     left = left_by app t run
 
     left_order : IsSortedTables left
-    left_order = subst IsSortedTables (same-tables app left) cut.facts.1.order
+    left_order = subst IsSortedTables (started_tables app left) cut.facts.1.order
 
     lasting : durable app.generation left ≡ left
     lasting = ap (durable app.generation) cut.stored ∙ durable_again app.generation (state_after (started app t) cut.steps.first).tables ∙ sym cut.stored
 
     left_suits : Suits app.generation left
-    left_suits = subst (Suits app.generation) (ap (durable app.generation) (same-tables app left) ∙ lasting) cut.facts.1.suits
+    left_suits = subst (Suits app.generation) (ap (durable app.generation) (started_tables app left) ∙ lasting) cut.facts.1.suits
 
     in_steps : KeepsJobs t (state_after (started app t) cut.steps.first).tables (IsTakenIn app cut.steps.first)
     unfolding started state_after
@@ -61,12 +57,12 @@ module _ (starts : StartsHaveFacts) (cuts : CutsResume) (jobs : JobsAreDoneOnce)
         either job (inr taken) = inr (record { steps = cut.steps; taken = taken })
 
     one_run : KeepsJobs t left (TookJob app t run)
-    one_run = taken_is (subst (λ (w : TableRows). KeepsJobs t w (IsTakenIn app cut.steps.first)) (sym cut.stored) (stored-jobs app.generation t _ _ in_steps))
+    one_run = taken_is (subst (λ (w : TableRows). KeepsJobs t w (IsTakenIn app cut.steps.first)) (sym cut.stored) (stored_jobs app.generation t _ _ in_steps))
 
   -- ---- all runs
 
   none_kept : (t : TableRows) (IsTaken : Job → Type 0) → KeepsJobs t t IsTaken
-  none_kept t IsTaken = record { numbers = same-numbers t t refl; lost = λ job there. inl there; doubled = λ number over. over }
+  none_kept t IsTaken = record { numbers = same_numbers t t refl; lost = λ job there. inl there; doubled = λ number over. over }
 
   both_keep : (t u w : TableRows) (A B : Job → Type 0) → KeepsJobs t u A → KeepsJobs u w B → KeepsJobs t w (λ job. A job ⊎ B job)
   both_keep t u w A B a b = record {

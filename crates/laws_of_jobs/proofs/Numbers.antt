@@ -9,8 +9,8 @@ use Rattle.kdcs_types.specs.declared.service.Job.{Job}
 use Rattle.kdcs_types.specs.declared.service.JobValue.{JobValue}
 use Rattle.kdcs_types.specs.declared.service.Service.{Service}
 use Rattle.kdcs_types.specs.Keyed.{item_at}
-use Rattle.kdcs_types.specs.KeyedLaws.{item_at-without}
-use Rattle.kdcs_types.specs.KeyLaws.{key_eq-same, id_eq-same}
+use Rattle.kdcs_types.specs.KeyedLaws.{item_at_without}
+use Rattle.kdcs_types.specs.KeyLaws.{key_eq_same, id_eq_same}
 use Rattle.kdcs_types.specs.Keys.{id_eq, key_eq}
 use Rattle.kdcs_types.specs.Tables.{TableRows, job_key, job_of, service_of}
 use Rattle.abstract_monitor.specs.State.{Application, State}
@@ -24,21 +24,18 @@ use Rattle.laws_of_steps.specs.Applications.{IsApplication}
 use Rattle.laws_of_steps.specs.Keeping.{Leads, HasFacts, IsScriptOf}
 use Rattle.laws_of_steps.specs.Steps.{CommitsOnce, TurnsCommitOnce, CommandsCommitOnce}
 use Rattle.laws_of_steps.specs.Transactions.{HasOwnJob}
-use Rattle.laws_of_places.specs.RowsLaws.{durable_service}
 use Rattle.laws_of_steps.specs.EachStep.{EachStep}
 use Rattle.laws_of_steps.specs.EachStepLaws.{each_split}
 use Rattle.laws_of_runs.specs.ListsLaws.{after_both}
 use Rattle.laws_of_places.specs.Along.{StepLaw}
 use Rattle.laws_of_jobs.specs.AlongLaws.{EachMeets, meets_along}
 use Rattle.laws_of_jobs.specs.QueueLaws.{MeetsBoth, TurnsKeepQueues, CommandsKeepQueues, KeepsNumbers, IsOver}
+use Rattle.laws_of_steps.specs.DurableLaws.{durable_service}
 
 -- ---- jobs by number
 
 abbrev pub at : ℕ → List Job → Option Job
 at n jobs = item_at job_key (JobKey n) jobs
-
-abbrev no_job : Option Job
-no_job = None
 
 pub same_number : (n m : ℕ) → JobKey n ≡ JobKey m → n ≡ m
 same_number n m e = cc
@@ -48,7 +45,7 @@ other_number n m less = by (key_eq (JobKey n) (JobKey m)) refl
   where
     by : (b : Bool) → key_eq (JobKey n) (JobKey m) ≡ b → key_eq (JobKey n) (JobKey m) ≡ false
     by false e = e
-    by true e = let same = same_number n m (key_eq-same (JobKey n) (JobKey m) e) in absurd (omega arith)
+    by true e = let same = same_number n m (key_eq_same (JobKey n) (JobKey m) e) in absurd (omega arith)
 
 -- a number below the first new one is none of theirs
 pub not_made : (made : List Job) (n m : ℕ) → AreNumberedFrom m made → n < m → at n made ≡ None
@@ -64,7 +61,7 @@ at_both n (j ∷ js) ks h = ap (λ (o : Option Job). cond (key_eq (JobKey n) (jo
 -- of the jobs that are left, each is as before
 at_left : (gone : Option Job) (n : ℕ) (js : List Job) → (at n (without_gone gone js) ≡ at n js) ⊎ (at n (without_gone gone js) ≡ None)
 at_left None n js = inl refl
-at_left (Some j) n js = by (key_eq (JobKey n) (JobKey j.number)) (item_at-without job_key (JobKey n) (JobKey j.number) js)
+at_left (Some j) n js = by (key_eq (JobKey n) (JobKey j.number)) (item_at_without job_key (JobKey n) (JobKey j.number) js)
   where
     by : (b : Bool) → at n (without_gone (Some j) js) ≡ cond b None (at n js) → (at n (without_gone (Some j) js) ≡ at n js) ⊎ (at n (without_gone (Some j) js) ≡ None)
     by true e = inr e
@@ -75,8 +72,8 @@ value o = option_map (λ (j : Job). j.value) o
 
 -- ---- one step
 
-queue-numbers : (app : Application) (t u : TableRows) (by : Maker) (acts : _) → QueueLaw app t u by acts → KeepsNumbers t u
-queue-numbers app t u by acts q = record {
+queue_numbers : (app : Application) (t u : TableRows) (by : Maker) (acts : _) → QueueLaw app t u by acts → KeepsNumbers t u
+queue_numbers app t u by acts q = record {
   next = let n = q.next in omega arith;
   drawn = λ n less.
       let same : at n u.jobs ≡ at n (without_gone q.gone t.jobs) = ap (at n) q.jobs ∙ at_both n (without_gone q.gone t.jobs) q.made (not_made q.made n t.next_job q.numbers less) in
@@ -87,20 +84,20 @@ queue-numbers app t u by acts q = record {
     either n o e (inl kept) = inl (ap value (e ∙ kept))
     either n o e (inr none) = inr (ap value (e ∙ none))
 
-durable-numbers : (app : Application) (t u : TableRows) → KeepsNumbers (durable app.generation t) (durable app.generation u) → KeepsNumbers t u
+durable_numbers : (app : Application) (t u : TableRows) → KeepsNumbers (durable app.generation t) (durable app.generation u) → KeepsNumbers t u
 unfolding durable
-durable-numbers app t u k = record { next = k.next; drawn = k.drawn }
+durable_numbers app t u k = record { next = k.next; drawn = k.drawn }
 
-pub same-numbers : (t u : TableRows) → u ≡ t → KeepsNumbers t u
-same-numbers t u e = record { next = subst (λ (w : TableRows). t.next_job ≤ w.next_job) (sym e) (le_refl t.next_job); drawn = λ n less. inl (ap (λ (w : TableRows). job_of w n) e) }
+pub same_numbers : (t u : TableRows) → u ≡ t → KeepsNumbers t u
+same_numbers t u e = record { next = subst (λ (w : TableRows). t.next_job ≤ w.next_job) (sym e) (le_refl t.next_job); drawn = λ n less. inl (ap (λ (w : TableRows). job_of w n) e) }
 
 module _ (app : Application) (s : State) (d : ScriptStep) where
   both_as : (maker : Maker) → d.by ≡ Some maker → MeetsBoth app s d d.by → MeetsBoth app s d (Some maker)
   both_as maker e both = subst (λ (o : Option Maker). MeetsBoth app s d o) e both
 
-  step-numbers : CommitsOnce app s d → MeetsBoth app s d d.by → KeepsNumbers s.tables d.after.tables
-  step-numbers (inl none) both = durable-numbers app s.tables d.after.tables (same-numbers _ _ none.tables)
-  step-numbers (inr one) both = durable-numbers app s.tables d.after.tables (queue-numbers app _ _ one.maker d.acts (both_as one.maker one.by both).0)
+  step_numbers : CommitsOnce app s d → MeetsBoth app s d d.by → KeepsNumbers s.tables d.after.tables
+  step_numbers (inl none) both = durable_numbers app s.tables d.after.tables (same_numbers _ _ none.tables)
+  step_numbers (inr one) both = durable_numbers app s.tables d.after.tables (queue_numbers app _ _ one.maker d.acts (both_as one.maker one.by both).0)
 
   module _ (facts : HasFacts app s) (number : ℕ) (over : IsOver s.tables number) where
     abbrev id : ServiceId
@@ -119,7 +116,7 @@ module _ (app : Application) (s : State) (d : ScriptStep) where
         by : (b : Bool) → id_eq id kept.service ≡ b → service_of d.after.tables id ≡ service_of s.tables id
         by false e = law.others id e
         by true e =
-            let same = sym (id_eq-same id kept.service e) in
+            let same = sym (id_eq_same id kept.service e) in
             let rooted = facts.0.rooted kept.service law.own.own law.own.was_open in
             absurd (owns_none kept.service law.own.own.began same (sym rooted.began ∙ ap (λ (i : ServiceId). service_of s.tables i) same ∙ over.row) rooted.job)
 
@@ -133,7 +130,7 @@ module _ (app : Application) (s : State) (d : ScriptStep) where
 
     stays_over : CommitsOnce app s d → MeetsBoth app s d d.by → IsOver d.after.tables number
     stays_over once both =
-        let k = step-numbers once both in
+        let k = step_numbers once both in
         record {
           drawn = let a = over.drawn in let b = k.next in omega arith;
           job = none_left (job_of d.after.tables number) (k.drawn number over.drawn);
@@ -188,8 +185,8 @@ OverLaw app s d = StaysOver s.tables d.after.tables
 module _ (kept : Leads HasFacts HasFacts) (turns_once : TurnsCommitOnce) (commands_once : CommandsCommitOnce) (turns : TurnsKeepQueues) (commands : CommandsKeepQueues) where
   numbers_each : EachMeets NumbersLaw
   numbers_each = record {
-    turns = λ app s task facts. step-numbers app s (turned_step (turn_of app s task)) (turns_once app s task) (turns app s task facts);
-    commands = λ app s c facts. step-numbers app s (command_of app s c) (commands_once app s c) (commands app s c facts);
+    turns = λ app s task facts. step_numbers app s (turned_step (turn_of app s task)) (turns_once app s task) (turns app s task facts);
+    commands = λ app s c facts. step_numbers app s (command_of app s c) (commands_once app s c) (commands app s c facts);
   }
 
   over_each : EachMeets OverLaw
@@ -200,7 +197,7 @@ module _ (kept : Leads HasFacts HasFacts) (turns_once : TurnsCommitOnce) (comman
 
   pub numbers_are_drawn_once : LeadsAlong KeepsNumbers
   numbers_are_drawn_once app s script is_app names facts first more rest e =
-      between KeepsNumbers (λ t. same-numbers t t refl) numbers_joined s _ first more rest e (meets_along NumbersLaw kept numbers_each app s script is_app names facts)
+      between KeepsNumbers (λ t. same_numbers t t refl) numbers_joined s _ first more rest e (meets_along NumbersLaw kept numbers_each app s script is_app names facts)
 
   pub jobs_stay_over : LeadsAlong StaysOver
   jobs_stay_over app s script is_app names facts first more rest e =

@@ -15,8 +15,8 @@ use Rattle.kdcs_types.specs.declared.service.JobValue.{JobValue}
 use Rattle.kdcs_types.specs.declared.service.Service.{Service}
 use Rattle.kdcs_types.specs.declared.service.Settled.{Settled}
 use Rattle.kdcs_types.specs.Keyed.{item_at, without_item}
-use Rattle.kdcs_types.specs.KeyedLaws.{found_key, item_at-with}
-use Rattle.kdcs_types.specs.KeyLaws.{key_eq-itself}
+use Rattle.kdcs_types.specs.KeyedLaws.{found_key, item_at_with}
+use Rattle.kdcs_types.specs.KeyLaws.{key_eq_itself}
 use Rattle.kdcs_types.specs.Keys.{id_eq, key_eq}
 use Rattle.kdcs_types.specs.Tables.{TableRows, job_key, shown_key, service_of, shown_of}
 use Rattle.abstract_monitor.specs.declared.answer.Happened.{Happened}
@@ -31,11 +31,12 @@ use Rattle.laws_of_steps.specs.JobLaw.{jobs_left, new_jobs}
 use Rattle.laws_of_steps.specs.JobLaws.{points_number, ends_draw_none}
 use Rattle.laws_of_steps.specs.Keeping.{HasFacts}
 use Rattle.laws_of_steps.specs.Transactions.{HasOwnJob, IsRooted}
-use Rattle.laws_of_places.specs.RowsLaws.{synchronised_own, synchronised_other, broken_own, broken_other, kept_at}
+use Rattle.laws_of_places.specs.RowsLaws.{synchronised_own, synchronised_other, broken_own, broken_other}
 use Rattle.laws_of_tables.specs.ItemsLaws.{contains, IsIn}
-use Rattle.laws_of_tables.specs.EndsLaws.{due-for, for-lterm}
+use Rattle.laws_of_tables.specs.EndsLaws.{due_job_found, for_lterm}
 use Rattle.laws_of_jobs.specs.Doings.{tables_by, Settling, Showing, Ticking, StepMakes}
 use Rattle.laws_of_jobs.specs.QueueLaws.{MeetsBoth, TurnsDoSo, CommandsDoSo, TurnsKeepQueues, CommandsKeepQueues}
+use Rattle.laws_of_steps.specs.DurableLaws.{kept_at}
 
 -- ---- items
 
@@ -88,8 +89,8 @@ none_made Synced = tt
 none_made (Broken cause) = refl
 none_made BrokenFr = refl
 
-broken-drawn : (t : TableRows) (id : ServiceId) (x : OpenTransaction) (e : Ending) → Drawn t (broken t id x) id x e
-broken-drawn t id x e =
+broken_drawn : (t : TableRows) (id : ServiceId) (x : OpenTransaction) (e : Ending) → Drawn t (broken t id x) id x e
+broken_drawn t id x e =
     let q = ends_draw_none t id x in
     record { made = []; jobs = q.jobs ∙ sym (append-nil (jobs_left id x.began t.jobs)); numbers = tt; next = q.next ∙ sym (add-zero t.next_job); makes = none_made e }
 
@@ -98,9 +99,9 @@ module _ (app : Application) (t : TableRows) (id : ServiceId) (x : OpenTransacti
   drawn (Settles o) Synced ends =
       let q = points_number app.generation t id x o in
       record { made = new_jobs t x; jobs = q.jobs; numbers = q.numbers; next = q.next; makes = tt }
-  drawn (Settles o) (Broken cause) ends = broken-drawn t id x (Broken cause)
-  drawn (Settles o) BrokenFr ends = broken-drawn t id x BrokenFr
-  drawn (Breaks by) e ends = broken-drawn t id x e
+  drawn (Settles o) (Broken cause) ends = broken_drawn t id x (Broken cause)
+  drawn (Settles o) BrokenFr ends = broken_drawn t id x BrokenFr
+  drawn (Breaks by) e ends = broken_drawn t id x e
   drawn _ e ends = absurd ends
 
   -- ---- the rows of services
@@ -140,8 +141,8 @@ durable_queue app t u by acts q = record {
 }
 
 -- where all rows but the own are kept
-services-law : (app : Application) (s : State) (after : TableRows) (by : Maker) → HasOwnRow app s after by → ((id : ServiceId) → IsByAnother by id → service_of after id ≡ service_of s.tables id) → ServiceLaw app s after by
-services-law app s after by own others = record {
+services_law : (app : Application) (s : State) (after : TableRows) (by : Maker) → HasOwnRow app s after by → ((id : ServiceId) → IsByAnother by id → service_of after id ≡ service_of s.tables id) → ServiceLaw app s after by
+services_law app s after by own others = record {
   own = own;
   others = others;
   durable_rows = durable_row app after;
@@ -173,7 +174,7 @@ module _ (app : Application) (s : State) (after : TableRows) (kept : Settled) (a
       }
 
   transaction_services : ServiceLaw app s after (ByTransaction kept)
-  transaction_services = services-law app s after (ByTransaction kept)
+  transaction_services = services_law app s after (ByTransaction kept)
       (record {
         own = m.own;
         was_open = m.was_open;
@@ -186,12 +187,12 @@ module _ (app : Application) (s : State) (after : TableRows) (kept : Settled) (a
 module _ (app : Application) (s : State) (lterm : Bytes) (d : ScriptStep) (m : Showing app s lterm d) where
   stands : (t : TableRows) → shown_of (shown_tables t lterm m.job) lterm ≡ Some m.job.value
   stands t =
-      ap (option_map (λ (r : Bytes × JobValue). r.1)) (item_at-with shown_key (ShownKey lterm) (lterm, m.job.value) t.shown)
-      ∙ ap (λ b. option_map (λ (r : Bytes × JobValue). r.1) (cond b (Some (lterm, m.job.value)) (item_at shown_key (ShownKey lterm) t.shown))) (key_eq-itself (ShownKey lterm))
+      ap (option_map (λ (r : Bytes × JobValue). r.1)) (item_at_with shown_key (ShownKey lterm) (lterm, m.job.value) t.shown)
+      ∙ ap (λ b. option_map (λ (r : Bytes × JobValue). r.1) (cond b (Some (lterm, m.job.value)) (item_at shown_key (ShownKey lterm) t.shown))) (key_eq_itself (ShownKey lterm))
 
   show_queue : QueueLaw app s.tables d.after.tables (ByShow lterm) d.acts
   show_queue =
-      let is = due-for s lterm m.job m.due in
+      let is = due_job_found s lterm m.job m.due in
       record {
         gone = Some m.job;
         made = [];
@@ -199,12 +200,12 @@ module _ (app : Application) (s : State) (lterm : Bytes) (d : ScriptStep) (m : S
         numbers = tt;
         next = ap (λ (t : TableRows). t.next_job) m.gives ∙ sym (add-zero s.tables.next_job);
         was_there = contains m.job s.tables.jobs is.there;
-        taken = (m.job, (refl, (for-lterm lterm m.job.value.to is.target, (ap (λ (t : TableRows). shown_of t lterm) m.gives ∙ stands s.tables, m.sends))));
+        taken = (m.job, (refl, (for_lterm lterm m.job.value.to is.target, (ap (λ (t : TableRows). shown_of t lterm) m.gives ∙ stands s.tables, m.sends))));
         makes = refl;
       }
 
   show_services : ServiceLaw app s d.after.tables (ByShow lterm)
-  show_services = services-law app s d.after.tables (ByShow lterm) tt (λ id another. ap (λ (t : TableRows). service_of t id) m.gives)
+  show_services = services_law app s d.after.tables (ByShow lterm) tt (λ id another. ap (λ (t : TableRows). service_of t id) m.gives)
 
 module _ (app : Application) (s : State) (ticks : ℕ) (d : ScriptStep) (m : Ticking s d) where
   tick_queue : QueueLaw app s.tables d.after.tables (ByTick ticks) d.acts
@@ -220,7 +221,7 @@ module _ (app : Application) (s : State) (ticks : ℕ) (d : ScriptStep) (m : Tic
   }
 
   tick_services : ServiceLaw app s d.after.tables (ByTick ticks)
-  tick_services = services-law app s d.after.tables (ByTick ticks) tt (λ id another. ap (λ (t : TableRows). service_of t id) m.gives)
+  tick_services = services_law app s d.after.tables (ByTick ticks) tt (λ id another. ap (λ (t : TableRows). service_of t id) m.gives)
 
 -- a step that does as its maker says meets both laws
 meets : (app : Application) (s : State) (d : ScriptStep) → HasFacts app s → (o : Option Maker) → StepMakes app s d o → MeetsBoth app s d o

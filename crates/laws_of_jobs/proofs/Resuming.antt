@@ -10,7 +10,7 @@ use Rattle.kdcs_types.specs.declared.key.ServiceId.TheVariants.{Dialogue, Asynch
 use Rattle.kdcs_types.specs.declared.service.Service.{Service}
 use Rattle.kdcs_types.specs.Keyed.{item_at}
 use Rattle.kdcs_types.specs.KeyedLaws.{found_key}
-use Rattle.kdcs_types.specs.KeyLaws.{id_eq-itself}
+use Rattle.kdcs_types.specs.KeyLaws.{id_eq_itself}
 use Rattle.kdcs_types.specs.Keys.{id_cmp, id_eq}
 use Rattle.kdcs_types.specs.Tables.{TableRows, service_key, service_of}
 use Rattle.abstract_monitor.specs.declared.input_use.ServiceState.TheVariants.{Awaits}
@@ -24,11 +24,12 @@ use Rattle.laws_of_steps.specs.Facts.{IsSignedOn}
 use Rattle.laws_of_steps.specs.Keeping.{HasFacts}
 use Rattle.laws_of_steps.specs.Suits.{is_empty, awaits_rightly}
 use Rattle.laws_of_places.specs.EntriesLaws.{found_put}
-use Rattle.laws_of_places.specs.RowsLaws.{kept_at}
 use Rattle.laws_of_tables.specs.RowPartsLaws.{row_parts}
 use Rattle.laws_of_tables.specs.StatesLaws.{parts_of, row_found}
 use Rattle.kd_base.specs.ToolsLaws.{both_true}
 use Rattle.laws_of_jobs.specs.ResumeLaws.{IsReadyAt, StartsResume, AwaitsAt, SignOnResumes, SignOnsResume}
+use Rattle.laws_of_steps.specs.TablesStayLaws.{started_tables}
+use Rattle.laws_of_steps.specs.DurableLaws.{kept_at}
 
 -- ---- starts
 
@@ -64,9 +65,9 @@ module _ (app : Application) where
     same_id : (i j : ServiceId) → ServiceKey i ≡ ServiceKey j → i ≡ j
     same_id i j e = cc
 
-    start-asynchronous : (number : ℕ) (row : Service) → service_of t (Asynchronous number) ≡ Some row → IsReadyAt app (started app t) (Asynchronous number) row (lterm_of_row row.lterm)
+    start_asynchronous : (number : ℕ) (row : Service) → service_of t (Asynchronous number) ≡ Some row → IsReadyAt app (started app t) (Asynchronous number) row (lterm_of_row row.lterm)
     unfolding started
-    start-asynchronous number row e =
+    start_asynchronous number row e =
         let id = Asynchronous number in
         let found : row_in id ≡ Some row = kept_at is_asynchronous id t.services ∙ e in
         let own : row.id ≡ id = same_id row.id id (found_key service_key (ServiceKey id) t.services row e) in
@@ -83,29 +84,25 @@ module _ (app : Application) where
         by true a None e h = absurd (true≢false (sym h))
         by false a o e h = absurd (true≢false (sym h))
 
-    start-others : (id : ServiceId) → IsTrue (list_any (id_eq id) (started app t).ready) → IsTrue (is_asynchronous id) × ((row : Service) × (service_of t id ≡ Some row))
+    start_others : (id : ServiceId) → IsTrue (list_any (id_eq id) (started app t).ready) → IsTrue (is_asynchronous id) × ((row : Service) × (service_of t id ≡ Some row))
     unfolding started
-    start-others id h = is_row id (sym (ready_rows id (asynchronous_rows t)) ∙ h)
-
-    start-tables : (started app t).tables ≡ t
-    unfolding started
-    start-tables = refl
+    start_others id h = is_row id (sym (ready_rows id (asynchronous_rows t)) ∙ h)
 
 pub starts_resume : StartsResume
-starts_resume app t = record { tables = start-tables app t; asynchronous = start-asynchronous app t; others = start-others app t }
+starts_resume app t = record { tables = started_tables app t; asynchronous = start_asynchronous app t; others = start_others app t }
 
 -- ---- signing on
 
 at_back : (id : ServiceId) (ids : List ServiceId) → list_any (id_eq id) (ids ++ id ∷ []) ≡ true
-at_back id [] = ap (λ b. b || false) (id_eq-itself id)
+at_back id [] = ap (λ b. b || false) (id_eq_itself id)
 at_back id (i ∷ is) = by (id_eq id i) (at_back id is)
   where
     by : (b : Bool) → list_any (id_eq id) (is ++ id ∷ []) ≡ true → (b || list_any (id_eq id) (is ++ id ∷ [])) ≡ true
     by true h = refl
     by false h = h
 
-queued-ready : (app : Application) (s : State) (id : ServiceId) (row : Service) (lterm : Bytes) → IsReadyAt app (queued s id (opened_by_row app.generation id row lterm)) id row lterm
-queued-ready app s id row lterm = record {
+queued_ready : (app : Application) (s : State) (id : ServiceId) (row : Service) (lterm : Bytes) → IsReadyAt app (queued s id (opened_by_row app.generation id row lterm)) id row lterm
+queued_ready app s id row lterm = record {
   ready = at_back id s.ready;
   opens = found_put id (opened_by_row app.generation id row lterm) s.active;
 }
@@ -128,8 +125,8 @@ module _ (app : Application) (s : State) (pterm user : Bytes) (row : Service) (f
   rests : is_running s id ≡ false
   rests = not_true (is_running s id) (λ h. off (facts.0.open_signed user (facts.0.placed_open id h)))
 
-  message-there : row.awaits ≡ true → (message : Bytes) × (row.last ≡ Some message)
-  message-there a = by row.last refl
+  message_there : row.awaits ≡ true → (message : Bytes) × (row.last ≡ Some message)
+  message_there a = by row.last refl
       (both_true (is_some row.last) (is_empty row.handed) (subst (λ b. IsTrue (awaits_rightly row b)) a (row_parts app.generation row (row_found app.generation s.tables id row (parts_of app s facts.1).tables e).suits).awaits)).0
     where
       by : (o : Option Bytes) → row.last ≡ o → is_some row.last ≡ true → (message : Bytes) × (row.last ≡ Some message)
@@ -139,36 +136,36 @@ module _ (app : Application) (s : State) (pterm user : Bytes) (row : Service) (f
   abbrev signed : State
   signed = with_session s pterm user row.last
 
-  awaits-state : row.awaits ≡ true → service_state signed user ≡ Awaits
+  awaits_state : row.awaits ≡ true → service_state signed user ≡ Awaits
   unfolding service_state
-  awaits-state a =
+  awaits_state a =
       ap (λ (b : Bool). service_state_by b (is_awaiting s id)) rests
       ∙ ap (λ (o : Option OpenTransaction). service_state_by false (is_some o || awaits_by (service_of s.tables id))) closed
       ∙ ap (λ (o : Option Service). service_state_by false (awaits_by o)) e
       ∙ ap (λ (b : Bool). service_state_by false b) a
 
-  awaits-next : (lterm text : Bytes) → next_input app signed user lterm text ≡ queued signed id (opened_by_input app.generation id row lterm text)
-  awaits-next lterm text =
+  awaits_next : (lterm text : Bytes) → next_input app signed user lterm text ≡ queued signed id (opened_by_input app.generation id row lterm text)
+  awaits_next lterm text =
       ap (λ (o : Option OpenTransaction). next_by app signed user lterm text o (service_of s.tables id)) closed
       ∙ ap (λ (o : Option Service). next_by app signed user lterm text None o) e
 
-  awaits-at : row.awaits ≡ true → AwaitsAt app signed user row
-  awaits-at a = let m = message-there a in record { message = m.0; last = m.1; state = awaits-state a; next = awaits-next }
+  awaits_at : row.awaits ≡ true → AwaitsAt app signed user row
+  awaits_at a = let m = message_there a in record { message = m.0; last = m.1; state = awaits_state a; next = awaits_next }
 
   abbrev resumed : Bool → State
   resumed b = resumed_by app signed user (lterm_at app pterm) row b
 
-  resumed-tables : (b : Bool) → (resumed b).tables ≡ s.tables
-  resumed-tables true = refl
-  resumed-tables false = refl
+  resumed_tables : (b : Bool) → (resumed b).tables ≡ s.tables
+  resumed_tables true = refl
+  resumed_tables false = refl
 
   resumes : SignOnResumes app s pterm user row (signed_on_by app s pterm user (lterm_at app pterm) (Some row))
   resumes = record {
     acts = refl;
     by = refl;
-    tables = resumed-tables row.awaits;
-    goes_on = λ a. subst (λ b. IsReadyAt app (resumed b) id row (lterm_at app pterm)) (sym a) (queued-ready app signed id row (lterm_at app pterm));
-    awaits = λ a. subst (λ b. AwaitsAt app (resumed b) user row) (sym a) (awaits-at a);
+    tables = resumed_tables row.awaits;
+    goes_on = λ a. subst (λ b. IsReadyAt app (resumed b) id row (lterm_at app pterm)) (sym a) (queued_ready app signed id row (lterm_at app pterm));
+    awaits = λ a. subst (λ b. AwaitsAt app (resumed b) user row) (sym a) (awaits_at a);
   }
 
 pub sign_ons_resume : SignOnsResume

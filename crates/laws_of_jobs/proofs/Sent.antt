@@ -44,23 +44,23 @@ module _ (app : Application) (s : State) (id : ServiceId) (x : OpenTransaction) 
   goes_on : (r : Service) → r.awaits ≡ false → (lines : List Act) → Some r ≡ Some row → KeepsMessage s id x row lines
   goes_on r other lines e = absurd (true≢false (sym a ∙ ap (λ (q : Service). q.awaits) (sym (some_is r row e)) ∙ other))
 
-  point-keeps : (o : Outcome) → row_after app.generation id x o ≡ Some row → KeepsMessage s id x row (lines_by s id x (Settles o) Synced)
+  point_keeps : (o : Outcome) → row_after app.generation id x o ≡ Some row → KeepsMessage s id x row (lines_by s id x (Settles o) Synced)
   unfolding row_after
-  point-keeps (Wait tac) e = record { last = ap (λ (q : Service). q.last) (sym (some_is _ row e)); sends = refl }
-  point-keeps (Point tac) e = goes_on _ refl _ e
-  point-keeps (Follow tac) e = goes_on _ refl _ e
-  point-keeps _ e = no_service row e
+  point_keeps (Wait tac) e = record { last = ap (λ (q : Service). q.last) (sym (some_is _ row e)); sends = refl }
+  point_keeps (Point tac) e = goes_on _ refl _ e
+  point_keeps (Follow tac) e = goes_on _ refl _ e
+  point_keeps _ e = no_service row e
 
-  end-keeps : (h : Happened) (ending : Ending) → row_by_ending app id x h ending ≡ Some row → KeepsMessage s id x row (lines_by s id x h ending)
-  end-keeps (Settles o) Synced e = point-keeps o e
-  end-keeps (Settles o) (Broken cause) e = no_service row e
-  end-keeps (Settles o) BrokenFr e = no_service row e
-  end-keeps (Breaks by) ending e = no_service row e
-  end-keeps Went ending e = no_service row e
-  end-keeps Queued ending e = no_service row e
-  end-keeps (Held tac) ending e = no_service row e
-  end-keeps Waited ending e = no_service row e
-  end-keeps Returns ending e = no_service row e
+  end_keeps : (h : Happened) (ending : Ending) → row_by_ending app id x h ending ≡ Some row → KeepsMessage s id x row (lines_by s id x h ending)
+  end_keeps (Settles o) Synced e = point_keeps o e
+  end_keeps (Settles o) (Broken cause) e = no_service row e
+  end_keeps (Settles o) BrokenFr e = no_service row e
+  end_keeps (Breaks by) ending e = no_service row e
+  end_keeps Went ending e = no_service row e
+  end_keeps Queued ending e = no_service row e
+  end_keeps (Held tac) ending e = no_service row e
+  end_keeps Waited ending e = no_service row e
+  end_keeps Returns ending e = no_service row e
 
 is_there : {A : Type 0} (o : Option A) → IsSome o → (x : A) × (o ≡ Some x)
 is_there None h = absurd (true≢false (sym h))
@@ -72,7 +72,7 @@ transaction_sends app s d kept facts m user row same e a =
     let there : service_of d.after.tables kept.service ≡ Some row = ap (λ (i : ServiceId). service_of d.after.tables i) same ∙ e in
     let gives : row_by_ending app kept.service m.own h kept.ending ≡ Some row =
     sym (own_row app s.tables kept.service m.own h kept.ending) ∙ ap (λ (t : TableRows). service_of t kept.service) (sym m.gives) ∙ there in
-    let k = end-keeps app s kept.service m.own row a h kept.ending gives in
+    let k = end_keeps app s kept.service m.own row a h kept.ending gives in
     let opens : IsOpen s (Dialogue user) = ap (λ (i : ServiceId). is_some (find id_cmp i s.active)) (sym same) ∙ ap is_some m.was_open in
     let at = is_there (pterm_of_user s.signed user) (facts.0.open_signed user opens) in
     record {

@@ -10,7 +10,7 @@ use Rattle.kdcs_types.specs.declared.service.Job.{Job}
 use Rattle.kdcs_types.specs.declared.service.Service.{Service}
 use Rattle.kdcs_types.specs.Keyed.{ascends}
 use Rattle.kdcs_types.specs.Keys.{id_cmp, id_eq}
-use Rattle.kdcs_types.specs.KeyLaws.{id_eq-same}
+use Rattle.kdcs_types.specs.KeyLaws.{id_eq_same}
 use Rattle.kdcs_types.specs.Tables.{service_key, service_of, shown_of}
 use Rattle.abstract_monitor.specs.declared.input_use.Use.{Use}
 use Rattle.abstract_monitor.specs.declared.input_use.Use.TheVariants.{Sign, SignRefused, SignFirst, AlreadySigned, Off, Display, Output, Again, Busy, TooLong, Next, Start, TacRefused}
@@ -231,7 +231,7 @@ module _ (app : Application) (s : State) (c : IsConsistent app s) where
         where
           by : (b : Bool) → id_eq (Asynchronous n) (Asynchronous job.number) ≡ b → HasOwnJob (shown_tables s.tables lterm job) (Asynchronous n) None
           by false e = job_there (shown_tables s.tables lterm job) n ∙ job_stays n job.number s.tables.jobs e (sym (job_there s.tables n) ∙ h)
-          by true e = absurd (true≢false (sym free.free ∙ ap (λ b. not b) (ap (λ k. is_some (find id_cmp k s.active)) (sym (id_eq-same (Asynchronous n) (Asynchronous job.number) e)) ∙ o)))
+          by true e = absurd (true≢false (sym free.free ∙ ap (λ b. not b) (ap (λ k. is_some (find id_cmp k s.active)) (sym (id_eq_same (Asynchronous n) (Asynchronous job.number) e)) ∙ o)))
 
   pub shows : (lterm no_message : Bytes) (line_of : Bytes → Bytes) → IsConsistent app (show_next app s lterm no_message line_of).after
   unfolding show_next

@@ -14,7 +14,7 @@ use Rattle.kdcs_types.specs.declared.key.ServiceId.TheVariants.{Dialogue, Asynch
 use Rattle.kdcs_types.specs.declared.service.Service.{Service}
 use Rattle.kdcs_types.specs.Keyed.{keyed, ascends, item_at}
 use Rattle.kdcs_types.specs.Keys.{id_cmp, id_eq, key_cmp}
-use Rattle.kdcs_types.specs.KeyLaws.{id_eq-same}
+use Rattle.kdcs_types.specs.KeyLaws.{id_eq_same}
 use Rattle.kdcs_types.specs.Tables.{TableRows, service_key, service_of}
 use Rattle.abstract_monitor.specs.Commands.{asynchronous_rows, opened_row, started}
 use Rattle.abstract_monitor.specs.Endings.{is_asynchronous, opened}
@@ -26,8 +26,9 @@ use Rattle.laws_of_steps.specs.Facts.{IsOpen, IsConsistent}
 use Rattle.laws_of_places.specs.CountsLaws.{times, counted_any, any_counted}
 use Rattle.laws_of_places.specs.EntriesLaws.{none_below}
 use Rattle.laws_of_places.specs.PlacesLaws.{is_signed_for, consistent_from}
-use Rattle.laws_of_places.specs.RowsLaws.{kept_at, kept_ascends}
+use Rattle.laws_of_places.specs.RowsLaws.{kept_ascends}
 use Rattle.laws_of_places.specs.AfterLaws.{rooted_row}
+use Rattle.laws_of_steps.specs.DurableLaws.{kept_at}
 
 abbrev ids_of : List Service → List ServiceId
 ids_of rows = map (λ (s : Service). s.id) rows
@@ -66,7 +67,7 @@ module _ (app : Application) where
 
       by : (b : Bool) → id_eq id r.id ≡ b → times (id_eq id) (ids_of rs) ≤ 1 → cond b (suc (times (id_eq id) (ids_of rs))) (times (id_eq id) (ids_of rs)) ≤ 1
       by true e k =
-          let none : find id_cmp id (opened_rows rs) ≡ None = ap (λ i. find id_cmp i (opened_rows rs)) (id_eq-same id r.id e) ∙ none_below id_cmp r.id (opened_rows rs) parts.0 in
+          let none : find id_cmp id (opened_rows rs) ≡ None = ap (λ i. find id_cmp i (opened_rows rs)) (id_eq_same id r.id e) ∙ none_below id_cmp r.id (opened_rows rs) parts.0 in
           rest (times (id_eq id) (ids_of rs)) (λ m. true≢false (sym (open_ready id rs ∙ counted_any (id_eq id) (ids_of rs) m) ∙ ap is_some none))
         where
           rest : (n : ℕ) → (1 ≤ n → ⊥) → suc n ≤ 1

@@ -12,7 +12,7 @@ use Rattle.kdcs_types.specs.declared.service.Job.{Job}
 use Rattle.kdcs_types.specs.declared.service.JobValue.{JobValue}
 use Rattle.kdcs_types.specs.declared.service.Service.{Service}
 use Rattle.kdcs_types.specs.Keys.{id_cmp, id_eq}
-use Rattle.kdcs_types.specs.KeyLaws.{id_eq-itself}
+use Rattle.kdcs_types.specs.KeyLaws.{id_eq_itself}
 use Rattle.kdcs_types.specs.Tables.{TableRows, service_of, job_of}
 use Rattle.kdcdef_types.specs.Generation.{Generated}
 use Rattle.abstract_monitor.specs.declared.work.Work.{Work}
@@ -31,10 +31,11 @@ use Rattle.laws_of_places.specs.CountsLaws.{times, times_set, times_without_itse
 use Rattle.laws_of_places.specs.EntriesLaws.{found_put}
 use Rattle.laws_of_places.specs.PlacesLaws.{still_signed, times_ready, times_held, IsPlaced, placed_of, placed_running}
 use Rattle.laws_of_places.specs.ChangesLaws.{alters_then, without_ready, open_alters, taken_alters, unready_alters}
-use Rattle.laws_of_places.specs.RowsLaws.{least_passes, all_filtered, filtered_pass, durable_service}
+use Rattle.laws_of_places.specs.RowsLaws.{least_passes, all_filtered, filtered_pass}
 use Rattle.laws_of_places.specs.AreasLaws.{new_holds}
 use Rattle.laws_of_places.specs.AfterLaws.{consistent_after}
 use Rattle.laws_of_places.proofs.Turns.{worked_consistent}
+use Rattle.laws_of_steps.specs.DurableLaws.{durable_service}
 
 -- ---- what is picked
 
@@ -60,7 +61,7 @@ ready_found app s test (i ∷ ids) e is = by (test (classed app s i)) is (ready_
   where
     by : (b : Bool) → cond b (Some (classed app s i)) (find_first test (map (classed app s) ids)) ≡ Some e
         → (find_first test (map (classed app s) ids) ≡ Some e → list_any (id_eq e.0) ids ≡ true) → (id_eq e.0 i || list_any (id_eq e.0) ids) ≡ true
-    by true t later = ap (λ b. b || list_any (id_eq e.0) ids) (ap (λ (k : Classed). id_eq k.0 i) (sym (some_is (classed app s i) e t)) ∙ id_eq-itself i)
+    by true t later = ap (λ b. b || list_any (id_eq e.0) ids) (ap (λ (k : Classed). id_eq k.0 i) (sym (some_is (classed app s i) e t)) ∙ id_eq_itself i)
     by false t later = either (id_eq e.0 i) (later t)
       where
         either : (b : Bool) → list_any (id_eq e.0) ids ≡ true → (b || list_any (id_eq e.0) ids) ≡ true
@@ -88,7 +89,7 @@ picked app s w is = by (find_first (service_is_allowed app.generation (place_cla
 
 -- a free task that takes a service holds it once more
 times_taken : (s : State) (task : ℕ) (id : ServiceId) → slice_get s.tasks (task - 1) ≡ Some None → times_held (with_task s task (Some id)) id ≡ times_held s id + 1
-times_taken s task id at = by (id_eq id id) (id_eq-itself id) (times_set (in_place id) s.tasks (task - 1) None (Some id) at)
+times_taken s task id at = by (id_eq id id) (id_eq_itself id) (times_set (in_place id) s.tasks (task - 1) None (Some id) at)
   where
     by : (b : Bool) → b ≡ true → times (in_place id) (slice_set s.tasks (task - 1) (Some id)) + 0 ≡ times (in_place id) s.tasks + cond b 1 0 → times (in_place id) (slice_set s.tasks (task - 1) (Some id)) ≡ times (in_place id) s.tasks + 1
     by true e h = omega arith

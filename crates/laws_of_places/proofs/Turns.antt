@@ -11,7 +11,7 @@ use Rattle.kdcs_types.specs.declared.service.Ending.TheVariants.{Broken}
 use Rattle.kdcs_types.specs.declared.service.Service.{Service}
 use Rattle.kdcs_types.specs.declared.service.Settled.{Settled}
 use Rattle.kdcs_types.specs.Keys.{area_eq, id_cmp, id_eq}
-use Rattle.kdcs_types.specs.KeyLaws.{id_eq-itself}
+use Rattle.kdcs_types.specs.KeyLaws.{id_eq_itself}
 use Rattle.kdcs_types.specs.Tables.{TableRows, service_of}
 use Rattle.abstract_monitor.specs.declared.answer.Happened.{Happened}
 use Rattle.abstract_monitor.specs.declared.answer.Happened.TheVariants.{Went, Queued, Waited, Held, Settles, Breaks, Returns}
@@ -37,19 +37,19 @@ use Rattle.laws_of_places.specs.RowsLaws.{synchronised_jobs, broken_jobs, synchr
 use Rattle.laws_of_places.specs.AreasLaws.{closed_holds, new_holds, statement_holds}
 use Rattle.laws_of_places.specs.AfterLaws.{consistent_after, no_wait, IsInTask, in_task, rooted_still, rooted_row, last_consistent, sent_consistent}
 
-row-new : (app : Application) (id : ServiceId) (row : Service) (lterm : Bytes) → (opened_by_row app.generation id row lterm).touched ≡ []
+row_new : (app : Application) (id : ServiceId) (row : Service) (lterm : Bytes) → (opened_by_row app.generation id row lterm).touched ≡ []
 unfolding opened
-row-new app id row lterm = refl
+row_new app id row lterm = refl
 
-row-began : (app : Application) (id : ServiceId) (row : Service) (lterm : Bytes) → (opened_by_row app.generation id row lterm).began ≡ Some row
+row_began : (app : Application) (id : ServiceId) (row : Service) (lterm : Bytes) → (opened_by_row app.generation id row lterm).began ≡ Some row
 unfolding opened
-row-began app id row lterm = refl
+row_began app id row lterm = refl
 
 -- a service that becomes ready
 pub times_queued : (s : State) (id : ServiceId) (y : OpenTransaction) → times_ready s id ≡ 0 → times_held s id ≡ 0 → times_ready (queued s id y) id + times_held (queued s id y) id ≡ 1
 times_queued s id y none free =
     let one : times (id_eq id) (queued s id y).ready ≡ 1 =
-    times_push (id_eq id) s.ready id ∙ ap (λ b. cond b (suc (times (id_eq id) s.ready)) (times (id_eq id) s.ready)) (id_eq-itself id) ∙ ap (λ n. suc n) none in
+    times_push (id_eq id) s.ready id ∙ ap (λ b. cond b (suc (times (id_eq id) s.ready)) (times (id_eq id) s.ready)) (id_eq_itself id) ∙ ap (λ n. suc n) none in
     omega arith
 
 module _ (app : Application) (s : State) (task : ℕ) (id : ServiceId) (x : OpenTransaction) (c : IsConsistent app s) (at : slice_get s.tasks (task - 1) ≡ Some (Some id)) (is : find id_cmp id s.active ≡ Some x) where
@@ -157,9 +157,9 @@ module _ (app : Application) (s : State) (task : ℕ) (id : ServiceId) (x : Open
       (times_queued v id y in_its_task.ready in_its_task.freed)
       (found_put id y left.active)
       (still_signed s u id refl ∙ on)
-      (rooted_row t id row y here (row-began app id row x.lterm))
+      (rooted_row t id row y here (row_began app id row x.lterm))
       (no_wait u id (found_without id s.waits)))
-      (new_holds s.active u.active id y (found_put id y left.active) (row-new app id row x.lterm))
+      (new_holds s.active u.active id y (found_put id y left.active) (row_new app id row x.lterm))
 
   broken_keeps : KeepsRows left (broken s.tables id x) id
   broken_keeps = record {

@@ -6,7 +6,7 @@ use Rattle.kdcs_types.specs.declared.key.ServiceId.{ServiceId}
 use Rattle.kdcs_types.specs.declared.key.ServiceId.TheVariants.{Dialogue, Asynchronous}
 use Rattle.kdcs_types.specs.declared.service.Service.{Service}
 use Rattle.kdcs_types.specs.Keys.{id_cmp, id_eq}
-use Rattle.kdcs_types.specs.KeyLaws.{id_eq-same, id_eq-itself}
+use Rattle.kdcs_types.specs.KeyLaws.{id_eq_same, id_eq_itself}
 use Rattle.kdcs_types.specs.Tables.{TableRows, service_of}
 use Rattle.abstract_monitor.specs.Bytes.{Bytes}
 use Rattle.abstract_monitor.specs.Locks.{Waiting, touched_by}
@@ -36,7 +36,7 @@ consistent_after app s u id c a own areas =
     }) (λ i. by i (id_eq i id) refl)
   where
     by : (i : ServiceId) (b : Bool) → id_eq i id ≡ b → IsPlaced app u i
-    by i true e = subst (IsPlaced app u) (sym (id_eq-same i id e)) own
+    by i true e = subst (IsPlaced app u) (sym (id_eq_same i id e)) own
     by i false e = left_placed app s u i (a.others i e) (placed_of app s c i)
 
 -- a step that leaves every service as it was
@@ -63,7 +63,7 @@ in_task app s task id p is =
     record { ready = omega arith; held = omega arith; freed = omega arith }
   where
     counted : times (in_place id) (slice_set s.tasks (task - 1) None) + 1 ≡ times_held s id
-    counted = more (id_eq id id) (id_eq-itself id) (times_set (in_place id) s.tasks (task - 1) (Some id) None is)
+    counted = more (id_eq id id) (id_eq_itself id) (times_set (in_place id) s.tasks (task - 1) (Some id) None is)
       where
         more : (b : Bool) → b ≡ true → times (in_place id) (slice_set s.tasks (task - 1) None) + cond b 1 0 ≡ times (in_place id) s.tasks + 0 → times (in_place id) (slice_set s.tasks (task - 1) None) + 1 ≡ times_held s id
         more true e h = omega arith

@@ -9,7 +9,7 @@ use Rattle.kd_base.specs.ToolsLaws.{both_true}
 use Rattle.kdcs_types.specs.declared.key.Area.{Area}
 use Rattle.kdcs_types.specs.declared.key.ServiceId.{ServiceId}
 use Rattle.kdcs_types.specs.Keys.{area_cmp, area_eq, id_cmp, id_eq}
-use Rattle.kdcs_types.specs.KeyLaws.{area_total, id_eq-same, id_eq-itself}
+use Rattle.kdcs_types.specs.KeyLaws.{area_total, id_eq_same, id_eq_itself}
 use Rattle.abstract_monitor.specs.declared.answer.LockAnswer.{LockAnswer}
 use Rattle.abstract_monitor.specs.declared.answer.LockAnswer.TheVariants.{Granted}
 use Rattle.abstract_monitor.specs.Calls.{touches}
@@ -66,7 +66,7 @@ holder_holds (e ∷ es) area id sorted is = by (touches e.1 area) refl (sym (hol
 
     by : (b : Bool) → touches e.1 area ≡ b → cond b (Some e.0) (holder_in es area) ≡ Some id → (holder_in es area ≡ Some id → holds es id area ≡ true) → holds (e ∷ es) id area ≡ true
     by true t h later =
-        subst (λ i. holds (e ∷ es) i area ≡ true) (same_some e.0 id h) (ap (λ c. touched_by (cond c (Some e.1) (find id_cmp e.0 es)) area) (id_eq-itself e.0) ∙ t)
+        subst (λ i. holds (e ∷ es) i area ≡ true) (same_some e.0 id h) (ap (λ c. touched_by (cond c (Some e.1) (find id_cmp e.0 es)) area) (id_eq_itself e.0) ∙ t)
       where
         same_some : (i j : ServiceId) → Some i ≡ Some j → i ≡ j
         same_some i j q = cc
@@ -75,7 +75,7 @@ holder_holds (e ∷ es) area id sorted is = by (touches e.1 area) refl (sym (hol
         either : (c : Bool) → id_eq id e.0 ≡ c → holds es id area ≡ true → touched_by (cond c (Some e.1) (find id_cmp id es)) area ≡ true
         either false q g = g
         either true q g =
-            let none : find id_cmp id es ≡ None = ap (λ i. find id_cmp i es) (id_eq-same id e.0 q) ∙ none_below id_cmp e.0 es parts.0 in
+            let none : find id_cmp id es ≡ None = ap (λ i. find id_cmp i es) (id_eq_same id e.0 q) ∙ none_below id_cmp e.0 es parts.0 in
             absurd (true≢false (sym g ∙ ap (λ o. touched_by o area) none))
 
 -- ---- what the running system tells
@@ -120,7 +120,7 @@ granted_free s reswait id x (Some a) area sorted is granted =
 
     own : (other : ServiceId) → holder_in s.active a ≡ Some other → id_eq other id ≡ true → IsFree s.active a
     own other e q =
-        let held : holds s.active id a ≡ true = subst (λ i. holds s.active i a ≡ true) (id_eq-same other id q) (holder_holds s.active a other sorted e) in
+        let held : holds s.active id a ≡ true = subst (λ i. holds s.active i a ≡ true) (id_eq_same other id q) (holder_holds s.active a other sorted e) in
         absurd (true≢false (sym held ∙ ap (λ o. touched_by o a) is ∙ ap (touches x) same ∙ granted.2))
 
 -- ---- a step of one service
@@ -140,9 +140,9 @@ exclusive_after active after id others own exclusive i j area h k = by (id_eq i 
     both n t u = ⊎_elim (λ was. exclusive id n area was t) (λ free. absurd (true≢false (sym t ∙ free n))) (own area u)
 
     by : (b : Bool) → id_eq i id ≡ b → (c : Bool) → id_eq j id ≡ c → i ≡ j
-    by true e true f = id_eq-same i id e ∙ sym (id_eq-same j id f)
-    by true e false f = id_eq-same i id e ∙ both j (before j f k) (subst (λ n. Holds after n area) (id_eq-same i id e) h)
-    by false e true f = sym (both i (before i e h) (subst (λ n. Holds after n area) (id_eq-same j id f) k)) ∙ sym (id_eq-same j id f)
+    by true e true f = id_eq_same i id e ∙ sym (id_eq_same j id f)
+    by true e false f = id_eq_same i id e ∙ both j (before j f k) (subst (λ n. Holds after n area) (id_eq_same i id e) h)
+    by false e true f = sym (both i (before i e h) (subst (λ n. Holds after n area) (id_eq_same j id f) k)) ∙ sym (id_eq_same j id f)
     by false e false f = exclusive i j area (before i e h) (before j f k)
 
 -- with no open transaction, with a new one, with one that holds the same, and after a statement

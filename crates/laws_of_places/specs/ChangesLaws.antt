@@ -10,7 +10,7 @@ use Rattle.kdcs_types.specs.declared.key.ServiceId.{ServiceId}
 use Rattle.kdcs_types.specs.declared.key.ServiceId.TheVariants.{Dialogue, Asynchronous}
 use Rattle.kdcs_types.specs.declared.service.Service.{Service}
 use Rattle.kdcs_types.specs.Keys.{id_cmp, id_eq}
-use Rattle.kdcs_types.specs.KeyLaws.{id_eq-itself}
+use Rattle.kdcs_types.specs.KeyLaws.{id_eq_itself}
 use Rattle.kdcs_types.specs.Tables.{TableRows, service_of}
 use Rattle.abstract_monitor.specs.Bytes.{Bytes, bytes_cmp}
 use Rattle.abstract_monitor.specs.Commands.{no_place, with_session, without_session, withdrawn}
@@ -229,7 +229,7 @@ session_alters_by s pterm v free none = sessions_alter s (signed_at pterm v s.si
 
     same : (u : Bytes) → id_eq (Dialogue u) (Dialogue v.user) ≡ false → (b : Bool) → bytes_eq v.user u ≡ b
         → times (has_user u) (signed_at pterm v s.signed) ≡ cond b (suc (times (has_user u) s.signed)) (times (has_user u) s.signed) → times (has_user u) (signed_at pterm v s.signed) ≡ times (has_user u) s.signed
-    same u apart true e h = absurd (true≢false (sym (id_eq-itself (Dialogue v.user)) ∙ ap (λ n. id_eq (Dialogue n) (Dialogue v.user)) (same_bytes v.user u e) ∙ apart))
+    same u apart true e h = absurd (true≢false (sym (id_eq_itself (Dialogue v.user)) ∙ ap (λ n. id_eq (Dialogue n) (Dialogue v.user)) (same_bytes v.user u e) ∙ apart))
     same u apart false e h = h
 
     once : (u : Bytes) (b : Bool) → bytes_eq v.user u ≡ b → times (has_user u) (signed_at pterm v s.signed) ≡ cond b (suc (times (has_user u) s.signed)) (times (has_user u) s.signed)
@@ -251,7 +251,7 @@ off_alters s pterm v sorted is = sessions_alter s (left_at pterm s.signed) (Dial
     same u apart = signed_less u pterm s.signed sorted (λ w h. by w (bytes_eq w.user u) refl (ap (λ (x : Session). x.user) (some_is w v (sym h ∙ is))))
       where
         by : (w : Session) (b : Bool) → bytes_eq w.user u ≡ b → w.user ≡ v.user → bytes_eq w.user u ≡ false
-        by w true e q = absurd (true≢false (sym (id_eq-itself (Dialogue v.user)) ∙ ap (λ n. id_eq (Dialogue n) (Dialogue v.user)) (sym q ∙ same_bytes w.user u e) ∙ apart))
+        by w true e q = absurd (true≢false (sym (id_eq_itself (Dialogue v.user)) ∙ ap (λ n. id_eq (Dialogue n) (Dialogue v.user)) (sym q ∙ same_bytes w.user u e) ∙ apart))
         by w false e q = e
 
     sessions : AreSessions s.signed → AreSessions (left_at pterm s.signed)

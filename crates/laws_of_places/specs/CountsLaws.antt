@@ -6,7 +6,7 @@ use Rattle.std.specs.List.{list_any}
 use Rattle.kd_base.specs.ToolsLaws.{some_is}
 use Rattle.kdcs_types.specs.declared.key.ServiceId.{ServiceId}
 use Rattle.kdcs_types.specs.Keys.{id_eq}
-use Rattle.kdcs_types.specs.KeyLaws.{id_eq-same}
+use Rattle.kdcs_types.specs.KeyLaws.{id_eq_same}
 use Rattle.abstract_monitor.specs.Sessions.{in_place}
 use Rattle.abstract_monitor.specs.Commands.{no_place}
 
@@ -107,7 +107,7 @@ times_without_other i id (x ∷ xs) apart = by (id_eq id x) refl (times_without_
   where
     by : (b : Bool) → id_eq id x ≡ b → times (id_eq i) (filter (λ j. not (id_eq id j)) xs) ≡ times (id_eq i) xs
         → times (id_eq i) (cond (not b) (x ∷ filter (λ j. not (id_eq id j)) xs) (filter (λ j. not (id_eq id j)) xs)) ≡ cond (id_eq i x) (suc (times (id_eq i) xs)) (times (id_eq i) xs)
-    by true e h = h ∙ ap (λ c. cond c (suc (times (id_eq i) xs)) (times (id_eq i) xs)) (sym apart ∙ ap (id_eq i) (id_eq-same id x e))
+    by true e h = h ∙ ap (λ c. cond c (suc (times (id_eq i) xs)) (times (id_eq i) xs)) (sym apart ∙ ap (id_eq i) (id_eq_same id x e))
     by false e h = ap (λ n. cond (id_eq i x) (suc n) n) h
 
 -- the services in the tasks
@@ -135,5 +135,5 @@ times_freed_other i id (Some x ∷ ps) apart = by (id_eq id x) refl (times_freed
   where
     by : (b : Bool) → id_eq id x ≡ b → times (in_place i) (no_places id ps) ≡ times (in_place i) ps
         → times (in_place i) (cond b None (Some x) ∷ no_places id ps) ≡ cond (id_eq i x) (suc (times (in_place i) ps)) (times (in_place i) ps)
-    by true e h = h ∙ ap (λ c. cond c (suc (times (in_place i) ps)) (times (in_place i) ps)) (sym apart ∙ ap (id_eq i) (id_eq-same id x e))
+    by true e h = h ∙ ap (λ c. cond c (suc (times (in_place i) ps)) (times (in_place i) ps)) (sym apart ∙ ap (id_eq i) (id_eq_same id x e))
     by false e h = ap (λ n. cond (id_eq i x) (suc n) n) h

@@ -1,10 +1,10 @@
 -- What steps make of the rows that services look at: their own, and their job's.
-use Rattle.std.specs.Prelude.{◌≡◌, refl, ℕ, Bool, true, false, cond, IsTrue, List, [], ◌∷◌, ◌++◌, filter, Option, Some, None, is_some, option_map, if◌then◌else◌}
+use Rattle.std.specs.Prelude.{◌≡◌, refl, ℕ, Bool, true, false, cond, IsTrue, List, [], ◌∷◌, ◌++◌, filter, Option, Some, None, is_some, if◌then◌else◌}
 use Rattle.std.proofs.Common.{sym, ap, ◌∙◌, subst, true≢false}
 use Rattle.std.specs.FinMap.{is_sorted}
 use Rattle.std.specs.FinMap.Entries.{where_key, is_sorted-where_key}
 use Rattle.std.specs.List.{list_all}
-use Rattle.kd_base.specs.ToolsLaws.{some_is, both_true, true_both}
+use Rattle.kd_base.specs.ToolsLaws.{some_is, both_true, true_both, is_some_map}
 use Rattle.kdcs_types.specs.declared.key.Key.{Key}
 use Rattle.kdcs_types.specs.declared.key.Key.TheVariants.{Service as ServiceKey, Job as JobKey}
 use Rattle.kdcs_types.specs.declared.key.ServiceId.{ServiceId}
@@ -12,21 +12,22 @@ use Rattle.kdcs_types.specs.declared.key.ServiceId.TheVariants.{Dialogue, Asynch
 use Rattle.kdcs_types.specs.declared.service.Job.{Job}
 use Rattle.kdcs_types.specs.declared.service.Service.{Service}
 use Rattle.kdcs_types.specs.Keyed.{keyed, ascends, item_at, without_item}
-use Rattle.kdcs_types.specs.KeyedLaws.{holds, is_true, item_at-without}
+use Rattle.kdcs_types.specs.KeyedLaws.{item_at_without}
 use Rattle.kdcs_types.specs.Keys.{id_eq, key_cmp, key_eq}
-use Rattle.kdcs_types.specs.KeyLaws.{id_eq-itself, id_eq-same, key_eq-same}
+use Rattle.kdcs_types.specs.KeyLaws.{id_eq_itself, other_number}
 use Rattle.kdcs_types.specs.Tables.{TableRows, job_key, service_key, job_of, service_of}
 use Rattle.kdcdef_types.specs.Generation.{Generated}
 use Rattle.abstract_monitor.specs.declared.outcome.Outcome.{Outcome}
 use Rattle.abstract_monitor.specs.Bytes.{Bytes}
 use Rattle.abstract_monitor.specs.Commands.{rolled_tables}
-use Rattle.abstract_monitor.specs.Endings.{is_durable, durable, row_after, synchronised, broken}
+use Rattle.abstract_monitor.specs.Endings.{row_after, synchronised, broken}
 use Rattle.abstract_monitor.specs.Picks.{earlier_of, is_earlier, least_job}
 use Rattle.abstract_monitor.specs.State.{Application, OpenTransaction}
 use Rattle.laws_of_steps.specs.JobLaws.{points_number, ends_draw_none}
 use Rattle.laws_of_steps.specs.OwnRowLaws.{points_set, ends_remove}
 use Rattle.laws_of_steps.specs.JobLaw.{jobs_left, new_jobs}
 use Rattle.laws_of_steps.specs.Transactions.{HasOwnJob}
+use Rattle.kd_base.specs.OrderLaws.{holds, is_true}
 
 -- ---- jobs
 
@@ -34,12 +35,8 @@ use Rattle.laws_of_steps.specs.Transactions.{HasOwnJob}
 abbrev pub has_job : List Job → ℕ → Bool
 has_job jobs number = is_some (item_at job_key (JobKey number) jobs)
 
-some_mapped : {A B : Type 0} (f : A → B) (o : Option A) → is_some (option_map f o) ≡ is_some o
-some_mapped f None = refl
-some_mapped f (Some x) = refl
-
 pub job_there : (t : TableRows) (number : ℕ) → is_some (job_of t number) ≡ has_job t.jobs number
-job_there t number = some_mapped (λ (j : Job). j.value) (item_at job_key (JobKey number) t.jobs)
+job_there t number = is_some_map (λ (j : Job). j.value) (item_at job_key (JobKey number) t.jobs)
 
 job_appended : (n : ℕ) (js ks : List Job) → has_job js n ≡ true → has_job (js ++ ks) n ≡ true
 job_appended n [] ks h = absurd (true≢false (sym h))
@@ -50,23 +47,10 @@ job_appended n (j ∷ js) ks h = by (key_eq (JobKey n) (job_key j)) h (job_appen
     by true e later = refl
     by false e later = later e
 
-other_number : (n m : ℕ) → id_eq (Asynchronous n) (Asynchronous m) ≡ false → key_eq (JobKey n) (JobKey m) ≡ false
-other_number n m apart = by (key_eq (JobKey n) (JobKey m)) refl
-  where
-    number : Key → ℕ
-    number (JobKey k) = k
-    number _ = n
-
-    by : (b : Bool) → key_eq (JobKey n) (JobKey m) ≡ b → key_eq (JobKey n) (JobKey m) ≡ false
-    by false e = e
-    by true e =
-        let same : n ≡ m = ap number (key_eq-same (JobKey n) (JobKey m) e) in
-        absurd (true≢false (sym (id_eq-itself (Asynchronous n)) ∙ ap (λ k. id_eq (Asynchronous n) (Asynchronous k)) same ∙ apart))
-
 -- a job of another number stays
 pub job_stays : (n m : ℕ) (js : List Job) → id_eq (Asynchronous n) (Asynchronous m) ≡ false → has_job js n ≡ true → has_job (without_item job_key (JobKey m) js) n ≡ true
 job_stays n m js apart h =
-    ap is_some (item_at-without job_key (JobKey n) (JobKey m) js)
+    ap is_some (item_at_without job_key (JobKey n) (JobKey m) js)
     ∙ ap (λ b. is_some (cond b None (item_at job_key (JobKey n) js))) (other_number n m apart) ∙ h
 
 job_left : (id : ServiceId) (began : Option Service) (n : ℕ) (js : List Job) → id_eq (Asynchronous n) id ≡ false → has_job js n ≡ true → has_job (jobs_left id began js) n ≡ true
@@ -97,52 +81,19 @@ pub synchronised_other : (g : Generated) (t : TableRows) (id : ServiceId) (x : O
 synchronised_other g t id x o i apart = points_set g t id x o i ∙ ap (λ b. cond b (row_after g id x o) (service_of t i)) apart
 
 pub synchronised_own : (g : Generated) (t : TableRows) (id : ServiceId) (x : OpenTransaction) (o : Outcome) → service_of (synchronised g t id x o) id ≡ row_after g id x o
-synchronised_own g t id x o = points_set g t id x o id ∙ ap (λ b. cond b (row_after g id x o) (service_of t id)) (id_eq-itself id)
+synchronised_own g t id x o = points_set g t id x o id ∙ ap (λ b. cond b (row_after g id x o) (service_of t id)) (id_eq_itself id)
 
 pub broken_other : (t : TableRows) (id : ServiceId) (x : OpenTransaction) (i : ServiceId) → id_eq i id ≡ false → service_of (broken t id x) i ≡ service_of t i
 broken_other t id x i apart = ends_remove t id x i ∙ ap (λ b. cond b None (service_of t i)) apart
 
 pub broken_own : (t : TableRows) (id : ServiceId) (x : OpenTransaction) → service_of (broken t id x) id ≡ None
-broken_own t id x = ends_remove t id x id ∙ ap (λ b. cond b None (service_of t id)) (id_eq-itself id)
+broken_own t id x = ends_remove t id x id ∙ ap (λ b. cond b None (service_of t id)) (id_eq_itself id)
 
 -- a sign-off removes at most the row of its user
 pub rolled_other : (restarts : Bool) (app : Application) (t : TableRows) (user : Bytes) (i : ServiceId) → id_eq i (Dialogue user) ≡ false → service_of (rolled_tables app t user restarts) i ≡ service_of t i
 rolled_other true app t user i apart = refl
 rolled_other false app t user i apart =
-    item_at-without service_key (ServiceKey i) (ServiceKey (Dialogue user)) t.services ∙ ap (λ b. cond b None (service_of t i)) apart
-
-abbrev no_service : Option Service
-no_service = None
-
--- of the services that pass a test, a look-up finds those that passed
-pub kept_at : (p : ServiceId → Bool) (id : ServiceId) (rows : List Service) → item_at service_key (ServiceKey id) (filter (λ (s : Service). p s.id) rows) ≡ cond (p id) (item_at service_key (ServiceKey id) rows) None
-kept_at p id [] = by (p id)
-  where
-    by : (b : Bool) → no_service ≡ cond b no_service no_service
-    by true = refl
-    by false = refl
-kept_at p id (r ∷ rs) = by (p r.id) refl (id_eq id r.id) refl (kept_at p id rs)
-  where
-    by : (b : Bool) → p r.id ≡ b → (c : Bool) → id_eq id r.id ≡ c
-        → item_at service_key (ServiceKey id) (filter (λ (s : Service). p s.id) rs) ≡ cond (p id) (item_at service_key (ServiceKey id) rs) None
-        → item_at service_key (ServiceKey id) (cond b (r ∷ filter (λ (s : Service). p s.id) rs) (filter (λ (s : Service). p s.id) rs))
-        ≡ cond (p id) (cond (id_eq id r.id) (Some r) (item_at service_key (ServiceKey id) rs)) None
-    by true d true e h =
-        ap (λ b. cond b (Some r) (item_at service_key (ServiceKey id) (filter (λ (s : Service). p s.id) rs))) e
-        ∙ sym (ap (λ b. cond b (cond (id_eq id r.id) (Some r) (item_at service_key (ServiceKey id) rs)) None) (ap p (id_eq-same id r.id e) ∙ d)
-        ∙ ap (λ b. cond b (Some r) (item_at service_key (ServiceKey id) rs)) e)
-    by true d false e h =
-        ap (λ b. cond b (Some r) (item_at service_key (ServiceKey id) (filter (λ (s : Service). p s.id) rs))) e ∙ h
-        ∙ ap (λ b. cond (p id) (cond b (Some r) (item_at service_key (ServiceKey id) rs)) None) (sym e)
-    by false d true e h =
-        h ∙ ap (λ b. cond b (item_at service_key (ServiceKey id) rs) None) (ap p (id_eq-same id r.id e) ∙ d)
-        ∙ sym (ap (λ b. cond b (cond (id_eq id r.id) (Some r) (item_at service_key (ServiceKey id) rs)) None) (ap p (id_eq-same id r.id e) ∙ d))
-    by false d false e h = h ∙ ap (λ b. cond (p id) (cond b (Some r) (item_at service_key (ServiceKey id) rs)) None) (sym e)
-
--- what a stop leaves has the same asynchronous services
-pub durable_service : (g : Generated) (t : TableRows) (n : ℕ) → service_of (durable g t) (Asynchronous n) ≡ service_of t (Asynchronous n)
-unfolding durable
-durable_service g t n = kept_at (is_durable g) (Asynchronous n) t.services
+    item_at_without service_key (ServiceKey i) (ServiceKey (Dialogue user)) t.services ∙ ap (λ b. cond b None (service_of t i)) apart
 
 -- rows in order stay so
 pub kept_ascends : (p : ServiceId → Bool) (rows : List Service) → IsTrue (ascends service_key rows) → IsTrue (ascends service_key (filter (λ (s : Service). p s.id) rows))

@@ -123,67 +123,67 @@ with_init x inited = record { began = refl; first = refl; lterm = refl; inputs =
 abbrev Leaves : OpenTransaction → Performed → Type 0
 Leaves x p = CallLeaves x p.0 p.1
 
-named-leaves : (x : OpenTransaction) (n : Option Bytes) (go : Bytes → Performed) → ((m : Bytes) → Leaves x (go m)) → Leaves x (with_name x n go)
-named-leaves x None go all = itself x
-named-leaves x (Some m) go all = all m
+named_leaves : (x : OpenTransaction) (n : Option Bytes) (go : Bytes → Performed) → ((m : Bytes) → Leaves x (go m)) → Leaves x (with_name x n go)
+named_leaves x None go all = itself x
+named_leaves x (Some m) go all = all m
 
-kind-leaves : (x : OpenTransaction) (b : Bool) (p : Performed) → Leaves x p → Leaves x (for_kind x b p)
-kind-leaves x true p h = h
-kind-leaves x false p h = refl
+kind_leaves : (x : OpenTransaction) (b : Bool) (p : Performed) → Leaves x p → Leaves x (for_kind x b p)
+kind_leaves x true p h = h
+kind_leaves x false p h = refl
 
-within-leaves : (x : OpenTransaction) (b : Bool) (p : Performed) → Leaves x p → Leaves x (within_length x b p)
-within-leaves x true p h = h
-within-leaves x false p h = refl
+within_leaves : (x : OpenTransaction) (b : Bool) (p : Performed) → Leaves x p → Leaves x (within_length x b p)
+within_leaves x true p h = h
+within_leaves x false p h = refl
 
-got-leaves : (x : OpenTransaction) (room : ℕ) (parts : List Bytes) → Leaves x (got_by x room parts)
-got-leaves x room [] = itself x
-got-leaves x room (p ∷ ps) = with_unread x ps
+got_leaves : (x : OpenTransaction) (room : ℕ) (parts : List Bytes) → Leaves x (got_by x room parts)
+got_leaves x room [] = itself x
+got_leaves x room (p ∷ ps) = with_unread x ps
 
-drafted-leaves : (x : OpenTransaction) (to : Option Target) (due : Option Due) (message : Bytes) → Leaves x (drafted x to due message)
-drafted-leaves x None due message = itself x
-drafted-leaves x (Some to) None message = itself x
-drafted-leaves x (Some to) (Some due) message = with_drafts x _
+drafted_leaves : (x : OpenTransaction) (to : Option Target) (due : Option Due) (message : Bytes) → Leaves x (drafted x to due message)
+drafted_leaves x None due message = itself x
+drafted_leaves x (Some to) None message = itself x
+drafted_leaves x (Some to) (Some due) message = with_drafts x _
 
-job-leaves : (g : Generated) (x : OpenTransaction) (to : Bytes) (due : Option Due) (message : Bytes) → Leaves x (put_job g x to due message)
-job-leaves g x to due message = within-leaves x _ _ (named-leaves x (name_in_operand to) _ (λ name. drafted-leaves x (job_target g name) due message))
+job_leaves : (g : Generated) (x : OpenTransaction) (to : Bytes) (due : Option Due) (message : Bytes) → Leaves x (put_job g x to due message)
+job_leaves g x to due message = within_leaves x _ _ (named_leaves x (name_in_operand to) _ (λ name. drafted_leaves x (job_target g name) due message))
 
-read_or-leaves : (code : Code) (x : OpenTransaction) (room : ℕ) (o : Option Bytes) → Leaves x (read_or code x room o)
-read_or-leaves code x room None = itself x
-read_or-leaves code x room (Some bytes) = itself x
+read_or_leaves : (code : Code) (x : OpenTransaction) (room : ℕ) (o : Option Bytes) → Leaves x (read_or code x room o)
+read_or_leaves code x room None = itself x
+read_or_leaves code x room (Some bytes) = itself x
 
-read_away-leaves : (x : OpenTransaction) (name : Bytes) (room : ℕ) (o : Option Bytes) → Leaves x (read_away_by x name room o)
-read_away-leaves x name room None = itself x
-read_away-leaves x name room (Some bytes) = with_lssbs x _
+read_away_leaves : (x : OpenTransaction) (name : Bytes) (room : ℕ) (o : Option Bytes) → Leaves x (read_away_by x name room o)
+read_away_leaves x name room None = itself x
+read_away_leaves x name room (Some bytes) = with_lssbs x _
 
-delete_local-leaves : (x : OpenTransaction) (name : Bytes) (o : Option Bytes) → Leaves x (delete_local_by x name o)
-delete_local-leaves x name None = itself x
-delete_local-leaves x name (Some bytes) = with_lssbs x _
+delete_local_leaves : (x : OpenTransaction) (name : Bytes) (o : Option Bytes) → Leaves x (delete_local_by x name o)
+delete_local_leaves x name None = itself x
+delete_local_leaves x name (Some bytes) = with_lssbs x _
 
-put-leaves : (x : OpenTransaction) (bytes : Bytes) (b : Bool) → Leaves x (within_length x b (replied (record x { parts = x.parts ++ bytes ∷ [] }) Done))
-put-leaves x bytes true = with_parts x _
-put-leaves x bytes false = refl
+put_leaves : (x : OpenTransaction) (bytes : Bytes) (b : Bool) → Leaves x (within_length x b (replied (record x { parts = x.parts ++ bytes ∷ [] }) Done))
+put_leaves x bytes true = with_parts x _
+put_leaves x bytes false = refl
 
-local-leaves : (x : OpenTransaction) (name bytes : Bytes) (b : Bool) → Leaves x (cond b (replied x K09) (replied (record x { lssbs = put bytes_cmp name bytes x.lssbs }) Done))
-local-leaves x name bytes true = itself x
-local-leaves x name bytes false = with_lssbs x _
+local_leaves : (x : OpenTransaction) (name bytes : Bytes) (b : Bool) → Leaves x (cond b (replied x K09) (replied (record x { lssbs = put bytes_cmp name bytes x.lssbs }) Done))
+local_leaves x name bytes true = itself x
+local_leaves x name bytes false = with_lssbs x _
 
-pended-leaves : (x : OpenTransaction) (variant : Variant) (r : Result Outcome Cause) → Leaves x (pended x variant r)
-pended-leaves x variant (Ok o) = refl
-pended-leaves x variant (Err cause) = refl
+pended_leaves : (x : OpenTransaction) (variant : Variant) (r : Result Outcome Cause) → Leaves x (pended x variant r)
+pended_leaves x variant (Ok o) = refl
+pended_leaves x variant (Err cause) = refl
 
 -- ---- calls that ask of an area
 
 alone : (x : OpenTransaction) (of : Option Area) (p : Performed) → Leaves x p → CallLooks x of (λ v. p)
 alone x of p h = Alone p (λ v. refl) h
 
-named-looks : (area : Bytes → Area) (x : OpenTransaction) (n : Option Bytes) (go : Told → Bytes → Performed) → ((m : Bytes) → CallLooks x (Some (area m)) (λ v. go v m))
+named_looks : (area : Bytes → Area) (x : OpenTransaction) (n : Option Bytes) (go : Told → Bytes → Performed) → ((m : Bytes) → CallLooks x (Some (area m)) (λ v. go v m))
     → CallLooks x (option_map area n) (λ v. with_name x n (go v))
-named-looks area x None go all = Alone (with_name x None (λ m. replied x Done)) (λ v. refl) (itself x)
-named-looks area x (Some m) go all = all m
+named_looks area x None go all = Alone (with_name x None (λ m. replied x Done)) (λ v. refl) (itself x)
+named_looks area x (Some m) go all = all m
 
-declared-looks : (x : OpenTransaction) (of : Option Area) (b : Bool) (f : Told → Performed) → CallLooks x of f → CallLooks x of (λ v. declared x b (f v))
-declared-looks x of true f h = h
-declared-looks x of false f h = Alone (declared x false (replied x Done)) (λ v. refl) (itself x)
+declared_looks : (x : OpenTransaction) (of : Option Area) (b : Bool) (f : Told → Performed) → CallLooks x of f → CallLooks x of (λ v. declared x b (f v))
+declared_looks x of true f h = h
+declared_looks x of false f h = Alone (declared x false (replied x Done)) (λ v. refl) (itself x)
 
 locks : (x : OpenTransaction) (area : Area) (go : Option Bytes → OpenTransaction → Performed) → ((c : Option Bytes) (y : OpenTransaction) → IsAnswered y (go c y))
     → CallLooks x (Some area) (λ v. locked v x area (go v.content))
@@ -197,95 +197,95 @@ unlocks x area = by (touches x area) (is_some (find area_cmp area x.written)) re
     by true true e = Alone (replied x K07) (λ v. refl) (itself x)
     by true false e = Unlocks area refl e (λ v. refl)
 
-read_or-answered : (x : OpenTransaction) (room : ℕ) (o : Option Bytes) → IsAnswered x (read_or K03 x room o)
-read_or-answered x room None = itself x
-read_or-answered x room (Some bytes) = itself x
+read_or_answered : (x : OpenTransaction) (room : ℕ) (o : Option Bytes) → IsAnswered x (read_or K03 x room o)
+read_or_answered x room None = itself x
+read_or_answered x room (Some bytes) = itself x
 
-deleted-answered : (x : OpenTransaction) (area : Area) (o : Option Bytes) → IsAnswered x (deleted x area o)
-deleted-answered x area None = itself x
-deleted-answered x area (Some bytes) = with_written x _
+deleted_answered : (x : OpenTransaction) (area : Area) (o : Option Bytes) → IsAnswered x (deleted x area o)
+deleted_answered x area None = itself x
+deleted_answered x area (Some bytes) = with_written x _
 
 -- the own write or deletion, else this content
 abbrev sees : OpenTransaction → Area → Option Bytes → Option Bytes
 sees x area outside = shown_by (find area_cmp area x.written) outside
 
-read-looks : (x : OpenTransaction) (area : Area) (room : ℕ) → CallLooks x (Some area) (λ v. locked v x area (λ y. read_answer y room (or_empty (sees y area v.content))))
-read-looks x area room = locks x area (λ c y. read_answer y room (or_empty (sees y area c))) (λ c y. itself y)
+read_looks : (x : OpenTransaction) (area : Area) (room : ℕ) → CallLooks x (Some area) (λ v. locked v x area (λ y. read_answer y room (or_empty (sees y area v.content))))
+read_looks x area room = locks x area (λ c y. read_answer y room (or_empty (sees y area c))) (λ c y. itself y)
 
-write-looks : (x : OpenTransaction) (area : Area) (bytes : Bytes) → CallLooks x (Some area) (λ v. locked v x area (λ y. wrote y area (Some bytes)))
-write-looks x area bytes = locks x area (λ c y. wrote y area (Some bytes)) (λ c y. with_written y _)
+write_looks : (x : OpenTransaction) (area : Area) (bytes : Bytes) → CallLooks x (Some area) (λ v. locked v x area (λ y. wrote y area (Some bytes)))
+write_looks x area bytes = locks x area (λ c y. wrote y area (Some bytes)) (λ c y. with_written y _)
 
 -- ---- all calls
 
-called-looks : (g : Generated) (asy : Bool) (x : OpenTransaction) (call : Call) → CallLooks x (area_of_call x call) (λ v. called g v asy x call)
+called_looks : (g : Generated) (asy : Bool) (x : OpenTransaction) (call : Call) → CallLooks x (area_of_call x call) (λ v. called g v asy x call)
 unfolding called
-called-looks g asy x Init = alone x None _ refl
-called-looks g asy x (Mget room) = alone x None _ (kind-leaves x (not asy) _ (got-leaves x room x.unread))
-called-looks g asy x (Mput bytes) = alone x None _ (kind-leaves x (not asy) _ (put-leaves x bytes (nat_le (sum_by length x.parts + length bytes) g.limits.nb && nat_lt (length x.parts) 16)))
-called-looks g asy x (Fget room) = alone x None _ (kind-leaves x asy _ (got-leaves x room x.unread))
-called-looks g asy x (Fput to message) = alone x None _ (job-leaves g x to _ message)
-called-looks g asy x (Dput to mode d h m s message) = alone x None _ (job-leaves g x to _ message)
-called-looks g asy x (SgetGb name room) =
-    named-looks (λ n. Gssb n) x (name_in_operand name) _ (λ n. locks x (Gssb n) (λ c y. read_or K03 y room (sees y (Gssb n) c)) (λ c y. read_or-answered y room (sees y (Gssb n) c)))
-called-looks g asy x (SputGb name bytes) = named-looks (λ n. Gssb n) x (name_in_operand name) _ (λ n. write-looks x (Gssb n) bytes)
-called-looks g asy x (SrelGb name) =
-    named-looks (λ n. Gssb n) x (name_in_operand name) _ (λ n. locks x (Gssb n) (λ c y. deleted y (Gssb n) (sees y (Gssb n) c)) (λ c y. deleted-answered y (Gssb n) (sees y (Gssb n) c)))
-called-looks g asy x (SgetKp name room) = alone x None _ (named-leaves x (name_in_operand name) _ (λ n. read_or-leaves K03 x room _))
-called-looks g asy x (SgetRl name room) = alone x None _ (named-leaves x (name_in_operand name) _ (λ n. read_away-leaves x n room _))
-called-looks g asy x (SputMs name bytes) =
-    alone x None _ (named-leaves x (name_in_operand name) _ (λ n. local-leaves x n bytes (not (is_some (find bytes_cmp n x.lssbs)) && nat_le g.limits.lssbs (length x.lssbs))))
-called-looks g asy x (SrelLb name) = alone x None _ (named-leaves x (name_in_operand name) _ (λ n. delete_local-leaves x n _))
-called-looks g asy x (SgetUs name room) = named-looks (λ n. Uls n x.user) x (name_in_operand name) _ (λ n. declared-looks x (Some (Uls n x.user)) (has_uls g n) _ (read-looks x (Uls n x.user) room))
-called-looks g asy x (SputUs name bytes) = named-looks (λ n. Uls n x.user) x (name_in_operand name) _ (λ n. declared-looks x (Some (Uls n x.user)) (has_uls g n) _ (write-looks x (Uls n x.user) bytes))
-called-looks g asy x (Gtda name room) = named-looks (λ n. Tls n x.lterm) x (name_in_operand name) _ (λ n. declared-looks x (Some (Tls n x.lterm)) (has_tls g n) _ (read-looks x (Tls n x.lterm) room))
-called-looks g asy x (Ptda name bytes) = named-looks (λ n. Tls n x.lterm) x (name_in_operand name) _ (λ n. declared-looks x (Some (Tls n x.lterm)) (has_tls g n) _ (write-looks x (Tls n x.lterm) bytes))
-called-looks g asy x (UnlkGb name) = named-looks (λ n. Gssb n) x (name_in_operand name) _ (λ n. unlocks x (Gssb n))
-called-looks g asy x (UnlkUs name) = named-looks (λ n. Uls n x.user) x (name_in_operand name) _ (λ n. declared-looks x (Some (Uls n x.user)) (has_uls g n) _ (unlocks x (Uls n x.user)))
-called-looks g asy x (UnlkDa name) = named-looks (λ n. Tls n x.lterm) x (name_in_operand name) _ (λ n. declared-looks x (Some (Tls n x.lterm)) (has_tls g n) _ (unlocks x (Tls n x.lterm)))
-called-looks g asy x (Pend variant op) = alone x None _ (pended-leaves x variant _)
+called_looks g asy x Init = alone x None _ refl
+called_looks g asy x (Mget room) = alone x None _ (kind_leaves x (not asy) _ (got_leaves x room x.unread))
+called_looks g asy x (Mput bytes) = alone x None _ (kind_leaves x (not asy) _ (put_leaves x bytes (nat_le (sum_by length x.parts + length bytes) g.limits.nb && nat_lt (length x.parts) 16)))
+called_looks g asy x (Fget room) = alone x None _ (kind_leaves x asy _ (got_leaves x room x.unread))
+called_looks g asy x (Fput to message) = alone x None _ (job_leaves g x to _ message)
+called_looks g asy x (Dput to mode d h m s message) = alone x None _ (job_leaves g x to _ message)
+called_looks g asy x (SgetGb name room) =
+    named_looks (λ n. Gssb n) x (name_in_operand name) _ (λ n. locks x (Gssb n) (λ c y. read_or K03 y room (sees y (Gssb n) c)) (λ c y. read_or_answered y room (sees y (Gssb n) c)))
+called_looks g asy x (SputGb name bytes) = named_looks (λ n. Gssb n) x (name_in_operand name) _ (λ n. write_looks x (Gssb n) bytes)
+called_looks g asy x (SrelGb name) =
+    named_looks (λ n. Gssb n) x (name_in_operand name) _ (λ n. locks x (Gssb n) (λ c y. deleted y (Gssb n) (sees y (Gssb n) c)) (λ c y. deleted_answered y (Gssb n) (sees y (Gssb n) c)))
+called_looks g asy x (SgetKp name room) = alone x None _ (named_leaves x (name_in_operand name) _ (λ n. read_or_leaves K03 x room _))
+called_looks g asy x (SgetRl name room) = alone x None _ (named_leaves x (name_in_operand name) _ (λ n. read_away_leaves x n room _))
+called_looks g asy x (SputMs name bytes) =
+    alone x None _ (named_leaves x (name_in_operand name) _ (λ n. local_leaves x n bytes (not (is_some (find bytes_cmp n x.lssbs)) && nat_le g.limits.lssbs (length x.lssbs))))
+called_looks g asy x (SrelLb name) = alone x None _ (named_leaves x (name_in_operand name) _ (λ n. delete_local_leaves x n _))
+called_looks g asy x (SgetUs name room) = named_looks (λ n. Uls n x.user) x (name_in_operand name) _ (λ n. declared_looks x (Some (Uls n x.user)) (has_uls g n) _ (read_looks x (Uls n x.user) room))
+called_looks g asy x (SputUs name bytes) = named_looks (λ n. Uls n x.user) x (name_in_operand name) _ (λ n. declared_looks x (Some (Uls n x.user)) (has_uls g n) _ (write_looks x (Uls n x.user) bytes))
+called_looks g asy x (Gtda name room) = named_looks (λ n. Tls n x.lterm) x (name_in_operand name) _ (λ n. declared_looks x (Some (Tls n x.lterm)) (has_tls g n) _ (read_looks x (Tls n x.lterm) room))
+called_looks g asy x (Ptda name bytes) = named_looks (λ n. Tls n x.lterm) x (name_in_operand name) _ (λ n. declared_looks x (Some (Tls n x.lterm)) (has_tls g n) _ (write_looks x (Tls n x.lterm) bytes))
+called_looks g asy x (UnlkGb name) = named_looks (λ n. Gssb n) x (name_in_operand name) _ (λ n. unlocks x (Gssb n))
+called_looks g asy x (UnlkUs name) = named_looks (λ n. Uls n x.user) x (name_in_operand name) _ (λ n. declared_looks x (Some (Uls n x.user)) (has_uls g n) _ (unlocks x (Uls n x.user)))
+called_looks g asy x (UnlkDa name) = named_looks (λ n. Tls n x.lterm) x (name_in_operand name) _ (λ n. declared_looks x (Some (Tls n x.lterm)) (has_tls g n) _ (unlocks x (Tls n x.lterm)))
+called_looks g asy x (Pend variant op) = alone x None _ (pended_leaves x variant _)
 
-first-leaves : (x : OpenTransaction) (call : Call) → Leaves x (first_call x call)
-first-leaves x Init = with_init x true
-first-leaves x _ = refl
+first_leaves : (x : OpenTransaction) (call : Call) → Leaves x (first_call x call)
+first_leaves x Init = with_init x true
+first_leaves x _ = refl
 
-call-looks : (g : Generated) (asy : Bool) (x : OpenTransaction) (call : Call) → CallLooks x (area_of_call x call) (λ v. call_outcome g v asy x call)
+call_looks : (g : Generated) (asy : Bool) (x : OpenTransaction) (call : Call) → CallLooks x (area_of_call x call) (λ v. call_outcome g v asy x call)
 unfolding call_outcome
-call-looks g asy x call = by x.inited
+call_looks g asy x call = by x.inited
   where
     by : (b : Bool) → CallLooks x (area_of_call x call) (λ v. called_by g v asy x call b)
-    by true = called-looks g asy x call
-    by false = alone x (area_of_call x call) (first_call x call) (first-leaves x call)
+    by true = called_looks g asy x call
+    by false = alone x (area_of_call x call) (first_call x call) (first_leaves x call)
 
 -- ---- statements
 
 module _ (app : Application) (asy : Bool) (x : OpenTransaction) where
-  outcome-leaves : (variant : Variant) (o : Outcome) → StatementLeaves x (by_outcome app asy x variant o).0 (by_outcome app asy x variant o).1
+  outcome_leaves : (variant : Variant) (o : Outcome) → StatementLeaves x (by_outcome app asy x variant o).0 (by_outcome app asy x variant o).1
   unfolding followed
-  outcome-leaves variant (Stay tac) = record { began = refl; first = refl; lterm = refl; inputs = append-nil x.inputs; touched = refl; notes = refl; statements = refl }
-  outcome-leaves variant (Queue tac) = record { began = refl; first = refl; lterm = refl; inputs = append-nil x.inputs; touched = refl; notes = refl; statements = refl }
-  outcome-leaves variant _ = refl
+  outcome_leaves variant (Stay tac) = record { began = refl; first = refl; lterm = refl; inputs = append-nil x.inputs; touched = refl; notes = refl; statements = refl }
+  outcome_leaves variant (Queue tac) = record { began = refl; first = refl; lterm = refl; inputs = append-nil x.inputs; touched = refl; notes = refl; statements = refl }
+  outcome_leaves variant _ = refl
 
   counts : (unit : UnitText) (y : OpenTransaction) (reply : Reply) → IsQuietly x y → StatementLeaves x (by_call app asy unit y (Replied reply)).0 Went
   counts unit y reply q = record { began = q.began; first = q.first; lterm = q.lterm; inputs = q.inputs; touched = q.touched; notes = q.notes; statements = ap (λ n. n + 1) q.statements }
 
-  performed-leaves : (unit : UnitText) (y : OpenTransaction) (c : Called) → CallLeaves x y c → StatementLeaves x (by_call app asy unit y c).0 (by_call app asy unit y c).1
-  performed-leaves unit y (Replied reply) q = counts unit y reply q
-  performed-leaves unit y Waits q = absurd q
-  performed-leaves unit y (Abnormal cause) q = q
-  performed-leaves unit y (Pends variant o) q = subst-outcome variant o q
+  performed_leaves : (unit : UnitText) (y : OpenTransaction) (c : Called) → CallLeaves x y c → StatementLeaves x (by_call app asy unit y c).0 (by_call app asy unit y c).1
+  performed_leaves unit y (Replied reply) q = counts unit y reply q
+  performed_leaves unit y Waits q = absurd q
+  performed_leaves unit y (Abnormal cause) q = q
+  performed_leaves unit y (Pends variant o) q = subst-outcome variant o q
     where
       subst-outcome : (variant : Variant) (o : Outcome) → y ≡ x → StatementLeaves x (by_outcome app asy y variant o).0 (by_outcome app asy y variant o).1
-      subst-outcome variant o e = subst (λ z. StatementLeaves x (by_outcome app asy z variant o).0 (by_outcome app asy z variant o).1) (sym e) (outcome-leaves variant o)
+      subst-outcome variant o e = subst (λ z. StatementLeaves x (by_outcome app asy z variant o).0 (by_outcome app asy z variant o).1) (sym e) (outcome_leaves variant o)
 
-  asks-looks : (unit : UnitText) (of : Option Area) (f : Told → Performed) → CallLooks x of f → StatementLooks app asy x of (λ v. by_performed app asy unit (f v))
-  asks-looks unit of f (Alone p same leaves) = StatementAlone (by_performed app asy unit p) (λ v. ap (by_performed app asy unit) (same v)) (performed-leaves unit p.0 p.1 leaves)
-  asks-looks unit of f (Locks area go is same all) = StatementLocks unit area go is (λ v. ap (by_performed app asy unit) (same v)) all
-  asks-looks unit of f (Unlocks area is held same) = StatementUnlocks unit area is held (λ v. ap (by_performed app asy unit) (same v))
+  asks_looks : (unit : UnitText) (of : Option Area) (f : Told → Performed) → CallLooks x of f → StatementLooks app asy x of (λ v. by_performed app asy unit (f v))
+  asks_looks unit of f (Alone p same leaves) = StatementAlone (by_performed app asy unit p) (λ v. ap (by_performed app asy unit) (same v)) (performed_leaves unit p.0 p.1 leaves)
+  asks_looks unit of f (Locks area go is same all) = StatementLocks unit area go is (λ v. ap (by_performed app asy unit) (same v)) all
+  asks_looks unit of f (Unlocks area is held same) = StatementUnlocks unit area is held (λ v. ap (by_performed app asy unit) (same v))
 
-  step-looks : (unit : UnitText) (m : Meaning) → StatementLooks app asy x (area_of_step x m) (λ v. by_step app v asy x unit m)
-  step-looks unit (Plain after) = StatementAlone _ (λ v. refl) (record { began = refl; first = refl; lterm = refl; inputs = refl; touched = refl; notes = refl; statements = refl })
-  step-looks unit (Ends cause) = StatementAlone _ (λ v. refl) refl
-  step-looks unit (Asks call) = asks-looks unit (area_of_call x call) (λ v. call_outcome app.generation v asy x call) (call-looks app.generation asy x call)
+  step_looks : (unit : UnitText) (m : Meaning) → StatementLooks app asy x (area_of_step x m) (λ v. by_step app v asy x unit m)
+  step_looks unit (Plain after) = StatementAlone _ (λ v. refl) (record { began = refl; first = refl; lterm = refl; inputs = refl; touched = refl; notes = refl; statements = refl })
+  step_looks unit (Ends cause) = StatementAlone _ (λ v. refl) refl
+  step_looks unit (Asks call) = asks_looks unit (area_of_call x call) (λ v. call_outcome app.generation v asy x call) (call_looks app.generation asy x call)
 
   -- a statement looks at nothing, or at one area
   pub statement_looks : StatementLooks app asy x (area_of app x) (λ v. statement app v asy x)
@@ -294,4 +294,4 @@ module _ (app : Application) (asy : Bool) (x : OpenTransaction) where
     where
       by : (o : Option UnitText) → StatementLooks app asy x (area_in_unit x o) (λ v. in_unit app v asy x o)
       by None = StatementAlone _ (λ v. refl) refl
-      by (Some unit) = step-looks unit (step unit x.run)
+      by (Some unit) = step_looks unit (step unit x.run)

@@ -11,13 +11,13 @@ use Rattle.std.specs.Ordering.{is_eq}
 use Rattle.std.specs.declared.cmp.Ordering.{Ordering}
 use Rattle.std.specs.declared.cmp.Ordering.TheVariants.{Less, Equal, Greater}
 use Rattle.kd_base.specs.ToolsLaws.{some_is, both_true}
-use Rattle.kdcs_types.specs.KeyedLaws.{holds, is_true}
 use Rattle.abstract_monitor.specs.Bytes.{Bytes, bytes_cmp}
 use Rattle.abstract_monitor.specs.Sessions.{has_user}
 use Rattle.abstract_monitor.specs.State.{Session}
 use Rattle.abstract_monitor.specs.Turns.{pterm_by, pterm_of_user}
 use Rattle.laws_of_places.specs.CountsLaws.{times}
 use Rattle.laws_of_places.specs.EntriesLaws.{none_below, none_before}
+use Rattle.kd_base.specs.OrderLaws.{holds, is_true}
 
 abbrev pub Signed : Type 0
 Signed = List (Bytes × Session)

@@ -10,7 +10,7 @@ use Rattle.kdcs_types.specs.declared.key.ServiceId.TheVariants.{Dialogue, Asynch
 use Rattle.kdcs_types.specs.declared.service.Job.{Job}
 use Rattle.kdcs_types.specs.declared.service.Service.{Service}
 use Rattle.kdcs_types.specs.Keys.{id_cmp, id_eq}
-use Rattle.kdcs_types.specs.KeyLaws.{id_eq-same}
+use Rattle.kdcs_types.specs.KeyLaws.{id_eq_same}
 use Rattle.kdcs_types.specs.Tables.{TableRows, content_of, service_of, shown_of}
 use Rattle.abstract_monitor.specs.declared.input_use.Use.{Use}
 use Rattle.abstract_monitor.specs.declared.input_use.Use.TheVariants.{Sign, SignRefused, SignFirst, AlreadySigned, Off, Display, Output, Again, Busy, TooLong, Next, Start, TacRefused}
@@ -58,7 +58,7 @@ module _ (app : Application) (t : TableRows) where
               → ReplaysToItself app t id x
           either false f h = later h
           either true f h =
-              subst (λ i. ReplaysToItself app t i x) (sym (id_eq-same id row.id f))
+              subst (λ i. ReplaysToItself app t i x) (sym (id_eq_same id row.id f))
               (subst (λ (y : OpenTransaction). ReplaysToItself app t row.id y) (some_is (opened_by_row app.generation row.id row (lterm_of_row row.lterm)) x h) (asynchronous_replays row.id row e))
 
 pub starts_replay : (app : Application) (t : TableRows) → AllReplay app (started app t)
@@ -129,7 +129,7 @@ module _ (app : Application) (s : State) (facts : HasFacts app s) (all : AllRepl
           → id_eq (Asynchronous n) (Asynchronous job.number) ≡ false
       other job f n y was false e = e
       other job f n y was true e =
-          absurd (true≢false (sym f ∙ ap (λ k. not (is_some (find id_cmp k s.active))) (sym (id_eq-same (Asynchronous n) (Asynchronous job.number) e)) ∙ ap (λ o. not (is_some o)) was))
+          absurd (true≢false (sym f ∙ ap (λ k. not (is_some (find id_cmp k s.active))) (sym (id_eq_same (Asynchronous n) (Asynchronous job.number) e)) ∙ ap (λ o. not (is_some o)) was))
 
       job_same : (job : Job) → is_free s.active job ≡ true → (i : ServiceId) (y : OpenTransaction) → find id_cmp i s.active ≡ Some y → (began : Option Service) → HasSameJob s.tables (shown_tables s.tables lterm job) i began
       job_same job f (Dialogue user) y was began = tt

@@ -35,7 +35,7 @@ use Rattle.laws_of_steps.specs.EachStepLaws.{each_split}
 use Rattle.laws_of_runs.specs.RunLaws.{HistoriesCommitOnce}
 use Rattle.laws_of_steps.specs.Steps.{CommitsOnce, MakesNoCommit, MakesOneCommit}
 use Rattle.laws_of_tables.specs.ItemsLaws.{contains}
-use Rattle.laws_of_tables.specs.EndsLaws.{due-for, for-lterm}
+use Rattle.laws_of_tables.specs.EndsLaws.{due_job_found, for_lterm}
 use Rattle.laws_of_places.specs.RowsLaws.{least_passes, filtered_pass}
 use Rattle.abstract_monitor.specs.Picks.{free_jobs}
 use Rattle.kd_base.specs.ToolsLaws.{both_true}
@@ -134,8 +134,8 @@ due_is_shown : (app : Application) (s : State) (lterm : Bytes) (job : Job) → d
     → Shows (durable app.generation s.tables) (durable app.generation (shown_tables s.tables lterm job)) lterm
 unfolding durable
 due_is_shown app s lterm job is =
-    let found = due-for s lterm job is in
-    record { job = job; there = contains job s.tables.jobs found.there; target = for-lterm lterm job.value.to found.target; due = leb-true job.value.due s.tables.clock (both_true _ _ passes).0; shown = refl }
+    let found = due_job_found s lterm job is in
+    record { job = job; there = contains job s.tables.jobs found.there; target = for_lterm lterm job.value.to found.target; due = leb-true job.value.due s.tables.clock (both_true _ _ passes).0; shown = refl }
   where
     is_due : Job → Bool
     is_due j = nat_le j.value.due s.tables.clock && is_for lterm j.value.to

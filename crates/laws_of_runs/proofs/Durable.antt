@@ -13,25 +13,24 @@ use Rattle.kdcs_types.specs.declared.key.ServiceId.{ServiceId}
 use Rattle.kdcs_types.specs.declared.key.ServiceId.TheVariants.{Dialogue, Asynchronous}
 use Rattle.kdcs_types.specs.declared.service.Note.{Note}
 use Rattle.kdcs_types.specs.declared.service.Service.{Service}
-use Rattle.kdcs_types.specs.KeyedLaws.{item_at-with, item_at-without, found_key, found_passes}
+use Rattle.kdcs_types.specs.KeyedLaws.{item_at_with, item_at_without, found_key, found_passes}
 use Rattle.kdcs_types.specs.Keys.{id_eq}
-use Rattle.kdcs_types.specs.KeyLaws.{id_eq-itself}
+use Rattle.kdcs_types.specs.KeyLaws.{id_eq_itself}
 use Rattle.kdcs_types.specs.RowLaws.{sorted_with_change}
-use Rattle.kdcs_types.specs.Tables.{TableRows, IsSortedTables, service_key, service_fits, lterm_fits, content_of, service_of, with_change, change_fits, change_key}
+use Rattle.kdcs_types.specs.Tables.{TableRows, IsSortedTables, service_key, service_fits, content_of, service_of, with_change, change_fits, change_key}
 use Rattle.kdcdef_types.specs.Generation.{Generated}
 use Rattle.abstract_monitor.specs.declared.outcome.Outcome.{Outcome}
-use Rattle.abstract_monitor.specs.declared.outcome.Outcome.TheVariants.{Wait, Point, Follow}
 use Rattle.abstract_monitor.specs.AreaLaws.{area_changes, areas_sorted, own_job_sorted}
 use Rattle.abstract_monitor.specs.Bytes.{Bytes, bytes_cmp}
-use Rattle.abstract_monitor.specs.Endings.{is_durable, durable, area_change, with_areas, service_change, with_service, without_own_job, with_drafts, lterm_in_row, row_after, synchronised, broken}
+use Rattle.abstract_monitor.specs.Endings.{is_durable, durable, area_change, with_areas, service_change, with_service, without_own_job, with_drafts, row_after, synchronised, broken}
 use Rattle.abstract_monitor.specs.State.{OpenTransaction}
 use Rattle.abstract_monitor.specs.Statements.{Kept}
 use Rattle.laws_of_steps.specs.DurableKeys.{key_is_durable}
-use Rattle.laws_of_steps.specs.DurableLaws.{durable_sorted, durable_again, durable_follows}
+use Rattle.laws_of_steps.specs.DurableLaws.{durable_sorted, durable_again, durable_follows, kept_at}
 use Rattle.laws_of_steps.specs.Replay.{with_began}
-use Rattle.laws_of_places.specs.RowsLaws.{kept_at}
 use Rattle.laws_of_runs.specs.Replays.{HasSameJob}
 use Rattle.laws_of_runs.proofs.Frames.{service_content}
+use Rattle.laws_of_tables.specs.PointsLaws.{point_row_fits}
 
 -- ---- the row of a service
 
@@ -45,7 +44,7 @@ own_id t id row e = ap (key_service id) (found_key service_key (ServiceKey id) t
 
 row_fits_there : (t : TableRows) (id : ServiceId) (row : Service) → IsSortedTables t → service_of t id ≡ Some row → IsTrue (change_fits (service_change id (Some row)))
 row_fits_there t id row sorted e =
-    true_both (id_eq row.id id) (service_fits row) (ap (λ i. id_eq i id) (own_id t id row e) ∙ id_eq-itself id)
+    true_both (id_eq row.id id) (service_fits row) (ap (λ i. id_eq i id) (own_id t id row e) ∙ id_eq_itself id)
     (found_passes service_key service_fits (ServiceKey id) t.services row sorted.services_fit e)
 
 -- ---- the durable tables with the row at the beginning
@@ -88,11 +87,11 @@ module _ (g : Generated) (t : TableRows) (sorted : IsSortedTables t) (inputs : L
     where
       set : (o : Option Service) → service_of t id ≡ o → service_of (with_service (durable g t) id o) id ≡ o
       set None k =
-          item_at-without service_key (ServiceKey id) (ServiceKey id) (durable g t).services
-          ∙ ap (λ b. cond b None (service_of (durable g t) id)) (id_eq-itself id)
+          item_at_without service_key (ServiceKey id) (ServiceKey id) (durable g t).services
+          ∙ ap (λ b. cond b None (service_of (durable g t) id)) (id_eq_itself id)
       set (Some row) k =
-          item_at-with service_key (ServiceKey id) row (durable g t).services
-          ∙ ap (λ b. cond b (Some row) (service_of (durable g t) id)) (ap (λ i. id_eq id i) (own_id t id row k) ∙ id_eq-itself id)
+          item_at_with service_key (ServiceKey id) row (durable g t).services
+          ∙ ap (λ b. cond b (Some row) (service_of (durable g t) id)) (ap (λ i. id_eq id i) (own_id t id row k) ∙ id_eq_itself id)
 
       by : (b : Bool) → is_durable g id ≡ b → service_of (cond b (durable g t) (with_service (durable g t) id began)) id ≡ began
       by true k = kept_at (is_durable g) id t.services ∙ ap (λ b. cond b (service_of t id) None) k ∙ e
@@ -146,17 +145,6 @@ module _ (g : Generated) where
   unfolding durable
   drafts_durable t x = refl
 
-  lterm_in_row_fits : (id : ServiceId) (lterm : Bytes) → lterm_fits id (lterm_in_row id lterm) ≡ true
-  lterm_in_row_fits (Dialogue user) lterm = refl
-  lterm_in_row_fits (Asynchronous number) lterm = refl
-
-  row_after_fits : (id : ServiceId) (x : OpenTransaction) (o : Outcome) → IsTrue (is_sorted bytes_cmp x.lssbs) → IsTrue (change_fits (service_change id (row_after g id x o)))
-  unfolding row_after
-  row_after_fits id x (Wait tac) lssbs = true_both (id_eq id id) _ (id_eq-itself id) (true_both _ _ (lterm_in_row_fits id x.lterm) lssbs)
-  row_after_fits id x (Point tac) lssbs = true_both (id_eq id id) _ (id_eq-itself id) (true_both _ _ (lterm_in_row_fits id x.lterm) lssbs)
-  row_after_fits id x (Follow tac) lssbs = true_both (id_eq id id) _ (id_eq-itself id) (true_both _ _ (lterm_in_row_fits id x.lterm) refl)
-  row_after_fits id x _ lssbs = refl
-
   pub synchronised_alike : (t u : TableRows) (id : ServiceId) (x : OpenTransaction) (o : Outcome) → IsSortedTables t → IsSortedTables u → IsTrue (is_sorted bytes_cmp x.lssbs) → durable g t ≡ durable g u
       → durable g (synchronised g t id x o) ≡ durable g (synchronised g u id x o)
   unfolding synchronised
@@ -168,7 +156,7 @@ module _ (g : Generated) where
       let sb = own_job_sorted (with_areas u x.written) id x.began (areas_sorted x.written u su) in
       let left = own_alike (with_areas t x.written) (with_areas u x.written) id x.began (areas_sorted x.written t st) (areas_sorted x.written u su) (areas_alike x.written t u st su same) in
       ap (durable g) (drafts_last a x id row) ∙ drafts_durable (with_service a id row) x
-      ∙ ap (λ w. with_drafts w x) (change_alike a b (service_change id row) sa sb (row_after_fits id x o lssbs) left)
+      ∙ ap (λ w. with_drafts w x) (change_alike a b (service_change id row) sa sb (point_row_fits g id x o lssbs) left)
       ∙ sym (ap (durable g) (drafts_last b x id row) ∙ drafts_durable (with_service b id row) x)
 
   pub broken_alike : (t u : TableRows) (id : ServiceId) (x : OpenTransaction) → IsSortedTables t → IsSortedTables u → durable g t ≡ durable g u → durable g (broken t id x) ≡ durable g (broken u id x)

@@ -1,7 +1,6 @@
 -- A transaction that ends does so as its record, run in one go.
-use Rattle.std.specs.Prelude.{◌≡◌, refl, ℕ, zero, suc, ◌+◌, ◌-◌, ◌<◌, ◌≤◌, ◌⊎◌, Bool, true, false, [], ◌∷◌, is_some, Option, Some, None}
+use Rattle.std.specs.Prelude.{◌≡◌, refl, ℕ, zero, suc, ◌+◌, ◌-◌, ◌<◌, ◌≤◌, ◌⊎◌, Bool, true, false, is_some, Option, Some, None}
 use Rattle.std.proofs.Common.{sym, ap, ◌∙◌, subst, inl, inr, ⊎_elim, arith}
-use Rattle.std.proofs.lemmas.List.{append-nil}
 use Rattle.kdcs_types.specs.declared.call.Cause.{Cause}
 use Rattle.kdcs_types.specs.declared.key.Area.{Area}
 use Rattle.kdcs_types.specs.declared.key.ServiceId.{ServiceId}
@@ -25,8 +24,7 @@ use Rattle.abstract_monitor.specs.Endings.{is_asynchronous, opened, durable, bro
 use Rattle.abstract_monitor.specs.Statements.{Kept, Stated, area_of, kept_so_far, kept_record, by_call, by_performed, statement}
 use Rattle.laws_of_steps.specs.Replay.{dialogue_from, job_from, opened_from, went_on, replay_told, replay_statement, replay_step, replay, Ended, settled_as, ended_by, atomic, GoesOn, IsReplayed, IsAtomic}
 use Rattle.laws_of_steps.specs.Transactions.{IsRooted}
-use Rattle.laws_of_runs.specs.Replays.{GoesOnAtOnce, kept_and}
-use Rattle.laws_of_runs.specs.ReplaysLaws.{told_of, told_rest}
+use Rattle.laws_of_runs.specs.Replays.{GoesOnAtOnce}
 use Rattle.laws_of_places.specs.ShapesLaws.{IsAnswered, AnsweredBy, StatementLeaves, StatementLooks, StatementAlone, StatementLocks, StatementUnlocks, statement_looks}
 
 -- ---- an end looks at nothing
@@ -210,12 +208,6 @@ module _ (app : Application) (t : TableRows) (r : Kept) where
 module _ (app : Application) (t : TableRows) (id : ServiceId) (x : OpenTransaction) (replayed : IsReplayed app t id x) (rooted : IsRooted t id x) (v : Told) where
   abbrev so_far : Kept
   so_far = kept_so_far id x
-
-  told_nothing_more : (of : Option Area) → replay_told t so_far x of ≡ told_of t [] of
-  told_nothing_more of = ap (λ (r : Kept). replay_told t r x of) (sym same) ∙ told_rest t id x [] [] x.statements of
-    where
-      same : kept_and id x [] [] x.statements ≡ so_far
-      same i = record { service = id; began = x.began; inputs = x.first ∷ x.lterm ∷ append-nil x.inputs i; notes = append-nil x.notes i; statements = x.statements }
 
   -- the statement that ends it, in the replay
   last_alike : Ends (statement app v (is_asynchronous id) x).1 → replay_statement app t so_far x ≡ statement app v (is_asynchronous id) x

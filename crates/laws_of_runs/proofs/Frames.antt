@@ -11,9 +11,9 @@ use Rattle.kdcs_types.specs.declared.key.ServiceId.TheVariants.{Dialogue, Asynch
 use Rattle.kdcs_types.specs.declared.service.Job.{Job}
 use Rattle.kdcs_types.specs.declared.service.Service.{Service}
 use Rattle.kdcs_types.specs.Keyed.{item_at, without_item}
-use Rattle.kdcs_types.specs.KeyedLaws.{item_at-with, item_at-without}
+use Rattle.kdcs_types.specs.KeyedLaws.{item_at_with, item_at_without}
 use Rattle.kdcs_types.specs.Keys.{area_eq, id_eq, key_eq}
-use Rattle.kdcs_types.specs.KeyLaws.{area_eq-same}
+use Rattle.kdcs_types.specs.KeyLaws.{area_eq_same, other_number}
 use Rattle.kdcs_types.specs.Tables.{TableRows, gssb_key, tls_key, uls_key, job_key, content_of, with_change}
 use Rattle.kdcdef_types.specs.Generation.{Generated}
 use Rattle.abstract_monitor.specs.declared.answer.LockAnswer.TheVariants.{Granted}
@@ -47,22 +47,22 @@ still_replays app t u id x same h other inputs notes alike = h other inputs note
 
 module _ (t : TableRows) where
   gssb_left : (n m : Bytes) → key_eq (GssbKey m) (GssbKey n) ≡ false → content_of (with_change t (area_change (Gssb n) None)) (Gssb m) ≡ content_of t (Gssb m)
-  gssb_left n m e = ap (option_map (λ (r : Bytes × Bytes). r.1)) (item_at-without gssb_key (GssbKey m) (GssbKey n) t.gssbs ∙ ap (λ b. cond b None (item_at gssb_key (GssbKey m) t.gssbs)) e)
+  gssb_left n m e = ap (option_map (λ (r : Bytes × Bytes). r.1)) (item_at_without gssb_key (GssbKey m) (GssbKey n) t.gssbs ∙ ap (λ b. cond b None (item_at gssb_key (GssbKey m) t.gssbs)) e)
 
   gssb_kept : (n m bytes : Bytes) → key_eq (GssbKey m) (GssbKey n) ≡ false → content_of (with_change t (area_change (Gssb n) (Some bytes))) (Gssb m) ≡ content_of t (Gssb m)
-  gssb_kept n m bytes e = ap (option_map (λ (r : Bytes × Bytes). r.1)) (item_at-with gssb_key (GssbKey m) (n, bytes) t.gssbs ∙ ap (λ b. cond b (Some (n, bytes)) (item_at gssb_key (GssbKey m) t.gssbs)) e)
+  gssb_kept n m bytes e = ap (option_map (λ (r : Bytes × Bytes). r.1)) (item_at_with gssb_key (GssbKey m) (n, bytes) t.gssbs ∙ ap (λ b. cond b (Some (n, bytes)) (item_at gssb_key (GssbKey m) t.gssbs)) e)
 
   tls_left : (b l c m : Bytes) → key_eq (TlsKey c m) (TlsKey b l) ≡ false → content_of (with_change t (area_change (Tls b l) None)) (Tls c m) ≡ content_of t (Tls c m)
-  tls_left b l c m e = ap (option_map (λ (r : Bytes × Bytes × Bytes). r.2)) (item_at-without tls_key (TlsKey c m) (TlsKey b l) t.tlss ∙ ap (λ k. cond k None (item_at tls_key (TlsKey c m) t.tlss)) e)
+  tls_left b l c m e = ap (option_map (λ (r : Bytes × Bytes × Bytes). r.2)) (item_at_without tls_key (TlsKey c m) (TlsKey b l) t.tlss ∙ ap (λ k. cond k None (item_at tls_key (TlsKey c m) t.tlss)) e)
 
   tls_kept : (b l c m : Bytes) (x : ℕ) (xs : Bytes) → key_eq (TlsKey c m) (TlsKey b l) ≡ false → content_of (with_change t (area_change (Tls b l) (Some (x ∷ xs)))) (Tls c m) ≡ content_of t (Tls c m)
-  tls_kept b l c m x xs e = ap (option_map (λ (r : Bytes × Bytes × Bytes). r.2)) (item_at-with tls_key (TlsKey c m) (b, l, x ∷ xs) t.tlss ∙ ap (λ k. cond k (Some (b, l, x ∷ xs)) (item_at tls_key (TlsKey c m) t.tlss)) e)
+  tls_kept b l c m x xs e = ap (option_map (λ (r : Bytes × Bytes × Bytes). r.2)) (item_at_with tls_key (TlsKey c m) (b, l, x ∷ xs) t.tlss ∙ ap (λ k. cond k (Some (b, l, x ∷ xs)) (item_at tls_key (TlsKey c m) t.tlss)) e)
 
   uls_left : (b l c m : Bytes) → key_eq (UlsKey c m) (UlsKey b l) ≡ false → content_of (with_change t (area_change (Uls b l) None)) (Uls c m) ≡ content_of t (Uls c m)
-  uls_left b l c m e = ap (option_map (λ (r : Bytes × Bytes × Bytes). r.2)) (item_at-without uls_key (UlsKey c m) (UlsKey b l) t.ulss ∙ ap (λ k. cond k None (item_at uls_key (UlsKey c m) t.ulss)) e)
+  uls_left b l c m e = ap (option_map (λ (r : Bytes × Bytes × Bytes). r.2)) (item_at_without uls_key (UlsKey c m) (UlsKey b l) t.ulss ∙ ap (λ k. cond k None (item_at uls_key (UlsKey c m) t.ulss)) e)
 
   uls_kept : (b l c m : Bytes) (x : ℕ) (xs : Bytes) → key_eq (UlsKey c m) (UlsKey b l) ≡ false → content_of (with_change t (area_change (Uls b l) (Some (x ∷ xs)))) (Uls c m) ≡ content_of t (Uls c m)
-  uls_kept b l c m x xs e = ap (option_map (λ (r : Bytes × Bytes × Bytes). r.2)) (item_at-with uls_key (UlsKey c m) (b, l, x ∷ xs) t.ulss ∙ ap (λ k. cond k (Some (b, l, x ∷ xs)) (item_at uls_key (UlsKey c m) t.ulss)) e)
+  uls_kept b l c m x xs e = ap (option_map (λ (r : Bytes × Bytes × Bytes). r.2)) (item_at_with uls_key (UlsKey c m) (b, l, x ∷ xs) t.ulss ∙ ap (λ k. cond k (Some (b, l, x ∷ xs)) (item_at uls_key (UlsKey c m) t.ulss)) e)
 
   -- a change of one area keeps all others
   area_kept : (w : Area) (o : Option Bytes) (area : Area) → area_eq area w ≡ false → content_of (with_change t (area_change w o)) area ≡ content_of t area
@@ -127,11 +127,8 @@ synchronised_content g t id x o area apart =
 
 -- ---- jobs
 
-other_number : (n m : ℕ) → id_eq (Asynchronous n) (Asynchronous m) ≡ false → key_eq (JobKey n) (JobKey m) ≡ false
-other_number n m apart = apart
-
 pub job_kept : (n m : ℕ) (js : List Job) → id_eq (Asynchronous n) (Asynchronous m) ≡ false → item_at job_key (JobKey n) (without_item job_key (JobKey m) js) ≡ item_at job_key (JobKey n) js
-job_kept n m js apart = item_at-without job_key (JobKey n) (JobKey m) js ∙ ap (λ b. cond b None (item_at job_key (JobKey n) js)) (other_number n m apart)
+job_kept n m js apart = item_at_without job_key (JobKey n) (JobKey m) js ∙ ap (λ b. cond b None (item_at job_key (JobKey n) js)) (other_number n m apart)
 
 left_kept : (id : ServiceId) (began : Option Service) (n : ℕ) (js : List Job) → id_eq (Asynchronous n) id ≡ false → item_at job_key (JobKey n) (jobs_left id began js) ≡ item_at job_key (JobKey n) js
 left_kept (Dialogue user) began n js apart = refl
@@ -172,7 +169,7 @@ held_apart x y apart written area held = by x.written written
   where
     other : (w : Area) → IsTrue (touches x w) → (b : Bool) → area_eq area w ≡ b → not b ≡ true
     other w has false e = refl
-    other w has true e = absurd (apart area (ap (touches x) (area_eq-same area w e) ∙ has) held)
+    other w has true e = absurd (apart area (ap (touches x) (area_eq_same area w e) ∙ has) held)
 
     by : (ws : List (Area × Option Bytes)) → IsTrue (list_all (λ (w : Area × Option Bytes). touches x w.0) ws) → IsTrue (list_all (λ (w : Area × Option Bytes). not (area_eq area w.0)) ws)
     by [] h = refl

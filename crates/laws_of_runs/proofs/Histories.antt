@@ -17,30 +17,30 @@ use Rattle.laws_of_steps.specs.EachStepLaws.{each_both}
 use Rattle.laws_of_runs.specs.ListsLaws.{tables_both}
 
 module _ (turns : TurnsCommitOnce) (commands : CommandsCommitOnce) (app : Application) where
-  rotated-once : (n : ℕ) (ended : Bool) (s : State) (task row : ℕ) → EachStep (CommitsOnce app) s (rotated app n ended s task row)
+  rotated_once : (n : ℕ) (ended : Bool) (s : State) (task row : ℕ) → EachStep (CommitsOnce app) s (rotated app n ended s task row)
   unfolding rotated
-  rotated-once zero ended s task row = tt
-  rotated-once (suc n) true s task row = tt
-  rotated-once (suc n) false s task row =
+  rotated_once zero ended s task row = tt
+  rotated_once (suc n) true s task row = tt
+  rotated_once (suc n) false s task row =
       let turned = turn_of app s task in
       let more = in_a_row turned.moved row in
-      (turns app s task, rotated-once n (more == app.generation.limits.tasks) turned.after (next_task app task) more)
+      (turns app s task, rotated_once n (more == app.generation.limits.tasks) turned.after (next_task app task) more)
 
-  steps-once : (s : State) (c : Command) → EachStep (CommitsOnce app) s (steps_of app s c)
+  steps_once : (s : State) (c : Command) → EachStep (CommitsOnce app) s (steps_of app s c)
   unfolding steps_of
-  steps-once s (Run n) = rotated-once n false s 1 0
-  steps-once s (Input pterm text) = (commands app s (Input pterm text), tt)
-  steps-once s (Tick ticks) = (commands app s (Tick ticks), tt)
-  steps-once s (Turn task) = (commands app s (Turn task), tt)
-  steps-once s (Drop pterm) = (commands app s (Drop pterm), tt)
-  steps-once s (Print pterm) = (commands app s (Print pterm), tt)
-  steps-once s (PrintLast pterm) = (commands app s (PrintLast pterm), tt)
-  steps-once s Restart = (commands app s Restart, tt)
+  steps_once s (Run n) = rotated_once n false s 1 0
+  steps_once s (Input pterm text) = (commands app s (Input pterm text), tt)
+  steps_once s (Tick ticks) = (commands app s (Tick ticks), tt)
+  steps_once s (Turn task) = (commands app s (Turn task), tt)
+  steps_once s (Drop pterm) = (commands app s (Drop pterm), tt)
+  steps_once s (Print pterm) = (commands app s (Print pterm), tt)
+  steps_once s (PrintLast pterm) = (commands app s (PrintLast pterm), tt)
+  steps_once s Restart = (commands app s Restart, tt)
 
-  pub history-once : (s : State) (script : List Command) → EachStep (CommitsOnce app) s (history app s script)
+  pub history_once : (s : State) (script : List Command) → EachStep (CommitsOnce app) s (history app s script)
   unfolding history
-  history-once s [] = tt
-  history-once s (c ∷ cs) = each_both (CommitsOnce app) s (steps_of app s c) _ (steps-once s c) (history-once (state_after s (steps_of app s c)) cs)
+  history_once s [] = tt
+  history_once s (c ∷ cs) = each_both (CommitsOnce app) s (steps_of app s c) _ (steps_once s c) (history_once (state_after s (steps_of app s c)) cs)
 
 -- ---- tables
 

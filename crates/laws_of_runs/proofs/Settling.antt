@@ -21,27 +21,16 @@ use Rattle.abstract_monitor.specs.declared.outcome.Outcome.{Outcome}
 use Rattle.abstract_monitor.specs.declared.outcome.Outcome.TheVariants.{Hold, Stay, Queue, Wait, Point, Follow, Finish, Break, Back}
 use Rattle.abstract_monitor.specs.declared.work.Work.{Work}
 use Rattle.abstract_monitor.specs.declared.work.Work.TheVariants as work
-use Rattle.abstract_monitor.specs.Bytes.{Bytes, bytes_cmp}
+use Rattle.abstract_monitor.specs.Bytes.{Bytes}
 use Rattle.abstract_monitor.specs.Endings.{synchronised, broken, durable, refusal}
 use Rattle.abstract_monitor.specs.Picks.{pick}
-use Rattle.abstract_monitor.specs.State.{Application, OpenTransaction, Session, State}
+use Rattle.abstract_monitor.specs.State.{Application, OpenTransaction, State}
 use Rattle.abstract_monitor.specs.Statements.{kept_record}
-use Rattle.abstract_monitor.specs.Turns.{pterm_of_user, noted_last, last_told, message_sent, without_work, abnormal, after_point, settled_by, settled, last_again, back_by, back, happens, told_here, statement_now, worked, took_job_for, took_job, took, turn_by, turn_of}
+use Rattle.abstract_monitor.specs.Turns.{without_work, abnormal, after_point, settled_by, settled, last_again, back_by, back, happens, told_here, statement_now, worked, took_job_for, took_job, took, turn_by, turn_of}
 use Rattle.laws_of_steps.specs.Facts.{IsConsistent}
 use Rattle.laws_of_steps.specs.Replay.{settled_as, IsAtomic, IsReplayable, SettlesAs}
 use Rattle.laws_of_runs.proofs.Ends.{breaks_atomic, settles_atomic}
-
-noted_tables : (u : State) (pterm message : Bytes) (o : Option Session) → (noted_last u pterm message o).tables ≡ u.tables
-noted_tables u pterm message None = refl
-noted_tables u pterm message (Some v) = refl
-
-told_tables : (u : State) (o : Option Bytes) (message : Bytes) → (last_told u o message).tables ≡ u.tables
-told_tables u None message = refl
-told_tables u (Some pterm) message = noted_tables u pterm message (find bytes_cmp pterm u.signed)
-
-sent_tables : (u : State) (id : ServiceId) (x : OpenTransaction) → (message_sent u id x).tables ≡ u.tables
-sent_tables u (Dialogue user) x = told_tables u (pterm_of_user u.signed user) _
-sent_tables u (Asynchronous number) x = refl
+use Rattle.laws_of_steps.specs.TablesStayLaws.{sent_tables}
 
 -- it holds of the tables and the record of a turn that ends a transaction
 abbrev pub IfSettled : (TableRows → Settled → Type 0) → TableRows → Option Settled → Type 0

@@ -10,7 +10,7 @@ use Rattle.kdcs_types.specs.declared.key.ServiceId.{ServiceId}
 use Rattle.kdcs_types.specs.declared.service.Note.{Note}
 use Rattle.kdcs_types.specs.declared.service.Note.TheVariants.{Released, Refused}
 use Rattle.kdcs_types.specs.Keys.{area_eq}
-use Rattle.kdcs_types.specs.KeyLaws.{area_eq-same, area_eq-itself}
+use Rattle.kdcs_types.specs.KeyLaws.{area_eq_same, area_eq_itself}
 use Rattle.kdcs_types.specs.Tables.{TableRows, content_of}
 use Rattle.unit_types.specs.UnitText.{UnitText}
 use Rattle.abstract_monitor.specs.declared.answer.Called.{Called}
@@ -154,7 +154,7 @@ module _ (app : Application) (t : TableRows) (id : ServiceId) (x : OpenTransacti
   -- the new note on its area is looked at first
   own_told : (other : TableRows) (new : Note) (notes : List Note) → told_by other (new ∷ notes) (noted_area new) ≡ record { answer = answer_by_note (Some new); content = content_by_note (Some new) (content_of other (noted_area new)) }
   own_told other new notes =
-      ap (λ b. told (cond b (new ∷ notes_on (noted_area new) notes) (notes_on (noted_area new) notes))) (area_eq-itself (noted_area new))
+      ap (λ b. told (cond b (new ∷ notes_on (noted_area new) notes) (notes_on (noted_area new) notes))) (area_eq_itself (noted_area new))
     where
       told : List Note → Told
       told l = record { answer = answer_by_note (slice_get l 0); content = content_by_note (slice_get l 0) (content_of other (noted_area new)) }
@@ -200,7 +200,7 @@ module _ (app : Application) (t : TableRows) (id : ServiceId) (x : OpenTransacti
           counted_on r goes (counted_advances r.0 (x.touched ++ area ∷ []) b)
           (λ a h. still a (any_append (λ (held : Area). area_eq held a) x.touched (area ∷ []) h))
           (λ other notes alike.
-          ap does (looks other notes (alike.areas area (still area (any_last (λ (held : Area). area_eq held area) x.touched area (area_eq-itself area)))))
+          ap does (looks other notes (alike.areas area (still area (any_last (λ (held : Area). area_eq held area) x.touched area (area_eq_itself area)))))
           ∙ same (record { answer = Granted; content = v.content })
           ∙ ap (performs unit) (locked_granted (record { answer = Granted; content = v.content }) area (go v.content) e refl)
           ∙ now)
@@ -228,7 +228,7 @@ module _ (app : Application) (t : TableRows) (id : ServiceId) (x : OpenTransacti
             where
               by : (b : Bool) → area_eq a area ≡ b → area_eq a area ≡ false
               by false q = q
-              by true q = absurd (true≢false (sym h ∙ ap (touches x) (area_eq-same a area q) ∙ e))
+              by true q = absurd (true≢false (sym h ∙ ap (touches x) (area_eq_same a area q) ∙ e))
 
       locks_replays : ReplaysToItself app t id r.0
       locks_replays = by (touches x area) refl
@@ -265,14 +265,14 @@ module _ (app : Application) (t : TableRows) (id : ServiceId) (x : OpenTransacti
             → ((a : Area) → IsTrue (list_any (λ (held : Area). area_eq held a) left) → told_by other notes a ≡ record { answer = Granted; content = content_of t a })
             → (a : Area) → IsTrue (touches x a) → (b : Bool) → area_eq a area ≡ b → told_by other (Released area v.content ∷ notes) a ≡ record { answer = Granted; content = content_of t a }
         by other notes alike a h true e =
-            ap (told_by other (Released area v.content ∷ notes)) (area_eq-same a area e) ∙ own_told other (Released area v.content) notes
-            ∙ ap granted (tells area asks ∙ ap (content_of t) (sym (area_eq-same a area e)))
+            ap (told_by other (Released area v.content ∷ notes)) (area_eq_same a area e) ∙ own_told other (Released area v.content) notes
+            ∙ ap granted (tells area asks ∙ ap (content_of t) (sym (area_eq_same a area e)))
           where
             granted : Option Bytes → Told
             granted c = record { answer = Granted; content = c }
         by other notes alike a h false e =
             other_told other (Released area v.content) notes a e
-            ∙ alike a (any_filter (λ (held : Area). area_eq held a) (λ (held : Area). not (area_eq held area)) (λ held q. ap (λ k. not (area_eq k area)) (area_eq-same held a q) ∙ ap not e) x.touched h)
+            ∙ alike a (any_filter (λ (held : Area). area_eq held a) (λ (held : Area). not (area_eq held area)) (λ held q. ap (λ k. not (area_eq k area)) (area_eq_same held a q) ∙ ap not e) x.touched h)
 
     by_looks : StatementLooks app (is_asynchronous id) x asked does → ReplaysToItself app t id r.0
     by_looks (StatementAlone q same leaves) =

@@ -15,7 +15,7 @@ use Rattle.kdcs_types.specs.declared.service.JobValue.{JobValue}
 use Rattle.kdcs_types.specs.declared.service.Service.{Service}
 use Rattle.kdcs_types.specs.declared.service.Settled.{Settled}
 use Rattle.kdcs_types.specs.Keys.{id_cmp, id_eq}
-use Rattle.kdcs_types.specs.KeyLaws.{id_eq-same, id_eq-itself}
+use Rattle.kdcs_types.specs.KeyLaws.{id_eq_same, id_eq_itself}
 use Rattle.kdcs_types.specs.Tables.{TableRows, content_of, job_of}
 use Rattle.abstract_monitor.specs.declared.answer.Happened.{Happened}
 use Rattle.abstract_monitor.specs.declared.answer.Happened.TheVariants.{Went, Queued, Waited, Held, Settles, Breaks, Returns}
@@ -68,7 +68,7 @@ module _ (app : Application) (s : State) (all : AllReplay app s) where
   after_step u id others sees own i y is = by (id_eq i id) refl
     where
       by : (b : Bool) → id_eq i id ≡ b → ReplaysToItself app u.tables i y
-      by true e = subst (λ k. ReplaysToItself app u.tables k y) (sym (id_eq-same i id e)) (own y (ap (λ k. find id_cmp k u.active) (sym (id_eq-same i id e)) ∙ is))
+      by true e = subst (λ k. ReplaysToItself app u.tables k y) (sym (id_eq_same i id e)) (own y (ap (λ k. find id_cmp k u.active) (sym (id_eq_same i id e)) ∙ is))
       by false e = let was = sym (others i e) ∙ is in still_replays app s.tables u.tables i y (sees i y e was) (all i y was)
 
   -- with this transaction of the one, in the same tables
@@ -103,7 +103,7 @@ module _ (app : Application) (s : State) (facts : HasFacts app s) (all : AllRepl
   apart : (i : ServiceId) (y : OpenTransaction) → id_eq i id ≡ false → find id_cmp i s.active ≡ Some y → (area : Area) → IsTrue (touches x area) → IsTrue (touches y area) → ⊥
   apart i y other was area own held =
       let same : i ≡ id = facts.0.exclusive i id area (ap (λ o. touched_by o area) was ∙ held) (ap (λ o. touched_by o area) is ∙ own) in
-      true≢false (sym (id_eq-itself id) ∙ ap (λ k. id_eq k id) (sym same) ∙ other)
+      true≢false (sym (id_eq_itself id) ∙ ap (λ k. id_eq k id) (sym same) ∙ other)
 
   -- in these tables, with no open transaction
   closed : (t : TableRows) → ((i : ServiceId) (y : OpenTransaction) → id_eq i id ≡ false → find id_cmp i s.active ≡ Some y → SeesTheSame s.tables t i y) → AllReplay app (record left { tables = t })

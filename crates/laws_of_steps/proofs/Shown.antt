@@ -51,41 +51,41 @@ module _ (app : Application) (s : State) (pterm : Bytes) where
   shown line_of is none (Some job) e lterm h =
       subst (λ l. Shows app s l (show_by app s (lterm_at app pterm) none line_of (Some job))) (same_lterm _ lterm h) (job, e, at_terminal line_of job.value.message (is job.value.message))
 
-signed-none : (app : Application) (s : State) (pterm user lterm : Bytes) (row : Option Service) (l : Bytes) → (signed_on_by app s pterm user lterm row).by ≡ Some (ByShow l) → Shows app s l (signed_on_by app s pterm user lterm row)
-signed-none app s pterm user lterm None l h = none_shown l h
-signed-none app s pterm user lterm (Some row) l h = none_shown l h
+signed_none : (app : Application) (s : State) (pterm user lterm : Bytes) (row : Option Service) (l : Bytes) → (signed_on_by app s pterm user lterm row).by ≡ Some (ByShow l) → Shows app s l (signed_on_by app s pterm user lterm row)
+signed_none app s pterm user lterm None l h = none_shown l h
+signed_none app s pterm user lterm (Some row) l h = none_shown l h
 
-again-none : (app : Application) (s : State) (none : Bytes) (line_of : Bytes → Bytes) (value : Option JobValue) (l : Bytes) → (show_again_by s none line_of value).by ≡ Some (ByShow l) → Shows app s l (show_again_by s none line_of value)
-again-none app s none line_of None l h = none_shown l h
-again-none app s none line_of (Some value) l h = none_shown l h
+again_none : (app : Application) (s : State) (none : Bytes) (line_of : Bytes → Bytes) (value : Option JobValue) (l : Bytes) → (show_again_by s none line_of value).by ≡ Some (ByShow l) → Shows app s l (show_again_by s none line_of value)
+again_none app s none line_of None l h = none_shown l h
+again_none app s none line_of (Some value) l h = none_shown l h
 
-display-none : (app : Application) (s : State) (pterm : Bytes) (last : Option Bytes) (l : Bytes) → (display s pterm last).by ≡ Some (ByShow l) → Shows app s l (display s pterm last)
-display-none app s pterm None l h = none_shown l h
-display-none app s pterm (Some message) l h = none_shown l h
+display_none : (app : Application) (s : State) (pterm : Bytes) (last : Option Bytes) (l : Bytes) → (display s pterm last).by ≡ Some (ByShow l) → Shows app s l (display s pterm last)
+display_none app s pterm None l h = none_shown l h
+display_none app s pterm (Some message) l h = none_shown l h
 
-use-shows : (app : Application) (s : State) (pterm user : Bytes) (u : Use) (l : Bytes) → (used app s pterm (lterm_at app pterm) user u).by ≡ Some (ByShow l) → Shows app s l (used app s pterm (lterm_at app pterm) user u)
+use_shows : (app : Application) (s : State) (pterm user : Bytes) (u : Use) (l : Bytes) → (used app s pterm (lterm_at app pterm) user u).by ≡ Some (ByShow l) → Shows app s l (used app s pterm (lterm_at app pterm) user u)
 unfolding used show_next
-use-shows app s pterm user (Sign name) l h = signed-none app s pterm name (lterm_at app pterm) (service_of s.tables (Dialogue name)) l h
-use-shows app s pterm user Display l h = display-none app s pterm (last_by (find bytes_cmp pterm s.signed)) l h
-use-shows app s pterm user Output l h = shown app s pterm (asy_line pterm) (λ m. inl refl) (no_message_line pterm) (due_for s (lterm_at app pterm)) refl l h
-use-shows app s pterm user Again l h = again-none app s (no_message_line pterm) (asy_line pterm) (shown_of s.tables (lterm_at app pterm)) l h
-use-shows app s pterm user _ l h = none_shown l h
+use_shows app s pterm user (Sign name) l h = signed_none app s pterm name (lterm_at app pterm) (service_of s.tables (Dialogue name)) l h
+use_shows app s pterm user Display l h = display_none app s pterm (last_by (find bytes_cmp pterm s.signed)) l h
+use_shows app s pterm user Output l h = shown app s pterm (asy_line pterm) (λ m. inl refl) (no_message_line pterm) (due_for s (lterm_at app pterm)) refl l h
+use_shows app s pterm user Again l h = again_none app s (no_message_line pterm) (asy_line pterm) (shown_of s.tables (lterm_at app pterm)) l h
+use_shows app s pterm user _ l h = none_shown l h
 
-tick-none : (app : Application) (s : State) (ticks clock : ℕ) (b : Bool) (l : Bytes) → (tick_by app s ticks clock b).by ≡ Some (ByShow l) → Shows app s l (tick_by app s ticks clock b)
-tick-none app s ticks clock true l h = absurd cc
-tick-none app s ticks clock false l h = none_shown l h
+tick_none : (app : Application) (s : State) (ticks clock : ℕ) (b : Bool) (l : Bytes) → (tick_by app s ticks clock b).by ≡ Some (ByShow l) → Shows app s l (tick_by app s ticks clock b)
+tick_none app s ticks clock true l h = absurd cc
+tick_none app s ticks clock false l h = none_shown l h
 
-drop-none : (app : Application) (s : State) (pterm : Bytes) (v : Option Session) (l : Bytes) → (drop_by app s pterm v).by ≡ Some (ByShow l) → Shows app s l (drop_by app s pterm v)
-drop-none app s pterm None l h = none_shown l h
-drop-none app s pterm (Some v) l h = none_shown l h
+drop_none : (app : Application) (s : State) (pterm : Bytes) (v : Option Session) (l : Bytes) → (drop_by app s pterm v).by ≡ Some (ByShow l) → Shows app s l (drop_by app s pterm v)
+drop_none app s pterm None l h = none_shown l h
+drop_none app s pterm (Some v) l h = none_shown l h
 
 pub shows_at_its_terminal : ShowsAtItsTerminal
 unfolding command_of show_next
-shows_at_its_terminal app s (Input pterm text) l h = use-shows app s pterm _ (use_now app s pterm text) l h
-shows_at_its_terminal app s (Tick ticks) l h = tick-none app s ticks _ (nat_le (s.tables.clock + ticks) last_clock) l h
+shows_at_its_terminal app s (Input pterm text) l h = use_shows app s pterm _ (use_now app s pterm text) l h
+shows_at_its_terminal app s (Tick ticks) l h = tick_none app s ticks _ (nat_le (s.tables.clock + ticks) last_clock) l h
 shows_at_its_terminal app s (Run turns) l h = none_shown l h
 shows_at_its_terminal app s (Turn task) l h = by_transaction (turn_of app s task).settled l h
-shows_at_its_terminal app s (Drop pterm) l h = drop-none app s pterm (find bytes_cmp pterm s.signed) l h
+shows_at_its_terminal app s (Drop pterm) l h = drop_none app s pterm (find bytes_cmp pterm s.signed) l h
 shows_at_its_terminal app s (Print pterm) l h = shown app s pterm (prt_line pterm) (λ m. inr refl) (no_message_line pterm) (due_for s (lterm_at app pterm)) refl l h
-shows_at_its_terminal app s (PrintLast pterm) l h = again-none app s (no_message_line pterm) (prt_line pterm) (shown_of s.tables (lterm_at app pterm)) l h
+shows_at_its_terminal app s (PrintLast pterm) l h = again_none app s (no_message_line pterm) (prt_line pterm) (shown_of s.tables (lterm_at app pterm)) l h
 shows_at_its_terminal app s Restart l h = none_shown l h

@@ -1,5 +1,5 @@
 -- The cut of a trace: what was sent and what is stored, at some moment of a run.
-use Rattle.std.specs.Prelude.{◌≡◌, ◌⊎◌, ℕ, List, [], ◌∷◌, ◌++◌, take, count_by}
+use Rattle.std.specs.Prelude.{◌≡◌, ◌⊎◌, ℕ, List, ◌∷◌, ◌++◌, take, count_by}
 use Rattle.kdcs_types.specs.declared.act.Act.{Act}
 use Rattle.kdcs_types.specs.declared.act.Act.TheVariants.{Emit}
 use Rattle.kdcs_types.specs.Tables.{TableRows}
@@ -23,12 +23,3 @@ pub record IsCut (stands : TableRows → Bytes → Type 0) (start : TableRows) (
   pub whole : all ≡ done ++ left
   pub file : stands (tables_after start done) image
   pub bytes : SentBy done left out
-
--- nothing was sent, and the file is empty or stands for no tables of any identity: a stop came while it was made
-pub record IsUnmade {Identity : Type 0} (stands : Identity → TableRows → Bytes → Type 0) (image out : Bytes) : Type 0 where
-  pub nothing_sent : out ≡ []
-  pub no_tables : (image ≡ []) ⊎ ((identity : Identity) (t : TableRows) → stands identity t image → ⊥)
-
--- what a run may leave: a cut, or, where its file was empty, an unmade file
-abbrev pub IsCutOrUnmade : {Identity : Type 0} → (Identity → TableRows → Bytes → Type 0) → Identity → TableRows → List Act → (was_empty : Type 0) → (image out : Bytes) → Type 0
-IsCutOrUnmade stands identity start all was_empty image out = IsCut (stands identity) start all image out ⊎ (was_empty × IsUnmade stands image out)

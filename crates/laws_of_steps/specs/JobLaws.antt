@@ -25,24 +25,27 @@ same t = record { jobs = refl; next = refl; clock = refl }
 joined : (t u w : TableRows) → SameQueue t u → SameQueue u w → SameQueue t w
 joined t u w a b = record { jobs = b.jobs ∙ a.jobs; next = b.next ∙ a.next; clock = b.clock ∙ a.clock }
 
-area-same : (t : TableRows) (area : Area) (o : Option Bytes) → SameQueue t (with_change t (area_change area o))
-area-same t (Gssb name) None = record { jobs = refl; next = refl; clock = refl }
-area-same t (Gssb name) (Some bytes) = record { jobs = refl; next = refl; clock = refl }
-area-same t (Tls block lterm) None = record { jobs = refl; next = refl; clock = refl }
-area-same t (Tls block lterm) (Some []) = record { jobs = refl; next = refl; clock = refl }
-area-same t (Tls block lterm) (Some (c ∷ cs)) = record { jobs = refl; next = refl; clock = refl }
-area-same t (Uls block user) None = record { jobs = refl; next = refl; clock = refl }
-area-same t (Uls block user) (Some []) = record { jobs = refl; next = refl; clock = refl }
-area-same t (Uls block user) (Some (c ∷ cs)) = record { jobs = refl; next = refl; clock = refl }
+area_same : (t : TableRows) (area : Area) (o : Option Bytes) → SameQueue t (with_change t (area_change area o))
+area_same t (Gssb name) None = record { jobs = refl; next = refl; clock = refl }
+area_same t (Gssb name) (Some bytes) = record { jobs = refl; next = refl; clock = refl }
+area_same t (Tls block lterm) None = record { jobs = refl; next = refl; clock = refl }
+area_same t (Tls block lterm) (Some []) = record { jobs = refl; next = refl; clock = refl }
+area_same t (Tls block lterm) (Some (c ∷ cs)) = record { jobs = refl; next = refl; clock = refl }
+area_same t (Uls block user) None = record { jobs = refl; next = refl; clock = refl }
+area_same t (Uls block user) (Some []) = record { jobs = refl; next = refl; clock = refl }
+area_same t (Uls block user) (Some (c ∷ cs)) = record { jobs = refl; next = refl; clock = refl }
 
-areas-same : (ws : List (Area × Option Bytes)) (t : TableRows) → SameQueue t (with_areas t ws)
+areas_same : (ws : List (Area × Option Bytes)) (t : TableRows) → SameQueue t (with_areas t ws)
 unfolding with_areas
-areas-same [] t = same t
-areas-same (w ∷ ws) t = joined t (with_change t (area_change w.0 w.1)) _ (area-same t w.0 w.1) (areas-same ws (with_change t (area_change w.0 w.1)))
+areas_same [] t = same t
+areas_same (w ∷ ws) t = joined t (with_change t (area_change w.0 w.1)) _ (area_same t w.0 w.1) (areas_same ws (with_change t (area_change w.0 w.1)))
 
-service-same : (t : TableRows) (id : ServiceId) (row : Option Service) → SameQueue t (with_service t id row)
-service-same t id None = record { jobs = refl; next = refl; clock = refl }
-service-same t id (Some row) = record { jobs = refl; next = refl; clock = refl }
+service_same : (t : TableRows) (id : ServiceId) (row : Option Service) → SameQueue t (with_service t id row)
+service_same t id None = record { jobs = refl; next = refl; clock = refl }
+service_same t id (Some row) = record { jobs = refl; next = refl; clock = refl }
+
+pub service_jobs : (t : TableRows) (id : ServiceId) (row : Option Service) → (with_service t id row).jobs ≡ t.jobs
+service_jobs t id row = (service_same t id row).jobs
 
 -- without the own job, if there is one
 record LeftQueue (t u : TableRows) (id : ServiceId) (began : Option Service) : Type 0 where
@@ -50,42 +53,42 @@ record LeftQueue (t u : TableRows) (id : ServiceId) (began : Option Service) : T
   next : u.next_job ≡ t.next_job
   clock : u.clock ≡ t.clock
 
-own-left : (t : TableRows) (id : ServiceId) (began : Option Service) → LeftQueue t (without_own_job t id began) id began
-own-left t (Dialogue user) began = record { jobs = refl; next = refl; clock = refl }
-own-left t (Asynchronous number) (Some row) = record { jobs = refl; next = refl; clock = refl }
-own-left t (Asynchronous number) None = record { jobs = refl; next = refl; clock = refl }
+own_left : (t : TableRows) (id : ServiceId) (began : Option Service) → LeftQueue t (without_own_job t id began) id began
+own_left t (Dialogue user) began = record { jobs = refl; next = refl; clock = refl }
+own_left t (Asynchronous number) (Some row) = record { jobs = refl; next = refl; clock = refl }
+own_left t (Asynchronous number) None = record { jobs = refl; next = refl; clock = refl }
 
-numbered-from : (ds : List Draft) (next clock : ℕ) (user lterm : Bytes) → AreNumberedFrom next (numbered next clock user lterm ds)
+numbered_from : (ds : List Draft) (next clock : ℕ) (user lterm : Bytes) → AreNumberedFrom next (numbered next clock user lterm ds)
 unfolding numbered
-numbered-from [] next clock user lterm = tt
-numbered-from (d ∷ ds) next clock user lterm = (refl, numbered-from ds (next + 1) clock user lterm)
+numbered_from [] next clock user lterm = tt
+numbered_from (d ∷ ds) next clock user lterm = (refl, numbered_from ds (next + 1) clock user lterm)
 
-numbered-length : (ds : List Draft) (next clock : ℕ) (user lterm : Bytes) → length (numbered next clock user lterm ds) ≡ length ds
+numbered_length : (ds : List Draft) (next clock : ℕ) (user lterm : Bytes) → length (numbered next clock user lterm ds) ≡ length ds
 unfolding numbered
-numbered-length [] next clock user lterm = refl
-numbered-length (d ∷ ds) next clock user lterm = ap (λ n. suc n) (numbered-length ds (next + 1) clock user lterm)
+numbered_length [] next clock user lterm = refl
+numbered_length (d ∷ ds) next clock user lterm = ap (λ n. suc n) (numbered_length ds (next + 1) clock user lterm)
 
 pub ends_draw_none : EndsDrawNoNumber
 unfolding broken
 ends_draw_none t id x =
-    let left = own-left t id x.began in
-    let done = service-same (without_own_job t id x.began) id None in
+    let left = own_left t id x.began in
+    let done = service_same (without_own_job t id x.began) id None in
     record { jobs = done.jobs ∙ left.jobs; next = done.next ∙ left.next; clock = done.clock ∙ left.clock }
 
 pub points_number : PointsNumberJobs
 unfolding synchronised
 points_number g t id x o =
-    let areas = areas-same x.written t in
-    let left = own-left (with_areas t x.written) id x.began in
+    let areas = areas_same x.written t in
+    let left = own_left (with_areas t x.written) id x.began in
     let next = left.next ∙ areas.next in
     let clock = left.clock ∙ areas.clock in
     let u = without_own_job (with_areas t x.written) id x.began in
-    let done = service-same (with_drafts u x) id (row_after g id x o) in
+    let done = service_same (with_drafts u x) id (row_after g id x o) in
     record {
       jobs = done.jobs ∙ ap (λ l. l ++ numbered u.next_job u.clock x.user x.lterm x.drafts) (left.jobs ∙ ap (jobs_left id x.began) areas.jobs)
           ∙ ap (λ n. jobs_left id x.began t.jobs ++ numbered n u.clock x.user x.lterm x.drafts) next
           ∙ ap (λ c. jobs_left id x.began t.jobs ++ numbered t.next_job c x.user x.lterm x.drafts) clock;
-      numbers = numbered-from x.drafts t.next_job t.clock x.user x.lterm;
-      next = done.next ∙ ap (λ n. n + length x.drafts) next ∙ ap (λ n. t.next_job + n) (sym (numbered-length x.drafts t.next_job t.clock x.user x.lterm));
+      numbers = numbered_from x.drafts t.next_job t.clock x.user x.lterm;
+      next = done.next ∙ ap (λ n. n + length x.drafts) next ∙ ap (λ n. t.next_job + n) (sym (numbered_length x.drafts t.next_job t.clock x.user x.lterm));
       clock = done.clock ∙ clock;
     }

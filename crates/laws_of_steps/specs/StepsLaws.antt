@@ -9,6 +9,8 @@ use Rattle.abstract_monitor.specs.Turns.{commit_of}
 use Rattle.abstract_monitor.specs.Made.{is_commit}
 use Rattle.laws_of_steps.specs.Cut.{commits_in}
 use Rattle.laws_of_steps.specs.Steps.{AreLines}
+use Rattle.kdcs_types.specs.Tables.{TableRows}
+use Rattle.abstract_monitor.specs.Trace.{tables_after}
 
 -- ---- how many commits
 
@@ -27,3 +29,10 @@ lines_commit_nothing (Commit changes ∷ acts) h = absurd h
 -- a commit and its lines
 pub commit_counts : (app : Application) (s u : State) (lines : List Act) → AreLines lines → commits_in (commit_of app s.tables u.tables ∷ lines) ≡ 1
 commit_counts app s u lines h = sum_by-cons of_act (commit_of app s.tables u.tables) lines ∙ ap (λ n. 1 + n) (lines_commit_nothing lines h)
+
+-- lines change no tables
+pub lines_after : (t : TableRows) (acts : List Act) → AreLines acts → tables_after t acts ≡ t
+unfolding tables_after
+lines_after t [] h = refl
+lines_after t (Emit bytes ∷ acts) h = lines_after t acts h
+lines_after t (Commit changes ∷ acts) h = absurd h

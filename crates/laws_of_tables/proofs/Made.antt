@@ -39,10 +39,10 @@ is_short (Literal bytes) = nat_le (length bytes) 32767
 is_short (Digits bytes) = nat_le (length bytes) 18
 is_short _ = true
 
-short-says : (o : Operand) → is_short o ≡ true → IsShortOperand o
-short-says (Literal bytes) h = leb-true (length bytes) 32767 h
-short-says (Digits bytes) h = leb-true (length bytes) 18 h
-short-says _ h = tt
+short_says : (o : Operand) → is_short o ≡ true → IsShortOperand o
+short_says (Literal bytes) h = leb-true (length bytes) 32767 h
+short_says (Digits bytes) h = leb-true (length bytes) 18 h
+short_says _ h = tt
 
 abbrev lies_inside : Limits → Field → Bool
 lies_inside m f = nat_le (f.offset + f.length) (cond f.spab m.spab m.kb)
@@ -61,7 +61,7 @@ fitted m unit none inside quiet short = record {
   fields = all_by (LiesInside m) (lies_inside m) (λ f h. leb-true (f.offset + f.length) (cond f.spab m.spab m.kb) h) unit.fields inside;
   labels = all_by (λ (s : UnitStatement). IfSome (jump_of s.action) (λ label. IsSome (label_place unit label))) jumps_not (λ s h. no_jump unit (jump_of s.action) h) unit.statements quiet;
   labels_from_one = λ name. rw none tt;
-  literals = all_by (λ (s : UnitStatement). All IsShortOperand (operands_of s.action)) (λ (s : UnitStatement). list_all is_short (operands_of s.action)) (λ s h. all_by IsShortOperand is_short short-says (operands_of s.action) h) unit.statements short;
+  literals = all_by (λ (s : UnitStatement). All IsShortOperand (operands_of s.action)) (λ (s : UnitStatement). list_all is_short (operands_of s.action)) (λ s h. all_by IsShortOperand is_short short_says (operands_of s.action) h) unit.statements short;
 }
 
 -- ---- the application

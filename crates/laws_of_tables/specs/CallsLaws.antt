@@ -4,7 +4,7 @@ use Rattle.std.proofs.Common.{sym, ap, subst, ◌∙◌, arith, true≢false, le
 use Rattle.std.proofs.lemmas.Bool.{leb-true, le-leb, ltb-true, leb-false}
 use Rattle.std.proofs.lemmas.List.Sums.{sum_by-cons, sum_by_push}
 use Rattle.std.specs.List.{list_all, list_any}
-use Rattle.std.specs.Cmp.{IsTotalOrder, eq_by_cmp_equiv}
+use Rattle.std.specs.Cmp.{IsTotalOrder}
 use Rattle.std.specs.Cmp.Lexicographic.{nat_list_cmp_total}
 use Rattle.std.specs.FinMap.{find, put, IsAntisymmetric, slice_cmp-IsAntisymmetric, nat_cmp-IsAntisymmetric}
 use Rattle.kd_base.specs.declared.words.Variant.{Variant}
@@ -26,7 +26,7 @@ use Rattle.kdcs_types.specs.declared.key.Target.TheVariants.{Tac, Lterm}
 use Rattle.kdcs_types.specs.declared.service.Note.TheVariants.{Released}
 use Rattle.kdcs_types.specs.declared.run_state.RunState.{RunState}
 use Rattle.kdcs_types.specs.Keys.{area_cmp, area_eq}
-use Rattle.kdcs_types.specs.KeyLaws.{area_total, same_area, area_eq-same, area_eq-itself}
+use Rattle.kdcs_types.specs.KeyLaws.{area_total, same_area, area_eq_same, area_eq_itself, area_eq_sym}
 use Rattle.kdcs_types.specs.Same.{target_eq}
 use Rattle.kdcdef_types.specs.declared.entry.TacEntry.{TacEntry}
 use Rattle.kdcdef_types.specs.declared.entry.LtermEntry.{LtermEntry}
@@ -48,8 +48,9 @@ use Rattle.abstract_monitor.specs.Endings.{is_asynchronous}
 use Rattle.laws_of_steps.specs.Suits.{fits_content, fits_message, is_user, is_lterm, has_kind_by, target_suits, target_name}
 use Rattle.laws_of_steps.specs.Transactions.{IsMessage, PutsNone, area_is_declared, fits_if_there, written_fits, last_moment, due_fits, draft_fits, CanGoOn}
 use Rattle.laws_of_tables.specs.OpenLaws.{reads, has_short_operands, ToldFits, OutcomeFits}
-use Rattle.laws_of_tables.specs.ListsLaws.{bytes_eq_itself, all_imply, all_both, all_filter, all_append, any_append, any_last, any_filter, length_filter, sum_filter, count_none, found_passes, missing_apart, all_put, sorted_put, sorted_where, length_put}
+use Rattle.laws_of_tables.specs.ListsLaws.{bytes_eq_itself, all_imply, all_both, all_filter, all_append, any_append, any_last, any_filter, length_filter, sum_filter, count_none, found_passes, missing_apart, all_put, sorted_where, length_put}
 use Rattle.laws_of_tables.specs.UpdatesLaws.{with_inited, with_unread, with_parts, with_notes, with_written, with_touched, with_lssbs, with_drafts}
+use Rattle.kd_base.specs.OrderLaws.{sorted_put}
 
 -- ---- what a performed call keeps
 
@@ -71,15 +72,12 @@ bytes_total = nat_list_cmp_total
 bytes_same : IsAntisymmetric bytes_cmp
 bytes_same = slice_cmp-IsAntisymmetric nat_cmp-IsAntisymmetric
 
-area_eq-sym : (a b : Area) → area_eq a b ≡ area_eq b a
-area_eq-sym a b = (eq_by_cmp_equiv area_total).symm a b
-
 -- ---- targets and moments
 
-target_by-name : (name : Bytes) (l : Option LtermEntry) (t : Option TacEntry) (to : Target) → target_by name l t ≡ Some to → target_name to ≡ name
-target_by-name name (Some l) t to e = sym (ap target_name (some_is (Lterm name) to e))
-target_by-name name None None to e = absurd cc
-target_by-name name None (Some t) to e = by (t.asynchronous && goes_first t.call && t.on) e
+target_by_name : (name : Bytes) (l : Option LtermEntry) (t : Option TacEntry) (to : Target) → target_by name l t ≡ Some to → target_name to ≡ name
+target_by_name name (Some l) t to e = sym (ap target_name (some_is (Lterm name) to e))
+target_by_name name None None to e = absurd cc
+target_by_name name None (Some t) to e = by (t.asynchronous && goes_first t.call && t.on) e
   where
     by : (b : Bool) → cond b (Some (Tac name)) None ≡ Some to → target_name to ≡ name
     by true is = sym (ap target_name (some_is (Tac name) to is))
@@ -87,20 +85,20 @@ target_by-name name None (Some t) to e = by (t.asynchronous && goes_first t.call
 
 named : (g : Generated) (name : Bytes) (to : Target) → job_target g name ≡ Some to → target_name to ≡ name
 unfolding job_target
-named g name to e = target_by-name name (lterm_of g name) (tac_of g name) to e
+named g name to e = target_by_name name (lterm_of g name) (tac_of g name) to e
 
-job_target-suits : (g : Generated) (name : Bytes) (o : Option Target) → job_target g name ≡ o → IfSome o (λ (to : Target). IsTrue (target_suits g to (job_target g (target_name to))))
-job_target-suits g name None e = tt
-job_target-suits g name (Some to) e =
+job_target_suits : (g : Generated) (name : Bytes) (o : Option Target) → job_target g name ≡ o → IfSome o (λ (to : Target). IsTrue (target_suits g to (job_target g (target_name to))))
+job_target_suits g name None e = tt
+job_target_suits g name (Some to) e =
     subst (λ (n : Bytes). IsTrue (target_suits g to (job_target g n))) (sym (named g name to e)) (subst (λ (o : Option Target). IsTrue (target_suits g to o)) (sym e) (itself to))
   where
     itself : (t : Target) → IsTrue (target_eq t t)
     itself (Tac tac) = bytes_eq_itself tac
     itself (Lterm lterm) = bytes_eq_itself lterm
 
-moment_of-fits : (mode : Mode) (d h m s : ℕ) → IfSome (moment_of mode d h m s) (λ (due : Due). IsTrue (due_fits due))
+moment_of_fits : (mode : Mode) (d h m s : ℕ) → IfSome (moment_of mode d h m s) (λ (due : Due). IsTrue (due_fits due))
 unfolding moment_of
-moment_of-fits mode d h m s = by (nat_le d 9999 && nat_le h 23 && nat_le m 59 && nat_le s 59) refl
+moment_of_fits mode d h m s = by (nat_le d 9999 && nat_le h 23 && nat_le m 59 && nat_le s 59) refl
   where
     due_in-fits : (n : ℕ) → n ≤ last_moment → (k : Mode) → IsTrue (due_fits (due_in k n))
     due_in-fits n le Relative = le-leb n last_moment le
@@ -114,55 +112,55 @@ moment_of-fits mode d h m s = by (nat_le d 9999 && nat_le h 23 && nat_le m 59 &&
         due_in-fits _ (omega (arith, leb-true d 9999 r.0, leb-true h 23 r.1, leb-true m 59 q.1, leb-true s 59 p.1)) mode
     by false e = tt
 
-moment_by-fits : (mode : Mode) (d h m s : Option ℕ) → IfSome (moment_by mode d h m s) (λ (due : Due). IsTrue (due_fits due))
-moment_by-fits mode (Some d) (Some h) (Some m) (Some s) = moment_of-fits mode d h m s
-moment_by-fits mode None h m s = tt
-moment_by-fits mode (Some d) None m s = tt
-moment_by-fits mode (Some d) (Some h) None s = tt
-moment_by-fits mode (Some d) (Some h) (Some m) None = tt
+moment_by_fits : (mode : Mode) (d h m s : Option ℕ) → IfSome (moment_by mode d h m s) (λ (due : Due). IsTrue (due_fits due))
+moment_by_fits mode (Some d) (Some h) (Some m) (Some s) = moment_of_fits mode d h m s
+moment_by_fits mode None h m s = tt
+moment_by_fits mode (Some d) None m s = tt
+moment_by_fits mode (Some d) (Some h) None s = tt
+moment_by_fits mode (Some d) (Some h) (Some m) None = tt
 
 module _ (g : Generated) (id : ServiceId) (reading : Bool) (run : RunState) where
   abbrev KeepsOn : Performed → Type 0
   KeepsOn p = Keeps g id reading run p
 
-  keeps-code : (x : OpenTransaction) (code : Code) → CanGoOn g id x → x.run ≡ run → KeepsOn (replied x code)
-  keeps-code x code can same = record { can = can; same_run = same; fits = (omega arith, λ e. absurd (true≢false (sym e))) }
+  keeps_code : (x : OpenTransaction) (code : Code) → CanGoOn g id x → x.run ≡ run → KeepsOn (replied x code)
+  keeps_code x code can same = record { can = can; same_run = same; fits = (omega arith, λ e. absurd (true≢false (sym e))) }
 
-  keeps-read : (x : OpenTransaction) (room : ℕ) (bytes : Bytes) → IsTrue reading → CanGoOn g id x → x.run ≡ run → length bytes ≤ 32767 → KeepsOn (read_answer x room bytes)
-  keeps-read x room bytes r can same h = record { can = can; same_run = same; fits = (h, λ e. r) }
+  keeps_read : (x : OpenTransaction) (room : ℕ) (bytes : Bytes) → IsTrue reading → CanGoOn g id x → x.run ≡ run → length bytes ≤ 32767 → KeepsOn (read_answer x room bytes)
+  keeps_read x room bytes r can same h = record { can = can; same_run = same; fits = (h, λ e. r) }
 
-  keeps-refused : (x : OpenTransaction) (cause : Cause) → CanGoOn g id x → x.run ≡ run → KeepsOn (refused x cause)
-  keeps-refused x cause can same = record { can = can; same_run = same; fits = tt }
+  keeps_refused : (x : OpenTransaction) (cause : Cause) → CanGoOn g id x → x.run ≡ run → KeepsOn (refused x cause)
+  keeps_refused x cause can same = record { can = can; same_run = same; fits = tt }
 
-  keeps-read_or : (code : Code) (x : OpenTransaction) (room : ℕ) (o : Option Bytes) → IsTrue reading → CanGoOn g id x → x.run ≡ run → IsTrue (fits_if_there o) → KeepsOn (read_or code x room o)
-  keeps-read_or code x room None r can same h = keeps-code x code can same
-  keeps-read_or code x room (Some bytes) r can same h = keeps-read x room bytes r can same (leb-true (length bytes) 32767 h)
+  keeps_read_or : (code : Code) (x : OpenTransaction) (room : ℕ) (o : Option Bytes) → IsTrue reading → CanGoOn g id x → x.run ≡ run → IsTrue (fits_if_there o) → KeepsOn (read_or code x room o)
+  keeps_read_or code x room None r can same h = keeps_code x code can same
+  keeps_read_or code x room (Some bytes) r can same h = keeps_read x room bytes r can same (leb-true (length bytes) 32767 h)
 
-  keeps-kind : (x : OpenTransaction) (b : Bool) (go : Performed) → CanGoOn g id x → x.run ≡ run → (b ≡ true → KeepsOn go) → KeepsOn (for_kind x b go)
-  keeps-kind x true go can same h = h refl
-  keeps-kind x false go can same h = keeps-refused x _ can same
+  keeps_kind : (x : OpenTransaction) (b : Bool) (go : Performed) → CanGoOn g id x → x.run ≡ run → (b ≡ true → KeepsOn go) → KeepsOn (for_kind x b go)
+  keeps_kind x true go can same h = h refl
+  keeps_kind x false go can same h = keeps_refused x _ can same
 
-  keeps-within : (x : OpenTransaction) (b : Bool) (go : Performed) → CanGoOn g id x → x.run ≡ run → (b ≡ true → KeepsOn go) → KeepsOn (within_length x b go)
-  keeps-within x true go can same h = h refl
-  keeps-within x false go can same h = keeps-refused x _ can same
+  keeps_within : (x : OpenTransaction) (b : Bool) (go : Performed) → CanGoOn g id x → x.run ≡ run → (b ≡ true → KeepsOn go) → KeepsOn (within_length x b go)
+  keeps_within x true go can same h = h refl
+  keeps_within x false go can same h = keeps_refused x _ can same
 
-  keeps-name : (x : OpenTransaction) (o : Option Bytes) (go : Bytes → Performed) → CanGoOn g id x → x.run ≡ run → ((n : Bytes) → KeepsOn (go n)) → KeepsOn (with_name x o go)
-  keeps-name x None go can same h = keeps-code x _ can same
-  keeps-name x (Some n) go can same h = h n
+  keeps_name : (x : OpenTransaction) (o : Option Bytes) (go : Bytes → Performed) → CanGoOn g id x → x.run ≡ run → ((n : Bytes) → KeepsOn (go n)) → KeepsOn (with_name x o go)
+  keeps_name x None go can same h = keeps_code x _ can same
+  keeps_name x (Some n) go can same h = h n
 
-  keeps-declared : (x : OpenTransaction) (b : Bool) (go : Performed) → CanGoOn g id x → x.run ≡ run → (b ≡ true → KeepsOn go) → KeepsOn (declared x b go)
-  keeps-declared x true go can same h = h refl
-  keeps-declared x false go can same h = keeps-code x _ can same
+  keeps_declared : (x : OpenTransaction) (b : Bool) (go : Performed) → CanGoOn g id x → x.run ≡ run → (b ≡ true → KeepsOn go) → KeepsOn (declared x b go)
+  keeps_declared x true go can same h = h refl
+  keeps_declared x false go can same h = keeps_code x _ can same
 
   -- the name is one that the generation declares
-  keeps-its_name : (x : OpenTransaction) (name : Bytes) (has : Bytes → Bool) (go : Bytes → Performed) → CanGoOn g id x → x.run ≡ run → ((n : Bytes) → has n ≡ true → KeepsOn (go n)) → KeepsOn (with_name x (name_in_operand name) (λ n. declared x (has n) (go n)))
-  keeps-its_name x name has go can same h = keeps-name x (name_in_operand name) _ can same (λ n. keeps-declared x (has n) (go n) can same (h n))
+  keeps_its_name : (x : OpenTransaction) (name : Bytes) (has : Bytes → Bool) (go : Bytes → Performed) → CanGoOn g id x → x.run ≡ run → ((n : Bytes) → has n ≡ true → KeepsOn (go n)) → KeepsOn (with_name x (name_in_operand name) (λ n. declared x (has n) (go n)))
+  keeps_its_name x name has go can same h = keeps_name x (name_in_operand name) _ can same (λ n. keeps_declared x (has n) (go n) can same (h n))
 
   -- ---- locks
 
-  touching-can : (x : OpenTransaction) (area : Area) (b : Bool) → touches x area ≡ b → CanGoOn g id x → CanGoOn g id (touching x area b)
-  touching-can x area true e can = can
-  touching-can x area false e can =
+  touching_can : (x : OpenTransaction) (area : Area) (b : Bool) → touches x area ≡ b → CanGoOn g id x → CanGoOn g id (touching x area b)
+  touching_can x area true e can = can
+  touching_can x area false e can =
       with_touched g id x can (x.touched ++ area ∷ [])
       (all_imply (λ (w : Area × Option Bytes). touches x w.0) (λ (w : Area × Option Bytes). list_any (λ (held : Area). area_eq held w.0) (x.touched ++ area ∷ [])) (λ w h. any_append (λ (held : Area). area_eq held w.0) x.touched (area ∷ []) h) x.written can.written_held)
       (λ a. by a (area_eq area a) refl)
@@ -172,33 +170,33 @@ module _ (g : Generated) (id : ServiceId) (reading : Bool) (run : RunState) wher
 
       by : (a : Area) (b : Bool) → area_eq area a ≡ b → count_by (λ (held : Area). area_eq held a) (x.touched ++ area ∷ []) ≤ 1
       by a true is =
-          let none : count_by (λ (held : Area). area_eq held a) x.touched ≡ 0 = count_none (λ (held : Area). area_eq held a) x.touched (subst (λ (c : Area). touches x c ≡ false) (area_eq-same area a is) e) in
+          let none : count_by (λ (held : Area). area_eq held a) x.touched ≡ 0 = count_none (λ (held : Area). area_eq held a) x.touched (subst (λ (c : Area). touches x c ≡ false) (area_eq_same area a is) e) in
           omega (arith, one a, none, ap {B = ℕ} (λ c. cond c 1 0) is)
       by a false is = omega (arith, one a, can.held_once a, ap {B = ℕ} (λ c. cond c 1 0) is)
 
-  touching-touches : (x : OpenTransaction) (area : Area) (b : Bool) → touches x area ≡ b → IsTrue (touches (touching x area b) area)
-  touching-touches x area true e = e
-  touching-touches x area false e = any_last (λ (held : Area). area_eq held area) x.touched area (area_eq-itself area)
+  touching_touches : (x : OpenTransaction) (area : Area) (b : Bool) → touches x area ≡ b → IsTrue (touches (touching x area b) area)
+  touching_touches x area true e = e
+  touching_touches x area false e = any_last (λ (held : Area). area_eq held area) x.touched area (area_eq_itself area)
 
-  touching-run : (x : OpenTransaction) (area : Area) (b : Bool) → (touching x area b).run ≡ x.run
-  touching-run x area true = refl
-  touching-run x area false = refl
+  touching_run : (x : OpenTransaction) (area : Area) (b : Bool) → (touching x area b).run ≡ x.run
+  touching_run x area true = refl
+  touching_run x area false = refl
 
-  keeps-locked : (v : Told) (x : OpenTransaction) (area : Area) (go : OpenTransaction → Performed) → CanGoOn g id x → x.run ≡ run
+  keeps_locked : (v : Told) (x : OpenTransaction) (area : Area) (go : OpenTransaction → Performed) → CanGoOn g id x → x.run ≡ run
       → ((y : OpenTransaction) → CanGoOn g id y → y.run ≡ run → IsTrue (touches y area) → KeepsOn (go y)) → KeepsOn (locked v x area go)
-  keeps-locked v x area go can same h = by (answer_by v (touches x area))
+  keeps_locked v x area go can same h = by (answer_by v (touches x area))
     where
       by : (a : LockAnswer) → KeepsOn (on_answer x area a go)
       by Granted =
-          h (touching x area (touches x area)) (touching-can x area (touches x area) refl can) (touching-run x area (touches x area) ∙ same) (touching-touches x area (touches x area) refl)
+          h (touching x area (touches x area)) (touching_can x area (touches x area) refl can) (touching_run x area (touches x area) ∙ same) (touching_touches x area (touches x area) refl)
       by MustWait = record { can = can; same_run = same; fits = tt }
-      by Busy = keeps-code (noted x area K04) K04 (with_notes g id x can _) same
-      by Deadlock = keeps-code (noted x area K05) K05 (with_notes g id x can _) same
+      by Busy = keeps_code (noted x area K04) K04 (with_notes g id x can _) same
+      by Deadlock = keeps_code (noted x area K05) K05 (with_notes g id x can _) same
 
   -- ---- areas
 
-  seen-fits : (v : Told) (y : OpenTransaction) (area : Area) → ToldFits v → CanGoOn g id y → IsTrue (fits_if_there (seen v y area))
-  seen-fits v y area told can = by (find area_cmp area y.written) refl
+  seen_fits : (v : Told) (y : OpenTransaction) (area : Area) → ToldFits v → CanGoOn g id y → IsTrue (fits_if_there (seen v y area))
+  seen_fits v y area told can = by (find area_cmp area y.written) refl
     where
       by : (o : Option (Option Bytes)) → find area_cmp area y.written ≡ o → IsTrue (fits_if_there (shown_by o v.content))
       by None e = told
@@ -206,35 +204,35 @@ module _ (g : Generated) (id : ServiceId) (reading : Bool) (run : RunState) wher
           let k = found_passes area_cmp (written_fits g) area y.written own can.written e in
           (both_true (area_is_declared g k.0) (fits_if_there own) k.1).1
 
-  keeps-wrote : (y : OpenTransaction) (area : Area) (content : Option Bytes) → CanGoOn g id y → y.run ≡ run → IsTrue (touches y area) → IsTrue (area_is_declared g area) → IsTrue (fits_if_there content) → KeepsOn (wrote y area content)
-  keeps-wrote y area content can same held is fits =
-      keeps-code (record y { written = put area_cmp area content y.written }) Done
+  keeps_wrote : (y : OpenTransaction) (area : Area) (content : Option Bytes) → CanGoOn g id y → y.run ≡ run → IsTrue (touches y area) → IsTrue (area_is_declared g area) → IsTrue (fits_if_there content) → KeepsOn (wrote y area content)
+  keeps_wrote y area content can same held is fits =
+      keeps_code (record y { written = put area_cmp area content y.written }) Done
       (with_written g id y can (put area_cmp area content y.written)
-      (sorted_put area_cmp area_total area content y.written can.written_order)
+      (sorted_put area_total area content y.written can.written_order)
       (all_put area_cmp same_area (written_fits g) area content y.written (true_both (area_is_declared g area) (fits_if_there content) is fits) can.written)
       (all_put area_cmp same_area (λ (w : Area × Option Bytes). touches y w.0) area content y.written held can.written_held))
       same
 
-  keeps-deleted : (y : OpenTransaction) (area : Area) (o : Option Bytes) → CanGoOn g id y → y.run ≡ run → IsTrue (touches y area) → IsTrue (area_is_declared g area) → KeepsOn (deleted y area o)
-  keeps-deleted y area None can same held is = keeps-code y K03 can same
-  keeps-deleted y area (Some bytes) can same held is = keeps-wrote y area None can same held is refl
+  keeps_deleted : (y : OpenTransaction) (area : Area) (o : Option Bytes) → CanGoOn g id y → y.run ≡ run → IsTrue (touches y area) → IsTrue (area_is_declared g area) → KeepsOn (deleted y area o)
+  keeps_deleted y area None can same held is = keeps_code y K03 can same
+  keeps_deleted y area (Some bytes) can same held is = keeps_wrote y area None can same held is refl
 
-  or_empty-fits : (o : Option Bytes) → IsTrue (fits_if_there o) → length (or_empty o) ≤ 32767
-  or_empty-fits None h = omega arith
-  or_empty-fits (Some bytes) h = leb-true (length bytes) 32767 h
+  or_empty_fits : (o : Option Bytes) → IsTrue (fits_if_there o) → length (or_empty o) ≤ 32767
+  or_empty_fits None h = omega arith
+  or_empty_fits (Some bytes) h = leb-true (length bytes) 32767 h
 
-  keeps-read_block : (v : Told) (x : OpenTransaction) (area : Area) (room : ℕ) → IsTrue reading → ToldFits v → CanGoOn g id x → x.run ≡ run → KeepsOn (read_block v x area room)
-  keeps-read_block v x area room r told can same =
-      keeps-locked v x area _ can same (λ y c s held. keeps-read y room (or_empty (seen v y area)) r c s (or_empty-fits (seen v y area) (seen-fits v y area told c)))
+  keeps_read_block : (v : Told) (x : OpenTransaction) (area : Area) (room : ℕ) → IsTrue reading → ToldFits v → CanGoOn g id x → x.run ≡ run → KeepsOn (read_block v x area room)
+  keeps_read_block v x area room r told can same =
+      keeps_locked v x area _ can same (λ y c s held. keeps_read y room (or_empty (seen v y area)) r c s (or_empty_fits (seen v y area) (seen_fits v y area told c)))
 
-  keeps-write_block : (v : Told) (x : OpenTransaction) (area : Area) (bytes : Bytes) → CanGoOn g id x → x.run ≡ run → IsTrue (area_is_declared g area) → IsTrue (fits_content bytes) → KeepsOn (write_block v x area bytes)
-  keeps-write_block v x area bytes can same is fits = keeps-locked v x area _ can same (λ y c s held. keeps-wrote y area (Some bytes) c s held is fits)
+  keeps_write_block : (v : Told) (x : OpenTransaction) (area : Area) (bytes : Bytes) → CanGoOn g id x → x.run ≡ run → IsTrue (area_is_declared g area) → IsTrue (fits_content bytes) → KeepsOn (write_block v x area bytes)
+  keeps_write_block v x area bytes can same is fits = keeps_locked v x area _ can same (λ y c s held. keeps_wrote y area (Some bytes) c s held is fits)
 
-  keeps-unlocked_by : (v : Told) (x : OpenTransaction) (area : Area) (held written : Bool) → is_some (find area_cmp area x.written) ≡ written → CanGoOn g id x → x.run ≡ run → KeepsOn (unlocked_by v x area held written)
-  keeps-unlocked_by v x area false written e can same = keeps-code x K06 can same
-  keeps-unlocked_by v x area true true e can same = keeps-code x K07 can same
-  keeps-unlocked_by v x area true false e can same =
-      keeps-code _ Done
+  keeps_unlocked_by : (v : Told) (x : OpenTransaction) (area : Area) (held written : Bool) → is_some (find area_cmp area x.written) ≡ written → CanGoOn g id x → x.run ≡ run → KeepsOn (unlocked_by v x area held written)
+  keeps_unlocked_by v x area false written e can same = keeps_code x K06 can same
+  keeps_unlocked_by v x area true true e can same = keeps_code x K07 can same
+  keeps_unlocked_by v x area true false e can same =
+      keeps_code _ Done
       (with_notes g id (record x { touched = left }) (with_touched g id x can left still (λ a. omega (arith, can.held_once a, sum_filter (λ (held : Area). cond (area_eq held a) 1 0) keep x.touched)))
       (x.notes ++ Released area v.content ∷ []))
       same
@@ -246,7 +244,7 @@ module _ (g : Generated) (id : ServiceId) (reading : Bool) (run : RunState) wher
       left = filter keep x.touched
 
       other : (w h : Area) → IsTrue (not (area_eq area w)) → IsTrue (area_eq h w) → IsTrue (not (area_eq h area))
-      other w h apart is = subst (λ (k : Area). IsTrue (not (area_eq k area))) (sym (area_eq-same h w is)) (ap not (area_eq-sym w area) ∙ apart)
+      other w h apart is = subst (λ (k : Area). IsTrue (not (area_eq k area))) (sym (area_eq_same h w is)) (ap not (area_eq_sym w area) ∙ apart)
 
       still : IsTrue (list_all (λ (w : Area × Option Bytes). list_any (λ (h : Area). area_eq h w.0) left) x.written)
       still =
@@ -254,26 +252,26 @@ module _ (g : Generated) (id : ServiceId) (reading : Bool) (run : RunState) wher
           (λ w t apart. any_filter (λ (h : Area). area_eq h w.0) keep (λ h is. other w.0 h apart is) x.touched t)
           x.written can.written_held (missing_apart area_cmp area x.written e)
 
-  keeps-unlocked : (v : Told) (x : OpenTransaction) (area : Area) → CanGoOn g id x → x.run ≡ run → KeepsOn (unlocked v x area)
-  keeps-unlocked v x area can same = keeps-unlocked_by v x area (touches x area) (is_some (find area_cmp area x.written)) refl can same
+  keeps_unlocked : (v : Told) (x : OpenTransaction) (area : Area) → CanGoOn g id x → x.run ≡ run → KeepsOn (unlocked v x area)
+  keeps_unlocked v x area can same = keeps_unlocked_by v x area (touches x area) (is_some (find area_cmp area x.written)) refl can same
 
   -- ---- messages
 
-  got_by-keeps : (x : OpenTransaction) (room : ℕ) (parts : List Bytes) → x.unread ≡ parts → IsTrue reading → g.limits.nb ≤ 32767 → CanGoOn g id x → x.run ≡ run → KeepsOn (got_by x room parts)
-  got_by-keeps x room [] e r nb can same = keeps-code x _ can same
-  got_by-keeps x room (part ∷ rest) e r nb can same =
+  got_by_keeps : (x : OpenTransaction) (room : ℕ) (parts : List Bytes) → x.unread ≡ parts → IsTrue reading → g.limits.nb ≤ 32767 → CanGoOn g id x → x.run ≡ run → KeepsOn (got_by x room parts)
+  got_by_keeps x room [] e r nb can same = keeps_code x _ can same
+  got_by_keeps x room (part ∷ rest) e r nb can same =
       let m = subst (IsMessage g) e can.unread in
       let all : length part + sum_by length rest ≤ g.limits.nb = omega (arith, sum_by-cons length part rest, m.bytes) in
       let count : length rest ≤ 16 = omega (arith, m.count) in
-      keeps-read (record x { unread = rest }) room part r (with_unread g id x can rest (record { count = count; bytes = omega arith })) same (omega arith)
+      keeps_read (record x { unread = rest }) room part r (with_unread g id x can rest (record { count = count; bytes = omega arith })) same (omega arith)
 
-  keeps-put_part : (x : OpenTransaction) (bytes : Bytes) → is_asynchronous id ≡ false → CanGoOn g id x → x.run ≡ run → KeepsOn (put_part g x bytes)
-  keeps-put_part x bytes dialogue can same =
-      keeps-within x (fits && fewer) _ can same
+  keeps_put_part : (x : OpenTransaction) (bytes : Bytes) → is_asynchronous id ≡ false → CanGoOn g id x → x.run ≡ run → KeepsOn (put_part g x bytes)
+  keeps_put_part x bytes dialogue can same =
+      keeps_within x (fits && fewer) _ can same
       (λ h. let both = both_true fits fewer h in
       let sum : sum_by length x.parts + length bytes ≤ g.limits.nb = leb-true _ _ both.0 in
       let few : length x.parts < 16 = ltb-true _ _ both.1 in
-      keeps-code _ Done
+      keeps_code _ Done
       (with_parts g id x can (x.parts ++ bytes ∷ []) (record { count = omega (arith, few, length-append x.parts (bytes ∷ [])); bytes = omega (arith, sum, sum_by_push length x.parts bytes) }) (puts id dialogue))
       same)
     where
@@ -289,33 +287,33 @@ module _ (g : Generated) (id : ServiceId) (reading : Bool) (run : RunState) wher
 
   -- ---- jobs
 
-  keeps-drafted : (x : OpenTransaction) (o : Option Target) (due : Option Due) (message : Bytes) → IfSome o (λ (to : Target). IsTrue (target_suits g to (job_target g (target_name to)))) → IfSome due (λ (d : Due). IsTrue (due_fits d)) → IsTrue (fits_message g message)
+  keeps_drafted : (x : OpenTransaction) (o : Option Target) (due : Option Due) (message : Bytes) → IfSome o (λ (to : Target). IsTrue (target_suits g to (job_target g (target_name to)))) → IfSome due (λ (d : Due). IsTrue (due_fits d)) → IsTrue (fits_message g message)
       → CanGoOn g id x → x.run ≡ run → KeepsOn (drafted x o due message)
-  keeps-drafted x None due message suits moment fits can same = keeps-code x _ can same
-  keeps-drafted x (Some to) None message suits moment fits can same = keeps-code x _ can same
-  keeps-drafted x (Some to) (Some due) message suits moment fits can same =
+  keeps_drafted x None due message suits moment fits can same = keeps_code x _ can same
+  keeps_drafted x (Some to) None message suits moment fits can same = keeps_code x _ can same
+  keeps_drafted x (Some to) (Some due) message suits moment fits can same =
       let d : Draft = record { to = to; due = due; message = message } in
-      keeps-code _ Done
+      keeps_code _ Done
       (with_drafts g id x can (x.drafts ++ d ∷ [])
       (all_append (draft_fits g) x.drafts (d ∷ []) can.drafts
       (true_both (draft_fits g d) true (true_both (target_suits g to (job_target g (target_name to)) && fits_message g message) (due_fits due) (true_both _ _ suits fits) moment) refl)))
       same
 
-  keeps-put_job : (x : OpenTransaction) (to : Bytes) (due : Option Due) (message : Bytes) → IfSome due (λ (d : Due). IsTrue (due_fits d)) → CanGoOn g id x → x.run ≡ run → KeepsOn (put_job g x to due message)
-  keeps-put_job x to due message moment can same =
-      keeps-within x _ _ can same
-      (λ fits. keeps-name x (name_in_operand to) _ can same (λ name. keeps-drafted x (job_target g name) due message (job_target-suits g name (job_target g name) refl) moment fits can same))
+  keeps_put_job : (x : OpenTransaction) (to : Bytes) (due : Option Due) (message : Bytes) → IfSome due (λ (d : Due). IsTrue (due_fits d)) → CanGoOn g id x → x.run ≡ run → KeepsOn (put_job g x to due message)
+  keeps_put_job x to due message moment can same =
+      keeps_within x _ _ can same
+      (λ fits. keeps_name x (name_in_operand to) _ can same (λ name. keeps_drafted x (job_target g name) due message (job_target_suits g name (job_target g name) refl) moment fits can same))
 
   -- ---- LSSBs
 
-  keeps-write_local : (x : OpenTransaction) (name bytes : Bytes) → IsTrue (fits_content bytes) → CanGoOn g id x → x.run ≡ run → KeepsOn (write_local g x name bytes)
-  keeps-write_local x name bytes fits can same = by (is_some (find bytes_cmp name x.lssbs)) refl (nat_le g.limits.lssbs (length x.lssbs)) refl
+  keeps_write_local : (x : OpenTransaction) (name bytes : Bytes) → IsTrue (fits_content bytes) → CanGoOn g id x → x.run ≡ run → KeepsOn (write_local g x name bytes)
+  keeps_write_local x name bytes fits can same = by (is_some (find bytes_cmp name x.lssbs)) refl (nat_le g.limits.lssbs (length x.lssbs)) refl
     where
       put_one : length (put bytes_cmp name bytes x.lssbs) ≤ g.limits.lssbs → KeepsOn (replied (record x { lssbs = put bytes_cmp name bytes x.lssbs }) Done)
       put_one h =
-          keeps-code _ Done
+          keeps_code _ Done
           (with_lssbs g id x can (put bytes_cmp name bytes x.lssbs)
-          (sorted_put bytes_cmp bytes_total name bytes x.lssbs can.lssbs_order, h, all_put bytes_cmp bytes_same (λ (l : Bytes × Bytes). fits_content l.1) name bytes x.lssbs fits can.lssbs))
+          (sorted_put bytes_total name bytes x.lssbs can.lssbs_order, h, all_put bytes_cmp bytes_same (λ (l : Bytes × Bytes). fits_content l.1) name bytes x.lssbs fits can.lssbs))
           same
 
       long : length (put bytes_cmp name bytes x.lssbs) ≡ cond (is_some (find bytes_cmp name x.lssbs)) (length x.lssbs) (length x.lssbs + 1)
@@ -324,75 +322,75 @@ module _ (g : Generated) (id : ServiceId) (reading : Bool) (run : RunState) wher
       by : (a : Bool) → is_some (find bytes_cmp name x.lssbs) ≡ a → (b : Bool) → nat_le g.limits.lssbs (length x.lssbs) ≡ b
           → KeepsOn (if not a && b then replied x K09 else replied (record x { lssbs = put bytes_cmp name bytes x.lssbs }) Done)
       by true e b f = put_one (omega (arith, long, ap {B = ℕ} (λ c. cond c (length x.lssbs) (length x.lssbs + 1)) e, can.lssbs_count))
-      by false e true f = keeps-code x K09 can same
+      by false e true f = keeps_code x K09 can same
       by false e false f = put_one (omega (arith, long, ap {B = ℕ} (λ c. cond c (length x.lssbs) (length x.lssbs + 1)) e, leb-false _ _ f))
 
-  without_local-can : (x : OpenTransaction) (name : Bytes) → CanGoOn g id x → CanGoOn g id (record x { lssbs = without_local name x.lssbs })
-  without_local-can x name can =
+  without_local_can : (x : OpenTransaction) (name : Bytes) → CanGoOn g id x → CanGoOn g id (record x { lssbs = without_local name x.lssbs })
+  without_local_can x name can =
       let count : length (without_local name x.lssbs) ≤ g.limits.lssbs = omega (arith, can.lssbs_count, length_filter (λ (l : Bytes × Bytes). not (bytes_eq name l.0)) x.lssbs) in
       with_lssbs g id x can (without_local name x.lssbs)
       (sorted_where bytes_cmp (λ n. not (bytes_eq name n)) x.lssbs can.lssbs_order, count, all_filter (λ (l : Bytes × Bytes). fits_content l.1) (λ (l : Bytes × Bytes). not (bytes_eq name l.0)) x.lssbs can.lssbs)
 
-  local-fits : (x : OpenTransaction) (name bytes : Bytes) → CanGoOn g id x → find bytes_cmp name x.lssbs ≡ Some bytes → IsTrue (fits_content bytes)
-  local-fits x name bytes can e = (found_passes bytes_cmp (λ (l : Bytes × Bytes). fits_content l.1) name x.lssbs bytes can.lssbs e).1
+  local_fits : (x : OpenTransaction) (name bytes : Bytes) → CanGoOn g id x → find bytes_cmp name x.lssbs ≡ Some bytes → IsTrue (fits_content bytes)
+  local_fits x name bytes can e = (found_passes bytes_cmp (λ (l : Bytes × Bytes). fits_content l.1) name x.lssbs bytes can.lssbs e).1
 
-  keeps-read_local : (x : OpenTransaction) (name : Bytes) (room : ℕ) (o : Option Bytes) → find bytes_cmp name x.lssbs ≡ o → IsTrue reading → CanGoOn g id x → x.run ≡ run → KeepsOn (read_or K03 x room o)
-  keeps-read_local x name room None e r can same = keeps-read_or K03 x room None r can same refl
-  keeps-read_local x name room (Some bytes) e r can same = keeps-read_or K03 x room (Some bytes) r can same (local-fits x name bytes can e)
+  keeps_read_local : (x : OpenTransaction) (name : Bytes) (room : ℕ) (o : Option Bytes) → find bytes_cmp name x.lssbs ≡ o → IsTrue reading → CanGoOn g id x → x.run ≡ run → KeepsOn (read_or K03 x room o)
+  keeps_read_local x name room None e r can same = keeps_read_or K03 x room None r can same refl
+  keeps_read_local x name room (Some bytes) e r can same = keeps_read_or K03 x room (Some bytes) r can same (local_fits x name bytes can e)
 
-  keeps-read_away : (x : OpenTransaction) (name : Bytes) (room : ℕ) (o : Option Bytes) → find bytes_cmp name x.lssbs ≡ o → IsTrue reading → CanGoOn g id x → x.run ≡ run → KeepsOn (read_away_by x name room o)
-  keeps-read_away x name room None e r can same = keeps-code x K03 can same
-  keeps-read_away x name room (Some bytes) e r can same = keeps-read _ room bytes r (without_local-can x name can) same (leb-true _ _ (local-fits x name bytes can e))
+  keeps_read_away : (x : OpenTransaction) (name : Bytes) (room : ℕ) (o : Option Bytes) → find bytes_cmp name x.lssbs ≡ o → IsTrue reading → CanGoOn g id x → x.run ≡ run → KeepsOn (read_away_by x name room o)
+  keeps_read_away x name room None e r can same = keeps_code x K03 can same
+  keeps_read_away x name room (Some bytes) e r can same = keeps_read _ room bytes r (without_local_can x name can) same (leb-true _ _ (local_fits x name bytes can e))
 
-  keeps-delete_local : (x : OpenTransaction) (name : Bytes) (o : Option Bytes) → CanGoOn g id x → x.run ≡ run → KeepsOn (delete_local_by x name o)
-  keeps-delete_local x name None can same = keeps-code x K03 can same
-  keeps-delete_local x name (Some bytes) can same = keeps-code _ Done (without_local-can x name can) same
+  keeps_delete_local : (x : OpenTransaction) (name : Bytes) (o : Option Bytes) → CanGoOn g id x → x.run ≡ run → KeepsOn (delete_local_by x name o)
+  keeps_delete_local x name None can same = keeps_code x K03 can same
+  keeps_delete_local x name (Some bytes) can same = keeps_code _ Done (without_local_can x name can) same
 
   -- ---- PEND
 
-  keeps-pended : (x : OpenTransaction) (variant : Variant) (r : Result Outcome Cause) → ((o : Outcome) → r ≡ Ok o → OutcomeFits g (is_asynchronous id) o) → CanGoOn g id x → x.run ≡ run → KeepsOn (pended x variant r)
-  keeps-pended x variant (Ok o) fits can same = record { can = can; same_run = same; fits = fits o refl }
-  keeps-pended x variant (Err cause) fits can same = keeps-refused x cause can same
+  keeps_pended : (x : OpenTransaction) (variant : Variant) (r : Result Outcome Cause) → ((o : Outcome) → r ≡ Ok o → OutcomeFits g (is_asynchronous id) o) → CanGoOn g id x → x.run ≡ run → KeepsOn (pended x variant r)
+  keeps_pended x variant (Ok o) fits can same = record { can = can; same_run = same; fits = fits o refl }
+  keeps_pended x variant (Err cause) fits can same = keeps_refused x cause can same
 
 -- ---- outcomes
 
-kind-from : (asynchronous : Bool) (variant : Variant) (o : Option TacEntry) (name : Bytes) → ((t : TacEntry) → IsTrue (may_follow asynchronous variant t) → IsTrue (same_kind asynchronous t.asynchronous))
+kind_from : (asynchronous : Bool) (variant : Variant) (o : Option TacEntry) (name : Bytes) → ((t : TacEntry) → IsTrue (may_follow asynchronous variant t) → IsTrue (same_kind asynchronous t.asynchronous))
     → IsTrue (fits_follow_up asynchronous variant o (Some name)) → IsTrue (has_kind_by o asynchronous)
-kind-from asynchronous variant None name kind h = absurd (true≢false (sym h))
-kind-from asynchronous variant (Some t) name kind h = kind t h
+kind_from asynchronous variant None name kind h = absurd (true≢false (sym h))
+kind_from asynchronous variant (Some t) name kind h = kind t h
 
-goes-fits : (g : Generated) (asynchronous : Bool) (variant : Variant) (name : Option Bytes) → IsTrue (is_for_kind asynchronous variant)
+goes_fits : (g : Generated) (asynchronous : Bool) (variant : Variant) (name : Option Bytes) → IsTrue (is_for_kind asynchronous variant)
     → IsTrue (not (takes_follow_up variant) || fits_follow_up asynchronous variant (option_and_then (tac_of g) name) name) → OutcomeFits g asynchronous (goes_by variant (name_or_empty name))
-goes-fits g true Kp name k h = absurd (true≢false (sym k))
-goes-fits g false Kp None k h = absurd (true≢false (sym h))
-goes-fits g false Kp (Some n) k h = (kind-from false Kp (tac_of g n) n (λ t may. (both_true (not t.asynchronous) (goes_within t.call) may).0) h, refl)
-goes-fits g true Re name k h = absurd (true≢false (sym k))
-goes-fits g false Re None k h = absurd (true≢false (sym h))
-goes-fits g false Re (Some n) k h = (kind-from false Re (tac_of g n) n (λ t may. (both_true (not t.asynchronous) (goes_within t.call) may).0) h, refl)
-goes-fits g true Fc name k h = absurd (true≢false (sym k))
-goes-fits g false Fc None k h = absurd (true≢false (sym h))
-goes-fits g false Fc (Some n) k h =
-    (kind-from false Fc (tac_of g n) n (λ t may. (both_true (not t.asynchronous) (goes_first t.call) (both_true (not t.asynchronous && goes_first t.call) t.on may).0).0) h, refl)
-goes-fits g asynchronous Pr None k h = absurd (true≢false (sym h))
-goes-fits g asynchronous Pr (Some n) k h = kind-from asynchronous Pr (tac_of g n) n (λ t may. (both_true (same_kind asynchronous t.asynchronous) (goes_within t.call) may).0) h
-goes-fits g asynchronous Pa None k h = absurd (true≢false (sym h))
-goes-fits g asynchronous Pa (Some n) k h = kind-from asynchronous Pa (tac_of g n) n (λ t may. (both_true (same_kind asynchronous t.asynchronous) (goes_within t.call) may).0) h
-goes-fits g asynchronous Sp None k h = absurd (true≢false (sym h))
-goes-fits g asynchronous Sp (Some n) k h = kind-from asynchronous Sp (tac_of g n) n (λ t may. (both_true (same_kind asynchronous t.asynchronous) (goes_within t.call) may).0) h
-goes-fits g asynchronous _ name k h = tt
+goes_fits g true Kp name k h = absurd (true≢false (sym k))
+goes_fits g false Kp None k h = absurd (true≢false (sym h))
+goes_fits g false Kp (Some n) k h = (kind_from false Kp (tac_of g n) n (λ t may. (both_true (not t.asynchronous) (goes_within t.call) may).0) h, refl)
+goes_fits g true Re name k h = absurd (true≢false (sym k))
+goes_fits g false Re None k h = absurd (true≢false (sym h))
+goes_fits g false Re (Some n) k h = (kind_from false Re (tac_of g n) n (λ t may. (both_true (not t.asynchronous) (goes_within t.call) may).0) h, refl)
+goes_fits g true Fc name k h = absurd (true≢false (sym k))
+goes_fits g false Fc None k h = absurd (true≢false (sym h))
+goes_fits g false Fc (Some n) k h =
+    (kind_from false Fc (tac_of g n) n (λ t may. (both_true (not t.asynchronous) (goes_first t.call) (both_true (not t.asynchronous && goes_first t.call) t.on may).0).0) h, refl)
+goes_fits g asynchronous Pr None k h = absurd (true≢false (sym h))
+goes_fits g asynchronous Pr (Some n) k h = kind_from asynchronous Pr (tac_of g n) n (λ t may. (both_true (same_kind asynchronous t.asynchronous) (goes_within t.call) may).0) h
+goes_fits g asynchronous Pa None k h = absurd (true≢false (sym h))
+goes_fits g asynchronous Pa (Some n) k h = kind_from asynchronous Pa (tac_of g n) n (λ t may. (both_true (same_kind asynchronous t.asynchronous) (goes_within t.call) may).0) h
+goes_fits g asynchronous Sp None k h = absurd (true≢false (sym h))
+goes_fits g asynchronous Sp (Some n) k h = kind_from asynchronous Sp (tac_of g n) n (λ t may. (both_true (same_kind asynchronous t.asynchronous) (goes_within t.call) may).0) h
+goes_fits g asynchronous _ name k h = tt
 
-pended_by-fits : (g : Generated) (asynchronous : Bool) (o p : Outcome) (a b c : Bool) → (IsTrue a → IsTrue b → OutcomeFits g asynchronous p) → pend_by a b c p ≡ Ok o → OutcomeFits g asynchronous o
-pended_by-fits g asynchronous o p false b c fits e = absurd cc
-pended_by-fits g asynchronous o p true false c fits e = absurd cc
-pended_by-fits g asynchronous o p true true false fits e = absurd cc
-pended_by-fits g asynchronous o p true true true fits e = subst (OutcomeFits g asynchronous) (ok_is Cause p o e) (fits refl refl)
+pended_by_fits : (g : Generated) (asynchronous : Bool) (o p : Outcome) (a b c : Bool) → (IsTrue a → IsTrue b → OutcomeFits g asynchronous p) → pend_by a b c p ≡ Ok o → OutcomeFits g asynchronous o
+pended_by_fits g asynchronous o p false b c fits e = absurd cc
+pended_by_fits g asynchronous o p true false c fits e = absurd cc
+pended_by_fits g asynchronous o p true true false fits e = absurd cc
+pended_by_fits g asynchronous o p true true true fits e = subst (OutcomeFits g asynchronous) (ok_is Cause p o e) (fits refl refl)
 
-pend_outcome-fits : (g : Generated) (asynchronous : Bool) (variant : Variant) (has : Bool) (name : Option Bytes) (o : Outcome)
+pend_outcome_fits : (g : Generated) (asynchronous : Bool) (variant : Variant) (has : Bool) (name : Option Bytes) (o : Outcome)
     → pend_outcome asynchronous variant has (option_and_then (tac_of g) name) name ≡ Ok o → OutcomeFits g asynchronous o
 unfolding pend_outcome
-pend_outcome-fits g asynchronous variant has name o e =
-    pended_by-fits g asynchronous o (goes_by variant (name_or_empty name)) (is_for_kind asynchronous variant) (not (takes_follow_up variant) || fits_follow_up asynchronous variant (option_and_then (tac_of g) name) name) (not (needs_message asynchronous variant) || has)
-    (goes-fits g asynchronous variant name) e
+pend_outcome_fits g asynchronous variant has name o e =
+    pended_by_fits g asynchronous o (goes_by variant (name_or_empty name)) (is_for_kind asynchronous variant) (not (takes_follow_up variant) || fits_follow_up asynchronous variant (option_and_then (tac_of g) name) name) (not (needs_message asynchronous variant) || has)
+    (goes_fits g asynchronous variant name) e
 
 -- ---- all calls
 
@@ -403,61 +401,61 @@ not_yes false h = refl
 second_fits : (a b : Bytes) → IsTrue (list_all fits_content (a ∷ b ∷ [])) → IsTrue (fits_content b)
 second_fits a b h = (both_true (fits_content b) true (both_true (fits_content a) (fits_content b && true) h).1).0
 
-called-keeps : (g : Generated) (id : ServiceId) (v : Told) (x : OpenTransaction) (call : Call) → g.limits.nb ≤ 32767 → ToldFits v → IsTrue (has_short_operands call) → CanGoOn g id x → Keeps g id (reads call) x.run (called g v (is_asynchronous id) x call)
+called_keeps : (g : Generated) (id : ServiceId) (v : Told) (x : OpenTransaction) (call : Call) → g.limits.nb ≤ 32767 → ToldFits v → IsTrue (has_short_operands call) → CanGoOn g id x → Keeps g id (reads call) x.run (called g v (is_asynchronous id) x call)
 unfolding called
-called-keeps g id v x Init nb told short can = keeps-refused g id false x.run x _ can refl
-called-keeps g id v x (Mget room) nb told short can =
-    keeps-kind g id true x.run x (not (is_asynchronous id)) (got x room) can refl (λ h. got_by-keeps g id true x.run x room x.unread refl refl nb can refl)
-called-keeps g id v x (Mput bytes) nb told short can =
-    keeps-kind g id false x.run x (not (is_asynchronous id)) (put_part g x bytes) can refl (λ h. keeps-put_part g id false x.run x bytes (not_yes (is_asynchronous id) h) can refl)
-called-keeps g id v x (Fget room) nb told short can =
-    keeps-kind g id true x.run x (is_asynchronous id) (got x room) can refl (λ h. got_by-keeps g id true x.run x room x.unread refl refl nb can refl)
-called-keeps g id v x (Fput to message) nb told short can = keeps-put_job g id false x.run x to (Some (After 0)) message (le-leb 0 last_moment (omega arith)) can refl
-called-keeps g id v x (Dput to mode d h m s message) nb told short can =
-    keeps-put_job g id false x.run x to (moment_by mode (number_of d) (number_of h) (number_of m) (number_of s)) message (moment_by-fits mode (number_of d) (number_of h) (number_of m) (number_of s)) can refl
-called-keeps g id v x (SgetGb name room) nb told short can =
-    keeps-name g id true x.run x (name_in_operand name) _ can refl
-    (λ n. keeps-locked g id true x.run v x (Gssb n) _ can refl (λ y c s held. keeps-read_or g id true x.run K03 y room (seen v y (Gssb n)) refl c s (seen-fits g id true x.run v y (Gssb n) told c)))
-called-keeps g id v x (SputGb name bytes) nb told short can =
-    keeps-name g id false x.run x (name_in_operand name) _ can refl
-    (λ n. keeps-locked g id false x.run v x (Gssb n) _ can refl (λ y c s held. keeps-wrote g id false x.run y (Gssb n) (Some bytes) c s held refl (second_fits name bytes short)))
-called-keeps g id v x (SrelGb name) nb told short can =
-    keeps-name g id false x.run x (name_in_operand name) _ can refl
-    (λ n. keeps-locked g id false x.run v x (Gssb n) _ can refl (λ y c s held. keeps-deleted g id false x.run y (Gssb n) (seen v y (Gssb n)) c s held refl))
-called-keeps g id v x (SgetKp name room) nb told short can =
-    keeps-name g id true x.run x (name_in_operand name) _ can refl (λ n. keeps-read_local g id true x.run x n room (find bytes_cmp n x.lssbs) refl refl can refl)
-called-keeps g id v x (SgetRl name room) nb told short can =
-    keeps-name g id true x.run x (name_in_operand name) _ can refl (λ n. keeps-read_away g id true x.run x n room (find bytes_cmp n x.lssbs) refl refl can refl)
-called-keeps g id v x (SputMs name bytes) nb told short can =
-    keeps-name g id false x.run x (name_in_operand name) _ can refl (λ n. keeps-write_local g id false x.run x n bytes (second_fits name bytes short) can refl)
-called-keeps g id v x (SrelLb name) nb told short can =
-    keeps-name g id false x.run x (name_in_operand name) _ can refl (λ n. keeps-delete_local g id false x.run x n (find bytes_cmp n x.lssbs) can refl)
-called-keeps g id v x (SgetUs name room) nb told short can =
-    keeps-its_name g id true x.run x name (has_uls g) _ can refl (λ n h. keeps-read_block g id true x.run v x (Uls n x.user) room refl told can refl)
-called-keeps g id v x (SputUs name bytes) nb told short can =
-    keeps-its_name g id false x.run x name (has_uls g) _ can refl
-    (λ n h. keeps-write_block g id false x.run v x (Uls n x.user) bytes can refl (true_both (has_uls g n) (is_user g x.user) h can.user) (second_fits name bytes short))
-called-keeps g id v x (Gtda name room) nb told short can =
-    keeps-its_name g id true x.run x name (has_tls g) _ can refl (λ n h. keeps-read_block g id true x.run v x (Tls n x.lterm) room refl told can refl)
-called-keeps g id v x (Ptda name bytes) nb told short can =
-    keeps-its_name g id false x.run x name (has_tls g) _ can refl
-    (λ n h. keeps-write_block g id false x.run v x (Tls n x.lterm) bytes can refl (true_both (has_tls g n) (is_lterm g x.lterm) h can.lterm) (second_fits name bytes short))
-called-keeps g id v x (UnlkGb name) nb told short can =
-    keeps-name g id false x.run x (name_in_operand name) _ can refl (λ n. keeps-unlocked g id false x.run v x (Gssb n) can refl)
-called-keeps g id v x (UnlkUs name) nb told short can = keeps-its_name g id false x.run x name (has_uls g) _ can refl (λ n h. keeps-unlocked g id false x.run v x (Uls n x.user) can refl)
-called-keeps g id v x (UnlkDa name) nb told short can = keeps-its_name g id false x.run x name (has_tls g) _ can refl (λ n h. keeps-unlocked g id false x.run v x (Tls n x.lterm) can refl)
-called-keeps g id v x (Pend variant op) nb told short can =
-    keeps-pended g id false x.run x variant (pend_outcome (is_asynchronous id) variant (has_message x.parts) (option_and_then (tac_of g) (name_by op)) (name_by op))
-    (pend_outcome-fits g (is_asynchronous id) variant (has_message x.parts) (name_by op)) can refl
+called_keeps g id v x Init nb told short can = keeps_refused g id false x.run x _ can refl
+called_keeps g id v x (Mget room) nb told short can =
+    keeps_kind g id true x.run x (not (is_asynchronous id)) (got x room) can refl (λ h. got_by_keeps g id true x.run x room x.unread refl refl nb can refl)
+called_keeps g id v x (Mput bytes) nb told short can =
+    keeps_kind g id false x.run x (not (is_asynchronous id)) (put_part g x bytes) can refl (λ h. keeps_put_part g id false x.run x bytes (not_yes (is_asynchronous id) h) can refl)
+called_keeps g id v x (Fget room) nb told short can =
+    keeps_kind g id true x.run x (is_asynchronous id) (got x room) can refl (λ h. got_by_keeps g id true x.run x room x.unread refl refl nb can refl)
+called_keeps g id v x (Fput to message) nb told short can = keeps_put_job g id false x.run x to (Some (After 0)) message (le-leb 0 last_moment (omega arith)) can refl
+called_keeps g id v x (Dput to mode d h m s message) nb told short can =
+    keeps_put_job g id false x.run x to (moment_by mode (number_of d) (number_of h) (number_of m) (number_of s)) message (moment_by_fits mode (number_of d) (number_of h) (number_of m) (number_of s)) can refl
+called_keeps g id v x (SgetGb name room) nb told short can =
+    keeps_name g id true x.run x (name_in_operand name) _ can refl
+    (λ n. keeps_locked g id true x.run v x (Gssb n) _ can refl (λ y c s held. keeps_read_or g id true x.run K03 y room (seen v y (Gssb n)) refl c s (seen_fits g id true x.run v y (Gssb n) told c)))
+called_keeps g id v x (SputGb name bytes) nb told short can =
+    keeps_name g id false x.run x (name_in_operand name) _ can refl
+    (λ n. keeps_locked g id false x.run v x (Gssb n) _ can refl (λ y c s held. keeps_wrote g id false x.run y (Gssb n) (Some bytes) c s held refl (second_fits name bytes short)))
+called_keeps g id v x (SrelGb name) nb told short can =
+    keeps_name g id false x.run x (name_in_operand name) _ can refl
+    (λ n. keeps_locked g id false x.run v x (Gssb n) _ can refl (λ y c s held. keeps_deleted g id false x.run y (Gssb n) (seen v y (Gssb n)) c s held refl))
+called_keeps g id v x (SgetKp name room) nb told short can =
+    keeps_name g id true x.run x (name_in_operand name) _ can refl (λ n. keeps_read_local g id true x.run x n room (find bytes_cmp n x.lssbs) refl refl can refl)
+called_keeps g id v x (SgetRl name room) nb told short can =
+    keeps_name g id true x.run x (name_in_operand name) _ can refl (λ n. keeps_read_away g id true x.run x n room (find bytes_cmp n x.lssbs) refl refl can refl)
+called_keeps g id v x (SputMs name bytes) nb told short can =
+    keeps_name g id false x.run x (name_in_operand name) _ can refl (λ n. keeps_write_local g id false x.run x n bytes (second_fits name bytes short) can refl)
+called_keeps g id v x (SrelLb name) nb told short can =
+    keeps_name g id false x.run x (name_in_operand name) _ can refl (λ n. keeps_delete_local g id false x.run x n (find bytes_cmp n x.lssbs) can refl)
+called_keeps g id v x (SgetUs name room) nb told short can =
+    keeps_its_name g id true x.run x name (has_uls g) _ can refl (λ n h. keeps_read_block g id true x.run v x (Uls n x.user) room refl told can refl)
+called_keeps g id v x (SputUs name bytes) nb told short can =
+    keeps_its_name g id false x.run x name (has_uls g) _ can refl
+    (λ n h. keeps_write_block g id false x.run v x (Uls n x.user) bytes can refl (true_both (has_uls g n) (is_user g x.user) h can.user) (second_fits name bytes short))
+called_keeps g id v x (Gtda name room) nb told short can =
+    keeps_its_name g id true x.run x name (has_tls g) _ can refl (λ n h. keeps_read_block g id true x.run v x (Tls n x.lterm) room refl told can refl)
+called_keeps g id v x (Ptda name bytes) nb told short can =
+    keeps_its_name g id false x.run x name (has_tls g) _ can refl
+    (λ n h. keeps_write_block g id false x.run v x (Tls n x.lterm) bytes can refl (true_both (has_tls g n) (is_lterm g x.lterm) h can.lterm) (second_fits name bytes short))
+called_keeps g id v x (UnlkGb name) nb told short can =
+    keeps_name g id false x.run x (name_in_operand name) _ can refl (λ n. keeps_unlocked g id false x.run v x (Gssb n) can refl)
+called_keeps g id v x (UnlkUs name) nb told short can = keeps_its_name g id false x.run x name (has_uls g) _ can refl (λ n h. keeps_unlocked g id false x.run v x (Uls n x.user) can refl)
+called_keeps g id v x (UnlkDa name) nb told short can = keeps_its_name g id false x.run x name (has_tls g) _ can refl (λ n h. keeps_unlocked g id false x.run v x (Tls n x.lterm) can refl)
+called_keeps g id v x (Pend variant op) nb told short can =
+    keeps_pended g id false x.run x variant (pend_outcome (is_asynchronous id) variant (has_message x.parts) (option_and_then (tac_of g) (name_by op)) (name_by op))
+    (pend_outcome_fits g (is_asynchronous id) variant (has_message x.parts) (name_by op)) can refl
 
-first-keeps : (g : Generated) (id : ServiceId) (reading : Bool) (x : OpenTransaction) (call : Call) → CanGoOn g id x → Keeps g id reading x.run (first_call x call)
-first-keeps g id reading x Init can = keeps-code g id reading x.run (record x { inited = true }) Done (with_inited g id x can true) refl
-first-keeps g id reading x _ can = keeps-refused g id reading x.run x _ can refl
+first_keeps : (g : Generated) (id : ServiceId) (reading : Bool) (x : OpenTransaction) (call : Call) → CanGoOn g id x → Keeps g id reading x.run (first_call x call)
+first_keeps g id reading x Init can = keeps_code g id reading x.run (record x { inited = true }) Done (with_inited g id x can true) refl
+first_keeps g id reading x _ can = keeps_refused g id reading x.run x _ can refl
 
-pub call-keeps : (g : Generated) (id : ServiceId) (v : Told) (x : OpenTransaction) (call : Call) → g.limits.nb ≤ 32767 → ToldFits v → IsTrue (has_short_operands call) → CanGoOn g id x → Keeps g id (reads call) x.run (call_outcome g v (is_asynchronous id) x call)
+pub call_keeps : (g : Generated) (id : ServiceId) (v : Told) (x : OpenTransaction) (call : Call) → g.limits.nb ≤ 32767 → ToldFits v → IsTrue (has_short_operands call) → CanGoOn g id x → Keeps g id (reads call) x.run (call_outcome g v (is_asynchronous id) x call)
 unfolding call_outcome
-call-keeps g id v x call nb told short can = by x.inited
+call_keeps g id v x call nb told short can = by x.inited
   where
     by : (b : Bool) → Keeps g id (reads call) x.run (called_by g v (is_asynchronous id) x call b)
-    by true = called-keeps g id v x call nb told short can
-    by false = first-keeps g id (reads call) x call can
+    by true = called_keeps g id v x call nb told short can
+    by false = first_keeps g id (reads call) x call can

@@ -13,8 +13,8 @@ use Rattle.kdcs_types.specs.declared.service.JobValue.{JobValue}
 use Rattle.kdcs_types.specs.declared.service.Service.{Service}
 use Rattle.kdcs_types.specs.Keys.{key_eq}
 use Rattle.kdcs_types.specs.Keyed.{with_item}
-use Rattle.kdcs_types.specs.KeyLaws.{key_eq-itself}
-use Rattle.kdcs_types.specs.KeyedLaws.{ascends-with, all-with}
+use Rattle.kdcs_types.specs.KeyLaws.{key_eq_itself}
+use Rattle.kdcs_types.specs.KeyedLaws.{ascends_with, all_with}
 use Rattle.kd_base.specs.Limits.{last_next_job}
 use Rattle.kdcs_types.specs.Same.{target_eq}
 use Rattle.kdcs_types.specs.Tables.{TableRows, service_key, job_key, shown_key}
@@ -32,9 +32,10 @@ use Rattle.abstract_monitor.specs.State.{State}
 use Rattle.laws_of_steps.specs.Suits.{Suits, is_lterm, value_suits, target_suits, target_name, job_suits, shown_suits}
 use Rattle.laws_of_tables.specs.PointLaws.{AreSound, TakesNoMore, EndSound, EndsStaySound, SignOffsStaySound, ShowsStaySound, TicksStaySound, StartsAreSound}
 use Rattle.laws_of_tables.specs.ItemsLaws.{IsIn, in_passes, in_filter, sum_with, sum_without}
-use Rattle.laws_of_tables.specs.ListsLaws.{bytes_same_eq, bytes_eq_itself, sum_filter, filter_passes}
+use Rattle.laws_of_tables.specs.ListsLaws.{bytes_eq_itself, sum_filter, filter_passes}
 use Rattle.laws_of_tables.specs.OpeningsLaws.{job_parts}
-use Rattle.laws_of_tables.specs.RowsLaws.{GoodRows, durable_row, with_shown, with_clock, some_jobs, some_services, sound, sound-within, good, sum_filters}
+use Rattle.laws_of_tables.specs.RowsLaws.{GoodRows, durable_row, with_shown, with_clock, some_jobs, some_services, sound, sound_within, good, sum_filters}
+use Rattle.std.proofs.lemmas.Slice.Eq.{bytes_eq-Decides}
 
 -- ---- fewer rows
 
@@ -44,10 +45,10 @@ record NoMore (g : Generated) (t u : TableRows) : Type 0 where
   gssbs : u.gssbs ≡ t.gssbs
   charge : TakesNoMore g t u
 
-no_more-sound : (g : Generated) (t u : TableRows) → AreSound g t → GoodRows g u → NoMore g t u → EndSound g t u
+no_more_sound : (g : Generated) (t u : TableRows) → AreSound g t → GoodRows g u → NoMore g t u → EndSound g t u
 unfolding durable
-no_more-sound g t u s r n =
-    let within = sound-within g t s in
+no_more_sound g t u s r n =
+    let within = sound_within g t s in
     record {
       sound = sound g u r (record {
         next_job = subst (λ k. k ≤ last_next_job) (sym n.next_job) within.next_job;
@@ -57,11 +58,11 @@ no_more-sound g t u s r n =
       charge = n.charge;
     }
 
-no_more-joins : (g : Generated) (t u w : TableRows) → NoMore g t u → NoMore g u w → NoMore g t w
-no_more-joins g t u w a b = record { next_job = b.next_job ∙ a.next_job; gssbs = b.gssbs ∙ a.gssbs; charge = omega (arith, a.charge, b.charge) }
+no_more_joins : (g : Generated) (t u w : TableRows) → NoMore g t u → NoMore g u w → NoMore g t w
+no_more_joins g t u w a b = record { next_job = b.next_job ∙ a.next_job; gssbs = b.gssbs ∙ a.gssbs; charge = omega (arith, a.charge, b.charge) }
 
-same-no_more : (g : Generated) (t : TableRows) → NoMore g t t
-same-no_more g t = record { next_job = refl; gssbs = refl; charge = omega arith }
+same_no_more : (g : Generated) (t : TableRows) → NoMore g t t
+same_no_more g t = record { next_job = refl; gssbs = refl; charge = omega arith }
 
 fewer_services : (g : Generated) (t : TableRows) (q : Service → Bool) → NoMore g t (record t { services = filter q t.services })
 unfolding durable total_charge
@@ -81,35 +82,35 @@ fewer_jobs g t q = record {
 
 -- ---- abnormal ends and signing off
 
-own_job-good : (g : Generated) (t : TableRows) (id : ServiceId) (began : Option Service) → GoodRows g t → GoodRows g (without_own_job t id began) × NoMore g t (without_own_job t id began)
-own_job-good g t (Dialogue user) began r = (r, same-no_more g t)
-own_job-good g t (Asynchronous number) (Some row) r = (r, same-no_more g t)
-own_job-good g t (Asynchronous number) None r =
+own_job_good : (g : Generated) (t : TableRows) (id : ServiceId) (began : Option Service) → GoodRows g t → GoodRows g (without_own_job t id began) × NoMore g t (without_own_job t id began)
+own_job_good g t (Dialogue user) began r = (r, same_no_more g t)
+own_job_good g t (Asynchronous number) (Some row) r = (r, same_no_more g t)
+own_job_good g t (Asynchronous number) None r =
     (some_jobs g t r (λ (j : Job). not (key_eq (JobKey number) (job_key j))), fewer_jobs g t (λ (j : Job). not (key_eq (JobKey number) (job_key j))))
 
-no_service-good : (g : Generated) (t : TableRows) (id : ServiceId) → GoodRows g t → GoodRows g (with_service t id None) × NoMore g t (with_service t id None)
-no_service-good g t id r =
+no_service_good : (g : Generated) (t : TableRows) (id : ServiceId) → GoodRows g t → GoodRows g (with_service t id None) × NoMore g t (with_service t id None)
+no_service_good g t id r =
     (some_services g t r (λ (s : Service). not (key_eq (ServiceKey id) (service_key s))), fewer_services g t (λ (s : Service). not (key_eq (ServiceKey id) (service_key s))))
 
 pub ends_stay_sound : EndsStaySound
 unfolding broken
 ends_stay_sound g t id x s =
     let u = without_own_job t id x.began in
-    let a = own_job-good g t id x.began (good g t s) in
-    let b = no_service-good g u id a.0 in
-    no_more-sound g t (with_service u id None) s b.0 (no_more-joins g t u (with_service u id None) a.1 b.1)
+    let a = own_job_good g t id x.began (good g t s) in
+    let b = no_service_good g u id a.0 in
+    no_more_sound g t (with_service u id None) s b.0 (no_more_joins g t u (with_service u id None) a.1 b.1)
 
 pub sign_offs_stay_sound : SignOffsStaySound
 sign_offs_stay_sound g t user s =
-    let a = no_service-good g t (Dialogue user) (good g t s) in
-    no_more-sound g t (with_service t (Dialogue user) None) s a.0 a.1
+    let a = no_service_good g t (Dialogue user) (good g t s) in
+    no_more_sound g t (with_service t (Dialogue user) None) s a.0 a.1
 
 -- ---- shown messages
 
-least_job-in : (js : List Job) (job : Job) → least_job js ≡ Some job → IsIn job js
+least_job_in : (js : List Job) (job : Job) → least_job js ≡ Some job → IsIn job js
 unfolding least_job
-least_job-in [] job e = absurd cc
-least_job-in (j ∷ js) job e = by (least_job js) refl e (least_job-in js)
+least_job_in [] job e = absurd cc
+least_job_in (j ∷ js) job e = by (least_job js) refl e (least_job_in js)
   where
     by : (o : Option Job) → least_job js ≡ o → earlier_of j o ≡ Some job → ((k : Job) → least_job js ≡ Some k → IsIn k js) → IsIn job (j ∷ js)
     by None is e rest = inl (some_is j job e)
@@ -124,50 +125,50 @@ pub record IsJobFor (lterm : Bytes) (jobs : List Job) (job : Job) : Type 0 where
   pub there : IsIn job jobs
   pub target : IsTrue (is_for lterm job.value.to)
 
-pub due-for : (s : State) (lterm : Bytes) (job : Job) → due_for s lterm ≡ Some job → IsJobFor lterm s.tables.jobs job
-due-for s lterm job e =
+pub due_job_found : (s : State) (lterm : Bytes) (job : Job) → due_for s lterm ≡ Some job → IsJobFor lterm s.tables.jobs job
+due_job_found s lterm job e =
     let free = free_jobs s.active s.tables.jobs in
     let due : Job → Bool = λ (j : Job). nat_le j.value.due s.tables.clock && is_for lterm j.value.to in
-    let in_due = least_job-in (filter due free) job e in
+    let in_due = least_job_in (filter due free) job e in
     record {
       there = in_filter (is_free s.active) job s.tables.jobs (in_filter due job free in_due);
       target = (both_true (nat_le job.value.due s.tables.clock) (is_for lterm job.value.to) (in_passes due job (filter due free) (filter_passes due free) in_due)).1;
     }
 
-pub for-lterm : (lterm : Bytes) (to : Target) → IsTrue (is_for lterm to) → to ≡ Lterm lterm
-for-lterm lterm (Tac tac) h = absurd (true≢false (sym h))
-for-lterm lterm (Lterm other) h = ap (λ (n : Bytes). Lterm n) (sym (bytes_same_eq lterm other h))
+pub for_lterm : (lterm : Bytes) (to : Target) → IsTrue (is_for lterm to) → to ≡ Lterm lterm
+for_lterm lterm (Tac tac) h = absurd (true≢false (sym h))
+for_lterm lterm (Lterm other) h = ap (λ (n : Bytes). Lterm n) (sym ((bytes_eq-Decides lterm other).0 h))
 
-target_by-lterm : (g : Generated) (lterm : Bytes) (l : Option LtermEntry) (t : Option TacEntry) → IsTrue (target_suits g (Lterm lterm) (target_by lterm l t)) → IsSome l
-target_by-lterm g lterm (Some l) t h = refl
-target_by-lterm g lterm None None h = absurd (true≢false (sym h))
-target_by-lterm g lterm None (Some t) h = by (t.asynchronous && goes_first t.call && t.on) h
+target_by_lterm : (g : Generated) (lterm : Bytes) (l : Option LtermEntry) (t : Option TacEntry) → IsTrue (target_suits g (Lterm lterm) (target_by lterm l t)) → IsSome l
+target_by_lterm g lterm (Some l) t h = refl
+target_by_lterm g lterm None None h = absurd (true≢false (sym h))
+target_by_lterm g lterm None (Some t) h = by (t.asynchronous && goes_first t.call && t.on) h
   where
     by : (b : Bool) → IsTrue (target_suits g (Lterm lterm) (cond b (Some (Tac lterm)) None)) → false ≡ true
     by true k = absurd (true≢false (sym k))
     by false k = absurd (true≢false (sym k))
 
-lterm-declared : (g : Generated) (lterm : Bytes) → IsTrue (target_suits g (Lterm lterm) (job_target g lterm)) → IsTrue (is_lterm g lterm)
+lterm_declared : (g : Generated) (lterm : Bytes) → IsTrue (target_suits g (Lterm lterm) (job_target g lterm)) → IsTrue (is_lterm g lterm)
 unfolding job_target
-lterm-declared g lterm h = target_by-lterm g lterm (lterm_of g lterm) (tac_of g lterm) h
+lterm_declared g lterm h = target_by_lterm g lterm (lterm_of g lterm) (tac_of g lterm) h
 
-shown-suits : (g : Generated) (lterm : Bytes) (job : Job) → IsTrue (job_suits g job) → job.value.to ≡ Lterm lterm → IsTrue (shown_suits g (lterm, job.value))
-shown-suits g lterm job suits to =
+shown_row_suits : (g : Generated) (lterm : Bytes) (job : Job) → IsTrue (job_suits g job) → job.value.to ≡ Lterm lterm → IsTrue (shown_suits g (lterm, job.value))
+shown_row_suits g lterm job suits to =
     let parts = job_parts g job suits in
     let value : IsTrue (value_suits g job.value) = true_both _ _ (true_both _ _ parts.due parts.user) parts.lterm in
-    let is : IsTrue (is_lterm g lterm) = lterm-declared g lterm (subst (λ (t : Target). IsTrue (target_suits g t (job_target g (target_name t)))) to parts.target) in
+    let is : IsTrue (is_lterm g lterm) = lterm_declared g lterm (subst (λ (t : Target). IsTrue (target_suits g t (job_target g (target_name t)))) to parts.target) in
     true_both (is_lterm g lterm && value_suits g job.value) (target_eq job.value.to (Lterm lterm)) (true_both (is_lterm g lterm) (value_suits g job.value) is value)
     (ap (λ (t : Target). target_eq t (Lterm lterm)) to ∙ bytes_eq_itself lterm)
 
-shown-charge : (g : Generated) (t : TableRows) (lterm : Bytes) (job : Job) → IsIn job t.jobs → NoMore g t (shown_tables t lterm job)
+shown_charge : (g : Generated) (t : TableRows) (lterm : Bytes) (job : Job) → IsIn job t.jobs → NoMore g t (shown_tables t lterm job)
 unfolding durable total_charge
-shown-charge g t lterm job there = record {
+shown_charge g t lterm job there = record {
   next_job = refl;
   gssbs = refl;
   charge = omega (
     arith,
     sum_with shown_key (λ (r : Bytes × JobValue). charge_of g.limits.blksize (job_length r.1)) (lterm, job.value) t.shown,
-    sum_without job_key (λ (j : Job). charge_of g.limits.blksize (job_length j.value)) (JobKey job.number) job t.jobs (key_eq-itself (JobKey job.number)) there,
+    sum_without job_key (λ (j : Job). charge_of g.limits.blksize (job_length j.value)) (JobKey job.number) job t.jobs (key_eq_itself (JobKey job.number)) there,
   );
 }
 
@@ -175,26 +176,26 @@ pub shows_stay_sound : ShowsStaySound
 shows_stay_sound g s lterm job sound_now e =
     let t = s.tables in
     let r = good g t sound_now in
-    let is = due-for s lterm job e in
+    let is = due_job_found s lterm job e in
     let suits = in_passes (job_suits g) job t.jobs r.jobs.1 is.there in
-    let shown = shown-suits g lterm job suits (for-lterm lterm job.value.to is.target) in
+    let shown = shown_row_suits g lterm job suits (for_lterm lterm job.value.to is.target) in
     let fewer = some_jobs g t r (λ (j : Job). not (key_eq (JobKey job.number) (job_key j))) in
     let rows =
     with_shown g (without_job t job.number) fewer (with_item shown_key (lterm, job.value) t.shown)
-    (ascends-with shown_key (lterm, job.value) t.shown r.shown.0, all-with shown_key (shown_suits g) (lterm, job.value) t.shown shown r.shown.1) in
-    no_more-sound g t (shown_tables t lterm job) sound_now rows (shown-charge g t lterm job is.there)
+    (ascends_with shown_key (lterm, job.value) t.shown r.shown.0, all_with shown_key (shown_suits g) (lterm, job.value) t.shown shown r.shown.1) in
+    no_more_sound g t (shown_tables t lterm job) sound_now rows (shown_charge g t lterm job is.there)
 
 -- ---- ticks and starts
 
 pub ticks_stay_sound : TicksStaySound
 unfolding durable total_charge
 ticks_stay_sound g t clock s h =
-    no_more-sound g t (record t { clock = clock }) s (with_clock g t (good g t s) clock h) (record { next_job = refl; gssbs = refl; charge = omega arith })
+    no_more_sound g t (record t { clock = clock }) s (with_clock g t (good g t s) clock h) (record { next_job = refl; gssbs = refl; charge = omega arith })
 
-warm-sound : (g : Generated) (t : TableRows) → AreSound g t → EndSound g t (durable g t)
+warm_sound : (g : Generated) (t : TableRows) → AreSound g t → EndSound g t (durable g t)
 unfolding durable
-warm-sound g t s =
-    no_more-sound g t (record t { services = filter (durable_row g) t.services }) s (some_services g t (good g t s) (durable_row g)) (fewer_services g t (durable_row g))
+warm_sound g t s =
+    no_more_sound g t (record t { services = filter (durable_row g) t.services }) s (some_services g t (good g t s) (durable_row g)) (fewer_services g t (durable_row g))
 
 all_durable : (p : Service → Bool) (ss : List Service) → IsTrue (list_all p ss) → filter p ss ≡ ss
 all_durable p [] h = refl
@@ -202,12 +203,12 @@ all_durable p (s ∷ ss) h =
     let parts = both_true (p s) (list_all p ss) h in
     ap (λ b. cond b (s ∷ filter p ss) (filter p ss)) parts.0 ∙ ap (λ (l : List Service). s ∷ l) (all_durable p ss parts.1)
 
-durable-same : (g : Generated) (t : TableRows) → Suits g t → durable g t ≡ t
+pub durable_same : (g : Generated) (t : TableRows) → Suits g t → durable g t ≡ t
 unfolding durable
-durable-same g t s = ap (λ (l : List Service). record t { services = l }) (all_durable (durable_row g) t.services s.durable)
+durable_same g t s = ap (λ (l : List Service). record t { services = l }) (all_durable (durable_row g) t.services s.durable)
 
 pub starts_are_sound : StartsAreSound
 starts_are_sound = record {
-  warm = warm-sound;
-  suiting = λ g t order s. record { order = order; suits = subst (Suits g) (sym (durable-same g t s)) s; rows = s.services };
+  warm = warm_sound;
+  suiting = λ g t order s. record { order = order; suits = subst (Suits g) (sym (durable_same g t s)) s; rows = s.services };
 }

@@ -75,18 +75,6 @@ module _ {E : Type 0} (key_of : E → Key) where
       by false is true none rest = ap (λ c. not (is_some (cond c (Some e) (item_at key_of k (filter q es))))) is ∙ rest none
       by false is false none rest = rest none
 
-  -- what passes is found among those that pass
-  pub found_filter : (k : Key) (q : E → Bool) → ((e : E) → IsTrue (key_eq k (key_of e)) → IsTrue (q e)) → (es : List E) → item_at key_of k (filter q es) ≡ item_at key_of k es
-  found_filter k q passes [] = refl
-  found_filter k q passes (e ∷ es) = by (key_eq k (key_of e)) refl (q e) refl (found_filter k q passes es)
-    where
-      by : (a : Bool) → key_eq k (key_of e) ≡ a → (b : Bool) → q e ≡ b → item_at key_of k (filter q es) ≡ item_at key_of k es
-          → item_at key_of k (cond b (e ∷ filter q es) (filter q es)) ≡ cond a (Some e) (item_at key_of k es)
-      by true is true p rest = ap (λ c. cond c (Some e) (item_at key_of k (filter q es))) is
-      by true is false p rest = absurd (true≢false (sym (passes e is) ∙ p))
-      by false is true p rest = ap (λ c. cond c (Some e) (item_at key_of k (filter q es))) is ∙ rest
-      by false is false p rest = rest
-
   -- ---- more items
 
   below_append : (k : Key) (xs ys : List E) → IsTrue (below_all key_cmp k (keyed key_of xs)) → IsTrue (below_all key_cmp k (keyed key_of ys)) → IsTrue (below_all key_cmp k (keyed key_of (xs ++ ys)))

@@ -10,15 +10,12 @@ use Rattle.std.specs.declared.cmp.Ordering.TheVariants.{Less, Equal, Greater}
 use Rattle.std.specs.Cmp.{IsTotalOrder}
 use Rattle.std.specs.Cmp.Lexicographic.{bytes_decides}
 use Rattle.std.specs.FinMap.{find, put, is_sorted, IsAntisymmetric}
-use Rattle.std.specs.FinMap.Entries.{by_order, where_key, is_sorted-put, is_sorted-where_key, length-put}
+use Rattle.std.specs.FinMap.Entries.{by_order, where_key, is_sorted-where_key, length-put}
 use Rattle.kd_base.specs.ToolsLaws.{both_true, true_both, some_is}
-use Rattle.kdcs_types.specs.KeyedLaws.{holds, is_true}
+use Rattle.kd_base.specs.OrderLaws.{holds, is_true}
 
 pub not_true : (b : Bool) → b ≡ true → b ≡ false → ⊥
 not_true b h k = true≢false (sym h ∙ k)
-
-pub bytes_same_eq : (a b : List ℕ) → bytes_eq a b ≡ true → a ≡ b
-bytes_same_eq a b h = (bytes_decides a b).0 h
 
 pub bytes_eq_itself : (a : List ℕ) → bytes_eq a a ≡ true
 bytes_eq_itself a = (bytes_decides a a).1 refl
@@ -140,9 +137,6 @@ module _ {K V : Type 0} (R : K → K → Ordering) where
       by Less is one rest more = true_both (p (k, v)) (list_all p (e ∷ es)) h all
       by Equal is one rest more = true_both (p (e.0, v)) (list_all p es) (subst (λ j. IsTrue (p (j, v))) (same k e.0 is) h) rest
       by Greater is one rest more = true_both (p e) (list_all p (put R k v es)) one more
-
-  pub sorted_put : IsTotalOrder R → (k : K) (v : V) (es : List (K × V)) → IsTrue (is_sorted R es) → IsTrue (is_sorted R (put R k v es))
-  sorted_put total k v es h = is_true (is_sorted R (put R k v es)) (is_sorted-put R total k v es (holds (is_sorted R es) h))
 
   pub sorted_where : (p : K → Bool) (es : List (K × V)) → IsTrue (is_sorted R es) → IsTrue (is_sorted R (where_key R p es))
   sorted_where p es h = is_true (is_sorted R (where_key R p es)) (is_sorted-where_key R p es (holds (is_sorted R es) h))

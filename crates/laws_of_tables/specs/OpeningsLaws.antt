@@ -26,9 +26,9 @@ use Rattle.abstract_monitor.specs.Endings.{is_asynchronous, header_of, kb_of, ls
 use Rattle.laws_of_steps.specs.Suits.{fits_content, fits_message, has_kind, has_kind_by, is_user, is_lterm, owner_suits, service_suits, value_suits, target_suits, target_name, job_suits, last_due}
 use Rattle.laws_of_steps.specs.Transactions.{IsMessage, IsOwner, CanGoOn}
 use Rattle.laws_of_tables.specs.OpenLaws.{FurtherRunsGoOn, OpeningsGoOn}
-use Rattle.laws_of_tables.specs.ListsLaws.{bytes_same_eq}
 use Rattle.laws_of_tables.specs.RowPartsLaws.{RowSuits, row_parts}
-use Rattle.laws_of_tables.specs.StatedLaws.{puts_none, next_run-can, followed-can}
+use Rattle.laws_of_tables.specs.StatedLaws.{puts_none, next_run_can, followed_can}
+use Rattle.std.proofs.lemmas.Slice.Eq.{bytes_eq-Decides}
 
 -- one part
 pub one_message : (g : Generated) (input : Bytes) → IsTrue (fits_message g input) → IsMessage g (input ∷ [])
@@ -52,9 +52,9 @@ record OpensWith (g : Generated) (id : ServiceId) (began : Option Service) (h : 
   lssbs_count : length (lssbs_of began) ≤ g.limits.lssbs
   lssbs : IsTrue (list_all (λ (l : Bytes × Bytes). fits_content l.1) (lssbs_of began))
 
-opened-can : (g : Generated) (id : ServiceId) (began : Option Service) (h : Header) (unread inputs : List Bytes) → OpensWith g id began h unread → CanGoOn g id (opened g began h unread inputs)
+opened_can : (g : Generated) (id : ServiceId) (began : Option Service) (h : Header) (unread inputs : List Bytes) → OpensWith g id began h unread → CanGoOn g id (opened g began h unread inputs)
 unfolding opened
-opened-can g id began h unread inputs w = record {
+opened_can g id began h unread inputs w = record {
   owner = w.owner;
   user = w.user;
   lterm = w.lterm;
@@ -79,19 +79,19 @@ opened-can g id began h unread inputs w = record {
   drafts = refl;
 }
 
-pub starts-can : (g : Generated) (user lterm tac input : Bytes) → IsTrue (is_user g user) → IsTrue (is_lterm g lterm) → IsTrue (has_kind g tac false) → IsTrue (fits_message g input)
+pub starts_can : (g : Generated) (user lterm tac input : Bytes) → IsTrue (is_user g user) → IsTrue (is_lterm g lterm) → IsTrue (has_kind g tac false) → IsTrue (fits_message g input)
     → CanGoOn g (Dialogue user) (opened_by_start g user lterm tac input)
-starts-can g user lterm tac input u l kind fits =
-    opened-can g (Dialogue user) None (header_of user lterm tac tac) (input ∷ []) (input ∷ [])
+starts_can g user lterm tac input u l kind fits =
+    opened_can g (Dialogue user) None (header_of user lterm tac tac) (input ∷ []) (input ∷ [])
     (record { owner = refl; user = u; lterm = l; first = kind; current = kind; kb = length-replicate g.limits.kb 32; message = one_message g input fits; lssbs_order = refl; lssbs_count = omega arith; lssbs = refl })
 
 row_owner : (g : Generated) (id : ServiceId) (row : Service) → IsTrue (owner_suits id row) → IsTrue (is_user g row.user) → IsOwner id (user_in_row id row) × IsTrue (is_user g (user_in_row id row))
-row_owner g (Dialogue user) row owner is = (refl, subst (λ (u : Bytes). IsTrue (is_user g u)) (sym (bytes_same_eq user row.user owner)) is)
+row_owner g (Dialogue user) row owner is = (refl, subst (λ (u : Bytes). IsTrue (is_user g u)) (sym ((bytes_eq-Decides user row.user).0 owner)) is)
 row_owner g (Asynchronous number) row owner is = (tt, is)
 
-row-opens : (g : Generated) (row : Service) (lterm : Bytes) (unread : List Bytes) → RowSuits g row → IsTrue (is_lterm g lterm) → IsMessage g unread
+row_opens : (g : Generated) (row : Service) (lterm : Bytes) (unread : List Bytes) → RowSuits g row → IsTrue (is_lterm g lterm) → IsMessage g unread
     → OpensWith g row.id (Some row) (header_of (user_in_row row.id row) lterm row.first row.next) unread
-row-opens g row lterm unread r l message =
+row_opens g row lterm unread r l message =
     let who = row_owner g row.id row r.owner r.user in
     record {
       owner = who.0;
@@ -106,34 +106,34 @@ row-opens g row lterm unread r l message =
       lssbs = r.lssbs;
     }
 
-pub inputs-can : (g : Generated) (user : Bytes) (row : Service) (lterm input : Bytes) → IsTrue (service_suits g row) → row.id ≡ Dialogue user → IsTrue (is_lterm g lterm) → IsTrue (fits_message g input)
+pub inputs_can : (g : Generated) (user : Bytes) (row : Service) (lterm input : Bytes) → IsTrue (service_suits g row) → row.id ≡ Dialogue user → IsTrue (is_lterm g lterm) → IsTrue (fits_message g input)
     → CanGoOn g (Dialogue user) (opened_by_input g (Dialogue user) row lterm input)
-inputs-can g user row lterm input suits same l fits =
+inputs_can g user row lterm input suits same l fits =
     subst (λ (i : ServiceId). CanGoOn g i (opened_by_input g i row lterm input)) same
-    (opened-can g row.id (Some row) (header_of (user_in_row row.id row) lterm row.first row.next) (input ∷ []) (input ∷ []) (row-opens g row lterm (input ∷ []) (row_parts g row suits) l (one_message g input fits)))
+    (opened_can g row.id (Some row) (header_of (user_in_row row.id row) lterm row.first row.next) (input ∷ []) (input ∷ []) (row_opens g row lterm (input ∷ []) (row_parts g row suits) l (one_message g input fits)))
 
-pub rows-can : (g : Generated) (id : ServiceId) (row : Service) (lterm : Bytes) → IsTrue (service_suits g row) → row.id ≡ id → IsTrue (is_lterm g lterm) → CanGoOn g id (opened_by_row g id row lterm)
-rows-can g id row lterm suits same l =
+pub rows_can : (g : Generated) (id : ServiceId) (row : Service) (lterm : Bytes) → IsTrue (service_suits g row) → row.id ≡ id → IsTrue (is_lterm g lterm) → CanGoOn g id (opened_by_row g id row lterm)
+rows_can g id row lterm suits same l =
     let r = row_parts g row suits in
     let message : IsMessage g row.handed = record { count = leb-true (length row.handed) 16 r.handed_count; bytes = leb-true (sum_by length row.handed) g.limits.nb r.handed } in
     subst (λ (i : ServiceId). CanGoOn g i (opened_by_row g i row lterm)) same
-    (opened-can g row.id (Some row) (header_of (user_in_row row.id row) lterm row.first row.next) row.handed [] (row-opens g row lterm row.handed r l message))
+    (opened_can g row.id (Some row) (header_of (user_in_row row.id row) lterm row.first row.next) row.handed [] (row_opens g row lterm row.handed r l message))
 
 -- ---- jobs
 
 -- a target that a job may have and that is a TAC is an asynchronous one
-target_by-kind : (g : Generated) (tac : Bytes) (l : Option LtermEntry) (t : Option TacEntry) → IsTrue (target_suits g (Tac tac) (target_by tac l t)) → IsTrue (has_kind_by t true)
-target_by-kind g tac (Some l) t h = absurd (true≢false (sym h))
-target_by-kind g tac None None h = absurd (true≢false (sym h))
-target_by-kind g tac None (Some t) h = by (t.asynchronous && goes_first t.call && t.on) refl h
+target_by_kind : (g : Generated) (tac : Bytes) (l : Option LtermEntry) (t : Option TacEntry) → IsTrue (target_suits g (Tac tac) (target_by tac l t)) → IsTrue (has_kind_by t true)
+target_by_kind g tac (Some l) t h = absurd (true≢false (sym h))
+target_by_kind g tac None None h = absurd (true≢false (sym h))
+target_by_kind g tac None (Some t) h = by (t.asynchronous && goes_first t.call && t.on) refl h
   where
     by : (b : Bool) → (t.asynchronous && goes_first t.call && t.on) ≡ b → IsTrue (target_suits g (Tac tac) (cond b (Some (Tac tac)) None)) → IsTrue t.asynchronous
     by true e k = (both_true t.asynchronous (goes_first t.call) (both_true (t.asynchronous && goes_first t.call) t.on e).0).0
     by false e k = absurd (true≢false (sym k))
 
-pub tac-kind : (g : Generated) (tac : Bytes) → IsTrue (target_suits g (Tac tac) (job_target g tac)) → IsTrue (has_kind g tac true)
+pub tac_kind : (g : Generated) (tac : Bytes) → IsTrue (target_suits g (Tac tac) (job_target g tac)) → IsTrue (has_kind g tac true)
 unfolding job_target
-tac-kind g tac h = target_by-kind g tac (lterm_of g tac) (tac_of g tac) h
+tac_kind g tac h = target_by_kind g tac (lterm_of g tac) (tac_of g tac) h
 
 -- a job that suits, part by part
 pub record JobSuits (g : Generated) (j : Job) : Type 0 where
@@ -158,19 +158,19 @@ job_whole g j s =
     let a : IsTrue (value_suits g j.value && fits_message g j.value.message) = true_both (value_suits g j.value) (fits_message g j.value.message) b s.message in
     true_both (value_suits g j.value && fits_message g j.value.message) (target_suits g j.value.to (job_target g (target_name j.value.to))) a s.target
 
-pub jobs-can : (g : Generated) (job : Job) (tac : Bytes) → IsTrue (job_suits g job) → job.value.to ≡ Tac tac → CanGoOn g (Asynchronous job.number) (opened_by_job g job.value tac)
-jobs-can g job tac suits to =
+pub jobs_can : (g : Generated) (job : Job) (tac : Bytes) → IsTrue (job_suits g job) → job.value.to ≡ Tac tac → CanGoOn g (Asynchronous job.number) (opened_by_job g job.value tac)
+jobs_can g job tac suits to =
     let s = job_parts g job suits in
-    let kind = tac-kind g tac (subst (λ (t : Target). IsTrue (target_suits g t (job_target g (target_name t)))) to s.target) in
-    opened-can g (Asynchronous job.number) None (header_of job.value.user job.value.lterm tac tac) (job.value.message ∷ []) []
+    let kind = tac_kind g tac (subst (λ (t : Target). IsTrue (target_suits g t (job_target g (target_name t)))) to s.target) in
+    opened_can g (Asynchronous job.number) None (header_of job.value.user job.value.lterm tac tac) (job.value.message ∷ []) []
     (record { owner = tt; user = s.user; lterm = s.lterm; first = kind; current = kind; kb = length-replicate g.limits.kb 32; message = one_message g job.value.message s.message; lssbs_order = refl; lssbs_count = omega arith; lssbs = refl })
 
 pub openings_go_on : OpeningsGoOn
-openings_go_on = record { starts = starts-can; inputs = inputs-can; rows = rows-can; jobs = jobs-can }
+openings_go_on = record { starts = starts_can; inputs = inputs_can; rows = rows_can; jobs = jobs_can }
 
 pub further_by_input : (g : Generated) (id : ServiceId) (x : OpenTransaction) (tac input : Bytes) → IsTrue (has_kind g tac (is_asynchronous id)) → IsTrue (fits_message g input) → CanGoOn g id x → CanGoOn g id (followed_by_input g x tac input)
 unfolding followed_by_input
-further_by_input g id x tac input kind fits can = next_run-can g id x tac (input ∷ []) (input ∷ []) kind (one_message g input fits) can
+further_by_input g id x tac input kind fits can = next_run_can g id x tac (input ∷ []) (input ∷ []) kind (one_message g input fits) can
 
 pub further_runs_go_on : FurtherRunsGoOn
-further_runs_go_on = record { followed = followed-can; by_input = further_by_input }
+further_runs_go_on = record { followed = followed_can; by_input = further_by_input }

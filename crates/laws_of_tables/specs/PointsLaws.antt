@@ -19,21 +19,21 @@ use Rattle.kdcs_types.specs.declared.service.Job.{Job}
 use Rattle.kdcs_types.specs.declared.service.Service.{Service}
 use Rattle.kdcs_types.specs.Keys.{key_eq}
 use Rattle.kdcs_types.specs.Keyed.{ascends, item_at, with_item, without_item}
-use Rattle.kdcs_types.specs.KeyLaws.{key_eq-same, key_eq-itself}
-use Rattle.kdcs_types.specs.KeyedLaws.{item_at-with, ascends-with, ascends-without, all-with, all-without, found_key, found_passes}
+use Rattle.kdcs_types.specs.KeyLaws.{key_eq_same, key_eq_itself, id_eq_itself}
+use Rattle.kdcs_types.specs.KeyedLaws.{item_at_with, ascends_with, ascends_without, all_with, all_without, found_key, found_passes}
 use Rattle.kd_base.specs.Limits.{last_clock, last_next_job}
-use Rattle.kdcs_types.specs.Tables.{TableRows, gssb_key, tls_key, uls_key, service_key, job_key, is_filled, service_fits, lterm_fits, service_of, with_change}
+use Rattle.kdcs_types.specs.Tables.{TableRows, gssb_key, tls_key, uls_key, service_key, job_key, is_filled, service_fits, lterm_fits, service_of, with_change, change_fits}
 use Rattle.kdcdef_types.specs.Generation.{Generated}
 use Rattle.abstract_monitor.specs.declared.draft.Due.{Due}
 use Rattle.abstract_monitor.specs.declared.draft.Due.TheVariants.{After, At}
 use Rattle.abstract_monitor.specs.declared.draft.Draft.{Draft}
 use Rattle.abstract_monitor.specs.declared.outcome.Outcome.{Outcome}
 use Rattle.abstract_monitor.specs.declared.outcome.Outcome.TheVariants.{Wait, Point, Finish, Follow}
-use Rattle.abstract_monitor.specs.Bytes.{Bytes}
+use Rattle.abstract_monitor.specs.Bytes.{Bytes, bytes_cmp}
 use Rattle.abstract_monitor.specs.Calls.{job_target}
 use Rattle.abstract_monitor.specs.Charges.{total_charge}
 use Rattle.abstract_monitor.specs.State.{OpenTransaction}
-use Rattle.abstract_monitor.specs.Endings.{is_asynchronous, joined, spaces, area_change, with_areas, with_service, without_own_job, due_at, numbered, with_drafts, last_of, lterm_in_row, point_row, new_row, row_after, synchronised, durable, refusal}
+use Rattle.abstract_monitor.specs.Endings.{is_asynchronous, joined, spaces, area_change, with_areas, with_service, without_own_job, due_at, numbered, with_drafts, last_of, lterm_in_row, point_row, new_row, row_after, synchronised, durable, refusal, service_change}
 use Rattle.laws_of_steps.specs.JobLaw.{jobs_left}
 use Rattle.laws_of_steps.specs.Suits.{fits_message, gssb_suits, tls_suits, uls_suits, is_user, is_lterm, is_empty, last_fits, lterm_suits, owner_suits, service_suits, last_due, target_suits, target_name, job_suits, number_is_below}
 use Rattle.laws_of_steps.specs.Transactions.{HasOwnJob, IsRooted, written_fits, last_moment, due_fits, draft_fits, IsOwner, CanGoOn}
@@ -44,27 +44,28 @@ use Rattle.laws_of_tables.specs.ListsLaws.{bytes_eq_itself, all_imply, all_both,
 use Rattle.laws_of_tables.specs.OpeningsLaws.{job_whole}
 use Rattle.laws_of_tables.specs.RowPartsLaws.{RowSuits, row_parts, row_suits}
 use Rattle.laws_of_tables.specs.RowsLaws.{BlockRows, ServiceRows, JobRows, has_no_service, NumbersFit, GoodRows, IsWithinLimits, with_gssbs, with_tlss, with_ulss, some_jobs, some_services, sound, good}
+use Rattle.std.specs.FinMap.{is_sorted}
 
 -- ---- areas
 
 module _ (key_of : Bytes × Bytes × Bytes → Key) (suits : Bytes × Bytes × Bytes → Bool) where
   block_gone : (k : Key) (l : List (Bytes × Bytes × Bytes)) → BlockRows key_of suits l → BlockRows key_of suits (without_item key_of k l)
-  block_gone k l r = (ascends-without key_of k l r.0, all-without key_of (λ (e : Bytes × Bytes × Bytes). is_filled e.2) k l r.1, all-without key_of suits k l r.2)
+  block_gone k l r = (ascends_without key_of k l r.0, all_without key_of (λ (e : Bytes × Bytes × Bytes). is_filled e.2) k l r.1, all_without key_of suits k l r.2)
 
   block_set : (e : Bytes × Bytes × Bytes) (l : List (Bytes × Bytes × Bytes)) → IsTrue (is_filled e.2) → IsTrue (suits e) → BlockRows key_of suits l → BlockRows key_of suits (with_item key_of e l)
-  block_set e l filled fit r = (ascends-with key_of e l r.0, all-with key_of (λ (b : Bytes × Bytes × Bytes). is_filled b.2) e l filled r.1, all-with key_of suits e l fit r.2)
+  block_set e l filled fit r = (ascends_with key_of e l r.0, all_with key_of (λ (b : Bytes × Bytes × Bytes). is_filled b.2) e l filled r.1, all_with key_of suits e l fit r.2)
 
-area-good : (g : Generated) (t : TableRows) (area : Area) (o : Option Bytes) → IsTrue (written_fits g (area, o)) → GoodRows g t → GoodRows g (with_change t (area_change area o))
-area-good g t (Gssb name) None h r =
-    with_gssbs g t r (without_item gssb_key (GssbKey name) t.gssbs) (ascends-without gssb_key (GssbKey name) t.gssbs r.gssbs.0, all-without gssb_key gssb_suits (GssbKey name) t.gssbs r.gssbs.1)
-area-good g t (Gssb name) (Some bytes) h r =
-    with_gssbs g t r (with_item gssb_key (name, bytes) t.gssbs) (ascends-with gssb_key (name, bytes) t.gssbs r.gssbs.0, all-with gssb_key gssb_suits (name, bytes) t.gssbs h r.gssbs.1)
-area-good g t (Tls block lterm) None h r = with_tlss g t r _ (block_gone tls_key (tls_suits g) (TlsKey block lterm) t.tlss r.tlss)
-area-good g t (Tls block lterm) (Some []) h r = with_tlss g t r _ (block_gone tls_key (tls_suits g) (TlsKey block lterm) t.tlss r.tlss)
-area-good g t (Tls block lterm) (Some (c ∷ cs)) h r = with_tlss g t r _ (block_set tls_key (tls_suits g) (block, lterm, c ∷ cs) t.tlss refl h r.tlss)
-area-good g t (Uls block user) None h r = with_ulss g t r _ (block_gone uls_key (uls_suits g) (UlsKey block user) t.ulss r.ulss)
-area-good g t (Uls block user) (Some []) h r = with_ulss g t r _ (block_gone uls_key (uls_suits g) (UlsKey block user) t.ulss r.ulss)
-area-good g t (Uls block user) (Some (c ∷ cs)) h r = with_ulss g t r _ (block_set uls_key (uls_suits g) (block, user, c ∷ cs) t.ulss refl h r.ulss)
+area_good : (g : Generated) (t : TableRows) (area : Area) (o : Option Bytes) → IsTrue (written_fits g (area, o)) → GoodRows g t → GoodRows g (with_change t (area_change area o))
+area_good g t (Gssb name) None h r =
+    with_gssbs g t r (without_item gssb_key (GssbKey name) t.gssbs) (ascends_without gssb_key (GssbKey name) t.gssbs r.gssbs.0, all_without gssb_key gssb_suits (GssbKey name) t.gssbs r.gssbs.1)
+area_good g t (Gssb name) (Some bytes) h r =
+    with_gssbs g t r (with_item gssb_key (name, bytes) t.gssbs) (ascends_with gssb_key (name, bytes) t.gssbs r.gssbs.0, all_with gssb_key gssb_suits (name, bytes) t.gssbs h r.gssbs.1)
+area_good g t (Tls block lterm) None h r = with_tlss g t r _ (block_gone tls_key (tls_suits g) (TlsKey block lterm) t.tlss r.tlss)
+area_good g t (Tls block lterm) (Some []) h r = with_tlss g t r _ (block_gone tls_key (tls_suits g) (TlsKey block lterm) t.tlss r.tlss)
+area_good g t (Tls block lterm) (Some (c ∷ cs)) h r = with_tlss g t r _ (block_set tls_key (tls_suits g) (block, lterm, c ∷ cs) t.tlss refl h r.tlss)
+area_good g t (Uls block user) None h r = with_ulss g t r _ (block_gone uls_key (uls_suits g) (UlsKey block user) t.ulss r.ulss)
+area_good g t (Uls block user) (Some []) h r = with_ulss g t r _ (block_gone uls_key (uls_suits g) (UlsKey block user) t.ulss r.ulss)
+area_good g t (Uls block user) (Some (c ∷ cs)) h r = with_ulss g t r _ (block_set uls_key (uls_suits g) (block, user, c ∷ cs) t.ulss refl h r.ulss)
 
 -- ---- the own service
 
@@ -78,22 +79,22 @@ record OwnRows (g : Generated) (t : TableRows) (id : ServiceId) (began : Option 
   below : IsTrue (number_is_below t.next_job id)
   left : IsTrue (list_all (not_own id) (jobs_left id began t.jobs))
 
-area-own : (g : Generated) (t : TableRows) (id : ServiceId) (began : Option Service) (area : Area) (o : Option Bytes) → IsTrue (written_fits g (area, o)) → OwnRows g t id began → OwnRows g (with_change t (area_change area o)) id began
-area-own g t id began (Gssb name) None h r = record { rows = area-good g t (Gssb name) None h r.rows; below = r.below; left = r.left }
-area-own g t id began (Gssb name) (Some bytes) h r = record { rows = area-good g t (Gssb name) (Some bytes) h r.rows; below = r.below; left = r.left }
-area-own g t id began (Tls block lterm) None h r = record { rows = area-good g t (Tls block lterm) None h r.rows; below = r.below; left = r.left }
-area-own g t id began (Tls block lterm) (Some []) h r = record { rows = area-good g t (Tls block lterm) (Some []) h r.rows; below = r.below; left = r.left }
-area-own g t id began (Tls block lterm) (Some (c ∷ cs)) h r = record { rows = area-good g t (Tls block lterm) (Some (c ∷ cs)) h r.rows; below = r.below; left = r.left }
-area-own g t id began (Uls block user) None h r = record { rows = area-good g t (Uls block user) None h r.rows; below = r.below; left = r.left }
-area-own g t id began (Uls block user) (Some []) h r = record { rows = area-good g t (Uls block user) (Some []) h r.rows; below = r.below; left = r.left }
-area-own g t id began (Uls block user) (Some (c ∷ cs)) h r = record { rows = area-good g t (Uls block user) (Some (c ∷ cs)) h r.rows; below = r.below; left = r.left }
+area_own : (g : Generated) (t : TableRows) (id : ServiceId) (began : Option Service) (area : Area) (o : Option Bytes) → IsTrue (written_fits g (area, o)) → OwnRows g t id began → OwnRows g (with_change t (area_change area o)) id began
+area_own g t id began (Gssb name) None h r = record { rows = area_good g t (Gssb name) None h r.rows; below = r.below; left = r.left }
+area_own g t id began (Gssb name) (Some bytes) h r = record { rows = area_good g t (Gssb name) (Some bytes) h r.rows; below = r.below; left = r.left }
+area_own g t id began (Tls block lterm) None h r = record { rows = area_good g t (Tls block lterm) None h r.rows; below = r.below; left = r.left }
+area_own g t id began (Tls block lterm) (Some []) h r = record { rows = area_good g t (Tls block lterm) (Some []) h r.rows; below = r.below; left = r.left }
+area_own g t id began (Tls block lterm) (Some (c ∷ cs)) h r = record { rows = area_good g t (Tls block lterm) (Some (c ∷ cs)) h r.rows; below = r.below; left = r.left }
+area_own g t id began (Uls block user) None h r = record { rows = area_good g t (Uls block user) None h r.rows; below = r.below; left = r.left }
+area_own g t id began (Uls block user) (Some []) h r = record { rows = area_good g t (Uls block user) (Some []) h r.rows; below = r.below; left = r.left }
+area_own g t id began (Uls block user) (Some (c ∷ cs)) h r = record { rows = area_good g t (Uls block user) (Some (c ∷ cs)) h r.rows; below = r.below; left = r.left }
 
-areas-own : (g : Generated) (id : ServiceId) (began : Option Service) (ws : List (Area × Option Bytes)) (t : TableRows) → IsTrue (list_all (written_fits g) ws) → OwnRows g t id began → OwnRows g (with_areas t ws) id began
+areas_own : (g : Generated) (id : ServiceId) (began : Option Service) (ws : List (Area × Option Bytes)) (t : TableRows) → IsTrue (list_all (written_fits g) ws) → OwnRows g t id began → OwnRows g (with_areas t ws) id began
 unfolding with_areas
-areas-own g id began [] t h r = r
-areas-own g id began (w ∷ ws) t h r =
+areas_own g id began [] t h r = r
+areas_own g id began (w ∷ ws) t h r =
     let parts = both_true (written_fits g w) (list_all (written_fits g) ws) h in
-    areas-own g id began ws (with_change t (area_change w.0 w.1)) parts.1 (area-own g t id began w.0 w.1 parts.0 r)
+    areas_own g id began ws (with_change t (area_change w.0 w.1)) parts.1 (area_own g t id began w.0 w.1 parts.0 r)
 
 -- the own job is gone
 record NoOwnJob (g : Generated) (t : TableRows) (id : ServiceId) : Type 0 where
@@ -101,20 +102,20 @@ record NoOwnJob (g : Generated) (t : TableRows) (id : ServiceId) : Type 0 where
   below : IsTrue (number_is_below t.next_job id)
   left : IsTrue (list_all (not_own id) t.jobs)
 
-own_job-gone : (g : Generated) (t : TableRows) (id : ServiceId) (began : Option Service) → OwnRows g t id began → NoOwnJob g (without_own_job t id began) id
-own_job-gone g t (Dialogue user) began r = record { rows = r.rows; below = r.below; left = r.left }
-own_job-gone g t (Asynchronous number) (Some row) r = record { rows = r.rows; below = r.below; left = r.left }
-own_job-gone g t (Asynchronous number) None r =
+own_job_gone : (g : Generated) (t : TableRows) (id : ServiceId) (began : Option Service) → OwnRows g t id began → NoOwnJob g (without_own_job t id began) id
+own_job_gone g t (Dialogue user) began r = record { rows = r.rows; below = r.below; left = r.left }
+own_job_gone g t (Asynchronous number) (Some row) r = record { rows = r.rows; below = r.below; left = r.left }
+own_job_gone g t (Asynchronous number) None r =
     record { rows = some_jobs g t r.rows (λ (j : Job). not (key_eq (JobKey number) (job_key j))); below = r.below; left = r.left }
 
 -- a transaction that is rooted
-rooted-own : (g : Generated) (t : TableRows) (id : ServiceId) (began : Option Service) → GoodRows g t → service_of t id ≡ began → HasOwnJob t id began → OwnRows g t id began
-rooted-own g t (Dialogue user) began r e job = record { rows = r; below = refl; left = all_true t.jobs }
+rooted_own : (g : Generated) (t : TableRows) (id : ServiceId) (began : Option Service) → GoodRows g t → service_of t id ≡ began → HasOwnJob t id began → OwnRows g t id began
+rooted_own g t (Dialogue user) began r e job = record { rows = r; below = refl; left = all_true t.jobs }
   where
     all_true : (js : List Job) → IsTrue (list_all (not_own (Dialogue user)) js)
     all_true [] = refl
     all_true (j ∷ js) = true_both (not_own (Dialogue user) j) (list_all (not_own (Dialogue user)) js) refl (all_true js)
-rooted-own g t (Asynchronous number) (Some row) r e job = record {
+rooted_own g t (Asynchronous number) (Some row) r e job = record {
   rows = r;
   below = subst (λ (i : ServiceId). IsTrue (number_is_below t.next_job i)) (own_id row (found_key service_key (ServiceKey (Asynchronous number)) t.services row e)) (found_passes service_key (λ (s : Service). number_is_below t.next_job s.id) (ServiceKey (Asynchronous number)) t.services row r.numbers.1 e);
   left = all_imply (has_no_service t.services) (not_own (Asynchronous number)) apart t.jobs r.numbers.2;
@@ -129,9 +130,9 @@ rooted-own g t (Asynchronous number) (Some row) r e job = record {
         by : (b : Bool) → key_eq (ServiceKey (Asynchronous j.number)) (ServiceKey (Asynchronous number)) ≡ b → IsTrue (not b)
         by false is = refl
         by true is =
-            let same : ServiceKey (Asynchronous j.number) ≡ ServiceKey (Asynchronous number) = key_eq-same (ServiceKey (Asynchronous j.number)) (ServiceKey (Asynchronous number)) is in
+            let same : ServiceKey (Asynchronous j.number) ≡ ServiceKey (Asynchronous number) = key_eq_same (ServiceKey (Asynchronous j.number)) (ServiceKey (Asynchronous number)) is in
             absurd (true≢false (sym (sym (ap (λ (k : Key). not (is_some (item_at service_key k t.services))) same) ∙ none) ∙ ap (λ (o : Option Service). not (is_some o)) e))
-rooted-own g t (Asynchronous number) None r e job =
+rooted_own g t (Asynchronous number) None r e job =
     let found = number_found (item_at job_key (JobKey number) t.jobs) refl job in
     record {
       rows = r;
@@ -155,8 +156,8 @@ rooted-own g t (Asynchronous number) None r e job =
         by : (b : Bool) → key_eq (ServiceKey (Asynchronous j.number)) (ServiceKey (Asynchronous number)) ≡ b → IsTrue (not b)
         by false is = refl
         by true is =
-            let same : number ≡ j.number = same_number j (key_eq-same (ServiceKey (Asynchronous j.number)) (ServiceKey (Asynchronous number)) is) in
-            absurd (true≢false (sym (subst (λ n. IsTrue (not (key_eq (JobKey number) (JobKey n)))) (sym same) apart) ∙ ap not (key_eq-itself (JobKey number))))
+            let same : number ≡ j.number = same_number j (key_eq_same (ServiceKey (Asynchronous j.number)) (ServiceKey (Asynchronous number)) is) in
+            absurd (true≢false (sym (subst (λ n. IsTrue (not (key_eq (JobKey number) (JobKey n)))) (sym same) apart) ∙ ap not (key_eq_itself (JobKey number))))
 
 -- ---- new jobs
 
@@ -167,29 +168,29 @@ record AreNew (g : Generated) (from to : ℕ) (js : List Job) : Type 0 where
   high : IsTrue (list_all (λ (j : Job). nat_lt j.number to) js)
   up : IsTrue (ascends job_key js)
 
-due-le : (d : Due) (clock : ℕ) → clock ≤ last_clock → IsTrue (due_fits d) → due_at d clock ≤ last_due
-due-le (After ticks) clock h fits = omega (arith, h, leb-true ticks last_moment fits)
-due-le (At ticks) clock h fits = omega (arith, h, leb-true ticks last_moment fits)
+due_le : (d : Due) (clock : ℕ) → clock ≤ last_clock → IsTrue (due_fits d) → due_at d clock ≤ last_due
+due_le (After ticks) clock h fits = omega (arith, h, leb-true ticks last_moment fits)
+due_le (At ticks) clock h fits = omega (arith, h, leb-true ticks last_moment fits)
 
-draft-job : (g : Generated) (d : Draft) (number clock : ℕ) (user lterm : Bytes) → clock ≤ last_clock → IsTrue (is_user g user) → IsTrue (is_lterm g lterm) → IsTrue (draft_fits g d)
+draft_job : (g : Generated) (d : Draft) (number clock : ℕ) (user lterm : Bytes) → clock ≤ last_clock → IsTrue (is_user g user) → IsTrue (is_lterm g lterm) → IsTrue (draft_fits g d)
     → IsTrue (job_suits g (record { number = number; value = record { to = d.to; due = due_at d.due clock; user = user; lterm = lterm; message = d.message } }))
-draft-job g d number clock user lterm h u l fits =
+draft_job g d number clock user lterm h u l fits =
     let a = both_true (target_suits g d.to (job_target g (target_name d.to)) && fits_message g d.message) (due_fits d.due) fits in
     let b = both_true (target_suits g d.to (job_target g (target_name d.to))) (fits_message g d.message) a.0 in
     job_whole g (record { number = number; value = record { to = d.to; due = due_at d.due clock; user = user; lterm = lterm; message = d.message } })
-    (record { due = le-leb (due_at d.due clock) last_due (due-le d.due clock h a.1); user = u; lterm = l; message = b.1; target = b.0 })
+    (record { due = le-leb (due_at d.due clock) last_due (due_le d.due clock h a.1); user = u; lterm = l; message = b.1; target = b.0 })
 
-numbered-new : (g : Generated) (clock : ℕ) (user lterm : Bytes) → clock ≤ last_clock → IsTrue (is_user g user) → IsTrue (is_lterm g lterm) → (ds : List Draft) (next : ℕ) → IsTrue (list_all (draft_fits g) ds)
+numbered_new : (g : Generated) (clock : ℕ) (user lterm : Bytes) → clock ≤ last_clock → IsTrue (is_user g user) → IsTrue (is_lterm g lterm) → (ds : List Draft) (next : ℕ) → IsTrue (list_all (draft_fits g) ds)
     → AreNew g next (next + length ds) (numbered next clock user lterm ds)
 unfolding numbered
-numbered-new g clock user lterm h u l [] next fits = record { suit = refl; low = refl; high = refl; up = refl }
-numbered-new g clock user lterm h u l (d ∷ ds) next fits =
+numbered_new g clock user lterm h u l [] next fits = record { suit = refl; low = refl; high = refl; up = refl }
+numbered_new g clock user lterm h u l (d ∷ ds) next fits =
     let parts = both_true (draft_fits g d) (list_all (draft_fits g) ds) fits in
-    let rest = numbered-new g clock user lterm h u l ds (next + 1) parts.1 in
+    let rest = numbered_new g clock user lterm h u l ds (next + 1) parts.1 in
     let js = numbered (next + 1) clock user lterm ds in
     let job : Job = record { number = next; value = record { to = d.to; due = due_at d.due clock; user = user; lterm = lterm; message = d.message } } in
     record {
-      suit = true_both (job_suits g job) (list_all (job_suits g) js) (draft-job g d next clock user lterm h u l parts.0) rest.suit;
+      suit = true_both (job_suits g job) (list_all (job_suits g) js) (draft_job g d next clock user lterm h u l parts.0) rest.suit;
       low = true_both (nat_le next next) (list_all (λ (j : Job). nat_le next j.number) js) (le-leb next next (omega arith))
           (all_imply (λ (j : Job). nat_le (next + 1) j.number) (λ (j : Job). nat_le next j.number) (λ j le. le-leb next j.number (omega (arith, leb-true (next + 1) j.number le))) js rest.low);
       high = true_both (nat_lt next (next + suc (length ds))) (list_all (λ (j : Job). nat_lt j.number (next + suc (length ds))) js) (lt-ltb next (next + suc (length ds)) (omega arith))
@@ -202,8 +203,8 @@ below_more n m (Dialogue user) le h = refl
 below_more n m (Asynchronous number) le h = lt-ltb number m (omega (arith, le, ltb-true number n h))
 
 -- a number from the next one on is no service's
-high-apart : (next number : ℕ) (id : ServiceId) → IsTrue (number_is_below next id) → IsTrue (nat_le next number) → IsTrue (not (key_eq (ServiceKey (Asynchronous number)) (ServiceKey id)))
-high-apart next number id below high = by (key_eq (ServiceKey (Asynchronous number)) (ServiceKey id)) refl
+high_apart : (next number : ℕ) (id : ServiceId) → IsTrue (number_is_below next id) → IsTrue (nat_le next number) → IsTrue (not (key_eq (ServiceKey (Asynchronous number)) (ServiceKey id)))
+high_apart next number id below high = by (key_eq (ServiceKey (Asynchronous number)) (ServiceKey id)) refl
   where
     ids : (i : ServiceId) → ServiceKey (Asynchronous number) ≡ ServiceKey i → Asynchronous number ≡ i
     ids i same = cc
@@ -211,40 +212,40 @@ high-apart next number id below high = by (key_eq (ServiceKey (Asynchronous numb
     by : (b : Bool) → key_eq (ServiceKey (Asynchronous number)) (ServiceKey id) ≡ b → IsTrue (not b)
     by false is = refl
     by true is =
-        let same : Asynchronous number ≡ id = ids id (key_eq-same (ServiceKey (Asynchronous number)) (ServiceKey id) is) in
+        let same : Asynchronous number ≡ id = ids id (key_eq_same (ServiceKey (Asynchronous number)) (ServiceKey id) is) in
         let lt : IsTrue (nat_lt number next) = subst (λ (i : ServiceId). IsTrue (number_is_below next i)) (sym same) below in
         absurd (omega (arith, ltb-true number next lt, leb-true next number high))
 
-high-none : (next number : ℕ) → IsTrue (nat_le next number) → (ss : List Service) → IsTrue (list_all (λ (s : Service). number_is_below next s.id) ss) → IsTrue (not (is_some (item_at service_key (ServiceKey (Asynchronous number)) ss)))
-high-none next number high [] below = refl
-high-none next number high (s ∷ ss) below =
+high_none : (next number : ℕ) → IsTrue (nat_le next number) → (ss : List Service) → IsTrue (list_all (λ (s : Service). number_is_below next s.id) ss) → IsTrue (not (is_some (item_at service_key (ServiceKey (Asynchronous number)) ss)))
+high_none next number high [] below = refl
+high_none next number high (s ∷ ss) below =
     let parts = both_true (number_is_below next s.id) (list_all (λ (u : Service). number_is_below next u.id) ss) below in
-    by (key_eq (ServiceKey (Asynchronous number)) (ServiceKey s.id)) (high-apart next number s.id parts.0 high) (high-none next number high ss parts.1)
+    by (key_eq (ServiceKey (Asynchronous number)) (ServiceKey s.id)) (high_apart next number s.id parts.0 high) (high_none next number high ss parts.1)
   where
     by : (b : Bool) → IsTrue (not b) → IsTrue (not (is_some (item_at service_key (ServiceKey (Asynchronous number)) ss))) → IsTrue (not (is_some (cond b (Some s) (item_at service_key (ServiceKey (Asynchronous number)) ss))))
     by true h rest = absurd (true≢false (sym h))
     by false h rest = rest
 
 -- the new jobs follow those that are left
-more-jobs : (g : Generated) (t : TableRows) (id : ServiceId) (n : ℕ) (js : List Job) → AreNew g t.next_job (t.next_job + n) js → NoOwnJob g t id → NoOwnJob g (record t { jobs = t.jobs ++ js; next_job = t.next_job + n }) id
-more-jobs g t id n js new r =
+more_jobs : (g : Generated) (t : TableRows) (id : ServiceId) (n : ℕ) (js : List Job) → AreNew g t.next_job (t.next_job + n) js → NoOwnJob g t id → NoOwnJob g (record t { jobs = t.jobs ++ js; next_job = t.next_job + n }) id
+more_jobs g t id n js new r =
     let next = t.next_job in
     let below : Job → Bool = λ (j : Job). nat_lt j.number (next + n) in
     let from_next : Job → Bool = λ (j : Job). nat_le next j.number in
     let jobs : JobRows g (t.jobs ++ js) = (ascends_append next t.jobs js r.rows.jobs.0 new.up r.rows.numbers.0 new.low, all_append (job_suits g) t.jobs js r.rows.jobs.1 new.suit) in
     let job_numbers = all_append below t.jobs js (all_imply (λ (j : Job). nat_lt j.number next) below (λ j lt. lt-ltb j.number (next + n) (omega (arith, ltb-true j.number next lt))) t.jobs r.rows.numbers.0) new.high in
     let service_numbers = all_imply (λ (s : Service). number_is_below next s.id) (λ (s : Service). number_is_below (next + n) s.id) (λ s h. below_more next (next + n) s.id (omega arith) h) t.services r.rows.numbers.1 in
-    let apart = all_append (has_no_service t.services) t.jobs js r.rows.numbers.2 (all_imply from_next (has_no_service t.services) (λ j high. high-none next j.number high t.services r.rows.numbers.1) js new.low) in
+    let apart = all_append (has_no_service t.services) t.jobs js r.rows.numbers.2 (all_imply from_next (has_no_service t.services) (λ j high. high_none next j.number high t.services r.rows.numbers.1) js new.low) in
     record {
       rows = record { clock = r.rows.clock; next_job = omega (arith, r.rows.next_job); gssbs = r.rows.gssbs; tlss = r.rows.tlss; ulss = r.rows.ulss; services = r.rows.services; jobs = jobs; shown = r.rows.shown; numbers = (job_numbers, service_numbers, apart) };
       below = below_more next (next + n) id (omega arith) r.below;
-      left = all_append (not_own id) t.jobs js r.left (all_imply from_next (not_own id) (λ j high. high-apart next j.number id r.below high) js new.low);
+      left = all_append (not_own id) t.jobs js r.left (all_imply from_next (not_own id) (λ j high. high_apart next j.number id r.below high) js new.low);
     }
 
-drafts-good : (g : Generated) (t : TableRows) (id : ServiceId) (x : OpenTransaction) → CanGoOn g id x → NoOwnJob g t id → NoOwnJob g (with_drafts t x) id
-drafts-good g t id x can r =
-    more-jobs g t id (length x.drafts) (numbered t.next_job t.clock x.user x.lterm x.drafts)
-    (numbered-new g t.clock x.user x.lterm r.rows.clock can.user can.lterm x.drafts t.next_job can.drafts) r
+drafts_good : (g : Generated) (t : TableRows) (id : ServiceId) (x : OpenTransaction) → CanGoOn g id x → NoOwnJob g t id → NoOwnJob g (with_drafts t x) id
+drafts_good g t id x can r =
+    more_jobs g t id (length x.drafts) (numbered t.next_job t.clock x.user x.lterm x.drafts)
+    (numbered_new g t.clock x.user x.lterm r.rows.clock can.user can.lterm x.drafts t.next_job can.drafts) r
 
 -- ---- the row of the service
 
@@ -254,50 +255,57 @@ record RowFits (g : Generated) (id : ServiceId) (row : Service) : Type 0 where
   suits : IsTrue (service_suits g row)
   fits : IsTrue (service_fits row)
 
-with_row-good : (g : Generated) (t : TableRows) (row : Service) → IsTrue (service_suits g row) → IsTrue (service_fits row) → NoOwnJob g t row.id → GoodRows g (record t { services = with_item service_key row t.services })
-with_row-good g t row suits fits r =
+with_row_good : (g : Generated) (t : TableRows) (row : Service) → IsTrue (service_suits g row) → IsTrue (service_fits row) → NoOwnJob g t row.id → GoodRows g (record t { services = with_item service_key row t.services })
+with_row_good g t row suits fits r =
     let services : ServiceRows g (with_item service_key row t.services) =
-    (ascends-with service_key row t.services r.rows.services.0, all-with service_key service_fits row t.services fits r.rows.services.1, all-with service_key (service_suits g) row t.services suits r.rows.services.2) in
+    (ascends_with service_key row t.services r.rows.services.0, all_with service_key service_fits row t.services fits r.rows.services.1, all_with service_key (service_suits g) row t.services suits r.rows.services.2) in
     let numbers : NumbersFit t.next_job t.jobs (with_item service_key row t.services) =
-    (r.rows.numbers.0, all-with service_key (λ (s : Service). number_is_below t.next_job s.id) row t.services r.below r.rows.numbers.1, all_both (not_own row.id) (has_no_service t.services) (has_no_service (with_item service_key row t.services)) still t.jobs r.left r.rows.numbers.2) in
+    (r.rows.numbers.0, all_with service_key (λ (s : Service). number_is_below t.next_job s.id) row t.services r.below r.rows.numbers.1, all_both (not_own row.id) (has_no_service t.services) (has_no_service (with_item service_key row t.services)) still t.jobs r.left r.rows.numbers.2) in
     record { clock = r.rows.clock; next_job = r.rows.next_job; gssbs = r.rows.gssbs; tlss = r.rows.tlss; ulss = r.rows.ulss; services = services; jobs = r.rows.jobs; shown = r.rows.shown; numbers = numbers }
   where
     still : (j : Job) → IsTrue (not_own row.id j) → IsTrue (has_no_service t.services j) → IsTrue (has_no_service (with_item service_key row t.services) j)
     still j apart none =
-        ap (λ (o : Option Service). not (is_some o)) (item_at-with service_key (ServiceKey (Asynchronous j.number)) row t.services)
+        ap (λ (o : Option Service). not (is_some o)) (item_at_with service_key (ServiceKey (Asynchronous j.number)) row t.services)
         ∙ by (key_eq (ServiceKey (Asynchronous j.number)) (service_key row)) apart
       where
         by : (b : Bool) → IsTrue (not b) → not (is_some (cond b (Some row) (service_of t (Asynchronous j.number)))) ≡ true
         by true h = absurd (true≢false (sym h))
         by false h = none
 
-service-good : (g : Generated) (t : TableRows) (id : ServiceId) (o : Option Service) → IfSome o (λ (row : Service). RowFits g id row) → NoOwnJob g t id → GoodRows g (with_service t id o)
-service-good g t id None fits r = some_services g t r.rows (λ (s : Service). not (key_eq (ServiceKey id) (service_key s)))
-service-good g t id (Some row) fits r = with_row-good g t row fits.suits fits.fits (subst (NoOwnJob g t) (sym fits.own) r)
+service_good : (g : Generated) (t : TableRows) (id : ServiceId) (o : Option Service) → IfSome o (λ (row : Service). RowFits g id row) → NoOwnJob g t id → GoodRows g (with_service t id o)
+service_good g t id None fits r = some_services g t r.rows (λ (s : Service). not (key_eq (ServiceKey id) (service_key s)))
+service_good g t id (Some row) fits r = with_row_good g t row fits.suits fits.fits (subst (NoOwnJob g t) (sym fits.own) r)
 
-length-joined : (parts : List Bytes) → length (joined parts) ≡ sum_by length parts
-length-joined [] = refl
-length-joined (p ∷ ps) = omega (arith, length-append p (joined ps), length-joined ps, sum_by-cons length p ps)
+pub length_joined : (parts : List Bytes) → length (joined parts) ≡ sum_by length parts
+length_joined [] = refl
+length_joined (p ∷ ps) = omega (arith, length-append p (joined ps), length_joined ps, sum_by-cons length p ps)
 
 owner_is : (id : ServiceId) (x : OpenTransaction) → IsOwner id x.user → is_asynchronous id ≡ false → (s : Service) → s.user ≡ x.user → IsTrue (owner_suits id s)
 owner_is (Dialogue user) x owner e s same = ap (λ (u : Bytes). bytes_eq u s.user) (owner ∙ sym same) ∙ bytes_eq_itself s.user
 owner_is (Asynchronous number) x owner e s same = absurd (true≢false e)
 
-lterm_row-suits : (g : Generated) (id : ServiceId) (lterm : Bytes) → IsTrue (is_lterm g lterm) → IsTrue (lterm_suits g (lterm_in_row id lterm))
-lterm_row-suits g (Dialogue user) lterm h = refl
-lterm_row-suits g (Asynchronous number) lterm h = h
+lterm_row_suits : (g : Generated) (id : ServiceId) (lterm : Bytes) → IsTrue (is_lterm g lterm) → IsTrue (lterm_suits g (lterm_in_row id lterm))
+lterm_row_suits g (Dialogue user) lterm h = refl
+lterm_row_suits g (Asynchronous number) lterm h = h
 
-lterm_row-there : (id : ServiceId) (lterm : Bytes) → IsTrue (lterm_fits id (lterm_in_row id lterm))
-lterm_row-there (Dialogue user) lterm = refl
-lterm_row-there (Asynchronous number) lterm = refl
+pub lterm_row_there : (id : ServiceId) (lterm : Bytes) → IsTrue (lterm_fits id (lterm_in_row id lterm))
+lterm_row_there (Dialogue user) lterm = refl
+lterm_row_there (Asynchronous number) lterm = refl
+
+pub point_row_fits : (g : Generated) (id : ServiceId) (x : OpenTransaction) (o : Outcome) → IsTrue (is_sorted bytes_cmp x.lssbs) → IsTrue (change_fits (service_change id (row_after g id x o)))
+unfolding row_after
+point_row_fits g id x (Wait tac) h = true_both _ _ (id_eq_itself id) (true_both _ _ (lterm_row_there id x.lterm) h)
+point_row_fits g id x (Point tac) h = true_both _ _ (id_eq_itself id) (true_both _ _ (lterm_row_there id x.lterm) h)
+point_row_fits g id x (Follow tac) h = true_both _ _ (id_eq_itself id) (true_both _ _ (lterm_row_there id x.lterm) refl)
+point_row_fits g id x _ h = refl
 
 -- the row from which the transaction began suits
 abbrev BeganSuits : Generated → ServiceId → Option Service → Type 0
 BeganSuits g id began = IfSome began (λ (row : Service). RowSuits g row × (row.id ≡ id))
 
-last_of-fits : (g : Generated) (id : ServiceId) (began : Option Service) → BeganSuits g id began → IsTrue (last_fits g (last_of began))
-last_of-fits g id None h = refl
-last_of-fits g id (Some row) h = h.0.last
+last_of_fits : (g : Generated) (id : ServiceId) (began : Option Service) → BeganSuits g id began → IsTrue (last_fits g (last_of began))
+last_of_fits g id None h = refl
+last_of_fits g id (Some row) h = h.0.last
 
 -- a point that goes on: an asynchronous service has no message and no last message
 no_last : (number : ℕ) (g : Generated) (began : Option Service) → BeganSuits g (Asynchronous number) began → IsTrue (not (is_some (last_of began)))
@@ -311,13 +319,13 @@ point_owner g (Dialogue user) x tac can began = ap (λ (u : Bytes). bytes_eq u x
 point_owner g (Asynchronous number) x tac can began =
     true_both (not false && is_empty x.parts) (not (is_some (last_of x.began))) (ap (λ (ps : List Bytes). is_empty ps) can.puts) (no_last number g x.began began)
 
-row-fits : (g : Generated) (id : ServiceId) (x : OpenTransaction) (o : Outcome) → CanGoOn g id x → BeganSuits g id x.began → OutcomeFits g (is_asynchronous id) o → IfSome (row_after g id x o) (λ (row : Service). RowFits g id row)
+row_after_suits : (g : Generated) (id : ServiceId) (x : OpenTransaction) (o : Outcome) → CanGoOn g id x → BeganSuits g id x.began → OutcomeFits g (is_asynchronous id) o → IfSome (row_after g id x o) (λ (row : Service). RowFits g id row)
 unfolding row_after
-row-fits g id x (Wait tac) can began fits = record {
+row_after_suits g id x (Wait tac) can began fits = record {
   own = refl;
   suits = row_suits g (point_row id x tac true [] (Some (joined x.parts))) (record {
     user = can.user;
-    lterm = lterm_row-suits g id x.lterm can.lterm;
+    lterm = lterm_row_suits g id x.lterm can.lterm;
     owner = owner_is id x can.owner fits.1 (point_row id x tac true [] (Some (joined x.parts))) refl;
     first = can.first;
     next = fits.0;
@@ -326,17 +334,17 @@ row-fits g id x (Wait tac) can began fits = record {
     lssbs_order = can.lssbs_order;
     lssbs = can.lssbs;
     awaits = refl;
-    last = le-leb (length (joined x.parts)) g.limits.nb (omega (arith, length-joined x.parts, can.parts.bytes));
+    last = le-leb (length (joined x.parts)) g.limits.nb (omega (arith, length_joined x.parts, can.parts.bytes));
     handed_count = le-leb 0 16 (omega arith);
     handed = le-leb 0 g.limits.nb (omega arith);
   });
-  fits = true_both _ _ (lterm_row-there id x.lterm) can.lssbs_order;
+  fits = true_both _ _ (lterm_row_there id x.lterm) can.lssbs_order;
 }
-row-fits g id x (Point tac) can began fits = record {
+row_after_suits g id x (Point tac) can began fits = record {
   own = refl;
   suits = row_suits g (point_row id x tac false x.parts (last_of x.began)) (record {
     user = can.user;
-    lterm = lterm_row-suits g id x.lterm can.lterm;
+    lterm = lterm_row_suits g id x.lterm can.lterm;
     owner = point_owner g id x tac can began;
     first = can.first;
     next = fits;
@@ -345,17 +353,17 @@ row-fits g id x (Point tac) can began fits = record {
     lssbs_order = can.lssbs_order;
     lssbs = can.lssbs;
     awaits = refl;
-    last = last_of-fits g id x.began began;
+    last = last_of_fits g id x.began began;
     handed_count = le-leb (length x.parts) 16 can.parts.count;
     handed = le-leb (sum_by length x.parts) g.limits.nb can.parts.bytes;
   });
-  fits = true_both _ _ (lterm_row-there id x.lterm) can.lssbs_order;
+  fits = true_both _ _ (lterm_row_there id x.lterm) can.lssbs_order;
 }
-row-fits g id x (Follow tac) can began fits = record {
+row_after_suits g id x (Follow tac) can began fits = record {
   own = refl;
   suits = row_suits g (new_row g id x tac) (record {
     user = can.user;
-    lterm = lterm_row-suits g id x.lterm can.lterm;
+    lterm = lterm_row_suits g id x.lterm can.lterm;
     owner = owner_is id x can.owner fits.1 (new_row g id x tac) refl;
     first = fits.0;
     next = fits.0;
@@ -368,27 +376,27 @@ row-fits g id x (Follow tac) can began fits = record {
     handed_count = le-leb (length x.parts) 16 can.parts.count;
     handed = le-leb (sum_by length x.parts) g.limits.nb can.parts.bytes;
   });
-  fits = true_both _ _ (lterm_row-there id x.lterm) refl;
+  fits = true_both _ _ (lterm_row_there id x.lterm) refl;
 }
-row-fits g id x Finish can began fits = tt
-row-fits g id x _ can began fits = tt
+row_after_suits g id x Finish can began fits = tt
+row_after_suits g id x _ can began fits = tt
 
 -- ---- synchronisation points
 
-began-suits : (g : Generated) (t : TableRows) (id : ServiceId) (began : Option Service) → GoodRows g t → service_of t id ≡ began → BeganSuits g id began
-began-suits g t id None r e = tt
-began-suits g t id (Some row) r e = (row_parts g row (found_passes service_key (service_suits g) (ServiceKey id) t.services row r.services.2 e), own row (found_key service_key (ServiceKey id) t.services row e))
+began_suits : (g : Generated) (t : TableRows) (id : ServiceId) (began : Option Service) → GoodRows g t → service_of t id ≡ began → BeganSuits g id began
+began_suits g t id None r e = tt
+began_suits g t id (Some row) r e = (row_parts g row (found_passes service_key (service_suits g) (ServiceKey id) t.services row r.services.2 e), own row (found_key service_key (ServiceKey id) t.services row e))
   where
     own : (s : Service) → ServiceKey s.id ≡ ServiceKey id → s.id ≡ id
     own s same = cc
 
-point-good : (g : Generated) (t : TableRows) (id : ServiceId) (x : OpenTransaction) (o : Outcome) → GoodRows g t → CanGoOn g id x → IsRooted t id x → OutcomeFits g (is_asynchronous id) o → GoodRows g (synchronised g t id x o)
+point_good : (g : Generated) (t : TableRows) (id : ServiceId) (x : OpenTransaction) (o : Outcome) → GoodRows g t → CanGoOn g id x → IsRooted t id x → OutcomeFits g (is_asynchronous id) o → GoodRows g (synchronised g t id x o)
 unfolding synchronised
-point-good g t id x o r can rooted fits =
+point_good g t id x o r can rooted fits =
     let u = without_own_job (with_areas t x.written) id x.began in
-    let own = rooted-own g t id x.began r rooted.began rooted.job in
-    let gone = own_job-gone g (with_areas t x.written) id x.began (areas-own g id x.began x.written t can.written own) in
-    service-good g (with_drafts u x) id (row_after g id x o) (row-fits g id x o can (began-suits g t id x.began r rooted.began) fits) (drafts-good g u id x can gone)
+    let own = rooted_own g t id x.began r rooted.began rooted.job in
+    let gone = own_job_gone g (with_areas t x.written) id x.began (areas_own g id x.began x.written t can.written own) in
+    service_good g (with_drafts u x) id (row_after g id x o) (row_after_suits g id x o can (began_suits g t id x.began r rooted.began) fits) (drafts_good g u id x can gone)
 
 not_refused : (g : Generated) (t : TableRows) → refusal g t ≡ None → IsWithinLimits g t
 unfolding refusal
@@ -407,11 +415,11 @@ not_refused g t h = by (nat_lt g.limits.gssbs (length t.gssbs)) refl (nat_lt las
 
 pub points_stay_sound : PointsStaySound
 points_stay_sound g t id x o stands fits h =
-    sound g (synchronised g t id x o) (point-good g t id x o (good g t stands.sound) stands.can stands.rooted fits) (not_refused g (durable g (synchronised g t id x o)) h)
+    sound g (synchronised g t id x o) (point_good g t id x o (good g t stands.sound) stands.can stands.rooted fits) (not_refused g (durable g (synchronised g t id x o)) h)
 
 -- the row behind a point suits
 pub next_row : (g : Generated) (t : TableRows) (id : ServiceId) (x : OpenTransaction) (o : Outcome) → Stands g t id x → OutcomeFits g (is_asynchronous id) o → (row : Service) → row_after g id x o ≡ Some row → IsTrue (service_suits g row) × (row.id ≡ id)
 next_row g t id x o stands fits row e =
     let row_fits : RowFits g id row =
-    subst (λ (r : Option Service). IfSome r (λ (s : Service). RowFits g id s)) e (row-fits g id x o stands.can (began-suits g t id x.began (good g t stands.sound) stands.rooted.began) fits) in
+    subst (λ (r : Option Service). IfSome r (λ (s : Service). RowFits g id s)) e (row_after_suits g id x o stands.can (began_suits g t id x.began (good g t stands.sound) stands.rooted.began) fits) in
     (row_fits.suits, row_fits.own)

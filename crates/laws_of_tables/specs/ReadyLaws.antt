@@ -1,5 +1,5 @@
 -- An open transaction that can go on has a unit run that can be stepped, with short operands.
-use Rattle.std.specs.Prelude.{◌≡◌, refl, ℕ, suc, ◌+◌, ◌-◌, ◌≤◌, Bool, true, false, cond, IsTrue, IsSome, IfSome, All, List, [], ◌∷◌, ◌++◌, length, map, drop, replicate, Option, None, Some, is_some, slice_index_or, slice_get, zero, ◌/◌, ◌%◌, nat_eq}
+use Rattle.std.specs.Prelude.{◌≡◌, refl, ℕ, suc, ◌+◌, ◌-◌, ◌≤◌, Bool, true, false, cond, IsTrue, IsSome, IfSome, All, List, [], ◌∷◌, ◌++◌, length, map, drop, replicate, Option, None, Some, is_some, slice_index_or, slice_get, zero, nat_eq}
 use Rattle.std.proofs.Common.{inl, inr, sym, ap, subst, ◌∙◌, arith, length-append, length-take, length-drop, true≢false}
 use Rattle.std.proofs.lemmas.Bool.{cases_Bool, le-leb}
 use Rattle.std.proofs.lemmas.List.{length-replicate}
@@ -24,7 +24,7 @@ use Rattle.unit_types.specs.declared.action.UnitStatement.{UnitStatement}
 use Rattle.unit_types.specs.declared.unit.Field.{Field}
 use Rattle.unit_types.specs.UnitText.{UnitText, IsShortOperand, HasShortOperands, jump_of, operands_of, field_named, label_place, statement_at}
 use Rattle.kd_base.specs.Text.{trim_end}
-use Rattle.unit_semantics.specs.Contents.{in_digits, compared}
+use Rattle.unit_semantics.specs.Contents.{compared}
 use Rattle.unit_semantics.specs.Fields.{header_value, code_text, run_area, field_bytes, value_of, written, stored_in, stored}
 use Rattle.unit_semantics.specs.Ready.{KnowsLabel}
 use Rattle.unit_semantics.specs.Statement.{Meaning, Plain, Asks, Ends, jumped, branched, relates, calculates, gets_result, sum_of, difference_of, product_of, quotient_of, done_by, step, target_of, next_target}
@@ -35,6 +35,7 @@ use Rattle.laws_of_steps.specs.Applications.{IsFittedUnit, HasUnit, IsApplicatio
 use Rattle.laws_of_steps.specs.Suits.{fits_content, has_kind_by}
 use Rattle.laws_of_steps.specs.Transactions.{CanGoOn}
 use Rattle.laws_of_tables.specs.OpenLaws.{has_short_operands, reads, StandsIn, RunsAreReady, OpensHaveUnits, OperandsAreShort}
+use Rattle.unit_semantics.specs.ContentsLaws.{length_in_digits}
 
 -- ---- the unit
 
@@ -113,70 +114,65 @@ short_run app id x application can =
       tacal = subst (λ (h : Header). length h.tacal ≤ 8) (sym can.header) current;
     }
 
-length-padded : (name : List ℕ) → length name ≤ 8 → length (padded name) ≤ 32767
-length-padded name h = omega (arith, length-append name (replicate (8 - length name) 32), length-replicate {A = ℕ} (8 - length name) 32)
+length_padded : (name : List ℕ) → length name ≤ 8 → length (padded name) ≤ 32767
+length_padded name h = omega (arith, length-append name (replicate (8 - length name) 32), length-replicate {A = ℕ} (8 - length name) 32)
 
-length-in_digits : (k n : ℕ) → length (in_digits k n) ≡ k
-unfolding in_digits
-length-in_digits zero n = refl
-length-in_digits (suc k) n = omega (arith, length-append (in_digits k (n / 10)) ((48 + n % 10) ∷ []), length-in_digits k (n / 10))
+length_code : (code : Code) → length (code_text code) ≤ 32767
+length_code Done = omega arith
+length_code _ = omega arith
 
-length-code : (code : Code) → length (code_text code) ≤ 32767
-length-code Done = omega arith
-length-code _ = omega arith
+length_header : (run : RunState) → IsShortRun run → (name : HeaderName) → length (header_value run name) ≤ 32767
+length_header run short Benid = length_padded run.header.benid short.benid
+length_header run short Logter = length_padded run.header.logter short.logter
+length_header run short Tacvg = length_padded run.header.tacvg short.tacvg
+length_header run short Tacal = length_padded run.header.tacal short.tacal
+length_header run short Crccc = length_code run.code
+length_header run short Rlm = omega (arith, length_in_digits 5 run.length)
 
-length-header : (run : RunState) → IsShortRun run → (name : HeaderName) → length (header_value run name) ≤ 32767
-length-header run short Benid = length-padded run.header.benid short.benid
-length-header run short Logter = length-padded run.header.logter short.logter
-length-header run short Tacvg = length-padded run.header.tacvg short.tacvg
-length-header run short Tacal = length-padded run.header.tacal short.tacal
-length-header run short Crccc = length-code run.code
-length-header run short Rlm = omega (arith, length-in_digits 5 run.length)
+length_area : (run : RunState) → IsShortRun run → (spab : Bool) → length (run_area run spab) ≤ 32767
+length_area run short true = short.spab
+length_area run short false = short.kb
 
-length-area : (run : RunState) → IsShortRun run → (spab : Bool) → length (run_area run spab) ≤ 32767
-length-area run short true = short.spab
-length-area run short false = short.kb
-
-length-content : (run : RunState) → IsShortRun run → (o : Option Field) → length (field_bytes run o) ≤ 32767
-length-content run short None = omega arith
-length-content run short (Some f) =
+length_content : (run : RunState) → IsShortRun run → (o : Option Field) → length (field_bytes run o) ≤ 32767
+length_content run short None = omega arith
+length_content run short (Some f) =
     let area = run_area run f.spab in
-    omega (arith, length-area run short f.spab, length-drop f.offset area, length-take f.length (drop f.offset area))
+    omega (arith, length_area run short f.spab, length-drop f.offset area, length-take f.length (drop f.offset area))
 
-length-trimmed : (bytes : List ℕ) → length (trim_end bytes) ≤ length bytes
+length_trimmed : (bytes : List ℕ) → length (trim_end bytes) ≤ length bytes
 unfolding trim_end
-length-trimmed bytes = omega (arith, length-take (length bytes - suffix_len is_space bytes) bytes)
+length_trimmed bytes = omega (arith, length-take (length bytes - suffix_len is_space bytes) bytes)
 
-length-value : (unit : UnitText) (run : RunState) → IsShortRun run → (o : Operand) → IsShortOperand o → length (value_of unit run o) ≤ 32767
+length_value : (unit : UnitText) (run : RunState) → IsShortRun run → (o : Operand) → IsShortOperand o → length (value_of unit run o) ≤ 32767
 unfolding value_of
-length-value unit run short (read.Field name) h = length-content run short (field_named unit name)
-length-value unit run short (read.Literal bytes) h = h
-length-value unit run short (read.Digits bytes) h = omega arith
-length-value unit run short (read.Header name) h = length-header run short name
-length-value unit run short (read.Trim name) h =
-    omega (arith, length-trimmed (field_bytes run (field_named unit name)), length-content run short (field_named unit name))
+length_value unit run short (read.Field name) h = length_content run short (field_named unit name)
+length_value unit run short (read.Literal bytes) h = h
+length_value unit run short (read.Digits bytes) h = omega arith
+length_value unit run short (read.Header name) h = length_header run short name
+length_value unit run short (read.Trim name) h =
+    omega (arith, length_trimmed (field_bytes run (field_named unit name)), length_content run short (field_named unit name))
 
 -- ---- what a statement keeps and asks
 
-written-header : (run : RunState) (spab : Bool) (at : ℕ) (bytes : List ℕ) → (written run spab at bytes).header ≡ run.header
-written-header run true at bytes = refl
-written-header run false at bytes = refl
+written_header : (run : RunState) (spab : Bool) (at : ℕ) (bytes : List ℕ) → (written run spab at bytes).header ≡ run.header
+written_header run true at bytes = refl
+written_header run false at bytes = refl
 
-stored_in-header : (run : RunState) (o : Option Field) (bytes : List ℕ) → (stored_in run o bytes).header ≡ run.header
-stored_in-header run None bytes = refl
-stored_in-header run (Some f) bytes = written-header run f.spab _ _
+stored_in_header : (run : RunState) (o : Option Field) (bytes : List ℕ) → (stored_in run o bytes).header ≡ run.header
+stored_in_header run None bytes = refl
+stored_in_header run (Some f) bytes = written_header run f.spab _ _
 
-pub stored-header : (unit : UnitText) (run : RunState) (name bytes : List ℕ) → (stored unit run name bytes).header ≡ run.header
+pub stored_header : (unit : UnitText) (run : RunState) (name bytes : List ℕ) → (stored unit run name bytes).header ≡ run.header
 unfolding stored
-stored-header unit run name bytes = stored_in-header run (field_named unit name) bytes
+stored_header unit run name bytes = stored_in_header run (field_named unit name) bytes
 
-jumped-header : (run : RunState) (to : Option ℕ) → (jumped run to).header ≡ run.header
-jumped-header run None = refl
-jumped-header run (Some place) = refl
+jumped_header : (run : RunState) (to : Option ℕ) → (jumped run to).header ≡ run.header
+jumped_header run None = refl
+jumped_header run (Some place) = refl
 
-branched-header : (unit : UnitText) (run : RunState) (label : List ℕ) (b : Bool) → (branched unit run label b).header ≡ run.header
-branched-header unit run label true = jumped-header run (label_place unit label)
-branched-header unit run label false = refl
+branched_header : (unit : UnitText) (run : RunState) (label : List ℕ) (b : Bool) → (branched unit run label b).header ≡ run.header
+branched_header unit run label true = jumped_header run (label_place unit label)
+branched_header unit run label false = refl
 
 -- a call has short operands, and a target where it reads
 pub record AskFits (target : Option Bytes) (call : Call) : Type 0 where
@@ -189,13 +185,13 @@ StepFits run target (Plain after) = after.header ≡ run.header
 StepFits run target (Asks call) = AskFits target call
 StepFits run target (Ends cause) = Unit {0}
 
-result-fits : (run : RunState) (f : Field) (o : Option Bytes) (target : Option Bytes) → StepFits run target (gets_result run f o)
-result-fits run f None target = tt
-result-fits run f (Some bytes) target = stored_in-header run (Some f) bytes
+result_fits : (run : RunState) (f : Field) (o : Option Bytes) (target : Option Bytes) → StepFits run target (gets_result run f o)
+result_fits run f None target = tt
+result_fits run f (Some bytes) target = stored_in_header run (Some f) bytes
 
-calculates-fits : (unit : UnitText) (run : RunState) (o : Option Field) (x : Operand) (calculation : ℕ → ℕ → Option ℕ) (target : Option Bytes) → StepFits run target (calculates unit run o x calculation)
-calculates-fits unit run None x calculation target = refl
-calculates-fits unit run (Some f) x calculation target = result-fits run f _ target
+calculates_fits : (unit : UnitText) (run : RunState) (o : Option Field) (x : Operand) (calculation : ℕ → ℕ → Option ℕ) (target : Option Bytes) → StepFits run target (calculates unit run o x calculation)
+calculates_fits unit run None x calculation target = refl
+calculates_fits unit run (Some f) x calculation target = result_fits run f _ target
 
 got_passes : (ss : List UnitStatement) (n : ℕ) (s : UnitStatement) → All (λ (t : UnitStatement). All IsShortOperand (operands_of t.action)) ss → slice_get ss n ≡ Some s → All IsShortOperand (operands_of s.action)
 got_passes [] n s all e = absurd cc
@@ -204,7 +200,7 @@ got_passes (t ∷ ss) (suc n) s all e = got_passes ss n s (λ k d lt. all (suc k
 
 module _ (unit : UnitText) (run : RunState) (short : IsShortRun run) where
   value_fits : (o : Operand) → IsShortOperand o → IsTrue (fits_content (value_of unit run o))
-  value_fits o h = le-leb (length (value_of unit run o)) 32767 (length-value unit run short o h)
+  value_fits o h = le-leb (length (value_of unit run o)) 32767 (length_value unit run short o h)
 
   values_fit : (os : List Operand) → All IsShortOperand os → IsTrue (list_all fits_content (map (value_of unit run) os))
   values_fit [] all = refl
@@ -218,48 +214,48 @@ module _ (unit : UnitText) (run : RunState) (short : IsShortRun run) where
   asks : (target : Option Bytes) (os : List Operand) (call : Call) → reads call ≡ false → has_short_operands call ≡ list_all fits_content (map (value_of unit run) os) → All IsShortOperand os → AskFits target call
   asks target os call quiet e all = record { short = e ∙ values_fit os all; target_there = λ r. absurd (true≢false (sym r ∙ quiet)) }
 
-  done-fits : (says : Action) → All IsShortOperand (operands_of says) → StepFits run (target_of says) (done_by unit run says)
+  done_fits : (says : Action) → All IsShortOperand (operands_of says) → StepFits run (target_of says) (done_by unit run says)
   unfolding done_by
-  done-fits (action.Move f x) all = stored-header unit run f (value_of unit run x)
-  done-fits (action.Join f x y) all = stored-header unit run f (value_of unit run x ++ value_of unit run y)
-  done-fits (action.Add f x) all = calculates-fits unit run (field_named unit f) x sum_of None
-  done-fits (action.Sub f x) all = calculates-fits unit run (field_named unit f) x difference_of None
-  done-fits (action.Mul f x) all = calculates-fits unit run (field_named unit f) x product_of None
-  done-fits (action.Div f x) all = calculates-fits unit run (field_named unit f) x quotient_of None
-  done-fits (action.If x relation y label) all = branched-header unit run label (relates relation (compared (value_of unit run x) (value_of unit run y)))
-  done-fits (action.Jump label) all = jumped-header run (label_place unit label)
-  done-fits action.Init all = record { short = refl; target_there = λ r. absurd (true≢false (sym r)) }
-  done-fits (action.Mget f) all = record { short = refl; target_there = λ r. refl }
-  done-fits (action.Mput x) all = asks None (x ∷ []) _ refl refl all
-  done-fits (action.Fget f) all = record { short = refl; target_there = λ r. refl }
-  done-fits (action.Fput to x) all = asks None (to ∷ x ∷ []) _ refl refl all
-  done-fits (action.Dput to mode d h m s x) all = asks None (to ∷ d ∷ h ∷ m ∷ s ∷ x ∷ []) _ refl refl all
-  done-fits (action.SgetGb name f) all = asks_and_reads f (name ∷ []) _ refl all
-  done-fits (action.SputGb name x) all = asks None (name ∷ x ∷ []) _ refl refl all
-  done-fits (action.SrelGb name) all = asks None (name ∷ []) _ refl refl all
-  done-fits (action.SgetKp name f) all = asks_and_reads f (name ∷ []) _ refl all
-  done-fits (action.SgetRl name f) all = asks_and_reads f (name ∷ []) _ refl all
-  done-fits (action.SputMs name x) all = asks None (name ∷ x ∷ []) _ refl refl all
-  done-fits (action.SrelLb name) all = asks None (name ∷ []) _ refl refl all
-  done-fits (action.SgetUs name f) all = asks_and_reads f (name ∷ []) _ refl all
-  done-fits (action.SputUs name x) all = asks None (name ∷ x ∷ []) _ refl refl all
-  done-fits (action.Gtda name f) all = asks_and_reads f (name ∷ []) _ refl all
-  done-fits (action.Ptda name x) all = asks None (name ∷ x ∷ []) _ refl refl all
-  done-fits (action.UnlkGb name) all = asks None (name ∷ []) _ refl refl all
-  done-fits (action.UnlkUs name) all = asks None (name ∷ []) _ refl refl all
-  done-fits (action.UnlkDa name) all = asks None (name ∷ []) _ refl refl all
-  done-fits (action.Pend variant None) all = record { short = refl; target_there = λ r. absurd (true≢false (sym r)) }
-  done-fits (action.Pend variant (Some op)) all = asks None (op ∷ []) _ refl refl all
+  done_fits (action.Move f x) all = stored_header unit run f (value_of unit run x)
+  done_fits (action.Join f x y) all = stored_header unit run f (value_of unit run x ++ value_of unit run y)
+  done_fits (action.Add f x) all = calculates_fits unit run (field_named unit f) x sum_of None
+  done_fits (action.Sub f x) all = calculates_fits unit run (field_named unit f) x difference_of None
+  done_fits (action.Mul f x) all = calculates_fits unit run (field_named unit f) x product_of None
+  done_fits (action.Div f x) all = calculates_fits unit run (field_named unit f) x quotient_of None
+  done_fits (action.If x relation y label) all = branched_header unit run label (relates relation (compared (value_of unit run x) (value_of unit run y)))
+  done_fits (action.Jump label) all = jumped_header run (label_place unit label)
+  done_fits action.Init all = record { short = refl; target_there = λ r. absurd (true≢false (sym r)) }
+  done_fits (action.Mget f) all = record { short = refl; target_there = λ r. refl }
+  done_fits (action.Mput x) all = asks None (x ∷ []) _ refl refl all
+  done_fits (action.Fget f) all = record { short = refl; target_there = λ r. refl }
+  done_fits (action.Fput to x) all = asks None (to ∷ x ∷ []) _ refl refl all
+  done_fits (action.Dput to mode d h m s x) all = asks None (to ∷ d ∷ h ∷ m ∷ s ∷ x ∷ []) _ refl refl all
+  done_fits (action.SgetGb name f) all = asks_and_reads f (name ∷ []) _ refl all
+  done_fits (action.SputGb name x) all = asks None (name ∷ x ∷ []) _ refl refl all
+  done_fits (action.SrelGb name) all = asks None (name ∷ []) _ refl refl all
+  done_fits (action.SgetKp name f) all = asks_and_reads f (name ∷ []) _ refl all
+  done_fits (action.SgetRl name f) all = asks_and_reads f (name ∷ []) _ refl all
+  done_fits (action.SputMs name x) all = asks None (name ∷ x ∷ []) _ refl refl all
+  done_fits (action.SrelLb name) all = asks None (name ∷ []) _ refl refl all
+  done_fits (action.SgetUs name f) all = asks_and_reads f (name ∷ []) _ refl all
+  done_fits (action.SputUs name x) all = asks None (name ∷ x ∷ []) _ refl refl all
+  done_fits (action.Gtda name f) all = asks_and_reads f (name ∷ []) _ refl all
+  done_fits (action.Ptda name x) all = asks None (name ∷ x ∷ []) _ refl refl all
+  done_fits (action.UnlkGb name) all = asks None (name ∷ []) _ refl refl all
+  done_fits (action.UnlkUs name) all = asks None (name ∷ []) _ refl refl all
+  done_fits (action.UnlkDa name) all = asks None (name ∷ []) _ refl refl all
+  done_fits (action.Pend variant None) all = record { short = refl; target_there = λ r. absurd (true≢false (sym r)) }
+  done_fits (action.Pend variant (Some op)) all = asks None (op ∷ []) _ refl refl all
 
-  step-fits : HasShortOperands unit → StepFits run (next_target unit run) (step unit run)
+  step_fits : HasShortOperands unit → StepFits run (next_target unit run) (step unit run)
   unfolding step
-  step-fits all =
+  step_fits all =
       elim (cases_option (statement_at unit run.place)) [
         | inl none ↦ rw none tt
         | inr found ↦
             elim (cases_Bool (nat_eq run.count run.budget)) [
               | inl spent ↦ rw (found.1, spent) tt
-              | inr left ↦ rw (found.1, left) (done-fits (found.0).action (statement_short run.place found.0 found.1))
+              | inr left ↦ rw (found.1, left) (done_fits (found.0).action (statement_short run.place found.0 found.1))
             ]
       ]
     where
@@ -267,8 +263,8 @@ module _ (unit : UnitText) (run : RunState) (short : IsShortRun run) where
       statement_short zero s e = absurd cc
       statement_short (suc n) s e = got_passes unit.statements n s all e
 
-pub next-fits : (app : Application) (id : ServiceId) (x : OpenTransaction) (unit : UnitText) → StandsIn app id x unit → StepFits x.run (next_target unit x.run) (step unit x.run)
-next-fits app id x unit stands = step-fits unit x.run (short_run app id x stands.application stands.can) (fitted_unit app id x unit stands).literals
+pub next_fits : (app : Application) (id : ServiceId) (x : OpenTransaction) (unit : UnitText) → StandsIn app id x unit → StepFits x.run (next_target unit x.run) (step unit x.run)
+next_fits app id x unit stands = step_fits unit x.run (short_run app id x stands.application stands.can) (fitted_unit app id x unit stands).literals
 
 pub operands_are_short : OperandsAreShort
-operands_are_short app id x unit call stands e = (subst (StepFits x.run (next_target unit x.run)) e (next-fits app id x unit stands)).short
+operands_are_short app id x unit call stands e = (subst (StepFits x.run (next_target unit x.run)) e (next_fits app id x unit stands)).short

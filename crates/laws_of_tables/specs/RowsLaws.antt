@@ -11,19 +11,18 @@ use Rattle.kdcs_types.specs.declared.key.ServiceId.TheVariants.{Dialogue, Asynch
 use Rattle.kdcs_types.specs.declared.service.Job.{Job}
 use Rattle.kdcs_types.specs.declared.service.JobValue.{JobValue}
 use Rattle.kdcs_types.specs.declared.service.Service.{Service}
-use Rattle.kdcs_types.specs.Keys.{key_eq}
 use Rattle.kdcs_types.specs.Keyed.{ascends, item_at}
-use Rattle.kdcs_types.specs.KeyLaws.{key_eq-same}
 use Rattle.kd_base.specs.Limits.{last_clock, last_next_job}
-use Rattle.kdcs_types.specs.Tables.{TableRows, IsSortedTables, gssb_key, tls_key, uls_key, service_key, job_key, shown_key, is_filled, service_fits, service_of}
+use Rattle.kdcs_types.specs.Tables.{TableRows, IsSortedTables, gssb_key, tls_key, uls_key, service_key, job_key, shown_key, is_filled, service_fits}
 use Rattle.kdcdef_types.specs.Generation.{Generated}
 use Rattle.abstract_monitor.specs.Bytes.{Bytes}
 use Rattle.abstract_monitor.specs.Charges.{total_charge}
 use Rattle.abstract_monitor.specs.Endings.{is_durable, durable}
 use Rattle.laws_of_steps.specs.Suits.{Suits, gssb_suits, tls_suits, uls_suits, service_suits, job_suits, shown_suits, number_is_below}
 use Rattle.laws_of_tables.specs.PointLaws.{AreSound}
-use Rattle.laws_of_tables.specs.ItemsLaws.{ascends_filter, none_filter, found_filter}
+use Rattle.laws_of_tables.specs.ItemsLaws.{ascends_filter, none_filter}
 use Rattle.laws_of_tables.specs.ListsLaws.{all_imply, all_filter, filter_passes}
+use Rattle.laws_of_steps.specs.DurableLaws.{durable_service}
 
 -- what holds of the rows of each kind
 
@@ -107,12 +106,12 @@ module _ (g : Generated) (t : TableRows) (r : GoodRows g t) where
       record { clock = r.clock; next_job = r.next_job; gssbs = r.gssbs; tlss = r.tlss; ulss = r.ulss; services = services; jobs = r.jobs; shown = r.shown; numbers = numbers }
 
   -- the order of the tables
-  pub rows-order : IsSortedTables t
-  rows-order = record { gssbs = r.gssbs.0; tlss = r.tlss.0; ulss = r.ulss.0; services = r.services.0; jobs = r.jobs.0; shown = r.shown.0; tlss_filled = r.tlss.1; ulss_filled = r.ulss.1; services_fit = r.services.1 }
+  pub rows_order : IsSortedTables t
+  rows_order = record { gssbs = r.gssbs.0; tlss = r.tlss.0; ulss = r.ulss.0; services = r.services.0; jobs = r.jobs.0; shown = r.shown.0; tlss_filled = r.tlss.1; ulss_filled = r.ulss.1; services_fit = r.services.1 }
 
   -- good rows of durable services alone, within the limits, suit
-  rows-suit : IsWithinLimits g t → IsTrue (list_all (λ (s : Service). is_durable g s.id) t.services) → Suits g t
-  rows-suit within durable_all = record {
+  rows_suit : IsWithinLimits g t → IsTrue (list_all (λ (s : Service). is_durable g s.id) t.services) → Suits g t
+  rows_suit within durable_all = record {
     clock = r.clock;
     next_job_from_one = r.next_job;
     next_job = within.next_job;
@@ -138,25 +137,25 @@ durable_row g s = is_durable g s.id
 pub sound : (g : Generated) (t : TableRows) → GoodRows g t → IsWithinLimits g (durable g t) → AreSound g t
 unfolding durable
 sound g t r within = record {
-  order = rows-order g t r;
-  suits = rows-suit g (record t { services = filter (durable_row g) t.services }) (some_services g t r (durable_row g)) within (filter_passes (durable_row g) t.services);
+  order = rows_order g t r;
+  suits = rows_suit g (record t { services = filter (durable_row g) t.services }) (some_services g t r (durable_row g)) within (filter_passes (durable_row g) t.services);
   rows = r.services.2;
 }
 
-within-limits : (g : Generated) (t : TableRows) → Suits g t → IsWithinLimits g t
-within-limits g t s = record { next_job = s.next_job; charge = s.charge; count = s.count }
+within_limits : (g : Generated) (t : TableRows) → Suits g t → IsWithinLimits g t
+within_limits g t s = record { next_job = s.next_job; charge = s.charge; count = s.count }
 
-pub sound-within : (g : Generated) (t : TableRows) → AreSound g t → IsWithinLimits g (durable g t)
-sound-within g t s = within-limits g (durable g t) s.suits
+pub sound_within : (g : Generated) (t : TableRows) → AreSound g t → IsWithinLimits g (durable g t)
+sound_within g t s = within_limits g (durable g t) s.suits
 
 -- asynchronous services are all durable
-number-durable : (g : Generated) (next : ℕ) (id : ServiceId) → (IsTrue (is_durable g id) → IsTrue (number_is_below next id)) → IsTrue (number_is_below next id)
-number-durable g next (Dialogue user) h = refl
-number-durable g next (Asynchronous number) h = h refl
+number_durable : (g : Generated) (next : ℕ) (id : ServiceId) → (IsTrue (is_durable g id) → IsTrue (number_is_below next id)) → IsTrue (number_is_below next id)
+number_durable g next (Dialogue user) h = refl
+number_durable g next (Asynchronous number) h = h refl
 
-durable-numbers : (g : Generated) (next : ℕ) (ss : List Service) → IsTrue (list_all (λ (s : Service). number_is_below next s.id) (filter (durable_row g) ss)) → IsTrue (list_all (λ (s : Service). number_is_below next s.id) ss)
-durable-numbers g next [] h = refl
-durable-numbers g next (s ∷ ss) h = by (is_durable g s.id) refl h (durable-numbers g next ss)
+durable_numbers : (g : Generated) (next : ℕ) (ss : List Service) → IsTrue (list_all (λ (s : Service). number_is_below next s.id) (filter (durable_row g) ss)) → IsTrue (list_all (λ (s : Service). number_is_below next s.id) ss)
+durable_numbers g next [] h = refl
+durable_numbers g next (s ∷ ss) h = by (is_durable g s.id) refl h (durable_numbers g next ss)
   where
     by : (b : Bool) → is_durable g s.id ≡ b → IsTrue (list_all (λ (u : Service). number_is_below next u.id) (cond b (s ∷ filter (durable_row g) ss) (filter (durable_row g) ss)))
         → (IsTrue (list_all (λ (u : Service). number_is_below next u.id) (filter (durable_row g) ss)) → IsTrue (list_all (λ (u : Service). number_is_below next u.id) ss))
@@ -165,26 +164,12 @@ durable-numbers g next (s ∷ ss) h = by (is_durable g s.id) refl h (durable-num
         let parts = both_true (number_is_below next s.id) (list_all (λ (u : Service). number_is_below next u.id) (filter (durable_row g) ss)) k in
         true_both (number_is_below next s.id) (list_all (λ (u : Service). number_is_below next u.id) ss) parts.0 (rest parts.1)
     by false e k rest =
-        true_both (number_is_below next s.id) (list_all (λ (u : Service). number_is_below next u.id) ss) (number-durable g next s.id (λ d. absurd (true≢false (sym d ∙ e)))) (rest k)
-
-asynchronous-durable : (g : Generated) (number : ℕ) (e : Service) → IsTrue (key_eq (ServiceKey (Asynchronous number)) (service_key e)) → IsTrue (is_durable g e.id)
-asynchronous-durable g number e h = by e.id (key_eq-same (ServiceKey (Asynchronous number)) (service_key e) h)
-  where
-    by : (i : ServiceId) → ServiceKey (Asynchronous number) ≡ ServiceKey i → IsTrue (is_durable g i)
-    by (Dialogue user) same = absurd (other same)
-      where
-        other : ServiceKey (Asynchronous number) ≡ ServiceKey (Dialogue user) → ⊥
-        other same = cc
-    by (Asynchronous n) same = refl
-
-pub durable-service : (g : Generated) (t : TableRows) (number : ℕ) → service_of (durable g t) (Asynchronous number) ≡ service_of t (Asynchronous number)
-unfolding durable
-durable-service g t number = found_filter service_key (ServiceKey (Asynchronous number)) (durable_row g) (asynchronous-durable g number) t.services
+        true_both (number_is_below next s.id) (list_all (λ (u : Service). number_is_below next u.id) ss) (number_durable g next s.id (λ d. absurd (true≢false (sym d ∙ e)))) (rest k)
 
 pub good : (g : Generated) (t : TableRows) → AreSound g t → GoodRows g t
 unfolding durable
 good g t s =
-    let apart = all_imply (has_no_service (durable g t).services) (has_no_service t.services) (λ j h. subst (λ (o : Option Service). IsTrue (not (is_some o))) (durable-service g t j.number) h) t.jobs s.suits.apart in
+    let apart = all_imply (has_no_service (durable g t).services) (has_no_service t.services) (λ j h. subst (λ (o : Option Service). IsTrue (not (is_some o))) (durable_service g t j.number) h) t.jobs s.suits.apart in
     record {
       clock = s.suits.clock;
       next_job = s.suits.next_job_from_one;
@@ -194,7 +179,7 @@ good g t s =
       services = (s.order.services, s.order.services_fit, s.rows);
       jobs = (s.order.jobs, s.suits.jobs);
       shown = (s.order.shown, s.suits.shown);
-      numbers = (s.suits.job_numbers, durable-numbers g t.next_job t.services s.suits.service_numbers, apart);
+      numbers = (s.suits.job_numbers, durable_numbers g t.next_job t.services s.suits.service_numbers, apart);
     }
 
 -- ---- charges

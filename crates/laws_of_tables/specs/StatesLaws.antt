@@ -17,7 +17,7 @@ use Rattle.kdcs_types.specs.declared.service.JobValue.{JobValue}
 use Rattle.kdcs_types.specs.declared.service.Service.{Service}
 use Rattle.kdcs_types.specs.Keys.{id_cmp, id_eq}
 use Rattle.kdcs_types.specs.Keyed.{item_at}
-use Rattle.kdcs_types.specs.KeyLaws.{id_total, same_id, id_eq-same, is_equal}
+use Rattle.kdcs_types.specs.KeyLaws.{id_total, same_id, id_eq_same}
 use Rattle.kdcs_types.specs.KeyedLaws.{found_key, found_passes}
 use Rattle.kdcs_types.specs.Tables.{TableRows, gssb_key, tls_key, uls_key, service_key, job_key, content_of, service_of, job_of}
 use Rattle.kdcdef_types.specs.declared.entry.PtermEntry.{PtermEntry}
@@ -34,6 +34,7 @@ use Rattle.laws_of_steps.specs.Facts.{IsSessionOf, IsSoundState}
 use Rattle.laws_of_tables.specs.OpenLaws.{ToldFits}
 use Rattle.laws_of_tables.specs.PointLaws.{AreSound}
 use Rattle.laws_of_tables.specs.RowsLaws.{good}
+use Rattle.std.specs.Cmp.{Equal-is}
 
 -- sessions are of declared PTERMs and users
 abbrev pub Sessions : Application → List (Bytes × Session) → Type 0
@@ -56,15 +57,15 @@ sound_state app s p = record { order = p.tables.order; suits = p.tables.suits; r
 
 -- ---- open transactions
 
-pub opens-put : (app : Application) (active : Active) (id : ServiceId) (y : OpenTransaction) → Opens app active → CanGoOn app.generation id y → Opens app (put id_cmp id y active)
-opens-put app active id y opens can q x e = by (id_eq q id) refl (sym (find-put id_cmp id_total q id y active) ∙ e)
+pub opens_put : (app : Application) (active : Active) (id : ServiceId) (y : OpenTransaction) → Opens app active → CanGoOn app.generation id y → Opens app (put id_cmp id y active)
+opens_put app active id y opens can q x e = by (id_eq q id) refl (sym (find-put id_cmp id_total q id y active) ∙ e)
   where
     by : (b : Bool) → id_eq q id ≡ b → cond b (Some y) (find id_cmp q active) ≡ Some x → CanGoOn app.generation q x
-    by true same is = subst (λ (z : OpenTransaction). CanGoOn app.generation q z) (some_is y x is) (subst (λ (i : ServiceId). CanGoOn app.generation i y) (sym (id_eq-same q id same)) can)
+    by true same is = subst (λ (z : OpenTransaction). CanGoOn app.generation q z) (some_is y x is) (subst (λ (i : ServiceId). CanGoOn app.generation i y) (sym (id_eq_same q id same)) can)
     by false same is = opens q x is
 
-pub opens-without : (app : Application) (active : Active) (id : ServiceId) → Opens app active → Opens app (where_key id_cmp (λ i. not (id_eq id i)) active)
-opens-without app active id opens q x e = by (not (id_eq id q)) (sym (find-where_key id_cmp (λ k. not (id_eq id k)) q alike active) ∙ e)
+pub opens_without : (app : Application) (active : Active) (id : ServiceId) → Opens app active → Opens app (where_key id_cmp (λ i. not (id_eq id i)) active)
+opens_without app active id opens q x e = by (not (id_eq id q)) (sym (find-where_key id_cmp (λ k. not (id_eq id k)) q alike active) ∙ e)
   where
     alike : (k : ServiceId) → id_cmp q k ≡ Equal → not (id_eq id k) ≡ not (id_eq id q)
     alike k same = ap (λ (i : ServiceId). not (id_eq id i)) (sym (same_id q k same))
@@ -78,16 +79,16 @@ opens-without app active id opens q x e = by (not (id_eq id q)) (sym (find-where
 names_same : (a b : Bytes) → bytes_cmp a b ≡ Equal → a ≡ b
 names_same a b e = slice_cmp-IsAntisymmetric nat_cmp-IsAntisymmetric a b e
 
-pub sessions-put : (app : Application) (signed : List (Bytes × Session)) (pterm : Bytes) (v : Session) → Sessions app signed → IsSessionOf app (pterm, v) → Sessions app (put bytes_cmp pterm v signed)
-sessions-put app signed pterm v sessions is q =
+pub sessions_put : (app : Application) (signed : List (Bytes × Session)) (pterm : Bytes) (v : Session) → Sessions app signed → IsSessionOf app (pterm, v) → Sessions app (put bytes_cmp pterm v signed)
+sessions_put app signed pterm v sessions is q =
     subst (λ (o : Option Session). IfSome o (λ (w : Session). IsSessionOf app (q, w))) (sym (find-put bytes_cmp nat_list_cmp_total q pterm v signed)) (by (eq_by_cmp bytes_cmp q pterm) refl)
   where
     by : (b : Bool) → eq_by_cmp bytes_cmp q pterm ≡ b → IfSome (cond b (Some v) (find bytes_cmp q signed)) (λ (w : Session). IsSessionOf app (q, w))
-    by true same = subst (λ (p : Bytes). IsSessionOf app (p, v)) (sym (names_same q pterm (is_equal _ same))) is
+    by true same = subst (λ (p : Bytes). IsSessionOf app (p, v)) (sym (names_same q pterm ((Equal-is _).0 same))) is
     by false same = sessions q
 
-pub sessions-without : (app : Application) (signed : List (Bytes × Session)) (pterm : Bytes) → Sessions app signed → Sessions app (where_key bytes_cmp (λ p. not (bytes_eq pterm p)) signed)
-sessions-without app signed pterm sessions q =
+pub sessions_without : (app : Application) (signed : List (Bytes × Session)) (pterm : Bytes) → Sessions app signed → Sessions app (where_key bytes_cmp (λ p. not (bytes_eq pterm p)) signed)
+sessions_without app signed pterm sessions q =
     subst (λ (o : Option Session). IfSome o (λ (w : Session). IsSessionOf app (q, w))) (sym (find-where_key bytes_cmp (λ p. not (bytes_eq pterm p)) q alike signed)) (by (not (bytes_eq pterm q)))
   where
     alike : (k : Bytes) → bytes_cmp q k ≡ Equal → not (bytes_eq pterm k) ≡ not (bytes_eq pterm q)
@@ -147,24 +148,24 @@ job_found g t number value s e = by (item_at job_key (JobKey number) t.jobs) ref
     }
 
 -- the content of an area is short
-content-fits : (g : Generated) (t : TableRows) (area : Area) → AreSound g t → IsTrue (fits_if_there (content_of t area))
-content-fits g t (Gssb name) s = by (item_at gssb_key (GssbKey name) t.gssbs) refl
+content_fits : (g : Generated) (t : TableRows) (area : Area) → AreSound g t → IsTrue (fits_if_there (content_of t area))
+content_fits g t (Gssb name) s = by (item_at gssb_key (GssbKey name) t.gssbs) refl
   where
     by : (o : Option (Bytes × Bytes)) → item_at gssb_key (GssbKey name) t.gssbs ≡ o → IsTrue (fits_if_there (option_map (λ (r : Bytes × Bytes). r.1) o))
     by None e = refl
     by (Some r) e = found_passes gssb_key gssb_suits (GssbKey name) t.gssbs r (good g t s).gssbs.1 e
-content-fits g t (Tls block lterm) s = by (item_at tls_key (TlsKey block lterm) t.tlss) refl
+content_fits g t (Tls block lterm) s = by (item_at tls_key (TlsKey block lterm) t.tlss) refl
   where
     by : (o : Option (Bytes × Bytes × Bytes)) → item_at tls_key (TlsKey block lterm) t.tlss ≡ o → IsTrue (fits_if_there (option_map (λ (r : Bytes × Bytes × Bytes). r.2) o))
     by None e = refl
     by (Some r) e = (both_true (has_tls g r.0 && is_lterm g r.1) (fits_content r.2) (found_passes tls_key (tls_suits g) (TlsKey block lterm) t.tlss r (good g t s).tlss.2 e)).1
-content-fits g t (Uls block user) s = by (item_at uls_key (UlsKey block user) t.ulss) refl
+content_fits g t (Uls block user) s = by (item_at uls_key (UlsKey block user) t.ulss) refl
   where
     by : (o : Option (Bytes × Bytes × Bytes)) → item_at uls_key (UlsKey block user) t.ulss ≡ o → IsTrue (fits_if_there (option_map (λ (r : Bytes × Bytes × Bytes). r.2) o))
     by None e = refl
     by (Some r) e = (both_true (has_uls g r.0 && is_user g r.1) (fits_content r.2) (found_passes uls_key (uls_suits g) (UlsKey block user) t.ulss r (good g t s).ulss.2 e)).1
 
-pub told-fits : (g : Generated) (t : TableRows) (l : Locks) (reswait : ℕ) (id : ServiceId) (o : Option Area) → AreSound g t → ToldFits (told_now l reswait t id o)
+pub told_fits : (g : Generated) (t : TableRows) (l : Locks) (reswait : ℕ) (id : ServiceId) (o : Option Area) → AreSound g t → ToldFits (told_now l reswait t id o)
 unfolding told_now
-told-fits g t l reswait id None s = refl
-told-fits g t l reswait id (Some area) s = content-fits g t area s
+told_fits g t l reswait id None s = refl
+told_fits g t l reswait id (Some area) s = content_fits g t area s

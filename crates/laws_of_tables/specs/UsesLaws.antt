@@ -52,61 +52,61 @@ module _ (g : Generated) (user : Bytes) (state : ServiceState) where
       by true e = tt
       by false e = h (le-leb (length text) g.limits.nb (ltb-false g.limits.nb (length text) e))
 
-  sign_by-fits : (right free : Bool) (name : Bytes) → IsTrue (is_user g name) → Fits (sign_by right free name)
-  sign_by-fits false free name h = tt
-  sign_by-fits true false name h = tt
-  sign_by-fits true true name h = h
+  sign_by_fits : (right free : Bool) (name : Bytes) → IsTrue (is_user g name) → Fits (sign_by right free name)
+  sign_by_fits false free name h = tt
+  sign_by_fits true false name h = tt
+  sign_by_fits true true name h = h
 
-  sign_user-fits : (signed : List (Bytes × Session)) (name : Bytes) (pass : Option Bytes) (o : Option UserEntry) → user_of g name ≡ o → Fits (sign_user signed name pass o)
-  sign_user-fits signed name pass None e = tt
-  sign_user-fits signed name pass (Some u) e = sign_by-fits (same_password u.pass pass) (not (list_any (has_user name) signed)) name (ap (λ (o : Option UserEntry). is_some o) e)
+  sign_user_fits : (signed : List (Bytes × Session)) (name : Bytes) (pass : Option Bytes) (o : Option UserEntry) → user_of g name ≡ o → Fits (sign_user signed name pass o)
+  sign_user_fits signed name pass None e = tt
+  sign_user_fits signed name pass (Some u) e = sign_by_fits (same_password u.pass pass) (not (list_any (has_user name) signed)) name (ap (λ (o : Option UserEntry). is_some o) e)
 
-  sign_name-fits : (signed : List (Bytes × Session)) (pass o : Option Bytes) → Fits (sign_name g signed pass o)
-  sign_name-fits signed pass None = tt
-  sign_name-fits signed pass (Some name) = sign_user-fits signed name pass (user_of g name) refl
+  sign_name_fits : (signed : List (Bytes × Session)) (pass o : Option Bytes) → Fits (sign_name g signed pass o)
+  sign_name_fits signed pass None = tt
+  sign_name_fits signed pass (Some name) = sign_user_fits signed name pass (user_of g name) refl
 
-  unsigned-fits : (signed : List (Bytes × Session)) (r : Split) → Fits (use_unsigned g signed r)
-  unsigned-fits signed r =
+  unsigned_fits : (signed : List (Bytes × Session)) (r : Split) → Fits (use_unsigned g signed r)
+  unsigned_fits signed r =
       let split = split_at 44 (after_word r) in
-      either (bytes_eq r.word (codes "KDCSIGN")) (sign_on_use g signed split) SignFirst (sign_name-fits signed split.rest (name_of split.word)) tt
+      either (bytes_eq r.word (codes "KDCSIGN")) (sign_on_use g signed split) SignFirst (sign_name_fits signed split.rest (name_of split.word)) tt
 
   -- a word that names a TAC is its name
-  named-tac : (word : Bytes) (t : TacEntry) → tac_named g word ≡ Some t → tac_of g word ≡ Some t
-  named-tac word t e = by (nat_le 1 (length word) && nat_le (length word) 8 && list_all is_name_byte word) e
+  named_tac : (word : Bytes) (t : TacEntry) → tac_named g word ≡ Some t → tac_of g word ≡ Some t
+  named_tac word t e = by (nat_le 1 (length word) && nat_le (length word) 8 && list_all is_name_byte word) e
     where
       by : (b : Bool) → option_and_then (tac_of g) (if b then Some word else None) ≡ Some t → tac_of g word ≡ Some t
       by true h = h
       by false h = absurd cc
 
-  start-fits : (tac text : Bytes) (o : Option TacEntry) → tac_named g tac ≡ o → IsTrue (is_user g user) → Fits (start_by g tac text o)
-  start-fits tac text None e is = tt
-  start-fits tac text (Some t) e is = by t.asynchronous refl (not (goes_first t.call))
+  start_fits : (tac text : Bytes) (o : Option TacEntry) → tac_named g tac ≡ o → IsTrue (is_user g user) → Fits (start_by g tac text o)
+  start_fits tac text None e is = tt
+  start_fits tac text (Some t) e is = by t.asynchronous refl (not (goes_first t.call))
     where
       by : (a : Bool) → t.asynchronous ≡ a → (b : Bool) → Fits (if a || b then TacRefused NotAllowed else if not t.on then TacRefused IsOff else if nat_lt g.limits.nb (length text) then TooLong else Start tac text)
       by true d b = tt
       by false d true = tt
       by false d false =
           either (not t.on) (TacRefused IsOff) (if nat_lt g.limits.nb (length text) then TooLong else Start tac text) tt
-          (short_or_too_long text (Start tac text) (λ fits. record { is = is; kind = ap (λ (o : Option TacEntry). has_kind_by o false) (named-tac tac t e) ∙ ap not d; fits = fits }))
+          (short_or_too_long text (Start tac text) (λ fits. record { is = is; kind = ap (λ (o : Option TacEntry). has_kind_by o false) (named_tac tac t e) ∙ ap not d; fits = fits }))
 
-  text-fits : (text : Bytes) (r : Split) (s : ServiceState) → state ≡ s → IsTrue (is_user g user) → Fits (use_of_text g text r s)
-  text-fits text r Running e is = tt
-  text-fits text r Awaits e is = short_or_too_long text (Next text) (λ fits. record { is = is; awaits = e; fits = fits })
-  text-fits text r NoService e is = start-fits r.word (after_word r) (tac_named g r.word) refl is
+  text_fits : (text : Bytes) (r : Split) (s : ServiceState) → state ≡ s → IsTrue (is_user g user) → Fits (use_of_text g text r s)
+  text_fits text r Running e is = tt
+  text_fits text r Awaits e is = short_or_too_long text (Next text) (λ fits. record { is = is; awaits = e; fits = fits })
+  text_fits text r NoService e is = start_fits r.word (after_word r) (tac_named g r.word) refl is
 
-  off-fits : (s : ServiceState) → Fits (off_use s)
-  off-fits Running = tt
-  off-fits Awaits = tt
-  off-fits NoService = tt
+  off_fits : (s : ServiceState) → Fits (off_use s)
+  off_fits Running = tt
+  off_fits Awaits = tt
+  off_fits NoService = tt
 
-  signed-fits : (text : Bytes) (r : Split) → IsTrue (is_user g user) → Fits (use_signed g text r state)
-  signed-fits text r is =
+  signed_fits : (text : Bytes) (r : Split) → IsTrue (is_user g user) → Fits (use_signed g text r state)
+  signed_fits text r is =
       either (bytes_eq r.word (codes "KDCSIGN")) AlreadySigned _ tt
       (either (bytes_eq r.word (codes "KDCDISP")) Display _ tt
       (either (bytes_eq r.word (codes "KDCOUT")) Output _ tt
       (either (bytes_eq r.word (codes "KDCLAST")) Again _ tt
-      (either (bytes_eq r.word (codes "KDCOFF")) (off_use state) (use_of_text g text r state) (off-fits state) (text-fits text r state refl is)))))
+      (either (bytes_eq r.word (codes "KDCOFF")) (off_use state) (use_of_text g text r state) (off_fits state) (text_fits text r state refl is)))))
 
-pub use-fits : (g : Generated) (signed : List (Bytes × Session)) (state : Bytes → ServiceState) (text : Bytes) (o : Option Session) → IfSome o (λ (v : Session). IsTrue (is_user g v.user)) → UseFits g (user_by o) (state (user_by o)) (use_by g signed (state (user_by o)) text o)
-use-fits g signed state text None h = unsigned-fits g [] (state []) signed (first_word text)
-use-fits g signed state text (Some v) h = signed-fits g v.user (state v.user) text (first_word text) h
+pub use_fits : (g : Generated) (signed : List (Bytes × Session)) (state : Bytes → ServiceState) (text : Bytes) (o : Option Session) → IfSome o (λ (v : Session). IsTrue (is_user g v.user)) → UseFits g (user_by o) (state (user_by o)) (use_by g signed (state (user_by o)) text o)
+use_fits g signed state text None h = unsigned_fits g [] (state []) signed (first_word text)
+use_fits g signed state text (Some v) h = signed_fits g v.user (state v.user) text (first_word text) h

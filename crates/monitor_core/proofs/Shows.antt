@@ -13,7 +13,7 @@ use Rattle.kdcs_types.specs.declared.key.Target.TheVariants.{Tac, Lterm}
 use Rattle.kdcs_types.specs.declared.service.Job.{Job}
 use Rattle.kdcs_types.specs.declared.service.JobValue.{JobValue}
 use Rattle.kdcs_types.specs.Same.{job_value_eq, target_eq}
-use Rattle.kdcs_types.specs.Tables.{TableRows, AreChanges, IsSortedTables, changed, shown_of}
+use Rattle.kdcs_types.specs.Tables.{TableRows, IsSortedTables, changed, shown_of}
 use Rattle.async_queue.specs.MarksLaws.{free_of}
 use Rattle.async_queue.specs.Queue.{free}
 use Rattle.abstract_monitor.specs.Bytes.{Bytes}
@@ -72,10 +72,6 @@ module _ (p : MonitorParts) (lterm : Bytes) (job : Job) (indexed : IsIndexed p) 
 
   made : ShownMade p.generation p.tables lterm job
   made = shown_made p.generation p.tables lterm job order (some_stands _ _ (due_stands (state_of p) lterm job order is_due))
-
-  -- the changes can be made
-  pub shown_fits : (changes : Changes) → changes ≡ shown_changes p.tables lterm job → AreChanges changes.items
-  shown_fits changes e = subst (λ (c : Changes). AreChanges c.items) (sym e) made.changes
 
   -- the step of a job that is shown
   pub shown_comes : (no_message : Bytes) (line_of : Bytes → Bytes) (changes : Changes) (line : Bytes) (after : State)

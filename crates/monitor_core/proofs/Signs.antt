@@ -1,19 +1,16 @@
 -- Sessions that end, and what a service does.
-use Rattle.std.specs.Prelude.{◌≡◌, refl, Bool, true, false, cond, not, ◌||◌, List, [], ◌∷◌, map, filter, Option, Some, None, codes, option_map, is_some}
+use Rattle.std.specs.Prelude.{◌≡◌, refl, Bool, true, false, cond, not, ◌||◌, List, [], ◌∷◌, map, filter, Option, Some, None, option_map, is_some}
 use Rattle.std.proofs.Common.{sym, ap, ◌∙◌}
 use Rattle.std.specs.FinMap.{find}
 use Rattle.std.specs.List.{list_any}
-use Rattle.kdcs_types.specs.declared.act.Act.{Act}
-use Rattle.kdcs_types.specs.declared.act.Act.TheVariants.{Emit}
 use Rattle.kdcs_types.specs.declared.key.ServiceId.{ServiceId}
 use Rattle.kdcs_types.specs.declared.key.ServiceId.TheVariants.{Dialogue}
 use Rattle.kdcs_types.specs.Keys.{id_cmp, id_eq}
 use Rattle.kdcs_types.specs.Tables.{service_of}
 use Rattle.abstract_monitor.specs.declared.input_use.ServiceState.{ServiceState}
 use Rattle.abstract_monitor.specs.Bytes.{Bytes, bytes_cmp}
-use Rattle.abstract_monitor.specs.Commands.{drop_by, no_place, rolled_tables, signed_off, use_now, user_at, user_by, withdrawn, without_session}
+use Rattle.abstract_monitor.specs.Commands.{no_place, rolled_tables, signed_off, use_now, user_at, user_by, withdrawn, without_session}
 use Rattle.abstract_monitor.specs.Endings.{restarts, with_service}
-use Rattle.abstract_monitor.specs.Lines.{sys_line}
 use Rattle.abstract_monitor.specs.Picks.{Classed}
 use Rattle.abstract_monitor.specs.Sessions.{awaits_by, in_place, is_awaiting, is_running, service_state, use_by, use_of}
 use Rattle.abstract_monitor.specs.State.{Application, Session, State}
@@ -24,7 +21,6 @@ use Rattle.core_state.specs.declared.parts.MonitorParts.{MonitorParts}
 use Rattle.core_state.specs.KeptLaws.{found_open}
 use Rattle.core_state.specs.Whole.{app_of}
 use Rattle.core_state.specs.Standing.{id_of, state_of}
-use Rattle.monitor_core.specs.Commanding.{Comes}
 
 -- ---- the service is ready or in a task
 
@@ -90,22 +86,6 @@ module _ (app : Application) (pterm user : Bytes) (s t u v : State) (withdraws :
   pub signs_off_over : (keeps : Bool) → keeps ≡ restarts app.generation user → keeps ≡ false → (w : State) → w ≡ record v { tables = with_service v.tables (Dialogue user) None } → w ≡ signed_off app s pterm user
   unfolding signed_off
   signs_off_over keeps is so w e = e ∙ ap (λ (x : State). record x { tables = with_service x.tables (Dialogue user) None }) without ∙ ap rolled (sym so ∙ is)
-
--- ---- a connection is lost
-
-pub drops_none : (app : Application) (s : State) (pterm : Bytes) (o : Option Session) → None ≡ option_map (λ (v : Session). v.user) o
-    → (acts : List Act) → acts ≡ Emit (sys_line pterm (codes "NOT SIGNED ON")) ∷ [] → Comes s acts (drop_by app s pterm o)
-drops_none app s pterm None e acts done = record { state = refl; acts = done }
-drops_none app s pterm (Some v) e acts done = absurd cc
-
-pub drops : (app : Application) (s t : State) (pterm user : Bytes) (o : Option Session) → Some user ≡ option_map (λ (v : Session). v.user) o
-    → t ≡ signed_off app s pterm user
-    → (acts : List Act) → acts ≡ Emit (sys_line pterm (codes "DROPPED")) ∷ [] → Comes t acts (drop_by app s pterm o)
-drops app s t pterm user None e came acts done = absurd cc
-drops app s t pterm user (Some v) e came acts done = record { state = came ∙ ap (signed_off app s pterm) (same e); acts = done }
-  where
-    same : Some user ≡ Some v.user → user ≡ v.user
-    same h = cc
 
 -- ---- what an input means
 

@@ -1,17 +1,17 @@
 -- A service goes on with an input: from its row, or after PEND KP.
-use Rattle.std.specs.Prelude.{◌≡◌, refl, ◌+◌, ◌<◌, ◌≤◌, ◌^◌, Bool, true, false, cond, not, List, [], ◌∷◌, ◌++◌, map, Option, Some, None, IfSome, is_some, if◌then◌else◌}
+use Rattle.std.specs.Prelude.{◌≡◌, refl, ◌+◌, ◌<◌, ◌≤◌, ◌^◌, ◌||◌, Bool, true, false, cond, not, List, [], ◌∷◌, ◌++◌, map, Option, Some, None, IfSome, is_some, if◌then◌else◌}
 use Rattle.std.proofs.Common.{ap, sym, subst, ◌∙◌, true≢false, arith}
 use Rattle.std.specs.List.{list_any}
 use Rattle.std.specs.FinMap.{find, put}
 use Rattle.std.specs.FinMap.Entries.{where_key}
-use Rattle.kd_base.specs.ToolsLaws.{some_is}
+use Rattle.kd_base.specs.ToolsLaws.{some_is, none_is}
 use Rattle.kdcs_types.specs.declared.key.Area.{Area}
 use Rattle.kdcs_types.specs.declared.key.ServiceId.{ServiceId}
 use Rattle.kdcs_types.specs.declared.key.ServiceId.TheVariants.{Dialogue}
 use Rattle.kdcs_types.specs.declared.run_state.Header.{Header}
 use Rattle.kdcs_types.specs.declared.service.Service.{Service}
 use Rattle.kdcs_types.specs.Keys.{area_eq, id_cmp, id_eq}
-use Rattle.kdcs_types.specs.KeyLaws.{id_eq-same}
+use Rattle.kdcs_types.specs.KeyLaws.{id_eq_same}
 use Rattle.kdcs_types.specs.Tables.{service_of}
 use Rattle.kdcdef_types.specs.Generation.{Generated}
 use Rattle.sorted_pairs.specs.MappedLaws.{put_mapped}
@@ -23,13 +23,13 @@ use Rattle.open_transaction.specs.Transactions.{Boxed, boxed_transaction}
 use Rattle.abstract_monitor.specs.declared.answer.Happened.{Happened}
 use Rattle.abstract_monitor.specs.declared.answer.Happened.TheVariants.{Held, Settles}
 use Rattle.abstract_monitor.specs.declared.outcome.Outcome.{Outcome}
-use Rattle.abstract_monitor.specs.declared.input_use.ServiceState.TheVariants.{Awaits}
+use Rattle.abstract_monitor.specs.declared.input_use.ServiceState.TheVariants.{Awaits, NoService}
 use Rattle.abstract_monitor.specs.Bytes.{Bytes}
 use Rattle.abstract_monitor.specs.Calls.{Told, nothing_told, touches}
 use Rattle.abstract_monitor.specs.Commands.{follow_up_of, held_tac, next_by, next_input}
 use Rattle.abstract_monitor.specs.Endings.{followed_by_input, header_of_row, is_asynchronous, opened}
 use Rattle.abstract_monitor.specs.Locks.{Active, Locks, Waiting, holder, holds, touched_by}
-use Rattle.abstract_monitor.specs.Sessions.{in_place, is_awaiting, is_running, service_state, service_state_by}
+use Rattle.abstract_monitor.specs.Sessions.{awaits_by, in_place, is_awaiting, is_running, service_state, service_state_by}
 use Rattle.abstract_monitor.specs.State.{Application, OpenTransaction, State}
 use Rattle.abstract_monitor.specs.Statements.{Stated, statement}
 use Rattle.abstract_monitor.specs.Turns.{queued, with_open}
@@ -38,37 +38,38 @@ use Rattle.laws_of_steps.specs.Transactions.{CanGoOn}
 use Rattle.laws_of_places.specs.EntriesLaws.{found_put, other_put}
 use Rattle.service_statement.specs.Stating.{waits_after}
 use Rattle.core_state.specs.declared.parts.MonitorParts.{MonitorParts}
-use Rattle.core_state.specs.ChangesLaws.{SameHolds, each_found, each_put, neither_of, places_stay, put_others, ready_stay}
+use Rattle.core_state.specs.ChangesLaws.{SameHolds, each_found, each_put, places_stay, put_others, ready_stay, neither}
 use Rattle.core_state.specs.KeptLaws.{found_open, found_owned, found_work, opened_state}
 use Rattle.core_state.specs.Kept.{with_active}
 use Rattle.core_state.specs.QueueLaws.{kept_queue}
 use Rattle.core_state.specs.Standing.{Each, HasClass, IsIndexed, IsOwned, PlaceHasClass, active_of, id_of, state_of}
 use Rattle.core_state.specs.Whole.{IsWhole, app_of}
 use Rattle.monitor_core.specs.Commanding.{Rests}
-use Rattle.monitor_core.specs.Counted.{HasRoom, IsAhead}
+use Rattle.monitor_core.specs.Counted.{DidFewer, IsAhead}
+use Rattle.laws_of_tables.specs.CommandedLaws.{awaits_not_running}
 
 -- ---- a service that awaits an input
-
-rests_by : (running awaiting : Bool) → service_state_by running awaiting ≡ Awaits → running ≡ false
-rests_by true awaiting e = absurd cc
-rests_by false awaiting e = refl
-
--- it is neither ready nor in a task
-pub awaiting_rests : (s : State) (user : Bytes) → service_state s user ≡ Awaits → is_running s (Dialogue user) ≡ false
-unfolding service_state
-awaiting_rests s user e = rests_by (is_running s (Dialogue user)) (is_awaiting s (Dialogue user)) e
-
-none_of : {A : Type 0} (o : Option A) → is_some o ≡ false → o ≡ None
-none_of None e = refl
-none_of (Some x) e = absurd (true≢false e)
 
 -- and rests without an open transaction
 pub awaiting_closed : (p : MonitorParts) (user : Bytes) (has : Bool) → has ≡ is_some (find id_cmp (Dialogue user) p.active) → has ≡ false → service_state (state_of p) user ≡ Awaits
     → Rests (state_of p) (Dialogue user)
 awaiting_closed p user has e none awaits = record {
-  closed = none_of (find id_cmp (Dialogue user) (state_of p).active) (sym (found_open p.active (Dialogue user)) ∙ sym e ∙ none);
-  unplaced = awaiting_rests (state_of p) user awaits;
+  closed = none_is (find id_cmp (Dialogue user) (state_of p).active) (sym (found_open p.active (Dialogue user)) ∙ sym e ∙ none);
+  unplaced = awaits_not_running (state_of p) user awaits;
 }
+
+-- and then has a row
+pub awaiting_row : (s : State) (user : Bytes) → Rests s (Dialogue user) → None ≡ service_of s.tables (Dialogue user) → service_state s user ≡ Awaits → ⊥
+unfolding service_state
+awaiting_row s user rests none awaits = apart (sym gone ∙ awaits)
+  where
+    gone : service_state_by (is_running s (Dialogue user)) (is_awaiting s (Dialogue user)) ≡ NoService
+    gone =
+        (λ i. service_state_by (rests.unplaced i) (is_some (rests.closed i) || awaits_by (service_of s.tables (Dialogue user))))
+        ∙ sym (ap (λ (o : Option Service). service_state_by false (awaits_by o)) none)
+
+    apart : NoService ≡ Awaits → ⊥
+    apart e = cc
 
 -- ---- what the input does, by where the service stands
 
@@ -84,9 +85,6 @@ module _ (app : Application) (s : State) (user lterm text : Bytes) where
   next_closed : find id_cmp (Dialogue user) s.active ≡ None → (row : Option Service) → row ≡ service_of s.tables (Dialogue user) → next_by app s user lterm text None row ≡ next_input app s user lterm text
   next_closed closed row e =
       ap (next_by app s user lterm text None) e ∙ sym (ap (λ (o : Option OpenTransaction). next_by app s user lterm text o (service_of s.tables (Dialogue user))) closed)
-
-  pub next_nowhere : Rests s (Dialogue user) → None ≡ service_of s.tables (Dialogue user) → s ≡ next_input app s user lterm text
-  next_nowhere rests e = next_closed rests.closed None e
 
   pub next_row : Rests s (Dialogue user) → (row : Service) → Some row ≡ service_of s.tables (Dialogue user) → (header : Header) → header ≡ header_of_row (Dialogue user) row lterm → (t : State)
       → t ≡ queued s (Dialogue user) (opened app.generation (Some row) header (text ∷ []) (text ∷ [])) → t ≡ next_input app s user lterm text
@@ -113,7 +111,7 @@ waits_none app s id c rests = by (find id_cmp id s.waits) refl
   where
     by : (o : Option Waiting) → find id_cmp id s.waits ≡ o → find id_cmp id s.waits ≡ None
     by None e = e
-    by (Some w) e = absurd (true≢false (sym (c.waiting id w e).placed ∙ (neither_of (list_any (id_eq id) s.ready) (list_any (in_place id) s.tasks) rests).1))
+    by (Some w) e = absurd (true≢false (sym (c.waiting id w e).placed ∙ (neither (list_any (id_eq id) s.ready) (list_any (in_place id) s.tasks) rests).1))
 
 -- ---- the locks stay as they are, where the transaction does
 
@@ -123,7 +121,7 @@ same_holder l m id x just follow area = follow area ∙ by (holder l area) (touc
     by : (o : Option ServiceId) (b : Bool) → is_holder o id ≡ b → (if b then Some id else other_than id o) ≡ o
     by None true e = absurd (true≢false (sym e))
     by None false e = refl
-    by (Some other) true e = ap (λ (i : ServiceId). Some i) (sym (id_eq-same other id e))
+    by (Some other) true e = ap (λ (i : ServiceId). Some i) (sym (id_eq_same other id e))
     by (Some other) false e = ap (λ (b : Bool). if b then None else Some other) e
 
 -- and in a further unit run it holds what it held
@@ -133,7 +131,7 @@ same_holds l m active id x y is touched follow same i area = ap (λ (o : Option 
   where
     by : (b : Bool) → id_eq i id ≡ b → holds active i area ≡ holds (put id_cmp id y active) i area
     by true e =
-        let own : i ≡ id = id_eq-same i id e in
+        let own : i ≡ id = id_eq_same i id e in
         ap (λ (k : ServiceId). holds active k area) own ∙ ap (λ (o : Option OpenTransaction). touched_by o area) is
         ∙ ap (list_any (λ (held : Area). area_eq held area)) (sym touched)
         ∙ sym (ap (λ (k : ServiceId). holds (put id_cmp id y active) k area) own ∙ ap (λ (o : Option OpenTransaction). touched_by o area) (found_put id y active))
@@ -168,11 +166,11 @@ module _ (p : MonitorParts) (user : Bytes) (transaction : Boxed) (whole : IsWhol
   pub has_nb : transaction.value.messages.nb ≡ p.generation.limits.nb
   has_nb = own.nb
 
-  has_room : IsAhead p → transaction.value.statements + 1 ≤ p.steps
-  has_room ahead = subst (λ (o : Option Boxed). IfSome o (λ (w : Boxed). HasRoom p.steps (its, w))) (sym there) (each_found (HasRoom p.steps) its p.active ahead)
+  did_fewer : IsAhead p → transaction.value.statements + 1 ≤ p.steps
+  did_fewer ahead = subst (λ (o : Option Boxed). IfSome o (λ (w : Boxed). DidFewer p.steps (its, w))) (sym there) (each_found (DidFewer p.steps) its p.active ahead)
 
   pub fits_count : IsAhead p → p.steps < 2 ^ 64 → transaction.value.statements + 1 < 2 ^ 64
-  fits_count ahead le = let a : transaction.value.statements + 1 ≤ p.steps = has_room ahead in omega arith
+  fits_count ahead le = let a : transaction.value.statements + 1 ≤ p.steps = did_fewer ahead in omega arith
 
   module _ (rests : is_running (state_of p) its ≡ false) (told : Told) (after : Boxed) (now : Happened)
       (does : (boxed_transaction after, now) ≡ statement (app_of p) told (is_asynchronous transaction.value.id) x) where
@@ -203,7 +201,7 @@ module _ (p : MonitorParts) (user : Bytes) (transaction : Boxed) (whole : IsWhol
 
     pub still_fits : IsAhead p → p.steps < 2 ^ 64 → after.value.statements + 1 < 2 ^ 64
     still_fits ahead le =
-        let a : transaction.value.statements + 1 ≤ p.steps = has_room ahead in
+        let a : transaction.value.statements + 1 ≤ p.steps = did_fewer ahead in
         let b : after.value.statements ≡ transaction.value.statements = ap (λ (y : OpenTransaction). y.statements) unchanged in
         omega arith
 
@@ -242,10 +240,10 @@ module _ (p : MonitorParts) (user : Bytes) (transaction : Boxed) (whole : IsWhol
       pub gone_indexed : IsAhead p → HoldersFollow p.locks locks transaction.value.id (boxed_transaction after) → next.value.id ≡ after.value.id → after.value.id ≡ transaction.value.id → next.value.messages.nb ≡ p.generation.limits.nb → IsIndexed gone_on
       gone_indexed ahead follow own_next own_after nb =
           let there_now = put_mapped id_cmp boxed_transaction its next p.active in
-          let nowhere = neither_of (list_any (id_eq its) (map id_of p.scheduler.ready)) (list_any (in_place its) (map service_in p.scheduler.places)) rests in
+          let nowhere = neither (list_any (id_eq its) (map id_of p.scheduler.ready)) (list_any (in_place its) (map service_in p.scheduler.places)) rests in
           let others = put_others its (boxed_transaction next) (active_of p.active) in
           let runs = further p.generation (boxed_transaction after) tac text in
-          let room : transaction.value.statements + 1 ≤ p.steps = has_room ahead in
+          let fewer : transaction.value.statements + 1 ≤ p.steps = did_fewer ahead in
           let count : next.value.statements ≡ after.value.statements + 1 = ap (λ (y : OpenTransaction). y.statements) goes ∙ runs.1 in
           let same : after.value.statements ≡ transaction.value.statements = ap (λ (y : OpenTransaction). y.statements) unchanged in
           let same_touched : (boxed_transaction next).touched ≡ x.touched = ap (λ (y : OpenTransaction). y.touched) goes ∙ runs.0 ∙ ap (λ (y : OpenTransaction). y.touched) unchanged in

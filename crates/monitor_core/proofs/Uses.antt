@@ -1,5 +1,5 @@
 -- What holds of a state where a terminal input has its use.
-use Rattle.std.specs.Prelude.{◌≡◌, refl, Bool, true, false, not, ◌||◌, ◌++◌, List, [], ◌∷◌, length, Option, Some, None, IsSome, is_some, option_map, nat_lt, bytes_eq, codes, if◌then◌else◌}
+use Rattle.std.specs.Prelude.{◌≡◌, refl, Bool, true, false, ◌||◌, ◌++◌, List, [], ◌∷◌, Option, Some, None, IsSome, is_some, option_map, bytes_eq, codes}
 use Rattle.std.proofs.Common.{sym, ap, subst, ◌∙◌, true≢false}
 use Rattle.std.specs.FinMap.{find}
 use Rattle.std.specs.List.{list_any}
@@ -8,7 +8,6 @@ use Rattle.kdcs_types.specs.declared.act.Act.TheVariants.{Emit}
 use Rattle.kdcs_types.specs.declared.key.ServiceId.TheVariants.{Dialogue}
 use Rattle.kdcs_types.specs.Keys.{id_cmp}
 use Rattle.kdcs_types.specs.Tables.{service_of}
-use Rattle.abstract_monitor.specs.declared.input_use.ServiceState.{ServiceState}
 use Rattle.abstract_monitor.specs.declared.input_use.ServiceState.TheVariants.{NoService}
 use Rattle.abstract_monitor.specs.declared.input_use.Use.{Use}
 use Rattle.abstract_monitor.specs.declared.input_use.Use.TheVariants.{Sign, Off, Next, Start}

@@ -1,8 +1,9 @@
 -- What a command of the code came to, as the definition says it.
-use Rattle.std.specs.Prelude.{◌≡◌, Bool, true, false, List, None, IsSome}
+use Rattle.std.specs.Prelude.{◌≡◌, ◌++◌, Bool, true, false, List, None, IsSome, codes}
 use Rattle.std.specs.FinMap.{find}
 use Rattle.kdcs_types.specs.declared.act.Act.{Act}
 use Rattle.kdcs_types.specs.declared.key.ServiceId.{ServiceId}
+use Rattle.kdcs_types.specs.declared.key.ServiceId.TheVariants.{Dialogue}
 use Rattle.kdcs_types.specs.Keys.{id_cmp}
 use Rattle.abstract_monitor.specs.declared.command.Command.{Command}
 use Rattle.abstract_monitor.specs.declared.command.Command.TheVariants.{Input, Tick, Run, Turn, Drop, Print, PrintLast, Restart}
@@ -11,10 +12,12 @@ use Rattle.abstract_monitor.specs.declared.input_use.ServiceState.TheVariants.{N
 use Rattle.abstract_monitor.specs.declared.input_use.Use.{Use}
 use Rattle.abstract_monitor.specs.declared.input_use.Use.TheVariants.{Sign, Off, Next, Start}
 use Rattle.abstract_monitor.specs.Bytes.{Bytes, bytes_cmp}
-use Rattle.abstract_monitor.specs.Commands.{ScriptStep, user_at}
-use Rattle.abstract_monitor.specs.Lines.{asy_line, prt_line}
+use Rattle.abstract_monitor.specs.Commands.{ScriptStep, held_tac, says, signed_off, user_at}
+use Rattle.abstract_monitor.specs.Endings.{followed_by_input}
+use Rattle.abstract_monitor.specs.Lines.{asy_line, prt_line, sys_line}
 use Rattle.abstract_monitor.specs.Sessions.{is_running, service_state}
-use Rattle.abstract_monitor.specs.State.{State}
+use Rattle.abstract_monitor.specs.State.{Application, OpenTransaction, State}
+use Rattle.abstract_monitor.specs.Turns.{queued}
 use Rattle.session_table.specs.Signed.{CanSignOn}
 use Rattle.monitor_core.specs.declared.showing.Shown.{Shown}
 use Rattle.monitor_core.specs.declared.showing.Shown.TheVariants.{Terminal, Printer}
@@ -41,6 +44,14 @@ IsFor s pterm Off = IsSome (find bytes_cmp pterm s.signed)
 IsFor s pterm (Next text) = HasService s pterm Awaits
 IsFor s pterm (Start tac text) = HasService s pterm NoService
 IsFor s pterm _ = Unit {0}
+
+-- KDCOFF of the user who is signed on at the PTERM
+abbrev pub off_step : Application → State → (pterm : Bytes) → ScriptStep
+off_step app s pterm = says (signed_off app s pterm (user_at s pterm)) (sys_line pterm (codes "SIGNED OFF " ++ user_at s pterm))
+
+-- the open transaction of a dialogue service stands at a PEND KP, and its follow-up reads the input
+abbrev pub queued_with : Application → State → (user : Bytes) → OpenTransaction → (text : Bytes) → State
+queued_with app s user x text = queued s (Dialogue user) (followed_by_input app.generation x (held_tac app x) text)
 
 -- the commands of one step that are no turn and no restart
 abbrev pub IsSingle : Command → Type 0

@@ -5,10 +5,10 @@ use Rattle.open_transaction.specs.Transactions.{Boxed}
 use Rattle.core_state.specs.declared.parts.MonitorParts.{MonitorParts}
 use Rattle.core_state.specs.Standing.{Each}
 
--- the transaction has room for one more statement within the count
-abbrev pub HasRoom : (steps : ℕ) → ServiceId × Boxed → Type 0
-HasRoom steps e = e.1.value.statements + 1 ≤ steps
+-- the transaction did fewer statements than this
+abbrev pub DidFewer : (steps : ℕ) → ServiceId × Boxed → Type 0
+DidFewer steps e = e.1.value.statements + 1 ≤ steps
 
 -- a turn or command is counted that no open transaction has done
 abbrev pub IsAhead : MonitorParts → Type 0
-IsAhead p = Each (HasRoom p.steps) p.active
+IsAhead p = Each (DidFewer p.steps) p.active

@@ -7,24 +7,21 @@ use Rattle.open_transaction.specs.Transactions.{Boxed}
 use Rattle.core_state.specs.declared.parts.MonitorParts.{MonitorParts}
 use Rattle.core_state.specs.Standing.{Each, IsIndexed, IsOwned}
 use Rattle.core_state.specs.Whole.{IsWhole}
-use Rattle.monitor_core.specs.Counted.{HasRoom, IsAhead}
+use Rattle.monitor_core.specs.Counted.{DidFewer, IsAhead}
+use Rattle.monitor_core.specs.SteppingLaws.{one_more}
 
-room : (g : Generated) (n : ℕ) (es : List (ServiceId × Boxed)) → Each (IsOwned g n) es → Each (HasRoom (n + 1)) es
-room g n [] h = tt
-room g n (e ∷ es) h = (let a : e.1.value.statements ≤ n = h.0.counted in omega arith, room g n es h.1)
+fewer_done : (g : Generated) (n : ℕ) (es : List (ServiceId × Boxed)) → Each (IsOwned g n) es → Each (DidFewer (n + 1)) es
+fewer_done g n [] h = tt
+fewer_done g n (e ∷ es) h = (let a : e.1.value.statements ≤ n = h.0.counted in omega arith, fewer_done g n es h.1)
 
 -- so it is once one more is counted
 pub one_ahead : (p : MonitorParts) → IsIndexed p → IsAhead (record p { steps = p.steps + 1 })
-one_ahead p h = room p.generation p.steps p.active h.owned
-
-counted : (g : Generated) (n : ℕ) (es : List (ServiceId × Boxed)) → Each (IsOwned g n) es → Each (IsOwned g (n + 1)) es
-counted g n [] h = tt
-counted g n (e ∷ es) h = (record { id = h.0.id; nb = h.0.nb; counted = (let a : e.1.value.statements ≤ n = h.0.counted in omega (arith, a)) }, counted g n es h.1)
+one_ahead p h = fewer_done p.generation p.steps p.active h.owned
 
 -- and the parts stay whole
 pub one_counted : (p : MonitorParts) → IsWhole p → IsWhole (record p { steps = p.steps + 1 })
 one_counted p h = record {
-  indexed = record { owned = counted p.generation p.steps p.active h.indexed.owned; ready = h.indexed.ready; places = h.indexed.places; locks = h.indexed.locks; jobs = h.indexed.jobs };
+  indexed = record { owned = one_more p.generation p.steps p.active h.indexed.owned; ready = h.indexed.ready; places = h.indexed.places; locks = h.indexed.locks; jobs = h.indexed.jobs };
   fit = h.fit;
   application = h.application;
   facts = h.facts;

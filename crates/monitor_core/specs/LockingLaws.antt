@@ -10,12 +10,12 @@ use Rattle.kd_base.specs.ToolsLaws.{both_true, some_is}
 use Rattle.kdcs_types.specs.declared.key.Area.{Area}
 use Rattle.kdcs_types.specs.declared.key.ServiceId.{ServiceId}
 use Rattle.kdcs_types.specs.Keys.{id_cmp, id_eq}
-use Rattle.kdcs_types.specs.KeyLaws.{id_total, id_eq-itself, id_eq-same}
+use Rattle.kdcs_types.specs.KeyLaws.{id_total, id_eq_itself, id_eq_same}
 use Rattle.kdcs_types.specs.Tables.{TableRows, content_of}
 use Rattle.area_locks.specs.Asked.{holds_area, is_holder, other_than}
 use Rattle.area_locks.specs.SameLocksLaws.{HaveSameLocks, same_answer}
 use Rattle.abstract_monitor.specs.declared.answer.LockAnswer.{LockAnswer}
-use Rattle.abstract_monitor.specs.Calls.{Told, touches}
+use Rattle.abstract_monitor.specs.Calls.{touches}
 use Rattle.abstract_monitor.specs.Locks.{Active, IsExclusive, Locks, holder, holds, told_now, touched_by}
 use Rattle.abstract_monitor.specs.State.{OpenTransaction}
 use Rattle.laws_of_places.specs.AreasLaws.{free_held, holder_holds, holder_in}
@@ -30,16 +30,13 @@ same_holder l active same sorted exclusive area = by (holder l area) refl (holde
     found j f = holder_holds active area j sorted f
 
     held : (i : ServiceId) → holder l area ≡ Some i → holds active i area ≡ true
-    held i e = sym (same i area) ∙ ap (λ (o : Option ServiceId). is_holder o i) e ∙ id_eq-itself i
+    held i e = sym (same i area) ∙ ap (λ (o : Option ServiceId). is_holder o i) e ∙ id_eq_itself i
 
     by : (o : Option ServiceId) → holder l area ≡ o → (q : Option ServiceId) → holder_in active area ≡ q → o ≡ q
     by None e None f = refl
     by None e (Some j) f = absurd (true≢false (sym (found j f) ∙ sym (same j area) ∙ ap (λ (o : Option ServiceId). is_holder o j) e))
     by (Some i) e None f = absurd (true≢false (sym (held i e) ∙ free_held active area f i))
     by (Some i) e (Some j) f = ap (λ (k : ServiceId). Some k) (exclusive i j area (held i e) (found j f))
-
-told_as : TableRows → Area → LockAnswer → Told
-told_as t area answer = record { answer = answer; content = content_of t area }
 
 -- with the same locks a statement is told the same
 pub same_told : (l m : Locks) → HaveSameLocks l m → (reswait : ℕ) (t : TableRows) (id : ServiceId) (of : Option Area) → told_now l reswait t id of ≡ told_now m reswait t id of
@@ -64,15 +61,15 @@ stated_holds l m active id y follow same exclusive i area = by (id_eq i id) refl
     was b t = ap (λ (o : Option ServiceId). is_holder o i) (follow area) ∙ ap (λ (c : Bool). is_holder (if c then Some id else other_than id (holder l area)) i) t
 
     none : id_eq i id ≡ false → touches y area ≡ true → (b : Bool) → holds (put id_cmp id y active) i area ≡ b → false ≡ b
-    none e t true h = absurd (true≢false (sym (ap (λ (k : ServiceId). id_eq k id) (exclusive i id area h (own ∙ t)) ∙ id_eq-itself id) ∙ e))
+    none e t true h = absurd (true≢false (sym (ap (λ (k : ServiceId). id_eq k id) (exclusive i id area h (own ∙ t)) ∙ id_eq_itself id) ∙ e))
     none e t false h = refl
 
     by : (a : Bool) → id_eq i id ≡ a → (b : Bool) → touches y area ≡ b → holds_area m i area ≡ holds (put id_cmp id y active) i area
     by true e true t =
-        let is : i ≡ id = id_eq-same i id e in
-        was true t ∙ ap (λ (k : ServiceId). id_eq id k) is ∙ id_eq-itself id ∙ sym (ap (λ (k : ServiceId). holds (put id_cmp id y active) k area) is ∙ own ∙ t)
+        let is : i ≡ id = id_eq_same i id e in
+        was true t ∙ ap (λ (k : ServiceId). id_eq id k) is ∙ id_eq_itself id ∙ sym (ap (λ (k : ServiceId). holds (put id_cmp id y active) k area) is ∙ own ∙ t)
     by true e false t =
-        let is : i ≡ id = id_eq-same i id e in
+        let is : i ≡ id = id_eq_same i id e in
         was false t ∙ apart id i (holder l area) true e ∙ sym (ap (λ (k : ServiceId). holds (put id_cmp id y active) k area) is ∙ own ∙ t)
     by false e true t = was true t ∙ turned i id e ∙ none e t (holds (put id_cmp id y active) i area) refl
     by false e false t =

@@ -14,17 +14,17 @@ use Rattle.kdcs_types.specs.declared.key.Target.TheVariants.{Tac, Lterm}
 use Rattle.kdcs_types.specs.declared.service.Job.{Job}
 use Rattle.kdcs_types.specs.Keyed.{ascends, item_at, keyed}
 use Rattle.kdcs_types.specs.Keys.{id_eq, key_cmp, key_eq}
-use Rattle.kdcs_types.specs.KeyLaws.{key_eq-itself, key_total}
+use Rattle.kdcs_types.specs.KeyLaws.{key_eq_itself, key_total}
 use Rattle.kdcs_types.specs.Tables.{job_key, job_of}
 use Rattle.async_queue.specs.MarksLaws.{free_of}
 use Rattle.async_queue.specs.Queue.{free}
 use Rattle.abstract_monitor.specs.declared.work.Work.{Work}
 use Rattle.abstract_monitor.specs.declared.work.Work.TheVariants as work
 use Rattle.abstract_monitor.specs.Bytes.{Bytes}
-use Rattle.abstract_monitor.specs.Picks.{Classed, class_of, classed, current_by, due_job, earlier_of, free_jobs, is_earlier, is_free, least_job, pick, pick_work, place_classes, ready_classes, service_is_allowed, target_is_allowed}
+use Rattle.abstract_monitor.specs.Picks.{Classed, classed, due_job, earlier_of, free_jobs, is_earlier, is_free, least_job, pick, pick_work, service_is_allowed, target_is_allowed}
 use Rattle.abstract_monitor.specs.State.{Application, State}
 use Rattle.abstract_monitor.specs.Turns.{with_task}
-use Rattle.step_scheduler.specs.Schedule.{Schedule, picked, service_in, took_job, took_service, with_place, without_ready}
+use Rattle.step_scheduler.specs.Schedule.{Schedule, picked, service_in, took_job, took_service}
 use Rattle.core_state.specs.declared.parts.MonitorParts.{MonitorParts}
 use Rattle.core_state.specs.ChangesLaws.{each_set, each_where, map_set, ready_without}
 use Rattle.core_state.specs.KeptLaws.{scheduled, with_schedule}
@@ -100,7 +100,7 @@ each_found : (jobs : List Job) → IsTrue (ascends job_key jobs) → Each (IsFou
 each_found [] up = tt
 each_found (j ∷ js) up =
     let parts = both_true (below_all key_cmp (job_key j) (keyed job_key js)) (ascends job_key js) up in
-    (ap (λ b. cond b (Some j) (item_at job_key (job_key j) js)) (key_eq-itself (job_key j)), later_found j js js parts.0 (each_found js parts.1))
+    (ap (λ b. cond b (Some j) (item_at job_key (job_key j) js)) (key_eq_itself (job_key j)), later_found j js js parts.0 (each_found js parts.1))
 
 -- a job that a free task may take: no open service has it, and it is for a TAC
 pub record IsTakeable (g : Generated) (s : State) (j : Job) : Type 0 where

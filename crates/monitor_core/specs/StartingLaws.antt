@@ -4,8 +4,7 @@ use Rattle.std.proofs.Common.{ap, sym, ◌∙◌, true≢false, append_assoc}
 use Rattle.std.proofs.lemmas.List.{append-nil}
 use Rattle.std.specs.List.{list_all, list_any}
 use Rattle.std.specs.Ordering.{is_lt, is_eq, ordering_reverse}
-use Rattle.std.specs.declared.cmp.Ordering.{Ordering}
-use Rattle.std.specs.declared.cmp.Ordering.TheVariants.{Less, Equal, Greater}
+use Rattle.std.specs.declared.cmp.Ordering.TheVariants.{Less, Greater}
 use Rattle.std.specs.FinMap.{put, is_sorted}
 use Rattle.std.specs.FinMap.Entries.{below_all, by_order}
 use Rattle.kd_base.specs.ToolsLaws.{both_true}
@@ -28,6 +27,7 @@ use Rattle.laws_of_places.specs.EntriesLaws.{other_put}
 use Rattle.core_state.specs.ChangesLaws.{each_push, each_where}
 use Rattle.core_state.specs.Standing.{Each}
 use Rattle.monitor_core.specs.Starting.{at_rest, opened_then, all_opened, IsFresh, IsApart, AreFresh}
+use Rattle.kd_base.specs.OrderLaws.{is_less}
 
 -- ---- rows in the order of their services
 
@@ -44,16 +44,11 @@ abbrev pub AreOfJobs : List Service → Type 0
 AreOfJobs [] = Unit {0}
 AreOfJobs (row ∷ rows) = (service_fits row ≡ true) × (is_asynchronous row.id ≡ true) × AreOfJobs rows
 
-less : (r : Ordering) → is_lt r ≡ true → r ≡ Less
-less Less e = refl
-less Equal e = absurd (true≢false (sym e))
-less Greater e = absurd (true≢false (sym e))
-
 behind_of : (id : ServiceId) (rows : List Service) → below_all key_cmp (key.Service id) (keyed service_key rows) ≡ true → ComeBehind id rows
 behind_of id [] h = tt
 behind_of id (row ∷ rows) h =
     let parts = both_true (is_lt (id_cmp id row.id)) (below_all key_cmp (key.Service id) (keyed service_key rows)) h in
-    (less (id_cmp id row.id) parts.0, behind_of id rows parts.1)
+    (is_less (id_cmp id row.id) parts.0, behind_of id rows parts.1)
 
 rise_of : (rows : List Service) → ascends service_key rows ≡ true → Rise rows
 rise_of [] h = tt

@@ -1,7 +1,7 @@
 -- A statement of a service in a task, by the parts and in their state.
-use Rattle.std.specs.Prelude.{◌≡◌, refl, ◌+◌, ◌-◌, ◌≤◌, ◌<◌, ◌^◌, ℕ, IsTrue, List, Option, Some, None, is_some, option_map, slice_get}
+use Rattle.std.specs.Prelude.{◌≡◌, refl, ◌+◌, ◌≤◌, ◌<◌, ◌^◌, ℕ, List, Option, Some, None, option_map}
 use Rattle.std.proofs.Common.{ap, sym, subst, ◌∙◌, arith}
-use Rattle.std.specs.FinMap.{find, put}
+use Rattle.std.specs.FinMap.{find}
 use Rattle.kd_base.specs.ToolsLaws.{some_is}
 use Rattle.kdcs_types.specs.declared.key.Area.{Area}
 use Rattle.kdcs_types.specs.declared.key.ServiceId.{ServiceId}

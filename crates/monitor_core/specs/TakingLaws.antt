@@ -56,9 +56,6 @@ took_picked p task w h e = ap (took_by p task) (e ∙ picks p h)
 pub took_none : (p : MonitorParts) (task : ℕ) (schedule : Schedule) → Picked p task schedule None → unmoved (state_of (with_schedule p schedule)) ≡ took_by p task None
 took_none p task schedule is = ap (λ (s : Schedule). unmoved (state_of (with_schedule p s))) is
 
-pub none_indexed : (p : MonitorParts) (task : ℕ) (schedule : Schedule) → Picked p task schedule None → IsIndexed p → IsIndexed (with_schedule p schedule)
-none_indexed p task schedule is h = subst (λ (s : Schedule). IsIndexed (with_schedule p s)) (sym is) h
-
 pub took_ready : (p : MonitorParts) (task : ℕ) (schedule : Schedule) (id : ServiceId) → Picked p task schedule (Some (work.Service id))
     → moved_to (state_of (with_schedule p schedule)) [] ≡ took_by p task (Some (work.Service id))
 took_ready p task schedule id h = ap (λ (s : State). moved_to s []) (took_state p task schedule (id, h.0) h.2)

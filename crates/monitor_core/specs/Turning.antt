@@ -14,11 +14,10 @@ use Rattle.abstract_monitor.specs.Bytes.{Bytes}
 use Rattle.abstract_monitor.specs.Endings.{opened_by_job}
 use Rattle.abstract_monitor.specs.State.{Application, OpenTransaction, State}
 use Rattle.abstract_monitor.specs.Statements.{area_of}
-use Rattle.abstract_monitor.specs.Turns.{waiting_for, with_open, without_wait}
+use Rattle.abstract_monitor.specs.Turns.{statement_now, waiting_for, with_open, without_wait}
 use Rattle.open_transaction.specs.Transactions.{Boxed, boxed_transaction}
 use Rattle.core_state.specs.declared.parts.MonitorParts.{MonitorParts}
 use Rattle.core_state.specs.Kept.{with_active}
-use Rattle.core_state.specs.Standing.{IsIndexed, state_of}
 
 -- the task holds the service
 abbrev pub IsHeldBy : State → (task : ℕ) → ServiceId → Type 0
@@ -55,3 +54,7 @@ state_then app s id x y (Held tac) = without_wait s id
 state_then app s id x y (Settles o) = s
 state_then app s id x y (Breaks ending) = s
 state_then app s id x y Returns = s
+
+-- the same for its next statement
+abbrev pub state_by : Application → State → ServiceId → OpenTransaction → Happened → State
+state_by app s id x happened = state_then app s id x (statement_now app s id x).0 happened

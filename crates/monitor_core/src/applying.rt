@@ -39,7 +39,11 @@ fn print(
 
 // The step of a command that was counted.
 #[tactic(auto, unfolding(abstract_monitor::specs::Commands::command_of))]
-fn perform(parts: &mut MonitorParts, alloc: Global, command: &Command) -> Result<Acts, OutOfMemory>
+fn do_command(
+    parts: &mut MonitorParts,
+    alloc: Global,
+    command: &Command,
+) -> Result<Acts, OutOfMemory>
     requires whole { IsWhole parts.old }
     requires single { IsSingle command.now }
     requires names { IsCommandOf parts.old.generation command.now }
@@ -80,5 +84,5 @@ pub(crate) fn apply(
     states_stay_consistent();
     states_stay_sound();
     parts.steps += 1;
-    perform(parts, alloc, command)
+    do_command(parts, alloc, command)
 }

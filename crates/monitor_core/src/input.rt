@@ -1,9 +1,9 @@
 //! Terminal inputs: what they mean, and what is done.
 ghost use Rattle.std.specs.{Prelude.{◌≡◌, ◌<◌, ◌^◌, ◌++◌, [], IfOk, IsSome, IsTrue, OnOk, codes}, FinMap.{find}};
 ghost use Rattle.kdcdef_types.specs.Generation.{pterm_of};
-ghost use Rattle.abstract_monitor.specs.{CommandsOf.{is_pterm}, declared.command.Command.TheVariants.{Input}, declared.input_use.ServiceState.TheVariants.{Awaits, NoService}, Bytes.{bytes_cmp}, Commands.{command_of, lterm_at, lterm_by, next_input, says, signed_off, start_service, uncommitted, use_now, used, user_at}, Lines.{sys_line}, Sessions.{is_awaiting, service_state}};
+ghost use Rattle.abstract_monitor.specs.{CommandsOf.{is_pterm}, declared.command.Command.TheVariants.{Input}, declared.input_use.ServiceState.TheVariants.{Awaits, NoService}, Bytes.{bytes_cmp}, Commands.{command_of, lterm_at, lterm_by, next_input, says, start_service, uncommitted, use_now, used, user_at}, Lines.{sys_line}, Sessions.{is_awaiting, service_state}};
 ghost use Rattle.core_state.specs.{Whole.{app_of, IsWhole}, Standing.{IsIndexed, SameApplication, state_of}};
-ghost use Rattle.monitor_core.specs.{Commanding.{Comes, HasService, IsFor}, Counted.{IsAhead}};
+ghost use Rattle.monitor_core.specs.{Commanding.{Comes, HasService, IsFor, off_step}, Counted.{IsAhead}};
 
 use crate::message::{line_alone, say};
 use crate::showing::{Shown, display, show_again, show_next};
@@ -63,7 +63,7 @@ pub(crate) fn use_of(parts: &MonitorParts, pterm: &Name, text: &[u8]) -> Result<
 fn leave(parts: &mut MonitorParts, alloc: Global, pterm: &Name) -> Result<Acts, OutOfMemory>
     requires indexed { IsIndexed parts.old }
     requires signed { IsSome (find bytes_cmp pterm.now (state_of parts.old).signed) }
-    ensures exact { IfOk result (λ acts. Comes (state_of parts.new) acts (says (signed_off (app_of parts.old) (state_of parts.old) pterm.now (user_at (state_of parts.old) pterm.now)) (sys_line pterm.now (codes "SIGNED OFF " ++ user_at (state_of parts.old) pterm.now)))) }
+    ensures exact { IfOk result (λ acts. Comes (state_of parts.new) acts (off_step (app_of parts.old) (state_of parts.old) pterm.now)) }
     ensures indexed { OnOk result (IsIndexed parts.new) }
     ensures same { OnOk result (SameApplication parts.old parts.new) }
 {

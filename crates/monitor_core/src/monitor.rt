@@ -68,9 +68,8 @@ impl Core {
     {
         fitted_units_make_an_application(&generation, &units);
         replays_hold_along_every_script();
-        // The tables are in order, and the limits in their ranges.
-        let _clock = tables.clock();
-        let _limits = generation.max();
+        let _clock = tables.clock(); // for the proof
+        let _limits = generation.max(); // for the proof
         Ok(Core {
             parts: parts_of(alloc, generation, units, tables)?,
         })

@@ -144,8 +144,7 @@ pub(crate) fn parts_of(
     ensures units { IfOk result (λ parts. parts.value.units ≡ units) }
     ensures steps { IfOk result (λ parts. parts.value.steps ≡ 0) }
 {
-    // The tables are in order.
-    let _clock = tables.clock();
+    let _clock = tables.clock(); // for the proof
     let (scheduler, jobs) = queues(alloc, &generation, &tables)?;
     let resting = at_rest(alloc, generation, units, tables, scheduler, jobs);
     let mut parts = Box::new(alloc, resting)?;

@@ -1,10 +1,11 @@
 //! Inputs that services read.
-ghost use Rattle.std.specs.{Prelude.{◌≡◌, ◌∷◌, [], ◌<◌, ◌^◌, false, Some, OnOk}, FinMap.{find}};
-ghost use Rattle.kdcs_types.specs.{declared.key.ServiceId.TheVariants.{Dialogue}, Keys.{id_cmp}};
-ghost use Rattle.abstract_monitor.specs.{declared.input_use.ServiceState.TheVariants.{Awaits}, Commands.{held_tac, next_input, start_service}, Endings.{followed_by_input, opened}, Sessions.{is_running, service_state}, State.{OpenTransaction as Transaction}, Turns.{queued}};
+ghost use Rattle.std.specs.Prelude.{◌≡◌, ◌∷◌, [], ◌<◌, ◌^◌, false, OnOk};
+ghost use Rattle.kdcs_types.specs.declared.key.ServiceId.TheVariants.{Dialogue};
+ghost use Rattle.abstract_monitor.specs.{declared.input_use.ServiceState.TheVariants.{Awaits}, Commands.{next_input, start_service}, Endings.{opened}, Sessions.{is_running, service_state}, Turns.{queued}};
 ghost use Rattle.open_transaction.specs.Transactions.{HasOrder};
 ghost use Rattle.core_state.specs.{Whole.{app_of, IsWhole}, Standing.{IsIndexed, SameApplication, state_of}};
-ghost use Rattle.monitor_core.specs.{Commanding.{Rests}, Counted.{IsAhead}};
+ghost use Rattle.service_ends.specs.Ending.{ForOpen};
+ghost use Rattle.monitor_core.specs.{Commanding.{Rests, queued_with}, Counted.{IsAhead}};
 
 use crate::signing::row_of;
 use abstract_monitor::Happened;
@@ -12,7 +13,7 @@ use core_state::MonitorParts;
 use kd_base::{Bytes, Name, OutOfMemory};
 use kdcs_types::{Header, Parts, Service, ServiceId};
 use service_ends::header_of_row;
-use service_statement::perform_statement;
+use service_statement::do_statement;
 use std::alloc::Global;
 
 // A service at rest opens a transaction, from its row if it has one, that has this input to read, and is at the back of the
@@ -69,7 +70,8 @@ pub(crate) fn start_service(
     )
 }
 
-// The open transaction stands at a PEND KP, whose statement is done now: its follow-up reads the input.
+// The open transaction stands at a PEND KP, whose statement is done now, since only its place was kept: its follow-up reads
+// the input.
 fn follow_keep(
     parts: &mut MonitorParts,
     alloc: Global,
@@ -80,7 +82,7 @@ fn follow_keep(
     requires rests { is_running (state_of parts.old) (Dialogue user.now) ≡ false }
     requires ahead { IsAhead parts.old }
     requires steps { parts.old.steps < 2 ^ 64 }
-    ensures state { OnOk result ((x : Transaction) → find id_cmp (Dialogue user.now) (state_of parts.old).active ≡ Some x → state_of parts.new ≡ queued (state_of parts.old) (Dialogue user.now) (followed_by_input parts.old.generation x (held_tac (app_of parts.old) x) text)) }
+    ensures state { OnOk result (ForOpen (state_of parts.old) (Dialogue user.now) (λ x. state_of parts.new ≡ queued_with (app_of parts.old) (state_of parts.old) user.now x text)) }
     ensures indexed { OnOk result (IsIndexed parts.new) }
     ensures same { OnOk result (SameApplication parts.old parts.new) }
 {
@@ -88,7 +90,7 @@ fn follow_keep(
     let Some(transaction) = parts.active.get_mut(&id) else {
         return Ok(());
     };
-    match perform_statement(
+    match do_statement(
         alloc,
         &parts.generation,
         &parts.units,
@@ -128,7 +130,7 @@ pub(crate) fn next_input(
         return follow_keep(parts, alloc, user, text);
     }
     let Some(row) = row_of(&parts.tables, user)? else {
-        return Ok(());
+        unreachable!()
     };
     let header = header_of_row(&id, &row, lterm);
     open_with(parts, alloc, &id, Some(row), header, text)

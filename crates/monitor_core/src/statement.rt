@@ -1,22 +1,22 @@
 //! The next statement of a service.
-ghost use Rattle.std.specs.{Prelude.{◌≡◌, ◌+◌, ◌<◌, ◌^◌, false, Some, IfOk, IfSome, IsSome, OnOk}, FinMap.{find}};
-ghost use Rattle.kdcs_types.specs.Keys.{id_cmp};
-ghost use Rattle.abstract_monitor.specs.{Sessions.{is_running}, State.{OpenTransaction as Transaction}, Turns.{statement_now, with_task}};
+ghost use Rattle.std.specs.Prelude.{◌≡◌, ◌+◌, ◌<◌, ◌^◌, IfOk, OnOk};
+ghost use Rattle.abstract_monitor.specs.Turns.{statement_now};
 ghost use Rattle.step_scheduler.specs.Schedule.{IsTask};
 ghost use Rattle.core_state.specs.{Standing.{IsIndexed, state_of}, Whole.{IsWhole, app_of}};
-ghost use Rattle.monitor_core.specs.Turning.{state_then, IsHeldBy};
+ghost use Rattle.service_ends.specs.Ending.{ForOpen};
+ghost use Rattle.monitor_core.specs.Turning.{state_by, IsHeldBy};
 
 use abstract_monitor::Happened;
 use core_state::MonitorParts;
 use kd_base::OutOfMemory;
 use kdcs_types::ServiceId;
-use service_statement::perform_statement;
+use service_statement::do_statement;
 use std::alloc::Global;
 use step_scheduler::class_of;
 
 /// The next statement of the service of a task, before what follows it: the transaction, its locks and its wait are as the
 /// statement leaves them, and the task has the class of the TAC that runs then.
-pub(crate) fn perform(
+pub(crate) fn next_statement(
     parts: &mut MonitorParts,
     alloc: Global,
     task: u16,
@@ -26,8 +26,8 @@ pub(crate) fn perform(
     requires task { IsTask task parts.old.scheduler }
     requires held { IsHeldBy (state_of parts.old) task id.now }
     requires steps { parts.old.steps + 1 < 2 ^ 64 }
-    ensures exact { IfOk result (λ happened. (x : Transaction) → find id_cmp id.now (state_of parts.old).active ≡ Some x → happened ≡ (statement_now (app_of parts.old) (state_of parts.old) id.now x).1) }
-    ensures state { IfOk result (λ happened. (x : Transaction) → find id_cmp id.now (state_of parts.old).active ≡ Some x → state_of parts.new ≡ state_then (app_of parts.old) (state_of parts.old) id.now x (statement_now (app_of parts.old) (state_of parts.old) id.now x).0 happened) }
+    ensures exact { IfOk result (λ happened. ForOpen (state_of parts.old) id.now (λ x. happened ≡ (statement_now (app_of parts.old) (state_of parts.old) id.now x).1)) }
+    ensures state { IfOk result (λ happened. ForOpen (state_of parts.old) id.now (λ x. state_of parts.new ≡ state_by (app_of parts.old) (state_of parts.old) id.now x happened)) }
     ensures indexed { OnOk result (IsIndexed parts.new) }
     ensures generation { OnOk result (parts.new.generation ≡ parts.old.generation) }
     ensures units { OnOk result (parts.new.units ≡ parts.old.units) }
@@ -35,9 +35,9 @@ pub(crate) fn perform(
 {
     parts.steps += 1;
     let Some(transaction) = parts.active.get_mut(id) else {
-        return Ok(Happened::Returns);
+        unreachable!()
     };
-    let happened = perform_statement(
+    let happened = do_statement(
         alloc,
         &parts.generation,
         &parts.units,

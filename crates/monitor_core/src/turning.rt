@@ -7,7 +7,7 @@ ghost use Rattle.service_ends.specs.Ending.{turned_to};
 ghost use Rattle.core_state.specs.{Standing.{IsIndexed, state_of}, Whole.{IsWhole, app_of}};
 ghost use Rattle.monitor_core.specs.Turning.{IsHeldBy};
 
-use crate::statement::perform;
+use crate::statement::next_statement;
 use crate::take::take;
 use abstract_monitor::Happened;
 use core_state::MonitorParts;
@@ -35,7 +35,7 @@ fn serve(
     ensures units { OnOk result (parts.new.units ≡ parts.old.units) }
     ensures steps { OnOk result (parts.new.steps ≡ parts.old.steps + 1) }
 {
-    match perform(parts, alloc, task, id)? {
+    match next_statement(parts, alloc, task, id)? {
         Happened::Went => Ok(Turned::quiet(alloc, true)),
         Happened::Waited => Ok(Turned::quiet(alloc, false)),
         Happened::Queued => queue(parts, alloc, task, id),

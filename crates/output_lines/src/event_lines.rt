@@ -1,6 +1,6 @@
 //! One output line for each event, ended by LF. Each call takes memory for its line.
 ghost use Rattle.std.specs.Prelude.{◌≡◌, ◌∷◌, ◌++◌, codes, decimal, IfOk, OnOk};
-ghost use Rattle.abstract_monitor.specs.Lines.{line, out_line, asy_line, prt_line, sys_line, no_message_line, ended_line, owner_text, dump_line, tick_line, tick_refused_line, restart_line};
+ghost use Rattle.abstract_monitor.specs.Lines.{line, out_line, asy_line, prt_line, sys_line, no_message_line, ended_line, owner_text, dump_line, tick_line, tick_refused_line};
 
 use crate::texts::cause_text;
 use kd_base::{Bytes, Name, OutOfMemory, escape};
@@ -149,11 +149,4 @@ pub fn tick_refused_line(alloc: Global) -> Result<Bytes, OutOfMemory>
     ensures { IfOk result (λ out. out ≡ tick_refused_line) }
 {
     Bytes::from_slice(alloc, b"TICK REFUSED\n")
-}
-
-/// `RESTART`: the monitor starts again from its durable tables.
-pub fn restart_line(alloc: Global) -> Result<Bytes, OutOfMemory>
-    ensures { IfOk result (λ out. out ≡ restart_line) }
-{
-    Bytes::from_slice(alloc, b"RESTART\n")
 }

@@ -14,7 +14,7 @@ mod texts;
 mod words;
 
 pub use event_lines::{
-    asy_line, dump_line, ended_line, no_message_line, out_line, owner_text, prt_line, restart_line,
+    asy_line, dump_line, ended_line, no_message_line, out_line, owner_text, prt_line,
     signed_off_line, signed_on_line, sys_line, tick_line, tick_refused_line,
 };
 pub use listing::table_lines;

@@ -5,15 +5,10 @@ use Rattle.std.proofs.lemmas.List.{drop_more}
 use Rattle.std.specs.Cmp.{IsTotalOrder}
 use Rattle.std.specs.Ordering.{is_lt}
 use Rattle.std.specs.declared.cmp.Ordering.{Ordering}
-use Rattle.std.specs.declared.cmp.Ordering.TheVariants.{Less, Equal, Greater}
 use Rattle.std.specs.FinMap.{is_sorted}
 use Rattle.std.specs.FinMap.Entries.{below_all}
 use Rattle.kd_base.specs.ToolsLaws.{both_true, true_both}
-
-is_less : (r : Ordering) → IsTrue (is_lt r) → r ≡ Less
-is_less Less p = refl
-is_less Equal p = absurd (true≢false (sym p))
-is_less Greater p = absurd (true≢false (sym p))
+use Rattle.kd_base.specs.OrderLaws.{is_less}
 
 joined : (a b c d : Bool) → (IsTrue a → IsTrue c → IsTrue b) → ((a && b) && (c && d)) ≡ (a && (c && d))
 joined true true c d h = refl

@@ -13,13 +13,6 @@ use Rattle.kd_base.specs.RoundTripsLaws.{u8_comes_back, u32_comes_back, u64_come
 use Rattle.kd_base.specs.ToolsLaws.{chosen, some_is, map_some, and_some}
 use Rattle.record_codec.specs.Fields.{AreBytes, field, name_field, number_field, list_field, IsShort, both, items, counted_items, FitAll, chosen_by, either}
 
--- what is read from the front, and what is left behind it; none where no such thing stands there
-abbrev pub Found : Type 0 → Type 0
-Found A = Option (A × List ℕ)
-
-abbrev pub Reading : Type 0 → Type 0
-Reading A = List ℕ → Found A
-
 -- what was written is read again, whatever follows; and what is read was written so
 pub record IsReading {A : Type 0} (reads : List ℕ → Option (A × List ℕ)) (bytes_of : A → List ℕ) (Fits : A → Type 0) : Type 0 where
   pub comes_back : (x : A) (rest : List ℕ) → Fits x → reads (bytes_of x ++ rest) ≡ Some (x, rest)

@@ -3,7 +3,6 @@ use Rattle.std.specs.Prelude.{◌≡◌, refl, ℕ, zero, suc, ◌+◌, ◌-◌,
 use Rattle.std.proofs.Common.{arith, sym, ap, subst, ◌∙◌, inl, inr, length-append, true≢false}
 use Rattle.std.proofs.Math.Nat.{mul-le-mul_right, pow-suc}
 use Rattle.std.proofs.lemmas.Nat.{from_be_bytes-to_be_bytes_8, mod_below}
-use Rattle.std.proofs.lemmas.List.{length-replicate}
 use Rattle.std.proofs.lemmas.Bool.{cases_lt, eqb-true}
 use Rattle.std.proofs.lemmas.Bool.Decides.{nat_tests}
 use Rattle.std.specs.Cmp.Lexicographic.{slice_cmp}
@@ -21,6 +20,8 @@ use Rattle.kdcs_types.specs.declared.key.ServiceId.TheVariants.{Dialogue, Asynch
 use Rattle.kdcs_types.specs.Keys.{key_kind, key_cmp, texts_behind, texts_cmp}
 use Rattle.record_codec.specs.Values.{filled, key_bytes, record_key}
 use Rattle.record_codec.specs.Order.{IsProperKey, KeysKeepTheirOrder}
+use Rattle.kd_base.specs.RoundTripsLaws.{padded_len}
+use Rattle.kd_base.specs.OrderLaws.{greater_is}
 
 abbrev bytes_cmp : List ℕ → List ℕ → Ordering
 bytes_cmp = slice_cmp nat_cmp
@@ -29,12 +30,6 @@ bytes_cmp = slice_cmp nat_cmp
 
 less_is : (m n : ℕ) → m < n → nat_cmp m n ≡ Less
 less_is m n h = let t : nat_lt m n ≡ true = grind (arith, nat_tests) in rw t refl
-
-greater_is : (m n : ℕ) → n < m → nat_cmp m n ≡ Greater
-greater_is m n h =
-    let t : nat_lt m n ≡ false = grind (arith, nat_tests) in
-    let e : (m == n) ≡ false = grind (arith, nat_tests) in
-    rw (t, e) refl
 
 equal_is : (n : ℕ) → nat_cmp n n ≡ Equal
 equal_is n =
@@ -176,9 +171,6 @@ filled_cmp (suc n) (x ∷ xs) (y ∷ ys) h k f g =
 pub name_order : (a b : List ℕ) → IsName a → IsName b → bytes_cmp (padded a) (padded b) ≡ bytes_cmp a b
 name_order a b h k = filled_cmp 8 a b h.1 k.1 (name_filled a h.2) (name_filled b k.2)
 
-pub padded_length : (a : List ℕ) → IsName a → length (padded a) ≡ 8
-padded_length a h = let spaces : length (replicate {A = ℕ} (8 - length a) 32) ≡ 8 - length a = length-replicate {A = ℕ} (8 - length a) 32 in omega (arith, length-append a (replicate (8 - length a) 32), spaces, h.1)
-
 -- ---- keys
 
 -- the bytes of keys of one kind are as many, and ordered as their texts are
@@ -188,23 +180,23 @@ record SameOrder (a b : Key) : Type 0 where
 
 two_names : (a b c d : List ℕ) → IsName a → IsName b → IsName c → IsName d → bytes_cmp (padded a ++ padded c) (padded b ++ padded d) ≡ texts_cmp (a ∷ c ∷ []) (b ∷ d ∷ [])
 two_names a b c d ha hb hc hd =
-    joined_cmp (padded a) (padded b) (padded c) (padded d) (padded_length a ha ∙ sym (padded_length b hb))
+    joined_cmp (padded a) (padded b) (padded c) (padded d) (padded_len a ha ∙ sym (padded_len b hb))
     ∙ ap (λ o. ordering_then o (bytes_cmp (padded c) (padded d))) (name_order a b ha hb)
     ∙ ap (ordering_then (bytes_cmp a b)) (name_order c d hc hd ∙ sym (then_equal (bytes_cmp c d)))
 
 two_long : (a b c d : List ℕ) → IsName a → IsName b → IsName c → IsName d → length (padded a ++ padded c) ≡ length (padded b ++ padded d)
-two_long a b c d ha hb hc hd = omega (arith, length-append (padded a) (padded c), length-append (padded b) (padded d), padded_length a ha, padded_length b hb, padded_length c hc, padded_length d hd)
+two_long a b c d ha hb hc hd = omega (arith, length-append (padded a) (padded c), length-append (padded b) (padded d), padded_len a ha, padded_len b hb, padded_len c hc, padded_len d hd)
 
 same_order : (a b : Key) → IsProperKey a → IsProperKey b → key_kind a ≡ key_kind b → SameOrder a b
-same_order (key.Gssb a) (key.Gssb b) h k e = record { long = padded_length a h ∙ sym (padded_length b k); order = name_order a b h k ∙ sym (then_equal (bytes_cmp a b)) }
+same_order (key.Gssb a) (key.Gssb b) h k e = record { long = padded_len a h ∙ sym (padded_len b k); order = name_order a b h k ∙ sym (then_equal (bytes_cmp a b)) }
 same_order (key.Tls a c) (key.Tls b d) h k e = record { long = two_long a b c d h.0 k.0 h.1 k.1; order = two_names a b c d h.0 k.0 h.1 k.1 }
 same_order (key.Uls a c) (key.Uls b d) h k e = record { long = two_long a b c d h.0 k.0 h.1 k.1; order = two_names a b c d h.0 k.0 h.1 k.1 }
-same_order (key.Service (Dialogue a)) (key.Service (Dialogue b)) h k e = record { long = ap suc (padded_length a h ∙ sym (padded_length b k)); order = name_order a b h k ∙ sym (then_equal (bytes_cmp a b)) }
-same_order (key.Service (Dialogue a)) (key.Service (Asynchronous n)) h k e = record { long = ap suc (padded_length a h); order = refl }
-same_order (key.Service (Asynchronous m)) (key.Service (Dialogue b)) h k e = record { long = ap suc (sym (padded_length b k)); order = refl }
+same_order (key.Service (Dialogue a)) (key.Service (Dialogue b)) h k e = record { long = ap suc (padded_len a h ∙ sym (padded_len b k)); order = name_order a b h k ∙ sym (then_equal (bytes_cmp a b)) }
+same_order (key.Service (Dialogue a)) (key.Service (Asynchronous n)) h k e = record { long = ap suc (padded_len a h); order = refl }
+same_order (key.Service (Asynchronous m)) (key.Service (Dialogue b)) h k e = record { long = ap suc (sym (padded_len b k)); order = refl }
 same_order (key.Service (Asynchronous m)) (key.Service (Asynchronous n)) h k e = record { long = refl; order = number_order m n h k ∙ sym (then_equal _ ∙ then_equal (nat_cmp m n)) }
 same_order (key.Job m) (key.Job n) h k e = record { long = refl; order = number_order m n h k ∙ sym (then_equal _ ∙ then_equal (nat_cmp m n)) }
-same_order (key.Shown a) (key.Shown b) h k e = record { long = padded_length a h ∙ sym (padded_length b k); order = name_order a b h k ∙ sym (then_equal (bytes_cmp a b)) }
+same_order (key.Shown a) (key.Shown b) h k e = record { long = padded_len a h ∙ sym (padded_len b k); order = name_order a b h k ∙ sym (then_equal (bytes_cmp a b)) }
 same_order _ _ h k e = absurd cc
 
 one_kind : (a b : Key) → IsProperKey a → IsProperKey b → key_kind a ≡ key_kind b → bytes_cmp (filled (key_bytes a)) (filled (key_bytes b)) ≡ texts_cmp (texts_behind a) (texts_behind b)

@@ -24,7 +24,7 @@ use Rattle.kdcs_types.specs.declared.service.Service.{Service}
 use Rattle.kdcs_types.specs.declared.service.Job.{Job}
 use Rattle.kdcs_types.specs.declared.service.JobValue.{JobValue}
 use Rattle.kdcs_types.specs.Keys.{key_cmp, key_eq, id_eq}
-use Rattle.kdcs_types.specs.KeyLaws.{same_key, id_eq-same}
+use Rattle.kdcs_types.specs.KeyLaws.{same_key, id_eq_same}
 use Rattle.kdcs_types.specs.Keyed.{keyed, with_item, without_item}
 use Rattle.kdcs_types.specs.KeyedLaws.{items_back}
 use Rattle.kdcs_types.specs.RowLaws.{numbers_changed}
@@ -34,6 +34,8 @@ use Rattle.record_codec.specs.Records.{rows_of}
 use Rattle.record_codec.specs.Order.{IsProperKey}
 use Rattle.record_codec.specs.OrderLaws.{keys_keep_their_order}
 use Rattle.record_codec.specs.Patches.{PatchesFollowChanges}
+use Rattle.std.proofs.ByRecursion.{All-append}
+use Rattle.kd_base.specs.ListsLaws.{each_front, each_behind}
 
 -- ---- lists of records
 
@@ -71,10 +73,6 @@ module _ (k : RecordKey) where
   without_none (x ∷ xs) h = ap (λ b. cond b (x ∷ without k xs) (without k xs)) h.0 ∙ ap (λ (l : List Record). x ∷ l) (without_none xs h.1)
 
 module _ {X : Type 0} (P : X → Type 0) where
-  pub each_both : (xs ys : List X) → Each P xs → Each P ys → Each P (xs ++ ys)
-  each_both [] ys h k = k
-  each_both (x ∷ xs) ys h k = (h.0, each_both xs ys h.1 k)
-
   pub each_mapped : {A : Type 0} (f : A → X) → ((a : A) → P (f a)) → (xs : List A) → Each P (map f xs)
   each_mapped f all [] = tt
   each_mapped f all (x ∷ xs) = (all x, each_mapped f all xs)
@@ -209,7 +207,7 @@ pub above_all : {E : Type 0} (key_of : E → Key) (value_of : E → List ℕ) (k
 above_all key_of value_of k less es = each_mapped (Above (record_key k)) (record_at key_of value_of) less es
 
 pub above_more : {E : Type 0} (key_of : E → Key) (value_of : E → List ℕ) (k : Key) → ((e : E) → record_cmp (record_key k) (record_key (key_of e)) ≡ Less) → (es : List E) (rest : List Record) → Each (Above (record_key k)) rest → Each (Above (record_key k)) (map (record_at key_of value_of) es ++ rest)
-above_more key_of value_of k less es rest h = each_both (Above (record_key k)) (map (record_at key_of value_of) es) rest (above_all key_of value_of k less es) h
+above_more key_of value_of k less es rest h = All-append (Above (record_key k)) (map (record_at key_of value_of) es) rest (above_all key_of value_of k less es) h
 
 abbrev pub second : {A B C : Type 0} → A × B × C → C
 second r = r.2
@@ -246,7 +244,7 @@ set_follows t (row.Uls block user content) h k fits =
     (here uls_key second (block, user, content) t.ulss _ k h.ulss
     (above_more service_key service_bytes q (λ e. refl) t.services _ (above_more job_key value_of_job q (λ e. refl) t.jobs _ (above_all shown_key value_of_shown q (λ e. refl) t.shown)))))
 set_follows t (row.Service id service) h k fits =
-    let own : service.id ≡ id = id_eq-same service.id id (both_true (id_eq service.id id) (service_fits service) fits).0 in
+    let own : service.id ≡ id = id_eq_same service.id id (both_true (id_eq service.id id) (service_fits service) fits).0 in
     past_areas t (key.Service id) (service_bytes service) _ _ (λ e. refl) (λ e. refl) (λ e. refl)
     (ap (λ i. put record_cmp (record_key (key.Service i)) (service_bytes service) (service_records t.services ++ (job_records t.jobs ++ shown_records t.shown))) (sym own)
     ∙ here service_key service_bytes service t.services _ (subst (λ i. IsProperKey (key.Service i)) (sym own) k) h.services
@@ -318,7 +316,7 @@ set_keeps P t (row.Gssb name content) h k fits = record { gssbs = each_put gssb_
 set_keeps P t (row.Tls block lterm content) h k fits = record { gssbs = h.gssbs; tlss = each_put tls_key second (λ r. P (tls_row r)) (block, lterm, content) t.tlss k h.tlss; ulss = h.ulss; services = h.services; jobs = h.jobs; shown = h.shown }
 set_keeps P t (row.Uls block user content) h k fits = record { gssbs = h.gssbs; tlss = h.tlss; ulss = each_put uls_key second (λ r. P (uls_row r)) (block, user, content) t.ulss k h.ulss; services = h.services; jobs = h.jobs; shown = h.shown }
 set_keeps P t (row.Service id service) h k fits =
-    let own : service.id ≡ id = id_eq-same service.id id (both_true (id_eq service.id id) (service_fits service) fits).0 in
+    let own : service.id ≡ id = id_eq_same service.id id (both_true (id_eq service.id id) (service_fits service) fits).0 in
     record { gssbs = h.gssbs; tlss = h.tlss; ulss = h.ulss; services = each_put service_key service_bytes (λ r. P (service_row r)) service t.services (subst (λ i. P (row.Service i service)) (sym own) k) h.services; jobs = h.jobs; shown = h.shown }
 set_keeps P t (row.Job number value) h k fits = record { gssbs = h.gssbs; tlss = h.tlss; ulss = h.ulss; services = h.services; jobs = each_put job_key value_of_job (λ r. P (job_row r)) (record { number = number; value = value }) t.jobs k h.jobs; shown = h.shown }
 set_keeps P t (row.Shown lterm value) h k fits = record { gssbs = h.gssbs; tlss = h.tlss; ulss = h.ulss; services = h.services; jobs = h.jobs; shown = each_put shown_key value_of_shown (λ r. P (shown_row r)) (lterm, value) t.shown k h.shown }
@@ -356,14 +354,6 @@ follow (Remove q ∷ cs) t h ks fits =
     ∙ follow cs (without_row t q) (remove_keeps HasProperKey t q h) ks.1 fits
 
 module _ {X : Type 0} (P : X → Type 0) where
-  each_front : (xs ys : List X) → Each P (xs ++ ys) → Each P xs
-  each_front [] ys h = tt
-  each_front (x ∷ xs) ys h = (h.0, each_front xs ys h.1)
-
-  each_behind : (xs ys : List X) → Each P (xs ++ ys) → Each P ys
-  each_behind [] ys h = h
-  each_behind (x ∷ xs) ys h = each_behind xs ys h.1
-
   pub each_unmapped : {A : Type 0} (f : A → X) (xs : List A) → Each P (map f xs) → Each (λ a. P (f a)) xs
   each_unmapped f [] h = tt
   each_unmapped f (x ∷ xs) h = (h.0, each_unmapped f xs h.1)
@@ -395,11 +385,11 @@ each_listed P f (x ∷ xs) h = (h.0, each_listed P f xs h.1)
 pub all_rows : (P : Row → Type 0) (t : TableRows) → EachRow P t → All P (rows_of t)
 all_rows P t h =
     All-from_recursion P (rows_of t)
-    (each_both P (map gssb_row t.gssbs) _ (each_listed P gssb_row t.gssbs h.gssbs)
-    (each_both P (map tls_row t.tlss) _ (each_listed P tls_row t.tlss h.tlss)
-    (each_both P (map uls_row t.ulss) _ (each_listed P uls_row t.ulss h.ulss)
-    (each_both P (map service_row t.services) _ (each_listed P service_row t.services h.services)
-    (each_both P (map job_row t.jobs) _ (each_listed P job_row t.jobs h.jobs)
+    (All-append P (map gssb_row t.gssbs) _ (each_listed P gssb_row t.gssbs h.gssbs)
+    (All-append P (map tls_row t.tlss) _ (each_listed P tls_row t.tlss h.tlss)
+    (All-append P (map uls_row t.ulss) _ (each_listed P uls_row t.ulss h.ulss)
+    (All-append P (map service_row t.services) _ (each_listed P service_row t.services h.services)
+    (All-append P (map job_row t.jobs) _ (each_listed P job_row t.jobs h.jobs)
     (each_listed P shown_row t.shown h.shown))))))
 
 pub patches_follow_changes : PatchesFollowChanges

@@ -4,7 +4,7 @@ use Rattle.std.proofs.Common.{sym, ap, subst, ◌∙◌, inl, inr, arith}
 use Rattle.std.specs.Int.{w64, to_be_bytes}
 use Rattle.std.specs.Option.{option_map}
 use Rattle.std.specs.Ordering.{eq_by_cmp, is_eq}
-use Rattle.std.specs.Cmp.{tied_itself}
+use Rattle.std.specs.Cmp.{tied_itself, Equal-is}
 use Rattle.kd_base.specs.Text.{IsName, padded}
 use Rattle.kd_base.specs.ToolsLaws.{chosen, some_is, map_some, and_some, both_true}
 use Rattle.kd_records.specs.declared.key.RecordKey.{RecordKey}
@@ -18,7 +18,7 @@ use Rattle.kdcs_types.specs.declared.key.Key.TheVariants as key
 use Rattle.kdcs_types.specs.declared.key.ServiceId.{ServiceId}
 use Rattle.kdcs_types.specs.declared.key.ServiceId.TheVariants.{Dialogue, Asynchronous}
 use Rattle.kdcs_types.specs.Keys.{key_kind, id_eq}
-use Rattle.kdcs_types.specs.KeyLaws.{id_eq-same, is_equal}
+use Rattle.kdcs_types.specs.KeyLaws.{id_eq_same}
 use Rattle.kdcs_types.specs.Tables.{row_key, row_fits, service_fits}
 use Rattle.record_codec.specs.Values.{id_bytes, key_bytes, record_key, service_bytes, job_bytes, value_bytes, record_of}
 use Rattle.record_codec.specs.Order.{IsProperKey}
@@ -64,7 +64,7 @@ key_there k q e =
     let a = and_some (checked_key k) (key_reading k.kind k.bytes) q e in
     let p : Key × List ℕ = a.0 in
     elim (chosen (eq_by_cmp record_cmp (record_key p.0) k) (Some p.0) None (Some q) a.2) [
-      | inl h ↦ sym (same_key (record_key p.0) k (is_equal (record_cmp (record_key p.0) k) h.0)) ∙ ap record_key (some_is p.0 q h.1)
+      | inl h ↦ sym (same_key (record_key p.0) k ((Equal-is (record_cmp (record_key p.0) k)).0 h.0)) ∙ ap record_key (some_is p.0 q h.1)
       | inr h ↦ absurd (cc h.1)
     ]
 
@@ -124,7 +124,7 @@ value_back (row.Gssb name content) h fits = refl
 value_back (row.Tls block lterm content) h fits = refl
 value_back (row.Uls block user content) h fits = refl
 value_back (row.Service id service) h fits =
-    ap (option_map (service_row_of id)) (whole_back (service_reading id) service_bytes (IsServiceOf id) (services_are_read id) service (id_eq-same service.id id (both_true (id_eq service.id id) (service_fits service) fits).0, h))
+    ap (option_map (service_row_of id)) (whole_back (service_reading id) service_bytes (IsServiceOf id) (services_are_read id) service (id_eq_same service.id id (both_true (id_eq service.id id) (service_fits service) fits).0, h))
 value_back (row.Job number value) h fits = ap (option_map (job_row_of number)) (whole_back job_reading job_bytes JobFits jobs_are_read value h)
 value_back (row.Shown lterm value) h fits = ap (option_map (shown_row_of lterm)) (whole_back job_reading job_bytes JobFits jobs_are_read value h)
 

@@ -22,7 +22,7 @@ use Rattle.kdcs_types.specs.declared.act.Changes.{Changes}
 use Rattle.kdcs_types.specs.declared.key.Key.{Key}
 use Rattle.kdcs_types.specs.declared.service.Service.{Service}
 use Rattle.kdcs_types.specs.Keys.{key_cmp, id_eq}
-use Rattle.kdcs_types.specs.KeyLaws.{id_eq-itself}
+use Rattle.kdcs_types.specs.KeyLaws.{id_eq_itself}
 use Rattle.kdcs_types.specs.Keyed.{keyed, ascends}
 use Rattle.kdcs_types.specs.Tables.{TableRows, empty_tables, gssb_key, tls_key, uls_key, service_key, job_key, shown_key, gssb_row, tls_row, uls_row, service_row, job_row, shown_row, is_filled, service_fits, row_key, row_fits, change_fits, change_key, changed, AreChanges, IsSortedTables}
 use Rattle.kdcs_types.specs.RowLaws.{empty_sorted, changed_sorted}
@@ -30,10 +30,11 @@ use Rattle.record_codec.specs.Values.{record_key, service_bytes, record_of, reco
 use Rattle.record_codec.specs.Records.{rows_of, content_of_tables, patch_of, AreTablesOf}
 use Rattle.record_codec.specs.Order.{IsProperKey}
 use Rattle.record_codec.specs.OrderLaws.{keys_keep_their_order}
-use Rattle.record_codec.specs.PatchesLaws.{put_in_front, each_both, each_mapped, record_at, Above, above_all, above_more, second, value_of_job, value_of_shown, by_kinds, kinds_are, EachRow, HasProperKey, OfSet, each_row, all_rows, changes_keep, patches_follow_changes}
+use Rattle.record_codec.specs.PatchesLaws.{put_in_front, each_mapped, record_at, Above, above_all, above_more, second, value_of_job, value_of_shown, by_kinds, kinds_are, EachRow, HasProperKey, OfSet, each_row, all_rows, changes_keep, patches_follow_changes}
 use Rattle.record_codec.specs.RowReadings.{IsProperRow, row_read}
 use Rattle.record_codec.specs.RowReadingsLaws.{row_back, row_there}
 use Rattle.record_codec.specs.TableReadings.{sets_read, AreRecordBytes, AreProperTables}
+use Rattle.std.proofs.ByRecursion.{All-append}
 
 -- each record is set
 abbrev set_record : Record → RecordChange
@@ -61,7 +62,7 @@ more_behind : (done : List Record) (x : Record) (xs : List Record) → IsTrue (b
 more_behind done x [] below h = tt
 more_behind done x (y ∷ xs) below h =
     let parts = both_true (is_lt (record_cmp x.0 y.0)) (below_all record_cmp x.0 xs) below in
-    (each_both (λ (a : Record). record_cmp y.0 a.0 ≡ Greater) done (x ∷ []) h.0 (reversed y x parts.0, tt), more_behind done x xs parts.1 h.1)
+    (All-append (λ (a : Record). record_cmp y.0 a.0 ≡ Greater) done (x ∷ []) h.0 (reversed y x parts.0, tt), more_behind done x xs parts.1 h.1)
 
 all_put : (done xs : List Record) → IsTrue (is_sorted record_cmp xs) → AllBehind done xs → changed_all done (map set_record xs) ≡ done ++ xs
 all_put done [] h b = sym (nil_behind done)
@@ -175,11 +176,11 @@ fit_each f test to (x ∷ xs) h = let parts = both_true (test x) (list_all test 
 
 pub rows_fit : (t : TableRows) → IsSortedTables t → Each FitsThere (rows_of t)
 rows_fit t h =
-    each_both FitsThere (map gssb_row t.gssbs) _ (each_mapped FitsThere gssb_row (λ e. refl) t.gssbs)
-    (each_both FitsThere (map tls_row t.tlss) _ (fit_each tls_row (λ r. is_filled r.2) (λ e k. k) t.tlss h.tlss_filled)
-    (each_both FitsThere (map uls_row t.ulss) _ (fit_each uls_row (λ r. is_filled r.2) (λ e k. k) t.ulss h.ulss_filled)
-    (each_both FitsThere (map service_row t.services) _ (fit_each service_row service_fits (λ (s : Service) k. true_both (id_eq s.id s.id) (service_fits s) (id_eq-itself s.id) k) t.services h.services_fit)
-    (each_both FitsThere (map job_row t.jobs) _ (each_mapped FitsThere job_row (λ e. refl) t.jobs)
+    All-append FitsThere (map gssb_row t.gssbs) _ (each_mapped FitsThere gssb_row (λ e. refl) t.gssbs)
+    (All-append FitsThere (map tls_row t.tlss) _ (fit_each tls_row (λ r. is_filled r.2) (λ e k. k) t.tlss h.tlss_filled)
+    (All-append FitsThere (map uls_row t.ulss) _ (fit_each uls_row (λ r. is_filled r.2) (λ e k. k) t.ulss h.ulss_filled)
+    (All-append FitsThere (map service_row t.services) _ (fit_each service_row service_fits (λ (s : Service) k. true_both (id_eq s.id s.id) (service_fits s) (id_eq_itself s.id) k) t.services h.services_fit)
+    (All-append FitsThere (map job_row t.jobs) _ (each_mapped FitsThere job_row (λ e. refl) t.jobs)
     (each_mapped FitsThere shown_row (λ e. refl) t.shown)))))
 
 module _ {E : Type 0} (key_of : E → Key) (value_of : E → List ℕ) where

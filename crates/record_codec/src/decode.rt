@@ -1,5 +1,5 @@
 //! Contents, read as tables.
-ghost use Rattle.std.specs.Prelude.{◌≡◌, None, IfOk, IfSome, OnOk, All};
+ghost use Rattle.std.specs.Prelude.{◌≡◌, Some, None, IfOk, IfSome, OnOk, All};
 ghost use Rattle.kdcs_types.specs.Tables.{TableRows, empty_tables, changed, AreChanges};
 ghost use Rattle.record_codec.specs.{Records.{AreTablesOf}, Reads.{ReadsWhole}, TableReadings.{AreRecordBytes, sets_read, AreProperTables, changes_of}};
 
@@ -48,6 +48,7 @@ pub fn tables_of(alloc: Global, content: &Content) -> Result<Option<Tables>, Out
     ensures found { IfOk result (λ tables. IfSome tables (λ t. AreTablesOf content.now t)) }
     ensures proper { IfOk result (λ tables. IfSome tables (λ t. AreProperTables t)) }
     ensures none { IfOk result (λ tables. tables ≡ None → (t : TableRows) → AreProperTables t → AreTablesOf content.now t → ⊥) }
+    ensures back { IfOk result (λ tables. (t : TableRows) → AreProperTables t → AreTablesOf content.now t → tables ≡ Some t) }
 {
     let records = content.items.as_slice();
     if !ascend(records) {

@@ -2,10 +2,10 @@
 //!
 //! It stands on kd_base, kd_records and kdcs_types. To the crates that open and commit to a KDCFILE, its definitions say
 //! which bytes a row's key and value are. Its contract says that `records` and `difference` answer just the content and
-//! the patch of tables and changes; that `tables_of` answers proper tables whose records a content has, and `None` only
-//! where no tables have them; that tables with one content are one, and rows with one record; that keys of records ascend
-//! as keys of rows do; and that the patch of some changes makes the records of the changed tables. Which tables suit a
-//! generation, and what they are charged, is said by table_fit.
+//! the patch of tables and changes; that `tables_of` answers proper tables whose records a content has, just the tables
+//! that the records were made of, and `None` only where no tables have them; that tables with one content are one, and
+//! rows with one record; that keys of records ascend as keys of rows do; and that the patch of some changes makes the
+//! records of the changed tables. Which tables suit a generation, and what they are charged, is said by table_fit.
 #![tactic(auto)]
 
 mod ascending;

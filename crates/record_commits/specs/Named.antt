@@ -24,10 +24,6 @@ pub record IsNamedJob (v : JobValue) : Type 0 where
 abbrev pub HasAreaName : List ℕ × List ℕ → Type 0
 HasAreaName a = IsName a.0
 
--- a block of TLS or ULS has a name, and its LTERM or user has one
-abbrev pub HasBlockNames : List ℕ × List ℕ × List ℕ → Type 0
-HasBlockNames b = IsName b.0 × IsName b.1
-
 -- the names of a service are names
 pub record IsNamedService (s : Service) : Type 0 where
   pub first : IsName s.first

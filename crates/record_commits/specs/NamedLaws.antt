@@ -9,10 +9,9 @@ use Rattle.kdcs_types.specs.declared.act.Row.{Row}
 use Rattle.kdcs_types.specs.declared.act.Row.TheVariants as row
 use Rattle.kdcs_types.specs.declared.key.ServiceId.{ServiceId}
 use Rattle.kdcs_types.specs.declared.key.ServiceId.TheVariants.{Dialogue, Asynchronous}
-use Rattle.kdcs_types.specs.declared.service.Job.{Job}
 use Rattle.kdcs_types.specs.declared.service.JobValue.{JobValue}
 use Rattle.kdcs_types.specs.declared.service.Service.{Service}
-use Rattle.kdcs_types.specs.Tables.{TableRows, AreChanges, change_key, changed, gssb_row, tls_row, uls_row, service_row, job_row, shown_row}
+use Rattle.kdcs_types.specs.Tables.{TableRows, AreChanges, change_key, changed}
 use Rattle.record_codec.specs.Order.{IsProperKey}
 use Rattle.record_codec.specs.PatchesLaws.{EachRow, OfSet, all_rows, changes_keep, each_row}
 use Rattle.record_codec.specs.Readings.{LtermFits}
@@ -20,21 +19,8 @@ use Rattle.record_codec.specs.Records.{rows_of}
 use Rattle.record_codec.specs.RowReadings.{IsProperRow, ValueFits}
 use Rattle.record_codec.specs.TableReadings.{AreProperTables}
 use Rattle.record_codec.specs.WholeValues.{JobFits, LssbFits, ServiceFits}
-use Rattle.record_commits.specs.Named.{HasAreaName, HasBlockNames, IsNamedChange, IsNamedJob, IsNamedRow, IsNamedService, IsNamedValue}
+use Rattle.record_commits.specs.Named.{HasAreaName, IsNamedChange, IsNamedJob, IsNamedRow, IsNamedService, IsNamedValue}
 use Rattle.record_commits.specs.NamedTables.{AreNamedTables}
-
--- ---- lists
-
-pub lists_named : (t : TableRows) → All HasAreaName t.gssbs → All HasBlockNames t.tlss → All HasBlockNames t.ulss → All (λ (s : Service). IsNamedRow (service_row s)) t.services → All (λ (j : Job). IsNamedRow (job_row j)) t.jobs → All (λ (r : List ℕ × JobValue). IsNamedRow (shown_row r)) t.shown
-    → AreNamedTables t
-lists_named t gssbs tlss ulss services jobs shown = all_rows IsNamedRow t (record {
-  gssbs = recursion_from_All (λ (r : List ℕ × List ℕ). IsNamedRow (gssb_row r)) t.gssbs (All-weaker HasAreaName (λ (r : List ℕ × List ℕ). IsNamedRow (gssb_row r)) (λ r h. record { key = h; value = tt }) t.gssbs gssbs);
-  tlss = recursion_from_All (λ (r : List ℕ × List ℕ × List ℕ). IsNamedRow (tls_row r)) t.tlss (All-weaker HasBlockNames (λ (r : List ℕ × List ℕ × List ℕ). IsNamedRow (tls_row r)) (λ r h. record { key = h; value = tt }) t.tlss tlss);
-  ulss = recursion_from_All (λ (r : List ℕ × List ℕ × List ℕ). IsNamedRow (uls_row r)) t.ulss (All-weaker HasBlockNames (λ (r : List ℕ × List ℕ × List ℕ). IsNamedRow (uls_row r)) (λ r h. record { key = h; value = tt }) t.ulss ulss);
-  services = recursion_from_All (λ (s : Service). IsNamedRow (service_row s)) t.services services;
-  jobs = recursion_from_All (λ (j : Job). IsNamedRow (job_row j)) t.jobs jobs;
-  shown = recursion_from_All (λ (r : List ℕ × JobValue). IsNamedRow (shown_row r)) t.shown shown;
-})
 
 -- ---- proper rows
 

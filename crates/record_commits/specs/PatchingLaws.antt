@@ -22,10 +22,11 @@ use Rattle.kdcs_types.specs.Keyed.{ascends, keyed}
 use Rattle.kdcs_types.specs.Keys.{key_cmp, key_kind}
 use Rattle.kdcs_types.specs.Tables.{change_key}
 use Rattle.record_codec.specs.Order.{IsProperKey}
-use Rattle.record_codec.specs.OrderLaws.{keys_keep_their_order, padded_length}
+use Rattle.record_codec.specs.OrderLaws.{keys_keep_their_order}
 use Rattle.record_codec.specs.Records.{patch_of}
 use Rattle.record_codec.specs.Values.{filled, key_bytes, record_change, record_key}
 use Rattle.record_commits.specs.NamedLaws.{HasProperChange}
+use Rattle.kd_base.specs.RoundTripsLaws.{padded_len}
 
 -- ---- keys
 
@@ -38,16 +39,16 @@ kind_there (key.Job number) = (omega arith, omega arith)
 kind_there (key.Shown lterm) = (omega arith, omega arith)
 
 two_long : (a b : List ℕ) → IsName a → IsName b → length (padded a ++ padded b) ≤ 24
-two_long a b h k = omega (arith, length-append (padded a) (padded b), padded_length a h, padded_length b k)
+two_long a b h k = omega (arith, length-append (padded a) (padded b), padded_len a h, padded_len b k)
 
 bytes_long : (k : Key) → IsProperKey k → length (key_bytes k) ≤ 24
-bytes_long (key.Gssb name) h = omega (arith, padded_length name h)
+bytes_long (key.Gssb name) h = omega (arith, padded_len name h)
 bytes_long (key.Tls block lterm) h = two_long block lterm h.0 h.1
 bytes_long (key.Uls block user) h = two_long block user h.0 h.1
-bytes_long (key.Service (Dialogue user)) h = omega (arith, padded_length user h)
+bytes_long (key.Service (Dialogue user)) h = omega (arith, padded_len user h)
 bytes_long (key.Service (Asynchronous number)) h = omega arith
 bytes_long (key.Job number) h = omega arith
-bytes_long (key.Shown lterm) h = omega (arith, padded_length lterm h)
+bytes_long (key.Shown lterm) h = omega (arith, padded_len lterm h)
 
 filled_long : (bytes : List ℕ) → length bytes ≤ 24 → length (filled bytes) ≡ 24
 filled_long bytes h =

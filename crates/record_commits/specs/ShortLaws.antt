@@ -14,7 +14,7 @@ use Rattle.kdcs_types.specs.declared.key.Key.{Key}
 use Rattle.kdcs_types.specs.declared.key.Key.TheVariants as key
 use Rattle.kdcs_types.specs.Difference.{change_to, difference, differing, noted_unless}
 use Rattle.kdcs_types.specs.Keyed.{item_at}
-use Rattle.kdcs_types.specs.KeyedLaws.{all-with, found_passes}
+use Rattle.kdcs_types.specs.KeyedLaws.{all_with, found_passes}
 use Rattle.kdcs_types.specs.Same.{row_same}
 use Rattle.kdcs_types.specs.Tables.{TableRows, change_key, gssb_key, gssb_row, job_key, job_row, row_at, service_key, service_row, shown_key, shown_row, tls_key, tls_row, uls_key, uls_row}
 use Rattle.record_codec.specs.PatchesLaws.{EachRow, each_row}
@@ -57,7 +57,7 @@ module _ (test : Row → Bool) where
   differing_leaves old new all (k ∷ ks) =
       elim (row_same (row_at old k) (row_at new k)) as (λ b. IsTrue (list_all leaves (noted_unless b (change_to k (row_at new k)) (differing old new ks)))) [
         | true ↦ differing_leaves old new all ks
-        | false ↦ all-with change_key leaves (change_to k (row_at new k)) (differing old new ks) (to_row new all k (row_at new k) refl) (differing_leaves old new all ks)
+        | false ↦ all_with change_key leaves (change_to k (row_at new k)) (differing old new ks) (to_row new all k (row_at new k) refl) (differing_leaves old new all ks)
       ]
 
   pub difference_leaves : (old new : TableRows) → EachRow Passes new → All (λ (c : Change). IsTrue (leaves c)) (difference old new).items

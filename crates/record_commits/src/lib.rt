@@ -3,11 +3,11 @@
 //!
 //! It stands on the laws of the abstract monitor, on record_codec and table_fit, and on which tables a KDCFILE stands for
 //! (warm_start). To the run of a script, its contract says that each turn and each command makes acts whose commits the
-//! store can take. To whoever makes records of whole tables, it says that tables which suit the generation are proper.
+//! store can take.
 #![tactic(auto)]
 
 mod laws;
 mod named;
 
 pub use laws::steps_can_be_stored;
-pub use named::{acts_are_named, tables_are_named};
+pub use named::acts_are_named;

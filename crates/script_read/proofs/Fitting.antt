@@ -23,7 +23,7 @@ use Rattle.script_read.proofs.FirstFaults.{says_all}
 known : {printer : Bool} (g : Generated) (name : List ℕ) → IsPterm g printer name → IsTrue (is_pterm g name)
 known g name is = ap (λ (o : Option PtermEntry). is_some o) is.is_pterm
 
-of_spelled : (g : Generated) (c : Command) (line : List ℕ) → IsSpelled g c line → IsCommandOf g c
+pub of_spelled : (g : Generated) (c : Command) (line : List ℕ) → IsSpelled g c line → IsCommandOf g c
 of_spelled g (Input name text) line s = known g name s.dialogue
 of_spelled g (Turn n) line s = s.1.range
 of_spelled g (Drop name) line s = known g name s.0

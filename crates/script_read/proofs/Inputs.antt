@@ -15,7 +15,7 @@ use Rattle.abstract_monitor.specs.declared.command.Command.TheVariants.{Input}
 use Rattle.script_read.specs.Script.{Line, Says, IsOutOfRange, as_command}
 use Rattle.script_read.specs.Commands.{pterm_in, is_text_byte, begins_with_in, input_by, input, line_in}
 use Rattle.script_read.specs.Spelling.{IsPterm, IsInput}
-use Rattle.script_read.proofs.SameBytes.{same_bytes}
+use Rattle.script_read.specs.SameLaws.{same_bytes}
 use Rattle.script_read.proofs.Shapes.{as_said, as_out}
 use Rattle.script_read.proofs.Names.{name_word, pterm_said, pterm_only, pterm_never_out}
 

@@ -12,7 +12,7 @@ use Rattle.script_read.specs.declared.keyword.TheConstants.{KEYWORDS}
 use Rattle.script_read.specs.Script.{Line, Says, IsBad, IsOutOfRange, as_command, words, same, numbered}
 use Rattle.script_read.specs.Commands.{last_turns, pterm_in, spelling, keyword_of, alone, with_one, last_by, with_two, with_words, keyed, line_of_words, line_in}
 use Rattle.script_read.specs.Spelling.{AreParted, IsNumber, IsPterm, IsNumbered, IsSpelled, IsOutside, IsOutsideItsRange}
-use Rattle.script_read.proofs.SameBytes.{same_bytes}
+use Rattle.script_read.specs.SameLaws.{same_bytes}
 use Rattle.script_read.proofs.Parted.{IsWord, AreWords, AreSome, parted_words}
 use Rattle.script_read.proofs.Numbers.{word_of, digits_word, number_said, outside_said, number_only, outside_only}
 use Rattle.script_read.proofs.Shapes.{as_said, as_out, front_of}

@@ -1,5 +1,4 @@
 pub mod Words
-pub mod SameBytes
 pub mod Parted
 pub mod Numbers
 pub mod Shapes

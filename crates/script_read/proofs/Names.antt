@@ -2,7 +2,7 @@
 use Rattle.std.proofs.Common.{◌≡◌, inl, inr, ℕ, Bool, true, false, List, length, Option, Some, None, refl, ap, ◌∙◌, arith}
 use Rattle.std.specs.Prelude.{not, ◌&&◌, nat_le, option_and_then}
 use Rattle.std.specs.List.{list_all}
-use Rattle.std.proofs.lemmas.Bool.{leb-true}
+use Rattle.std.proofs.lemmas.Bool.{leb-true, not-true}
 use Rattle.std.proofs.lemmas.Bool.Decides.{nat_tests}
 use Rattle.kd_base.specs.Text.{is_name_byte, is_space, IsName, name_of}
 use Rattle.kd_base.specs.ToolsLaws.{both_true, chosen, some_is, and_some}
@@ -58,15 +58,11 @@ by_test : (is : Bool) (word name : List ℕ) → pterm_by is word ≡ Says name 
 by_test true word name h = (refl, cc)
 by_test false word name h = absurd cc
 
-not_false : (b : Bool) → not b ≡ true → b ≡ false
-not_false true h = absurd cc
-not_false false h = refl
-
 wanted_only : (printer : Bool) (o : Option LtermEntry) → is_wanted printer o ≡ true → (lterm : LtermEntry) × (o ≡ Some lterm) × (lterm.printer ≡ printer)
 wanted_only true None h = absurd cc
 wanted_only false None h = absurd cc
 wanted_only true (Some lterm) h = (lterm, refl, h)
-wanted_only false (Some lterm) h = (lterm, refl, not_false lterm.printer h)
+wanted_only false (Some lterm) h = (lterm, refl, not-true lterm.printer h)
 
 pub pterm_only : (g : Generated) (printer : Bool) (word name : List ℕ) → pterm_in g printer word ≡ Says name → (name ≡ word) × IsPterm g printer word
 pterm_only g printer word name h =

@@ -2,7 +2,7 @@
 use Rattle.std.proofs.Common.{◌≡◌, inl, inr, ℕ, ◌≤◌, Bool, true, false, ◌&&◌, List, [], ◌∷◌, length, refl, sym, ap, ◌∙◌, arith}
 use Rattle.std.specs.Prelude.{IsTrue, not, nat_le, nat_lt}
 use Rattle.std.specs.List.{list_all, All}
-use Rattle.std.proofs.lemmas.Bool.{cases_Bool, ltb-true}
+use Rattle.std.proofs.lemmas.Bool.{cases_Bool, ltb-true, le-leb}
 use Rattle.std.proofs.lemmas.Bool.Decides.{nat_tests}
 use Rattle.std.proofs.lemmas.List.Elements.{All-nil, All-cons}
 use Rattle.kd_base.specs.Text.{is_space, is_digit, decimal_value}
@@ -34,16 +34,13 @@ no_space b h = grind (arith, nat_tests)
 pub digits_word : (digits : List ℕ) → 1 ≤ length digits → IsTrue (list_all is_digit digits) → IsWord digits
 digits_word digits some h = record { some = omega arith; none = no_spaces is_digit no_space digits h }
 
-le_test : (m n : ℕ) → m ≤ n → nat_le m n ≡ true
-le_test m n h = grind (arith, nat_tests)
-
 le_so : (m n : ℕ) → nat_le m n ≡ true → m ≤ n
 le_so m n h = grind (arith, nat_tests)
 
 counted : (low high : ℕ) (digits : List ℕ) → length digits ≤ 18 → low ≤ decimal_value digits → decimal_value digits ≤ high → is_count low high digits ≡ true
 counted low high digits few above below =
-    true_both (nat_le (length digits) 18) (nat_le low (decimal_value digits) && nat_le (decimal_value digits) high) (le_test (length digits) 18 few)
-    (true_both (nat_le low (decimal_value digits)) (nat_le (decimal_value digits) high) (le_test low (decimal_value digits) above) (le_test (decimal_value digits) high below))
+    true_both (nat_le (length digits) 18) (nat_le low (decimal_value digits) && nat_le (decimal_value digits) high) (le-leb (length digits) 18 few)
+    (true_both (nat_le low (decimal_value digits)) (nat_le (decimal_value digits) high) (le-leb low (decimal_value digits) above) (le-leb (decimal_value digits) high below))
 
 counts_so : (low high : ℕ) (digits : List ℕ) → 1 ≤ length digits → list_all is_digit digits ≡ true → is_count low high digits ≡ true → IsNumber low high (decimal_value digits) digits
 counts_so low high digits some all h =

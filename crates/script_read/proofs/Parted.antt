@@ -9,7 +9,8 @@ use Rattle.std.proofs.lemmas.List.Sums.{passes_at_first}
 use Rattle.kd_base.specs.Text.{is_space}
 use Rattle.script_read.specs.Script.{words, begins_with_space}
 use Rattle.script_read.specs.Spelling.{AreParted}
-use Rattle.script_read.proofs.Words.{one_add, no_space, no_words, word_there, kept, one_word, words_behind_space, words_behind_spaces, behind_spaces}
+use Rattle.script_read.proofs.Words.{no_space, no_words, word_there, kept, one_word, words_behind_space, words_behind_spaces, behind_spaces}
+use Rattle.kd_base.specs.FrontsLaws.{one_add}
 
 -- a word has a byte and no space
 pub record IsWord (word : List ℕ) : Type 0 where

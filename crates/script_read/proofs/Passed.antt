@@ -4,7 +4,6 @@ use Rattle.std.specs.Prelude.{◌||◌, replicate, drop, codes}
 use Rattle.std.specs.List.{list_all, before_first, after_first}
 use Rattle.std.proofs.lemmas.Bool.{eqb-true}
 use Rattle.kd_base.specs.Text.{is_space, is_digit, decimal_value, name_of}
-use Rattle.kd_base.specs.ToolsLaws.{both_true}
 use Rattle.kd_base.specs.Limits.{last_clock}
 use Rattle.kdcdef_types.specs.Generation.{Generated}
 use Rattle.abstract_monitor.specs.declared.command.Command.{Command}
@@ -14,16 +13,13 @@ use Rattle.script_read.specs.declared.keyword.Keyword.TheVariants as keywords
 use Rattle.script_read.specs.Script.{Line, Nothing, as_command, words, same, is_comment, is_passed, begins_with_space, line_by, is_count, number_in, number_by, numbered}
 use Rattle.script_read.specs.Commands.{last_turns, lterm_at, is_wanted, pterm_by, pterm_in, is_text_byte, begins_with_in, input_by, keyword_of, alone, with_one, last_by, with_two, with_words, keyed, line_of_words, command_by}
 use Rattle.script_read.specs.Spelling.{IsPassed, PassedAreNothing, PassedOnly}
+use Rattle.kd_base.specs.RoundTripsLaws.{spaces_only, only_spaces}
 
 -- ---- they are passed over
 
-all_spaces : (n : ℕ) → list_all is_space (replicate n 32) ≡ true
-all_spaces zero = refl
-all_spaces (suc n) = all_spaces n
-
 passed_spaces : (n : ℕ) → is_passed (replicate n 32) ≡ true
 passed_spaces zero = refl
-passed_spaces (suc n) = all_spaces n
+passed_spaces (suc n) = spaces_only n
 
 passed : (line : List ℕ) → IsPassed line → is_passed line ≡ true
 passed line (inl comment) = ap is_passed comment.1
@@ -33,12 +29,6 @@ pub passed_said : PassedAreNothing
 passed_said g line is = ap (λ (p : Bool). line_by p (begins_with_space line) (command_by (begins_with_in line) g line)) (passed line is)
 
 -- ---- and no others
-
-spaces_so : (line : List ℕ) → list_all is_space line ≡ true → line ≡ replicate (length line) 32
-spaces_so [] h = refl
-spaces_so (b ∷ line) h =
-    let e = both_true (is_space b) (list_all is_space line) h in
-    ap (λ (x : ℕ). x ∷ line) (eqb-true b 32 e.0) ∙ ap (λ (l : List ℕ). 32 ∷ l) (spaces_so line e.1)
 
 either : (a b : Bool) → (a || b) ≡ true → (a ≡ true) ⊎ (b ≡ true)
 either true b h = inl refl
@@ -52,7 +42,7 @@ passed_so : (line : List ℕ) → is_passed line ≡ true → IsPassed line
 passed_so line h =
     elim (either (is_comment line) (list_all is_space line) h) [
       | inl comment ↦ inl (comment_so line comment)
-      | inr spaces ↦ inr (length line, spaces_so line spaces)
+      | inr spaces ↦ inr (length line, only_spaces line spaces)
     ]
 
 -- a line that says something, or is at fault

@@ -1,5 +1,5 @@
 -- The words of a line, one after another.
-use Rattle.std.proofs.Common.{◌≡◌, ℕ, suc, ◌+◌, ◌<◌, ◌≤◌, inl, inr, true, false, List, [], ◌∷◌, length, take, drop, get_or, refl, sym, ap, ◌∙◌, arith}
+use Rattle.std.proofs.Common.{◌≡◌, ℕ, ◌+◌, ◌<◌, ◌≤◌, inl, inr, true, false, List, [], ◌∷◌, length, take, drop, get_or, refl, sym, ap, ◌∙◌, arith}
 use Rattle.std.specs.Prelude.{filter, not, nat_lt}
 use Rattle.std.specs.List.{slice_split, prefix_len, position_or_len, All}
 use Rattle.std.proofs.lemmas.Bool.{cases_Bool, ltb-true, ltb-false}
@@ -10,9 +10,7 @@ use Rattle.std.proofs.lemmas.List.Splits.{slice_split_none, slice_split_first}
 use Rattle.std.proofs.lemmas.List.Sums.{fails_before_first, passes_at_first, prefix_len-le-length}
 use Rattle.kd_base.specs.Text.{is_space}
 use Rattle.script_read.specs.Script.{words}
-
-pub one_add : (n : ℕ) → 1 + n ≡ suc n
-one_add n = omega arith
+use Rattle.kd_base.specs.FrontsLaws.{one_add}
 
 pub no_space : (b : ℕ) (line : List ℕ) → is_space b ≡ false → prefix_len is_space (b ∷ line) ≡ 0
 no_space b line h = rw h refl

@@ -1,4 +1,5 @@
 pub mod Script
+pub mod SameLaws
 pub mod Reading
 pub mod Commands
 pub mod Spelling

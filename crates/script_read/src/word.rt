@@ -5,7 +5,7 @@ ghost use Rattle.script_read.specs.Script.{words, same};
 
 use texts::len_before;
 
-#[tactic(auto, using(crate::proofs::SameBytes::same_texts))]
+#[tactic(auto, using(crate::specs::SameLaws::same_texts))]
 pub(crate) fn same(a: &[u8], b: &[u8]) -> bool
     ensures { result ≡ same a.now b.now }
 {

@@ -1,5 +1,5 @@
 -- What becomes of the state when a transaction is over, step by step.
-use Rattle.std.specs.Prelude.{◌≡◌, refl, ℕ, List, ◌++◌, Option, Some, None, IfOk, IfSome, IsTrue, option_map, IsSome, Result}
+use Rattle.std.specs.Prelude.{◌≡◌, refl, ℕ, List, ◌++◌, Option, Some, None, IfOk, IsTrue, option_map, IsSome, Result}
 use Rattle.std.proofs.Common.{ap, sym, subst, ◌∙◌}
 use Rattle.std.proofs.lemmas.Result.{IfOk-weaker}
 use Rattle.std.specs.FinMap.{find}
@@ -68,13 +68,19 @@ closed_work p q task id x transaction works same state own is = record {
 pub goes_on : (p : MonitorParts) (transaction : Boxed) (id : ServiceId) (row : Option Service) → IsClosed p transaction → id ≡ transaction.value.id → HasOrder row → CanGoOn p id row
 goes_on p transaction id row h own order = record { closed = (λ i. find id_cmp (own i) (state_of p).active) ∙ h.closed; unplaced = (λ i. is_running (state_of p) (own i)) ∙ h.unplaced; order = order }
 
-pub closed_result : (p m q : MonitorParts) (task : ℕ) (id : ServiceId) (o : Option Boxed) → ((x : OpenTransaction) × Works p task id x) → SameApplication p m → SameApplication m q
-    → state_of m ≡ with_task (state_of p) task None → state_of q ≡ without_open (state_of m) id → option_map boxed_transaction o ≡ find id_cmp id (state_of m).active
-    → IfSome o (λ (transaction : Boxed). IsOwned m.generation m.steps (id, transaction)) → IfSome o (λ (transaction : Boxed). IsClosed q transaction)
-closed_result p m q task id None works a b s t found own = tt
-closed_result p m q task id (Some transaction) works a b s t found own =
+pub closed_result : (p m q : MonitorParts) (task : ℕ) (id : ServiceId) (transaction : Boxed) → ((x : OpenTransaction) × Works p task id x) → SameApplication p m → SameApplication m q
+    → state_of m ≡ with_task (state_of p) task None → state_of q ≡ without_open (state_of m) id → Some (boxed_transaction transaction) ≡ find id_cmp id (state_of m).active
+    → IsOwned m.generation m.steps (id, transaction) → IsClosed q transaction
+closed_result p m q task id transaction works a b s t found own =
     closed_work p q task id works.0 transaction works.1 (same_twice p m q a b) (t ∙ ap (λ (u : State). without_open u id) s) own.id
     (found_one (Some transaction) transaction _ works.0 refl (found ∙ ap (λ (u : State). find id_cmp id u.active) s) works.1.is_open)
+
+-- there is one
+pub none_closed : (p m : MonitorParts) (task : ℕ) (id : ServiceId) → ((x : OpenTransaction) × Works p task id x) → state_of m ≡ with_task (state_of p) task None → None ≡ find id_cmp id (state_of m).active → ⊥
+none_closed p m task id works s none = apart works.0 (none ∙ ap (λ (u : State). find id_cmp id u.active) s ∙ works.1.is_open)
+  where
+    apart : (x : OpenTransaction) → None ≡ Some x → ⊥
+    apart x e = cc
 
 -- LSSBs of a row that stands in the tables ascend
 row_order : (t : TableRows) (id : ServiceId) (o : Option Service) → IsSortedTables t → service_of t id ≡ o → HasOrder o

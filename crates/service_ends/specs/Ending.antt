@@ -3,8 +3,10 @@ use Rattle.std.specs.Prelude.{◌≡◌, ℕ, false, List, [], ◌∷◌, ◌++�
 use Rattle.std.specs.FinMap.{find}
 use Rattle.kdcs_types.specs.declared.key.ServiceId.{ServiceId}
 use Rattle.kdcs_types.specs.Keys.{id_cmp}
+use Rattle.kdcs_types.specs.Tables.{changed}
+use Rattle.kdcs_types.specs.declared.act.Changes.{Changes}
 use Rattle.kdcs_types.specs.declared.act.Act.{Act}
-use Rattle.kdcs_types.specs.declared.act.Act.TheVariants.{Emit}
+use Rattle.kdcs_types.specs.declared.act.Act.TheVariants.{Commit, Emit}
 use Rattle.kdcs_types.specs.declared.call.Cause.{Cause}
 use Rattle.kdcs_types.specs.declared.service.Ending.{Ending}
 use Rattle.kdcs_types.specs.declared.service.Ending.TheVariants.{Synced, Broken}
@@ -14,17 +16,18 @@ use Rattle.kdcs_types.specs.declared.service.Settled.{Settled}
 use Rattle.abstract_monitor.specs.declared.outcome.Outcome.{Outcome}
 use Rattle.abstract_monitor.specs.declared.outcome.Outcome.TheVariants.{Hold, Stay, Queue, Wait, Point, Follow, Finish, Break, Back}
 use Rattle.abstract_monitor.specs.Bytes.{Bytes}
-use Rattle.abstract_monitor.specs.Endings.{broken, durable, opened_by_row, refusal, row_after, synchronised}
+use Rattle.abstract_monitor.specs.Endings.{broken, durable, opened_by_row, refusal, row_after, synchronised, with_service}
 use Rattle.abstract_monitor.specs.Statements.{kept_record}
 use Rattle.abstract_monitor.specs.Sessions.{is_running}
 use Rattle.abstract_monitor.specs.State.{Application, OpenTransaction, State}
-use Rattle.abstract_monitor.specs.Turns.{Turned, after_point, commit_of, committed, dump_acts, ended_acts, queued, told_user, user_acts, with_task}
+use Rattle.abstract_monitor.specs.Turns.{Turned, after_point, commit_of, committed, dump_acts, ended_acts, message_acts, message_sent, moved_to, queued, told_user, user_acts, with_task}
 use Rattle.laws_of_tables.specs.PointLaws.{Stands}
 use Rattle.step_scheduler.specs.Schedule.{IsTask}
 use Rattle.open_transaction.specs.Transactions.{Boxed, boxed_transaction, HasOrder}
 use Rattle.service_ends.specs.declared.turned.Turned.{Turned as Did}
 use Rattle.core_state.specs.declared.parts.MonitorParts.{MonitorParts}
 use Rattle.core_state.specs.Standing.{IsIndexed, state_of}
+use Rattle.core_state.specs.Whole.{app_of}
 
 -- a message to the user of a dialogue service
 abbrev pub told_by : State → ServiceId → (message : Bytes) → State
@@ -91,6 +94,23 @@ behind_point app s id row o message lterm commit kept = committed (goes_on_from 
 -- an abnormal end with its commit, and its lines
 abbrev pub behind_end : State → ServiceId → (dump : Option (List ℕ)) → (commit : Act) → Settled → Turned
 behind_end s id dump commit kept = committed s commit kept (emitted dump ++ ended_acts s id)
+
+-- the open transaction of the service, if it has one
+abbrev pub ForOpen : State → ServiceId → (OpenTransaction → Type 0) → Type 0
+ForOpen s id P = (x : OpenTransaction) → find id_cmp id s.active ≡ Some x → P x
+
+-- the state with the changes of a commit, and this row of its service
+abbrev pub committed_in : MonitorParts → Changes → ServiceId → Option Service → State
+committed_in p changes id row = record (state_of p) { tables = with_service (changed p.tables changes) id row }
+
+-- a point with this commit, and what follows it
+abbrev pub point_with : MonitorParts → Changes → ServiceId → Option Service → Outcome → (message lterm : Bytes) → Settled → Turned
+point_with p changes id row o message lterm kept =
+    behind_point (app_of p) (committed_in p changes id row) id row o message lterm (Commit changes) kept
+
+-- PEND KP: the task is free, and the message is sent
+abbrev pub held_to : State → (task : ℕ) → ServiceId → OpenTransaction → Turned
+held_to s task id x = moved_to (message_sent (with_task s task None) id x) (message_acts s id x)
 
 -- a turn that came to this state
 abbrev pub turned_to : State → Did → Turned

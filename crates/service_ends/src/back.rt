@@ -1,9 +1,8 @@
 //! The way back to the last synchronisation point.
-ghost use Rattle.std.specs.{Prelude.{◌≡◌, true, Some, None, IfOk, OnOk}, FinMap.{find}};
-ghost use Rattle.kdcs_types.specs.Keys.{id_cmp};
+ghost use Rattle.std.specs.Prelude.{◌≡◌, true, Some, None, IfOk, OnOk};
 ghost use Rattle.abstract_monitor.specs.{State.{OpenTransaction as Transaction}, Turns.{back, back_by, ended_acts, last_again, moved_to, without_work}};
 ghost use Rattle.open_transaction.specs.Transactions.{boxed_transaction};
-ghost use Rattle.service_ends.specs.Ending.{turned_to, CanGoOn, IsClosed, Works};
+ghost use Rattle.service_ends.specs.Ending.{turned_to, CanGoOn, ForOpen, IsClosed, Works};
 ghost use Rattle.core_state.specs.{Standing.{IsIndexed, SameApplication, state_of}, Whole.{app_of}};
 
 use crate::closed::close_transaction;
@@ -108,12 +107,10 @@ pub fn go_back(
     id: &ServiceId,
 ) -> Result<Turned, OutOfMemory>
     requires works { (x : Transaction) × Works parts.old task id.now x }
-    ensures exact { IfOk result (λ did. (x : Transaction) → find id_cmp id.now (state_of parts.old).active ≡ Some x → turned_to (state_of parts.new) did ≡ back (app_of parts.old) (without_work (state_of parts.old) task id.now) id.now x x.began) }
+    ensures exact { IfOk result (λ did. ForOpen (state_of parts.old) id.now (λ x. turned_to (state_of parts.new) did ≡ back (app_of parts.old) (without_work (state_of parts.old) task id.now) id.now x x.began)) }
     ensures indexed { OnOk result (IsIndexed parts.new) }
     ensures same { OnOk result (SameApplication parts.old parts.new) }
 {
-    match close_transaction(parts, task, id) {
-        Some(transaction) => back_from(parts, alloc, transaction),
-        None => Ok(Turned::quiet(alloc, true)),
-    }
+    let transaction = close_transaction(parts, task, id);
+    back_from(parts, alloc, transaction)
 }

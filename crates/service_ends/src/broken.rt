@@ -1,9 +1,9 @@
 //! Abnormal ends.
-ghost use Rattle.std.specs.{Prelude.{◌≡◌, ◌++◌, ◌∷◌, [], Some, None, IfOk, OnOk}, FinMap.{find}};
-ghost use Rattle.kdcs_types.specs.{Keys.{id_cmp}, Tables.{changed, AreChanges}, declared.act.Act.TheVariants.{Commit}};
-ghost use Rattle.abstract_monitor.specs.{Endings.{service_change, with_service}, State.{OpenTransaction as Transaction}, Turns.{abnormal, dump_acts, ended_acts}};
+ghost use Rattle.std.specs.Prelude.{◌≡◌, ◌++◌, ◌∷◌, [], None, IfOk, OnOk};
+ghost use Rattle.kdcs_types.specs.{Tables.{AreChanges}, declared.act.Act.TheVariants.{Commit}};
+ghost use Rattle.abstract_monitor.specs.{Endings.{service_change}, State.{OpenTransaction as Transaction}, Turns.{abnormal, dump_acts, ended_acts}};
 ghost use Rattle.open_transaction.specs.Transactions.{boxed_transaction, transaction_of};
-ghost use Rattle.service_ends.specs.Ending.{behind_end, broken_to, emitted, turned_to, IsClosed, Works};
+ghost use Rattle.service_ends.specs.Ending.{behind_end, broken_to, committed_in, emitted, turned_to, ForOpen, IsClosed, Works};
 ghost use Rattle.core_state.specs.{Standing.{IsIndexed, SameApplication, state_of}, Whole.{app_of}};
 
 use crate::closed::close_transaction;
@@ -59,7 +59,7 @@ fn end_acts(
     requires changes { AreChanges changes.items }
     requires own { AreChanges (service_change id.now None ∷ []) }
     ensures acts { IfOk result (λ acts. acts ≡ Commit changes ∷ (emitted dump ++ ended_acts (state_of parts.new) id.now)) }
-    ensures state { OnOk result (state_of parts.new ≡ record (state_of parts.old) { tables = with_service (changed parts.old.tables changes) id.now None }) }
+    ensures state { OnOk result (state_of parts.new ≡ committed_in parts.old changes id.now None) }
     ensures indexed { OnOk result (IsIndexed parts.new) }
     ensures same { OnOk result (SameApplication parts.old parts.new) }
 {
@@ -82,7 +82,7 @@ fn break_off(
     requires indexed { IsIndexed parts.old }
     requires changes { AreChanges changes.items }
     requires own { AreChanges (service_change id.now None ∷ []) }
-    ensures exact { IfOk result (λ did. turned_to (state_of parts.new) did ≡ behind_end (record (state_of parts.old) { tables = with_service (changed parts.old.tables changes) id.now None }) id.now dump (Commit changes) kept) }
+    ensures exact { IfOk result (λ did. turned_to (state_of parts.new) did ≡ behind_end (committed_in parts.old changes id.now None) id.now dump (Commit changes) kept) }
     ensures indexed { OnOk result (IsIndexed parts.new) }
     ensures same { OnOk result (SameApplication parts.old parts.new) }
 {
@@ -123,12 +123,10 @@ pub fn end(
     ending: Ending,
 ) -> Result<Turned, OutOfMemory>
     requires works { (x : Transaction) × Works parts.old task id.now x }
-    ensures exact { IfOk result (λ did. (x : Transaction) → find id_cmp id.now (state_of parts.old).active ≡ Some x → turned_to (state_of parts.new) did ≡ abnormal (app_of parts.old) (state_of parts.old) task id.now x ending) }
+    ensures exact { IfOk result (λ did. ForOpen (state_of parts.old) id.now (λ x. turned_to (state_of parts.new) did ≡ abnormal (app_of parts.old) (state_of parts.old) task id.now x ending)) }
     ensures indexed { OnOk result (IsIndexed parts.new) }
     ensures same { OnOk result (SameApplication parts.old parts.new) }
 {
-    match close_transaction(parts, task, id) {
-        Some(transaction) => end_transaction(parts, alloc, transaction, ending),
-        None => Ok(Turned::quiet(alloc, true)),
-    }
+    let transaction = close_transaction(parts, task, id);
+    end_transaction(parts, alloc, transaction, ending)
 }

@@ -1,5 +1,5 @@
 //! Transactions that are over.
-ghost use Rattle.std.specs.{Prelude.{◌≡◌, IfSome}, Option.{option_map}, FinMap.{find}};
+ghost use Rattle.std.specs.{Prelude.{◌≡◌, Some}, FinMap.{find}};
 ghost use Rattle.kdcs_types.specs.Keys.{id_cmp};
 ghost use Rattle.abstract_monitor.specs.{State.{OpenTransaction as Transaction}, Turns.{without_work}};
 ghost use Rattle.open_transaction.specs.Transactions.{boxed_transaction};
@@ -15,15 +15,18 @@ pub(crate) fn close_transaction(
     parts: &mut MonitorParts,
     task: u16,
     id: &ServiceId,
-) -> Option<Box<OpenTransaction>>
+) -> Box<OpenTransaction>
     requires works { (x : Transaction) × Works parts.old task id.now x }
     ensures indexed { IsIndexed parts.new }
     ensures same { SameApplication parts.old parts.new }
     ensures state { state_of parts.new ≡ without_work (state_of parts.old) task id.now }
-    ensures found { option_map boxed_transaction result ≡ find id_cmp id.now (state_of parts.old).active }
-    ensures own { IfSome result (λ transaction. transaction.value.id ≡ id.now) }
-    ensures closed { IfSome result (λ transaction. IsClosed parts.new transaction) }
+    ensures found { Some (boxed_transaction result) ≡ find id_cmp id.now (state_of parts.old).active }
+    ensures own { result.value.id ≡ id.now }
+    ensures closed { IsClosed parts.new result }
 {
     parts.free_task(task);
-    parts.close(id)
+    match parts.close(id) {
+        Some(transaction) => transaction,
+        None => unreachable!(),
+    }
 }

@@ -3,7 +3,7 @@ ghost use Rattle.std.specs.{Prelude.{◌≡◌, ◌++◌, ◌∷◌, [], IsSome,
 ghost use Rattle.kdcs_types.specs.Keys.{id_cmp};
 ghost use Rattle.abstract_monitor.specs.{State.{OpenTransaction as Transaction}, Turns.{message_acts, message_sent, moved_to, with_task}};
 ghost use Rattle.step_scheduler.specs.Schedule.{IsTask};
-ghost use Rattle.service_ends.specs.Ending.{turned_to};
+ghost use Rattle.service_ends.specs.Ending.{held_to, turned_to, ForOpen};
 ghost use Rattle.core_state.specs.Standing.{IsIndexed, SameApplication, state_of};
 
 use crate::terminal::tell;
@@ -47,7 +47,7 @@ pub fn hold(
 ) -> Result<Turned, OutOfMemory>
     requires indexed { IsIndexed parts.old }
     requires task { IsTask task parts.old.scheduler }
-    ensures exact { IfOk result (λ did. (x : Transaction) → find id_cmp id.now (state_of parts.old).active ≡ Some x → turned_to (state_of parts.new) did ≡ moved_to (message_sent (with_task (state_of parts.old) task None) id.now x) (message_acts (state_of parts.old) id.now x)) }
+    ensures exact { IfOk result (λ did. ForOpen (state_of parts.old) id.now (λ x. turned_to (state_of parts.new) did ≡ held_to (state_of parts.old) task id.now x)) }
     ensures indexed { OnOk result (IsIndexed parts.new) }
     ensures same { OnOk result (SameApplication parts.old parts.new) }
 {

@@ -1,9 +1,9 @@
 //! Synchronisation points.
-ghost use Rattle.std.specs.{Prelude.{◌≡◌, ◌++◌, ◌∷◌, [], Some, IfOk, OnOk}, FinMap.{find}};
-ghost use Rattle.kdcs_types.specs.{Keys.{id_cmp}, Tables.{changed, AreChanges}, declared.act.Act.TheVariants.{Commit}};
-ghost use Rattle.abstract_monitor.specs.{Endings.{joined, service_change, with_service}, State.{OpenTransaction as Transaction}, Turns.{settled}};
+ghost use Rattle.std.specs.Prelude.{◌≡◌, ◌++◌, ◌∷◌, [], IfOk, OnOk};
+ghost use Rattle.kdcs_types.specs.{Tables.{AreChanges}, declared.act.Act.TheVariants.{Commit}};
+ghost use Rattle.abstract_monitor.specs.{Endings.{joined, service_change}, State.{OpenTransaction as Transaction}, Turns.{settled}};
 ghost use Rattle.open_transaction.specs.Transactions.{boxed_transaction, transaction_of};
-ghost use Rattle.service_ends.specs.Ending.{behind_point, goes_on_from, pointed_to, sent_by, turned_to, CanGoOn, IsClosed, Works};
+ghost use Rattle.service_ends.specs.Ending.{committed_in, goes_on_from, point_with, pointed_to, sent_by, turned_to, CanGoOn, ForOpen, IsClosed, Works};
 ghost use Rattle.core_state.specs.{Standing.{IsIndexed, SameApplication, state_of}, Whole.{app_of}};
 
 use crate::broken::end_transaction;
@@ -25,7 +25,7 @@ struct Ended {
     id: ServiceId,
     outcome: Outcome,
     lterm: Name,
-    /// The parts that it put, joined.
+    /// The parts that it put, joined for the line; the row has them joined anew, since memory is taken before a commit.
     message: Bytes,
 }
 
@@ -91,8 +91,8 @@ fn point_acts(
     requires changes { AreChanges changes.items }
     requires own { AreChanges (service_change ended.id row ∷ []) }
     requires rests { CanGoOn parts.old ended.id row }
-    ensures acts { IfOk result (λ acts. acts ≡ Commit changes ∷ sent_by (record (state_of parts.old) { tables = with_service (changed parts.old.tables changes) ended.id row }) ended.id ended.outcome ended.message) }
-    ensures state { OnOk result (state_of parts.new ≡ goes_on_from (app_of parts.old) (record (state_of parts.old) { tables = with_service (changed parts.old.tables changes) ended.id row }) ended.id row ended.outcome ended.message ended.lterm) }
+    ensures acts { IfOk result (λ acts. acts ≡ Commit changes ∷ sent_by (committed_in parts.old changes ended.id row) ended.id ended.outcome ended.message) }
+    ensures state { OnOk result (state_of parts.new ≡ goes_on_from (app_of parts.old) (committed_in parts.old changes ended.id row) ended.id row ended.outcome ended.message ended.lterm) }
     ensures indexed { OnOk result (IsIndexed parts.new) }
     ensures same { OnOk result (SameApplication parts.old parts.new) }
 {
@@ -116,7 +116,7 @@ fn synchronise(
     requires changes { AreChanges changes.items }
     requires own { AreChanges (service_change ended.id row ∷ []) }
     requires rests { CanGoOn parts.old ended.id row }
-    ensures exact { IfOk result (λ did. turned_to (state_of parts.new) did ≡ behind_point (app_of parts.old) (record (state_of parts.old) { tables = with_service (changed parts.old.tables changes) ended.id row }) ended.id row ended.outcome ended.message ended.lterm (Commit changes) kept) }
+    ensures exact { IfOk result (λ did. turned_to (state_of parts.new) did ≡ point_with parts.old changes ended.id row ended.outcome ended.message ended.lterm kept) }
     ensures indexed { OnOk result (IsIndexed parts.new) }
     ensures same { OnOk result (SameApplication parts.old parts.new) }
 {
@@ -171,12 +171,10 @@ pub fn settle(
     outcome: Outcome,
 ) -> Result<Turned, OutOfMemory>
     requires works { (x : Transaction) × Works parts.old task id.now x }
-    ensures exact { IfOk result (λ did. (x : Transaction) → find id_cmp id.now (state_of parts.old).active ≡ Some x → turned_to (state_of parts.new) did ≡ settled (app_of parts.old) (state_of parts.old) task id.now x outcome) }
+    ensures exact { IfOk result (λ did. ForOpen (state_of parts.old) id.now (λ x. turned_to (state_of parts.new) did ≡ settled (app_of parts.old) (state_of parts.old) task id.now x outcome)) }
     ensures indexed { OnOk result (IsIndexed parts.new) }
     ensures same { OnOk result (SameApplication parts.old parts.new) }
 {
-    match close_transaction(parts, task, id) {
-        Some(transaction) => settle_transaction(parts, alloc, transaction, outcome),
-        None => Ok(Turned::quiet(alloc, true)),
-    }
+    let transaction = close_transaction(parts, task, id);
+    settle_transaction(parts, alloc, transaction, outcome)
 }

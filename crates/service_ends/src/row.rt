@@ -1,9 +1,10 @@
 //! Rows of services, and services that go on from them.
 ghost use Rattle.std.specs.{Prelude.{◌≡◌, ◌++◌, ◌∷◌, [], false, Some, None, IfOk, OnOk}, FinMap.{find}};
-ghost use Rattle.kdcs_types.specs.{Keys.{id_cmp}, declared.act.Act.TheVariants.{Commit}, Tables.{changed, AreChanges}};
+ghost use Rattle.kdcs_types.specs.{Keys.{id_cmp}, declared.act.Act.TheVariants.{Commit}, Tables.{AreChanges}};
 ghost use Rattle.abstract_monitor.specs.{Endings.{header_of_row, opened_by_row, service_change, user_in_row, with_service}, Sessions.{is_running}, Turns.{queued}};
 ghost use Rattle.open_transaction.specs.Transactions.{HasOrder};
 ghost use Rattle.core_state.specs.Standing.{IsIndexed, SameApplication, state_of};
+ghost use Rattle.service_ends.specs.Ending.{committed_in};
 
 use core_state::MonitorParts;
 use kd_base::{Name, OutOfMemory};
@@ -57,9 +58,10 @@ pub(crate) fn commit(
     requires own { AreChanges (service_change id.now row.now ∷ []) }
     ensures indexed { OnOk result (IsIndexed parts.new) }
     ensures same { OnOk result (SameApplication parts.old parts.new) }
-    ensures state { OnOk result (state_of parts.new ≡ record (state_of parts.old) { tables = with_service (changed parts.old.tables changes) id.now row.now }) }
+    ensures state { OnOk result (state_of parts.new ≡ committed_in parts.old changes id.now row.now) }
     ensures acts { OnOk result (acts.new ≡ acts.old ++ Commit changes ∷ []) }
 {
+    // The changes lack the row of a service that no stop leaves. Both are copied: the act keeps them, the service its row.
     parts.change(&changes)?;
     set_row(parts, alloc, id, row)?;
     acts.push(Act::Commit(changes))?;

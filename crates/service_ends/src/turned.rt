@@ -10,7 +10,7 @@ pub struct Turned {
     /// False where a free task found no work, or a request waits.
     pub moved: bool,
     pub acts: Acts,
-    /// What a transaction that made a commit keeps for its replay.
+    /// What a transaction that made a commit keeps for its replay. Clauses alone speak of it.
     pub settled: Option<Settled>,
 }
 

@@ -1,5 +1,5 @@
 -- A statement that is a call: what its answer finds, and what becomes of the transaction and of the locks.
-use Rattle.std.specs.Prelude.{◌≡◌, refl, ◌≤◌, ◌+◌, ℕ, Bool, List, Option, None, Result, Ok, Err, IfOk, OnOk}
+use Rattle.std.specs.Prelude.{◌≡◌, refl, ◌≤◌, ◌+◌, Bool, List, None, Result, Ok, Err, IfOk, OnOk}
 use Rattle.std.proofs.Common.{ap, sym, subst, ◌∙◌, arith}
 use Rattle.kd_base.specs.declared.words.Variant.{Variant}
 use Rattle.kdcs_types.specs.declared.call.Call.{Call}
@@ -10,25 +10,23 @@ use Rattle.kdcdef_types.specs.Generation.{Generated}
 use Rattle.unit_types.specs.UnitText.{UnitText}
 use Rattle.unit_semantics.specs.Ready.{IsReady}
 use Rattle.unit_semantics.specs.Statement.{Asks, step}
-use Rattle.area_locks.specs.Asked.{without_wait}
-use Rattle.kdcs_calls.specs.Calling.{CanRead, HoldersFollow, WaitsFollow, performed_now}
+use Rattle.kdcs_calls.specs.Calling.{CanRead, HoldersFollow, performed_now}
 use Rattle.abstract_monitor.specs.declared.answer.Called.{Called}
-use Rattle.abstract_monitor.specs.declared.answer.Called.TheVariants.{Replied, Waits, Abnormal, Pends}
+use Rattle.abstract_monitor.specs.declared.answer.Called.TheVariants.{Pends}
 use Rattle.abstract_monitor.specs.declared.answer.Happened.{Happened}
 use Rattle.abstract_monitor.specs.declared.outcome.Outcome.{Outcome}
-use Rattle.abstract_monitor.specs.declared.outcome.Outcome.TheVariants.{Hold, Stay, Queue, Wait, Point, Follow, Finish, Break, Back}
+use Rattle.abstract_monitor.specs.declared.outcome.Outcome.TheVariants.{Stay}
 use Rattle.abstract_monitor.specs.Endings.{followed, is_asynchronous}
-use Rattle.abstract_monitor.specs.Locks.{Locks, Waiting, told_now}
+use Rattle.abstract_monitor.specs.Locks.{Locks, told_now}
 use Rattle.abstract_monitor.specs.State.{Application, OpenTransaction as Transaction}
-use Rattle.abstract_monitor.specs.Statements.{area_of_call, by_call, by_outcome, by_performed}
+use Rattle.abstract_monitor.specs.Statements.{area_of_call, by_call, by_outcome}
 use Rattle.laws_of_tables.specs.OpenLaws.{CallKeeps, CalledFits, StandsIn}
 use Rattle.laws_of_tables.specs.PointLaws.{AreSound}
 use Rattle.laws_of_tables.specs.ReadyLaws.{runs_are_ready}
 use Rattle.laws_of_tables.specs.StatedLaws.{calls_keep}
-use Rattle.laws_of_tables.specs.StatesLaws.{told-fits}
+use Rattle.laws_of_tables.specs.StatesLaws.{told_fits}
 use Rattle.abstract_monitor.specs.Bytes.{Bytes}
 use Rattle.open_transaction.specs.Transactions.{followed_with}
-use Rattle.service_statement.specs.Stating.{wait_ended, waits_by}
 use Rattle.service_statement.proofs.Reading.{can_read}
 
 -- ---- what the answer finds
@@ -44,20 +42,13 @@ module _ (app : Application) (t : TableRows) (l : Locks) (id : ServiceId) (x : T
     kept : CallKeeps app.generation id x unit (y, c)
     kept =
         subst (CallKeeps app.generation id x unit) (sym exact)
-        (calls_keep app id x unit (told_now l app.generation.limits.reswait t id (area_of_call x call)) call stands (told-fits app.generation t l app.generation.limits.reswait id (area_of_call x call) sound) asks)
+        (calls_keep app id x unit (told_now l app.generation.limits.reswait t id (area_of_call x call)) call stands (told_fits app.generation t l app.generation.limits.reswait id (area_of_call x call) sound) asks)
 
     pub ready_then : IsReady unit y.run
     ready_then = subst (IsReady unit) (sym kept.same_run) (runs_are_ready app id x unit stands)
 
     pub fits_then : (i : ServiceId) → i ≡ id → CalledFits app.generation (is_asynchronous i) unit y.run c
     fits_then i same = subst (λ (k : ServiceId). CalledFits app.generation (is_asynchronous k) unit y.run c) (sym same) kept.fits
-
-  -- ---- what the statement does
-
-  pub performs : (y : Transaction) (c : Called) → (y, c) ≡ performed → (i : ServiceId) → i ≡ id → (z : Transaction) (h : Happened)
-      → (z, h) ≡ by_call app (is_asynchronous i) unit y c → (z, h) ≡ by_performed app (is_asynchronous id) unit performed
-  performs y c exact i same z h e =
-      e ∙ ap (λ (k : ServiceId). by_call app (is_asynchronous k) unit y c) same ∙ ap (by_performed app (is_asynchronous id) unit) exact
 
 -- a further unit run counts one statement
 pub followed_counts : (g : Generated) (asynchronous : Bool) (x y : Transaction) (tac : Bytes) → y ≡ followed_with g asynchronous x tac None → y.statements ≤ x.statements + 1
@@ -86,23 +77,3 @@ module _ (app : Application) (asynchronous : Bool) (unit : UnitText) (y : Transa
       → IfOk r (λ (h : Happened). (z, h) ≡ by_call app asynchronous unit y c) → OnOk r (HoldersFollow l m id z)
   holders_done l m id z c (Ok h) follow e = holders_stay l m id z h c follow e
   holders_done l m id z c (Err e) follow is = tt
-
-  module _ (l m : Locks) (id : ServiceId) (now : ℕ) (area : Option Area) where
-    abbrev Come : Happened → Type 0
-    Come h = (wait_ended m id h).waits ≡ waits_by l id now area h
-
-    abbrev ended : List (ServiceId × Waiting) → List (ServiceId × Waiting)
-    ended waits = (without_wait (record l { waits = waits }) id).waits
-
-    waits_by_outcome : (variant : Variant) (o : Outcome) → m.waits ≡ l.waits → Come (by_outcome app asynchronous y variant o).1
-    waits_by_outcome variant (Stay tac) e = ap ended e
-    waits_by_outcome variant (Queue tac) e = ap ended e
-    waits_by_outcome variant (Hold tac) e = ap ended e
-    waits_by_outcome variant _ e = e
-
-    waits_by_call : (c : Called) → WaitsFollow l m id now area c → Come (by_call app asynchronous unit y c).1
-    waits_by_call (Pends variant o) follow = waits_by_outcome variant o follow
-    waits_by_call _ follow = follow
-
-    pub waits_come : (z : Transaction) (h : Happened) (c : Called) → WaitsFollow l m id now area c → (z, h) ≡ by_call app asynchronous unit y c → Come h
-    waits_come z h c follow e = subst (λ (s : Transaction × Happened). Come s.1) (sym e) (waits_by_call c follow)

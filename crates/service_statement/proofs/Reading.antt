@@ -20,7 +20,7 @@ use Rattle.abstract_monitor.specs.Locks.{told_now}
 use Rattle.abstract_monitor.specs.State.{OpenTransaction as Transaction}
 use Rattle.laws_of_tables.specs.ListsLaws.{found_passes}
 use Rattle.laws_of_tables.specs.PointLaws.{AreSound}
-use Rattle.laws_of_tables.specs.StatesLaws.{told-fits}
+use Rattle.laws_of_tables.specs.StatesLaws.{told_fits}
 
 short : (o : Option Bytes) → IsTrue (fits_if_there o) → IfSome o IsShort
 short None h = tt
@@ -29,7 +29,7 @@ short (Some bytes) h = leb-true (length bytes) 32767 h
 module _ (g : Generated) (t : TableRows) (id : ServiceId) (x : Transaction) (nb : g.limits.nb ≤ 32767) (sound : AreSound g t) (can : CanGoOn g id x) where
   content_fits : (area : Area) → IsTrue (fits_if_there (content_of t area))
   unfolding told_now
-  content_fits area = told-fits g t no_locks 0 id (Some area) sound
+  content_fits area = told_fits g t no_locks 0 id (Some area) sound
 
   area_short : (area : Area) (o : Option (Option Bytes)) → find area_cmp area x.written ≡ o → IfSome (shown_by o (content_of t area)) IsShort
   area_short area None e = short (content_of t area) (content_fits area)

@@ -15,7 +15,7 @@ use Rattle.kdcs_calls.specs.Calling.{HoldersFollow, HoldsJust, performed_now}
 use Rattle.kdcs_calls.specs.HoldingLaws.{follow_holds, quiet_follows}
 use Rattle.kdcs_types.specs.declared.service.Ending.TheVariants.{Broken}
 use Rattle.abstract_monitor.specs.declared.answer.Happened.{Happened}
-use Rattle.abstract_monitor.specs.declared.answer.Happened.TheVariants.{Went, Queued, Waited, Held, Settles, Breaks, Returns}
+use Rattle.abstract_monitor.specs.declared.answer.Happened.TheVariants.{Went, Breaks}
 use Rattle.abstract_monitor.specs.Calls.{Told}
 use Rattle.abstract_monitor.specs.Endings.{is_asynchronous}
 use Rattle.abstract_monitor.specs.Locks.{Locks, told_now}

@@ -7,11 +7,18 @@ use Rattle.open_transaction.specs.declared.open.OpenTransaction.{OpenTransaction
 use Rattle.unit_step.specs.declared.outcome.Stepped.{Stepped}
 use Rattle.unit_step.specs.declared.outcome.Stepped.TheVariants as stepped
 use Rattle.area_locks.specs.Asked.{without_wait}
-use Rattle.kdcs_calls.specs.Calling.{waits_for_area}
+use Rattle.open_transaction.specs.Transactions.{transaction_of}
+use Rattle.unit_types.specs.UnitText.{UnitText}
+use Rattle.kdcs_types.specs.declared.call.Call.{Call}
+use Rattle.kdcs_calls.specs.Calling.{performed_now, waits_for_area}
+use Rattle.kd_base.specs.declared.words.Variant.{Variant}
+use Rattle.abstract_monitor.specs.declared.answer.Called.{Called}
 use Rattle.abstract_monitor.specs.declared.answer.Happened.{Happened}
 use Rattle.abstract_monitor.specs.declared.answer.Happened.TheVariants.{Went, Queued, Waited, Held, Settles, Breaks, Returns}
-use Rattle.abstract_monitor.specs.Locks.{Locks, Waiting}
-use Rattle.abstract_monitor.specs.Statements.{area_of}
+use Rattle.abstract_monitor.specs.declared.outcome.Outcome.{Outcome}
+use Rattle.abstract_monitor.specs.Endings.{is_asynchronous}
+use Rattle.abstract_monitor.specs.Locks.{Locks, Waiting, told_now}
+use Rattle.abstract_monitor.specs.Statements.{Stated, area_of, by_call, by_outcome, by_performed, statement}
 use Rattle.abstract_monitor.specs.State.{Application, OpenTransaction as Transaction}
 
 -- a plain statement gives another unit run and is counted; a call, and an end, change nothing yet
@@ -39,3 +46,26 @@ wait_ended l id Went = without_wait l id
 wait_ended l id Queued = without_wait l id
 wait_ended l id (Held tac) = without_wait l id
 wait_ended l id _ = l
+
+-- the waits, once that of their service is ended where its statement ends it
+abbrev pub WaitsAfter : Application → TableRows → (before after : Locks) → OpenTransaction → Happened → Type 0
+WaitsAfter app t l m w h = (wait_ended m w.id h).waits ≡ waits_after app t l w.id (transaction_of w) h
+
+-- ---- the next statement of a transaction, told what the locks and the tables say now
+
+abbrev pub stated_now : Application → TableRows → Locks → OpenTransaction → Stated
+stated_now app t l w =
+    statement app (told_now l app.generation.limits.reswait t w.id (area_of app (transaction_of w))) (is_asynchronous w.id) (transaction_of w)
+
+-- it is this call
+abbrev pub call_now : Application → TableRows → Locks → OpenTransaction → UnitText → Call → Stated
+call_now app t l w unit call =
+    by_performed app (is_asynchronous w.id) unit (performed_now app.generation t l w.id (transaction_of w) call)
+
+-- the call was answered so
+abbrev pub answered_now : Application → OpenTransaction → UnitText → Called → Stated
+answered_now app w unit called = by_call app (is_asynchronous w.id) unit (transaction_of w) called
+
+-- it is a PEND that comes to this
+abbrev pub pended_now : Application → OpenTransaction → Variant → Outcome → Stated
+pended_now app w variant outcome = by_outcome app (is_asynchronous w.id) (transaction_of w) variant outcome

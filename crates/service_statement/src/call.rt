@@ -1,12 +1,12 @@
 //! A statement that is a KDCS call.
 ghost use Rattle.std.specs.Prelude.{◌≡◌, ◌+◌, ◌≤◌, ◌<◌, ◌^◌, IfOk, OnOk};
-ghost use Rattle.kdcs_calls.specs.Calling.{HoldersFollow, HoldsJust, performed_now};
-ghost use Rattle.abstract_monitor.specs.{Endings.{is_asynchronous}, Statements.{area_of_call, by_call, by_performed}};
+ghost use Rattle.kdcs_calls.specs.Calling.{HoldersFollow, HoldsJust};
+ghost use Rattle.abstract_monitor.specs.{Endings.{is_asynchronous}, Statements.{area_of_call}};
 ghost use Rattle.laws_of_tables.specs.{OpenLaws.{CalledFits, StandsIn}, PointLaws.{AreSound}};
 ghost use Rattle.open_transaction.specs.Transactions.{transaction_of};
 ghost use Rattle.unit_semantics.specs.{Ready.{IsReady}, Statement.{Asks, step}};
 ghost use Rattle.laws_of_applications.specs.Applied.{applied};
-ghost use Rattle.service_statement.specs.Stating.{wait_ended, waits_by};
+ghost use Rattle.service_statement.specs.Stating.{answered_now, call_now, wait_ended, waits_by};
 
 use crate::outside::Outside;
 use crate::pend::pend;
@@ -28,7 +28,7 @@ fn after_call(
     requires ready { IsReady unit.now transaction.old.run }
     requires fits { CalledFits outside.now.generation.now (is_asynchronous transaction.old.id) unit.now transaction.old.run called }
     requires statements { transaction.old.statements + 1 < 2 ^ 64 }
-    ensures exact { IfOk result (λ h. (transaction_of transaction.new, h) ≡ by_call (applied outside.now.generation.now outside.now.units.now) (is_asynchronous transaction.old.id) unit.now (transaction_of transaction.old) called) }
+    ensures exact { IfOk result (λ h. (transaction_of transaction.new, h) ≡ answered_now (applied outside.now.generation.now outside.now.units.now) transaction.old unit.now called) }
     ensures id { transaction.new.id ≡ transaction.old.id }
     ensures counted { OnOk result (transaction.new.statements ≤ transaction.old.statements + 1) }
     ensures nb { transaction.old.messages.nb ≡ outside.now.generation.now.limits.nb → transaction.new.messages.nb ≡ outside.now.generation.now.limits.nb }
@@ -58,7 +58,7 @@ pub(crate) fn perform_call(
     requires holds { HoldsJust locks.old transaction.old.id (transaction_of transaction.old) }
     requires nb { transaction.old.messages.nb ≡ outside.now.generation.now.limits.nb }
     requires statements { transaction.old.statements + 1 < 2 ^ 64 }
-    ensures exact { IfOk result (λ h. (transaction_of transaction.new, h) ≡ by_performed (applied outside.now.generation.now outside.now.units.now) (is_asynchronous transaction.old.id) unit.now (performed_now outside.now.generation.now outside.now.tables.now locks.old transaction.old.id (transaction_of transaction.old) call.now)) }
+    ensures exact { IfOk result (λ h. (transaction_of transaction.new, h) ≡ call_now (applied outside.now.generation.now outside.now.units.now) outside.now.tables.now locks.old transaction.old unit.now call.now) }
     ensures waits { IfOk result (λ h. (wait_ended locks.new transaction.old.id h).waits ≡ waits_by locks.old transaction.old.id outside.now.tables.now.clock (area_of_call (transaction_of transaction.old) call.now) h) }
     ensures holders { OnOk result (HoldersFollow locks.old locks.new transaction.old.id (transaction_of transaction.new)) }
     ensures id { transaction.new.id ≡ transaction.old.id }

@@ -12,4 +12,4 @@ mod pend;
 mod statement;
 mod waits;
 
-pub use statement::perform_statement;
+pub use statement::do_statement;

@@ -1,8 +1,9 @@
 //! What a PEND does that is not refused.
 ghost use Rattle.std.specs.Prelude.{◌≡◌, ◌+◌, ◌≤◌, ◌<◌, ◌^◌, IfOk, OnOk};
-ghost use Rattle.abstract_monitor.specs.{Endings.{is_asynchronous}, Statements.{break_ending, by_outcome}};
+ghost use Rattle.abstract_monitor.specs.Statements.{break_ending};
 ghost use Rattle.open_transaction.specs.Transactions.{transaction_of};
 ghost use Rattle.laws_of_applications.specs.Applied.{applied};
+ghost use Rattle.service_statement.specs.Stating.{pended_now};
 
 use crate::outside::Outside;
 use abstract_monitor::{Happened, Outcome};
@@ -28,7 +29,7 @@ pub(crate) fn pend(
     outcome: Outcome,
 ) -> Result<Happened, OutOfMemory>
     requires { transaction.old.statements + 1 < 2 ^ 64 }
-    ensures exact { IfOk result (λ h. (transaction_of transaction.new, h) ≡ by_outcome (applied outside.now.generation.now outside.now.units.now) (is_asynchronous transaction.old.id) (transaction_of transaction.old) variant outcome) }
+    ensures exact { IfOk result (λ h. (transaction_of transaction.new, h) ≡ pended_now (applied outside.now.generation.now outside.now.units.now) transaction.old variant outcome) }
     ensures id { transaction.new.id ≡ transaction.old.id }
     ensures counted { OnOk result (transaction.new.statements ≤ transaction.old.statements + 1) }
     ensures nb { transaction.old.messages.nb ≡ outside.now.generation.now.limits.nb → transaction.new.messages.nb ≡ outside.now.generation.now.limits.nb }

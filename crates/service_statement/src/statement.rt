@@ -2,14 +2,13 @@
 ghost use Rattle.std.specs.Prelude.{◌≡◌, ◌+◌, ◌≤◌, ◌<◌, ◌^◌, IfOk, OnOk};
 ghost use Rattle.kdcs_calls.specs.Calling.{HoldersFollow, HoldsJust};
 ghost use Rattle.laws_of_steps.specs.{Applications.{IsApplication}, Transactions.{CanGoOn}};
-ghost use Rattle.abstract_monitor.specs.{Endings.{is_asynchronous}, Locks.{told_now}, Statements.{area_of, statement}};
 ghost use Rattle.laws_of_tables.specs.PointLaws.{AreSound};
 ghost use Rattle.open_transaction.specs.Transactions.{transaction_of};
 ghost use Rattle.unit_semantics.specs.{Ready.{IsReady}, Statement.{step}};
 ghost use Rattle.unit_step.specs.Answers.{meaning_of};
 ghost use Rattle.laws_of_applications.specs.Applied.{applied};
 ghost use Rattle.unit_check.specs.Fitted.{IsFit};
-ghost use Rattle.service_statement.specs.Stating.{StepLeaves, wait_ended, waits_after};
+ghost use Rattle.service_statement.specs.Stating.{StepLeaves, WaitsAfter, stated_now, waits_after};
 
 use crate::call::perform_call;
 use crate::outside::Outside;
@@ -58,15 +57,15 @@ fn next_statement(
     requires holds { HoldsJust locks.old transaction.old.id (transaction_of transaction.old) }
     requires nb { transaction.old.messages.nb ≡ outside.now.generation.now.limits.nb }
     requires statements { transaction.old.statements + 1 < 2 ^ 64 }
-    ensures exact { IfOk result (λ h. (transaction_of transaction.new, h) ≡ statement (applied outside.now.generation.now outside.now.units.now) (told_now locks.old outside.now.generation.now.limits.reswait outside.now.tables.now transaction.old.id (area_of (applied outside.now.generation.now outside.now.units.now) (transaction_of transaction.old))) (is_asynchronous transaction.old.id) (transaction_of transaction.old)) }
-    ensures waits { IfOk result (λ h. (wait_ended locks.new transaction.old.id h).waits ≡ waits_after (applied outside.now.generation.now outside.now.units.now) outside.now.tables.now locks.old transaction.old.id (transaction_of transaction.old) h) }
+    ensures exact { IfOk result (λ h. (transaction_of transaction.new, h) ≡ stated_now (applied outside.now.generation.now outside.now.units.now) outside.now.tables.now locks.old transaction.old) }
+    ensures waits { IfOk result (λ h. WaitsAfter (applied outside.now.generation.now outside.now.units.now) outside.now.tables.now locks.old locks.new transaction.old h) }
     ensures holders { OnOk result (HoldersFollow locks.old locks.new transaction.old.id (transaction_of transaction.new)) }
     ensures id { transaction.new.id ≡ transaction.old.id }
     ensures nb { transaction.new.messages.nb ≡ transaction.old.messages.nb }
     ensures counted { OnOk result (transaction.new.statements ≤ transaction.old.statements + 1) }
 {
     let Some(unit) = outside.units.unit_of(transaction.current) else {
-        return Ok(Happened::Returns);
+        unreachable!()
     };
     match step_unit(outside.alloc, unit, transaction)? {
         Stepped::Plain => Ok(Happened::Went),
@@ -79,7 +78,7 @@ fn next_statement(
 /// changes nothing but the wait, and is repeated as it stands. `locks` gives the service exactly the areas that its
 /// transaction holds. Fewer than 2^64 - 1 statements were done. When memory runs out, the transaction and the locks
 /// are of no use any more.
-pub fn perform_statement<'a>(
+pub fn do_statement<'a>(
     alloc: Global,
     generation: &'a Generation,
     units: &'a Units,
@@ -94,7 +93,7 @@ pub fn perform_statement<'a>(
     requires holds { HoldsJust locks.old transaction.old.id (transaction_of transaction.old) }
     requires nb { transaction.old.messages.nb ≡ generation.now.limits.nb }
     requires statements { transaction.old.statements + 1 < 2 ^ 64 }
-    ensures exact { IfOk result (λ h. (transaction_of transaction.new, h) ≡ statement (applied generation.now units.now) (told_now locks.old generation.now.limits.reswait tables.now transaction.old.id (area_of (applied generation.now units.now) (transaction_of transaction.old))) (is_asynchronous transaction.old.id) (transaction_of transaction.old)) }
+    ensures exact { IfOk result (λ h. (transaction_of transaction.new, h) ≡ stated_now (applied generation.now units.now) tables.now locks.old transaction.old) }
     ensures waits { IfOk result (λ h. locks.new.waits ≡ waits_after (applied generation.now units.now) tables.now locks.old transaction.old.id (transaction_of transaction.old) h) }
     ensures holders { OnOk result (HoldersFollow locks.old locks.new transaction.old.id (transaction_of transaction.new)) }
     ensures holds { OnOk result (HoldsJust locks.new transaction.old.id (transaction_of transaction.new)) }

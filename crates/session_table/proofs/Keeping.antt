@@ -1,31 +1,26 @@
 -- Sessions that are put in, changed and taken out stay sessions.
-use Rattle.std.proofs.Common.{◌≡◌, refl, ap, sym, subst, ◌∙◌, Bool, true, not, true≢false, List, [], ◌∷◌, Some, None, Result, Ok, Err, OnOk, OnErr, bytes_eq, inl, inr}
+use Rattle.std.proofs.Common.{◌≡◌, ap, sym, subst, ◌∙◌, Bool, true, not, true≢false, List, [], ◌∷◌, Some, None, Result, Ok, Err, OnOk, OnErr, bytes_eq, inl, inr}
 use Rattle.std.proofs.lemmas.Bool.{cases_Bool}
 use Rattle.std.proofs.lemmas.Cmp.{nat_list_cmp_total, nat_list_eq_equiv}
 use Rattle.std.proofs.lemmas.Map.Text.{is_eq-slice_cmp}
-use Rattle.std.specs.Ordering.{is_eq, eq_by_cmp}
-use Rattle.std.specs.declared.cmp.Ordering.{Ordering}
-use Rattle.std.specs.declared.cmp.Ordering.TheVariants.{Less, Equal, Greater}
+use Rattle.std.specs.Ordering.{eq_by_cmp}
 use Rattle.std.specs.FinMap.{find, put, nat_cmp-IsAntisymmetric, slice_cmp-IsAntisymmetric}
 use Rattle.std.specs.FinMap.Entries.{where_key, find-put, find-where_key}
 use Rattle.sorted_pairs.specs.Places.{without}
-use Rattle.sorted_pairs.specs.PlacesLaws.{kept, left_sorted}
+use Rattle.sorted_pairs.specs.PlacesLaws.{left_sorted}
 use Rattle.abstract_monitor.specs.Bytes.{Bytes, bytes_cmp}
 use Rattle.abstract_monitor.specs.State.{Session}
 use Rattle.abstract_monitor.specs.Turns.{pterm_of_user}
 use Rattle.session_table.specs.Signed.{AreSessions}
+use Rattle.std.specs.Cmp.{Equal-is}
+use Rattle.kd_base.specs.OrderLaws.{sorted_put}
 
 abbrev Signed : Type 0
 Signed = List (Bytes × Session)
 
-equal : (r : Ordering) → is_eq r ≡ true → r ≡ Equal
-equal Less e = cc
-equal Equal e = refl
-equal Greater e = cc
-
 -- keys that tie are one
 tied : (p q : Bytes) → eq_by_cmp bytes_cmp p q ≡ true → p ≡ q
-tied p q e = slice_cmp-IsAntisymmetric nat_cmp-IsAntisymmetric p q (equal _ e)
+tied p q e = slice_cmp-IsAntisymmetric nat_cmp-IsAntisymmetric p q ((Equal-is _).0 e)
 
 -- a user in a session is signed on somewhere
 somewhere : (q : Bytes) (w : Session) (es : Signed) → find bytes_cmp q es ≡ Some w → pterm_of_user es w.user ≡ None → ⊥
@@ -47,7 +42,7 @@ somewhere q w (x ∷ es) is none =
 -- a session put in, whose user is in no other one
 put_once : (k : Bytes) (x : Session) (es : Signed) → AreSessions es → ((q : Bytes) (w : Session) → find bytes_cmp q es ≡ Some w → x.user ≡ w.user → q ≡ k) → AreSessions (put bytes_cmp k x es)
 put_once k x es are alone = record {
-  sorted = kept nat_list_cmp_total k x es are.sorted;
+  sorted = sorted_put nat_list_cmp_total k x es are.sorted;
   once = λ p q v w first second e.
       let at_p = sym (find-put bytes_cmp nat_list_cmp_total p k x es) ∙ first in
       let at_q = sym (find-put bytes_cmp nat_list_cmp_total q k x es) ∙ second in

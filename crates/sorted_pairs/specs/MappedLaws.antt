@@ -1,11 +1,11 @@
 -- Lists of pairs whose values are changed, each by itself: look-ups and changes of the pairs go through.
-use Rattle.std.specs.Prelude.{◌≡◌, refl, Bool, true, false, cond, ◌&&◌, List, [], ◌∷◌, map, Some, option_map}
+use Rattle.std.specs.Prelude.{◌≡◌, refl, Bool, true, false, cond, List, [], ◌∷◌, map, Some, option_map}
 use Rattle.std.proofs.Common.{ap}
-use Rattle.std.specs.Ordering.{eq_by_cmp, is_lt}
+use Rattle.std.specs.Ordering.{eq_by_cmp}
 use Rattle.std.specs.declared.cmp.Ordering.{Ordering}
 use Rattle.std.specs.declared.cmp.Ordering.TheVariants.{Less, Equal, Greater}
-use Rattle.std.specs.FinMap.{find, put, is_sorted}
-use Rattle.std.specs.FinMap.Entries.{below_all, by_order, where_key}
+use Rattle.std.specs.FinMap.{find, put}
+use Rattle.std.specs.FinMap.Entries.{by_order, where_key}
 
 -- the pairs with other values
 abbrev pub mapped : {K X Y : Type 0} → (X → Y) → List (K × X) → List (K × Y)
@@ -37,11 +37,3 @@ module _ {K X Y : Type 0} (R : K → K → Ordering) (f : X → Y) where
       by : (b : Bool) → where_key R p (mapped f es) ≡ mapped f (where_key R p es) → cond b ((e.0, f e.1) ∷ where_key R p (mapped f es)) (where_key R p (mapped f es)) ≡ mapped f (cond b (e ∷ where_key R p es) (where_key R p es))
       by true rest = ap (λ (l : List (K × Y)). (e.0, f e.1) ∷ l) rest
       by false rest = rest
-
-  below_mapped : (key : K) (pairs : List (K × X)) → below_all R key (mapped f pairs) ≡ below_all R key pairs
-  below_mapped key [] = refl
-  below_mapped key (e ∷ es) = ap (λ b. is_lt (R key e.0) && b) (below_mapped key es)
-
-  pub sorted_mapped : (pairs : List (K × X)) → is_sorted R (mapped f pairs) ≡ is_sorted R pairs
-  sorted_mapped [] = refl
-  sorted_mapped (e ∷ es) = λ i. below_mapped e.0 es i && sorted_mapped es i

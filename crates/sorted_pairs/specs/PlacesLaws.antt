@@ -1,12 +1,12 @@
 -- Laws: lists of pairs in ascending order of their keys: where a key stands, what is found there, and what a change there makes.
-use Rattle.std.specs.Prelude.{◌≡◌, refl, ℕ, zero, suc, ◌+◌, ◌<◌, ◌≤◌, Bool, true, false, cond, not, IsTrue, T, List, [], ◌∷◌, filter, length, Option, None, Some, Result, Ok, Err, slice_get, slice_set, slice_index_or, option_map}
-use Rattle.std.proofs.Common.{arith, sym, ap, subst, ◌∙◌, true≢false, inl, inr}
+use Rattle.std.specs.Prelude.{◌≡◌, refl, ℕ, zero, suc, ◌+◌, ◌<◌, ◌≤◌, Bool, true, false, cond, not, IsTrue, List, [], ◌∷◌, filter, length, Option, None, Some, Result, Ok, Err, slice_get, slice_set, slice_index_or, option_map}
+use Rattle.std.proofs.Common.{arith, sym, ap, subst, ◌∙◌, inl, inr}
 use Rattle.std.specs.Ordering.{is_eq, is_lt, eq_by_cmp, ordering_reverse}
 use Rattle.std.specs.declared.cmp.Ordering.{Ordering}
 use Rattle.std.specs.declared.cmp.Ordering.TheVariants.{Less, Equal, Greater}
 use Rattle.std.specs.Cmp.{IsTotalOrder, alike_right}
 use Rattle.std.specs.FinMap.{find, put, is_sorted}
-use Rattle.std.specs.FinMap.Entries.{by_order, below_all, is_sorted-put, is_sorted-where_key}
+use Rattle.std.specs.FinMap.Entries.{by_order, below_all, is_sorted-where_key}
 use Rattle.std.specs.List.{AllWithin, HoldsAt, insert, remove}
 use Rattle.std.specs.List.Sorted.{IsSortedBy}
 use Rattle.std.proofs.lemmas.Bool.{cases_lt}
@@ -14,29 +14,14 @@ use Rattle.std.proofs.lemmas.List.Sorted.{searchable_from_sorted}
 use Rattle.std.proofs.lemmas.Option.{slice_get_read}
 use Rattle.kd_base.specs.ToolsLaws.{both_true, true_both}
 use Rattle.sorted_pairs.specs.Places.{IsPlace, without}
+use Rattle.kd_base.specs.OrderLaws.{is_less, holds, is_true}
 
 -- the value at a place, if one stands there
 abbrev pub value_there : {K X : Type 0} → Result ℕ ℕ → List (K × X) → Option X
 value_there (Ok at) pairs = option_map (λ e. e.1) (slice_get pairs at)
 value_there (Err at) pairs = None
 
-less : (r : Ordering) → is_lt r ≡ true → r ≡ Less
-less Less e = refl
-less Equal e = absurd (true≢false (sym e))
-less Greater e = absurd (true≢false (sym e))
-
-holds : (b : Bool) → IsTrue b → T b
-holds true e = tt
-holds false e = absurd (true≢false (sym e))
-
-is_true : (b : Bool) → T b → IsTrue b
-is_true true h = refl
-is_true false h = absurd h
-
 -- ---- the order stays
-
-pub kept : {K X : Type 0} {R : K → K → Ordering} → IsTotalOrder R → (key : K) (value : X) (pairs : List (K × X)) → IsTrue (is_sorted R pairs) → IsTrue (is_sorted R (put R key value pairs))
-kept {R = R} o key value pairs up = is_true _ (is_sorted-put R o key value pairs (holds _ up))
 
 pub left_sorted : {K X : Type 0} (R : K → K → Ordering) (key : K) (pairs : List (K × X)) → IsTrue (is_sorted R pairs) → IsTrue (is_sorted R (without R key pairs))
 left_sorted R key pairs up = is_true _ (is_sorted-where_key R (λ k. not (eq_by_cmp R key k)) pairs (holds _ up))
@@ -62,7 +47,7 @@ module _ {K : Type 0} (R : K → K → Ordering) (o : IsTotalOrder R) where
 module _ {K X : Type 0} (R : K → K → Ordering) (o : IsTotalOrder R) where
   below_at : (k : K) (es : List (K × X)) (i : ℕ) (d : K × X) → IsTrue (below_all R k es) → i < length es → R k ((slice_index_or es i d).0) ≡ Less
   below_at k [] i d h lt = absurd (omega arith)
-  below_at k (x ∷ xs) zero d h lt = less _ (both_true (is_lt (R k x.0)) (below_all R k xs) h).0
+  below_at k (x ∷ xs) zero d h lt = is_less _ (both_true (is_lt (R k x.0)) (below_all R k xs) h).0
   below_at k (x ∷ xs) (suc i) d h lt = below_at k xs i d (both_true (is_lt (R k x.0)) (below_all R k xs) h).1 (omega arith)
 
   up_tail : (x : K × X) (xs : List (K × X)) → IsTrue (is_sorted R (x ∷ xs)) → IsTrue (is_sorted R xs)

@@ -6,7 +6,7 @@ use Rattle.kdcs_types.specs.Difference.{difference}
 use Rattle.kdcs_types.specs.Tables.{TableRows}
 use Rattle.kdcdef_types.specs.Generation.{Generated}
 use Rattle.abstract_monitor.specs.declared.outcome.Outcome.{Outcome}
-use Rattle.abstract_monitor.specs.Endings.{durable, row_after, synchronised}
+use Rattle.abstract_monitor.specs.Endings.{durable, refusal, row_after, synchronised}
 use Rattle.abstract_monitor.specs.Statements.{kept_record}
 use Rattle.open_transaction.specs.declared.open.OpenTransaction.{OpenTransaction}
 use Rattle.open_transaction.specs.Transactions.{Boxed, transaction_of}
@@ -26,3 +26,7 @@ abbrev pub answer_by : Generated → TableRows → Boxed → Outcome → Option 
 answer_by g t b o None = let w = b.value in
     Synced (difference (durable g t) (durable g (synchronised g t w.id (transaction_of w) o))) (row_after g w.id (transaction_of w) o) (kept_record w.id (transaction_of w) ending.Synced)
 answer_by g t b o (Some cause) = Refused cause b
+
+-- why a point is refused, if it is
+abbrev pub refused_by : Generated → TableRows → OpenTransaction → Outcome → Option Cause
+refused_by g t w o = refusal g (durable g (synchronised g t w.id (transaction_of w) o))

@@ -2,7 +2,7 @@
 use Rattle.std.specs.Prelude.{◌≡◌}
 use Rattle.kdcs_types.specs.declared.key.ServiceId.{ServiceId}
 use Rattle.kdcs_types.specs.Difference.{difference}
-use Rattle.kdcs_types.specs.Tables.{TableRows}
+use Rattle.kdcs_types.specs.Tables.{IsSortedTables, TableRows}
 use Rattle.kdcdef_types.specs.Generation.{Generated}
 use Rattle.abstract_monitor.specs.declared.outcome.Outcome.{Outcome}
 use Rattle.abstract_monitor.specs.Endings.{broken, durable, synchronised}
@@ -19,5 +19,5 @@ PointsChangeWhatWasWritten =
 -- an abnormal end
 abbrev pub EndsChangeTheirOwnRows : Type 0
 EndsChangeTheirOwnRows =
-    (g : Generated) (t : TableRows) (id : ServiceId) (x : OpenTransaction) → Stands g t id x
+    (g : Generated) (t : TableRows) (id : ServiceId) (x : OpenTransaction) → IsSortedTables t
     → difference (durable g t) (durable g (broken t id x)) ≡ end_changes g t id x

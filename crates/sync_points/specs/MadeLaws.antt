@@ -1,10 +1,8 @@
 -- What a transaction wrote makes of the durable tables those behind its end.
-use Rattle.std.specs.Prelude.{◌≡◌, refl, ℕ, ◌+◌, ◌<◌, Bool, true, false, cond, IsTrue, List, [], ◌∷◌, ◌++◌, length, Option, Some, None, nat_lt, is_some, ◌==◌}
+use Rattle.std.specs.Prelude.{◌≡◌, refl, ℕ, ◌+◌, ◌<◌, Bool, true, false, cond, IsTrue, List, [], ◌∷◌, ◌++◌, length, Option, Some, None, nat_lt, is_some}
 use Rattle.std.proofs.Common.{sym, ap, subst, ◌∙◌, arith, append_assoc}
 use Rattle.std.proofs.lemmas.Bool.{ltb-true, lt-ltb}
-use Rattle.std.proofs.lemmas.Bool.Decides.{nat_tests}
 use Rattle.std.specs.declared.cmp.Ordering.TheVariants.{Greater}
-use Rattle.std.specs.FinMap.{is_sorted}
 use Rattle.std.specs.List.{list_all}
 use Rattle.std.specs.Option.{option_map}
 use Rattle.std.specs.Ordering.{nat_cmp}
@@ -21,20 +19,18 @@ use Rattle.kdcs_types.specs.declared.service.Service.{Service}
 use Rattle.kdcs_types.specs.Difference.{difference}
 use Rattle.kdcs_types.specs.DifferenceLaws.{difference_makes_new}
 use Rattle.kdcs_types.specs.Keyed.{item_at, with_item}
-use Rattle.kdcs_types.specs.KeyedLaws.{all-without, found_key, found_passes}
-use Rattle.kdcs_types.specs.KeyLaws.{id_eq-itself}
+use Rattle.kdcs_types.specs.KeyedLaws.{all_without, found_key, found_passes}
 use Rattle.kdcs_types.specs.RowLaws.{changed_sorted, sorted_with_changes}
-use Rattle.kdcs_types.specs.Tables.{AreChanges, IsSortedTables, TableRows, change_fits, change_key, changed, job_key, lterm_fits, with_change, with_changes}
+use Rattle.kdcs_types.specs.Tables.{AreChanges, IsSortedTables, TableRows, change_fits, change_key, changed, job_key, with_change, with_changes}
 use Rattle.kdcdef_types.specs.Generation.{Generated}
 use Rattle.abstract_monitor.specs.declared.outcome.Outcome.{Outcome}
-use Rattle.abstract_monitor.specs.declared.outcome.Outcome.TheVariants.{Wait, Point, Follow}
-use Rattle.abstract_monitor.specs.Bytes.{Bytes, bytes_cmp}
-use Rattle.abstract_monitor.specs.Endings.{area_change, broken, durable, is_durable, lterm_in_row, numbered, row_after, service_change, synchronised, with_areas, with_drafts, with_service, without_own_job}
+use Rattle.abstract_monitor.specs.Bytes.{Bytes}
+use Rattle.abstract_monitor.specs.Endings.{area_change, broken, durable, is_durable, numbered, row_after, service_change, synchronised, with_areas, with_drafts, with_service, without_own_job}
 use Rattle.abstract_monitor.specs.State.{OpenTransaction}
 use Rattle.laws_of_steps.specs.Commits.{AreNumberedFrom}
 use Rattle.laws_of_steps.specs.DurableLaws.{durable_follows, durable_sorted}
 use Rattle.laws_of_steps.specs.JobLaw.{new_jobs}
-use Rattle.laws_of_steps.specs.JobLaws.{points_number}
+use Rattle.laws_of_steps.specs.JobLaws.{points_number, service_jobs}
 use Rattle.laws_of_steps.specs.Transactions.{HasOwnJob}
 use Rattle.laws_of_tables.specs.ItemsLaws.{ascends_filter}
 use Rattle.laws_of_tables.specs.ListsLaws.{all_append, all_filter, all_imply}
@@ -44,6 +40,8 @@ use Rattle.sync_points.specs.AscendingLaws.{OwnIsBelow, areas_fit, ends_ascend, 
 use Rattle.sync_points.specs.Laws.{EndsChangeTheirOwnRows, PointsChangeWhatWasWritten}
 use Rattle.sync_points.specs.PointChanges.{end_writes, is_real, job_changes, own_job_changes, point_changes, point_writes, service_changes}
 use Rattle.sync_points.specs.RealChangesLaws.{difference_is_real, real_in_durable}
+use Rattle.kd_base.specs.OrderLaws.{greater_is}
+use Rattle.laws_of_tables.specs.PointsLaws.{point_row_fits}
 
 changes_append : (t : TableRows) (xs ys : List Change) → with_changes t (xs ++ ys) ≡ with_changes (with_changes t xs) ys
 changes_append t [] ys = refl
@@ -133,12 +131,6 @@ own_made g n u (Dialogue user) began = refl
 own_made g n u (Asynchronous number) (Some row) = refl
 own_made g n u (Asynchronous number) None = refl
 
-greater_is : (m n : ℕ) → n < m → nat_cmp m n ≡ Greater
-greater_is m n h =
-    let t : nat_lt m n ≡ false = grind (arith, nat_tests) in
-    let e : (m == n) ≡ false = grind (arith, nat_tests) in
-    rw (t, e) refl
-
 abbrev has_number_below : ℕ → Job → Bool
 has_number_below n j = nat_lt j.number n
 
@@ -169,17 +161,6 @@ jobs_made n (j ∷ js) v h from =
 
 -- ---- what is assumed of the transaction
 
-lterm-fits : (i : ServiceId) (lterm : Bytes) → lterm_fits i (lterm_in_row i lterm) ≡ true
-lterm-fits (Dialogue user) lterm = refl
-lterm-fits (Asynchronous number) lterm = refl
-
-row_fits_service : (g : Generated) (id : ServiceId) (x : OpenTransaction) (o : Outcome) → IsTrue (is_sorted bytes_cmp x.lssbs) → IsTrue (change_fits (service_change id (row_after g id x o)))
-unfolding row_after
-row_fits_service g id x (Wait tac) h = true_both _ _ (id_eq-itself id) (true_both _ _ (lterm-fits id x.lterm) h)
-row_fits_service g id x (Point tac) h = true_both _ _ (id_eq-itself id) (true_both _ _ (lterm-fits id x.lterm) h)
-row_fits_service g id x (Follow tac) h = true_both _ _ (id_eq-itself id) (true_both _ _ (lterm-fits id x.lterm) refl)
-row_fits_service g id x _ h = refl
-
 numbers_low : (g : Generated) (t : TableRows) (id : ServiceId) (x : OpenTransaction) → Stands g t id x → IsTrue (list_all (has_number_below t.next_job) t.jobs)
 unfolding durable
 numbers_low g t id x s = s.sound.suits.job_numbers
@@ -201,16 +182,16 @@ own_below t (Asynchronous number) None h low = by (item_at job_key (JobKey numbe
 left_low : (n : ℕ) (u : TableRows) (id : ServiceId) (began : Option Service) → IsTrue (list_all (has_number_below n) u.jobs) → IsTrue (list_all (has_number_below n) (without_own_job u id began).jobs)
 left_low n u (Dialogue user) began h = h
 left_low n u (Asynchronous number) (Some row) h = h
-left_low n u (Asynchronous number) None h = all-without job_key (has_number_below n) (JobKey number) u.jobs h
-
-service_jobs : (u : TableRows) (id : ServiceId) (row : Option Service) → (with_service u id row).jobs ≡ u.jobs
-service_jobs u id None = refl
-service_jobs u id (Some row) = refl
+left_low n u (Asynchronous number) None h = all_without job_key (has_number_below n) (JobKey number) u.jobs h
 
 -- ---- together
 
-module _ (g : Generated) (t : TableRows) (id : ServiceId) (x : OpenTransaction) (s : Stands g t id x) where
-  -- an abnormal end
+begun : (g : Generated) (t : TableRows) (c : Changes) → c.clock ≡ t.clock → changed (durable g t) c ≡ with_changes (durable_with g c.next_job t) c.items
+unfolding durable
+begun g t c e = ap (λ k. with_changes (record (durable g t) { clock = k; next_job = c.next_job }) c.items) e
+
+-- an abnormal end
+module _ (g : Generated) (t : TableRows) (id : ServiceId) (x : OpenTransaction) (order : IsSortedTables t) where
   end_fits : IsTrue (list_all change_fits (end_writes g id x))
   end_fits = all_append change_fits (service_changes g id None) (own_job_changes id x.began) (gone (is_durable g id)) (own_fits g id x.began)
     where
@@ -239,20 +220,17 @@ module _ (g : Generated) (t : TableRows) (id : ServiceId) (x : OpenTransaction) 
   abbrev end_written : Changes
   end_written = record { clock = t.clock; next_job = t.next_job; items = end_writes g id x }
 
-  begun : (c : Changes) → c.clock ≡ t.clock → changed (durable g t) c ≡ with_changes (durable_with g c.next_job t) c.items
-  unfolding durable
-  begun c e = ap (λ k. with_changes (record (durable g t) { clock = k; next_job = c.next_job }) c.items) e
-
   end_made : changed (durable g t) end_written ≡ durable g (broken t id x)
   end_made =
-      begun end_written refl
+      begun g t end_written refl
       ∙ changes_append (durable_with g t.next_job t) (service_changes g id None) (own_job_changes id x.began)
-      ∙ ap (λ v. with_changes v (own_job_changes id x.began)) (service_made g t.next_job t id None s.sound.order refl)
+      ∙ ap (λ v. with_changes v (own_job_changes id x.began)) (service_made g t.next_job t id None order refl)
       ∙ own_made g t.next_job (with_service t id None) id x.began
       ∙ next_same t id x.began refl
       ∙ end_order
 
-  -- a synchronisation point
+-- a synchronisation point
+module _ (g : Generated) (t : TableRows) (id : ServiceId) (x : OpenTransaction) (s : Stands g t id x) where
   module _ (o : Outcome) where
     abbrev row : Option Service
     row = row_after g id x o
@@ -267,7 +245,7 @@ module _ (g : Generated) (t : TableRows) (id : ServiceId) (x : OpenTransaction) 
     last = t.next_job + length x.drafts
 
     row_change_fits : IsTrue (change_fits (service_change id row))
-    row_change_fits = row_fits_service g id x o s.can.lssbs_order
+    row_change_fits = point_row_fits g id x o s.can.lssbs_order
 
     from : AreNumberedFrom t.next_job (new_jobs t x)
     from = (points_number g t id x o).numbers
@@ -323,7 +301,7 @@ module _ (g : Generated) (t : TableRows) (id : ServiceId) (x : OpenTransaction) 
 
     point_made : changed (durable g t) point_written ≡ durable g (synchronised g t id x o)
     point_made =
-        begun point_written refl
+        begun g t point_written refl
         ∙ changes_append (durable_with g last t) (changes_of x.written ++ service_changes g id row ++ own_job_changes id x.began) (job_changes (new_jobs t x))
         ∙ ap (λ v. with_changes v (job_changes (new_jobs t x))) (
         changes_append (durable_with g last t) (changes_of x.written ++ service_changes g id row) (own_job_changes id x.began)
@@ -347,10 +325,10 @@ points_change g t id x o s =
     ∙ ap (λ (cs : List Change). record written { items = cs }) (real_in_durable g t (point_writes g t id x o) (points_durable g id (row_after g id x o) x.began x.written (new_jobs t x) t.next_job))
 
 pub ends_change : EndsChangeTheirOwnRows
-ends_change g t id x s =
-    let written = end_written g t id x s in
-    ap (difference (durable g t)) (sym (end_made g t id x s))
-    ∙ difference_is_real (durable g t) written (durable_sorted g t s.sound.order) (end_are g t id x s)
+ends_change g t id x order =
+    let written = end_written g t id x order in
+    ap (difference (durable g t)) (sym (end_made g t id x order))
+    ∙ difference_is_real (durable g t) written (durable_sorted g t order) (end_are g t id x order)
     ∙ ap (λ (cs : List Change). record written { items = cs }) (real_in_durable g t (end_writes g id x) (ends_durable g id None x.began))
 
 -- ---- what the changes are

@@ -24,7 +24,7 @@ use Rattle.kdcdef_types.specs.Generation.{Generated}
 use Rattle.abstract_monitor.specs.Bytes.{Bytes}
 use Rattle.abstract_monitor.specs.Charges.{charge_of, service_length, total_charge}
 use Rattle.abstract_monitor.specs.Endings.{durable, is_durable}
-use Rattle.laws_of_steps.specs.DurableLaws.{durable_sorted, row_at-durable}
+use Rattle.laws_of_steps.specs.DurableLaws.{durable_sorted, row_at_durable}
 use Rattle.laws_of_steps.specs.DurableKeys.{key_is_durable}
 use Rattle.table_fit.specs.Lengths.{value_length}
 use Rattle.sync_points.specs.RefusalsLaws.{pages_after}
@@ -32,6 +32,7 @@ use Rattle.sync_points.specs.Refusals.{row_charge}
 use Rattle.sync_points.specs.WeightsLaws.{made_weight, replaced_weight}
 use Rattle.sync_points.specs.Weights.{row_weight}
 use Rattle.sync_points.specs.Pages.{longest, is_short, most_pages, content_pages, job_pages, pages_of}
+use Rattle.kdcs_types.specs.RowLaws.{numbers_apart}
 
 -- ---- the pages of each kind of row
 
@@ -93,7 +94,7 @@ row_short b u block few (ShownKey l) = found_short shown_key shown_row b block (
 -- the rows of durable tables are short
 pub durable_short : (g : Generated) (t : TableRows) → IsBlockSize g.limits.blksize → total_charge g.limits.blksize (durable g t) ≤ most_pages → (k : Key) → key_is_durable g k ≡ true → IsTrue (is_short (row_at t k))
 durable_short g t block few k kept =
-    subst (λ (o : Option Row). IsTrue (is_short o)) (row_at-durable g t k ∙ ap (λ (b : Bool). cond b (row_at t k) None) kept) (row_short g.limits.blksize (durable g t) block few k)
+    subst (λ (o : Option Row). IsTrue (is_short o)) (row_at_durable g t k ∙ ap (λ (b : Bool). cond b (row_at t k) None) kept) (row_short g.limits.blksize (durable g t) block few k)
 
 -- ---- what changes make of the pages
 
@@ -108,7 +109,7 @@ same_replaced m g t clock next (c ∷ cs) h =
     let parts = both_true (key_is_durable g (change_key c)) (list_all (λ (c : Change). key_is_durable g (change_key c)) cs) h in
     let u = record (durable g t) { clock = clock; next_job = next } in
     let row : row_at u (change_key c) ≡ row_at t (change_key c) =
-    with_numbers (durable g t) clock next (change_key c) ∙ row_at-durable g t (change_key c) ∙ ap (λ (b : Bool). cond b (row_at t (change_key c)) None) parts.0 in
+    with_numbers (durable g t) clock next (change_key c) ∙ row_at_durable g t (change_key c) ∙ ap (λ (b : Bool). cond b (row_at t (change_key c)) None) parts.0 in
     omega (
       arith,
       ap (row_weight m) row,
@@ -116,9 +117,6 @@ same_replaced m g t clock next (c ∷ cs) h =
       sum_by-cons (λ (d : Change). row_weight m (row_at u (change_key d))) c cs,
       sum_by-cons (λ (d : Change). row_weight m (row_at t (change_key d))) c cs,
     )
-
-numbered_order : (t : TableRows) (clock next : ℕ) → IsSortedTables t → IsSortedTables (record t { clock = clock; next_job = next })
-numbered_order t clock next h = record { gssbs = h.gssbs; tlss = h.tlss; ulss = h.ulss; services = h.services; jobs = h.jobs; shown = h.shown; tlss_filled = h.tlss_filled; ulss_filled = h.ulss_filled; services_fit = h.services_fit }
 
 numbered_pages : (b : ℕ) (t : TableRows) (clock next : ℕ) → total_charge b (record t { clock = clock; next_job = next }) ≡ total_charge b t
 unfolding total_charge
@@ -130,7 +128,7 @@ pub pages_changed : (g : Generated) (t : TableRows) (c : Changes) → IsSortedTa
 pages_changed g t c h are kept =
     omega (
       arith,
-      pages_after g.limits.blksize (record (durable g t) { clock = c.clock; next_job = c.next_job }) c.items (numbered_order (durable g t) c.clock c.next_job (durable_sorted g t h)) are,
+      pages_after g.limits.blksize (record (durable g t) { clock = c.clock; next_job = c.next_job }) c.items (numbers_apart (durable g t) c.clock c.next_job (durable_sorted g t h)) are,
       numbered_pages g.limits.blksize (durable g t) c.clock c.next_job,
       same_replaced (row_charge g.limits.blksize) g t c.clock c.next_job c.items kept,
       pages_are g t,

@@ -71,9 +71,9 @@ refused_by g gssbs next pages =
     else None
 
 module _ (g : Generated) (t : TableRows) (id : ServiceId) (x : OpenTransaction) (o : Outcome) where
-  gssbs-of : (u : TableRows) (began r : Option Service) → (durable g (with_service (with_drafts (without_own_job u id began) x) id r)).gssbs ≡ u.gssbs
+  gssbs_of : (u : TableRows) (began r : Option Service) → (durable g (with_service (with_drafts (without_own_job u id began) x) id r)).gssbs ≡ u.gssbs
   unfolding durable
-  gssbs-of u began r = by id began r
+  gssbs_of u began r = by id began r
     where
       by : (i : ServiceId) (began r : Option Service) → (with_service (with_drafts (without_own_job u i began) x) i r).gssbs ≡ u.gssbs
       by (Dialogue user) began None = refl
@@ -83,9 +83,9 @@ module _ (g : Generated) (t : TableRows) (id : ServiceId) (x : OpenTransaction) 
       by (Asynchronous number) None None = refl
       by (Asynchronous number) None (Some r) = refl
 
-  gssbs-left : (durable g (synchronised g t id x o)).gssbs ≡ (with_changes t (changes_of x.written)).gssbs
+  gssbs_left : (durable g (synchronised g t id x o)).gssbs ≡ (with_changes t (changes_of x.written)).gssbs
   unfolding synchronised
-  gssbs-left = gssbs-of (with_areas t x.written) x.began (row_after g id x o) ∙ ap (λ (u : TableRows). u.gssbs) (sym (written_made x.written t))
+  gssbs_left = gssbs_of (with_areas t x.written) x.began (row_after g id x o) ∙ ap (λ (u : TableRows). u.gssbs) (sym (written_made x.written t))
 
   -- the tests of a refusal, by what the transaction wrote
   pub refusal_is : Stands g t id x → refusal g (durable g (synchronised g t id x o)) ≡ refused_by g (length (with_changes t (changes_of x.written)).gssbs) (t.next_job + length x.drafts) (total_charge g.limits.blksize (changed (durable g t) (point_changes g t id x o)))
@@ -93,7 +93,7 @@ module _ (g : Generated) (t : TableRows) (id : ServiceId) (x : OpenTransaction) 
   refusal_is s i =
       let made = points_make g t id x o s in
       let next : (durable g (synchronised g t id x o)).next_job ≡ t.next_job + length x.drafts = ap (λ (u : TableRows). u.next_job) made ∙ (numbers_changed (durable g t) (point_changes g t id x o)).1 in
-      refused_by g (length (gssbs-left i)) (next i) (total_charge g.limits.blksize (made i))
+      refused_by g (length (gssbs_left i)) (next i) (total_charge g.limits.blksize (made i))
 
 -- what a test found
 module _ (g : Generated) (gssbs next pages : ℕ) where

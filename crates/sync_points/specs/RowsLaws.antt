@@ -15,7 +15,7 @@ use Rattle.kdcs_types.specs.declared.service.Service.{Service}
 use Rattle.kdcs_types.specs.Keyed.{item_at}
 use Rattle.kdcs_types.specs.KeyedLaws.{found_key}
 use Rattle.kdcs_types.specs.Keys.{id_eq}
-use Rattle.kdcs_types.specs.KeyLaws.{id_eq-itself}
+use Rattle.kdcs_types.specs.KeyLaws.{id_eq_itself}
 use Rattle.kdcs_types.specs.Same.{job_value_eq, row_same, service_eq}
 use Rattle.kdcs_types.specs.Tables.{TableRows, content_of, gssb_key, gssb_row, job_key, job_of, job_row, row_at, service_key, service_of, service_row, shown_key, shown_of, shown_row, tls_key, tls_row, uls_key, uls_row}
 use Rattle.abstract_monitor.specs.Bytes.{Bytes}
@@ -55,7 +55,7 @@ same_service t id row = by (item_at service_key (ServiceKey id) t.services) refl
 
     by : (o : Option Service) → item_at service_key (ServiceKey id) t.services ≡ o → row_same (Some (ServiceRow id row)) (option_map service_row o) ≡ option_eq service_eq (Some row) o
     by None e = refl
-    by (Some s) e = ap (λ b. b && service_eq row s) (ap (id_eq id) (under s (found_key service_key (ServiceKey id) t.services s e)) ∙ id_eq-itself id)
+    by (Some s) e = ap (λ b. b && service_eq row s) (ap (id_eq id) (under s (found_key service_key (ServiceKey id) t.services s e)) ∙ id_eq_itself id)
 
 pub same_job : (t : TableRows) (number : ℕ) (value : JobValue) → row_same (Some (JobRow number value)) (row_at t (JobKey number)) ≡ option_eq job_value_eq (Some value) (job_of t number)
 same_job t number value = same_at job_key job_row (λ (j : Job). j.value) job_value_eq (JobKey number) (JobRow number value) value t.jobs (λ j e. ap (λ b. b && job_value_eq value j.value) (eq-eqb number j.number cc))

@@ -1,9 +1,8 @@
 -- Laws: what a synchronisation point writes is short.
 use Rattle.std.specs.Prelude.{◌≡◌, refl, ℕ, ◌+◌, ◌≤◌, Bool, true, false, cond, ◌&&◌, IsTrue, List, [], ◌∷◌, ◌++◌, length, sum_by, Option, Some, None, nat_lt}
-use Rattle.std.proofs.Common.{arith, length-append}
+use Rattle.std.proofs.Common.{arith}
 use Rattle.std.proofs.lemmas.Bool.{lt-ltb, leb-true}
 use Rattle.std.proofs.lemmas.List.{length-replicate}
-use Rattle.std.proofs.lemmas.List.Sums.{sum_by-cons}
 use Rattle.std.specs.List.{list_all}
 use Rattle.kd_base.specs.ToolsLaws.{both_true, true_both}
 use Rattle.kdcs_types.specs.declared.act.Change.{Change}
@@ -38,6 +37,7 @@ use Rattle.sync_points.specs.AscendingLaws.{points_durable}
 use Rattle.sync_points.specs.Pages.{longest}
 use Rattle.sync_points.specs.PointChanges.{is_real, job_changes, own_job_changes, point_changes, point_writes, service_changes}
 use Rattle.sync_points.specs.Short.{leaves_short}
+use Rattle.laws_of_tables.specs.PointsLaws.{length_joined}
 
 -- ---- areas
 
@@ -62,66 +62,62 @@ areas_short g (w ∷ ws) h =
 
 -- ---- the service's row
 
-joined_length : (ps : List Bytes) → length (joined ps) ≡ sum_by length ps
-joined_length [] = refl
-joined_length (p ∷ ps) = omega (arith, joined_length ps, length-append p (joined ps), sum_by-cons (λ (q : Bytes). length q) p ps)
-
 small : (s : Service) → IsSmall s → IsTrue (nat_lt (service_length s) longest)
 small s h = lt-ltb (service_length s) longest (small_short s h)
 
 module _ (g : Generated) (limits : AreLimits g.limits) (t : TableRows) (id : ServiceId) (x : OpenTransaction) (s : Stands g t id x) where
-  last-small : (message : Bytes) → length message ≤ g.limits.nb → last_length (Some message) ≤ 32705
-  last-small message h = omega (arith, h, limits.nb)
+  last_small : (message : Bytes) → length message ≤ g.limits.nb → last_length (Some message) ≤ 32705
+  last_small message h = omega (arith, h, limits.nb)
 
-  began-last : (began : Option Service) → service_of t id ≡ began → last_length (last_of began) ≤ 32705
-  began-last None e = omega arith
-  began-last (Some row) e = by row.last (row_parts g row (found_passes service_key (service_suits g) (ServiceKey id) t.services row s.sound.rows e)).last
+  began_last : (began : Option Service) → service_of t id ≡ began → last_length (last_of began) ≤ 32705
+  began_last None e = omega arith
+  began_last (Some row) e = by row.last (row_parts g row (found_passes service_key (service_suits g) (ServiceKey id) t.services row s.sound.rows e)).last
     where
       by : (last : Option Bytes) → IsTrue (last_fits g last) → last_length last ≤ 32705
       by None h = omega arith
-      by (Some message) h = last-small message (leb-true (length message) g.limits.nb h)
+      by (Some message) h = last_small message (leb-true (length message) g.limits.nb h)
 
-  kb-small : length x.run.kb ≤ 32767
-  kb-small = omega (arith, s.can.kb, limits.kb)
+  kb_small : length x.run.kb ≤ 32767
+  kb_small = omega (arith, s.can.kb, limits.kb)
 
-  lssbs-few : length x.lssbs ≤ 1000
-  lssbs-few = omega (arith, s.can.lssbs_count, limits.lssbs)
+  lssbs_few : length x.lssbs ≤ 1000
+  lssbs_few = omega (arith, s.can.lssbs_count, limits.lssbs)
 
-  handed-small : sum_by length x.parts ≤ 32700
-  handed-small = omega (arith, s.can.parts.bytes, limits.nb)
+  handed_small : sum_by length x.parts ≤ 32700
+  handed_small = omega (arith, s.can.parts.bytes, limits.nb)
 
-  row-short : (o : Outcome) → IsTrue (leaves_short (service_change id (row_after g id x o)))
+  row_short : (o : Outcome) → IsTrue (leaves_short (service_change id (row_after g id x o)))
   unfolding row_after
-  row-short (Wait tac) =
-      small (point_row id x tac true [] (Some (joined x.parts))) (record { kb = kb-small; count = omega arith; handed = omega arith; last = last-small (joined x.parts) (omega (arith, joined_length x.parts, s.can.parts.bytes)); lssbs_count = lssbs-few; lssbs = s.can.lssbs })
-  row-short (Point tac) =
-      small (point_row id x tac false x.parts (last_of x.began)) (record { kb = kb-small; count = s.can.parts.count; handed = handed-small; last = began-last x.began s.rooted.began; lssbs_count = lssbs-few; lssbs = s.can.lssbs })
-  row-short (Follow tac) =
-      small (new_row g id x tac) (record { kb = omega (arith, length-replicate {A = ℕ} g.limits.kb 32, limits.kb); count = s.can.parts.count; handed = handed-small; last = omega arith; lssbs_count = omega arith; lssbs = refl })
-  row-short Finish = refl
-  row-short _ = refl
+  row_short (Wait tac) =
+      small (point_row id x tac true [] (Some (joined x.parts))) (record { kb = kb_small; count = omega arith; handed = omega arith; last = last_small (joined x.parts) (omega (arith, length_joined x.parts, s.can.parts.bytes)); lssbs_count = lssbs_few; lssbs = s.can.lssbs })
+  row_short (Point tac) =
+      small (point_row id x tac false x.parts (last_of x.began)) (record { kb = kb_small; count = s.can.parts.count; handed = handed_small; last = began_last x.began s.rooted.began; lssbs_count = lssbs_few; lssbs = s.can.lssbs })
+  row_short (Follow tac) =
+      small (new_row g id x tac) (record { kb = omega (arith, length-replicate {A = ℕ} g.limits.kb 32, limits.kb); count = s.can.parts.count; handed = handed_small; last = omega arith; lssbs_count = omega arith; lssbs = refl })
+  row_short Finish = refl
+  row_short _ = refl
 
-  service-short : (o : Outcome) → IsTrue (list_all leaves_short (service_changes g id (row_after g id x o)))
-  service-short o = by (is_durable g id)
+  service_short : (o : Outcome) → IsTrue (list_all leaves_short (service_changes g id (row_after g id x o)))
+  service_short o = by (is_durable g id)
     where
       by : (b : Bool) → IsTrue (list_all leaves_short (cond b (service_change id (row_after g id x o) ∷ []) []))
-      by true = true_both _ _ (row-short o) refl
+      by true = true_both _ _ (row_short o) refl
       by false = refl
 
   -- ---- jobs
 
-  own-short : (i : ServiceId) (began : Option Service) → IsTrue (list_all leaves_short (own_job_changes i began))
-  own-short (Dialogue user) began = refl
-  own-short (Asynchronous number) (Some row) = refl
-  own-short (Asynchronous number) None = refl
+  own_short : (i : ServiceId) (began : Option Service) → IsTrue (list_all leaves_short (own_job_changes i began))
+  own_short (Dialogue user) began = refl
+  own_short (Asynchronous number) (Some row) = refl
+  own_short (Asynchronous number) None = refl
 
-  jobs-short : (ds : List Draft) (next clock : ℕ) → IsTrue (list_all (draft_fits g) ds) → IsTrue (list_all leaves_short (job_changes (numbered next clock x.user x.lterm ds)))
+  jobs_short : (ds : List Draft) (next clock : ℕ) → IsTrue (list_all (draft_fits g) ds) → IsTrue (list_all leaves_short (job_changes (numbered next clock x.user x.lterm ds)))
   unfolding numbered
-  jobs-short [] next clock h = refl
-  jobs-short (d ∷ ds) next clock h =
+  jobs_short [] next clock h = refl
+  jobs_short (d ∷ ds) next clock h =
       let parts = both_true (draft_fits g d) (list_all (draft_fits g) ds) h in
       let message = (both_true (target_suits g d.to (job_target g (target_name d.to))) (fits_message g d.message) (both_true (target_suits g d.to (job_target g (target_name d.to)) && fits_message g d.message) (due_fits d.due) parts.0).0).1 in
-      true_both _ _ (lt-ltb (33 + list_length d.message) longest (omega (arith, leb-true (length d.message) g.limits.nb message, limits.nb))) (jobs-short ds (next + 1) clock parts.1)
+      true_both _ _ (lt-ltb (33 + list_length d.message) longest (omega (arith, leb-true (length d.message) g.limits.nb message, limits.nb))) (jobs_short ds (next + 1) clock parts.1)
 
   -- ---- together
 
@@ -130,9 +126,9 @@ module _ (g : Generated) (limits : AreLimits g.limits) (t : TableRows) (id : Ser
       all_filter leaves_short (is_real t) (point_writes g t id x o)
       (all_append leaves_short (changes_of x.written ++ service_changes g id (row_after g id x o) ++ own_job_changes id x.began) (job_changes (new_jobs t x))
       (all_append leaves_short (changes_of x.written ++ service_changes g id (row_after g id x o)) (own_job_changes id x.began)
-      (all_append leaves_short (changes_of x.written) (service_changes g id (row_after g id x o)) (areas_short g x.written s.can.written) (service-short o))
-      (own-short id x.began))
-      (jobs-short x.drafts t.next_job t.clock s.can.drafts))
+      (all_append leaves_short (changes_of x.written) (service_changes g id (row_after g id x o)) (areas_short g x.written s.can.written) (service_short o))
+      (own_short id x.began))
+      (jobs_short x.drafts t.next_job t.clock s.can.drafts))
 
   pub points_kept : (o : Outcome) → IsTrue (list_all (λ (c : Change). key_is_durable g (change_key c)) (point_changes g t id x o).items)
   points_kept o =

@@ -16,10 +16,10 @@ use Rattle.kdcs_types.specs.declared.key.Key.{Key}
 use Rattle.kdcs_types.specs.declared.key.Key.TheVariants.{Gssb as GssbKey, Tls as TlsKey, Uls as UlsKey, Service as ServiceKey, Job as JobKey, Shown as ShownKey}
 use Rattle.kdcs_types.specs.declared.key.ServiceId.{ServiceId}
 use Rattle.kdcs_types.specs.Keyed.{ascends, item_at, keyed, with_item, without_item}
-use Rattle.kdcs_types.specs.KeyedLaws.{ascends-with, ascends-without, item_at-with, item_at-without, not_above, same_items}
+use Rattle.kdcs_types.specs.KeyedLaws.{ascends_with, ascends_without, item_at_with, item_at_without, not_above, same_items}
 use Rattle.kdcs_types.specs.Keys.{id_eq, key_cmp, key_eq}
-use Rattle.kdcs_types.specs.KeyLaws.{id_eq-same, key_eq-itself, key_eq-same, key_total}
-use Rattle.kdcs_types.specs.RowLaws.{row_at-with_change, sorted_with_change}
+use Rattle.kdcs_types.specs.KeyLaws.{id_eq_same, key_eq_itself, key_eq_same, key_total}
+use Rattle.kdcs_types.specs.RowLaws.{row_at_with_change, sorted_with_change}
 use Rattle.kdcs_types.specs.TableLaws.{row_after}
 use Rattle.kdcs_types.specs.Tables.{IsSortedTables, TableRows, change_fits, change_key, gssb_key, gssb_row, job_key, job_row, row_at, service_fits, service_key, service_row, shown_key, shown_row, tls_key, tls_row, uls_key, uls_row, with_change, with_changes}
 use Rattle.sync_points.specs.PointChanges.{row_left}
@@ -32,33 +32,33 @@ module _ {E : Type 0} (key_of : E → Key) (f : E → ℕ) where
   weighed None = 0
   weighed (Some e) = f e
 
-  sum-without : (k : Key) (es : List E) → IsTrue (ascends key_of es) → sum_by f (without_item key_of k es) + weighed (item_at key_of k es) ≡ sum_by f es
-  sum-without k [] up = refl
-  sum-without k (e ∷ es) up =
+  sum_without : (k : Key) (es : List E) → IsTrue (ascends key_of es) → sum_by f (without_item key_of k es) + weighed (item_at key_of k es) ≡ sum_by f es
+  sum_without k [] up = refl
+  sum_without k (e ∷ es) up =
       let parts = both_true (below_all key_cmp (key_of e) (keyed key_of es)) (ascends key_of es) up in
-      by (key_eq k (key_of e)) refl parts.0 (sum-without k es parts.1)
+      by (key_eq k (key_of e)) refl parts.0 (sum_without k es parts.1)
     where
       by : (b : Bool) → key_eq k (key_of e) ≡ b → IsTrue (below_all key_cmp (key_of e) (keyed key_of es)) → sum_by f (without_item key_of k es) + weighed (item_at key_of k es) ≡ sum_by f es
           → sum_by f (cond (not b) (e ∷ without_item key_of k es) (without_item key_of k es)) + weighed (cond b (Some e) (item_at key_of k es)) ≡ sum_by f (e ∷ es)
       by true is above rest =
-          let none : item_at key_of k es ≡ None = subst (λ j. item_at key_of j es ≡ None) (sym (key_eq-same k (key_of e) is)) (not_above key_of (key_of e) (keyed key_of es) above) in
+          let none : item_at key_of k es ≡ None = subst (λ j. item_at key_of j es ≡ None) (sym (key_eq_same k (key_of e) is)) (not_above key_of (key_of e) (keyed key_of es) above) in
           omega (arith, rest, ap weighed none, sum_by-cons f e es)
       by false is above rest = omega (arith, rest, sum_by-cons f e es, sum_by-cons f e (without_item key_of k es))
 
   -- without the item of a key it is the same list, whether the item was set before or not
-  without-with : (e : E) (es : List E) → IsTrue (ascends key_of es) → without_item key_of (key_of e) (with_item key_of e es) ≡ without_item key_of (key_of e) es
-  without-with e es up =
-      same_items key_of _ _ (ascends-without key_of (key_of e) _ (ascends-with key_of e es up)) (ascends-without key_of (key_of e) es up)
-      (λ q. item_at-without key_of q (key_of e) (with_item key_of e es) ∙ ap (cond (key_eq q (key_of e)) None) (item_at-with key_of q e es) ∙ twice (key_eq q (key_of e)) (item_at key_of q es) ∙ sym (item_at-without key_of q (key_of e) es))
+  without_with : (e : E) (es : List E) → IsTrue (ascends key_of es) → without_item key_of (key_of e) (with_item key_of e es) ≡ without_item key_of (key_of e) es
+  without_with e es up =
+      same_items key_of _ _ (ascends_without key_of (key_of e) _ (ascends_with key_of e es up)) (ascends_without key_of (key_of e) es up)
+      (λ q. item_at_without key_of q (key_of e) (with_item key_of e es) ∙ ap (cond (key_eq q (key_of e)) None) (item_at_with key_of q e es) ∙ twice (key_eq q (key_of e)) (item_at key_of q es) ∙ sym (item_at_without key_of q (key_of e) es))
     where
       twice : (b : Bool) (o : Option E) → cond b None (cond b (Some e) o) ≡ cond b None o
       twice true o = refl
       twice false o = refl
 
-  sum-with : (e : E) (es : List E) → IsTrue (ascends key_of es) → sum_by f (with_item key_of e es) + weighed (item_at key_of (key_of e) es) ≡ sum_by f es + f e
-  sum-with e es up =
-      let found : item_at key_of (key_of e) (with_item key_of e es) ≡ Some e = item_at-with key_of (key_of e) e es ∙ ap (λ b. cond b (Some e) (item_at key_of (key_of e) es)) (key_eq-itself (key_of e)) in
-      omega (arith, sum-without (key_of e) (with_item key_of e es) (ascends-with key_of e es up), ap weighed found, ap (sum_by f) (without-with e es up), sum-without (key_of e) es up)
+  sum_with : (e : E) (es : List E) → IsTrue (ascends key_of es) → sum_by f (with_item key_of e es) + weighed (item_at key_of (key_of e) es) ≡ sum_by f es + f e
+  sum_with e es up =
+      let found : item_at key_of (key_of e) (with_item key_of e es) ≡ Some e = item_at_with key_of (key_of e) e es ∙ ap (λ b. cond b (Some e) (item_at key_of (key_of e) es)) (key_eq_itself (key_of e)) in
+      omega (arith, sum_without (key_of e) (with_item key_of e es) (ascends_with key_of e es up), ap weighed found, ap (sum_by f) (without_with e es up), sum_without (key_of e) es up)
 
 -- ---- the tables
 
@@ -77,31 +77,31 @@ module _ (m : Row → ℕ) where
   mapped key_of row_of None = refl
   mapped key_of row_of (Some e) = refl
 
-  set-weight : {E : Type 0} (key_of : E → Key) (row_of : E → Row) (e : E) (es : List E) → IsTrue (ascends key_of es)
+  set_weight : {E : Type 0} (key_of : E → Key) (row_of : E → Row) (e : E) (es : List E) → IsTrue (ascends key_of es)
       → sum_by (λ e. m (row_of e)) (with_item key_of e es) + row_weight m (option_map row_of (item_at key_of (key_of e) es)) ≡ sum_by (λ e. m (row_of e)) es + m (row_of e)
-  set-weight key_of row_of e es up = ap (λ n. sum_by (λ e. m (row_of e)) (with_item key_of e es) + n) (mapped key_of row_of (item_at key_of (key_of e) es)) ∙ sum-with key_of (λ e. m (row_of e)) e es up
+  set_weight key_of row_of e es up = ap (λ n. sum_by (λ e. m (row_of e)) (with_item key_of e es) + n) (mapped key_of row_of (item_at key_of (key_of e) es)) ∙ sum_with key_of (λ e. m (row_of e)) e es up
 
-  gone-weight : {E : Type 0} (key_of : E → Key) (row_of : E → Row) (k : Key) (es : List E) → IsTrue (ascends key_of es)
+  gone_weight : {E : Type 0} (key_of : E → Key) (row_of : E → Row) (k : Key) (es : List E) → IsTrue (ascends key_of es)
       → sum_by (λ e. m (row_of e)) (without_item key_of k es) + row_weight m (option_map row_of (item_at key_of k es)) ≡ sum_by (λ e. m (row_of e)) es
-  gone-weight key_of row_of k es up = ap (λ n. sum_by (λ e. m (row_of e)) (without_item key_of k es) + n) (mapped key_of row_of (item_at key_of k es)) ∙ sum-without key_of (λ e. m (row_of e)) k es up
+  gone_weight key_of row_of k es up = ap (λ n. sum_by (λ e. m (row_of e)) (without_item key_of k es) + n) (mapped key_of row_of (item_at key_of k es)) ∙ sum_without key_of (λ e. m (row_of e)) k es up
 
-  one-change : (t : TableRows) (c : Change) → IsSortedTables t → IsTrue (change_fits c) → weight (with_change t c) + row_weight m (row_at t (change_key c)) ≡ weight t + row_weight m (row_left c)
-  one-change t (Set (GssbRow n c)) h f = let e = set-weight gssb_key gssb_row (n, c) t.gssbs h.gssbs in omega (arith, e)
-  one-change t (Set (TlsRow b l c)) h f = let e = set-weight tls_key tls_row (b, l, c) t.tlss h.tlss in omega (arith, e)
-  one-change t (Set (UlsRow b u c)) h f = let e = set-weight uls_key uls_row (b, u, c) t.ulss h.ulss in omega (arith, e)
-  one-change t (Set (ServiceRow i s)) h f =
+  one_change : (t : TableRows) (c : Change) → IsSortedTables t → IsTrue (change_fits c) → weight (with_change t c) + row_weight m (row_at t (change_key c)) ≡ weight t + row_weight m (row_left c)
+  one_change t (Set (GssbRow n c)) h f = let e = set_weight gssb_key gssb_row (n, c) t.gssbs h.gssbs in omega (arith, e)
+  one_change t (Set (TlsRow b l c)) h f = let e = set_weight tls_key tls_row (b, l, c) t.tlss h.tlss in omega (arith, e)
+  one_change t (Set (UlsRow b u c)) h f = let e = set_weight uls_key uls_row (b, u, c) t.ulss h.ulss in omega (arith, e)
+  one_change t (Set (ServiceRow i s)) h f =
       subst
       (λ (k : ServiceId). weight (with_change t (Set (ServiceRow k s))) + row_weight m (row_at t (ServiceKey k)) ≡ weight t + m (ServiceRow k s))
-      (id_eq-same s.id i (both_true (id_eq s.id i) (service_fits s) f).0)
-      (let e = set-weight service_key service_row s t.services h.services in omega (arith, e))
-  one-change t (Set (JobRow n v)) h f = let e = set-weight job_key job_row (record { number = n; value = v }) t.jobs h.jobs in omega (arith, e)
-  one-change t (Set (ShownRow l v)) h f = let e = set-weight shown_key shown_row (l, v) t.shown h.shown in omega (arith, e)
-  one-change t (Remove (GssbKey n)) h f = let e = gone-weight gssb_key gssb_row (GssbKey n) t.gssbs h.gssbs in omega (arith, e)
-  one-change t (Remove (TlsKey b l)) h f = let e = gone-weight tls_key tls_row (TlsKey b l) t.tlss h.tlss in omega (arith, e)
-  one-change t (Remove (UlsKey b u)) h f = let e = gone-weight uls_key uls_row (UlsKey b u) t.ulss h.ulss in omega (arith, e)
-  one-change t (Remove (ServiceKey i)) h f = let e = gone-weight service_key service_row (ServiceKey i) t.services h.services in omega (arith, e)
-  one-change t (Remove (JobKey n)) h f = let e = gone-weight job_key job_row (JobKey n) t.jobs h.jobs in omega (arith, e)
-  one-change t (Remove (ShownKey l)) h f = let e = gone-weight shown_key shown_row (ShownKey l) t.shown h.shown in omega (arith, e)
+      (id_eq_same s.id i (both_true (id_eq s.id i) (service_fits s) f).0)
+      (let e = set_weight service_key service_row s t.services h.services in omega (arith, e))
+  one_change t (Set (JobRow n v)) h f = let e = set_weight job_key job_row (record { number = n; value = v }) t.jobs h.jobs in omega (arith, e)
+  one_change t (Set (ShownRow l v)) h f = let e = set_weight shown_key shown_row (l, v) t.shown h.shown in omega (arith, e)
+  one_change t (Remove (GssbKey n)) h f = let e = gone_weight gssb_key gssb_row (GssbKey n) t.gssbs h.gssbs in omega (arith, e)
+  one_change t (Remove (TlsKey b l)) h f = let e = gone_weight tls_key tls_row (TlsKey b l) t.tlss h.tlss in omega (arith, e)
+  one_change t (Remove (UlsKey b u)) h f = let e = gone_weight uls_key uls_row (UlsKey b u) t.ulss h.ulss in omega (arith, e)
+  one_change t (Remove (ServiceKey i)) h f = let e = gone_weight service_key service_row (ServiceKey i) t.services h.services in omega (arith, e)
+  one_change t (Remove (JobKey n)) h f = let e = gone_weight job_key job_row (JobKey n) t.jobs h.jobs in omega (arith, e)
+  one_change t (Remove (ShownKey l)) h f = let e = gone_weight shown_key shown_row (ShownKey l) t.shown h.shown in omega (arith, e)
 
   -- what the changes make, and what they replace
   abbrev pub made_weight : List Change → ℕ
@@ -114,19 +114,19 @@ module _ (m : Row → ℕ) where
   apart a b less = by (key_eq b a) refl
     where
       by : (e : Bool) → key_eq b a ≡ e → e ≡ false
-      by true is = absurd (true≢false (sym less ∙ ap (λ k. is_lt (key_cmp a k)) (key_eq-same b a is) ∙ ap is_lt (tied_itself key_total a)))
+      by true is = absurd (true≢false (sym less ∙ ap (λ k. is_lt (key_cmp a k)) (key_eq_same b a is) ∙ ap is_lt (tied_itself key_total a)))
       by false is = refl
 
-  later-rows : (t : TableRows) (c : Change) → IsTrue (change_fits c) → (cs : List Change) → IsTrue (below_all key_cmp (change_key c) (keyed change_key cs)) → replaced_weight (with_change t c) cs ≡ replaced_weight t cs
-  later-rows t c f [] above = refl
-  later-rows t c f (d ∷ ds) above =
+  later_rows : (t : TableRows) (c : Change) → IsTrue (change_fits c) → (cs : List Change) → IsTrue (below_all key_cmp (change_key c) (keyed change_key cs)) → replaced_weight (with_change t c) cs ≡ replaced_weight t cs
+  later_rows t c f [] above = refl
+  later_rows t c f (d ∷ ds) above =
       let parts = both_true (is_lt (key_cmp (change_key c) (change_key d))) (below_all key_cmp (change_key c) (keyed change_key ds)) above in
       let row : row_at (with_change t c) (change_key d) ≡ row_at t (change_key d) =
-      row_at-with_change t c (change_key d) f ∙ ap (λ b. cond b (row_after (Some c) (row_at t (change_key d))) (row_at t (change_key d))) (apart (change_key c) (change_key d) parts.0) in
+      row_at_with_change t c (change_key d) f ∙ ap (λ b. cond b (row_after (Some c) (row_at t (change_key d))) (row_at t (change_key d))) (apart (change_key c) (change_key d) parts.0) in
       omega (
         arith,
         ap (row_weight m) row,
-        later-rows t c f ds parts.1,
+        later_rows t c f ds parts.1,
         sum_by-cons (λ c. row_weight m (row_at t (change_key c))) d ds,
         sum_by-cons (λ e. row_weight m (row_at (with_change t c) (change_key e))) d ds,
       )
@@ -140,8 +140,8 @@ module _ (m : Row → ℕ) where
       omega (
         arith,
         changes_weigh (with_change t c) cs (sorted_with_change t c h fits.0) ups.1 fits.1,
-        one-change t c h fits.0,
-        later-rows t c fits.0 cs ups.0,
+        one_change t c h fits.0,
+        later_rows t c fits.0 cs ups.0,
         sum_by-cons (λ d. row_weight m (row_at t (change_key d))) c cs,
         sum_by-cons (λ d. row_weight m (row_left d)) c cs,
       )

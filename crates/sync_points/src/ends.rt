@@ -1,8 +1,7 @@
 //! Abnormal ends.
-ghost use Rattle.std.specs.Prelude.{◌≡◌, IfOk};
-ghost use Rattle.kdcs_types.specs.Difference.{difference};
+ghost use Rattle.std.specs.Prelude.{◌≡◌, IfOk, OnOk};
+ghost use Rattle.kdcs_types.specs.{Difference.{difference}, Tables.{IsSortedTables}};
 ghost use Rattle.abstract_monitor.specs.{Endings.{broken, durable}, Statements.{kept_record}};
-ghost use Rattle.laws_of_tables.specs.PointLaws.{Stands};
 ghost use Rattle.open_transaction.specs.Transactions.{transaction_of};
 ghost use Rattle.sync_points.specs.PointChanges.{end_changes};
 
@@ -20,7 +19,8 @@ fn end_changes(
     tables: &Tables,
     transaction: &OpenTransaction,
 ) -> Result<Changes, OutOfMemory>
-    ensures { IfOk result (λ changes. changes ≡ end_changes generation.now tables.now transaction.now.id (transaction_of transaction.now)) }
+    ensures changes { IfOk result (λ changes. changes ≡ end_changes generation.now tables.now transaction.now.id (transaction_of transaction.now)) }
+    ensures sorted { OnOk result (IsSortedTables tables.now) }
 {
     let mut changes = RowChanges::new(alloc);
     write_service(&mut changes, generation, transaction.id, &None)?;
@@ -35,8 +35,7 @@ fn end_changes(
 /// The changes of the durable tables by an abnormal end, by PEND ER or by PEND FR, and what the transaction keeps for
 /// its replay: what it wrote is dropped, the service's row goes, and the own job of an asynchronous service without a row.
 /// The changes cost what they are, and a look-up for each; there may be none, and the clock and the next job number stay.
-/// The transaction can go on, and its service's row stands in the tables as it began; their durable part suits the
-/// generation. The transaction is lost where memory runs out.
+/// The transaction is lost where memory runs out.
 pub fn broken(
     transaction: Box<OpenTransaction>,
     alloc: Global,
@@ -44,7 +43,6 @@ pub fn broken(
     tables: &Tables,
     ending: Ending,
 ) -> Result<(Changes, Settled), OutOfMemory>
-    requires stands { Stands generation.now tables.now transaction.value.id (transaction_of transaction.value) }
     ensures changes { IfOk result (λ ended. ended.0 ≡ difference (durable generation.now tables.now) (durable generation.now (broken tables.now transaction.value.id (transaction_of transaction.value)))) }
     ensures kept { IfOk result (λ ended. ended.1 ≡ kept_record transaction.value.id (transaction_of transaction.value) ending) }
 {

@@ -5,7 +5,7 @@ ghost use Rattle.abstract_monitor.specs.Endings.{durable, numbered, refusal, row
 ghost use Rattle.laws_of_tables.specs.PointLaws.{Stands};
 ghost use Rattle.open_transaction.specs.Transactions.{transaction_of};
 ghost use Rattle.storage_areas.specs.Areas.{changes_of};
-ghost use Rattle.sync_points.specs.{Answers.{answer_by, point_by}, PointChanges.{changes_with, job_changes}};
+ghost use Rattle.sync_points.specs.{Answers.{answer_by, point_by, refused_by}, PointChanges.{changes_with, job_changes}};
 
 use crate::gssbs::has_too_many_gssbs;
 use crate::kept::kept_record;
@@ -90,7 +90,7 @@ fn point_of(
     outcome: Outcome,
 ) -> Result<Point, OutOfMemory>
     requires stands { Stands generation.now tables.now transaction.now.id (transaction_of transaction.now) }
-    ensures { IfOk result (λ point. point ≡ point_by generation.now tables.now transaction.now outcome (refusal generation.now (durable generation.now (synchronised generation.now tables.now transaction.now.id (transaction_of transaction.now) outcome)))) }
+    ensures { IfOk result (λ point. point ≡ point_by generation.now tables.now transaction.now outcome (refused_by generation.now tables.now transaction.now outcome)) }
 {
     let limits = generation.max();
     let areas = transaction.areas.changes(alloc)?;
@@ -121,7 +121,7 @@ pub fn settle(
     outcome: Outcome,
 ) -> Result<SettleAnswer, OutOfMemory>
     requires stands { Stands generation.now tables.now transaction.value.id (transaction_of transaction.value) }
-    ensures { IfOk result (λ answer. answer ≡ answer_by generation.now tables.now transaction outcome (refusal generation.now (durable generation.now (synchronised generation.now tables.now transaction.value.id (transaction_of transaction.value) outcome)))) }
+    ensures { IfOk result (λ answer. answer ≡ answer_by generation.now tables.now transaction outcome (refused_by generation.now tables.now transaction.value outcome)) }
 {
     match point_of(alloc, generation, tables, &transaction, outcome)? {
         Point::Refused(cause) => Ok(SettleAnswer::Refused(cause, transaction)),

@@ -106,14 +106,6 @@ charged_too_much g t limits none = by (nat_le (total_charge g.limits.blksize t) 
 
 -- ---- what is left of the pages
 
-pub left_is : (o : Option ℕ) (pages taken : ℕ) → SomeIff o (taken ≤ pages) (pages - taken) → o ≡ left_after (Some pages) taken
-left_is None pages taken h = by (nat_le taken pages) refl
-  where
-    by : (b : Bool) → nat_le taken pages ≡ b → None ≡ cond b (Some (pages - taken)) None
-    by true e = absurd (h (leb-true taken pages e))
-    by false e = refl
-left_is (Some left) pages taken h = ap (λ (n : ℕ). Some n) h.1 ∙ ap (λ (b : Bool). cond b (Some (pages - taken)) None) (sym (le-leb taken pages h.0))
-
 is_left : (o : Option ℕ) (pages taken : ℕ) → o ≡ left_after (Some pages) taken → SomeIff o (taken ≤ pages) (pages - taken)
 is_left o pages taken e = subst (λ (x : Option ℕ). SomeIff x (taken ≤ pages) (pages - taken)) (sym e) (by (nat_le taken pages) refl)
   where

@@ -34,8 +34,7 @@ fn is_job_tac(generation: &Generation, name: Name) -> bool
 {
     match (generation.lterm(name), generation.tac(name)) {
         (None, Some(entry)) => starts_jobs(entry),
-        (Some(_), _) => false,
-        (None, None) => false,
+        (Some(_), _) | (None, None) => false,
     }
 }
 

@@ -2,7 +2,7 @@
 use Rattle.std.proofs.Common.{◌≡◌, ℕ, ◌+◌, ◌<◌, ◌≤◌, true, false, cond, List, [], ◌∷◌, ◌++◌, length, Option, Some, None, Result, Ok, Err, refl, sym, ap, ◌∙◌, subst, inl, inr, arith}
 use Rattle.std.specs.Prelude.{nat_le, nat_lt}
 use Rattle.std.specs.Str.Lines.{lines}
-use Rattle.std.proofs.lemmas.Bool.{cases_Bool, leb-true, ltb-true, ltb-false}
+use Rattle.std.proofs.lemmas.Bool.{cases_Bool, leb-true, ltb-true, ltb-false, le-leb}
 use Rattle.std.proofs.lemmas.Bool.Decides.{nat_tests}
 use Rattle.std.proofs.lemmas.List.{append-nil}
 use Rattle.kd_base.specs.Tools.{◌>>=◌}
@@ -76,9 +76,6 @@ fault_is n us (Some u) (pieces.Statement a) e h =
     ]
 fault_is n us (Some u) pieces.End e h = absurd cc
 
-at_least : (m n : ℕ) → m ≤ n → nat_le m n ≡ true
-at_least m n h = grind (arith, nat_tests)
-
 misplaced : (n : ℕ) (us : List UnitText) (o : Option UnitText) (piece : Piece) → IsMisplaced o piece → by_current o n piece us ≡ Err (BadStatement n)
 misplaced n us None (pieces.Unit name) h = absurd h
 misplaced n us None _ h = refl
@@ -103,8 +100,8 @@ unit_twice n us None (pieces.Unit name) h = rw h refl
 unit_twice n us _ _ h = absurd h
 
 too_many : (n : ℕ) (us : List UnitText) (o : Option UnitText) (piece : Piece) → IsOneTooMany us o piece → by_current o n piece us ≡ Err (TooLong n)
-too_many n us None (pieces.Unit name) h = rw (h.0, at_least 1000 (length us) h.1) refl
-too_many n us (Some u) (pieces.Statement a) h = rw (h.0, at_least 10000 (length u.statements) h.1) refl
+too_many n us None (pieces.Unit name) h = rw (h.0, le-leb 1000 (length us) h.1) refl
+too_many n us (Some u) (pieces.Statement a) h = rw (h.0, le-leb 10000 (length u.statements) h.1) refl
 too_many n us _ _ h = absurd h
 
 abbrev Answers : ℕ → List UnitText → Option UnitText → Piece → (ℕ → UnitFault) → ℕ → Type 0

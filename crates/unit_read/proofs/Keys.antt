@@ -7,7 +7,7 @@ use Rattle.unit_read.specs.declared.word.Word.TheVariants.{Plain, Literal}
 use Rattle.unit_read.specs.declared.key.Key.{Key}
 use Rattle.unit_read.specs.declared.key.TheConstants.{KEYS}
 use Rattle.unit_read.specs.Keys.{first_keyword, second_keyword, is_front, begins_with, key_of, keyword_count}
-use Rattle.unit_read.proofs.Operands.{same_bytes}
+use Rattle.std.proofs.lemmas.Slice.Eq.{bytes_eq-Decides}
 
 -- the words of the keywords
 abbrev pub keyword_words : Key → List Word
@@ -15,7 +15,7 @@ keyword_words key = cond (length (second_keyword key) == 0) (Plain (first_keywor
 
 front_is : (ws : List Word) (wanted : List ℕ) → is_front ws wanted ≡ true → ws ≡ Plain wanted ∷ drop 1 ws
 front_is [] wanted h = absurd cc
-front_is (Plain word ∷ ws) wanted h = ap (λ (x : List ℕ). let w : Word = Plain x in w ∷ ws) (same_bytes word wanted h)
+front_is (Plain word ∷ ws) wanted h = ap (λ (x : List ℕ). let w : Word = Plain x in w ∷ ws) ((bytes_eq-Decides word wanted).0 h)
 front_is (Literal bytes ∷ ws) wanted h = absurd cc
 
 drop_two : (ws : List Word) → drop 1 (drop 1 ws) ≡ drop 2 ws

@@ -4,11 +4,10 @@ use Rattle.std.specs.Prelude.{nat_le}
 use Rattle.std.proofs.lemmas.Bool.Decides.{nat_tests}
 use Rattle.unit_types.specs.declared.action.Action.{Action}
 use Rattle.unit_types.specs.declared.action.UnitStatement.{UnitStatement}
-use Rattle.unit_types.specs.declared.unit.Field.{Field}
 use Rattle.unit_types.specs.UnitText.{UnitText}
 use Rattle.unit_read.specs.declared.fault.UnitFault.TheVariants.{BadField, LabelTwice, TooLong}
 use Rattle.unit_read.specs.Names.{has_field, has_label}
-use Rattle.unit_read.specs.Units.{with_field, with_label, with_statement}
+use Rattle.unit_read.specs.Units.{with_label, with_statement}
 use Rattle.unit_read.specs.Used.{uses}
 
 pub label_given : (n : ℕ) (l : List ℕ) (u : UnitText) (labels : List (List ℕ × ℕ)) (place : ℕ) → has_label u.labels l ≡ false → labels ≡ u.labels ++ (l, place) ∷ [] → place ≡ length u.statements + 1
@@ -17,13 +16,6 @@ label_given n l u labels place new is at = rw (new, is, at) refl
 
 pub label_twice : (n : ℕ) (l : List ℕ) (u : UnitText) → has_label u.labels l ≡ true → with_label n l u ≡ Err (LabelTwice n)
 label_twice n l u h = rw h refl
-
-pub field_given : (f : Field) (u : UnitText) (fields : List Field) → length u.labels ≡ 0 → length u.statements ≡ 0 → has_field u.fields f.name ≡ false → fields ≡ u.fields ++ f ∷ []
-    → with_field f u ≡ Ok (record { name = u.name; line = u.line; fields = fields; labels = u.labels; statements = u.statements })
-field_given f u fields no_labels no_statements new is = rw (no_labels, no_statements, new, is) refl
-
-pub field_twice : (f : Field) (u : UnitText) → length u.labels ≡ 0 → length u.statements ≡ 0 → has_field u.fields f.name ≡ true → with_field f u ≡ Err (BadField f.line)
-field_twice f u no_labels no_statements h = rw (no_labels, no_statements, h) refl
 
 -- ---- statements
 

@@ -23,15 +23,9 @@ use Rattle.unit_read.specs.Grammar.{header_name, operand_word, IsOperand, IsName
 
 -- ---- tests
 
-pub same_bytes : (a b : List ℕ) → bytes_eq a b ≡ true → a ≡ b
-same_bytes a b h = (bytes_eq-Decides a b).0 h
-
 pub and_false : (a : Bool) → (a && false) ≡ false
 and_false true = refl
 and_false false = refl
-
-pub third_false : (a b c : Bool) → c ≡ false → (a && b && c) ≡ false
-third_false a b c h = rw h (and_false (a && b))
 
 pub are_within : (low high n : ℕ) → (nat_le low n && nat_le n high) ≡ true → (low ≤ n) × (n ≤ high)
 are_within low high n h =
@@ -64,14 +58,11 @@ name_is (Plain bytes) name e =
       | inr h ↦ absurd (cc h.1)
     ]
 
-pub name_again : (name : List ℕ) → IsName name → name_of (Plain name) ≡ Some name
-name_again name h = rw h refl
-
 -- a word that is tested against the name of one thing, and then against others
 pub named_by : {A : Type 0} (named : A → List ℕ) (word : List ℕ) (x : A) (others : Option A) (y : A) → (others ≡ Some y → word ≡ named y) → cond (bytes_eq word (named x)) (Some x) others ≡ Some y → word ≡ named y
 named_by named word x others y more e =
     elim (chosen (bytes_eq word (named x)) (Some x) others (Some y) e) [
-      | inl h ↦ same_bytes word (named x) h.0 ∙ ap named (some_is x y h.1)
+      | inl h ↦ (bytes_eq-Decides word (named x)).0 h.0 ∙ ap named (some_is x y h.1)
       | inr h ↦ more h.1
     ]
 
@@ -147,8 +138,8 @@ in_trim_is word name e =
           let b = both_true (nat_le 6 (length word)) (bytes_eq (take 5 word) (codes "TRIM(")) a.0 in
           let inside : take n back ≡ name = some_is (take n back) name h.1 in
           let behind : back ≡ name ++ codes ")" =
-          sym (take-append-drop n back) ∙ ap (λ (x : List ℕ). x ++ drop n back) inside ∙ ap (λ (x : List ℕ). name ++ x) (same_bytes (drop n back) (codes ")") a.1) in
-          sym (take-append-drop 5 word) ∙ ap (λ (x : List ℕ). x ++ drop 5 word) (same_bytes (take 5 word) (codes "TRIM(") b.1) ∙ ap (λ (x : List ℕ). codes "TRIM(" ++ x) behind
+          sym (take-append-drop n back) ∙ ap (λ (x : List ℕ). x ++ drop n back) inside ∙ ap (λ (x : List ℕ). name ++ x) ((bytes_eq-Decides (drop n back) (codes ")")).0 a.1) in
+          sym (take-append-drop 5 word) ∙ ap (λ (x : List ℕ). x ++ drop 5 word) ((bytes_eq-Decides (take 5 word) (codes "TRIM(")).0 b.1) ∙ ap (λ (x : List ℕ). codes "TRIM(" ++ x) behind
       | inr h ↦ absurd (cc h.1)
     ]
 

@@ -19,9 +19,10 @@ use Rattle.unit_read.specs.Shapes.{both}
 use Rattle.unit_read.specs.Statements.{action_of}
 use Rattle.unit_read.specs.Pieces.{in_range, number_from, area_of, new_field, field_of, unit_of, before_colon, label_in, inner_of, piece_of}
 use Rattle.unit_read.specs.Grammar.{IsName, area_name, Says, IsPiece, spelled}
-use Rattle.unit_read.proofs.Operands.{same_bytes, are_within, within, are_few, few_again, named_by, plain}
+use Rattle.unit_read.proofs.Operands.{are_within, within, are_few, few_again, named_by, plain}
 use Rattle.unit_read.proofs.Shapes.{both_some}
 use Rattle.unit_read.proofs.Statements.{statement_is, statement_again}
+use Rattle.std.proofs.lemmas.Slice.Eq.{bytes_eq-Decides}
 
 -- ---- words of FIELD and UNIT
 
@@ -170,7 +171,7 @@ no_keyword : (name keyword : List ℕ) (n : ℕ) → n + 1 ≡ length keyword �
 no_keyword name keyword n long last =
     elim (cases_Bool (bytes_eq (name ++ codes ":") keyword)) [
       | inl h ↦
-          let same = same_bytes (name ++ codes ":") keyword h in
+          let same = (bytes_eq-Decides (name ++ codes ":") keyword).0 h in
           let there : length name ≡ n = omega (arith, ap length same, length-append name (codes ":")) in
           absurd (last (ap (λ (x : List ℕ). slice_index x n) (sym same) ∙ ap (slice_index (name ++ codes ":")) (sym there) ∙ at_end name 58))
       | inr h ↦ h
@@ -186,7 +187,7 @@ by_label None ws p is e =
 
 keyword_front : (word keyword : List ℕ) (rest : List Word) (p : Piece) → bytes_eq word keyword ≡ true → IsPiece p (Plain keyword ∷ rest) → IsPiece p (Plain word ∷ rest)
 keyword_front word keyword rest p h is =
-    subst (λ (x : List ℕ). let w : Word = Plain x in IsPiece p (w ∷ rest)) (sym (same_bytes word keyword h)) is
+    subst (λ (x : List ℕ). let w : Word = Plain x in IsPiece p (w ∷ rest)) (sym ((bytes_eq-Decides word keyword).0 h)) is
 
 end_is : (rest : List Word) (p : Piece) → (length rest == 0) ≡ true → Some pieces.End ≡ Some p → IsPiece p (Plain (codes "END") ∷ rest)
 end_is rest p h e =

@@ -15,3 +15,4 @@ pub mod Grammar
 pub mod Spelling
 pub mod Faults
 pub mod WholeLaws
+pub mod Found

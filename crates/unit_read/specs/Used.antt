@@ -11,6 +11,11 @@ operand_uses test (operands.Field name) = test name
 operand_uses test (operands.Trim name) = test name
 operand_uses test _ = true
 
+-- each operand of a DPUT passes
+abbrev pub dput_uses : (List ℕ → Bool) → (to d h m s message : Operand) → Bool
+dput_uses t to d h m s message =
+    operand_uses t to && operand_uses t d && operand_uses t h && operand_uses t m && operand_uses t s && operand_uses t message
+
 -- each field that the statement names passes the test, the targets and those in operands; labels are no fields
 abbrev pub uses : (List ℕ → Bool) → Action → Bool
 uses t (actions.Move f o) = t f && operand_uses t o
@@ -24,7 +29,7 @@ uses t (actions.Mget f) = t f
 uses t (actions.Mput o) = operand_uses t o
 uses t (actions.Fget f) = t f
 uses t (actions.Fput o p) = operand_uses t o && operand_uses t p
-uses t (actions.Dput to mode d h m s o) = operand_uses t to && operand_uses t d && operand_uses t h && operand_uses t m && operand_uses t s && operand_uses t o
+uses t (actions.Dput to mode d h m s o) = dput_uses t to d h m s o
 uses t (actions.SgetGb o f) = t f && operand_uses t o
 uses t (actions.SputGb o p) = operand_uses t o && operand_uses t p
 uses t (actions.SrelGb o) = operand_uses t o

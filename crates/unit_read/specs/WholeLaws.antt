@@ -15,6 +15,8 @@ use Rattle.unit_read.specs.declared.piece.Piece.{Piece}
 use Rattle.unit_read.specs.declared.piece.Piece.TheVariants as pieces
 use Rattle.unit_read.specs.Grammar.{IsOperand, IsAction, SpellsPiece}
 use Rattle.unit_read.specs.Spelling.{Placed, placed, ArePieces, AreUnits, IsBegun, SpellsUnits, label_in, statement_in, labels_in, statements_in}
+use Rattle.std.proofs.ByRecursion.{All-append}
+use Rattle.kd_base.specs.ListsLaws.{each_front, each_behind}
 
 -- ---- operands
 
@@ -74,23 +76,11 @@ short_pieces (line ∷ rest) n ps (inr (piece, more, e, spells, left)) =
 
 -- ---- lists
 
-front : {A : Type 0} (P : A → Type 0) (xs ys : List A) → Each P (xs ++ ys) → Each P xs
-front P [] ys h = tt
-front P (x ∷ xs) ys h = (h.0, front P xs ys h.1)
-
-back : {A : Type 0} (P : A → Type 0) (xs ys : List A) → Each P (xs ++ ys) → Each P ys
-back P [] ys h = h
-back P (x ∷ xs) ys h = back P xs ys h.1
-
-both : {A : Type 0} (P : A → Type 0) (xs ys : List A) → Each P xs → Each P ys → Each P (xs ++ ys)
-both P [] ys h k = k
-both P (x ∷ xs) ys h k = (h.0, both P xs ys h.1 k)
-
 -- ---- a unit
 
 short_statements : (ps : List Placed) → Each IsShortPiece ps → Each IsShortStatement (statements_in ps)
 short_statements [] h = tt
-short_statements (p ∷ ps) h = both _ (statement_in p.line p.piece) (statements_in ps) h.0 (short_statements ps h.1)
+short_statements (p ∷ ps) h = All-append _ (statement_in p.line p.piece) (statements_in ps) h.0 (short_statements ps h.1)
 
 label_from : (k : ℕ) (piece : Piece) → 1 ≤ k → Each (λ (l : List ℕ × ℕ). 1 ≤ l.1) (label_in k piece)
 label_from k (pieces.Label name) h = (h, tt)
@@ -98,7 +88,7 @@ label_from k _ h = tt
 
 labels_from : (ps : List Placed) (k : ℕ) → 1 ≤ k → Each (λ (l : List ℕ × ℕ). 1 ≤ l.1) (labels_in k ps)
 labels_from [] k h = tt
-labels_from (p ∷ ps) k h = both _ (label_in k p.piece) _ (label_from k p.piece h) (labels_from ps (k + length (statement_in p.line p.piece)) (omega arith))
+labels_from (p ∷ ps) k h = All-append _ (label_in k p.piece) _ (label_from k p.piece h) (labels_from ps (k + length (statement_in p.line p.piece)) (omega arith))
 
 looked_up : (labels : List (List ℕ × ℕ)) (name : List ℕ) → Each (λ (l : List ℕ × ℕ). 1 ≤ l.1) labels → IfSome (lookup (bytes_eq name) labels) (λ place. 1 ≤ place)
 looked_up [] name h = tt
@@ -110,7 +100,7 @@ looked_up (l ∷ ls) name h =
 
 whole_unit : (u : UnitText) (ps : List Placed) → IsBegun u ps → Each IsShortPiece ps → IsWhole u
 whole_unit u ps begun short =
-    let body = back IsShortPiece begun.heads begun.body (back IsShortPiece (placed u.line (pieces.Unit u.name) ∷ []) (begun.heads ++ begun.body) (subst (Each IsShortPiece) begun.parts short)) in
+    let body = each_behind IsShortPiece begun.heads begun.body (each_behind IsShortPiece (placed u.line (pieces.Unit u.name) ∷ []) (begun.heads ++ begun.body) (subst (Each IsShortPiece) begun.parts short)) in
     record {
       labels = λ name. looked_up u.labels name (subst (Each (λ (l : List ℕ × ℕ). 1 ≤ l.1)) (sym begun.labels) (labels_from begun.body 1 (omega arith)));
       operands = All-from_recursion IsShortStatement u.statements (subst (Each IsShortStatement) (sym begun.statements) (short_statements begun.body body));
@@ -120,7 +110,7 @@ whole_units : (us before : List UnitText) (ps : List Placed) → AreUnits before
 whole_units [] before ps h short = tt
 whole_units (u ∷ us) before ps (own, rest, last, e, follows, begun, more) short =
     let parts = subst (Each IsShortPiece) e short in
-    (whole_unit u own begun (front IsShortPiece own (placed last pieces.End ∷ rest) parts), whole_units us (before ++ u ∷ []) rest more (back IsShortPiece own (placed last pieces.End ∷ rest) parts).1)
+    (whole_unit u own begun (each_front IsShortPiece own (placed last pieces.End ∷ rest) parts), whole_units us (before ++ u ∷ []) rest more (each_behind IsShortPiece own (placed last pieces.End ∷ rest) parts).1)
 
 pub spelled_whole : (text : List ℕ) (us : List UnitText) → SpellsUnits text us → All IsWhole us
 spelled_whole text us (few, ps, are, units) = All-from_recursion IsWhole us (whole_units us [] ps units (short_pieces (lines text) 1 ps are))

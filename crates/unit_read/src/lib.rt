@@ -7,6 +7,7 @@
 
 mod fault;
 mod key;
+mod laws;
 mod line;
 mod names;
 mod open_unit;
@@ -22,4 +23,5 @@ mod used;
 mod word;
 
 pub use fault::UnitFault;
+pub use laws::read_units_are_spelled;
 pub use read::read_units;

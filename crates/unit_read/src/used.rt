@@ -1,6 +1,6 @@
 //! The fields that a statement names.
 ghost use Rattle.std.specs.Prelude.{◌≡◌, ◌&&◌};
-ghost use Rattle.unit_read.specs.{Names.{holds}, Used.{operand_uses, uses}};
+ghost use Rattle.unit_read.specs.{Names.{holds}, Used.{dput_uses, operand_uses, uses}};
 
 use crate::names::{Names, holds};
 use kd_base::Bytes;
@@ -44,7 +44,7 @@ fn delayed_is_defined(
     message: &Operand,
     names: &Names,
 ) -> bool
-    ensures { result ≡ (operand_uses (holds names.now) to.now && operand_uses (holds names.now) days.now && operand_uses (holds names.now) hours.now && operand_uses (holds names.now) minutes.now && operand_uses (holds names.now) seconds.now && operand_uses (holds names.now) message.now) }
+    ensures { result ≡ dput_uses (holds names.now) to.now days.now hours.now minutes.now seconds.now message.now }
 {
     are_defined(to, days, names)
         && are_defined(hours, minutes, names)

@@ -20,14 +20,14 @@ use Rattle.unit_semantics.specs.KeepsReady.{SameLengths, StaysReady, StepsStayRe
 
 -- ---- lengths
 
-length-overlaid : (at : ℕ) (bytes under : List ℕ) → at + length bytes ≤ length under → length (overlaid at bytes under) ≡ length under
+length_overlaid : (at : ℕ) (bytes under : List ℕ) → at + length bytes ≤ length under → length (overlaid at bytes under) ≡ length under
 unfolding overlaid
-length-overlaid at bytes under h =
+length_overlaid at bytes under h =
     omega (arith, length-append (take at under ++ bytes) (drop (at + length bytes) under), length-append (take at under) bytes, length-take at under, length-drop (at + length bytes) under)
 
-length-fitted : (n : ℕ) (bytes : List ℕ) → length (fitted n bytes) ≡ n
+length_fitted : (n : ℕ) (bytes : List ℕ) → length (fitted n bytes) ≡ n
 unfolding fitted
-length-fitted n bytes =
+length_fitted n bytes =
     let spaces : List ℕ = replicate (n - length bytes) 32 in
     omega (arith, length-take n (bytes ++ spaces), length-append bytes spaces, length-replicate {A = ℕ} (n - length bytes) 32)
 
@@ -47,12 +47,12 @@ keeps_all : (run : RunState) → Keeps run run
 keeps_all run = areas_keep run run.kb run.spab refl refl
 
 written_keeps : (run : RunState) (spab : Bool) (at : ℕ) (bytes : List ℕ) → at + length bytes ≤ length (run_area run spab) → Keeps run (written run spab at bytes)
-written_keeps run true at bytes h = areas_keep run run.kb (overlaid at bytes run.spab) refl (length-overlaid at bytes run.spab h)
-written_keeps run false at bytes h = areas_keep run (overlaid at bytes run.kb) run.spab (length-overlaid at bytes run.kb h) refl
+written_keeps run true at bytes h = areas_keep run run.kb (overlaid at bytes run.spab) refl (length_overlaid at bytes run.spab h)
+written_keeps run false at bytes h = areas_keep run (overlaid at bytes run.kb) run.spab (length_overlaid at bytes run.kb h) refl
 
 in_field_keeps : (run : RunState) (f : Field) (bytes : List ℕ) → IsInside run f → Keeps run (stored_in run (Some f) bytes)
 in_field_keeps run f bytes inside =
-    let h : f.offset + length (fitted f.length bytes) ≤ length (run_area run f.spab) = omega (arith, length-fitted f.length bytes) in
+    let h : f.offset + length (fitted f.length bytes) ≤ length (run_area run f.spab) = omega (arith, length_fitted f.length bytes) in
     written_keeps run f.spab f.offset (fitted f.length bytes) h
 
 stored_keeps : (unit : UnitText) (run : RunState) (name bytes : List ℕ) → All (IsInside run) unit.fields → Keeps run (stored unit run name bytes)

@@ -5,3 +5,13 @@
 //! statement, over lists of bytes and numbers: the step of a statement is proved to meet them, and the monitor and the
 //! replay of a transaction cite them.
 #![tactic(auto)]
+
+ghost use Rattle.unit_semantics.specs.Rows.{Moves, Numbers, Comparisons, CallsAndEnds};
+
+/// What statements do to some runs.
+pub fn statement_rows()
+    ensures moves { Moves }
+    ensures numbers { Numbers }
+    ensures comparisons { Comparisons }
+    ensures ends { CallsAndEnds }
+{}

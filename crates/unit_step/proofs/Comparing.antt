@@ -1,7 +1,6 @@
 -- Two texts, each filled with spaces to the longer's length, from a place on.
-use Rattle.std.proofs.Common.{◌≡◌, ◌≢◌, inl, inr, false, nat_eq, nat_lt, add-one, ℕ, zero, suc, ◌+◌, ◌-◌, ◌<◌, ◌≤◌, max, List, [], ◌∷◌, ◌++◌, length, get_or, drop, replicate, refl, arith, sym, ◌∙◌, ap, length-append}
+use Rattle.std.proofs.Common.{◌≡◌, ◌≢◌, inl, inr, false, nat_eq, nat_lt, add-one, ℕ, zero, suc, ◌+◌, ◌-◌, ◌<◌, max, List, [], ◌∷◌, ◌++◌, length, get_or, drop, replicate, refl, arith, sym, ◌∙◌, ap, length-append}
 use Rattle.std.proofs.Math.Seq.{drop-cons}
-use Rattle.std.proofs.Math.ListN.{drop_of_length-le}
 use Rattle.std.proofs.lemmas.List.{length-replicate}
 use Rattle.std.proofs.lemmas.Bool.{cases_Bool}
 use Rattle.std.proofs.lemmas.Bool.Decides.{nat_tests}
@@ -11,8 +10,8 @@ use Rattle.std.specs.Ordering.{ordering_then, nat_cmp}
 use Rattle.std.specs.Cmp.Lexicographic.{slice_cmp}
 use Rattle.kd_base.specs.Text.{filled}
 
-length-filled : (m : ℕ) (a : List ℕ) → length (filled m a) ≡ max (length a) m
-length-filled m a = omega (arith, length-append a (replicate (m - length a) 32), length-replicate {A = ℕ} (m - length a) 32)
+length_filled : (m : ℕ) (a : List ℕ) → length (filled m a) ≡ max (length a) m
+length_filled m a = omega (arith, length-append a (replicate (m - length a) 32), length-replicate {A = ℕ} (m - length a) 32)
 
 abbrev space : ℕ
 space = 32
@@ -20,15 +19,15 @@ space = 32
 not_same : (x y : ℕ) → x ≢ y → nat_eq x y ≡ false
 not_same x y differ = grind (arith, nat_tests)
 
-spaces-get_or : (k i : ℕ) → get_or (replicate k space) i space ≡ space
-spaces-get_or zero i = refl
-spaces-get_or (suc k) zero = refl
-spaces-get_or (suc k) (suc i) = spaces-get_or k i
+spaces_get_or : (k i : ℕ) → get_or (replicate k space) i space ≡ space
+spaces_get_or zero i = refl
+spaces_get_or (suc k) zero = refl
+spaces_get_or (suc k) (suc i) = spaces_get_or k i
 
-filled-get_or : (a : List ℕ) (k i : ℕ) → get_or (a ++ replicate k 32) i 32 ≡ get_or a i 32
-filled-get_or [] k i = spaces-get_or k i
-filled-get_or (x ∷ a) k zero = refl
-filled-get_or (x ∷ a) k (suc i) = filled-get_or a k i
+filled_get_or : (a : List ℕ) (k i : ℕ) → get_or (a ++ replicate k 32) i 32 ≡ get_or a i 32
+filled_get_or [] k i = spaces_get_or k i
+filled_get_or (x ∷ a) k zero = refl
+filled_get_or (x ∷ a) k (suc i) = filled_get_or a k i
 
 same_is_equal : (x : ℕ) → nat_cmp x x ≡ Equal
 same_is_equal x = grind (arith, nat_tests)
@@ -47,8 +46,8 @@ from_place a b i =
 
 filled_from : (m : ℕ) (a : List ℕ) (i : ℕ) → i < max (length a) m → drop i (filled m a) ≡ get_or a i 32 ∷ drop (suc i) (filled m a)
 filled_from m a i h =
-    let in_range : i < length (filled m a) = omega (arith, length-filled m a) in
-    drop-cons (filled m a) i 32 in_range ∙ ap (λ (x : ℕ). x ∷ drop (suc i) (filled m a)) (filled-get_or a (m - length a) i)
+    let in_range : i < length (filled m a) = omega (arith, length_filled m a) in
+    drop-cons (filled m a) i 32 in_range ∙ ap (λ (x : ℕ). x ∷ drop (suc i) (filled m a)) (filled_get_or a (m - length a) i)
 
 pub cmp_from : (a b : List ℕ) (i : ℕ) → i < max (length a) (length b) → slice_cmp nat_cmp (drop i (filled (length b) a)) (drop i (filled (length a) b)) ≡ ordering_then (nat_cmp (get_or a i 32) (get_or b i 32)) (slice_cmp nat_cmp (drop (suc i) (filled (length b) a)) (drop (suc i) (filled (length a) b)))
 cmp_from a b i h =
@@ -66,10 +65,3 @@ pub goes_on : (a b : List ℕ) (i x y : ℕ) → from_place a b i → i < max (l
 goes_on a b i x y so_far h x_is y_is same =
     let e : get_or a i 32 ≡ get_or b i 32 = sym x_is ∙ same ∙ y_is in
     so_far ∙ cmp_from a b i h ∙ rw (add-one, e, same_is_equal (get_or b i 32)) refl
-
--- both ended
-pub cmp_end : (a b : List ℕ) (i : ℕ) → max (length a) (length b) ≤ i → slice_cmp nat_cmp (drop i (filled (length b) a)) (drop i (filled (length a) b)) ≡ Equal
-cmp_end a b i h =
-    let x : length (filled (length b) a) ≤ i = omega (arith, length-filled (length b) a) in
-    let y : length (filled (length a) b) ≤ i = omega (arith, length-filled (length a) b) in
-    rw (drop_of_length-le (filled (length b) a) x, drop_of_length-le (filled (length a) b) y) refl

@@ -1,21 +1,16 @@
 -- The last digits of a number.
-use Rattle.std.proofs.Common.{◌≡◌, ℕ, zero, suc, ◌+◌, ◌-◌, ◌/◌, ◌%◌, ◌^◌, ◌<◌, ◌≤◌, List, [], ◌∷◌, ◌++◌, length, drop, refl, arith, sym, ◌∙◌, ap, append_assoc, length-append, add-one}
+use Rattle.std.proofs.Common.{◌≡◌, ℕ, zero, suc, ◌+◌, ◌-◌, ◌/◌, ◌%◌, ◌^◌, ◌<◌, ◌≤◌, List, [], ◌∷◌, ◌++◌, length, drop, refl, arith, sym, ◌∙◌, ap, append_assoc, add-one}
 use Rattle.std.proofs.lemmas.List.{drop-set}
 use Rattle.std.proofs.Math.ListN.{set}
 use Rattle.std.proofs.Math.Nat.{div-div-eq-div-mul, pow-suc}
 use Rattle.unit_semantics.specs.Contents.{in_digits}
 
-pub length-in_digits : (k n : ℕ) → length (in_digits k n) ≡ k
-unfolding in_digits
-length-in_digits zero n = refl
-length-in_digits (suc k) n = omega (arith, length-append (in_digits k (n / 10)) ((48 + n % 10) ∷ []), length-in_digits k (n / 10))
-
 pub one_digit_more : (k n : ℕ) (rest : List ℕ) → in_digits (suc k) n ++ rest ≡ in_digits k (n / 10) ++ (48 + n % 10) ∷ rest
 unfolding in_digits
 one_digit_more k n rest = append_assoc (in_digits k (n / 10)) ((48 + n % 10) ∷ []) rest
 
-pub div-pow-suc : (n j : ℕ) → n / 10 ^ j / 10 ≡ n / 10 ^ suc j
-div-pow-suc n j = div-div-eq-div-mul n (10 ^ j) 10 ∙ ap (λ (x : ℕ). n / x) (sym (pow-suc 10 j))
+pub div_pow_suc : (n j : ℕ) → n / 10 ^ j / 10 ≡ n / 10 ^ suc j
+div_pow_suc n j = div-div-eq-div-mul n (10 ^ j) 10 ∙ ap (λ (x : ℕ). n / x) (sym (pow-suc 10 j))
 
 -- one more digit is written
 pub written_more : (into written : List ℕ) (k left : ℕ) → k < length into → in_digits (suc k) left ++ drop (suc k) into ≡ written → in_digits k (left / 10) ++ drop k (set into k (48 + left % 10)) ≡ written
@@ -33,7 +28,7 @@ written_down into written (suc k) left some h so_far =
 pub left_down : (n len place left : ℕ) → 0 < place → place ≤ len → left ≡ n / 10 ^ (len - place) → left / 10 ≡ n / 10 ^ (len - (place - 1))
 left_down n len place left some h is =
     let e : len - (place - 1) ≡ suc (len - place) = omega arith in
-    rw (e, is) (div-pow-suc n (len - place))
+    rw (e, is) (div_pow_suc n (len - place))
 
 -- all are written
 pub all_written : (into written : List ℕ) (place left : ℕ) → place ≤ 0 → in_digits place left ++ drop place into ≡ written → into ≡ written

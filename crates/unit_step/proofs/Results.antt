@@ -5,7 +5,6 @@ use Rattle.std.proofs.lemmas.Bool.{cases_Bool, cases_lt, le-ltb}
 use Rattle.std.proofs.lemmas.Bool.Decides.{nat_tests}
 use Rattle.std.proofs.lemmas.List.{append-nil, replicate-append-replicate, take_at}
 use Rattle.std.proofs.Math.Nat.{add-suc, add-zero, pow-zero, pow-suc, pow-le-pow_right, div-eq_of_lt, div-div-eq-div-mul, lt-div-mul-add}
-use Rattle.kd_base.specs.ToolsLaws.{chosen}
 use Rattle.unit_semantics.specs.Contents.{in_digits, number_in, fitted}
 use Rattle.unit_semantics.specs.Statement.{calculated}
 use Rattle.kdcs_types.specs.declared.run_state.RunState.{RunState}
@@ -13,17 +12,9 @@ use Rattle.unit_types.specs.declared.unit.Field.{Field}
 use Rattle.unit_semantics.specs.Fields.{written}
 use Rattle.unit_step.specs.Calculation.{limited, with_result}
 use Rattle.unit_step.proofs.Writing.{fits_as_it_is}
-use Rattle.unit_step.proofs.Digits.{length-in_digits}
+use Rattle.unit_semantics.specs.ContentsLaws.{length_in_digits}
 
 -- ---- what 64 bits hold
-
-pub limited_some : (o : Option ℕ) (n : ℕ) → limited o ≡ Some n → o ≡ Some n
-limited_some None n e = absurd cc
-limited_some (Some m) n e =
-    elim (chosen (nat_lt m (2 ^ 64)) (Some m) None (Some n) e) [
-      | inl h ↦ h.1
-      | inr h ↦ absurd (cc h.1)
-    ]
 
 ten_digits : (len : ℕ) → 10 ^ min len 18 ≤ 10 ^ 18
 ten_digits len =
@@ -47,9 +38,6 @@ limited_none len (Some m) e =
 
 pub no_result : (len : ℕ) (calculation : ℕ → ℕ → Option ℕ) (x y : Option ℕ) (a b : ℕ) → x ≡ Some a → y ≡ Some b → limited (calculation a b) ≡ None → calculated len calculation x y ≡ None
 no_result len calculation x y a b x_is y_is none = rw (x_is, y_is) (limited_none len (calculation a b) none)
-
-pub one_result : (len : ℕ) (calculation : ℕ → ℕ → Option ℕ) (x y : Option ℕ) (a b n : ℕ) → x ≡ Some a → y ≡ Some b → limited (calculation a b) ≡ Some n → calculated len calculation x y ≡ number_in len n
-one_result len calculation x y a b n x_is y_is some = rw (x_is, y_is, limited_some (calculation a b) n some) refl
 
 -- ---- numbers in a field
 
@@ -125,14 +113,14 @@ pub gets_number : (run : RunState) (f : Field) (n m left : ℕ) (cells digits : 
 gets_number run f n m left cells digits room is left_is none digits_are =
     let k = length (take m cells) in
     let short : k ≤ f.length = omega (arith, length-take m cells) in
-    let count : length digits ≡ k = ap length digits_are ∙ length-in_digits k n in
+    let count : length digits ≡ k = ap length digits_are ∙ length_in_digits k n in
     let all : replicate (f.length - length digits) zero_digit ++ digits ≡ in_digits f.length n =
     ap (λ (x : ℕ). replicate (f.length - x) zero_digit ++ digits) count ∙ ap (λ (x : List ℕ). replicate (f.length - k) zero_digit ++ x) digits_are ∙ whole_digits f.length n k short (sym left_is ∙ none) in
-    let same : fitted f.length (in_digits f.length n) ≡ in_digits f.length n = fits_as_it_is f.length (in_digits f.length n) (length-in_digits f.length n) in
+    let same : fitted f.length (in_digits f.length n) ≡ in_digits f.length n = fits_as_it_is f.length (in_digits f.length n) (length_in_digits f.length n) in
     rw (fits f.length n m left cells room is left_is none) (ap (λ (x : List ℕ). written run f.spab f.offset x) (all ∙ sym same))
 
 -- five digits in eight cells
 pub five_fit : (n len : ℕ) (digits rest : List ℕ) → len ≡ 5 → digits ≡ in_digits len n → take 5 (digits ++ rest) ≡ in_digits 5 n
 five_fit n len digits rest five is =
     let e : digits ≡ in_digits 5 n = is ∙ ap (λ (k : ℕ). in_digits k n) five in
-    rw e (take_at (in_digits 5 n) rest 5 (length-in_digits 5 n))
+    rw e (take_at (in_digits 5 n) rest 5 (length_in_digits 5 n))

@@ -1,9 +1,12 @@
 -- ADD, SUB, MUL and DIV, as far as 64 bits go.
 use Rattle.std.specs.Prelude.{ℕ, ◌^◌, List, Option, None, Some, nat_lt, if◌then◌else◌}
 use Rattle.kdcs_types.specs.declared.run_state.RunState.{RunState}
+use Rattle.unit_types.specs.UnitText.{UnitText}
+use Rattle.unit_types.specs.declared.action.Operand.{Operand}
 use Rattle.unit_types.specs.declared.unit.Field.{Field}
-use Rattle.unit_semantics.specs.Fields.{stored_in}
-use Rattle.unit_semantics.specs.Statement.{sum_of, difference_of, product_of, quotient_of}
+use Rattle.unit_semantics.specs.Contents.{number_of}
+use Rattle.unit_semantics.specs.Fields.{field_bytes, stored_in, value_of}
+use Rattle.unit_semantics.specs.Statement.{calculated, sum_of, difference_of, product_of, quotient_of}
 use Rattle.unit_step.specs.declared.number.Calculation.{Calculation}
 use Rattle.unit_step.specs.declared.number.Calculation.TheVariants.{Sum, Difference, Product, Quotient}
 
@@ -22,3 +25,8 @@ limited (Some n) = if nat_lt n (2 ^ 64) then Some n else None
 abbrev pub with_result : RunState → Field → Option (List ℕ) → RunState
 with_result run f None = run
 with_result run f (Some bytes) = stored_in run (Some f) bytes
+
+-- the result of a field's own number and the operand's, in so many digits as the field has, where there is one that fits
+abbrev pub result_in : UnitText → RunState → Field → Calculation → Operand → Option (List ℕ)
+result_in unit run field c operand =
+    calculated field.length (calculation_of c) (number_of (field_bytes run (Some field))) (number_of (value_of unit run operand))

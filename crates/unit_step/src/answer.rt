@@ -62,8 +62,7 @@ pub fn answered(unit: &Unit, run: &mut RunState, reply: &Reply)
     requires can { CanAnswer unit.now run.old reply.now }
     ensures { run.new ≡ answered unit.now run.old reply.now }
 {
-    // A count below it can be raised.
-    let _budget = run.budget;
+    let _budget = run.budget; // for the proof
     read_into(unit, run, &reply.content);
     run.place += 1;
     run.count += 1;

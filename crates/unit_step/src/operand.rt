@@ -108,8 +108,7 @@ pub fn value<'a>(unit: &Unit, run: &'a RunState, operand: &'a Operand, cells: &'
 {
     match operand {
         Operand::Field(name) => named(unit, run, name),
-        Operand::Literal(bytes) => bytes.as_slice(),
-        Operand::Digits(bytes) => bytes.as_slice(),
+        Operand::Literal(bytes) | Operand::Digits(bytes) => bytes.as_slice(),
         Operand::Header(_) => &cells.bytes[..cells.used],
         Operand::Trim(name) => trim_end(named(unit, run, name)),
     }

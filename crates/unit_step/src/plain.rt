@@ -2,7 +2,7 @@
 ghost use Rattle.std.specs.Prelude.{◌≡◌, ◌+◌, ◌<◌, ◌^◌, ◌++◌, All, OnErr, OnOk, Some, is_some, length, min, take};
 ghost use Rattle.unit_types.specs.UnitText.{field_named, label_place};
 ghost use Rattle.unit_semantics.specs.{Contents.{compared, number_in, number_of}, Fields.{field_bytes, stored, stored_in, value_of}, Ready.{IsInside}, Statement.{branched, calculated, calculates, jumped, moved_on, relates}};
-ghost use Rattle.unit_step.specs.{Answers.{meaning_of, OnlyPlainMoves}, Calculation.{calculation_of, with_result}};
+ghost use Rattle.unit_step.specs.{Answers.{meaning_of, OnlyPlainMoves}, Calculation.{calculation_of, result_in, with_result}};
 
 use crate::area::{store, store_digits};
 use crate::compare::compared;
@@ -118,8 +118,8 @@ fn calculate(
 ) -> bool
     requires inside { All (IsInside run.old) unit.now.fields }
     requires field { IsInside run.old field.now }
-    ensures stored { run.new ≡ with_result run.old field.now (calculated field.now.length (calculation_of calculation) (number_of (field_bytes run.old (Some field.now))) (number_of (value_of unit.now run.old operand.now))) }
-    ensures fits { result ≡ is_some (calculated field.now.length (calculation_of calculation) (number_of (field_bytes run.old (Some field.now))) (number_of (value_of unit.now run.old operand.now))) }
+    ensures stored { run.new ≡ with_result run.old field.now (result_in unit.now run.old field.now calculation operand.now) }
+    ensures fits { result ≡ is_some (result_in unit.now run.old field.now calculation operand.now) }
     ensures place { run.new.place ≡ run.old.place }
     ensures count { run.new.count ≡ run.old.count }
 {

@@ -13,7 +13,7 @@ use std::alloc::Global;
 use unit_types::{Action, Unit};
 
 #[tactic(auto, unfolding(unit_semantics::specs::Statement::done_by))]
-fn perform(
+fn do_action(
     alloc: Global,
     unit: &Unit,
     run: &mut RunState,
@@ -89,5 +89,5 @@ pub fn step(alloc: Global, unit: &Unit, run: &mut RunState) -> Result<Stepped, O
     if run.count == budget {
         return Ok(Stepped::Ends(Cause::E07));
     }
-    perform(alloc, unit, run, &statement.action)
+    do_action(alloc, unit, run, &statement.action)
 }

@@ -16,15 +16,12 @@ use Rattle.std.proofs.lemmas.Slice.Eq.{bytes_eq-Decides}
 use Rattle.kd_base.specs.ToolsLaws.{chosen, some_is}
 use Rattle.unit_types.specs.Index.{or_first}
 
-same_bytes : (a b : List ℕ) → bytes_eq a b ≡ true → a ≡ b
-same_bytes a b h = (bytes_eq-Decides a b).0 h
-
 -- whether a key, seen as bytes, is at a name
 abbrev at_bytes : {K : Type 0} → (K → List ℕ) → List ℕ → K → Bool
 at_bytes items name = is_at (λ k. slice_cmp nat_cmp name (items k))
 
 tied : {K : Type 0} (items : K → List ℕ) (name : List ℕ) (k : K) → at_bytes items name k ≡ true → name ≡ items k
-tied items name k h = same_bytes name (items k) (sym (is_eq-slice_cmp name (items k)) ∙ h)
+tied items name k h = (bytes_eq-Decides name (items k)).0 (sym (is_eq-slice_cmp name (items k)) ∙ h)
 
 not_tied : {K : Type 0} (items : K → List ℕ) (name : List ℕ) (k : K) → (name ≡ items k → ⊥) → at_bytes items name k ≡ false
 not_tied items name k ne =
@@ -49,7 +46,7 @@ or_none (Some x) = refl
 pub put_last : {P : Type 0} (old new : List ℕ → Option P) (name : List ℕ) (place : P) → old name ≡ None → new name ≡ Some place → ((other : List ℕ) → (other ≡ name → ⊥) → new other ≡ old other) → (wanted : List ℕ) → new wanted ≡ or_first (old wanted) name place wanted
 put_last {P} old new name place none some others wanted =
     elim (cases_Bool (bytes_eq wanted name)) [
-      | inl h ↦ rw (h, same_bytes wanted name h, none, some) refl
+      | inl h ↦ rw (h, (bytes_eq-Decides wanted name).0 h, none, some) refl
       | inr h ↦ rw h (others wanted (λ e. absurd (let t : bytes_eq wanted name ≡ true = (bytes_eq-Decides wanted name).1 e in cc)) ∙ or_none (old wanted))
     ]
 

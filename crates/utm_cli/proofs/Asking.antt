@@ -13,9 +13,7 @@ use Rattle.utm_cli.specs.Asking.{Errand, Reading, AreThere, ReadsFor}
 use Rattle.utm_cli.specs.Doing.{Starts}
 use Rattle.utm_cli.specs.Promise.{Request, Reads, Lacks, Misses, IsCutOfRun}
 use Rattle.utm_cli.proofs.ByWord.{unchanged_cut}
-
-same_some : {X : Type 0} (x y : X) → Some x ≡ Some y → x ≡ y
-same_some x y e = cc
+use Rattle.std.proofs.lemmas.Option.{same_Some}
 
 -- ---- the one reading of a call
 
@@ -27,7 +25,7 @@ module _ (words : List (List ℕ)) (room : RoomState) (word : Word) (base : List
   same_request w b h =
       let first : Word × List ℕ = (w, b) in
       let second : Word × List ℕ = (word, base) in
-      let e : first ≡ second = same_some first second (sym h ∙ asked) in
+      let e : first ≡ second = same_Some first second (sym h ∙ asked) in
       (ap (λ (p : Word × List ℕ). p.0) e, ap (λ (p : Word × List ℕ). p.1) e)
 
   lacked : (w : Word) (d u s : List ℕ) → AreThere w base room d u s → Lacks w base room → ⊥

@@ -17,7 +17,6 @@ use Rattle.utm_cli.specs.declared.words.Word.TheVariants.{Gen, Run, Show, Make}
 use Rattle.utm_cli.specs.Asking.{Errand, app_of}
 use Rattle.utm_cli.specs.Doing.{IsOverFile, Opens, StartsBy, Starts, Refuses, IsOfOthers, identity_of, acts_by, acts_of}
 use Rattle.utm_cli.specs.Promise.{RanOver, RanBy, Ran, IsCutOver, IsCutBy, IsCutOfRun, IsFront, SaysFront, MakesFile, MayAttach, MayHandOn, HandsOn}
-use Rattle.utm_cli.proofs.Cuts.{bytes_of_line}
 use Rattle.utm_cli.proofs.Ran.{as_it_was, part_then}
 
 -- ---- a file is answered in one way
@@ -43,15 +42,6 @@ module _ (e : Errand) (bytes : List ℕ) where
 
   pub opened_once : (t u : TableRows) → Opens e bytes t → Opens e bytes u → t ≡ u
   opened_once t u h k = (answers_exclude_each_other e.application.generation e.fingerprint bytes).started_once t u h k
-
-  one_by : (word : Word) (t u : TableRows) → StartsBy word e bytes t → StartsBy word e bytes u → t ≡ u
-  one_by Gen t u h k = opened_once t u h k
-  one_by Run t u h k = opened_once t u h k
-  one_by Show t u h k = opened_once t u h k
-  one_by (Make n) t u h k = h ∙ sym k
-
-  pub one_start : (t u : TableRows) → Starts e bytes t → Starts e bytes u → t ≡ u
-  one_start t u h k = one_by e.word t u h k
 
   pub not_both : (t : TableRows) → Starts e bytes t → Refuses e bytes → ⊥
   not_both t h refused = (answers_exclude_each_other e.application.generation e.fingerprint bytes).started_or_refused t (opens refused.0 t h) refused.1

@@ -1,5 +1,5 @@
 -- Cuts of acts, and acts that are lines alone.
-use Rattle.std.proofs.Common.{◌≡◌, inl, ℕ, true, List, [], ◌∷◌, ◌++◌, refl, sym, ap, subst, ◌∙◌, append_assoc}
+use Rattle.std.proofs.Common.{◌≡◌, inl, ℕ, true, List, [], ◌∷◌, ◌++◌, refl, sym, ap, subst, ◌∙◌}
 use Rattle.std.proofs.lemmas.List.{append-nil}
 use Rattle.std.proofs.lemmas.List.Folds.{list_all-append}
 use Rattle.kd_base.specs.ToolsLaws.{both_true}
@@ -12,12 +12,6 @@ use Rattle.kdcs_types.specs.Tables.{TableRows}
 use Rattle.abstract_monitor.specs.Trace.{tables_after, bytes_of}
 use Rattle.device_acts.specs.Performing.{is_line, commits_nothing, content_after, IsCutOf, Performs}
 use Rattle.device_run.specs.Running.{IsCutSince}
-
-pub bytes_joined : (p q : List Act) → bytes_of (p ++ q) ≡ bytes_of p ++ bytes_of q
-unfolding bytes_of
-bytes_joined [] q = refl
-bytes_joined (Commit c ∷ p) q = bytes_joined p q
-bytes_joined (Emit line ∷ p) q = ap (λ (l : List ℕ). line ++ l) (bytes_joined p q) ∙ sym (append_assoc line (bytes_of p) (bytes_of q))
 
 pub bytes_of_line : (line : List ℕ) (rest : List Act) → bytes_of (Emit line ∷ rest) ≡ line ++ bytes_of rest
 unfolding bytes_of

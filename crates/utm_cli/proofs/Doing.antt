@@ -29,7 +29,8 @@ use Rattle.utm_cli.specs.Doing.{identity_of, acts_by, acts_of}
 use Rattle.utm_cli.specs.Report.{report}
 use Rattle.utm_cli.specs.Promise.{RanOver}
 use Rattle.utm_cli.proofs.Cuts.{tables_same, kept_content, lines_performed}
-use Rattle.device_run.specs.DurableLaws.{durable_same, started_tables}
+use Rattle.laws_of_tables.specs.EndsLaws.{durable_same}
+use Rattle.laws_of_steps.specs.TablesStayLaws.{started_tables}
 
 -- what follows from two facts of a success
 pub on_ok_both : {X E : Type 0} (r : Result X E) (P Q R : Type 0) → (P → Q → R) → OnOk r P → OnOk r Q → OnOk r R

@@ -13,7 +13,8 @@ use Rattle.utm_cli.specs.declared.words.Word.TheVariants.{Gen, Run, Show, Make}
 use Rattle.utm_cli.specs.Asking.{Errand}
 use Rattle.utm_cli.specs.Doing.{identity_of, acts_of}
 use Rattle.utm_cli.specs.Promise.{IsCutOver, IsCutBy, IsCutOfRun, EndsInCut}
-use Rattle.utm_cli.proofs.Cuts.{bytes_joined, bytes_of_line}
+use Rattle.utm_cli.proofs.Cuts.{bytes_of_line}
+use Rattle.device_acts.specs.ActingLaws.{bytes_joined}
 
 front_of : (whole first rest : List ℕ) → whole ≡ first ++ rest → (n : ℕ) × (first ≡ take n whole)
 front_of whole first rest e = (length first, sym (ap (λ (l : List ℕ). take (length first) l) e ∙ take_at first rest (length first) refl))

@@ -1,6 +1,6 @@
-pub mod Asked
 pub mod Cuts
 pub mod Scripts
+pub mod CanRun
 pub mod TextsSaid
 pub mod Started
 pub mod Opened
@@ -14,3 +14,8 @@ pub mod MadeTexts
 pub mod MadeExamples
 pub mod MadeReadAgain
 pub mod MadeStarted
+pub mod MadeDefinition
+pub mod MadeScript
+pub mod EmittedLines
+pub mod MadeReading
+pub mod MadeLines

@@ -16,10 +16,11 @@ use Rattle.abstract_monitor.specs.Bytes.{Bytes}
 use Rattle.abstract_monitor.specs.State.{Application}
 use Rattle.abstract_monitor.specs.Trace.{history, trace, tables_after, bytes_of}
 use Rattle.monitor_core.specs.CoreValue.{CoreValue}
-use Rattle.device_run.specs.DurableLaws.{durable_same, started_tables}
 use Rattle.device_run.specs.Running.{durable_of, IsRunning}
 use Rattle.warm_start.specs.Stands.{KeepsTables, identity_for}
 use Rattle.utm_cli.specs.MadeReport.{report_with, report_by, report_of}
+use Rattle.laws_of_tables.specs.EndsLaws.{durable_same}
+use Rattle.laws_of_steps.specs.TablesStayLaws.{started_tables}
 
 -- a monitor that starts from the empty tables
 abbrev fresh : Application → CoreValue

@@ -1,8 +1,8 @@
 -- A call over its store: the opening, and what is done then.
-use Rattle.std.proofs.Common.{◌≡◌, ◌⊎◌, inl, inr, ⊎_elim, ℕ, List, [], ◌++◌, take, refl, sym, ap, subst, ◌∙◌, arith}
+use Rattle.std.proofs.Common.{◌≡◌, inl, inr, ⊎_elim, ℕ, List, [], ◌++◌, take, sym, ap, subst, ◌∙◌}
 use Rattle.std.proofs.lemmas.List.{append-nil}
 use Rattle.std.specs.Prelude.{IsTrue}
-use Rattle.kd_device.specs.Device.{State, Frame, Rose, LeavesOnly, Only}
+use Rattle.kd_device.specs.Device.{State, Frame, LeavesOnly, Only}
 use Rattle.kd_device.specs.TimeLaws.{leaves_weaker, leaves_then}
 use Rattle.kd_device.specs.Rest.{Rests}
 use Rattle.kdcs_types.specs.Tables.{TableRows, empty_tables}
@@ -81,11 +81,6 @@ module _ (line : List ℕ) (a b d : State) (la lb : ℕ → List ℕ → List �
 -- nothing was said
 pub nothing_said : (line : List ℕ) (a b : State) (la lb : ℕ → List ℕ → List ℕ → Type 0) → Rests a b la lb → SaidPart line a b
 nothing_said line a b la lb rests = record { disk = record { holds = rests.holds; put = rests.put }; sent = (0, rests.sent ∙ sym (append-nil a.sent)) }
-
--- counts that rose after calls that lowered none
-pub rose_either : (a b d : State) → Frame a b → Rose b.disk_faults d.disk_faults ⊎ Rose b.line_faults d.line_faults → Rose a.disk_faults d.disk_faults ⊎ Rose a.line_faults d.line_faults
-rose_either a b d frame (inl h) = inl (omega (arith, frame.disk_faults, h))
-rose_either a b d frame (inr h) = inr (omega (arith, frame.line_faults, h))
 
 -- calls go on to tell
 pub told_then : (a b : State) → Frame a b → IsTrue a.told → IsTrue b.told

@@ -1,4 +1,4 @@
--- How many turns and commands the commands of a script make.
+-- How many turns and commands the commands of a script make, and which names they have.
 use Rattle.std.proofs.Common.{◌≡◌, ℕ, ◌+◌, ◌*◌, ◌≤◌, ◌^◌, Bool, true, false, not, List, [], ◌∷◌, length, Result, Ok, Err, refl, sym, ap, subst, ◌∙◌, arith}
 use Rattle.std.specs.Prelude.{◌||◌, nat_lt, cond, sum_by, All}
 use Rattle.std.specs.Str.Lines.{lines}
@@ -7,6 +7,7 @@ use Rattle.std.proofs.lemmas.List.Elements.{All-cons, All-nil}
 use Rattle.std.proofs.lemmas.List.Sums.{sum_by-cons, sum_by-le}
 use Rattle.kd_base.specs.ToolsLaws.{ok_is}
 use Rattle.kdcdef_types.specs.Generation.{Generated}
+use Rattle.abstract_monitor.specs.CommandsOf.{IsCommandOf}
 use Rattle.abstract_monitor.specs.declared.command.Command.{Command}
 use Rattle.abstract_monitor.specs.declared.command.Command.TheVariants.{Input, Tick, Run, Turn, Drop, Print, PrintLast, Restart}
 use Rattle.script_read.specs.declared.fault.ScriptFault.{ScriptFault}
@@ -14,6 +15,7 @@ use Rattle.script_read.specs.Script.{Line, Nothing, Says, IsBad, IsOutOfRange, b
 use Rattle.script_read.specs.Commands.{begins_with_in, command_by, line_in, script_in}
 use Rattle.script_read.specs.Spelling.{IsSpelled, CommandsOnly}
 use Rattle.device_run.specs.Running.{turns_of}
+use Rattle.script_read.proofs.Fitting.{of_spelled}
 
 -- ---- the turns
 
@@ -31,18 +33,19 @@ spelled_short g (Print pterm) line h = omega arith
 spelled_short g (PrintLast pterm) line h = omega arith
 spelled_short g Restart line h = omega arith
 
--- no more commands than lines, and each is short
-record AreFew (commands : List Command) (n : ℕ) : Type 0 where
+-- no more commands than lines, and each is short and of the generation
+record AreFew (g : Generated) (commands : List Command) (n : ℕ) : Type 0 where
   count : length commands ≤ n
   short : All IsShort commands
+  known : All (IsCommandOf g) commands
 
 module _ (g : Generated) (only : CommandsOnly) where
   -- a line that is passed over says nothing
-  line_few : (line : List ℕ) (number n : ℕ) (rest : Result (List Command) ScriptFault) (later : (cs : List Command) → rest ≡ Ok cs → AreFew cs n) (l : Line Command) → line_in g line ≡ l → (cs : List Command) → line_then number l rest ≡ Ok cs → AreFew cs (1 + n)
-  line_few line number n rest later Nothing at cs e = let few = later cs e in record { count = omega (arith, few.count); short = few.short }
+  line_few : (line : List ℕ) (number n : ℕ) (rest : Result (List Command) ScriptFault) (later : (cs : List Command) → rest ≡ Ok cs → AreFew g cs n) (l : Line Command) → line_in g line ≡ l → (cs : List Command) → line_then number l rest ≡ Ok cs → AreFew g cs (1 + n)
+  line_few line number n rest later Nothing at cs e = let few = later cs e in record { count = omega (arith, few.count); short = few.short; known = few.known }
   line_few line number n (Ok ds) later (Says c) at cs e =
       let few = later ds refl in
-      subst (λ (l : List Command). AreFew l (1 + n)) (ok_is ScriptFault (c ∷ ds) cs e) (record { count = omega (arith, few.count); short = All-cons IsShort c ds (spelled_short g c line (only g c line at)) few.short })
+      subst (λ (l : List Command). AreFew g l (1 + n)) (ok_is ScriptFault (c ∷ ds) cs e) (record { count = omega (arith, few.count); short = All-cons IsShort c ds (spelled_short g c line (only g c line at)) few.short; known = All-cons (IsCommandOf g) c ds (of_spelled g c line (only g c line at)) few.known })
   line_few line number n (Err fault) later (Says c) at cs e = absurd cc
   line_few line number n rest later IsBad at cs e = absurd cc
   line_few line number n rest later IsOutOfRange at cs e = absurd cc
@@ -51,23 +54,22 @@ module _ (g : Generated) (only : CommandsOnly) where
   passed_or line ls b is = sum_by-cons (λ (l : List ℕ). cond (not (is_passed l)) 1 0) line ls ∙ ap (λ (c : Bool). cond (not c) 1 0 + command_lines ls) is
 
   -- a line in front of others
-  few_by : (line : List ℕ) (ls : List (List ℕ)) (number : ℕ) (later : (cs : List Command) → script_from (line_in g) (number + 1) ls ≡ Ok cs → AreFew cs (command_lines ls)) (cs : List Command) → script_from (line_in g) number (line ∷ ls) ≡ Ok cs
-      → (b : Bool) → is_passed line ≡ b → AreFew cs (command_lines (line ∷ ls))
+  few_by : (line : List ℕ) (ls : List (List ℕ)) (number : ℕ) (later : (cs : List Command) → script_from (line_in g) (number + 1) ls ≡ Ok cs → AreFew g cs (command_lines ls)) (cs : List Command) → script_from (line_in g) number (line ∷ ls) ≡ Ok cs
+      → (b : Bool) → is_passed line ≡ b → AreFew g cs (command_lines (line ∷ ls))
   few_by line ls number later cs e true passed =
       let nothing : line_in g line ≡ Nothing = ap (λ (b : Bool). line_by b (begins_with_space line) (command_by (begins_with_in line) g line)) passed in
       let few = later cs (sym (ap (λ (l : Line Command). line_then number l (script_from (line_in g) (number + 1) ls)) nothing) ∙ e) in
-      record { count = omega (arith, few.count, passed_or line ls true passed); short = few.short }
+      record { count = omega (arith, few.count, passed_or line ls true passed); short = few.short; known = few.known }
   few_by line ls number later cs e false some =
       let few = line_few line number (command_lines ls) (script_from (line_in g) (number + 1) ls) later (line_in g line) refl cs e in
-      record { count = omega (arith, few.count, passed_or line ls false some); short = few.short }
+      record { count = omega (arith, few.count, passed_or line ls false some); short = few.short; known = few.known }
 
-  few_from : (ls : List (List ℕ)) (number : ℕ) (cs : List Command) → script_from (line_in g) number ls ≡ Ok cs → AreFew cs (command_lines ls)
-  few_from [] number cs e = subst (λ (l : List Command). AreFew l 0) (ok_is ScriptFault [] cs e) (record { count = omega arith; short = All-nil IsShort })
+  few_from : (ls : List (List ℕ)) (number : ℕ) (cs : List Command) → script_from (line_in g) number ls ≡ Ok cs → AreFew g cs (command_lines ls)
+  few_from [] number cs e = subst (λ (l : List Command). AreFew g l 0) (ok_is ScriptFault [] cs e) (record { count = omega arith; short = All-nil IsShort; known = All-nil (IsCommandOf g) })
   few_from (line ∷ ls) number cs e = few_by line ls number (λ ds f. few_from ls (number + 1) ds f) cs e (is_passed line) refl
 
-  -- a script has a million commands at most, of a million turns each
-  pub few_turns : (text : List ℕ) (cs : List Command) → script_in g text ≡ Ok cs → sum_by turns_of cs ≤ 10 ^ 18
-  few_turns text cs e = by (is_too_long text) refl
+  script_few : (text : List ℕ) (cs : List Command) → script_in g text ≡ Ok cs → AreFew g cs (command_lines (lines text)) × (command_lines (lines text) ≤ 1000000)
+  script_few text cs e = by (is_too_long text) refl
     where
       either_false : (a b : Bool) → (a || b) ≡ false → b ≡ false
       either_false true b h = absurd cc
@@ -76,12 +78,22 @@ module _ (g : Generated) (only : CommandsOnly) where
       within : (n : ℕ) → nat_lt 1000000 n ≡ false → n ≤ 1000000
       within n h = grind (arith, nat_tests, h)
 
+      by : (b : Bool) → is_too_long text ≡ b → AreFew g cs (command_lines (lines text)) × (command_lines (lines text) ≤ 1000000)
+      by true long = absurd (let no = sym (ap (λ (b : Bool). script_by b (line_in g) text) long) ∙ e in cc)
+      by false short = (
+        few_from (lines text) 1 cs (sym (ap (λ (b : Bool). script_by b (line_in g) text) short) ∙ e),
+        within (command_lines (lines text)) (either_false (nat_lt 16777216 (length text)) (nat_lt 1000000 (command_lines (lines text))) short),
+      )
+
+  -- a script has a million commands at most, of a million turns each
+  pub few_turns : (text : List ℕ) (cs : List Command) → script_in g text ≡ Ok cs → sum_by turns_of cs ≤ 10 ^ 18
+  few_turns text cs e =
+      let few = script_few text cs e in
+      product (length cs) (sum_by turns_of cs) (omega (arith, few.0.count, few.1)) (sum_by-le turns_of 1000000 cs few.0.short)
+    where
       product : (n m : ℕ) → n ≤ 1000000 → m ≤ n * 1000000 → m ≤ 10 ^ 18
       product n m h k = omega (arith, h, k)
 
-      by : (b : Bool) → is_too_long text ≡ b → sum_by turns_of cs ≤ 10 ^ 18
-      by true long = absurd (let no = sym (ap (λ (b : Bool). script_by b (line_in g) text) long) ∙ e in cc)
-      by false short =
-          let few = few_from (lines text) 1 cs (sym (ap (λ (b : Bool). script_by b (line_in g) text) short) ∙ e) in
-          let most = within (command_lines (lines text)) (either_false (nat_lt 16777216 (length text)) (nat_lt 1000000 (command_lines (lines text))) short) in
-          product (length cs) (sum_by turns_of cs) (omega (arith, few.count, most)) (sum_by-le turns_of 1000000 cs few.short)
+  -- its names are those of the generation
+  pub script_names : (text : List ℕ) (cs : List Command) → script_in g text ≡ Ok cs → All (IsCommandOf g) cs
+  script_names text cs e = (script_few text cs e).0.known

@@ -12,12 +12,12 @@ use Rattle.laws_of_jobs.specs.ManyRuns.{AllRunsKeepJobs}
 use Rattle.laws_of_jobs.specs.QueueLaws.{JobsAreDoneOnce}
 use Rattle.laws_of_jobs.specs.ResumeLaws.{CutsResume}
 use Rattle.laws_of_jobs.specs.SerialCuts.{CutsAreSerial}
-use Rattle.device_run.specs.DurableLaws.{durable_same}
 use Rattle.utm_cli.specs.Asking.{Errand, CanRun, app_of}
 use Rattle.utm_cli.specs.Doing.{Opens, StartsBy, Starts}
 use Rattle.utm_cli.specs.declared.words.Word.{Word}
 use Rattle.utm_cli.specs.declared.words.Word.TheVariants.{Gen, Run, Show, Make}
 use Rattle.utm_cli.specs.Promise.{RunsLawfully}
+use Rattle.laws_of_tables.specs.EndsLaws.{durable_same}
 
 opened : (e : Errand) (bytes : List ℕ) (t : TableRows) → Opens e bytes t → IsSortedTables t × Suits e.application.generation t
 opened e bytes t (inl (empty, is)) = (subst IsSortedTables (sym is) empty_sorted, subst (Suits e.application.generation) (sym is) (empty_suit e.application.generation))

@@ -34,9 +34,9 @@ use Rattle.utm_cli.specs.declared.words.Word.{Word}
 use Rattle.utm_cli.specs.declared.words.Word.TheVariants.{Gen, Run, Show, Make}
 use Rattle.utm_cli.specs.Causes.{of_room, of_application, of_fault}
 use Rattle.utm_cli.specs.Words.{definition_name, units_name, script_name}
-use Rattle.utm_cli.specs.MadeTexts.{definition_text as made_definition, units_text as made_units, script_text as made_script}
 use Rattle.utm_cli.specs.Doing.{IsOverFile}
 use Rattle.utm_cli.specs.Asking.{shown_of, IsLong, AreAlike, Reading, AskFor, TextIs, ScriptIs, WereRead, ReadsFor}
+use Rattle.std.proofs.lemmas.Option.{same_Some}
 
 -- ---- texts longer than the limit
 
@@ -125,9 +125,6 @@ pub some_and : {X : Type 0} (o : Option X) (P : X → Type 0) → IsSomeAnd o P 
 some_and None P h = absurd h
 some_and (Some x) P h = (x, refl, h)
 
-same_some : {X : Type 0} (x y : X) → Some x ≡ Some y → x ≡ y
-same_some x y e = cc
-
 -- the script of a word, in a room with the same texts
 pub script_there : (word : Word) (base : List ℕ) (r k : RoomState) (s : List ℕ) → k.texts ≡ r.texts → ScriptIs word base k s → ScriptIs word base r s
 script_there Gen base r k s same h = h
@@ -137,7 +134,7 @@ script_there Run base r k s same h = subst (λ (texts : List (List ℕ × List �
 
 one_script : (word : Word) (base : List ℕ) (r : RoomState) (s t : List ℕ) → ScriptIs word base r s → ScriptIs word base r t → s ≡ t
 one_script Gen base r s t h k = h ∙ sym k
-one_script Run base r s t h k = same_some s t (sym h ∙ k)
+one_script Run base r s t h k = same_Some s t (sym h ∙ k)
 one_script Show base r s t h k = h ∙ sym k
 one_script (Make n) base r s t h k = h ∙ sym k
 
@@ -149,9 +146,9 @@ text_is Show over r name made s h = h
 text_is (Make n) over r name made s h = absurd over
 
 one_text : (word : Word) (r : RoomState) (name : List ℕ) (made : ℕ → List ℕ) (s t : List ℕ) → TextIs word r name made s → TextIs word r name made t → s ≡ t
-one_text Gen r name made s t h k = same_some s t (sym h ∙ k)
-one_text Run r name made s t h k = same_some s t (sym h ∙ k)
-one_text Show r name made s t h k = same_some s t (sym h ∙ k)
+one_text Gen r name made s t h k = same_Some s t (sym h ∙ k)
+one_text Run r name made s t h k = same_Some s t (sym h ∙ k)
+one_text Show r name made s t h k = same_Some s t (sym h ∙ k)
 one_text (Make n) r name made s t h k = h ∙ sym k
 
 -- three reads after one another: k is the room after the first, l the one after the second
@@ -189,18 +186,6 @@ read_same word base r d e u v s t definition units text read = record {
   text_is = subst (λ (l : List ℕ). AreAlike l read.text) (sym text) read.text_is;
 }
 
--- the made texts, which are read whole
-pub made_read : (n : ℕ) (base : List ℕ) (r : RoomState) (d u s : List ℕ) → d ≡ made_definition → u ≡ made_units → s ≡ made_script n → WereRead (Make n) base r d u s
-made_read n base r d u s definition units script = record {
-  definition = made_definition;
-  units = made_units;
-  text = made_script n;
-  there = record { definition_is = refl; units_is = refl; script_is = refl };
-  definition_is = inl definition;
-  units_are = inl units;
-  text_is = inl script;
-}
-
 module _ (word : Word) (base : List ℕ) (r : RoomState) (d u s : List ℕ) (read : WereRead word base r d u s) where
   -- what is said of the texts that were read is said of those that are there
   pub reads_for : (said : Reading) → AskFor word d u s said → ReadsFor word base r said
@@ -229,13 +214,6 @@ application_is T (Err x) (application.Definition f) why gives is = (λ e. cc, cc
 application_is T (Err x) (application.Units f) why gives is = (λ e. cc, cc)
 application_is T (Err x) (application.Fit f) why gives is = (λ e. cc, cc)
 application_is T (Err x) application.Memory why gives is = absurd (let h : error.Memory ≡ error.Refused why = cc in cc)
-
-pub never_room : (T : Type 0) (r : Result T TextError) (e : ApplicationFault) → IsErrAnd r (λ x. x ≡ of_application e) → IsErrOf r error.Room → ⊥
-never_room T (Ok v) e gives is = absurd gives
-never_room T (Err x) (application.Definition f) gives is = cc
-never_room T (Err x) (application.Units f) gives is = cc
-never_room T (Err x) (application.Fit f) gives is = cc
-never_room T (Err x) application.Memory gives is = cc
 
 pub script_is : (T : Type 0) (r : Result T TextError) (e : ScriptFault) (why : Refusal) → IsErrAnd r (λ x. x ≡ of_fault e) → IsErrOf r (error.Refused why) → (e ≢ fault.Memory) × (Script e ≡ why)
 script_is T (Ok v) e why gives is = absurd gives

@@ -42,6 +42,10 @@ AskFor word definition units text (Ok e) =
 AskFor word definition units text (Err (Application fault)) = TextsHaveFault definition units fault
 AskFor word definition units text (Err (Script fault)) = (a : Made) × TextsGenerate definition units a × (script_in a.generation text ≡ Err fault)
 
+-- no read of the room failed
+abbrev pub NoReadFailed : (old new : RoomState) → Type 0
+NoReadFailed old new = new.faults ≡ old.faults
+
 -- a text of a word: the room's of this name, or for `make` the made one
 abbrev pub TextIs : Word → RoomState → (name : List ℕ) → (made : ℕ → List ℕ) → List ℕ → Type 0
 TextIs Gen room name made text = text_of name room.texts ≡ Some text
@@ -101,3 +105,7 @@ pub record CanRun (e : Errand) : Type 0 where
   pub names : IsScriptOf (app_of e) e.commands
   -- no more turns and commands than a monitor counts
   pub turns : sum_by turns_of e.commands ≤ 10 ^ 18
+
+-- what texts ask for can run
+abbrev pub TextsCanRun : Type 0
+TextsCanRun = (word : Word) (definition units text : List ℕ) (e : Errand) → AskFor word definition units text (Ok e) → CanRun e

@@ -4,6 +4,10 @@ pub mod Asking
 pub mod Doing
 pub mod Causes
 pub mod Promise
+pub mod Parts
 pub mod MadeTexts
 pub mod MadeReport
 pub mod MadeExamples
+pub mod MadeApplication
+pub mod EmittedLines
+pub mod MadeReading

@@ -1,7 +1,7 @@
 -- The words in which the top call promises.
-use Rattle.std.specs.Prelude.{◌≡◌, ⊤, ◌⊎◌, ℕ, nat_eq, IsTrue, List, [], ◌∷◌, ◌++◌, take, Some, None}
+use Rattle.std.specs.Prelude.{◌≡◌, ⊤, ◌⊎◌, ℕ, ◌<◌, nat_eq, true, IsTrue, List, [], ◌∷◌, ◌++◌, take, Some, None, Ok, Err}
 use Rattle.std.specs.List.{list_any}
-use Rattle.kd_device.specs.Device.{State, LeavesOnly, Only}
+use Rattle.kd_device.specs.Device.{State, Rose, SameDiskFaults, SameLineFaults, LeavesOnly, Only}
 use Rattle.kd_device.specs.Room.{RoomState, text_of}
 use Rattle.kd_records.specs.Identity.{Identity}
 use Rattle.kdcfile_images.specs.File.{IsNoImage}
@@ -18,13 +18,15 @@ use Rattle.laws_of_jobs.specs.QueueLaws.{JobsAreKept}
 use Rattle.laws_of_jobs.specs.ResumeLaws.{CutResumes}
 use Rattle.laws_of_jobs.specs.SerialCuts.{IsSerialCut}
 use Rattle.warm_start.specs.Stands.{StandsForTables}
-use Rattle.device_acts.specs.Said.{Said, SaidPart}
+use Rattle.device_acts.specs.Performing.{commits_nothing}
+use Rattle.device_acts.specs.Said.{SameDisk, Said, SaidPart}
 use Rattle.device_run.specs.Running.{IsCutSince}
+use Rattle.utm_cli.specs.declared.error.Refusal.{Refusal}
 use Rattle.utm_cli.specs.declared.words.Word.{Word}
 use Rattle.utm_cli.specs.declared.words.Word.TheVariants.{Gen, Run, Show, Make}
-use Rattle.utm_cli.specs.Words.{request_of, definition_name, units_name, script_name, file_name}
-use Rattle.utm_cli.specs.Asking.{Errand, Reading, ReadsFor}
-use Rattle.utm_cli.specs.Doing.{identity_of, acts_of}
+use Rattle.utm_cli.specs.Words.{request_of, definition_name, units_name, script_name, file_name, status_of, refusal_line, not_a_kdcfile_line, other_generation_line}
+use Rattle.utm_cli.specs.Asking.{Errand, Reading, ReadsFor, NoReadFailed}
+use Rattle.utm_cli.specs.Doing.{Starts, Refuses, IsOfOthers, identity_of, acts_of}
 
 -- the status is one of these
 abbrev pub IsOneOf : List ℕ → ℕ → Type 0
@@ -148,3 +150,107 @@ MayHandOn word name a b = (b.names ≡ a.names) ⊎ HandsOn word name a b
 -- what was handed to attach where all is done: the file of the BASE, and for `make` none
 abbrev pub AttachedBy : Word → List ℕ → State → State → Type 0
 AttachedBy word base a b = HandsOn word (file_name base) a b
+
+-- ---- a call
+
+-- what a call is given: its words, the texts of its room, and its device with the file
+pub record Call : Type 0 where
+  pub words : List (List ℕ)
+  pub room : RoomState
+  pub device : State
+
+abbrev pub call : List (List ℕ) → RoomState → State → Call
+call words room device = record { words = words; room = room; device = device }
+
+-- the words are none of the forms
+abbrev pub AsksNothing : List (List ℕ) → Type 0
+AsksNothing words = request_of words ≡ None
+
+-- the room tells, and the words and the texts ask for no errand
+pub record NoErrand (c : Call) : Type 0 where
+  pub told : IsTrue c.room.told
+  pub none : (e : Errand) → Reads c.words c.room (Ok e) → ⊥
+
+-- what holds of the errand that the words and the texts ask for
+abbrev pub ForErrand : Call → (Errand → Type 0) → Type 0
+ForErrand c P = IsTrue c.room.told → (e : Errand) → Reads c.words c.room (Ok e) → P e
+
+-- what holds of the fault for which the texts are refused
+abbrev pub ForRefusal : Call → (Refusal → Type 0) → Type 0
+ForRefusal c P = IsTrue c.room.told → (why : Refusal) → Reads c.words c.room (Err why) → P why
+
+-- what holds where the file is refused for its bytes
+abbrev pub ForNoKdcfile : Call → Type 0 → Type 0
+ForNoKdcfile c P = IsTrue c.room.told → IsTrue c.device.told → (e : Errand) → Reads c.words c.room (Ok e) → Refuses e c.device.holds → P
+
+-- what holds of the fingerprint of the other texts that the file was made with
+abbrev pub ForOthers : Call → (List ℕ → Type 0) → Type 0
+ForOthers c P = IsTrue c.room.told → IsTrue c.device.told → (e : Errand) → Reads c.words c.room (Ok e) → (stored : List ℕ) → IsOfOthers stored e c.device.holds → P stored
+
+-- what holds of the errand, and of the tables that it starts from, where the file is accepted
+abbrev pub ForStart : Call → (Errand → TableRows → Type 0) → Type 0
+ForStart c P = IsTrue c.room.told → IsTrue c.device.told → (e : Errand) (t : TableRows) → Reads c.words c.room (Ok e) → Starts e c.device.holds t → P e t
+
+-- the same, where a stop before the call leaves just the file
+abbrev pub ForSettledStart : Call → (ℕ → List ℕ → List ℕ → Type 0) → (Errand → TableRows → Type 0) → Type 0
+ForSettledStart c la P =
+    IsTrue c.room.told → IsTrue c.device.told → Only c.device.holds c.device la → (e : Errand) (t : TableRows) → Reads c.words c.room (Ok e) → Starts e c.device.holds t → P e t
+
+-- ---- what became of it
+
+-- a call of the disk or of the line failed
+abbrev pub CallFailed : (a b : State) → Type 0
+CallFailed a b = Rose a.disk_faults b.disk_faults ⊎ Rose a.line_faults b.line_faults
+
+-- no count of faults rose
+pub record NoneFailed (r s : RoomState) (a b : State) : Type 0 where
+  pub room : NoReadFailed r s
+  pub disk : SameDiskFaults a b
+  pub line : SameLineFaults a b
+
+-- a front of this line was sent, and nothing else
+abbrev pub SaysPart : List ℕ → (a b : State) → Type 0
+SaysPart line a b = IsTrue a.told → SaidPart line a b
+
+-- where a call of the line failed, the status is 5
+abbrev pub TellsFailure : (code : ℕ) → (a b : State) → Type 0
+TellsFailure code a b = a.line_faults < b.line_faults → code ≡ 5
+
+-- the texts were refused with this status, and the line of their fault was sent
+abbrev pub SaysRefusal : Call → (code : ℕ) → State → Type 0
+SaysRefusal c code b =
+    IsTrue c.room.told → (why : Refusal) × Reads c.words c.room (Err why) × (code ≡ status_of why) × (IsTrue c.device.told → Said (refusal_line why) c.device b)
+
+-- the file is refused for its bytes or for its other texts, and the line that says which was sent
+abbrev pub SaysWhich : Errand → (a b : State) → Type 0
+SaysWhich e a b =
+    (Refuses e a.holds × Said not_a_kdcfile_line a b) ⊎ ((stored : List ℕ) × IsOfOthers stored e a.holds × Said (other_generation_line stored) a b)
+
+abbrev pub SaysFile : Call → State → Type 0
+SaysFile c b = (e : Errand) × (IsTrue c.room.told → Reads c.words c.room (Ok e)) × (IsTrue c.device.told → SaysWhich e c.device b)
+
+-- all was done that the words and the texts ask for
+abbrev pub HasDone : Call → State → (ℕ → List ℕ → List ℕ → Type 0) → Type 0
+HasDone c b lb =
+    IsTrue c.room.told → IsTrue c.device.told → (e : Errand) × Reads c.words c.room (Ok e) × (t : TableRows) × Starts e c.device.holds t × Ran e t c.device b lb
+
+-- where no call of the device failed and no read did, or the room is sure, all was done or memory ran out
+abbrev pub Completes : (code : ℕ) → (r s : RoomState) → (a b : State) → Type 0
+Completes code r s a b =
+    (Rose a.disk_faults b.disk_faults → ⊥) → (Rose a.line_faults b.line_faults → ⊥) → (Rose r.faults s.faults → ⊥) ⊎ IsTrue r.sure → IsOneOf (0 ∷ 7 ∷ []) code
+
+-- what a stop since the call leaves is a cut of what was asked for
+abbrev pub LeavesCuts : Errand → TableRows → State → (ℕ → List ℕ → List ℕ → Type 0) → Type 0
+LeavesCuts e t a lb = (image out : List ℕ) → lb a.moment image out → IsCutOfRun e t a image out
+
+-- acts that commit nothing leave the file as it was
+abbrev pub LeavesLines : Errand → TableRows → (a b : State) → Type 0
+LeavesLines e t a b = commits_nothing (acts_of e t) ≡ true → SameDisk a b
+
+-- an empty file too, where the word makes none
+abbrev pub LeavesFile : Errand → TableRows → (a b : State) → Type 0
+LeavesFile e t a b = (MakesFile e.word → a.holds ≡ [] → ⊥) → LeavesLines e t a b
+
+-- the file of the BASE was handed to attach; for `make` none
+abbrev pub Attaches : List (List ℕ) → (a b : State) → Type 0
+Attaches words a b = (word : Word) × ((base : List ℕ) × Request words word base × AttachedBy word base a b)

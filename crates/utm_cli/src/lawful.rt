@@ -1,20 +1,30 @@
-//! The laws that the script of a call keeps.
-ghost use Rattle.std.specs.Prelude.{List, ℕ};
+//! The laws that what a call asks for keeps.
+ghost use Rattle.std.specs.Prelude.{List, ℕ, Ok};
+ghost use Rattle.kd_device.specs.Room.{RoomState};
 ghost use Rattle.kdcs_types.specs.Tables.{TableRows};
-ghost use Rattle.utm_cli.specs.{Asking.{CanRun, app_of}, Doing.{Starts}, Promise.{RunsLawfully}};
+ghost use Rattle.utm_cli.specs.{Asking.{Errand, TextsCanRun, app_of}, Doing.{Starts}, Promise.{Reads, RunsLawfully}};
 
-use crate::reading::Errand;
+use application_read::generations_are_sound;
 use laws_of_jobs::{
     cuts_are_serial, cuts_resume, jobs_are_done_once, runs_are_lawful, runs_keep_jobs,
 };
 use laws_of_runs::facts_hold_along_every_script;
+use script_read::commands_are_said;
+
+/// Texts that ask for something make an application, with a script of its names. It does nothing.
+pub(crate) fn texts_can_run()
+    ensures { TextsCanRun }
+{
+    generations_are_sound();
+    commands_are_said();
+}
 
 /// From the tables that a file stands for, each step of the script is lawful and keeps jobs, each cut of it can be gone on
 /// from and is stored by a serial run, and runs one after another keep jobs too. It does nothing.
-pub(crate) fn scripts_run_lawfully(asked: &Errand)
-    requires can { CanRun asked.now }
-    ensures { (bytes : List ℕ) (t : TableRows) → Starts asked.now bytes t → RunsLawfully (app_of asked.now) t asked.now.commands }
+pub(crate) fn scripts_run_lawfully()
+    ensures { (words : List (List ℕ)) (room : RoomState) (e : Errand) → Reads words room (Ok e) → (bytes : List ℕ) (t : TableRows) → Starts e bytes t → RunsLawfully (app_of e) t e.commands }
 {
+    texts_can_run();
     facts_hold_along_every_script();
     runs_are_lawful();
     jobs_are_done_once();

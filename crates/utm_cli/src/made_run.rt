@@ -11,4 +11,5 @@ mod report;
 mod stored;
 
 pub(crate) use input::{MadeInput, made};
+pub(crate) use laws::made_texts_are_taken;
 pub(crate) use report::made_report;

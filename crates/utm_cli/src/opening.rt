@@ -1,10 +1,10 @@
 //! The KDCFILE of a BASE is attached and opened.
 ghost use Rattle.std.specs.Prelude.{◌≡◌, ◌++◌, ◌∷◌, [], List, ℕ, IsTrue, IfOk, OnOk, IsErrOf};
-ghost use Rattle.kd_device.specs.{Device.{Rose, Frame, LeavesOnly}, Rest.{Rests}};
+ghost use Rattle.kd_device.specs.{Device.{Rose, Frame}, Rest.{Rests}};
 ghost use Rattle.kdcfile_store.specs.{Kept.{IsKept}, Whole.{HasFile}};
 ghost use Rattle.laws_of_steps.specs.Suits.{Suits};
-ghost use Rattle.warm_start.specs.{Stands.{KeepsTables, identity_for}, Opening.{StartsFrom, IsRefused, IsOfOtherTexts, IsOpening}};
-ghost use Rattle.utm_cli.specs.Promise.{MayAttach};
+ghost use Rattle.warm_start.specs.{Stands.{KeepsTables, identity_for}, Opening.{StartsFrom, IsRefused, IsOfOtherTexts}};
+ghost use Rattle.utm_cli.specs.{Promise.{MayAttach}, Parts.{LeavesOpening}};
 
 use kd_device::Device;
 use kdcdef_check::Generation;
@@ -46,8 +46,7 @@ pub(crate) fn open<D: Device>(
     // A file that is not empty stays as it is.
     ensures still { IsTrue (D.state device.old).told → ((D.state device.old).holds ≡ [] → ⊥) → Rests (D.state device.old) (D.state device.new) (D.leaves device.old) (D.leaves device.new) }
     ensures sent { IsTrue (D.state device.old).told → (D.state device.new).sent ≡ (D.state device.old).sent }
-    ensures any_moment { IsTrue (D.state device.old).told
-        → LeavesOnly (D.state device.old) (D.state device.new) (D.leaves device.old) (D.leaves device.new) (IsOpening (identity_for generation.now fingerprint.now) (D.state device.old) (D.leaves device.old)) }
+    ensures any_moment { LeavesOpening (identity_for generation.now fingerprint.now) (D.state device.old) (D.state device.new) (D.leaves device.old) (D.leaves device.new) }
 
     ensures names { IsTrue (D.state device.old).told → MayAttach name.now (D.state device.old) (D.state device.new) }
     ensures named { OnOk result (IsTrue (D.state device.old).told → (D.state device.new).names ≡ (D.state device.old).names ++ name.now ∷ []) }

@@ -1,12 +1,13 @@
 //! The texts of a call, read from the room, and what they say.
-ghost use Rattle.std.specs.Prelude.{◌≡◌, ◌++◌, List, ℕ, IsTrue, IfOk, IsErrOf, IsSome, IsSomeAnd, Ok, Err};
+ghost use Rattle.std.specs.Prelude.{◌≡◌, ◌++◌, List, ℕ, IsTrue, IfOk, OnOk, IsErrOf, IsSome, IsSomeAnd, Ok, Err};
 ghost use Rattle.kd_device.specs.{Device.{Rose}, Room.{SameRoom, text_of}};
-ghost use Rattle.utm_cli.specs.{Asking.{Reading, AskFor, CanRun, ScriptIs, ReadsFor, AreThere, WereRead, shown_of}, Doing.{IsOverFile}, Words.{IsForm}, declared.error.Refusal.{Refusal}};
+ghost use Rattle.utm_cli.specs.{Asking.{NoReadFailed, Reading, AskFor, CanRun, ScriptIs, ReadsFor, AreThere, WereRead, shown_of}, Doing.{IsOverFile}, Words.{IsForm}, declared.error.Refusal.{Refusal}};
 ghost use Rattle.utm_cli.specs.MadeTexts.{definition_text as made_definition, units_text as made_units, script_text as made_script};
+ghost use Rattle.utm_cli.specs.{MadeApplication.{AreMade}, declared.words.Word.TheVariants.{Make}};
 ghost use Rattle.kdcdef_types.specs.Statements.{IsWithin};
 
 use crate::error::TextError;
-use crate::made_run::made;
+use crate::made_run::{made, made_texts_are_taken};
 use crate::text::named;
 use crate::words::Word;
 use abstract_monitor::Command;
@@ -56,6 +57,8 @@ fn text<R: Room>(
     ensures value { IfOk result (λ text. IsTrue (R.room room.old).told → IsSomeAnd (text_of (base.now ++ ending.now) (R.room room.old).texts) (λ whole. text.items ≡ shown_of whole)) }
     ensures room { IsErrOf result DeviceError.Failed → Rose (R.room room.old).faults (R.room room.new).faults }
     ensures sure { IsTrue (R.room room.old).sure → IsSome (text_of (base.now ++ ending.now) (R.room room.old).texts) → IsErrOf result DeviceError.Failed → ⊥ }
+    ensures fine { OnOk result (NoReadFailed (R.room room.old) (R.room room.new)) }
+    ensures memory { IsErrOf result DeviceError.Memory → NoReadFailed (R.room room.old) (R.room room.new) }
     ensures same { SameRoom (R.room room.old) (R.room room.new) }
 {
     let Ok(name) = named(alloc, base, ending) else {
@@ -75,6 +78,8 @@ fn script_text<R: Room>(
     ensures value { IfOk result (λ text. IsTrue (R.room room.old).told → (whole : List ℕ) × ScriptIs word base.now (R.room room.old) whole × (text.items ≡ shown_of whole)) }
     ensures room { IsErrOf result DeviceError.Failed → Rose (R.room room.old).faults (R.room room.new).faults }
     ensures sure { IsTrue (R.room room.old).sure → (whole : List ℕ) → ScriptIs word base.now (R.room room.old) whole → IsErrOf result DeviceError.Failed → ⊥ }
+    ensures fine { OnOk result (NoReadFailed (R.room room.old) (R.room room.new)) }
+    ensures memory { IsErrOf result DeviceError.Memory → NoReadFailed (R.room room.old) (R.room room.new) }
     ensures same { SameRoom (R.room room.old) (R.room room.new) }
 {
     match word {
@@ -94,6 +99,8 @@ fn room_texts<R: Room>(
     ensures read { IfOk result (λ t. IsTrue (R.room room.old).told → WereRead word base.now (R.room room.old) t.definition.items t.units.items t.script.items) }
     ensures room { IsErrOf result DeviceError.Failed → Rose (R.room room.old).faults (R.room room.new).faults }
     ensures sure { IsTrue (R.room room.old).sure → (definition units text : List ℕ) → AreThere word base.now (R.room room.old) definition units text → IsErrOf result DeviceError.Failed → ⊥ }
+    ensures fine { OnOk result (NoReadFailed (R.room room.old) (R.room room.new)) }
+    ensures memory { IsErrOf result DeviceError.Memory → NoReadFailed (R.room room.old) (R.room room.new) }
     ensures same { SameRoom (R.room room.old) (R.room room.new) }
 {
     let definition = text(alloc, room, base, b".def")?;
@@ -132,7 +139,13 @@ fn texts_of<R: Room>(
     ensures read { IfOk result (λ t. IsTrue (R.room room.old).told → WereRead word base.now (R.room room.old) t.definition.items t.units.items t.script.items) }
     ensures room { IsErrOf result DeviceError.Failed → Rose (R.room room.old).faults (R.room room.new).faults }
     ensures sure { IsTrue (R.room room.old).sure → (definition units text : List ℕ) → AreThere word base.now (R.room room.old) definition units text → IsErrOf result DeviceError.Failed → ⊥ }
+    ensures fine { OnOk result (NoReadFailed (R.room room.old) (R.room room.new)) }
+    ensures memory { IsErrOf result DeviceError.Memory → NoReadFailed (R.room room.old) (R.room room.new) }
     ensures same { SameRoom (R.room room.old) (R.room room.new) }
+
+    // Those of `make` are there, whatever the room.
+    ensures made { (n : ℕ) → word ≡ Make n → IfOk result (λ t. AreMade n t.definition.items t.units.items t.script.items) }
+    ensures made_there { (n : ℕ) → word ≡ Make n → IsErrOf result DeviceError.Failed → ⊥ }
 {
     match word {
         Word::Gen | Word::Run | Word::Show => room_texts(alloc, room, word, base),
@@ -158,7 +171,11 @@ fn asked_of(
     ensures refused { (why : Refusal) → IsErrOf result (TextError.Refused why) → AskFor word definition.now units.now script.now (Err why) }
     ensures refused_one { (why : Refusal) → IsErrOf result (TextError.Refused why) → (said : Reading) → AskFor word definition.now units.now script.now said → said ≡ Err why }
     ensures never { IsErrOf result TextError.Room → ⊥ }
+
+    // The made texts are not refused.
+    ensures made { (n : ℕ) → IsWithin 1 20000 n → AreMade n definition.now units.now script.now → (why : Refusal) → IsErrOf result (TextError.Refused why) → ⊥ }
 {
+    made_texts_are_taken();
     let application = read_application(alloc, definition, units)?;
     let commands = read_script(alloc, &application.generation, script)?;
     fitted_units_make_an_application(&application.generation, &application.units);
@@ -187,7 +204,14 @@ pub(crate) fn read_texts<R: Room>(
     ensures refused_one { (why : Refusal) → IsErrOf result (TextError.Refused why) → IsTrue (R.room room.old).told → (said : Reading) → ReadsFor word base.now (R.room room.old) said → said ≡ Err why }
     ensures room { IsErrOf result TextError.Room → Rose (R.room room.old).faults (R.room room.new).faults }
     ensures sure { IsTrue (R.room room.old).sure → (definition units text : List ℕ) → AreThere word base.now (R.room room.old) definition units text → IsErrOf result TextError.Room → ⊥ }
+    ensures fine { OnOk result (NoReadFailed (R.room room.old) (R.room room.new)) }
+    ensures memory { IsErrOf result TextError.Memory → NoReadFailed (R.room room.old) (R.room room.new) }
+    ensures refused_fine { (why : Refusal) → IsErrOf result (TextError.Refused why) → NoReadFailed (R.room room.old) (R.room room.new) }
     ensures same { SameRoom (R.room room.old) (R.room room.new) }
+
+    // Those of `make` are read and not refused, whatever the room.
+    ensures made { (n : ℕ) → word ≡ Make n → (why : Refusal) → IsErrOf result (TextError.Refused why) → ⊥ }
+    ensures made_there { (n : ℕ) → word ≡ Make n → IsErrOf result TextError.Room → ⊥ }
 {
     let texts = texts_of(alloc, room, word, base)?;
     asked_of(alloc, word, &texts.definition, &texts.units, &texts.script)

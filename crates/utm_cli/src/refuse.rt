@@ -1,8 +1,8 @@
 //! A call that is refused sends one line, and does nothing else.
 ghost use Rattle.std.specs.{Prelude.{◌≡◌, ◌∷◌, [], IsTrue, IfOk}, String.{string_bytes}};
-ghost use Rattle.kd_device.specs.Device.{Rose, Frame, SameNames};
+ghost use Rattle.kd_device.specs.Device.{Rose, Frame, SameDiskFaults, SameNames};
 ghost use Rattle.device_acts.specs.Said.{Said, SaidPart};
-ghost use Rattle.utm_cli.specs.{Promise.{IsOneOf}, Words.{fault_line, application_line, refusal_line, status_of, other_generation_line}};
+ghost use Rattle.utm_cli.specs.{Promise.{IsOneOf, TellsFailure}, Words.{fault_line, application_line, refusal_line, status_of, other_generation_line}};
 
 use crate::error::Refusal;
 use crate::status::Status;
@@ -19,6 +19,8 @@ pub(crate) fn refuse<D: Device>(device: &mut D, line: &[u8], status: Status) -> 
     ensures said { result.code ≡ status.code → IsTrue (D.state device.old).told → Said line.now (D.state device.old) (D.state device.new) }
     ensures part { IsTrue (D.state device.old).told → SaidPart line.now (D.state device.old) (D.state device.new) }
     ensures failed { result.code ≡ 5 → Rose (D.state device.old).line_faults (D.state device.new).line_faults }
+    ensures told { TellsFailure result.code (D.state device.old) (D.state device.new) }
+    ensures disk { SameDiskFaults (D.state device.old) (D.state device.new) }
     ensures frame { Frame (D.state device.old) (D.state device.new) }
     ensures names { SameNames (D.state device.old) (D.state device.new) }
 {
@@ -79,6 +81,8 @@ pub(crate) fn refuse_texts<D: Device>(alloc: Global, device: &mut D, why: Refusa
     ensures said { IsOneOf (2 ∷ 3 ∷ []) result.code → (result.code ≡ status_of why) × (IsTrue (D.state device.old).told → Said (refusal_line why) (D.state device.old) (D.state device.new)) }
     ensures part { IsTrue (D.state device.old).told → SaidPart (refusal_line why) (D.state device.old) (D.state device.new) }
     ensures failed { result.code ≡ 5 → Rose (D.state device.old).line_faults (D.state device.new).line_faults }
+    ensures told { TellsFailure result.code (D.state device.old) (D.state device.new) }
+    ensures disk { SameDiskFaults (D.state device.old) (D.state device.new) }
     ensures frame { Frame (D.state device.old) (D.state device.new) }
     ensures names { SameNames (D.state device.old) (D.state device.new) }
 {

@@ -1,15 +1,16 @@
 //! What a call does over the KDCFILE.
-ghost use Rattle.std.specs.Prelude.{◌≡◌, ◌⊎◌, ◌++◌, ◌∷◌, [], List, ℕ, IsTrue, true, OnOk, IsErrOf};
-ghost use Rattle.kd_device.specs.{Device.{Rose, Frame, SameNames, LeavesOnly, Only}, Rest.{Rests}};
+ghost use Rattle.std.specs.Prelude.{◌≡◌, ◌++◌, ◌∷◌, [], List, ℕ, IsTrue, OnOk, IsErrOf};
+ghost use Rattle.kd_device.specs.{Device.{Rose, Frame, SameNames}, Rest.{Rests}};
 ghost use Rattle.kdcfile_store.specs.{Kept.{IsKept}, Whole.{HasFile}};
 ghost use Rattle.kdcs_types.specs.Tables.{TableRows};
 ghost use Rattle.laws_of_steps.specs.Suits.{Suits};
 ghost use Rattle.kdcdef_types.specs.Statements.{IsWithin};
-ghost use Rattle.abstract_monitor.specs.{Listing.{listing}, Trace.{tables_after}};
-ghost use Rattle.warm_start.specs.{Opening.{IsRefused, IsOfOtherTexts}, Stands.{StandsForTables, KeepsTables}};
-ghost use Rattle.utm_cli.specs.{Words.{IsForm, file_name, not_a_kdcfile_line, other_generation_line}, declared.words.Word.TheVariants.{Gen, Run}, Asking.{CanRun, app_of}, Doing.{Opens, Starts, Refuses, IsOfOthers, identity_of, acts_of}, Promise.{IsOneOf, RanOver, Ran, IsCutOver, IsCutOfRun, SaysFront, MakesFile, MayAttach, MayHandOn, HandsOn, AttachedBy}};
-ghost use Rattle.device_acts.specs.{Said.{SameDisk, Said, SaidPart}, Performing.{Performs, commits_nothing}};
+ghost use Rattle.abstract_monitor.specs.Listing.{listing};
+ghost use Rattle.warm_start.specs.{Opening.{IsRefused, IsOfOtherTexts}, Stands.{KeepsTables}};
+ghost use Rattle.utm_cli.specs.{Words.{IsForm, file_name, not_a_kdcfile_line, other_generation_line}, declared.words.Word.TheVariants.{Gen, Run}, Asking.{CanRun, app_of}, Doing.{Opens, Starts, Refuses, IsOfOthers, identity_of}, Promise.{IsOneOf, Ran, SaysFront, MakesFile, MayAttach, MayHandOn, HandsOn, AttachedBy, CallFailed, LeavesFile, LeavesLines, SaysWhich}, Parts.{PerformsActs, RanActs, RanOpened, ShowsFront, StopsInCut, StopsOverStore}};
+ghost use Rattle.device_acts.specs.Said.{Said, SaidPart};
 ghost use Rattle.utm_cli.specs.MadeReport.{report_of};
+ghost use Rattle.utm_cli.specs.Doing.{IsOverFile};
 
 use crate::made_run::made_report;
 use crate::opening::{look, open};
@@ -20,7 +21,7 @@ use crate::status::Status;
 use crate::text::named;
 use crate::words::Word;
 use application_read::Application;
-use device_acts::{perform_acts, say};
+use device_acts::{do_acts, say};
 use device_run::run_script;
 use kd_device::{Device, DeviceError};
 use kdcfile_store::WholeStore;
@@ -42,12 +43,12 @@ fn perform_report<D: Device>(
 ) -> Result<(), DeviceError>
     requires word { asked.now.word ≡ Gen }
     requires kept { IsTrue (D.state device.old).told → IsKept (HasFile store) (D.state device.old) (D.leaves device.old) }
-    ensures any { (t : TableRows) → KeepsTables (identity_of asked.now) store t → Performs tables_after (StandsForTables (identity_of asked.now)) t (acts_of asked.now t) (D.state device.old) (D.state device.new) (D.leaves device.old) (D.leaves device.new) }
-    ensures done { OnOk result ((t : TableRows) → KeepsTables (identity_of asked.now) store t → IsTrue (D.state device.old).told → RanOver (identity_of asked.now) (acts_of asked.now) t (D.state device.old) (D.state device.new) (D.leaves device.new)) }
-    ensures failed { IsErrOf result DeviceError.Failed → Rose (D.state device.old).disk_faults (D.state device.new).disk_faults ⊎ Rose (D.state device.old).line_faults (D.state device.new).line_faults }
+    ensures any { (t : TableRows) → KeepsTables (identity_of asked.now) store t → PerformsActs asked.now t (D.state device.old) (D.state device.new) (D.leaves device.old) (D.leaves device.new) }
+    ensures done { OnOk result ((t : TableRows) → KeepsTables (identity_of asked.now) store t → RanActs asked.now t (D.state device.old) (D.state device.new) (D.leaves device.new)) }
+    ensures failed { IsErrOf result DeviceError.Failed → CallFailed (D.state device.old) (D.state device.new) }
 {
     let acts = report(alloc, &asked.application.generation)?;
-    perform_acts(alloc, device, &mut store, acts.as_slice())
+    do_acts(alloc, device, &mut store, acts.as_slice())
 }
 
 /// The script, from the tables that an opened store keeps, and how many commits it made.
@@ -63,9 +64,9 @@ fn perform_script<D: Device>(
     requires tables { KeepsTables (identity_of asked) store tables }
     requires suits { Suits asked.application.generation tables }
     requires kept { IsTrue (D.state device.old).told → IsKept (HasFile store) (D.state device.old) (D.leaves device.old) }
-    ensures any { Performs tables_after (StandsForTables (identity_of asked)) tables (acts_of asked tables) (D.state device.old) (D.state device.new) (D.leaves device.old) (D.leaves device.new) }
-    ensures done { OnOk result (IsTrue (D.state device.old).told → RanOver (identity_of asked) (acts_of asked) tables (D.state device.old) (D.state device.new) (D.leaves device.new)) }
-    ensures failed { IsErrOf result OpenError.Failed → Rose (D.state device.old).disk_faults (D.state device.new).disk_faults ⊎ Rose (D.state device.old).line_faults (D.state device.new).line_faults }
+    ensures any { PerformsActs asked tables (D.state device.old) (D.state device.new) (D.leaves device.old) (D.leaves device.new) }
+    ensures done { OnOk result (RanActs asked tables (D.state device.old) (D.state device.new) (D.leaves device.new)) }
+    ensures failed { IsErrOf result OpenError.Failed → CallFailed (D.state device.old) (D.state device.new) }
     ensures refused { IsErrOf result OpenError.NotKdcfile → IsTrue (D.state device.old).told → ⊥ }
     ensures other { (stored : List ℕ) → IsErrOf result (OpenError.OtherGeneration stored) → IsTrue (D.state device.old).told → ⊥ }
 {
@@ -92,9 +93,9 @@ fn perform<D: Device>(
     requires tables { KeepsTables (identity_of asked) store tables }
     requires suits { Suits asked.application.generation tables }
     requires kept { IsTrue (D.state device.old).told → IsKept (HasFile store) (D.state device.old) (D.leaves device.old) }
-    ensures any { Performs tables_after (StandsForTables (identity_of asked)) tables (acts_of asked tables) (D.state device.old) (D.state device.new) (D.leaves device.old) (D.leaves device.new) }
-    ensures done { OnOk result (IsTrue (D.state device.old).told → RanOver (identity_of asked) (acts_of asked) tables (D.state device.old) (D.state device.new) (D.leaves device.new)) }
-    ensures failed { IsErrOf result OpenError.Failed → Rose (D.state device.old).disk_faults (D.state device.new).disk_faults ⊎ Rose (D.state device.old).line_faults (D.state device.new).line_faults }
+    ensures any { PerformsActs asked tables (D.state device.old) (D.state device.new) (D.leaves device.old) (D.leaves device.new) }
+    ensures done { OnOk result (RanActs asked tables (D.state device.old) (D.state device.new) (D.leaves device.new)) }
+    ensures failed { IsErrOf result OpenError.Failed → CallFailed (D.state device.old) (D.state device.new) }
     ensures refused { IsErrOf result OpenError.NotKdcfile → IsTrue (D.state device.old).told → ⊥ }
     ensures other { (stored : List ℕ) → IsErrOf result (OpenError.OtherGeneration stored) → IsTrue (D.state device.old).told → ⊥ }
 {
@@ -117,17 +118,16 @@ fn run_stored<D: Device>(
 ) -> Result<(), OpenError>
     requires stored { MakesFile asked.word }
     requires can { CanRun asked }
-    ensures done { OnOk result (IsTrue (D.state device.old).told → (t : TableRows) × Opens asked (D.state device.old).holds t × RanOver (identity_of asked) (acts_of asked) t (D.state device.old) (D.state device.new) (D.leaves device.new)) }
+    ensures done { OnOk result (RanOpened asked (D.state device.old) (D.state device.new) (D.leaves device.new)) }
     ensures refused { IsErrOf result OpenError.NotKdcfile → IsTrue (D.state device.old).told → IsRefused asked.application.generation asked.fingerprint (D.state device.old).holds }
     ensures other { (stored : List ℕ) → IsErrOf result (OpenError.OtherGeneration stored) → IsTrue (D.state device.old).told → IsOfOtherTexts stored asked.fingerprint (D.state device.old).holds }
-    ensures failed { IsErrOf result OpenError.Failed → Rose (D.state device.old).disk_faults (D.state device.new).disk_faults ⊎ Rose (D.state device.old).line_faults (D.state device.new).line_faults }
+    ensures failed { IsErrOf result OpenError.Failed → CallFailed (D.state device.old) (D.state device.new) }
 
     // A file that the call does not start from stays as it is.
     ensures still { IsTrue (D.state device.old).told → ((t : TableRows) → Opens asked (D.state device.old).holds t → ⊥) → Rests (D.state device.old) (D.state device.new) (D.leaves device.old) (D.leaves device.new) }
 
-    ensures any_moment { IsTrue (D.state device.old).told → Only (D.state device.old).holds (D.state device.old) (D.leaves device.old) → (t : TableRows) → Opens asked (D.state device.old).holds t
-        → LeavesOnly (D.state device.old) (D.state device.new) (D.leaves device.old) (D.leaves device.new) (IsCutOver (identity_of asked) (acts_of asked) t (D.state device.old)) }
-    ensures left { IsTrue (D.state device.old).told → (t : TableRows) → Opens asked (D.state device.old).holds t → ((D.state device.old).holds ≡ [] → ⊥) → commits_nothing (acts_of asked t) ≡ true → SameDisk (D.state device.old) (D.state device.new) }
+    ensures any_moment { StopsOverStore asked (D.state device.old) (D.state device.new) (D.leaves device.old) (D.leaves device.new) }
+    ensures left { IsTrue (D.state device.old).told → (t : TableRows) → Opens asked (D.state device.old).holds t → ((D.state device.old).holds ≡ [] → ⊥) → LeavesLines asked t (D.state device.old) (D.state device.new) }
     ensures names { IsTrue (D.state device.old).told → MayAttach name.now (D.state device.old) (D.state device.new) }
     ensures named { OnOk result (IsTrue (D.state device.old).told → (D.state device.new).names ≡ (D.state device.old).names ++ name.now ∷ []) }
     ensures frame { Frame (D.state device.old) (D.state device.new) }
@@ -147,11 +147,11 @@ fn show_over<D: Device>(
     ensures done { OnOk result (IsTrue (D.state device.old).told → (t : TableRows) × Opens asked.now (D.state device.old).holds t × Said (listing t) (D.state device.old) (D.state device.new)) }
     ensures refused { IsErrOf result OpenError.NotKdcfile → IsTrue (D.state device.old).told → IsRefused asked.now.application.generation asked.now.fingerprint (D.state device.old).holds }
     ensures other { (stored : List ℕ) → IsErrOf result (OpenError.OtherGeneration stored) → IsTrue (D.state device.old).told → IsOfOtherTexts stored asked.now.fingerprint (D.state device.old).holds }
-    ensures failed { IsErrOf result OpenError.Failed → Rose (D.state device.old).disk_faults (D.state device.new).disk_faults ⊎ Rose (D.state device.old).line_faults (D.state device.new).line_faults }
+    ensures failed { IsErrOf result OpenError.Failed → CallFailed (D.state device.old) (D.state device.new) }
 
     // Nothing is said of a file that is not shown, and else a front of its list.
     ensures still { IsTrue (D.state device.old).told → ((t : TableRows) → Opens asked.now (D.state device.old).holds t → ⊥) → Rests (D.state device.old) (D.state device.new) (D.leaves device.old) (D.leaves device.new) }
-    ensures front { IsTrue (D.state device.old).told → (t : TableRows) → Opens asked.now (D.state device.old).holds t → SaysFront (listing t) (D.state device.old) (D.state device.new) (D.leaves device.old) (D.leaves device.new) }
+    ensures front { ShowsFront asked.now (D.state device.old) (D.state device.new) (D.leaves device.old) (D.leaves device.new) }
 
     ensures names { IsTrue (D.state device.old).told → MayAttach name.now (D.state device.old) (D.state device.new) }
     ensures named { OnOk result (IsTrue (D.state device.old).told → (D.state device.new).names ≡ (D.state device.old).names ++ name.now ∷ []) }
@@ -203,17 +203,20 @@ fn run_over<D: Device>(
     ensures done { OnOk result (IsTrue (D.state device.old).told → (t : TableRows) × Starts asked (D.state device.old).holds t × Ran asked t (D.state device.old) (D.state device.new) (D.leaves device.new)) }
     ensures refused { IsErrOf result OpenError.NotKdcfile → IsTrue (D.state device.old).told → Refuses asked (D.state device.old).holds }
     ensures other { (stored : List ℕ) → IsErrOf result (OpenError.OtherGeneration stored) → IsTrue (D.state device.old).told → IsOfOthers stored asked (D.state device.old).holds }
-    ensures failed { IsErrOf result OpenError.Failed → Rose (D.state device.old).disk_faults (D.state device.new).disk_faults ⊎ Rose (D.state device.old).line_faults (D.state device.new).line_faults }
+    ensures failed { IsErrOf result OpenError.Failed → CallFailed (D.state device.old) (D.state device.new) }
 
     // A file that the call does not start from stays as it is.
     ensures still { IsTrue (D.state device.old).told → ((t : TableRows) → Starts asked (D.state device.old).holds t → ⊥) → Rests (D.state device.old) (D.state device.new) (D.leaves device.old) (D.leaves device.new) }
 
-    ensures any_moment { IsTrue (D.state device.old).told → Only (D.state device.old).holds (D.state device.old) (D.leaves device.old) → (t : TableRows) → Starts asked (D.state device.old).holds t
-        → LeavesOnly (D.state device.old) (D.state device.new) (D.leaves device.old) (D.leaves device.new) (IsCutOfRun asked t (D.state device.old)) }
-    ensures left { IsTrue (D.state device.old).told → (t : TableRows) → Starts asked (D.state device.old).holds t → (MakesFile asked.word → (D.state device.old).holds ≡ [] → ⊥) → commits_nothing (acts_of asked t) ≡ true → SameDisk (D.state device.old) (D.state device.new) }
+    ensures any_moment { StopsInCut asked (D.state device.old) (D.state device.new) (D.leaves device.old) (D.leaves device.new) }
+    ensures left { IsTrue (D.state device.old).told → (t : TableRows) → Starts asked (D.state device.old).holds t → LeavesFile asked t (D.state device.old) (D.state device.new) }
     ensures names { IsTrue (D.state device.old).told → MayHandOn asked.word name.now (D.state device.old) (D.state device.new) }
     ensures named { OnOk result (IsTrue (D.state device.old).told → HandsOn asked.word name.now (D.state device.old) (D.state device.new)) }
     ensures frame { Frame (D.state device.old) (D.state device.new) }
+
+    // No other word refuses a file than one that looks into it.
+    ensures looks { IsErrOf result OpenError.NotKdcfile → IsOverFile asked.word }
+    ensures looks_at_other { (stored : List ℕ) → IsErrOf result (OpenError.OtherGeneration stored) → IsOverFile asked.word }
 {
     match asked.word {
         Word::Gen | Word::Run => run_stored(alloc, device, name, asked),
@@ -231,24 +234,25 @@ pub(crate) fn run<D: Device>(alloc: Global, device: &mut D, base: &[u8], asked: 
     // A file that is refused.
     ensures refused { IsTrue (D.state device.old).told → Refuses asked (D.state device.old).holds → IsOneOf (4 ∷ 5 ∷ 7 ∷ []) result.code }
     ensures other { IsTrue (D.state device.old).told → (stored : List ℕ) → IsOfOthers stored asked (D.state device.old).holds → IsOneOf (4 ∷ 5 ∷ 7 ∷ []) result.code }
-    ensures refused_only { result.code ≡ 4 → IsTrue (D.state device.old).told → (Refuses asked (D.state device.old).holds × Said not_a_kdcfile_line (D.state device.old) (D.state device.new))
-        ⊎ ((stored : List ℕ) × IsOfOthers stored asked (D.state device.old).holds × Said (other_generation_line stored) (D.state device.old) (D.state device.new)) }
+    ensures refused_only { result.code ≡ 4 → IsTrue (D.state device.old).told → SaysWhich asked (D.state device.old) (D.state device.new) }
     ensures refused_part { IsTrue (D.state device.old).told → Refuses asked (D.state device.old).holds → SaidPart not_a_kdcfile_line (D.state device.old) (D.state device.new) }
     ensures other_part { IsTrue (D.state device.old).told → (stored : List ℕ) → IsOfOthers stored asked (D.state device.old).holds → SaidPart (other_generation_line stored) (D.state device.old) (D.state device.new) }
 
     // A file that is accepted.
     ensures accepted { IsTrue (D.state device.old).told → (t : TableRows) → Starts asked (D.state device.old).holds t → IsOneOf (0 ∷ 5 ∷ 7 ∷ []) result.code }
     ensures done { result.code ≡ 0 → IsTrue (D.state device.old).told → (t : TableRows) × Starts asked (D.state device.old).holds t × Ran asked t (D.state device.old) (D.state device.new) (D.leaves device.new) }
-    ensures any_moment { IsTrue (D.state device.old).told → Only (D.state device.old).holds (D.state device.old) (D.leaves device.old) → (t : TableRows) → Starts asked (D.state device.old).holds t
-        → LeavesOnly (D.state device.old) (D.state device.new) (D.leaves device.old) (D.leaves device.new) (IsCutOfRun asked t (D.state device.old)) }
+    ensures any_moment { StopsInCut asked (D.state device.old) (D.state device.new) (D.leaves device.old) (D.leaves device.new) }
 
     // A file that is there stays as it is where nothing is committed, and under `show` and `make` any file does.
-    ensures left { IsTrue (D.state device.old).told → (t : TableRows) → Starts asked (D.state device.old).holds t → (MakesFile asked.word → (D.state device.old).holds ≡ [] → ⊥) → commits_nothing (acts_of asked t) ≡ true → SameDisk (D.state device.old) (D.state device.new) }
+    ensures left { IsTrue (D.state device.old).told → (t : TableRows) → Starts asked (D.state device.old).holds t → LeavesFile asked t (D.state device.old) (D.state device.new) }
 
     ensures names { IsTrue (D.state device.old).told → MayHandOn asked.word (file_name base.now) (D.state device.old) (D.state device.new) }
     ensures attached { result.code ≡ 0 → IsTrue (D.state device.old).told → AttachedBy asked.word base.now (D.state device.old) (D.state device.new) }
-    ensures failed { result.code ≡ 5 → Rose (D.state device.old).disk_faults (D.state device.new).disk_faults ⊎ Rose (D.state device.old).line_faults (D.state device.new).line_faults }
+    ensures failed { result.code ≡ 5 → CallFailed (D.state device.old) (D.state device.new) }
     ensures frame { Frame (D.state device.old) (D.state device.new) }
+
+    // No other word refuses a file than one that looks into it.
+    ensures looks { result.code ≡ 4 → IsOverFile asked.word }
 {
     let Ok(name) = named(alloc, base, b".KDCA") else {
         return Status::MEMORY;

@@ -1,9 +1,11 @@
 //! The top call: what the words ask for is done, and answered as a status.
-ghost use Rattle.std.specs.{Prelude.{◌≡◌, ◌⊎◌, ◌∷◌, [], List, ℕ, IsTrue, true, map, Some, None, Ok, Err}, String.{string_bytes}};
-ghost use Rattle.kd_device.specs.{Device.{Rose, Frame, Only, SameNames}, Room.{SameRoom}};
+ghost use Rattle.std.specs.{Prelude.{◌≡◌, ◌⊎◌, ◌∷◌, [], List, ℕ, IsTrue, map}, String.{string_bytes}};
+ghost use Rattle.kd_device.specs.{Device.{Rose, Frame, SameNames}, Room.{SameRoom}};
 ghost use Rattle.kdcs_types.specs.Tables.{TableRows};
-ghost use Rattle.utm_cli.specs.{Words.{request_of as request, usage_line, status_of, refusal_line, not_a_kdcfile_line, other_generation_line}, declared.error.Refusal.{Refusal}, declared.words.Word.{Word}, Asking.{Errand, app_of}, Doing.{Starts, Refuses, IsOfOthers, acts_of}, Promise.{IsOneOf, Request, Reads, Misses, Ran, IsCutOfRun, EndsInCut, MakesFile, RunsLawfully, AttachedBy}};
-ghost use Rattle.device_acts.specs.{Said.{SameDisk, Said, SaidPart}, Performing.{commits_nothing}};
+ghost use Rattle.utm_cli.specs.{Words.{usage_line, status_of, refusal_line, not_a_kdcfile_line, other_generation_line}, Asking.{NoReadFailed, app_of}, Doing.{Starts}};
+ghost use Rattle.utm_cli.specs.Promise.{IsOneOf, Misses, Request, EndsInCut, RunsLawfully, Attaches, AsksNothing, CallFailed, Completes, ForErrand, ForNoKdcfile, ForOthers, ForRefusal, ForSettledStart, ForStart, HasDone, LeavesCuts, LeavesFile, NoErrand, NoneFailed, SaysFile, SaysPart, SaysRefusal, TellsFailure, call};
+ghost use Rattle.device_acts.specs.Said.{Said, SaidPart};
+ghost use Rattle.utm_cli.specs.declared.words.Word.TheVariants.{Make};
 
 use crate::error::TextError;
 use crate::lawful::scripts_run_lawfully;
@@ -36,32 +38,29 @@ pub fn utm<R: Room, D: Device>(
     ensures code { IsOneOf (0 ∷ 1 ∷ 2 ∷ 3 ∷ 4 ∷ 5 ∷ 6 ∷ 7 ∷ []) result.code }
 
     // 1: the words are none of the forms. Nothing is done but the usage line.
-    ensures usage { request (map string_bytes words.now.items) ≡ None → IsOneOf (1 ∷ 5 ∷ 7 ∷ []) result.code }
-    ensures usage_only { result.code ≡ 1 → request (map string_bytes words.now.items) ≡ None }
+    ensures usage { AsksNothing (map string_bytes words.now.items) → IsOneOf (1 ∷ 5 ∷ 7 ∷ []) result.code }
+    ensures usage_only { result.code ≡ 1 → AsksNothing (map string_bytes words.now.items) }
     ensures usage_said { result.code ≡ 1 → IsTrue (D.state device.old).told → Said usage_line (D.state device.old) (D.state device.new) }
-    ensures usage_part { request (map string_bytes words.now.items) ≡ None → IsTrue (D.state device.old).told → SaidPart usage_line (D.state device.old) (D.state device.new) }
-    ensures usage_names { request (map string_bytes words.now.items) ≡ None → SameNames (D.state device.old) (D.state device.new) }
+    ensures usage_part { AsksNothing (map string_bytes words.now.items) → SaysPart usage_line (D.state device.old) (D.state device.new) }
+    ensures usage_failed { AsksNothing (map string_bytes words.now.items) → TellsFailure result.code (D.state device.old) (D.state device.new) }
+    ensures usage_names { AsksNothing (map string_bytes words.now.items) → SameNames (D.state device.old) (D.state device.new) }
 
     // 2 and 3: the definition and the units, or else the script, are refused. Nothing is done but the line of the first fault.
-    ensures texts { IsTrue (R.room room.old).told → (why : Refusal) → Reads (map string_bytes words.now.items) (R.room room.old) (Err why) → IsOneOf (status_of why ∷ 6 ∷ 5 ∷ 7 ∷ []) result.code }
-    ensures texts_only { IsOneOf (2 ∷ 3 ∷ []) result.code → IsTrue (R.room room.old).told
-        → (why : Refusal) × Reads (map string_bytes words.now.items) (R.room room.old) (Err why) × (result.code ≡ status_of why) × (IsTrue (D.state device.old).told → Said (refusal_line why) (D.state device.old) (D.state device.new)) }
-    ensures texts_part { IsTrue (R.room room.old).told → (why : Refusal) → Reads (map string_bytes words.now.items) (R.room room.old) (Err why) → IsTrue (D.state device.old).told → SaidPart (refusal_line why) (D.state device.old) (D.state device.new) }
-    ensures texts_names { IsTrue (R.room room.old).told → (why : Refusal) → Reads (map string_bytes words.now.items) (R.room room.old) (Err why) → SameNames (D.state device.old) (D.state device.new) }
+    ensures texts { ForRefusal (call (map string_bytes words.now.items) (R.room room.old) (D.state device.old)) (λ why. IsOneOf (status_of why ∷ 6 ∷ 5 ∷ 7 ∷ []) result.code) }
+    ensures texts_only { IsOneOf (2 ∷ 3 ∷ []) result.code → SaysRefusal (call (map string_bytes words.now.items) (R.room room.old) (D.state device.old)) result.code (D.state device.new) }
+    ensures texts_part { ForRefusal (call (map string_bytes words.now.items) (R.room room.old) (D.state device.old)) (λ why. SaysPart (refusal_line why) (D.state device.old) (D.state device.new)) }
+    ensures texts_failed { ForRefusal (call (map string_bytes words.now.items) (R.room room.old) (D.state device.old)) (λ why. TellsFailure result.code (D.state device.old) (D.state device.new)) }
+    ensures texts_names { ForRefusal (call (map string_bytes words.now.items) (R.room room.old) (D.state device.old)) (λ why. SameNames (D.state device.old) (D.state device.new)) }
 
     // 4: the file is refused, for its bytes or for its other texts. Nothing is done but the line that says which.
-    ensures file { IsTrue (R.room room.old).told → IsTrue (D.state device.old).told → (e : Errand) → Reads (map string_bytes words.now.items) (R.room room.old) (Ok e) → Refuses e (D.state device.old).holds → IsOneOf (4 ∷ 6 ∷ 5 ∷ 7 ∷ []) result.code }
-    ensures other { IsTrue (R.room room.old).told → IsTrue (D.state device.old).told → (e : Errand) → Reads (map string_bytes words.now.items) (R.room room.old) (Ok e) → (stored : List ℕ) → IsOfOthers stored e (D.state device.old).holds → IsOneOf (4 ∷ 6 ∷ 5 ∷ 7 ∷ []) result.code }
-    ensures file_only { result.code ≡ 4 → (e : Errand) × (IsTrue (R.room room.old).told → Reads (map string_bytes words.now.items) (R.room room.old) (Ok e))
-        × (IsTrue (D.state device.old).told → (Refuses e (D.state device.old).holds × Said not_a_kdcfile_line (D.state device.old) (D.state device.new))
-        ⊎ ((stored : List ℕ) × IsOfOthers stored e (D.state device.old).holds × Said (other_generation_line stored) (D.state device.old) (D.state device.new))) }
-    ensures file_part { IsTrue (R.room room.old).told → IsTrue (D.state device.old).told → (e : Errand) → Reads (map string_bytes words.now.items) (R.room room.old) (Ok e) → Refuses e (D.state device.old).holds
-        → SaidPart not_a_kdcfile_line (D.state device.old) (D.state device.new) }
-    ensures other_part { IsTrue (R.room room.old).told → IsTrue (D.state device.old).told → (e : Errand) → Reads (map string_bytes words.now.items) (R.room room.old) (Ok e) → (stored : List ℕ) → IsOfOthers stored e (D.state device.old).holds
-        → SaidPart (other_generation_line stored) (D.state device.old) (D.state device.new) }
+    ensures file { ForNoKdcfile (call (map string_bytes words.now.items) (R.room room.old) (D.state device.old)) (IsOneOf (4 ∷ 6 ∷ 5 ∷ 7 ∷ []) result.code) }
+    ensures other { ForOthers (call (map string_bytes words.now.items) (R.room room.old) (D.state device.old)) (λ stored. IsOneOf (4 ∷ 6 ∷ 5 ∷ 7 ∷ []) result.code) }
+    ensures file_only { result.code ≡ 4 → SaysFile (call (map string_bytes words.now.items) (R.room room.old) (D.state device.old)) (D.state device.new) }
+    ensures file_part { ForNoKdcfile (call (map string_bytes words.now.items) (R.room room.old) (D.state device.old)) (SaidPart not_a_kdcfile_line (D.state device.old) (D.state device.new)) }
+    ensures other_part { ForOthers (call (map string_bytes words.now.items) (R.room room.old) (D.state device.old)) (λ stored. SaidPart (other_generation_line stored) (D.state device.old) (D.state device.new)) }
 
     // 5: a call of the device failed.
-    ensures device { result.code ≡ 5 → Rose (D.state device.old).disk_faults (D.state device.new).disk_faults ⊎ Rose (D.state device.old).line_faults (D.state device.new).line_faults }
+    ensures device { result.code ≡ 5 → CallFailed (D.state device.old) (D.state device.new) }
 
     // 6: the room failed; over a sure room a text is not there. Nothing is done.
     ensures room { result.code ≡ 6 → Rose (R.room room.old).faults (R.room room.new).faults }
@@ -71,53 +70,48 @@ pub fn utm<R: Room, D: Device>(
     ensures missing_said { IsTrue (R.room room.old).told → IsTrue (D.state device.old).told → Misses (map string_bytes words.now.items) (R.room room.old) → Said [] (D.state device.old) (D.state device.new) }
     ensures missing_names { IsTrue (R.room room.old).told → Misses (map string_bytes words.now.items) (R.room room.old) → SameNames (D.state device.old) (D.state device.new) }
 
+    // 7: memory ran out. No read failed, and where the words and the texts ask for nothing no call of the device did.
+    ensures memory_room { result.code ≡ 7 → NoReadFailed (R.room room.old) (R.room room.new) }
+    ensures memory_early { result.code ≡ 7 → NoErrand (call (map string_bytes words.now.items) (R.room room.old) (D.state device.old)) → NoneFailed (R.room room.old) (R.room room.new) (D.state device.old) (D.state device.new) }
+
     // 0: all was done. The lines of all acts were sent, and the file stands for the tables after them, or is as it was.
-    ensures done { result.code ≡ 0 → IsTrue (R.room room.old).told → IsTrue (D.state device.old).told
-        → (e : Errand) × Reads (map string_bytes words.now.items) (R.room room.old) (Ok e) × (t : TableRows) × Starts e (D.state device.old).holds t × Ran e t (D.state device.old) (D.state device.new) (D.leaves device.new) }
-    ensures accepted { IsTrue (R.room room.old).told → IsTrue (D.state device.old).told → (e : Errand) (t : TableRows) → Reads (map string_bytes words.now.items) (R.room room.old) (Ok e) → Starts e (D.state device.old).holds t
-        → IsOneOf (0 ∷ 6 ∷ 5 ∷ 7 ∷ []) result.code }
+    ensures done { result.code ≡ 0 → HasDone (call (map string_bytes words.now.items) (R.room room.old) (D.state device.old)) (D.state device.new) (D.leaves device.new) }
+    ensures accepted { ForStart (call (map string_bytes words.now.items) (R.room room.old) (D.state device.old)) (λ e t. IsOneOf (0 ∷ 6 ∷ 5 ∷ 7 ∷ []) result.code) }
 
     // Where the words, the texts and the file are accepted and no count of faults rose, all was done or memory ran out.
-    ensures complete { IsTrue (R.room room.old).told → IsTrue (D.state device.old).told → (e : Errand) (t : TableRows) → Reads (map string_bytes words.now.items) (R.room room.old) (Ok e) → Starts e (D.state device.old).holds t
-        → (Rose (D.state device.old).disk_faults (D.state device.new).disk_faults → ⊥) → (Rose (D.state device.old).line_faults (D.state device.new).line_faults → ⊥)
-        → (Rose (R.room room.old).faults (R.room room.new).faults → ⊥) ⊎ IsTrue (R.room room.old).sure → IsOneOf (0 ∷ 7 ∷ []) result.code }
+    ensures complete { ForStart (call (map string_bytes words.now.items) (R.room room.old) (D.state device.old)) (λ e t. Completes result.code (R.room room.old) (R.room room.new) (D.state device.old) (D.state device.new)) }
 
     // At a stop since the call, whatever its status, the bytes sent and the file are a cut of the acts.
-    ensures cut { IsTrue (R.room room.old).told → IsTrue (D.state device.old).told → Only (D.state device.old).holds (D.state device.old) (D.leaves device.old)
-        → (e : Errand) (t : TableRows) → Reads (map string_bytes words.now.items) (R.room room.old) (Ok e) → Starts e (D.state device.old).holds t
-        → (image out : List ℕ) → D.leaves device.new (D.state device.old).moment image out → IsCutOfRun e t (D.state device.old) image out }
+    ensures cut { ForSettledStart (call (map string_bytes words.now.items) (R.room room.old) (D.state device.old)) (D.leaves device.old) (λ e t. LeavesCuts e t (D.state device.old) (D.leaves device.new)) }
 
     // As the call left them, whatever its status, the bytes sent and the file are such a cut too. The lines are a front of
     // those of all acts, so those of `gen` are a front of its report.
-    ensures ended { IsTrue (R.room room.old).told → IsTrue (D.state device.old).told → Only (D.state device.old).holds (D.state device.old) (D.leaves device.old)
-        → (e : Errand) (t : TableRows) → Reads (map string_bytes words.now.items) (R.room room.old) (Ok e) → Starts e (D.state device.old).holds t
-        → EndsInCut e t (D.state device.old) (D.state device.new) }
+    ensures ended { ForSettledStart (call (map string_bytes words.now.items) (R.room room.old) (D.state device.old)) (D.leaves device.old) (λ e t. EndsInCut e t (D.state device.old) (D.state device.new)) }
 
     // A file that is there keeps its bytes, whatever the status, where the acts commit nothing, as those of `gen`. Under
     // `show` and `make` an empty one does too.
-    ensures left { IsTrue (R.room room.old).told → IsTrue (D.state device.old).told → (e : Errand) (t : TableRows) → Reads (map string_bytes words.now.items) (R.room room.old) (Ok e) → Starts e (D.state device.old).holds t
-        → (MakesFile e.word → (D.state device.old).holds ≡ [] → ⊥) → commits_nothing (acts_of e t) ≡ true → SameDisk (D.state device.old) (D.state device.new) }
+    ensures left { ForStart (call (map string_bytes words.now.items) (R.room room.old) (D.state device.old)) (λ e t. LeavesFile e t (D.state device.old) (D.state device.new)) }
 
-    // Where a file was attached, as before anything is done: every commit of the script is lawful, and every cut of it can
-    // be gone on from and is what a serial run of its first commits stores.
-    ensures laws { IsTrue (R.room room.old).told → ((D.state device.new).names ≡ (D.state device.old).names → ⊥) → (e : Errand) (bytes : List ℕ) (t : TableRows) → Reads (map string_bytes words.now.items) (R.room room.old) (Ok e) → Starts e bytes t
-        → RunsLawfully (app_of e) t e.commands }
+    // Every commit of the script is lawful from tables that a file stands for, and every cut of it can be gone on from and
+    // is what a serial run of its first commits stores.
+    ensures laws { ForErrand (call (map string_bytes words.now.items) (R.room room.old) (D.state device.old)) (λ e. (bytes : List ℕ) (t : TableRows) → Starts e bytes t → RunsLawfully (app_of e) t e.commands) }
 
     // The file BASE.KDCA, and no other, was attached; none by `make`.
-    ensures names { IsTrue (D.state device.old).told → ((D.state device.new).names ≡ (D.state device.old).names) ⊎ ((word : Word) × ((base : List ℕ) × Request (map string_bytes words.now.items) word base × AttachedBy word base (D.state device.old) (D.state device.new))) }
-    ensures attached { result.code ≡ 0 → IsTrue (D.state device.old).told → (word : Word) × ((base : List ℕ) × Request (map string_bytes words.now.items) word base × AttachedBy word base (D.state device.old) (D.state device.new)) }
+    ensures names { IsTrue (D.state device.old).told → SameNames (D.state device.old) (D.state device.new) ⊎ Attaches (map string_bytes words.now.items) (D.state device.old) (D.state device.new) }
+    ensures attached { result.code ≡ 0 → IsTrue (D.state device.old).told → Attaches (map string_bytes words.now.items) (D.state device.old) (D.state device.new) }
 
     ensures frame { Frame (D.state device.old) (D.state device.new) }
     ensures same_room { SameRoom (R.room room.old) (R.room room.new) }
+
+    // `make` is never refused, whatever the room and the file: its texts are its own, and it looks into no file.
+    ensures make_accepted { (n : ℕ) (operand : List ℕ) → Request (map string_bytes words.now.items) (Make n) operand → IsOneOf (0 ∷ 5 ∷ 7 ∷ []) result.code }
 {
+    scripts_run_lawfully();
     let Some((word, base)) = request_of(words) else {
         return refuse(device, USAGE, Status::USAGE);
     };
     match read_texts(alloc, room, word, base) {
-        Ok(asked) => {
-            scripts_run_lawfully(&asked);
-            run(alloc, device, base, asked)
-        }
+        Ok(asked) => run(alloc, device, base, asked),
         Err(TextError::Refused(why)) => refuse_texts(alloc, device, why),
         Err(TextError::Room) => Status::ROOM,
         Err(TextError::Memory) => Status::MEMORY,

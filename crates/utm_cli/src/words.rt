@@ -25,7 +25,7 @@ pub(crate) enum Word {
     Make(u32),
 }
 
-#[tactic(auto, using(crate::proofs::Asked::same_texts))]
+#[tactic(auto, using(script_read::specs::SameLaws::same_texts))]
 fn word_of(word: &[u8]) -> Option<Word>
     ensures value { result ≡ word_spelled word.now }
     ensures form { IfSome result IsForm }
@@ -57,7 +57,7 @@ fn made_input(number: &[u8]) -> Option<Word>
     }
 }
 
-#[tactic(auto, using(crate::proofs::Asked::same_texts))]
+#[tactic(auto, using(script_read::specs::SameLaws::same_texts))]
 fn word_with(word: &[u8], operand: &[u8]) -> Option<Word>
     ensures value { result ≡ word_with (same word.now (codes "make")) word.now operand.now }
     ensures form { IfSome result IsForm }

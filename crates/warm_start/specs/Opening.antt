@@ -1,6 +1,6 @@
 -- What the opening of a KDCFILE answers, and what a stop within it leaves.
 use Rattle.std.specs.Prelude.{◌≡◌, ◌⊎◌, ℕ, List, []}
-use Rattle.kd_device.specs.Device.{State}
+use Rattle.kd_device.specs.Device.{State, LeavesOnly}
 use Rattle.kd_records.specs.Identity.{Identity}
 use Rattle.kdcdef_types.specs.Generation.{Generated}
 use Rattle.kdcs_types.specs.Tables.{TableRows, empty_tables}
@@ -46,3 +46,7 @@ pub record IsBeingMade (i : Identity) (a : State) (image : List ℕ) : Type 0 wh
 pub record IsOpening (i : Identity) (a : State) (la : ℕ → List ℕ → List ℕ → Type 0) (image out : List ℕ) : Type 0 where
   pub silent : out ≡ a.sent
   pub file : la a.moment image a.sent ⊎ IsBeingMade i a image
+
+-- a stop within the opening leaves no more
+abbrev pub LeavesOpening : Identity → (a b : State) → (la lb : ℕ → List ℕ → List ℕ → Type 0) → Type 0
+LeavesOpening i a b la lb = LeavesOnly a b la lb (IsOpening i a la)

@@ -1,12 +1,12 @@
 //! The KDCFILE is made where it is empty, and else opened warm; or its tables are read, and it stays as it is.
 ghost use Rattle.std.specs.Prelude.{◌≡◌, ◌≤◌, [], List, ℕ, IsTrue, length, IfOk, OnOk, IsErrOf};
-ghost use Rattle.kd_device.specs.{Device.{State, Rose, Frame, SameNames, LeavesOnly, Only}, Rest.{Rests}};
+ghost use Rattle.kd_device.specs.{Device.{State, Rose, Frame, SameNames, Only}, Rest.{Rests}};
 ghost use Rattle.kd_records.specs.Charge.{total_charge};
 ghost use Rattle.kdcdef_types.specs.Statements.{IsBlksize, IsWithin};
 ghost use Rattle.kdcs_types.specs.Tables.{empty_tables};
-ghost use Rattle.kdcfile_store.specs.{Kept.{IsKept}, Whole.{HasFile, Made}};
+ghost use Rattle.kdcfile_store.specs.{Kept.{IsKept}, Whole.{HasFile, LeavesMade}};
 ghost use Rattle.laws_of_steps.specs.Suits.{Suits};
-ghost use Rattle.warm_start.specs.{Stands.{AreTables, KeepsTables, StandsForTables, identity_for, limits_of}, Kept.{KeepsNoneFor, KeepsOthers}, Opening.{StartsFrom, HasNoTablesFor, IsRefused, IsOfOtherTexts, IsOpening}};
+ghost use Rattle.warm_start.specs.{Stands.{AreTables, KeepsTables, StandsForTables, identity_for, limits_of}, Kept.{KeepsNoneFor, KeepsOthers}, Opening.{StartsFrom, HasNoTablesFor, IsRefused, IsOfOtherTexts, LeavesOpening}};
 
 use crate::error::OpenError;
 use kd_device::{Device, DeviceError};
@@ -85,11 +85,11 @@ fn make<D: Device>(
     ensures suits { IfOk result (λ o. Suits generation.now o.1) }
     ensures kept { IfOk result (λ o. IsTrue (D.state device.old).told → IsKept (HasFile o.0) (D.state device.new) (D.leaves device.new)) }
     ensures sent { IsTrue (D.state device.old).told → (D.state device.new).sent ≡ (D.state device.old).sent }
-    ensures any_moment { IsTrue (D.state device.old).told
-        → LeavesOnly (D.state device.old) (D.state device.new) (D.leaves device.old) (D.leaves device.new) (Made (identity_for generation.now fingerprint.now) (D.state device.old).sent) }
+    ensures any_moment { IsTrue (D.state device.old).told → LeavesMade (identity_for generation.now fingerprint.now) (D.state device.old) (D.state device.new) (D.leaves device.old) (D.leaves device.new) }
     ensures refused { IsErrOf result OpenError.NotKdcfile → ⊥ }
     ensures other { (stored : List ℕ) → IsErrOf result (OpenError.OtherGeneration stored) → ⊥ }
     ensures failed { IsErrOf result OpenError.Failed → Rose (D.state device.old).disk_faults (D.state device.new).disk_faults }
+    ensures memory { IsErrOf result OpenError.Memory → IsTrue (D.state device.old).told → Rests (D.state device.old) (D.state device.new) (D.leaves device.old) (D.leaves device.new) }
     ensures frame { Frame (D.state device.old) (D.state device.new) }
     ensures names { SameNames (D.state device.old) (D.state device.new) }
 {
@@ -144,8 +144,10 @@ pub fn open_tables<D: Device>(
     // A file that is not empty stays as it is.
     ensures still { IsTrue (D.state device.old).told → ((D.state device.old).holds ≡ [] → ⊥) → Rests (D.state device.old) (D.state device.new) (D.leaves device.old) (D.leaves device.new) }
     ensures sent { IsTrue (D.state device.old).told → (D.state device.new).sent ≡ (D.state device.old).sent }
-    ensures any_moment { IsTrue (D.state device.old).told
-        → LeavesOnly (D.state device.old) (D.state device.new) (D.leaves device.old) (D.leaves device.new) (IsOpening (identity_for generation.now fingerprint.now) (D.state device.old) (D.leaves device.old)) }
+    ensures any_moment { IsTrue (D.state device.old).told → LeavesOpening (identity_for generation.now fingerprint.now) (D.state device.old) (D.state device.new) (D.leaves device.old) (D.leaves device.new) }
+
+    // Where memory runs out, an empty file stays too.
+    ensures memory { IsErrOf result OpenError.Memory → IsTrue (D.state device.old).told → Rests (D.state device.old) (D.state device.new) (D.leaves device.old) (D.leaves device.new) }
 
     ensures failed { IsErrOf result OpenError.Failed → Rose (D.state device.old).disk_faults (D.state device.new).disk_faults }
     ensures frame { Frame (D.state device.old) (D.state device.new) }

@@ -37,6 +37,22 @@ fn a_file_keeps_what_was_written(rt: HostRuntime) -> Result<(), Fail> {
 }
 
 #[test]
+fn a_file_has_one_device(rt: HostRuntime) -> Result<(), Fail> {
+    let name = b"low_tests_lock.tmp";
+    let mut first = FileDevice::new(&rt);
+    let mut second = FileDevice::new(&rt);
+    first.reserve(2, 100, 0)?;
+    second.reserve(2, 100, 0)?;
+    first.attach(name)?;
+    assert!(rt; second.attach(name).is_err());
+    first.attach(name)?;
+    drop(first);
+    second.attach(name)?;
+    fs::remove_file(&rt, "low_tests_lock.tmp")?;
+    Ok(())
+}
+
+#[test]
 fn a_folder_gives_its_texts(rt: HostRuntime) -> Result<(), Fail> {
     let name = Vec::from_slice(rt.alloc(), b"low_tests_room.tmp")?;
     fs::write(&rt, "low_tests_room.tmp", b"abcdef")?;

@@ -1,7 +1,5 @@
-use Rattle.std.specs.Prelude.{◌≡◌, ℕ, Bool, List, true, false}
 use Rattle.std.proofs.Common.{ap, sym, ◌∙◌}
 use Rattle.kdcs_types.specs.declared.key.ServiceId.TheVariants.{Asynchronous}
-use Rattle.async_queue.specs.declared.queue.QueuedJob.{QueuedJob}
 use Rattle.core_state.specs.KeptLaws.{found_open}
 use Rattle.core_state.specs.Queue.{marked_if}
 use Rattle.core_state.proofs.rows.mark_if_open.Goals as goal

@@ -1,5 +1,4 @@
-use Rattle.std.specs.Prelude.{None}
-use Rattle.std.proofs.Common.{ap, ◌∙◌, ◌≡◌}
+use Rattle.std.proofs.Common.{ap, ◌∙◌}
 use Rattle.async_queue.specs.Queue.{queued_at}
 use Rattle.core_state.specs.QueueLaws.{gone}
 use Rattle.core_state.proofs.rows.set_job.Goals as goal

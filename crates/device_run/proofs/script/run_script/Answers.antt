@@ -1,10 +1,12 @@
-use Rattle.std.proofs.Common.{◌^◌, arith, sym, subst}
+use Rattle.std.proofs.Common.{inl, inr, ⊎_elim, ◌^◌, arith, sym, subst}
 use Rattle.std.specs.Prelude.{IsTrue}
 use Rattle.abstract_monitor.specs.Trace.{history}
 use Rattle.kd_base.specs.ToolsLaws.{error_same}
-use Rattle.device_run.proofs.Scripts.{script_kept, script_over, script_names, script_turns, script_performs, script_more, script_room, script_room_more, script_counted, script_counted_over, nothing_counted}
-use Rattle.device_run.proofs.Stepping.{failed_then, history_start, steps_ran}
+use Rattle.device_run.proofs.Scripts.{script_kept, script_over, script_names, script_turns, script_performs, script_more, script_room, script_room_more, script_counted, script_counted_over, script_stopped, nothing_counted}
+use Rattle.device_run.proofs.Stepping.{history_start, steps_ran}
+use Rattle.device_run.proofs.Errors.{on_err}
 use Rattle.device_run.proofs.script.run_script.Goals as goal
+use Rattle.kd_device.specs.TimeLaws.{rose_either}
 
 pub loop-command-init : goal.loop-command-init
 loop-command-init g c = record {
@@ -60,8 +62,22 @@ returns-clause-counted g c = λ told.
 
 pub returns-in_err-core-clause-failed : goal.returns-in_err-core-clause-failed
 returns-in_err-core-clause-failed g c = λ is.
-    failed_then (g.D.Device.state c.args.device.now) (g.D.Device.state c.loop-command.device) (g.D.Device.state c.do_command.new.device) c.loop-command.invariant.run.performs.frame (c.in_err-core.ensures.failed (error_same _ _ c.from_residual.result c.in_err-core.field-0.0 _ c.from_residual.ensures.1 is))
+    rose_either (g.D.Device.state c.args.device.now) (g.D.Device.state c.loop-command.device) (g.D.Device.state c.do_command.new.device) c.loop-command.invariant.run.performs.frame (c.in_err-core.ensures.failed (error_same _ _ c.from_residual.result c.in_err-core.field-0.0 _ c.from_residual.ensures.1 is))
 
 pub returns-in_err-core-clause-other : goal.returns-in_err-core-clause-other
 returns-in_err-core-clause-other g c = λ stored is told.
     c.in_err-core.ensures.other stored (error_same _ _ c.from_residual.result c.in_err-core.field-0.0 _ c.from_residual.ensures.1 is) (subst IsTrue (sym c.loop-command.invariant.run.performs.frame.told) told)
+
+pub returns-in_err-core-clause-stopped : goal.returns-in_err-core-clause-stopped
+returns-in_err-core-clause-stopped g c =
+    let b = g.D.Device.state c.loop-command.device in
+    let e = g.D.Device.state c.do_command.new.device in
+    let frame = c.do_command.ensures.any.frame in
+    on_err c.from_residual.result (λ told.
+    let told_b : IsTrue b.told = subst IsTrue (sym c.loop-command.invariant.run.performs.frame.told) told in
+    let told_e : IsTrue e.told = subst IsTrue (sym frame.told) told_b in
+    let left = g.met.D.Device.earlier c.do_command.new.device b.moment e.moment e.holds e.sent told_e frame.moment (g.met.D.Device.holds_now c.do_command.new.device told_e) in
+    let cut = (c.do_command.ensures.any.any_moment told_b).only b.moment e.holds e.sent (omega arith) left in
+    script_stopped c.args.fingerprint.now c.args.core c.loop-command.core c.loop-command.store c.args.commands.now c.loop-command.command-index (g.D.Device.state c.args.device.now) b (g.D.Device.leaves c.args.device.now) (g.D.Device.leaves c.loop-command.device) c.loop-command.invariant.run c.command-item.result c.command-item.is c.loop-command-test.true e (g.D.Device.leaves c.do_command.new.device) c.do_command.ensures.any told
+    (⊎_elim (λ past. inl (g.met.D.Device.sent_now c.loop-command.device e.holds e.sent told_b past)) (λ cut. inr cut) cut)
+    (λ restart. c.in_err-core.ensures.unsaid restart told_b))

@@ -7,9 +7,9 @@ use Rattle.abstract_monitor.specs.declared.command.Command.{Command}
 use Rattle.abstract_monitor.specs.CommandsOf.{IsCommandOf}
 use Rattle.device_run.specs.Running.{turns_of, PerformsSteps, DidSteps}
 use Rattle.device_run.proofs.Counting.{commits_by}
-use Rattle.device_run.proofs.Commanding.{own_running, steps_of_run, steps_of_turn, steps_of_restart, steps_of_single, single_of, performs_command, did_command, one_counts, restart_counts}
+use Rattle.device_run.proofs.Commanding.{own_running, steps_of_run, steps_of_turn, steps_of_restart, steps_of_single, single_of, performs_command, did_command, one_counts, restart_counts, run_no_restart, turn_no_restart, single_no_restart}
 use Rattle.kd_base.specs.ToolsLaws.{error_same}
-use Rattle.device_run.proofs.Errors.{err_is_no_value, no_error}
+use Rattle.device_run.proofs.Errors.{err_is_no_value, no_error, on_err, on_err_weaker}
 use Rattle.device_run.proofs.steps.do_command.Goals as goal
 
 pub run_turns-requires-clause-running : goal.run_turns-requires-clause-running
@@ -167,3 +167,15 @@ returns-in-Input-clause-steps g c = IfOk-weaker c.do_single.result _ _ (λ next 
 
 pub returns-in-Input-clause-counted : goal.returns-in-Input-clause-counted
 returns-in-Input-clause-counted g c = on_ok_weaker c.do_single.result (λ h. h ∙ ap (λ n. c.args.commits.now + n) (sym (one_counts c.args.core.application c.args.core.state c.args.command.now (command_of c.args.core.application c.args.core.state c.args.command.now) (steps_of_single c.args.core.application c.args.core.state c.args.command.now (single_of c.args.command.now c.in-Input.is).0)))) c.do_single.ensures.counted
+
+pub returns-in-Run-clause-unsaid : goal.returns-in-Run-clause-unsaid
+returns-in-Run-clause-unsaid g c = on_err c.run_turns.result (λ restart told. absurd (run_no_restart c.args.command.now c.in-Run.turns c.in-Run.is restart))
+
+pub returns-in_err-next-in-Turn-clause-unsaid : goal.returns-in_err-next-in-Turn-clause-unsaid
+returns-in_err-next-in-Turn-clause-unsaid g c = on_err c.from_residual.result (λ restart told. absurd (turn_no_restart c.args.command.now c.in-Turn.task c.in-Turn.is restart))
+
+pub returns-in-Restart-clause-unsaid : goal.returns-in-Restart-clause-unsaid
+returns-in-Restart-clause-unsaid g c = on_err_weaker c.restart.result (λ h restart told. h told) c.restart.ensures.unsaid
+
+pub returns-in-Input-clause-unsaid : goal.returns-in-Input-clause-unsaid
+returns-in-Input-clause-unsaid g c = on_err c.do_single.result (λ restart told. absurd (single_no_restart c.args.command.now (single_of c.args.command.now c.in-Input.is).0 restart))

@@ -13,29 +13,29 @@ use Rattle.device_run.proofs.Storables.{turn_can}
 use Rattle.device_run.proofs.Tables.{tables_go}
 use Rattle.device_run.proofs.steps.do_turn.Goals as goal
 
-pub perform_acts-requires-clause-can : goal.perform_acts-requires-clause-can
-perform_acts-requires-clause-can g c =
-    can_perform c.args.store.now.identity.fingerprint c.args.core c.args.store.now (turned_step (turn_of c.args.core.application c.args.core.state c.args.task)) c.as_slice-acts.result.now (turn_can c.args.store.now.identity.fingerprint c.args.core c.args.store.now c.requires.running c.as_slice-acts.result.now c.acts_are_named.ensures c.steps_can_be_stored.ensures.turns c.args.task c.requires.task (c.as_slice-acts.ensures ∙ ap (λ (t : Turned). t.acts) c.in_ok-next.ensures.exact))
+pub do_acts-requires-clause-can : goal.do_acts-requires-clause-can
+do_acts-requires-clause-can g c =
+    can_perform c.args.store.now.identity.fingerprint c.args.core c.args.store.now (turned_step (turn_of c.args.core.application c.args.core.state c.args.task)) c.as_slice-acts.result.now (turn_can c.args.store.now.identity.fingerprint c.args.core c.args.store.now c.requires.running c.as_slice-acts.result.now c.acts_are_named.ensures.named c.steps_can_be_stored.ensures.turns c.args.task c.requires.task (c.as_slice-acts.ensures ∙ ap (λ (t : Turned). t.acts) c.in_ok-next.ensures.exact))
 
 pub returns-in_err-next-clause-any : goal.returns-in_err-next-clause-any
 returns-in_err-next-clause-any g c =
     performs_none tables_after tables_go (StandsForTables (identity_of c.args.store.now.identity.fingerprint c.args.core)) (durable_of c.args.core) (acts_of ((turned_step (turn_of c.args.core.application c.args.core.state c.args.task)) ∷ [])) (g.D.Device.state c.args.device.now) (g.D.Device.leaves c.args.device.now)
 
-pub returns-in_err-perform_acts-clause-any : goal.returns-in_err-perform_acts-clause-any
-returns-in_err-perform_acts-clause-any g c =
-    performs_step c.args.store.now.identity.fingerprint c.args.core c.args.store.now (turned_step (turn_of c.args.core.application c.args.core.state c.args.task)) c.as_slice-acts.result.now (turn_can c.args.store.now.identity.fingerprint c.args.core c.args.store.now c.requires.running c.as_slice-acts.result.now c.acts_are_named.ensures c.steps_can_be_stored.ensures.turns c.args.task c.requires.task (c.as_slice-acts.ensures ∙ ap (λ (t : Turned). t.acts) c.in_ok-next.ensures.exact))
-    (g.D.Device.state c.args.device.now) (g.D.Device.state c.perform_acts.new.device) (g.D.Device.leaves c.args.device.now) (g.D.Device.leaves c.perform_acts.new.device) c.perform_acts.ensures.any
+pub returns-in_err-do_acts-clause-any : goal.returns-in_err-do_acts-clause-any
+returns-in_err-do_acts-clause-any g c =
+    performs_step c.args.store.now.identity.fingerprint c.args.core c.args.store.now (turned_step (turn_of c.args.core.application c.args.core.state c.args.task)) c.as_slice-acts.result.now (turn_can c.args.store.now.identity.fingerprint c.args.core c.args.store.now c.requires.running c.as_slice-acts.result.now c.acts_are_named.ensures.named c.steps_can_be_stored.ensures.turns c.args.task c.requires.task (c.as_slice-acts.ensures ∙ ap (λ (t : Turned). t.acts) c.in_ok-next.ensures.exact))
+    (g.D.Device.state c.args.device.now) (g.D.Device.state c.do_acts.new.device) (g.D.Device.leaves c.args.device.now) (g.D.Device.leaves c.do_acts.new.device) c.do_acts.ensures.any
 
 pub returns-clause-any : goal.returns-clause-any
 returns-clause-any g c =
-    performs_step c.args.store.now.identity.fingerprint c.args.core c.args.store.now (turned_step (turn_of c.args.core.application c.args.core.state c.args.task)) c.as_slice-acts.result.now (turn_can c.args.store.now.identity.fingerprint c.args.core c.args.store.now c.requires.running c.as_slice-acts.result.now c.acts_are_named.ensures c.steps_can_be_stored.ensures.turns c.args.task c.requires.task (c.as_slice-acts.ensures ∙ ap (λ (t : Turned). t.acts) c.in_ok-next.ensures.exact))
-    (g.D.Device.state c.args.device.now) (g.D.Device.state c.perform_acts.new.device) (g.D.Device.leaves c.args.device.now) (g.D.Device.leaves c.perform_acts.new.device) c.perform_acts.ensures.any
+    performs_step c.args.store.now.identity.fingerprint c.args.core c.args.store.now (turned_step (turn_of c.args.core.application c.args.core.state c.args.task)) c.as_slice-acts.result.now (turn_can c.args.store.now.identity.fingerprint c.args.core c.args.store.now c.requires.running c.as_slice-acts.result.now c.acts_are_named.ensures.named c.steps_can_be_stored.ensures.turns c.args.task c.requires.task (c.as_slice-acts.ensures ∙ ap (λ (t : Turned). t.acts) c.in_ok-next.ensures.exact))
+    (g.D.Device.state c.args.device.now) (g.D.Device.state c.do_acts.new.device) (g.D.Device.leaves c.args.device.now) (g.D.Device.leaves c.do_acts.new.device) c.do_acts.ensures.any
 
 pub returns-clause-done : goal.returns-clause-done
 returns-clause-done g c =
-    did_step c.args.store.now.identity.fingerprint c.args.core c.args.store.now (turned_step (turn_of c.args.core.application c.args.core.state c.args.task)) c.as_slice-acts.result.now (turn_can c.args.store.now.identity.fingerprint c.args.core c.args.store.now c.requires.running c.as_slice-acts.result.now c.acts_are_named.ensures c.steps_can_be_stored.ensures.turns c.args.task c.requires.task (c.as_slice-acts.ensures ∙ ap (λ (t : Turned). t.acts) c.in_ok-next.ensures.exact))
-    c.steps_commit_once.ensures.tables (c.steps_commit_once.ensures.turns c.args.core.application c.args.core.state c.args.task) c.in_ok-next.next c.perform_acts.new.store (g.D.Device.state c.args.device.now) (g.D.Device.state c.perform_acts.new.device) (g.D.Device.leaves c.perform_acts.new.device)
-    c.in_ok-next.ensures.one.application c.in_ok-next.ensures.facts (ap (λ (t : Turned). t.after) c.in_ok-next.ensures.exact) c.perform_acts.ensures.identity c.in_ok-perform_acts.ensures.content c.in_ok-perform_acts.ensures.done
+    did_step c.args.store.now.identity.fingerprint c.args.core c.args.store.now (turned_step (turn_of c.args.core.application c.args.core.state c.args.task)) c.as_slice-acts.result.now (turn_can c.args.store.now.identity.fingerprint c.args.core c.args.store.now c.requires.running c.as_slice-acts.result.now c.acts_are_named.ensures.named c.steps_can_be_stored.ensures.turns c.args.task c.requires.task (c.as_slice-acts.ensures ∙ ap (λ (t : Turned). t.acts) c.in_ok-next.ensures.exact))
+    c.steps_commit_once.ensures.tables (c.steps_commit_once.ensures.turns c.args.core.application c.args.core.state c.args.task) c.in_ok-next.next c.do_acts.new.store (g.D.Device.state c.args.device.now) (g.D.Device.state c.do_acts.new.device) (g.D.Device.leaves c.do_acts.new.device)
+    c.in_ok-next.ensures.one.application c.in_ok-next.ensures.facts (ap (λ (t : Turned). t.after) c.in_ok-next.ensures.exact) c.do_acts.ensures.identity c.in_ok-do_acts.ensures.content c.in_ok-do_acts.ensures.done
 
 pub count_commits-requires : goal.count_commits-requires
 count_commits-requires g c = subst (λ (l : List Act). c.args.commits.now + commits_in l ≤ 10 ^ 18) (sym (c.as_slice-acts.ensures ∙ ap (λ (t : Turned). t.acts) c.in_ok-next.ensures.exact)) c.requires.room
@@ -43,11 +43,11 @@ count_commits-requires g c = subst (λ (l : List Act). c.args.commits.now + comm
 pub returns-clause-counted : goal.returns-clause-counted
 returns-clause-counted g c = c.count_commits.ensures ∙ ap (λ (l : List Act). c.args.commits.now + commits_in l) (c.as_slice-acts.ensures ∙ ap (λ (t : Turned). t.acts) c.in_ok-next.ensures.exact)
 
-pub returns-in_err-perform_acts-clause-failed : goal.returns-in_err-perform_acts-clause-failed
-returns-in_err-perform_acts-clause-failed g c = λ is. c.in_err-perform_acts.ensures.failed (act_failed _ _ c.from_residual-in_err-perform_acts.result c.in_err-perform_acts.field-0.0 c.from_residual-in_err-perform_acts.ensures.1 is)
+pub returns-in_err-do_acts-clause-failed : goal.returns-in_err-do_acts-clause-failed
+returns-in_err-do_acts-clause-failed g c = λ is. c.in_err-do_acts.ensures.failed (act_failed _ _ c.from_residual-in_err-do_acts.result c.in_err-do_acts.field-0.0 c.from_residual-in_err-do_acts.ensures.1 is)
 
-pub returns-in_err-perform_acts-clause-refused : goal.returns-in_err-perform_acts-clause-refused
-returns-in_err-perform_acts-clause-refused g c = λ is. act_refuses_nothing _ c.from_residual-in_err-perform_acts.result c.in_err-perform_acts.field-0.0 c.from_residual-in_err-perform_acts.ensures.1 is
+pub returns-in_err-do_acts-clause-refused : goal.returns-in_err-do_acts-clause-refused
+returns-in_err-do_acts-clause-refused g c = λ is. act_refuses_nothing _ c.from_residual-in_err-do_acts.result c.in_err-do_acts.field-0.0 c.from_residual-in_err-do_acts.ensures.1 is
 
-pub returns-in_err-perform_acts-clause-other : goal.returns-in_err-perform_acts-clause-other
-returns-in_err-perform_acts-clause-other g c = λ stored is. act_knows_no_other _ c.from_residual-in_err-perform_acts.result c.in_err-perform_acts.field-0.0 stored c.from_residual-in_err-perform_acts.ensures.1 is
+pub returns-in_err-do_acts-clause-other : goal.returns-in_err-do_acts-clause-other
+returns-in_err-do_acts-clause-other g c = λ stored is. act_knows_no_other _ c.from_residual-in_err-do_acts.result c.in_err-do_acts.field-0.0 stored c.from_residual-in_err-do_acts.ensures.1 is

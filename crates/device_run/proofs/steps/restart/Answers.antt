@@ -1,8 +1,9 @@
-use Rattle.std.proofs.Common.{inl, inr, arith}
+use Rattle.std.proofs.Common.{inl, inr, arith, sym, subst, ◌∙◌}
+use Rattle.std.specs.Prelude.{IsTrue}
 use Rattle.device_run.proofs.Restarting.{opening_performs, restart_performs, did_restart}
 use Rattle.kd_base.specs.ToolsLaws.{error_same}
-use Rattle.device_run.specs.HandedOnLaws.{act_failed, act_refuses_nothing, act_knows_no_other}
-use Rattle.device_run.proofs.Errors.{no_error}
+use Rattle.device_run.specs.HandedOnLaws.{either_cause, act_failed, act_refuses_nothing, act_knows_no_other}
+use Rattle.device_run.proofs.Errors.{no_error, on_err}
 use Rattle.device_run.proofs.steps.restart.Goals as goal
 
 pub returns-in_err-next-clause-any : goal.returns-in_err-next-clause-any
@@ -48,3 +49,13 @@ returns-clause-refused g c = λ is told. absurd (no_error _ _ is)
 
 pub returns-clause-other : goal.returns-clause-other
 returns-clause-other g c = λ stored is told. absurd (no_error _ _ is)
+
+pub returns-in_err-next-clause-unsaid : goal.returns-in_err-next-clause-unsaid
+returns-in_err-next-clause-unsaid g c = on_err c.from_residual.result (λ told. inl (c.start_again.ensures.rests told).sent)
+
+pub returns-in_err-say-clause-unsaid : goal.returns-in_err-say-clause-unsaid
+returns-in_err-say-clause-unsaid g c =
+    on_err c.from_residual-in_err-say.result (λ told.
+    either_cause _ _ _ c.in_err-say.field-0.0
+    (λ is. c.in_err-say.ensures.unsaid is (subst IsTrue (sym c.start_again.ensures.frame.told) told) ∙ (c.start_again.ensures.rests told).sent)
+    (λ is. let said = c.in_err-say.ensures.failed is in omega (arith, c.start_again.ensures.frame.line_faults, said)))

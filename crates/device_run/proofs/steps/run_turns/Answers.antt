@@ -1,8 +1,8 @@
 use Rattle.kd_base.specs.ToolsLaws.{error_same}
 use Rattle.device_run.proofs.Rotating.{rotation_start, rotation_over, rotation_counted, rotation_running, rotation_kept, rotation_room, rotation_performs, rotation_ended, rotation_ended_counted, rotation_more}
-use Rattle.device_run.proofs.Stepping.{failed_then}
 use Rattle.std.proofs.Common.{◌^◌, arith}
 use Rattle.device_run.proofs.steps.run_turns.Goals as goal
+use Rattle.kd_device.specs.TimeLaws.{rose_either}
 
 pub loop-turn-init : goal.loop-turn-init
 loop-turn-init g c = rotation_start c.args.store.now.identity.fingerprint c.args.core c.args.store.now c.args.turns c.args.commits.now (g.D.Device.state c.args.device.now) (g.D.Device.leaves c.args.device.now) c.requires.running c.requires.kept
@@ -33,7 +33,7 @@ returns-clause-counted g c = rotation_counted _ _ _ _ _ _ _ _ _ _ _ _ _ _ c.loop
 
 pub returns-in_err-next-clause-failed : goal.returns-in_err-next-clause-failed
 returns-in_err-next-clause-failed g c = λ is.
-    failed_then (g.D.Device.state c.args.device.now) (g.D.Device.state c.loop-turn.device) (g.D.Device.state c.do_turn.new.device) c.loop-turn.invariant.run.performs.frame (c.in_err-next.ensures.failed (error_same _ _ c.from_residual.result c.in_err-next.field-0.0 _ c.from_residual.ensures.1 is))
+    rose_either (g.D.Device.state c.args.device.now) (g.D.Device.state c.loop-turn.device) (g.D.Device.state c.do_turn.new.device) c.loop-turn.invariant.run.performs.frame (c.in_err-next.ensures.failed (error_same _ _ c.from_residual.result c.in_err-next.field-0.0 _ c.from_residual.ensures.1 is))
 
 pub returns-then-unmoved-tasks-clause-any : goal.returns-then-unmoved-tasks-clause-any
 returns-then-unmoved-tasks-clause-any g c = rotation_performs _ _ _ _ _ _ _ _ _ _ _ _ _ _ c.loop-turn.invariant c.loop-turn-test.true (g.D.Device.state c.do_turn.new.device) (g.D.Device.leaves c.do_turn.new.device) c.do_turn.ensures.any

@@ -1,4 +1,4 @@
-use Rattle.std.specs.Prelude.{◌≡◌, List, filter}
+use Rattle.std.specs.Prelude.{filter}
 use Rattle.std.proofs.Common.{ap, sym, subst, ◌∙◌}
 use Rattle.std.proofs.lemmas.Result.{on_ok_weaker}
 use Rattle.kdcs_types.specs.declared.service.Service.{Service}

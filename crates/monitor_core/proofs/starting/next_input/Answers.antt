@@ -5,11 +5,12 @@ use Rattle.core_state.specs.KeptLaws.{found_open}
 use Rattle.core_state.specs.Standing.{state_of}
 use Rattle.core_state.specs.Whole.{app_of}
 use Rattle.monitor_core.proofs.Entering.{row_order}
-use Rattle.monitor_core.proofs.Starts.{awaiting_closed, awaiting_rests, next_kept, next_nowhere, next_row}
+use Rattle.monitor_core.proofs.Starts.{awaiting_closed, awaiting_row, next_kept, next_row}
 use Rattle.monitor_core.proofs.starting.next_input.Goals as goal
+use Rattle.laws_of_tables.specs.CommandedLaws.{awaits_not_running}
 
 pub follow_keep-requires-clause-rests : goal.follow_keep-requires-clause-rests
-follow_keep-requires-clause-rests c = awaiting_rests (state_of c.args.parts.now) c.args.user.now c.requires.awaits
+follow_keep-requires-clause-rests c = awaits_not_running (state_of c.args.parts.now) c.args.user.now c.requires.awaits
 
 pub returns-then-contains_key-clause-state : goal.returns-then-contains_key-clause-state
 returns-then-contains_key-clause-state c =
@@ -18,11 +19,11 @@ returns-then-contains_key-clause-state c =
     (sym (found_open c.args.parts.now.active (Dialogue c.args.user.now)) ∙ sym c.contains_key.ensures ∙ c.if-contains_key.true))
     c.follow_keep.ensures.state
 
-pub returns-in_default-clause-state : goal.returns-in_default-clause-state
-returns-in_default-clause-state c =
-    next_nowhere (app_of c.args.parts.now) (state_of c.args.parts.now) c.args.user.now c.args.lterm.now c.args.text
+pub unreachable-requires : goal.unreachable-requires
+unreachable-requires c =
+    awaiting_row (state_of c.args.parts.now) c.args.user.now
     (awaiting_closed c.args.parts.now c.args.user.now c.contains_key.result c.contains_key.ensures c.if-contains_key.false c.requires.awaits)
-    (sym c.in_default.is ∙ c.in_ok-row.ensures)
+    (sym c.in_default.is ∙ c.in_ok-row.ensures) c.requires.awaits
 
 pub open_with-requires-clause-order : goal.open_with-requires-clause-order
 open_with-requires-clause-order c = row_order c.args.parts.now.tables (Dialogue c.args.user.now) c.in-Some.row c.requires.whole.facts.1.order (sym c.in-Some.is ∙ c.in_ok-row.ensures)

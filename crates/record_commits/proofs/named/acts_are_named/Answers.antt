@@ -7,5 +7,5 @@ use Rattle.record_commits.proofs.named.acts_are_named.Goals as goal
 pub loop-act-preserved : goal.loop-act-preserved
 loop-act-preserved c = All-more IsNamedAct c.args.acts.now c.loop-act.act-index c.act-item.result c.loop-act-test.true c.loop-act.invariant (subst IsNamedAct c.act-item.is c.act_is_named.ensures)
 
-pub returns : goal.returns
-returns c = subst (All IsNamedAct) (take_all c.loop-act.act-index c.args.acts.now (omega (arith, c.loop-act-test.false))) c.loop-act.invariant
+pub returns-clause-named : goal.returns-clause-named
+returns-clause-named c = subst (All IsNamedAct) (take_all c.loop-act.act-index c.args.acts.now (omega (arith, c.loop-act-test.false))) c.loop-act.invariant

@@ -5,7 +5,7 @@ use Rattle.kdcs_types.specs.declared.act.Changes.{Changes}
 use Rattle.kdcs_types.specs.declared.key.ServiceId.{ServiceId}
 use Rattle.kdcs_types.specs.declared.service.Service.{Service}
 use Rattle.kdcs_types.specs.Tables.{AreChanges}
-use Rattle.laws_of_commits.specs.EndsLaws.{point_made, point_row-fits}
+use Rattle.laws_of_commits.specs.EndsLaws.{point_made}
 use Rattle.abstract_monitor.specs.Endings.{joined, service_change}
 use Rattle.open_transaction.specs.declared.open.OpenTransaction.{OpenTransaction}
 use Rattle.open_transaction.specs.Transactions.{Boxed, boxed_transaction, HasOrder}
@@ -13,6 +13,7 @@ use Rattle.service_ends.specs.declared.point.Ended.{Ended}
 use Rattle.service_ends.specs.Ending.{IsClosed}
 use Rattle.service_ends.proofs.Ended.{goes_on, passed_as, points_as, refused_as, refuses_as, row_after_order}
 use Rattle.service_ends.proofs.point.settle_transaction.Goals as goal
+use Rattle.laws_of_tables.specs.PointsLaws.{point_row_fits}
 
 pub end_transaction-requires-clause-closed : goal.end_transaction-requires-clause-closed
 end_transaction-requires-clause-closed c =
@@ -37,7 +38,7 @@ synchronise-requires-clause-rests c =
     let p = c.args.parts.now in
     let passed = passed_as p.generation p.tables c.args.transaction c.args.outcome _ c.in-Synced.changes c.in-Synced.row c.in-Synced.kept (sym c.in-Synced.is ∙ c.in_ok-cause.ensures) in
     goes_on p c.args.transaction _ c.in-Synced.row c.requires.closed (ap (λ (e : Ended). e.id) c.in_ok-ended.ensures ∙ ap (λ (w : OpenTransaction). w.id) c.deref.ensures)
-    (subst HasOrder (sym passed.row_is) (row_after_order c.args.transaction.value.id _ (point_row-fits p.generation c.args.transaction.value.id (boxed_transaction c.args.transaction) c.args.outcome c.requires.closed.stands.can.lssbs_order)))
+    (subst HasOrder (sym passed.row_is) (row_after_order c.args.transaction.value.id _ (point_row_fits p.generation c.args.transaction.value.id (boxed_transaction c.args.transaction) c.args.outcome c.requires.closed.stands.can.lssbs_order)))
 
 pub returns-in-Refused-clause-exact : goal.returns-in-Refused-clause-exact
 returns-in-Refused-clause-exact c =

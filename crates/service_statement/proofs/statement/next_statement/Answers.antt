@@ -1,9 +1,17 @@
-use Rattle.std.proofs.Common.{sym, ◌∙◌}
+use Rattle.std.specs.Prelude.{is_some}
+use Rattle.std.proofs.Common.{ap, sym, ◌∙◌, true≢false}
 use Rattle.open_transaction.specs.Transactions.{transaction_of}
 use Rattle.laws_of_applications.specs.Applied.{applied}
 use Rattle.laws_of_applications.specs.AppliedLaws.{unit_found}
+use Rattle.laws_of_tables.specs.ReadyLaws.{opens_have_units}
 use Rattle.service_statement.proofs.Stated.{asks_exact, asks_stands, asks_waits, ends_exact, ends_holders, plain_exact, plain_holders}
 use Rattle.service_statement.proofs.statement.next_statement.Goals as goal
+
+pub unreachable-requires : goal.unreachable-requires
+unreachable-requires c =
+    let o = c.args.outside.now in
+    true≢false (sym (opens_have_units (applied o.generation.now o.units.now) c.args.transaction.now.id (transaction_of c.args.transaction.now) c.requires.application c.requires.can)
+    ∙ ap is_some (sym (c.in_default.ensures.unit ∙ unit_found o.generation.now o.units.now c.args.transaction.now.current c.requires.fit)))
 
 pub perform_call-requires-clause-stands : goal.perform_call-requires-clause-stands
 perform_call-requires-clause-stands c =

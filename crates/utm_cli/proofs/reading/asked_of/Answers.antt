@@ -1,8 +1,16 @@
-use Rattle.std.proofs.Common.{ap, ◌∙◌}
+use Rattle.std.proofs.Common.{ap, ◌∙◌, subst, Err}
 use Rattle.utm_cli.specs.declared.error.Refusal.{Refusal}
+use Rattle.utm_cli.specs.Asking.{AskFor}
 use Rattle.utm_cli.proofs.TextsSaid.{application_is, application_one, script_is, script_refused, script_one, script_never_room, asked_one, said_refused, made_fit}
 use Rattle.utm_cli.proofs.Scripts.{few_turns}
+use Rattle.utm_cli.proofs.MadeReading.{not_refused}
 use Rattle.utm_cli.proofs.reading.asked_of.Goals as goal
+
+pub returns-in_err-application-clause-refused : goal.returns-in_err-application-clause-refused
+returns-in_err-application-clause-refused c = λ why is.
+    let e = c.in_err-application.field-0.0 in
+    let same = application_is _ c.from_residual.result e why c.from_residual.ensures.1 is in
+    subst (λ (k : Refusal). AskFor c.args.word c.args.definition.now c.args.units.now c.args.script.now (Err k)) same.1 (c.in_err-application.ensures.fault same.0)
 
 pub returns-in_err-application-clause-refused_one : goal.returns-in_err-application-clause-refused_one
 returns-in_err-application-clause-refused_one c = λ why is said h.
@@ -38,3 +46,13 @@ returns-clause-can c = record {
 
 pub fitted_units_make_an_application-requires : goal.fitted_units_make_an_application-requires
 fitted_units_make_an_application-requires c = record { fit = made_fit c.args.definition.now c.args.units.now c.in_ok-application.application c.in_ok-application.ensures.found }
+
+-- ---- the made texts are not refused
+
+pub returns-in_err-application-clause-made : goal.returns-in_err-application-clause-made
+returns-in_err-application-clause-made c = λ n within made why is.
+    not_refused c.made_texts_are_taken.ensures c.args.word n within c.args.definition.now c.args.units.now c.args.script.now made why (returns-in_err-application-clause-refused_one c why is)
+
+pub returns-in_err-commands-clause-made : goal.returns-in_err-commands-clause-made
+returns-in_err-commands-clause-made c = λ n within made why is.
+    not_refused c.made_texts_are_taken.ensures c.args.word n within c.args.definition.now c.args.units.now c.args.script.now made why (returns-in_err-commands-clause-refused_one c why is)

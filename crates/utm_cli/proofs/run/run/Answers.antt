@@ -63,6 +63,9 @@ returns-in-Err-NotKdcfile-clause-other_part g c = λ told stored other.
     let refused = c.in-Err-NotKdcfile.ensures.refused (ap (λ (e : OpenError). Err e) c.in-Err-NotKdcfile.field-0-is) told in
     absurd (refused_or_other c.args.asked (g.D.Device.state c.args.device.now).holds stored refused other)
 
+pub returns-in-Err-NotKdcfile-clause-looks : goal.returns-in-Err-NotKdcfile-clause-looks
+returns-in-Err-NotKdcfile-clause-looks g c = λ code. c.in-Err-NotKdcfile.ensures.looks (ap (λ (e : OpenError). Err e) c.in-Err-NotKdcfile.field-0-is)
+
 pub returns-in-Err-NotKdcfile-clause-accepted : goal.returns-in-Err-NotKdcfile-clause-accepted
 returns-in-Err-NotKdcfile-clause-accepted g c = λ told t starts.
     let refused = c.in-Err-NotKdcfile.ensures.refused (ap (λ (e : OpenError). Err e) c.in-Err-NotKdcfile.field-0-is) told in
@@ -97,6 +100,9 @@ returns-clause-other_part g c = λ told stored others.
     let rests = c.run_over.ensures.still told (λ t starts. not_of_others c.args.asked (g.D.Device.state c.args.device.now).holds t c.in-Err-OtherGeneration.stored starts other) in
     subst (λ (s : List ℕ). SaidPart (other_generation_line s) (g.D.Device.state c.args.device.now) (g.D.Device.state c.refuse_other.new.device)) (one_other c.args.asked (g.D.Device.state c.args.device.now).holds c.in-Err-OtherGeneration.stored stored other others)
     (part_then (other_generation_line c.in-Err-OtherGeneration.stored) (g.D.Device.state c.args.device.now) (g.D.Device.state c.run_over.new.device) (g.D.Device.state c.refuse_other.new.device) (g.D.Device.leaves c.args.device.now) (g.D.Device.leaves c.run_over.new.device) rests (c.refuse_other.ensures.part told_b))
+
+pub returns-clause-looks : goal.returns-clause-looks
+returns-clause-looks g c = λ code. c.in-Err-OtherGeneration.ensures.looks_at_other c.in-Err-OtherGeneration.stored (ap (λ (e : OpenError). Err e) c.in-Err-OtherGeneration.field-0-is)
 
 pub returns-clause-accepted : goal.returns-clause-accepted
 returns-clause-accepted g c = λ told t starts.

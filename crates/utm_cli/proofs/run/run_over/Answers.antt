@@ -28,6 +28,12 @@ returns-in-Gen-clause-done g c =
 pub returns-in-Gen-clause-other : goal.returns-in-Gen-clause-other
 returns-in-Gen-clause-other g c = λ print is told. (over g c, c.run_stored.ensures.other print is told)
 
+pub returns-in-Gen-clause-looks : goal.returns-in-Gen-clause-looks
+returns-in-Gen-clause-looks g c = λ is. over g c
+
+pub returns-in-Gen-clause-looks_at_other : goal.returns-in-Gen-clause-looks_at_other
+returns-in-Gen-clause-looks_at_other g c = λ stored is. over g c
+
 pub returns-in-Gen-clause-still : goal.returns-in-Gen-clause-still
 returns-in-Gen-clause-still g c = λ told none. c.run_stored.ensures.still told (λ t from. none t (starts c.args.asked _ (over g c) t from))
 

@@ -10,9 +10,10 @@ use Rattle.utm_cli.specs.Doing.{Opens, identity_of, acts_of}
 use Rattle.device_acts.specs.Performing.{commits_nothing}
 use Rattle.kd_base.specs.ToolsLaws.{error_same}
 use Rattle.utm_cli.proofs.ByWord.{not_empty, opened_once}
-use Rattle.utm_cli.proofs.Ran.{opening_cut, run_cut, rose_either, told_then}
+use Rattle.utm_cli.proofs.Ran.{opening_cut, run_cut, told_then}
 use Rattle.utm_cli.proofs.run.run_stored.Given.{Over}
 use Rattle.utm_cli.proofs.run.run_stored.Goals as goal
+use Rattle.kd_device.specs.TimeLaws.{rose_either}
 
 pub returns-in_err-store-clause-refused : goal.returns-in_err-store-clause-refused
 returns-in_err-store-clause-refused g c = λ is told.

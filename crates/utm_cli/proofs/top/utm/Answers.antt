@@ -1,18 +1,19 @@
-use Rattle.std.proofs.Common.{◌≡◌, ◌∙◌, ⊎_elim, inl, inr, sym, ap, subst, map, ℕ, List, [], ◌∷◌, Ok, Err}
+use Rattle.std.proofs.Common.{◌≡◌, ◌∙◌, ⊎_elim, inl, inr, refl, sym, ap, subst, map, ℕ, List, [], ◌∷◌, Ok, Err}
 use Rattle.std.specs.Prelude.{IsTrue, true}
 use Rattle.std.specs.String.{string_bytes}
 use Rattle.utm_cli.specs.declared.error.Refusal.{Refusal}
 use Rattle.utm_cli.specs.declared.error.TextError.{TextError}
 use Rattle.utm_cli.specs.Words.{request_of, status_of, refusal_line, not_a_kdcfile_line, other_generation_line}
 use Rattle.device_acts.specs.Said.{SameDisk, Said, SaidPart}
-use Rattle.utm_cli.specs.Asking.{Reading, AreThere, app_of}
+use Rattle.utm_cli.specs.Asking.{Reading, AreThere}
 use Rattle.utm_cli.specs.Doing.{Starts, Refuses, IsOfOthers, acts_of}
 use Rattle.device_acts.specs.Performing.{commits_nothing}
 use Rattle.utm_cli.specs.declared.words.Word.{Word}
-use Rattle.utm_cli.specs.Promise.{IsOneOf, Request, Reads, IsCutOfRun, MakesFile, RunsLawfully, AttachedBy}
+use Rattle.utm_cli.specs.Promise.{IsOneOf, Request, Reads, IsCutOfRun, MakesFile, AttachedBy}
 use Rattle.utm_cli.proofs.Asking.{reads_of, one_reading, not_missed, misses_of, ok_not, moved, err_not, err_same, cut_at_call, cut_since_call}
 use Rattle.utm_cli.proofs.Ends.{ends}
-use Rattle.utm_cli.proofs.Codes.{of_run, of_file, of_done, of_refused, not_refused, not_device}
+use Rattle.utm_cli.proofs.Codes.{line_same, of_run, of_file, of_done, of_refused, not_refused, not_device}
+use Rattle.utm_cli.proofs.MadeReading.{asked_make, looks_not, not_of_file}
 use Rattle.utm_cli.proofs.top.utm.Given.{Over}
 use Rattle.utm_cli.proofs.top.utm.Goals as goal
 
@@ -43,6 +44,13 @@ returns-in-Ok-clause-texts_part g c = λ told why said. absurd (ok_not _ _ _ (on
 
 pub returns-in-Ok-clause-texts_names : goal.returns-in-Ok-clause-texts_names
 returns-in-Ok-clause-texts_names g c = λ told why said. absurd (ok_not _ _ _ (one_said g c told) why said)
+
+pub returns-in-Ok-clause-texts_failed : goal.returns-in-Ok-clause-texts_failed
+returns-in-Ok-clause-texts_failed g c = λ told why said. absurd (ok_not _ _ _ (one_said g c told) why said)
+
+pub returns-in-Ok-clause-memory_early : goal.returns-in-Ok-clause-memory_early
+returns-in-Ok-clause-memory_early g c = λ code none.
+    absurd (none.none c.in-Ok.asked (reads_of _ _ _ _ (asked_ok g c) (Ok c.in-Ok.asked) (c.in-Ok.ensures.found none.told)))
 
 pub returns-in-Ok-clause-texts_only : goal.returns-in-Ok-clause-texts_only
 returns-in-Ok-clause-texts_only g c = λ code. absurd (not_refused c.run.result.code c.run.ensures.code code)
@@ -77,11 +85,6 @@ returns-in-Ok-clause-other_part g c = λ told told_device f said stored.
     let a = g.D.Device.state c.args.device.now in
     let d = g.D.Device.state c.run.new.device in
     moved _ _ _ one (λ x. IsOfOthers stored x a.holds → SaidPart (other_generation_line stored) a d) f said (λ other. c.run.ensures.other_part told_device stored other)
-
-pub returns-in-Ok-clause-laws : goal.returns-in-Ok-clause-laws
-returns-in-Ok-clause-laws g c = λ told attached f bytes t said.
-    let one = one_said g c told in
-    moved _ _ _ one (λ x. Starts x bytes t → RunsLawfully (app_of x) t x.commands) f said (λ starts. c.scripts_run_lawfully.ensures bytes t starts)
 
 pub returns-in-Ok-clause-missing : goal.returns-in-Ok-clause-missing
 returns-in-Ok-clause-missing g c = λ told misses.
@@ -148,7 +151,17 @@ pub returns-in-Ok-clause-attached : goal.returns-in-Ok-clause-attached
 returns-in-Ok-clause-attached g c = λ code told_device.
     (c.in-Some.word, (c.in-Some.base.now, asked_ok g c, subst (λ (word : Word). AttachedBy word c.in-Some.base.now (g.D.Device.state c.args.device.now) (g.D.Device.state c.run.new.device)) c.in-Ok.ensures.word (c.run.ensures.attached code told_device)))
 
+pub returns-in-Ok-clause-make_accepted : goal.returns-in-Ok-clause-make_accepted
+returns-in-Ok-clause-make_accepted g c = λ n operand requested.
+    let word = asked_make (map string_bytes c.args.words.now.items) c.in-Some.word c.in-Some.base.now n operand (asked_ok g c) requested in
+    not_of_file c.run.result.code c.run.ensures.code (λ four. looks_not c.in-Ok.asked.word n (c.in-Ok.ensures.word ∙ word) (c.run.ensures.looks four))
+
 -- ---- they are refused
+
+pub returns-in-Err-Refused-clause-make_accepted : goal.returns-in-Err-Refused-clause-make_accepted
+returns-in-Err-Refused-clause-make_accepted g c = λ n operand requested.
+    let word = asked_make (map string_bytes c.args.words.now.items) c.in-Some.word c.in-Some.base.now n operand (asked_refused g c) requested in
+    absurd (c.in-Err-Refused.ensures.made n word c.in-Err-Refused.why (ap (λ (e : TextError). Err e) c.in-Err-Refused.field-0-is))
 
 pub returns-in-Err-Refused-clause-texts : goal.returns-in-Err-Refused-clause-texts
 returns-in-Err-Refused-clause-texts g c = λ told other said.
@@ -168,6 +181,16 @@ returns-in-Err-Refused-clause-texts_part g c = λ told other said told_device.
     let one = one_refused g c told in
     subst (λ (x : Refusal). SaidPart (refusal_line x) (g.D.Device.state c.args.device.now) (g.D.Device.state c.refuse_texts.new.device)) (c.in-Err-Refused.why-is ∙ sym (err_same _ _ _ one other said)) (c.refuse_texts.ensures.part told_device)
 
+pub returns-in-Err-Refused-clause-memory_room : goal.returns-in-Err-Refused-clause-memory_room
+returns-in-Err-Refused-clause-memory_room g c = λ code. c.in-Err-Refused.ensures.refused_fine c.in-Err-Refused.why (ap (λ (e : TextError). Err e) c.in-Err-Refused.field-0-is)
+
+pub returns-in-Err-Refused-clause-memory_early : goal.returns-in-Err-Refused-clause-memory_early
+returns-in-Err-Refused-clause-memory_early g c = λ code none. record {
+  room = returns-in-Err-Refused-clause-memory_room g c code;
+  disk = c.refuse_texts.ensures.disk;
+  line = line_same c.refuse_texts.result.code (g.D.Device.state c.args.device.now) (g.D.Device.state c.refuse_texts.new.device) c.refuse_texts.ensures.frame c.refuse_texts.ensures.told code;
+}
+
 pub returns-in-Err-Refused-clause-file : goal.returns-in-Err-Refused-clause-file
 returns-in-Err-Refused-clause-file g c = λ told told_device f said. absurd (err_not _ _ _ (one_refused g c told) f said)
 
@@ -179,9 +202,6 @@ returns-in-Err-Refused-clause-other g c = λ told told_device f said. absurd (er
 
 pub returns-in-Err-Refused-clause-other_part : goal.returns-in-Err-Refused-clause-other_part
 returns-in-Err-Refused-clause-other_part g c = λ told told_device f said. absurd (err_not _ _ _ (one_refused g c told) f said)
-
-pub returns-in-Err-Refused-clause-laws : goal.returns-in-Err-Refused-clause-laws
-returns-in-Err-Refused-clause-laws g c = λ told attached f bytes t said. absurd (err_not _ _ _ (one_refused g c told) f said)
 
 pub returns-in-Err-Refused-clause-missing : goal.returns-in-Err-Refused-clause-missing
 returns-in-Err-Refused-clause-missing g c = λ told misses.
@@ -219,6 +239,11 @@ asked_room g c = ap (λ l. request_of (map string_bytes l)) (sym c.deref.ensures
 missed : (g : Over) (c : goal.In-Err-Room g) → IsTrue (g.R.Room.room c.args.room.now).sure → (d u s : List ℕ) → AreThere c.in-Some.word c.in-Some.base.now (g.R.Room.room c.args.room.now) d u s → ⊥
 missed g c sure d u s there = c.in-Err-Room.ensures.sure sure d u s there (ap (λ (e : TextError). Err e) c.in-Err-Room.field-0-is)
 
+pub returns-in-Err-Room-clause-make_accepted : goal.returns-in-Err-Room-clause-make_accepted
+returns-in-Err-Room-clause-make_accepted g c = λ n operand requested.
+    let word = asked_make (map string_bytes c.args.words.now.items) c.in-Some.word c.in-Some.base.now n operand (asked_room g c) requested in
+    absurd (c.in-Err-Room.ensures.made_there n word (ap (λ (e : TextError). Err e) c.in-Err-Room.field-0-is))
+
 pub returns-in-Err-Room-clause-room_sure : goal.returns-in-Err-Room-clause-room_sure
 returns-in-Err-Room-clause-room_sure g c = λ code sure.
     misses_of _ _ _ _ (asked_room g c) (missed g c sure)
@@ -248,3 +273,23 @@ pub returns-in-Err-Memory-clause-ended : goal.returns-in-Err-Memory-clause-ended
 returns-in-Err-Memory-clause-ended g c = λ told told_device only f t said starts.
     let a = g.D.Device.state c.args.device.now in
     ends f t a a (returns-in-Err-Memory-clause-cut g c told told_device only f t said starts a.holds a.sent (g.met.D.Device.holds_now c.args.device.now told_device))
+
+pub returns-in-Err-Memory-clause-memory_room : goal.returns-in-Err-Memory-clause-memory_room
+returns-in-Err-Memory-clause-memory_room g c = λ code. c.in-Err-Memory.ensures.memory (ap (λ (e : TextError). Err e) c.in-Err-Memory.field-0-is)
+
+pub returns-in-Err-Memory-clause-memory_early : goal.returns-in-Err-Memory-clause-memory_early
+returns-in-Err-Memory-clause-memory_early g c = λ code none. record { room = returns-in-Err-Memory-clause-memory_room g c code; disk = refl; line = refl }
+
+-- ---- the laws
+
+pub returns-in-Ok-clause-laws : goal.returns-in-Ok-clause-laws
+returns-in-Ok-clause-laws g c = λ told. c.scripts_run_lawfully.ensures (map string_bytes c.args.words.now.items) (g.R.Room.room c.args.room.now)
+
+pub returns-in-Err-Refused-clause-laws : goal.returns-in-Err-Refused-clause-laws
+returns-in-Err-Refused-clause-laws g c = λ told. c.scripts_run_lawfully.ensures (map string_bytes c.args.words.now.items) (g.R.Room.room c.args.room.now)
+
+pub returns-in-Err-Room-clause-laws : goal.returns-in-Err-Room-clause-laws
+returns-in-Err-Room-clause-laws g c = λ told. c.scripts_run_lawfully.ensures (map string_bytes c.args.words.now.items) (g.R.Room.room c.args.room.now)
+
+pub returns-in-Err-Memory-clause-laws : goal.returns-in-Err-Memory-clause-laws
+returns-in-Err-Memory-clause-laws g c = λ told. c.scripts_run_lawfully.ensures (map string_bytes c.args.words.now.items) (g.R.Room.room c.args.room.now)

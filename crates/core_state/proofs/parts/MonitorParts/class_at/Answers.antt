@@ -2,8 +2,8 @@ use Rattle.std.proofs.Common.{◌∙◌}
 use Rattle.core_state.specs.KeptLaws.{found_class, none_found}
 use Rattle.core_state.proofs.parts.MonitorParts.class_at.Goals as goal
 
-pub returns-in-Some : goal.returns-in-Some
-returns-in-Some c = c.class_of.ensures ∙ rw c.deref.ensures (found_class c.args.self.now c.args.id.now c.in-Some.transaction.now c.in-Some.ensures.value)
+pub returns : goal.returns
+returns c = c.class_of.ensures ∙ rw c.deref.ensures (found_class c.args.self.now c.args.id.now c.in-Some.transaction.now c.in-Some.ensures.value)
 
-pub returns-in-None : goal.returns-in-None
-returns-in-None c = absurd (none_found c.args.self.now c.args.id.now c.in-None.ensures.value c.requires)
+pub unreachable-requires : goal.unreachable-requires
+unreachable-requires c = none_found c.args.self.now c.args.id.now c.in-None.ensures.value c.requires

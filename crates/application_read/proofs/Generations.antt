@@ -1,0 +1,32 @@
+-- What texts generate is sound, and its units fit it.
+use Rattle.std.proofs.Common.{ℕ, List, [], sym, subst}
+use Rattle.kdcdef_types.specs.declared.entry.TacEntry.{TacEntry}
+use Rattle.kdcdef_types.specs.declared.limits.Limits.{Limits}
+use Rattle.kdcdef_types.specs.Generation.{Generated}
+use Rattle.kdcdef_lex.proofs.Bounds.{are_within_bounds}
+use Rattle.kdcdef_read.proofs.Apart.{are_read}
+use Rattle.kdcdef_check.specs.Soundness.{IsSound}
+use Rattle.kdcdef_check.proofs.Sound.{sound}
+use Rattle.unit_types.specs.UnitText.{UnitText}
+use Rattle.unit_check.specs.Fitted.{IsFit, AreFit}
+use Rattle.application_read.specs.Definition.{Generates}
+use Rattle.application_read.specs.Texts.{TextsGenerate}
+use Rattle.application_read.specs.declared.application.Application.{Application}
+use Rattle.application_read.proofs.Named.{all_named}
+
+pub generated_sound : (text : List ℕ) (g : Generated) → Generates text g → IsSound g
+generated_sound text g h =
+    let ss = h.0 in
+    let raw = h.1.0 in
+    let stand = h.1.2 in
+    subst IsSound (sym h.3) (sound ss (are_read raw ss (are_within_bounds text raw h.1.1) stand) (all_named [] raw ss stand.0) h.2)
+
+pub units_fitted : (definition units : List ℕ) (a : Application) → TextsGenerate definition units a → IsFit a.generation a.units × AreFit a.units.limits a.units.tacs a.units.units
+units_fitted definition units a h =
+    let g = a.generation in
+    let u = a.units in
+    let are = h.1.2 in (
+      record { limits = are.limits; tacs = are.tacs },
+      subst (λ (limits : Limits). AreFit limits u.tacs u.units) (sym are.limits)
+          (subst (λ (tacs : List (List ℕ × TacEntry)). AreFit g.limits tacs u.units) (sym are.tacs) (subst (λ (all : List UnitText). AreFit g.limits g.tacs all) (sym are.units) are.fit)),
+    )

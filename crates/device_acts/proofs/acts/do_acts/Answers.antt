@@ -1,0 +1,45 @@
+use Rattle.std.proofs.Common.{◌∙◌, ◌∷◌, [], refl, sym, subst}
+use Rattle.std.specs.Prelude.{IsTrue}
+use Rattle.kd_records.specs.Identity.{Identity}
+use Rattle.device_acts.specs.Performing.{Performs, content_after, AreCommittable}
+use Rattle.device_acts.specs.ActingLaws.{running_start, act_performs, act_more}
+use Rattle.device_acts.specs.ContentsLaws.{content_goes, content_more, can_here, can_more}
+use Rattle.device_acts.proofs.acts.do_acts.Goals as goal
+
+pub loop-act-init : goal.loop-act-init
+loop-act-init g c = record {
+  identity = refl;
+  content = refl;
+  can = c.requires.can;
+  run = running_start content_after content_goes (g.S.Store.stands (g.S.Store.identity c.args.store.now)) (g.S.Store.file c.args.store.now) (g.S.Store.kept c.args.store.now) c.args.acts.now (g.D.Device.state c.args.device.now) (g.D.Device.leaves c.args.device.now) c.requires.kept;
+}
+
+pub do_act-requires-clause-kept : goal.do_act-requires-clause-kept
+do_act-requires-clause-kept g c = λ told. c.loop-act.invariant.run.sent.rest (subst IsTrue c.loop-act.invariant.run.performs.frame.told told)
+
+pub do_act-requires-clause-can : goal.do_act-requires-clause-can
+do_act-requires-clause-can g c =
+    let act = c.act-item.result in
+    subst (λ (j : Identity). AreCommittable j (g.S.Store.kept c.loop-act.store) (act ∷ [])) (sym c.loop-act.invariant.identity)
+    (can_here (g.S.Store.kept c.loop-act.store) c.args.acts.now c.loop-act.act-index act c.act-item.is c.loop-act-test.true (g.S.Store.identity c.args.store.now) c.loop-act.invariant.can)
+
+pub returns-in_err-do_act-clause-any : goal.returns-in_err-do_act-clause-any
+returns-in_err-do_act-clause-any g c =
+    act_performs content_after content_goes _ _ _ _ _ _ _ c.act-item.is c.loop-act-test.true _ _ _ _ _ _ (λ told. c.loop-act.invariant.content) c.loop-act.invariant.run
+    (subst (λ (j : Identity). Performs content_after (g.S.Store.stands j) (g.S.Store.kept c.loop-act.store) (c.act-item.result ∷ []) (g.D.Device.state c.loop-act.device) (g.D.Device.state c.do_act.new.device) (g.D.Device.leaves c.loop-act.device) (g.D.Device.leaves c.do_act.new.device)) c.loop-act.invariant.identity c.do_act.ensures.any)
+
+pub loop-act-preserved : goal.loop-act-preserved
+loop-act-preserved g c =
+    let now = g.S.Store.kept c.loop-act.store in
+    let next = g.S.Store.kept c.do_act.new.store in
+    let i = c.loop-act.act-index in
+    let act = c.act-item.result in
+    let acts = c.args.acts.now in
+    record {
+      identity = c.do_act.ensures.identity ∙ c.loop-act.invariant.identity;
+      content = content_more now acts i act c.act-item.is c.loop-act-test.true (g.S.Store.kept c.args.store.now) next c.loop-act.invariant.content c.in_ok-do_act.ensures.content;
+      can = can_more now acts i act c.act-item.is c.loop-act-test.true (g.S.Store.identity c.args.store.now) next c.loop-act.invariant.can c.in_ok-do_act.ensures.content;
+      run = act_more content_after content_goes _ _ _ _ _ _ _ c.act-item.is c.loop-act-test.true _ _ _ _ _ _ (λ told. c.loop-act.invariant.content) c.loop-act.invariant.run
+          (subst (λ (j : Identity). Performs content_after (g.S.Store.stands j) (g.S.Store.kept c.loop-act.store) (c.act-item.result ∷ []) (g.D.Device.state c.loop-act.device) (g.D.Device.state c.do_act.new.device) (g.D.Device.leaves c.loop-act.device) (g.D.Device.leaves c.do_act.new.device)) c.loop-act.invariant.identity c.do_act.ensures.any)
+          (g.S.Store.file c.do_act.new.store) c.in_ok-do_act.ensures.done;
+    }

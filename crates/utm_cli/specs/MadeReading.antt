@@ -1,0 +1,30 @@
+-- What `make N` asks for, and what it reports.
+use Rattle.std.specs.Prelude.{◌≡◌, ◌++◌, ℕ, List, Ok}
+use Rattle.kd_device.specs.Room.{RoomState}
+use Rattle.kdcs_types.specs.declared.act.Act.{Act}
+use Rattle.kdcs_types.specs.Tables.{empty_tables}
+use Rattle.abstract_monitor.specs.Made.{made_application, made_script, made_lines}
+use Rattle.abstract_monitor.specs.Trace.{trace, tables_after, bytes_of}
+use Rattle.warm_start.specs.Fingerprints.{fingerprint as print_of}
+use Rattle.utm_cli.specs.declared.words.Word.TheVariants.{Make}
+use Rattle.utm_cli.specs.Asking.{Errand, app_of}
+use Rattle.utm_cli.specs.MadeApplication.{generated_application}
+use Rattle.utm_cli.specs.MadeReport.{digest_line, report_of}
+use Rattle.utm_cli.specs.MadeTexts.{definition_text, units_text}
+use Rattle.utm_cli.specs.Promise.{Request, Reads}
+
+-- the made application with its script for n inputs
+abbrev pub made_errand : ℕ → Errand
+made_errand n = record { word = Make n; application = generated_application; fingerprint = print_of definition_text units_text; commands = made_script n }
+
+-- it is asked for whatever the room
+abbrev pub MakeIsRead : Type 0
+MakeIsRead = (words : List (List ℕ)) (n : ℕ) (operand : List ℕ) (room : RoomState) → Request words (Make n) operand → Reads words room (Ok (made_errand n))
+
+-- what the run of the made script does
+abbrev pub made_acts : ℕ → List Act
+made_acts n = trace made_application empty_tables (made_script n)
+
+-- it reports the made lines, and the digest behind them
+abbrev pub MakeReports : Type 0
+MakeReports = (n : ℕ) → report_of n (app_of (made_errand n)) (made_script n) ≡ made_lines n ++ digest_line (bytes_of (made_acts n)) (tables_after empty_tables (made_acts n))

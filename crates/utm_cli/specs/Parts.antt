@@ -1,0 +1,43 @@
+-- The words in which the parts of a call promise.
+use Rattle.std.specs.Prelude.{ℕ, IsTrue, List}
+use Rattle.kd_device.specs.Device.{State, LeavesOnly, Only}
+use Rattle.kd_records.specs.Identity.{Identity}
+use Rattle.kdcs_types.specs.Tables.{TableRows}
+use Rattle.abstract_monitor.specs.Listing.{listing}
+use Rattle.abstract_monitor.specs.Trace.{tables_after}
+use Rattle.warm_start.specs.Opening.{IsOpening}
+use Rattle.warm_start.specs.Stands.{StandsForTables}
+use Rattle.device_acts.specs.Performing.{Performs}
+use Rattle.utm_cli.specs.Asking.{Errand}
+use Rattle.utm_cli.specs.Doing.{Opens, Starts, identity_of, acts_of}
+use Rattle.utm_cli.specs.Promise.{RanOver, IsCutOver, IsCutOfRun, SaysFront}
+
+-- a stop within the opening of a file leaves what it may leave there
+abbrev pub LeavesOpening : Identity → (a b : State) → (la lb : ℕ → List ℕ → List ℕ → Type 0) → Type 0
+LeavesOpening i a b la lb = IsTrue a.told → LeavesOnly a b la lb (IsOpening i a la)
+
+-- whatever became of them, the acts of the errand were begun from these tables
+abbrev pub PerformsActs : Errand → TableRows → (a b : State) → (la lb : ℕ → List ℕ → List ℕ → Type 0) → Type 0
+PerformsActs e t a b la lb = Performs tables_after (StandsForTables (identity_of e)) t (acts_of e t) a b la lb
+
+-- the acts of the errand were done over the store
+abbrev pub RanActs : Errand → TableRows → (a b : State) → (ℕ → List ℕ → List ℕ → Type 0) → Type 0
+RanActs e t a b lb = IsTrue a.told → RanOver (identity_of e) (acts_of e) t a b lb
+
+-- the same, from the tables that the file is opened with
+abbrev pub RanOpened : Errand → (a b : State) → (ℕ → List ℕ → List ℕ → Type 0) → Type 0
+RanOpened e a b lb = IsTrue a.told → (t : TableRows) × Opens e a.holds t × RanOver (identity_of e) (acts_of e) t a b lb
+
+-- a front of the list of the tables was sent that the file is opened with
+abbrev pub ShowsFront : Errand → (a b : State) → (la lb : ℕ → List ℕ → List ℕ → Type 0) → Type 0
+ShowsFront e a b la lb = IsTrue a.told → (t : TableRows) → Opens e a.holds t → SaysFront (listing t) a b la lb
+
+-- at each moment what was sent and what a stop leaves are a cut of the acts over the store
+abbrev pub StopsOverStore : Errand → (a b : State) → (la lb : ℕ → List ℕ → List ℕ → Type 0) → Type 0
+StopsOverStore e a b la lb =
+    IsTrue a.told → Only a.holds a la → (t : TableRows) → Opens e a.holds t → LeavesOnly a b la lb (IsCutOver (identity_of e) (acts_of e) t a)
+
+-- the same, of what was asked for
+abbrev pub StopsInCut : Errand → (a b : State) → (la lb : ℕ → List ℕ → List ℕ → Type 0) → Type 0
+StopsInCut e a b la lb =
+    IsTrue a.told → Only a.holds a la → (t : TableRows) → Starts e a.holds t → LeavesOnly a b la lb (IsCutOfRun e t a)
