@@ -47,7 +47,7 @@ MEMORY_OF_LINE_BELOW = 100_000
 MEMORY_OF_JOB = 0.6
 TIME_OF_LINE_BELOW = 1 / 16
 # What is left on the disk for each line of code, and what has to be free beside that.
-DISK_OF_LINE = 100_000
+DISK_OF_LINE = 150_000
 DISK_TO_WORK = 0.5 * GIGABYTE
 SECONDS_BETWEEN_REPORTS = 60
 LINES_OF_LOG = 20
