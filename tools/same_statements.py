@@ -6,8 +6,9 @@
     python3 tools/same_statements.py --write    writes that list as the repository stands
 
 Two statements are the same if they differ only in the names of variables, in the names under which words are imported,
-in how arguments are grouped, and in blanks. The parameters of the modules around count as arguments. Left out are
-statements of functions, goals of the kit, and statements of fewer than SHORTEST words.
+in how arguments are grouped, and in blanks. Records with parameters count as one where they ask for the same. A parameter
+of the modules around counts as an argument where the statement names it, or where it is a condition that the proof uses.
+Left out are statements of functions, goals of the kit, and statements of fewer than SHORTEST words.
 """
 
 import sys
@@ -65,8 +66,9 @@ def variables_of(item):
 class Normal:
     """Writes a statement so that equal ones are written alike: words by their whole names, and variables by numbers."""
 
-    def __init__(self, page):
+    def __init__(self, page, alike):
         self.page = page
+        self.alike = alike  # for a record that asks for the same as another, the name of that one
         self.count = 0
 
     def word(self, token, variables):
@@ -78,12 +80,15 @@ class Normal:
     def whole_name(self, token, head):
         local = self.page.local(token)
         if local is not None:
-            return self.page.module + "." + (token if token not in self.page.named else local.name)
+            return self.common(self.page.module + "." + (token if token not in self.page.named else local.name))
         one = self.page.words.get(token) or self.page.words.get(head)
         if one is None:
             return token
         behind = "" if token in self.page.words else token[len(head) :]
-        return one.path.rsplit(".", 1)[-1] if is_kit(one.path) else one.path + behind
+        return one.path.rsplit(".", 1)[-1] if is_kit(one.path) else self.common(one.path) + behind
+
+    def common(self, name):
+        return self.alike.get(name, name)
 
     def group(self, items, variables):
         """The items of one group, in which variables are bound from where they stand to the end."""
@@ -209,18 +214,92 @@ def is_predicate(definition, kinds):
     return definition.shape != "plain" and ("Type" in last or not kinds.isdisjoint(last[-1:]))
 
 
+# ---- the parameters of the modules around
+
+
+def parameters_of(definition):
+    """The parameters of the modules around, each with the bracket, the name and the items of the type."""
+    groups = [it for it in tree_of(definition.outer)[1:] if is_group_of_variables(it)]
+    return [(it[0], name, it[it.index(":") + 1 :]) for it in groups for name in it[1 : it.index(":")]]
+
+
+def words_of(definition):
+    """All words of a definition, its proof with them."""
+    found = {head_of(it) for it in definition.signature}
+    for clause in definition.clauses:
+        found.update(head_of(it) for it in clause.right)
+        found.update(*(words_of(it) for it in clause.helpers))
+    return found
+
+
+def takes_unseen(one, other):
+    """Whether a definition takes the parameters of this one unseen: it is in the same module or in one around."""
+    return bool(one.outer) and other.outer[: len(one.outer)] == one.outer
+
+
+def words_beside(definition):
+    """Those words, and those of each definition among them that takes parameters of the same modules unseen."""
+    beside = {it.name: it for it in definition.page.definitions if takes_unseen(it, definition)}
+    found, left = set(), [definition]
+    while left:
+        more = words_of(left.pop()) - found
+        found |= more
+        left += [beside[it] for it in more if it in beside]
+    return found
+
+
+def arguments_of(definition, items, predicates):
+    """The items of a statement, with those parameters of the modules around in front that are arguments of it."""
+    if not definition.outer:
+        return items
+    used = words_beside(definition)
+    for bracket, name, kind in reversed(parameters_of(definition)):
+        is_used = name in used and is_said(definition.page, kind, predicates)
+        if is_used or names_variable(items, name):
+            items = [[bracket, name, ":"] + kind] + items
+    return items
+
+
+# ---- the records and the statements
+
+
+def asked_by(record):
+    """What a record asks for, as the type of a function: its parameters, then its fields as arguments."""
+    tokens, begins = record.signature, record.fields()
+    head = tokens[: tokens.index(":")]
+    ends = [begin - 1 for begin in begins[1:]] + [len(tokens)]
+    fields = [[name, ":", *(it for it in tokens[begin + 1 : end] if it != "pub")] for name, begin, end in
+              zip(record.constructors(), begins, ends)]
+    return tree_of(head + [word for field in fields for word in ("(", *field, ")", "→")] + ["Type"])[1:]
+
+
+def alike_records(pages, predicates):
+    """For each record with parameters that asks for the same as an earlier one, the name of that one."""
+    first, alike = {}, {}
+    for page in pages:
+        for it in page.definitions:
+            if it.shape == "record" and it.name in predicates and it.constructors():
+                items = arguments_of(it, asked_by(it), predicates)
+                name = f"{page.module}.{it.name}"
+                asked = " ".join(Normal(page, alike).group(items, {}))
+                if first.setdefault(asked, name) != name:
+                    alike[name] = first[asked]
+    return alike
+
+
 def groups_of(pages):
     """The places of each statement that stands in several."""
     predicates = predicates_of(pages)
+    alike = alike_records(pages, predicates)
     found = {}
     for page in pages:
         for it in page.definitions:
             if it.shape != "plain" or it.signature[1:2] and it.signature[1].startswith("goal."):
                 continue
-            tree = tree_of(it.statement())[1:]
+            tree = tree_of(it.signature[1:])[1:]
             if not is_said(page, result_of(tree), predicates):
                 continue
-            normal = Normal(page).group(tree, {})
+            normal = Normal(page, alike).group(arguments_of(it, tree, predicates), {})
             if sum(1 for word in normal if word not in ("(", ")", "→", ":")) >= SHORTEST:
                 found.setdefault(" ".join(normal), []).append(it)
     return [group for group in found.values() if len(group) > 1]

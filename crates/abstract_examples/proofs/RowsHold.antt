@@ -1,6 +1,6 @@
 -- The worked rows compute.
 use Rattle.std.specs.Prelude.{refl}
-use Rattle.abstract_examples.specs.Rows.{ClockRows, DialogueRows, LockRows, EndRows, HelloRows, JobRows, RuleRows, SerialRows, MadeRows}
+use Rattle.abstract_examples.specs.Rows.{ClockRows, DialogueRows, LockRows, EndRows, HelloRows, JobRows, AccessRows, RuleRows, SerialRows, MadeRows, RedeliveryRows}
 use Rattle.abstract_examples.proofs.Computing.{monitor}
 
 pub clock_rows : ClockRows
@@ -26,6 +26,14 @@ hello_rows = record { overflow = refl; no_pend = refl; no_follow_up = refl; too_
 pub job_rows : JobRows
 unfolding monitor
 job_rows = record { numbered = refl; numbered_listed = refl; taken = refl; taken_listed = refl; taken_again = refl; done_listed = refl; due = refl; full = refl; printed = refl; blocks = refl; blocks_listed = refl; spent = refl; spent_listed = refl }
+
+pub access_rows : AccessRows
+unfolding monitor
+access_rows = record { rule = refl; lterm = refl; long = refl; follow_up = refl; job = refl }
+
+pub redelivery_rows : RedeliveryRows
+unfolding monitor
+redelivery_rows = record { twice = refl; gone = refl; printed = refl; shown = refl; dead_letter = refl; serial = refl }
 
 pub rule_rows : RuleRows
 unfolding monitor

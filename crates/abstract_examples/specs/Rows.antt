@@ -12,6 +12,7 @@ use Rattle.kdcs_types.specs.declared.service.Note.TheVariants.{Released, Refused
 use Rattle.kdcs_types.specs.declared.service.Service.{Service}
 use Rattle.kdcs_types.specs.declared.service.Settled.{Settled}
 use Rattle.kdcs_types.specs.Tables.{empty_tables}
+use Rattle.abstract_monitor.specs.Bytes.{Bytes}
 use Rattle.abstract_monitor.specs.declared.command.Command.{Command}
 use Rattle.abstract_monitor.specs.declared.command.Command.TheVariants.{Tick, Run, Turn, Drop, Print, PrintLast, Restart}
 use Rattle.abstract_monitor.specs.Commands.{ScriptStep, Maker, ByTick, ByShow, ByTransaction, started}
@@ -20,7 +21,7 @@ use Rattle.abstract_monitor.specs.Listing.{listing}
 use Rattle.abstract_monitor.specs.Made.{made_lines, made_application, made_script}
 use Rattle.laws_of_steps.specs.Commits.{is_serial}
 use Rattle.laws_of_steps.specs.Replay.{noted_area}
-use Rattle.abstract_examples.specs.Sample.{shop, hello_as, classed}
+use Rattle.abstract_examples.specs.Sample.{shop, hello_as, classed, locked, redelivering, with_dead_letters}
 use Rattle.abstract_examples.specs.SampleUnits.{field, at}
 use Rattle.abstract_examples.specs.Words.{prints, prints_from, stores, stores_from, lists, p1, p2, s1, s2, signed_1, signed_both}
 
@@ -181,11 +182,24 @@ pub record JobRows : Type 0 where
   -- and the next job number stays
   pub spent_listed : listing (stores_from shop (record empty_tables { next_job = 1000000000000 }) (s1 ∷ p1 (codes "MAKEJ") ∷ Run 20 ∷ [])) ≡ codes "CLOCK 0\nNEXT 1000000000000\n"
 
+-- locks of TACs, and key sets
+pub record AccessRows : Type 0 where
+  -- with the code at user and LTERM the service starts; a user without it is denied, and the follow-up of a PEND FC is none
+  pub rule : prints_from (locked (Some (codes "K1"))) empty_tables (s1 ∷ s2 ∷ p1 (codes "HELLO") ∷ Run 20 ∷ p2 (codes "HELLO") ∷ p1 (codes "FCA") ∷ Run 60 ∷ []) ≡ signed_both ++ codes "OUT P1 HELLO\nSYS P2 TAC DENIED USER 7\nDUMP U1 FCA E04 5\nSYS P1 SERVICE ENDED\n"
+  -- an LTERM without it
+  pub lterm : prints_from (locked None) empty_tables (s1 ∷ p1 (codes "HELLO") ∷ []) ≡ signed_1 ++ codes "SYS P1 TAC DENIED LTERM 7\n"
+  -- the rule comes before the length of the message
+  pub long : prints_from (locked (Some (codes "K1"))) empty_tables (s1 ∷ p1 (codes "FCB " ++ replicate 81 88) ∷ []) ≡ signed_1 ++ codes "SYS P1 TAC DENIED USER 8\n"
+  -- no other follow-up asks it
+  pub follow_up : prints_from (locked (Some (codes "K1"))) empty_tables (s1 ∷ p1 (codes "ORD1 APPLE") ∷ Run 20 ∷ p1 (codes "5") ∷ Run 20 ∷ []) ≡ signed_1 ++ codes "OUT P1 QTY\nOUT P1 APPLE5\n"
+  -- and no job does
+  pub job : listing (stores_from (locked (Some (codes "K1"))) empty_tables (s1 ∷ p1 (codes "MAKEJ") ∷ Run 40 ∷ [])) ≡ codes "CLOCK 0\nNEXT 2\nGSSB CNT 0007\n"
+
 -- rules of calls, PENDs and inputs, one by one
 pub record RuleRows : Type 0 where
-  -- a comma with nothing behind it is a password; no name; no sign-on
+  -- a comma with nothing after it is a password; no name; no sign-on
   pub sign_on : prints (p2 (codes "KDCSIGN U2,") ∷ p2 (codes "KDCSIGN") ∷ p2 (codes "HI") ∷ []) ≡ codes "SYS P2 WRONG PASSWORD\nSYS P2 BAD SIGN ON\nSYS P2 SIGN ON FIRST\n"
-  -- a message of 81 bytes behind the TAC, with NB=80
+  -- a message of 81 bytes after the TAC, with NB=80
   pub too_long_input : prints (s1 ∷ p1 (codes "HELLO " ++ replicate 81 88) ∷ []) ≡ signed_1 ++ codes "SYS P1 INPUT TOO LONG\n"
   -- and one of 80
   pub at_the_limit : prints_from (hello_as (field 2 (codes "v") true 0 8 ∷ []) (at 3 Init ∷ at 4 (Mget (codes "v")) ∷ at 5 (Mput (Header Rlm)) ∷ at 6 (Pend Fi None) ∷ [])) empty_tables (s1 ∷ p1 (codes "HELLO " ++ replicate 80 88) ∷ Run 20 ∷ []) ≡ signed_1 ++ codes "OUT P1 00080\n"
@@ -213,6 +227,29 @@ pub record RuleRows : Type 0 where
   pub stays : prints_from (hello_as [] (at 2 Init ∷ at 3 (Mput (Literal (codes "ONE"))) ∷ at 4 (Pend Pr (Some (Literal (codes "PRB")))) ∷ [])) empty_tables (s1 ∷ p1 (codes "HELLO") ∷ Run 20 ∷ []) ≡ signed_1 ++ codes "OUT P1 ONETWO\n"
   -- PEND RS at a point of PEND SP goes on from it, again and again
   pub back_to_ready : prints_from (hello_as [] (at 2 Init ∷ at 3 (Mput (Literal (codes "X"))) ∷ at 4 (Pend Sp (Some (Literal (codes "RSB2")))) ∷ [])) empty_tables (s1 ∷ p1 (codes "HELLO") ∷ Run 50 ∷ p1 (codes "X") ∷ p1 (codes "KDCDISP") ∷ []) ≡ signed_1 ++ codes "SYS P1 SERVICE RUNNING\nSYS P1 NO MESSAGE\n"
+
+-- a job whose service ends abnormally
+abbrev pub failing_job : List Command
+failing_job = s1 ∷ p1 (codes "MAKEJ") ∷ Run 40 ∷ []
+
+-- the lines of both deliveries
+abbrev pub failed_twice : Bytes
+failed_twice = signed_1 ++ codes "OUT P1 MADE\nDUMP #1 JOB1 ER 2\nDUMP #1 JOB1 ER 2\n"
+
+-- repeated delivery, with REDELIVERY=1
+pub record RedeliveryRows : Type 0 where
+  -- the job is delivered again once
+  pub twice : prints_from redelivering empty_tables failing_job ≡ failed_twice
+  -- and is gone then
+  pub gone : listing (stores_from redelivering empty_tables failing_job) ≡ codes "CLOCK 0\nNEXT 2\n"
+  -- a dead letter is printed as any other message
+  pub printed : prints_from with_dead_letters empty_tables (failing_job ++ Print (codes "P3") ∷ Print (codes "P3") ∷ []) ≡ failed_twice ++ codes "PRT P3 0007\nSYS P3 NO MESSAGE\n"
+  -- and shown
+  pub shown : listing (stores_from with_dead_letters empty_tables (failing_job ++ Print (codes "P3") ∷ Print (codes "P3") ∷ [])) ≡ codes "CLOCK 0\nNEXT 2\nSHOWN KDCDLETQ 0007\n"
+  -- it has the number and the due of the job
+  pub dead_letter : listing (stores_from with_dead_letters empty_tables failing_job) ≡ codes "CLOCK 0\nNEXT 2\nJOB 1 L KDCDLETQ DUE 0 U1 L1 0007\n"
+  -- each commit is that of its record
+  pub serial : IsTrue (is_serial with_dead_letters empty_tables (history with_dead_letters (started with_dead_letters empty_tables) failing_job))
 
 -- each commit of a transaction is that of its record, run in one go
 pub record SerialRows : Type 0 where

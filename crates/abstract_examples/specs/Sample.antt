@@ -1,18 +1,21 @@
 -- The sample application SHOP: two terminals with users, a printer, and 32 TACs, each with a program of its name.
-use Rattle.std.specs.Prelude.{ℕ, Bool, true, false, List, [], ◌∷◌, Some, None, codes}
+use Rattle.std.specs.Prelude.{ℕ, Bool, true, false, List, [], ◌∷◌, Option, Some, None, codes}
 use Rattle.kdcdef_types.specs.declared.entry.CallUse.{CallUse}
 use Rattle.kdcdef_types.specs.declared.entry.CallUse.TheVariants.{Both, First, Next as NextOnly}
+use Rattle.kdcdef_types.specs.declared.entry.KeySet.TheVariants.{Codes}
 use Rattle.kdcdef_types.specs.declared.entry.TacEntry.{TacEntry}
 use Rattle.kdcdef_types.specs.Generation.{Generated}
+use Rattle.kd_base.specs.declared.words.Variant.TheVariants.{Er}
+use Rattle.unit_types.specs.declared.action.Action.TheVariants.{Init, Pend}
 use Rattle.unit_types.specs.declared.action.UnitStatement.{UnitStatement}
 use Rattle.unit_types.specs.declared.unit.Field.{Field}
 use Rattle.abstract_monitor.specs.Made.{made_generation}
 use Rattle.abstract_monitor.specs.State.{Application}
-use Rattle.abstract_examples.specs.SampleUnits.{unit, hello_unit, other_units}
+use Rattle.abstract_examples.specs.SampleUnits.{unit, at, hello_unit, other_units}
 
 -- the name, TYPE=A, CALL, TACCLASS and TIME
 abbrev pub tac : List ℕ → Bool → CallUse → ℕ → ℕ → List ℕ × TacEntry
-tac name asynchronous call class time = (name, record { program = name; asynchronous = asynchronous; call = call; on = true; class = class; time = time })
+tac name asynchronous call class time = (name, record { program = name; asynchronous = asynchronous; call = call; on = true; class = class; time = time; lock = None })
 
 abbrev pub sample_tacs : List (List ℕ × TacEntry)
 sample_tacs =
@@ -93,9 +96,9 @@ sample_generation = record made_generation {
   limits = record made_generation.limits { appliname = codes "SHOP"; gssbs = 4; lssbs = 2; pgpool = 16; reswait = 3 };
   programs = sample_programs;
   tacs = sample_tacs;
-  users = (codes "U1", record { pass = Some (codes "PW1"); restart = true }) ∷ (codes "U2", record { pass = None; restart = false }) ∷ [];
+  users = (codes "U1", record { pass = Some (codes "PW1"); restart = true; kset = None }) ∷ (codes "U2", record { pass = None; restart = false; kset = None }) ∷ [];
   pterms = (codes "P1", record { lterm = codes "L1" }) ∷ (codes "P2", record { lterm = codes "L2" }) ∷ (codes "P3", record { lterm = codes "L3" }) ∷ [];
-  lterms = (codes "L1", record { printer = false }) ∷ (codes "L2", record { printer = false }) ∷ (codes "L3", record { printer = true }) ∷ [];
+  lterms = (codes "L1", record { printer = false; kset = None }) ∷ (codes "L2", record { printer = false; kset = None }) ∷ (codes "L3", record { printer = true; kset = None }) ∷ [];
   tls = codes "T1" ∷ [];
   uls = codes "S1" ∷ [];
   counts = record { users = 2; pterms = 3; lterms = 3; tacs = 32; programs = 32; passed_statements = 1; passed_operands = 33 };
@@ -108,6 +111,41 @@ shop = record { generation = sample_generation; units = hello_unit ∷ other_uni
 abbrev pub hello_as : List Field → List UnitStatement → Application
 hello_as fields statements = record shop { units = unit (codes "HELLO") 1 fields [] statements ∷ other_units }
 
+-- with REDELIVERY=1, and a JOB1 that ends abnormally in its second statement
+abbrev pub redelivering : Application
+redelivering = record shop {
+  generation = record sample_generation { limits = record sample_generation.limits { redelivery = 1 } };
+  units = unit (codes "JOB1") 1 [] [] (at 2 Init ∷ at 3 (Pend Er None) ∷ []) ∷ hello_unit ∷ other_units;
+}
+
+-- the same, with KDCDLETQ in place of L3
+abbrev pub with_dead_letters : Application
+with_dead_letters = record redelivering {
+  generation = record redelivering.generation {
+    pterms = (codes "P1", record { lterm = codes "L1" }) ∷ (codes "P2", record { lterm = codes "L2" }) ∷ (codes "P3", record { lterm = codes "KDCDLETQ" }) ∷ [];
+    lterms = (codes "L1", record { printer = false; kset = None }) ∷ (codes "L2", record { printer = false; kset = None }) ∷ (codes "KDCDLETQ", record { printer = true; kset = None }) ∷ [];
+  };
+}
+
 -- with TACCLASS=1 for HELLO, and one task for this class
 abbrev pub classed : Application
 classed = record shop { generation = record sample_generation { tacs = tac (codes "HELLO") false Both 1 1000 ∷ sample_tacs; classes = (1, 1) ∷ [] } }
+
+-- the same TAC with a lock
+abbrev pub with_lock : (code : ℕ) → List ℕ × TacEntry → List ℕ × TacEntry
+with_lock code e = (e.0, record e.1 { lock = Some code })
+
+-- HELLO, FCB, JOB1 and ORD2 have locks; U1 has the codes 1 and 7, and L1 this key set, if one
+abbrev pub locked : Option (List ℕ) → Application
+locked kset = record shop {
+  generation = record sample_generation {
+    tacs = with_lock 7 (tac (codes "HELLO") false Both 0 1000)
+        ∷ with_lock 8 (tac (codes "FCB") false Both 0 1000)
+        ∷ with_lock 9 (tac (codes "JOB1") true Both 16 1000)
+        ∷ with_lock 9 (tac (codes "ORD2") false NextOnly 0 1000)
+        ∷ sample_tacs;
+    users = (codes "U1", record { pass = Some (codes "PW1"); restart = true; kset = Some (codes "K1") }) ∷ (codes "U2", record { pass = None; restart = false; kset = None }) ∷ [];
+    lterms = (codes "L1", record { printer = false; kset = kset }) ∷ (codes "L2", record { printer = false; kset = None }) ∷ (codes "L3", record { printer = true; kset = None }) ∷ [];
+    ksets = (codes "K1", Codes (1 ∷ 7 ∷ [])) ∷ [];
+  };
+}

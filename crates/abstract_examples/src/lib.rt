@@ -6,7 +6,7 @@
 //! that the definitions mean what they are to mean.
 #![tactic(auto)]
 
-ghost use Rattle.abstract_examples.specs.Rows.{ClockRows, DialogueRows, LockRows, EndRows, HelloRows, JobRows, RuleRows, SerialRows, MadeRows};
+ghost use Rattle.abstract_examples.specs.Rows.{ClockRows, DialogueRows, LockRows, EndRows, HelloRows, JobRows, AccessRows, RuleRows, SerialRows, MadeRows, RedeliveryRows};
 
 /// The clock.
 pub fn clock_rows()
@@ -36,6 +36,16 @@ pub fn hello_rows()
 /// Jobs.
 pub fn job_rows()
     ensures { JobRows }
+{}
+
+/// Locks of TACs and key sets.
+pub fn access_rows()
+    ensures { AccessRows }
+{}
+
+/// Repeated delivery, and the dead letter queue.
+pub fn redelivery_rows()
+    ensures { RedeliveryRows }
 {}
 
 /// Rules of calls, PENDs and inputs, one by one.

@@ -1,17 +1,19 @@
 -- What a transaction writes makes changes that may be made, and leaves tables in order.
-use Rattle.std.specs.Prelude.{◌≡◌, refl, IsTrue, List, [], ◌∷◌, Option, Some, None}
+use Rattle.std.specs.Prelude.{◌≡◌, refl, ℕ, IsTrue, List, [], ◌∷◌, Option, Some, None}
 use Rattle.kdcs_types.specs.declared.act.Change.TheVariants.{Remove}
 use Rattle.kdcs_types.specs.declared.key.Area.{Area}
 use Rattle.kdcs_types.specs.declared.key.Area.TheVariants.{Gssb, Tls, Uls}
 use Rattle.kdcs_types.specs.declared.key.Key.TheVariants.{Job as JobKey}
 use Rattle.kdcs_types.specs.declared.key.ServiceId.{ServiceId}
 use Rattle.kdcs_types.specs.declared.key.ServiceId.TheVariants.{Dialogue, Asynchronous}
+use Rattle.kdcs_types.specs.declared.service.JobValue.{JobValue}
 use Rattle.kdcs_types.specs.declared.service.Service.{Service}
 use Rattle.kdcs_types.specs.Keys.{area_key}
 use Rattle.kdcs_types.specs.RowLaws.{sorted_with_change}
 use Rattle.kdcs_types.specs.Tables.{TableRows, IsSortedTables, change_fits, change_key, with_change}
+use Rattle.kdcdef_types.specs.Generation.{Generated}
 use Rattle.abstract_monitor.specs.Bytes.{Bytes}
-use Rattle.abstract_monitor.specs.Endings.{area_change, with_areas, without_own_job}
+use Rattle.abstract_monitor.specs.Endings.{area_change, with_areas, without_own_job, job_change, with_own_fate}
 
 -- the change of an area is one of its row, and may be made
 pub record IsAreaChange (area : Area) (content : Option Bytes) : Type 0 where
@@ -37,3 +39,15 @@ pub own_job_sorted : (t : TableRows) (id : ServiceId) (began : Option Service) �
 own_job_sorted t (Dialogue user) began h = h
 own_job_sorted t (Asynchronous number) (Some row) h = h
 own_job_sorted t (Asynchronous number) None h = sorted_with_change t (Remove (JobKey number)) h refl
+
+pub job_change_fits : (number : ℕ) (o : Option JobValue) → IsTrue (change_fits (job_change number o))
+job_change_fits number None = refl
+job_change_fits number (Some v) = refl
+
+job_sorted : (t : TableRows) (number : ℕ) (o : Option JobValue) → IsSortedTables t → IsSortedTables (with_change t (job_change number o))
+job_sorted t number o h = sorted_with_change t (job_change number o) h (job_change_fits number o)
+
+pub own_fate_sorted : (g : Generated) (t : TableRows) (id : ServiceId) (began : Option Service) → IsSortedTables t → IsSortedTables (with_own_fate g t id began)
+own_fate_sorted g t (Dialogue user) began h = h
+own_fate_sorted g t (Asynchronous number) (Some row) h = h
+own_fate_sorted g t (Asynchronous number) None h = job_sorted t number _ h

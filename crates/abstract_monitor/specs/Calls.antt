@@ -1,10 +1,11 @@
 -- What each KDCS call answers, and how it changes the open transaction. A call is told of the outside in one value, by the running system or by a replay.
-use Rattle.std.specs.Prelude.{ℕ, ◌+◌, ◌*◌, Bool, true, false, ◌&&◌, not, List, [], ◌∷◌, ◌++◌, length, sum_by, filter, Option, Some, None, Result, Ok, Err, nat_lt, nat_le, is_some, bytes_eq, if◌then◌else◌, option_and_then}
+use Rattle.std.specs.Prelude.{ℕ, ◌+◌, ◌*◌, Bool, true, false, ◌&&◌, not, List, [], ◌∷◌, ◌++◌, length, sum_by, filter, Option, Some, None, Result, Ok, Err, nat_lt, nat_le, is_some, bytes_eq, if◌then◌else◌}
 use Rattle.std.specs.List.{list_any}
 use Rattle.std.specs.FinMap.{find, put}
 use Rattle.std.specs.FinMap.Entries.{where_key}
 use Rattle.kd_base.specs.Text.{name_of}
 use Rattle.kd_base.specs.declared.words.Variant.{Variant}
+use Rattle.kd_base.specs.declared.words.Variant.TheVariants.{Fc}
 use Rattle.kd_base.specs.declared.words.Mode.{Mode}
 use Rattle.kd_base.specs.declared.words.Mode.TheVariants.{Relative, Absolute}
 use Rattle.kdcs_types.specs.declared.call.Call.{Call}
@@ -22,6 +23,7 @@ use Rattle.kdcs_types.specs.declared.service.Note.TheVariants.{Released, Refused
 use Rattle.kdcdef_types.specs.declared.entry.TacEntry.{TacEntry}
 use Rattle.kdcdef_types.specs.declared.entry.LtermEntry.{LtermEntry}
 use Rattle.kdcdef_types.specs.Generation.{Generated, tac_of, lterm_of, has_tls, has_uls}
+use Rattle.abstract_monitor.specs.declared.access.Denial.{Denial}
 use Rattle.abstract_monitor.specs.declared.answer.LockAnswer.{LockAnswer}
 use Rattle.abstract_monitor.specs.declared.answer.LockAnswer.TheVariants.{Granted, Wait, Busy, Deadlock}
 use Rattle.abstract_monitor.specs.declared.answer.Called.{Called}
@@ -30,6 +32,7 @@ use Rattle.abstract_monitor.specs.declared.outcome.Outcome.{Outcome}
 use Rattle.abstract_monitor.specs.declared.draft.Due.{Due}
 use Rattle.abstract_monitor.specs.declared.draft.Due.TheVariants.{After, At}
 use Rattle.abstract_monitor.specs.Bytes.{Bytes, bytes_cmp}
+use Rattle.abstract_monitor.specs.Access.{Rule, denial_of}
 use Rattle.kdcs_types.specs.Keys.{area_cmp, area_eq}
 use Rattle.kd_base.specs.Text.{trim_end}
 use Rattle.unit_semantics.specs.Contents.{number_of}
@@ -57,7 +60,7 @@ plain_reply code = record { code = code; length = 0; content = None }
 
 -- a content that was read into a field of this length: K02 where it is longer
 abbrev pub read_reply : ℕ → Bytes → Reply
-read_reply room bytes = record { code = if nat_lt room (length bytes) then K02 else Done; length = length bytes; content = Some bytes }
+read_reply capacity bytes = record { code = if nat_lt capacity (length bytes) then K02 else Done; length = length bytes; content = Some bytes }
 
 -- the call is answered with a code alone
 abbrev pub replied : OpenTransaction → Code → Performed
@@ -65,7 +68,7 @@ replied x code = (x, Replied (plain_reply code))
 
 -- the call is answered with what was read into a field of this length
 abbrev pub read_answer : OpenTransaction → ℕ → Bytes → Performed
-read_answer x room bytes = (x, Replied (read_reply room bytes))
+read_answer x capacity bytes = (x, Replied (read_reply capacity bytes))
 
 -- the service ends abnormally, with nothing done
 abbrev pub refused : OpenTransaction → Cause → Performed
@@ -73,8 +76,8 @@ refused x cause = (x, Abnormal cause)
 
 -- what was read, or this code where there is nothing
 abbrev pub read_or : Code → OpenTransaction → ℕ → Option Bytes → Performed
-read_or code x room None = replied x code
-read_or code x room (Some bytes) = read_answer x room bytes
+read_or code x capacity None = replied x code
+read_or code x capacity (Some bytes) = read_answer x capacity bytes
 
 -- E02 where the call is not for this kind of service
 abbrev pub for_kind : OpenTransaction → (allowed : Bool) → Performed → Performed
@@ -144,12 +147,12 @@ seen v x area = shown_by (find area_cmp area x.written) v.content
 
 -- K01 where no part is left
 abbrev pub got_by : OpenTransaction → ℕ → List Bytes → Performed
-got_by x room [] = replied x K01
-got_by x room (part ∷ rest) = read_answer (record x { unread = rest }) room part
+got_by x capacity [] = replied x K01
+got_by x capacity (part ∷ rest) = read_answer (record x { unread = rest }) capacity part
 
 -- MGET and FGET: the next part that is still to be read, a cut part too
 abbrev pub got : OpenTransaction → ℕ → Performed
-got x room = got_by x room x.unread
+got x capacity = got_by x capacity x.unread
 
 -- one more part makes at most 16 parts, of at most NB bytes together
 abbrev pub fits_one_more : (nb : ℕ) → (parts : List Bytes) → Bytes → Bool
@@ -210,7 +213,7 @@ deleted x area (Some bytes) = wrote x area None
 
 -- SGET GB
 abbrev pub read_gssb : Told → OpenTransaction → Bytes → ℕ → Performed
-read_gssb v x name room = locked v x (Gssb name) (λ y. read_or K03 y room (seen v y (Gssb name)))
+read_gssb v x name capacity = locked v x (Gssb name) (λ y. read_or K03 y capacity (seen v y (Gssb name)))
 
 -- SPUT GB
 abbrev pub write_gssb : Told → OpenTransaction → Bytes → Bytes → Performed
@@ -227,7 +230,7 @@ or_empty (Some bytes) = bytes
 
 -- SGET US and GTDA: a block that is absent is read as empty
 abbrev pub read_block : Told → OpenTransaction → Area → ℕ → Performed
-read_block v x area room = locked v x area (λ y. read_answer y room (or_empty (seen v y area)))
+read_block v x area capacity = locked v x area (λ y. read_answer y capacity (or_empty (seen v y area)))
 
 -- SPUT US and PTDA
 abbrev pub write_block : Told → OpenTransaction → Area → Bytes → Performed
@@ -259,12 +262,12 @@ write_local g x name bytes =
 
 -- K03 where there is no such LSSB
 abbrev pub read_away_by : OpenTransaction → Bytes → ℕ → Option Bytes → Performed
-read_away_by x name room None = replied x K03
-read_away_by x name room (Some bytes) = read_answer (record x { lssbs = without_local name x.lssbs }) room bytes
+read_away_by x name capacity None = replied x K03
+read_away_by x name capacity (Some bytes) = read_answer (record x { lssbs = without_local name x.lssbs }) capacity bytes
 
 -- SGET RL: it is read and deleted, for K02 too
 abbrev pub read_away : OpenTransaction → Bytes → ℕ → Performed
-read_away x name room = read_away_by x name room (find bytes_cmp name x.lssbs)
+read_away x name capacity = read_away_by x name capacity (find bytes_cmp name x.lssbs)
 
 -- K03 where there is no such LSSB
 abbrev pub delete_local_by : OpenTransaction → Bytes → Option Bytes → Performed
@@ -292,29 +295,44 @@ abbrev pub name_by : Option Bytes → Option Bytes
 name_by None = None
 name_by (Some operand) = name_in_operand operand
 
+-- a TAC that is denied is no follow-up
+abbrev pub unless_denied : Option Denial → Option TacEntry → Option TacEntry
+unless_denied None entry = entry
+unless_denied (Some denial) entry = None
+
+-- FC begins a service, and so asks the rule; no other follow-up does
+abbrev pub follow_up_denial : Rule → OpenTransaction → Variant → Bytes → Option Denial
+follow_up_denial rule x Fc tac = rule x.user x.lterm tac
+follow_up_denial rule x _ tac = None
+
+-- what the generation says of the follow-up TAC, where the rule does not deny it
+abbrev pub follow_up_entry : Rule → Generated → OpenTransaction → Variant → Option Bytes → Option TacEntry
+follow_up_entry rule g x variant None = None
+follow_up_entry rule g x variant (Some tac) = unless_denied (follow_up_denial rule x variant tac) (tac_of g tac)
+
 -- PEND with its operand
 abbrev pub pend : Generated → (asynchronous : Bool) → OpenTransaction → Variant → Option Bytes → Performed
 pend g asynchronous x variant op =
-    pended x variant (pend_outcome asynchronous variant (has_message x.parts) (option_and_then (tac_of g) (name_by op)) (name_by op))
+    pended x variant (pend_outcome asynchronous variant (has_message x.parts) (follow_up_entry (denial_of g) g x variant (name_by op)) (name_by op))
 
 -- the rows of the calls, once INIT is done
 unfoldable pub called : Generated → Told → (asynchronous : Bool) → OpenTransaction → Call → Performed
 called g v asynchronous x Init = refused x E01
-called g v asynchronous x (Mget room) = for_kind x (not asynchronous) (got x room)
+called g v asynchronous x (Mget capacity) = for_kind x (not asynchronous) (got x capacity)
 called g v asynchronous x (Mput bytes) = for_kind x (not asynchronous) (put_part g x bytes)
-called g v asynchronous x (Fget room) = for_kind x asynchronous (got x room)
+called g v asynchronous x (Fget capacity) = for_kind x asynchronous (got x capacity)
 called g v asynchronous x (Fput to message) = put_job g x to (Some (After 0)) message
 called g v asynchronous x (Dput to mode d h m s message) = put_job g x to (moment_by mode (number_of d) (number_of h) (number_of m) (number_of s)) message
-called g v asynchronous x (SgetGb name room) = with_name x (name_in_operand name) (λ n. read_gssb v x n room)
+called g v asynchronous x (SgetGb name capacity) = with_name x (name_in_operand name) (λ n. read_gssb v x n capacity)
 called g v asynchronous x (SputGb name bytes) = with_name x (name_in_operand name) (λ n. write_gssb v x n bytes)
 called g v asynchronous x (SrelGb name) = with_name x (name_in_operand name) (λ n. delete_gssb v x n)
-called g v asynchronous x (SgetKp name room) = with_name x (name_in_operand name) (λ n. read_or K03 x room (find bytes_cmp n x.lssbs))
-called g v asynchronous x (SgetRl name room) = with_name x (name_in_operand name) (λ n. read_away x n room)
+called g v asynchronous x (SgetKp name capacity) = with_name x (name_in_operand name) (λ n. read_or K03 x capacity (find bytes_cmp n x.lssbs))
+called g v asynchronous x (SgetRl name capacity) = with_name x (name_in_operand name) (λ n. read_away x n capacity)
 called g v asynchronous x (SputMs name bytes) = with_name x (name_in_operand name) (λ n. write_local g x n bytes)
 called g v asynchronous x (SrelLb name) = with_name x (name_in_operand name) (λ n. delete_local x n)
-called g v asynchronous x (SgetUs name room) = with_name x (name_in_operand name) (λ n. declared x (has_uls g n) (read_block v x (Uls n x.user) room))
+called g v asynchronous x (SgetUs name capacity) = with_name x (name_in_operand name) (λ n. declared x (has_uls g n) (read_block v x (Uls n x.user) capacity))
 called g v asynchronous x (SputUs name bytes) = with_name x (name_in_operand name) (λ n. declared x (has_uls g n) (write_block v x (Uls n x.user) bytes))
-called g v asynchronous x (Gtda name room) = with_name x (name_in_operand name) (λ n. declared x (has_tls g n) (read_block v x (Tls n x.lterm) room))
+called g v asynchronous x (Gtda name capacity) = with_name x (name_in_operand name) (λ n. declared x (has_tls g n) (read_block v x (Tls n x.lterm) capacity))
 called g v asynchronous x (Ptda name bytes) = with_name x (name_in_operand name) (λ n. declared x (has_tls g n) (write_block v x (Tls n x.lterm) bytes))
 called g v asynchronous x (UnlkGb name) = with_name x (name_in_operand name) (λ n. unlocked v x (Gssb n))
 called g v asynchronous x (UnlkUs name) = with_name x (name_in_operand name) (λ n. declared x (has_uls g n) (unlocked v x (Uls n x.user)))

@@ -1,5 +1,5 @@
 -- What each script command does.
-use Rattle.std.specs.Prelude.{ℕ, zero, suc, ◌+◌, Bool, true, false, not, List, [], ◌∷◌, ◌++◌, map, replicate, filter, flat_map, codes, bytes_eq, Option, Some, None, nat_le, ◌==◌, if◌then◌else◌}
+use Rattle.std.specs.Prelude.{ℕ, zero, suc, ◌+◌, Bool, true, false, not, List, [], ◌∷◌, ◌++◌, map, replicate, filter, flat_map, codes, decimal, bytes_eq, Option, Some, None, nat_le, ◌==◌, if◌then◌else◌}
 use Rattle.std.specs.FinMap.{find, put}
 use Rattle.std.specs.FinMap.Entries.{where_key}
 use Rattle.kdcs_types.specs.declared.act.Act.{Act}
@@ -14,11 +14,12 @@ use Rattle.kdcs_types.specs.declared.service.Job.{Job}
 use Rattle.kdcs_types.specs.declared.service.JobValue.{JobValue}
 use Rattle.kdcs_types.specs.declared.service.Service.{Service}
 use Rattle.kdcs_types.specs.declared.service.Settled.{Settled}
-use Rattle.kdcdef_types.specs.declared.entry.PtermEntry.{PtermEntry}
 use Rattle.kdcdef_types.specs.Generation.{pterm_of}
 use Rattle.kd_base.specs.Limits.{last_clock}
 use Rattle.kdcs_types.specs.Tables.{TableRows, service_of, shown_of, with_change}
 use Rattle.kdcs_types.specs.Keys.{id_cmp, id_eq}
+use Rattle.abstract_monitor.specs.declared.access.Denial.{Denial}
+use Rattle.abstract_monitor.specs.declared.access.Denial.TheVariants as denial
 use Rattle.abstract_monitor.specs.declared.answer.Happened.{Happened}
 use Rattle.abstract_monitor.specs.declared.answer.Happened.TheVariants.{Held}
 use Rattle.abstract_monitor.specs.declared.command.Command.{Command}
@@ -26,7 +27,7 @@ use Rattle.abstract_monitor.specs.declared.command.Command.TheVariants.{Input, T
 use Rattle.abstract_monitor.specs.declared.input_use.SignFault.{SignFault}
 use Rattle.abstract_monitor.specs.declared.input_use.SignFault.TheVariants.{BadForm, UnknownUser, WrongPassword, InUse}
 use Rattle.abstract_monitor.specs.declared.input_use.TacFault.{TacFault}
-use Rattle.abstract_monitor.specs.declared.input_use.TacFault.TheVariants.{UnknownTac, NotAllowed, IsOff}
+use Rattle.abstract_monitor.specs.declared.input_use.TacFault.TheVariants.{UnknownTac, NotAllowed, IsOff, Denied}
 use Rattle.abstract_monitor.specs.declared.input_use.Use.{Use}
 use Rattle.abstract_monitor.specs.declared.input_use.Use.TheVariants.{Sign, SignRefused, SignFirst, AlreadySigned, Off, Display, Output, Again, Busy, TooLong, Next, Start, TacRefused}
 use Rattle.abstract_monitor.specs.Bytes.{Bytes, bytes_cmp}
@@ -37,7 +38,7 @@ use Rattle.abstract_monitor.specs.Statements.{statement}
 use Rattle.abstract_monitor.specs.Lines.{sys_line, out_line, asy_line, prt_line, no_message_line, tick_line, tick_refused_line, restart_line}
 use Rattle.abstract_monitor.specs.Picks.{free_jobs, due_job}
 use Rattle.abstract_monitor.specs.Turns.{Turned, commit_of, queued, without_open, turn_of}
-use Rattle.abstract_monitor.specs.Sessions.{in_place, service_state, use_of}
+use Rattle.abstract_monitor.specs.Sessions.{in_place, service_state, lterm_by, use_of}
 
 -- what made a commit
 pub data Maker : Type 0 where
@@ -87,11 +88,6 @@ started app t = record {
 
 -- ---- terminals
 
--- no LTERM where there is no such PTERM
-abbrev pub lterm_by : Option PtermEntry → Bytes
-lterm_by None = []
-lterm_by (Some p) = p.lterm
-
 -- the LTERM of a PTERM
 abbrev pub lterm_at : Application → Bytes → Bytes
 lterm_at app pterm = lterm_by (pterm_of app.generation pterm)
@@ -112,11 +108,17 @@ fault_text UnknownUser = codes "UNKNOWN USER"
 fault_text WrongPassword = codes "WRONG PASSWORD"
 fault_text InUse = codes "USER IS SIGNED ON"
 
+-- whose keys have no such code
+abbrev pub denial_text : Denial → Bytes
+denial_text (denial.User code) = codes "TAC DENIED USER " ++ decimal code
+denial_text (denial.Lterm code) = codes "TAC DENIED LTERM " ++ decimal code
+
 -- why a TAC is refused
 abbrev pub refusal_text : TacFault → Bytes
 refusal_text UnknownTac = codes "UNKNOWN TAC"
 refusal_text NotAllowed = codes "TAC NOT ALLOWED"
 refusal_text IsOff = codes "TAC IS OFF"
+refusal_text (Denied why) = denial_text why
 
 -- ---- sign-on and sign-off
 
@@ -215,7 +217,7 @@ abbrev pub follow_up_of : Happened → Bytes
 follow_up_of (Held tac) = tac
 follow_up_of _ = []
 
--- the TAC that reads the next input of a dialogue service that stands at a PEND KP, which asks of no area
+-- the TAC that reads the next input of a dialogue service that is at a PEND KP, which asks of no area
 abbrev pub held_tac : Application → OpenTransaction → Bytes
 held_tac app x = follow_up_of (statement app nothing_told false x).1
 

@@ -1,5 +1,5 @@
 -- How a transaction opens, goes on in a further unit run, and ends: synchronisation points and abnormal ends.
-use Rattle.std.specs.Prelude.{ℕ, ◌+◌, Bool, true, false, List, [], ◌∷◌, ◌++◌, replicate, length, filter, max, Option, Some, None, nat_lt, if◌then◌else◌}
+use Rattle.std.specs.Prelude.{ℕ, ◌+◌, Bool, true, false, List, [], ◌∷◌, ◌++◌, replicate, length, filter, max, Option, Some, None, option_and_then, nat_lt, if◌then◌else◌}
 use Rattle.kdcs_types.specs.declared.call.Cause.{Cause}
 use Rattle.kdcs_types.specs.declared.call.Cause.TheVariants.{E09, E10, E11}
 use Rattle.kdcs_types.specs.declared.call.Code.TheVariants.{Done}
@@ -14,7 +14,7 @@ use Rattle.kdcs_types.specs.declared.service.JobValue.{JobValue}
 use Rattle.kdcs_types.specs.declared.service.Service.{Service}
 use Rattle.kdcs_types.specs.declared.act.Change.{Change}
 use Rattle.kdcs_types.specs.declared.act.Change.TheVariants.{Set, Remove}
-use Rattle.kdcs_types.specs.declared.act.Row.TheVariants.{Gssb as GssbRow, Tls as TlsRow, Uls as UlsRow, Service as ServiceRow}
+use Rattle.kdcs_types.specs.declared.act.Row.TheVariants.{Gssb as GssbRow, Tls as TlsRow, Uls as UlsRow, Service as ServiceRow, Job as JobRow}
 use Rattle.kdcs_types.specs.declared.key.Key.TheVariants.{Gssb as GssbKey, Tls as TlsKey, Uls as UlsKey, Service as ServiceKey, Job as JobKey}
 use Rattle.kdcdef_types.specs.declared.entry.TacEntry.{TacEntry}
 use Rattle.kdcdef_types.specs.declared.entry.UserEntry.{UserEntry}
@@ -26,7 +26,8 @@ use Rattle.abstract_monitor.specs.declared.draft.Due.TheVariants.{After, At}
 use Rattle.abstract_monitor.specs.declared.draft.Draft.{Draft}
 use Rattle.abstract_monitor.specs.Bytes.{Bytes}
 use Rattle.kd_base.specs.Limits.{last_next_job}
-use Rattle.kdcs_types.specs.Tables.{TableRows, with_change}
+use Rattle.kdcs_types.specs.Tables.{TableRows, job_of, with_change}
+use Rattle.abstract_monitor.specs.Redelivery.{fate}
 use Rattle.abstract_monitor.specs.State.{OpenTransaction}
 use Rattle.abstract_monitor.specs.Charges.{total_charge}
 
@@ -200,7 +201,7 @@ due_at (At ticks) clock = max ticks clock
 unfoldable pub numbered : (next clock : ℕ) → (user lterm : Bytes) → List Draft → List Job
 numbered next clock user lterm [] = []
 numbered next clock user lterm (d ∷ ds) =
-    record { number = next; value = record { to = d.to; due = due_at d.due clock; user = user; lterm = lterm; message = d.message } }
+    record { number = next; value = record { to = d.to; due = due_at d.due clock; redelivered = 0; user = user; lterm = lterm; message = d.message } }
     ∷ numbered (next + 1) clock user lterm ds
 
 -- the drafts follow the jobs
@@ -219,7 +220,7 @@ abbrev pub lterm_in_row : ServiceId → Bytes → Option Bytes
 lterm_in_row (Dialogue user) lterm = None
 lterm_in_row (Asynchronous number) lterm = Some lterm
 
--- the row of a service that goes on behind the point
+-- the row of a service that goes on after the point
 abbrev pub point_row : ServiceId → OpenTransaction → (next : Bytes) → (awaits : Bool) → (handed : List Bytes) → (last : Option Bytes) → Service
 point_row id x next awaits handed last = record {
   id = id;
@@ -260,9 +261,20 @@ row_after g id x _ = None
 unfoldable pub synchronised : Generated → TableRows → ServiceId → OpenTransaction → Outcome → TableRows
 synchronised g t id x o = with_service (with_drafts (without_own_job (with_areas t x.written) id x.began) x) id (row_after g id x o)
 
--- the tables after an abnormal end: without the service's row and the own job
-unfoldable pub broken : TableRows → ServiceId → OpenTransaction → TableRows
-broken t id x = with_service (without_own_job t id x.began) id None
+-- what becomes of a job: it has this value, or is gone
+abbrev pub job_change : ℕ → Option JobValue → Change
+job_change number None = Remove (JobKey number)
+job_change number (Some v) = Set (JobRow number v)
+
+-- the own job meets its fate, where an asynchronous service has no row; number, due, user, LTERM and message stay
+abbrev pub with_own_fate : Generated → TableRows → ServiceId → Option Service → TableRows
+with_own_fate g t (Dialogue user) began = t
+with_own_fate g t (Asynchronous number) (Some row) = t
+with_own_fate g t (Asynchronous number) None = with_change t (job_change number (option_and_then (fate g) (job_of t number)))
+
+-- the tables after an abnormal end: without the service's row, and with the fate of the own job
+unfoldable pub broken : Generated → TableRows → ServiceId → OpenTransaction → TableRows
+broken g t id x = with_service (with_own_fate g t id x.began) id None
 
 -- no user has no service to keep
 abbrev pub restarts_by : Option UserEntry → Bool

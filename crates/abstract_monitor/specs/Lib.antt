@@ -1,8 +1,10 @@
 pub mod Bytes
+pub mod Access
 pub mod State
 pub mod Outcomes
 pub mod Calls
 pub mod Charges
+pub mod Redelivery
 pub mod Endings
 pub mod AreaLaws
 pub mod Statements

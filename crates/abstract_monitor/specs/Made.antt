@@ -38,15 +38,15 @@ for_four f = f 1 ∷ f 2 ∷ f 3 ∷ f 4 ∷ []
 
 -- a TAC with the program of its name
 abbrev pub made_tac : (name : Bytes) → (asynchronous : Bool) → (class : ℕ) → Bytes × TacEntry
-made_tac name asynchronous class = (name, record { program = name; asynchronous = asynchronous; call = Both; on = true; class = class; time = 1000 })
+made_tac name asynchronous class = (name, record { program = name; asynchronous = asynchronous; call = Both; on = true; class = class; time = 1000; lock = None })
 
 -- user Uk, without a password
 abbrev pub made_user : ℕ → Bytes × UserEntry
-made_user k = (numbered_name (codes "U") k, record { pass = None; restart = true })
+made_user k = (numbered_name (codes "U") k, record { pass = None; restart = true; kset = None })
 
 -- LTERM Lk
 abbrev pub made_lterm : ℕ → Bytes × LtermEntry
-made_lterm k = (numbered_name (codes "L") k, record { printer = false })
+made_lterm k = (numbered_name (codes "L") k, record { printer = false; kset = None })
 
 -- PTERM Pk at LTERM Lk
 abbrev pub made_pterm : ℕ → Bytes × PtermEntry
@@ -67,6 +67,7 @@ made_generation = record {
     pgpool = 64;
     reswait = 60;
     blksize = 2048;
+    redelivery = 0;
   };
   programs = (codes "ADD", 2) ∷ (codes "TALLY", 3) ∷ [];
   tacs = made_tac (codes "ADD") false 0 ∷ made_tac (codes "TALLY") true 16 ∷ [];
@@ -76,6 +77,7 @@ made_generation = record {
   tls = [];
   uls = [];
   classes = [];
+  ksets = [];
   counts = record { users = 4; pterms = 4; lterms = 4; tacs = 2; programs = 2; passed_statements = 0; passed_operands = 0 };
 }
 

@@ -11,7 +11,7 @@ use Rattle.abstract_monitor.specs.declared.outcome.Outcome.{Outcome}
 use Rattle.abstract_monitor.specs.declared.outcome.Outcome.TheVariants.{Stay, Queue, Hold, Wait, Point, Finish, Follow, Break, Back}
 use Rattle.abstract_monitor.specs.Bytes.{Bytes}
 
--- CALL other than FIRST: the TAC may stand within a service
+-- CALL other than FIRST: the TAC may be within a service
 abbrev pub goes_within : CallUse → Bool
 goes_within Both = true
 goes_within First = false

@@ -26,7 +26,7 @@ unit_by app (Some t) = find (λ (u : UnitText). bytes_eq t.program u.name) app.u
 unfoldable pub unit_of : Application → Bytes → Option UnitText
 unit_of app tac = unit_by app (tac_of app.generation tac)
 
--- what a service has done since its last synchronisation point; a request that waits stands beside it, in the state
+-- what a service has done since its last synchronisation point; a request that waits is beside it, in the state
 pub record OpenTransaction : Type 0 where
   -- the row of its service as it began, if there was one
   pub began : Option Service

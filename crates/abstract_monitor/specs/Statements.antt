@@ -35,14 +35,14 @@ Stated = OpenTransaction × Happened
 
 -- the area of which a call asks; most ask of none, and a name that is none is refused first
 abbrev pub area_of_call : OpenTransaction → Call → Option Area
-area_of_call x (SgetGb name room) = option_map Gssb (name_in_operand name)
+area_of_call x (SgetGb name capacity) = option_map Gssb (name_in_operand name)
 area_of_call x (SputGb name bytes) = option_map Gssb (name_in_operand name)
 area_of_call x (SrelGb name) = option_map Gssb (name_in_operand name)
 area_of_call x (UnlkGb name) = option_map Gssb (name_in_operand name)
-area_of_call x (SgetUs name room) = option_map (λ block. Uls block x.user) (name_in_operand name)
+area_of_call x (SgetUs name capacity) = option_map (λ block. Uls block x.user) (name_in_operand name)
 area_of_call x (SputUs name bytes) = option_map (λ block. Uls block x.user) (name_in_operand name)
 area_of_call x (UnlkUs name) = option_map (λ block. Uls block x.user) (name_in_operand name)
-area_of_call x (Gtda name room) = option_map (λ block. Tls block x.lterm) (name_in_operand name)
+area_of_call x (Gtda name capacity) = option_map (λ block. Tls block x.lterm) (name_in_operand name)
 area_of_call x (Ptda name bytes) = option_map (λ block. Tls block x.lterm) (name_in_operand name)
 area_of_call x (UnlkDa name) = option_map (λ block. Tls block x.lterm) (name_in_operand name)
 area_of_call x _ = None

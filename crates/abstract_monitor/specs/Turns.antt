@@ -80,8 +80,8 @@ abbrev pub queued : State → ServiceId → OpenTransaction → State
 queued s id x = record (with_open s id x) { ready = s.ready ++ id ∷ [] }
 
 -- the transaction is over, and its task is free
-abbrev pub without_work : State → (task : ℕ) → ServiceId → State
-without_work s task id = without_open (with_task s task None) id
+abbrev pub without_transaction : State → (task : ℕ) → ServiceId → State
+without_transaction s task id = without_open (with_task s task None) id
 
 -- ---- the terminal of a user
 
@@ -143,8 +143,8 @@ dump_acts id x BrokenFr = []
 -- an abnormal end, or PEND FR: one commit, then its lines
 unfoldable pub abnormal : Application → State → (task : ℕ) → ServiceId → OpenTransaction → Ending → Turned
 abnormal app s task id x ending =
-    let new = broken s.tables id x in
-    committed (record (without_work s task id) { tables = new }) (commit_of app s.tables new) (kept_record id x ending) (dump_acts id x ending ++ ended_acts s id)
+    let new = broken app.generation s.tables id x in
+    committed (record (without_transaction s task id) { tables = new }) (commit_of app s.tables new) (kept_record id x ending) (dump_acts id x ending ++ ended_acts s id)
 
 -- the message of RE and FI is sent to the user of a dialogue service
 abbrev pub message_sent : State → ServiceId → OpenTransaction → State
@@ -173,7 +173,7 @@ after_point app s id x _ row commit kept = committed s commit kept []
 abbrev pub settled_by : Application → State → (task : ℕ) → ServiceId → OpenTransaction → Outcome → TableRows → Option Cause → Turned
 settled_by app s task id x o new (Some cause) = abnormal app s task id x (Broken cause)
 settled_by app s task id x o new None =
-    after_point app (record (without_work s task id) { tables = new }) id x o (row_after app.generation id x o) (commit_of app s.tables new) (kept_record id x Synced)
+    after_point app (record (without_transaction s task id) { tables = new }) id x o (row_after app.generation id x o) (commit_of app s.tables new) (kept_record id x Synced)
 
 -- a synchronisation point, or the abnormal end with the cause that refuses it
 unfoldable pub settled : Application → State → (task : ℕ) → ServiceId → OpenTransaction → Outcome → Turned
@@ -214,7 +214,7 @@ happens app s task id x y Waited = unmoved (waiting_for s id (area_of app x))
 happens app s task id x y (Held tac) = moved_to (message_sent (with_task (without_wait s id) task None) id x) (message_acts s id x)
 happens app s task id x y (Settles o) = settled app s task id x o
 happens app s task id x y (Breaks ending) = abnormal app s task id x ending
-happens app s task id x y Returns = back app (without_work s task id) id x x.began
+happens app s task id x y Returns = back app (without_transaction s task id) id x x.began
 
 -- ---- a turn
 
@@ -230,10 +230,10 @@ statement_now app s id x = statement app (told_here app s id x) (is_asynchronous
 abbrev pub stated : Application → State → (task : ℕ) → ServiceId → OpenTransaction → Stated → Turned
 stated app s task id x r = happens app s task id x r.0 r.1
 
--- a task works for a service with an open transaction
-abbrev pub worked : Application → State → (task : ℕ) → ServiceId → Option OpenTransaction → Turned
-worked app s task id None = unmoved s
-worked app s task id (Some x) = stated app s task id x (statement_now app s id x)
+-- a task serves a service with an open transaction
+abbrev pub served : Application → State → (task : ℕ) → ServiceId → Option OpenTransaction → Turned
+served app s task id None = unmoved s
+served app s task id (Some x) = stated app s task id x (statement_now app s id x)
 
 -- an asynchronous service begins with its message
 abbrev pub took_job_for : Application → State → (task : ℕ) → (number : ℕ) → JobValue → Target → Turned
@@ -256,7 +256,7 @@ took app s task (Some (work.Job number)) = took_job app s task number (job_of s.
 abbrev pub turn_by : Application → State → (task : ℕ) → Option (Option ServiceId) → Turned
 turn_by app s task None = unmoved s
 turn_by app s task (Some None) = took app s task (pick app s)
-turn_by app s task (Some (Some id)) = worked app s task id (find id_cmp id s.active)
+turn_by app s task (Some (Some id)) = served app s task id (find id_cmp id s.active)
 
 -- one turn of a task, from 1
 unfoldable pub turn_of : Application → State → (task : ℕ) → Turned

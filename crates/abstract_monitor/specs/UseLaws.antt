@@ -7,14 +7,16 @@ use Rattle.kdcs_types.specs.declared.key.ServiceId.TheVariants.{Dialogue}
 use Rattle.kdcdef_types.specs.declared.entry.TacEntry.{TacEntry}
 use Rattle.kdcdef_types.specs.declared.entry.UserEntry.{UserEntry}
 use Rattle.kdcdef_types.specs.Generation.{Generated, user_of}
+use Rattle.abstract_monitor.specs.declared.access.Denial.{Denial}
 use Rattle.abstract_monitor.specs.declared.input_use.ServiceState.{ServiceState}
 use Rattle.abstract_monitor.specs.declared.input_use.ServiceState.TheVariants.{NoService, Awaits, Running}
 use Rattle.abstract_monitor.specs.declared.input_use.Use.{Use}
 use Rattle.abstract_monitor.specs.declared.input_use.Use.TheVariants.{Sign, SignFirst, AlreadySigned, Off, Display, Output, Again, TooLong, Next, Start}
 use Rattle.abstract_monitor.specs.Bytes.{Bytes, bytes_cmp}
-use Rattle.abstract_monitor.specs.Commands.{user_by, use_now}
+use Rattle.abstract_monitor.specs.Access.{denial_of}
+use Rattle.abstract_monitor.specs.Commands.{lterm_at, user_by, use_now}
 use Rattle.abstract_monitor.specs.Outcomes.{goes_first}
-use Rattle.abstract_monitor.specs.Sessions.{Split, split_at, first_word, after_word, is_running, is_awaiting, service_state_by, service_state, same_password, has_user, sign_by, sign_user, sign_name, sign_on_use, use_unsigned, start_by, tac_named, use_of_text, off_use, use_signed, use_by, use_of}
+use Rattle.abstract_monitor.specs.Sessions.{Split, split_at, first_word, after_word, is_running, is_awaiting, service_state_by, service_state, same_password, has_user, sign_by, sign_user, sign_name, sign_on_use, use_unsigned, admitted, start_by, tac_named, use_of_text, off_use, use_signed, use_by, use_under, use_of}
 use Rattle.abstract_monitor.specs.State.{Application, Session, State}
 
 -- the user is signed on at the terminal, and its service is neither ready nor in a task
@@ -58,39 +60,44 @@ module _ (s : State) (pterm : Bytes) (free : find bytes_cmp pterm s.signed ≡ N
 -- ---- within a session
 
 module _ (s : State) (pterm : Bytes) (v : Session) (on : find bytes_cmp pterm s.signed ≡ Some v) where
-  start_fits : (g : Generated) (tac text : Bytes) (t : Option TacEntry) → IsAtRest s pterm v → is_awaiting s (Dialogue v.user) ≡ false → IsFor s pterm (start_by g tac text t)
-  start_fits g tac text None rest none = tt
-  start_fits g tac text (Some t) rest none =
-      either s pterm (t.asynchronous || not (goes_first t.call)) _ _ tt
-      (either s pterm (not t.on) _ _ tt (either s pterm (nat_lt g.limits.nb (length text)) _ _ tt (v, rest, none)))
+  admitted_fits : (g : Generated) (tac text : Bytes) (o : Option Denial) → IsAtRest s pterm v → is_awaiting s (Dialogue v.user) ≡ false → IsFor s pterm (admitted g tac text o)
+  admitted_fits g tac text (Some denial) rest none = tt
+  admitted_fits g tac text None rest none = either s pterm (nat_lt g.limits.nb (length text)) _ _ tt (v, rest, none)
 
-  text_fits : (g : Generated) (text : Bytes) (r : Split) (running awaiting : Bool) → is_running s (Dialogue v.user) ≡ running → is_awaiting s (Dialogue v.user) ≡ awaiting
-      → IsFor s pterm (use_of_text g text r (service_state_by running awaiting))
-  text_fits g text r true awaiting e f = tt
-  text_fits g text r false true e f = either s pterm (nat_lt g.limits.nb (length text)) TooLong (Next text) tt (v, record { signed = on; rests = e }, f)
-  text_fits g text r false false e f = start_fits g r.word (after_word r) (tac_named g r.word) (record { signed = on; rests = e }) f
+  start_fits : (g : Generated) (denies : Bytes → Option Denial) (tac text : Bytes) (t : Option TacEntry) → IsAtRest s pterm v → is_awaiting s (Dialogue v.user) ≡ false
+      → IsFor s pterm (start_by g denies tac text t)
+  start_fits g denies tac text None rest none = tt
+  start_fits g denies tac text (Some t) rest none =
+      either s pterm (t.asynchronous || not (goes_first t.call)) _ _ tt
+      (either s pterm (not t.on) _ _ tt (admitted_fits g tac text (denies tac) rest none))
+
+  text_fits : (g : Generated) (denies : Bytes → Option Denial) (text : Bytes) (r : Split) (running awaiting : Bool) → is_running s (Dialogue v.user) ≡ running → is_awaiting s (Dialogue v.user) ≡ awaiting
+      → IsFor s pterm (use_of_text g denies text r (service_state_by running awaiting))
+  text_fits g denies text r true awaiting e f = tt
+  text_fits g denies text r false true e f = either s pterm (nat_lt g.limits.nb (length text)) TooLong (Next text) tt (v, record { signed = on; rests = e }, f)
+  text_fits g denies text r false false e f = start_fits g denies r.word (after_word r) (tac_named g r.word) (record { signed = on; rests = e }) f
 
   off_fits : (state : ServiceState) → IsFor s pterm (off_use state)
   off_fits Running = tt
   off_fits Awaits = (v, on)
   off_fits NoService = (v, on)
 
-  signed_fits : (g : Generated) (text : Bytes) (r : Split) → IsFor s pterm (use_signed g text r (service_state s v.user))
+  signed_fits : (g : Generated) (denies : Bytes → Option Denial) (text : Bytes) (r : Split) → IsFor s pterm (use_signed g denies text r (service_state s v.user))
   unfolding service_state
-  signed_fits g text r =
+  signed_fits g denies text r =
       let state = service_state s v.user in
       either s pterm (bytes_eq r.word (codes "KDCSIGN")) AlreadySigned _ tt
       (either s pterm (bytes_eq r.word (codes "KDCDISP")) Display _ tt
       (either s pterm (bytes_eq r.word (codes "KDCOUT")) Output _ tt
       (either s pterm (bytes_eq r.word (codes "KDCLAST")) Again _ tt
-      (either s pterm (bytes_eq r.word (codes "KDCOFF")) (off_use state) (use_of_text g text r state) (off_fits state)
-      (text_fits g text r (is_running s (Dialogue v.user)) (is_awaiting s (Dialogue v.user)) refl refl)))))
+      (either s pterm (bytes_eq r.word (codes "KDCOFF")) (off_use state) (use_of_text g denies text r state) (off_fits state)
+      (text_fits g denies text r (is_running s (Dialogue v.user)) (is_awaiting s (Dialogue v.user)) refl refl)))))
 
 -- what the use of an input may take of the state
 pub use_fits : (app : Application) (s : State) (pterm text : Bytes) → IsFor s pterm (use_now app s pterm text)
-unfolding use_of use_now
+unfolding use_of use_under use_now
 use_fits app s pterm text = by (find bytes_cmp pterm s.signed) refl
   where
-    by : (o : Option Session) → find bytes_cmp pterm s.signed ≡ o → IsFor s pterm (use_by app.generation s.signed (service_state s (user_by o)) text o)
+    by : (o : Option Session) → find bytes_cmp pterm s.signed ≡ o → IsFor s pterm (use_by app.generation (denial_of app.generation) s.signed (service_state s (user_by o)) (lterm_at app pterm) text o)
     by None e = unsigned_fits s pterm e app.generation (first_word text)
-    by (Some v) e = signed_fits s pterm v e app.generation text (first_word text)
+    by (Some v) e = signed_fits s pterm v e app.generation (denial_of app.generation v.user (lterm_at app pterm)) text (first_word text)

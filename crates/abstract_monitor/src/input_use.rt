@@ -1,11 +1,12 @@
 //! What a terminal input means.
 
+use crate::access::Denial;
 use kd_base::{Bytes, Name};
 
 /// Why a KDCSIGN is refused.
 #[derive(Clone, Copy, PartialEq, Eq)]
 pub enum SignFault {
-    /// No user name stands behind it.
+    /// No user name is after it.
     BadForm,
     UnknownUser,
     WrongPassword,
@@ -21,6 +22,8 @@ pub enum TacFault {
     NotAllowed,
     /// STATUS=OFF.
     IsOff,
+    /// The TAC has a lock, and the user or the LTERM has no key for it.
+    Denied(Denial),
 }
 
 /// What the dialogue service of a signed-on user does.

@@ -2,10 +2,11 @@
 //! over lists and whole tables that compute; and the data types that they need beside those below.
 //!
 //! It stands on the data types, the generation and the units. A crate above proves each of its calls against one
-//! definition: `call_outcome`, `pend_outcome`, `synchronised`, `broken`, `due_job`, `pick`, `use_of`, `turn_of`,
-//! `command_of`, `started` and `trace` are the words that contracts cite.
+//! definition: `denial_of`, `call_outcome`, `pend_outcome`, `synchronised`, `broken`, `due_job`, `pick`, `use_of`,
+//! `turn_of`, `command_of`, `started` and `trace` are the words that contracts cite.
 #![tactic(auto)]
 
+mod access;
 mod answer;
 mod command;
 mod draft;
@@ -13,6 +14,7 @@ mod input_use;
 mod outcome;
 mod work;
 
+pub use access::Denial;
 pub use answer::{Called, Happened, LockAnswer};
 pub use command::Command;
 pub use draft::{Draft, Due};

@@ -13,7 +13,7 @@ use Rattle.unit_read.specs.declared.fault.UnitFault.{UnitFault}
 use Rattle.unit_read.specs.declared.fault.UnitFault.TheVariants as unit_faults
 use Rattle.unit_read.specs.Spelling.{SpellsUnits}
 use Rattle.unit_read.specs.Faults.{HasTextFault}
-use Rattle.unit_read.specs.Outcomes.{is_memory as is_units_memory, Gives as UnitsGive}
+use Rattle.unit_read.specs.Answers.{is_memory as is_units_memory, Gives as UnitsGive}
 use Rattle.unit_check.specs.declared.fault.FitFault.{FitFault}
 use Rattle.unit_check.specs.declared.fault.FitFault.TheVariants as fit_faults
 use Rattle.unit_check.specs.Fitted.{FittedUnits, AreFittedTo}
@@ -44,7 +44,7 @@ abbrev pub Stands : (definition units : List ℕ) → Wanted → Type 0
 Stands definition units (Ok a) = TextsGenerate definition units a
 Stands definition units (Err e) = TextsHaveFault definition units e
 
--- an error refuses the texts: what stands is given, and its fault stands
+-- an error refuses the texts: what stands is given, and its fault is there
 pub record IsRefused (definition units : List ℕ) (r : Wanted) : Type 0 where
   pub gives : (wanted : Wanted) → Stands definition units wanted → Gives r wanted
   pub fault : IfErr r (λ e. e ≢ Memory → TextsHaveFault definition units e)

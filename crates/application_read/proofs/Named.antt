@@ -11,9 +11,10 @@ use Rattle.kdcdef_lex.specs.declared.statement.RawOperand.{RawOperand}
 use Rattle.kdcdef_lex.specs.declared.statement.RawStatement.{RawStatement}
 use Rattle.kdcdef_lex.specs.declared.statement.RawValue.{RawValue}
 use Rattle.kdcdef_lex.specs.declared.statement.RawValue.TheVariants as raw
+use Rattle.kdcdef_types.specs.declared.entry.KeySet.{KeySet}
 use Rattle.kdcdef_types.specs.declared.entry.TacEntry.{TacEntry}
 use Rattle.kdcdef_types.specs.declared.statement.Said.{Said}
-use Rattle.kdcdef_types.specs.declared.statement.Said.TheVariants.{Program, Tac, User, Lterm, Tls, Uls, TacClass, Passed, End}
+use Rattle.kdcdef_types.specs.declared.statement.Said.TheVariants.{Program, Tac, User, Lterm, Tls, Uls, TacClass, Kset, Passed, End}
 use Rattle.kdcdef_types.specs.declared.statement.Statement.{Statement}
 use Rattle.kdcdef_read.specs.declared.fault.ReadFault.{ReadFault}
 use Rattle.kdcdef_read.specs.declared.rows.Kind.TheVariants as kinds
@@ -28,6 +29,7 @@ use Rattle.kdcdef_read.specs.declared.words.Keyword.TheVariants as keywords
 use Rattle.kdcdef_read.specs.Words.{form_of}
 use Rattle.kdcdef_read.specs.Table.{row_of}
 use Rattle.kdcdef_read.specs.Values.{written_name, value_of}
+use Rattle.kdcdef_read.specs.KeySets.{key_set_of}
 use Rattle.kdcdef_read.specs.Operands.{answer_of}
 use Rattle.kdcdef_read.specs.Said.{name_at, prog_name_at, number_at, class_at, flag_at, password_at, max_said, tac_entry, pterm_of, said_of}
 use Rattle.kdcdef_read.specs.Meaning.{statement, shared, form_says, Say}
@@ -81,11 +83,14 @@ first_named keyword os name row at =
 abbrev tac_made : List ℕ → TacEntry → Said
 tac_made name entry = Tac name entry
 
-abbrev user_made : Option (List ℕ) → List ℕ → Bool → Said
-user_made pass name restart = User name (record { pass = pass; restart = restart })
+abbrev user_made : Option (List ℕ) → Option (List ℕ) → List ℕ → Bool → Said
+user_made pass kset name restart = User name (record { pass = pass; restart = restart; kset = kset })
 
-abbrev lterm_made : List ℕ → Bool → Said
-lterm_made name printer = Lterm name (record { printer = printer })
+abbrev lterm_made : Option (List ℕ) → List ℕ → Bool → Said
+lterm_made kset name printer = Lterm name (record { printer = printer; kset = kset })
+
+abbrev kset_made : List ℕ → KeySet → Said
+kset_made name set = Kset name set
 
 abbrev class_made : ℕ → ℕ → Said
 class_made class tasks = TacClass class tasks
@@ -94,7 +99,7 @@ pterm_named : (name : List ℕ) (lterm : Option (List ℕ)) → IsName name → 
 pterm_named name None h = tt
 pterm_named name (Some lterm) h = h
 
-said_named : (keyword : Keyword) (os : List RawOperand) (said : Said) → said_of keyword (answer_of keyword os) ≡ Some said → IsNamed said
+said_named : (keyword : Keyword) (os : List RawOperand) (said : Said) → said_of keyword (answer_of keyword os) (key_set_of os) ≡ Some said → IsNamed said
 said_named keywords.Max os said e = subst IsNamed (some_is (max_said (answer_of keywords.Max os)) said e) tt
 said_named keywords.Program os said e =
     let m = map_some (λ (name : List ℕ). Program name) (prog_name_at (answer_of keywords.Program os keys.First)) said e in
@@ -106,8 +111,8 @@ said_named keywords.Tac os said e =
     subst IsNamed m.2 (first_named keywords.Tac os a.0 refl a.1)
 said_named keywords.User os said e =
     let at : Key → Option Value = answer_of keywords.User os in
-    let a = and_some (λ (name : List ℕ). option_map (user_made (password_at (at keys.Pass)) name) (flag_at (at keys.Restart))) (name_at (at keys.First)) said e in
-    let m = map_some (user_made (password_at (at keys.Pass)) a.0) (flag_at (at keys.Restart)) said a.2 in
+    let a = and_some (λ (name : List ℕ). option_map (user_made (password_at (at keys.Pass)) (name_at (at keys.Kset)) name) (flag_at (at keys.Restart))) (name_at (at keys.First)) said e in
+    let m = map_some (user_made (password_at (at keys.Pass)) (name_at (at keys.Kset)) a.0) (flag_at (at keys.Restart)) said a.2 in
     subst IsNamed m.2 (first_named keywords.User os a.0 refl a.1)
 said_named keywords.Pterm os said e =
     let at : Key → Option Value = answer_of keywords.Pterm os in
@@ -115,8 +120,8 @@ said_named keywords.Pterm os said e =
     subst IsNamed m.2 (pterm_named m.0 (name_at (at keys.Lterm)) (first_named keywords.Pterm os m.0 refl m.1))
 said_named keywords.Lterm os said e =
     let at : Key → Option Value = answer_of keywords.Lterm os in
-    let a = and_some (λ (name : List ℕ). option_map (lterm_made name) (flag_at (at keys.Usage))) (name_at (at keys.First)) said e in
-    let m = map_some (lterm_made a.0) (flag_at (at keys.Usage)) said a.2 in
+    let a = and_some (λ (name : List ℕ). option_map (lterm_made (name_at (at keys.Kset)) name) (flag_at (at keys.Usage))) (name_at (at keys.First)) said e in
+    let m = map_some (lterm_made (name_at (at keys.Kset)) a.0) (flag_at (at keys.Usage)) said a.2 in
     subst IsNamed m.2 (first_named keywords.Lterm os a.0 refl a.1)
 said_named keywords.Tls os said e =
     let m = map_some (λ (name : List ℕ). Tls name) (name_at (answer_of keywords.Tls os keys.First)) said e in
@@ -129,13 +134,17 @@ said_named keywords.TacClass os said e =
     let a = and_some (λ (class : ℕ). option_map (class_made class) (number_at (at keys.Tasks))) (class_at (at keys.First)) said e in
     let m = map_some (class_made a.0) (number_at (at keys.Tasks)) said a.2 in
     subst IsNamed m.2 tt
+said_named keywords.Kset os said e =
+    let at : Key → Option Value = answer_of keywords.Kset os in
+    let a = and_some (λ (name : List ℕ). option_map (kset_made name) (key_set_of os)) (name_at (at keys.First)) said e in
+    let m = map_some (kset_made a.0) (key_set_of os) said a.2 in
+    subst IsNamed m.2 tt
 
 abbrev HasNames : Statement → Type 0
 HasNames s = IsNamed s.said
 
 form_named : (own : List RawOperand) (r : RawStatement) (form : Option Form) (s : Statement) → form_says own r form ≡ Ok s → HasNames s
 form_named own r None s e = absurd cc
-form_named own r (Some forms.KeySet) s e = absurd cc
 form_named own r (Some forms.Passed) s e = subst HasNames (ok_is ReadFault (statement r.line 0 Passed) s e) tt
 form_named own r (Some forms.End) s e = subst HasNames (ok_is ReadFault (statement r.line (length r.operands) End) s e) tt
 form_named own r (Some (forms.Kept keyword)) s e = said_named keyword r.operands s.said (kept_is keyword own r s e).said

@@ -8,7 +8,7 @@ use Rattle.unit_check.specs.Faults.{line_of as line_of_fit, name_of as name_of_f
 use Rattle.application_read.specs.declared.fault.ApplicationFault.{ApplicationFault}
 use Rattle.application_read.specs.declared.fault.ApplicationFault.TheVariants.{Definition, Units, Fit, Memory}
 
--- a PROGRAM statement without a unit stands in the definition
+-- a PROGRAM statement without a unit is in the definition
 abbrev pub text_of_fit : FitFault → List ℕ
 text_of_fit (fit.NoUnit line) = codes "DEF"
 text_of_fit _ = codes "UNITS"

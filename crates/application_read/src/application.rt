@@ -32,7 +32,7 @@ pub fn read_application(
     ensures fitted { IfOk result (λ a. IsFit a.generation a.units) }
     // What the texts generate is answered, unless memory runs out.
     ensures only { (a : Generated) → TextsGenerate definition.now units.now a → Gives result (Ok a) }
-    // The fault that is answered stands there.
+    // The fault that is answered is there.
     ensures fault { IfErr result (λ e. e ≢ Memory → TextsHaveFault definition.now units.now e) }
     // Texts with the fault are refused for it, unless memory runs out.
     ensures refused { (e : Fault) → TextsHaveFault definition.now units.now e → Gives result (Err e) }

@@ -15,7 +15,7 @@ pub fn generate(alloc: Global, definition: &[u8]) -> Result<Generation, Definiti
     ensures found { IfOk result (λ g. Generates definition.now g) }
     // What the text generates is answered, unless memory runs out.
     ensures only { (g : Generated) → Generates definition.now g → Gives result (Ok g) }
-    // The fault that is answered stands there.
+    // The fault that is answered is there.
     ensures fault { IfErr result (λ e. e ≢ Memory → HasFault definition.now e) }
     // A text with the fault is refused for it, unless memory runs out.
     ensures refused { (e : DefinitionFault) → HasFault definition.now e → Gives result (Err e) }

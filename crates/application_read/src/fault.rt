@@ -1,7 +1,7 @@
 //! Why the texts of an application are refused.
 ghost use Rattle.std.specs.Prelude.{◌≡◌};
 ghost use Rattle.application_read.specs.{Definition.{is_memory as is_definition_memory}, Handed.{handed_in}};
-ghost use Rattle.unit_read.specs.Outcomes.{is_memory as is_units_memory};
+ghost use Rattle.unit_read.specs.Answers.{is_memory as is_units_memory};
 ghost use Rattle.unit_check.specs.Faults.{is_memory as is_fit_memory};
 ghost use Rattle.application_read.specs.{declared.fault.ApplicationFault.TheVariants.{Definition, Units, Fit, Memory}, Faults.{line_of, name_of, text_of}};
 

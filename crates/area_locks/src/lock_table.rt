@@ -64,7 +64,7 @@ impl LockTable {
         ensures err { OnErr result (self.new ≡ self.old) }
     {
         let answer = self.answer(&who, &area, now, reswait);
-        self.settle(answer, &who, &area, now)?;
+        self.record_answer(answer, &who, &area, now)?;
         Ok(answer)
     }
 
@@ -111,7 +111,7 @@ impl LockTable {
     }
 
     // The locks once a request is answered.
-    fn settle(
+    fn record_answer(
         &mut self,
         answer: LockAnswer,
         who: &ServiceId,

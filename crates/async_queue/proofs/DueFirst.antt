@@ -1,4 +1,4 @@
--- Which job is due first, where one more stands in front.
+-- Which job is due first, where one more is in front.
 use Rattle.std.proofs.Common.{◌≡◌, ◌+◌, ◌<◌, ◌≤◌, ℕ, suc, Bool, true, false, cond, List, ◌∷◌, length, get_or, drop, map, filter, Option, Some, None, sym, ap, ◌∙◌, add-one, drop-cons}
 use Rattle.std.specs.Prelude.{◌&&◌, not, nat_le}
 use Rattle.std.proofs.lemmas.Bool.{le-leb, lt-leb}
@@ -32,7 +32,7 @@ module _ (now : ℕ) (allowed : Target → Bool) where
       ap (λ t. least_job (filter passes (map (λ (r : QueuedJob). r.job) (cond (not t) (q ∷ filter (λ (r : QueuedJob). not r.taken) qs) (filter (λ (r : QueuedJob). not r.taken) qs))))) e
       ∙ ap (λ t. after_free t q qs) h
 
-  -- the job at a place stands in front of those behind it
+  -- the job at a place is in front of those after it
   behind_it : (queue : List QueuedJob) (i j : ℕ) (q : QueuedJob) → i < length queue → j ≡ i + 1 → q ≡ get_or queue i q → drop i queue ≡ q ∷ drop j queue
   behind_it queue i j q lt e is =
       drop-cons queue i q lt

@@ -13,7 +13,7 @@ use Rattle.kdcs_types.specs.Keys.{key_cmp}
 use Rattle.kdcs_types.specs.Keyed.{keyed, ascends}
 use Rattle.kdcs_types.specs.Tables.{job_key}
 use Rattle.async_queue.specs.declared.queue.QueuedJob.{QueuedJob}
-use Rattle.async_queue.specs.Queue.{IsBelowAll, IsAscending, has_number, queued_at, untaken, lesser_count, with_job, marked, with_mark, without_job}
+use Rattle.async_queue.specs.Queue.{IsBelowAll, IsAscending, has_number, queued_at, untaken, lesser_count, with_job, changed, without_job}
 use Rattle.kdcs_types.specs.KeyLaws.{less_number}
 use Rattle.kd_base.specs.FrontsLaws.{one_add}
 
@@ -21,19 +21,22 @@ pub below_less : (m n : ℕ) (qs : List QueuedJob) → m < n → IsBelowAll n qs
 below_less m n [] lt h = tt
 below_less m n (q ∷ qs) lt h = (omega (arith, h.0), below_less m n qs lt h.1)
 
--- ---- a mark changes no number
+-- ---- a change that keeps the numbers
 
-marked_number : (n : ℕ) (taken : Bool) (q : QueuedJob) → (marked n taken q).job.number ≡ q.job.number
-marked_number n taken q = elim (has_number n q) as (λ b. (cond b (record q { taken = taken }) q).job.number ≡ q.job.number) [ true ↦ refl | false ↦ refl ]
+abbrev pub KeepsNumber : (QueuedJob → QueuedJob) → Type 0
+KeepsNumber f = (q : QueuedJob) → (f q).job.number ≡ q.job.number
 
-below_marked : (m n : ℕ) (taken : Bool) (qs : List QueuedJob) → IsBelowAll m qs → IsBelowAll m (with_mark n taken qs)
-below_marked m n taken [] h = tt
-below_marked m n taken (q ∷ qs) h = (subst (λ k. m < k) (sym (marked_number n taken q)) h.0, below_marked m n taken qs h.1)
+module _ (n : ℕ) (f : QueuedJob → QueuedJob) (keeps : KeepsNumber f) where
+  changed_number : (q : QueuedJob) → (changed n f q).job.number ≡ q.job.number
+  changed_number q = elim (has_number n q) as (λ b. (cond b (f q) q).job.number ≡ q.job.number) [ true ↦ keeps q | false ↦ refl ]
 
-pub ascending_marked : (n : ℕ) (taken : Bool) (qs : List QueuedJob) → IsAscending qs → IsAscending (with_mark n taken qs)
-ascending_marked n taken [] h = tt
-ascending_marked n taken (q ∷ qs) h =
-    (subst (λ k. IsBelowAll k (with_mark n taken qs)) (sym (marked_number n taken q)) (below_marked q.job.number n taken qs h.0), ascending_marked n taken qs h.1)
+  below_changed : (m : ℕ) (qs : List QueuedJob) → IsBelowAll m qs → IsBelowAll m (map (changed n f) qs)
+  below_changed m [] h = tt
+  below_changed m (q ∷ qs) h = (subst (λ k. m < k) (sym (changed_number q)) h.0, below_changed m qs h.1)
+
+  pub ascending_changed : (qs : List QueuedJob) → IsAscending qs → IsAscending (map (changed n f) qs)
+  ascending_changed [] h = tt
+  ascending_changed (q ∷ qs) h = (subst (λ k. IsBelowAll k (map (changed n f) qs)) (sym (changed_number q)) (below_changed q.job.number qs h.0), ascending_changed qs h.1)
 
 -- ---- fewer jobs
 

@@ -1,13 +1,13 @@
--- Where a number stands in a queue in ascending order, and what is found and changed there.
-use Rattle.std.proofs.Common.{◌≡◌, ◌+◌, ◌<◌, ◌≤◌, ℕ, zero, suc, Bool, true, false, cond, List, [], ◌∷◌, length, get_or, set, Some, None, refl, sym, ap, subst, ◌∙◌, arith}
+-- Where a number is in a queue in ascending order, and what is found and changed there.
+use Rattle.std.proofs.Common.{◌≡◌, ◌+◌, ◌<◌, ◌≤◌, ℕ, zero, suc, Bool, true, false, cond, List, [], ◌∷◌, length, map, get_or, set, Some, None, refl, sym, ap, subst, ◌∙◌, arith}
 use mathlib.Core.Bool.{beq}
-use Rattle.std.specs.Prelude.{nat_lt, not}
+use Rattle.std.specs.Prelude.{nat_lt, not, is_some}
 use Rattle.std.specs.List.{remove, prefix_len, AllWithin}
 use Rattle.std.specs.Option.{option_map}
 use Rattle.std.specs.List.Sorted.{IsNonDecreasingBy}
 use Rattle.std.proofs.lemmas.Bool.{ltb-true, ltb-false, eq-eqb, ne_eqb}
 use Rattle.async_queue.specs.declared.queue.QueuedJob.{QueuedJob}
-use Rattle.async_queue.specs.Queue.{IsBelowAll, IsAscending, has_number, queued_at, lesser_count, value_at, has_mark, with_mark, without_job, StandsAt}
+use Rattle.async_queue.specs.Queue.{IsBelowAll, IsAscending, has_number, queued_at, lesser_count, value_at, has_mark, changed, without_job, StandsAt}
 use Rattle.async_queue.proofs.Order.{not_there}
 use Rattle.kd_base.specs.FrontsLaws.{one_add}
 
@@ -60,11 +60,11 @@ absent n (q ∷ qs) h other =
           ∙ above_absent n q.job.number qs (ltb-false q.job.number n e) h.0
     ] refl other
 
-pub absent_marked : (n : ℕ) (taken : Bool) (qs : List QueuedJob) → queued_at n qs ≡ None → with_mark n taken qs ≡ qs
-absent_marked n taken [] h = refl
-absent_marked n taken (q ∷ qs) h =
+pub absent_changed : (n : ℕ) (f : QueuedJob → QueuedJob) (qs : List QueuedJob) → queued_at n qs ≡ None → map (changed n f) qs ≡ qs
+absent_changed n f [] h = refl
+absent_changed n f (q ∷ qs) h =
     let parts = not_there n q qs h in
-    ap (λ b. cond b (record q { taken = taken }) q ∷ with_mark n taken qs) parts.0 ∙ ap (λ (l : List QueuedJob). q ∷ l) (absent_marked n taken qs parts.1)
+    ap (λ b. cond b (f q) q ∷ map (changed n f) qs) parts.0 ∙ ap (λ (l : List QueuedJob). q ∷ l) (absent_changed n f qs parts.1)
 
 pub absent_without : (n : ℕ) (qs : List QueuedJob) → queued_at n qs ≡ None → without_job n qs ≡ qs
 absent_without n [] h = refl
@@ -72,7 +72,7 @@ absent_without n (q ∷ qs) h =
     let parts = not_there n q qs h in
     ap (λ b. cond (not b) (q ∷ without_job n qs) (without_job n qs)) parts.0 ∙ ap (λ (l : List QueuedJob). q ∷ l) (absent_without n qs parts.1)
 
--- ---- a number that stands at a place
+-- ---- a number that is at a place
 
 abbrev IsAt : ℕ → List QueuedJob → ℕ → Type 0
 IsAt n qs i = (d : QueuedJob) → (get_or qs i d).job.number ≡ n
@@ -87,14 +87,14 @@ present n (q ∷ qs) zero d h lt at = ap (λ b. cond b (Some q) (queued_at n qs)
 present n (q ∷ qs) (suc i) d h lt at =
     ap (λ b. cond b (Some q) (queued_at n qs)) (before n q qs i h.0 (omega arith) at) ∙ present n qs i d h.1 (omega arith) (λ e. at e)
 
-pub present_marked : (n : ℕ) (taken : Bool) (qs : List QueuedJob) (i : ℕ) (d : QueuedJob) → IsAscending qs → i < length qs → IsAt n qs i → set qs i (record (get_or qs i d) { taken = taken }) ≡ with_mark n taken qs
-present_marked n taken [] i d h lt at = absurd (omega arith)
-present_marked n taken (q ∷ qs) zero d h lt at =
-    sym (ap (λ b. cond b (record q { taken = taken }) q ∷ with_mark n taken qs) (eq-eqb q.job.number n (at d))
-    ∙ ap (λ (l : List QueuedJob). record q { taken = taken } ∷ l) (absent_marked n taken qs (above_absent n q.job.number qs (omega (arith, at d)) h.0)))
-present_marked n taken (q ∷ qs) (suc i) d h lt at =
-    sym (ap (λ b. cond b (record q { taken = taken }) q ∷ with_mark n taken qs) (before n q qs i h.0 (omega arith) at)
-    ∙ ap (λ (l : List QueuedJob). q ∷ l) (sym (present_marked n taken qs i d h.1 (omega arith) (λ e. at e))))
+pub present_changed : (n : ℕ) (f : QueuedJob → QueuedJob) (qs : List QueuedJob) (i : ℕ) (d : QueuedJob) → IsAscending qs → i < length qs → IsAt n qs i → set qs i (f (get_or qs i d)) ≡ map (changed n f) qs
+present_changed n f [] i d h lt at = absurd (omega arith)
+present_changed n f (q ∷ qs) zero d h lt at =
+    sym (ap (λ b. cond b (f q) q ∷ map (changed n f) qs) (eq-eqb q.job.number n (at d))
+    ∙ ap (λ (l : List QueuedJob). f q ∷ l) (absent_changed n f qs (above_absent n q.job.number qs (omega (arith, at d)) h.0)))
+present_changed n f (q ∷ qs) (suc i) d h lt at =
+    sym (ap (λ b. cond b (f q) q ∷ map (changed n f) qs) (before n q qs i h.0 (omega arith) at)
+    ∙ ap (λ (l : List QueuedJob). q ∷ l) (sym (present_changed n f qs i d h.1 (omega arith) (λ e. at e))))
 
 pub present_without : (n : ℕ) (qs : List QueuedJob) (i : ℕ) → IsAscending qs → i < length qs → IsAt n qs i → remove qs i ≡ without_job n qs
 present_without n [] i h lt at = absurd (omega arith)
@@ -124,10 +124,13 @@ module _ (n : ℕ) (items searched : List QueuedJob) (i : ℕ) (up : IsAscending
   pub mark_in : (taken : Bool) (q : QueuedJob) → q ≡ get_or items i q → not (beq q.taken taken) ≡ has_mark (not taken) (queued_at n items)
   mark_in taken q is = mark_differs taken q ∙ ap (has_mark (not taken)) (sym (there q is))
 
-  pub marked_in : (taken : Bool) (q : QueuedJob) → q ≡ get_or items i q → set items i (record { job = q.job; taken = taken }) ≡ with_mark n taken items
-  marked_in taken q is =
+  pub changed_in : (f : QueuedJob → QueuedJob) (q : QueuedJob) → q ≡ get_or items i q → set items i (f q) ≡ map (changed n f) items
+  changed_in f q is =
       let here = stands in
-      ap (λ (r : QueuedJob). set items i (record r { taken = taken })) is ∙ present_marked n taken items i q up here.range here.number
+      ap (λ (r : QueuedJob). set items i (f r)) is ∙ present_changed n f items i q up here.range here.number
+
+  pub is_there : (q : QueuedJob) → q ≡ get_or items i q → true ≡ is_some (queued_at n items)
+  is_there q is = ap is_some (sym (there q is))
 
   pub value_in : (q : QueuedJob) → q ≡ get_or items i q → Some q.job.value ≡ value_at n items
   value_in q is = ap (option_map (λ (r : QueuedJob). r.job.value)) (sym (there q is))

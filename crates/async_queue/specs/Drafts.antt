@@ -16,4 +16,4 @@ AreInTicks (d ∷ ds) = IsInTicks d.due × AreInTicks ds
 
 -- a draft as the job with this number
 abbrev pub job_of : (number clock : ℕ) → (user lterm : List ℕ) → Draft → Job
-job_of number clock user lterm d = record { number = number; value = record { to = d.to; due = due_at d.due clock; user = user; lterm = lterm; message = d.message } }
+job_of number clock user lterm d = record { number = number; value = record { to = d.to; due = due_at d.due clock; redelivered = 0; user = user; lterm = lterm; message = d.message } }

@@ -1,4 +1,5 @@
 pub mod Queue
 pub mod Marks
 pub mod MarksLaws
+pub mod Deliveries
 pub mod Drafts

@@ -2,6 +2,7 @@
 use Rattle.std.specs.Prelude.{◌≡◌, ◌<◌, ℕ, Bool, true, false, not, ◌==◌, List, [], ◌∷◌, length, map, find, filter, Option, Some, None, nat_lt, slice_index_or, if◌then◌else◌}
 use Rattle.std.specs.List.{insert, prefix_len}
 use Rattle.std.specs.Option.{option_map}
+use Rattle.kdcs_types.specs.declared.key.Target.{Target}
 use Rattle.kdcs_types.specs.declared.service.Job.{Job}
 use Rattle.kdcs_types.specs.declared.service.JobValue.{JobValue}
 use Rattle.async_queue.specs.declared.queue.QueuedJob.{QueuedJob}
@@ -47,16 +48,32 @@ untaken job = record { job = job; taken = false }
 abbrev pub lesser_count : ℕ → List QueuedJob → ℕ
 lesser_count number queue = prefix_len (λ (q : QueuedJob). nat_lt q.job.number number) queue
 
--- with this job, behind those with lesser numbers
+-- with this job, after those with lesser numbers
 abbrev pub with_job : Job → List QueuedJob → List QueuedJob
 with_job job queue = insert queue (lesser_count job.number queue) (untaken job)
 
+-- the job with this number is changed so
+abbrev pub changed : ℕ → (QueuedJob → QueuedJob) → QueuedJob → QueuedJob
+changed number f q = if has_number number q then f q else q
+
+-- a job with this mark
+abbrev pub with_taken : Bool → QueuedJob → QueuedJob
+with_taken taken q = record q { taken = taken }
+
 -- the job with this number has this mark
 abbrev pub marked : ℕ → Bool → QueuedJob → QueuedJob
-marked number taken q = if has_number number q then record q { taken = taken } else q
+marked number taken q = changed number (with_taken taken) q
 
 abbrev pub with_mark : ℕ → Bool → List QueuedJob → List QueuedJob
 with_mark number taken queue = map (marked number taken) queue
+
+-- a job that goes to this target, was delivered again so often, and is free
+abbrev pub delivered : Target → (redelivered : ℕ) → QueuedJob → QueuedJob
+delivered to redelivered q = record { job = record { number = q.job.number; value = record q.job.value { to = to; redelivered = redelivered } }; taken = false }
+
+-- the job with this number is delivered so
+abbrev pub with_delivery : ℕ → Target → (redelivered : ℕ) → List QueuedJob → List QueuedJob
+with_delivery number to redelivered queue = map (changed number (delivered to redelivered)) queue
 
 -- without the job with this number
 abbrev pub without_job : ℕ → List QueuedJob → List QueuedJob
@@ -70,7 +87,7 @@ free queue = map (λ (q : QueuedJob). q.job) (filter (λ (q : QueuedJob). not q.
 
 -- ---- places
 
--- the job with this number stands there
+-- the job with this number is there
 pub record StandsAt (n : ℕ) (queue : List QueuedJob) (i : ℕ) : Type 0 where
   pub range : i < length queue
   pub number : (d : QueuedJob) → (slice_index_or queue i d).job.number ≡ n

@@ -46,6 +46,7 @@ fn numbered_job(
         value: JobValue {
             to: draft.to,
             due: due_at(draft.due, clock),
+            redelivered: 0,
             user,
             lterm,
             message: draft.message.clone()?,

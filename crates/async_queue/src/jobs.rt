@@ -1,14 +1,14 @@
 //! The jobs of the tables, with marks.
-ghost use Rattle.std.specs.Prelude.{◌≡◌, true, false, not, IfOk, OnOk, OnErr, None, map, option_copied};
+ghost use Rattle.std.specs.Prelude.{◌≡◌, true, false, not, IfOk, OnOk, OnErr, None, is_some, map, option_copied};
 ghost use Rattle.kdcs_types.specs.declared.service.Job.{Job};
 ghost use Rattle.abstract_monitor.specs.Picks.{due_job};
-ghost use Rattle.async_queue.specs.Queue.{untaken, queued_at, value_at, has_mark, with_job, with_mark, without_job, free};
+ghost use Rattle.async_queue.specs.Queue.{untaken, queued_at, value_at, has_mark, with_delivery, with_job, with_mark, without_job, free};
 
 use crate::allows::Allows;
 use crate::choice::first_of;
 use crate::queue::{QueuedJob, lesser_count, place_of};
 use kd_base::OutOfMemory;
-use kdcs_types::{Job, JobValue, Tables};
+use kdcs_types::{Job, JobValue, Tables, Target};
 use std::alloc::Global;
 use std::marker::Model;
 
@@ -89,6 +89,25 @@ impl Jobs {
                 changes
             }
             None => false,
+        }
+    }
+
+    /// Gives the job with this number this target and this number of deliveries, and frees it: it is delivered again, or
+    /// is a dead letter. It answers false exactly where the job is not there, and takes no memory.
+    pub fn again(&mut self, number: u64, to: Target, redelivered: u8) -> Result<bool, OutOfMemory>
+        ensures result { IfOk result (λ found. found ≡ is_some (queued_at number self.old)) }
+        ensures ok { OnOk result (self.new ≡ with_delivery number to redelivered self.old) }
+        ensures err { OnErr result (self.new ≡ self.old) }
+    {
+        match place_of(&self.queue, number) {
+            Some(at) => {
+                let queued = &mut self.queue[at];
+                queued.job.value.to = to;
+                queued.job.value.redelivered = redelivered;
+                queued.taken = false;
+                Ok(true)
+            }
+            None => Ok(false),
         }
     }
 

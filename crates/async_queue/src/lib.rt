@@ -3,17 +3,20 @@
 //!
 //! It stands on the data types, on the clock at which a job is due, and on the definitions of the monitor, which say which
 //! job is due first and which numbers jobs get. To the layers above, its contract says that the first due job is exactly
-//! the one of the definitions, that a job that is taken stays where it is until it is removed, and that drafts become
-//! jobs in order, numbered from the number that the caller names.
+//! the one of the definitions, that a job that is taken stays where it is until it is removed, that the fate of a job whose
+//! service ends abnormally is the defined one, and that drafts become jobs in order, numbered from the number that the
+//! caller names.
 #![tactic(auto)]
 
 mod allows;
 mod choice;
 mod drafts;
+mod fate;
 mod jobs;
 mod queue;
 
 pub use allows::Allows;
 pub use drafts::DraftJobs;
+pub use fate::{dead_letter_queue, fate_change, own_job};
 pub use jobs::Jobs;
 pub use queue::QueuedJob;

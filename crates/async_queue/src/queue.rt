@@ -1,4 +1,4 @@
-//! Where a job stands among others in ascending order of their numbers.
+//! Where a job is among others in ascending order of their numbers.
 ghost use Rattle.std.specs.Prelude.{◌≡◌};
 ghost use Rattle.async_queue.specs.Queue.{IsAscending, IsPlace, lesser_count};
 
@@ -20,7 +20,7 @@ pub(crate) fn lesser_count(queue: &[QueuedJob], number: u64) -> usize
     queue.partition_point(|queued| queued.job.number < number)
 }
 
-// Where the job with this number stands, if it is there.
+// Where the job with this number is, if it is there.
 pub(crate) fn place_of(queue: &[QueuedJob], number: u64) -> Option<usize>
     requires { IsAscending queue.now }
     ensures { IsPlace number queue.now result }

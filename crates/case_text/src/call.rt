@@ -1,21 +1,21 @@
 //! A call of the program, and the tries of it.
 
+use crate::answer::Answer;
 use crate::line::Failing;
-use crate::outcome::Outcome;
 use crate::program::Program;
-use crate::texts::NamedTexts;
+use crate::texts::{NamedTexts, copied};
 use kd_base::{Bytes, OutOfMemory};
-use kd_device::{CallKind, MemDevice, MemRoom, SureDevice};
+use kd_device::{CallKind, Device, MemDevice, MemRoom, SureDevice};
 use std::alloc::Global;
 
 /// How the next call is tried.
 #[derive(Clone, Copy)]
 pub enum Tries {
-    /// Once, over the KDCFILE as it stands.
+    /// Once, over the KDCFILE as it is.
     Plain,
     /// The same over a device of which no call fails.
     Sure,
-    /// Over the KDCFILE as it stands, with each of these numbers failing.
+    /// Over the KDCFILE as it is, with each of these numbers failing.
     Fails(Failing, u64, u64),
     /// Over what a stop after so many calls, with this choice, leaves of the last plain call.
     Stop(u64, u64),
@@ -33,48 +33,66 @@ pub struct Call {
 }
 
 impl Call {
-    fn room(&self, alloc: Global, also: Option<(Failing, u64)>) -> Result<MemRoom, OutOfMemory> {
-        let mut texts = Vec::new(alloc);
-        for (name, text) in &self.texts {
-            texts.push((name.clone()?, text.clone()?))?;
-        }
+    /// The numbers of the reads that fail.
+    fn failing_texts(&self, also: Option<(Failing, u64)>) -> Result<Vec<u64>, OutOfMemory> {
         let mut failing = self.failing_texts.clone()?;
         if let Some((Failing::Text, number)) = also {
             failing.push(number)?;
         }
-        MemRoom::new(alloc, texts, failing)
+        Ok(failing)
     }
 
-    /// The call over a device with this file, of which the call of the kind and number `also` fails too; and that device.
-    pub fn over<P: Program>(
-        &self,
-        alloc: Global,
-        file: &[u8],
-        also: Option<(Failing, u64)>,
-        at: String,
-    ) -> Result<(Outcome, MemDevice), OutOfMemory> {
-        let mut room = self.room(alloc, also)?;
+    /// The calls of the device that fail.
+    fn failing(&self, also: Option<(Failing, u64)>) -> Result<Vec<(CallKind, u64)>, OutOfMemory> {
         let mut failing = self.failing.clone()?;
         if let Some((Failing::Device(kind), number)) = also {
             failing.push((kind, number))?;
         }
-        let mut device = MemDevice::new(alloc, Bytes::from_slice(alloc, file)?, failing)?;
-        let status = P::call(alloc, &self.words, &mut room, &mut device);
-        let outcome = Outcome::new(alloc, at, status, file, device.sent(), device.holds())?;
-        Ok((outcome, device))
+        Ok(failing)
     }
 
-    /// The call over a device with this file, of which no call fails.
-    pub fn over_sure<P: Program>(
+    /// A device with this file, of which the call of the kind and number `also` fails too.
+    pub fn device(
         &self,
         alloc: Global,
         file: &[u8],
-    ) -> Result<Outcome, OutOfMemory> {
-        let mut room = self.room(alloc, None)?;
+        also: Option<(Failing, u64)>,
+    ) -> Result<MemDevice, OutOfMemory> {
+        let failing = self.failing(also)?;
+        MemDevice::new(alloc, Bytes::from_slice(alloc, file)?, failing)
+    }
+
+    /// The status of the call over a device.
+    fn status<P: Program, D: Device>(
+        &self,
+        alloc: Global,
+        also: Option<(Failing, u64)>,
+        device: &mut D,
+    ) -> Result<u8, OutOfMemory> {
+        let texts = copied(alloc, &self.texts)?;
+        let mut room = MemRoom::new(alloc, texts, self.failing_texts(also)?)?;
+        Ok(P::call(alloc, &self.words, &mut room, device))
+    }
+
+    /// The call over a device with this file, where the read of the number `also` fails too.
+    pub fn over<P: Program>(
+        &self,
+        alloc: Global,
+        device: &mut MemDevice,
+        file: &[u8],
+        also: Option<(Failing, u64)>,
+        at: String,
+    ) -> Result<Answer, OutOfMemory> {
+        let status = self.status::<P, MemDevice>(alloc, also, device)?;
+        Answer::new(alloc, at, status, file, device.sent(), device.holds())
+    }
+
+    /// The call over a device with this file, of which no call fails.
+    pub fn over_sure<P: Program>(&self, alloc: Global, file: &[u8]) -> Result<Answer, OutOfMemory> {
         let mut device = SureDevice::new(alloc, Bytes::from_slice(alloc, file)?)?;
-        let status = P::call(alloc, &self.words, &mut room, &mut device);
+        let status = self.status::<P, SureDevice>(alloc, None, &mut device)?;
         let at = String::new(alloc);
-        Outcome::new(alloc, at, status, file, device.sent(), device.holds())
+        Answer::new(alloc, at, status, file, device.sent(), device.holds())
     }
 }
 

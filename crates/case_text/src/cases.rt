@@ -47,27 +47,30 @@ impl Cases {
     ) -> Result<Option<String>, OutOfMemory> {
         self.number = self.number.saturating_add(1);
         let line = Line::of(text);
-        let found = match line {
-            Some(line) => self.stage.obey::<P>(alloc, line)?,
-            None => Some(String::from_str(alloc, "no such line")?),
-        };
-        let said = match found {
-            Some(found) => Some(self.said(alloc, text, found.as_str())?),
-            None => None,
-        };
+        let found = self.obey::<P>(alloc, line)?;
+        let said = self.said(alloc, text, found)?;
         if let Some(Line::Case(title)) = line {
             self.title = String::from_str(alloc, title)?;
         }
         Ok(said)
     }
 
+    /// Does what the line says, and answers what is wrong.
+    fn obey<P: Program>(
+        &mut self,
+        alloc: Global,
+        line: Option<Line<'_>>,
+    ) -> Result<Option<String>, OutOfMemory> {
+        match line {
+            Some(line) => self.stage.obey::<P>(alloc, line),
+            None => Ok(Some(String::from_str(alloc, "no such line")?)),
+        }
+    }
+
     /// Ends a text. Where its last call did more than was said, what is to be printed.
     pub fn end(&mut self, alloc: Global) -> Result<Option<String>, OutOfMemory> {
-        let found = self.stage.settle(alloc)?;
-        match found {
-            Some(found) => Ok(Some(self.said(alloc, "the end", found.as_str())?)),
-            None => Ok(None),
-        }
+        let found = self.stage.finish_call(alloc)?;
+        self.said(alloc, "the end", found)
     }
 
     /// How many lines of the text that has ended were wrong. The next text begins with line 1.
@@ -78,8 +81,18 @@ impl Cases {
         wrong
     }
 
-    fn said(&mut self, alloc: Global, text: &str, found: &str) -> Result<String, OutOfMemory> {
+    /// What is to be printed where something was found.
+    fn said(
+        &mut self,
+        alloc: Global,
+        text: &str,
+        found: Option<String>,
+    ) -> Result<Option<String>, OutOfMemory> {
+        let Some(found) = found else {
+            return Ok(None);
+        };
         self.wrong = self.wrong.saturating_add(1);
-        Ok(format!(in alloc; "{}, {}: {text}: {found}", self.number, self.title)?)
+        let said = format!(in alloc; "{}, {}: {text}: {found}", self.number, self.title)?;
+        Ok(Some(said))
     }
 }

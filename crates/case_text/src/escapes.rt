@@ -25,7 +25,7 @@ pub fn has_number(text: &str) -> bool {
 }
 
 /// The bytes that this text writes: `\\` is a backslash, `\x` with two hexadecimal digits a byte, `\#` the number. None
-/// where a backslash has anything else behind it.
+/// where a backslash has anything else after it.
 pub fn unescaped(alloc: Global, text: &str, number: u64) -> Result<Option<Bytes>, OutOfMemory> {
     let mut out = Bytes::new(alloc);
     let mut rest = text.as_bytes();

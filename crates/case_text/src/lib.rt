@@ -6,11 +6,11 @@
 //! no code and no proof.
 #![tactic(auto)]
 
+mod answer;
 mod call;
 mod cases;
 mod escapes;
 mod line;
-mod outcome;
 mod program;
 mod stage;
 mod texts;

@@ -30,7 +30,7 @@ pub enum Line<'a> {
     Fill(u64, &'a str),
     /// The KDCFILE is empty again.
     NoFile,
-    /// These bytes take the place of those that stand there in the KDCFILE.
+    /// These bytes take the place of those that are there in the KDCFILE.
     Put(u64, &'a str),
     /// The KDCFILE ends here.
     Cut(u64),
@@ -121,26 +121,34 @@ fn of_the_file<'a>(word: &str, rest: &'a str) -> Option<Line<'a>> {
     }
 }
 
+fn fail_of(rest: &str) -> Option<Line<'_>> {
+    let (kind, number_of) = rest.split_once(' ')?;
+    Some(Line::Fail(failing_of(kind)?, number(number_of)?))
+}
+
+fn fails_of(rest: &str) -> Option<Line<'_>> {
+    let (kind, range) = rest.split_once(' ')?;
+    let (from, to) = numbers(range)?;
+    Some(Line::Fails(failing_of(kind)?, from, to))
+}
+
+fn stop_of(rest: &str) -> Option<Line<'_>> {
+    let (call, choice) = numbers(rest)?;
+    Some(Line::Stop(call, choice))
+}
+
+fn stops_of(rest: &str) -> Option<Line<'_>> {
+    let (from, to) = numbers(rest)?;
+    Some(Line::Stops(from, to))
+}
+
 /// A line about a call, if the word is one of theirs.
 fn of_a_call<'a>(word: &str, rest: &'a str) -> Option<Line<'a>> {
     match word {
-        "fail" => {
-            let (kind, n) = rest.split_once(' ')?;
-            Some(Line::Fail(failing_of(kind)?, number(n)?))
-        }
-        "fails" => {
-            let (kind, range) = rest.split_once(' ')?;
-            let (from, to) = numbers(range)?;
-            Some(Line::Fails(failing_of(kind)?, from, to))
-        }
-        "stop" => {
-            let (call, choice) = numbers(rest)?;
-            Some(Line::Stop(call, choice))
-        }
-        "stops" => {
-            let (from, to) = numbers(rest)?;
-            Some(Line::Stops(from, to))
-        }
+        "fail" => fail_of(rest),
+        "fails" => fails_of(rest),
+        "stop" => stop_of(rest),
+        "stops" => stops_of(rest),
         "sure" if rest.is_empty() => Some(Line::Sure),
         "call" => Some(Line::Call(rest)),
         _ => None,
@@ -169,10 +177,10 @@ impl<'a> Line<'a> {
         match word {
             "" | "*" => Some(Line::Empty),
             "case" => Some(Line::Case(rest)),
-            "text" | "file" | "|" | "+" | "fill" => of_texts(word, rest),
-            "empty" | "put" | "cut" => of_the_file(word, rest),
-            "=" | ">" | "length" | "holds" | "same" => of_an_answer(word, rest),
-            _ => of_a_call(word, rest),
+            _ => of_texts(word, rest)
+                .or(of_the_file(word, rest))
+                .or(of_a_call(word, rest))
+                .or(of_an_answer(word, rest)),
         }
     }
 }

@@ -1,14 +1,15 @@
 //! What the lines of a text of cases have said so far.
 
+use crate::answer::Answer;
 use crate::call::{Call, Tries, failing_name};
 use crate::escapes::unescaped;
 use crate::line::{Failing, Line};
-use crate::outcome::Outcome;
 use crate::program::Program;
-use crate::texts::{Texts, words_of};
+use crate::texts::{Texts, copied, words_of};
 use kd_base::OutOfMemory;
 use kd_device::{CallKind, MemDevice};
 use std::alloc::Global;
+use std::mem;
 
 /// What is wrong, where something is.
 type Judged = Result<Option<String>, OutOfMemory>;
@@ -27,7 +28,7 @@ pub struct Stage {
     /// The KDCFILE of the case.
     file: Vec<u8>,
     /// What the last call did, at each of its tries.
-    outcomes: Vec<Outcome>,
+    answers: Vec<Answer>,
     /// Whether the status of the last call is still to be said.
     unsaid: bool,
     /// The device of the last plain call.
@@ -48,6 +49,18 @@ fn unless(alloc: Global, holds: bool, text: &str) -> Judged {
     complaint(alloc, text)
 }
 
+/// The last line that a try of the call sent and no line of the case has named.
+fn sent_too(alloc: Global, answers: &[Answer]) -> Judged {
+    let mut last = None;
+    for answer in answers {
+        last = answer.next_line().or(last);
+    }
+    match last {
+        Some(line) => Ok(Some(format!(in alloc; "the call before sent too: {line}")?)),
+        None => Ok(None),
+    }
+}
+
 impl Stage {
     pub fn new(alloc: Global) -> Stage {
         Stage {
@@ -56,7 +69,7 @@ impl Stage {
             failing_texts: Vec::new(alloc),
             tries: Tries::Plain,
             file: Vec::new(alloc),
-            outcomes: Vec::new(alloc),
+            answers: Vec::new(alloc),
             unsaid: false,
             device: None,
             cases: 0,
@@ -122,7 +135,7 @@ impl Stage {
     }
 
     fn begin_case(&mut self, alloc: Global) -> Judged {
-        let found = self.settle(alloc)?;
+        let found = self.finish_call(alloc)?;
         self.cases = self.cases.saturating_add(1);
         self.texts.begin_case();
         self.failing.clear();
@@ -134,17 +147,11 @@ impl Stage {
     }
 
     /// What no line has said of the last call, which is then done with.
-    pub fn settle(&mut self, alloc: Global) -> Judged {
-        let unsaid = self.unsaid;
-        self.unsaid = false;
-        let mut found = None;
-        for outcome in &self.outcomes {
-            if let Some(line) = outcome.next_line() {
-                found = Some(format!(in alloc; "the call before sent too: {line}")?);
-            }
-        }
-        self.outcomes.clear();
-        if unsaid {
+    pub fn finish_call(&mut self, alloc: Global) -> Judged {
+        let found = sent_too(alloc, &self.answers)?;
+        self.answers.clear();
+        if self.unsaid {
+            self.unsaid = false;
             return complaint(alloc, "the call before has no status line");
         }
         Ok(found)
@@ -185,57 +192,81 @@ impl Stage {
         unless(alloc, fits, "past the end of the KDCFILE")
     }
 
+    /// The call with these words, and with the failing calls that are then done with.
+    fn next_call(&mut self, alloc: Global, words: &str) -> Result<Call, OutOfMemory> {
+        let words = words_of(alloc, words)?;
+        let texts = copied(alloc, self.texts.own())?;
+        Ok(Call {
+            words,
+            texts,
+            failing: mem::replace(&mut self.failing, Vec::new(alloc)),
+            failing_texts: mem::replace(&mut self.failing_texts, Vec::new(alloc)),
+        })
+    }
+
     /// Makes the call that the line asks for, at each of its tries.
     fn call<P: Program>(&mut self, alloc: Global, words: &str) -> Judged {
-        let left = self.settle(alloc)?;
-        let call = Call {
-            words: words_of(alloc, words)?,
-            texts: self.texts.copied(alloc)?,
-            failing: self.failing.clone()?,
-            failing_texts: self.failing_texts.clone()?,
-        };
-        let tries = self.tries;
-        self.tries = Tries::Plain;
-        self.failing.clear();
-        self.failing_texts.clear();
-        self.unsaid = true;
-        let found = match tries {
-            Tries::Plain => self.call_once::<P>(alloc, &call)?,
-            Tries::Sure => self.call_surely::<P>(alloc, &call)?,
-            Tries::Fails(kind, from, to) => {
-                self.call_failing::<P>(alloc, &call, kind, from, to)?
-            }
-            Tries::Stop(stop, choice) => self.call_after_one::<P>(alloc, &call, stop, choice)?,
-            Tries::Stops(from, to) => self.call_after_each::<P>(alloc, &call, from, to)?,
-        };
+        let left = self.finish_call(alloc)?;
+        let call = self.next_call(alloc, words)?;
+        let found = self.try_call::<P>(alloc, &call)?;
         Ok(left.or(found))
     }
 
+    /// The call, at each of its tries.
+    fn try_call<P: Program>(&mut self, alloc: Global, call: &Call) -> Judged {
+        let tries = self.tries;
+        self.tries = Tries::Plain;
+        self.unsaid = true;
+        match tries {
+            Tries::Plain => self.call_once::<P>(alloc, call),
+            Tries::Sure => self.call_surely::<P>(alloc, call),
+            Tries::Fails(kind, from, to) => self.call_failing::<P>(alloc, call, kind, from, to),
+            Tries::Stop(stop, choice) => self.call_after_one::<P>(alloc, call, stop, choice),
+            Tries::Stops(from, to) => self.call_after_each::<P>(alloc, call, from, to),
+        }
+    }
+
     /// Counts a try of the last call, and keeps what it did.
-    fn keep(&mut self, outcome: Outcome) -> Result<(), OutOfMemory> {
+    fn keep(&mut self, answer: Answer) -> Result<(), OutOfMemory> {
         self.calls = self.calls.saturating_add(1);
-        self.outcomes.push(outcome)?;
+        self.answers.push(answer)?;
         Ok(())
     }
 
     fn call_once<P: Program>(&mut self, alloc: Global, call: &Call) -> Judged {
+        let mut device = call.device(alloc, &self.file, None)?;
         let at = String::new(alloc);
-        let (outcome, device) = call.over::<P>(alloc, &self.file, None, at)?;
-        self.file = outcome.file().clone()?;
+        let answer = call.over::<P>(alloc, &mut device, &self.file, None, at)?;
         self.device = Some(device);
-        self.keep(outcome)?;
+        self.file = answer.file().clone()?;
+        self.keep(answer)?;
         Ok(None)
     }
 
     fn call_surely<P: Program>(&mut self, alloc: Global, call: &Call) -> Judged {
-        let outcome = call.over_sure::<P>(alloc, &self.file)?;
-        self.file = outcome.file().clone()?;
+        let answer = call.over_sure::<P>(alloc, &self.file)?;
+        self.file = answer.file().clone()?;
         self.device = None;
-        self.keep(outcome)?;
+        self.keep(answer)?;
         Ok(None)
     }
 
-    /// The call with each of these numbers failing. The KDCFILE stays.
+    /// The call with this number failing. The KDCFILE stays.
+    fn call_with<P: Program>(
+        &mut self,
+        alloc: Global,
+        call: &Call,
+        kind: Failing,
+        number: u64,
+    ) -> Result<(), OutOfMemory> {
+        let also = Some((kind, number));
+        let mut device = call.device(alloc, &self.file, also)?;
+        let at = format!(in alloc; "{} {number}", failing_name(kind))?;
+        let answer = call.over::<P>(alloc, &mut device, &self.file, also, at)?;
+        self.keep(answer)
+    }
+
+    /// The call with each of these numbers failing.
     fn call_failing<P: Program>(
         &mut self,
         alloc: Global,
@@ -245,10 +276,7 @@ impl Stage {
         to: u64,
     ) -> Judged {
         for number in from..=to {
-            let at = format!(in alloc; "{} {number}", failing_name(kind))?;
-            let also = Some((kind, number));
-            let (outcome, _) = call.over::<P>(alloc, &self.file, also, at)?;
-            self.keep(outcome)?;
+            self.call_with::<P>(alloc, call, kind, number)?;
         }
         unless(alloc, from <= to, "no number")
     }
@@ -268,10 +296,11 @@ impl Stage {
             return Ok(None);
         }
         let stopped = device.after_stop(alloc, stop, choice)?;
+        let mut device = call.device(alloc, stopped.holds(), None)?;
         let at = format!(in alloc; "stop {stop} {choice}")?;
-        let (outcome, _) = call.over::<P>(alloc, stopped.holds(), None, at)?;
-        let left = outcome.file().clone()?;
-        self.keep(outcome)?;
+        let answer = call.over::<P>(alloc, &mut device, stopped.holds(), None, at)?;
+        let left = answer.file().clone()?;
+        self.keep(answer)?;
         Ok(Some(left))
     }
 
@@ -312,17 +341,17 @@ impl Stage {
 
     /// What the last call did otherwise than this line says, at the first try that did so.
     fn judge(&mut self, alloc: Global, line: Line<'_>) -> Judged {
-        if self.outcomes.is_empty() {
+        if self.answers.is_empty() {
             return complaint(alloc, "no call before");
         }
         if matches!(line, Line::Status(_)) {
             self.unsaid = false;
         }
         let mut first = None;
-        for outcome in &mut self.outcomes {
-            let found = outcome.judge(alloc, line)?;
+        for answer in &mut self.answers {
+            let found = answer.judge(alloc, line)?;
             if first.is_none() {
-                first = located(alloc, found, outcome.at())?;
+                first = located(alloc, found, answer.at())?;
             }
         }
         Ok(first)

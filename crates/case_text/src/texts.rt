@@ -27,6 +27,20 @@ fn text_named<'a>(texts: &'a [(Bytes, Bytes)], name: &str) -> Option<&'a Bytes> 
     None
 }
 
+fn copied_text(text: &(Bytes, Bytes)) -> Result<(Bytes, Bytes), OutOfMemory> {
+    let name = text.0.clone()?;
+    Ok((name, text.1.clone()?))
+}
+
+/// The texts again.
+pub fn copied(alloc: Global, texts: &[(Bytes, Bytes)]) -> Result<NamedTexts, OutOfMemory> {
+    let mut all = Vec::new(alloc);
+    for text in texts {
+        all.push(copied_text(text)?)?;
+    }
+    Ok(all)
+}
+
 fn forget(texts: &mut NamedTexts, name: &str) {
     texts.retain(|(key, _)| key.as_slice() != name.as_bytes());
 }
@@ -87,7 +101,7 @@ impl Texts {
         Ok(true)
     }
 
-    /// Adds a piece to the text that was begun last, so many times, and an end behind it; whether there is such a text
+    /// Adds a piece to the text that was begun last, so many times, and an end after it; whether there is such a text
     /// and such a piece.
     pub fn append(
         &mut self,
@@ -104,13 +118,9 @@ impl Texts {
         append_to_last(alloc, texts, piece, times, end)
     }
 
-    /// The texts of the case again.
-    pub fn copied(&self, alloc: Global) -> Result<NamedTexts, OutOfMemory> {
-        let mut all = Vec::new(alloc);
-        for (name, text) in &self.own {
-            all.push((name.clone()?, text.clone()?))?;
-        }
-        Ok(all)
+    /// The texts of the case.
+    pub fn own(&self) -> &NamedTexts {
+        &self.own
     }
 }
 

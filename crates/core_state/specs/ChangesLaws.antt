@@ -174,7 +174,7 @@ apart who id (Some other) b e = by (id_eq other who) refl b e
 -- a service that is over holds nothing, and no other area changes hands
 pub freed_holds : (l m : Locks) (active : Active) (who : ServiceId) → ((area : Area) → holder m area ≡ other_than who (holder l area)) → SameHolds l active
     → SameHolds m (where_key id_cmp (λ i. not (id_eq who i)) active)
-freed_holds l m active who follow same id area = ap (λ o. is_holder o id) (follow area) ∙ by (id_eq id who) refl
+freed_holds l m active who change_jobs same id area = ap (λ o. is_holder o id) (change_jobs area) ∙ by (id_eq id who) refl
   where
     by : (b : Bool) → id_eq id who ≡ b → is_holder (other_than who (holder l area)) id ≡ holds (where_key id_cmp (λ i. not (id_eq who i)) active) id area
     by true e =

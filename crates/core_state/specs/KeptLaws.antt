@@ -23,8 +23,8 @@ use Rattle.abstract_monitor.specs.State.{OpenTransaction}
 use Rattle.abstract_monitor.specs.Turns.{with_task, with_open, without_open}
 use Rattle.core_state.specs.declared.parts.MonitorParts.{MonitorParts}
 use Rattle.async_queue.specs.Marks.{queue_of}
-use Rattle.core_state.specs.Queue.{marked_for, followed_all}
-use Rattle.core_state.specs.QueueLaws.{all_followed, opened_queue, closed_queue}
+use Rattle.core_state.specs.Queue.{marked_for, queue_after_all}
+use Rattle.core_state.specs.QueueLaws.{queue_after_all_there, opened_queue, closed_queue}
 use Rattle.core_state.specs.Standing.{Each, HasClass, PlaceHasClass, IsIndexed, IsOwned, active_of, id_of, state_of}
 use Rattle.core_state.specs.ChangesLaws.{SameHolds, each_put, each_where, each_set, each_push, each_found, map_set, map_push, ready_stay, places_stay, ready_without, places_left, classes_left, freed_holds, opened_holds, put_others, without_others, neither}
 use Rattle.core_state.specs.Kept.{with_active}
@@ -90,19 +90,19 @@ module _ (p : MonitorParts) (id : ServiceId) (h : IsIndexed p) (unplaced : IsUnp
 
   closed_done : ((area : Area) → holder (freed p.locks id) area ≡ other_than id (holder p.locks area))
       → IsIndexed (with_active p (where_key id_cmp (λ i. not (id_eq id i)) p.active) (freed p.locks id) (marked_for false id p.jobs))
-  closed_done follow =
+  closed_done change_jobs =
       let left = where_key_mapped id_cmp boxed_transaction (λ i. not (id_eq id i)) p.active in
       record {
         owned = each_where _ _ p.active h.owned;
         ready = subst (λ a. Each (HasClass p.generation a) p.scheduler.ready) left (ready_stay p.generation (active_of p.active) _ id (without_others id (active_of p.active)) p.scheduler.ready nowhere.0 h.ready);
         places = subst (λ a. Each (PlaceHasClass p.generation a) p.scheduler.places) left (places_stay p.generation (active_of p.active) _ id (without_others id (active_of p.active)) p.scheduler.places nowhere.1 h.places);
-        locks = subst (λ a. SameHolds (freed p.locks id) a) left (freed_holds p.locks (freed p.locks id) (active_of p.active) id follow h.locks);
+        locks = subst (λ a. SameHolds (freed p.locks id) a) left (freed_holds p.locks (freed p.locks id) (active_of p.active) id change_jobs h.locks);
         jobs = ap (marked_for false id) h.jobs ∙ closed_queue id (active_of p.active) p.tables.jobs ∙ ap (λ a. queue_of a p.tables.jobs) left;
       }
 
   pub closed_indexed : (active : List (ServiceId × Boxed)) (locks : Locks) (jobs : List QueuedJob) → active ≡ without id_cmp id p.active → locks ≡ freed p.locks id
       → ((area : Area) → holder locks area ≡ other_than id (holder p.locks area)) → jobs ≡ marked_for false id p.jobs → IsIndexed (with_active p active locks jobs)
-  closed_indexed active locks jobs a l follow j = closed_as (closed_done (subst (λ (m : Locks). (area : Area) → holder m area ≡ other_than id (holder p.locks area)) l follow)) active locks jobs a l j
+  closed_indexed active locks jobs a l change_jobs j = closed_as (closed_done (subst (λ (m : Locks). (area : Area) → holder m area ≡ other_than id (holder p.locks area)) l change_jobs)) active locks jobs a l j
 
   pub opened_indexed : (transaction : Boxed) (active : List (ServiceId × Boxed)) (jobs : List QueuedJob) → active ≡ put id_cmp id transaction p.active → jobs ≡ marked_for true id p.jobs
       → IsOwned p.generation p.steps (id, transaction) → find id_cmp id (active_of p.active) ≡ None → (boxed_transaction transaction).touched ≡ [] → IsIndexed (with_active p active p.locks jobs)
@@ -131,8 +131,8 @@ opened_state p id transaction x active jobs a e =
     ∙ ap (λ (y : OpenTransaction). with_open (state_of p) id y) e
 
 -- the transaction that is found
-pub found_work : (p : MonitorParts) (id : ServiceId) (result : Option Boxed) → result ≡ find id_cmp id p.active → option_map boxed_transaction result ≡ find id_cmp id (state_of p).active
-found_work p id result e = ap (option_map boxed_transaction) e ∙ sym (find_mapped id_cmp boxed_transaction id p.active)
+pub found_transaction : (p : MonitorParts) (id : ServiceId) (result : Option Boxed) → result ≡ find id_cmp id p.active → option_map boxed_transaction result ≡ find id_cmp id (state_of p).active
+found_transaction p id result e = ap (option_map boxed_transaction) e ∙ sym (find_mapped id_cmp boxed_transaction id p.active)
 
 pub found_owned : (p : MonitorParts) (id : ServiceId) (result : Option Boxed) → result ≡ find id_cmp id p.active → IsIndexed p → IfSome result (λ (transaction : Boxed). IsOwned p.generation p.steps (id, transaction))
 found_owned p id result e h = subst (λ o. IfSome o (λ (transaction : Boxed). IsOwned p.generation p.steps (id, transaction))) (sym e) (each_found (IsOwned p.generation p.steps) id p.active h.owned)
@@ -146,8 +146,8 @@ none_found p id e there =
     let none : find id_cmp id (active_of p.active) ≡ None = find_mapped id_cmp boxed_transaction id p.active ∙ ap (option_map boxed_transaction) (sym e) in
     true≢false (sym (subst (λ (o : Option OpenTransaction). IsSome o) none there))
 
-pub found_open : (works : List (ServiceId × Boxed)) (id : ServiceId) → is_some (find id_cmp id works) ≡ is_some (find id_cmp id (active_of works))
-found_open works id = by (find id_cmp id works) ∙ ap is_some (sym (find_mapped id_cmp boxed_transaction id works))
+pub found_open : (transactions : List (ServiceId × Boxed)) (id : ServiceId) → is_some (find id_cmp id transactions) ≡ is_some (find id_cmp id (active_of transactions))
+found_open transactions id = by (find id_cmp id transactions) ∙ ap is_some (sym (find_mapped id_cmp boxed_transaction id transactions))
   where
     by : (o : Option Boxed) → is_some o ≡ is_some (option_map boxed_transaction o)
     by None = refl
@@ -155,7 +155,7 @@ found_open works id = by (find id_cmp id works) ∙ ap is_some (sym (find_mapped
 
 -- the changes of a commit, in the tables and in the marked jobs
 pub changed_indexed : (p : MonitorParts) (tables : TableRows) (jobs : List QueuedJob) (c : Changes) → IsIndexed p → IsSortedTables p.tables → AreChanges c.items
-    → tables ≡ changed p.tables c → jobs ≡ followed_all (active_of p.active) c.items p.jobs → IsIndexed (record p { tables = tables; jobs = jobs })
+    → tables ≡ changed p.tables c → jobs ≡ queue_after_all (active_of p.active) c.items p.jobs → IsIndexed (record p { tables = tables; jobs = jobs })
 changed_indexed p tables jobs c h sorted fit t j =
     record {
       owned = h.owned;
@@ -163,7 +163,7 @@ changed_indexed p tables jobs c h sorted fit t j =
       places = h.places;
       locks = h.locks;
       jobs =
-          j ∙ ap (followed_all (active_of p.active) c.items) h.jobs
-          ∙ all_followed (active_of p.active) c.items (record p.tables { clock = c.clock; next_job = c.next_job }) (numbers_apart p.tables c.clock c.next_job sorted) fit.fit
+          j ∙ ap (queue_after_all (active_of p.active) c.items) h.jobs
+          ∙ queue_after_all_there (active_of p.active) c.items (record p.tables { clock = c.clock; next_job = c.next_job }) (numbers_apart p.tables c.clock c.next_job sorted) fit.fit
           ∙ ap (λ (u : TableRows). queue_of (active_of p.active) u.jobs) (sym t);
     }

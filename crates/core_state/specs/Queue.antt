@@ -28,25 +28,25 @@ marked_if false number queue = queue
 abbrev pub is_open_job : Active → ℕ → Bool
 is_open_job active number = is_some (find id_cmp (Asynchronous number) active)
 
--- the job stands in its place, with its mark
+-- the job is in its place, with its mark
 abbrev pub with_marked : Active → Job → List QueuedJob → List QueuedJob
 with_marked active job queue = marked_if (is_open_job active job.number) job.number (with_job job (without_job job.number queue))
 
 -- what a change of the tables does to the marked jobs
-abbrev pub followed : Active → Change → List QueuedJob → List QueuedJob
-followed active (Set (row.Job number value)) queue = with_marked active (record { number = number; value = value }) queue
-followed active (Set (row.Gssb name content)) queue = queue
-followed active (Set (row.Tls block lterm content)) queue = queue
-followed active (Set (row.Uls block user content)) queue = queue
-followed active (Set (row.Service id service)) queue = queue
-followed active (Set (row.Shown lterm value)) queue = queue
-followed active (Remove (key.Job number)) queue = without_job number queue
-followed active (Remove (key.Gssb name)) queue = queue
-followed active (Remove (key.Tls block lterm)) queue = queue
-followed active (Remove (key.Uls block user)) queue = queue
-followed active (Remove (key.Service id)) queue = queue
-followed active (Remove (key.Shown lterm)) queue = queue
+abbrev pub queue_after : Active → Change → List QueuedJob → List QueuedJob
+queue_after active (Set (row.Job number value)) queue = with_marked active (record { number = number; value = value }) queue
+queue_after active (Set (row.Gssb name content)) queue = queue
+queue_after active (Set (row.Tls block lterm content)) queue = queue
+queue_after active (Set (row.Uls block user content)) queue = queue
+queue_after active (Set (row.Service id service)) queue = queue
+queue_after active (Set (row.Shown lterm value)) queue = queue
+queue_after active (Remove (key.Job number)) queue = without_job number queue
+queue_after active (Remove (key.Gssb name)) queue = queue
+queue_after active (Remove (key.Tls block lterm)) queue = queue
+queue_after active (Remove (key.Uls block user)) queue = queue
+queue_after active (Remove (key.Service id)) queue = queue
+queue_after active (Remove (key.Shown lterm)) queue = queue
 
-abbrev pub followed_all : Active → List Change → List QueuedJob → List QueuedJob
-followed_all active [] queue = queue
-followed_all active (c ∷ cs) queue = followed_all active cs (followed active c queue)
+abbrev pub queue_after_all : Active → List Change → List QueuedJob → List QueuedJob
+queue_after_all active [] queue = queue
+queue_after_all active (c ∷ cs) queue = queue_after_all active cs (queue_after active c queue)

@@ -29,7 +29,7 @@ use Rattle.abstract_monitor.specs.Locks.{Active}
 use Rattle.abstract_monitor.specs.Picks.{is_free}
 use Rattle.abstract_monitor.specs.State.{OpenTransaction}
 use Rattle.laws_of_places.specs.EntriesLaws.{found_put, other_put, other_without}
-use Rattle.core_state.specs.Queue.{marked_for, marked_if, is_open_job, with_marked, followed, followed_all}
+use Rattle.core_state.specs.Queue.{marked_for, marked_if, is_open_job, with_marked, queue_after, queue_after_all}
 
 -- ---- a service opens, goes on, or is over
 
@@ -126,7 +126,7 @@ first_there active job jobs h =
     ap (λ (at : ℕ). marked_if (is_open_job active job.number) job.number (insert (queue_of active jobs) at (untaken job))) (count_above active job.number jobs h)
     ∙ marked_first active job jobs h _ refl
 
--- behind one with a lesser number
+-- after one with a lesser number
 behind : (job : Job) (q : QueuedJob) (qs : List QueuedJob) → nat_lt q.job.number job.number ≡ true → with_job job (q ∷ qs) ≡ q ∷ with_job job qs
 behind job q qs h =
     let one : 1 + lesser_count job.number qs ≡ suc (lesser_count job.number qs) = omega arith in
@@ -152,7 +152,7 @@ lt_true a b h = by (cases_Bool (nat_lt a b))
     by (inl e) = e
     by (inr e) = absurd (omega (arith, h, ltb-false a b e))
 
--- the items behind their keys
+-- the items after their keys
 unkeyed : (jobs : List Job) → jobs ≡ map (λ p. p.1) (keyed job_key jobs)
 unkeyed [] = refl
 unkeyed (j ∷ js) = ap (λ (l : List Job). j ∷ l) (unkeyed js)
@@ -197,7 +197,7 @@ module _ (active : Active) (job j : Job) (js : List Job) (above : IsAbove j.numb
       ∙ ap (λ (l : List QueuedJob). queued_in active j ∷ l) rest
       ∙ ap (λ r. queue_of active (placed r)) (sym (order_by job.number j.number ∙ ap (λ t. cond t Less (cond (job.number == j.number) Equal Greater)) lt ∙ ap (λ t. cond t Equal Greater) same))
 
--- a job that is set in the tables stands in its place, with its mark
+-- a job that is set in the tables is in its place, with its mark
 pub set_there : (active : Active) (job : Job) (jobs : List Job) → IsTrue (ascends job_key jobs) → with_marked active job (queue_of active jobs) ≡ queue_of active (with_item job_key job jobs)
 set_there active job [] up = first_there active job [] tt
 set_there active job (j ∷ js) up =
@@ -210,23 +210,23 @@ set_there active job (j ∷ js) up =
     ]
 
 -- a change of the tables
-pub followed_there : (active : Active) (t : TableRows) (c : Change) → IsSortedTables t → followed active c (queue_of active t.jobs) ≡ queue_of active (with_change t c).jobs
-followed_there active t (Set (row.Job number value)) h = set_there active (record { number = number; value = value }) t.jobs h.jobs
-followed_there active t (Set (row.Gssb name content)) h = refl
-followed_there active t (Set (row.Tls block lterm content)) h = refl
-followed_there active t (Set (row.Uls block user content)) h = refl
-followed_there active t (Set (row.Service id service)) h = refl
-followed_there active t (Set (row.Shown lterm value)) h = refl
-followed_there active t (Remove (key.Job number)) h = without_of active number t.jobs
-followed_there active t (Remove (key.Gssb name)) h = refl
-followed_there active t (Remove (key.Tls block lterm)) h = refl
-followed_there active t (Remove (key.Uls block user)) h = refl
-followed_there active t (Remove (key.Service id)) h = refl
-followed_there active t (Remove (key.Shown lterm)) h = refl
+pub queue_after_there : (active : Active) (t : TableRows) (c : Change) → IsSortedTables t → queue_after active c (queue_of active t.jobs) ≡ queue_of active (with_change t c).jobs
+queue_after_there active t (Set (row.Job number value)) h = set_there active (record { number = number; value = value }) t.jobs h.jobs
+queue_after_there active t (Set (row.Gssb name content)) h = refl
+queue_after_there active t (Set (row.Tls block lterm content)) h = refl
+queue_after_there active t (Set (row.Uls block user content)) h = refl
+queue_after_there active t (Set (row.Service id service)) h = refl
+queue_after_there active t (Set (row.Shown lterm value)) h = refl
+queue_after_there active t (Remove (key.Job number)) h = without_of active number t.jobs
+queue_after_there active t (Remove (key.Gssb name)) h = refl
+queue_after_there active t (Remove (key.Tls block lterm)) h = refl
+queue_after_there active t (Remove (key.Uls block user)) h = refl
+queue_after_there active t (Remove (key.Service id)) h = refl
+queue_after_there active t (Remove (key.Shown lterm)) h = refl
 
 -- the changes one after another
-pub all_followed : (active : Active) (cs : List Change) (t : TableRows) → IsSortedTables t → IsTrue (list_all change_fits cs) → followed_all active cs (queue_of active t.jobs) ≡ queue_of active (with_changes t cs).jobs
-all_followed active [] t h fit = refl
-all_followed active (c ∷ cs) t h fit =
+pub queue_after_all_there : (active : Active) (cs : List Change) (t : TableRows) → IsSortedTables t → IsTrue (list_all change_fits cs) → queue_after_all active cs (queue_of active t.jobs) ≡ queue_of active (with_changes t cs).jobs
+queue_after_all_there active [] t h fit = refl
+queue_after_all_there active (c ∷ cs) t h fit =
     let parts = both_true (change_fits c) (list_all change_fits cs) fit in
-    ap (followed_all active cs) (followed_there active t c h) ∙ all_followed active cs (with_change t c) (sorted_with_change t c h parts.0) parts.1
+    ap (queue_after_all active cs) (queue_after_there active t c h) ∙ queue_after_all_there active cs (with_change t c) (sorted_with_change t c h parts.0) parts.1

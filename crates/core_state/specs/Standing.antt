@@ -21,7 +21,7 @@ abbrev pub entry_of : ServiceId × Boxed → ServiceId × OpenTransaction
 entry_of e = (e.0, boxed_transaction e.1)
 
 abbrev pub active_of : List (ServiceId × Boxed) → Active
-active_of works = map entry_of works
+active_of transactions = map entry_of transactions
 
 -- a service of the ready list without its class
 abbrev pub id_of : Classed → ServiceId

@@ -1,7 +1,7 @@
 //! The tables.
 ghost use Rattle.std.specs.Prelude.{◌≡◌, OnOk};
 ghost use Rattle.kdcs_types.specs.Tables.{changed, AreChanges};
-ghost use Rattle.core_state.specs.{Queue.{followed, followed_all, is_open_job, marked_if, with_marked}, Standing.{IsIndexed, SameApplication, active_of, state_of}};
+ghost use Rattle.core_state.specs.{Queue.{queue_after, queue_after_all, is_open_job, marked_if, with_marked}, Standing.{IsIndexed, SameApplication, active_of, state_of}};
 
 use crate::parts::MonitorParts;
 use async_queue::Jobs;
@@ -11,10 +11,10 @@ use open_transaction::OpenTransaction;
 use sorted_pairs::SortedPairs;
 
 /// The open transactions by their services.
-type Works = SortedPairs<ServiceId, Box<OpenTransaction>>;
+type OpenTransactions = SortedPairs<ServiceId, Box<OpenTransaction>>;
 
 // The job is taken where its service is open.
-fn mark_if_open(jobs: &mut Jobs, active: &Works, number: u64)
+fn mark_if_open(jobs: &mut Jobs, active: &OpenTransactions, number: u64)
     ensures { jobs.new ≡ marked_if (is_open_job (active_of active.now) number) number jobs.old }
 {
     if active.contains_key(&ServiceId::Asynchronous(number)) {
@@ -22,10 +22,10 @@ fn mark_if_open(jobs: &mut Jobs, active: &Works, number: u64)
     }
 }
 
-// The job stands in its place, with the mark of its service.
+// The job is in its place, with the mark of its service.
 fn set_job(
     jobs: &mut Jobs,
-    active: &Works,
+    active: &OpenTransactions,
     number: u64,
     value: &JobValue,
 ) -> Result<(), OutOfMemory>
@@ -38,9 +38,13 @@ fn set_job(
     Ok(())
 }
 
-// The marked jobs follow a change of the tables.
-fn follow(jobs: &mut Jobs, active: &Works, change: &Change) -> Result<(), OutOfMemory>
-    ensures { OnOk result (jobs.new ≡ followed (active_of active.now) change.now jobs.old) }
+// The jobs after a change of the tables, with the marks of those that are open.
+fn change_jobs(
+    jobs: &mut Jobs,
+    active: &OpenTransactions,
+    change: &Change,
+) -> Result<(), OutOfMemory>
+    ensures { OnOk result (jobs.new ≡ queue_after (active_of active.now) change.now jobs.old) }
 {
     match change {
         Change::Set(Row::Job(number, value)) => set_job(jobs, active, *number, value),
@@ -52,17 +56,21 @@ fn follow(jobs: &mut Jobs, active: &Works, change: &Change) -> Result<(), OutOfM
     }
 }
 
-fn follow_all(jobs: &mut Jobs, active: &Works, changes: &[Change]) -> Result<(), OutOfMemory>
-    ensures { OnOk result (jobs.new ≡ followed_all (active_of active.now) changes.now jobs.old) }
+fn change_all_jobs(
+    jobs: &mut Jobs,
+    active: &OpenTransactions,
+    changes: &[Change],
+) -> Result<(), OutOfMemory>
+    ensures { OnOk result (jobs.new ≡ queue_after_all (active_of active.now) changes.now jobs.old) }
 {
     for change in changes {
-        follow(jobs, active, change)?;
+        change_jobs(jobs, active, change)?;
     }
     Ok(())
 }
 
 impl MonitorParts {
-    /// Makes the changes in the tables, which cost in proportion to their number, and to the rows behind those that come or
+    /// Makes the changes in the tables, which cost in proportion to their number, and to the rows after those that come or
     /// go.
     pub fn change(&mut self, changes: &Changes) -> Result<(), OutOfMemory>
         requires indexed { IsIndexed self.old }
@@ -73,7 +81,7 @@ impl MonitorParts {
     {
         let _clock = self.tables.clock(); // for the proof
         self.tables.change(changes)?;
-        follow_all(&mut self.jobs, &self.active, changes.items.as_slice())?;
+        change_all_jobs(&mut self.jobs, &self.active, changes.items.as_slice())?;
         Ok(())
     }
 }

@@ -5,14 +5,14 @@ use Rattle.std.proofs.lemmas.List.{append-nil, take-append-drop, drop_more, take
 use Rattle.std.proofs.lemmas.List.Folds.{list_all-append}
 use Rattle.kd_base.specs.ToolsLaws.{both_true}
 use Rattle.kd_device.specs.Device.{State}
-use Rattle.kd_device.specs.TimeLaws.{leaves_weaker, leaves_then}
+use Rattle.kd_device.specs.TimeLaws.{faults_then, leaves_weaker, leaves_then}
 use Rattle.kdcfile_store.specs.Kept.{IsKept}
 use Rattle.kdcs_types.specs.declared.act.Act.{Act}
 use Rattle.kdcs_types.specs.declared.act.Act.TheVariants.{Commit, Emit}
 use Rattle.abstract_monitor.specs.Bytes.{Bytes}
 use Rattle.abstract_monitor.specs.Trace.{bytes_of}
 use Rattle.laws_of_steps.specs.Cut.{SentBy}
-use Rattle.device_acts.specs.Performing.{is_line, commits_nothing, IsCutOf, Performs, Sent}
+use Rattle.device_acts.specs.Acting.{is_line, commits_nothing, IsCutOf, WithinActs, Sent}
 
 pub bytes_joined : (p q : List Act) → bytes_of (p ++ q) ≡ bytes_of p ++ bytes_of q
 unfolding bytes_of
@@ -82,8 +82,8 @@ module _ {X : Type 0} (after : X → List Act → X) (goes : Goes after) (stands
           )
 
   -- nothing happened
-  pub performs_none : (start : X) (acts : List Act) (a : State) (la : ℕ → List ℕ → List ℕ → Type 0) → Performs after stands start acts a a la la
-  performs_none start acts a la = record {
+  pub none_within : (start : X) (acts : List Act) (a : State) (la : ℕ → List ℕ → List ℕ → Type 0) → WithinActs after stands start acts a a la la
+  none_within start acts a la = record {
     frame = record { told = refl; disk_faults = omega arith; line_faults = omega arith; moment = omega arith };
     names = refl;
     any_moment = λ told. record { later = omega arith; only = λ u c out le left. inl left };
@@ -92,19 +92,19 @@ module _ {X : Type 0} (after : X → List Act → X) (goes : Goes after) (stands
 
 -- some first acts of all are done: a is the device at the start, and b the device now
 pub record Running {X : Type 0} (after : X → List Act → X) (stands : X → Bytes → Type 0) (file : List ℕ → Type 0) (start : X) (all done : List Act) (a b : State) (la lb : ℕ → List ℕ → List ℕ → Type 0) : Type 0 where
-  pub performs : Performs after stands start all a b la lb
+  pub within : WithinActs after stands start all a b la lb
   pub sent : Sent file done a b lb
 
 module _ {X : Type 0} (after : X → List Act → X) (goes : Goes after) (stands : X → Bytes → Type 0) where
   pub running_start : (file : List ℕ → Type 0) (start : X) (all : List Act) (a : State) (la : ℕ → List ℕ → List ℕ → Type 0) → (IsTrue a.told → IsKept file a la) → Running after stands file start all [] a a la la
   running_start file start all a la kept = record {
-    performs = performs_none after goes stands start all a la;
-    sent = record { rest = kept; sent = λ told. sym (ap (λ (l : Bytes). a.sent ++ l) no_bytes ∙ append-nil a.sent) };
+    within = none_within after goes stands start all a la;
+    sent = record { rest = kept; sent = λ told. sym (ap (λ (l : Bytes). a.sent ++ l) no_bytes ∙ append-nil a.sent); faults = record { disk = refl; line = refl } };
   }
 
-  module _ (file : List ℕ → Type 0) (start now : X) (all done here rest : List Act) (a b d : State) (la lb ld : ℕ → List ℕ → List ℕ → Type 0) (reached : IsTrue a.told → now ≡ after start done) (split : IsTrue a.told → all ≡ done ++ (here ++ rest)) (run : Running after stands file start all done a b la lb) (step : Performs after stands now here b d lb ld) where
+  module _ (file : List ℕ → Type 0) (start now : X) (all done here rest : List Act) (a b d : State) (la lb ld : ℕ → List ℕ → List ℕ → Type 0) (reached : IsTrue a.told → now ≡ after start done) (split : IsTrue a.told → all ≡ done ++ (here ++ rest)) (run : Running after stands file start all done a b la lb) (step : WithinActs after stands now here b d lb ld) where
     told_then : IsTrue a.told → IsTrue b.told
-    told_then told = rw run.performs.frame.told told
+    told_then told = rw run.within.frame.told told
 
     part_cut : (told : IsTrue a.told) (c out : List ℕ) → IsCutOf after stands now here b.sent c out → IsCutOf after stands start all a.sent c out
     part_cut told c out cut =
@@ -117,23 +117,24 @@ module _ {X : Type 0} (after : X → List Act → X) (goes : Goes after) (stands
         let behind = (both_true (commits_nothing done) (commits_nothing (here ++ rest)) (sym (list_all-append is_line done (here ++ rest)) ∙ ap commits_nothing (sym (split told)) ∙ lines)).1 in
         (both_true (commits_nothing here) (commits_nothing rest) (sym (list_all-append is_line here rest) ∙ behind)).0
 
-    pub running_performs : Performs after stands start all a d la ld
-    running_performs = record {
-      frame = record { told = step.frame.told ∙ run.performs.frame.told; disk_faults = omega (arith, step.frame.disk_faults, run.performs.frame.disk_faults); line_faults = omega (arith, step.frame.line_faults, run.performs.frame.line_faults); moment = omega (arith, step.frame.moment, run.performs.frame.moment) };
-      names = step.names ∙ run.performs.names;
-      any_moment = λ told. leaves_then a b la lb d ld (IsCutOf after stands start all a.sent) (run.performs.any_moment told) (leaves_weaker b d lb ld (IsCutOf after stands now here b.sent) (IsCutOf after stands start all a.sent) (step.any_moment (told_then told)) (part_cut told));
+    pub running_within : WithinActs after stands start all a d la ld
+    running_within = record {
+      frame = record { told = step.frame.told ∙ run.within.frame.told; disk_faults = omega (arith, step.frame.disk_faults, run.within.frame.disk_faults); line_faults = omega (arith, step.frame.line_faults, run.within.frame.line_faults); moment = omega (arith, step.frame.moment, run.within.frame.moment) };
+      names = step.names ∙ run.within.names;
+      any_moment = λ told. leaves_then a b la lb d ld (IsCutOf after stands start all a.sent) (run.within.any_moment told) (leaves_weaker b d lb ld (IsCutOf after stands now here b.sent) (IsCutOf after stands start all a.sent) (step.any_moment (told_then told)) (part_cut told));
       quiet = λ told lines.
-          let before = run.performs.quiet told lines in
+          let before = run.within.quiet told lines in
           let here_too = step.quiet (told_then told) (lines_here told lines) in
           record { holds = here_too.holds ∙ before.holds; put = here_too.put ∙ before.put };
     }
 
     pub running_more : (file' : List ℕ → Type 0) → Sent file' here b d ld → Running after stands file' start all (done ++ here) a d la ld
     running_more file' h = record {
-      performs = running_performs;
+      within = running_within;
       sent = record {
         rest = λ told. h.rest (told_then told);
         sent = λ told. h.sent (told_then told) ∙ ap (λ (s : List ℕ). s ++ bytes_of here) (run.sent.sent told) ∙ append_assoc a.sent (bytes_of done) (bytes_of here) ∙ ap (λ (s : List ℕ). a.sent ++ s) (sym (bytes_joined done here));
+        faults = faults_then a b d run.sent.faults h.faults;
       };
     }
 
@@ -145,9 +146,9 @@ pub one_more : {X : Type 0} (xs : List X) (i : ℕ) (d x : X) → x ≡ get_or x
 one_more xs i d x is lt = take_more xs i d lt ∙ ap (λ y. take i xs ++ y ∷ []) (sym is)
 
 -- the act at i is done
-module _ {X : Type 0} (after : X → List Act → X) (goes : Goes after) (stands : X → Bytes → Type 0) (file : List ℕ → Type 0) (start now : X) (all : List Act) (i : ℕ) (act : Act) (is : act ≡ get_or all i act) (lt : i < length all) (a b d : State) (la lb ld : ℕ → List ℕ → List ℕ → Type 0) (reached : IsTrue a.told → now ≡ after start (take i all)) (run : Running after stands file start all (take i all) a b la lb) (step : Performs after stands now (act ∷ []) b d lb ld) where
-  pub act_performs : Performs after stands start all a d la ld
-  act_performs = running_performs after goes stands file start now all (take i all) (act ∷ []) (drop (i + 1) all) a b d la lb ld reached (λ told. around all i act act is lt) run step
+module _ {X : Type 0} (after : X → List Act → X) (goes : Goes after) (stands : X → Bytes → Type 0) (file : List ℕ → Type 0) (start now : X) (all : List Act) (i : ℕ) (act : Act) (is : act ≡ get_or all i act) (lt : i < length all) (a b d : State) (la lb ld : ℕ → List ℕ → List ℕ → Type 0) (reached : IsTrue a.told → now ≡ after start (take i all)) (run : Running after stands file start all (take i all) a b la lb) (step : WithinActs after stands now (act ∷ []) b d lb ld) where
+  pub act_within : WithinActs after stands start all a d la ld
+  act_within = running_within after goes stands file start now all (take i all) (act ∷ []) (drop (i + 1) all) a b d la lb ld reached (λ told. around all i act act is lt) run step
 
   pub act_more : (file' : List ℕ → Type 0) → Sent file' (act ∷ []) b d ld → Running after stands file' start all (take (i + 1) all) a d la ld
   act_more file' h =

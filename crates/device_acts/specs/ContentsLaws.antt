@@ -2,7 +2,7 @@
 use Rattle.std.proofs.Common.{◌≡◌, inl, inr, ℕ, ◌+◌, ◌<◌, List, [], ◌∷◌, ◌++◌, length, take, drop, get_or, refl, sym, ap, subst, ◌∙◌}
 use Rattle.std.specs.Prelude.{IsTrue, true}
 use Rattle.std.proofs.lemmas.List.{append-nil, drop_more}
-use Rattle.kd_device.specs.Device.{State, Frame, SameNames, LeavesOnly}
+use Rattle.kd_device.specs.Device.{State, Frame, SameFaults, SameNames, LeavesOnly}
 use Rattle.kd_device.specs.TimeLaws.{leaves_weaker}
 use Rattle.kd_records.specs.Contents.{patched}
 use Rattle.kd_records.specs.Identity.{Identity}
@@ -14,7 +14,7 @@ use Rattle.kdcs_types.specs.declared.act.Act.TheVariants.{Commit, Emit}
 use Rattle.kdcs_types.specs.declared.act.Changes.{Changes}
 use Rattle.abstract_monitor.specs.Trace.{bytes_of}
 use Rattle.record_codec.specs.Records.{patch_of}
-use Rattle.device_acts.specs.Performing.{commits_nothing, IsCutOf, Performs, Sent, content_after, AreCommittable}
+use Rattle.device_acts.specs.Acting.{commits_nothing, IsCutOf, WithinActs, Sent, content_after, AreCommittable}
 use Rattle.device_acts.specs.Said.{Said, SaidPart}
 use Rattle.device_acts.specs.ActingLaws.{Goes, one_more, cut_none, cut_after, cut_within_line}
 
@@ -28,7 +28,7 @@ content_goes = record { none = λ x. refl; joined = content_joined }
 
 -- ---- what can be committed
 
--- acts in two parts: the first, and the second behind it
+-- acts in two parts: the first, and the second after it
 pub committable_parts : (i : Identity) (x : Content) (p q : List Act) → AreCommittable i x (p ++ q) → AreCommittable i x p × AreCommittable i (content_after x p) q
 committable_parts i x [] q can = (tt, can)
 committable_parts i x (Commit c ∷ p) q can = let rest = committable_parts i (patched x (patch_of c)) p q can.1 in ((can.0, rest.0), rest.1)
@@ -66,8 +66,8 @@ commit_cut stands x c sent image out (same, inr new) =
     cut_after content_after content_goes stands x (Commit c ∷ []) [] sent image out new (same ∙ sym (ap (λ (l : List ℕ). sent ++ l) (bytes_of_commit c) ∙ append-nil sent))
 
 module _ (stands : Content → List ℕ → Type 0) (x : Content) (act : Act) (a b : State) (la lb : ℕ → List ℕ → List ℕ → Type 0) where
-  pub commit_performs : (c : Changes) (p : Patch) → act ≡ Commit c → p ≡ patch_of c → Frame a b → SameNames a b → (IsTrue a.told → LeavesOnly a b la lb (OldOrNew stands x (patched x p) a.sent)) → Performs content_after stands x (act ∷ []) a b la lb
-  commit_performs c p is patch frame names left = record {
+  pub commit_within : (c : Changes) (p : Patch) → act ≡ Commit c → p ≡ patch_of c → Frame a b → SameNames a b → (IsTrue a.told → LeavesOnly a b la lb (OldOrNew stands x (patched x p) a.sent)) → WithinActs content_after stands x (act ∷ []) a b la lb
+  commit_within c p is patch frame names left = record {
     frame = frame;
     names = names;
     any_moment = λ told.
@@ -78,10 +78,11 @@ module _ (stands : Content → List ℕ → Type 0) (x : Content) (act : Act) (a
     quiet = λ told lines. absurd (not_lines c act is lines);
   }
 
-  pub commit_sent : (file : List ℕ → Type 0) (c : Changes) → act ≡ Commit c → (IsTrue a.told → IsKept file b lb) → (IsTrue a.told → b.sent ≡ a.sent) → Sent file (act ∷ []) a b lb
-  commit_sent file c is kept sent = record {
+  pub commit_sent : (file : List ℕ → Type 0) (c : Changes) → act ≡ Commit c → (IsTrue a.told → IsKept file b lb) → (IsTrue a.told → b.sent ≡ a.sent) → SameFaults a b → Sent file (act ∷ []) a b lb
+  commit_sent file c is kept sent faults = record {
     rest = kept;
     sent = λ told. sent told ∙ sym (ap (λ (l : List ℕ). a.sent ++ l) (ap (λ (y : Act). bytes_of (y ∷ [])) is ∙ bytes_of_commit c) ∙ append-nil a.sent);
+    faults = faults;
   }
 
 -- ---- a line
@@ -91,15 +92,15 @@ unfolding bytes_of
 bytes_of_line line = append-nil line
 
 -- what a store has at rest, a stop before a line leaves
-pub settled_stands : (file stands : List ℕ → Type 0) (a : State) (la : ℕ → List ℕ → List ℕ → Type 0) → ((bytes : List ℕ) → file bytes → stands bytes) → IsKept file a la → (c : List ℕ) → la a.moment c a.sent → stands c
-settled_stands file stands a la means kept c left = subst stands (sym (kept.settled c left)) (means a.holds kept.bytes)
+pub rest_stands : (file stands : List ℕ → Type 0) (a : State) (la : ℕ → List ℕ → List ℕ → Type 0) → ((bytes : List ℕ) → file bytes → stands bytes) → IsKept file a la → (c : List ℕ) → la a.moment c a.sent → stands c
+rest_stands file stands a la means kept c left = subst stands (sym (kept.at_rest c left)) (means a.holds kept.bytes)
 
 -- a line that was sent, or a front of it
 module _ {X : Type 0} (after : X → List Act → X) (goes : Goes after) (stands : X → List ℕ → Type 0) (x : X) (a b : State) (la lb : ℕ → List ℕ → List ℕ → Type 0) (act : Act) (line : List ℕ) (is : act ≡ Emit line) where
-  pub line_performs : Frame a b → SameNames a b → (IsTrue a.told → (c : List ℕ) → la a.moment c a.sent → stands x c) → (IsTrue a.told → SaidPart line a b)
+  pub line_within : Frame a b → SameNames a b → (IsTrue a.told → (c : List ℕ) → la a.moment c a.sent → stands x c) → (IsTrue a.told → SaidPart line a b)
       → (IsTrue a.told → LeavesOnly a b la lb (λ c out. la a.moment c a.sent × ((n : ℕ) × (out ≡ a.sent ++ take n line))))
-      → Performs after stands x (act ∷ []) a b la lb
-  line_performs frame names here part left = record {
+      → WithinActs after stands x (act ∷ []) a b la lb
+  line_within frame names here part left = record {
     frame = frame;
     names = names;
     any_moment = λ told.
@@ -110,8 +111,9 @@ module _ {X : Type 0} (after : X → List Act → X) (goes : Goes after) (stands
   }
 
 -- a line that was sent
-pub line_sent : (file : List ℕ → Type 0) (a b : State) (la lb : ℕ → List ℕ → List ℕ → Type 0) (act : Act) (line : List ℕ) → act ≡ Emit line → (IsTrue a.told → IsKept file a la) → (IsTrue a.told → (c : List ℕ) → lb b.moment c b.sent → la a.moment c a.sent) → (IsTrue a.told → Said line a b) → Sent file (act ∷ []) a b lb
-line_sent file a b la lb act line is kept stop said = record {
-  rest = λ told. record { bytes = subst file (sym (said told).disk.holds) (kept told).bytes; settled = λ c left. (kept told).settled c (stop told c left) ∙ sym (said told).disk.holds };
+pub line_sent : (file : List ℕ → Type 0) (a b : State) (la lb : ℕ → List ℕ → List ℕ → Type 0) (act : Act) (line : List ℕ) → act ≡ Emit line → (IsTrue a.told → IsKept file a la) → (IsTrue a.told → (c : List ℕ) → lb b.moment c b.sent → la a.moment c a.sent) → (IsTrue a.told → Said line a b) → SameFaults a b → Sent file (act ∷ []) a b lb
+line_sent file a b la lb act line is kept stop said faults = record {
+  rest = λ told. record { bytes = subst file (sym (said told).disk.holds) (kept told).bytes; at_rest = λ c left. (kept told).at_rest c (stop told c left) ∙ sym (said told).disk.holds };
   sent = λ told. (said told).sent ∙ ap (λ (l : List ℕ). a.sent ++ l) (sym (ap (λ (y : Act). bytes_of (y ∷ [])) is ∙ bytes_of_line line));
+  faults = faults;
 }

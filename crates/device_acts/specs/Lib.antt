@@ -1,4 +1,5 @@
 pub mod Said
-pub mod Performing
+pub mod Acting
 pub mod ActingLaws
 pub mod ContentsLaws
+pub mod ErrorsLaws

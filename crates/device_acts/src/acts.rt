@@ -1,8 +1,8 @@
 //! Acts: commits to the store, and lines that are sent, in their order.
 ghost use Rattle.std.specs.Prelude.{◌≡◌, ◌⊎◌, ◌∷◌, [], IsTrue, OnOk, IsErrOf};
-ghost use Rattle.kd_device.specs.Device.{Rose};
+ghost use Rattle.kd_device.specs.Device.{Rose, SameFaults};
 ghost use Rattle.kdcfile_store.specs.Kept.{IsKept};
-ghost use Rattle.device_acts.specs.Performing.{content_after, AreCommittable, Performs, Sent};
+ghost use Rattle.device_acts.specs.Acting.{content_after, AreCommittable, WithinActs, Sent};
 
 use crate::saying::say;
 use kd_device::{Device, DeviceError};
@@ -21,9 +21,10 @@ fn do_act<D: Device, S: Store<D>>(
     requires kept { IsTrue (D.state device.old).told → IsKept (S.file store.old) (D.state device.old) (D.leaves device.old) }
     requires can { AreCommittable (S.identity store.old) (S.kept store.old) (act.now ∷ []) }
     ensures identity { S.identity store.new ≡ S.identity store.old }
-    ensures any { Performs content_after (S.stands (S.identity store.old)) (S.kept store.old) (act.now ∷ []) (D.state device.old) (D.state device.new) (D.leaves device.old) (D.leaves device.new) }
+    ensures any { WithinActs content_after (S.stands (S.identity store.old)) (S.kept store.old) (act.now ∷ []) (D.state device.old) (D.state device.new) (D.leaves device.old) (D.leaves device.new) }
     ensures content { OnOk result (S.kept store.new ≡ content_after (S.kept store.old) (act.now ∷ [])) }
     ensures done { OnOk result (Sent (S.file store.new) (act.now ∷ []) (D.state device.old) (D.state device.new) (D.leaves device.new)) }
+    ensures fine { (IsErrOf result DeviceError.Failed → ⊥) → SameFaults (D.state device.old) (D.state device.new) }
     ensures failed { IsErrOf result DeviceError.Failed → Rose (D.state device.old).disk_faults (D.state device.new).disk_faults ⊎ Rose (D.state device.old).line_faults (D.state device.new).line_faults }
 {
     match act {
@@ -47,9 +48,10 @@ pub fn do_acts<D: Device, S: Store<D>>(
     requires kept { IsTrue (D.state device.old).told → IsKept (S.file store.old) (D.state device.old) (D.leaves device.old) }
     requires can { AreCommittable (S.identity store.old) (S.kept store.old) acts.now }
     ensures identity { S.identity store.new ≡ S.identity store.old }
-    ensures any { Performs content_after (S.stands (S.identity store.old)) (S.kept store.old) acts.now (D.state device.old) (D.state device.new) (D.leaves device.old) (D.leaves device.new) }
+    ensures any { WithinActs content_after (S.stands (S.identity store.old)) (S.kept store.old) acts.now (D.state device.old) (D.state device.new) (D.leaves device.old) (D.leaves device.new) }
     ensures content { OnOk result (S.kept store.new ≡ content_after (S.kept store.old) acts.now) }
     ensures done { OnOk result (Sent (S.file store.new) acts.now (D.state device.old) (D.state device.new) (D.leaves device.new)) }
+    ensures fine { (IsErrOf result DeviceError.Failed → ⊥) → SameFaults (D.state device.old) (D.state device.new) }
     ensures failed { IsErrOf result DeviceError.Failed → Rose (D.state device.old).disk_faults (D.state device.new).disk_faults ⊎ Rose (D.state device.old).line_faults (D.state device.new).line_faults }
 {
     for act in acts {

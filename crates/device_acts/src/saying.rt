@@ -1,6 +1,6 @@
 //! One line is sent.
 ghost use Rattle.std.specs.Prelude.{◌≡◌, IsTrue, OnOk, IsErrOf};
-ghost use Rattle.kd_device.specs.Device.{Rose, Frame, SameDiskFaults, SameLineFaults, SameNames};
+ghost use Rattle.kd_device.specs.Device.{Rose, Frame, SameFaults, SameNames};
 ghost use Rattle.device_acts.specs.Said.{LeavesFront, LeavesSameFile, Said, SaidPart};
 
 use kd_device::{Device, DeviceError};
@@ -13,9 +13,7 @@ pub fn say<D: Device>(device: &mut D, piece: &[u8]) -> Result<(), DeviceError>
     ensures stop { IsTrue (D.state device.old).told → LeavesSameFile (D.state device.old) (D.state device.new) (D.leaves device.old) (D.leaves device.new) }
     ensures any_moment { IsTrue (D.state device.old).told → LeavesFront piece.now (D.state device.old) (D.state device.new) (D.leaves device.old) (D.leaves device.new) }
     ensures failed { IsErrOf result DeviceError.Failed → Rose (D.state device.old).line_faults (D.state device.new).line_faults }
-    ensures fine { OnOk result (SameLineFaults (D.state device.old) (D.state device.new)) }
-    ensures memory_line { IsErrOf result DeviceError.Memory → SameLineFaults (D.state device.old) (D.state device.new) }
-    ensures disk { SameDiskFaults (D.state device.old) (D.state device.new) }
+    ensures fine { (IsErrOf result DeviceError.Failed → ⊥) → SameFaults (D.state device.old) (D.state device.new) }
     ensures frame { Frame (D.state device.old) (D.state device.new) }
     ensures names { SameNames (D.state device.old) (D.state device.new) }
 {

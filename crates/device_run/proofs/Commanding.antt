@@ -11,7 +11,7 @@ use Rattle.abstract_monitor.specs.Turns.{turn_of}
 use Rattle.monitor_core.specs.CoreValue.{CoreValue}
 use Rattle.monitor_core.specs.Commanding.{IsSingle}
 use Rattle.laws_of_steps.specs.Cut.{commits_in}
-use Rattle.device_run.specs.Running.{turns_of, IsRunning, PerformsSteps, DidSteps}
+use Rattle.device_run.specs.Running.{turns_of, IsRunning, WithinSteps, DidSteps}
 use Rattle.device_run.proofs.Counting.{commits_by, commits_of_one}
 use Rattle.device_run.proofs.Restarting.{acts_again}
 use Rattle.device_run.proofs.Stepping.{fingerprint_is}
@@ -71,8 +71,8 @@ pub own_running : (fingerprint : List ℕ) (c : CoreValue) (store : Whole) → I
 own_running fingerprint c store h = subst (λ f. IsRunning f c store) (sym (fingerprint_is fingerprint c store h)) h
 
 module _ (fingerprint : List ℕ) (c : CoreValue) (store : Whole) (running : IsRunning fingerprint c store) (command : Command) (steps : List ScriptStep) (is : steps_of c.application c.state command ≡ steps) where
-  pub performs_command : (a b : State) (la lb : ℕ → List ℕ → List ℕ → Type 0) → PerformsSteps store.identity.fingerprint c steps a b la lb → PerformsSteps fingerprint c (steps_of c.application c.state command) a b la lb
-  performs_command a b la lb h = subst (λ f. PerformsSteps f c (steps_of c.application c.state command) a b la lb) (fingerprint_is fingerprint c store running) (subst (λ (l : List ScriptStep). PerformsSteps store.identity.fingerprint c l a b la lb) (sym is) h)
+  pub command_within : (a b : State) (la lb : ℕ → List ℕ → List ℕ → Type 0) → WithinSteps store.identity.fingerprint c steps a b la lb → WithinSteps fingerprint c (steps_of c.application c.state command) a b la lb
+  command_within a b la lb h = subst (λ f. WithinSteps f c (steps_of c.application c.state command) a b la lb) (fingerprint_is fingerprint c store running) (subst (λ (l : List ScriptStep). WithinSteps store.identity.fingerprint c l a b la lb) (sym is) h)
 
   pub did_command : (a b : State) (lb : ℕ → List ℕ → List ℕ → Type 0) (d : CoreValue) (store' : Whole) → DidSteps store.identity.fingerprint c steps d store' a b lb → DidSteps fingerprint c (steps_of c.application c.state command) d store' a b lb
   did_command a b lb d store' h = subst (λ f. DidSteps f c (steps_of c.application c.state command) d store' a b lb) (fingerprint_is fingerprint c store running) (subst (λ (l : List ScriptStep). DidSteps store.identity.fingerprint c l d store' a b lb) (sym is) h)

@@ -1,12 +1,9 @@
 -- How an error is handed on.
-use Rattle.std.specs.Prelude.{Result, Ok, Err, IsErrAnd, IsErrOf, IfOk, OnErr}
+use Rattle.std.specs.Prelude.{Result, Ok, Err, IsErrAnd, IfOk, OnErr}
 
 pub err_is_no_value : {T E : Type 0} (P : T → Type 0) (Q : E → Type 0) (r : Result T E) → IsErrAnd r Q → IfOk r P
 err_is_no_value P Q (Ok x) gives = absurd gives
 err_is_no_value P Q (Err x) gives = tt
-
-pub no_error : {T E : Type 0} (x : T) (v : E) → IsErrOf (Ok x) v → ⊥
-no_error x v is = cc
 
 pub on_err : {T E : Type 0} {P : Type 0} (r : Result T E) → P → OnErr r P
 on_err (Ok x) p = tt

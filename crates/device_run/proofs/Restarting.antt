@@ -2,9 +2,9 @@
 use Rattle.std.proofs.Common.{◌≡◌, inr, ℕ, List, [], ◌∷◌, ◌++◌, take, refl, sym, ap, subst, ◌∙◌}
 use Rattle.std.specs.Prelude.{IsTrue}
 use Rattle.std.proofs.lemmas.List.{append-nil}
-use Rattle.kd_device.specs.Device.{State, Frame, SameNames, LeavesOnly}
+use Rattle.kd_device.specs.Device.{State, Frame, SameFaults, SameNames, LeavesOnly}
 use Rattle.kd_device.specs.Rest.{Rests, Before}
-use Rattle.kd_device.specs.TimeLaws.{leaves_weaker}
+use Rattle.kd_device.specs.TimeLaws.{faults_then, leaves_weaker, told_after}
 use Rattle.kd_records.specs.Identity.{Identity}
 use Rattle.kd_records.specs.declared.content.Content.{Content}
 use Rattle.kdcdef_types.specs.Generation.{Generated}
@@ -29,11 +29,11 @@ use Rattle.warm_start.specs.MeaningLaws.{nothing_stands}
 use Rattle.warm_start.specs.Opening.{StartsFrom, IsRefused, IsOfOtherTexts, AnswersExcludeEachOther}
 use Rattle.warm_start.specs.Stands.{AreTables, StandsForTables, KeepsTables, identity_for}
 use Rattle.monitor_core.specs.CoreValue.{CoreValue}
-use Rattle.device_acts.specs.Performing.{IsCutOf, Performs, Sent}
-use Rattle.device_run.specs.Running.{identity_of, durable_of, IsAgain, IsRunning, PerformsSteps, DidSteps}
+use Rattle.device_acts.specs.Acting.{IsCutOf, WithinActs, Sent}
+use Rattle.device_run.specs.Running.{identity_of, durable_of, IsAgain, IsRunning, WithinSteps, DidSteps}
 use Rattle.device_acts.specs.Said.{Said, SaidPart}
-use Rattle.device_acts.specs.ActingLaws.{no_bytes, cut_none, Running, running_performs}
-use Rattle.device_acts.specs.ContentsLaws.{line_performs, line_sent}
+use Rattle.device_acts.specs.ActingLaws.{no_bytes, cut_none, Running, running_within}
+use Rattle.device_acts.specs.ContentsLaws.{line_within, line_sent}
 use Rattle.device_run.proofs.Tables.{tables_go}
 use Rattle.laws_of_tables.specs.EndsLaws.{durable_same}
 use Rattle.laws_of_steps.specs.TablesStayLaws.{started_tables}
@@ -84,10 +84,10 @@ module _ (fingerprint : List ℕ) (c : CoreValue) (store : Whole) (a : State) (l
     same_start one told t from = (one g fingerprint a.holds).started_once t (durable_of c) from (starts_here told)
 
     -- a core that starts from the tables that the file was opened with
-    pub starts_again : AnswersExcludeEachOther → (t : TableRows) (next : CoreValue) (opened : Whole) (b : State) (lb : ℕ → List ℕ → List ℕ → Type 0) → KeepsTables (identity_for g fingerprint) opened t → Suits g t → (IsTrue a.told → StartsFrom g fingerprint a.holds t) → (IsTrue a.told → IsKept (HasFile opened) b lb)
+    pub starts_again : AnswersExcludeEachOther → (t : TableRows) (next : CoreValue) (opened : Whole) (b : State) (lb : ℕ → List ℕ → List ℕ → Type 0) → KeepsTables (identity_for g fingerprint) opened t → Suits g t → (IsTrue a.told → StartsFrom g fingerprint a.holds t) → (IsTrue a.told → IsKept (HasFile opened) b lb) → SameFaults a b
         → next.application ≡ c.application → next.state ≡ started next.application t → HasFacts next.application next.state → next.steps ≡ 0
         → IsAgain fingerprint c next opened a b lb
-    starts_again one t next opened b lb keeps suits from now app state facts steps =
+    starts_again one t next opened b lb keeps suits from now faults app state facts steps =
         let tables_are : durable_of next ≡ t = (λ k. durable (app k).generation (state k).tables) ∙ ap (λ (u : TableRows). durable c.application.generation u) (started_tables next.application t) ∙ ap (λ (h : Generated). durable h t) is ∙ durable_same g t suits in
         let same : IsTrue a.told → t ≡ durable_of c = λ told. same_start one told t (from told) in
         let identity : identity_for g fingerprint ≡ identity_of fingerprint next = ap (λ (h : Generated). identity_for h fingerprint) (sym is ∙ ap (λ (x : Application). x.generation) (sym app)) in
@@ -103,6 +103,7 @@ module _ (fingerprint : List ℕ) (c : CoreValue) (store : Whole) (a : State) (l
           state = λ told. state ∙ (λ k. started (app k) (same told k));
           tables = λ told. tables_are ∙ same told;
           kept = now;
+          faults = faults;
         }
 
   module _ (b : State) (lb : ℕ → List ℕ → List ℕ → Type 0) (frame : Frame a b) (names : SameNames a b) (rests : IsTrue a.told → Rests a b la lb) where
@@ -110,11 +111,11 @@ module _ (fingerprint : List ℕ) (c : CoreValue) (store : Whole) (a : State) (l
     in_opening told acts image out now =
         let i = identity_of fingerprint c in
         subst (λ (o : List ℕ). IsCutOf tables_after (StandsForTables i) (durable_of c) acts a.sent image o) (sym now.0)
-        (cut_none tables_after tables_go (StandsForTables i) (durable_of c) acts a.sent image (subst (λ (l : List ℕ). StandsForTables i (durable_of c) l) (sym ((kept told).settled image now.1)) (stands_now told)))
+        (cut_none tables_after tables_go (StandsForTables i) (durable_of c) acts a.sent image (subst (λ (l : List ℕ). StandsForTables i (durable_of c) l) (sym ((kept told).at_rest image now.1)) (stands_now told)))
 
     -- the opening alone
-    pub opening_performs : PerformsSteps fingerprint c (again c ∷ []) a b la lb
-    opening_performs =
+    pub opening_within : WithinSteps fingerprint c (again c ∷ []) a b la lb
+    opening_within =
         let acts = acts_of (again c ∷ []) in record {
           frame = frame;
           names = names;
@@ -126,41 +127,39 @@ module _ (fingerprint : List ℕ) (c : CoreValue) (store : Whole) (a : State) (l
       told_before : IsTrue b.told → IsTrue a.told
       told_before told = subst IsTrue frame.told told
 
-      told_then : IsTrue a.told → IsTrue b.told
-      told_then told = subst IsTrue (sym frame.told) told
-
       opened_stands : IsTrue b.told → (image : List ℕ) → lb b.moment image b.sent → StandsForTables (identity_of fingerprint c) (durable_of c) image
       opened_stands told image now =
           let before = told_before told in
-          let old : image ≡ a.holds = (kept before).settled image ((rests before).stop image now) in
+          let old : image ≡ a.holds = (kept before).at_rest image ((rests before).stop image now) in
           subst (λ (l : List ℕ). StandsForTables (identity_of fingerprint c) (durable_of c) l) (sym old) (stands_now before)
 
-      said : Performs tables_after (StandsForTables (identity_of fingerprint c)) (durable_of c) (acts_of (again c ∷ [])) b d lb ld
+      said : WithinActs tables_after (StandsForTables (identity_of fingerprint c)) (durable_of c) (acts_of (again c ∷ [])) b d lb ld
       said =
-          subst (λ (l : List Act). Performs tables_after (StandsForTables (identity_of fingerprint c)) (durable_of c) l b d lb ld) (sym (acts_again c))
-          (line_performs tables_after tables_go (StandsForTables (identity_of fingerprint c)) (durable_of c) b d lb ld (Emit restart_line) restart_line refl frame' names' opened_stands part left)
+          subst (λ (l : List Act). WithinActs tables_after (StandsForTables (identity_of fingerprint c)) (durable_of c) l b d lb ld) (sym (acts_again c))
+          (line_within tables_after tables_go (StandsForTables (identity_of fingerprint c)) (durable_of c) b d lb ld (Emit restart_line) restart_line refl frame' names' opened_stands part left)
 
       so_far : Running tables_after (StandsForTables (identity_of fingerprint c)) (HasFile opened) (durable_of c) (acts_of (again c ∷ [])) [] a b la lb
       so_far = record {
-        performs = opening_performs;
-        sent = record { rest = begun.kept; sent = λ told. (rests told).sent ∙ sym (ap (λ (l : List ℕ). a.sent ++ l) no_bytes ∙ append-nil a.sent) };
+        within = opening_within;
+        sent = record { rest = begun.kept; sent = λ told. (rests told).sent ∙ sym (ap (λ (l : List ℕ). a.sent ++ l) no_bytes ∙ append-nil a.sent); faults = begun.faults };
       }
 
-      pub restart_performs : PerformsSteps fingerprint c (again c ∷ []) a d la ld
-      restart_performs =
-          running_performs tables_after tables_go (StandsForTables (identity_of fingerprint c)) (HasFile opened) (durable_of c) (durable_of c) (acts_of (again c ∷ [])) [] (acts_of (again c ∷ [])) [] a b d la lb ld
+      pub restart_within : WithinSteps fingerprint c (again c ∷ []) a d la ld
+      restart_within =
+          running_within tables_after tables_go (StandsForTables (identity_of fingerprint c)) (HasFile opened) (durable_of c) (durable_of c) (acts_of (again c ∷ [])) [] (acts_of (again c ∷ [])) [] a b d la lb ld
           (λ told. sym (tables_go.none (durable_of c))) (λ told. sym (append-nil (acts_of (again c ∷ [])))) so_far said
 
-      pub did_restart : (IsTrue b.told → Said restart_line b d) → (IsTrue b.told → (image : List ℕ) → ld d.moment image d.sent → lb b.moment image b.sent) → DidSteps fingerprint c (again c ∷ []) next opened a d ld
-      did_restart said_all stop =
-          let line : Sent (HasFile opened) (Emit restart_line ∷ []) b d ld = line_sent (HasFile opened) b d lb ld (Emit restart_line) restart_line refl (λ told. begun.kept (told_before told)) stop said_all in
+      pub did_restart : (IsTrue b.told → Said restart_line b d) → (IsTrue b.told → (image : List ℕ) → ld d.moment image d.sent → lb b.moment image b.sent) → SameFaults b d → DidSteps fingerprint c (again c ∷ []) next opened a d ld
+      did_restart said_all stop faults =
+          let line : Sent (HasFile opened) (Emit restart_line ∷ []) b d ld = line_sent (HasFile opened) b d lb ld (Emit restart_line) restart_line refl (λ told. begun.kept (told_before told)) stop said_all faults in
           record {
             application = begun.application;
             running = begun.running;
             state = λ told. begun.state told ∙ sym (state_again c);
             tables = λ told. begun.tables told ∙ sym (line_makes_nothing (durable_of c) restart_line) ∙ ap (λ (l : List Act). tables_after (durable_of c) l) (sym (acts_again c));
             acts = subst (λ (l : List Act). Sent (HasFile opened) l a d ld) (sym (acts_again c)) (record {
-              rest = λ told. line.rest (told_then told);
-              sent = λ told. line.sent (told_then told) ∙ ap (λ (l : List ℕ). l ++ bytes_of (Emit restart_line ∷ [])) (rests told).sent;
+              rest = λ told. line.rest (told_after a b frame told);
+              sent = λ told. line.sent (told_after a b frame told) ∙ ap (λ (l : List ℕ). l ++ bytes_of (Emit restart_line ∷ [])) (rests told).sent;
+              faults = faults_then a b d begun.faults line.faults;
             });
           }

@@ -12,9 +12,9 @@ use Rattle.abstract_monitor.specs.Turns.{Turned, turn_of}
 use Rattle.abstract_monitor.specs.Commands.{ScriptStep, turned_step, rotated, next_task, in_a_row}
 use Rattle.monitor_core.specs.CoreValue.{CoreValue}
 use Rattle.laws_of_steps.specs.Cut.{commits_in}
-use Rattle.device_run.specs.Running.{IsRunning, PerformsSteps, DidSteps}
+use Rattle.device_run.specs.Running.{IsRunning, WithinSteps, DidSteps}
 use Rattle.device_run.proofs.Counting.{commits_by, commits_both, commits_of_one}
-use Rattle.device_run.proofs.Stepping.{fingerprint_is, Stepping, stepping_start, stepping_performs, stepping_more}
+use Rattle.device_run.proofs.Stepping.{fingerprint_is, Stepping, stepping_start, stepping_within, stepping_more}
 
 -- no turns are left
 rotated_none : (app : Application) (s : MonitorState) (task unmoved : ℕ) → rotated app 0 false s task unmoved ≡ []
@@ -27,7 +27,7 @@ unfolding rotated
 rotated_ended app zero s task unmoved = refl
 rotated_ended app (suc n) s task unmoved = refl
 
--- one turn, and those behind it
+-- one turn, and those after it
 rotated_more : (app : Application) (n : ℕ) (s : MonitorState) (task unmoved : ℕ)
     → rotated app (suc n) false s task unmoved
     ≡ (turned_step (turn_of app s task) ∷ []) ++ rotated app n (in_a_row (turn_of app s task).moved unmoved == app.generation.limits.tasks) (turn_of app s task).after (next_task app task) (in_a_row (turn_of app s task).moved unmoved)
@@ -90,7 +90,7 @@ module _ (fingerprint : List ℕ) (c d : CoreValue) (store : Whole) (turns at ta
   rotation_running = subst (λ f. IsRunning f d store) (sym (fingerprint_is fingerprint d store run.run.did.running)) run.run.did.running
 
   pub rotation_kept : IsTrue b.told → IsKept (HasFile store) b lb
-  rotation_kept told = run.run.did.acts.rest (subst IsTrue run.run.performs.frame.told told)
+  rotation_kept told = run.run.did.acts.rest (subst IsTrue run.run.within.frame.told told)
 
   module _ (lt : at < turns) where
     abbrev turned : Turned
@@ -125,20 +125,20 @@ module _ (fingerprint : List ℕ) (c d : CoreValue) (store : Whole) (turns at ta
         )
 
     -- the commits of the turn can be counted
-    pub rotation_room : (most : ℕ) → start + commits_by (all_turns c turns) ≤ most → commits + commits_in turned.acts ≤ most
-    rotation_room most room =
+    pub rotation_bounded : (most : ℕ) → start + commits_by (all_turns c turns) ≤ most → commits + commits_in turned.acts ≤ most
+    rotation_bounded most bounded =
         let ended = row == d.application.generation.limits.tasks in
         let is : commits_by (all_turns c turns) ≡ commits_by (run.done ++ here) + commits_by (behind ended) = ap commits_by (split ended refl ∙ sym (append_assoc run.done here (behind ended))) ∙ commits_both (run.done ++ here) (behind ended) in
-        omega (arith, room, is, counted_here)
+        omega (arith, bounded, is, counted_here)
 
-    module _ (e : State) (le : ℕ → List ℕ → List ℕ → Type 0) (step : PerformsSteps store.identity.fingerprint d (turned_step (turn_of d.application d.state task) ∷ []) b e lb le) where
-      step_here : PerformsSteps fingerprint d here b e lb le
-      step_here = subst (λ f. PerformsSteps f d here b e lb le) (fingerprint_is fingerprint d store run.run.did.running) step
+    module _ (e : State) (le : ℕ → List ℕ → List ℕ → Type 0) (step : WithinSteps store.identity.fingerprint d (turned_step (turn_of d.application d.state task) ∷ []) b e lb le) where
+      step_here : WithinSteps fingerprint d here b e lb le
+      step_here = subst (λ f. WithinSteps f d here b e lb le) (fingerprint_is fingerprint d store run.run.did.running) step
 
       -- whatever became of the turn
-      pub rotation_performs : PerformsSteps fingerprint c (all_turns c turns) a e la le
-      rotation_performs =
-          stepping_performs fingerprint c d store (all_turns c turns) run.done here (behind (row == d.application.generation.limits.tasks)) a b e la lb le run.run (λ told. split (row == d.application.generation.limits.tasks) refl) step_here
+      pub rotation_within : WithinSteps fingerprint c (all_turns c turns) a e la le
+      rotation_within =
+          stepping_within fingerprint c d store (all_turns c turns) run.done here (behind (row == d.application.generation.limits.tasks)) a b e la lb le run.run (λ told. split (row == d.application.generation.limits.tasks) refl) step_here
 
       module _ (next : CoreValue) (store' : Whole) (moved : Bool) (unmoved' tasks : ℕ) (did : DidSteps store.identity.fingerprint d (turned_step (turn_of d.application d.state task) ∷ []) next store' b e le) (moved_is : moved ≡ (turn_of d.application d.state task).moved) (row_is : unmoved' ≡ in_a_row moved unmoved) (tasks_are : tasks ≡ c.application.generation.limits.tasks) where
         did_here : DidSteps fingerprint d here next store' b e le

@@ -13,9 +13,9 @@ use Rattle.kdcs_types.specs.declared.act.Act.{Act}
 use Rattle.abstract_monitor.specs.Bytes.{Bytes}
 use Rattle.warm_start.specs.Stands.{StandsForTables}
 use Rattle.monitor_core.specs.CoreValue.{CoreValue}
-use Rattle.device_run.specs.Running.{turns_of, identity_of, durable_of, PerformsSteps, DidSteps, SaysNothing, SendsPart, StoppedIn}
+use Rattle.device_run.specs.Running.{turns_of, identity_of, durable_of, WithinSteps, DidSteps, SaysNothing, SendsPart, StoppedIn}
 use Rattle.device_run.proofs.Counting.{commits_by, commits_both, command_commits}
-use Rattle.device_run.proofs.Stepping.{Stepping, stepping_performs, stepping_more}
+use Rattle.device_run.proofs.Stepping.{Stepping, stepping_within, stepping_more}
 use Rattle.laws_of_runs.specs.ListsLaws.{after_both}
 use Rattle.abstract_monitor.specs.declared.command.Command.{Command}
 use Rattle.abstract_monitor.specs.declared.command.Command.TheVariants.{Restart}
@@ -23,7 +23,7 @@ use Rattle.abstract_monitor.specs.Commands.{ScriptStep, acts_of, steps_of, state
 use Rattle.abstract_monitor.specs.State.{Application, State}
 use Rattle.abstract_monitor.specs.Trace.{history, bytes_of, tables_after}
 use Rattle.device_acts.specs.ActingLaws.{around, no_bytes, one_more}
-use Rattle.device_acts.specs.Performing.{IsCutOf}
+use Rattle.device_acts.specs.Acting.{IsCutOf}
 
 module _ (app : Application) where
   history_both : (s : State) (cs ds : List Command) → history app s (cs ++ ds) ≡ history app s cs ++ history app (state_after s (history app s cs)) ds
@@ -74,7 +74,7 @@ sends_part after stands start acts sent image out (inr h) = record { since = h.s
 
 module _ (fingerprint : List ℕ) (c d : CoreValue) (store : Whole) (cs : List Command) (i : ℕ) (a b : Device) (la lb : ℕ → List ℕ → List ℕ → Type 0) (run : Stepping fingerprint c d store (history c.application c.state cs) (history c.application c.state (take i cs)) a b la lb) where
   pub script_kept : IsTrue b.told → IsKept (HasFile store) b lb
-  script_kept told = run.did.acts.rest (subst IsTrue run.performs.frame.told told)
+  script_kept told = run.did.acts.rest (subst IsTrue run.within.frame.told told)
 
   -- all commands are done
   pub script_over : length cs ≤ i → DidSteps fingerprint c (history c.application c.state cs) d store a b lb
@@ -102,14 +102,14 @@ module _ (fingerprint : List ℕ) (c d : CoreValue) (store : Whole) (cs : List C
     more : IsTrue a.told → history c.application c.state (take (i + 1) cs) ≡ history c.application c.state (take i cs) ++ steps_of d.application d.state command
     more told = history_more c.application c.state d.state cs i command is lt (run.did.state told) ∙ ap (λ (l : List ScriptStep). history c.application c.state (take i cs) ++ l) same_steps
 
-    -- its commits are counted behind those before it
+    -- its commits are counted after those before it
     module _ (commits : ℕ) where
-      pub script_room : TurnsCommitOnce → CommandsCommitOnce → (most : ℕ) → commits + sum_by turns_of (drop i cs) ≤ most → commits + commits_by (steps_of d.application d.state command) ≤ most
-      script_room turns commands most room = omega (arith, room, script_turns, command_commits turns commands d.application d.state command)
+      pub script_bounded : TurnsCommitOnce → CommandsCommitOnce → (most : ℕ) → commits + sum_by turns_of (drop i cs) ≤ most → commits + commits_by (steps_of d.application d.state command) ≤ most
+      script_bounded turns commands most bounded = omega (arith, bounded, script_turns, command_commits turns commands d.application d.state command)
 
       module _ (commits' : ℕ) (counted : commits' ≡ commits + commits_by (steps_of d.application d.state command)) where
-        pub script_room_more : TurnsCommitOnce → CommandsCommitOnce → (most : ℕ) → commits + sum_by turns_of (drop i cs) ≤ most → commits' + sum_by turns_of (drop (i + 1) cs) ≤ most
-        script_room_more turns commands most room = omega (arith, room, counted, script_turns, command_commits turns commands d.application d.state command)
+        pub script_bounded_more : TurnsCommitOnce → CommandsCommitOnce → (most : ℕ) → commits + sum_by turns_of (drop i cs) ≤ most → commits' + sum_by turns_of (drop (i + 1) cs) ≤ most
+        script_bounded_more turns commands most bounded = omega (arith, bounded, counted, script_turns, command_commits turns commands d.application d.state command)
 
         pub script_counted : IsTrue a.told → commits ≡ commits_by (history c.application c.state (take i cs)) → commits' ≡ commits_by (history c.application c.state (take (i + 1) cs))
         script_counted told before =
@@ -118,10 +118,10 @@ module _ (fingerprint : List ℕ) (c d : CoreValue) (store : Whole) (cs : List C
             ∙ sym (commits_both (history c.application c.state (take i cs)) (steps_of d.application d.state command))
             ∙ ap commits_by (sym (more told))
 
-    module _ (e : Device) (le : ℕ → List ℕ → List ℕ → Type 0) (step : PerformsSteps fingerprint d (steps_of d.application d.state command) b e lb le) where
-      pub script_performs : PerformsSteps fingerprint c (history c.application c.state cs) a e la le
-      script_performs =
-          stepping_performs fingerprint c d store (history c.application c.state cs) (history c.application c.state (take i cs)) (steps_of d.application d.state command) (history c.application (state_after d.state (steps_of c.application d.state command)) (drop (i + 1) cs)) a b e la lb le run split step
+    module _ (e : Device) (le : ℕ → List ℕ → List ℕ → Type 0) (step : WithinSteps fingerprint d (steps_of d.application d.state command) b e lb le) where
+      pub script_within : WithinSteps fingerprint c (history c.application c.state cs) a e la le
+      script_within =
+          stepping_within fingerprint c d store (history c.application c.state cs) (history c.application c.state (take i cs)) (steps_of d.application d.state command) (history c.application (state_after d.state (steps_of c.application d.state command)) (drop (i + 1) cs)) a b e la lb le run split step
 
       pub script_more : (next : CoreValue) (store' : Whole) → DidSteps fingerprint d (steps_of d.application d.state command) next store' b e le → Stepping fingerprint c next store' (history c.application c.state cs) (history c.application c.state (take (i + 1) cs)) a e la le
       script_more next store' did =
@@ -145,4 +145,4 @@ module _ (fingerprint : List ℕ) (c d : CoreValue) (store : Whole) (cs : List C
         where
           said : SaysNothing b e → (e.sent ≡ a.sent ++ bytes_of (acts_of (history c.application c.state (take i cs)))) ⊎ Rose a.line_faults e.line_faults
           said (inl same) = inl (same ∙ run.did.acts.sent told)
-          said (inr rose) = let frame = run.performs.frame.line_faults in inr (omega (arith, frame, rose))
+          said (inr rose) = let frame = run.within.frame.line_faults in inr (omega (arith, frame, rose))

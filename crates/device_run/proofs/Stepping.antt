@@ -25,10 +25,10 @@ use Rattle.record_codec.specs.Records.{content_of_tables}
 use Rattle.warm_start.specs.Stands.{AreTables, StandsForTables, identity_for}
 use Rattle.monitor_core.specs.CoreValue.{CoreValue}
 use Rattle.record_commits.specs.Storing.{AreStorable}
-use Rattle.device_acts.specs.Performing.{Performs, Sent, content_after, AreCommittable}
-use Rattle.device_run.specs.Running.{identity_of, durable_of, IsRunning, PerformsSteps, DidSteps, Ran}
-use Rattle.device_acts.specs.ActingLaws.{Running, running_start, running_performs, running_more}
-use Rattle.device_run.proofs.Tables.{tables_go, tables_stay, contents_are, committable, performs_tables}
+use Rattle.device_acts.specs.Acting.{WithinActs, Sent, content_after, AreCommittable}
+use Rattle.device_run.specs.Running.{identity_of, durable_of, IsRunning, WithinSteps, DidSteps, Ran}
+use Rattle.device_acts.specs.ActingLaws.{Running, running_start, running_within, running_more}
+use Rattle.device_run.proofs.Tables.{tables_go, tables_stay, contents_are, committable, tables_within}
 
 pub acts_both : (xs ys : List ScriptStep) → acts_of (xs ++ ys) ≡ acts_of xs ++ acts_of ys
 acts_both xs ys = flat_map-append (λ (d : ScriptStep). d.acts) xs ys
@@ -60,19 +60,19 @@ module _ (fingerprint : List ℕ) (c : CoreValue) (store : Whole) (step : Script
   kept_content : content_of_tables (durable_of c) ≡ store.content
   kept_content = sym can.running.keeps.content
 
-  pub can_perform : AreCommittable store.identity store.content acts
-  can_perform =
+  pub can_act : AreCommittable store.identity store.content acts
+  can_act =
       subst (λ (i : Identity). AreCommittable i store.content acts) (sym can.running.keeps.identity_is)
       (subst (λ (x : Content). AreCommittable (identity_of fingerprint c) x acts) kept_content
       (subst (λ (l : List Act). AreCommittable (identity_of fingerprint c) (content_of_tables (durable_of c)) l) (sym can.same) (committable (identity_of fingerprint c) (durable_of c) step.acts can.storable)))
 
-  pub performs_step : (a b : State) (la lb : ℕ → List ℕ → List ℕ → Type 0) → Performs content_after (StandsFor store.identity) store.content acts a b la lb → PerformsSteps fingerprint c (step ∷ []) a b la lb
-  performs_step a b la lb p =
+  pub step_within : (a b : State) (la lb : ℕ → List ℕ → List ℕ → Type 0) → WithinActs content_after (StandsFor store.identity) store.content acts a b la lb → WithinSteps fingerprint c (step ∷ []) a b la lb
+  step_within a b la lb p =
       let i = identity_of fingerprint c in
-      let at_identity = subst (λ (j : Identity). Performs content_after (StandsFor j) store.content acts a b la lb) can.running.keeps.identity_is p in
-      let at_content = subst (λ (x : Content). Performs content_after (StandsFor i) x acts a b la lb) can.running.keeps.content at_identity in
-      let at_acts = subst (λ (l : List Act). Performs content_after (StandsFor i) (content_of_tables (durable_of c)) l a b la lb) can.same at_content in
-      subst (λ (l : List Act). Performs tables_after (StandsForTables i) (durable_of c) l a b la lb) (sym (acts_of_one step)) (performs_tables i (durable_of c) step.acts a b la lb can.running.keeps.tables can.storable at_acts)
+      let at_identity = subst (λ (j : Identity). WithinActs content_after (StandsFor j) store.content acts a b la lb) can.running.keeps.identity_is p in
+      let at_content = subst (λ (x : Content). WithinActs content_after (StandsFor i) x acts a b la lb) can.running.keeps.content at_identity in
+      let at_acts = subst (λ (l : List Act). WithinActs content_after (StandsFor i) (content_of_tables (durable_of c)) l a b la lb) can.same at_content in
+      subst (λ (l : List Act). WithinActs tables_after (StandsForTables i) (durable_of c) l a b la lb) (sym (acts_of_one step)) (tables_within i (durable_of c) step.acts a b la lb can.running.keeps.tables can.storable at_acts)
 
   pub did_step : StepsMakeTheirTables → CommitsOnce c.application c.state step → (d : CoreValue) (store' : Whole) (a b : State) (lb : ℕ → List ℕ → List ℕ → Type 0) → d.application ≡ c.application → HasFacts d.application d.state → d.state ≡ step.after
       → store'.identity ≡ store.identity → store'.content ≡ content_after store.content acts → Sent (HasFile store') acts a b lb → DidSteps fingerprint c (step ∷ []) d store' a b lb
@@ -103,36 +103,36 @@ module _ (fingerprint : List ℕ) (c : CoreValue) (store : Whole) (step : Script
 
 -- some first steps of all are done: a is the device at the start, and b the device now
 pub record Stepping (fingerprint : List ℕ) (c d : CoreValue) (store : Whole) (all done : List ScriptStep) (a b : State) (la lb : ℕ → List ℕ → List ℕ → Type 0) : Type 0 where
-  pub performs : PerformsSteps fingerprint c all a b la lb
+  pub within : WithinSteps fingerprint c all a b la lb
   pub did : DidSteps fingerprint c done d store a b lb
 
 pub stepping_start : (fingerprint : List ℕ) (c : CoreValue) (store : Whole) (all : List ScriptStep) (a : State) (la : ℕ → List ℕ → List ℕ → Type 0) → IsRunning fingerprint c store → (IsTrue a.told → IsKept (HasFile store) a la) → Stepping fingerprint c c store all [] a a la la
 stepping_start fingerprint c store all a la running kept =
     let start = running_start tables_after tables_go (StandsForTables (identity_of fingerprint c)) (HasFile store) (durable_of c) (acts_of all) a la kept in
     record {
-      performs = start.performs;
+      within = start.within;
       did = record { application = refl; running = running; state = λ told. sym (after_none c.state); tables = λ told. sym (tables_go.none (durable_of c)); acts = start.sent };
     }
 
-module _ (fingerprint : List ℕ) (c d : CoreValue) (store : Whole) (all done here rest : List ScriptStep) (a b e : State) (la lb le : ℕ → List ℕ → List ℕ → Type 0) (run : Stepping fingerprint c d store all done a b la lb) (split : IsTrue a.told → all ≡ done ++ (here ++ rest)) (step : PerformsSteps fingerprint d here b e lb le) where
+module _ (fingerprint : List ℕ) (c d : CoreValue) (store : Whole) (all done here rest : List ScriptStep) (a b e : State) (la lb le : ℕ → List ℕ → List ℕ → Type 0) (run : Stepping fingerprint c d store all done a b la lb) (split : IsTrue a.told → all ≡ done ++ (here ++ rest)) (step : WithinSteps fingerprint d here b e lb le) where
   told_then : IsTrue a.told → IsTrue b.told
-  told_then told = rw run.performs.frame.told told
+  told_then told = rw run.within.frame.told told
 
   same_identity : identity_of fingerprint d ≡ identity_of fingerprint c
   same_identity = ap (λ (x : Application). identity_for x.generation fingerprint) run.did.application
 
-  step_here : Performs tables_after (StandsForTables (identity_of fingerprint c)) (durable_of d) (acts_of here) b e lb le
-  step_here = subst (λ (i : Identity). Performs tables_after (StandsForTables i) (durable_of d) (acts_of here) b e lb le) same_identity step
+  step_here : WithinActs tables_after (StandsForTables (identity_of fingerprint c)) (durable_of d) (acts_of here) b e lb le
+  step_here = subst (λ (i : Identity). WithinActs tables_after (StandsForTables i) (durable_of d) (acts_of here) b e lb le) same_identity step
 
   so_far : Running tables_after (StandsForTables (identity_of fingerprint c)) (HasFile store) (durable_of c) (acts_of all) (acts_of done) a b la lb
-  so_far = record { performs = run.performs; sent = run.did.acts }
+  so_far = record { within = run.within; sent = run.did.acts }
 
   split_acts : IsTrue a.told → acts_of all ≡ acts_of done ++ (acts_of here ++ acts_of rest)
   split_acts told = ap acts_of (split told) ∙ acts_both done (here ++ rest) ∙ ap (λ (l : List Act). acts_of done ++ l) (acts_both here rest)
 
-  pub stepping_performs : PerformsSteps fingerprint c all a e la le
-  stepping_performs =
-      running_performs tables_after tables_go (StandsForTables (identity_of fingerprint c)) (HasFile store) (durable_of c) (durable_of d) (acts_of all) (acts_of done) (acts_of here) (acts_of rest) a b e la lb le run.did.tables split_acts so_far step_here
+  pub stepping_within : WithinSteps fingerprint c all a e la le
+  stepping_within =
+      running_within tables_after tables_go (StandsForTables (identity_of fingerprint c)) (HasFile store) (durable_of c) (durable_of d) (acts_of all) (acts_of done) (acts_of here) (acts_of rest) a b e la lb le run.did.tables split_acts so_far step_here
 
   pub stepping_more : (next : CoreValue) (store' : Whole) (done' : List ScriptStep) → (IsTrue a.told → done' ≡ done ++ here) → DidSteps fingerprint d here next store' b e le → Stepping fingerprint c next store' all done' a e la le
   stepping_more next store' done' more did =
@@ -141,7 +141,7 @@ module _ (fingerprint : List ℕ) (c d : CoreValue) (store : Whole) (all done he
       running_more tables_after tables_go (StandsForTables i) (HasFile store) (durable_of c) (durable_of d) (acts_of all) (acts_of done) (acts_of here) (acts_of rest) a b e la lb le run.did.tables split_acts so_far step_here (HasFile store') did.acts in
       let done_acts : IsTrue a.told → acts_of done' ≡ acts_of done ++ acts_of here = λ told. ap acts_of (more told) ∙ acts_both done here in
       record {
-        performs = acts_more.performs;
+        within = acts_more.within;
         did = record {
           application = did.application ∙ run.did.application;
           running = did.running;
@@ -150,6 +150,7 @@ module _ (fingerprint : List ℕ) (c d : CoreValue) (store : Whole) (all done he
           acts = record {
             rest = acts_more.sent.rest;
             sent = λ told. acts_more.sent.sent told ∙ ap (λ (l : List Act). a.sent ++ bytes_of l) (sym (done_acts told));
+            faults = acts_more.sent.faults;
           };
         };
       }
@@ -165,7 +166,7 @@ steps_ran fingerprint c d store steps a b lb did told =
     record {
       sent = did.acts.sent told;
       holds = subst (λ (t : TableRows). StandsForTables (identity_of fingerprint c) t b.holds) (did.tables told) (subst (λ (i : Identity). StandsForTables i (durable_of d) b.holds) same stands);
-      settled = kept.settled;
+      at_rest = kept.at_rest;
     }
 
 no_history : (app : Application) (s : MonitorState) → history app s [] ≡ []

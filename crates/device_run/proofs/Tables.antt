@@ -14,7 +14,7 @@ use Rattle.laws_of_runs.specs.ListsLaws.{tables_both}
 use Rattle.record_codec.specs.Records.{content_of_tables}
 use Rattle.warm_start.specs.Stands.{AreTables, StandsForTables}
 use Rattle.record_commits.specs.Storing.{AreStorable}
-use Rattle.device_acts.specs.Performing.{IsCutOf, Performs, content_after, AreCommittable}
+use Rattle.device_acts.specs.Acting.{IsCutOf, WithinActs, content_after, AreCommittable}
 use Rattle.device_acts.specs.ActingLaws.{Goes}
 
 tables_none : (t : TableRows) → tables_after t [] ≡ t
@@ -64,8 +64,8 @@ module _ (i : Identity) where
       }
 
   -- what acts make of a content is what they make of its tables
-  pub performs_tables : (t : TableRows) (acts : List Act) (a b : State) (la lb : ℕ → List ℕ → List ℕ → Type 0) → AreTables t → AreStorable i.blksize i.pages t acts → Performs content_after (StandsFor i) (content_of_tables t) acts a b la lb → Performs tables_after (StandsForTables i) t acts a b la lb
-  performs_tables t acts a b la lb h s p = record {
+  pub tables_within : (t : TableRows) (acts : List Act) (a b : State) (la lb : ℕ → List ℕ → List ℕ → Type 0) → AreTables t → AreStorable i.blksize i.pages t acts → WithinActs content_after (StandsFor i) (content_of_tables t) acts a b la lb → WithinActs tables_after (StandsForTables i) t acts a b la lb
+  tables_within t acts a b la lb h s p = record {
     frame = p.frame;
     names = p.names;
     any_moment = λ told. leaves_weaker a b la lb (IsCutOf content_after (StandsFor i) (content_of_tables t) acts a.sent) (IsCutOf tables_after (StandsForTables i) t acts a.sent) (p.any_moment told) (λ image out cut. cut_of_tables t acts a.sent image out h s cut);

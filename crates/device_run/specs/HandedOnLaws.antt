@@ -1,5 +1,5 @@
 -- Which error of a device was handed on as one of the opening.
-use Rattle.std.proofs.Common.{◌≡◌, ◌⊎◌, inl, inr, ℕ, List, refl}
+use Rattle.std.proofs.Common.{◌≡◌, ◌⊎◌, inl, inr, ℕ, List, refl, ap}
 use Rattle.std.specs.Prelude.{Result, Ok, Err, IsErrAnd, IsErrOf}
 use Rattle.kd_device.specs.declared.error.DeviceError.{DeviceError}
 use Rattle.kd_device.specs.declared.error.DeviceError.TheVariants as device
@@ -11,6 +11,11 @@ pub act_failed : (T U : Type 0) (r : Result T OpenError) (e : DeviceError) → I
 act_failed T U r device.Failed gives is = refl
 act_failed T U (Ok x) device.Memory gives is = absurd gives
 act_failed T U (Err x) device.Memory gives is = absurd cc
+
+pub act_not_failed : (T U : Type 0) (r : Result T OpenError) (e : DeviceError) → IsErrAnd r (λ x. x ≡ of_device e) → (IsErrOf r opening.Failed → ⊥) → IsErrOf {T = U} (Err e) device.Failed → ⊥
+act_not_failed T U (Ok x) e gives none is = gives
+act_not_failed T U (Err x) device.Failed gives none is = none (ap (λ z. Err z) gives)
+act_not_failed T U (Err x) device.Memory gives none is = cc
 
 pub act_refuses_nothing : (T : Type 0) (r : Result T OpenError) (e : DeviceError) → IsErrAnd r (λ x. x ≡ of_device e) → IsErrOf r opening.NotKdcfile → ⊥
 act_refuses_nothing T (Ok x) e gives is = gives

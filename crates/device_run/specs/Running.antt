@@ -1,6 +1,6 @@
 -- A core and its store, between two steps of a script.
 use Rattle.std.specs.Prelude.{◌≡◌, ◌⊎◌, ℕ, IsTrue, List, [], ◌∷◌, ◌++◌}
-use Rattle.kd_device.specs.Device.{State, Only, Rose}
+use Rattle.kd_device.specs.Device.{State, Only, Rose, SameFaults}
 use Rattle.kd_records.specs.Identity.{Identity}
 use Rattle.kdcfile_store.specs.Kept.{IsKept}
 use Rattle.kdcfile_store.specs.Whole.{Whole, HasFile}
@@ -19,7 +19,7 @@ use Rattle.laws_of_steps.specs.Cut.{IsCut, SentBy}
 use Rattle.laws_of_steps.specs.Keeping.{HasFacts}
 use Rattle.warm_start.specs.Stands.{StandsForTables, KeepsTables, identity_for}
 use Rattle.monitor_core.specs.CoreValue.{CoreValue}
-use Rattle.device_acts.specs.Performing.{Performs, Sent}
+use Rattle.device_acts.specs.Acting.{WithinActs, Sent}
 
 -- what the file of this core was made with, from texts with this fingerprint
 abbrev pub identity_of : (fingerprint : List ℕ) → CoreValue → Identity
@@ -44,10 +44,10 @@ abbrev pub command_steps : CoreValue → Command → List ScriptStep
 command_steps c command = command_of c.application c.state command ∷ []
 
 -- whatever became of some steps of the core: at each moment, what was sent and what a stop leaves are a cut of their acts
-abbrev pub PerformsSteps : (fingerprint : List ℕ) → CoreValue → List ScriptStep → (a b : State) → (la lb : ℕ → List ℕ → List ℕ → Type 0) → Type 0
-PerformsSteps fingerprint c steps a b la lb = Performs tables_after (StandsForTables (identity_of fingerprint c)) (durable_of c) (acts_of steps) a b la lb
+abbrev pub WithinSteps : (fingerprint : List ℕ) → CoreValue → List ScriptStep → (a b : State) → (la lb : ℕ → List ℕ → List ℕ → Type 0) → Type 0
+WithinSteps fingerprint c steps a b la lb = WithinActs tables_after (StandsForTables (identity_of fingerprint c)) (durable_of c) (acts_of steps) a b la lb
 
--- the core came to the state behind some steps, and all their acts are done
+-- the core came to the state after some steps, and all their acts are done
 pub record DidSteps (fingerprint : List ℕ) (c : CoreValue) (steps : List ScriptStep) (d : CoreValue) (store : Whole) (a b : State) (lb : ℕ → List ℕ → List ℕ → Type 0) : Type 0 where
   pub application : d.application ≡ c.application
   pub running : IsRunning fingerprint d store
@@ -55,7 +55,7 @@ pub record DidSteps (fingerprint : List ℕ) (c : CoreValue) (steps : List Scrip
   pub tables : IsTrue a.told → durable_of d ≡ tables_after (durable_of c) (acts_of steps)
   pub acts : Sent (HasFile store) (acts_of steps) a b lb
 
--- the core is one that starts from the durable tables, which the store keeps, and a stop leaves just its bytes
+-- the core is one that starts from the durable tables, which the store keeps, a stop leaves just its bytes, and no call failed
 pub record IsAgain (fingerprint : List ℕ) (c d : CoreValue) (store : Whole) (a b : State) (lb : ℕ → List ℕ → List ℕ → Type 0) : Type 0 where
   pub application : d.application ≡ c.application
   pub running : IsRunning fingerprint d store
@@ -63,6 +63,7 @@ pub record IsAgain (fingerprint : List ℕ) (c d : CoreValue) (store : Whole) (a
   pub state : IsTrue a.told → d.state ≡ started c.application (durable_of c)
   pub tables : IsTrue a.told → durable_of d ≡ durable_of c
   pub kept : IsTrue a.told → IsKept (HasFile store) b lb
+  pub faults : SameFaults a b
 
 -- how many turns and commands a command makes at most
 abbrev pub turns_of : Command → ℕ
@@ -85,7 +86,7 @@ pub record IsCutSince (stands : TableRows → Bytes → Type 0) (start : TableRo
 pub record Ran (fingerprint : List ℕ) (c : CoreValue) (steps : List ScriptStep) (a b : State) (lb : ℕ → List ℕ → List ℕ → Type 0) : Type 0 where
   pub sent : b.sent ≡ a.sent ++ bytes_of (acts_of steps)
   pub holds : StandsForTables (identity_of fingerprint c) (tables_after (durable_of c) (acts_of steps)) b.holds
-  pub settled : Only b.holds b lb
+  pub at_rest : Only b.holds b lb
 
 -- no byte was sent, or a call of the line failed
 abbrev pub SaysNothing : (a b : State) → Type 0

@@ -1,11 +1,11 @@
 //! A whole script.
 ghost use Rattle.std.specs.Prelude.{◌≡◌, ◌⊎◌, ◌≤◌, ◌+◌, ◌^◌, ℕ, List, IsTrue, IfOk, OnOk, OnErr, IsErrOf, sum_by};
-ghost use Rattle.kd_device.specs.Device.{Rose};
+ghost use Rattle.kd_device.specs.Device.{Rose, SameFaults};
 ghost use Rattle.kdcfile_store.specs.{Kept.{IsKept}, Whole.{HasFile}};
 ghost use Rattle.laws_of_steps.specs.Keeping.{IsScriptOf};
 ghost use Rattle.abstract_monitor.specs.{Commands.{acts_of}, Trace.{history}};
 ghost use Rattle.laws_of_steps.specs.Cut.{commits_in};
-ghost use Rattle.device_run.specs.Running.{turns_of, Ran, IsRunning, PerformsSteps, StoppedIn};
+ghost use Rattle.device_run.specs.Running.{turns_of, Ran, IsRunning, WithinSteps, StoppedIn};
 
 use crate::steps::do_command;
 use abstract_monitor::Command;
@@ -31,11 +31,12 @@ pub fn run_script<D: Device>(
     requires names { IsScriptOf core.application commands.now }
     requires steps { core.steps + sum_by turns_of commands.now ≤ 10 ^ 18 }
     requires kept { IsTrue (D.state device.old).told → IsKept (HasFile store) (D.state device.old) (D.leaves device.old) }
-    ensures any { PerformsSteps fingerprint.now core (history core.application core.state commands.now) (D.state device.old) (D.state device.new) (D.leaves device.old) (D.leaves device.new) }
+    ensures any { WithinSteps fingerprint.now core (history core.application core.state commands.now) (D.state device.old) (D.state device.new) (D.leaves device.old) (D.leaves device.new) }
     ensures done { OnOk result (IsTrue (D.state device.old).told → Ran fingerprint.now core (history core.application core.state commands.now) (D.state device.old) (D.state device.new) (D.leaves device.new)) }
     ensures counted { IfOk result (λ n. IsTrue (D.state device.old).told → n ≡ commits_in (acts_of (history core.application core.state commands.now))) }
     // Of a RESTART nothing is said before the KDCFILE is opened again.
     ensures stopped { OnErr result (IsTrue (D.state device.old).told → StoppedIn core commands.now (D.state device.old) (D.state device.new)) }
+    ensures fine { (IsErrOf result OpenError.Failed → ⊥) → SameFaults (D.state device.old) (D.state device.new) }
     ensures failed { IsErrOf result OpenError.Failed → Rose (D.state device.old).disk_faults (D.state device.new).disk_faults ⊎ Rose (D.state device.old).line_faults (D.state device.new).line_faults }
     ensures refused { IsErrOf result OpenError.NotKdcfile → IsTrue (D.state device.old).told → ⊥ }
     ensures other { (stored : List ℕ) → IsErrOf result (OpenError.OtherGeneration stored) → IsTrue (D.state device.old).told → ⊥ }

@@ -1,6 +1,6 @@
 //! The steps of a script: turns, and commands, each with its acts.
 ghost use Rattle.std.specs.Prelude.{◌≡◌, ◌⊎◌, ◌≤◌, ◌<◌, ◌+◌, ◌^◌, ◌==◌, if◌then◌else◌, [], false, ℕ, List, IsTrue, IfOk, OnOk, OnErr, IsErrOf};
-ghost use Rattle.kd_device.specs.{Device.{Rose, Frame, SameNames}, Rest.{Rests}};
+ghost use Rattle.kd_device.specs.{Device.{Rose, SameFaults, Frame, SameNames}, Rest.{Rests}};
 ghost use Rattle.kdcfile_store.specs.{Kept.{IsKept}, Whole.{HasFile}};
 ghost use Rattle.kdcdef_types.specs.Statements.{IsWithin};
 ghost use Rattle.abstract_monitor.specs.{CommandsOf.{IsCommandOf}, Commands.{acts_of, command_of, in_a_row, rotated, steps_of}, Turns.{turn_of}, declared.command.Command.TheVariants.{Restart}};
@@ -8,7 +8,7 @@ ghost use Rattle.laws_of_steps.specs.Suits.{Suits};
 ghost use Rattle.monitor_core.specs.Commanding.{IsSingle};
 ghost use Rattle.warm_start.specs.{Opening.{StartsFrom, IsRefused, IsOfOtherTexts}, Stands.{KeepsTables, identity_for}};
 ghost use Rattle.laws_of_steps.specs.Cut.{commits_in};
-ghost use Rattle.device_run.specs.Running.{command_steps, turn_steps, turns_of, DidSteps, IsAgain, IsRunning, PerformsSteps, SaysNothing};
+ghost use Rattle.device_run.specs.Running.{command_steps, turn_steps, turns_of, DidSteps, IsAgain, IsRunning, WithinSteps, SaysNothing};
 
 use crate::commits::count_commits;
 use abstract_monitor::Command;
@@ -35,14 +35,15 @@ fn do_turn<D: Device>(
     requires running { IsRunning store.old.identity.fingerprint core store.old }
     requires task { IsWithin 1 core.application.generation.limits.tasks task }
     requires steps { core.steps < 10 ^ 18 }
-    requires room { commits.old + commits_in (turn_of core.application core.state task).acts ≤ 10 ^ 18 }
+    requires bounded { commits.old + commits_in (turn_of core.application core.state task).acts ≤ 10 ^ 18 }
     requires kept { IsTrue (D.state device.old).told → IsKept (HasFile store.old) (D.state device.old) (D.leaves device.old) }
-    ensures any { PerformsSteps store.old.identity.fingerprint core (turn_steps core task) (D.state device.old) (D.state device.new) (D.leaves device.old) (D.leaves device.new) }
+    ensures any { WithinSteps store.old.identity.fingerprint core (turn_steps core task) (D.state device.old) (D.state device.new) (D.leaves device.old) (D.leaves device.new) }
     ensures done { IfOk result (λ next. DidSteps store.old.identity.fingerprint core (turn_steps core task) next.0 store.new (D.state device.old) (D.state device.new) (D.leaves device.new)) }
     ensures moved { IfOk result (λ next. next.1 ≡ (turn_of core.application core.state task).moved) }
     ensures state { IfOk result (λ next. next.0.state ≡ (turn_of core.application core.state task).after) }
     ensures steps { IfOk result (λ next. next.0.steps ≡ core.steps + 1) }
     ensures counted { OnOk result (commits.new ≡ commits.old + commits_in (turn_of core.application core.state task).acts) }
+    ensures fine { (IsErrOf result OpenError.Failed → ⊥) → SameFaults (D.state device.old) (D.state device.new) }
     ensures failed { IsErrOf result OpenError.Failed → Rose (D.state device.old).disk_faults (D.state device.new).disk_faults ⊎ Rose (D.state device.old).line_faults (D.state device.new).line_faults }
     ensures refused { IsErrOf result OpenError.NotKdcfile → ⊥ }
     ensures other { (stored : List ℕ) → IsErrOf result (OpenError.OtherGeneration stored) → ⊥ }
@@ -57,7 +58,7 @@ fn do_turn<D: Device>(
     Ok((next, did.moved))
 }
 
-// How many turns in a row moved nothing, with this one behind so many.
+// How many turns in a row moved nothing, with this one after so many.
 fn row_with(moved: bool, unmoved: u16) -> u16
     requires { unmoved < 65535 }
     ensures { result ≡ in_a_row moved unmoved }
@@ -84,12 +85,13 @@ fn run_turns<D: Device>(
 ) -> Result<Core, OpenError>
     requires running { IsRunning store.old.identity.fingerprint core store.old }
     requires steps { core.steps + turns ≤ 10 ^ 18 }
-    requires room { commits.old + commits_in (acts_of (rotated core.application turns false core.state 1 0)) ≤ 10 ^ 18 }
+    requires bounded { commits.old + commits_in (acts_of (rotated core.application turns false core.state 1 0)) ≤ 10 ^ 18 }
     requires kept { IsTrue (D.state device.old).told → IsKept (HasFile store.old) (D.state device.old) (D.leaves device.old) }
-    ensures any { PerformsSteps store.old.identity.fingerprint core (rotated core.application turns false core.state 1 0) (D.state device.old) (D.state device.new) (D.leaves device.old) (D.leaves device.new) }
+    ensures any { WithinSteps store.old.identity.fingerprint core (rotated core.application turns false core.state 1 0) (D.state device.old) (D.state device.new) (D.leaves device.old) (D.leaves device.new) }
     ensures done { IfOk result (λ next. DidSteps store.old.identity.fingerprint core (rotated core.application turns false core.state 1 0) next store.new (D.state device.old) (D.state device.new) (D.leaves device.new)) }
     ensures steps { IfOk result (λ next. next.steps ≤ core.steps + turns) }
     ensures counted { OnOk result (commits.new ≡ commits.old + commits_in (acts_of (rotated core.application turns false core.state 1 0))) }
+    ensures fine { (IsErrOf result OpenError.Failed → ⊥) → SameFaults (D.state device.old) (D.state device.new) }
     ensures failed { IsErrOf result OpenError.Failed → Rose (D.state device.old).disk_faults (D.state device.new).disk_faults ⊎ Rose (D.state device.old).line_faults (D.state device.new).line_faults }
     ensures refused { IsErrOf result OpenError.NotKdcfile → ⊥ }
     ensures other { (stored : List ℕ) → IsErrOf result (OpenError.OtherGeneration stored) → ⊥ }
@@ -122,12 +124,13 @@ fn do_single<D: Device>(
     requires single { IsSingle command.now }
     requires names { IsCommandOf core.application.generation command.now }
     requires steps { core.steps < 10 ^ 18 }
-    requires room { commits.old + commits_in (command_of core.application core.state command.now).acts ≤ 10 ^ 18 }
+    requires bounded { commits.old + commits_in (command_of core.application core.state command.now).acts ≤ 10 ^ 18 }
     requires kept { IsTrue (D.state device.old).told → IsKept (HasFile store.old) (D.state device.old) (D.leaves device.old) }
-    ensures any { PerformsSteps store.old.identity.fingerprint core (command_steps core command.now) (D.state device.old) (D.state device.new) (D.leaves device.old) (D.leaves device.new) }
+    ensures any { WithinSteps store.old.identity.fingerprint core (command_steps core command.now) (D.state device.old) (D.state device.new) (D.leaves device.old) (D.leaves device.new) }
     ensures done { IfOk result (λ next. DidSteps store.old.identity.fingerprint core (command_steps core command.now) next store.new (D.state device.old) (D.state device.new) (D.leaves device.new)) }
     ensures steps { IfOk result (λ next. next.steps ≡ core.steps + 1) }
     ensures counted { OnOk result (commits.new ≡ commits.old + commits_in (command_of core.application core.state command.now).acts) }
+    ensures fine { (IsErrOf result OpenError.Failed → ⊥) → SameFaults (D.state device.old) (D.state device.new) }
     ensures failed { IsErrOf result OpenError.Failed → Rose (D.state device.old).disk_faults (D.state device.new).disk_faults ⊎ Rose (D.state device.old).line_faults (D.state device.new).line_faults }
     ensures refused { IsErrOf result OpenError.NotKdcfile → ⊥ }
     ensures other { (stored : List ℕ) → IsErrOf result (OpenError.OtherGeneration stored) → ⊥ }
@@ -157,6 +160,7 @@ fn reopen<D: Device>(
     ensures refused { IsErrOf result OpenError.NotKdcfile → IsTrue (D.state device.old).told → IsRefused generation.now fingerprint.now (D.state device.old).holds }
     ensures other { (stored : List ℕ) → IsErrOf result (OpenError.OtherGeneration stored) → IsTrue (D.state device.old).told → IsOfOtherTexts stored fingerprint.now (D.state device.old).holds }
     ensures still { IsTrue (D.state device.old).told → ((D.state device.old).holds ≡ [] → ⊥) → Rests (D.state device.old) (D.state device.new) (D.leaves device.old) (D.leaves device.new) }
+    ensures fine { (IsErrOf result OpenError.Failed → ⊥) → SameFaults (D.state device.old) (D.state device.new) }
     ensures failed { IsErrOf result OpenError.Failed → Rose (D.state device.old).disk_faults (D.state device.new).disk_faults }
     ensures frame { Frame (D.state device.old) (D.state device.new) }
     ensures names { SameNames (D.state device.old) (D.state device.new) }
@@ -178,6 +182,7 @@ fn start_again<D: Device>(
     requires kept { IsTrue (D.state device.old).told → IsKept (HasFile store.old) (D.state device.old) (D.leaves device.old) }
     ensures again { IfOk result (λ next. IsAgain fingerprint.now core next store.new (D.state device.old) (D.state device.new) (D.leaves device.new)) }
     ensures rests { IsTrue (D.state device.old).told → Rests (D.state device.old) (D.state device.new) (D.leaves device.old) (D.leaves device.new) }
+    ensures fine { (IsErrOf result OpenError.Failed → ⊥) → SameFaults (D.state device.old) (D.state device.new) }
     ensures failed { IsErrOf result OpenError.Failed → Rose (D.state device.old).disk_faults (D.state device.new).disk_faults }
     ensures refused { IsErrOf result OpenError.NotKdcfile → IsTrue (D.state device.old).told → ⊥ }
     ensures other { (stored : List ℕ) → IsErrOf result (OpenError.OtherGeneration stored) → IsTrue (D.state device.old).told → ⊥ }
@@ -203,9 +208,10 @@ fn restart<D: Device>(
 ) -> Result<Core, OpenError>
     requires running { IsRunning fingerprint.now core store.old }
     requires kept { IsTrue (D.state device.old).told → IsKept (HasFile store.old) (D.state device.old) (D.leaves device.old) }
-    ensures any { PerformsSteps fingerprint.now core (command_steps core Restart) (D.state device.old) (D.state device.new) (D.leaves device.old) (D.leaves device.new) }
+    ensures any { WithinSteps fingerprint.now core (command_steps core Restart) (D.state device.old) (D.state device.new) (D.leaves device.old) (D.leaves device.new) }
     ensures done { IfOk result (λ next. DidSteps fingerprint.now core (command_steps core Restart) next store.new (D.state device.old) (D.state device.new) (D.leaves device.new)) }
     ensures steps { IfOk result (λ next. next.steps ≡ 0) }
+    ensures fine { (IsErrOf result OpenError.Failed → ⊥) → SameFaults (D.state device.old) (D.state device.new) }
     ensures failed { IsErrOf result OpenError.Failed → Rose (D.state device.old).disk_faults (D.state device.new).disk_faults ⊎ Rose (D.state device.old).line_faults (D.state device.new).line_faults }
     ensures unsaid { OnErr result (IsTrue (D.state device.old).told → SaysNothing (D.state device.old) (D.state device.new)) }
     ensures refused { IsErrOf result OpenError.NotKdcfile → IsTrue (D.state device.old).told → ⊥ }
@@ -229,12 +235,13 @@ pub(crate) fn do_command<D: Device>(
     requires running { IsRunning fingerprint.now core store.old }
     requires names { IsCommandOf core.application.generation command.now }
     requires steps { core.steps + turns_of command.now ≤ 10 ^ 18 }
-    requires room { commits.old + commits_in (acts_of (steps_of core.application core.state command.now)) ≤ 10 ^ 18 }
+    requires bounded { commits.old + commits_in (acts_of (steps_of core.application core.state command.now)) ≤ 10 ^ 18 }
     requires kept { IsTrue (D.state device.old).told → IsKept (HasFile store.old) (D.state device.old) (D.leaves device.old) }
-    ensures any { PerformsSteps fingerprint.now core (steps_of core.application core.state command.now) (D.state device.old) (D.state device.new) (D.leaves device.old) (D.leaves device.new) }
+    ensures any { WithinSteps fingerprint.now core (steps_of core.application core.state command.now) (D.state device.old) (D.state device.new) (D.leaves device.old) (D.leaves device.new) }
     ensures done { IfOk result (λ next. DidSteps fingerprint.now core (steps_of core.application core.state command.now) next store.new (D.state device.old) (D.state device.new) (D.leaves device.new)) }
     ensures steps { IfOk result (λ next. next.steps ≤ core.steps + turns_of command.now) }
     ensures counted { OnOk result (commits.new ≡ commits.old + commits_in (acts_of (steps_of core.application core.state command.now))) }
+    ensures fine { (IsErrOf result OpenError.Failed → ⊥) → SameFaults (D.state device.old) (D.state device.new) }
     ensures failed { IsErrOf result OpenError.Failed → Rose (D.state device.old).disk_faults (D.state device.new).disk_faults ⊎ Rose (D.state device.old).line_faults (D.state device.new).line_faults }
     ensures unsaid { OnErr result (command.now ≡ Restart → IsTrue (D.state device.old).told → SaysNothing (D.state device.old) (D.state device.new)) }
     ensures refused { IsErrOf result OpenError.NotKdcfile → IsTrue (D.state device.old).told → ⊥ }

@@ -7,7 +7,7 @@ use Rattle.std.specs.Int.{Width, w32, byte_len, from_be_bytes, to_be_bytes}
 abbrev pub number_at : Width → List ℕ → Option ℕ
 number_at w bytes = if nat_lt (length bytes) (byte_len w) then None else Some (from_be_bytes w (take (byte_len w) bytes))
 
--- what is left behind it; all, where there are too few
+-- what is left after it; all, where there are too few
 abbrev pub after_number : Width → List ℕ → List ℕ
 after_number w bytes = if nat_lt (length bytes) (byte_len w) then bytes else drop (byte_len w) bytes
 
@@ -19,16 +19,16 @@ list bytes = to_be_bytes w32 (length bytes) ++ bytes
 abbrev pub list_of : ℕ → List ℕ → Option (List ℕ)
 list_of n bytes = if nat_lt (length bytes) n then None else Some (take n bytes)
 
--- the list that stands in front, none where the bytes are too few for it
+-- the list that is in front, none where the bytes are too few for it
 abbrev pub list_at : List ℕ → Option (List ℕ)
 list_at bytes =
     if nat_lt (length bytes) 4 then None else list_of (from_be_bytes w32 (take 4 bytes)) (drop 4 bytes)
 
--- what is left behind the first n of the bytes behind a length; all, where there are too few
+-- what is left after the first n of the bytes after a length; all, where there are too few
 abbrev pub rest_of : ℕ → List ℕ → List ℕ → List ℕ
 rest_of n behind bytes = if nat_lt (length behind) n then bytes else drop n behind
 
--- what is left behind a list; all, where there is none
+-- what is left after a list; all, where there is none
 abbrev pub after_list : List ℕ → List ℕ
 after_list bytes =
     if nat_lt (length bytes) 4 then bytes else rest_of (from_be_bytes w32 (take 4 bytes)) (drop 4 bytes) bytes
@@ -37,6 +37,6 @@ after_list bytes =
 abbrev pub name_at : List ℕ → Option (List ℕ)
 name_at bytes = if nat_lt (length bytes) 8 then None else name_in (take 8 bytes)
 
--- what is left behind it; all, where there is no name
+-- what is left after it; all, where there is no name
 abbrev pub after_name : List ℕ → List ℕ
 after_name bytes = if is_some (name_at bytes) then drop 8 bytes else bytes

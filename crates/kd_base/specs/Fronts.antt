@@ -1,4 +1,4 @@
--- The longest front of a list that passes a test, and what is behind it.
+-- The longest front of a list that passes a test, and what is after it.
 use Rattle.std.specs.Prelude.{ℕ, Bool, false, List, [], ◌∷◌}
 
 -- whether the first byte passes the test

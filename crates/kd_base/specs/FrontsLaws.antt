@@ -1,4 +1,4 @@
--- Laws: the longest front of a list that passes a test, and what is behind it.
+-- Laws: the longest front of a list that passes a test, and what is after it.
 use Rattle.std.specs.Prelude.{◌≡◌, ℕ, suc, ◌+◌, Bool, true, false, IsTrue, List, [], ◌∷◌, ◌++◌, length, take, drop, refl}
 use Rattle.std.specs.List.{list_all, prefix_len}
 use Rattle.std.proofs.Common.{inl, inr, ◌∙◌, ap, arith}

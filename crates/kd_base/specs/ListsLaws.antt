@@ -1,4 +1,4 @@
--- Laws: what holds of each item of two lists, one behind the other.
+-- Laws: what holds of each item of two lists, one after the other.
 use Rattle.std.specs.Prelude.{List, [], ◌∷◌, ◌++◌}
 use Rattle.std.specs.List.{AllByRecursion as Each}
 

@@ -10,7 +10,7 @@ use Rattle.std.proofs.lemmas.Map.Lookups.{CmpEqualImpliesEq}
 abbrev pub EqualIsSame : Type 0
 EqualIsSame = (a b : List ℕ) → Decides (pointwise nat_eq a b) (a ≡ b)
 
--- what stands at one place of the order is the same bytes
+-- what is at one place of the order is the same bytes
 abbrev pub TiedIsSame : Type 0
 TiedIsSame = CmpEqualImpliesEq (slice_cmp nat_cmp)
 

@@ -1,4 +1,4 @@
--- What stands in front of what was found, and a second step after a first one, for readers.
+-- What is in front of what was found, and a second step after a first one, for readers.
 use Rattle.std.specs.Prelude.{List, ◌++◌, Option, Result, Ok, Err}
 use Rattle.std.specs.Option.{option_map}
 

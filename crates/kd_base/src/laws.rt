@@ -1,7 +1,7 @@
 //! Laws on the definitions, which all crates above may cite. The functions do nothing.
 ghost use Rattle.kd_base.specs.{RoundTrips.{U8ComesBack, U32ComesBack, U64ComesBack, ListComesBack, NameComesBack, NameStandsThere}, Order.{EqualIsSame, TiedIsSame, OrderIsTotal}};
 
-/// What was written is read again, whatever follows; and a name is read only where it stands.
+/// What was written is read again, whatever follows; and a name is read only where it is.
 pub fn fields_come_back()
     ensures u8 { U8ComesBack }
     ensures u32 { U32ComesBack }

@@ -56,7 +56,7 @@ fn are_spaces(bytes: &[u8]) -> bool
     bytes.iter().all(|b| *b == b' ')
 }
 
-// How many name bytes stand in front.
+// How many name bytes are in front.
 fn name_len(bytes: &[u8]) -> usize
     ensures len { result ≡ prefix_len is_name_byte bytes.now }
     ensures within { result ≤ length bytes.now }

@@ -1,4 +1,4 @@
-//! Decimal numbers, bytes as they are printed, and bytes without the spaces behind them.
+//! Decimal numbers, bytes as they are printed, and bytes without the spaces after them.
 ghost use Rattle.std.specs.Prelude.{◌≡◌, ◌<◌, ◌++◌, IfOk, OnOk, SomeIff};
 ghost use Rattle.kd_base.specs.Text.{trim_end, is_digit, IsDecimal, decimal_of, decimal_value, hex_digit, escaped, escaped_byte};
 

@@ -1,4 +1,4 @@
-//! Big-endian fields, put behind the bytes that stand there. Each call changes nothing where it fails.
+//! Big-endian fields, put after the bytes that are there. Each call changes nothing where it fails.
 ghost use Rattle.std.specs.{Prelude.{◌≡◌, ◌<◌, ◌^◌, ◌++◌, ◌∷◌, [], List, ℕ, length, is_ok, if◌then◌else◌, OnErr}, Int.{w32, w64, to_be_bytes}};
 ghost use Rattle.kd_base.specs.{Field.{list}, Text.{padded}};
 

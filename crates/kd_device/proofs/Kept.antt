@@ -36,7 +36,7 @@ inside_push : (n m : ℕ) (steps : List Step) (x : Step) → n ≤ m → AllInsi
 inside_push n m [] x le h i = (i, tt)
 inside_push n m (y ∷ steps) x le h i = (inside_wider n m y le h.0, inside_push n m steps x le h.1 i)
 
--- the bytes behind those that were kept
+-- the bytes after those that were kept
 last_part : (kept more : List ℕ) → take (length more) (drop (length kept) (kept ++ more)) ≡ more
 last_part kept more = ap (λ (l : List ℕ). take (length more) l) (drop_at kept more (length kept) refl) ∙ take_all (length more) more (omega arith)
 
@@ -73,7 +73,7 @@ fit_push : (n m : ℕ) (spans : List Span) (x : Span) → n ≤ m → AllFit n s
 fit_push n m [] x le h i = (i, tt)
 fit_push n m (y ∷ spans) x le h i = (omega arith, fit_push n m spans x le h.1 i)
 
--- one span more, of the bytes behind those that were kept
+-- one span more, of the bytes after those that were kept
 module _ (kept more : List ℕ) (spans : List Span) (x : Span) (kept' : List ℕ) (spans' : List Span) (keeps : kept' ≡ kept ++ more) (adds : spans' ≡ spans ++ x ∷ []) (behind : IsBehind kept more x) (fit : AllFit (length kept) spans) where
   pub pieces_are : pieces kept' spans' ≡ pieces kept spans ++ more ∷ []
   pieces_are = rw (keeps, adds, pieces_push kept more spans x fit, last_piece kept more x behind)

@@ -15,7 +15,7 @@ pub record State : Type 0 where
   pub spare_bytes : ℕ  -- of so many bytes together,
   pub spare_end : ℕ  -- with no write past here
 
--- a count is greater than before, or stands at its type's end
+-- a count is greater than before, or is at its type's end
 abbrev pub Rose : ℕ → ℕ → Type 0
 Rose before now = min (before + 1) (2 ^ 64 - 1) ≤ now
 
@@ -57,6 +57,11 @@ SameDiskFaults old new = new.disk_faults ≡ old.disk_faults
 -- no further emit failed
 abbrev pub SameLineFaults : State → State → Type 0
 SameLineFaults old new = new.line_faults ≡ old.line_faults
+
+-- no further call failed
+pub record SameFaults (old new : State) : Type 0 where
+  pub disk : SameDiskFaults old new
+  pub line : SameLineFaults old new
 
 -- no further name was handed to attach
 abbrev pub SameNames : State → State → Type 0

@@ -91,7 +91,7 @@ reserved r calls bytes end =
 abbrev pub piece : List ℕ → Span → List ℕ
 piece kept span = take span.len (drop span.from kept)
 
--- the span of bytes that are put behind those that are kept
+-- the span of bytes that are put after those that are kept
 pub record IsBehind (kept more : List ℕ) (span : Span) : Type 0 where
   pub from : span.from ≡ length kept
   pub len : span.len ≡ length more
@@ -131,11 +131,11 @@ pub record IsKept (start bytes sent kept : List ℕ) (steps : List Step) : Type 
   pub sent_is : sent ≡ (after (fresh start) (events kept steps)).sent
   pub inside : AllInside (length kept) steps
 
--- the buffers have room for what is spare
-pub record HasRoom (calls n upto steps steps_room kept kept_room sent sent_room names names_room name_bytes name_bytes_room bytes_room : ℕ) : Type 0 where
-  pub for_steps : steps + calls ≤ steps_room
-  pub for_kept : kept + n ≤ kept_room
-  pub for_sent : sent + n ≤ sent_room
-  pub for_names : names + calls ≤ names_room
-  pub for_name_bytes : name_bytes + n ≤ name_bytes_room
-  pub for_bytes : upto ≤ bytes_room
+-- the buffers have capacity for what is spare
+pub record HasCapacity (calls n upto steps steps_capacity kept kept_capacity sent sent_capacity names names_capacity name_bytes name_bytes_capacity bytes_capacity : ℕ) : Type 0 where
+  pub for_steps : steps + calls ≤ steps_capacity
+  pub for_kept : kept + n ≤ kept_capacity
+  pub for_sent : sent + n ≤ sent_capacity
+  pub for_names : names + calls ≤ names_capacity
+  pub for_name_bytes : name_bytes + n ≤ name_bytes_capacity
+  pub for_bytes : upto ≤ bytes_capacity

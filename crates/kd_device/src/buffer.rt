@@ -1,16 +1,16 @@
-//! Reads of a file in memory, and writes to buffers that have room.
+//! Reads of a file in memory, and writes to buffers that have the capacity.
 ghost use Rattle.std.specs.{Prelude.{◌≡◌, ◌≤◌, ◌<◌, ◌+◌, ◌-◌, ◌++◌, ◌∷◌, [], length, take, drop, min, if◌then◌else◌}, Vec.{vec_len, vec_capacity}};
 ghost use Rattle.kd_device.specs.{Device.{written}, Tape.{IsBehind}};
 
 use crate::step::Span;
 
-/// Puts these bytes behind those that are kept, and answers where they are.
+/// Puts these bytes after those that are kept, and answers where they are.
 pub fn keep(kept: &mut Vec<u8>, bytes: &[u8]) -> Span
     requires { vec_len kept.old + length bytes.now ≤ vec_capacity kept.old }
     ensures span { IsBehind kept.old.items bytes.now result }
     ensures items { kept.new.items ≡ kept.old.items ++ bytes.now }
     ensures len { vec_len kept.new ≡ vec_len kept.old + length bytes.now }
-    ensures room { vec_capacity kept.old ≤ vec_capacity kept.new }
+    ensures capacity { vec_capacity kept.old ≤ vec_capacity kept.new }
 {
     let span = Span {
         from: kept.len(),
@@ -24,7 +24,7 @@ pub fn put<T: Copy>(to: &mut Vec<T>, value: T)
     requires { vec_len to.old < vec_capacity to.old }
     ensures items { to.new.items ≡ to.old.items ++ value ∷ [] }
     ensures len { vec_len to.new ≡ vec_len to.old + 1 }
-    ensures room { vec_capacity to.old ≤ vec_capacity to.new }
+    ensures capacity { vec_capacity to.old ≤ vec_capacity to.new }
 {
     let _ = to.push(value);
 }
@@ -33,7 +33,7 @@ pub fn put<T: Copy>(to: &mut Vec<T>, value: T)
 pub fn overwrite(to: &mut Vec<u8>, at: usize, bytes: &[u8])
     requires { at + length bytes.now ≤ vec_capacity to.old }
     ensures items { to.new.items ≡ written to.old.items at bytes.now }
-    ensures room { vec_capacity to.old ≤ vec_capacity to.new }
+    ensures capacity { vec_capacity to.old ≤ vec_capacity to.new }
 {
     if to.len() < at {
         let _ = to.resize(at, 0);
@@ -48,7 +48,7 @@ pub fn append_if(to: &mut Vec<u8>, more: &[u8], done: bool)
     requires { vec_len to.old + length more.now ≤ vec_capacity to.old }
     ensures items { to.new.items ≡ (if done then to.old.items ++ more.now else to.old.items) }
     ensures len { vec_len to.new ≤ vec_len to.old + length more.now }
-    ensures room { vec_capacity to.old ≤ vec_capacity to.new }
+    ensures capacity { vec_capacity to.old ≤ vec_capacity to.new }
 {
     if done {
         let _ = to.extend_from_slice(more);
@@ -58,7 +58,7 @@ pub fn append_if(to: &mut Vec<u8>, more: &[u8], done: bool)
 pub fn overwrite_if(to: &mut Vec<u8>, at: usize, bytes: &[u8], done: bool)
     requires { at + length bytes.now ≤ vec_capacity to.old }
     ensures items { to.new.items ≡ (if done then written to.old.items at bytes.now else to.old.items) }
-    ensures room { vec_capacity to.old ≤ vec_capacity to.new }
+    ensures capacity { vec_capacity to.old ≤ vec_capacity to.new }
 {
     if done {
         overwrite(to, at, bytes);

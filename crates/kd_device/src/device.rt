@@ -67,7 +67,7 @@ pub trait Device {
 
     /// Writes over what is there and past the end. Until a sync, a stop may leave any bytes in the range.
     fn write_at(&mut self, at: u64, bytes: &[u8]) -> Result<(), Failed>
-        requires room { HasSpare (length bytes.now) (state self.old) }
+        requires spare { HasSpare (length bytes.now) (state self.old) }
         requires inside { at + length bytes.now ≤ (state self.old).spare_end }
         ensures failed { OnErr result (Rose (state self.old).disk_faults (state self.new).disk_faults) }
         ensures fine { OnOk result (SameDiskFaults (state self.old) (state self.new)) }

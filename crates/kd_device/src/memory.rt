@@ -204,7 +204,7 @@ impl Device for MemDevice {
     }
 
     fn write_at(&mut self, at: u64, bytes: &[u8]) -> Result<(), Failed>
-        requires room { HasSpare (length bytes.now) (state_of self.old) }
+        requires spare { HasSpare (length bytes.now) (state_of self.old) }
         requires inside { at + length bytes.now ≤ (state_of self.old).spare_end }
         ensures failed { OnErr result (Rose (state_of self.old).disk_faults (state_of self.new).disk_faults) }
         ensures fine { OnOk result (SameDiskFaults (state_of self.old) (state_of self.new)) }

@@ -46,7 +46,7 @@ fn first_part(alloc: Global, text: &[u8], limit: u64) -> Result<Vec<u8>, OutOfMe
 }
 
 impl MemRoom {
-    /// A room of these texts by name, of which the first counts for a name that stands twice. The reads with these
+    /// A room of these texts by name, of which the first counts for a name that is there twice. The reads with these
     /// numbers, counted from 1, fail. It takes no memory.
     pub fn new(
         _: Global,

@@ -1,6 +1,6 @@
 //! What a device in memory keeps of its past calls.
 
-/// So many bytes of a buffer, behind this place.
+/// So many bytes of a buffer, after this place.
 #[derive(Clone, Copy, PartialEq, Eq)]
 pub struct Span {
     pub from: usize,

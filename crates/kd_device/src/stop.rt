@@ -111,7 +111,7 @@ fn part_of(digits: u64) -> Part
     }
 }
 
-/// The digits behind the last one, and the whole choice again behind the first one.
+/// The digits after the last one, and the whole choice again after the first one.
 fn next_digits(choice: u64, digits: u64) -> u64
     ensures old { choice ≡ 0 → digits ≡ 0 → result ≡ 0 }
     ensures new { choice ≡ 1 → digits ≡ 1 → result ≡ 1 }

@@ -26,7 +26,7 @@ pub struct Tape {
 
 impl Model for Tape {
     ghost use Rattle.std.specs.{Prelude.{length}, Vec.{vec_len, vec_capacity}};
-    ghost use Rattle.kd_device.specs.Tape.{Recording, events, pieces, AllFit, IsKept, HasRoom};
+    ghost use Rattle.kd_device.specs.Tape.{Recording, events, pieces, AllFit, IsKept, HasCapacity};
 
     ghost Value = { Recording };
 
@@ -34,7 +34,7 @@ impl Model for Tape {
 
     ghost invariant = { λ m. IsKept m.start m.bytes.items m.sent.items m.kept.items m.steps.items
         × (AllFit (length m.name_bytes.items) m.names.items
-        × HasRoom m.spare_calls m.spare_bytes m.spare_end (vec_len m.steps) (vec_capacity m.steps) (vec_len m.kept) (vec_capacity m.kept) (vec_len m.sent) (vec_capacity m.sent) (vec_len m.names) (vec_capacity m.names) (vec_len m.name_bytes) (vec_capacity m.name_bytes) (vec_capacity m.bytes)) };
+        × HasCapacity m.spare_calls m.spare_bytes m.spare_end (vec_len m.steps) (vec_capacity m.steps) (vec_len m.kept) (vec_capacity m.kept) (vec_len m.sent) (vec_capacity m.sent) (vec_len m.names) (vec_capacity m.names) (vec_len m.name_bytes) (vec_capacity m.name_bytes) (vec_capacity m.bytes)) };
 }
 
 impl Tape {

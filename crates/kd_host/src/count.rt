@@ -11,15 +11,15 @@ pub(crate) fn counted<T: Drop, R: Eprint>(
     rt: &R,
     file: &str,
     call: &str,
-    outcome: io::Result<T>,
+    answer: io::Result<T>,
     faults: &mut u64,
 ) -> Result<T, Failed>
-    ensures value { MatchResult outcome (λ value. result ≡ Ok value) (λ _. IsErr result) }
+    ensures value { MatchResult answer (λ value. result ≡ Ok value) (λ _. IsErr result) }
     ensures failed { OnErr result (Rose faults.old faults.new) }
     ensures done { OnOk result (faults.new ≡ faults.old) }
     ensures later { faults.old ≤ faults.new }
 {
-    match outcome {
+    match answer {
         Ok(value) => Ok(value),
         Err(error) => {
             *faults = faults.saturating_add(1);

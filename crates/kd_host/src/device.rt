@@ -192,7 +192,7 @@ impl<'a, R: Files<File = File> + Print + Eprint + AllocGlobal> Device for FileDe
         counted(self.rt, &self.name, "write", written, &mut self.disk_faults)
     }
 
-    // Content and length are durable behind it.
+    // Content and length are durable after it.
     fn sync(&mut self) -> Result<(), Failed> {
         self.spare_calls -= 1;
         let synced = match &self.file {

@@ -48,7 +48,7 @@ covers blksize m c d n e is h =
     let some : 1 ≤ c = omega arith in
     omega (arith, ap (λ (x : ℕ). c * x) e, mul-le-mul_left m more)
 
--- the pages of one record have room for its value, its key and the length
+-- the pages of one record hold its value, its key and the length
 pub charge_covers : (blksize n : ℕ) → 2048 ≤ blksize → 29 + n ≤ charge_of blksize n * blksize
 charge_covers blksize n h =
     covers blksize (blksize - 48) (charge_of blksize n) (div_ceil n (blksize - 48)) n (omega arith) (charge_is blksize n h)
@@ -68,24 +68,24 @@ small blksize c n h few upto = omega (arith, mul-le-mul_left blksize few)
 abbrev charge_at : ℕ → Record → ℕ
 charge_at blksize r = charge_of blksize (length r.1)
 
-more_room : (blksize a b x y c t : ℕ) → a ≡ x + y → b ≡ c + t → x ≤ c * blksize → y ≤ t * blksize → a ≤ b * blksize
-more_room blksize a b x y c t e is h k = omega (arith, ap (λ (z : ℕ). z * blksize) is)
+more_covered : (blksize a b x y c t : ℕ) → a ≡ x + y → b ≡ c + t → x ≤ c * blksize → y ≤ t * blksize → a ≤ b * blksize
+more_covered blksize a b x y c t e is h k = omega (arith, ap (λ (z : ℕ). z * blksize) is)
 
-pub room_within : (blksize : ℕ) (records : List Record) → 2048 ≤ blksize → sum_by record_length records ≤ total_charge blksize records * blksize
-room_within blksize [] h = omega arith
-room_within blksize (r ∷ records) h =
-    more_room blksize (sum_by record_length (r ∷ records)) (total_charge blksize (r ∷ records)) (record_length r) (sum_by record_length records) (charge_at blksize r) (total_charge blksize records)
+pub records_covered : (blksize : ℕ) (records : List Record) → 2048 ≤ blksize → sum_by record_length records ≤ total_charge blksize records * blksize
+records_covered blksize [] h = omega arith
+records_covered blksize (r ∷ records) h =
+    more_covered blksize (sum_by record_length (r ∷ records)) (total_charge blksize (r ∷ records)) (record_length r) (sum_by record_length records) (charge_at blksize r) (total_charge blksize records)
     (sum_by-cons record_length r records)
     (sum_by-cons (charge_at blksize) r records)
     (charge_covers blksize (length r.1) h)
-    (room_within blksize records h)
+    (records_covered blksize records h)
 
-all_room : (blksize pages room charge : ℕ) → room ≤ charge * blksize → charge ≤ pages → 64 + room ≤ 8192 + pages * blksize
-all_room blksize pages room charge h few = omega (arith, mul-le-mul_left blksize few)
+all_covered : (blksize pages size charge : ℕ) → size ≤ charge * blksize → charge ≤ pages → 64 + size ≤ 8192 + pages * blksize
+all_covered blksize pages size charge h few = omega (arith, mul-le-mul_left blksize few)
 
 pub charged_records_fit : ChargedRecordsFit
 charged_records_fit blksize pages records is few =
-    all_room blksize pages (sum_by record_length records) (total_charge blksize records) (room_within blksize records (block_from blksize is)) few
+    all_covered blksize pages (sum_by record_length records) (total_charge blksize records) (records_covered blksize records (block_from blksize is)) few
 
 more_few : (n a c t : ℕ) → a ≡ c + t → 1 ≤ c → n ≤ t → suc n ≤ a
 more_few n a c t e h k = omega arith

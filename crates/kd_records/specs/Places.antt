@@ -1,4 +1,4 @@
--- Where a key stands in a list of records.
+-- Where a key is in a list of records.
 use Rattle.std.specs.Prelude.{Bool, false, List, [], ◌∷◌}
 use Rattle.std.specs.Ordering.{eq_by_cmp}
 use Rattle.kd_records.specs.declared.key.RecordKey.{RecordKey}

@@ -12,7 +12,7 @@ pub struct RecordKey {
 }
 
 impl RecordKey {
-    /// How this key stands to another in a file: by kind, then by bytes.
+    /// How this key compares to another in a file: by kind, then by bytes.
     pub fn compared(&self, other: &RecordKey) -> Ordering
         ensures { result ≡ key_cmp self.now other.now }
     {

@@ -6,7 +6,7 @@ use Rattle.kd_base.specs.ToolsLaws.{ok_of, err_of}
 use Rattle.kdcdef_types.specs.declared.statement.Statement.{Statement}
 use Rattle.kdcdef_types.specs.Generation.{Generated}
 use Rattle.kdcdef_check.specs.declared.fault.CheckFault.{CheckFault}
-use Rattle.kdcdef_check.specs.declared.fault.CheckFault.TheVariants.{NameTwice, NoProgram, NoLterm, LtermTwice, NoMax, ClassOfWrongKind, PoolTooSmall, NoUser, TooMany, Memory}
+use Rattle.kdcdef_check.specs.declared.fault.CheckFault.TheVariants.{NameTwice, NoProgram, NoLterm, LtermTwice, NoMax, ClassOfWrongKind, PoolTooSmall, NoUser, TooMany, NoKset, Memory}
 use Rattle.kdcdef_types.specs.declared.statement.MaxOperands.{MaxOperands}
 use Rattle.kdcdef_types.specs.declared.limits.Limits.{Limits}
 use Rattle.kdcdef_types.specs.declared.limits.Counts.{Counts}
@@ -19,7 +19,7 @@ use Rattle.kdcdef_check.specs.Faults.{Stands, line_of, number_of, AreFaultless, 
 use Rattle.kdcdef_check.specs.Steps.{earlier, IsFirstOf, AmongFirst, OwnFault, OuterFault, AreFilled, AllNamed, IsTallyOf, counts_in, made_of}
 use Rattle.kdcdef_check.proofs.Counting.{program_count, tac_count, user_count, pterm_count, lterm_count, passed_statements}
 use Rattle.kdcdef_check.proofs.Faultless.{few, appliname_said}
-use Rattle.kdcdef_check.proofs.Chains.{settled}
+use Rattle.kdcdef_check.proofs.Chains.{both_passes}
 use Rattle.kdcdef_check.proofs.Exact.{made_exactly}
 use Rattle.kdcdef_check.proofs.Sound.{sound}
 
@@ -35,6 +35,7 @@ same_fault (ClassOfWrongKind n) (ClassOfWrongKind m) l k = cc l
 same_fault (PoolTooSmall n) (PoolTooSmall m) l k = cc l
 same_fault (NoUser n) (NoUser m) l k = cc l
 same_fault (TooMany n) (TooMany m) l k = cc l
+same_fault (NoKset n) (NoKset m) l k = cc l
 same_fault Memory Memory l k = refl
 same_fault _ _ l k = absurd (omega (arith, k))
 
@@ -64,12 +65,12 @@ refused_for ss (Err d) found fault e first = ap (λ (x : CheckFault). err_of {A 
 -- ---- the two ends of the check
 
 pub first_found : (ss : List Statement) (a b found : Option CheckFault) (e : CheckFault) → IsFirstOf (AmongFirst ss (OwnFault ss) (length ss)) a → IsFirstOf (AmongFirst ss (OuterFault ss) (length ss)) b → found ≡ earlier a b → found ≡ Some e → IsFirstFault ss e
-first_found ss a b found e p q is some = subst (IsFirstOf (Stands ss)) (sym is ∙ some) (settled ss a b p q)
+first_found ss a b found e p q is some = subst (IsFirstOf (Stands ss)) (sym is ∙ some) (both_passes ss a b p q)
 
 pub none_found : (ss : List Statement) (a b found : Option CheckFault) → IsFirstOf (AmongFirst ss (OwnFault ss) (length ss)) a → IsFirstOf (AmongFirst ss (OuterFault ss) (length ss)) b → found ≡ earlier a b → found ≡ None → AreFaultless ss
-none_found ss a b found p q is none = subst (IsFirstOf (Stands ss)) (sym is ∙ none) (settled ss a b p q)
+none_found ss a b found p q is none = subst (IsFirstOf (Stands ss)) (sym is ∙ none) (both_passes ss a b p q)
 
-pub few_filled : (ss : List Statement) (t : Tally) → AreFaultless ss → IsTallyOf t ss → (kind : ℕ) → kind < 11 → slice_index t.counts kind ≤ 20000
+pub few_filled : (ss : List Statement) (t : Tally) → AreFaultless ss → IsTallyOf t ss → (kind : ℕ) → kind < 12 → slice_index t.counts kind ≤ 20000
 few_filled ss t free tally kind below = rw (tally.counts kind below) (few ss free kind)
 
 some_if : {A : Type 0} (o : Option A) → is_none o ≡ false → IsSome o
@@ -86,7 +87,7 @@ counted ss t passed tally is = λ j. record {
   lterms = (tally.counts 5 (omega arith) ∙ lterm_count ss) j;
   tacs = (tally.counts 2 (omega arith) ∙ tac_count ss) j;
   programs = (tally.counts 1 (omega arith) ∙ program_count ss) j;
-  passed_statements = (tally.counts 9 (omega arith) ∙ passed_statements ss) j;
+  passed_statements = (tally.counts 10 (omega arith) ∙ passed_statements ss) j;
   passed_operands = is j;
 }
 

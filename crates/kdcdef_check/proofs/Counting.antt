@@ -32,7 +32,7 @@ count_made f kind made (s ∷ ss) = count_cons (λ (t : Statement). kind_of t.sa
 
 -- which statements make entries of a kind
 kinds_fit : (line : ℕ) (said : Said) → (is_some (as_program line said) ≡ (kind_of said == 1)) × (is_some (as_tac said) ≡ (kind_of said == 2)) × (is_some (as_user said) ≡ (kind_of said == 3))
-    × (is_some (as_pterm said) ≡ (kind_of said == 4)) × (is_some (as_lterm said) ≡ (kind_of said == 5)) × (is_some (as_passed said) ≡ (kind_of said == 9))
+    × (is_some (as_pterm said) ≡ (kind_of said == 4)) × (is_some (as_lterm said) ≡ (kind_of said == 5)) × (is_some (as_passed said) ≡ (kind_of said == 10))
 kinds_fit line Passed = (refl, refl, refl, refl, refl, refl)
 kinds_fit line said = (refl, refl, refl, refl, refl, refl)
 
@@ -51,8 +51,8 @@ pterm_count ss = count_made (λ (s : Statement). as_pterm s.said) 4 (λ s. (kind
 pub lterm_count : (ss : List Statement) → kind_count 5 ss ≡ length (said_as as_lterm ss)
 lterm_count ss = count_made (λ (s : Statement). as_lterm s.said) 5 (λ s. (kinds_fit s.line s.said).4) ss
 
-pub passed_statements : (ss : List Statement) → kind_count 9 ss ≡ length (said_as as_passed ss)
-passed_statements ss = count_made (λ (s : Statement). as_passed s.said) 9 (λ s. (kinds_fit s.line s.said).5) ss
+pub passed_statements : (ss : List Statement) → kind_count 10 ss ≡ length (said_as as_passed ss)
+passed_statements ss = count_made (λ (s : Statement). as_passed s.said) 10 (λ s. (kinds_fit s.line s.said).5) ss
 
 one_restart : (said : Said) (n : ℕ) (us : List (List ℕ × UserEntry)) → n ≡ restart_count us → cond (is_restart said) 1 0 + n ≡ restart_count (cons_option (as_user said) us)
 one_restart (User name entry) n us h = ap (λ (m : ℕ). cond entry.restart 1 0 + m) h ∙ sym (count_cons (λ (u : UserEntry). u.restart) entry (values_of us))

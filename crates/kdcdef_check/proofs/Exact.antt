@@ -11,13 +11,14 @@ use Rattle.kdcdef_types.specs.declared.entry.TacEntry.{TacEntry}
 use Rattle.kdcdef_types.specs.declared.entry.UserEntry.{UserEntry}
 use Rattle.kdcdef_types.specs.declared.entry.PtermEntry.{PtermEntry}
 use Rattle.kdcdef_types.specs.declared.entry.LtermEntry.{LtermEntry}
+use Rattle.kdcdef_types.specs.declared.entry.KeySet.{KeySet}
 use Rattle.kdcdef_types.specs.declared.limits.Counts.{Counts}
 use Rattle.kdcdef_types.specs.declared.statement.Said.{Said}
-use Rattle.kdcdef_types.specs.declared.statement.Said.TheVariants.{Program, Tac, User, Pterm, Lterm, Tls, Uls, TacClass}
+use Rattle.kdcdef_types.specs.declared.statement.Said.TheVariants.{Program, Tac, User, Pterm, Lterm, Tls, Uls, TacClass, Kset}
 use Rattle.kdcdef_types.specs.declared.statement.Statement.{Statement}
 use Rattle.kdcdef_types.specs.Generation.{Generated, entry_of, tac_of, user_of, pterm_of, lterm_of, has_tls, has_uls, class_limit}
 use Rattle.kdcdef_check.specs.declared.tables.Tables.{Tables}
-use Rattle.kdcdef_check.specs.Generating.{as_program, as_tac, as_user, as_pterm, as_lterm, as_tls, as_uls, as_class, max_given, with_defaults, counts_of, generated}
+use Rattle.kdcdef_check.specs.Generating.{as_program, as_tac, as_user, as_pterm, as_lterm, as_tls, as_uls, as_class, as_kset, max_given, with_defaults, counts_of, generated}
 use Rattle.kdcdef_check.specs.Faults.{is_taken, AreFaultless}
 use Rattle.kdcdef_check.specs.Steps.{put, put_key, filled_by, table_of, keys_table, AreFilled, made_of}
 use Rattle.kdcdef_check.proofs.Passing.{next_taken}
@@ -31,7 +32,7 @@ IsFresh {K} {V} eq f ss = (i : ℕ) (s : Statement) → slice_get ss i ≡ Some 
 abbrev IsFreshKey : {K : Type 0} → (K → K → Bool) → (Statement → Option K) → List Statement → Type 0
 IsFreshKey {K} eq f ss = (i : ℕ) (s : Statement) → slice_get ss i ≡ Some s → IfSome (f s) (λ (p : K). list_any (eq p) (filter_map f (take i ss)) ≡ false)
 
--- what is put in behind what was made before is at the end
+-- what is put in after what was made before is at the end
 module _ {A : Type 0} (add : Option A → List A → List A) (f : Statement → Option A) (ss : List Statement) (adds : (i : ℕ) (s : Statement) → slice_get ss i ≡ Some s → add (f s) (filter_map f (take i ss)) ≡ filter_map f (take i ss) ++ cons_option (f s) []) where
   exact_to : (n : ℕ) → n ≤ length ss → filled_by add f (take n ss) ≡ filter_map f (take n ss)
   exact_to zero within = refl
@@ -82,15 +83,17 @@ fresh_entries : (g : Generated) (line : ℕ) (said : Said) → is_taken g said �
     × IfSome (as_user said) (λ (p : List ℕ × UserEntry). is_some (user_of g p.0) ≡ false) × IfSome (as_pterm said) (λ (p : List ℕ × PtermEntry). is_some (pterm_of g p.0) ≡ false)
     × IfSome (as_lterm said) (λ (p : List ℕ × LtermEntry). is_some (lterm_of g p.0) ≡ false) × IfSome (as_tls said) (λ (p : List ℕ). has_tls g p ≡ false)
     × IfSome (as_uls said) (λ (p : List ℕ). has_uls g p ≡ false) × IfSome (as_class said) (λ (p : ℕ × ℕ). is_some (class_limit g p.0) ≡ false)
-fresh_entries g line (Program name) h = (h, tt, tt, tt, tt, tt, tt, tt)
-fresh_entries g line (Tac name entry) h = (tt, left_false (is_some (tac_of g name)) (is_some (lterm_of g name)) h, tt, tt, tt, tt, tt, tt)
-fresh_entries g line (User name entry) h = (tt, tt, h, tt, tt, tt, tt, tt)
-fresh_entries g line (Pterm name entry) h = (tt, tt, tt, h, tt, tt, tt, tt)
-fresh_entries g line (Lterm name entry) h = (tt, tt, tt, tt, left_false (is_some (lterm_of g name)) (is_some (tac_of g name)) h, tt, tt, tt)
-fresh_entries g line (Tls name) h = (tt, tt, tt, tt, tt, h, tt, tt)
-fresh_entries g line (Uls name) h = (tt, tt, tt, tt, tt, tt, h, tt)
-fresh_entries g line (TacClass class tasks) h = (tt, tt, tt, tt, tt, tt, tt, h)
-fresh_entries g line _ h = (tt, tt, tt, tt, tt, tt, tt, tt)
+    × IfSome (as_kset said) (λ (p : List ℕ × KeySet). is_some (entry_of g.ksets p.0) ≡ false)
+fresh_entries g line (Program name) h = (h, tt, tt, tt, tt, tt, tt, tt, tt)
+fresh_entries g line (Tac name entry) h = (tt, left_false (is_some (tac_of g name)) (is_some (lterm_of g name)) h, tt, tt, tt, tt, tt, tt, tt)
+fresh_entries g line (User name entry) h = (tt, tt, h, tt, tt, tt, tt, tt, tt)
+fresh_entries g line (Pterm name entry) h = (tt, tt, tt, h, tt, tt, tt, tt, tt)
+fresh_entries g line (Lterm name entry) h = (tt, tt, tt, tt, left_false (is_some (lterm_of g name)) (is_some (tac_of g name)) h, tt, tt, tt, tt)
+fresh_entries g line (Tls name) h = (tt, tt, tt, tt, tt, h, tt, tt, tt)
+fresh_entries g line (Uls name) h = (tt, tt, tt, tt, tt, tt, h, tt, tt)
+fresh_entries g line (TacClass class tasks) h = (tt, tt, tt, tt, tt, tt, tt, h, tt)
+fresh_entries g line (Kset name set) h = (tt, tt, tt, tt, tt, tt, tt, tt, h)
+fresh_entries g line _ h = (tt, tt, tt, tt, tt, tt, tt, tt, tt)
 
 -- the tables that the statements filled, with the limits and counts, are what they generate
 pub made_exactly : (t : Tables) (ss : List Statement) (counts : Counts) → AreFilled t ss → AreFaultless ss → counts ≡ counts_of ss → made_of t (with_defaults (max_given ss)) counts ≡ generated ss
@@ -104,5 +107,6 @@ made_exactly t ss counts filled free counted = λ j. record {
   tls = (filled.tls ∙ exact_keys bytes_eq (λ (s : Statement). as_tls s.said) ss (λ i s at. (fresh_entries (generated (take i ss)) s.line s.said (not_taken ss free i s at)).5)) j;
   uls = (filled.uls ∙ exact_keys bytes_eq (λ (s : Statement). as_uls s.said) ss (λ i s at. (fresh_entries (generated (take i ss)) s.line s.said (not_taken ss free i s at)).6)) j;
   classes = (filled.classes ∙ exact_table nat_eq (λ (s : Statement). as_class s.said) ss (λ i s at. (fresh_entries (generated (take i ss)) s.line s.said (not_taken ss free i s at)).7)) j;
+  ksets = (filled.ksets ∙ exact_table bytes_eq (λ (s : Statement). as_kset s.said) ss (λ i s at. (fresh_entries (generated (take i ss)) s.line s.said (not_taken ss free i s at)).8)) j;
   counts = counted j;
 }

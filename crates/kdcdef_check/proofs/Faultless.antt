@@ -34,14 +34,14 @@ few_so ss free kind n s within at is le = by (eqb_tells (kind_of s.said) kind)
     same : (b : Bool) → (kind_of s.said == kind) ≡ b → (kind_of (get_or ss n s).said == kind) ≡ b
     same b h = rw is h
 
-    room : kind_of s.said ≡ kind → (kind_count kind (take n ss) == 20000) ≡ false
-    room e = subst (λ (k : ℕ). (kind_count k (take n ss) == 20000) ≡ false) e (not_shown ss free n s at (TooMany s.line) refl)
+    not_full : kind_of s.said ≡ kind → (kind_count kind (take n ss) == 20000) ≡ false
+    not_full e = subst (λ (k : ℕ). (kind_count k (take n ss) == 20000) ≡ false) e (not_shown ss free n s at (TooMany s.line) refl)
 
     below : (c : ℕ) → c ≤ 20000 → (c == 20000) ≡ false → c + 1 ≤ 20000
     below c h i = grind (arith, nat_tests, h, i)
 
     by : (((kind_of s.said == kind) ≡ true) × (kind_of s.said ≡ kind)) ⊎ (((kind_of s.said == kind) ≡ false) × (kind_of s.said ≡ kind → ⊥)) → kind_count kind (take (n + 1) ss) ≤ 20000
-    by (inl h) = rw (count_by_more_yes (λ (t : Statement). kind_of t.said == kind) ss n s within (same true h.0)) (below (kind_count kind (take n ss)) le (room h.1))
+    by (inl h) = rw (count_by_more_yes (λ (t : Statement). kind_of t.said == kind) ss n s within (same true h.0)) (below (kind_count kind (take n ss)) le (not_full h.1))
     by (inr h) = rw (count_by_more_no (λ (t : Statement). kind_of t.said == kind) ss n s within (same false h.0)) le
 
 few_to : (ss : List Statement) → AreFaultless ss → (kind n : ℕ) → n ≤ length ss → kind_count kind (take n ss) ≤ 20000
@@ -56,7 +56,7 @@ few_to ss free kind (suc n) within = by (slice_get_cases ss n).1 (few_to ss free
 pub few : (ss : List Statement) → AreFaultless ss → (kind : ℕ) → kind_count kind ss ≤ 20000
 few ss free kind = subst (λ (xs : List Statement). kind_count kind xs ≤ 20000) (take_all (length ss) ss (omega arith)) (few_to ss free kind (length ss) (omega arith))
 
--- END stands somewhere
+-- END is somewhere
 end_at : (ss : List Statement) → EndsOnce ss → (i : ℕ) × (s : Statement) × (slice_get ss i ≡ Some s) × (s.said ≡ End)
 end_at [] h = absurd h
 end_at (s ∷ []) h = (0, s, refl, h)

@@ -9,7 +9,7 @@ use Rattle.kdcdef_types.specs.declared.statement.Said.{Said}
 use Rattle.kdcdef_types.specs.declared.statement.Said.TheVariants.{Pterm}
 use Rattle.kdcdef_types.specs.declared.statement.Statement.{Statement}
 use Rattle.kdcdef_check.specs.declared.tables.Tables.{Tables}
-use Rattle.kdcdef_check.specs.Generating.{as_program, as_tac, as_user, as_pterm, as_lterm, as_tls, as_uls, as_class, said_as, generated}
+use Rattle.kdcdef_check.specs.Generating.{as_program, as_tac, as_user, as_pterm, as_lterm, as_tls, as_uls, as_class, as_kset, said_as, generated}
 use Rattle.kdcdef_check.specs.Steps.{put, put_key, filled_by, lterm_said, IsAdded, AreFilled, HaveNames, IsNamed, AllNamed}
 use Rattle.kdcdef_check.proofs.Names.{exact_numbers, exact_bytes, there_table_of, among_keys_table}
 use Rattle.kdcdef_check.proofs.Passing.{next_taken}
@@ -29,6 +29,7 @@ filled_further ss s old new was added = record {
   pterms = further (put bytes_eq) (λ (s : Statement). as_pterm s.said) ss s _ _ was.pterms added.pterms;
   lterms = further (put bytes_eq) (λ (s : Statement). as_lterm s.said) ss s _ _ was.lterms added.lterms;
   classes = further (put nat_eq) (λ (s : Statement). as_class s.said) ss s _ _ was.classes added.classes;
+  ksets = further (put bytes_eq) (λ (s : Statement). as_kset s.said) ss s _ _ was.ksets added.ksets;
   tls = further (put_key bytes_eq) (λ (s : Statement). as_tls s.said) ss s _ _ was.tls added.tls;
   uls = further (put_key bytes_eq) (λ (s : Statement). as_uls s.said) ss s _ _ was.uls added.uls;
   served = further (put_key bytes_eq) (λ (s : Statement). lterm_said s.said) ss s _ _ was.served added.served;
@@ -60,6 +61,7 @@ filled_names t ss filled = record {
   pterms = λ (name : List ℕ). ap (λ (es : List (List ℕ × _)). is_some (lookup (bytes_eq name) es)) filled.pterms ∙ there_table_of bytes_eq exact_bytes (λ (s : Statement). as_pterm s.said) ss name;
   lterms = λ (name : List ℕ). ap (λ (es : List (List ℕ × _)). is_some (lookup (bytes_eq name) es)) filled.lterms ∙ there_table_of bytes_eq exact_bytes (λ (s : Statement). as_lterm s.said) ss name;
   classes = λ (class : ℕ). ap (λ (es : List (ℕ × ℕ)). is_some (lookup (nat_eq class) es)) filled.classes ∙ there_table_of nat_eq exact_numbers (λ (s : Statement). as_class s.said) ss class;
+  ksets = λ (name : List ℕ). ap (λ (es : List (List ℕ × _)). is_some (lookup (bytes_eq name) es)) filled.ksets ∙ there_table_of bytes_eq exact_bytes (λ (s : Statement). as_kset s.said) ss name;
   tls = λ (name : List ℕ). ap (λ (ks : List (List ℕ)). list_any (bytes_eq name) ks) filled.tls ∙ among_keys_table bytes_eq exact_bytes (λ (s : Statement). as_tls s.said) ss name;
   uls = λ (name : List ℕ). ap (λ (ks : List (List ℕ)). list_any (bytes_eq name) ks) filled.uls ∙ among_keys_table bytes_eq exact_bytes (λ (s : Statement). as_uls s.said) ss name;
   served = λ (name : List ℕ). ap (λ (ks : List (List ℕ)). list_any (bytes_eq name) ks) filled.served ∙ among_keys_table bytes_eq exact_bytes (λ (s : Statement). lterm_said s.said) ss name ∙ served_by ss name;

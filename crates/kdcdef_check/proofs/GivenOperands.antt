@@ -19,6 +19,7 @@ both_nothing m = λ i. record {
   pgpool = or_none m.pgpool i;
   reswait = or_none m.reswait i;
   blksize = or_none m.blksize i;
+  redelivery = or_none m.redelivery i;
 }
 
 both_both : (a b c : MaxOperands) → both_given (both_given a b) c ≡ both_given a (both_given b c)
@@ -34,6 +35,7 @@ both_both a b c = λ i. record {
   pgpool = or_or a.pgpool b.pgpool c.pgpool i;
   reswait = or_or a.reswait b.reswait c.reswait i;
   blksize = or_or a.blksize b.blksize c.blksize i;
+  redelivery = or_or a.redelivery b.redelivery c.redelivery i;
 }
 
 -- one more statement

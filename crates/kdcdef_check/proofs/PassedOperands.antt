@@ -16,5 +16,5 @@ passed_take (suc n) (s ∷ ss) = omega (arith, passed_take n ss)
 pub next_passed : (ss : List Statement) (i : ℕ) (s : Statement) (count : ℕ) → i < length ss → s ≡ get_or ss i s → count ≡ passed_count (take i ss) → count + s.passed ≡ passed_count (take (i + 1) ss)
 next_passed ss i s count within is so_far = omega (arith, so_far, passed_push (take i ss) s, ap passed_count (next_taken ss i s within is))
 
-pub room_passed : (ss : List Statement) (i : ℕ) (s : Statement) (count : ℕ) → i < length ss → s ≡ get_or ss i s → count ≡ passed_count (take i ss) → count + s.passed ≤ passed_count ss
-room_passed ss i s count within is so_far = omega (arith, next_passed ss i s count within is so_far, passed_take (i + 1) ss)
+pub passed_bounded : (ss : List Statement) (i : ℕ) (s : Statement) (count : ℕ) → i < length ss → s ≡ get_or ss i s → count ≡ passed_count (take i ss) → count + s.passed ≤ passed_count ss
+passed_bounded ss i s count within is so_far = omega (arith, next_passed ss i s count within is so_far, passed_take (i + 1) ss)

@@ -10,16 +10,18 @@ use Rattle.kd_base.specs.Text.{IsName}
 use Rattle.kdcdef_types.specs.declared.entry.TacEntry.{TacEntry}
 use Rattle.kdcdef_types.specs.declared.entry.UserEntry.{UserEntry}
 use Rattle.kdcdef_types.specs.declared.entry.PtermEntry.{PtermEntry}
+use Rattle.kdcdef_types.specs.declared.entry.LtermEntry.{LtermEntry}
+use Rattle.kdcdef_types.specs.declared.entry.KeySet.{KeySet}
 use Rattle.kdcdef_types.specs.declared.statement.MaxOperands.{MaxOperands}
 use Rattle.kdcdef_types.specs.declared.statement.Said.{Said}
-use Rattle.kdcdef_types.specs.declared.statement.Said.TheVariants.{Max, Tac, User, Pterm, Lterm, TacClass}
+use Rattle.kdcdef_types.specs.declared.statement.Said.TheVariants.{Max, Tac, User, Pterm, Lterm, TacClass, Kset}
 use Rattle.kdcdef_types.specs.declared.statement.Statement.{Statement}
-use Rattle.kdcdef_types.specs.Statements.{IsWithin, IsBlksize, IsMaxInRange, IsTacInRange, IsUserInRange, IsInRange, AreRead}
+use Rattle.kdcdef_types.specs.Statements.{IsWithin, IsBlksize, IsMaxInRange, IsTacInRange, IsUserInRange, IsKeySetInRange, IsInRange, AreRead}
 use Rattle.kdcdef_types.specs.Generation.{Generated, entry_of, lterm_of}
-use Rattle.kdcdef_check.specs.declared.fault.CheckFault.TheVariants.{NoProgram, NoLterm, ClassOfWrongKind}
-use Rattle.kdcdef_check.specs.Soundness.{AreLimits, IsSound, AreNamed, AreCounted, fits_kind}
-use Rattle.kdcdef_check.specs.Generating.{as_tac, as_user, as_pterm, as_lterm, as_class, said_as, programs_said, nothing_given, operands_said, both_given, max_given, with_defaults, generated}
-use Rattle.kdcdef_check.specs.Faults.{lacks_program, lacks_lterm, has_other_class, AreFaultless}
+use Rattle.kdcdef_check.specs.declared.fault.CheckFault.TheVariants.{NoProgram, NoLterm, ClassOfWrongKind, NoKset}
+use Rattle.kdcdef_check.specs.Soundness.{AreLimits, IsSound, AreNamed, AreCounted, HasKeys, fits_kind}
+use Rattle.kdcdef_check.specs.Generating.{as_tac, as_user, as_pterm, as_lterm, as_class, as_kset, said_as, programs_said, nothing_given, operands_said, both_given, max_given, with_defaults, generated}
+use Rattle.kdcdef_check.specs.Faults.{lacks_program, lacks_lterm, lacks_keys, lacks_kset, has_other_class, AreFaultless}
 use Rattle.kdcdef_check.specs.Steps.{IsNamed, AllNamed}
 use Rattle.kdcdef_check.proofs.Counting.{program_count, tac_count, user_count, pterm_count, lterm_count, passed_statements}
 use Rattle.kdcdef_check.proofs.Faultless.{not_shown, all_at, few, some_user_said, pool_said}
@@ -58,7 +60,7 @@ or_default P None d h i = i
 or_default P (Some x) d h i = h
 
 nothing_in_range : IsMaxInRange nothing_given
-nothing_in_range = record { tasks = tt; asyntasks = tt; gssbs = tt; lssbs = tt; kb = tt; spab = tt; nb = tt; pgpool = tt; reswait = tt; blksize = tt }
+nothing_in_range = record { tasks = tt; asyntasks = tt; gssbs = tt; lssbs = tt; kb = tt; spab = tt; nb = tt; pgpool = tt; reswait = tt; blksize = tt; redelivery = tt }
 
 said_in_range : (said : Said) → IsInRange said → IsMaxInRange (operands_said said)
 said_in_range (Max m) h = h
@@ -76,6 +78,7 @@ both_in_range a b h i = record {
   pgpool = in_either (IsWithin 16 30000) a.pgpool b.pgpool h.pgpool i.pgpool;
   reswait = in_either (IsWithin 0 32767) a.reswait b.reswait h.reswait i.reswait;
   blksize = in_either IsBlksize a.blksize b.blksize h.blksize i.blksize;
+  redelivery = in_either (IsWithin 0 255) a.redelivery b.redelivery h.redelivery i.redelivery;
 }
 
 max_in_range : (ss : List Statement) → All (λ (s : Statement). IsInRange s.said) ss → IsMaxInRange (max_given ss)
@@ -95,6 +98,7 @@ limits_in_range m h = record {
   pgpool = or_default (IsWithin 16 30000) m.pgpool 100 h.pgpool (omega arith, omega arith);
   reswait = (or_default (IsWithin 0 32767) m.reswait 60 h.reswait (omega arith, omega arith)).1;
   blksize = or_default IsBlksize m.blksize 4096 h.blksize (inr (inl refl));
+  redelivery = (or_default (IsWithin 0 255) m.redelivery 0 h.redelivery (omega arith, omega arith)).1;
 }
 
 -- ---- the names
@@ -133,6 +137,10 @@ class_ranges : (said : Said) → IsInRange said → IfSome (as_class said) (λ (
 class_ranges (TacClass class tasks) h = h.1
 class_ranges _ h = tt
 
+kset_ranges : (said : Said) → IsInRange said → IfSome (as_kset said) (λ (p : List ℕ × KeySet). IsKeySetInRange p.1)
+kset_ranges (Kset name set) h = h
+kset_ranges _ h = tt
+
 not_none : {A : Type 0} (o : Option A) → is_none o ≡ false → is_some o ≡ true
 not_none None h = absurd (grind (arith, h))
 not_none (Some x) h = refl
@@ -149,6 +157,22 @@ pterm_lterms : (g : Generated) (said : Said) → lacks_lterm g said ≡ false �
 pterm_lterms g (Pterm name entry) h = not_none (lterm_of g entry.lterm) h
 pterm_lterms g _ h = tt
 
+has_keys : (g : Generated) (name : Option (List ℕ)) → lacks_keys g name ≡ false → HasKeys g name
+has_keys g None h = tt
+has_keys g (Some name) h = not_none (entry_of g.ksets name) h
+
+user_ksets : (g : Generated) (said : Said) → lacks_kset g said ≡ false → IfSome (as_user said) (λ (p : List ℕ × UserEntry). HasKeys g p.1.kset)
+user_ksets g (User name entry) h = has_keys g entry.kset h
+user_ksets g _ h = tt
+
+lterm_ksets : (g : Generated) (said : Said) → lacks_kset g said ≡ false → IfSome (as_lterm said) (λ (p : List ℕ × LtermEntry). HasKeys g p.1.kset)
+lterm_ksets g (Lterm name entry) h = has_keys g entry.kset h
+lterm_ksets g _ h = tt
+
+-- no statement lacks its key set
+all_have_ksets : (ss : List Statement) → AreFaultless ss → All (λ (s : Statement). lacks_kset (generated ss) s.said ≡ false) ss
+all_have_ksets ss free = all_at (λ (s : Statement). lacks_kset (generated ss) s.said ≡ false) ss (λ i s at. not_shown ss free i s at (NoKset s.line) refl)
+
 -- ---- the counts
 
 counted : (ss : List Statement) → AreRead ss → AreFaultless ss → AreCounted (generated ss)
@@ -158,7 +182,7 @@ counted ss read free = record {
   lterms = (refl, rw (sym (lterm_count ss)) (few ss free 5));
   tacs = (refl, rw (sym (tac_count ss)) (few ss free 2));
   programs = (refl, rw (sym (program_count ss)) (few ss free 1));
-  passed_statements = rw (sym (passed_statements ss)) (few ss free 9);
+  passed_statements = rw (sym (passed_statements ss)) (few ss free 10);
   passed_operands = read.passed;
 }
 
@@ -175,9 +199,12 @@ sound ss read named free = record {
   tacs = values_keep (λ (s : Statement). IsInRange s.said) IsTacInRange (λ (s : Statement). as_tac s.said) (λ s h. tac_ranges s.said h) ss read.ranges;
   users = values_keep (λ (s : Statement). IsInRange s.said) IsUserInRange (λ (s : Statement). as_user s.said) (λ s h. user_ranges s.said h) ss read.ranges;
   classes = values_keep (λ (s : Statement). IsInRange s.said) (λ (tasks : ℕ). tasks ≤ 240) (λ (s : Statement). as_class s.said) (λ s h. class_ranges s.said h) ss read.ranges;
+  ksets = values_keep (λ (s : Statement). IsInRange s.said) IsKeySetInRange (λ (s : Statement). as_kset s.said) (λ s h. kset_ranges s.said h) ss read.ranges;
   kinds = values_keep (λ (s : Statement). has_other_class s.said ≡ false) (λ (t : TacEntry). IsTrue (fits_kind t)) (λ (s : Statement). as_tac s.said) (λ s h. tac_kinds s.said h) ss (all_at (λ (s : Statement). has_other_class s.said ≡ false) ss (λ i s at. not_shown ss free i s at (ClassOfWrongKind s.line) refl));
   programs = values_keep (λ (s : Statement). lacks_program (generated ss) s.said ≡ false) (λ (t : TacEntry). IsTrue (is_some (entry_of (programs_said ss) t.program))) (λ (s : Statement). as_tac s.said) (λ s h. tac_programs (generated ss) s.said h) ss (all_at (λ (s : Statement). lacks_program (generated ss) s.said ≡ false) ss (λ i s at. not_shown ss free i s at (NoProgram s.line) refl));
   terminals = values_keep (λ (s : Statement). lacks_lterm (generated ss) s.said ≡ false) (λ (p : PtermEntry). IsTrue (is_some (entry_of (said_as as_lterm ss) p.lterm))) (λ (s : Statement). as_pterm s.said) (λ s h. pterm_lterms (generated ss) s.said h) ss (all_at (λ (s : Statement). lacks_lterm (generated ss) s.said ≡ false) ss (λ i s at. not_shown ss free i s at (NoLterm s.line) refl));
+  user_keys = values_keep (λ (s : Statement). lacks_kset (generated ss) s.said ≡ false) (λ (u : UserEntry). HasKeys (generated ss) u.kset) (λ (s : Statement). as_user s.said) (λ s h. user_ksets (generated ss) s.said h) ss (all_have_ksets ss free);
+  lterm_keys = values_keep (λ (s : Statement). lacks_kset (generated ss) s.said ≡ false) (λ (l : LtermEntry). HasKeys (generated ss) l.kset) (λ (s : Statement). as_lterm s.said) (λ s h. lterm_ksets (generated ss) s.said h) ss (all_have_ksets ss free);
   apart = names_apart ss free;
   counts = counted ss read free;
   some_user = one_or_more (length (said_as as_user ss)) (some_user_said ss free read.ends);

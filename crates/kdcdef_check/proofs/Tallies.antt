@@ -12,16 +12,16 @@ use Rattle.kdcdef_check.specs.declared.tally.Tally.{Tally}
 use Rattle.kdcdef_check.specs.Faults.{kind_of, kind_count}
 use Rattle.kdcdef_check.specs.Steps.{IsTallyOf}
 
-pub kind_within : (said : Said) → kind_of said < 11
+pub kind_within : (said : Said) → kind_of said < 12
 kind_within Passed = omega arith
 kind_within said = omega arith
 
--- the count of a kind has room for one more
-pub count_within : (ss : List Statement) (i : ℕ) (t : Tally) (kind : ℕ) → i < length ss → kind < 11 → IsTallyOf t (take i ss) → slice_index t.counts kind ≤ i
+-- the count of a kind can be one more
+pub count_within : (ss : List Statement) (i : ℕ) (t : Tally) (kind : ℕ) → i < length ss → kind < 12 → IsTallyOf t (take i ss) → slice_index t.counts kind ≤ i
 count_within ss i t kind within below tally =
     rw (tally.counts kind below) (omega (arith, count_by-le-length (λ (s : Statement). kind_of s.said == kind) (take i ss), length-take i ss))
 
-pub next_tally : (ss : List Statement) (i : ℕ) (s : Statement) (old new : Tally) (k : ℕ) → i < length ss → s ≡ get_or ss i s → k ≡ kind_of s.said → k < 11 → IsTallyOf old (take i ss) → new.counts ≡ set old.counts k (slice_index old.counts k + 1) → IsTallyOf new (take (i + 1) ss)
+pub next_tally : (ss : List Statement) (i : ℕ) (s : Statement) (old new : Tally) (k : ℕ) → i < length ss → s ≡ get_or ss i s → k ≡ kind_of s.said → k < 12 → IsTallyOf old (take i ss) → new.counts ≡ set old.counts k (slice_index old.counts k + 1) → IsTallyOf new (take (i + 1) ss)
 next_tally ss i s old new k within is kind_is small was added = record {
   kinds = ap length added ∙ length-set old.counts k (slice_index old.counts k + 1) ∙ was.kinds;
   counts = λ kind below. by kind below (eqb_tells (kind_of s.said) kind);
@@ -30,7 +30,7 @@ next_tally ss i s old new k within is kind_is small was added = record {
     same : (kind : ℕ) (b : Bool) → (kind_of s.said == kind) ≡ b → (kind_of (get_or ss i s).said == kind) ≡ b
     same kind b h = rw (sym is) h
 
-    by : (kind : ℕ) → kind < 11 → (((kind_of s.said == kind) ≡ true) × (kind_of s.said ≡ kind)) ⊎ (((kind_of s.said == kind) ≡ false) × (kind_of s.said ≡ kind → ⊥)) → slice_index new.counts kind ≡ kind_count kind (take (i + 1) ss)
+    by : (kind : ℕ) → kind < 12 → (((kind_of s.said == kind) ≡ true) × (kind_of s.said ≡ kind)) ⊎ (((kind_of s.said == kind) ≡ false) × (kind_of s.said ≡ kind → ⊥)) → slice_index new.counts kind ≡ kind_count kind (take (i + 1) ss)
     by kind below (inl h) =
         rw (count_by_more_yes (λ (t : Statement). kind_of t.said == kind) ss i s within (same kind true h.0))
         (rw added (get_or-set_at old.counts k kind (slice_index old.counts k + 1) 0 (sym (kind_is ∙ h.1)) (omega (arith, was.kinds, small))

@@ -1,20 +1,20 @@
--- A fault stands at a statement.
-use Rattle.std.specs.Prelude.{◌≡◌, ℕ, ◌+◌, Bool, true, false, not, ◌&&◌, ◌||◌, ◌==◌, nat_lt, codes, List, length, take, slice_get, Some, Result, is_some, is_none, IsTrue, bytes_eq, count_by}
+-- A fault is at a statement.
+use Rattle.std.specs.Prelude.{◌≡◌, ℕ, ◌+◌, Bool, true, false, not, ◌&&◌, ◌||◌, ◌==◌, nat_lt, codes, List, length, take, slice_get, Option, Some, None, Result, is_some, is_none, IsTrue, bytes_eq, count_by}
 use Rattle.std.specs.List.{list_any}
 use Rattle.kd_base.specs.FirstFaults.{first_by, IsFirstBy, GivesUnless}
 use Rattle.kdcdef_types.specs.declared.entry.PtermEntry.{PtermEntry}
 use Rattle.kdcdef_types.specs.declared.statement.Said.{Said}
-use Rattle.kdcdef_types.specs.declared.statement.Said.TheVariants.{Max, Program, Tac, User, Pterm, Lterm, Tls, Uls, TacClass, Passed, End}
+use Rattle.kdcdef_types.specs.declared.statement.Said.TheVariants.{Max, Program, Tac, User, Pterm, Lterm, Tls, Uls, TacClass, Kset, Passed, End}
 use Rattle.kdcdef_types.specs.declared.statement.Statement.{Statement}
 use Rattle.kdcdef_types.specs.Generation.{Generated, entry_of, tac_of, user_of, pterm_of, lterm_of, has_tls, has_uls, class_limit}
 use Rattle.kdcdef_check.specs.declared.fault.CheckFault.{CheckFault}
-use Rattle.kdcdef_check.specs.declared.fault.CheckFault.TheVariants.{NameTwice, NoProgram, NoLterm, LtermTwice, NoMax, ClassOfWrongKind, PoolTooSmall, NoUser, TooMany, Memory}
+use Rattle.kdcdef_check.specs.declared.fault.CheckFault.TheVariants.{NameTwice, NoProgram, NoLterm, LtermTwice, NoMax, ClassOfWrongKind, PoolTooSmall, NoUser, TooMany, NoKset, Memory}
 use Rattle.kdcdef_check.specs.Soundness.{fits_kind, restart_count}
 use Rattle.kdcdef_check.specs.Generating.{generated, max_given}
 
 -- ---- against what the statements before it generate
 
--- its name stands in the table already; TACs and LTERMs share their names
+-- its name is in the table already; TACs and LTERMs share their names
 abbrev pub is_taken : Generated → Said → Bool
 is_taken g (Program name) = is_some (entry_of g.programs name)
 is_taken g (Tac name entry) = is_some (tac_of g name) || is_some (lterm_of g name)
@@ -24,6 +24,7 @@ is_taken g (Lterm name entry) = is_some (lterm_of g name) || is_some (tac_of g n
 is_taken g (Tls name) = has_tls g name
 is_taken g (Uls name) = has_uls g name
 is_taken g (TacClass class tasks) = is_some (class_limit g class)
+is_taken g (Kset name set) = is_some (entry_of g.ksets name)
 is_taken g (Max m) = false
 is_taken g Passed = false
 is_taken g End = false
@@ -44,8 +45,9 @@ kind_of (Lterm name entry) = 5
 kind_of (Tls name) = 6
 kind_of (Uls name) = 7
 kind_of (TacClass class tasks) = 8
-kind_of Passed = 9
-kind_of End = 10
+kind_of (Kset name set) = 9
+kind_of Passed = 10
+kind_of End = 11
 
 -- how many statements are of a kind
 abbrev pub kind_count : ℕ → List Statement → ℕ
@@ -60,6 +62,17 @@ lacks_program g _ = false
 abbrev pub lacks_lterm : Generated → Said → Bool
 lacks_lterm g (Pterm name entry) = is_none (lterm_of g entry.lterm)
 lacks_lterm g _ = false
+
+-- there is a name, and no KSET has it
+abbrev pub lacks_keys : Generated → Option (List ℕ) → Bool
+lacks_keys g None = false
+lacks_keys g (Some name) = is_none (entry_of g.ksets name)
+
+-- a USER or an LTERM that names no KSET
+abbrev pub lacks_kset : Generated → Said → Bool
+lacks_kset g (User name entry) = lacks_keys g entry.kset
+lacks_kset g (Lterm name entry) = lacks_keys g entry.kset
+lacks_kset g _ = false
 
 abbrev pub has_other_class : Said → Bool
 has_other_class (Tac name entry) = not (fits_kind entry)
@@ -89,6 +102,7 @@ shows all before said (ClassOfWrongKind n) = has_other_class said
 shows all before said (PoolTooSmall n) = is_end said && has_small_pool (generated all)
 shows all before said (NoUser n) = is_end said && lacks_user (generated all)
 shows all before said (TooMany n) = kind_count (kind_of said) before == 20000
+shows all before said (NoKset n) = lacks_kset (generated all) said
 shows all before said Memory = false
 
 -- its line, its number among the faults of one line, and the name by which it is printed
@@ -102,6 +116,7 @@ row_of (ClassOfWrongKind n) = (n, 6, codes "ClassOfWrongKind")
 row_of (PoolTooSmall n) = (n, 7, codes "PoolTooSmall")
 row_of (NoUser n) = (n, 8, codes "NoUser")
 row_of (TooMany n) = (n, 9, codes "TooMany")
+row_of (NoKset n) = (n, 11, codes "NoKset")
 row_of Memory = (0, 0, codes "Memory")
 
 abbrev pub line_of : CheckFault → ℕ
@@ -124,11 +139,11 @@ Stands ss fault = (i : ℕ) × (s : Statement) × (slice_get ss i ≡ Some s) ×
 abbrev pub comes_first : CheckFault → CheckFault → Bool
 comes_first a b = first_by line_of number_of a b
 
--- no fault stands
+-- there is no fault
 abbrev pub AreFaultless : List Statement → Type 0
 AreFaultless ss = (fault : CheckFault) → Stands ss fault → ⊥
 
--- the fault stands, and none on a lesser line, nor one of a lesser number on its line
+-- the fault is there, and none on a lesser line, nor one of a lesser number on its line
 abbrev pub IsFirstFault : List Statement → CheckFault → Type 0
 IsFirstFault ss fault = IsFirstBy line_of number_of (Stands ss) (Some fault)
 

@@ -6,11 +6,12 @@ use Rattle.kdcdef_types.specs.declared.entry.TacEntry.{TacEntry}
 use Rattle.kdcdef_types.specs.declared.entry.UserEntry.{UserEntry}
 use Rattle.kdcdef_types.specs.declared.entry.PtermEntry.{PtermEntry}
 use Rattle.kdcdef_types.specs.declared.entry.LtermEntry.{LtermEntry}
+use Rattle.kdcdef_types.specs.declared.entry.KeySet.{KeySet}
 use Rattle.kdcdef_types.specs.declared.limits.Limits.{Limits}
 use Rattle.kdcdef_types.specs.declared.limits.Counts.{Counts}
 use Rattle.kdcdef_types.specs.declared.statement.MaxOperands.{MaxOperands}
 use Rattle.kdcdef_types.specs.declared.statement.Said.{Said}
-use Rattle.kdcdef_types.specs.declared.statement.Said.TheVariants.{Max, Program, Tac, User, Pterm, Lterm, Tls, Uls, TacClass, Passed}
+use Rattle.kdcdef_types.specs.declared.statement.Said.TheVariants.{Max, Program, Tac, User, Pterm, Lterm, Tls, Uls, TacClass, Kset, Passed}
 use Rattle.kdcdef_types.specs.declared.statement.Statement.{Statement}
 use Rattle.kdcdef_types.specs.Statements.{passed_count}
 use Rattle.kdcdef_types.specs.Generation.{Generated}
@@ -49,6 +50,10 @@ abbrev pub as_class : Said → Option (ℕ × ℕ)
 as_class (TacClass class tasks) = Some (class, tasks)
 as_class _ = None
 
+abbrev pub as_kset : Said → Option (List ℕ × KeySet)
+as_kset (Kset name set) = Some (name, set)
+as_kset _ = None
+
 abbrev pub as_passed : Said → Option (Unit {0})
 as_passed Passed = Some tt
 as_passed _ = None
@@ -63,7 +68,7 @@ programs_said ss = filter_map (λ (s : Statement). as_program s.line s.said) ss
 -- ---- the limits
 
 abbrev pub nothing_given : MaxOperands
-nothing_given = record { appliname = None; tasks = None; asyntasks = None; gssbs = None; lssbs = None; kb = None; spab = None; nb = None; pgpool = None; reswait = None; blksize = None }
+nothing_given = record { appliname = None; tasks = None; asyntasks = None; gssbs = None; lssbs = None; kb = None; spab = None; nb = None; pgpool = None; reswait = None; blksize = None; redelivery = None }
 
 -- the operands that a statement gives
 abbrev pub operands_said : Said → MaxOperands
@@ -84,6 +89,7 @@ both_given a b = record {
   pgpool = option_or a.pgpool b.pgpool;
   reswait = option_or a.reswait b.reswait;
   blksize = option_or a.blksize b.blksize;
+  redelivery = option_or a.redelivery b.redelivery;
 }
 
 -- the operands of all MAX statements together
@@ -105,6 +111,7 @@ with_defaults m = record {
   pgpool = unwrap_or m.pgpool 100;
   reswait = unwrap_or m.reswait 60;
   blksize = unwrap_or m.blksize 4096;
+  redelivery = unwrap_or m.redelivery 0;
 }
 
 -- ---- the generation
@@ -131,5 +138,6 @@ generated ss = record {
   tls = said_as as_tls ss;
   uls = said_as as_uls ss;
   classes = said_as as_class ss;
+  ksets = said_as as_kset ss;
   counts = counts_of ss;
 }

@@ -1,13 +1,14 @@
 -- What every generation keeps.
-use Rattle.std.specs.Prelude.{◌≡◌, ℕ, ◌+◌, ◌≤◌, Bool, false, ◌||◌, ◌==◌, List, length, IsTrue, is_some, count_by, if◌then◌else◌, nat_le}
+use Rattle.std.specs.Prelude.{◌≡◌, ℕ, ◌+◌, ◌≤◌, Bool, false, ◌||◌, ◌==◌, List, length, Option, IfSome, IsTrue, is_some, count_by, if◌then◌else◌, nat_le}
 use Rattle.std.specs.List.{All}
 use Rattle.std.specs.Map.{keys_of, values_of}
 use Rattle.kd_base.specs.Text.{IsName}
 use Rattle.kdcdef_types.specs.declared.entry.TacEntry.{TacEntry}
 use Rattle.kdcdef_types.specs.declared.entry.UserEntry.{UserEntry}
 use Rattle.kdcdef_types.specs.declared.entry.PtermEntry.{PtermEntry}
+use Rattle.kdcdef_types.specs.declared.entry.LtermEntry.{LtermEntry}
 use Rattle.kdcdef_types.specs.declared.limits.Limits.{Limits}
-use Rattle.kdcdef_types.specs.Statements.{IsWithin, IsBlksize, IsTacInRange, IsUserInRange}
+use Rattle.kdcdef_types.specs.Statements.{IsWithin, IsBlksize, IsTacInRange, IsUserInRange, IsKeySetInRange}
 use Rattle.kdcdef_types.specs.Generation.{Generated, entry_of, lterm_of}
 
 -- the numbers of the MAX statements lie in their ranges
@@ -22,6 +23,7 @@ pub record AreLimits (m : Limits) : Type 0 where
   pub pgpool : IsWithin 16 30000 m.pgpool
   pub reswait : m.reswait ≤ 32767
   pub blksize : IsBlksize m.blksize
+  pub redelivery : m.redelivery ≤ 255
 
 -- a dialogue TAC has a class from 1 to 8 or none, an asynchronous TAC one from 9 to 16 or none
 abbrev pub fits_kind : TacEntry → Bool
@@ -56,6 +58,10 @@ pub record AreNamed (g : Generated) : Type 0 where
   pub pterms : HaveProperNames g.pterms
   pub lterms : HaveProperNames g.lterms
 
+-- where a key set is named, there is a KSET of that name
+abbrev pub HasKeys : Generated → Option (List ℕ) → Type 0
+HasKeys g kset = IfSome kset (λ (name : List ℕ). IsTrue (is_some (entry_of g.ksets name)))
+
 -- what every generation keeps
 pub record IsSound (g : Generated) : Type 0 where
   pub limits : AreLimits g.limits
@@ -64,11 +70,15 @@ pub record IsSound (g : Generated) : Type 0 where
   pub tacs : All IsTacInRange (values_of g.tacs)
   pub users : All IsUserInRange (values_of g.users)
   pub classes : All (λ (tasks : ℕ). tasks ≤ 240) (values_of g.classes)
+  pub ksets : All IsKeySetInRange (values_of g.ksets)
   -- no TAC has the class of the other kind
   pub kinds : All (λ (t : TacEntry). IsTrue (fits_kind t)) (values_of g.tacs)
   -- each TAC names a program, and each PTERM an LTERM
   pub programs : All (λ (t : TacEntry). IsTrue (is_some (entry_of g.programs t.program))) (values_of g.tacs)
   pub terminals : All (λ (p : PtermEntry). IsTrue (is_some (lterm_of g p.lterm))) (values_of g.pterms)
+  -- each key set of a user or an LTERM is there
+  pub user_keys : All (λ (u : UserEntry). HasKeys g u.kset) (values_of g.users)
+  pub lterm_keys : All (λ (l : LtermEntry). HasKeys g l.kset) (values_of g.lterms)
   -- no name is both a TAC and an LTERM
   pub apart : All (λ (name : List ℕ). is_some (lterm_of g name) ≡ false) (keys_of g.tacs)
   pub counts : AreCounted g

@@ -13,10 +13,10 @@ use Rattle.kdcdef_types.specs.declared.statement.Said.{Said}
 use Rattle.kdcdef_types.specs.declared.statement.Said.TheVariants.{Tac, User, Pterm, Lterm}
 use Rattle.kdcdef_types.specs.declared.statement.Statement.{Statement}
 use Rattle.kdcdef_types.specs.Generation.{Generated, entry_of, tac_of, user_of, pterm_of, lterm_of, has_tls, has_uls, class_limit}
-use Rattle.kdcdef_check.specs.Generating.{as_program, as_tac, as_user, as_pterm, as_lterm, as_tls, as_uls, as_class, said_as, max_given, generated}
-use Rattle.kdcdef_check.specs.Faults.{kind_of, kind_count, is_taken, shares_lterm, has_other_class, lacks_program, lacks_lterm, is_end, has_small_pool, lacks_user, line_of, number_of}
+use Rattle.kdcdef_check.specs.Generating.{as_program, as_tac, as_user, as_pterm, as_lterm, as_tls, as_uls, as_class, as_kset, said_as, max_given, generated}
+use Rattle.kdcdef_check.specs.Faults.{kind_of, kind_count, is_taken, shares_lterm, has_other_class, lacks_program, lacks_lterm, lacks_kset, is_end, has_small_pool, lacks_user, line_of, number_of}
 use Rattle.kdcdef_check.specs.declared.fault.CheckFault.{CheckFault}
-use Rattle.kdcdef_check.specs.declared.fault.CheckFault.TheVariants.{NameTwice, NoProgram, NoLterm, LtermTwice, NoMax, ClassOfWrongKind, PoolTooSmall, NoUser, TooMany}
+use Rattle.kdcdef_check.specs.declared.fault.CheckFault.TheVariants.{NameTwice, NoProgram, NoLterm, LtermTwice, NoMax, ClassOfWrongKind, PoolTooSmall, NoUser, TooMany, NoKset}
 use Rattle.kdcdef_check.specs.declared.tally.Tally.{Tally}
 use Rattle.kdcdef_check.specs.declared.tables.Tables.{Tables}
 use Rattle.kdcdef_check.specs.declared.whole.Whole.{Whole}
@@ -36,7 +36,7 @@ IsFirstOf Such found = IsFirstBy line_of number_of Such found
 abbrev pub AmongFirst : List Statement → (ℕ → Statement → CheckFault → Type 0) → ℕ → CheckFault → Type 0
 AmongFirst ss Such n fault = (i : ℕ) × (s : Statement) × (i < n) × (slice_get ss i ≡ Some s) × Such i s fault
 
--- a statement's own faults in their order, each with its test, where so many of its kind stand before it
+-- a statement's own faults in their order, each with its test, where so many of its kind are before it
 abbrev pub own_tests : Generated → ℕ → Statement → List (Bool × CheckFault)
 own_tests g count s =
     (is_taken g s.said, NameTwice s.line)
@@ -57,6 +57,7 @@ outer_tests all s =
     ∷ (is_end s.said && is_none (max_given all).appliname, NoMax s.line)
     ∷ (is_end s.said && has_small_pool (generated all), PoolTooSmall s.line)
     ∷ (is_end s.said && lacks_user (generated all), NoUser s.line)
+    ∷ (lacks_kset (generated all) s.said, NoKset s.line)
     ∷ []
 
 -- the first of them
@@ -98,6 +99,7 @@ pub record IsAdded (old new : Tables) (line : ℕ) (said : Said) : Type 0 where
   pub tls : new.tls.keys ≡ put_key bytes_eq (as_tls said) old.tls.keys
   pub uls : new.uls.keys ≡ put_key bytes_eq (as_uls said) old.uls.keys
   pub classes : new.classes.entries ≡ put nat_eq (as_class said) old.classes.entries
+  pub ksets : new.ksets.entries ≡ put bytes_eq (as_kset said) old.ksets.entries
   pub served : new.served.keys ≡ put_key bytes_eq (lterm_said said) old.served.keys
 
 -- what the statements make, put in one after another
@@ -121,6 +123,7 @@ pub record AreFilled (t : Tables) (ss : List Statement) : Type 0 where
   pub tls : t.tls.keys ≡ keys_table bytes_eq (λ (s : Statement). as_tls s.said) ss
   pub uls : t.uls.keys ≡ keys_table bytes_eq (λ (s : Statement). as_uls s.said) ss
   pub classes : t.classes.entries ≡ table_of nat_eq (λ (s : Statement). as_class s.said) ss
+  pub ksets : t.ksets.entries ≡ table_of bytes_eq (λ (s : Statement). as_kset s.said) ss
   pub served : t.served.keys ≡ keys_table bytes_eq (λ (s : Statement). lterm_said s.said) ss
 
 -- the name of a TAC, a user, a PTERM or an LTERM is one
@@ -144,24 +147,25 @@ pub record HaveNames (t : Tables) (g : Generated) : Type 0 where
   pub tls : (name : List ℕ) → list_any (bytes_eq name) t.tls.keys ≡ has_tls g name
   pub uls : (name : List ℕ) → list_any (bytes_eq name) t.uls.keys ≡ has_uls g name
   pub classes : (class : ℕ) → is_some (lookup (nat_eq class) t.classes.entries) ≡ is_some (class_limit g class)
+  pub ksets : (name : List ℕ) → is_some (entry_of t.ksets.entries name) ≡ is_some (entry_of g.ksets name)
   pub served : (name : List ℕ) → list_any (bytes_eq name) t.served.keys ≡ list_any (λ (p : List ℕ × PtermEntry). bytes_eq name p.1.lterm) g.pterms
 
 -- ---- counts
 
 pub record IsTallyOf (t : Tally) (ss : List Statement) : Type 0 where
-  pub kinds : length t.counts ≡ 11
-  pub counts : (kind : ℕ) → kind < 11 → slice_index t.counts kind ≡ kind_count kind ss
+  pub kinds : length t.counts ≡ 12
+  pub counts : (kind : ℕ) → kind < 12 → slice_index t.counts kind ≡ kind_count kind ss
 
 -- no kind has more than 20,000
 abbrev pub AreFew : Tally → Type 0
-AreFew t = (kind : ℕ) → kind < 11 → slice_index t.counts kind ≤ 20000
+AreFew t = (kind : ℕ) → kind < 12 → slice_index t.counts kind ≤ 20000
 
 abbrev pub counts_in : Tally → ℕ → Counts
-counts_in t passed = record { users = slice_index t.counts 3; pterms = slice_index t.counts 4; lterms = slice_index t.counts 5; tacs = slice_index t.counts 2; programs = slice_index t.counts 1; passed_statements = slice_index t.counts 9; passed_operands = passed }
+counts_in t passed = record { users = slice_index t.counts 3; pterms = slice_index t.counts 4; lterms = slice_index t.counts 5; tacs = slice_index t.counts 2; programs = slice_index t.counts 1; passed_statements = slice_index t.counts 10; passed_operands = passed }
 
 -- the generation that filled tables, limits and counts are
 abbrev pub made_of : Tables → Limits → Counts → Generated
-made_of t limits counts = record { limits = limits; programs = t.programs.entries; tacs = t.tacs.entries; users = t.users.entries; pterms = t.pterms.entries; lterms = t.lterms.entries; tls = t.tls.keys; uls = t.uls.keys; classes = t.classes.entries; counts = counts }
+made_of t limits counts = record { limits = limits; programs = t.programs.entries; tacs = t.tacs.entries; users = t.users.entries; pterms = t.pterms.entries; lterms = t.lterms.entries; tls = t.tls.keys; uls = t.uls.keys; classes = t.classes.entries; ksets = t.ksets.entries; counts = counts }
 
 -- a USER statement with RESTART=YES
 abbrev pub is_restart : Said → Bool

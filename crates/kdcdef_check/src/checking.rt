@@ -25,9 +25,9 @@ fn passed_operands(statements: &[Statement]) -> u32
 /// The generation of these statements, or their first fault.
 pub fn check(alloc: Global, statements: &Vec<Statement>) -> Result<Generation, CheckFault>
     requires { AreRead statements.now.items }
-    // A generation is that of the statements, and no fault stands.
+    // A generation is that of the statements, and there is no fault.
     ensures found { IfOk result (λ g. (g ≡ generated statements.now.items) × AreFaultless statements.now.items) }
-    // The fault that is answered stands, and comes first.
+    // The fault that is answered is there, and comes first.
     ensures fault { IfErr result (λ e. e ≢ Memory → IsFirstFault statements.now.items e) }
     // Statements with no fault make their generation, unless memory runs out.
     ensures only { AreFaultless statements.now.items → Gives result (Ok (generated statements.now.items)) }

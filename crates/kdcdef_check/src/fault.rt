@@ -8,7 +8,7 @@ use thiserror::Error;
 
 /// The first fault of statements together, with the line of its statement, counted from 1.
 ///
-/// The fault of the least line is answered, and on one line the one that stands first here.
+/// The fault of the least line is answered, and on one line the one that is first here.
 #[derive(Clone, Copy, Error)]
 pub enum CheckFault {
     /// A name that an earlier statement of the kind has, a class twice, or one name for a TAC and an LTERM.
@@ -29,6 +29,8 @@ pub enum CheckFault {
     NoUser(u32),
     /// The 20,001st statement of a kind; all statements that are passed over are one kind.
     TooMany(u32),
+    /// A USER or an LTERM that names no KSET statement.
+    NoKset(u32),
     /// Memory ran out, which may be answered in place of anything else.
     Memory,
 }
@@ -48,6 +50,7 @@ impl CheckFault {
             CheckFault::PoolTooSmall(line) => (line, 7, "PoolTooSmall"),
             CheckFault::NoUser(line) => (line, 8, "NoUser"),
             CheckFault::TooMany(line) => (line, 9, "TooMany"),
+            CheckFault::NoKset(line) => (line, 11, "NoKset"),
             CheckFault::Memory => (0, 0, "Memory"),
         }
     }
@@ -64,6 +67,7 @@ impl CheckFault {
             CheckFault::PoolTooSmall(_) => "PGPOOL is too small for the users and LTERMs",
             CheckFault::NoUser(_) => "no USER statement",
             CheckFault::TooMany(_) => "more than 20000 statements of a kind",
+            CheckFault::NoKset(_) => "no KSET statement has this name",
             CheckFault::Memory => "out of memory",
         }
     }

@@ -1,13 +1,14 @@
 //! A generation: what the statements of a KDCDEF text say together.
 ghost use Rattle.std.specs.{Prelude.{◌≡◌, ◌≤◌, IfOk, IfSome}, Option.{option_copied}};
-ghost use Rattle.kdcdef_types.specs.{Statements.{IsTacInRange, IsUserInRange}, Generation.{tac_of, user_of, pterm_of, lterm_of, has_tls, has_uls, class_limit}};
+ghost use Rattle.kdcdef_types.specs.{Statements.{IsTacInRange, IsUserInRange}, Generation.{tac_of, user_of, pterm_of, lterm_of, has_tls, has_uls, class_limit, lock_of, keys_named, user_keys, lterm_keys}};
 ghost use Rattle.kdcdef_check.specs.{Soundness.{AreLimits, IsSound}, Steps.{made_of}};
 
 use crate::hashing::NameHashing;
+use crate::keys::Keys;
 use crate::tables::Tables;
 use indexmap::{IndexMap, IndexSet};
 use kd_base::{Name, OutOfMemory, ProgName};
-use kdcdef_types::{Counts, Limits, LtermEntry, PtermEntry, TacEntry, UserEntry};
+use kdcdef_types::{Counts, KeySet, Limits, LtermEntry, PtermEntry, TacEntry, UserEntry};
 use std::alloc::Global;
 use std::marker::Model;
 
@@ -23,11 +24,12 @@ pub(crate) struct GenerationParts {
     tls: IndexSet<Name, NameHashing>,
     uls: IndexSet<Name, NameHashing>,
     classes: IndexMap<u8, u16, NameHashing>,
+    ksets: IndexMap<Name, KeySet, NameHashing>,
     counts: Counts,
 }
 
 /// What the statements of a KDCDEF text generate. Contracts see its limits, its tables in the order of their statements,
-/// and its counts. No call of it takes memory. It is handed from owner to owner, so its parts stand in a box.
+/// and its counts. No call of it takes memory. It is handed from owner to owner, so its parts are in a box.
 #[derive(Drop)]
 pub struct Generation {
     parts: Box<GenerationParts, Global>,
@@ -64,6 +66,7 @@ impl Generation {
             tls: tables.tls,
             uls: tables.uls,
             classes: tables.classes,
+            ksets: tables.ksets,
             counts,
         };
         Ok(Generation {
@@ -130,6 +133,46 @@ impl Generation {
         ensures ranges { IfSome result (λ tasks. tasks ≤ 240) }
     {
         self.parts.classes.get(&class).copied()
+    }
+
+    /// The code that a user and an LTERM must have to start a service by this TAC, if it has a lock.
+    pub fn lock_of(&self, tac: Name) -> Option<u16>
+        ensures { result ≡ lock_of self.now tac }
+    {
+        match self.parts.tacs.get(&tac) {
+            Some(entry) => entry.lock,
+            None => None,
+        }
+    }
+
+    // The codes of the KSET statement of this name, where there is a name.
+    fn keys_named(&self, name: &Option<Name>) -> Keys<'_>
+        ensures { result ≡ keys_named self.now name.now }
+    {
+        match name {
+            Some(name) => Keys::of(self.parts.ksets.get(name)),
+            None => Keys::of(None),
+        }
+    }
+
+    /// The codes that a user has.
+    pub fn user_keys(&self, user: Name) -> Keys<'_>
+        ensures { result ≡ user_keys self.now user }
+    {
+        match self.parts.users.get(&user) {
+            Some(entry) => self.keys_named(&entry.kset),
+            None => Keys::of(None),
+        }
+    }
+
+    /// The codes that an LTERM has.
+    pub fn lterm_keys(&self, lterm: Name) -> Keys<'_>
+        ensures { result ≡ lterm_keys self.now lterm }
+    {
+        match self.parts.lterms.get(&lterm) {
+            Some(entry) => self.keys_named(&entry.kset),
+            None => Keys::of(None),
+        }
     }
 
     /// The program units, in the order of their statements, each with the line of its statement.

@@ -20,7 +20,8 @@ fn write_name(said: &Said, hasher: &mut DefaultHasher) {
         | Said::User(name, _)
         | Said::Lterm(name, _)
         | Said::Tls(name)
-        | Said::Uls(name) => name.hash(hasher),
+        | Said::Uls(name)
+        | Said::Kset(name, _) => name.hash(hasher),
         Said::Pterm(name, entry) => {
             name.hash(hasher);
             entry.lterm.hash(hasher);

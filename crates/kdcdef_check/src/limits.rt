@@ -16,6 +16,7 @@ const NOTHING_GIVEN: MaxOperands = MaxOperands {
     pgpool: None,
     reswait: None,
     blksize: None,
+    redelivery: None,
 };
 
 // The operands that a statement gives.
@@ -44,6 +45,7 @@ fn both_given(first: &MaxOperands, second: &MaxOperands) -> MaxOperands
         pgpool: first.pgpool.or(second.pgpool),
         reswait: first.reswait.or(second.reswait),
         blksize: first.blksize.or(second.blksize),
+        redelivery: first.redelivery.or(second.redelivery),
     }
 }
 
@@ -75,5 +77,6 @@ pub(crate) fn limits_of(max: &MaxOperands) -> Limits
         pgpool: max.pgpool.unwrap_or(100),
         reswait: max.reswait.unwrap_or(60),
         blksize: max.blksize.unwrap_or(4096),
+        redelivery: max.redelivery.unwrap_or(0),
     }
 }

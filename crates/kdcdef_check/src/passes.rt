@@ -49,7 +49,7 @@ pub(crate) fn fill(alloc: Global, statements: &[Statement]) -> Result<Filled, Ou
             own_fault(&tables, tally.count(&statement.said), statement),
         );
         know_name(&statement.said);
-        tables.add(statement)?;
+        tables.add(alloc, statement)?;
         tally.add(&statement.said);
     }
     Ok(Filled {

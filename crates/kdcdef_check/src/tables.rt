@@ -1,12 +1,12 @@
 //! The tables of names, filled from the statements.
 ghost use Rattle.std.specs.Prelude.{◌≡◌, [], OnOk, IfOk};
 ghost use Rattle.kdcdef_types.specs.Generation.{Generated};
-ghost use Rattle.kdcdef_check.specs.{Faults.{is_taken, shares_lterm, lacks_program, lacks_lterm}, Steps.{IsAdded, AreFilled, HaveNames}};
+ghost use Rattle.kdcdef_check.specs.{Faults.{is_taken, shares_lterm, lacks_program, lacks_lterm, lacks_keys, lacks_kset}, Steps.{IsAdded, AreFilled, HaveNames}};
 
 use crate::hashing::NameHashing;
 use indexmap::{IndexMap, IndexSet};
 use kd_base::{Name, OutOfMemory, ProgName};
-use kdcdef_types::{LtermEntry, PtermEntry, Said, Statement, TacEntry, UserEntry};
+use kdcdef_types::{Codes, KeySet, LtermEntry, PtermEntry, Said, Statement, TacEntry, UserEntry};
 use std::alloc::Global;
 
 /// What the statements name, in their order. Of two equal names the first keeps its place.
@@ -20,6 +20,7 @@ pub(crate) struct Tables {
     pub(crate) tls: IndexSet<Name, NameHashing>,
     pub(crate) uls: IndexSet<Name, NameHashing>,
     pub(crate) classes: IndexMap<u8, u16, NameHashing>,
+    pub(crate) ksets: IndexMap<Name, KeySet, NameHashing>,
     /// The LTERMs that have a PTERM.
     pub(crate) served: IndexSet<Name, NameHashing>,
 }
@@ -34,7 +35,20 @@ fn copy_of(entry: &UserEntry) -> Result<UserEntry, OutOfMemory>
     Ok(UserEntry {
         pass,
         restart: entry.restart,
+        kset: entry.kset,
     })
+}
+
+fn copy_of_keys(alloc: Global, set: &KeySet) -> Result<KeySet, OutOfMemory>
+    ensures { IfOk result (λ copy. copy ≡ set.now) }
+{
+    match set {
+        KeySet::Master => Ok(KeySet::Master),
+        KeySet::Codes(codes) => {
+            let copy = Vec::from_slice(alloc, codes.as_slice())?;
+            Ok(KeySet::Codes(Codes::from_vec(copy)))
+        }
+    }
 }
 
 impl Tables {
@@ -50,12 +64,13 @@ impl Tables {
             tls: IndexSet::with_hasher(alloc, hashing),
             uls: IndexSet::with_hasher(alloc, hashing),
             classes: IndexMap::with_hasher(alloc, hashing),
+            ksets: IndexMap::with_hasher(alloc, hashing),
             served: IndexSet::with_hasher(alloc, hashing),
         }
     }
 
     /// Adds what a statement names.
-    pub(crate) fn add(&mut self, statement: &Statement) -> Result<(), OutOfMemory>
+    pub(crate) fn add(&mut self, alloc: Global, statement: &Statement) -> Result<(), OutOfMemory>
         ensures { OnOk result (IsAdded self.old self.new statement.now.line statement.now.said) }
     {
         match &statement.said {
@@ -84,12 +99,15 @@ impl Tables {
             Said::TacClass(class, tasks) => {
                 let _before = self.classes.insert(*class, *tasks)?;
             }
+            Said::Kset(name, set) => {
+                let _before = self.ksets.insert(*name, copy_of_keys(alloc, set)?)?;
+            }
             Said::Max(_) | Said::Passed | Said::End => {}
         }
         Ok(())
     }
 
-    /// Whether the name of the statement stands in its table already; TACs and LTERMs share their names.
+    /// Whether the name of the statement is in its table already; TACs and LTERMs share their names.
     pub(crate) fn is_taken(&self, said: &Said) -> bool
         ensures { (g : Generated) → HaveNames self.now g → result ≡ is_taken g said.now }
     {
@@ -102,6 +120,7 @@ impl Tables {
             Said::Tls(name) => self.tls.contains(name),
             Said::Uls(name) => self.uls.contains(name),
             Said::TacClass(class, _) => self.classes.contains_key(class),
+            Said::Kset(name, _) => self.ksets.contains_key(name),
             Said::Max(_) | Said::Passed | Said::End => false,
         }
     }
@@ -132,6 +151,27 @@ impl Tables {
     {
         match said {
             Said::Pterm(_, entry) => !self.lterms.contains_key(&entry.lterm),
+            _ => false,
+        }
+    }
+
+    // Whether there is a name, and no KSET has it.
+    fn lacks_keys(&self, name: &Option<Name>) -> bool
+        ensures { (g : Generated) → HaveNames self.now g → result ≡ lacks_keys g name.now }
+    {
+        match name {
+            Some(name) => !self.ksets.contains_key(name),
+            None => false,
+        }
+    }
+
+    /// Whether the statement is a USER or an LTERM that names no KSET.
+    pub(crate) fn lacks_kset(&self, said: &Said) -> bool
+        ensures { (g : Generated) → HaveNames self.now g → result ≡ lacks_kset g said.now }
+    {
+        match said {
+            Said::User(_, entry) => self.lacks_keys(&entry.kset),
+            Said::Lterm(_, entry) => self.lacks_keys(&entry.kset),
             _ => false,
         }
     }

@@ -14,12 +14,12 @@ const PTERMS: usize = 4;
 
 const LTERMS: usize = 5;
 
-const PASSED: usize = 9;
+const PASSED: usize = 10;
 
 // The place of a statement's kind among the kinds; all that are passed over are one kind.
 fn kind_of(said: &Said) -> usize
     ensures kind { result ≡ kind_of said.now }
-    ensures within { result < 11 }
+    ensures within { result < 12 }
 {
     match said {
         Said::Max(_) => 0,
@@ -31,22 +31,23 @@ fn kind_of(said: &Said) -> usize
         Said::Tls(_) => 6,
         Said::Uls(_) => 7,
         Said::TacClass(_, _) => 8,
+        Said::Kset(_, _) => 9,
         Said::Passed => PASSED,
-        Said::End => 10,
+        Said::End => 11,
     }
 }
 
 /// How many statements there are of each kind.
 #[derive(Clone, Copy)]
 pub(crate) struct Tally {
-    counts: [usize; 11],
+    counts: [usize; 12],
 }
 
 impl Tally {
     pub(crate) fn new() -> Tally
         ensures { IsTallyOf result [] }
     {
-        Tally { counts: [0; 11] }
+        Tally { counts: [0; 12] }
     }
 
     /// How many statements of the same kind were counted.

@@ -84,6 +84,8 @@ impl Whole {
             Some(CheckFault::PoolTooSmall(statement.line))
         } else if is_end(said) && self.users == 0 {
             Some(CheckFault::NoUser(statement.line))
+        } else if tables.lacks_kset(said) {
+            Some(CheckFault::NoKset(statement.line))
         } else {
             None
         }

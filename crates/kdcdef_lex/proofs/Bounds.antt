@@ -102,10 +102,10 @@ abbrev Fit : ℕ → List (List ℕ) → List RawStatement → Type 0
 Fit last all ss = LinesUpTo last ss × (operand_count ss ≤ total all)
 
 say_fit : (gs : List Group) (ss : List RawStatement) (n last : ℕ) (all : List (List ℕ)) → Cut n all gs → AllSay gs ss → n + length all ≤ last + 1 → Fit last all ss
-say_fit [] [] n last all cut say room = (tt, omega arith)
-say_fit [] (s ∷ ss) n last all cut say room = absurd say
-say_fit (g ∷ gs) [] n last all cut say room = absurd say
-say_fit (g ∷ gs) (s ∷ ss) n last all cut say room =
+say_fit [] [] n last all cut say bounded = (tt, omega arith)
+say_fit [] (s ∷ ss) n last all cut say bounded = absurd say
+say_fit (g ∷ gs) [] n last all cut say bounded = absurd say
+say_fit (g ∷ gs) (s ∷ ss) n last all cut say bounded =
     let before = cut.0 in
     let own = cut.1 in
     let after = cut.2 in

@@ -1,4 +1,4 @@
--- A fault that is answered stands there, and one that stands there is answered.
+-- A fault that is answered is there, and one that is there is answered.
 use Rattle.std.proofs.Common.{◌≡◌, ◌≢◌, ℕ, ◌+◌, ◌-◌, ◌<◌, ◌≤◌, ◌&&◌, Bool, true, false, cond, eqb, ltb, List, [], ◌∷◌, ◌++◌, length, Option, Some, None, Result, Ok, Err, refl, sym, ap, ◌∙◌, subst, append_assoc, arith, inl, inr, ◌⊎◌, eq-eqb}
 use Rattle.std.specs.Prelude.{IfOk, IfErr}
 use Rattle.std.specs.Global.{Vec}
@@ -115,7 +115,7 @@ fault_first (g ∷ gs) f h =
 
 -- ---- the groups of lines
 
--- where a statement was begun: its other lines, and the groups behind them
+-- where a statement was begun: its other lines, and the groups after them
 abbrev OpenCut : ℕ → List ℕ → ℕ → List (List ℕ) → List Group → Type 0
 OpenCut first so_far n all gs =
     (own after : List (List ℕ)) × (text : List ℕ) × (last : ℕ) × (dangling : Bool) × (more : List Group) × (all ≡ own ++ after) × (last + 1 ≡ n + length own)

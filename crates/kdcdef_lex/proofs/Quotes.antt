@@ -87,7 +87,7 @@ tokens_even [] bytes h = no_quotes is_blank bytes blank_no_quote h
 tokens_even (t ∷ ts) bytes h =
     ap odd_quotes h.2 ∙ even_then h.0 (written t ++ h.1) (no_quotes is_blank h.0 blank_no_quote h.3) ∙ even_then (written t) h.1 (written_even t h.4) ∙ tokens_even ts h.1 h.6
 
--- behind an open quote
+-- after an open quote
 open_even : (bytes : List ℕ) → quoted_at bytes ≡ None → odd_quotes bytes ≡ false
 open_even [] e = refl
 open_even (b ∷ []) e =

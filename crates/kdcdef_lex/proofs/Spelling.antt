@@ -1,4 +1,4 @@
--- What is read stands there, and what stands there is read.
+-- What is read is there, and what is there is read.
 use Rattle.std.proofs.Common.{◌≡◌, ℕ, ◌+◌, ◌&&◌, Bool, true, false, cond, eqb, List, [], ◌∷◌, ◌++◌, length, Option, Some, None, Ok, Err, refl, sym, ap, ◌∙◌, subst, append_assoc, arith, inl, inr}
 use Rattle.std.specs.Prelude.{IsTrue}
 use Rattle.std.specs.List.{list_all}
@@ -87,7 +87,7 @@ group_says g s e =
       | inr h ↦ absurd (cc h.1)
     ]
 
--- ---- lines: what stands there is read
+-- ---- lines: what is there is read
 
 pub groups_passed : (before rest : List (List ℕ)) (n next : ℕ) → IsTrue (list_all is_passed before) → next ≡ n + length before → groups None n (before ++ rest) ≡ groups None next rest
 groups_passed [] rest n next h e = let is : next ≡ n = omega arith in rw is refl

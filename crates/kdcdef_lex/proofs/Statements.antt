@@ -145,7 +145,7 @@ operand_takes (tokens.Word w ∷ tokens.Equals ∷ ts) o rest e =
     subst (OperandTaken (tokens.Word w ∷ tokens.Equals ∷ ts)) m.2 (tokens.Word w ∷ tokens.Equals ∷ t.0, all, (t.0, refl, t.2))
 operand_takes ts o rest e = keyless ts o rest e
 
--- what is behind an operand: another behind a comma, or nothing
+-- what is after an operand: another after a comma, or nothing
 abbrev behind : Bool → List Token → List Token
 behind true rest = tokens.Comma ∷ rest
 behind false rest = []

@@ -45,7 +45,7 @@ digit_back n h =
       | inr k ↦ rw (k, large_digit n (ltb-false n 10 k) h, within) refl
     ]
 
--- the digits of the first byte, and the bytes behind it
+-- the digits of the first byte, and the bytes after it
 first_digits : (b : ℕ) (bytes : List ℕ) → list_all is_byte (b ∷ bytes) ≡ true → (b / 16 < 16) × (b % 16 < 16) × (list_all is_byte bytes ≡ true)
 first_digits b bytes h =
     let a = both_true (is_byte b) (list_all is_byte bytes) h in
@@ -101,7 +101,7 @@ operands_are (o ∷ p ∷ os) h = (keyed_tokens o.key o.value, operands_tokens (
 statement_is : (s : RawStatement) → IsWritable s → IsStatement s (statement_tokens s)
 statement_is s h = (operands_tokens s.operands, refl, operands_are s.operands h.operands)
 
--- ---- each token may stand in a text
+-- ---- each token may be in a text
 
 pub record MayStand (t : Token) : Type 0 where
   pub token : IsToken t
@@ -245,7 +245,7 @@ at_text (b ∷ line) (suc i) h = at_text line i (both_true (is_text_byte b) (lis
 unstripped : (line : List ℕ) → list_all is_text_byte line ≡ true → strip_carriage_return line ≡ line
 unstripped line h = rw (at_text line (length line - 1) h) refl
 
--- the first line of a text, where its bytes and those behind it are known
+-- the first line of a text, where its bytes and those after it are known
 first_so : (text line rest : List ℕ) (p : ℕ) → p ≡ length line → take p text ≡ line → drop (p + 1) text ≡ rest → list_all is_text_byte line ≡ true
     → strip_carriage_return (take p text) ∷ lines (drop (p + 1) text) ≡ line ∷ lines rest
 first_so text line rest p e front back h = rw (front, back, unstripped line h) refl

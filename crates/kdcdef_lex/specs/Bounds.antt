@@ -3,7 +3,7 @@ use Rattle.std.specs.Prelude.{ℕ, ◌+◌, ◌≤◌, List, [], ◌∷◌, leng
 use Rattle.kd_base.specs.Limits.{longest_text}
 use Rattle.kdcdef_lex.specs.declared.statement.RawStatement.{RawStatement}
 
--- each statement stands at this line or before it
+-- each statement is at this line or before it
 abbrev pub LinesUpTo : ℕ → List RawStatement → Type 0
 LinesUpTo last [] = Unit {0}
 LinesUpTo last (s ∷ ss) = (s.line ≤ last) × LinesUpTo last ss

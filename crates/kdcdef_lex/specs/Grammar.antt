@@ -61,7 +61,7 @@ IsValue (values.Word word) ts = ts ≡ tokens.Word word ∷ []
 IsValue (values.Quoted value) ts = (form content : List ℕ) × (ts ≡ tokens.Quoted form content ∷ []) × (quoted_value form content ≡ Some value)
 IsValue (values.Listed is) ts = (inside : List Token) × (ts ≡ tokens.Open ∷ (inside ++ tokens.Close ∷ [])) × AreItems is inside
 
--- a value, behind a key and `=` where there is a key
+-- a value, after a key and `=` where there is a key
 abbrev pub IsKeyed : Option (List ℕ) → RawValue → List Token → Type 0
 IsKeyed None value ts = IsValue value ts
 IsKeyed (Some key) value ts = (rest : List Token) × (ts ≡ tokens.Word key ∷ tokens.Equals ∷ rest) × IsValue value rest

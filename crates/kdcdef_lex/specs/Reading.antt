@@ -23,11 +23,11 @@ is_memory fault = false
 abbrev pub Gives : {X : Type 0} → Result X LexFault → Result X LexFault → Type 0
 Gives returned read = GivesUnless is_memory returned read
 
--- a byte that may stand in a statement
+-- a byte that may be in a statement
 abbrev pub is_text_byte : ℕ → Bool
 is_text_byte b = (nat_le 32 b && nat_le b 126) || b == 9
 
--- whether a parenthesis is open behind these tokens
+-- whether a parenthesis is open after these tokens
 abbrev pub leaves_open : Bool → List Token → Bool
 leaves_open open_before [] = open_before
 leaves_open open_before (tokens.Open ∷ ts) = leaves_open true ts

@@ -26,7 +26,7 @@ abbrev pub JoinsOpen : List (List ℕ) → List ℕ → Type 0
 JoinsOpen [] text = text ≡ []
 JoinsOpen (line ∷ more) text = (body rest : List ℕ) × (continued line ≡ Some body) × (text ≡ body ++ rest) × JoinsOpen more rest
 
--- the lines, from number n on, are joined to a group, behind which these lines follow; where it is continued to the end, none follows
+-- the lines, from number n on, are joined to a group, after which these lines follow; where it is continued to the end, none follows
 pub record IsGroup (n : ℕ) (own after : List (List ℕ)) (g : Group) : Type 0 where
   pub begins : BeginsStatement own
   pub first : g.first ≡ n

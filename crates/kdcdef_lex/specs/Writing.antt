@@ -1,4 +1,4 @@
--- A plain way to write statements: one to a line, a blank behind each token.
+-- A plain way to write statements: one to a line, a blank after each token.
 use Rattle.std.specs.Prelude.{◌≡◌, ℕ, ◌+◌, ◌<◌, ◌≤◌, ◌/◌, ◌%◌, Bool, false, IsTrue, nat_lt, List, [], ◌∷◌, ◌++◌, length, Option, Some, None, if◌then◌else◌}
 use Rattle.std.specs.List.{list_all}
 use Rattle.kd_base.specs.Limits.{longest_text}
@@ -23,7 +23,7 @@ abbrev pub hex_written : List ℕ → List ℕ
 hex_written [] = []
 hex_written (b ∷ bytes) = hex_digit (b / 16) ∷ hex_digit (b % 16) ∷ hex_written bytes
 
--- `'..'` where all bytes may stand in a statement, else `X'..'`
+-- `'..'` where all bytes may be in a statement, else `X'..'`
 abbrev pub quoted_token : List ℕ → Token
 quoted_token bytes = if list_all is_text_byte bytes then tokens.Quoted [] bytes else tokens.Quoted (88 ∷ []) (hex_written bytes)
 
@@ -56,7 +56,7 @@ operands_tokens (o ∷ p ∷ os) = keyed_tokens o.key o.value ++ tokens.Comma �
 abbrev pub statement_tokens : RawStatement → List Token
 statement_tokens s = tokens.Word s.keyword ∷ operands_tokens s.operands
 
--- each token, and a blank behind it
+-- each token, and a blank after it
 abbrev pub with_blanks : List Token → List ℕ
 with_blanks [] = []
 with_blanks (t ∷ ts) = written t ++ 32 ∷ with_blanks ts
@@ -73,7 +73,7 @@ plain_text (s ∷ ss) = plain_line s ++ 10 ∷ plain_text ss
 abbrev pub is_byte : ℕ → Bool
 is_byte b = nat_lt b 256
 
--- a word of bytes that may stand in a statement
+-- a word of bytes that may be in a statement
 abbrev pub IsWord : List ℕ → Type 0
 IsWord word = (0 < length word) × IsTrue (list_all is_word_byte word) × IsTrue (list_all is_text_byte word)
 

@@ -8,10 +8,10 @@ use thiserror::Error;
 
 /// The first fault of a text, with the number of its line, counted from 1.
 ///
-/// The fault of the least line is answered, and on one line the one that stands first here.
+/// The fault of the least line is answered, and on one line the one that is first here.
 #[derive(Clone, Copy, Error)]
 pub enum LexFault {
-    /// A byte that may not stand there: none of 0x20 to 0x7E, a tab, LF, and CR before LF.
+    /// A byte that may not be there: none of 0x20 to 0x7E, a tab, LF, and CR before LF.
     NotAscii(u32),
     /// A quote without its end.
     OpenQuote(u32),

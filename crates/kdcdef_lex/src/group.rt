@@ -25,9 +25,9 @@ pub(crate) fn group_of<'a>(
     mut rest: &'a [u8],
 ) -> Result<(Group, &'a [u8]), OutOfMemory>
     requires begins { is_passed line.now ≡ false }
-    requires room { number + length rest.now < 2 ^ 32 }
+    requires bounded { number + length rest.now < 2 ^ 32 }
     ensures group { IfOk result (λ found. groups None number (line.now ∷ lines rest.now) ≡ found.0 ∷ groups None (found.0.last + 1) (lines found.1.now)) }
-    ensures room { IfOk result (λ found. found.0.last + length found.1.now ≤ number + length rest.now) }
+    ensures bounded { IfOk result (λ found. found.0.last + length found.1.now ≤ number + length rest.now) }
     ensures shorter { IfOk result (λ found. length found.1.now ≤ length rest.now) }
 {
     let mut text = Bytes::new(alloc);

@@ -66,7 +66,7 @@ fn item_of(
     }
 }
 
-// An item, whether another follows it behind a comma, and what follows the comma or `)`.
+// An item, whether another comes after it and a comma, and what follows the comma or `)`.
 fn item_step(
     alloc: Global,
     tokens: &[Token],
@@ -83,7 +83,7 @@ fn item_step(
     }
 }
 
-// Behind `(`: the items of a list, and what follows its `)`.
+// After `(`: the items of a list, and what follows its `)`.
 #[tactic(auto, using(crate::proofs::Onto::items_fail, crate::proofs::Onto::items_more, crate::proofs::Onto::items_end))]
 fn items_of(alloc: Global, tokens: &[Token]) -> Result<Option<(Items, &[Token])>, OutOfMemory>
     ensures { IfOk result (λ found. option_map (λ l. (l.0, l.1.now)) found ≡ items_within (length tokens.now) tokens.now) }
@@ -128,7 +128,7 @@ fn bytes_value<'a>(
     }
 }
 
-// Behind `(`: a list as a value, and what follows.
+// After `(`: a list as a value, and what follows.
 fn list_value(alloc: Global, inside: &[Token]) -> Result<Option<(RawValue, &[Token])>, OutOfMemory>
     ensures { IfOk result (λ found. option_map (λ v. (v.0, v.1.now)) found ≡ value_at (Open ∷ inside.now)) }
 {
@@ -184,7 +184,7 @@ fn operand_of(
     }
 }
 
-// An operand, whether another follows it behind a comma, and what follows.
+// An operand, whether another comes after it and a comma, and what follows.
 fn operand_step(
     alloc: Global,
     tokens: &[Token],

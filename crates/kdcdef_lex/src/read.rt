@@ -13,7 +13,7 @@ use kd_base::{LONGEST_TEXT, Sequence};
 use std::alloc::Global;
 use texts::{next_line, parts_of};
 
-// A byte that may stand in a statement: 0x20 to 0x7E, and a tab.
+// A byte that may be in a statement: 0x20 to 0x7E, and a tab.
 fn is_text_byte(b: u8) -> bool
     ensures { result ≡ is_text_byte b }
 {
@@ -108,7 +108,7 @@ pub fn lines(alloc: Global, text: &[u8]) -> Result<Vec<RawStatement>, LexFault>
     ensures found { IfOk result (λ v. SpellsStatements text.now v.items) }
     // What the text spells is read, unless memory runs out.
     ensures only { (ss : List RawStatement) → SpellsStatements text.now ss → Gives (items_of result) (Ok ss) }
-    // The fault that is answered stands there.
+    // The fault that is answered is there.
     ensures fault { IfErr result (λ e. e ≢ Memory → HasTextFault text.now e) }
     // A text with the fault is refused for it, unless memory runs out.
     ensures refused { (e : LexFault) → HasTextFault text.now e → Gives (items_of result) (Err e) }

@@ -11,7 +11,7 @@ use texts::{Part, quoted_at};
 #[derive(Drop)]
 pub(crate) enum Token {
     Word(Bytes),
-    /// What stands before the quote, and the bytes between the quotes.
+    /// What is before the quote, and the bytes between the quotes.
     Quoted(Bytes, Bytes),
     Comma,
     Equals,

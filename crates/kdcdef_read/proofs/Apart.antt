@@ -23,12 +23,13 @@ use Rattle.kdcdef_read.specs.declared.words.Key.{Key}
 use Rattle.kdcdef_read.specs.declared.words.Key.TheVariants as keys
 use Rattle.kdcdef_read.specs.Words.{form_of}
 use Rattle.kdcdef_read.specs.Table.{row_of}
+use Rattle.kdcdef_read.specs.KeySets.{key_set_of}
 use Rattle.kdcdef_read.specs.Operands.{same_key, operand_key, row_says, key_says, said_from, said, row_cause, key_cause, operand_cause, cause_from, first_cause, answer_of, default_in}
-use Rattle.kdcdef_read.specs.Said.{name_at, number_at, max_said, pterm_of}
+use Rattle.kdcdef_read.specs.Said.{name_at, number_at, redelivery_at, max_said, pterm_of}
 use Rattle.kdcdef_read.specs.Meaning.{statement, shared, form_says, Say, StandFor}
 use Rattle.kdcdef_read.proofs.Keys.{same_key_is}
 use Rattle.kdcdef_read.proofs.Filled.{both_none, some_or_first, said_more_max, said_append_max}
-use Rattle.kdcdef_read.proofs.Ranges.{kept_is, program_is, tac_is, user_is, pterm_is, lterm_is, tls_is, uls_is, class_is, all_in_range, all_in_lines, few_are_passed}
+use Rattle.kdcdef_read.proofs.Ranges.{kept_is, program_is, tac_is, user_is, pterm_is, lterm_is, tls_is, uls_is, class_is, kset_is, all_in_range, all_in_lines, few_are_passed}
 
 -- ---- operands
 
@@ -116,6 +117,7 @@ max_apart os before later behind fine = record {
   pgpool = apart_at number_at keys.Pgpool os before later refl behind fine;
   reswait = apart_at number_at keys.Reswait os before later refl behind fine;
   blksize = apart_at number_at keys.Blksize os before later refl behind fine;
+  redelivery = apart_at redelivery_at keys.Redelivery os before later refl behind fine;
 }
 
 -- ---- which statements say MAX
@@ -132,7 +134,6 @@ record IsMax (own : List RawOperand) (r : RawStatement) (form : Option Form) (m 
 
 max_is : (own : List RawOperand) (r : RawStatement) (form : Option Form) (s : Statement) (m : MaxOperands) → form_says own r form ≡ Ok s → s.said ≡ Max m → IsMax own r form m
 max_is own r None s m e is = absurd cc
-max_is own r (Some forms.KeySet) s m e is = absurd cc
 max_is own r (Some forms.Passed) s m e is =
     let h = ap (λ (x : Statement). x.said) (ok_is ReadFault (statement r.line 0 Passed) s e) in absurd (cc (h, is))
 max_is own r (Some forms.End) s m e is =
@@ -150,6 +151,7 @@ max_is own r (Some (forms.Kept keywords.Lterm)) s m e is = let h = lterm_is (ans
 max_is own r (Some (forms.Kept keywords.Tls)) s m e is = let h = tls_is (answer_of keywords.Tls r.operands) s.said (kept_is keywords.Tls own r s e).said in absurd (cc (h.1, is))
 max_is own r (Some (forms.Kept keywords.Uls)) s m e is = let h = uls_is (answer_of keywords.Uls r.operands) s.said (kept_is keywords.Uls own r s e).said in absurd (cc (h.1, is))
 max_is own r (Some (forms.Kept keywords.TacClass)) s m e is = let h = class_is (answer_of keywords.TacClass r.operands) s.said (kept_is keywords.TacClass own r s e).said in absurd (cc (h.4, is))
+max_is own r (Some (forms.Kept keywords.Kset)) s m e is = let h = kset_is (answer_of keywords.Kset r.operands) (key_set_of r.operands) s.said (kept_is keywords.Kset own r s e).said in absurd (cc (h.3, is))
 
 apart_unless : (a b : Said) → ((m n : MaxOperands) → a ≡ Max m → b ≡ Max n → AreApart m n) → SayApart a b
 apart_unless (Max m) (Max n) h = h m n refl refl
@@ -162,7 +164,7 @@ behind_more os before more behind key given =
     let T : Option Value → Type 0 = λ x. is_some x ≡ true in
     subst T (sym (said_append_max key before more)) (some_or_first (said keywords.Max key before) (said keywords.Max key more) (behind key given))
 
--- a statement that says the operands os of MAX is apart from all behind them
+-- a statement that says the operands os of MAX is apart from all after them
 apart_from : (said : Said) (os before : List RawOperand) (rs : List RawStatement) (ss : List Statement) → ((m : MaxOperands) → said ≡ Max m → (max_said (answer_of keywords.Max os) ≡ Max m) × Behind os before) → Say before rs ss → All (λ (t : Statement). SayApart said t.said) ss
 apart_from said os before [] [] owns say = All-nil (λ (t : Statement). SayApart said t.said)
 apart_from said os before [] (s ∷ ss) owns say = absurd say

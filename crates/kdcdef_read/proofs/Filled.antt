@@ -35,12 +35,12 @@ both_none (Some v) b e = absurd cc
 
 -- ---- the first operand
 
--- no operand stands before
+-- no operand is before
 abbrev pub begins : List RawOperand → Bool
 begins [] = true
 begins (o ∷ os) = false
 
--- `first` says whether operands stand before; only for MAX, where others may, it need not
+-- `first` says whether operands are before; only for MAX, where others may, it need not
 abbrev pub Fits : Bool → Keyword → List RawOperand → Type 0
 Fits first keyword before = (first ≡ begins before) ⊎ (keyword ≡ keywords.Max)
 
@@ -110,8 +110,8 @@ some_or_first (Some v) b h = refl
 
 -- what was given is what the operands before say
 pub record IsGiven (keyword : Keyword) (before : List RawOperand) (given : Given) : Type 0 where
-  pub slots : length given.slots ≡ 26
-  pub keys : length given.taken ≡ 26
+  pub slots : length given.slots ≡ 28
+  pub keys : length given.taken ≡ 28
   pub taken : (key : Key) → is_taken given.taken key ≡ is_some (said keyword key before)
   pub free : (key : Key) → said keyword key before ≡ None → slot_at given.slots key ≡ None
 
@@ -121,8 +121,8 @@ record IsNext (keyword : Keyword) (before : List RawOperand) (given : Given) (o 
   says : (key : Key) → slot_at next.slots key ≡ option_or (slot_at given.slots key) (key_says keyword key o k)
   taken : (key : Key) → is_taken next.taken key ≡ is_some (option_or (said keyword key before) (key_says keyword key o k))
   passed : next.passed ≡ given.passed + cond (is_kept keyword k) 0 1
-  slots : length next.slots ≡ 26
-  keys : length next.taken ≡ 26
+  slots : length next.slots ≡ 28
+  keys : length next.taken ≡ 28
 
 -- where it is passed over
 passes : (keyword : Keyword) (before : List RawOperand) (given : Given) (o : RawOperand) (k : Option Key) → IsGiven keyword before given → key_cause keyword before o k ≡ None → ((key : Key) → key_says keyword key o k ≡ None) → is_kept keyword k ≡ false → IsNext keyword before given o k (pass given)

@@ -23,9 +23,10 @@ use Rattle.kdcdef_read.specs.declared.words.Key.{Key}
 use Rattle.kdcdef_read.specs.Passwords.{password_of}
 use Rattle.kdcdef_read.specs.Words.{is}
 use Rattle.kdcdef_read.specs.Table.{row_of}
-use Rattle.kdcdef_read.specs.Values.{number_text, in_range, number_between, number_in, class_in, time_in, or_cause, password_in, value_of}
+use Rattle.kdcdef_read.specs.Numbers.{or_cause, number_text, in_range, number_between}
+use Rattle.kdcdef_read.specs.Values.{number_in, class_in, redelivery_in, time_in, password_in, value_of}
 use Rattle.kdcdef_read.specs.Operands.{same_key, operand_key, row_says, key_says, said_from, said, default_in, answer_of}
-use Rattle.kdcdef_read.specs.Said.{number_at, class_at, time_at, password_at}
+use Rattle.kdcdef_read.specs.Said.{number_at, class_at, redelivery_at, time_at, password_at}
 
 -- ---- values
 
@@ -33,12 +34,13 @@ use Rattle.kdcdef_read.specs.Said.{number_at, class_at, time_at, password_at}
 abbrev pub Fits : Kind → Value → Type 0
 Fits (kinds.Number low high) (values.Number n) = IsWithin low high n
 Fits kinds.Class (values.Class n) = IsWithin 1 16 n
+Fits kinds.Redelivery (values.Redelivery n) = IsWithin 0 255 n
 Fits kinds.Time (values.Time n) = IsWithin 1 100000 n
 Fits kinds.Password (values.Password pass) = IsWithin 1 16 (length pass)
 Fits (kinds.OneOf choices.Blksize) (values.Number n) = IsBlksize n
 Fits kind value = Unit {0}
 
-in_range_fits : (low high : ℕ) (o : Option ℕ) (n : ℕ) → in_range low high o ≡ Ok n → IsWithin low high n
+pub in_range_fits : (low high : ℕ) (o : Option ℕ) (n : ℕ) → in_range low high o ≡ Ok n → IsWithin low high n
 in_range_fits low high None n e = absurd cc
 in_range_fits low high (Some m) n e =
     elim (chosen (leb low m && leb m high) (ok_of {E = Cause} m) (Err OutOfRange) (Ok n) e) [
@@ -54,6 +56,9 @@ of_number n = Ok (values.Number n)
 abbrev of_class : ℕ → Result Value Cause
 of_class n = Ok (values.Class n)
 
+abbrev of_redelivery : ℕ → Result Value Cause
+of_redelivery n = Ok (values.Redelivery n)
+
 abbrev of_time : ℕ → Result Value Cause
 of_time n = if eqb n 0 then Ok (values.Time 100000) else Ok (values.Time n)
 
@@ -66,6 +71,11 @@ class_fits : (r : RawValue) (v : Value) → class_in r ≡ Ok v → Fits kinds.C
 class_fits r v e =
     let b = bind_ok (number_between 1 16 r) of_class v e in
     subst (Fits kinds.Class) (ok_is Cause (values.Class b.0) v b.2) (in_range_fits 1 16 (decimal_of (number_text r)) b.0 b.1)
+
+redelivery_fits : (r : RawValue) (v : Value) → redelivery_in r ≡ Ok v → Fits kinds.Redelivery v
+redelivery_fits r v e =
+    let b = bind_ok (number_between 0 255 r) of_redelivery v e in
+    subst (Fits kinds.Redelivery) (ok_is Cause (values.Redelivery b.0) v b.2) (in_range_fits 0 255 (decimal_of (number_text r)) b.0 b.1)
 
 positive : (n : ℕ) → eqb n 0 ≡ false → 1 ≤ n
 positive zero h = absurd cc
@@ -168,6 +178,11 @@ class_if None h = tt
 class_if (Some (values.Class n)) h = h
 class_if (Some v) h = tt
 
+redelivery_if : (o : Option Value) → IfSome o (Fits kinds.Redelivery) → IfSome (redelivery_at o) (IsWithin 0 255)
+redelivery_if None h = tt
+redelivery_if (Some (values.Redelivery n)) h = h
+redelivery_if (Some v) h = tt
+
 time_if : (o : Option Value) → IfSome o (Fits kinds.Time) → IfSome (time_at o) (IsWithin 1 100000)
 time_if None h = tt
 time_if (Some (values.Time n)) h = h
@@ -195,6 +210,10 @@ blksize_is keyword key os is =
 pub class_within : (keyword : Keyword) (key : Key) (os : List RawOperand) → row_of keyword key ≡ Some (row_with kinds.Class None) → IfSome (class_at (answer_of keyword os key)) (IsWithin 1 16)
 class_within keyword key os is =
     class_if (answer_of keyword os key) (answer_keeps (Fits kinds.Class) keyword key (row_with kinds.Class None) os is class_fits tt)
+
+pub redelivery_within : (keyword : Keyword) (key : Key) (os : List RawOperand) → row_of keyword key ≡ Some (row_with kinds.Redelivery None) → IfSome (redelivery_at (answer_of keyword os key)) (IsWithin 0 255)
+redelivery_within keyword key os is =
+    redelivery_if (answer_of keyword os key) (answer_keeps (Fits kinds.Redelivery) keyword key (row_with kinds.Redelivery None) os is redelivery_fits tt)
 
 pub time_within : (keyword : Keyword) (key : Key) (os : List RawOperand) → row_of keyword key ≡ Some (row_with kinds.Time (Some (values.Time 1000))) → IfSome (time_at (answer_of keyword os key)) (IsWithin 1 100000)
 time_within keyword key os is =

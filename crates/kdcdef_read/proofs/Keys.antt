@@ -11,13 +11,13 @@ use Rattle.kdcdef_read.specs.Operands.{same_key}
 
 abbrev all_keys : List Key
 all_keys =
-    keys.First ∷ keys.Appliname ∷ keys.KdcFile ∷ keys.Tasks ∷ keys.Asyntasks ∷ keys.Gssbs ∷ keys.Lssbs ∷ keys.Kb ∷ keys.Spab ∷ keys.Nb ∷ keys.Pgpool ∷ keys.Reswait ∷ keys.Blksize ∷ keys.Applimode ∷ keys.Program ∷ keys.Type ∷ keys.Call ∷ keys.Status ∷ keys.TacClass ∷ keys.Time ∷ keys.Lock ∷ keys.Pass ∷ keys.Restart ∷ keys.Kset ∷ keys.Lterm ∷ keys.Usage ∷ []
+    keys.First ∷ keys.Appliname ∷ keys.KdcFile ∷ keys.Tasks ∷ keys.Asyntasks ∷ keys.Gssbs ∷ keys.Lssbs ∷ keys.Kb ∷ keys.Spab ∷ keys.Nb ∷ keys.Pgpool ∷ keys.Reswait ∷ keys.Blksize ∷ keys.Applimode ∷ keys.Redelivery ∷ keys.Program ∷ keys.Type ∷ keys.Call ∷ keys.Status ∷ keys.TacClass ∷ keys.Time ∷ keys.Lock ∷ keys.Pass ∷ keys.Restart ∷ keys.Kset ∷ keys.Lterm ∷ keys.Usage ∷ keys.Keys ∷ []
 
 at_place : (key : Key) → slice_get all_keys (place_of key) ≡ Some key
 at_place keys.First = refl
 at_place key = refl
 
-pub within : (key : Key) → place_of key < 26
+pub within : (key : Key) → place_of key < 28
 within key = slice_get_within all_keys (place_of key) key (at_place key)
 
 pub same_place : (a b : Key) → place_of a ≡ place_of b → a ≡ b

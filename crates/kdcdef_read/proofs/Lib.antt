@@ -5,6 +5,7 @@ pub mod Marks
 pub mod Readings
 pub mod Loops
 pub mod Fitting
+pub mod KeySets
 pub mod Ranges
 pub mod Apart
 pub mod Clauses

@@ -1,4 +1,4 @@
--- What a statement is read as is what it says behind those before it.
+-- What a statement is read as is what it says after those before it.
 use Rattle.std.proofs.Common.{◌≡◌, ◌⊎◌, ℕ, Bool, true, List, [], ◌++◌, length, Option, Some, None, Result, Ok, Err, refl, sym, ap, ◌∙◌, subst, arith, inl, inr}
 use Rattle.std.proofs.Math.Path.{fun_ext}
 use Rattle.std.specs.Prelude.{is_some}
@@ -21,6 +21,7 @@ use Rattle.kdcdef_read.specs.Faults.{at_line}
 use Rattle.kdcdef_read.specs.Words.{form_of}
 use Rattle.kdcdef_read.specs.Table.{row_of}
 use Rattle.kdcdef_read.specs.Operands.{said, default_in, answer_of, passed_in, first_cause}
+use Rattle.kdcdef_read.specs.KeySets.{key_set_of}
 use Rattle.kdcdef_read.specs.Said.{said_of}
 use Rattle.kdcdef_read.specs.Filling.{is_taken, answers, nothing_given, read_operands}
 use Rattle.kdcdef_read.specs.Meaning.{statement, shared, or_missing, unless, form_says, says_of}
@@ -30,7 +31,7 @@ use Rattle.kdcdef_read.proofs.Filled.{Fits, IsGiven, AreGiven, all_given, first_
 
 -- the keys taken are those that MAX has given before
 pub record Marks (before : List RawOperand) (taken : List Bool) : Type 0 where
-  pub full : length taken ≡ 26
+  pub full : length taken ≡ 28
   pub keys : (key : Key) → is_taken taken key ≡ is_some (said keywords.Max key before)
 
 pub no_marks : Marks [] no_keys
@@ -45,37 +46,37 @@ own_given keyword = record { slots = refl; keys = refl; taken = λ key. no_key k
 -- ---- a statement whose operands are kept
 
 abbrev Meant : Keyword → List RawOperand → ℕ → List RawOperand → Result Statement ReadFault
-Meant keyword own line os = unless line (first_cause keyword own os) (or_missing line (passed_in keyword os) (said_of keyword (answer_of keyword os)))
+Meant keyword own line os = unless line (first_cause keyword own os) (or_missing line (passed_in keyword os) (said_of keyword (answer_of keyword os) (key_set_of os)))
 
-same_said : (keyword : Keyword) (own : List RawOperand) (taken : List Bool) (line : ℕ) (os : List RawOperand) (end : Given) → AreGiven true keyword own (nothing_given taken) os end → Meant keyword own line os ≡ said_by keyword line end
+same_said : (keyword : Keyword) (own : List RawOperand) (taken : List Bool) (line : ℕ) (os : List RawOperand) (end : Given) → AreGiven true keyword own (nothing_given taken) os end → Meant keyword own line os ≡ said_by keyword line os end
 same_said keyword own taken line os end a =
     let at : answers keyword end.slots ≡ answer_of keyword os =
     fun_ext (λ (key : Key). ap (λ (x : Option Value). option_or x (default_in (row_of keyword key))) (a.says key ∙ ap (λ (x : Option Value). option_or x (said keyword key os)) (no_slot key))) in
     let count : end.passed ≡ passed_in keyword os = omega (arith, a.passed) in
-    ap (λ (c : Option Cause). unless line c (or_missing line (passed_in keyword os) (said_of keyword (answer_of keyword os)))) a.cause
-    ∙ ap (λ (n : ℕ). or_missing line n (said_of keyword (answer_of keyword os))) (sym count)
-    ∙ ap (λ (f : Key → Option Value). or_missing line end.passed (said_of keyword f)) (sym at)
+    ap (λ (c : Option Cause). unless line c (or_missing line (passed_in keyword os) (said_of keyword (answer_of keyword os) (key_set_of os)))) a.cause
+    ∙ ap (λ (n : ℕ). or_missing line n (said_of keyword (answer_of keyword os) (key_set_of os))) (sym count)
+    ∙ ap (λ (f : Key → Option Value). or_missing line end.passed (said_of keyword f (key_set_of os))) (sym at)
 
 abbrev pair : Statement → List Bool → Statement × List Bool
 pair s taken = (s, taken)
 
-kept_ok : (keyword : Keyword) (own : List RawOperand) (taken other : List Bool) (line : ℕ) (os : List RawOperand) (g : Result Given Cause) (p : Statement × List Bool) → Fits true keyword own → IsGiven keyword own (nothing_given taken) → read_operands keyword taken os ≡ g → given_by keyword other line g ≡ Ok p → (Meant keyword own line os ≡ Ok p.0) × ((end : Given) × IsGiven keyword (own ++ os) end × (p.1 ≡ for_max keyword end.taken other))
+kept_ok : (keyword : Keyword) (own : List RawOperand) (taken other : List Bool) (line : ℕ) (os : List RawOperand) (g : Result Given Cause) (p : Statement × List Bool) → Fits true keyword own → IsGiven keyword own (nothing_given taken) → read_operands keyword taken os ≡ g → given_by keyword other line os g ≡ Ok p → (Meant keyword own line os ≡ Ok p.0) × ((end : Given) × IsGiven keyword (own ++ os) end × (p.1 ≡ for_max keyword end.taken other))
 kept_ok keyword own taken other line os (Err cause) p fits given g e = absurd cc
 kept_ok keyword own taken other line os (Ok end) p fits given g e =
     let a = all_given true keyword own (nothing_given taken) os end fits given g in
-    let b = bind_ok (said_by keyword line end) (with_taken (for_max keyword end.taken other)) p e in
+    let b = bind_ok (said_by keyword line os end) (with_taken (for_max keyword end.taken other)) p e in
     let is : pair b.0 (for_max keyword end.taken other) ≡ p = ok_is ReadFault (pair b.0 (for_max keyword end.taken other)) p b.2 in (
       same_said keyword own taken line os end a ∙ b.1 ∙ ap (λ (q : Statement × List Bool). ok_of {E = ReadFault} q.0) is,
       (end, a.now, sym (ap (λ (q : Statement × List Bool). q.1) is)),
     )
 
-kept_err : (keyword : Keyword) (own : List RawOperand) (taken other : List Bool) (line : ℕ) (os : List RawOperand) (g : Result Given Cause) (fault : ReadFault) → Fits true keyword own → IsGiven keyword own (nothing_given taken) → read_operands keyword taken os ≡ g → given_by keyword other line g ≡ Err fault → Meant keyword own line os ≡ Err fault
+kept_err : (keyword : Keyword) (own : List RawOperand) (taken other : List Bool) (line : ℕ) (os : List RawOperand) (g : Result Given Cause) (fault : ReadFault) → Fits true keyword own → IsGiven keyword own (nothing_given taken) → read_operands keyword taken os ≡ g → given_by keyword other line os g ≡ Err fault → Meant keyword own line os ≡ Err fault
 kept_err keyword own taken other line os (Err cause) fault fits given g e =
-    ap (λ (c : Option Cause). unless line c (or_missing line (passed_in keyword os) (said_of keyword (answer_of keyword os)))) (first_refused true keyword own (nothing_given taken) os cause fits given g)
+    ap (λ (c : Option Cause). unless line c (or_missing line (passed_in keyword os) (said_of keyword (answer_of keyword os) (key_set_of os)))) (first_refused true keyword own (nothing_given taken) os cause fits given g)
     ∙ ap (λ (x : ReadFault). err_of {A = Statement} x) (err_is (Statement × List Bool) (at_line line cause) fault e)
 kept_err keyword own taken other line os (Ok end) fault fits given g e =
     let a = all_given true keyword own (nothing_given taken) os end fits given g in
-    elim (bind_err (said_by keyword line end) (with_taken (for_max keyword end.taken other)) fault e) [
+    elim (bind_err (said_by keyword line os end) (with_taken (for_max keyword end.taken other)) fault e) [
       | inl bad ↦ same_said keyword own taken line os end a ∙ bad
       | inr b ↦ absurd (cc b.2)
     ]
@@ -98,7 +99,6 @@ max_law before taken r p m e =
 
 pub form_ok : (before : List RawOperand) (taken : List Bool) (r : RawStatement) (form : Option Form) (p : Statement × List Bool) → Marks before taken → form_by taken r form ≡ Ok p → Law before r form p
 form_ok before taken r None p m e = absurd cc
-form_ok before taken r (Some forms.KeySet) p m e = absurd cc
 form_ok before taken r (Some forms.Passed) p m e =
     subst (Law before r (Some forms.Passed)) (ok_is ReadFault (pair (statement r.line 0 says.Passed) taken) p e) (refl, kept_marks before taken m)
 form_ok before taken r (Some forms.End) p m e =
@@ -110,7 +110,6 @@ form_ok before taken r (Some (forms.Kept keyword)) p m e =
 
 pub form_err : (before : List RawOperand) (taken : List Bool) (r : RawStatement) (form : Option Form) (fault : ReadFault) → Marks before taken → form_by taken r form ≡ Err fault → form_says (shared form before) r form ≡ Err fault
 form_err before taken r None fault m e = ap (λ (x : ReadFault). err_of {A = Statement} x) (err_is (Statement × List Bool) _ fault e)
-form_err before taken r (Some forms.KeySet) fault m e = ap (λ (x : ReadFault). err_of {A = Statement} x) (err_is (Statement × List Bool) _ fault e)
 form_err before taken r (Some forms.Passed) fault m e = absurd cc
 form_err before taken r (Some forms.End) fault m e = absurd cc
 form_err before taken r (Some (forms.Kept keywords.Max)) fault m e =

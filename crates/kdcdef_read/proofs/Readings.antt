@@ -75,7 +75,7 @@ stops taken n r rs fault e = ap (go r rs) e
 abbrev fine : List Statement → Result (List Statement) ReadFault
 fine ss = Ok ss
 
--- behind END
+-- after END
 ended_ok : (taken : List Bool) (n : ℕ) (rs : List RawStatement) (ss : List Statement) → read_from (at taken true n) rs ≡ Ok ss → (rs ≡ []) × (ss ≡ [])
 ended_ok taken n [] ss e = (refl, sym (ok_is ReadFault [] ss e))
 ended_ok taken n (r ∷ rs) ss e = absurd cc

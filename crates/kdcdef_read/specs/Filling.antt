@@ -21,7 +21,7 @@ abbrev pub after : {X : Type 0} → Result X Cause → Given → Result Given Ca
 after (Ok x) given = Ok given
 after (Err cause) given = Err cause
 
--- what stands in the slot of a key
+-- what is in the slot of a key
 abbrev pub slot_at : List (Option Value) → Key → Option Value
 slot_at slots key = option_and_then (λ (slot : Option Value). slot) (slice_get slots (place_of key))
 
@@ -29,7 +29,7 @@ slot_at slots key = option_and_then (λ (slot : Option Value). slot) (slice_get 
 abbrev pub is_taken : List Bool → Key → Bool
 is_taken taken key = unwrap_or (slice_get taken (place_of key)) false
 
--- what is answered for a key: what stands in its slot, or the default
+-- what is answered for a key: what is in its slot, or the default
 abbrev pub answer : Keyword → List (Option Value) → Key → Option Value
 answer keyword slots key = option_or (slot_at slots key) (default_in (row_of keyword key))
 
@@ -70,7 +70,7 @@ with_operands keyword first given [] = Ok given
 with_operands keyword first given (o ∷ os) = with_operand keyword first given o >>= λ next. with_operands keyword false next os
 
 abbrev pub nothing_given : List Bool → Given
-nothing_given taken = record { slots = replicate 26 None; taken = taken; passed = 0 }
+nothing_given taken = record { slots = replicate 28 None; taken = taken; passed = 0 }
 
 -- what the operands of a statement give, these keys being taken
 abbrev pub read_operands : Keyword → List Bool → List RawOperand → Result Given Cause

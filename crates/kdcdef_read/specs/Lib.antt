@@ -3,6 +3,8 @@ pub mod PasswordCells
 pub mod PasswordCellsLaws
 pub mod Words
 pub mod Table
+pub mod Numbers
+pub mod KeySets
 pub mod Values
 pub mod Faults
 pub mod Operands

@@ -8,11 +8,12 @@ use Rattle.kdcdef_types.specs.declared.statement.Statement.{Statement}
 use Rattle.kdcdef_types.specs.Statements.{EndsOnce}
 use Rattle.kdcdef_read.specs.declared.fault.Cause.{Cause}
 use Rattle.kdcdef_read.specs.declared.fault.ReadFault.{ReadFault}
-use Rattle.kdcdef_read.specs.declared.fault.ReadFault.TheVariants.{UnknownStatement, OperandMissing, NotInProfile, AfterEnd, NoEnd}
+use Rattle.kdcdef_read.specs.declared.fault.ReadFault.TheVariants.{UnknownStatement, OperandMissing, AfterEnd, NoEnd}
 use Rattle.kdcdef_read.specs.declared.words.Keyword.TheVariants as keywords
 use Rattle.kdcdef_read.specs.declared.words.Form.{Form}
 use Rattle.kdcdef_read.specs.declared.words.Form.TheVariants as forms
 use Rattle.kdcdef_read.specs.Faults.{at_line}
+use Rattle.kdcdef_read.specs.KeySets.{key_set_of}
 use Rattle.kdcdef_read.specs.Operands.{first_cause, answer_of, passed_in}
 use Rattle.kdcdef_read.specs.Said.{said_of}
 use Rattle.kdcdef_read.specs.Words.{form_of}
@@ -21,7 +22,7 @@ use Rattle.kdcdef_read.specs.Words.{form_of}
 abbrev pub statement : ℕ → ℕ → Said → Statement
 statement line passed said = record { line = line; passed = passed; said = said }
 
--- the operands that statements of a form share: MAX may stand several times, and gives an operand once in all
+-- the operands that statements of a form share: MAX may be given several times, and gives an operand once in all
 abbrev pub shared : Option Form → List RawOperand → List RawOperand
 shared (Some (forms.Kept keywords.Max)) os = os
 shared form os = []
@@ -36,21 +37,20 @@ abbrev pub unless : ℕ → Option Cause → Result Statement ReadFault → Resu
 unless line None statement = statement
 unless line (Some cause) statement = Err (at_line line cause)
 
--- what a statement with this form says behind these operands, or its fault
+-- what a statement with this form says after these operands, or its fault
 abbrev pub form_says : List RawOperand → RawStatement → Option Form → Result Statement ReadFault
 form_says before r None = Err (UnknownStatement r.line)
-form_says before r (Some forms.KeySet) = Err (NotInProfile r.line)
 form_says before r (Some forms.Passed) = Ok (statement r.line 0 Passed)
 form_says before r (Some forms.End) = Ok (statement r.line (length r.operands) End)
 form_says before r (Some (forms.Kept keyword)) =
     unless r.line (first_cause keyword before r.operands)
-    (or_missing r.line (passed_in keyword r.operands) (said_of keyword (answer_of keyword r.operands)))
+    (or_missing r.line (passed_in keyword r.operands) (said_of keyword (answer_of keyword r.operands) (key_set_of r.operands)))
 
--- what a statement says behind these operands of MAX, or its fault
+-- what a statement says after these operands of MAX, or its fault
 abbrev pub says_of : List RawOperand → RawStatement → Result Statement ReadFault
 says_of before r = form_says (shared (form_of r.keyword) before) r (form_of r.keyword)
 
--- the statements say this, one after another, behind these operands of MAX
+-- the statements say this, one after another, after these operands of MAX
 abbrev pub Say : List RawOperand → List RawStatement → List Statement → Type 0
 Say before [] [] = Unit {0}
 Say before [] (s ∷ ss) = ⊥
@@ -63,7 +63,7 @@ StandFor rs ss = Say [] rs ss × EndsOnce ss
 
 -- ---- faults
 
--- the fault of the statements behind END
+-- the fault of the statements after END
 abbrev pub HasEndFault : List RawStatement → ReadFault → Type 0
 HasEndFault [] fault = ⊥
 HasEndFault (r ∷ rs) fault = fault ≡ AfterEnd r.line

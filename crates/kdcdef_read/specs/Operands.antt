@@ -82,12 +82,12 @@ abbrev pub row_cause : Bool → RawOperand → Option Row → Option Cause
 row_cause twice o None = None
 row_cause twice o (Some row) = if twice then Some OperandTwice else cause_of (value_of row.kind o.value)
 
--- why an operand with this key is refused behind these
+-- why an operand with this key is refused after these
 abbrev pub key_cause : Keyword → List RawOperand → RawOperand → Option Key → Option Cause
 key_cause keyword before o None = None
 key_cause keyword before o (Some key) = row_cause (is_some (said keyword key before)) o (row_of keyword key)
 
--- why an operand behind these is refused
+-- why an operand after these is refused
 abbrev pub operand_cause : Bool → Keyword → List RawOperand → RawOperand → Option Cause
 operand_cause first keyword before o = key_cause keyword before o (operand_key first o)
 

@@ -2,9 +2,10 @@
 use Rattle.std.specs.Prelude.{ℕ, Bool, true, false, List, Option, Some, None, option_and_then}
 use Rattle.std.specs.Option.{option_map}
 use Rattle.kdcdef_types.specs.declared.entry.CallUse.{CallUse}
+use Rattle.kdcdef_types.specs.declared.entry.KeySet.{KeySet}
 use Rattle.kdcdef_types.specs.declared.entry.TacEntry.{TacEntry}
 use Rattle.kdcdef_types.specs.declared.statement.Said.{Said}
-use Rattle.kdcdef_types.specs.declared.statement.Said.TheVariants.{Max, Program, Tac, User, Pterm, Lterm, Tls, Uls, TacClass, Passed}
+use Rattle.kdcdef_types.specs.declared.statement.Said.TheVariants.{Max, Program, Tac, User, Pterm, Lterm, Tls, Uls, TacClass, Kset, Passed}
 use Rattle.kdcdef_read.specs.declared.words.Keyword.{Keyword}
 use Rattle.kdcdef_read.specs.declared.words.Keyword.TheVariants as keywords
 use Rattle.kdcdef_read.specs.declared.words.Key.{Key}
@@ -29,6 +30,10 @@ number_at value = None
 abbrev pub class_at : Option Value → Option ℕ
 class_at (Some (values.Class n)) = Some n
 class_at value = None
+
+abbrev pub redelivery_at : Option Value → Option ℕ
+redelivery_at (Some (values.Redelivery n)) = Some n
+redelivery_at value = None
 
 abbrev pub time_at : Option Value → Option ℕ
 time_at (Some (values.Time n)) = Some n
@@ -62,7 +67,18 @@ max_said at = Max (record {
   pgpool = number_at (at keys.Pgpool);
   reswait = number_at (at keys.Reswait);
   blksize = number_at (at keys.Blksize);
+  redelivery = redelivery_at (at keys.Redelivery);
 })
+
+-- PROGRAM, TLS and ULS
+abbrev pub program_said : (Key → Option Value) → Option Said
+program_said at = option_map (λ (name : List ℕ). Program name) (prog_name_at (at keys.First))
+
+abbrev pub tls_said : (Key → Option Value) → Option Said
+tls_said at = option_map (λ (name : List ℕ). Tls name) (name_at (at keys.First))
+
+abbrev pub uls_said : (Key → Option Value) → Option Said
+uls_said at = option_map (λ (name : List ℕ). Uls name) (name_at (at keys.First))
 
 -- the class of a TAC without TACCLASS is none, written 0, for a dialogue TAC
 abbrev pub class_of : Bool → Option ℕ → ℕ
@@ -78,7 +94,7 @@ tac_entry at =
     option_and_then (λ (call : CallUse).
     option_and_then (λ (on : Bool).
     option_map (λ (time : ℕ).
-    record { program = program; asynchronous = asynchronous; call = call; on = on; class = class_of asynchronous (class_at (at keys.TacClass)); time = time })
+    record { program = program; asynchronous = asynchronous; call = call; on = on; class = class_of asynchronous (class_at (at keys.TacClass)); time = time; lock = number_at (at keys.Lock) })
     (time_at (at keys.Time))) (flag_at (at keys.Status))) (call_at (at keys.Call))) (flag_at (at keys.Type))) (prog_name_at (at keys.Program))
 
 -- TAC
@@ -89,7 +105,7 @@ tac_said at = option_and_then (λ (name : List ℕ). option_map (λ (entry : Tac
 abbrev pub user_said : (Key → Option Value) → Option Said
 user_said at =
     option_and_then (λ (name : List ℕ).
-    option_map (λ (restart : Bool). User name (record { pass = password_at (at keys.Pass); restart = restart }))
+    option_map (λ (restart : Bool). User name (record { pass = password_at (at keys.Pass); restart = restart; kset = name_at (at keys.Kset) }))
     (flag_at (at keys.Restart))) (name_at (at keys.First))
 
 -- a PTERM without LTERM is passed over
@@ -104,7 +120,7 @@ pterm_said at = option_map (λ (name : List ℕ). pterm_of name (name_at (at key
 -- LTERM
 abbrev pub lterm_said : (Key → Option Value) → Option Said
 lterm_said at =
-    option_and_then (λ (name : List ℕ). option_map (λ (printer : Bool). Lterm name (record { printer = printer })) (flag_at (at keys.Usage)))
+    option_and_then (λ (name : List ℕ). option_map (λ (printer : Bool). Lterm name (record { printer = printer; kset = name_at (at keys.Kset) })) (flag_at (at keys.Usage)))
     (name_at (at keys.First))
 
 -- TACCLASS
@@ -112,14 +128,20 @@ abbrev pub class_said : (Key → Option Value) → Option Said
 class_said at =
     option_and_then (λ (class : ℕ). option_map (λ (tasks : ℕ). TacClass class tasks) (number_at (at keys.Tasks))) (class_at (at keys.First))
 
--- what a statement says; none where an operand that has no default is missing
-abbrev pub said_of : Keyword → (Key → Option Value) → Option Said
-said_of keywords.Max at = Some (max_said at)
-said_of keywords.Program at = option_map (λ (name : List ℕ). Program name) (prog_name_at (at keys.First))
-said_of keywords.Tac at = tac_said at
-said_of keywords.User at = user_said at
-said_of keywords.Pterm at = pterm_said at
-said_of keywords.Lterm at = lterm_said at
-said_of keywords.Tls at = option_map (λ (name : List ℕ). Tls name) (name_at (at keys.First))
-said_of keywords.Uls at = option_map (λ (name : List ℕ). Uls name) (name_at (at keys.First))
-said_of keywords.TacClass at = class_said at
+-- KSET
+abbrev pub kset_said : (Key → Option Value) → Option KeySet → Option Said
+kset_said at set =
+    option_and_then (λ (name : List ℕ). option_map (λ (codes : KeySet). Kset name codes) set) (name_at (at keys.First))
+
+-- what a statement says; none where an operand that has no default is missing; `set` is the key set that KEYS gives
+abbrev pub said_of : Keyword → (Key → Option Value) → Option KeySet → Option Said
+said_of keywords.Max at set = Some (max_said at)
+said_of keywords.Program at set = program_said at
+said_of keywords.Tac at set = tac_said at
+said_of keywords.User at set = user_said at
+said_of keywords.Pterm at set = pterm_said at
+said_of keywords.Lterm at set = lterm_said at
+said_of keywords.Tls at set = tls_said at
+said_of keywords.Uls at set = uls_said at
+said_of keywords.TacClass at set = class_said at
+said_of keywords.Kset at set = kset_said at set

@@ -2,13 +2,14 @@
 use Rattle.std.specs.Prelude.{ℕ, ◌+◌, Bool, true, false, List, [], ◌∷◌, ◌++◌, length, Option, Some, None, Result, Ok, Err, if◌then◌else◌, replicate}
 use Rattle.kd_base.specs.FirstFaults.{GivesUnless}
 use Rattle.kd_base.specs.Tools.{◌>>=◌}
+use Rattle.kdcdef_lex.specs.declared.statement.RawOperand.{RawOperand}
 use Rattle.kdcdef_lex.specs.declared.statement.RawStatement.{RawStatement}
 use Rattle.kdcdef_types.specs.declared.statement.Said.{Said}
 use Rattle.kdcdef_types.specs.declared.statement.Said.TheVariants as says
 use Rattle.kdcdef_types.specs.declared.statement.Statement.{Statement}
 use Rattle.kdcdef_read.specs.declared.fault.Cause.{Cause}
 use Rattle.kdcdef_read.specs.declared.fault.ReadFault.{ReadFault}
-use Rattle.kdcdef_read.specs.declared.fault.ReadFault.TheVariants.{UnknownStatement, NotInProfile, AfterEnd, NoEnd}
+use Rattle.kdcdef_read.specs.declared.fault.ReadFault.TheVariants.{UnknownStatement, AfterEnd, NoEnd}
 use Rattle.kdcdef_read.specs.declared.operands.Given.{Given}
 use Rattle.kdcdef_read.specs.declared.statement.Progress.{Progress}
 use Rattle.kdcdef_read.specs.declared.words.Keyword.{Keyword}
@@ -17,6 +18,7 @@ use Rattle.kdcdef_read.specs.declared.words.Form.{Form}
 use Rattle.kdcdef_read.specs.declared.words.Form.TheVariants as forms
 use Rattle.kdcdef_read.specs.Faults.{at_line, is_memory}
 use Rattle.kdcdef_read.specs.Words.{form_of}
+use Rattle.kdcdef_read.specs.KeySets.{key_set_of}
 use Rattle.kdcdef_read.specs.Said.{said_of}
 use Rattle.kdcdef_read.specs.Filling.{answers, read_operands}
 use Rattle.kdcdef_read.specs.Meaning.{statement, or_missing}
@@ -27,7 +29,7 @@ Gives returned read = GivesUnless is_memory returned read
 
 -- no key was given
 abbrev pub no_keys : List Bool
-no_keys = replicate 26 false
+no_keys = replicate 28 false
 
 -- the first for MAX, and else the second
 abbrev pub for_max : Keyword → List Bool → List Bool → List Bool
@@ -35,27 +37,26 @@ for_max keywords.Max own other = own
 for_max keyword own other = other
 
 -- the statement that what was given makes
-abbrev pub said_by : Keyword → ℕ → Given → Result Statement ReadFault
-said_by keyword line given = or_missing line given.passed (said_of keyword (answers keyword given.slots))
+abbrev pub said_by : Keyword → ℕ → List RawOperand → Given → Result Statement ReadFault
+said_by keyword line os given = or_missing line given.passed (said_of keyword (answers keyword given.slots) (key_set_of os))
 
 abbrev pub with_taken : List Bool → Statement → Result (Statement × List Bool) ReadFault
 with_taken taken s = Ok (s, taken)
 
-abbrev pub given_by : Keyword → List Bool → ℕ → Result Given Cause → Result (Statement × List Bool) ReadFault
-given_by keyword taken line (Err cause) = Err (at_line line cause)
-given_by keyword taken line (Ok given) = said_by keyword line given >>= with_taken (for_max keyword given.taken taken)
+abbrev pub given_by : Keyword → List Bool → ℕ → List RawOperand → Result Given Cause → Result (Statement × List Bool) ReadFault
+given_by keyword taken line os (Err cause) = Err (at_line line cause)
+given_by keyword taken line os (Ok given) = said_by keyword line os given >>= with_taken (for_max keyword given.taken taken)
 
 abbrev pub kept_by : Keyword → List Bool → RawStatement → Result (Statement × List Bool) ReadFault
-kept_by keyword taken r = given_by keyword taken r.line (read_operands keyword (for_max keyword taken no_keys) r.operands)
+kept_by keyword taken r = given_by keyword taken r.line r.operands (read_operands keyword (for_max keyword taken no_keys) r.operands)
 
 abbrev pub form_by : List Bool → RawStatement → Option Form → Result (Statement × List Bool) ReadFault
 form_by taken r None = Err (UnknownStatement r.line)
-form_by taken r (Some forms.KeySet) = Err (NotInProfile r.line)
 form_by taken r (Some forms.Passed) = Ok (statement r.line 0 says.Passed, taken)
 form_by taken r (Some forms.End) = Ok (statement r.line (length r.operands) says.End, taken)
 form_by taken r (Some (forms.Kept keyword)) = kept_by keyword taken r
 
--- a statement, and the keys of MAX that are taken behind it
+-- a statement, and the keys of MAX that are taken after it
 abbrev pub statement_by : List Bool → RawStatement → Result (Statement × List Bool) ReadFault
 statement_by taken r = form_by taken r (form_of r.keyword)
 
@@ -66,7 +67,7 @@ is_end said = false
 abbrev pub behind : ℕ → Statement × List Bool → Result (Statement × Progress) ReadFault
 behind line p = Ok (p.0, record { taken = p.1; ended = is_end p.0.said; next = line + 1 })
 
--- the next statement, and where the reading stands behind it
+-- the next statement, and where the reading is after it
 abbrev pub step : Progress → RawStatement → Result (Statement × Progress) ReadFault
 step progress r = if progress.ended then Err (AfterEnd r.line) else (statement_by progress.taken r >>= behind r.line)
 

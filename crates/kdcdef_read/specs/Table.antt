@@ -36,6 +36,7 @@ max_row keys.Pgpool = of_kind (kinds.Number 16 30000)
 max_row keys.Reswait = of_kind (kinds.Number 0 32767)
 max_row keys.Blksize = of_kind (kinds.OneOf choices.Blksize)
 max_row keys.Applimode = of_kind kinds.Mode
+max_row keys.Redelivery = of_kind kinds.Redelivery
 max_row key = None
 
 -- the first operand alone, which has no key
@@ -51,13 +52,13 @@ tac_row keys.Call = of_kind_or (values.Call calls.Both) (kinds.OneOf choices.Cal
 tac_row keys.Status = of_kind_or (values.Flag true) (kinds.OneOf choices.Status)
 tac_row keys.TacClass = of_kind kinds.Class
 tac_row keys.Time = of_kind_or (values.Time 1000) kinds.Time
-tac_row keys.Lock = of_kind kinds.Unavailable
+tac_row keys.Lock = of_kind (kinds.Number 1 4000)
 tac_row key = first_row kinds.Name key
 
 abbrev pub user_row : Key → Option Row
 user_row keys.Pass = of_kind kinds.Password
 user_row keys.Restart = of_kind_or (values.Flag true) (kinds.OneOf choices.Restart)
-user_row keys.Kset = of_kind kinds.Unavailable
+user_row keys.Kset = of_kind kinds.Name
 user_row key = first_row kinds.Name key
 
 abbrev pub pterm_row : Key → Option Row
@@ -67,13 +68,17 @@ pterm_row key = first_row kinds.Name key
 abbrev pub lterm_row : Key → Option Row
 lterm_row keys.Usage = of_kind_or (values.Flag false) (kinds.OneOf choices.Usage)
 lterm_row keys.Lock = of_kind kinds.Unavailable
-lterm_row keys.Kset = of_kind kinds.Unavailable
+lterm_row keys.Kset = of_kind kinds.Name
 lterm_row key = first_row kinds.Name key
 
 abbrev pub class_row : Key → Option Row
 class_row keys.First = of_kind kinds.Class
 class_row keys.Tasks = of_kind_or (values.Number 240) (kinds.Number 0 240)
 class_row key = None
+
+abbrev pub kset_row : Key → Option Row
+kset_row keys.Keys = of_kind kinds.Keys
+kset_row key = first_row kinds.Name key
 
 -- the row of a statement with a key
 abbrev pub row_of : Keyword → Key → Option Row
@@ -86,3 +91,4 @@ row_of keywords.Lterm key = lterm_row key
 row_of keywords.Tls key = first_row kinds.Name key
 row_of keywords.Uls key = first_row kinds.Name key
 row_of keywords.TacClass key = class_row key
+row_of keywords.Kset key = kset_row key

@@ -1,53 +1,35 @@
 -- The values of operands, by the kind of their rows.
-use Rattle.std.specs.Prelude.{ℕ, ◌==◌, ◌&&◌, nat_le, true, false, List, [], ◌∷◌, Option, Some, None, Result, Ok, Err, if◌then◌else◌, codes}
+use Rattle.std.specs.Prelude.{ℕ, ◌==◌, true, false, List, [], ◌∷◌, Option, Some, None, Result, Ok, Err, if◌then◌else◌, codes}
 use Rattle.kd_base.specs.FirstFaults.{first_true}
-use Rattle.kd_base.specs.Text.{decimal_of, name_up_to}
+use Rattle.kd_base.specs.Text.{name_up_to}
 use Rattle.kd_base.specs.Tools.{◌>>=◌}
 use Rattle.kdcdef_types.specs.declared.entry.CallUse.TheVariants as calls
 use Rattle.kdcdef_lex.specs.declared.statement.RawItem.TheVariants as items
 use Rattle.kdcdef_lex.specs.declared.statement.RawValue.{RawValue}
 use Rattle.kdcdef_lex.specs.declared.statement.RawValue.TheVariants as raw
 use Rattle.kdcdef_read.specs.declared.fault.Cause.{Cause}
-use Rattle.kdcdef_read.specs.declared.fault.Cause.TheVariants.{BadName, BadNumber, OutOfRange, BadChoice, NotInProfile}
+use Rattle.kdcdef_read.specs.declared.fault.Cause.TheVariants.{BadName, OutOfRange, BadChoice, NotInProfile}
 use Rattle.kdcdef_read.specs.declared.rows.Choice.{Choice}
 use Rattle.kdcdef_read.specs.declared.rows.Choice.TheVariants as choices
 use Rattle.kdcdef_read.specs.declared.rows.Kind.{Kind}
 use Rattle.kdcdef_read.specs.declared.rows.Kind.TheVariants as kinds
 use Rattle.kdcdef_read.specs.declared.value.Value.{Value}
 use Rattle.kdcdef_read.specs.declared.value.Value.TheVariants as values
+use Rattle.kdcdef_read.specs.KeySets.{keys_in}
+use Rattle.kdcdef_read.specs.Numbers.{or_cause, number_between}
 use Rattle.kdcdef_read.specs.Passwords.{password_of}
 use Rattle.kdcdef_read.specs.Words.{is}
 
--- what is there, or the cause
-abbrev pub or_cause : {A B : Type 0} → (A → B) → Cause → Option A → Result B Cause
-or_cause made cause None = Err cause
-or_cause made cause (Some x) = Ok (made x)
-
 -- ---- numbers
-
--- the word, or the first item of a list where that is a word
-abbrev pub number_text : RawValue → List ℕ
-number_text (raw.Word word) = word
-number_text (raw.Quoted bytes) = []
-number_text (raw.Listed []) = []
-number_text (raw.Listed (None ∷ more)) = []
-number_text (raw.Listed (Some (items.Word word) ∷ more)) = word
-number_text (raw.Listed (Some (items.Quoted bytes) ∷ more)) = []
-
--- the number, where there is one and it is from low to high
-abbrev pub in_range : ℕ → ℕ → Option ℕ → Result ℕ Cause
-in_range low high None = Err BadNumber
-in_range low high (Some n) = if nat_le low n && nat_le n high then Ok n else Err OutOfRange
-
--- a number from low to high
-abbrev pub number_between : ℕ → ℕ → RawValue → Result ℕ Cause
-number_between low high value = in_range low high (decimal_of (number_text value))
 
 abbrev pub number_in : ℕ → ℕ → RawValue → Result Value Cause
 number_in low high value = number_between low high value >>= λ n. Ok (values.Number n)
 
 abbrev pub class_in : RawValue → Result Value Cause
 class_in value = number_between 1 16 value >>= λ n. Ok (values.Class n)
+
+abbrev pub redelivery_in : RawValue → Result Value Cause
+redelivery_in value = number_between 0 255 value >>= λ n. Ok (values.Redelivery n)
 
 -- 0 stands for 100,000
 abbrev pub time_in : RawValue → Result Value Cause
@@ -117,9 +99,11 @@ value_of kinds.Name value = written_name 8 value >>= λ name. Ok (values.Name na
 value_of kinds.ProgName value = written_name 32 value >>= λ name. Ok (values.ProgName name)
 value_of (kinds.Number low high) value = number_in low high value
 value_of kinds.Class value = class_in value
+value_of kinds.Redelivery value = redelivery_in value
 value_of kinds.Time value = time_in value
 value_of (kinds.OneOf choice) value = one_of choice value
 value_of kinds.Password value = password_in value
 value_of kinds.File value = file_in value
 value_of kinds.Mode value = mode_in value
+value_of kinds.Keys value = keys_in value
 value_of kinds.Unavailable value = Err NotInProfile

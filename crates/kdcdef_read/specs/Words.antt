@@ -20,7 +20,8 @@ kept_of word =
     first_true
     ((is word (codes "MAX"), keywords.Max) ∷ (is word (codes "PROGRAM"), keywords.Program) ∷ (is word (codes "TAC"), keywords.Tac)
     ∷ (is word (codes "USER"), keywords.User) ∷ (is word (codes "PTERM"), keywords.Pterm) ∷ (is word (codes "LTERM"), keywords.Lterm)
-    ∷ (is word (codes "TLS"), keywords.Tls) ∷ (is word (codes "ULS"), keywords.Uls) ∷ (is word (codes "TACCLASS"), keywords.TacClass) ∷ [])
+    ∷ (is word (codes "TLS"), keywords.Tls) ∷ (is word (codes "ULS"), keywords.Uls) ∷ (is word (codes "TACCLASS"), keywords.TacClass)
+    ∷ (is word (codes "KSET"), keywords.Kset) ∷ [])
 
 -- the nine statements that are read and not kept
 abbrev pub is_passed : List ℕ → Bool
@@ -30,7 +31,7 @@ is_passed word =
 
 -- what the other keywords stand for
 abbrev pub other_form : List ℕ → Option Form
-other_form word = first_true ((is_passed word, forms.Passed) ∷ (is word (codes "KSET"), forms.KeySet) ∷ (is word (codes "END"), forms.End) ∷ [])
+other_form word = first_true ((is_passed word, forms.Passed) ∷ (is word (codes "END"), forms.End) ∷ [])
 
 -- a statement whose operands are kept, or another one
 abbrev pub kept_form : Option Keyword → Option Form → Option Form
@@ -48,7 +49,7 @@ limit_key word =
     ((is word (codes "APPLINAME"), keys.Appliname) ∷ (is word (codes "KDCFILE"), keys.KdcFile) ∷ (is word (codes "TASKS"), keys.Tasks) ∷ (is word (codes "ASYNTASKS"), keys.Asyntasks)
     ∷ (is word (codes "GSSBS"), keys.Gssbs) ∷ (is word (codes "LSSBS"), keys.Lssbs) ∷ (is word (codes "KB"), keys.Kb) ∷ (is word (codes "SPAB"), keys.Spab)
     ∷ (is word (codes "NB"), keys.Nb) ∷ (is word (codes "PGPOOL"), keys.Pgpool) ∷ (is word (codes "RESWAIT"), keys.Reswait) ∷ (is word (codes "BLKSIZE"), keys.Blksize)
-    ∷ (is word (codes "APPLIMODE"), keys.Applimode) ∷ [])
+    ∷ (is word (codes "APPLIMODE"), keys.Applimode) ∷ (is word (codes "REDELIVERY"), keys.Redelivery) ∷ [])
 
 -- the other keys
 abbrev pub entry_key : List ℕ → Option Key
@@ -56,7 +57,8 @@ entry_key word =
     first_true
     ((is word (codes "PROGRAM"), keys.Program) ∷ (is word (codes "TYPE"), keys.Type) ∷ (is word (codes "CALL"), keys.Call) ∷ (is word (codes "STATUS"), keys.Status)
     ∷ (is word (codes "TACCLASS"), keys.TacClass) ∷ (is word (codes "TIME"), keys.Time) ∷ (is word (codes "LOCK"), keys.Lock) ∷ (is word (codes "PASS"), keys.Pass)
-    ∷ (is word (codes "RESTART"), keys.Restart) ∷ (is word (codes "KSET"), keys.Kset) ∷ (is word (codes "LTERM"), keys.Lterm) ∷ (is word (codes "USAGE"), keys.Usage) ∷ [])
+    ∷ (is word (codes "RESTART"), keys.Restart) ∷ (is word (codes "KSET"), keys.Kset) ∷ (is word (codes "LTERM"), keys.Lterm) ∷ (is word (codes "USAGE"), keys.Usage)
+    ∷ (is word (codes "KEYS"), keys.Keys) ∷ [])
 
 -- the key that a word is
 abbrev pub key_of : List ℕ → Option Key
@@ -78,15 +80,17 @@ place_of keys.Pgpool = 10
 place_of keys.Reswait = 11
 place_of keys.Blksize = 12
 place_of keys.Applimode = 13
-place_of keys.Program = 14
-place_of keys.Type = 15
-place_of keys.Call = 16
-place_of keys.Status = 17
-place_of keys.TacClass = 18
-place_of keys.Time = 19
-place_of keys.Lock = 20
-place_of keys.Pass = 21
-place_of keys.Restart = 22
-place_of keys.Kset = 23
-place_of keys.Lterm = 24
-place_of keys.Usage = 25
+place_of keys.Redelivery = 14
+place_of keys.Program = 15
+place_of keys.Type = 16
+place_of keys.Call = 17
+place_of keys.Status = 18
+place_of keys.TacClass = 19
+place_of keys.Time = 20
+place_of keys.Lock = 21
+place_of keys.Pass = 22
+place_of keys.Restart = 23
+place_of keys.Kset = 24
+place_of keys.Lterm = 25
+place_of keys.Usage = 26
+place_of keys.Keys = 27

@@ -8,7 +8,7 @@ use thiserror::Error;
 
 /// The first fault of a list of statements, with the number of its line, counted from 1.
 ///
-/// The first faulty statement is answered; within it the first faulty operand, and on one operand what stands first
+/// The first faulty statement is answered; within it the first faulty operand, and on one operand what is first
 /// here. That an operand is missing comes last in its statement.
 #[derive(Clone, Copy, Error)]
 pub enum ReadFault {
@@ -28,7 +28,7 @@ pub enum ReadFault {
     BadChoice(u32),
     /// Something of KDCDEF that this profile does not have.
     NotInProfile(u32),
-    /// A statement behind END.
+    /// A statement after END.
     AfterEnd(u32),
     /// No END; the line is one more than that of the last statement, and 1 where there is none.
     NoEnd(u32),

@@ -6,6 +6,7 @@
 #![tactic(auto)]
 
 mod fault;
+mod key_set;
 mod operands;
 mod password;
 mod reading;

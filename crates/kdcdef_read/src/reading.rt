@@ -43,7 +43,7 @@ pub fn read(alloc: Global, raw: &Vec<RawStatement>) -> Result<Vec<Statement>, Re
     ensures found { IfOk result (λ v. StandFor raw.now.items v.items) }
     // What the raw statements say is answered, unless memory runs out.
     ensures only { (ss : List Statement) → StandFor raw.now.items ss → Gives (items_of result) (Ok ss) }
-    // The fault that is answered stands there.
+    // The fault that is answered is there.
     ensures fault { IfErr result (λ e. e ≢ Memory → HasFault raw.now.items e) }
     // Statements with the fault are refused for it, unless memory runs out.
     ensures refused { (e : ReadFault) → HasFault raw.now.items e → Gives (items_of result) (Err e) }

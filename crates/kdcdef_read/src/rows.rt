@@ -1,7 +1,7 @@
 //! The table of operands: for a statement and a key, which values the operand may have, and what stands where it is
 //! not given.
 ghost use Rattle.std.specs.Prelude.{◌≡◌};
-ghost use Rattle.kdcdef_read.specs.Table.{of_kind, of_kind_or, max_row, first_row, tac_row, user_row, pterm_row, lterm_row, class_row, row_of};
+ghost use Rattle.kdcdef_read.specs.Table.{of_kind, of_kind_or, max_row, first_row, tac_row, user_row, pterm_row, lterm_row, class_row, kset_row, row_of};
 
 use crate::value::Value;
 use crate::words::{Key, Keyword};
@@ -33,6 +33,8 @@ pub enum Kind {
     Number(u16, u16),
     /// A TAC class from 1 to 16.
     Class,
+    /// How often a job is delivered again, from 0 to 255.
+    Redelivery,
     /// A number of statements from 0 to 100,000, where 0 stands for 100,000.
     Time,
     OneOf(Choice),
@@ -42,6 +44,8 @@ pub enum Kind {
     File,
     /// SECURE; FAST is not in this profile.
     Mode,
+    /// MASTER, a code from 1 to 4,000, or a list of one or more, all of which count.
+    Keys,
     /// Not in this profile, whatever its value.
     Unavailable,
 }
@@ -88,6 +92,7 @@ fn max_row(key: Key) -> Option<Row>
         Key::Reswait => of_kind(Kind::Number(0, 32767)),
         Key::Blksize => of_kind(Kind::OneOf(Choice::Blksize)),
         Key::Applimode => of_kind(Kind::Mode),
+        Key::Redelivery => of_kind(Kind::Redelivery),
         _ => None,
     }
 }
@@ -112,7 +117,7 @@ fn tac_row(key: Key) -> Option<Row>
         Key::Status => of_kind_or(Value::Flag(true), Kind::OneOf(Choice::Status)),
         Key::TacClass => of_kind(Kind::Class),
         Key::Time => of_kind_or(Value::Time(1000), Kind::Time),
-        Key::Lock => of_kind(Kind::Unavailable),
+        Key::Lock => of_kind(Kind::Number(1, 4000)),
         _ => first_row(Kind::Name, key),
     }
 }
@@ -123,7 +128,7 @@ fn user_row(key: Key) -> Option<Row>
     match key {
         Key::Pass => of_kind(Kind::Password),
         Key::Restart => of_kind_or(Value::Flag(true), Kind::OneOf(Choice::Restart)),
-        Key::Kset => of_kind(Kind::Unavailable),
+        Key::Kset => of_kind(Kind::Name),
         _ => first_row(Kind::Name, key),
     }
 }
@@ -143,7 +148,7 @@ fn lterm_row(key: Key) -> Option<Row>
     match key {
         Key::Usage => of_kind_or(Value::Flag(false), Kind::OneOf(Choice::Usage)),
         Key::Lock => of_kind(Kind::Unavailable),
-        Key::Kset => of_kind(Kind::Unavailable),
+        Key::Kset => of_kind(Kind::Name),
         _ => first_row(Kind::Name, key),
     }
 }
@@ -155,6 +160,15 @@ fn class_row(key: Key) -> Option<Row>
         Key::First => of_kind(Kind::Class),
         Key::Tasks => of_kind_or(Value::Number(240), Kind::Number(0, 240)),
         _ => None,
+    }
+}
+
+fn kset_row(key: Key) -> Option<Row>
+    ensures { result ≡ kset_row key }
+{
+    match key {
+        Key::Keys => of_kind(Kind::Keys),
+        _ => first_row(Kind::Name, key),
     }
 }
 
@@ -171,5 +185,6 @@ pub(crate) fn row_of(keyword: Keyword, key: Key) -> Option<Row>
         Keyword::Lterm => lterm_row(key),
         Keyword::Tls | Keyword::Uls => first_row(Kind::Name, key),
         Keyword::TacClass => class_row(key),
+        Keyword::Kset => kset_row(key),
     }
 }

@@ -1,18 +1,20 @@
 //! What a statement says, from what its operands say.
 ghost use Rattle.std.specs.Prelude.{◌≡◌, IfOk};
-ghost use Rattle.kdcdef_read.specs.{Said.{name_at, prog_name_at, number_at, class_at, time_at, call_at, flag_at, password_at, max_said, class_of, tac_entry, tac_said, user_said, pterm_said, lterm_said, class_said, said_of}, Filling.{answer, answers}, Operands.{default_in}, Table.{row_of}};
+ghost use Rattle.kdcdef_read.specs.{Said.{name_at, prog_name_at, number_at, class_at, redelivery_at, time_at, call_at, flag_at, password_at, max_said, program_said, class_of, tac_entry, tac_said, user_said, pterm_said, lterm_said, tls_said, uls_said, class_said, kset_said, said_of}, Filling.{answer, answers}, Operands.{default_in}, Table.{row_of}, KeySets.{key_set_of}};
 ghost use Rattle.kdcdef_read.specs.declared.words.Keyword.TheVariants as keywords;
 ghost use Rattle.kdcdef_read.specs.declared.words.Key.TheVariants as keys;
 
+use crate::key_set::key_set_of;
 use crate::operands::Given;
 use crate::rows::row_of;
 use crate::value::Value;
 use crate::words::{Key, Keyword, place_of};
 use kd_base::{Bytes, Name, OutOfMemory, ProgName};
+use kdcdef_lex::RawOperand;
 use kdcdef_types::{CallUse, LtermEntry, MaxOperands, PtermEntry, Said, TacEntry, UserEntry};
 use std::alloc::Global;
 
-// What stands where no operand has this key.
+// What it is where no operand has this key.
 fn default_of(keyword: Keyword, key: Key) -> Option<Value>
     ensures { result ≡ default_in (row_of keyword key) }
 {
@@ -78,6 +80,15 @@ fn class_at(value: Option<Value>) -> Option<u8>
     }
 }
 
+fn redelivery_at(value: Option<Value>) -> Option<u8>
+    ensures { result ≡ redelivery_at value }
+{
+    match value {
+        Some(Value::Redelivery(times)) => Some(times),
+        _ => None,
+    }
+}
+
 fn time_at(value: Option<Value>) -> Option<u32>
     ensures { result ≡ time_at value }
 {
@@ -131,11 +142,12 @@ fn max_said(given: &Given) -> Said
         pgpool: wide_at(answer(Keyword::Max, given, Key::Pgpool)),
         reswait: ticks_at(answer(Keyword::Max, given, Key::Reswait)),
         blksize: wide_at(answer(Keyword::Max, given, Key::Blksize)),
+        redelivery: redelivery_at(answer(Keyword::Max, given, Key::Redelivery)),
     })
 }
 
 fn program_said(given: &Given) -> Option<Said>
-    ensures { result ≡ said_of keywords.Program (answers keywords.Program given.now.slots) }
+    ensures { result ≡ program_said (answers keywords.Program given.now.slots) }
 {
     let name = prog_name_at(&answer(Keyword::Program, given, Key::First))?;
     Some(Said::Program(name))
@@ -161,6 +173,7 @@ fn tac_entry(given: &Given) -> Option<TacEntry>
     let on = flag_at(answer(Keyword::Tac, given, Key::Status))?;
     let class = class_at(answer(Keyword::Tac, given, Key::TacClass));
     let time = time_at(answer(Keyword::Tac, given, Key::Time))?;
+    let lock = number_at(answer(Keyword::Tac, given, Key::Lock));
     Some(TacEntry {
         program,
         asynchronous,
@@ -168,6 +181,7 @@ fn tac_entry(given: &Given) -> Option<TacEntry>
         on,
         class: class_of(asynchronous, class),
         time,
+        lock,
     })
 }
 
@@ -188,8 +202,16 @@ fn user_said(alloc: Global, given: &Given) -> Result<Option<Said>, OutOfMemory>
     let Some(restart) = flag_at(answer(Keyword::User, given, Key::Restart)) else {
         return Ok(None);
     };
+    let kset = name_at(&answer(Keyword::User, given, Key::Kset));
     let pass = password_at(alloc, &answer(Keyword::User, given, Key::Pass))?;
-    Ok(Some(Said::User(name, UserEntry { pass, restart })))
+    Ok(Some(Said::User(
+        name,
+        UserEntry {
+            pass,
+            restart,
+            kset,
+        },
+    )))
 }
 
 // A PTERM without LTERM is passed over.
@@ -208,18 +230,19 @@ fn lterm_said(given: &Given) -> Option<Said>
 {
     let name = name_at(&answer(Keyword::Lterm, given, Key::First))?;
     let printer = flag_at(answer(Keyword::Lterm, given, Key::Usage))?;
-    Some(Said::Lterm(name, LtermEntry { printer }))
+    let kset = name_at(&answer(Keyword::Lterm, given, Key::Kset));
+    Some(Said::Lterm(name, LtermEntry { printer, kset }))
 }
 
 fn tls_said(given: &Given) -> Option<Said>
-    ensures { result ≡ said_of keywords.Tls (answers keywords.Tls given.now.slots) }
+    ensures { result ≡ tls_said (answers keywords.Tls given.now.slots) }
 {
     let name = name_at(&answer(Keyword::Tls, given, Key::First))?;
     Some(Said::Tls(name))
 }
 
 fn uls_said(given: &Given) -> Option<Said>
-    ensures { result ≡ said_of keywords.Uls (answers keywords.Uls given.now.slots) }
+    ensures { result ≡ uls_said (answers keywords.Uls given.now.slots) }
 {
     let name = name_at(&answer(Keyword::Uls, given, Key::First))?;
     Some(Said::Uls(name))
@@ -233,13 +256,30 @@ fn class_said(given: &Given) -> Option<Said>
     Some(Said::TacClass(class, tasks))
 }
 
-/// What the statement says; `None` where an operand is missing that has no default.
+fn kset_said(
+    alloc: Global,
+    given: &Given,
+    operands: &[RawOperand],
+) -> Result<Option<Said>, OutOfMemory>
+    ensures { IfOk result (λ said. said ≡ kset_said (answers keywords.Kset given.now.slots) (key_set_of operands.now)) }
+{
+    let Some(name) = name_at(&answer(Keyword::Kset, given, Key::First)) else {
+        return Ok(None);
+    };
+    match key_set_of(alloc, operands)? {
+        Some(set) => Ok(Some(Said::Kset(name, set))),
+        None => Ok(None),
+    }
+}
+
+/// What the statement with these operands says; `None` where an operand is missing that has no default.
 pub(crate) fn said_of(
     alloc: Global,
     keyword: Keyword,
     given: &Given,
+    operands: &[RawOperand],
 ) -> Result<Option<Said>, OutOfMemory>
-    ensures { IfOk result (λ said. said ≡ said_of keyword (answers keyword given.now.slots)) }
+    ensures { IfOk result (λ said. said ≡ said_of keyword (answers keyword given.now.slots) (key_set_of operands.now)) }
 {
     match keyword {
         Keyword::Max => Ok(Some(max_said(given))),
@@ -251,5 +291,6 @@ pub(crate) fn said_of(
         Keyword::Tls => Ok(tls_said(given)),
         Keyword::Uls => Ok(uls_said(given)),
         Keyword::TacClass => Ok(class_said(given)),
+        Keyword::Kset => kset_said(alloc, given, operands),
     }
 }

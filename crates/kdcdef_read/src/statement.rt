@@ -1,4 +1,4 @@
-//! A statement, read behind those before it.
+//! A statement, read after those before it.
 ghost use Rattle.std.specs.Prelude.{◌≡◌, ◌+◌, ◌<◌, ◌≤◌, ◌^◌, length, Ok};
 ghost use Rattle.kdcdef_read.specs.Steps.{Gives, is_end, for_max, said_by, given_by, kept_by, statement_by, step};
 
@@ -10,7 +10,7 @@ use kdcdef_lex::RawStatement;
 use kdcdef_types::{Said, Statement};
 use std::alloc::Global;
 
-/// Where the reading stands.
+/// Where the reading is.
 #[derive(Clone, Copy)]
 pub(crate) struct Progress {
     /// The operands that the MAX statements so far have given.
@@ -25,18 +25,18 @@ pub(crate) struct Progress {
 fn said_by(
     alloc: Global,
     keyword: Keyword,
-    line: u32,
+    raw: &RawStatement,
     given: &Given,
 ) -> Result<Statement, ReadFault>
-    ensures { Gives result (said_by keyword line given.now) }
+    ensures { Gives result (said_by keyword raw.now.line raw.now.operands given.now) }
 {
-    match said_of(alloc, keyword, given)? {
+    match said_of(alloc, keyword, given, raw.operands.as_slice())? {
         Some(said) => Ok(Statement {
-            line,
+            line: raw.line,
             passed: given.passed,
             said,
         }),
-        None => Err(ReadFault::OperandMissing(line)),
+        None => Err(ReadFault::OperandMissing(raw.line)),
     }
 }
 
@@ -55,12 +55,12 @@ fn given_by(
     alloc: Global,
     keyword: Keyword,
     taken: Taken,
-    line: u32,
+    raw: &RawStatement,
     given: &Given,
 ) -> Result<(Statement, Taken), ReadFault>
-    ensures { Gives result (given_by keyword taken line (Ok given.now)) }
+    ensures { Gives result (given_by keyword taken raw.now.line raw.now.operands (Ok given.now)) }
 {
-    let statement = said_by(alloc, keyword, line, given)?;
+    let statement = said_by(alloc, keyword, raw, given)?;
     Ok((statement, for_max(keyword, given.taken, taken)))
 }
 
@@ -76,7 +76,7 @@ fn kept_by(
 {
     let before = for_max(keyword, taken, [false; KEYS]);
     match read_operands(keyword, before, raw.operands.as_slice()) {
-        Ok(given) => given_by(alloc, keyword, taken, raw.line, &given),
+        Ok(given) => given_by(alloc, keyword, taken, raw, &given),
         Err(cause) => Err(at_line(raw.line, cause)),
     }
 }
@@ -104,7 +104,6 @@ fn statement_by(
                 taken,
             ))
         }
-        Some(Form::KeySet) => Err(ReadFault::NotInProfile(line)),
         Some(Form::End) => {
             let passed = raw.operands.as_slice().len() as u32;
             let said = Said::End;
@@ -120,7 +119,7 @@ fn is_end(said: &Said) -> bool
     matches!(said, Said::End)
 }
 
-/// The next statement, and where the reading stands behind it.
+/// The next statement, and where the reading is after it.
 pub(crate) fn step(
     alloc: Global,
     progress: Progress,

@@ -1,8 +1,10 @@
 //! The value of an operand, by the kind of its row.
 ghost use Rattle.std.specs.Prelude.{◌≡◌};
-ghost use Rattle.kdcdef_read.specs.Values.{number_text, number_between, number_in, class_in, time_in, flag_of, call_of, blksize_of, choice_of, one_of, written_name, password_in, first_of, file_in, mode_in, value_of};
+ghost use Rattle.kdcdef_read.specs.Numbers.{number_text, number_between};
+ghost use Rattle.kdcdef_read.specs.Values.{number_in, class_in, redelivery_in, time_in, flag_of, call_of, blksize_of, choice_of, one_of, written_name, password_in, first_of, file_in, mode_in, value_of};
 
 use crate::fault::Cause;
+use crate::key_set::keys_in;
 use crate::password::Password;
 use crate::rows::{Choice, Kind};
 use crate::words::is;
@@ -18,6 +20,8 @@ pub enum Value {
     Number(u16),
     /// A TAC class.
     Class(u8),
+    /// How often a job is delivered again.
+    Redelivery(u8),
     /// The statements that a unit run may have.
     Time(u32),
     Call(CallUse),
@@ -26,6 +30,8 @@ pub enum Value {
     Password(Password),
     /// A value that is read and not kept.
     Accepted,
+    /// Codes of keys, which are taken over where the statement is made.
+    Keys,
 }
 
 // The digits of a number: a word, or the word that is a list's first item.
@@ -43,7 +49,7 @@ fn number_text(raw: &RawValue) -> &[u8]
 }
 
 // A number from low to high.
-fn number_between(low: u64, high: u64, raw: &RawValue) -> Result<u64, Cause>
+pub(crate) fn number_between(low: u64, high: u64, raw: &RawValue) -> Result<u64, Cause>
     ensures { result ≡ number_between low high raw.now }
 {
     let Some(number) = decimal_of(number_text(raw)) else {
@@ -68,6 +74,13 @@ fn class_in(raw: &RawValue) -> Result<Value, Cause>
 {
     let number = number_between(1, 16, raw)?;
     Ok(Value::Class(number as u8))
+}
+
+fn redelivery_in(raw: &RawValue) -> Result<Value, Cause>
+    ensures { result ≡ redelivery_in raw.now }
+{
+    let number = number_between(0, 255, raw)?;
+    Ok(Value::Redelivery(number as u8))
 }
 
 fn time_in(raw: &RawValue) -> Result<Value, Cause>
@@ -222,11 +235,13 @@ pub(crate) fn value_of(kind: Kind, raw: &RawValue) -> Result<Value, Cause>
         Kind::ProgName => Ok(Value::ProgName(written_name(raw)?)),
         Kind::Number(low, high) => number_in(low, high, raw),
         Kind::Class => class_in(raw),
+        Kind::Redelivery => redelivery_in(raw),
         Kind::Time => time_in(raw),
         Kind::OneOf(choice) => one_of(choice, raw),
         Kind::Password => password_in(raw),
         Kind::File => file_in(raw),
         Kind::Mode => mode_in(raw),
+        Kind::Keys => keys_in(raw),
         Kind::Unavailable => Err(Cause::NotInProfile),
     }
 }

@@ -16,6 +16,7 @@ pub enum Keyword {
     Tls,
     Uls,
     TacClass,
+    Kset,
 }
 
 /// What a keyword stands for.
@@ -24,8 +25,6 @@ pub enum Form {
     Kept(Keyword),
     /// A statement that is read and not kept.
     Passed,
-    /// KSET, which this profile does not have.
-    KeySet,
     End,
 }
 
@@ -47,6 +46,7 @@ pub enum Key {
     Reswait,
     Blksize,
     Applimode,
+    Redelivery,
     Program,
     Type,
     Call,
@@ -59,10 +59,11 @@ pub enum Key {
     Kset,
     Lterm,
     Usage,
+    Keys,
 }
 
 /// How many keys there are.
-pub const KEYS: usize = 26;
+pub const KEYS: usize = 28;
 
 pub(crate) fn is(word: &[u8], text: &str) -> bool
     ensures { result ≡ str_eq_ignore_ascii_case word.now text.now }
@@ -83,6 +84,7 @@ fn kept_of(word: &[u8]) -> Option<Keyword>
         (is(word, "TLS"), Keyword::Tls),
         (is(word, "ULS"), Keyword::Uls),
         (is(word, "TACCLASS"), Keyword::TacClass),
+        (is(word, "KSET"), Keyword::Kset),
     ])
 }
 
@@ -108,8 +110,6 @@ pub(crate) fn form_of(word: &[u8]) -> Option<Form>
         Some(Form::Kept(keyword))
     } else if is_passed(word) {
         Some(Form::Passed)
-    } else if is(word, "KSET") {
-        Some(Form::KeySet)
     } else if is(word, "END") {
         Some(Form::End)
     } else {
@@ -135,6 +135,7 @@ fn limit_key(word: &[u8]) -> Option<Key>
         (is(word, "RESWAIT"), Key::Reswait),
         (is(word, "BLKSIZE"), Key::Blksize),
         (is(word, "APPLIMODE"), Key::Applimode),
+        (is(word, "REDELIVERY"), Key::Redelivery),
     ])
 }
 
@@ -155,6 +156,7 @@ fn entry_key(word: &[u8]) -> Option<Key>
         (is(word, "KSET"), Key::Kset),
         (is(word, "LTERM"), Key::Lterm),
         (is(word, "USAGE"), Key::Usage),
+        (is(word, "KEYS"), Key::Keys),
     ])
 }
 
@@ -170,7 +172,7 @@ pub(crate) fn key_of(word: &[u8]) -> Option<Key>
 /// The place of a key among all keys.
 pub(crate) fn place_of(key: Key) -> usize
     ensures place { result ≡ place_of key }
-    ensures within { result < 26 }
+    ensures within { result < 28 }
 {
     key as usize
 }

@@ -1,11 +1,13 @@
 -- A generation, as contracts and the definitions of the monitor see it.
-use Rattle.std.specs.Prelude.{ℕ, Bool, List, Option, bytes_eq, nat_eq}
+use Rattle.std.specs.Prelude.{ℕ, Bool, true, false, List, Option, Some, None, option_and_then, bytes_eq, nat_eq}
 use Rattle.std.specs.List.{list_any}
 use Rattle.std.specs.Map.{lookup}
 use Rattle.kdcdef_types.specs.declared.entry.TacEntry.{TacEntry}
 use Rattle.kdcdef_types.specs.declared.entry.UserEntry.{UserEntry}
 use Rattle.kdcdef_types.specs.declared.entry.PtermEntry.{PtermEntry}
 use Rattle.kdcdef_types.specs.declared.entry.LtermEntry.{LtermEntry}
+use Rattle.kdcdef_types.specs.declared.entry.KeySet.{KeySet}
+use Rattle.kdcdef_types.specs.declared.entry.KeySet.TheVariants.{Master, Codes}
 use Rattle.kdcdef_types.specs.declared.limits.Limits.{Limits}
 use Rattle.kdcdef_types.specs.declared.limits.Counts.{Counts}
 
@@ -22,6 +24,8 @@ pub record Generated : Type 0 where
   pub uls : List (List ℕ)
   -- TAC classes, with the tasks that may work for them
   pub classes : List (ℕ × ℕ)
+  -- key sets, with the codes that they have
+  pub ksets : List (List ℕ × KeySet)
   pub counts : Counts
 
 -- the entry of a name
@@ -49,3 +53,31 @@ has_uls g name = list_any (bytes_eq name) g.uls
 -- how many tasks may work for a class, where a statement says so
 abbrev pub class_limit : Generated → ℕ → Option ℕ
 class_limit g class = lookup (nat_eq class) g.classes
+
+-- ---- keys and locks
+
+-- whether a key set has a code
+abbrev pub has_code : KeySet → ℕ → Bool
+has_code Master code = true
+has_code (Codes codes) code = list_any (nat_eq code) codes
+
+-- the same where there may be no key set, which has no code
+abbrev pub keys_have : Option KeySet → ℕ → Bool
+keys_have None code = false
+keys_have (Some keys) code = has_code keys code
+
+-- the code that a TAC asks for, where it has a lock
+abbrev pub lock_of : Generated → List ℕ → Option ℕ
+lock_of g tac = option_and_then (λ (entry : TacEntry). entry.lock) (tac_of g tac)
+
+-- the key set of this name, where there is a name
+abbrev pub keys_named : Generated → Option (List ℕ) → Option KeySet
+keys_named g name = option_and_then (λ (kset : List ℕ). entry_of g.ksets kset) name
+
+-- the key set of a user
+abbrev pub user_keys : Generated → List ℕ → Option KeySet
+user_keys g user = option_and_then (λ (entry : UserEntry). keys_named g entry.kset) (user_of g user)
+
+-- the key set of an LTERM
+abbrev pub lterm_keys : Generated → List ℕ → Option KeySet
+lterm_keys g lterm = option_and_then (λ (entry : LtermEntry). keys_named g entry.kset) (lterm_of g lterm)

@@ -3,9 +3,11 @@ use Rattle.std.specs.Prelude.{◌≡◌, ℕ, ◌+◌, ◌≤◌, ◌⊎◌, Lis
 use Rattle.std.specs.List.{All}
 use Rattle.kdcdef_types.specs.declared.entry.TacEntry.{TacEntry}
 use Rattle.kdcdef_types.specs.declared.entry.UserEntry.{UserEntry}
+use Rattle.kdcdef_types.specs.declared.entry.KeySet.{KeySet}
+use Rattle.kdcdef_types.specs.declared.entry.KeySet.TheVariants.{Master, Codes}
 use Rattle.kdcdef_types.specs.declared.statement.MaxOperands.{MaxOperands}
 use Rattle.kdcdef_types.specs.declared.statement.Said.{Said}
-use Rattle.kdcdef_types.specs.declared.statement.Said.TheVariants.{Max, Tac, User, TacClass, End}
+use Rattle.kdcdef_types.specs.declared.statement.Said.TheVariants.{Max, Tac, User, TacClass, Kset, End}
 use Rattle.kdcdef_types.specs.declared.statement.Statement.{Statement}
 
 -- n is from low to high
@@ -28,15 +30,22 @@ pub record IsMaxInRange (m : MaxOperands) : Type 0 where
   pub pgpool : IfSome m.pgpool (IsWithin 16 30000)
   pub reswait : IfSome m.reswait (IsWithin 0 32767)
   pub blksize : IfSome m.blksize IsBlksize
+  pub redelivery : IfSome m.redelivery (IsWithin 0 255)
 
 -- the numbers of a TAC lie in their ranges; class 0 is none
 pub record IsTacInRange (t : TacEntry) : Type 0 where
   pub class : t.class ≤ 16
   pub time : IsWithin 1 100000 t.time
+  pub lock : IfSome t.lock (IsWithin 1 4000)
 
 -- a password has 1 to 16 bytes
 abbrev pub IsUserInRange : UserEntry → Type 0
 IsUserInRange u = IfSome u.pass (λ (pass : List ℕ). IsWithin 1 16 (length pass))
+
+-- a key set has all codes, or one code or more, each in its range
+abbrev pub IsKeySetInRange : KeySet → Type 0
+IsKeySetInRange Master = Unit {0}
+IsKeySetInRange (Codes codes) = (1 ≤ length codes) × All (IsWithin 1 4000) codes
 
 -- the numbers of a statement lie in their ranges
 abbrev pub IsInRange : Said → Type 0
@@ -44,6 +53,7 @@ IsInRange (Max m) = IsMaxInRange m
 IsInRange (Tac name entry) = IsTacInRange entry
 IsInRange (User name entry) = IsUserInRange entry
 IsInRange (TacClass class tasks) = IsWithin 1 16 class × (tasks ≤ 240)
+IsInRange (Kset name keys) = IsKeySetInRange keys
 IsInRange _ = Unit {0}
 
 -- the last statement is END, and no other is
@@ -76,6 +86,7 @@ pub record AreApart (m n : MaxOperands) : Type 0 where
   pub pgpool : NotBoth m.pgpool n.pgpool
   pub reswait : NotBoth m.reswait n.reswait
   pub blksize : NotBoth m.blksize n.blksize
+  pub redelivery : NotBoth m.redelivery n.redelivery
 
 -- what two statements say gives no operand of MAX twice
 abbrev pub SayApart : Said → Said → Type 0

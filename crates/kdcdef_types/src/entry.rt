@@ -1,8 +1,8 @@
 //! What a generation says of its TACs, users and terminals.
 
-use kd_base::{Bytes, Name, ProgName};
+use kd_base::{Bytes, Name, ProgName, Sequence};
 
-/// Where in a service a TAC may stand: the operand CALL.
+/// Where in a service a TAC may be: the operand CALL.
 #[derive(Clone, Copy, PartialEq, Eq)]
 pub enum CallUse {
     /// At the beginning and as a follow-up.
@@ -27,6 +27,20 @@ pub struct TacEntry {
     pub class: u8,
     /// TIME: the greatest number of statements of a unit run, from 1 to 100,000.
     pub time: u32,
+    /// LOCK: the code from 1 to 4,000 that a user and an LTERM must have to start it, if there is a lock.
+    pub lock: Option<u16>,
+}
+
+/// Codes of keys, in the order of their statement.
+pub type Codes = Sequence<u16>;
+
+/// KEYS: the codes that a key set has.
+#[derive(Drop)]
+pub enum KeySet {
+    /// MASTER: all codes.
+    Master,
+    /// One code or more, each from 1 to 4,000.
+    Codes(Codes),
 }
 
 /// A USER statement, its defaults filled in.
@@ -36,6 +50,8 @@ pub struct UserEntry {
     pub pass: Option<Bytes>,
     /// RESTART=YES.
     pub restart: bool,
+    /// KSET: the key set that the user has; without one, the user has no code.
+    pub kset: Option<Name>,
 }
 
 /// A PTERM statement.
@@ -50,4 +66,6 @@ pub struct PtermEntry {
 pub struct LtermEntry {
     /// USAGE=O, an output medium; a dialogue terminal has USAGE=D.
     pub printer: bool,
+    /// KSET: the key set that the LTERM has; without one, the LTERM has no code.
+    pub kset: Option<Name>,
 }

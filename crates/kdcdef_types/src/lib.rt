@@ -8,6 +8,6 @@ mod entry;
 mod limits;
 mod statement;
 
-pub use entry::{CallUse, LtermEntry, PtermEntry, TacEntry, UserEntry};
+pub use entry::{CallUse, Codes, KeySet, LtermEntry, PtermEntry, TacEntry, UserEntry};
 pub use limits::{Counts, Limits};
 pub use statement::{MaxOperands, Said, Statement};

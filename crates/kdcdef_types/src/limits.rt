@@ -26,6 +26,8 @@ pub struct Limits {
     pub reswait: u64,
     /// Bytes of a page: 2048, 4096 or 8192.
     pub blksize: u32,
+    /// How often a job is delivered again, 0 to 254, and 255 for without limit.
+    pub redelivery: u8,
 }
 
 /// How many statements of a kind there are, and what was passed over.

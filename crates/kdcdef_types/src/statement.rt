@@ -1,6 +1,6 @@
 //! Typed statements, in the order of the text.
 
-use crate::entry::{LtermEntry, PtermEntry, TacEntry, UserEntry};
+use crate::entry::{KeySet, LtermEntry, PtermEntry, TacEntry, UserEntry};
 use kd_base::{Name, ProgName};
 
 /// What one MAX statement gives; `None` where it does not give the operand. The ranges are those of `Limits`.
@@ -17,6 +17,7 @@ pub struct MaxOperands {
     pub pgpool: Option<u32>,
     pub reswait: Option<u64>,
     pub blksize: Option<u32>,
+    pub redelivery: Option<u8>,
 }
 
 /// What a statement says.
@@ -34,6 +35,8 @@ pub enum Said {
     Uls(Name),
     /// A TAC class from 1 to 16, and how many tasks may work for it, from 0 to 240.
     TacClass(u8, u16),
+    /// A key set, that users and LTERMs may have.
+    Kset(Name, KeySet),
     /// A statement that is read and not kept.
     Passed,
     End,

@@ -112,7 +112,7 @@ module _ (i : Identity) (print : List ℕ) (second : Bool) (x y : Content) (a r 
       (λ c out h. (h.0 ∙ quiet.sent, either i print x y second a.holds m old staged new c (subst (λ (l : List ℕ). InImageOrSelector (place i (not second)) (place i (not second) + image_size i) m l c) quiet.holds h.1))))
 
 module _ (o : Opened) (body : List ℕ) (root : Root) (a r b : State) (la lr lb : ℕ → List ℕ → List ℕ → Type 0) (quiet : Quiet a r la lr) (at : ℕ) (bytes : List ℕ) (at_is : at ≡ other_place o) (bytes_are : bytes ≡ spelled_root root) (long : length bytes ≡ 64)
-    (room : 64 + length body ≤ image_size (identity_of o)) (replaces : (upto : ℕ) → at + 64 + length body ≤ upto → at + length bytes ≤ upto → Replaces at upto (written (written r.holds (at + 64) body) at bytes) (length body + length bytes + 1) r b lr lb) where
+    (enough : 64 + length body ≤ image_size (identity_of o)) (replaces : (upto : ℕ) → at + 64 + length body ≤ upto → at + length bytes ≤ upto → Replaces at upto (written (written r.holds (at + 64) body) at bytes) (length body + length bytes + 1) r b lr lb) where
   body_within : other_place o + 64 + length body ≤ other_end o
   body_within = omega arith
 

@@ -128,7 +128,7 @@ module _ (rest : List ℕ) (a b d e : State) (la lb ld le : ℕ → List ℕ →
       pub opened : IsSynced 1 (written d.holds 0 (75 ∷ [])) d e le → IsSynced (length rest + 2) (75 ∷ rest) a e le
       opened last =
           let same : written d.holds 0 (75 ∷ []) ≡ 75 ∷ rest = ap (λ (l : List ℕ). written l 0 (75 ∷ [])) d_is in
-          record { holds = last.holds ∙ same; put = omega (arith, last.put, whole.put, closed.put); settled = λ c left. last.settled c left ∙ same }
+          record { holds = last.holds ∙ same; put = omega (arith, last.put, whole.put, closed.put); at_rest = λ c left. last.at_rest c left ∙ same }
 
 -- the whole of a making: reserve to r, all writes to b
 module _ (i : Identity) (is : IsIdentity i) (rest : List ℕ) (rest_is : rest ≡ fresh_rest i) where

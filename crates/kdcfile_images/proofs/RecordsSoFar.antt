@@ -4,7 +4,7 @@ use Rattle.std.proofs.lemmas.Bool.{cond-true, cond-false}
 use Rattle.std.proofs.lemmas.List.{append-nil}
 use Rattle.kd_records.specs.declared.key.RecordKey.{RecordKey}
 use Rattle.kd_records.specs.Contents.{Record}
-use Rattle.kdcfile_images.specs.Reading.{record_at, after_record, records_of, onto, follows}
+use Rattle.kdcfile_images.specs.Reading.{record_at, after_record, records_of, onto, comes_after}
 use Rattle.kdcfile_images.specs.ReadRecordsLaws.{one_and_more, no_more, none_left}
 
 onto_onto : (a b : List Record) (o : Option (List Record)) → onto a (onto b o) ≡ onto (a ++ b) o
@@ -27,17 +27,17 @@ module _ (so_far : List Record) (previous : Option RecordKey) (count slot : ℕ)
   pub ended : record_at left ≡ None → None ≡ total
   ended e = sym (onto_none so_far (records_of previous (suc (count - (slot + 1))) left) (no_more previous (count - (slot + 1)) left e)) ∙ next
 
-  pub out_of_order : (r : Record) → record_at left ≡ Some r → follows previous r.0 ≡ false → None ≡ total
-  out_of_order r found apart = sym (onto_none so_far (records_of previous (suc (count - (slot + 1))) left) (one_and_more previous (count - (slot + 1)) left r found ∙ cond-false (follows previous r.0) _ _ apart)) ∙ next
+  pub out_of_order : (r : Record) → record_at left ≡ Some r → comes_after previous r.0 ≡ false → None ≡ total
+  out_of_order r found apart = sym (onto_none so_far (records_of previous (suc (count - (slot + 1))) left) (one_and_more previous (count - (slot + 1)) left r found ∙ cond-false (comes_after previous r.0) _ _ apart)) ∙ next
 
-  one_more_there : (r : Record) → record_at left ≡ Some r → follows previous r.0 ≡ true
+  one_more_there : (r : Record) → record_at left ≡ Some r → comes_after previous r.0 ≡ true
       → onto (so_far ++ r ∷ []) (records_of (Some r.0) (count - (slot + 1)) (after_record r left)) ≡ total
   one_more_there r found behind =
       sym (onto_onto so_far (r ∷ []) (records_of (Some r.0) (count - (slot + 1)) (after_record r left)))
-      ∙ sym (ap (λ (o : Option (List Record)). onto so_far o) (one_and_more previous (count - (slot + 1)) left r found ∙ cond-true (follows previous r.0) _ _ behind))
+      ∙ sym (ap (λ (o : Option (List Record)). onto so_far o) (one_and_more previous (count - (slot + 1)) left r found ∙ cond-true (comes_after previous r.0) _ _ behind))
       ∙ next
 
-  pub one_more : (r : Record) → record_at left ≡ Some r → follows previous r.0 ≡ true → (pushed : List Record) (rest : List ℕ) → pushed ≡ so_far ++ r ∷ [] → rest ≡ after_record r left
+  pub one_more : (r : Record) → record_at left ≡ Some r → comes_after previous r.0 ≡ true → (pushed : List Record) (rest : List ℕ) → pushed ≡ so_far ++ r ∷ [] → rest ≡ after_record r left
       → onto pushed (records_of (Some r.0) (count - (slot + 1)) rest) ≡ total
   one_more r found behind pushed rest pushed_is rest_is =
       ap (λ (l : List Record). onto l (records_of (Some r.0) (count - (slot + 1)) rest)) pushed_is

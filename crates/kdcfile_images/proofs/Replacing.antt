@@ -5,11 +5,11 @@ use Rattle.kd_device.specs.TimeLaws.{leaves_weaker, leaves_then}
 use Rattle.kdcfile_images.specs.Writes.{WritesOnly, IsSynced}
 use Rattle.kdcfile_images.specs.Commit.{InImageOrSelector, Replaces}
 
--- one synced write behind another
+-- one synced write after another
 pub synced_then : (m n at : ℕ) (new bytes : List ℕ) (a b d : State) (lb ld : ℕ → List ℕ → List ℕ → Type 0) → IsSynced m new a b lb → IsSynced n (written b.holds at bytes) b d ld → IsSynced (m + n) (written new at bytes) a d ld
 synced_then m n at new bytes a b d lb ld first second =
     let same : written b.holds at bytes ≡ written new at bytes = ap (λ (l : List ℕ). written l at bytes) first.holds in
-    record { holds = second.holds ∙ same; put = omega (arith, second.put, first.put); settled = λ c left. second.settled c left ∙ same }
+    record { holds = second.holds ∙ same; put = omega (arith, second.put, first.put); at_rest = λ c left. second.at_rest c left ∙ same }
 
 module _ (from upto m : ℕ) (new : List ℕ) (a b : State) (la lb : ℕ → List ℕ → List ℕ → Type 0) (first : WritesOnly from upto m a b la lb) where
   to_b : LeavesOnly a b la lb (λ c out. (out ≡ a.sent) × InImageOrSelector from upto new a.holds c)

@@ -1,4 +1,4 @@
--- Writes one after another, and a sync behind them.
+-- Writes one after another, and a sync after them.
 use Rattle.std.proofs.Common.{◌≡◌, ℕ, ◌+◌, ◌≤◌, min, List, length, Result, Ok, Err, refl, sym, ap, subst, ◌∙◌, arith}
 use Rattle.std.proofs.Common.{inl}
 use Rattle.std.specs.Prelude.{OnOk}
@@ -69,10 +69,10 @@ module _ (from upto n : ℕ) (new : List ℕ) (a b d : State) (la lb ld : ℕ �
     is_synced only = record {
       holds = quiet.holds ∙ pending.holds;
       put = omega (arith, quiet.put, pending.put);
-      settled = λ c left. only c left ∙ pending.holds;
+      at_rest = λ c left. only c left ∙ pending.holds;
     }
 
--- what lies behind a place is written first
+-- what lies after a place is written first
 module _ (at behind upto : ℕ) (body : List ℕ) (a b : State) (la lb : ℕ → List ℕ → List ℕ → Type 0) (only : Only a.holds a la) {E : Type 0} (r : Result Unit E) (order : at ≤ behind) (within : behind + length body ≤ upto) (writes : Writes behind body a b la lb r) where
   pub body_any : WritesOnly at upto (length body) a b la lb
   body_any = writes_most at upto (0 + length body) (length body) a b la lb (omega arith) (writes_more at upto 0 a.holds a a b la la lb (writes_none at upto 0 a la) (pending_none at upto a la only) behind body r order within writes)
@@ -85,14 +85,14 @@ module _ (at behind upto : ℕ) (body : List ℕ) (a b : State) (la lb : ℕ →
 -- and then what lies at the place
 module _ (at behind upto : ℕ) (body root : List ℕ) (a b d : State) (la lb ld : ℕ → List ℕ → List ℕ → Type 0) (only : Only a.holds a la) {E : Type 0} (r q : Result Unit E) (order : at ≤ behind) (within : behind + length body ≤ upto) (root_within : at + length root ≤ upto) (first : Writes behind body a b la lb r)
     (holds : b.holds ≡ written a.holds behind body) (second : Writes at root b d lb ld q) where
-  any : WritesOnly at upto (length body) a b la lb
-  any = body_any at behind upto body a b la lb only r order within first
-
-  pending : IsPending at upto (length body) (written a.holds behind body) a b lb
-  pending = body_pending at behind upto body a b la lb only r order within first holds
-
   pub both_any : WritesOnly at upto (length body + length root) a d la ld
-  both_any = writes_more at upto (length body) (written a.holds behind body) a b d la lb ld any pending at root q (omega arith) root_within second
+  both_any = writes_more at upto (length body) (written a.holds behind body) a b d la lb ld
+      (body_any at behind upto body a b la lb only r order within first)
+      (body_pending at behind upto body a b la lb only r order within first holds)
+      at root q (omega arith) root_within second
 
   pub both_pending : d.holds ≡ written b.holds at root → IsPending at upto (length body + length root) (written (written a.holds behind body) at root) a d ld
-  both_pending now = pending_more at upto (length body) (written a.holds behind body) a b d la lb ld any pending at root q (omega arith) root_within second now
+  both_pending now = pending_more at upto (length body) (written a.holds behind body) a b d la lb ld
+      (body_any at behind upto body a b la lb only r order within first)
+      (body_pending at behind upto body a b la lb only r order within first holds)
+      at root q (omega arith) root_within second now

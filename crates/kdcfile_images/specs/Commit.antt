@@ -21,7 +21,7 @@ other_place i = place (identity_of i) (not i.second)
 abbrev pub other_end : Opened → ℕ
 other_end i = other_place i + image_size (identity_of i)
 
--- the file with these records behind this root in the unselected image
+-- the file with these records after this root in the unselected image
 abbrev pub staged : Opened → List ℕ → Root → List ℕ → List ℕ
 staged i body root h = written (written h (other_place i + 64) body) (other_place i) (spelled_root root)
 

@@ -31,11 +31,11 @@ root i x =
 abbrev pub spelled_record : Record → List ℕ
 spelled_record r = r.0.kind ∷ (r.0.bytes ++ list r.1)
 
--- an image: its root, and the records behind it
+-- an image: its root, and the records after it
 abbrev pub spelled : Identity → Content → List ℕ
 spelled i x = root i x ++ flat_map spelled_record x.items
 
--- a list stands at a place
+-- a list is at a place
 abbrev pub StandsAt : ℕ → List ℕ → List ℕ → Type 0
 StandsAt at part bytes = take (length part) (drop at bytes) ≡ part
 

@@ -17,15 +17,15 @@ made_with blksize pages fingerprint = record { blksize = blksize; pages = pages;
 abbrev pub in_image : Identity → List ℕ → List ℕ
 in_image i part = part ++ zeros (8128 + i.pages * i.blksize)
 
--- behind the gate: the mark, and two images with no records
+-- after the gate: the mark, and two images with no records
 abbrev pub fresh_rest : Identity → List ℕ
 fresh_rest i = mark i ++ zeros 8175 ++ in_image i (root i fresh) ++ in_image i (root i fresh)
 
--- behind the sizes: a gap, and two images with this root
+-- after the sizes: a gap, and two images with this root
 abbrev pub two_images : (root : List ℕ) → (gap left : ℕ) → List ℕ
 two_images root gap left = zeros gap ++ (root ++ zeros left) ++ (root ++ zeros left)
 
--- a fresh file: the open gate, and what is behind it
+-- a fresh file: the open gate, and what is after it
 abbrev pub fresh_file : Identity → List ℕ
 fresh_file i = 75 ∷ fresh_rest i
 
@@ -41,10 +41,10 @@ Made i sent c out = (out ≡ sent) × (IsNoImage c ⊎ StandsFor i fresh c)
 abbrev pub LeavesMade : Identity → (a b : State) → (la lb : ℕ → List ℕ → List ℕ → Type 0) → Type 0
 LeavesMade i a b la lb = LeavesOnly a b la lb (Made i a.sent)
 
--- the gate is not open, or nothing stands behind it
+-- the gate is not open, or nothing is after it
 abbrev pub IsShut : List ℕ → Type 0
 IsShut c = (length c ≤ 1) ⊎ (get_or c 0 0 ≡ 75 → ⊥)
 
--- nothing more was sent, and the file is shut, or this stands behind the open gate
+-- nothing more was sent, and the file is shut, or this is after the open gate
 abbrev pub ShutOr : List ℕ → List ℕ → List ℕ → List ℕ → Type 0
 ShutOr rest sent c out = (out ≡ sent) × (IsShut c ⊎ (c ≡ 75 ∷ rest))

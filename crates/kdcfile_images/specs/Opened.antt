@@ -15,7 +15,7 @@ pub record Opened : Type 0 where
 abbrev pub identity_of : Opened → Identity
 identity_of i = record { blksize = i.blksize; pages = i.root.pgpool; fingerprint = i.root.fingerprint }
 
--- what the file is made with once this root stands in it: its sizes, and the fingerprint of the root
+-- what the file is made with once this root is in it: its sizes, and the fingerprint of the root
 abbrev pub renewed : Opened → Root → Identity
 renewed i root = record (identity_of i) { fingerprint = root.fingerprint }
 

@@ -5,7 +5,7 @@ use Rattle.std.proofs.lemmas.List.{take-take, drop-drop, drop-take, length-take,
 use Rattle.kd_device.specs.Device.{Torn}
 use Rattle.kdcfile_images.specs.File.{StandsAt}
 
--- what stands in the file lies in it
+-- what is in the file lies in it
 pub within_file : (q : ℕ) (part h : List ℕ) → StandsAt q part h → 0 < length part → q + length part ≤ length h
 within_file q part h stands some = omega (arith, ap (λ (l : List ℕ). length l) stands, length-take (length part) (drop q h), length-drop q h)
 

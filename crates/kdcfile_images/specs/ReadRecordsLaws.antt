@@ -16,7 +16,7 @@ use Rattle.kd_records.specs.declared.key.RecordKey.{RecordKey}
 use Rattle.kd_records.specs.Contents.{Record, IsRecord}
 use Rattle.kd_records.specs.Keys.{key_text, key_cmp}
 use Rattle.kdcfile_images.specs.File.{spelled_record}
-use Rattle.kdcfile_images.specs.Reading.{AreBytes, number, key_at, valued, record_at, after_record, records_of, onto, follows}
+use Rattle.kdcfile_images.specs.Reading.{AreBytes, number, key_at, valued, record_at, after_record, records_of, onto, comes_after}
 use Rattle.kdcfile_images.specs.PlacesLaws.{after, field, parted, read_4, small_4, written_4, length_piece, AreBytes_drop}
 use Rattle.kdcfile_images.specs.TestsLaws.{unless, when}
 use Rattle.kd_base.specs.OrderLaws.{is_less}
@@ -71,13 +71,13 @@ unfolding record_at
 record_read left r bytes e =
     let long = unless (ltb (length left) 29) _ r e in
     let kind = unless (eqb (get_or left 0 0) 0) _ r long.1 in
-    let room = unless (ltb (length left) (29 + number w32 25 left)) _ r kind.1 in
+    let enough = unless (ltb (length left) (29 + number w32 25 left)) _ r kind.1 in
     let P : Record → Type 0 = λ q. ReadRecord left q in
-    subst P (same_Some _ r room.1) (made (ltb-false (length left) 29 long.0) (eqb-false (get_or left 0 0) 0 kind.0) (ltb-false (length left) (29 + number w32 25 left) room.0))
+    subst P (same_Some _ r enough.1) (made (ltb-false (length left) 29 long.0) (eqb-false (get_or left 0 0) 0 kind.0) (ltb-false (length left) (29 + number w32 25 left) enough.0))
   where
     made : 29 ≤ length left → (get_or left 0 0 ≡ 0 → ⊥) → 29 + number w32 25 left ≤ length left → ReadRecord left (key_at left, take (number w32 25 left) (drop 29 left))
-    made long kind room =
-        let value_length : length (take (number w32 25 left) (drop 29 left)) ≡ number w32 25 left = length_piece 29 (number w32 25 left) left room in
+    made long kind enough =
+        let value_length : length (take (number w32 25 left) (drop 29 left)) ≡ number w32 25 left = length_piece 29 (number w32 25 left) left enough in
         record {
           fits = record {
             kind_from_one = omega (arith, kind);
@@ -98,7 +98,7 @@ record_read left r bytes e =
               ∙ sym (append_assoc (take 24 (drop 1 left)) (to_be_bytes w32 (length (take (number w32 25 left) (drop 29 left))) ++ take (number w32 25 left) (drop 29 left)) (after_record (key_at left, take (number w32 25 left) (drop 29 left)) left)));
         }
 
--- the records behind a key
+-- the records after a key
 abbrev pub Behind : Option RecordKey → List Record → Type 0
 Behind None items = Unit {0}
 Behind (Some k) items = IsTrue (below_all key_cmp k items)
@@ -114,18 +114,18 @@ still_below j k (r ∷ items) h below =
     (let P : Ordering → Type 0 = λ o. IsTrue (is_lt o) in subst P (sym (keys_total.trans j k r.0 (is_less (key_cmp j k) h) (is_less (key_cmp k r.0) parts.0))) refl)
     (still_below j k items h parts.1)
 
-behind_follows : (previous : Option RecordKey) (r : Record) (items : List Record) → Behind previous (r ∷ items) → follows previous r.0 ≡ true
-behind_follows None r items h = refl
-behind_follows (Some k) r items h = (and_parts (is_lt (key_cmp k r.0)) (below_all key_cmp k items) h).0
+behind_comes_after : (previous : Option RecordKey) (r : Record) (items : List Record) → Behind previous (r ∷ items) → comes_after previous r.0 ≡ true
+behind_comes_after None r items h = refl
+behind_comes_after (Some k) r items h = (and_parts (is_lt (key_cmp k r.0)) (below_all key_cmp k items) h).0
 
-follows_behind : (previous : Option RecordKey) (r : Record) (items : List Record) → follows previous r.0 ≡ true → IsTrue (below_all key_cmp r.0 items) → Behind previous (r ∷ items)
-follows_behind None r items e below = tt
-follows_behind (Some k) r items e below =
+comes_after_behind : (previous : Option RecordKey) (r : Record) (items : List Record) → comes_after previous r.0 ≡ true → IsTrue (below_all key_cmp r.0 items) → Behind previous (r ∷ items)
+comes_after_behind None r items e below = tt
+comes_after_behind (Some k) r items e below =
     and_from (is_lt (key_cmp k r.0)) (below_all key_cmp k items) e (still_below k r.0 items e below)
 
--- what is read behind one record
+-- what is read after one record
 abbrev pub reads_on : Option RecordKey → ℕ → List ℕ → Record → Option (List Record)
-reads_on previous n left r = cond (follows previous r.0) (onto (r ∷ []) (records_of (Some r.0) n (after_record r left))) None
+reads_on previous n left r = cond (comes_after previous r.0) (onto (r ∷ []) (records_of (Some r.0) n (after_record r left))) None
 
 pub one_and_more : (previous : Option RecordKey) (n : ℕ) (left : List ℕ) (r : Record) → record_at left ≡ Some r → records_of previous (suc n) left ≡ reads_on previous n left r
 unfolding records_of
@@ -148,7 +148,7 @@ records_written previous (r ∷ items) rest all sorted behind_it =
     let split : (spelled_record r ++ flat_map spelled_record items) ++ rest ≡ spelled_record r ++ (flat_map spelled_record items ++ rest) = append_assoc (spelled_record r) (flat_map spelled_record items) rest in
     ap (λ (l : List ℕ). records_of previous (suc (length items)) l) split
     ∙ one_and_more previous (length items) (spelled_record r ++ (flat_map spelled_record items ++ rest)) r (record_written r (flat_map spelled_record items ++ rest) is)
-    ∙ cond-true (follows previous r.0) _ _ (behind_follows previous r items behind_it)
+    ∙ cond-true (comes_after previous r.0) _ _ (behind_comes_after previous r items behind_it)
     ∙ ap (λ (l : List ℕ). onto (r ∷ []) (records_of (Some r.0) (length items) l)) (behind r (flat_map spelled_record items ++ rest) is)
     ∙ ap (λ (o : Option (List Record)). onto (r ∷ []) o)
     (records_written (Some r.0) items rest (All-tail IsRecord r items all) parts.1 parts.0)
@@ -176,7 +176,7 @@ records_read previous zero left items bytes e =
 records_read previous (suc n) left items bytes e =
     let found = found_one previous n left items e in
     let r = found.0 in
-    let rest = when (follows previous r.0) _ items found.2 in
+    let rest = when (comes_after previous r.0) _ items found.2 in
     let more = map_some (λ l. (r ∷ []) ++ l) (records_of (Some r.0) n (after_record r left)) items rest.1 in
     let one = record_read left r bytes found.1 in
     let others = records_read (Some r.0) n (after_record r left) more.0 (AreBytes_drop (29 + length r.1) left bytes) more.1 in
@@ -185,6 +185,6 @@ records_read previous (suc n) left items bytes e =
       count = ap (λ (k : ℕ). suc k) others.count;
       fit = All-cons IsRecord r more.0 one.fits others.fit;
       ascending = and_from (below_all key_cmp r.0 more.0) (is_sorted key_cmp more.0) others.behind_it others.ascending;
-      behind_it = follows_behind previous r more.0 rest.0 others.behind_it;
+      behind_it = comes_after_behind previous r more.0 rest.0 others.behind_it;
       spelled = (others.spelled.0, one.spelled ∙ ap (λ (l : List ℕ). spelled_record r ++ l) others.spelled.1 ∙ sym (append_assoc (spelled_record r) (flat_map spelled_record more.0) others.spelled.0));
     })

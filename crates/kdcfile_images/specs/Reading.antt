@@ -58,10 +58,10 @@ root_with pages image = record { fingerprint = take 32 image; clock = number w64
 abbrev pub root_of : ℕ → List ℕ → Option Root
 root_of pages image = if nat_lt (length image) 64 then None else (if is_root pages image then Some (root_with pages image) else None)
 
--- a key that may stand behind another
-abbrev pub follows : Option RecordKey → RecordKey → Bool
-follows None k = true
-follows (Some j) k = is_lt (key_cmp j k)
+-- a key that may be after another
+abbrev pub comes_after : Option RecordKey → RecordKey → Bool
+comes_after None k = true
+comes_after (Some j) k = is_lt (key_cmp j k)
 
 abbrev pub key_at : List ℕ → RecordKey
 key_at left = record { kind = get_or left 0 0; bytes = take 24 (drop 1 left) }
@@ -73,7 +73,7 @@ valued n left = if nat_lt (length left) (29 + n) then None else Some (key_at lef
 unfoldable pub record_at : List ℕ → Option Record
 record_at left = if nat_lt (length left) 29 then None else (if get_or left 0 0 == 0 then None else valued (number w32 25 left) left)
 
--- what is left behind it
+-- what is left after it
 abbrev pub after_record : Record → List ℕ → List ℕ
 after_record r left = drop (29 + length r.1) left
 
@@ -84,7 +84,7 @@ onto items more = option_map (λ rest. items ++ rest) more
 unfoldable pub records_of : Option RecordKey → ℕ → List ℕ → Option (List Record)
 records_of previous zero left = Some []
 records_of previous (suc n) left =
-    option_and_then (λ r. if follows previous r.0 then onto (r ∷ []) (records_of (Some r.0) n (after_record r left)) else None) (record_at left)
+    option_and_then (λ r. if comes_after previous r.0 then onto (r ∷ []) (records_of (Some r.0) n (after_record r left)) else None) (record_at left)
 
 -- an image: the root, and its records
 abbrev pub image_of : Head → List ℕ → Option (Opened × List Record)

@@ -25,4 +25,4 @@ pub record IsPending (from upto n : ℕ) (new : List ℕ) (a b : State) (lb : �
 pub record IsSynced (n : ℕ) (new : List ℕ) (a b : State) (lb : ℕ → List ℕ → List ℕ → Type 0) : Type 0 where
   pub holds : b.holds ≡ new
   pub put : b.put ≡ a.put + n
-  pub settled : Only new b lb  -- a stop now leaves this file
+  pub at_rest : Only new b lb  -- a stop now leaves this file

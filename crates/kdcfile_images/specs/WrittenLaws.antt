@@ -12,13 +12,13 @@ use Rattle.kdcfile_images.specs.File.{Stands, StandsAt, head, root, spelled, spe
 use Rattle.kdcfile_images.specs.PartsLaws.{within_file, stands_below, stands_above}
 use Rattle.kdcfile_images.specs.HeadsLaws.{place_past}
 
--- what was written stands there
+-- what was written is there
 pub written_stands : (h : List ℕ) (at : ℕ) (part : List ℕ) → StandsAt at part (written h at part)
 written_stands h at part =
     ap (λ (l : List ℕ). take (length part) l) (drop_at (take at (h ++ replicate (at - length h) 0)) (part ++ drop (at + length part) h) at (length_front h at part))
     ∙ take_at part (drop (at + length part) h) (length part) refl
 
--- two parts, one behind the other
+-- two parts, one after the other
 pub joined_stand : (p : ℕ) (xs ys c : List ℕ) → StandsAt p xs c → StandsAt (p + length xs) ys c → StandsAt p (xs ++ ys) c
 joined_stand p xs ys c first second =
     let rest : drop p c ≡ xs ++ drop (p + length xs) c = sym (take-append-drop (length xs) (drop p c)) ∙ ap (λ (l : List ℕ). l ++ drop (length xs) (drop p c)) first ∙ ap (λ (l : List ℕ). xs ++ l) (drop-drop (length xs) p c) in
@@ -28,7 +28,7 @@ joined_stand p xs ys c first second =
 pub below_write : (h : List ℕ) (at : ℕ) (bytes : List ℕ) (q : ℕ) (part : List ℕ) → StandsAt q part h → q + length part ≤ at → q + length part ≤ length h → StandsAt q part (written h at bytes)
 below_write h at bytes q part stands le inside = stands_below (min at (length h)) (at + length bytes) h (written h at bytes) (torn_done h at bytes) q part stands (omega arith)
 
--- a part behind a write stays
+-- a part after a write stays
 pub above_write : (h : List ℕ) (at : ℕ) (bytes : List ℕ) (q : ℕ) (part : List ℕ) → StandsAt q part h → at + length bytes ≤ q → StandsAt q part (written h at bytes)
 above_write h at bytes q part stands le = stands_above (min at (length h)) (at + length bytes) h (written h at bytes) (torn_done h at bytes) q part stands le
 
@@ -40,7 +40,7 @@ module _ (i : Identity) (second : Bool) (x y : Content) (h body : List ℕ) (old
   head_inside : 17 ≤ length h
   head_inside = within_file 0 (head i) h old.headed (omega arith)
 
-  -- the records behind the root, then the root, then the selector
+  -- the records after the root, then the root, then the selector
   pub records_stand : Stands i (not second) y (written (written (written h (place i (not second) + 64) body) (place i (not second)) (root i y)) 4096 (selector (not second) ∷ []))
   records_stand =
       let at = place i (not second) in

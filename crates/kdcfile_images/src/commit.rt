@@ -1,6 +1,6 @@
 //! The unselected image is written, and then selected.
 ghost use Rattle.std.specs.Prelude.{◌≡◌, ◌≤◌, ◌<◌, ◌+◌, ◌^◌, not, IsTrue, is_ok, if◌then◌else◌, length, OnOk, OnErr, IsErrOf};
-ghost use Rattle.kd_device.specs.{Device.{Rose, Frame, SameNames, Only}, Rest.{Rests}};
+ghost use Rattle.kd_device.specs.{Device.{Rose, Frame, SameFaults, SameNames, Only}, Rest.{Rests}};
 ghost use Rattle.kd_records.specs.declared.content.Content.{Content};
 ghost use Rattle.kdcfile_images.specs.{File.{Stands, place as place_of, image_size as image_size_of, selector as selector_of}, Opened.{identity_of, renewed}, Writes.{UsesAll}, Commit.{other_place, committed, LeavesEither, ReplacedImage, ReplacesImage, WritesImage, WroteImage}};
 
@@ -21,7 +21,7 @@ fn image_size(image: &Image) -> u64
     8192 + pgpool * image.blksize() as u64
 }
 
-/// Where the unselected image stands, in bytes from the beginning of the file.
+/// Where the unselected image is, in bytes from the beginning of the file.
 fn unselected(image: &Image) -> u64
     ensures { result ≡ other_place image.now }
 {
@@ -51,8 +51,9 @@ fn write_image<D: Device>(
     requires bytes { length body.now + length root.now ≤ (D.state device.old).spare_bytes }
     requires inside { behind + length body.now ≤ (D.state device.old).spare_end }
     requires root_inside { at + length root.now ≤ (D.state device.old).spare_end }
-    requires settled { IsTrue (D.state device.old).told → Only (D.state device.old).holds (D.state device.old) (D.leaves device.old) }
+    requires at_rest { IsTrue (D.state device.old).told → Only (D.state device.old).holds (D.state device.old) (D.leaves device.old) }
     ensures failed { OnErr result (Rose (D.state device.old).disk_faults (D.state device.new).disk_faults) }
+    ensures fine { OnOk result (SameFaults (D.state device.old) (D.state device.new)) }
     ensures frame { Frame (D.state device.old) (D.state device.new) }
     ensures names { SameNames (D.state device.old) (D.state device.new) }
     ensures spare { OnOk result (UsesAll 3 (length body.now + length root.now) (D.state device.old) (D.state device.new)) }
@@ -79,8 +80,9 @@ fn replace<D: Device>(
     requires inside { behind + length body.now ≤ (D.state device.old).spare_end }
     requires root_inside { at + length root.now ≤ (D.state device.old).spare_end }
     requires selector_inside { 4097 ≤ (D.state device.old).spare_end }
-    requires settled { IsTrue (D.state device.old).told → Only (D.state device.old).holds (D.state device.old) (D.leaves device.old) }
+    requires at_rest { IsTrue (D.state device.old).told → Only (D.state device.old).holds (D.state device.old) (D.leaves device.old) }
     ensures failed { OnErr result (Rose (D.state device.old).disk_faults (D.state device.new).disk_faults) }
+    ensures fine { OnOk result (SameFaults (D.state device.old) (D.state device.new)) }
     ensures frame { Frame (D.state device.old) (D.state device.new) }
     ensures names { SameNames (D.state device.old) (D.state device.new) }
     ensures any_moment { IsTrue (D.state device.old).told → ReplacesImage behind at body.now root.now (D.state device.old) (D.state device.new) (D.leaves device.old) (D.leaves device.new) }
@@ -103,12 +105,12 @@ pub fn commit_image<D: Device>(
     requires inside { 64 + length body.now ≤ image_size_of (identity_of image.old) }
     requires stands { IsTrue (D.state device.old).told → (x : Content) × Stands (identity_of image.old) image.old.second x (D.state device.old).holds }
     requires would_stand { IsTrue (D.state device.old).told → (y : Content) × Stands (renewed image.old root.now) (not image.old.second) y (committed image.old body.now root.now (D.state device.old).holds) }
-    requires settled { IsTrue (D.state device.old).told → Only (D.state device.old).holds (D.state device.old) (D.leaves device.old) }
+    requires at_rest { IsTrue (D.state device.old).told → Only (D.state device.old).holds (D.state device.old) (D.leaves device.old) }
 
     // At `Ok` the image is the other one with this root, and the file has it on the disk.
     ensures image { image.new ≡ (if is_ok result then record image.old { root = root.now; second = not image.old.second } else image.old) }
     ensures holds { OnOk result (IsTrue (D.state device.old).told → (D.state device.new).holds ≡ committed image.old body.now root.now (D.state device.old).holds) }
-    ensures settled { OnOk result (IsTrue (D.state device.old).told → Only (D.state device.new).holds (D.state device.new) (D.leaves device.new)) }
+    ensures at_rest { OnOk result (IsTrue (D.state device.old).told → Only (D.state device.new).holds (D.state device.new) (D.leaves device.new)) }
     ensures sent { IsTrue (D.state device.old).told → (D.state device.new).sent ≡ (D.state device.old).sent }
 
     // A stop at any moment of the call leaves the old content or the new one.
@@ -120,6 +122,7 @@ pub fn commit_image<D: Device>(
 
     ensures failed { IsErrOf result DeviceError.Failed → Rose (D.state device.old).disk_faults (D.state device.new).disk_faults }
     ensures memory { IsErrOf result DeviceError.Memory → IsTrue (D.state device.old).told → Rests (D.state device.old) (D.state device.new) (D.leaves device.old) (D.leaves device.new) }
+    ensures fine { (IsErrOf result DeviceError.Failed → ⊥) → SameFaults (D.state device.old) (D.state device.new) }
     ensures frame { Frame (D.state device.old) (D.state device.new) }
     ensures names { SameNames (D.state device.old) (D.state device.new) }
 {

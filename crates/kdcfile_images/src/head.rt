@@ -4,7 +4,7 @@ ghost use Rattle.kdcfile_images.specs.Reading.{AreBytes, HasSizes, has_sizes, he
 
 use kd_base::Reader;
 
-/// The length of the first bytes, with the selector behind them.
+/// The length of the first bytes, with the selector after them.
 pub const FRONT_LEN: usize = 4097;
 
 /// The sizes of a file, and whether image B is selected.
@@ -24,7 +24,7 @@ impl Head {
         8192 + self.pages as usize * self.blksize as usize
     }
 
-    /// Where the selected image stands.
+    /// Where the selected image is.
     pub fn place(self) -> u64
         requires { HasSizes self.blksize self.pages }
         ensures { result ≡ place_of self }

@@ -6,7 +6,7 @@ ghost use Rattle.kdcfile_images.specs.Opened.{identity_of};
 use kd_records::Records;
 use std::marker::Model;
 
-/// What stands at the beginning of an image: the fingerprint of the texts, the clock in ticks, the next job number,
+/// What is at the beginning of an image: the fingerprint of the texts, the clock in ticks, the next job number,
 /// PGPOOL in pages, and the number of records.
 #[derive(Clone, Copy)]
 pub struct Root {

@@ -1,6 +1,6 @@
 //! Loading the image that a file has selected.
 ghost use Rattle.std.specs.{Prelude.{◌≡◌, ◌≤◌, List, ℕ, Some, None, IsTrue, length, take, drop, IfOk, OnOk, IsErrOf}, Option.{option_map}};
-ghost use Rattle.kd_device.specs.{Device.{State, Rose, Frame, SameNames, Only}, Rest.{Rests}};
+ghost use Rattle.kd_device.specs.{Device.{State, Rose, Frame, SameFaults, SameNames, Only}, Rest.{Rests}};
 ghost use Rattle.kdcfile_images.specs.{File.{Stands, IsNoImage, OneMeaning}, Opened.{identity_of, content_in}, Reading.{AreBytes, HasSizes, image_of}};
 
 use crate::fault::LoadError;
@@ -33,10 +33,11 @@ fn image_of(alloc: Global, head: Head, bytes: &[u8]) -> Result<Option<Loaded>, D
 }
 
 // Brings the file onto the disk as reads give it.
-fn settle<D: Device>(device: &mut D) -> Result<(), DeviceError>
-    ensures settled { OnOk result (IsTrue (D.state device.old).told → Only (D.state device.new).holds (D.state device.new) (D.leaves device.new)) }
+fn bring_to_rest<D: Device>(device: &mut D) -> Result<(), DeviceError>
+    ensures at_rest { OnOk result (IsTrue (D.state device.old).told → Only (D.state device.new).holds (D.state device.new) (D.leaves device.new)) }
     ensures rests { IsTrue (D.state device.old).told → Rests (D.state device.old) (D.state device.new) (D.leaves device.old) (D.leaves device.new) }
     ensures failed { IsErrOf result DeviceError.Failed → Rose (D.state device.old).disk_faults (D.state device.new).disk_faults }
+    ensures fine { (IsErrOf result DeviceError.Failed → ⊥) → SameFaults (D.state device.old) (D.state device.new) }
     ensures frame { Frame (D.state device.old) (D.state device.new) }
     ensures names { SameNames (D.state device.old) (D.state device.new) }
 {
@@ -52,14 +53,15 @@ pub fn load<D: Device>(alloc: Global, device: &mut D) -> Result<Loaded, LoadErro
     ensures stands { IfOk result (λ l. IsTrue (D.state device.old).told → Stands (identity_of l.image) l.image.second (content_in l.image.root l.records) (D.state device.old).holds) }
     // Bytes are refused only where they stand for no image.
     ensures none { IsErrOf result LoadError.NotKdcfile → IsTrue (D.state device.old).told → IsNoImage (D.state device.old).holds }
-    ensures settled { OnOk result (IsTrue (D.state device.old).told → Only (D.state device.new).holds (D.state device.new) (D.leaves device.new)) }
-    ensures settled_none { IsErrOf result LoadError.NotKdcfile → IsTrue (D.state device.old).told → Only (D.state device.new).holds (D.state device.new) (D.leaves device.new) }
+    ensures at_rest { OnOk result (IsTrue (D.state device.old).told → Only (D.state device.new).holds (D.state device.new) (D.leaves device.new)) }
+    ensures at_rest_none { IsErrOf result LoadError.NotKdcfile → IsTrue (D.state device.old).told → Only (D.state device.new).holds (D.state device.new) (D.leaves device.new) }
     ensures rests { IsTrue (D.state device.old).told → Rests (D.state device.old) (D.state device.new) (D.leaves device.old) (D.leaves device.new) }
     ensures failed { IsErrOf result LoadError.Failed → Rose (D.state device.old).disk_faults (D.state device.new).disk_faults }
+    ensures fine { (IsErrOf result LoadError.Failed → ⊥) → SameFaults (D.state device.old) (D.state device.new) }
     ensures frame { Frame (D.state device.old) (D.state device.new) }
     ensures names { SameNames (D.state device.old) (D.state device.new) }
 {
-    settle(device)?;
+    bring_to_rest(device)?;
     let front = read_part(alloc, device, 0, FRONT_LEN)?;
     let Some(head) = head_of(front.as_slice()) else {
         return Err(LoadError::NotKdcfile);

@@ -1,6 +1,6 @@
 //! A file is made: with a closed gate, which is opened when all else is on the disk.
 ghost use Rattle.std.specs.Prelude.{◌≡◌, ◌≤◌, ◌<◌, ◌+◌, ◌-◌, ◌*◌, ◌^◌, ◌++◌, ◌∷◌, [], List, ℕ, Bool, false, IsTrue, length, IfOk, OnOk, OnErr, IsErrOf};
-ghost use Rattle.kd_device.specs.{Device.{State, Rose, Frame, SameNames, LeavesOnly, Only}, Rest.{Rests}};
+ghost use Rattle.kd_device.specs.{Device.{State, Rose, Frame, SameFaults, SameNames, LeavesOnly, Only}, Rest.{Rests}};
 ghost use Rattle.kd_records.specs.Identity.{Identity, IsIdentity};
 ghost use Rattle.kdcfile_images.specs.{File.{Stands, mark, image_size, fresh}, Writes.{IsSynced}, Commit.{spelled_root}, Fresh.{zeros, in_image, fresh_rest, fresh_file, fresh_root, LeavesMade, ShutOr, made_with, two_images}};
 
@@ -36,7 +36,7 @@ fn add_image(to: &mut Vec<u8>, root: &[u8], left: usize) -> Result<(), OutOfMemo
     add_zeros(to, left)
 }
 
-/// What stands behind the gate of a fresh file.
+/// What is after the gate of a fresh file.
 fn rest_bytes(
     alloc: Global,
     blksize: u32,
@@ -60,7 +60,7 @@ fn rest_bytes(
     Ok(rest)
 }
 
-/// A fresh file in memory: its image, and what stands behind the gate.
+/// A fresh file in memory: its image, and what is after the gate.
 #[derive(Drop)]
 struct Draft {
     image: Image,
@@ -93,14 +93,15 @@ fn make(
     })
 }
 
-/// Writes a closed gate, then what is behind it, then the open gate, and syncs after each.
+/// Writes a closed gate, then what is after it, then the open gate, and syncs after each.
 fn write_file<D: Device>(device: &mut D, rest: &[u8]) -> Result<(), Failed>
     requires calls { 6 ≤ (D.state device.old).spare_calls }
     requires bytes { length rest.now + 2 ≤ (D.state device.old).spare_bytes }
     requires inside { length rest.now + 1 ≤ (D.state device.old).spare_end }
     requires empty { IsTrue (D.state device.old).told → (D.state device.old).holds ≡ [] }
-    requires settled { IsTrue (D.state device.old).told → Only (D.state device.old).holds (D.state device.old) (D.leaves device.old) }
+    requires at_rest { IsTrue (D.state device.old).told → Only (D.state device.old).holds (D.state device.old) (D.leaves device.old) }
     ensures failed { OnErr result (Rose (D.state device.old).disk_faults (D.state device.new).disk_faults) }
+    ensures fine { OnOk result (SameFaults (D.state device.old) (D.state device.new)) }
     ensures frame { Frame (D.state device.old) (D.state device.new) }
     ensures names { SameNames (D.state device.old) (D.state device.new) }
     ensures sent { IsTrue (D.state device.old).told → (D.state device.new).sent ≡ (D.state device.old).sent }
@@ -124,19 +125,20 @@ pub fn create<D: Device>(
 ) -> Result<Image, DeviceError>
     requires identity { IsIdentity (made_with blksize pgpool fingerprint.now) }
     requires empty { IsTrue (D.state device.old).told → (D.state device.old).holds ≡ [] }
-    requires settled { IsTrue (D.state device.old).told → Only (D.state device.old).holds (D.state device.old) (D.leaves device.old) }
+    requires at_rest { IsTrue (D.state device.old).told → Only (D.state device.old).holds (D.state device.old) (D.leaves device.old) }
     ensures image { IfOk result (λ i. i ≡ record { blksize = blksize; root = fresh_root (made_with blksize pgpool fingerprint.now); second = false }) }
     ensures stands { OnOk result (IsTrue (D.state device.old).told → Stands (made_with blksize pgpool fingerprint.now) false fresh (D.state device.new).holds) }
 
     // Both images are there, and every byte that is not theirs, the gate's or the mark's is zero.
     ensures holds { OnOk result (IsTrue (D.state device.old).told → (D.state device.new).holds ≡ fresh_file (made_with blksize pgpool fingerprint.now)) }
     ensures length { OnOk result (IsTrue (D.state device.old).told → length (D.state device.new).holds ≡ 8192 + 2 * image_size (made_with blksize pgpool fingerprint.now)) }
-    ensures settled { OnOk result (IsTrue (D.state device.old).told → Only (D.state device.new).holds (D.state device.new) (D.leaves device.new)) }
+    ensures at_rest { OnOk result (IsTrue (D.state device.old).told → Only (D.state device.new).holds (D.state device.new) (D.leaves device.new)) }
     ensures sent { IsTrue (D.state device.old).told → (D.state device.new).sent ≡ (D.state device.old).sent }
     ensures put { OnOk result (IsTrue (D.state device.old).told → (D.state device.new).put ≡ (D.state device.old).put + length (D.state device.new).holds + 1) }
     ensures any_moment { IsTrue (D.state device.old).told → LeavesMade (made_with blksize pgpool fingerprint.now) (D.state device.old) (D.state device.new) (D.leaves device.old) (D.leaves device.new) }
     ensures failed { IsErrOf result DeviceError.Failed → Rose (D.state device.old).disk_faults (D.state device.new).disk_faults }
     ensures memory { IsErrOf result DeviceError.Memory → IsTrue (D.state device.old).told → Rests (D.state device.old) (D.state device.new) (D.leaves device.old) (D.leaves device.new) }
+    ensures fine { (IsErrOf result DeviceError.Failed → ⊥) → SameFaults (D.state device.old) (D.state device.new) }
     ensures frame { Frame (D.state device.old) (D.state device.new) }
     ensures names { SameNames (D.state device.old) (D.state device.new) }
 {

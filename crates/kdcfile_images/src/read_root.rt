@@ -8,7 +8,7 @@ use crate::image::Root;
 /// The length of a root.
 pub const ROOT_LEN: usize = 64;
 
-// Whether PGPOOL stands there once more, no directory, and the mark.
+// Whether PGPOOL is there once more, no directory, and the mark.
 fn is_root(image: &[u8], pages: u32) -> bool
     requires { 64 ≤ length image.now }
     ensures { result ≡ is_root pages image.now }

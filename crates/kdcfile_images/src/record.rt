@@ -1,6 +1,6 @@
-//! The records behind a root.
+//! The records after a root.
 ghost use Rattle.std.specs.Prelude.{◌≡◌, ◌≤◌, ◌+◌, None, IfOk, IfSome, length};
-ghost use Rattle.kdcfile_images.specs.Reading.{follows, key_at, record_at, records_of};
+ghost use Rattle.kdcfile_images.specs.Reading.{comes_after, key_at, record_at, records_of};
 
 use crate::head::u32_in;
 use kd_base::{Bytes, OutOfMemory};
@@ -10,9 +10,9 @@ use std::alloc::Global;
 /// The length of a record without its value.
 const RECORD_LEN: usize = 29;
 
-// Whether a key may stand behind another.
-fn follows(previous: &Option<RecordKey>, key: &RecordKey) -> bool
-    ensures { result ≡ follows previous.now key.now }
+// Whether a key may be after another.
+fn comes_after(previous: &Option<RecordKey>, key: &RecordKey) -> bool
+    ensures { result ≡ comes_after previous.now key.now }
 {
     match previous {
         None => true,
@@ -64,7 +64,7 @@ pub fn records_of(alloc: Global, count: u32, image: &[u8]) -> Result<Option<Reco
         let Some((key, value)) = record_at(alloc, left)? else {
             return Ok(None);
         };
-        if !follows(&previous, &key) {
+        if !comes_after(&previous, &key) {
             return Ok(None);
         }
         let (_, rest) = left.split_at(RECORD_LEN + value.len());

@@ -1,6 +1,6 @@
 //! A write that is on the disk before anything else is done.
 ghost use Rattle.std.specs.Prelude.{◌≡◌, ◌≤◌, ◌+◌, ℕ, List, IsTrue, length, OnOk, OnErr};
-ghost use Rattle.kd_device.specs.Device.{State, Rose, Frame, SameNames, Only, written};
+ghost use Rattle.kd_device.specs.Device.{State, Rose, Frame, SameFaults, SameNames, Only, written};
 ghost use Rattle.kdcfile_images.specs.Writes.{UsesAll, WritesOnly, IsSynced};
 
 use kd_device::{Device, Failed};
@@ -10,8 +10,9 @@ pub fn write_synced<D: Device>(device: &mut D, at: u64, bytes: &[u8]) -> Result<
     requires calls { 2 ≤ (D.state device.old).spare_calls }
     requires bytes { length bytes.now ≤ (D.state device.old).spare_bytes }
     requires inside { at + length bytes.now ≤ (D.state device.old).spare_end }
-    requires settled { IsTrue (D.state device.old).told → Only (D.state device.old).holds (D.state device.old) (D.leaves device.old) }
+    requires at_rest { IsTrue (D.state device.old).told → Only (D.state device.old).holds (D.state device.old) (D.leaves device.old) }
     ensures failed { OnErr result (Rose (D.state device.old).disk_faults (D.state device.new).disk_faults) }
+    ensures fine { OnOk result (SameFaults (D.state device.old) (D.state device.new)) }
     ensures frame { Frame (D.state device.old) (D.state device.new) }
     ensures names { SameNames (D.state device.old) (D.state device.new) }
     ensures spare { OnOk result (UsesAll 2 (length bytes.now) (D.state device.old) (D.state device.new)) }

@@ -8,7 +8,7 @@ use Rattle.kd_records.specs.declared.content.Patch.{Patch}
 -- the file is this store's, and a stop leaves just these bytes
 pub record IsKept (file : List ℕ → Type 0) (s : State) (leaves : ℕ → List ℕ → List ℕ → Type 0) : Type 0 where
   pub bytes : file s.holds
-  pub settled : Only s.holds s leaves
+  pub at_rest : Only s.holds s leaves
 
 -- nothing more was sent, and the image stands for the old content or the new one
 abbrev pub OldOrNew : (Content → List ℕ → Type 0) → Content → Content → List ℕ → List ℕ → List ℕ → Type 0

@@ -1,4 +1,4 @@
-//! Records as the bytes that stand behind the root of an image.
+//! Records as the bytes that are after the root of an image.
 ghost use Rattle.std.specs.{Prelude.{◌≡◌, ◌+◌, ◌<◌, ◌^◌, ◌++◌, length, sum_by, All, IfOk, OnOk}, List.{flat_map}};
 ghost use Rattle.kd_records.specs.{Contents.{Record}, Charged.{record_length}};
 ghost use Rattle.kdcfile_images.specs.File.{spelled_record};
@@ -18,7 +18,7 @@ fn put_record(out: &mut Bytes, key: &RecordKey, value: &Bytes) -> Result<(), Out
     out.put_list(value.as_slice())
 }
 
-/// All records, one behind the other.
+/// All records, one after the other.
 pub(crate) fn records_bytes(
     alloc: Global,
     records: &[(RecordKey, Bytes)],

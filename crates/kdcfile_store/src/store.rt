@@ -1,6 +1,6 @@
 //! The trait of everything that keeps a content in a file.
 ghost use Rattle.std.specs.Prelude.{◌≡◌, ◌≤◌, List, ℕ, IsTrue, OnOk, IsErrOf};
-ghost use Rattle.kd_device.specs.{Device.{State, Rose, Frame, SameNames}, Rest.{Rests}};
+ghost use Rattle.kd_device.specs.{Device.{State, Rose, Frame, SameFaults, SameNames}, Rest.{Rests}};
 ghost use Rattle.kd_records.specs.{Identity.{Identity}, Contents.{IsPatch, patched}, declared.content.Content.{Content}, Charge.{total_charge}};
 ghost use Rattle.kdcfile_store.specs.Kept.{IsKept, LeavesPatched};
 
@@ -44,6 +44,7 @@ pub trait Store<D: Device> {
         ensures failed { IsErrOf result DeviceError.Failed → Rose (D.state device.old).disk_faults (D.state device.new).disk_faults }
         ensures memory { IsErrOf result DeviceError.Memory → IsTrue (D.state device.old).told → Rests (D.state device.old) (D.state device.new) (D.leaves device.old) (D.leaves device.new) }
         ensures memory_store { IsErrOf result DeviceError.Memory → self.new ≡ self.old }
+        ensures fine { (IsErrOf result DeviceError.Failed → ⊥) → SameFaults (D.state device.old) (D.state device.new) }
         ensures frame { Frame (D.state device.old) (D.state device.new) }
         ensures names { SameNames (D.state device.old) (D.state device.new) };
 

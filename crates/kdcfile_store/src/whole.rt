@@ -1,6 +1,6 @@
 //! A store that keeps its content in whole images: each commit writes the unselected image and selects it.
 ghost use Rattle.std.specs.Prelude.{◌≡◌, ◌<◌, ◌≤◌, ◌^◌, [], List, ℕ, IsTrue, length, IfOk, OnOk, OnErr, IsErrOf};
-ghost use Rattle.kd_device.specs.{Device.{State, Rose, Frame, SameNames, LeavesOnly, Only}, Rest.{Rests}};
+ghost use Rattle.kd_device.specs.{Device.{State, Rose, Frame, SameFaults, SameNames, LeavesOnly, Only}, Rest.{Rests}};
 ghost use Rattle.kd_records.specs.{Identity.{IsIdentity}, Contents.{IsContent, patched}, Charge.{total_charge}, declared.content.Content.{Content}};
 ghost use Rattle.kdcfile_images.specs.{File.{Stands, StandsFor, IsNoImage, fresh}, Opened.{identity_of}};
 ghost use Rattle.kdcfile_store.specs.{Kept.{IsKept, OldOrNew}, Whole.{HasFile, LeavesMade, LeavesOldOr, identity_with, root_with}};
@@ -60,15 +60,16 @@ fn write_content<D: Device>(
     requires charge { total_charge image.old.blksize content.now.items ≤ image.old.root.pgpool }
     requires stands { IsTrue (D.state device.old).told → (x : Content) × Stands (identity_of image.old) image.old.second x (D.state device.old).holds }
     requires fits { IsTrue (D.state device.old).told → IsContent content.now }
-    requires settled { IsTrue (D.state device.old).told → Only (D.state device.old).holds (D.state device.old) (D.leaves device.old) }
+    requires at_rest { IsTrue (D.state device.old).told → Only (D.state device.old).holds (D.state device.old) (D.leaves device.old) }
     ensures identity { identity_of image.new ≡ identity_of image.old }
     ensures err { OnErr result (image.new ≡ image.old) }
     ensures stands { OnOk result (IsTrue (D.state device.old).told → Stands (identity_of image.old) image.new.second content.now (D.state device.new).holds) }
-    ensures settled { OnOk result (IsTrue (D.state device.old).told → Only (D.state device.new).holds (D.state device.new) (D.leaves device.new)) }
+    ensures at_rest { OnOk result (IsTrue (D.state device.old).told → Only (D.state device.new).holds (D.state device.new) (D.leaves device.new)) }
     ensures sent { IsTrue (D.state device.old).told → (D.state device.new).sent ≡ (D.state device.old).sent }
     ensures any_moment { IsTrue (D.state device.old).told → LeavesOldOr image.old content.now (D.state device.old) (D.state device.new) (D.leaves device.old) (D.leaves device.new) }
     ensures failed { IsErrOf result DeviceError.Failed → Rose (D.state device.old).disk_faults (D.state device.new).disk_faults }
     ensures memory { IsErrOf result DeviceError.Memory → IsTrue (D.state device.old).told → Rests (D.state device.old) (D.state device.new) (D.leaves device.old) (D.leaves device.new) }
+    ensures fine { (IsErrOf result DeviceError.Failed → ⊥) → SameFaults (D.state device.old) (D.state device.new) }
     ensures frame { Frame (D.state device.old) (D.state device.new) }
     ensures names { SameNames (D.state device.old) (D.state device.new) }
 {
@@ -102,7 +103,7 @@ impl WholeStore {
     ) -> Result<WholeStore, DeviceError>
         requires identity { IsIdentity (identity_with limits.now fingerprint.now) }
         requires empty { IsTrue (D.state device.old).told → (D.state device.old).holds ≡ [] }
-        requires settled { IsTrue (D.state device.old).told → Only (D.state device.old).holds (D.state device.old) (D.leaves device.old) }
+        requires at_rest { IsTrue (D.state device.old).told → Only (D.state device.old).holds (D.state device.old) (D.leaves device.old) }
         ensures identity { IfOk result (λ s. s.identity ≡ identity_with limits.now fingerprint.now) }
         ensures content { IfOk result (λ s. s.content ≡ fresh) }
         ensures kept { IfOk result (λ s. IsTrue (D.state device.old).told → IsKept (HasFile s) (D.state device.new) (D.leaves device.new)) }
@@ -110,6 +111,7 @@ impl WholeStore {
         ensures any_moment { IsTrue (D.state device.old).told → LeavesMade (identity_with limits.now fingerprint.now) (D.state device.old) (D.state device.new) (D.leaves device.old) (D.leaves device.new) }
         ensures failed { IsErrOf result DeviceError.Failed → Rose (D.state device.old).disk_faults (D.state device.new).disk_faults }
         ensures memory { IsErrOf result DeviceError.Memory → IsTrue (D.state device.old).told → Rests (D.state device.old) (D.state device.new) (D.leaves device.old) (D.leaves device.new) }
+        ensures fine { (IsErrOf result DeviceError.Failed → ⊥) → SameFaults (D.state device.old) (D.state device.new) }
         ensures frame { Frame (D.state device.old) (D.state device.new) }
         ensures names { SameNames (D.state device.old) (D.state device.new) }
     {
@@ -130,6 +132,7 @@ impl WholeStore {
         ensures none { IsErrOf result LoadError.NotKdcfile → IsTrue (D.state device.old).told → IsNoImage (D.state device.old).holds }
         ensures rests { IsTrue (D.state device.old).told → Rests (D.state device.old) (D.state device.new) (D.leaves device.old) (D.leaves device.new) }
         ensures failed { IsErrOf result LoadError.Failed → Rose (D.state device.old).disk_faults (D.state device.new).disk_faults }
+        ensures fine { (IsErrOf result LoadError.Failed → ⊥) → SameFaults (D.state device.old) (D.state device.new) }
         ensures frame { Frame (D.state device.old) (D.state device.new) }
         ensures names { SameNames (D.state device.old) (D.state device.new) }
     {

@@ -24,8 +24,8 @@ use Rattle.kdcs_calls.specs.Parts.{area_by, asked_in, goes_on, in_area, released
 use Rattle.kdcs_calls.proofs.Holders.{IsQuiet}
 
 -- SGET GB
-abbrev read_area : Told → Transaction → Area → (room : ℕ) → Performed
-read_area v x area room = locked v x area (λ y. read_or K03 y room (seen v y area))
+abbrev read_area : Told → Transaction → Area → (capacity : ℕ) → Performed
+read_area v x area capacity = locked v x area (λ y. read_or K03 y capacity (seen v y area))
 
 -- SREL GB
 abbrev delete_area : Told → Transaction → Area → Performed
@@ -81,9 +81,9 @@ IsReply (Pends variant o) = ⊥
 abbrev pub IsPlain : Transaction → Performed → Type 0
 IsPlain x p = IsQuiet x p × IsReply p.1
 
-plain_read : (x : Transaction) (room : ℕ) (o : Option Bytes) → IsPlain x (read_or K03 x room o)
-plain_read x room None = (refl, tt)
-plain_read x room (Some bytes) = (refl, tt)
+plain_read : (x : Transaction) (capacity : ℕ) (o : Option Bytes) → IsPlain x (read_or K03 x capacity o)
+plain_read x capacity None = (refl, tt)
+plain_read x capacity (Some bytes) = (refl, tt)
 
 plain_delete : (x : Transaction) (area : Area) (o : Option Bytes) → IsPlain x (deleted x area o)
 plain_delete x area None = (refl, tt)
@@ -91,12 +91,12 @@ plain_delete x area (Some bytes) = (refl, tt)
 
 -- a call on no area but LSSBs
 abbrev pub IsAlone : Call → Type 0
-IsAlone (SgetGb name room) = ⊥
+IsAlone (SgetGb name capacity) = ⊥
 IsAlone (SputGb name bytes) = ⊥
 IsAlone (SrelGb name) = ⊥
-IsAlone (SgetUs name room) = ⊥
+IsAlone (SgetUs name capacity) = ⊥
 IsAlone (SputUs name bytes) = ⊥
-IsAlone (Gtda name room) = ⊥
+IsAlone (Gtda name capacity) = ⊥
 IsAlone (Ptda name bytes) = ⊥
 IsAlone (UnlkGb name) = ⊥
 IsAlone (UnlkUs name) = ⊥
@@ -109,36 +109,36 @@ module _ (g : Generated) (t : TableRows) (l : Locks) (id : ServiceId) (x : Trans
   answer_to call = called g (told_now l g.limits.reswait t id (area_of_call x call)) (is_asynchronous id) x call
 
   -- what follows from refusals, from requests for a lock, from UNLK and from the calls on no area, follows from all
-  module _ (Follows : Locks → Option Area → Performed → Type 0)
-      (refuses : (area : Option Area) (code : Code) → Follows l area (replied x code))
-      (locks : (area : Area) (go : Transaction → Performed) → ((y : Transaction) → IsPlain y (go y)) → Follows (asked l g.limits.reswait t.clock id area) (Some area) (locked (told_of g t l id area) x area go))
-      (releases : (v : Told) (area : Area) → Follows (if may_release x area then unlocked_locks l id area else l) (Some area) (unlocked v x area))
-      (alone : (call : Call) → IsAlone call → Follows l None (answer_to call)) where
+  module _ (Matches : Locks → Option Area → Performed → Type 0)
+      (refuses : (area : Option Area) (code : Code) → Matches l area (replied x code))
+      (locks : (area : Area) (go : Transaction → Performed) → ((y : Transaction) → IsPlain y (go y)) → Matches (asked l g.limits.reswait t.clock id area) (Some area) (locked (told_of g t l id area) x area go))
+      (releases : (v : Told) (area : Area) → Matches (if may_release x area then unlocked_locks l id area else l) (Some area) (unlocked v x area))
+      (alone : (call : Call) → IsAlone call → Matches l None (answer_to call)) where
     abbrev Asks : (go : Told → Area → Performed) → Type 0
-    Asks go = (area : Area) → Follows (asked l g.limits.reswait t.clock id area) (Some area) (go (told_of g t l id area) area)
+    Asks go = (area : Area) → Matches (asked l g.limits.reswait t.clock id area) (Some area) (go (told_of g t l id area) area)
 
-    asked_follows : (named : Bytes → Area) (go : Told → Area → Performed) → Asks go → (o : Option Bytes) → Follows (after_request g t.clock l id (option_map named o)) (option_map named o) (goes_on g t l id x named go o)
+    asked_matches : (named : Bytes → Area) (go : Told → Area → Performed) → Asks go → (o : Option Bytes) → Matches (after_request g t.clock l id (option_map named o)) (option_map named o) (goes_on g t l id x named go o)
     unfolding told_now
-    asked_follows named go asks None = refuses None K11
-    asked_follows named go asks (Some name) = by (is_declared g (named name))
+    asked_matches named go asks None = refuses None K11
+    asked_matches named go asks (Some name) = by (is_declared g (named name))
       where
-        by : (b : Bool) → Follows (if b then asked l g.limits.reswait t.clock id (named name) else l) (Some (named name)) (declared x b (go (told_of g t l id (named name)) (named name)))
+        by : (b : Bool) → Matches (if b then asked l g.limits.reswait t.clock id (named name) else l) (Some (named name)) (declared x b (go (told_of g t l id (named name)) (named name)))
         by true = asks (named name)
         by false = refuses (Some (named name)) K08
 
-    released_follows : (named : Bytes → Area) (o : Option Bytes) → Follows (after_release g l id x (option_map named o)) (option_map named o) (goes_on g t l id x named (λ v a. unlocked v x a) o)
-    released_follows named None = refuses None K11
-    released_follows named (Some name) = by (is_declared g (named name))
+    released_matches : (named : Bytes → Area) (o : Option Bytes) → Matches (after_release g l id x (option_map named o)) (option_map named o) (goes_on g t l id x named (λ v a. unlocked v x a) o)
+    released_matches named None = refuses None K11
+    released_matches named (Some name) = by (is_declared g (named name))
       where
-        by : (b : Bool) → Follows (if b && may_release x (named name) then unlocked_locks l id (named name) else l) (Some (named name)) (declared x b (unlocked (told_now l g.limits.reswait t id (Some (named name))) x (named name)))
+        by : (b : Bool) → Matches (if b && may_release x (named name) then unlocked_locks l id (named name) else l) (Some (named name)) (declared x b (unlocked (told_now l g.limits.reswait t id (Some (named name))) x (named name)))
         by true = releases (told_now l g.limits.reswait t id (Some (named name))) (named name)
         by false = refuses (Some (named name)) K08
 
-    reads : (room : ℕ) → Asks (λ (v : Told) (a : Area). read_area v x a room)
-    reads room area = locks area (λ y. read_or K03 y room (seen (told_of g t l id area) y area)) (λ y. plain_read y room (seen (told_of g t l id area) y area))
+    reads : (capacity : ℕ) → Asks (λ (v : Told) (a : Area). read_area v x a capacity)
+    reads capacity area = locks area (λ y. read_or K03 y capacity (seen (told_of g t l id area) y area)) (λ y. plain_read y capacity (seen (told_of g t l id area) y area))
 
-    reads_block : (room : ℕ) → Asks (λ (v : Told) (a : Area). read_block v x a room)
-    reads_block room area = locks area (λ y. read_answer y room (or_empty (seen (told_of g t l id area) y area))) (λ y. (refl, tt))
+    reads_block : (capacity : ℕ) → Asks (λ (v : Told) (a : Area). read_block v x a capacity)
+    reads_block capacity area = locks area (λ y. read_answer y capacity (or_empty (seen (told_of g t l id area) y area))) (λ y. (refl, tt))
 
     writes : (bytes : Bytes) → Asks (λ (v : Told) (a : Area). write_block v x a bytes)
     writes bytes area = locks area (λ y. wrote y area (Some bytes)) (λ y. (refl, tt))
@@ -152,25 +152,25 @@ module _ (g : Generated) (t : TableRows) (l : Locks) (id : ServiceId) (x : Trans
     abbrev tls : Bytes → Area
     tls block = Tls block x.lterm
 
-    follows : (call : Call) → Follows (locks_by_call g t.clock l id x call) (area_of_call x call) (answer_to call)
+    matches : (call : Call) → Matches (locks_by_call g t.clock l id x call) (area_of_call x call) (answer_to call)
     unfolding called
-    follows (SgetGb name room) = asked_follows Gssb (λ v a. read_area v x a room) (reads room) (name_in_operand name)
-    follows (SputGb name bytes) = asked_follows Gssb (λ v a. write_block v x a bytes) (writes bytes) (name_in_operand name)
-    follows (SrelGb name) = asked_follows Gssb (λ v a. delete_area v x a) deletes (name_in_operand name)
-    follows (SgetUs name room) = asked_follows uls (λ v a. read_block v x a room) (reads_block room) (name_in_operand name)
-    follows (SputUs name bytes) = asked_follows uls (λ v a. write_block v x a bytes) (writes bytes) (name_in_operand name)
-    follows (Gtda name room) = asked_follows tls (λ v a. read_block v x a room) (reads_block room) (name_in_operand name)
-    follows (Ptda name bytes) = asked_follows tls (λ v a. write_block v x a bytes) (writes bytes) (name_in_operand name)
-    follows (UnlkGb name) = released_follows Gssb (name_in_operand name)
-    follows (UnlkUs name) = released_follows uls (name_in_operand name)
-    follows (UnlkDa name) = released_follows tls (name_in_operand name)
-    follows call = alone call tt
+    matches (SgetGb name capacity) = asked_matches Gssb (λ v a. read_area v x a capacity) (reads capacity) (name_in_operand name)
+    matches (SputGb name bytes) = asked_matches Gssb (λ v a. write_block v x a bytes) (writes bytes) (name_in_operand name)
+    matches (SrelGb name) = asked_matches Gssb (λ v a. delete_area v x a) deletes (name_in_operand name)
+    matches (SgetUs name capacity) = asked_matches uls (λ v a. read_block v x a capacity) (reads_block capacity) (name_in_operand name)
+    matches (SputUs name bytes) = asked_matches uls (λ v a. write_block v x a bytes) (writes bytes) (name_in_operand name)
+    matches (Gtda name capacity) = asked_matches tls (λ v a. read_block v x a capacity) (reads_block capacity) (name_in_operand name)
+    matches (Ptda name bytes) = asked_matches tls (λ v a. write_block v x a bytes) (writes bytes) (name_in_operand name)
+    matches (UnlkGb name) = released_matches Gssb (name_in_operand name)
+    matches (UnlkUs name) = released_matches uls (name_in_operand name)
+    matches (UnlkDa name) = released_matches tls (name_in_operand name)
+    matches call = alone call tt
 
-    pub performed_follows : {E : Type 0} (call : Call) (new : Locks) (y : Transaction) (r : Result Called E)
+    pub performed_matches : {E : Type 0} (call : Call) (new : Locks) (y : Transaction) (r : Result Called E)
         → IfOk r (λ (answer : Called). (y, answer) ≡ answer_to call)
         → OnOk r (new ≡ locks_by_call g t.clock l id x call)
-        → IfOk r (λ (answer : Called). Follows new (area_of_call x call) (y, answer))
-    performed_follows call new y (Ok answer) exact after =
-        subst (λ (m : Locks). Follows m (area_of_call x call) (y, answer)) (sym after)
-        (subst (λ (p : Performed). Follows (locks_by_call g t.clock l id x call) (area_of_call x call) p) (sym exact) (follows call))
-    performed_follows call new y (Err e) exact after = tt
+        → IfOk r (λ (answer : Called). Matches new (area_of_call x call) (y, answer))
+    performed_matches call new y (Ok answer) exact after =
+        subst (λ (m : Locks). Matches m (area_of_call x call) (y, answer)) (sym after)
+        (subst (λ (p : Performed). Matches (locks_by_call g t.clock l id x call) (area_of_call x call) p) (sym exact) (matches call))
+    performed_matches call new y (Err e) exact after = tt

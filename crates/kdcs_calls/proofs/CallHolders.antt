@@ -1,5 +1,5 @@
 -- Every call leaves the locks so.
-use Rattle.std.specs.Prelude.{◌≡◌, refl, ℕ, Bool, true, false, ◌&&◌, not, List, [], ◌∷◌, ◌++◌, length, Option, Some, None, Result, Ok, Err, IfOk, OnOk, is_some, nat_le, if◌then◌else◌, option_and_then}
+use Rattle.std.specs.Prelude.{◌≡◌, refl, ℕ, Bool, true, false, ◌&&◌, not, List, [], ◌∷◌, ◌++◌, length, Option, Some, None, Result, Ok, Err, IfOk, OnOk, is_some, nat_le, if◌then◌else◌}
 use Rattle.std.proofs.Common.{sym, subst}
 use Rattle.std.specs.FinMap.{find, put}
 use Rattle.kd_base.specs.declared.words.Variant.{Variant}
@@ -12,22 +12,23 @@ use Rattle.kdcs_types.specs.declared.key.Area.{Area}
 use Rattle.kdcs_types.specs.declared.key.ServiceId.{ServiceId}
 use Rattle.kdcs_types.specs.declared.key.Target.{Target}
 use Rattle.kdcs_types.specs.Tables.{TableRows}
-use Rattle.kdcdef_types.specs.Generation.{Generated, tac_of}
+use Rattle.kdcdef_types.specs.Generation.{Generated}
 use Rattle.abstract_monitor.specs.declared.answer.Called.{Called}
 use Rattle.abstract_monitor.specs.declared.draft.Due.{Due}
 use Rattle.abstract_monitor.specs.declared.draft.Due.TheVariants.{After}
 use Rattle.abstract_monitor.specs.declared.outcome.Outcome.{Outcome}
 use Rattle.abstract_monitor.specs.Bytes.{Bytes, bytes_cmp}
-use Rattle.abstract_monitor.specs.Calls.{Performed, called, delete_local, delete_local_by, drafted, first_call, fits_one_more, for_kind, got, got_by, has_message, job_target, moment_by, name_by, name_in_operand, pended, put_job, put_part, read_away, read_away_by, read_or, replied, with_name, within_length, write_local}
+use Rattle.abstract_monitor.specs.Access.{denial_of}
+use Rattle.abstract_monitor.specs.Calls.{Performed, called, delete_local, delete_local_by, drafted, first_call, fits_one_more, follow_up_entry, for_kind, got, got_by, has_message, job_target, moment_by, name_by, name_in_operand, pended, put_job, put_part, read_away, read_away_by, read_or, replied, with_name, within_length, write_local}
 use Rattle.abstract_monitor.specs.Outcomes.{pend_outcome}
 use Rattle.unit_semantics.specs.Contents.{number_of}
 use Rattle.abstract_monitor.specs.Endings.{is_asynchronous}
 use Rattle.abstract_monitor.specs.Locks.{Locks}
 use Rattle.abstract_monitor.specs.State.{OpenTransaction as Transaction}
-use Rattle.kdcs_calls.specs.Calling.{HoldersFollow, HoldsJust, locks_by_call}
-use Rattle.kdcs_calls.specs.HoldingLaws.{follow_holds, quiet_follows}
-use Rattle.kdcs_calls.proofs.Holders.{IsQuiet, locked_follows, unlocked_follows}
-use Rattle.kdcs_calls.proofs.AreaCalls.{IsAlone, answer_to, performed_follows}
+use Rattle.kdcs_calls.specs.Calling.{HoldersMatch, HoldsJust, locks_by_call}
+use Rattle.kdcs_calls.specs.HoldingLaws.{match_holds, quiet_matches}
+use Rattle.kdcs_calls.proofs.Holders.{IsQuiet, locked_matches, unlocked_matches}
+use Rattle.kdcs_calls.proofs.AreaCalls.{IsAlone, answer_to, performed_matches}
 
 -- ---- calls that touch no other area
 
@@ -43,9 +44,9 @@ quiet_length : (x : Transaction) (b : Bool) (p : Performed) → IsQuiet x p → 
 quiet_length x true p still = still
 quiet_length x false p still = refl
 
-quiet_got : (x : Transaction) (room : ℕ) (parts : List Bytes) → IsQuiet x (got_by x room parts)
-quiet_got x room [] = refl
-quiet_got x room (p ∷ ps) = refl
+quiet_got : (x : Transaction) (capacity : ℕ) (parts : List Bytes) → IsQuiet x (got_by x capacity parts)
+quiet_got x capacity [] = refl
+quiet_got x capacity (p ∷ ps) = refl
 
 quiet_draft : (x : Transaction) (to : Option Target) (due : Option Due) (message : Bytes) → IsQuiet x (drafted x to due message)
 quiet_draft x None due message = refl
@@ -57,13 +58,13 @@ quiet_job g x to due message =
     quiet_length x (nat_le (length message) g.limits.nb) (with_name x (name_in_operand to) (λ n. drafted x (job_target g n) due message))
     (quiet_name x (name_in_operand to) (λ n. drafted x (job_target g n) due message) (λ n. quiet_draft x (job_target g n) due message))
 
-quiet_read : (code : Code) (x : Transaction) (room : ℕ) (o : Option Bytes) → IsQuiet x (read_or code x room o)
-quiet_read code x room None = refl
-quiet_read code x room (Some bytes) = refl
+quiet_read : (code : Code) (x : Transaction) (capacity : ℕ) (o : Option Bytes) → IsQuiet x (read_or code x capacity o)
+quiet_read code x capacity None = refl
+quiet_read code x capacity (Some bytes) = refl
 
-quiet_away : (x : Transaction) (name : Bytes) (room : ℕ) (o : Option Bytes) → IsQuiet x (read_away_by x name room o)
-quiet_away x name room None = refl
-quiet_away x name room (Some bytes) = refl
+quiet_away : (x : Transaction) (name : Bytes) (capacity : ℕ) (o : Option Bytes) → IsQuiet x (read_away_by x name capacity o)
+quiet_away x name capacity None = refl
+quiet_away x name capacity (Some bytes) = refl
 
 quiet_write : (x : Transaction) (b : Bool) (p q : Performed) → IsQuiet x p → IsQuiet x q → IsQuiet x (if b then p else q)
 quiet_write x true p q a c = a
@@ -84,45 +85,45 @@ quiet_first x _ = refl
 -- ---- all calls
 
 module _ (g : Generated) (t : TableRows) (l : Locks) (id : ServiceId) (x : Transaction) (h : HoldsJust l id x) where
-  abbrev Follows : Locks → Option Area → Performed → Type 0
-  Follows m area p = HoldersFollow l m id p.0
+  abbrev Matches : Locks → Option Area → Performed → Type 0
+  Matches m area p = HoldersMatch l m id p.0
 
   quiet_alone : (call : Call) → IsAlone call → IsQuiet x (answer_to g t l id x call)
   unfolding called
   quiet_alone Init alone = refl
-  quiet_alone (Mget room) alone = quiet_kind x (not (is_asynchronous id)) (got x room) (quiet_got x room x.unread)
+  quiet_alone (Mget capacity) alone = quiet_kind x (not (is_asynchronous id)) (got x capacity) (quiet_got x capacity x.unread)
   quiet_alone (Mput bytes) alone =
       quiet_kind x (not (is_asynchronous id)) (put_part g x bytes)
       (quiet_length x (fits_one_more g.limits.nb x.parts bytes) (replied (record x { parts = x.parts ++ bytes ∷ [] }) Done) refl)
-  quiet_alone (Fget room) alone = quiet_kind x (is_asynchronous id) (got x room) (quiet_got x room x.unread)
+  quiet_alone (Fget capacity) alone = quiet_kind x (is_asynchronous id) (got x capacity) (quiet_got x capacity x.unread)
   quiet_alone (Fput to message) alone = quiet_job g x to (Some (After 0)) message
   quiet_alone (Dput to mode d hours m s message) alone = quiet_job g x to (moment_by mode (number_of d) (number_of hours) (number_of m) (number_of s)) message
-  quiet_alone (SgetKp name room) alone = quiet_name x (name_in_operand name) (λ n. read_or K03 x room (find bytes_cmp n x.lssbs)) (λ n. quiet_read K03 x room (find bytes_cmp n x.lssbs))
-  quiet_alone (SgetRl name room) alone = quiet_name x (name_in_operand name) (λ n. read_away x n room) (λ n. quiet_away x n room (find bytes_cmp n x.lssbs))
+  quiet_alone (SgetKp name capacity) alone = quiet_name x (name_in_operand name) (λ n. read_or K03 x capacity (find bytes_cmp n x.lssbs)) (λ n. quiet_read K03 x capacity (find bytes_cmp n x.lssbs))
+  quiet_alone (SgetRl name capacity) alone = quiet_name x (name_in_operand name) (λ n. read_away x n capacity) (λ n. quiet_away x n capacity (find bytes_cmp n x.lssbs))
   quiet_alone (SputMs name bytes) alone =
       quiet_name x (name_in_operand name) (λ n. write_local g x n bytes)
       (λ n. quiet_write x (not (is_some (find bytes_cmp n x.lssbs)) && nat_le g.limits.lssbs (length x.lssbs)) (replied x K09) (replied (record x { lssbs = put bytes_cmp n bytes x.lssbs }) Done) refl refl)
   quiet_alone (SrelLb name) alone = quiet_name x (name_in_operand name) (λ n. delete_local x n) (λ n. quiet_delete_local x n (find bytes_cmp n x.lssbs))
   quiet_alone (Pend variant op) alone =
-      quiet_pend x variant (pend_outcome (is_asynchronous id) variant (has_message x.parts) (option_and_then (tac_of g) (name_by op)) (name_by op))
+      quiet_pend x variant (pend_outcome (is_asynchronous id) variant (has_message x.parts) (follow_up_entry (denial_of g) g x variant (name_by op)) (name_by op))
   quiet_alone _ alone = absurd alone
 
   -- before INIT is done
-  pub first_performed : (call : Call) (y : Transaction) (answer : Called) → (y, answer) ≡ first_call x call → HoldersFollow l l id y
-  first_performed call y answer exact = subst (λ (p : Performed). HoldersFollow l l id p.0) (sym exact) (quiet_follows l id x h (first_call x call).0 (quiet_first x call))
+  pub first_performed : (call : Call) (y : Transaction) (answer : Called) → (y, answer) ≡ first_call x call → HoldersMatch l l id y
+  first_performed call y answer exact = subst (λ (p : Performed). HoldersMatch l l id p.0) (sym exact) (quiet_matches l id x h (first_call x call).0 (quiet_first x call))
 
   -- once INIT is done
   pub later_performed : {E : Type 0} (call : Call) (new : Locks) (y : Transaction) (r : Result Called E)
       → IfOk r (λ (answer : Called). (y, answer) ≡ answer_to g t l id x call)
       → OnOk r (new ≡ locks_by_call g t.clock l id x call)
-      → OnOk r (HoldersFollow l new id y)
+      → OnOk r (HoldersMatch l new id y)
   later_performed =
-      performed_follows g t l id x Follows (λ area code. quiet_follows l id x h x refl)
-      (λ area go plain. locked_follows l id x h area g t go (λ y. (plain y).0))
-      (λ v area. unlocked_follows l id x h area v)
-      (λ call alone. quiet_follows l id x h (answer_to g t l id x call).0 (quiet_alone call alone))
+      performed_matches g t l id x Matches (λ area code. quiet_matches l id x h x refl)
+      (λ area go plain. locked_matches l id x h area g t go (λ y. (plain y).0))
+      (λ v area. unlocked_matches l id x h area v)
+      (λ call alone. quiet_matches l id x h (answer_to g t l id x call).0 (quiet_alone call alone))
 
   -- so the locks give the service just what its transaction touches, again
-  pub still_holds : {E : Type 0} (new : Locks) (y : Transaction) (r : Result Called E) → OnOk r (HoldersFollow l new id y) → OnOk r (HoldsJust new id y)
-  still_holds new y (Ok answer) follow = follow_holds l new id y follow
-  still_holds new y (Err e) follow = tt
+  pub still_holds : {E : Type 0} (new : Locks) (y : Transaction) (r : Result Called E) → OnOk r (HoldersMatch l new id y) → OnOk r (HoldsJust new id y)
+  still_holds new y (Ok answer) matching = match_holds l new id y matching
+  still_holds new y (Err e) matching = tt

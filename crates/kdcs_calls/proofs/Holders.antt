@@ -20,8 +20,8 @@ use Rattle.abstract_monitor.specs.declared.answer.LockAnswer.TheVariants.{Grante
 use Rattle.abstract_monitor.specs.Calls.{Told, Performed, locked, noted, on_answer, touches, touching, unlocked, unlocked_by}
 use Rattle.abstract_monitor.specs.Locks.{Locks, answer_of, holder}
 use Rattle.abstract_monitor.specs.State.{OpenTransaction as Transaction}
-use Rattle.kdcs_calls.specs.Calling.{HoldersFollow, HoldsJust, holder_then, may_release}
-use Rattle.kdcs_calls.specs.HoldingLaws.{kept, quiet_follows}
+use Rattle.kdcs_calls.specs.Calling.{HoldersMatch, HoldsJust, holder_then, may_release}
+use Rattle.kdcs_calls.specs.HoldingLaws.{kept, quiet_matches}
 use Rattle.kdcs_calls.specs.Parts.{told_of}
 use Rattle.kdcs_calls.proofs.Locking.{same_answer}
 
@@ -53,8 +53,8 @@ module _ (l : Locks) (id : ServiceId) (x : Transaction) (h : HoldsJust l id x) w
         by true t = or_true t
         by false t = or_false t
 
-    granted_follows : (y : Transaction) → y.touched ≡ (touching x area (touches x area)).touched → HoldersFollow l (without_wait (with_holder l id area) id) id y
-    granted_follows y e a =
+    granted_matches : (y : Transaction) → y.touched ≡ (touching x area (touches x area)).touched → HoldersMatch l (without_wait (with_holder l id area) id) id y
+    granted_matches y e a =
         find-put area_cmp area_total a area id l.holders
         ∙ by (area_eq a area) (kept l id x h a)
         ∙ ap (λ (b : Bool). if b then Some id else other_than id (holder l a)) (sym (touched_then (touches x area) refl a (area_eq a area) refl))
@@ -64,17 +64,17 @@ module _ (l : Locks) (id : ServiceId) (x : Transaction) (h : HoldsJust l id x) w
         by true k = refl
         by false k = k
 
-    answer_follows : (now : ℕ) (go : Transaction → Performed) → ((y : Transaction) → IsQuiet y (go y)) → (answer : LockAnswer) → HoldersFollow l (locks_after answer l now id area) id (on_answer x area answer go).0
-    answer_follows now go still Granted = granted_follows (go (touching x area (touches x area))).0 (still (touching x area (touches x area)))
-    answer_follows now go still Wait = quiet_follows l id x h x refl
-    answer_follows now go still Busy = quiet_follows l id x h (noted x area K04) refl
-    answer_follows now go still Deadlock = quiet_follows l id x h (noted x area K05) refl
+    answer_matches : (now : ℕ) (go : Transaction → Performed) → ((y : Transaction) → IsQuiet y (go y)) → (answer : LockAnswer) → HoldersMatch l (locks_after answer l now id area) id (on_answer x area answer go).0
+    answer_matches now go still Granted = granted_matches (go (touching x area (touches x area))).0 (still (touching x area (touches x area)))
+    answer_matches now go still Wait = quiet_matches l id x h x refl
+    answer_matches now go still Busy = quiet_matches l id x h (noted x area K04) refl
+    answer_matches now go still Deadlock = quiet_matches l id x h (noted x area K05) refl
 
-    pub locked_follows : (g : Generated) (t : TableRows) (go : Transaction → Performed) → ((y : Transaction) → IsQuiet y (go y)) → HoldersFollow l (asked l g.limits.reswait t.clock id area) id (locked (told_of g t l id area) x area go).0
-    locked_follows g t go still =
-        subst (λ (a : LockAnswer). HoldersFollow l (asked l g.limits.reswait t.clock id area) id (on_answer x area a go).0)
+    pub locked_matches : (g : Generated) (t : TableRows) (go : Transaction → Performed) → ((y : Transaction) → IsQuiet y (go y)) → HoldersMatch l (asked l g.limits.reswait t.clock id area) id (locked (told_of g t l id area) x area go).0
+    locked_matches g t go still =
+        subst (λ (a : LockAnswer). HoldersMatch l (asked l g.limits.reswait t.clock id area) id (on_answer x area a go).0)
         (sym (same_answer g t l id x area h))
-        (answer_follows t.clock go still (answer_of l g.limits.reswait t.clock id area))
+        (answer_matches t.clock go still (answer_of l g.limits.reswait t.clock id area))
 
     -- ---- UNLK
 
@@ -90,9 +90,9 @@ module _ (l : Locks) (id : ServiceId) (x : Transaction) (h : HoldsJust l id x) w
     none_else None e = absurd (true≢false (sym e))
     none_else (Some other) e = sym (ap (λ (b : Bool). if b then None else Some other) e)
 
-    released_follows : (y : Transaction) → y.touched ≡ without x.touched → touches x area ≡ true → HoldersFollow l (unlocked_locks l id area) id y
-    released_follows y e held =
-        subst (λ (b : Bool). HoldersFollow l (given_back l area b) id y) (sym (h area ∙ held)) left
+    released_matches : (y : Transaction) → y.touched ≡ without x.touched → touches x area ≡ true → HoldersMatch l (unlocked_locks l id area) id y
+    released_matches y e held =
+        subst (λ (b : Bool). HoldersMatch l (given_back l area b) id y) (sym (h area ∙ held)) left
       where
         alike : (a k : Area) → area_cmp a k ≡ Equal → not (area_eq area k) ≡ not (area_eq area a)
         alike a k same = ap (λ (i : Area). not (area_eq area i)) (sym (same_area a k same))
@@ -101,18 +101,18 @@ module _ (l : Locks) (id : ServiceId) (x : Transaction) (h : HoldsJust l id x) w
         by a true same = none_else (holder l a) (ap (λ (i : Area). holds_area l id i) (sym (area_eq_same area a same)) ∙ h area ∙ held)
         by a false same = kept l id x h a
 
-        left : HoldersFollow l (without_holder l area) id y
+        left : HoldersMatch l (without_holder l area) id y
         left a =
             find-where_key area_cmp (λ (k : Area). not (area_eq area k)) a (alike a) l.holders
             ∙ by a (area_eq area a) refl
             ∙ ap (λ (b : Bool). if b then Some id else other_than id (holder l a)) (sym (without_is a))
             ∙ ap (λ (kept_areas : List Area). if list_any (λ (k : Area). area_eq k a) kept_areas then Some id else other_than id (holder l a)) (sym e)
 
-    pub unlocked_follows : (v : Told) → HoldersFollow l (if may_release x area then unlocked_locks l id area else l) id (unlocked v x area).0
-    unlocked_follows v = by (touches x area) (is_some (find area_cmp area x.written)) refl
+    pub unlocked_matches : (v : Told) → HoldersMatch l (if may_release x area then unlocked_locks l id area else l) id (unlocked v x area).0
+    unlocked_matches v = by (touches x area) (is_some (find area_cmp area x.written)) refl
       where
-        by : (held written : Bool) → touches x area ≡ held → HoldersFollow l (if held && not written then unlocked_locks l id area else l) id (unlocked_by v x area held written).0
-        by true true e = quiet_follows l id x h x refl
-        by true false e = released_follows (unlocked_by v x area true false).0 refl e
-        by false true e = quiet_follows l id x h x refl
-        by false false e = quiet_follows l id x h x refl
+        by : (held written : Bool) → touches x area ≡ held → HoldersMatch l (if held && not written then unlocked_locks l id area else l) id (unlocked_by v x area held written).0
+        by true true e = quiet_matches l id x h x refl
+        by true false e = released_matches (unlocked_by v x area true false).0 refl e
+        by false true e = quiet_matches l id x h x refl
+        by false false e = quiet_matches l id x h x refl

@@ -39,12 +39,12 @@ module _ (g : Generated) (t : TableRows) (l : Locks) (id : ServiceId) (asynchron
       by (inr (inl e)) = rw e refl
       by (inr (inr e)) = rw e refl
 
-  pub reads : {E : Type 0} (r : Result Called E) (y : Transaction) (name : Bytes) (room : ℕ)
-      → (call ≡ SgetUs name room) ⊎ (call ≡ Gtda name room)
-      → IfOk r (λ (a : Called). (y, a) ≡ goes owner (λ v a. read_block v x a room) name) → IfOk r (λ (a : Called). (y, a) ≡ answer)
+  pub reads : {E : Type 0} (r : Result Called E) (y : Transaction) (name : Bytes) (capacity : ℕ)
+      → (call ≡ SgetUs name capacity) ⊎ (call ≡ Gtda name capacity)
+      → IfOk r (λ (a : Called). (y, a) ≡ goes owner (λ v a. read_block v x a capacity) name) → IfOk r (λ (a : Called). (y, a) ≡ answer)
   unfolding called
-  reads r y name room is = by_owner r y (λ v a. read_block v x a room) name (by is)
+  reads r y name capacity is = by_owner r y (λ v a. read_block v x a capacity) name (by is)
     where
-      by : (call ≡ SgetUs name room) ⊎ (call ≡ Gtda name room) → goes (owner_of x call) (λ v a. read_block v x a room) name ≡ answer
+      by : (call ≡ SgetUs name capacity) ⊎ (call ≡ Gtda name capacity) → goes (owner_of x call) (λ v a. read_block v x a capacity) name ≡ answer
       by (inl e) = rw e refl
       by (inr e) = rw e refl

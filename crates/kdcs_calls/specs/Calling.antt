@@ -40,8 +40,8 @@ abbrev pub holder_then : ServiceId → Transaction → Area → (before : Option
 holder_then id x area before = if touches x area then Some id else other_than id before
 
 -- so it is with each area, from these locks to those
-abbrev pub HoldersFollow : (before after : Locks) → ServiceId → Transaction → Type 0
-HoldersFollow l m id x = (area : Area) → holder m area ≡ holder_then id x area (holder l area)
+abbrev pub HoldersMatch : (before after : Locks) → ServiceId → Transaction → Type 0
+HoldersMatch l m id x = (area : Area) → holder m area ≡ holder_then id x area (holder l area)
 
 -- only a call that asks of an area waits: since the first request of this wait
 abbrev pub waits_for_area : Locks → ServiceId → (now : ℕ) → Option Area → List (ServiceId × Waiting)
@@ -49,11 +49,11 @@ waits_for_area l id now None = l.waits
 waits_for_area l id now (Some area) = (with_wait l id area now).waits
 
 -- an answered call changes no wait of another service, one that waits has its wait, and the others leave the waits as they were
-abbrev pub WaitsFollow : (before after : Locks) → ServiceId → (now : ℕ) → Option Area → Called → Type 0
-WaitsFollow l m id now area (Replied reply) = (without_wait m id).waits ≡ (without_wait l id).waits
-WaitsFollow l m id now area Waits = m.waits ≡ waits_for_area l id now area
-WaitsFollow l m id now area (Abnormal cause) = m.waits ≡ l.waits
-WaitsFollow l m id now area (Pends variant o) = m.waits ≡ l.waits
+abbrev pub WaitsMatch : (before after : Locks) → ServiceId → (now : ℕ) → Option Area → Called → Type 0
+WaitsMatch l m id now area (Replied reply) = (without_wait m id).waits ≡ (without_wait l id).waits
+WaitsMatch l m id now area Waits = m.waits ≡ waits_for_area l id now area
+WaitsMatch l m id now area (Abnormal cause) = m.waits ≡ l.waits
+WaitsMatch l m id now area (Pends variant o) = m.waits ≡ l.waits
 
 -- ---- what it answers
 
@@ -89,12 +89,12 @@ after_release g l id x (Some area) = if is_declared g area && may_release x area
 
 -- the locks after a call, once INIT is done
 abbrev pub locks_by_call : Generated → (now : ℕ) → Locks → ServiceId → Transaction → Call → Locks
-locks_by_call g now l id x (SgetGb name room) = after_request g now l id (area_of_call x (SgetGb name room))
+locks_by_call g now l id x (SgetGb name capacity) = after_request g now l id (area_of_call x (SgetGb name capacity))
 locks_by_call g now l id x (SputGb name bytes) = after_request g now l id (area_of_call x (SputGb name bytes))
 locks_by_call g now l id x (SrelGb name) = after_request g now l id (area_of_call x (SrelGb name))
-locks_by_call g now l id x (SgetUs name room) = after_request g now l id (area_of_call x (SgetUs name room))
+locks_by_call g now l id x (SgetUs name capacity) = after_request g now l id (area_of_call x (SgetUs name capacity))
 locks_by_call g now l id x (SputUs name bytes) = after_request g now l id (area_of_call x (SputUs name bytes))
-locks_by_call g now l id x (Gtda name room) = after_request g now l id (area_of_call x (Gtda name room))
+locks_by_call g now l id x (Gtda name capacity) = after_request g now l id (area_of_call x (Gtda name capacity))
 locks_by_call g now l id x (Ptda name bytes) = after_request g now l id (area_of_call x (Ptda name bytes))
 locks_by_call g now l id x (UnlkGb name) = after_release g l id x (area_of_call x (UnlkGb name))
 locks_by_call g now l id x (UnlkUs name) = after_release g l id x (area_of_call x (UnlkUs name))

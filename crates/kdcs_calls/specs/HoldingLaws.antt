@@ -10,11 +10,11 @@ use Rattle.area_locks.specs.Asked.{is_holder, other_than}
 use Rattle.abstract_monitor.specs.Calls.{touches}
 use Rattle.abstract_monitor.specs.Locks.{Locks, holder}
 use Rattle.abstract_monitor.specs.State.{OpenTransaction as Transaction}
-use Rattle.kdcs_calls.specs.Calling.{HoldersFollow, HoldsJust, holder_then}
+use Rattle.kdcs_calls.specs.Calling.{HoldersMatch, HoldsJust, holder_then}
 
 -- HoldsJust again
-pub follow_holds : (l m : Locks) (id : ServiceId) (x : Transaction) → HoldersFollow l m id x → HoldsJust m id x
-follow_holds l m id x follow area = ap (λ (o : Option ServiceId). is_holder o id) (follow area) ∙ by (holder l area) (touches x area)
+pub match_holds : (l m : Locks) (id : ServiceId) (x : Transaction) → HoldersMatch l m id x → HoldsJust m id x
+match_holds l m id x matching area = ap (λ (o : Option ServiceId). is_holder o id) (matching area) ∙ by (holder l area) (touches x area)
   where
     other : (o : ServiceId) (b : Bool) → id_eq o id ≡ b → is_holder (if b then None else Some o) id ≡ false
     other o true e = refl
@@ -35,6 +35,6 @@ module _ (l : Locks) (id : ServiceId) (x : Transaction) (h : HoldsJust l id x) w
       by (Some other) true e = ap (λ (i : ServiceId). Some i) (id_eq_same other id e)
       by (Some other) false e = sym (ap (λ (b : Bool). if b then None else Some other) e)
 
-  pub quiet_follows : (y : Transaction) → y.touched ≡ x.touched → HoldersFollow l l id y
-  quiet_follows y e area =
+  pub quiet_matches : (y : Transaction) → y.touched ≡ x.touched → HoldersMatch l l id y
+  quiet_matches y e area =
       kept area ∙ ap (λ (held : List Area). if list_any (λ (k : Area). area_eq k area) held then Some id else other_than id (holder l area)) (sym e)

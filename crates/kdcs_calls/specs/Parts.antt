@@ -42,10 +42,10 @@ named_by (Lterm lterm) name = Tls name lterm
 
 -- whose area a call names
 abbrev pub owner_of : Transaction → Call → Owner
-owner_of x (SgetUs name room) = User x.user
+owner_of x (SgetUs name capacity) = User x.user
 owner_of x (SputUs name bytes) = User x.user
 owner_of x (UnlkUs name) = User x.user
-owner_of x (Gtda name room) = Lterm x.lterm
+owner_of x (Gtda name capacity) = Lterm x.lterm
 owner_of x (Ptda name bytes) = Lterm x.lterm
 owner_of x (UnlkDa name) = Lterm x.lterm
 owner_of x _ = All
@@ -87,8 +87,8 @@ seen_of content x area = shown_by (find area_cmp area x.written) content
 
 -- what a call does with an area that it holds, and that has this content in the tables
 abbrev pub held : Access → (content : Option Bytes) → Transaction → Area → Performed
-held (Read room) content x area = read_or K03 x room (seen_of content x area)
-held (ReadBlock room) content x area = read_answer x room (or_empty (seen_of content x area))
+held (Read capacity) content x area = read_or K03 x capacity (seen_of content x area)
+held (ReadBlock capacity) content x area = read_answer x capacity (or_empty (seen_of content x area))
 held (Write bytes) content x area = wrote x area (Some bytes.now)
 held Delete content x area = deleted x area (seen_of content x area)
 
@@ -116,15 +116,15 @@ abbrev pub unlocked_by : Generated → TableRows → Locks → OpenTransaction �
 unlocked_by g t l w owner operand =
     goes_on g t l w.id (transaction_of w) (named_by owner) (λ v a. calls.unlocked v (transaction_of w) a) (name_in_operand operand)
 
--- MPUT of a part, where the area of messages has this room
+-- MPUT of a part, where this is what the area of messages takes
 abbrev pub PutsPart : OpenTransaction → (allowed : Bool) → (part : Bytes) → Performed → Type 0
 PutsPart w allowed part performed =
     (g : Generated) → w.messages.nb ≡ g.limits.nb → performed ≡ for_kind (transaction_of w) allowed (put_part g (transaction_of w) part)
 
 -- what a call does with an LSSB
 abbrev pub local_call : Generated → Local → Transaction → Bytes → Performed
-local_call g (local.Read room) x name = read_or K03 x room (find bytes_cmp name x.lssbs)
-local_call g (local.ReadAway room) x name = read_away x name room
+local_call g (local.Read capacity) x name = read_or K03 x capacity (find bytes_cmp name x.lssbs)
+local_call g (local.ReadAway capacity) x name = read_away x name capacity
 local_call g (local.Write bytes) x name = write_local g x name bytes.now
 local_call g local.Delete x name = delete_local x name
 

@@ -19,13 +19,13 @@ pub(crate) fn replied(code: Code) -> Called
     })
 }
 
-/// A content that was read into a field of `room` bytes: K02 where it is longer.
-pub(crate) fn read_reply(room: u32, bytes: Bytes) -> Called
+/// A content that was read into a field of `capacity` bytes: K02 where it is longer.
+pub(crate) fn read_reply(capacity: u32, bytes: Bytes) -> Called
     requires { IsShort bytes }
-    ensures { result ≡ called.Replied (read_reply room bytes) }
+    ensures { result ≡ called.Replied (read_reply capacity bytes) }
 {
     let length = bytes.len();
-    let code = if (room as usize) < length {
+    let code = if (capacity as usize) < length {
         Code::K02
     } else {
         Code::Done
@@ -38,12 +38,12 @@ pub(crate) fn read_reply(room: u32, bytes: Bytes) -> Called
 }
 
 /// What was read, or this code where there is nothing.
-pub(crate) fn read_or(code: Code, room: u32, found: Option<Bytes>) -> Called
+pub(crate) fn read_or(code: Code, capacity: u32, found: Option<Bytes>) -> Called
     requires { IfSome found IsShort }
-    ensures { (x : Transaction) → (x, result) ≡ read_or code x room found }
+    ensures { (x : Transaction) → (x, result) ≡ read_or code x capacity found }
 {
     match found {
         None => replied(code),
-        Some(bytes) => read_reply(room, bytes),
+        Some(bytes) => read_reply(capacity, bytes),
     }
 }

@@ -86,13 +86,13 @@ fn access_held(
     ensures nb { transaction.new.messages.nb ≡ transaction.old.messages.nb }
 {
     match access {
-        Access::Read(room) => {
+        Access::Read(capacity) => {
             let found = transaction.areas.read(outside.tables, &area)?;
-            Ok(read_or(Code::K03, room, found))
+            Ok(read_or(Code::K03, capacity, found))
         }
-        Access::ReadBlock(room) => {
+        Access::ReadBlock(capacity) => {
             let found = transaction.areas.read(outside.tables, &area)?;
-            Ok(read_reply(room, or_empty(outside.alloc, found)))
+            Ok(read_reply(capacity, or_empty(outside.alloc, found)))
         }
         Access::Write(bytes) => write(transaction, area, bytes),
         Access::Delete => delete(outside.tables, transaction, area),

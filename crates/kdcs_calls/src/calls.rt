@@ -2,7 +2,7 @@
 ghost use Rattle.std.specs.Prelude.{◌≡◌, IfOk, OnOk};
 ghost use Rattle.abstract_monitor.specs.{Calls.{call_outcome, first_call}, Endings.{is_asynchronous}, Statements.{area_of_call}};
 ghost use Rattle.open_transaction.specs.Transactions.{transaction_of};
-ghost use Rattle.kdcs_calls.specs.{Calling.{CanRead, HoldersFollow, HoldsJust, WaitsFollow, called_now, locks_after_call, locks_by_call, performed_now}, Parts.{owner_of}};
+ghost use Rattle.kdcs_calls.specs.{Calling.{CanRead, HoldersMatch, HoldsJust, WaitsMatch, called_now, locks_after_call, locks_by_call, performed_now}, Parts.{owner_of}};
 
 use crate::answer::replied;
 use crate::areas::{Access, access_area, unlock};
@@ -75,31 +75,31 @@ fn later_call(
     let asynchronous = is_asynchronous(transaction.id);
     match call {
         Call::Init => Ok(Called::Abnormal(Cause::E01)),
-        Call::Mget(room) => Ok(get(transaction, !asynchronous, *room)),
+        Call::Mget(capacity) => Ok(get(transaction, !asynchronous, *capacity)),
         Call::Mput(part) => put(transaction, !asynchronous, part),
-        Call::Fget(room) => Ok(get(transaction, asynchronous, *room)),
+        Call::Fget(capacity) => Ok(get(transaction, asynchronous, *capacity)),
         Call::Fput(to, message) => put_job(g, transaction, to, Some(Due::After(0)), message),
         Call::Dput(to, mode, d, h, m, s, message) => {
             put_job(g, transaction, to, moment_in(*mode, d, h, m, s), message)
         }
-        Call::SgetGb(name, room) => {
+        Call::SgetGb(name, capacity) => {
             access_area(
                 outside,
                 locks,
                 transaction,
                 owner,
                 name,
-                Access::Read(*room),
+                Access::Read(*capacity),
             )
         }
-        Call::SgetUs(name, room) | Call::Gtda(name, room) => {
+        Call::SgetUs(name, capacity) | Call::Gtda(name, capacity) => {
             access_area(
                 outside,
                 locks,
                 transaction,
                 owner,
                 name,
-                Access::ReadBlock(*room),
+                Access::ReadBlock(*capacity),
             )
         }
         Call::SputGb(name, bytes) | Call::SputUs(name, bytes) | Call::Ptda(name, bytes) => {
@@ -116,8 +116,13 @@ fn later_call(
         Call::UnlkGb(name) | Call::UnlkUs(name) | Call::UnlkDa(name) => {
             unlock(outside, locks, transaction, owner, name)
         }
-        Call::SgetKp(name, room) => access_local(g, transaction, name, Local::Read(*room)),
-        Call::SgetRl(name, room) => access_local(g, transaction, name, Local::ReadAway(*room)),
+        Call::SgetKp(name, capacity) => access_local(g, transaction, name, Local::Read(*capacity)),
+        Call::SgetRl(name, capacity) => access_local(
+            g,
+            transaction,
+            name,
+            Local::ReadAway(*capacity),
+        ),
         Call::SputMs(name, bytes) => access_local(g, transaction, name, Local::Write(bytes)),
         Call::SrelLb(name) => access_local(g, transaction, name, Local::Delete),
         Call::Pend(variant, operand) => Ok(pend(g, asynchronous, transaction, *variant, operand)),
@@ -126,7 +131,7 @@ fn later_call(
 
 /// Performs a KDCS call of an open transaction at the clock of the tables: what it answers, or that its request for an
 /// area waits, that the service ends abnormally, or that a PEND is not refused. A request that waits changes nothing but
-/// the wait, and is repeated as it stands. `locks` gives the service exactly the areas that its transaction holds. No
+/// the wait, and is repeated as it is. `locks` gives the service exactly the areas that its transaction holds. No
 /// part, area or LSSB that it may read is longer than 32,767 bytes. When memory runs out, the transaction and the locks
 /// are of no use any more.
 #[tactic(auto, unfolding(abstract_monitor::specs::Calls::call_outcome))]
@@ -143,9 +148,9 @@ pub fn perform(
     requires nb { open_work.old.messages.nb ≡ generation.now.limits.nb }
     ensures exact { IfOk result (λ c. (transaction_of open_work.new, c) ≡ performed_now generation.now tables.now locks.old open_work.old.id (transaction_of open_work.old) call.now) }
     ensures locks { OnOk result (locks.new ≡ locks_after_call generation.now tables.now.clock locks.old open_work.old.id (transaction_of open_work.old) call.now) }
-    ensures holders { OnOk result (HoldersFollow locks.old locks.new open_work.old.id (transaction_of open_work.new)) }
+    ensures holders { OnOk result (HoldersMatch locks.old locks.new open_work.old.id (transaction_of open_work.new)) }
     ensures holds { OnOk result (HoldsJust locks.new open_work.old.id (transaction_of open_work.new)) }
-    ensures waits { IfOk result (λ c. WaitsFollow locks.old locks.new open_work.old.id tables.now.clock (area_of_call (transaction_of open_work.old) call.now) c) }
+    ensures waits { IfOk result (λ c. WaitsMatch locks.old locks.new open_work.old.id tables.now.clock (area_of_call (transaction_of open_work.old) call.now) c) }
     ensures id { open_work.new.id ≡ open_work.old.id }
     ensures statements { open_work.new.statements ≡ open_work.old.statements }
     ensures nb { open_work.new.messages.nb ≡ open_work.old.messages.nb }

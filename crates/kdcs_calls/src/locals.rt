@@ -29,10 +29,10 @@ pub(crate) enum Local<'a> {
 fn read_away(
     transaction: &mut OpenTransaction,
     name: Name,
-    room: u32,
+    capacity: u32,
 ) -> Result<Called, OutOfMemory>
     requires { IfSome (find bytes_cmp name transaction.old.areas.lssbs) IsShort }
-    ensures exact { IfOk result (λ called. (transaction_of transaction.new, called) ≡ read_away (transaction_of transaction.old) name room) }
+    ensures exact { IfOk result (λ called. (transaction_of transaction.new, called) ≡ read_away (transaction_of transaction.old) name capacity) }
     ensures id { transaction.new.id ≡ transaction.old.id }
     ensures statements { transaction.new.statements ≡ transaction.old.statements }
     ensures nb { transaction.new.messages.nb ≡ transaction.old.messages.nb }
@@ -41,7 +41,7 @@ fn read_away(
         None => Ok(replied(Code::K03)),
         Some(bytes) => {
             let _deleted = transaction.areas.delete_local(name);
-            Ok(read_reply(room, bytes))
+            Ok(read_reply(capacity, bytes))
         }
     }
 }
@@ -80,11 +80,11 @@ pub(crate) fn access_local(
         return Ok(replied(Code::K11));
     };
     match access {
-        Local::Read(room) => {
+        Local::Read(capacity) => {
             let found = transaction.areas.read_local(name)?;
-            Ok(read_or(Code::K03, room, found))
+            Ok(read_or(Code::K03, capacity, found))
         }
-        Local::ReadAway(room) => read_away(transaction, name, room),
+        Local::ReadAway(capacity) => read_away(transaction, name, capacity),
         Local::Write(bytes) => write(generation, transaction, name, bytes),
         Local::Delete => Ok(replied(transaction.areas.delete_local(name))),
     }

@@ -12,9 +12,9 @@ use message_area::PutError;
 use open_transaction::OpenTransaction;
 
 /// The next part of the message, where the call is for this kind of service.
-pub(crate) fn get(transaction: &mut OpenTransaction, allowed: bool, room: u32) -> Called
+pub(crate) fn get(transaction: &mut OpenTransaction, allowed: bool, capacity: u32) -> Called
     requires { All IsShort transaction.old.messages.unread }
-    ensures exact { (transaction_of transaction.new, result) ≡ for_kind (transaction_of transaction.old) allowed (got (transaction_of transaction.old) room) }
+    ensures exact { (transaction_of transaction.new, result) ≡ for_kind (transaction_of transaction.old) allowed (got (transaction_of transaction.old) capacity) }
     ensures id { transaction.new.id ≡ transaction.old.id }
     ensures statements { transaction.new.statements ≡ transaction.old.statements }
     ensures nb { transaction.new.messages.nb ≡ transaction.old.messages.nb }
@@ -23,7 +23,7 @@ pub(crate) fn get(transaction: &mut OpenTransaction, allowed: bool, room: u32) -
         return Called::Abnormal(Cause::E02);
     }
     match transaction.messages.get() {
-        Some(part) => read_reply(room, part),
+        Some(part) => read_reply(capacity, part),
         None => replied(Code::K01),
     }
 }

@@ -1,24 +1,48 @@
 //! PEND.
-ghost use Rattle.std.specs.{Prelude.{◌≡◌, option_and_then}, Option.{option_copied}};
-ghost use Rattle.kdcdef_types.specs.Generation.{tac_of};
-ghost use Rattle.abstract_monitor.specs.Calls.{pend};
+ghost use Rattle.std.specs.{Prelude.{◌≡◌}, Option.{option_copied}};
+ghost use Rattle.abstract_monitor.specs.{Access.{denial_of}, Calls.{follow_up_denial, follow_up_entry, pend}};
 ghost use Rattle.open_transaction.specs.Transactions.{transaction_of};
 
 use crate::operand::name_if_given;
-use abstract_monitor::Called;
+use abstract_monitor::{Called, Denial};
+use access_rules::decide;
 use kd_base::{Bytes, Name, Variant};
 use kdcdef_check::Generation;
 use kdcdef_types::TacEntry;
 use open_transaction::OpenTransaction;
 use pend_rules::outcome;
 
-fn follow_up<'a>(generation: &'a Generation, name: &Option<Name>) -> Option<&'a TacEntry>
-    ensures { option_copied result ≡ option_and_then (tac_of generation.now) name.now }
+// Why a follow-up is denied: PEND FC begins a service, and no other variant does.
+fn follow_up_denial(
+    generation: &Generation,
+    transaction: &OpenTransaction,
+    variant: Variant,
+    tac: Name,
+) -> Option<Denial>
+    ensures { result ≡ follow_up_denial (denial_of generation.now) (transaction_of transaction.now) variant tac }
 {
-    match name {
-        Some(name) => generation.tac(*name),
-        None => None,
+    match variant {
+        Variant::Fc => decide(generation, transaction.user, transaction.lterm, tac),
+        _ => None,
     }
+}
+
+// What the generation says of a follow-up that is not denied.
+fn follow_up<'a>(
+    generation: &'a Generation,
+    transaction: &OpenTransaction,
+    variant: Variant,
+    name: &Option<Name>,
+) -> Option<&'a TacEntry>
+    ensures { option_copied result ≡ follow_up_entry (denial_of generation.now) generation.now (transaction_of transaction.now) variant name.now }
+{
+    let Some(tac) = name else {
+        return None;
+    };
+    if follow_up_denial(generation, transaction, variant, *tac).is_some() {
+        return None;
+    }
+    generation.tac(*tac)
 }
 
 /// PEND with its operand, if it has one. It takes no memory.
@@ -32,7 +56,7 @@ pub(crate) fn pend(
     ensures { (transaction_of transaction.now, result) ≡ pend generation.now asynchronous (transaction_of transaction.now) variant operand.now }
 {
     let name = name_if_given(operand);
-    let entry = follow_up(generation, &name);
+    let entry = follow_up(generation, transaction, variant, &name);
     let has_message = transaction.messages.has_message();
     match outcome(asynchronous, variant, has_message, entry, name) {
         Ok(outcome) => Called::Pends(variant, outcome),

@@ -1,4 +1,4 @@
--- What stands at the place of a key is the item of that key, and a change there is the change at that key.
+-- What is at the place of a key is the item of that key, and a change there is the change at that key.
 use Rattle.std.specs.Prelude.{◌≡◌, refl, ℕ, zero, suc, ◌+◌, ◌<◌, ◌≤◌, false, cond, not, IsTrue, List, [], ◌∷◌, map, length, Option, Some, None, Result, Ok, Err, slice_get, slice_set, slice_index_or}
 use Rattle.std.proofs.Common.{sym, ap, subst, ◌∙◌, arith, inl, inr}
 use Rattle.std.specs.List.{insert, remove, AllWithin, HoldsAt}

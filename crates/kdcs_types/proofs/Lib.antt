@@ -1,3 +1,3 @@
 mod AtPlaces
 mod Numbers
-mod Room
+mod Capacity

@@ -6,7 +6,7 @@ use Rattle.kdcs_types.specs.declared.key.Key.{Key}
 use Rattle.kdcs_types.specs.Keys.{key_cmp, key_eq}
 
 module _ {E : Type 0} (key_of : E → Key) where
-  -- each item behind its key
+  -- each item after its key
   abbrev pub keyed : List E → List (Key × E)
   keyed items = map (λ e. (key_of e, e)) items
 

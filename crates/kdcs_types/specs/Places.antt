@@ -1,4 +1,4 @@
--- Where a key stands in a list in ascending order, and what is read and changed there.
+-- Where a key is in a list in ascending order, and what is read and changed there.
 use Rattle.std.specs.Prelude.{ℕ, List, length, Option, None, Result, Ok, Err, slice_get, slice_set}
 use Rattle.std.specs.List.{insert, remove}
 use Rattle.std.specs.List.Sorted.{IsSearchInRange, IsBinarySearchResult}
@@ -10,7 +10,7 @@ pub record IsPlaceOf {E : Type 0} (key_of : E → Key) (k : Key) (items : List E
   pub range : IsSearchInRange place (length items)
   pub position : IsBinarySearchResult (λ e. key_cmp (key_of e) k) items place
 
--- the item at a place, if one stands there
+-- the item at a place, if one is there
 abbrev pub found_at : {E : Type 0} → Result ℕ ℕ → List E → Option E
 found_at (Ok i) items = slice_get items i
 found_at (Err i) items = None

@@ -20,8 +20,8 @@ use Rattle.kdcs_types.specs.declared.act.Changes.{Changes}
 use Rattle.kdcs_types.specs.Keys.{key_cmp, key_eq, id_eq}
 use Rattle.kdcs_types.specs.Keyed.{keyed, ascends, item_at, with_item, without_item}
 use Rattle.kdcs_types.specs.KeyLaws.{id_eq_same, key_eq_same}
-use Rattle.kdcs_types.specs.KeyedLaws.{item_at_with, item_at_without, ascends_with, ascends_without, all_with, all_without, not_above, not_among, same_items}
-use Rattle.kdcs_types.specs.Tables.{TableRows, empty_tables, gssb_key, tls_key, uls_key, service_key, job_key, shown_key, gssb_row, tls_row, uls_row, service_row, job_row, shown_row, row_key, row_at, with_row, without_row, with_change, with_changes, changed, is_filled, service_fits, row_fits, change_fits, change_key, change_at, AreChanges, IsSortedTables}
+use Rattle.kdcs_types.specs.KeyedLaws.{item_at_with, item_at_without, ascends_with, ascends_without, all_with, all_without, found_key, not_above, not_among, same_items}
+use Rattle.kdcs_types.specs.Tables.{TableRows, empty_tables, gssb_key, tls_key, uls_key, service_key, job_key, shown_key, gssb_row, tls_row, uls_row, service_row, job_row, shown_row, row_key, row_at, service_of, with_row, without_row, with_change, with_changes, changed, is_filled, service_fits, row_fits, change_fits, change_key, change_at, AreChanges, IsSortedTables}
 use Rattle.kdcs_types.specs.TableLaws.{row_after}
 
 -- ---- one change
@@ -103,29 +103,38 @@ rows_changed t c h k =
 
 -- ---- the numbers
 
-clock_with_change : (t : TableRows) (c : Change) → ((with_change t c).clock ≡ t.clock) × ((with_change t c).next_job ≡ t.next_job)
-clock_with_change t (Set (row.Gssb n c)) = (refl, refl)
-clock_with_change t (Set (row.Tls b l c)) = (refl, refl)
-clock_with_change t (Set (row.Uls b u c)) = (refl, refl)
-clock_with_change t (Set (row.Service i s)) = (refl, refl)
-clock_with_change t (Set (row.Job n v)) = (refl, refl)
-clock_with_change t (Set (row.Shown l v)) = (refl, refl)
-clock_with_change t (Remove (key.Gssb n)) = (refl, refl)
-clock_with_change t (Remove (key.Tls b l)) = (refl, refl)
-clock_with_change t (Remove (key.Uls b l)) = (refl, refl)
-clock_with_change t (Remove (key.Service i)) = (refl, refl)
-clock_with_change t (Remove (key.Job n)) = (refl, refl)
-clock_with_change t (Remove (key.Shown n)) = (refl, refl)
+pub numbers_with_change : (t : TableRows) (c : Change) → ((with_change t c).clock ≡ t.clock) × ((with_change t c).next_job ≡ t.next_job)
+numbers_with_change t (Set (row.Gssb n c)) = (refl, refl)
+numbers_with_change t (Set (row.Tls b l c)) = (refl, refl)
+numbers_with_change t (Set (row.Uls b u c)) = (refl, refl)
+numbers_with_change t (Set (row.Service i s)) = (refl, refl)
+numbers_with_change t (Set (row.Job n v)) = (refl, refl)
+numbers_with_change t (Set (row.Shown l v)) = (refl, refl)
+numbers_with_change t (Remove (key.Gssb n)) = (refl, refl)
+numbers_with_change t (Remove (key.Tls b l)) = (refl, refl)
+numbers_with_change t (Remove (key.Uls b l)) = (refl, refl)
+numbers_with_change t (Remove (key.Service i)) = (refl, refl)
+numbers_with_change t (Remove (key.Job n)) = (refl, refl)
+numbers_with_change t (Remove (key.Shown n)) = (refl, refl)
 
 numbers_stay : (t : TableRows) (cs : List Change) → ((with_changes t cs).clock ≡ t.clock) × ((with_changes t cs).next_job ≡ t.next_job)
 numbers_stay t [] = (refl, refl)
 numbers_stay t (c ∷ cs) =
     let rest = numbers_stay (with_change t c) cs in
-    let one = clock_with_change t c in
+    let one = numbers_with_change t c in
     (rest.0 ∙ one.0, rest.1 ∙ one.1)
 
 pub numbers_changed : (t : TableRows) (c : Changes) → ((changed t c).clock ≡ c.clock) × ((changed t c).next_job ≡ c.next_job)
 numbers_changed t c = numbers_stay (record t { clock = c.clock; next_job = c.next_job }) c.items
+
+-- ---- the row of a service
+
+-- it is there under its id
+pub own_id : (t : TableRows) (id : ServiceId) (row : Service) → service_of t id ≡ Some row → row.id ≡ id
+own_id t id row e = under (found_key service_key (key.Service id) t.services row e)
+  where
+    under : service_key row ≡ key.Service id → row.id ≡ id
+    under same = cc
 
 -- ---- the order
 

@@ -1,4 +1,4 @@
--- How the rows of tables are kept: their lists, and the room that each has.
+-- How the rows of tables are kept: their lists, and the capacity that each has.
 use Rattle.std.specs.Prelude.{◌≡◌, ℕ, ◌+◌, ◌≤◌, vec_len, vec_capacity}
 use Rattle.kdcs_types.specs.declared.row_lists.RowLists.{RowLists}
 use Rattle.kdcs_types.specs.Tables.{TableRows}
@@ -7,8 +7,8 @@ use Rattle.kdcs_types.specs.Tables.{TableRows}
 abbrev pub tables_in : ℕ → ℕ → RowLists → TableRows
 tables_in clock next_job l = record { clock = clock; next_job = next_job; gssbs = l.gssbs.items; tlss = l.tlss.items; ulss = l.ulss.items; services = l.services.items; jobs = l.jobs.items; shown = l.shown.items }
 
--- each list has room for n more rows
-pub record HasRoom (n : ℕ) (l : RowLists) : Type 0 where
+-- each list has capacity for n more rows
+pub record HasCapacity (n : ℕ) (l : RowLists) : Type 0 where
   pub gssbs : vec_len l.gssbs + n ≤ vec_capacity l.gssbs
   pub tlss : vec_len l.tlss + n ≤ vec_capacity l.tlss
   pub ulss : vec_len l.ulss + n ≤ vec_capacity l.ulss

@@ -26,7 +26,13 @@ target_eq (target.Lterm a) (target.Tac b) = false
 target_eq (target.Lterm a) (target.Lterm b) = bytes_eq a b
 
 abbrev pub job_value_eq : JobValue → JobValue → Bool
-job_value_eq a b = target_eq a.to b.to && (nat_eq a.due b.due && (bytes_eq a.user b.user && (bytes_eq a.lterm b.lterm && bytes_eq a.message b.message)))
+job_value_eq a b =
+    target_eq a.to b.to
+    && (nat_eq a.due b.due
+    && (nat_eq a.redelivered b.redelivered
+    && (bytes_eq a.user b.user
+    && (bytes_eq a.lterm b.lterm
+    && bytes_eq a.message b.message))))
 
 abbrev pub service_eq : Service → Service → Bool
 service_eq a b =

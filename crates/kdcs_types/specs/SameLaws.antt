@@ -98,18 +98,21 @@ value_exact = record { only = only; itself = itself }
     only a b e =
         let p1 = both_true (target_eq a.to b.to) _ e in
         let p2 = both_true (nat_eq a.due b.due) _ p1.1 in
-        let p3 = both_true (bytes_eq a.user b.user) _ p2.1 in
-        let p4 = both_true (bytes_eq a.lterm b.lterm) _ p3.1 in
+        let p3 = both_true (nat_eq a.redelivered b.redelivered) _ p2.1 in
+        let p4 = both_true (bytes_eq a.user b.user) _ p3.1 in
+        let p5 = both_true (bytes_eq a.lterm b.lterm) _ p4.1 in
         λ i. record {
           to = target_exact.only a.to b.to p1.0 i;
           due = nat_exact.only a.due b.due p2.0 i;
-          user = bytes_exact.only a.user b.user p3.0 i;
-          lterm = bytes_exact.only a.lterm b.lterm p4.0 i;
-          message = bytes_exact.only a.message b.message p4.1 i;
+          redelivered = nat_exact.only a.redelivered b.redelivered p3.0 i;
+          user = bytes_exact.only a.user b.user p4.0 i;
+          lterm = bytes_exact.only a.lterm b.lterm p5.0 i;
+          message = bytes_exact.only a.message b.message p5.1 i;
         }
 
     itself : (a : JobValue) → job_value_eq a a ≡ true
-    itself a = true_both _ _ (target_exact.itself a.to) (true_both _ _ (nat_exact.itself a.due) (true_both _ _ (bytes_exact.itself a.user) (true_both _ _ (bytes_exact.itself a.lterm) (bytes_exact.itself a.message))))
+    itself a =
+        true_both _ _ (target_exact.itself a.to) (true_both _ _ (nat_exact.itself a.due) (true_both _ _ (nat_exact.itself a.redelivered) (true_both _ _ (bytes_exact.itself a.user) (true_both _ _ (bytes_exact.itself a.lterm) (bytes_exact.itself a.message)))))
 
 service_exact : IsExact service_eq
 service_exact = record { only = only; itself = itself }

@@ -42,7 +42,7 @@ DifferencesAreChanges = (old new : TableRows) → IsSortedTables new → AreChan
 abbrev pub DifferenceMakesNew : Type 0
 DifferenceMakesNew = (old new : TableRows) → IsSortedTables old → IsSortedTables new → changed old (difference old new) ≡ new
 
--- each change makes another row than stands at its key
+-- each change makes another row than is at its key
 pub record AreRealChanges (t : TableRows) (c : Changes) : Type 0 where
   pub changes : AreChanges c.items
   pub real : (k : Key) (ch : Change) → change_at k c.items ≡ Some ch → row_after (Some ch) (row_at t k) ≢ row_at t k

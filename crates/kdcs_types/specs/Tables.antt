@@ -161,7 +161,7 @@ lterm_fits (id.Asynchronous number) lterm = is_some lterm
 abbrev pub service_fits : Service → Bool
 service_fits s = lterm_fits s.id s.lterm && is_sorted (slice_cmp nat_cmp) s.lssbs
 
--- a TLS or ULS block is not empty; a service stands under its id, has an LTERM exactly where it is asynchronous, and LSSBs in ascending order
+-- a TLS or ULS block is not empty; a service is under its id, has an LTERM exactly where it is asynchronous, and LSSBs in ascending order
 abbrev pub row_fits : Row → Bool
 row_fits (row.Tls block lterm content) = is_filled content
 row_fits (row.Uls block user content) = is_filled content

@@ -36,7 +36,7 @@ pub enum Change {
 pub type RowChanges = Sequence<Change>;
 
 impl Row {
-    /// The key that the row stands at.
+    /// The key that the row is at.
     pub fn key(&self) -> Key
         ensures { result ≡ row_key self.now }
     {

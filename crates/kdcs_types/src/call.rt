@@ -62,7 +62,7 @@ pub enum Cause {
     Er,
 }
 
-/// A KDCS call with its operands as bytes. A target field stands as its length.
+/// A KDCS call with its operands as bytes. A target field is given by its length.
 #[derive(Drop)]
 pub enum Call {
     Init,

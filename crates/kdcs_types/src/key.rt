@@ -16,7 +16,7 @@ pub enum Area {
     Uls(Name, Name),
 }
 
-/// Which service it is. Asynchronous services, by number, stand before dialogue services, by user.
+/// Which service it is. Asynchronous services, by number, are before dialogue services, by user.
 #[derive(Clone, Copy)]
 pub enum ServiceId {
     /// The dialogue service of this user.

@@ -1,4 +1,4 @@
-//! Lists in ascending order of their keys: where a key stands, and what is read and changed there.
+//! Lists in ascending order of their keys: where a key is, and what is read and changed there.
 ghost use Rattle.std.specs.{Prelude.{◌≡◌, ◌+◌, ◌≤◌, ◌<◌, length, option_copied}, Vec.{vec_len, vec_capacity}, List.Sorted.{IsSearchInRange}};
 ghost use Rattle.kdcs_types.specs.declared.key.Key.TheVariants as key;
 ghost use Rattle.kdcs_types.specs.{Tables.{gssb_key, tls_key, uls_key, service_key, job_key, shown_key}, Places.{IsPlaceOf, found_at, placed_at, removed_at}};
@@ -61,10 +61,10 @@ pub(crate) fn found<T>(rows: &[T], place: Result<usize, usize>) -> Option<&T>
     }
 }
 
-/// Puts a row at its place, over the one that stands there. There is room for it.
+/// Puts a row at its place, over the one that is there. There is capacity for it.
 pub(crate) fn set<T: Drop>(rows: &mut Vec<T>, place: Result<usize, usize>, row: T)
     requires place { IsSearchInRange place (length rows.old.items) }
-    requires room { vec_len rows.old < vec_capacity rows.old }
+    requires capacity { vec_len rows.old < vec_capacity rows.old }
     ensures items { rows.new.items ≡ placed_at place row rows.old.items }
     ensures len { vec_len rows.new ≤ vec_len rows.old + 1 }
     ensures capacity { vec_capacity rows.old ≤ vec_capacity rows.new }
@@ -75,7 +75,7 @@ pub(crate) fn set<T: Drop>(rows: &mut Vec<T>, place: Result<usize, usize>, row: 
     }
 }
 
-/// Removes the row of a place, if one stands there.
+/// Removes the row of a place, if one is there.
 pub(crate) fn remove<T: Drop>(rows: &mut Vec<T>, place: Result<usize, usize>)
     requires { IsSearchInRange place (length rows.old.items) }
     ensures items { rows.new.items ≡ removed_at place rows.old.items }

@@ -1,6 +1,6 @@
 //! The lists of the tables.
 ghost use Rattle.std.specs.{Prelude.{◌≡◌, ◌+◌, ◌≤◌, ℕ, [], IsTrue, length, OnOk}, List.{list_all}};
-ghost use Rattle.kdcs_types.specs.{Tables.{IsSortedTables, row_fits, change_fits, with_row, without_row, with_change, with_changes}, RowsKept.{tables_in, HasRoom, HasSameRows}};
+ghost use Rattle.kdcs_types.specs.{Tables.{IsSortedTables, row_fits, change_fits, with_row, without_row, with_change, with_changes}, RowsKept.{tables_in, HasCapacity, HasSameRows}};
 
 use crate::act::{Change, Row};
 use crate::key::Key;
@@ -38,10 +38,10 @@ impl RowLists {
         }
     }
 
-    /// Takes the room for so many more rows of each kind.
+    /// Takes the capacity for so many more rows of each kind.
     pub(crate) fn reserve(&mut self, n: usize) -> Result<(), OutOfMemory>
         ensures rows { HasSameRows self.new self.old }
-        ensures room { OnOk result (HasRoom n self.new) }
+        ensures capacity { OnOk result (HasCapacity n self.new) }
     {
         self.gssbs.reserve(n)?;
         self.tlss.reserve(n)?;
@@ -55,9 +55,9 @@ impl RowLists {
     fn set(&mut self, row: Row)
         requires sorted { IsSortedTables (tables_in 0 0 self.old) }
         requires fits { IsTrue (row_fits row) }
-        requires room { HasRoom 1 self.old }
+        requires capacity { HasCapacity 1 self.old }
         ensures rows { tables_in 0 0 self.new ≡ with_row (tables_in 0 0 self.old) row }
-        ensures room { (n : ℕ) → HasRoom (n + 1) self.old → HasRoom n self.new }
+        ensures capacity { (n : ℕ) → HasCapacity (n + 1) self.old → HasCapacity n self.new }
     {
         match row {
             Row::Gssb(name, content) => {
@@ -90,7 +90,7 @@ impl RowLists {
     fn remove(&mut self, key: Key)
         requires sorted { IsSortedTables (tables_in 0 0 self.old) }
         ensures rows { tables_in 0 0 self.new ≡ without_row (tables_in 0 0 self.old) key }
-        ensures room { (n : ℕ) → HasRoom (n + 1) self.old → HasRoom n self.new }
+        ensures capacity { (n : ℕ) → HasCapacity (n + 1) self.old → HasCapacity n self.new }
     {
         match key {
             Key::Gssb(name) => {
@@ -123,9 +123,9 @@ impl RowLists {
     fn make(&mut self, change: Change)
         requires sorted { IsSortedTables (tables_in 0 0 self.old) }
         requires fits { IsTrue (change_fits change) }
-        requires room { HasRoom 1 self.old }
+        requires capacity { HasCapacity 1 self.old }
         ensures rows { tables_in 0 0 self.new ≡ with_change (tables_in 0 0 self.old) change }
-        ensures room { (n : ℕ) → HasRoom (n + 1) self.old → HasRoom n self.new }
+        ensures capacity { (n : ℕ) → HasCapacity (n + 1) self.old → HasCapacity n self.new }
     {
         match change {
             Change::Set(row) => self.set(row),
@@ -133,11 +133,11 @@ impl RowLists {
         }
     }
 
-    /// Makes the changes one after another. There is room for them.
+    /// Makes the changes one after another. There is capacity for them.
     pub(crate) fn make_all(&mut self, changes: Vec<Change>)
         requires sorted { IsSortedTables (tables_in 0 0 self.old) }
         requires fit { IsTrue (list_all change_fits changes.items) }
-        requires room { HasRoom (length changes.items) self.old }
+        requires capacity { HasCapacity (length changes.items) self.old }
         ensures { tables_in 0 0 self.new ≡ with_changes (tables_in 0 0 self.old) changes.items }
     {
         for change in changes {

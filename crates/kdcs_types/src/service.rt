@@ -37,6 +37,8 @@ pub struct JobValue {
     pub to: Target,
     /// The clock from which on it may be taken.
     pub due: u64,
+    /// How often it was delivered again, after an abnormal end of its service. 255 stands for 255 times and more.
+    pub redelivered: u8,
     /// The user of the service that made it.
     pub user: Name,
     /// The LTERM of the service that made it.
@@ -111,6 +113,7 @@ impl Clone for JobValue {
         Ok(JobValue {
             to: self.to,
             due: self.due,
+            redelivered: self.redelivered,
             user: self.user,
             lterm: self.lterm,
             message: self.message.clone()?,

@@ -151,7 +151,7 @@ impl Tables {
         }
     }
 
-    /// Makes the changes, which cost in proportion to their number, and to the rows behind those that come or go. On an
+    /// Makes the changes, which cost in proportion to their number, and to the rows after those that come or go. On an
     /// error the tables stay as they were.
     pub fn change(&mut self, changes: &Changes) -> Result<(), OutOfMemory>
         requires { AreChanges changes.now.items }

@@ -62,7 +62,7 @@ RowsAreOneChange =
 
 -- ---- synchronisation points and abnormal ends
 
--- the changes of the durable tables, and then the service's row, which may be of a user with RESTART=NO, make the tables behind a point
+-- the changes of the durable tables, and then the service's row, which may be of a user with RESTART=NO, make the tables after a point
 pub record PointMade (g : Generated) (t : TableRows) (id : ServiceId) (x : OpenTransaction) (o : Outcome) : Type 0 where
   pub changes : AreChanges (durable_difference g t (synchronised g t id x o)).items
   pub own : AreChanges (service_change id (row_after g id x o) ∷ [])
@@ -74,13 +74,13 @@ pub record PointMade (g : Generated) (t : TableRows) (id : ServiceId) (x : OpenT
 abbrev pub PointsMakeTables : Type 0
 PointsMakeTables = (g : Generated) (t : TableRows) (id : ServiceId) (x : OpenTransaction) (o : Outcome) → Stands g t id x → PointMade g t id x o
 
--- the same behind an abnormal end, without the service's row
+-- the same after an abnormal end, without the service's row
 pub record EndMade (g : Generated) (t : TableRows) (id : ServiceId) (x : OpenTransaction) : Type 0 where
-  pub changes : AreChanges (durable_difference g t (broken t id x)).items
+  pub changes : AreChanges (durable_difference g t (broken g t id x)).items
   pub own : AreChanges (service_change id None ∷ [])
-  pub order : IsSortedTables (broken t id x)
-  pub tables : with_service (changed t (durable_difference g t (broken t id x))) id None ≡ broken t id x
-  pub alone : is_durable g id ≡ true → changed t (durable_difference g t (broken t id x)) ≡ broken t id x
+  pub order : IsSortedTables (broken g t id x)
+  pub tables : with_service (changed t (durable_difference g t (broken g t id x))) id None ≡ broken g t id x
+  pub alone : is_durable g id ≡ true → changed t (durable_difference g t (broken g t id x)) ≡ broken g t id x
 
 abbrev pub EndsMakeTables : Type 0
 EndsMakeTables = (g : Generated) (t : TableRows) (id : ServiceId) (x : OpenTransaction) → IsSortedTables t → EndMade g t id x

@@ -1,4 +1,4 @@
--- Synchronisation points and abnormal ends: the changes of the durable tables and the service's row make the tables behind them.
+-- Synchronisation points and abnormal ends: the changes of the durable tables and the service's row make the tables after them.
 use Rattle.std.specs.Prelude.{◌≡◌, refl, ℕ, ◌+◌, ◌≤◌, Bool, true, false, cond, IsTrue, List, [], ◌∷◌, ◌++◌, length, nat_le, nat_lt, Option, Some, None}
 use Rattle.std.proofs.Common.{arith, sym, ap, subst, ◌∙◌, true≢false}
 use Rattle.std.proofs.lemmas.Bool.{le-leb}
@@ -13,19 +13,19 @@ use Rattle.kdcs_types.specs.declared.service.Job.{Job}
 use Rattle.kdcs_types.specs.declared.service.Service.{Service}
 use Rattle.kdcs_types.specs.Keyed.{ascends}
 use Rattle.kdcs_types.specs.KeyedLaws.{all_without, ascends_without}
-use Rattle.kdcs_types.specs.KeyLaws.{id_eq_itself, id_eq_same}
+use Rattle.kdcs_types.specs.KeyLaws.{id_eq_same}
 use Rattle.kdcs_types.specs.Keys.{id_eq}
 use Rattle.kdcs_types.specs.RowLaws.{sorted_with_change}
 use Rattle.kdcs_types.specs.Tables.{TableRows, AreChanges, IsSortedTables, change_fits, changed, job_key, service_of}
 use Rattle.kdcdef_types.specs.Generation.{Generated}
 use Rattle.abstract_monitor.specs.declared.outcome.Outcome.{Outcome}
-use Rattle.abstract_monitor.specs.AreaLaws.{areas_sorted, own_job_sorted}
-use Rattle.abstract_monitor.specs.Endings.{broken, durable, is_durable, row_after, service_change, synchronised, with_areas, with_drafts, with_service, without_own_job}
+use Rattle.abstract_monitor.specs.AreaLaws.{areas_sorted, own_job_sorted, own_fate_sorted}
+use Rattle.abstract_monitor.specs.Endings.{broken, durable, is_durable, row_after, service_change, synchronised, with_areas, with_drafts, with_service, without_own_job, with_own_fate}
 use Rattle.abstract_monitor.specs.State.{OpenTransaction}
 use Rattle.laws_of_steps.specs.Commits.{AreNumberedFrom}
 use Rattle.laws_of_steps.specs.JobLaw.{jobs_left, new_jobs}
 use Rattle.laws_of_steps.specs.JobLaws.{points_number, service_jobs}
-use Rattle.laws_of_steps.specs.OwnRowLaws.{points_set, ends_remove}
+use Rattle.laws_of_steps.specs.OwnRowLaws.{broken_own, ends_remove, points_set, synchronised_own}
 use Rattle.laws_of_tables.specs.ItemsLaws.{ascends_append, ascends_behind}
 use Rattle.laws_of_tables.specs.PointLaws.{Stands}
 use Rattle.laws_of_commits.specs.CommitLaws.{durable_difference, KeepsVolatile, KeepsOtherVolatile, PointsMakeTables, EndsMakeTables}
@@ -52,29 +52,26 @@ row_sorted u id (Some r) h fits = sorted_with_change u (Set (ServiceRow id r)) h
 -- ---- abnormal ends
 
 module _ (g : Generated) (t : TableRows) (id : ServiceId) (x : OpenTransaction) (order : IsSortedTables t) where
-  end_sorted : IsSortedTables (broken t id x)
+  end_sorted : IsSortedTables (broken g t id x)
   unfolding broken
-  end_sorted = row_sorted (without_own_job t id x.began) id None (own_job_sorted t id x.began order) refl
+  end_sorted = row_sorted (with_own_fate g t id x.began) id None (own_fate_sorted g t id x.began order) refl
 
-  end_others : KeepsOtherVolatile g id t (broken t id x)
-  end_others other volatile apart = ends_remove t id x other ∙ ap (λ b. cond b None (service_of t other)) apart
-
-  end_own : service_of (broken t id x) id ≡ None
-  end_own = ends_remove t id x id ∙ ap (λ b. cond b None (service_of t id)) (id_eq_itself id)
+  end_others : KeepsOtherVolatile g id t (broken g t id x)
+  end_others other volatile apart = ends_remove g t id x other ∙ ap (λ b. cond b None (service_of t other)) apart
 
 pub end_made : EndsMakeTables
 end_made g t id x order =
     let after = end_sorted g t id x order in
     let others = end_others g t id x order in
     record {
-      changes = are_changes g t (broken t id x) after;
+      changes = are_changes g t (broken g t id x) after;
       own = row_change id None refl;
       order = after;
-      tables = ap (with_service (changed t (durable_difference g t (broken t id x))) id) (sym (end_own g t id x order)) ∙ makes_with_row g t (broken t id x) id order after others;
-      alone = λ d. makes g t (broken t id x) order after (all_volatile g id t (broken t id x) others d);
+      tables = ap (with_service (changed t (durable_difference g t (broken g t id x))) id) (sym (broken_own g t id x)) ∙ makes_with_row g t (broken g t id x) id order after others;
+      alone = λ d. makes g t (broken g t id x) order after (all_volatile g id t (broken g t id x) others d);
     }
 
--- ---- the order behind a synchronisation point
+-- ---- the order after a synchronisation point
 
 -- numbered one after another, from this one at least
 numbered_high : (least n : ℕ) (js : List Job) → least ≤ n → AreNumberedFrom n js → IsTrue (list_all (λ (j : Job). nat_le least j.number) js)
@@ -132,9 +129,6 @@ module _ (g : Generated) (t : TableRows) (id : ServiceId) (x : OpenTransaction) 
   point_others : KeepsOtherVolatile g id t (synchronised g t id x o)
   point_others other volatile apart = points_set g t id x o other ∙ ap (λ b. cond b (row_after g id x o) (service_of t other)) apart
 
-  point_own : service_of (synchronised g t id x o) id ≡ row_after g id x o
-  point_own = points_set g t id x o id ∙ ap (λ b. cond b (row_after g id x o) (service_of t id)) (id_eq_itself id)
-
 pub point_made : PointsMakeTables
 point_made g t id x o s =
     let new = synchronised g t id x o in
@@ -144,6 +138,6 @@ point_made g t id x o s =
       changes = are_changes g t new after;
       own = row_change id (row_after g id x o) (own_fits g t id x o s);
       order = after;
-      tables = ap (with_service (changed t (durable_difference g t new)) id) (sym (point_own g t id x o s)) ∙ makes_with_row g t new id s.sound.order after others;
+      tables = ap (with_service (changed t (durable_difference g t new)) id) (sym (synchronised_own g t id x o)) ∙ makes_with_row g t new id s.sound.order after others;
       alone = λ d. makes g t new s.sound.order after (all_volatile g id t new others d);
     }

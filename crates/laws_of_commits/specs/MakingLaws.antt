@@ -1,8 +1,7 @@
 -- The changes of the durable tables make the new tables of the old ones, where all other rows stay.
-use Rattle.std.specs.Prelude.{◌≡◌, refl, Bool, true, false, cond, IsTrue, Option, Some, None}
+use Rattle.std.specs.Prelude.{◌≡◌, refl, Bool, true, false, cond, Option, Some, None}
 use Rattle.std.proofs.Common.{sym, ap, ◌∙◌}
 use Rattle.std.specs.Option.{option_map}
-use Rattle.kd_base.specs.ToolsLaws.{true_both}
 use Rattle.kdcs_types.specs.declared.act.Change.TheVariants.{Set, Remove}
 use Rattle.kdcs_types.specs.declared.act.Changes.{Changes}
 use Rattle.kdcs_types.specs.declared.act.Row.TheVariants as row
@@ -11,16 +10,16 @@ use Rattle.kdcs_types.specs.declared.key.Key.TheVariants as key
 use Rattle.kdcs_types.specs.declared.key.ServiceId.{ServiceId}
 use Rattle.kdcs_types.specs.declared.service.Service.{Service}
 use Rattle.kdcs_types.specs.DifferenceLaws.{difference_exact, difference_changes, difference_makes_new}
-use Rattle.kdcs_types.specs.Keys.{key_eq, id_eq}
-use Rattle.kdcs_types.specs.KeyLaws.{key_eq_same, id_eq_itself}
-use Rattle.kdcs_types.specs.KeyedLaws.{found_key, found_passes}
-use Rattle.kdcs_types.specs.RowLaws.{changed_sorted, numbers_changed, row_at_with_change, rows_changed, same_tables, sorted_with_change}
+use Rattle.kdcs_types.specs.Keys.{key_eq}
+use Rattle.kdcs_types.specs.KeyLaws.{key_eq_same}
+use Rattle.kdcs_types.specs.RowLaws.{changed_sorted, numbers_changed, own_id, row_at_with_change, rows_changed, same_tables, sorted_with_change}
 use Rattle.kdcs_types.specs.TableLaws.{row_after}
-use Rattle.kdcs_types.specs.Tables.{TableRows, AreChanges, IsSortedTables, change_at, change_fits, changed, row_at, service_fits, service_key, service_of, service_row}
+use Rattle.kdcs_types.specs.Tables.{TableRows, AreChanges, IsSortedTables, change_at, changed, row_at, service_of, service_row}
 use Rattle.kdcdef_types.specs.Generation.{Generated}
-use Rattle.abstract_monitor.specs.Endings.{durable, is_durable, service_change, with_service}
+use Rattle.abstract_monitor.specs.Endings.{durable, is_durable, with_service}
 use Rattle.laws_of_steps.specs.DurableLaws.{durable_sorted, row_at_durable}
 use Rattle.laws_of_steps.specs.DurableKeys.{key_is_durable}
+use Rattle.laws_of_steps.specs.OwnRowLaws.{row_there_fits}
 use Rattle.laws_of_commits.specs.CommitLaws.{durable_difference, KeepsVolatile, KeepsOtherVolatile, DifferencesAreChanges, DifferencesMakeTables, DifferencesAndRowMake, RowsAreOneChange}
 
 pub are_changes : DifferencesAreChanges
@@ -80,26 +79,15 @@ module _ (g : Generated) (old new : TableRows) (before : IsSortedTables old) (af
   -- ---- with the row of a service
 
   module _ (id : ServiceId) (keeps : KeepsOtherVolatile g id old new) where
-    own_id : (r : Service) → service_of new id ≡ Some r → r.id ≡ id
-    own_id r e = under (found_key service_key (key.Service id) new.services r e)
-      where
-        under : service_key r ≡ key.Service id → r.id ≡ id
-        under same = cc
-
-    own_fits : (o : Option Service) → service_of new id ≡ o → IsTrue (change_fits (service_change id o))
-    own_fits None e = refl
-    own_fits (Some r) e =
-        true_both _ _ (ap (λ i. id_eq i id) (own_id r e) ∙ id_eq_itself id) (found_passes service_key service_fits (key.Service id) new.services r after.services_fit e)
-
     row_set : (o : Option Service) → service_of new id ≡ o → (q : Key) → row_at (with_service made id o) q ≡ cond (key_eq q (key.Service id)) (option_map service_row o) (row_at made q)
     row_set None e q = row_at_with_change made (Remove (key.Service id)) q refl
     row_set (Some r) e q =
-        row_at_with_change made (Set (row.Service id r)) q (own_fits (Some r) e)
-        ∙ ap (λ (i : ServiceId). cond (key_eq q (key.Service id)) (Some (row.Service i r)) (row_at made q)) (sym (own_id r e))
+        row_at_with_change made (Set (row.Service id r)) q (row_there_fits new id (Some r) after e)
+        ∙ ap (λ (i : ServiceId). cond (key_eq q (key.Service id)) (Some (row.Service i r)) (row_at made q)) (sym (own_id new id r e))
 
     set_sorted : (o : Option Service) → service_of new id ≡ o → IsSortedTables (with_service made id o)
     set_sorted None e = sorted_with_change made (Remove (key.Service id)) made_sorted refl
-    set_sorted (Some r) e = sorted_with_change made (Set (row.Service id r)) made_sorted (own_fits (Some r) e)
+    set_sorted (Some r) e = sorted_with_change made (Set (row.Service id r)) made_sorted (row_there_fits new id (Some r) after e)
 
     set_numbers : (o : Option Service) → ((with_service made id o).clock ≡ new.clock) × ((with_service made id o).next_job ≡ new.next_job)
     set_numbers None = numbers

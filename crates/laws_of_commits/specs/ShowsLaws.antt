@@ -50,7 +50,7 @@ shows_only : (v : JobValue) (o : Option JobValue) → option_eq job_value_eq (So
 shows_only v None e = absurd (true≢false (sym e))
 shows_only v (Some w) e = ap Some (sym (value_only v w e))
 
--- an item that stands there is put in without a change
+-- an item that is there is put in without a change
 module _ {E : Type 0} (key_of : E → Key) (e : E) (es : List E) (up : IsTrue (ascends key_of es)) where
   set_again : item_at key_of (key_of e) es ≡ Some e → with_item key_of e es ≡ es
   set_again there = same_items key_of (with_item key_of e es) es (ascends_with key_of e es up) up (λ q. item_at_with key_of q e es ∙ by q (key_eq q (key_of e)) refl)
@@ -155,7 +155,7 @@ shown_made g t lterm job order stands = record {
 
 -- ---- the due job
 
--- what stands in a list in order is found there
+-- what is in a list in order is found there
 in_found : {E : Type 0} (key_of : E → Key) (e : E) (es : List E) → IsTrue (ascends key_of es) → IsIn e es → item_at key_of (key_of e) es ≡ Some e
 in_found key_of e [] up is = absurd is
 in_found {E} key_of e (x ∷ xs) up (inl same) =

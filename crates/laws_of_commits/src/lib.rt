@@ -1,5 +1,5 @@
 //! What a commit makes of a monitor's tables, where they also have the rows of services that no stop leaves: the changes
-//! of the durable tables, made in the whole tables, give the tables behind a synchronisation point, an abnormal end,
+//! of the durable tables, made in the whole tables, give the tables after a synchronisation point, an abnormal end,
 //! KDCOUT, PRINT and TICK, once the service's own row is set or removed.
 //!
 //! It stands on the laws of tables and of single steps. The functions do nothing: their contracts are laws on the
@@ -18,7 +18,7 @@ pub fn differences_make_tables()
     ensures one { RowsAreOneChange }
 {}
 
-/// The changes of a synchronisation point or an abnormal end, and then the service's own row, make the tables behind it,
+/// The changes of a synchronisation point or an abnormal end, and then the service's own row, make the tables after it,
 /// in order.
 pub fn points_and_ends_make_tables()
     ensures points { PointsMakeTables }
@@ -26,7 +26,7 @@ pub fn points_and_ends_make_tables()
 {}
 
 /// The changes of KDCOUT and PRINT are the job that goes and the message that is shown, if another was; those of TICK
-/// are the clock. They make the tables behind the command. The due job of an LTERM stands in the tables.
+/// are the clock. They make the tables after the command. The due job of an LTERM is in the tables.
 pub fn commands_make_tables()
     ensures shows { ShowsMakeTables }
     ensures due { DueJobsStand }

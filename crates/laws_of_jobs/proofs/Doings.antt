@@ -26,7 +26,7 @@ use Rattle.abstract_monitor.specs.State.{Application, OpenTransaction, Session, 
 use Rattle.abstract_monitor.specs.Endings.{joined, durable, synchronised, refusal, row_after}
 use Rattle.abstract_monitor.specs.Lines.{asy_line, prt_line, no_message_line}
 use Rattle.abstract_monitor.specs.Statements.{kept_record}
-use Rattle.abstract_monitor.specs.Turns.{out_acts, message_acts, Turned, without_work, pterm_of_user, after_point, settled_by, settled, abnormal, last_again, back_by, back, happens, statement_now, worked, turn_of, commit_of}
+use Rattle.abstract_monitor.specs.Turns.{out_acts, message_acts, Turned, without_transaction, pterm_of_user, after_point, settled_by, settled, abnormal, last_again, back_by, back, happens, statement_now, served, turn_of, commit_of}
 use Rattle.abstract_monitor.specs.declared.command.Command.TheVariants.{Input, Tick, Run, Turn, Drop, Print, PrintLast, Restart}
 use Rattle.abstract_monitor.specs.Commands.{signed_on_by, show_next, show_by, show_again_by, due_for, display, last_by, used, use_now, tick_by, drop_by, command_of, lterm_at, maker_of, turned_step}
 use Rattle.laws_of_steps.specs.TablesStayLaws.{sent_tables, goes_tables}
@@ -94,7 +94,7 @@ module _ (app : Application) (s : State) (task : ℕ) (id : ServiceId) (x : Open
 
       by : (c : Option Cause) → refusal app.generation (durable app.generation new) ≡ c → Fine app s (settled_by app s task id x o new c)
       by (Some cause) e = refused_fine o is cause (ap ending_by (sym e))
-      by None e = point_fine (record (without_work s task id) { tables = new }) new (kept_record id x Synced) refl refl o (row_after app.generation id x o) (ending (Settles o) is Synced (ap ending_by (sym e)))
+      by None e = point_fine (record (without_transaction s task id) { tables = new }) new (kept_record id x Synced) refl refl o (row_after app.generation id x o) (ending (Settles o) is Synced (ap ending_by (sym e)))
 
   again_fine : (u : State) (last : Option Bytes) → Fine app s (last_again u id last)
   again_fine u None = tt
@@ -116,15 +116,15 @@ module _ (app : Application) (s : State) (task : ℕ) (id : ServiceId) (x : Open
   unfolding happens
   happens_fine y (Settles o) is = settled_fine o is
   happens_fine y (Breaks e) is = broken_fine e is
-  happens_fine y Returns is = back_fine (without_work s task id) x.began
+  happens_fine y Returns is = back_fine (without_transaction s task id) x.began
   happens_fine y _ is = tt
 
-worked_fine : (app : Application) (s : State) (task : ℕ) (id : ServiceId) (o : Option OpenTransaction) → find id_cmp id s.active ≡ o → Fine app s (worked app s task id o)
-worked_fine app s task id None e = tt
-worked_fine app s task id (Some x) e = happens_fine app s task id x e (statement_now app s id x).0 (statement_now app s id x).1 refl
+served_fine : (app : Application) (s : State) (task : ℕ) (id : ServiceId) (o : Option OpenTransaction) → find id_cmp id s.active ≡ o → Fine app s (served app s task id o)
+served_fine app s task id None e = tt
+served_fine app s task id (Some x) e = happens_fine app s task id x e (statement_now app s id x).0 (statement_now app s id x).1 refl
 
 turn_fine : (app : Application) (s : State) (task : ℕ) → Fine app s (turn_of app s task)
-turn_fine app s task = of_turn app s task (Fine app s) (λ t r. subst (TurnMakes app s t.after.tables t.acts) (sym r.settled) tt) (λ id. worked_fine app s task id (find id_cmp id s.active) refl)
+turn_fine app s task = of_turn app s task (Fine app s) (λ t r. subst (TurnMakes app s t.after.tables t.acts) (sym r.settled) tt) (λ id. served_fine app s task id (find id_cmp id s.active) refl)
 
 pub turns_do_so : TurnsDoSo
 turns_do_so app s task = by (turn_of app s task).settled (turn_fine app s task)

@@ -1,6 +1,8 @@
 mod Doings
+mod Breaking
 mod Queues
 mod Sent
+mod OldJobs
 mod Numbers
 mod Kept
 mod Resuming

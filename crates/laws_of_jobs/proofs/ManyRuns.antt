@@ -1,7 +1,8 @@
 -- Runs one after another keep jobs and numbers.
-use Rattle.std.specs.Prelude.{◌≡◌, ◌⊎◌, refl, List, [], ◌∷◌, Some}
+use Rattle.std.specs.Prelude.{◌≡◌, ◌⊎◌, refl, ℕ, List, [], ◌∷◌, Some}
 use Rattle.std.proofs.Common.{sym, ap, subst, ◌∙◌, inl, inr}
 use Rattle.kdcs_types.specs.declared.service.Job.{Job}
+use Rattle.kdcs_types.specs.declared.service.JobValue.{JobValue}
 use Rattle.kdcs_types.specs.Tables.{TableRows, IsSortedTables, job_of}
 use Rattle.kdcdef_types.specs.Generation.{Generated}
 use Rattle.abstract_monitor.specs.Endings.{durable}
@@ -12,19 +13,20 @@ use Rattle.laws_of_steps.specs.DurableLaws.{durable_again, durable_service}
 use Rattle.laws_of_steps.specs.Suits.{Suits}
 use Rattle.laws_of_runs.specs.RunLaws.{StartsHaveFacts}
 use Rattle.laws_of_jobs.specs.ManyRuns.{StoppedRun, IsRunFrom, AreRunsFrom, left_by, left_by_all, TookJob, OneTookJob, RunsKeepJobs, AllRunsKeepJobs}
-use Rattle.laws_of_jobs.specs.QueueLaws.{KeepsJobs, IsTakenIn, JobsAreDoneOnce}
+use Rattle.laws_of_jobs.specs.QueueLaws.{IsNotLost, KeepsJobs, IsTakenIn, JobsAreDoneOnce}
 use Rattle.laws_of_jobs.specs.ResumeLaws.{CutResumes, CutsResume}
-use Rattle.laws_of_jobs.proofs.Numbers.{numbers_joined, same_numbers}
+use Rattle.laws_of_jobs.proofs.Kept.{not_lost_both}
+use Rattle.laws_of_jobs.proofs.Numbers.{numbers_joined, same_itself, same_numbers}
 use Rattle.laws_of_steps.specs.TablesStayLaws.{started_tables}
 
 -- ---- one run
 
 -- what outlives a stop has all jobs, numbers and asynchronous services
-stored_jobs : (g : Generated) (t u : TableRows) (IsTaken : Job → Type 0) → KeepsJobs t u IsTaken → KeepsJobs t (durable g u) IsTaken
+stored_jobs : (g : Generated) (t u : TableRows) (IsTaken : Job → Type 0) → KeepsJobs g t u IsTaken → KeepsJobs g t (durable g u) IsTaken
 unfolding durable
 stored_jobs g t u IsTaken k = record {
   numbers = record { next = k.numbers.next; drawn = k.numbers.drawn };
-  lost = k.lost;
+  lost = λ number value there. let n = k.lost number value there in record { now = n.now; same = n.same; stands = n.stands };
   doubled = λ number over. let o = k.doubled number over in record { drawn = o.drawn; job = o.job; row = durable_service g u number ∙ o.row };
 }
 
@@ -45,39 +47,39 @@ module _ (starts : StartsHaveFacts) (cuts : CutsResume) (jobs : JobsAreDoneOnce)
     left_suits : Suits app.generation left
     left_suits = subst (Suits app.generation) (ap (durable app.generation) (started_tables app left) ∙ lasting) cut.facts.1.suits
 
-    in_steps : KeepsJobs t (state_after (started app t) cut.steps.first).tables (IsTakenIn app cut.steps.first)
+    in_steps : KeepsJobs app.generation t (state_after (started app t) cut.steps.first).tables (IsTakenIn app cut.steps.first)
     unfolding started state_after
     in_steps = jobs app (started app t) run.script is_app is.names (starts app t is_app order suits) [] cut.steps.first cut.steps.rest cut.steps.whole
 
-    taken_is : (o : KeepsJobs t left (IsTakenIn app cut.steps.first)) → KeepsJobs t left (TookJob app t run)
-    taken_is o = record { numbers = o.numbers; lost = λ job there. either job (o.lost job there); doubled = o.doubled }
+    taken_is : (o : KeepsJobs app.generation t left (IsTakenIn app cut.steps.first)) → KeepsJobs app.generation t left (TookJob app t run)
+    taken_is o = record { numbers = o.numbers; lost = λ number value there. by number value (o.lost number value there); doubled = o.doubled }
       where
-        either : (job : Job) → (job_of left job.number ≡ Some job.value) ⊎ IsTakenIn app cut.steps.first job → (job_of left job.number ≡ Some job.value) ⊎ TookJob app t run job
-        either job (inl stays) = inl stays
-        either job (inr taken) = inr (record { steps = cut.steps; taken = taken })
+        either : (number : ℕ) (now : JobValue) → (job_of left number ≡ Some now) ⊎ IsTakenIn app cut.steps.first (record { number = number; value = now })
+            → (job_of left number ≡ Some now) ⊎ TookJob app t run (record { number = number; value = now })
+        either number now (inl stays) = inl stays
+        either number now (inr taken) = inr (record { steps = cut.steps; taken = taken })
 
-    one_run : KeepsJobs t left (TookJob app t run)
-    one_run = taken_is (subst (λ (w : TableRows). KeepsJobs t w (IsTakenIn app cut.steps.first)) (sym cut.stored) (stored_jobs app.generation t _ _ in_steps))
+        by : (number : ℕ) (value : JobValue) → IsNotLost app.generation left (IsTakenIn app cut.steps.first) number value → IsNotLost app.generation left (TookJob app t run) number value
+        by number value n = record { now = n.now; same = n.same; stands = either number n.now n.stands }
+
+    one_run : KeepsJobs app.generation t left (TookJob app t run)
+    one_run = taken_is (subst (λ (w : TableRows). KeepsJobs app.generation t w (IsTakenIn app cut.steps.first)) (sym cut.stored) (stored_jobs app.generation t _ _ in_steps))
 
   -- ---- all runs
 
-  none_kept : (t : TableRows) (IsTaken : Job → Type 0) → KeepsJobs t t IsTaken
-  none_kept t IsTaken = record { numbers = same_numbers t t refl; lost = λ job there. inl there; doubled = λ number over. over }
+  none_kept : (t : TableRows) (IsTaken : Job → Type 0) → KeepsJobs app.generation t t IsTaken
+  none_kept t IsTaken = record {
+    numbers = same_numbers app.generation t t refl;
+    lost = λ number value there. record { now = value; same = same_itself app.generation value; stands = inl there };
+    doubled = λ number over. over;
+  }
 
-  both_keep : (t u w : TableRows) (A B : Job → Type 0) → KeepsJobs t u A → KeepsJobs u w B → KeepsJobs t w (λ job. A job ⊎ B job)
+  both_keep : (t u w : TableRows) (A B : Job → Type 0) → KeepsJobs app.generation t u A → KeepsJobs app.generation u w B → KeepsJobs app.generation t w (λ job. A job ⊎ B job)
   both_keep t u w A B a b = record {
-    numbers = numbers_joined t u w a.numbers b.numbers;
-    lost = λ job there. by job (a.lost job there);
+    numbers = numbers_joined app.generation t u w a.numbers b.numbers;
+    lost = λ number value there. not_lost_both app.generation u w A B number value (a.lost number value there) (b.lost number);
     doubled = λ number over. b.doubled number (a.doubled number over);
   }
-    where
-      later : (job : Job) → (job_of w job.number ≡ Some job.value) ⊎ B job → (job_of w job.number ≡ Some job.value) ⊎ (A job ⊎ B job)
-      later job (inl stays) = inl stays
-      later job (inr taken) = inr (inr taken)
-
-      by : (job : Job) → (job_of u job.number ≡ Some job.value) ⊎ A job → (job_of w job.number ≡ Some job.value) ⊎ (A job ⊎ B job)
-      by job (inl stays) = later job (b.lost job stays)
-      by job (inr taken) = inr (inl taken)
 
   runs_keep : (t : TableRows) (runs : List StoppedRun) → IsSortedTables t → Suits app.generation t → AreRunsFrom app t runs → RunsKeepJobs app t runs
   runs_keep t [] order suits are = record { jobs = none_kept t (OneTookJob app t []); order = order; suits = suits }

@@ -1,23 +1,23 @@
 -- No job number is drawn twice, and a job that is done is never done again.
-use Rattle.std.specs.Prelude.{◌≡◌, ◌⊎◌, refl, ℕ, ◌+◌, ◌<◌, ◌≤◌, Bool, true, false, cond, IsSome, List, [], ◌∷◌, ◌++◌, Option, Some, None, is_some}
-use Rattle.std.specs.Option.{option_map}
+use Rattle.std.specs.Prelude.{◌≡◌, ◌⊎◌, refl, ℕ, zero, suc, ◌<◌, ◌≤◌, Bool, true, false, IsTrue, IsSome, List, [], ◌∷◌, ◌++◌, Option, Some, None, is_some}
 use Rattle.std.proofs.Common.{sym, ap, subst, ◌∙◌, inl, inr, arith, true≢false, le_refl}
-use Rattle.kdcs_types.specs.declared.key.Key.TheVariants.{Job as JobKey}
+use Rattle.kdcs_types.specs.declared.act.Act.{Act}
 use Rattle.kdcs_types.specs.declared.key.ServiceId.{ServiceId}
 use Rattle.kdcs_types.specs.declared.key.ServiceId.TheVariants.{Asynchronous}
 use Rattle.kdcs_types.specs.declared.service.Job.{Job}
 use Rattle.kdcs_types.specs.declared.service.JobValue.{JobValue}
 use Rattle.kdcs_types.specs.declared.service.Service.{Service}
-use Rattle.kdcs_types.specs.Keyed.{item_at}
-use Rattle.kdcs_types.specs.KeyedLaws.{item_at_without}
-use Rattle.kdcs_types.specs.KeyLaws.{key_eq_same, id_eq_same}
-use Rattle.kdcs_types.specs.Keys.{id_eq, key_eq}
+use Rattle.kdcs_types.specs.Keyed.{ascends}
+use Rattle.kdcs_types.specs.KeyLaws.{id_eq_same}
+use Rattle.kdcs_types.specs.Keys.{id_eq}
 use Rattle.kdcs_types.specs.Tables.{TableRows, job_key, job_of, service_of}
 use Rattle.abstract_monitor.specs.State.{Application, State}
+use Rattle.kdcdef_types.specs.Generation.{Generated}
+use Rattle.abstract_monitor.specs.Redelivery.{fate}
 use Rattle.abstract_monitor.specs.Endings.{durable}
 use Rattle.abstract_monitor.specs.Turns.{turn_of}
 use Rattle.abstract_monitor.specs.Commands.{ScriptStep, Maker, ByTick, ByShow, ByTransaction, turned_step, command_of, state_after}
-use Rattle.laws_of_steps.specs.Commits.{AreNumberedFrom, without_gone, QueueLaw, ServiceLaw}
+use Rattle.laws_of_steps.specs.Commits.{QueueLaw, ServiceLaw}
 use Rattle.abstract_monitor.specs.declared.command.Command.{Command}
 use Rattle.abstract_monitor.specs.Trace.{history}
 use Rattle.laws_of_steps.specs.Applications.{IsApplication}
@@ -29,75 +29,80 @@ use Rattle.laws_of_steps.specs.EachStepLaws.{each_split}
 use Rattle.laws_of_runs.specs.ListsLaws.{after_both}
 use Rattle.laws_of_places.specs.Along.{StepLaw}
 use Rattle.laws_of_jobs.specs.AlongLaws.{EachMeets, meets_along}
-use Rattle.laws_of_jobs.specs.QueueLaws.{MeetsBoth, TurnsKeepQueues, CommandsKeepQueues, KeepsNumbers, IsOver}
+use Rattle.laws_of_jobs.specs.QueueLaws.{MeetsBoth, TurnsKeepQueues, CommandsKeepQueues, HasAfterEnds, IsSameJob, IsNoOther, KeepsNumbers, IsOver}
+use Rattle.laws_of_jobs.proofs.OldJobs.{at, value, no_job_comes, Goes, Changes, job_meets}
 use Rattle.laws_of_steps.specs.DurableLaws.{durable_service}
 
--- ---- jobs by number
+-- ---- the same job
 
-abbrev pub at : ℕ → List Job → Option Job
-at n jobs = item_at job_key (JobKey n) jobs
+became_both : (g : Generated) (n m : ℕ) (u v w : JobValue) → HasAfterEnds g n u v → HasAfterEnds g m v w → IsSameJob g u w
+became_both g zero m u v w a b = record { ends = m; is = subst (λ (x : JobValue). HasAfterEnds g m x w) (sym a) b }
+became_both g (suc n) m u v w a b = let rest = became_both g n m a.0 v w a.1.1 b in record { ends = suc rest.ends; is = (a.0, (a.1.0, rest.is)) }
 
-pub same_number : (n m : ℕ) → JobKey n ≡ JobKey m → n ≡ m
-same_number n m e = cc
+pub same_both : (g : Generated) (u v w : JobValue) → IsSameJob g u v → IsSameJob g v w → IsSameJob g u w
+same_both g u v w a b = became_both g a.ends b.ends u v w a.is b.is
 
-other_number : (n m : ℕ) → n < m → key_eq (JobKey n) (JobKey m) ≡ false
-other_number n m less = by (key_eq (JobKey n) (JobKey m)) refl
-  where
-    by : (b : Bool) → key_eq (JobKey n) (JobKey m) ≡ b → key_eq (JobKey n) (JobKey m) ≡ false
-    by false e = e
-    by true e = let same = same_number n m (key_eq_same (JobKey n) (JobKey m) e) in absurd (omega arith)
+pub same_itself : (g : Generated) (v : JobValue) → IsSameJob g v v
+same_itself g v = record { ends = 0; is = refl }
 
--- a number below the first new one is none of theirs
-pub not_made : (made : List Job) (n m : ℕ) → AreNumberedFrom m made → n < m → at n made ≡ None
-not_made [] n m h less = refl
-not_made (j ∷ js) n m h less =
-    ap (λ (b : Bool). cond b (Some j) (at n js)) (ap (λ k. key_eq (JobKey n) (JobKey k)) h.0 ∙ other_number n m less)
-    ∙ not_made js n (m + 1) h.1 (omega arith)
+pub same_by_fate : (g : Generated) (v w : JobValue) → fate g v ≡ Some w → IsSameJob g v w
+same_by_fate g v w e = record { ends = 1; is = (w, (e, refl)) }
 
-pub at_both : (n : ℕ) (js ks : List Job) → at n ks ≡ None → at n (js ++ ks) ≡ at n js
-at_both n [] ks h = h
-at_both n (j ∷ js) ks h = ap (λ (o : Option Job). cond (key_eq (JobKey n) (job_key j)) (Some j) o) (at_both n js ks h)
+no_other_itself : (g : Generated) (o : Option JobValue) → IsNoOther g o o
+no_other_itself g None = tt
+no_other_itself g (Some v) = same_itself g v
 
--- of the jobs that are left, each is as before
-at_left : (gone : Option Job) (n : ℕ) (js : List Job) → (at n (without_gone gone js) ≡ at n js) ⊎ (at n (without_gone gone js) ≡ None)
-at_left None n js = inl refl
-at_left (Some j) n js = by (key_eq (JobKey n) (JobKey j.number)) (item_at_without job_key (JobKey n) (JobKey j.number) js)
-  where
-    by : (b : Bool) → at n (without_gone (Some j) js) ≡ cond b None (at n js) → (at n (without_gone (Some j) js) ≡ at n js) ⊎ (at n (without_gone (Some j) js) ≡ None)
-    by true e = inr e
-    by false e = inl e
+no_other_none : (g : Generated) (o p : Option JobValue) → p ≡ None → IsNoOther g o p
+no_other_none g o None e = tt
+no_other_none g o (Some w) e = absurd cc
 
-abbrev pub value : Option Job → Option JobValue
-value o = option_map (λ (j : Job). j.value) o
+no_other_both : (g : Generated) (o p q : Option JobValue) → IsNoOther g o p → IsNoOther g p q → IsNoOther g o q
+no_other_both g o p None a b = tt
+no_other_both g o None (Some w) a b = absurd b
+no_other_both g None (Some v) (Some w) a b = absurd a
+no_other_both g (Some u) (Some v) (Some w) a b = same_both g u v w a b
 
 -- ---- one step
 
-queue_numbers : (app : Application) (t u : TableRows) (by : Maker) (acts : _) → QueueLaw app t u by acts → KeepsNumbers t u
-queue_numbers app t u by acts q = record {
+queue_numbers : (app : Application) (t u : TableRows) (by : Maker) (acts : List Act) → QueueLaw app t u by acts → IsTrue (ascends job_key t.jobs) → KeepsNumbers app.generation t u
+queue_numbers app t u by acts q sorted = record {
   next = let n = q.next in omega arith;
-  drawn = λ n less.
-      let same : at n u.jobs ≡ at n (without_gone q.gone t.jobs) = ap (at n) q.jobs ∙ at_both n (without_gone q.gone t.jobs) q.made (not_made q.made n t.next_job q.numbers less) in
-      either n (at n u.jobs) same (at_left q.gone n t.jobs);
+  drawn = λ n less. either n less (at n t.jobs) refl;
 }
   where
-    either : (n : ℕ) (o : Option Job) → o ≡ at n (without_gone q.gone t.jobs) → (at n (without_gone q.gone t.jobs) ≡ at n t.jobs) ⊎ (at n (without_gone q.gone t.jobs) ≡ None) → (value o ≡ value (at n t.jobs)) ⊎ (value o ≡ None)
-    either n o e (inl kept) = inl (ap value (e ∙ kept))
-    either n o e (inr none) = inr (ap value (e ∙ none))
+    g : Generated
+    g = app.generation
 
-durable_numbers : (app : Application) (t u : TableRows) → KeepsNumbers (durable app.generation t) (durable app.generation u) → KeepsNumbers t u
+    meets : (n : ℕ) (less : n < t.next_job) (j : Job) → (value (at n u.jobs) ≡ Some j.value) ⊎ (Goes app t u by acts q sorted n less j.value ⊎ Changes app t u by acts q sorted n less j.value) → IsNoOther g (Some j.value) (value (at n u.jobs))
+    meets n less j (inl stays) = subst (λ (o : Option JobValue). IsNoOther g (Some j.value) o) (sym stays) (same_itself g j.value)
+    meets n less j (inr (inl goes)) = no_other_none g (Some j.value) (value (at n u.jobs)) goes.1
+    meets n less j (inr (inr changes)) = subst (λ (o : Option JobValue). IsNoOther g (Some j.value) o) (sym changes.1.1) (same_by_fate g j.value changes.0 changes.1.0)
+
+    either : (n : ℕ) → n < t.next_job → (o : Option Job) → at n t.jobs ≡ o → IsNoOther g (value o) (value (at n u.jobs))
+    either n less None e = no_other_none g None (value (at n u.jobs)) (ap value (no_job_comes app t u by acts q sorted n less e))
+    either n less (Some j) e = meets n less j (job_meets app t u by acts q sorted n less j e)
+
+durable_numbers : (app : Application) (t u : TableRows) → KeepsNumbers app.generation (durable app.generation t) (durable app.generation u) → KeepsNumbers app.generation t u
 unfolding durable
 durable_numbers app t u k = record { next = k.next; drawn = k.drawn }
 
-pub same_numbers : (t u : TableRows) → u ≡ t → KeepsNumbers t u
-same_numbers t u e = record { next = subst (λ (w : TableRows). t.next_job ≤ w.next_job) (sym e) (le_refl t.next_job); drawn = λ n less. inl (ap (λ (w : TableRows). job_of w n) e) }
+pub same_numbers : (g : Generated) (t u : TableRows) → u ≡ t → KeepsNumbers g t u
+same_numbers g t u e = record {
+  next = subst (λ (w : TableRows). t.next_job ≤ w.next_job) (sym e) (le_refl t.next_job);
+  drawn = λ n less. subst (λ (w : TableRows). IsNoOther g (job_of t n) (job_of w n)) (sym e) (no_other_itself g (job_of t n));
+}
 
 module _ (app : Application) (s : State) (d : ScriptStep) where
   both_as : (maker : Maker) → d.by ≡ Some maker → MeetsBoth app s d d.by → MeetsBoth app s d (Some maker)
   both_as maker e both = subst (λ (o : Option Maker). MeetsBoth app s d o) e both
 
-  step_numbers : CommitsOnce app s d → MeetsBoth app s d d.by → KeepsNumbers s.tables d.after.tables
-  step_numbers (inl none) both = durable_numbers app s.tables d.after.tables (same_numbers _ _ none.tables)
-  step_numbers (inr one) both = durable_numbers app s.tables d.after.tables (queue_numbers app _ _ one.maker d.acts (both_as one.maker one.by both).0)
+  durable_jobs : HasFacts app s → IsTrue (ascends job_key (durable app.generation s.tables).jobs)
+  unfolding durable
+  durable_jobs facts = facts.1.order.jobs
+
+  step_numbers : HasFacts app s → CommitsOnce app s d → MeetsBoth app s d d.by → KeepsNumbers app.generation s.tables d.after.tables
+  step_numbers facts (inl none) both = durable_numbers app s.tables d.after.tables (same_numbers app.generation _ _ none.tables)
+  step_numbers facts (inr one) both = durable_numbers app s.tables d.after.tables (queue_numbers app _ _ one.maker d.acts (both_as one.maker one.by both).0 (durable_jobs facts))
 
   module _ (facts : HasFacts app s) (number : ℕ) (over : IsOver s.tables number) where
     abbrev id : ServiceId
@@ -124,13 +129,13 @@ module _ (app : Application) (s : State) (d : ScriptStep) where
     same_row (inl none) both = sym (durable_service app.generation d.after.tables number) ∙ ap (λ (t : TableRows). service_of t id) none.tables ∙ durable_service app.generation s.tables number
     same_row (inr one) both = committed_row one.maker (both_as one.maker one.by both).1
 
-    none_left : (o : Option JobValue) → (o ≡ job_of s.tables number) ⊎ (o ≡ None) → o ≡ None
-    none_left o (inl same) = same ∙ over.job
-    none_left o (inr none) = none
+    none_left : (o : Option JobValue) → IsNoOther app.generation (job_of s.tables number) o → o ≡ None
+    none_left None none = refl
+    none_left (Some w) no_other = absurd (subst (λ (o : Option JobValue). IsNoOther app.generation o (Some w)) over.job no_other)
 
     stays_over : CommitsOnce app s d → MeetsBoth app s d d.by → IsOver d.after.tables number
     stays_over once both =
-        let k = step_numbers once both in
+        let k = step_numbers facts once both in
         record {
           drawn = let a = over.drawn in let b = k.next in omega arith;
           job = none_left (job_of d.after.tables number) (k.drawn number over.drawn);
@@ -155,16 +160,11 @@ module _ (R : TableRows → TableRows → Type 0) (same : (t : TableRows) → R 
       let middle = (each_split Made s first more sooner).1 in
       subst (λ (u : State). R (state_after s first).tables u.tables) (sym (after_both s first more)) (all_make (state_after s first) more middle)
 
-pub numbers_joined : (t u w : TableRows) → KeepsNumbers t u → KeepsNumbers u w → KeepsNumbers t w
-numbers_joined t u w a b = record {
+pub numbers_joined : (g : Generated) (t u w : TableRows) → KeepsNumbers g t u → KeepsNumbers g u w → KeepsNumbers g t w
+numbers_joined g t u w a b = record {
   next = let p = a.next in let q = b.next in omega arith;
-  drawn = λ n less. by n (a.drawn n less) (b.drawn n (let p = a.next in omega arith));
+  drawn = λ n less. no_other_both g (job_of t n) (job_of u n) (job_of w n) (a.drawn n less) (b.drawn n (let p = a.next in omega arith));
 }
-  where
-    by : (n : ℕ) → (job_of u n ≡ job_of t n) ⊎ (job_of u n ≡ None) → (job_of w n ≡ job_of u n) ⊎ (job_of w n ≡ None) → (job_of w n ≡ job_of t n) ⊎ (job_of w n ≡ None)
-    by n (inl x) (inl y) = inl (y ∙ x)
-    by n (inr x) (inl y) = inr (y ∙ x)
-    by n x (inr y) = inr y
 
 -- what is over stays over
 abbrev pub StaysOver : TableRows → TableRows → Type 0
@@ -177,7 +177,7 @@ LeadsAlong R =
     → (first more rest : List ScriptStep) → history app s script ≡ first ++ more ++ rest → R (state_after s first).tables (state_after s (first ++ more)).tables
 
 abbrev NumbersLaw : StepLaw
-NumbersLaw app s d = KeepsNumbers s.tables d.after.tables
+NumbersLaw app s d = KeepsNumbers app.generation s.tables d.after.tables
 
 abbrev OverLaw : StepLaw
 OverLaw app s d = StaysOver s.tables d.after.tables
@@ -185,8 +185,8 @@ OverLaw app s d = StaysOver s.tables d.after.tables
 module _ (kept : Leads HasFacts HasFacts) (turns_once : TurnsCommitOnce) (commands_once : CommandsCommitOnce) (turns : TurnsKeepQueues) (commands : CommandsKeepQueues) where
   numbers_each : EachMeets NumbersLaw
   numbers_each = record {
-    turns = λ app s task facts. step_numbers app s (turned_step (turn_of app s task)) (turns_once app s task) (turns app s task facts);
-    commands = λ app s c facts. step_numbers app s (command_of app s c) (commands_once app s c) (commands app s c facts);
+    turns = λ app s task facts. step_numbers app s (turned_step (turn_of app s task)) facts (turns_once app s task) (turns app s task facts);
+    commands = λ app s c facts. step_numbers app s (command_of app s c) facts (commands_once app s c) (commands app s c facts);
   }
 
   over_each : EachMeets OverLaw
@@ -195,9 +195,10 @@ module _ (kept : Leads HasFacts HasFacts) (turns_once : TurnsCommitOnce) (comman
     commands = λ app s c facts number over. stays_over app s (command_of app s c) facts number over (commands_once app s c) (commands app s c facts);
   }
 
-  pub numbers_are_drawn_once : LeadsAlong KeepsNumbers
+  pub numbers_are_drawn_once : (app : Application) (s : State) (script : List Command) → IsApplication app → IsScriptOf app script → HasFacts app s
+      → (first more rest : List ScriptStep) → history app s script ≡ first ++ more ++ rest → KeepsNumbers app.generation (state_after s first).tables (state_after s (first ++ more)).tables
   numbers_are_drawn_once app s script is_app names facts first more rest e =
-      between KeepsNumbers (λ t. same_numbers t t refl) numbers_joined s _ first more rest e (meets_along NumbersLaw kept numbers_each app s script is_app names facts)
+      between (KeepsNumbers app.generation) (λ t. same_numbers app.generation t t refl) (numbers_joined app.generation) s _ first more rest e (meets_along NumbersLaw kept numbers_each app s script is_app names facts)
 
   pub jobs_stay_over : LeadsAlong StaysOver
   jobs_stay_over app s script is_app names facts first more rest e =

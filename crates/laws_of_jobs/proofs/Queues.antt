@@ -1,10 +1,8 @@
 -- Each commit meets the law on jobs and the law on services' rows.
-use Rattle.std.specs.Prelude.{◌≡◌, refl, ℕ, ◌+◌, Bool, true, false, cond, IsSome, IfSome, List, [], ◌∷◌, ◌++◌, length, Option, Some, None, Contains}
+use Rattle.std.specs.Prelude.{◌≡◌, refl, ℕ, ◌+◌, false, cond, IsSome, List, [], ◌++◌, length, Option, Some, None, option_and_then, Contains}
 use Rattle.std.specs.Option.{option_map}
-use Rattle.std.proofs.Common.{sym, ap, subst, ◌∙◌, inl, inr, append-nil, add-zero, true≢false}
-use Rattle.kd_base.specs.ToolsLaws.{some_is}
+use Rattle.std.proofs.Common.{sym, ap, subst, ◌∙◌, append-nil, add-zero, true≢false}
 use Rattle.kdcs_types.specs.declared.act.Act.{Act}
-use Rattle.kdcs_types.specs.declared.key.Key.{Key}
 use Rattle.kdcs_types.specs.declared.key.Key.TheVariants.{Job as JobKey, Shown as ShownKey}
 use Rattle.kdcs_types.specs.declared.key.ServiceId.{ServiceId}
 use Rattle.kdcs_types.specs.declared.key.ServiceId.TheVariants.{Dialogue, Asynchronous}
@@ -15,104 +13,125 @@ use Rattle.kdcs_types.specs.declared.service.JobValue.{JobValue}
 use Rattle.kdcs_types.specs.declared.service.Service.{Service}
 use Rattle.kdcs_types.specs.declared.service.Settled.{Settled}
 use Rattle.kdcs_types.specs.Keyed.{item_at, without_item}
-use Rattle.kdcs_types.specs.KeyedLaws.{found_key, item_at_with}
+use Rattle.kdcs_types.specs.KeyedLaws.{item_at_with}
 use Rattle.kdcs_types.specs.KeyLaws.{key_eq_itself}
-use Rattle.kdcs_types.specs.Keys.{id_eq, key_eq}
+use Rattle.kdcs_types.specs.Keys.{id_eq}
 use Rattle.kdcs_types.specs.Tables.{TableRows, job_key, shown_key, service_of, shown_of}
 use Rattle.abstract_monitor.specs.declared.answer.Happened.{Happened}
 use Rattle.abstract_monitor.specs.declared.answer.Happened.TheVariants.{Settles, Breaks}
 use Rattle.abstract_monitor.specs.Bytes.{Bytes}
 use Rattle.abstract_monitor.specs.State.{Application, OpenTransaction, State}
-use Rattle.abstract_monitor.specs.Endings.{is_durable, durable, broken}
-use Rattle.abstract_monitor.specs.Turns.{statement_now, turn_of}
+use Rattle.abstract_monitor.specs.Endings.{is_asynchronous, is_durable, durable, broken}
+use Rattle.abstract_monitor.specs.Redelivery.{fate}
+use Rattle.kdcdef_types.specs.Generation.{Generated}
+use Rattle.abstract_monitor.specs.Turns.{told_here, statement_now, turn_of}
 use Rattle.abstract_monitor.specs.Commands.{ScriptStep, Maker, ByTick, ByShow, ByTransaction, shown_tables, turned_step, command_of}
-use Rattle.laws_of_steps.specs.Commits.{AreNumberedFrom, without_gone, TakesOwn, Takes, MakesAtEnd, QueueLaw, row_by_ending, EndsSo, HasOwnRow, IsByAnother, ServiceLaw}
-use Rattle.laws_of_steps.specs.JobLaw.{jobs_left, new_jobs}
+use Rattle.laws_of_steps.specs.Commits.{AreNumberedFrom, OldJobs, AllStay, OneGoes, old_jobs, IsAmong, by_fate, by_end, TreatsOwn, Treats, MakesAtEnd, QueueLaw, row_by_ending, EndsSo, HasOwnRow, IsByAnother, ServiceLaw}
+use Rattle.laws_of_steps.specs.JobLaw.{jobs_left, jobs_with, jobs_at_end, new_jobs}
 use Rattle.laws_of_steps.specs.JobLaws.{points_number, ends_draw_none}
 use Rattle.laws_of_steps.specs.Keeping.{HasFacts}
 use Rattle.laws_of_steps.specs.Transactions.{HasOwnJob, IsRooted}
-use Rattle.laws_of_places.specs.RowsLaws.{synchronised_own, synchronised_other, broken_own, broken_other}
-use Rattle.laws_of_tables.specs.ItemsLaws.{contains, IsIn}
+use Rattle.laws_of_steps.specs.OwnRowLaws.{synchronised_own, synchronised_other, broken_own, broken_other}
+use Rattle.laws_of_tables.specs.ItemsLaws.{contains, found_in, job_number}
 use Rattle.laws_of_tables.specs.EndsLaws.{due_job_found, for_lterm}
+use Rattle.laws_of_jobs.proofs.Breaking.{IsAbnormal, NoPoint, breaks_abnormally}
 use Rattle.laws_of_jobs.specs.Doings.{tables_by, Settling, Showing, Ticking, StepMakes}
 use Rattle.laws_of_jobs.specs.QueueLaws.{MeetsBoth, TurnsDoSo, CommandsDoSo, TurnsKeepQueues, CommandsKeepQueues}
 use Rattle.laws_of_steps.specs.DurableLaws.{kept_at}
 
--- ---- items
+-- ---- the own job of a transaction
 
-found_in : (k : Key) (js : List Job) (j : Job) → item_at job_key k js ≡ Some j → IsIn j js
-found_in k [] j e = absurd cc
-found_in k (x ∷ xs) j e = by (key_eq k (job_key x)) e (found_in k xs j)
+-- what is left of the jobs: at a point the own job is gone, at an abnormal end it has met its fate
+abbrev left_by : Generated → Ending → ServiceId → Option Service → List Job → List Job
+left_by g Synced id began jobs = jobs_left id began jobs
+left_by g (Broken cause) id began jobs = jobs_at_end g id began jobs
+left_by g BrokenFr id began jobs = jobs_at_end g id began jobs
+
+-- the same as a change of the jobs that were there
+record Treated (g : Generated) (kept : Settled) (t : TableRows) (id : ServiceId) (began : Option Service) : Type 0 where
+  old : OldJobs
+  left : left_by g kept.ending id began t.jobs ≡ old_jobs old t.jobs
+  was_there : IsAmong old t.jobs
+  treats : TreatsOwn g kept id began old
+
+module _ (g : Generated) (t : TableRows) (number : ℕ) (j : Job) (found : item_at job_key (JobKey number) t.jobs ≡ Some j) where
+  among : Contains t.jobs j
+  among = contains j t.jobs (found_in job_key (JobKey number) t.jobs j found)
+
+  gone : without_item job_key (JobKey number) t.jobs ≡ old_jobs (OneGoes j) t.jobs
+  gone = ap (λ n. without_item job_key (JobKey n) t.jobs) (sym (job_number number t.jobs j found))
+
+  -- the fate of the job as a change
+  fate_is : (o : Option JobValue) → jobs_with number o t.jobs ≡ old_jobs (by_fate j o) t.jobs
+  fate_is None = gone
+  fate_is (Some v) = ap (λ n. jobs_with n (Some v) t.jobs) (sym (job_number number t.jobs j found))
+
+  fate_among : (o : Option JobValue) → IsAmong (by_fate j o) t.jobs
+  fate_among None = among
+  fate_among (Some v) = among
+
+  found_fate : jobs_at_end g (Asynchronous number) None t.jobs ≡ old_jobs (by_fate j (fate g j.value)) t.jobs
+  found_fate = ap (λ (o : Option Job). jobs_with number (option_and_then (fate g) (option_map (λ (k : Job). k.value) o)) t.jobs) found ∙ fate_is (fate g j.value)
+
+  treated_by : (ending : Ending) → (left_by g ending (Asynchronous number) None t.jobs ≡ old_jobs (by_end g ending j) t.jobs) × IsAmong (by_end g ending j) t.jobs
+  treated_by Synced = (gone, among)
+  treated_by (Broken cause) = (found_fate, fate_among (fate g j.value))
+  treated_by BrokenFr = (found_fate, fate_among (fate g j.value))
+
+-- a service with a row, and a dialogue service, touch no job
+all_left : (g : Generated) (ending : Ending) (id : ServiceId) (began : Option Service) (jobs : List Job) → jobs_left id began jobs ≡ jobs → jobs_at_end g id began jobs ≡ jobs → left_by g ending id began jobs ≡ jobs
+all_left g Synced id began jobs point end = point
+all_left g (Broken cause) id began jobs point end = end
+all_left g BrokenFr id began jobs point end = end
+
+treated : (g : Generated) (kept : Settled) (t : TableRows) (id : ServiceId) (began : Option Service) → HasOwnJob t id began → Treated g kept t id began
+treated g kept t (Dialogue user) began has = record { old = AllStay; left = all_left g kept.ending (Dialogue user) began t.jobs refl refl; was_there = tt; treats = refl }
+treated g kept t (Asynchronous number) (Some row) has = record { old = AllStay; left = all_left g kept.ending (Asynchronous number) (Some row) t.jobs refl refl; was_there = tt; treats = refl }
+treated g kept t (Asynchronous number) None has = by (item_at job_key (JobKey number) t.jobs) refl has
   where
-    by : (b : Bool) → cond b (Some x) (item_at job_key k xs) ≡ Some j → (item_at job_key k xs ≡ Some j → IsIn j xs) → IsIn j (x ∷ xs)
-    by true is rest = inl (some_is x j is)
-    by false is rest = inr (rest is)
-
--- ---- the job that a transaction takes
-
-record Goes (t : TableRows) (id : ServiceId) (began : Option Service) : Type 0 where
-  gone : Option Job
-  left : jobs_left id began t.jobs ≡ without_gone gone t.jobs
-  was_there : IfSome gone (λ (job : Job). Contains t.jobs job)
-  taken : TakesOwn id began gone
-
-goes : (t : TableRows) (id : ServiceId) (began : Option Service) → HasOwnJob t id began → Goes t id began
-goes t (Dialogue user) began has = record { gone = None; left = refl; was_there = tt; taken = refl }
-goes t (Asynchronous number) (Some row) has = record { gone = None; left = refl; was_there = tt; taken = refl }
-goes t (Asynchronous number) None has = by (item_at job_key (JobKey number) t.jobs) refl has
-  where
-    same : (n : ℕ) → JobKey n ≡ JobKey number → n ≡ number
-    same n f = cc
-
-    by : (o : Option Job) → item_at job_key (JobKey number) t.jobs ≡ o → IsSome (option_map (λ (j : Job). j.value) o) → Goes t (Asynchronous number) None
+    by : (o : Option Job) → item_at job_key (JobKey number) t.jobs ≡ o → IsSome (option_map (λ (j : Job). j.value) o) → Treated g kept t (Asynchronous number) None
     by None e h = absurd (true≢false (sym h))
     by (Some j) e h =
-        let is = same j.number (found_key job_key (JobKey number) t.jobs j e) in
-        record {
-          gone = Some j;
-          left = ap (λ n. without_item job_key (JobKey n) t.jobs) (sym is);
-          was_there = contains j t.jobs (found_in (JobKey number) t.jobs j e);
-          taken = (j, (refl, is));
-        }
+        let is = treated_by g t number j e kept.ending in
+        record { old = by_end g kept.ending j; left = is.0; was_there = is.1; treats = (j, (job_number number t.jobs j e, refl)) }
 
 -- ---- the jobs that it makes
 
-record Drawn (t u : TableRows) (id : ServiceId) (x : OpenTransaction) (e : Ending) : Type 0 where
+record Drawn (g : Generated) (t u : TableRows) (id : ServiceId) (x : OpenTransaction) (e : Ending) : Type 0 where
   made : List Job
-  jobs : u.jobs ≡ jobs_left id x.began t.jobs ++ made
+  jobs : u.jobs ≡ left_by g e id x.began t.jobs ++ made
   numbers : AreNumberedFrom t.next_job made
   next : u.next_job ≡ t.next_job + length made
   makes : MakesAtEnd e made
 
-none_made : (e : Ending) → MakesAtEnd e []
-none_made Synced = tt
-none_made (Broken cause) = refl
-none_made BrokenFr = refl
-
-broken_drawn : (t : TableRows) (id : ServiceId) (x : OpenTransaction) (e : Ending) → Drawn t (broken t id x) id x e
-broken_drawn t id x e =
-    let q = ends_draw_none t id x in
-    record { made = []; jobs = q.jobs ∙ sym (append-nil (jobs_left id x.began t.jobs)); numbers = tt; next = q.next ∙ sym (add-zero t.next_job); makes = none_made e }
+broken_drawn : (g : Generated) (t : TableRows) (id : ServiceId) (x : OpenTransaction) (e : Ending) → IsAbnormal e → Drawn g t (broken g t id x) id x e
+broken_drawn g t id x Synced h = absurd h
+broken_drawn g t id x (Broken cause) h =
+    let q = ends_draw_none g t id x in
+    record { made = []; jobs = q.jobs ∙ sym (append-nil (jobs_at_end g id x.began t.jobs)); numbers = tt; next = q.next ∙ sym (add-zero t.next_job); makes = refl }
+broken_drawn g t id x BrokenFr h =
+    let q = ends_draw_none g t id x in
+    record { made = []; jobs = q.jobs ∙ sym (append-nil (jobs_at_end g id x.began t.jobs)); numbers = tt; next = q.next ∙ sym (add-zero t.next_job); makes = refl }
 
 module _ (app : Application) (t : TableRows) (id : ServiceId) (x : OpenTransaction) where
-  drawn : (h : Happened) (e : Ending) → EndsSo app t id x h e → Drawn t (tables_by app t id x h e) id x e
-  drawn (Settles o) Synced ends =
+  drawn : (h : Happened) (e : Ending) → EndsSo app t id x h e → NoPoint h → Drawn app.generation t (tables_by app t id x h e) id x e
+  drawn (Settles o) Synced ends breaks =
       let q = points_number app.generation t id x o in
       record { made = new_jobs t x; jobs = q.jobs; numbers = q.numbers; next = q.next; makes = tt }
-  drawn (Settles o) (Broken cause) ends = broken_drawn t id x (Broken cause)
-  drawn (Settles o) BrokenFr ends = broken_drawn t id x BrokenFr
-  drawn (Breaks by) e ends = broken_drawn t id x e
-  drawn _ e ends = absurd ends
+  drawn (Settles o) (Broken cause) ends breaks = broken_drawn app.generation t id x (Broken cause) tt
+  drawn (Settles o) BrokenFr ends breaks = broken_drawn app.generation t id x BrokenFr tt
+  drawn (Breaks by) e ends breaks = broken_drawn app.generation t id x e (subst IsAbnormal (sym ends) breaks)
+  drawn _ e ends breaks = absurd ends
 
   -- ---- the rows of services
 
   pub own_row : (h : Happened) (e : Ending) → service_of (tables_by app t id x h e) id ≡ row_by_ending app id x h e
   own_row (Settles o) Synced = synchronised_own app.generation t id x o
-  own_row _ _ = broken_own t id x
+  own_row _ _ = broken_own app.generation t id x
 
   other_row : (h : Happened) (e : Ending) (i : ServiceId) → id_eq i id ≡ false → service_of (tables_by app t id x h e) i ≡ service_of t i
   other_row (Settles o) Synced i apart = synchronised_other app.generation t id x o i apart
-  other_row _ _ i apart = broken_other t id x i apart
+  other_row _ _ i apart = broken_other app.generation t id x i apart
 
 -- ---- durable tables
 
@@ -120,23 +139,23 @@ durable_row : (app : Application) (t : TableRows) (id : ServiceId) → service_o
 unfolding durable
 durable_row app t id = kept_at (is_durable app.generation) id t.services
 
-durable_taken : (app : Application) (u : TableRows) (acts : List Act) (by : Maker) (o : Option Job) → Takes app by o u acts → Takes app by o (durable app.generation u) acts
+durable_treats : (app : Application) (u : TableRows) (acts : List Act) (by : Maker) (o : OldJobs) → Treats app by o u acts → Treats app by o (durable app.generation u) acts
 unfolding durable
-durable_taken app u acts (ByTick ticks) o h = h
-durable_taken app u acts (ByShow lterm) o h = h
-durable_taken app u acts (ByTransaction kept) o h = h
+durable_treats app u acts (ByTick ticks) o h = h
+durable_treats app u acts (ByShow lterm) o h = h
+durable_treats app u acts (ByTransaction kept) o h = h
 
 -- jobs are the same there
 durable_queue : (app : Application) (t u : TableRows) (by : Maker) (acts : List Act) → QueueLaw app t u by acts → QueueLaw app (durable app.generation t) (durable app.generation u) by acts
 unfolding durable
 durable_queue app t u by acts q = record {
-  gone = q.gone;
+  old = q.old;
   made = q.made;
   jobs = q.jobs;
   numbers = q.numbers;
   next = q.next;
   was_there = q.was_there;
-  taken = durable_taken app u acts by q.gone q.taken;
+  treats = durable_treats app u acts by q.old q.treats;
   makes = q.makes;
 }
 
@@ -160,16 +179,16 @@ module _ (app : Application) (s : State) (after : TableRows) (kept : Settled) (a
 
   transaction_queue : IsRooted s.tables kept.service m.own → QueueLaw app s.tables after (ByTransaction kept) acts
   transaction_queue rooted =
-      let g = goes s.tables kept.service m.own.began rooted.job in
-      let d = drawn app s.tables kept.service m.own h kept.ending m.ends in
+      let g = treated app.generation kept s.tables kept.service m.own.began rooted.job in
+      let d = drawn app s.tables kept.service m.own h kept.ending m.ends (breaks_abnormally app (told_here app s kept.service m.own) (is_asynchronous kept.service) m.own) in
       record {
-        gone = g.gone;
+        old = g.old;
         made = d.made;
         jobs = ap (λ (t : TableRows). t.jobs) m.gives ∙ d.jobs ∙ ap (λ (l : List Job). l ++ d.made) g.left;
         numbers = d.numbers;
         next = ap (λ (t : TableRows). t.next_job) m.gives ∙ d.next;
         was_there = g.was_there;
-        taken = subst (λ (o : Option Service). TakesOwn kept.service o g.gone) began_same g.taken;
+        treats = subst (λ (o : Option Service). TreatsOwn app.generation kept kept.service o g.old) began_same g.treats;
         makes = d.makes;
       }
 
@@ -194,13 +213,13 @@ module _ (app : Application) (s : State) (lterm : Bytes) (d : ScriptStep) (m : S
   show_queue =
       let is = due_job_found s lterm m.job m.due in
       record {
-        gone = Some m.job;
+        old = OneGoes m.job;
         made = [];
         jobs = ap (λ (t : TableRows). t.jobs) m.gives ∙ sym (append-nil (without_item job_key (JobKey m.job.number) s.tables.jobs));
         numbers = tt;
         next = ap (λ (t : TableRows). t.next_job) m.gives ∙ sym (add-zero s.tables.next_job);
         was_there = contains m.job s.tables.jobs is.there;
-        taken = (m.job, (refl, (for_lterm lterm m.job.value.to is.target, (ap (λ (t : TableRows). shown_of t lterm) m.gives ∙ stands s.tables, m.sends))));
+        treats = (m.job, (refl, (for_lterm lterm m.job.value.to is.target, (ap (λ (t : TableRows). shown_of t lterm) m.gives ∙ stands s.tables, m.sends))));
         makes = refl;
       }
 
@@ -210,13 +229,13 @@ module _ (app : Application) (s : State) (lterm : Bytes) (d : ScriptStep) (m : S
 module _ (app : Application) (s : State) (ticks : ℕ) (d : ScriptStep) (m : Ticking s d) where
   tick_queue : QueueLaw app s.tables d.after.tables (ByTick ticks) d.acts
   tick_queue = record {
-    gone = None;
+    old = AllStay;
     made = [];
     jobs = ap (λ (t : TableRows). t.jobs) m.gives ∙ sym (append-nil s.tables.jobs);
     numbers = tt;
     next = ap (λ (t : TableRows). t.next_job) m.gives ∙ sym (add-zero s.tables.next_job);
     was_there = tt;
-    taken = refl;
+    treats = refl;
     makes = refl;
   }
 

@@ -21,17 +21,17 @@ use Rattle.abstract_monitor.specs.Turns.{commit_of, dump_acts, ended_acts, messa
 use Rattle.abstract_monitor.specs.Commands.{ScriptStep, Maker, ByTick, ByShow, ByTransaction, due_for, shown_tables}
 use Rattle.laws_of_steps.specs.Commits.{EndsSo, SendsNext}
 
--- the tables behind a synchronisation point, or behind an abnormal end
+-- the tables after a synchronisation point, or after an abnormal end
 abbrev pub tables_by : Application → TableRows → ServiceId → OpenTransaction → Happened → Ending → TableRows
 tables_by app t id x (Settles o) Synced = synchronised app.generation t id x o
-tables_by app t id x (Settles o) (Broken cause) = broken t id x
-tables_by app t id x (Settles o) BrokenFr = broken t id x
-tables_by app t id x (Breaks by) ending = broken t id x
-tables_by app t id x Went ending = broken t id x
-tables_by app t id x Queued ending = broken t id x
-tables_by app t id x (Held tac) ending = broken t id x
-tables_by app t id x Waited ending = broken t id x
-tables_by app t id x Returns ending = broken t id x
+tables_by app t id x (Settles o) (Broken cause) = broken app.generation t id x
+tables_by app t id x (Settles o) BrokenFr = broken app.generation t id x
+tables_by app t id x (Breaks by) ending = broken app.generation t id x
+tables_by app t id x Went ending = broken app.generation t id x
+tables_by app t id x Queued ending = broken app.generation t id x
+tables_by app t id x (Held tac) ending = broken app.generation t id x
+tables_by app t id x Waited ending = broken app.generation t id x
+tables_by app t id x Returns ending = broken app.generation t id x
 
 -- PEND RE and FI send the message of a dialogue service
 abbrev pub point_lines : State → ServiceId → OpenTransaction → Outcome → List Act
@@ -39,7 +39,7 @@ point_lines s id x (Wait tac) = message_acts s id x
 point_lines s id x Finish = message_acts s id x
 point_lines s id x _ = []
 
--- the lines behind a commit
+-- the lines after a commit
 abbrev pub lines_by : State → ServiceId → OpenTransaction → Happened → Ending → List Act
 lines_by s id x (Settles o) Synced = point_lines s id x o
 lines_by s id x (Settles o) (Broken cause) = dump_acts id x (Broken cause) ++ ended_acts s id
@@ -47,7 +47,7 @@ lines_by s id x (Settles o) BrokenFr = dump_acts id x BrokenFr ++ ended_acts s i
 lines_by s id x (Breaks by) ending = dump_acts id x ending ++ ended_acts s id
 lines_by s id x _ ending = []
 
--- the next statement of an open transaction, of which this is the record, ended it, made these tables, and sent these lines behind its commit
+-- the next statement of an open transaction, of which this is the record, ended it, made these tables, and sent these lines after its commit
 pub record Settling (app : Application) (s : State) (kept : Settled) (after : TableRows) (acts : List Act) : Type 0 where
   pub own : OpenTransaction
   pub was_open : find id_cmp kept.service s.active ≡ Some own

@@ -1,4 +1,4 @@
--- Every step of a run is lawful: its commit, if it makes one, makes the tables behind it, meets the laws on jobs and on services' rows, and is what its record, run in one go, makes.
+-- Every step of a run is lawful: its commit, if it makes one, makes the tables after it, meets the laws on jobs and on services' rows, and is what its record, run in one go, makes.
 use Rattle.std.specs.Prelude.{List}
 use Rattle.kdcs_types.specs.Tables.{TableRows, IsSortedTables}
 use Rattle.abstract_monitor.specs.State.{Application, State}
@@ -13,20 +13,20 @@ use Rattle.laws_of_steps.specs.EachStep.{EachStep}
 use Rattle.laws_of_runs.specs.SerialLaws.{HasReplays, IsSerialStep}
 use Rattle.laws_of_jobs.specs.QueueLaws.{KeepsQueues, SendsAtPoints}
 
--- a step of a run, behind the state before it
+-- a step of a run, after the state before it
 pub record IsLawfulStep (app : Application) (before : State) (d : ScriptStep) : Type 0 where
   -- without a maker it makes no commit; with one it makes one, first of its acts
   pub once : CommitsOnce app before d
-  -- the commit turns the durable tables before the step into those behind it; without one they stay
+  -- the commit turns the durable tables before the step into those after it; without one they stay
   pub tables : MakesItsTables app before d
   -- the commit meets the laws on jobs and on services' rows
   pub queues : KeepsQueues app before d
   -- the commit of a transaction is what its record, run in one go, makes
   pub serial : IsSerialStep app before d
-  -- a point that awaits an input sends behind its commit the message that its row keeps
+  -- a point that awaits an input sends after its commit the message that its row keeps
   pub messages : SendsAtPoints app before d
 
--- each step, behind the state before it
+-- each step, after the state before it
 abbrev pub IsLawful : Application → State → List ScriptStep → Type 0
 IsLawful app s steps = EachStep (IsLawfulStep app) s steps
 

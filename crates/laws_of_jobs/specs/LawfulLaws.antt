@@ -1,4 +1,4 @@
--- Laws: every step of a run is lawful: its commit, if it makes one, makes the tables behind it, meets the laws on jobs and on services' rows, and is what its record, run in one go, makes.
+-- Laws: every step of a run is lawful: its commit, if it makes one, makes the tables after it, meets the laws on jobs and on services' rows, and is what its record, run in one go, makes.
 use Rattle.std.specs.Prelude.{List, [], ◌∷◌}
 use Rattle.abstract_monitor.specs.State.{Application, State}
 use Rattle.abstract_monitor.specs.Commands.{ScriptStep}

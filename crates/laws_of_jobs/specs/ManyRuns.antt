@@ -51,7 +51,7 @@ OneTookJob app t (run ∷ runs) job = TookJob app t run job ⊎ OneTookJob app (
 
 -- from the first tables to the last ones no number is drawn twice, and no job is lost or done twice; and a further run can start from the last ones
 pub record RunsKeepJobs (app : Application) (t : TableRows) (runs : List StoppedRun) : Type 0 where
-  pub jobs : KeepsJobs t (left_by_all app t runs) (OneTookJob app t runs)
+  pub jobs : KeepsJobs app.generation t (left_by_all app t runs) (OneTookJob app t runs)
   pub order : IsSortedTables (left_by_all app t runs)
   pub suits : Suits app.generation (left_by_all app t runs)
 

@@ -1,20 +1,23 @@
 -- That each commit of a run meets the laws on jobs and on services' rows, and that no job number is drawn twice.
-use Rattle.std.specs.Prelude.{true, ◌≡◌, ◌⊎◌, ◌<◌, ◌≤◌, ℕ, List, [], ◌∷◌, ◌++◌, Option, Some, None}
+use Rattle.std.specs.Prelude.{true, ◌≡◌, ◌⊎◌, ◌<◌, ◌≤◌, ℕ, zero, suc, List, [], ◌∷◌, ◌++◌, Option, Some, None}
 use Rattle.kdcs_types.specs.declared.act.Act.TheVariants.{Emit}
 use Rattle.kdcs_types.specs.declared.key.ServiceId.TheVariants.{Dialogue, Asynchronous}
 use Rattle.kdcs_types.specs.declared.service.Job.{Job}
+use Rattle.kdcs_types.specs.declared.service.JobValue.{JobValue}
 use Rattle.kdcs_types.specs.declared.service.Service.{Service}
 use Rattle.kdcs_types.specs.Tables.{TableRows, job_of, service_of}
+use Rattle.kdcdef_types.specs.Generation.{Generated}
 use Rattle.abstract_monitor.specs.Bytes.{Bytes}
 use Rattle.abstract_monitor.specs.Lines.{out_line}
 use Rattle.abstract_monitor.specs.State.{Application, State}
+use Rattle.abstract_monitor.specs.Redelivery.{fate}
 use Rattle.abstract_monitor.specs.Endings.{durable}
 use Rattle.abstract_monitor.specs.Turns.{commit_of, pterm_of_user, turn_of}
 use Rattle.abstract_monitor.specs.declared.command.Command.{Command}
 use Rattle.abstract_monitor.specs.Commands.{ScriptStep, Maker, ByTick, ByShow, ByTransaction, turned_step, command_of, state_after}
 use Rattle.abstract_monitor.specs.Trace.{history}
 use Rattle.laws_of_steps.specs.Applications.{IsApplication}
-use Rattle.laws_of_steps.specs.Commits.{Takes, QueueLaw, ServiceLaw}
+use Rattle.laws_of_steps.specs.Commits.{OneGoes, Treats, QueueLaw, ServiceLaw}
 use Rattle.laws_of_steps.specs.Keeping.{HasFacts, IsScriptOf}
 use Rattle.laws_of_jobs.specs.Along.{MeetsAlong}
 use Rattle.laws_of_jobs.specs.Doings.{StepMakes}
@@ -42,7 +45,7 @@ TurnsKeepQueues = (app : Application) (s : State) (task : ℕ) → HasFacts app 
 abbrev pub CommandsKeepQueues : Type 0
 CommandsKeepQueues = (app : Application) (s : State) (c : Command) → HasFacts app s → KeepsQueues app s (command_of app s c)
 
--- the row keeps the message that is sent behind the commit, to the terminal of the user
+-- the row keeps the message that is sent after the commit, to the terminal of the user
 pub record IsMessageSent (app : Application) (s : State) (user : Bytes) (row : Service) (d : ScriptStep) : Type 0 where
   pub pterm : Bytes
   pub message : Bytes
@@ -71,10 +74,26 @@ HistoriesSendAtPoints = MeetsAlong SendsAtPoints
 abbrev pub HistoriesKeepQueues : Type 0
 HistoriesKeepQueues = MeetsAlong KeepsQueues
 
--- the next job number does not fall, and a number that was drawn stands for the same job as before, or for none
-pub record KeepsNumbers (before after : TableRows) : Type 0 where
+-- a job of the first value has the second one after so many abnormal ends of its service
+abbrev pub HasAfterEnds : Generated → ℕ → JobValue → JobValue → Type 0
+HasAfterEnds g zero v w = v ≡ w
+HasAfterEnds g (suc ends) v w = (u : JobValue) × ((fate g v ≡ Some u) × HasAfterEnds g ends u w)
+
+-- it is the same job, which may have been delivered again, or may be a dead letter
+pub record IsSameJob (g : Generated) (v w : JobValue) : Type 0 where
+  pub ends : ℕ
+  pub is : HasAfterEnds g ends v w
+
+-- a number stands for the same job as before, or for none
+abbrev pub IsNoOther : Generated → (before after : Option JobValue) → Type 0
+IsNoOther g before None = Unit {0}
+IsNoOther g None (Some w) = ⊥
+IsNoOther g (Some v) (Some w) = IsSameJob g v w
+
+-- the next job number does not fall, and a number that was drawn stands for no other job
+pub record KeepsNumbers (g : Generated) (before after : TableRows) : Type 0 where
   pub next : before.next_job ≤ after.next_job
-  pub drawn : (number : ℕ) → number < before.next_job → (job_of after number ≡ job_of before number) ⊎ (job_of after number ≡ None)
+  pub drawn : (number : ℕ) → number < before.next_job → IsNoOther g (job_of before number) (job_of after number)
 
 -- the job of this number and the service that it began are over
 pub record IsOver (t : TableRows) (number : ℕ) : Type 0 where
@@ -82,17 +101,23 @@ pub record IsOver (t : TableRows) (number : ℕ) : Type 0 where
   pub job : job_of t number ≡ None
   pub row : service_of t (Asynchronous number) ≡ None
 
--- no number is drawn twice; a job stands with its value, or was taken in between; and one that is over stays over
-pub record KeepsJobs (before after : TableRows) (IsTaken : Job → Type 0) : Type 0 where
-  pub numbers : KeepsNumbers before after
-  pub lost : (job : Job) → job_of before job.number ≡ Some job.value → (job_of after job.number ≡ Some job.value) ⊎ IsTaken job
+-- the job is there, with the value that abnormal ends of its service gave it, or was taken with that value
+pub record IsNotLost (g : Generated) (after : TableRows) (IsTaken : Job → Type 0) (number : ℕ) (value : JobValue) : Type 0 where
+  pub now : JobValue
+  pub same : IsSameJob g value now
+  pub stands : (job_of after number ≡ Some now) ⊎ IsTaken (record { number = number; value = now })
+
+-- no number is drawn twice; a job is there, or was taken in between; and one that is over stays over
+pub record KeepsJobs (g : Generated) (before after : TableRows) (IsTaken : Job → Type 0) : Type 0 where
+  pub numbers : KeepsNumbers g before after
+  pub lost : (number : ℕ) (value : JobValue) → job_of before number ≡ Some value → IsNotLost g after IsTaken number value
   pub doubled : (number : ℕ) → IsOver before number → IsOver after number
 
--- the commit of this step takes the job, which is gone behind it
+-- the commit of this step takes the job, which is gone after it
 pub record IsTakenAt (app : Application) (d : ScriptStep) (job : Job) : Type 0 where
   pub by : Maker
   pub is : d.by ≡ Some by
-  pub taken : Takes app by (Some job) (durable app.generation d.after.tables) d.acts
+  pub taken : Treats app by (OneGoes job) (durable app.generation d.after.tables) d.acts
   pub gone : job_of d.after.tables job.number ≡ None
 
 -- one of these steps does
@@ -103,7 +128,7 @@ IsTakenIn app (d ∷ ds) job = IsTakenAt app d job ⊎ IsTakenIn app ds job
 -- it is so from any state of these steps to any later one
 abbrev pub JobsAreKept : Application → State → List ScriptStep → Type 0
 JobsAreKept app s steps =
-    (first more rest : List ScriptStep) → steps ≡ first ++ more ++ rest → KeepsJobs (state_after s first).tables (state_after s (first ++ more)).tables (IsTakenIn app more)
+    (first more rest : List ScriptStep) → steps ≡ first ++ more ++ rest → KeepsJobs app.generation (state_after s first).tables (state_after s (first ++ more)).tables (IsTakenIn app more)
 
 -- and so along a run
 abbrev pub JobsAreDoneOnce : Type 0

@@ -67,7 +67,7 @@ SignOnsResume =
 
 -- ---- cuts
 
--- what is stored after some first acts of a run are the durable tables of the state behind the steps whose commits are done; a start from them has its facts and all jobs of that state, and each service goes on at its last point there
+-- what is stored after some first acts of a run are the durable tables of the state after the steps whose commits are done; a start from them has its facts and all jobs of that state, and each service goes on at its last point there
 pub record CutResumes (app : Application) (t : TableRows) (script : List Command) (done : List Act) : Type 0 where
   pub steps : StepsDone (history app (started app t) script) done
   pub stored : tables_after (durable app.generation t) done ≡ durable app.generation (state_after (started app t) steps.first).tables

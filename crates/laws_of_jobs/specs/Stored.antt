@@ -1,4 +1,4 @@
--- Which steps of a run stand behind the acts that are done.
+-- Which steps of a run made the acts that are done.
 use Rattle.std.specs.Prelude.{◌≡◌, List, ◌++◌, length}
 use Rattle.kdcs_types.specs.declared.act.Act.{Act}
 use Rattle.abstract_monitor.specs.Commands.{ScriptStep}

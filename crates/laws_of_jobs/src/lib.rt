@@ -31,7 +31,7 @@ pub fn commits_keep_queues()
 }
 
 /// Along every script from a state with its facts, each step that commits meets both laws; and a point that awaits an
-/// input of its user sends, behind its commit, the message that its row keeps.
+/// input of its user sends, after its commit, the message that its row keeps.
 pub fn runs_keep_queues()
     ensures laws { HistoriesKeepQueues }
     ensures messages { HistoriesSendAtPoints }
@@ -42,10 +42,10 @@ pub fn runs_keep_queues()
     commits_keep_queues();
 }
 
-/// Every step of a run is lawful. Without a maker it makes no commit; with one it makes one, which stands first and turns
-/// the durable tables before the step into those behind it. The commit meets the laws on jobs and on services' rows, it is
+/// Every step of a run is lawful. Without a maker it makes no commit; with one it makes one, which is first and turns
+/// the durable tables before the step into those after it. The commit meets the laws on jobs and on services' rows, it is
 /// what its transaction's record, run in one go on the durable tables before it, makes of them, and the message that the
-/// row keeps is the line behind it.
+/// row keeps is the line after it.
 pub fn runs_are_lawful()
     ensures histories { HistoriesAreLawful }
     ensures runs { RunsAreLawful }
@@ -57,9 +57,10 @@ pub fn runs_are_lawful()
 }
 
 /// Between any two states of a run no job number is drawn twice: the next number does not fall, and a number that was
-/// drawn stands for the same job or for none. A job stands with its value until a commit takes it: that of the first
-/// point or the abnormal end of its own service, or that of KDCOUT or PRINT, which show it. A job that is gone, and
-/// whose service is over, is never done again.
+/// drawn stands for the same job or for none. A job stands until a commit takes it: that of the first point of its own
+/// service, that of an abnormal end before it where its fate is to go, or that of KDCOUT or PRINT, which show it. Until
+/// then abnormal ends of its service alone change it: its target and the number of its deliveries, as its fate says. A job
+/// that is gone, and whose service is over, is never done again.
 pub fn jobs_are_done_once()
     ensures { JobsAreDoneOnce }
 {
@@ -77,7 +78,7 @@ pub fn services_resume()
     ensures sign_ons { SignOnsResume }
 {}
 
-/// What is stored after some first acts of a run are the durable tables of the state behind the steps whose commits are
+/// What is stored after some first acts of a run are the durable tables of the state after the steps whose commits are
 /// among them. A start from them has the facts of a state, and goes on where that state stood: each asynchronous service
 /// at its last synchronisation point, and that of each user with RESTART=YES when the user signs on.
 pub fn cuts_resume()
@@ -97,8 +98,8 @@ pub fn cuts_are_serial()
     scripts_are_serial_runs();
 }
 
-/// The same over several runs, each from what a stop of the one before left: no number is drawn twice, a job stands with
-/// its value until a commit of one of them takes it, and one that is over is never done again. What they leave suits, so a
+/// The same over several runs, each from what a stop of the one before left: no number is drawn twice, a job is there until
+/// a commit of one of them takes it, and one that is over is never done again. What they leave suits, so a
 /// further run can start from it.
 pub fn runs_keep_jobs()
     ensures { AllRunsKeepJobs }

@@ -34,7 +34,7 @@ use Rattle.laws_of_places.specs.ChangesLaws.{alters_then, without_ready, open_al
 use Rattle.laws_of_places.specs.RowsLaws.{least_passes, all_filtered, filtered_pass}
 use Rattle.laws_of_places.specs.AreasLaws.{new_holds}
 use Rattle.laws_of_places.specs.AfterLaws.{consistent_after}
-use Rattle.laws_of_places.proofs.Turns.{worked_consistent}
+use Rattle.laws_of_places.proofs.Turns.{served_consistent}
 use Rattle.laws_of_steps.specs.DurableLaws.{durable_service}
 
 -- ---- what is picked
@@ -191,4 +191,4 @@ turns_consistent app s task c = by (slice_get s.tasks (task - 1)) refl
     by : (o : Option (Option ServiceId)) → slice_get s.tasks (task - 1) ≡ o → IsConsistent app (turn_by app s task o).after
     by None e = c.0
     by (Some None) e = took_consistent app s task c e (pick app s) (picked app s)
-    by (Some (Some id)) e = worked_consistent app s task id c.0 e (find id_cmp id s.active) refl
+    by (Some (Some id)) e = served_consistent app s task id c.0 e (find id_cmp id s.active) refl

@@ -22,18 +22,19 @@ use Rattle.abstract_monitor.specs.Endings.{is_asynchronous, opened, opened_by_ro
 use Rattle.abstract_monitor.specs.Locks.{Waiting, locks_of, since, since_by}
 use Rattle.abstract_monitor.specs.State.{Application, OpenTransaction, State}
 use Rattle.abstract_monitor.specs.Statements.{area_of}
-use Rattle.abstract_monitor.specs.Turns.{with_open, without_wait, with_task, queued, without_work, abnormal, after_point, settled, back_by, back, waiting, waiting_for, happens, told_here, statement_now, worked}
+use Rattle.abstract_monitor.specs.Turns.{with_open, without_wait, with_task, queued, without_transaction, abnormal, after_point, settled, back_by, back, waiting, waiting_for, happens, told_here, statement_now, served}
 use Rattle.laws_of_steps.specs.EachTurnLaws.{of_point}
 use Rattle.laws_of_steps.specs.Facts.{IsConsistent}
 use Rattle.laws_of_steps.specs.Transactions.{IsRooted}
 use Rattle.laws_of_steps.specs.TablesStayLaws.{last_again_stays}
 use Rattle.laws_of_steps.specs.JobLaws.{points_number, ends_draw_none}
+use Rattle.laws_of_steps.specs.OwnRowLaws.{synchronised_other, synchronised_own, broken_other, broken_own}
 use Rattle.laws_of_places.specs.CountsLaws.{times, times_push}
 use Rattle.laws_of_places.specs.EntriesLaws.{found_put, found_without}
 use Rattle.laws_of_places.specs.PlacesLaws.{still_signed, times_ready, times_held, is_signed_for, IsPlaced, placed_of, placed_running, placed_kept, placed_closed}
-use Rattle.laws_of_places.specs.ChangesLaws.{KeepsRows, alters_then, open_alters, unwaiting_alters, wait_alters, freed_alters, queued_alters, work_alters, tables_alter}
+use Rattle.laws_of_places.specs.ChangesLaws.{KeepsRows, alters_then, open_alters, unwaiting_alters, wait_alters, freed_alters, queued_alters, without_transaction_alters, tables_alter}
 use Rattle.laws_of_places.specs.KeptLaws.{StatementKeeps, statement_keeps, held_alike}
-use Rattle.laws_of_places.specs.RowsLaws.{synchronised_jobs, broken_jobs, synchronised_other, synchronised_own, broken_other, broken_own}
+use Rattle.laws_of_places.specs.RowsLaws.{synchronised_jobs, broken_jobs}
 use Rattle.laws_of_places.specs.AreasLaws.{closed_holds, new_holds, statement_holds}
 use Rattle.laws_of_places.specs.AfterLaws.{consistent_after, no_wait, IsInTask, in_task, rooted_still, rooted_row, last_consistent, sent_consistent}
 
@@ -65,9 +66,9 @@ module _ (app : Application) (s : State) (task : ℕ) (id : ServiceId) (x : Open
   rooted : IsRooted s.tables id x
   rooted = place.rooted x is
 
-  -- the state without the work of the task
+  -- the state without the transaction of the task
   abbrev left : State
-  left = without_work s task id
+  left = without_transaction s task id
 
   went : (y : OpenTransaction) → StatementKeeps (told_here app s id x) (area_of app x) x (y, Went) → IsConsistent app (with_open (without_wait s id) id y)
   went y k =
@@ -141,7 +142,7 @@ module _ (app : Application) (s : State) (task : ℕ) (id : ServiceId) (x : Open
   closed t k awaits =
       let u = record left { tables = t } in
       consistent_after app s u id c
-      (alters_then s left u id (work_alters s task id at) (tables_alter left t id k))
+      (alters_then s left u id (without_transaction_alters s task id at) (tables_alter left t id k))
       (placed_closed app u id none_left (found_without id s.active) (λ row d o r a. awaits row r a) (found_without id s.waits))
       (closed_holds s.active u.active id (found_without id s.active))
 
@@ -152,7 +153,7 @@ module _ (app : Application) (s : State) (task : ℕ) (id : ServiceId) (x : Open
       let y = opened_by_row app.generation id row x.lterm in
       let u = queued v id y in
       consistent_after app s u id c
-      (alters_then s v u id (alters_then s left v id (work_alters s task id at) (tables_alter left t id k)) (queued_alters v id y))
+      (alters_then s v u id (alters_then s left v id (without_transaction_alters s task id at) (tables_alter left t id k)) (queued_alters v id y))
       (placed_running app u id y
       (times_queued v id y in_its_task.ready in_its_task.freed)
       (found_put id y left.active)
@@ -161,11 +162,11 @@ module _ (app : Application) (s : State) (task : ℕ) (id : ServiceId) (x : Open
       (no_wait u id (found_without id s.waits)))
       (new_holds s.active u.active id y (found_put id y left.active) (row_new app id row x.lterm))
 
-  broken_keeps : KeepsRows left (broken s.tables id x) id
+  broken_keeps : KeepsRows left (broken app.generation s.tables id x) id
   broken_keeps = record {
-    rows = broken_other s.tables id x;
-    jobs = λ i began apart o h. broken_jobs s.tables id x i began apart h;
-    clock = let e : (broken s.tables id x).clock ≡ s.tables.clock = (ends_draw_none s.tables id x).clock in omega arith;
+    rows = broken_other app.generation s.tables id x;
+    jobs = λ i began apart o h. broken_jobs app.generation s.tables id x i began apart h;
+    clock = let e : (broken app.generation s.tables id x).clock ≡ s.tables.clock = (ends_draw_none app.generation s.tables id x).clock in omega arith;
   }
 
   synchronised_keeps : (o : Outcome) → KeepsRows left (synchronised app.generation s.tables id x o) id
@@ -180,7 +181,7 @@ module _ (app : Application) (s : State) (task : ℕ) (id : ServiceId) (x : Open
 
   breaks : (e : Ending) → IsConsistent app (abnormal app s task id x e).after
   unfolding abnormal
-  breaks e = closed (broken s.tables id x) broken_keeps (λ row r a. absurd (true≢false (sym (ap is_some (sym (broken_own s.tables id x) ∙ r)))))
+  breaks e = closed (broken app.generation s.tables id x) broken_keeps (λ row r a. absurd (true≢false (sym (ap is_some (sym (broken_own app.generation s.tables id x) ∙ r)))))
 
   -- the service is over
   over : (o : Outcome) → service_of (synchronised app.generation s.tables id x o) id ≡ None → IsConsistent app (record left { tables = synchronised app.generation s.tables id x o })
@@ -225,9 +226,9 @@ module _ (app : Application) (s : State) (task : ℕ) (id : ServiceId) (x : Open
   does y (Breaks ending) k e = breaks ending
   does y Returns k e = returns_to x.began rooted.began
 
--- a task works for its service
-pub worked_consistent : (app : Application) (s : State) (task : ℕ) (id : ServiceId) → IsConsistent app s → slice_get s.tasks (task - 1) ≡ Some (Some id)
-    → (o : Option OpenTransaction) → find id_cmp id s.active ≡ o → IsConsistent app (worked app s task id o).after
-worked_consistent app s task id c at None e = c
-worked_consistent app s task id c at (Some x) e =
+-- a task serves its service
+pub served_consistent : (app : Application) (s : State) (task : ℕ) (id : ServiceId) → IsConsistent app s → slice_get s.tasks (task - 1) ≡ Some (Some id)
+    → (o : Option OpenTransaction) → find id_cmp id s.active ≡ o → IsConsistent app (served app s task id o).after
+served_consistent app s task id c at None e = c
+served_consistent app s task id c at (Some x) e =
     does app s task id x c at e (statement_now app s id x).0 (statement_now app s id x).1 (statement_keeps app (told_here app s id x) (is_asynchronous id) x) refl

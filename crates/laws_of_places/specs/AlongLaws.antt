@@ -22,7 +22,7 @@ pub record EachMeets (fact : Fact) (law : StepLaw) : Type 0 where
   pub commands : (app : Application) (s : State) (c : Command) → IsApplication app → IsCommandOf app.generation c → fact app s → law app s (command_of app s c)
 
 module _ (fact : Fact) (kept : Leads fact fact) (law : StepLaw) (each : EachMeets fact law) (app : Application) (is_app : IsApplication app) where
-  -- all of some steps meet the law, and the fact holds behind them
+  -- all of some steps meet the law, and the fact holds after them
   record Meets (s : State) (steps : List ScriptStep) : Type 0 where
     all : EachStep (law app) s steps
     last : fact app (state_after s steps)

@@ -16,7 +16,7 @@ use Rattle.abstract_monitor.specs.Bytes.{Bytes, bytes_cmp}
 use Rattle.abstract_monitor.specs.Commands.{no_place, with_session, without_session, withdrawn}
 use Rattle.abstract_monitor.specs.Sessions.{has_user, in_place}
 use Rattle.abstract_monitor.specs.State.{OpenTransaction, Session, State}
-use Rattle.abstract_monitor.specs.Turns.{pterm_of_user, with_open, without_wait, without_open, with_task, queued, without_work, noted_last, last_told}
+use Rattle.abstract_monitor.specs.Turns.{pterm_of_user, with_open, without_wait, without_open, with_task, queued, without_transaction, noted_last, last_told}
 use Rattle.laws_of_steps.specs.Facts.{IsOpen}
 use Rattle.laws_of_steps.specs.Transactions.{HasOwnJob}
 use Rattle.laws_of_places.specs.CountsLaws.{times, times_push, times_set, times_without_other, times_freed_other, any_counted, counted_any, none_counted, counted_none}
@@ -167,8 +167,8 @@ withdrawn_alters s id =
     let a = alters_then s (without_open s id) (without_ready (without_open s id) id) id (closed_alters s id) (unready_alters (without_open s id) id) in
     alters_then s (without_ready (without_open s id) id) (withdrawn s id) id a (unplaced_alters (without_ready (without_open s id) id) id)
 
-pub work_alters : (s : State) (task : ℕ) (id : ServiceId) → slice_get s.tasks (task - 1) ≡ Some (Some id) → Alters s (without_work s task id) id
-work_alters s task id is = alters_then s (with_task s task None) (without_work s task id) id (freed_alters s task id is) (closed_alters (with_task s task None) id)
+pub without_transaction_alters : (s : State) (task : ℕ) (id : ServiceId) → slice_get s.tasks (task - 1) ≡ Some (Some id) → Alters s (without_transaction s task id) id
+without_transaction_alters s task id is = alters_then s (with_task s task None) (without_transaction s task id) id (freed_alters s task id is) (closed_alters (with_task s task None) id)
 
 -- ---- tables
 
@@ -205,7 +205,7 @@ same_signed es fs user e = by (list_any (has_user user) es) refl
         signed_any fs user ∙ counted_any (has_user user) fs (subst (λ n. 1 ≤ n) (sym e) k) ∙ sym (signed_any es user ∙ h)
     by false h = signed_any fs user ∙ counted_none (has_user user) fs (e ∙ none_counted (has_user user) es h) ∙ sym (signed_any es user ∙ h)
 
--- other sessions, of which another user stands in as many
+-- other sessions, of which another user is in as many
 pub sessions_alter : (s : State) (fs : Signed) (id : ServiceId) → ((user : Bytes) → id_eq (Dialogue user) id ≡ false → times (has_user user) fs ≡ times (has_user user) s.signed)
     → (AreSessions s.signed → AreSessions fs) → Alters s (record s { signed = fs }) id
 sessions_alter s fs id same sessions = record {

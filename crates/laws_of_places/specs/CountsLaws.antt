@@ -1,4 +1,4 @@
--- How often an item stands in a list.
+-- How often an item is in a list.
 use Rattle.std.specs.Prelude.{◌≡◌, refl, ℕ, zero, suc, ◌+◌, ◌≤◌, Bool, true, false, cond, not, ◌||◌, List, [], ◌∷◌, ◌++◌, map, filter, filter_map, count_by, slice_get, slice_set, Option, Some, None}
 use Rattle.std.proofs.Common.{sym, ap, ◌∙◌, subst, true≢false, arith}
 use Rattle.std.proofs.lemmas.List.Recursion.{is_count_by}

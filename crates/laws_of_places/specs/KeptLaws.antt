@@ -97,9 +97,9 @@ within_quiet : (x : OpenTransaction) (b : Bool) (p : Performed) → IsQuiet x p 
 within_quiet x true p h = h
 within_quiet x false p h = quiet refl refl tt
 
-got_quiet : (x : OpenTransaction) (room : ℕ) (parts : List Bytes) → IsQuiet x (got_by x room parts)
-got_quiet x room [] = quiet refl refl tt
-got_quiet x room (p ∷ ps) = quiet refl refl tt
+got_quiet : (x : OpenTransaction) (capacity : ℕ) (parts : List Bytes) → IsQuiet x (got_by x capacity parts)
+got_quiet x capacity [] = quiet refl refl tt
+got_quiet x capacity (p ∷ ps) = quiet refl refl tt
 
 drafted_quiet : (x : OpenTransaction) (to : Option Target) (due : Option Due) (message : Bytes) → IsQuiet x (drafted x to due message)
 drafted_quiet x None due message = quiet refl refl tt
@@ -212,21 +212,21 @@ block_kept v area x name has go all = named_kept v area x (name_in_operand name)
 pub called_kept : (g : Generated) (v : Told) (asy : Bool) (x : OpenTransaction) (call : Call) → IsNoPend call → IsKept v (area_of_call x call) x (called g v asy x call)
 unfolding called
 called_kept g v asy x Init other = record { touched = λ a h. inl h; began = refl; pends_not = tt }
-called_kept g v asy x (Mget room) other = quiet_kept v None x _ (kind_quiet x (not asy) _ (got_quiet x room x.unread))
+called_kept g v asy x (Mget capacity) other = quiet_kept v None x _ (kind_quiet x (not asy) _ (got_quiet x capacity x.unread))
 called_kept g v asy x (Mput bytes) other = quiet_kept v None x _ (kind_quiet x (not asy) _ (put_quiet x bytes (nat_le (sum_by length x.parts + length bytes) g.limits.nb && nat_lt (length x.parts) 16)))
-called_kept g v asy x (Fget room) other = quiet_kept v None x _ (kind_quiet x asy _ (got_quiet x room x.unread))
+called_kept g v asy x (Fget capacity) other = quiet_kept v None x _ (kind_quiet x asy _ (got_quiet x capacity x.unread))
 called_kept g v asy x (Fput to message) other = quiet_kept v None x _ (job_quiet g x to _ message)
 called_kept g v asy x (Dput to mode d h m s message) other = quiet_kept v None x _ (job_quiet g x to _ message)
-called_kept g v asy x (SgetGb name room) other = named_kept v (λ n. Gssb n) x (name_in_operand name) _ (λ n. locked_kept v x (Gssb n) _ (λ y. content_quiet y (read_or K03 y room) (quiet refl refl tt) (λ b. quiet refl refl tt) (seen v y (Gssb n))))
+called_kept g v asy x (SgetGb name capacity) other = named_kept v (λ n. Gssb n) x (name_in_operand name) _ (λ n. locked_kept v x (Gssb n) _ (λ y. content_quiet y (read_or K03 y capacity) (quiet refl refl tt) (λ b. quiet refl refl tt) (seen v y (Gssb n))))
 called_kept g v asy x (SputGb name bytes) other = named_kept v (λ n. Gssb n) x (name_in_operand name) _ (λ n. locked_kept v x (Gssb n) _ (λ y. quiet refl refl tt))
 called_kept g v asy x (SrelGb name) other = named_kept v (λ n. Gssb n) x (name_in_operand name) _ (λ n. locked_kept v x (Gssb n) _ (λ y. content_quiet y (deleted y (Gssb n)) (quiet refl refl tt) (λ b. quiet refl refl tt) (seen v y (Gssb n))))
-called_kept g v asy x (SgetKp name room) other = quiet_kept v None x _ (named_quiet x (name_in_operand name) _ (λ n. content_quiet x (read_or K03 x room) (quiet refl refl tt) (λ b. quiet refl refl tt) _))
-called_kept g v asy x (SgetRl name room) other = quiet_kept v None x _ (named_quiet x (name_in_operand name) _ (λ n. content_quiet x (read_away_by x n room) (quiet refl refl tt) (λ b. quiet refl refl tt) _))
+called_kept g v asy x (SgetKp name capacity) other = quiet_kept v None x _ (named_quiet x (name_in_operand name) _ (λ n. content_quiet x (read_or K03 x capacity) (quiet refl refl tt) (λ b. quiet refl refl tt) _))
+called_kept g v asy x (SgetRl name capacity) other = quiet_kept v None x _ (named_quiet x (name_in_operand name) _ (λ n. content_quiet x (read_away_by x n capacity) (quiet refl refl tt) (λ b. quiet refl refl tt) _))
 called_kept g v asy x (SputMs name bytes) other = quiet_kept v None x _ (named_quiet x (name_in_operand name) _ (λ n. local_quiet x n bytes (not (is_some (find bytes_cmp n x.lssbs)) && nat_le g.limits.lssbs (length x.lssbs))))
 called_kept g v asy x (SrelLb name) other = quiet_kept v None x _ (named_quiet x (name_in_operand name) _ (λ n. content_quiet x (delete_local_by x n) (quiet refl refl tt) (λ b. quiet refl refl tt) _))
-called_kept g v asy x (SgetUs name room) other = block_kept v (λ n. Uls n x.user) x name (has_uls g) _ (λ n. locked_kept v x (Uls n x.user) _ (λ y. quiet refl refl tt))
+called_kept g v asy x (SgetUs name capacity) other = block_kept v (λ n. Uls n x.user) x name (has_uls g) _ (λ n. locked_kept v x (Uls n x.user) _ (λ y. quiet refl refl tt))
 called_kept g v asy x (SputUs name bytes) other = block_kept v (λ n. Uls n x.user) x name (has_uls g) _ (λ n. locked_kept v x (Uls n x.user) _ (λ y. quiet refl refl tt))
-called_kept g v asy x (Gtda name room) other = block_kept v (λ n. Tls n x.lterm) x name (has_tls g) _ (λ n. locked_kept v x (Tls n x.lterm) _ (λ y. quiet refl refl tt))
+called_kept g v asy x (Gtda name capacity) other = block_kept v (λ n. Tls n x.lterm) x name (has_tls g) _ (λ n. locked_kept v x (Tls n x.lterm) _ (λ y. quiet refl refl tt))
 called_kept g v asy x (Ptda name bytes) other = block_kept v (λ n. Tls n x.lterm) x name (has_tls g) _ (λ n. locked_kept v x (Tls n x.lterm) _ (λ y. quiet refl refl tt))
 called_kept g v asy x (UnlkGb name) other = named_kept v (λ n. Gssb n) x (name_in_operand name) _ (λ n. unlocked_kept v (Some (Gssb n)) x (Gssb n) _ _)
 called_kept g v asy x (UnlkUs name) other = block_kept v (λ n. Uls n x.user) x name (has_uls g) _ (λ n. unlocked_kept v (Some (Uls n x.user)) x (Uls n x.user) _ _)
@@ -296,7 +296,7 @@ abbrev is_held : Happened → Bool
 is_held (Held tac) = true
 is_held _ = false
 
--- where it stands at a PEND KP for one told, it stands at the same one for every told
+-- where it is at a PEND KP for one told, it is at the same one for every told
 abbrev HeldAlike : Bytes → OpenTransaction → Stated → Stated → Type 0
 HeldAlike tac x r q = r.1 ≡ Held tac → q ≡ (x, Held tac)
 

@@ -184,7 +184,7 @@ pub still_signed : (s u : State) (id : ServiceId) → u.signed ≡ s.signed → 
 still_signed s u (Dialogue user) e = ap (λ es. is_some (pterm_of_user es user)) e
 still_signed s u (Asynchronous number) e = refl
 
--- sessions and tables are the same, and so is what stands there for the service
+-- sessions and tables are the same, and so is what is there for the service
 pub left_where : (s u : State) (id : ServiceId) → times_ready u id ≡ times_ready s id → times_held u id ≡ times_held s id → find id_cmp id u.active ≡ find id_cmp id s.active
     → find id_cmp id u.waits ≡ find id_cmp id s.waits → u.signed ≡ s.signed → u.tables ≡ s.tables → IsLeft s u id
 left_where s u id ready held opened waits signed tables = record {
@@ -225,7 +225,7 @@ placed_running app s id x count is on rooted waiting = record {
   waiting = waiting;
 }
 
--- it stands at a PEND KP
+-- it is at a PEND KP
 pub placed_kept : (app : Application) (s : State) (id : ServiceId) (x : OpenTransaction) → times_ready s id + times_held s id ≡ 0 → find id_cmp id s.active ≡ Some x
     → is_signed_for s id ≡ true → IsRooted s.tables id x → StandsAtKeep app id x → find id_cmp id s.waits ≡ None → IsPlaced app s id
 placed_kept app s id x count is on rooted stands none = record {

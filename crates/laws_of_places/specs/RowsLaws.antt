@@ -14,24 +14,23 @@ use Rattle.kdcs_types.specs.declared.service.Service.{Service}
 use Rattle.kdcs_types.specs.Keyed.{keyed, ascends, item_at, without_item}
 use Rattle.kdcs_types.specs.KeyedLaws.{item_at_without}
 use Rattle.kdcs_types.specs.Keys.{id_eq, key_cmp, key_eq}
-use Rattle.kdcs_types.specs.KeyLaws.{id_eq_itself, other_number}
+use Rattle.kdcs_types.specs.KeyLaws.{other_number}
 use Rattle.kdcs_types.specs.Tables.{TableRows, job_key, service_key, job_of, service_of}
 use Rattle.kdcdef_types.specs.Generation.{Generated}
 use Rattle.abstract_monitor.specs.declared.outcome.Outcome.{Outcome}
 use Rattle.abstract_monitor.specs.Bytes.{Bytes}
 use Rattle.abstract_monitor.specs.Commands.{rolled_tables}
-use Rattle.abstract_monitor.specs.Endings.{row_after, synchronised, broken}
+use Rattle.abstract_monitor.specs.Endings.{synchronised, broken}
 use Rattle.abstract_monitor.specs.Picks.{earlier_of, is_earlier, least_job}
 use Rattle.abstract_monitor.specs.State.{Application, OpenTransaction}
-use Rattle.laws_of_steps.specs.JobLaws.{points_number, ends_draw_none}
-use Rattle.laws_of_steps.specs.OwnRowLaws.{points_set, ends_remove}
+use Rattle.laws_of_steps.specs.JobLaws.{points_number, ends_draw_none, others_at_end}
 use Rattle.laws_of_steps.specs.JobLaw.{jobs_left, new_jobs}
 use Rattle.laws_of_steps.specs.Transactions.{HasOwnJob}
 use Rattle.kd_base.specs.OrderLaws.{holds, is_true}
 
 -- ---- jobs
 
--- the job with this number stands there
+-- the job with this number is there
 abbrev pub has_job : List Job → ℕ → Bool
 has_job jobs number = is_some (item_at job_key (JobKey number) jobs)
 
@@ -70,24 +69,11 @@ pub synchronised_jobs : (g : Generated) (t : TableRows) (id : ServiceId) (x : Op
 synchronised_jobs g t id x o = own_jobs t (synchronised g t id x o) id (λ n apart h.
     ap (λ js. has_job js n) (points_number g t id x o).jobs ∙ job_appended n (jobs_left id x.began t.jobs) (new_jobs t x) (job_left id x.began n t.jobs apart h))
 
-pub broken_jobs : (t : TableRows) (id : ServiceId) (x : OpenTransaction) (i : ServiceId) (began : Option Service) → id_eq i id ≡ false
-    → HasOwnJob t i began → HasOwnJob (broken t id x) i began
-broken_jobs t id x = own_jobs t (broken t id x) id (λ n apart h. ap (λ js. has_job js n) (ends_draw_none t id x).jobs ∙ job_left id x.began n t.jobs apart h)
+pub broken_jobs : (g : Generated) (t : TableRows) (id : ServiceId) (x : OpenTransaction) (i : ServiceId) (began : Option Service) → id_eq i id ≡ false
+    → HasOwnJob t i began → HasOwnJob (broken g t id x) i began
+broken_jobs g t id x = own_jobs t (broken g t id x) id (λ n apart h. ap (λ js. has_job js n) (ends_draw_none g t id x).jobs ∙ ap is_some (others_at_end g id x.began n t.jobs apart) ∙ h)
 
 -- ---- the rows of services
-
-pub synchronised_other : (g : Generated) (t : TableRows) (id : ServiceId) (x : OpenTransaction) (o : Outcome) (i : ServiceId) → id_eq i id ≡ false
-    → service_of (synchronised g t id x o) i ≡ service_of t i
-synchronised_other g t id x o i apart = points_set g t id x o i ∙ ap (λ b. cond b (row_after g id x o) (service_of t i)) apart
-
-pub synchronised_own : (g : Generated) (t : TableRows) (id : ServiceId) (x : OpenTransaction) (o : Outcome) → service_of (synchronised g t id x o) id ≡ row_after g id x o
-synchronised_own g t id x o = points_set g t id x o id ∙ ap (λ b. cond b (row_after g id x o) (service_of t id)) (id_eq_itself id)
-
-pub broken_other : (t : TableRows) (id : ServiceId) (x : OpenTransaction) (i : ServiceId) → id_eq i id ≡ false → service_of (broken t id x) i ≡ service_of t i
-broken_other t id x i apart = ends_remove t id x i ∙ ap (λ b. cond b None (service_of t i)) apart
-
-pub broken_own : (t : TableRows) (id : ServiceId) (x : OpenTransaction) → service_of (broken t id x) id ≡ None
-broken_own t id x = ends_remove t id x id ∙ ap (λ b. cond b None (service_of t id)) (id_eq_itself id)
 
 -- a sign-off removes at most the row of its user
 pub rolled_other : (restarts : Bool) (app : Application) (t : TableRows) (user : Bytes) (i : ServiceId) → id_eq i (Dialogue user) ≡ false → service_of (rolled_tables app t user restarts) i ≡ service_of t i

@@ -135,9 +135,9 @@ within_leaves : (x : OpenTransaction) (b : Bool) (p : Performed) → Leaves x p 
 within_leaves x true p h = h
 within_leaves x false p h = refl
 
-got_leaves : (x : OpenTransaction) (room : ℕ) (parts : List Bytes) → Leaves x (got_by x room parts)
-got_leaves x room [] = itself x
-got_leaves x room (p ∷ ps) = with_unread x ps
+got_leaves : (x : OpenTransaction) (capacity : ℕ) (parts : List Bytes) → Leaves x (got_by x capacity parts)
+got_leaves x capacity [] = itself x
+got_leaves x capacity (p ∷ ps) = with_unread x ps
 
 drafted_leaves : (x : OpenTransaction) (to : Option Target) (due : Option Due) (message : Bytes) → Leaves x (drafted x to due message)
 drafted_leaves x None due message = itself x
@@ -147,13 +147,13 @@ drafted_leaves x (Some to) (Some due) message = with_drafts x _
 job_leaves : (g : Generated) (x : OpenTransaction) (to : Bytes) (due : Option Due) (message : Bytes) → Leaves x (put_job g x to due message)
 job_leaves g x to due message = within_leaves x _ _ (named_leaves x (name_in_operand to) _ (λ name. drafted_leaves x (job_target g name) due message))
 
-read_or_leaves : (code : Code) (x : OpenTransaction) (room : ℕ) (o : Option Bytes) → Leaves x (read_or code x room o)
-read_or_leaves code x room None = itself x
-read_or_leaves code x room (Some bytes) = itself x
+read_or_leaves : (code : Code) (x : OpenTransaction) (capacity : ℕ) (o : Option Bytes) → Leaves x (read_or code x capacity o)
+read_or_leaves code x capacity None = itself x
+read_or_leaves code x capacity (Some bytes) = itself x
 
-read_away_leaves : (x : OpenTransaction) (name : Bytes) (room : ℕ) (o : Option Bytes) → Leaves x (read_away_by x name room o)
-read_away_leaves x name room None = itself x
-read_away_leaves x name room (Some bytes) = with_lssbs x _
+read_away_leaves : (x : OpenTransaction) (name : Bytes) (capacity : ℕ) (o : Option Bytes) → Leaves x (read_away_by x name capacity o)
+read_away_leaves x name capacity None = itself x
+read_away_leaves x name capacity (Some bytes) = with_lssbs x _
 
 delete_local_leaves : (x : OpenTransaction) (name : Bytes) (o : Option Bytes) → Leaves x (delete_local_by x name o)
 delete_local_leaves x name None = itself x
@@ -197,9 +197,9 @@ unlocks x area = by (touches x area) (is_some (find area_cmp area x.written)) re
     by true true e = Alone (replied x K07) (λ v. refl) (itself x)
     by true false e = Unlocks area refl e (λ v. refl)
 
-read_or_answered : (x : OpenTransaction) (room : ℕ) (o : Option Bytes) → IsAnswered x (read_or K03 x room o)
-read_or_answered x room None = itself x
-read_or_answered x room (Some bytes) = itself x
+read_or_answered : (x : OpenTransaction) (capacity : ℕ) (o : Option Bytes) → IsAnswered x (read_or K03 x capacity o)
+read_or_answered x capacity None = itself x
+read_or_answered x capacity (Some bytes) = itself x
 
 deleted_answered : (x : OpenTransaction) (area : Area) (o : Option Bytes) → IsAnswered x (deleted x area o)
 deleted_answered x area None = itself x
@@ -209,8 +209,8 @@ deleted_answered x area (Some bytes) = with_written x _
 abbrev sees : OpenTransaction → Area → Option Bytes → Option Bytes
 sees x area outside = shown_by (find area_cmp area x.written) outside
 
-read_looks : (x : OpenTransaction) (area : Area) (room : ℕ) → CallLooks x (Some area) (λ v. locked v x area (λ y. read_answer y room (or_empty (sees y area v.content))))
-read_looks x area room = locks x area (λ c y. read_answer y room (or_empty (sees y area c))) (λ c y. itself y)
+read_looks : (x : OpenTransaction) (area : Area) (capacity : ℕ) → CallLooks x (Some area) (λ v. locked v x area (λ y. read_answer y capacity (or_empty (sees y area v.content))))
+read_looks x area capacity = locks x area (λ c y. read_answer y capacity (or_empty (sees y area c))) (λ c y. itself y)
 
 write_looks : (x : OpenTransaction) (area : Area) (bytes : Bytes) → CallLooks x (Some area) (λ v. locked v x area (λ y. wrote y area (Some bytes)))
 write_looks x area bytes = locks x area (λ c y. wrote y area (Some bytes)) (λ c y. with_written y _)
@@ -220,24 +220,24 @@ write_looks x area bytes = locks x area (λ c y. wrote y area (Some bytes)) (λ 
 called_looks : (g : Generated) (asy : Bool) (x : OpenTransaction) (call : Call) → CallLooks x (area_of_call x call) (λ v. called g v asy x call)
 unfolding called
 called_looks g asy x Init = alone x None _ refl
-called_looks g asy x (Mget room) = alone x None _ (kind_leaves x (not asy) _ (got_leaves x room x.unread))
+called_looks g asy x (Mget capacity) = alone x None _ (kind_leaves x (not asy) _ (got_leaves x capacity x.unread))
 called_looks g asy x (Mput bytes) = alone x None _ (kind_leaves x (not asy) _ (put_leaves x bytes (nat_le (sum_by length x.parts + length bytes) g.limits.nb && nat_lt (length x.parts) 16)))
-called_looks g asy x (Fget room) = alone x None _ (kind_leaves x asy _ (got_leaves x room x.unread))
+called_looks g asy x (Fget capacity) = alone x None _ (kind_leaves x asy _ (got_leaves x capacity x.unread))
 called_looks g asy x (Fput to message) = alone x None _ (job_leaves g x to _ message)
 called_looks g asy x (Dput to mode d h m s message) = alone x None _ (job_leaves g x to _ message)
-called_looks g asy x (SgetGb name room) =
-    named_looks (λ n. Gssb n) x (name_in_operand name) _ (λ n. locks x (Gssb n) (λ c y. read_or K03 y room (sees y (Gssb n) c)) (λ c y. read_or_answered y room (sees y (Gssb n) c)))
+called_looks g asy x (SgetGb name capacity) =
+    named_looks (λ n. Gssb n) x (name_in_operand name) _ (λ n. locks x (Gssb n) (λ c y. read_or K03 y capacity (sees y (Gssb n) c)) (λ c y. read_or_answered y capacity (sees y (Gssb n) c)))
 called_looks g asy x (SputGb name bytes) = named_looks (λ n. Gssb n) x (name_in_operand name) _ (λ n. write_looks x (Gssb n) bytes)
 called_looks g asy x (SrelGb name) =
     named_looks (λ n. Gssb n) x (name_in_operand name) _ (λ n. locks x (Gssb n) (λ c y. deleted y (Gssb n) (sees y (Gssb n) c)) (λ c y. deleted_answered y (Gssb n) (sees y (Gssb n) c)))
-called_looks g asy x (SgetKp name room) = alone x None _ (named_leaves x (name_in_operand name) _ (λ n. read_or_leaves K03 x room _))
-called_looks g asy x (SgetRl name room) = alone x None _ (named_leaves x (name_in_operand name) _ (λ n. read_away_leaves x n room _))
+called_looks g asy x (SgetKp name capacity) = alone x None _ (named_leaves x (name_in_operand name) _ (λ n. read_or_leaves K03 x capacity _))
+called_looks g asy x (SgetRl name capacity) = alone x None _ (named_leaves x (name_in_operand name) _ (λ n. read_away_leaves x n capacity _))
 called_looks g asy x (SputMs name bytes) =
     alone x None _ (named_leaves x (name_in_operand name) _ (λ n. local_leaves x n bytes (not (is_some (find bytes_cmp n x.lssbs)) && nat_le g.limits.lssbs (length x.lssbs))))
 called_looks g asy x (SrelLb name) = alone x None _ (named_leaves x (name_in_operand name) _ (λ n. delete_local_leaves x n _))
-called_looks g asy x (SgetUs name room) = named_looks (λ n. Uls n x.user) x (name_in_operand name) _ (λ n. declared_looks x (Some (Uls n x.user)) (has_uls g n) _ (read_looks x (Uls n x.user) room))
+called_looks g asy x (SgetUs name capacity) = named_looks (λ n. Uls n x.user) x (name_in_operand name) _ (λ n. declared_looks x (Some (Uls n x.user)) (has_uls g n) _ (read_looks x (Uls n x.user) capacity))
 called_looks g asy x (SputUs name bytes) = named_looks (λ n. Uls n x.user) x (name_in_operand name) _ (λ n. declared_looks x (Some (Uls n x.user)) (has_uls g n) _ (write_looks x (Uls n x.user) bytes))
-called_looks g asy x (Gtda name room) = named_looks (λ n. Tls n x.lterm) x (name_in_operand name) _ (λ n. declared_looks x (Some (Tls n x.lterm)) (has_tls g n) _ (read_looks x (Tls n x.lterm) room))
+called_looks g asy x (Gtda name capacity) = named_looks (λ n. Tls n x.lterm) x (name_in_operand name) _ (λ n. declared_looks x (Some (Tls n x.lterm)) (has_tls g n) _ (read_looks x (Tls n x.lterm) capacity))
 called_looks g asy x (Ptda name bytes) = named_looks (λ n. Tls n x.lterm) x (name_in_operand name) _ (λ n. declared_looks x (Some (Tls n x.lterm)) (has_tls g n) _ (write_looks x (Tls n x.lterm) bytes))
 called_looks g asy x (UnlkGb name) = named_looks (λ n. Gssb n) x (name_in_operand name) _ (λ n. unlocks x (Gssb n))
 called_looks g asy x (UnlkUs name) = named_looks (λ n. Uls n x.user) x (name_in_operand name) _ (λ n. declared_looks x (Some (Uls n x.user)) (has_uls g n) _ (unlocks x (Uls n x.user)))

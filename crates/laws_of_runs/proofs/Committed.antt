@@ -89,7 +89,7 @@ module _ (app : Application) (s : State) (h : HasReplays app s) (id : ServiceId)
   replayed : IsReplayed app before id x
   replayed = replayed_over app s.tables before id x (h.1 id x is) alike
 
-  broken_same : lasting (broken s.tables id x) ≡ lasting (broken before id x)
+  broken_same : lasting (broken app.generation s.tables id x) ≡ lasting (broken app.generation before id x)
   broken_same =
       broken_alike app.generation s.tables before id x h.0.1.order
       (base_sorted app.generation s.tables h.0.1.order (x.first ∷ x.lterm ∷ x.inputs) x.notes x.statements id x.began began) same_part
@@ -100,8 +100,8 @@ module _ (app : Application) (s : State) (h : HasReplays app s) (id : ServiceId)
       (base_sorted app.generation s.tables h.0.1.order (x.first ∷ x.lterm ∷ x.inputs) x.notes x.statements id x.began began)
       (h.0.1.transactions id x is).lssbs_order same_part
 
-  breaks_commits : (ending : Ending) → (statement_now app s id x).1 ≡ Breaks ending → IsAtomicCommit app (lasting s.tables) (lasting (broken s.tables id x)) (kept_record id x ending)
-  breaks_commits ending now = record { whole = broken before id x; atomic = breaks_atomic app before id x replayed rooted_before (told_here app s id x) ending now; kept_part = broken_same }
+  breaks_commits : (ending : Ending) → (statement_now app s id x).1 ≡ Breaks ending → IsAtomicCommit app (lasting s.tables) (lasting (broken app.generation s.tables id x)) (kept_record id x ending)
+  breaks_commits ending now = record { whole = broken app.generation before id x; atomic = breaks_atomic app before id x replayed rooted_before (told_here app s id x) ending now; kept_part = broken_same }
 
   settles_commits : (o : Outcome) (cause : Option Cause) → (statement_now app s id x).1 ≡ Settles o → refusal app.generation (lasting (synchronised app.generation s.tables id x o)) ≡ cause
       → (let e = settled_as app s.tables id x (synchronised app.generation s.tables id x o) cause in IsAtomicCommit app (lasting s.tables) (lasting e.tables) (kept_record id x e.ending))
@@ -111,7 +111,7 @@ module _ (app : Application) (s : State) (h : HasReplays app s) (id : ServiceId)
     kept_part = point_same o;
   }
   settles_commits o (Some cause) now refused = record {
-    whole = broken before id x;
+    whole = broken app.generation before id x;
     atomic = settles_atomic app before id x replayed rooted_before (told_here app s id x) o (Some cause) now (ap (refusal app.generation) (sym (point_same o)) ∙ refused);
     kept_part = broken_same;
   }

@@ -1,51 +1,37 @@
 -- Ends over the durable tables: what a stop leaves of the tables after one is what it makes of the durable tables, with the row of a service that is not durable put back.
-use Rattle.std.specs.Prelude.{◌≡◌, refl, ℕ, Bool, true, false, cond, IsTrue, List, [], ◌∷◌, Option, Some, None}
+use Rattle.std.specs.Prelude.{◌≡◌, refl, ℕ, Bool, true, false, cond, IsTrue, List, [], ◌∷◌, Option, Some, None, option_and_then}
 use Rattle.std.proofs.Common.{sym, ap, ◌∙◌}
 use Rattle.std.specs.FinMap.{is_sorted}
-use Rattle.kd_base.specs.ToolsLaws.{true_both}
 use Rattle.kdcs_types.specs.declared.act.Change.{Change}
 use Rattle.kdcs_types.specs.declared.act.Change.TheVariants.{Remove}
 use Rattle.kdcs_types.specs.declared.key.Area.{Area}
 use Rattle.kdcs_types.specs.declared.key.Area.TheVariants.{Gssb, Tls, Uls}
-use Rattle.kdcs_types.specs.declared.key.Key.{Key}
 use Rattle.kdcs_types.specs.declared.key.Key.TheVariants.{Service as ServiceKey, Job as JobKey}
 use Rattle.kdcs_types.specs.declared.key.ServiceId.{ServiceId}
 use Rattle.kdcs_types.specs.declared.key.ServiceId.TheVariants.{Dialogue, Asynchronous}
 use Rattle.kdcs_types.specs.declared.service.Note.{Note}
 use Rattle.kdcs_types.specs.declared.service.Service.{Service}
-use Rattle.kdcs_types.specs.KeyedLaws.{item_at_with, item_at_without, found_key, found_passes}
+use Rattle.kdcs_types.specs.declared.service.JobValue.{JobValue}
+use Rattle.kdcs_types.specs.KeyedLaws.{item_at_with, item_at_without}
 use Rattle.kdcs_types.specs.Keys.{id_eq}
 use Rattle.kdcs_types.specs.KeyLaws.{id_eq_itself}
-use Rattle.kdcs_types.specs.RowLaws.{sorted_with_change}
-use Rattle.kdcs_types.specs.Tables.{TableRows, IsSortedTables, service_key, service_fits, content_of, service_of, with_change, change_fits, change_key}
+use Rattle.kdcs_types.specs.RowLaws.{own_id, sorted_with_change}
+use Rattle.kdcs_types.specs.Tables.{TableRows, IsSortedTables, service_key, content_of, job_of, service_of, with_change, change_fits, change_key}
 use Rattle.kdcdef_types.specs.Generation.{Generated}
 use Rattle.abstract_monitor.specs.declared.outcome.Outcome.{Outcome}
-use Rattle.abstract_monitor.specs.AreaLaws.{area_changes, areas_sorted, own_job_sorted}
+use Rattle.abstract_monitor.specs.AreaLaws.{area_changes, areas_sorted, own_job_sorted, job_change_fits, own_fate_sorted}
+use Rattle.abstract_monitor.specs.Redelivery.{fate}
 use Rattle.abstract_monitor.specs.Bytes.{Bytes, bytes_cmp}
-use Rattle.abstract_monitor.specs.Endings.{is_durable, durable, area_change, with_areas, service_change, with_service, without_own_job, with_drafts, row_after, synchronised, broken}
+use Rattle.abstract_monitor.specs.Endings.{is_durable, durable, area_change, with_areas, service_change, with_service, without_own_job, job_change, with_own_fate, with_drafts, row_after, synchronised, broken}
 use Rattle.abstract_monitor.specs.State.{OpenTransaction}
 use Rattle.abstract_monitor.specs.Statements.{Kept}
 use Rattle.laws_of_steps.specs.DurableKeys.{key_is_durable}
-use Rattle.laws_of_steps.specs.DurableLaws.{durable_sorted, durable_again, durable_follows, kept_at}
+use Rattle.laws_of_steps.specs.DurableLaws.{durable_sorted, durable_again, durable_changed, kept_at}
+use Rattle.laws_of_steps.specs.OwnRowLaws.{row_there_fits}
 use Rattle.laws_of_steps.specs.Replay.{with_began}
 use Rattle.laws_of_runs.specs.Replays.{HasSameJob}
 use Rattle.laws_of_runs.proofs.Frames.{service_content}
 use Rattle.laws_of_tables.specs.PointsLaws.{point_row_fits}
-
--- ---- the row of a service
-
-abbrev key_service : ServiceId → Key → ServiceId
-key_service other (ServiceKey id) = id
-key_service other _ = other
-
--- it stands under its id
-own_id : (t : TableRows) (id : ServiceId) (row : Service) → service_of t id ≡ Some row → row.id ≡ id
-own_id t id row e = ap (key_service id) (found_key service_key (ServiceKey id) t.services row e)
-
-row_fits_there : (t : TableRows) (id : ServiceId) (row : Service) → IsSortedTables t → service_of t id ≡ Some row → IsTrue (change_fits (service_change id (Some row)))
-row_fits_there t id row sorted e =
-    true_both (id_eq row.id id) (service_fits row) (ap (λ i. id_eq i id) (own_id t id row e) ∙ id_eq_itself id)
-    (found_passes service_key service_fits (ServiceKey id) t.services row sorted.services_fit e)
 
 -- ---- the durable tables with the row at the beginning
 
@@ -57,10 +43,6 @@ module _ (g : Generated) (t : TableRows) (sorted : IsSortedTables t) (inputs : L
   abbrev pub base : ServiceId → Option Service → TableRows
   base id began = with_began g (durable g t) (record_of id began)
 
-  fits_base : (id : ServiceId) (began : Option Service) → service_of t id ≡ began → IsTrue (change_fits (service_change id began))
-  fits_base id None e = refl
-  fits_base id (Some row) e = row_fits_there t id row sorted e
-
   own_key : (id : ServiceId) (began : Option Service) → change_key (service_change id began) ≡ ServiceKey id
   own_key id None = refl
   own_key id (Some row) = refl
@@ -70,7 +52,7 @@ module _ (g : Generated) (t : TableRows) (sorted : IsSortedTables t) (inputs : L
     where
       by : (b : Bool) → IsSortedTables (cond b (durable g t) (with_service (durable g t) id began))
       by true = durable_sorted g t sorted
-      by false = sorted_with_change (durable g t) (service_change id began) (durable_sorted g t sorted) (fits_base id began e)
+      by false = sorted_with_change (durable g t) (service_change id began) (durable_sorted g t sorted) (row_there_fits t id began sorted e)
 
   pub base_durable : (id : ServiceId) (began : Option Service) → service_of t id ≡ began → durable g (base id began) ≡ durable g t
   base_durable id began e = by (is_durable g id) refl
@@ -78,7 +60,7 @@ module _ (g : Generated) (t : TableRows) (sorted : IsSortedTables t) (inputs : L
       by : (b : Bool) → is_durable g id ≡ b → durable g (cond b (durable g t) (with_service (durable g t) id began)) ≡ durable g t
       by true k = durable_again g t
       by false k =
-          durable_follows g (durable g t) (service_change id began) (durable_sorted g t sorted) (fits_base id began e)
+          durable_changed g (durable g t) (service_change id began) (durable_sorted g t sorted) (row_there_fits t id began sorted e)
           ∙ ap (λ b. cond b (with_service (durable g (durable g t)) id began) (durable g (durable g t))) (ap (key_is_durable g) (own_key id began) ∙ k) ∙ durable_again g t
 
   pub base_service : (id : ServiceId) (began : Option Service) → service_of t id ≡ began → service_of (base id began) id ≡ began
@@ -121,7 +103,7 @@ module _ (g : Generated) (t : TableRows) (sorted : IsSortedTables t) (inputs : L
 module _ (g : Generated) where
   change_alike : (t u : TableRows) (c : Change) → IsSortedTables t → IsSortedTables u → IsTrue (change_fits c) → durable g t ≡ durable g u → durable g (with_change t c) ≡ durable g (with_change u c)
   change_alike t u c st su fits same =
-      durable_follows g t c st fits ∙ ap (λ w. cond (key_is_durable g (change_key c)) (with_change w c) w) same ∙ sym (durable_follows g u c su fits)
+      durable_changed g t c st fits ∙ ap (λ w. cond (key_is_durable g (change_key c)) (with_change w c) w) same ∙ sym (durable_changed g u c su fits)
 
   areas_alike : (ws : List (Area × Option Bytes)) (t u : TableRows) → IsSortedTables t → IsSortedTables u → durable g t ≡ durable g u → durable g (with_areas t ws) ≡ durable g (with_areas u ws)
   unfolding with_areas
@@ -159,7 +141,21 @@ module _ (g : Generated) where
       ∙ ap (λ w. with_drafts w x) (change_alike a b (service_change id row) sa sb (point_row_fits g id x o lssbs) left)
       ∙ sym (ap (durable g) (drafts_last b x id row) ∙ drafts_durable (with_service b id row) x)
 
-  pub broken_alike : (t u : TableRows) (id : ServiceId) (x : OpenTransaction) → IsSortedTables t → IsSortedTables u → durable g t ≡ durable g u → durable g (broken t id x) ≡ durable g (broken u id x)
+  -- jobs are the same there
+  job_alike : (t u : TableRows) → durable g t ≡ durable g u → (number : ℕ) → job_of t number ≡ job_of u number
+  unfolding durable
+  job_alike t u same number = ap (λ (w : TableRows). job_of w number) same
+
+  fate_alike : (t u : TableRows) (number : ℕ) (o p : Option JobValue) → o ≡ p → IsSortedTables t → IsSortedTables u → durable g t ≡ durable g u → durable g (with_change t (job_change number o)) ≡ durable g (with_change u (job_change number p))
+  fate_alike t u number o p e st su same =
+      change_alike t u (job_change number o) st su (job_change_fits number o) same ∙ ap (λ (w : Option JobValue). durable g (with_change u (job_change number w))) e
+
+  own_fate_alike : (t u : TableRows) (id : ServiceId) (began : Option Service) → IsSortedTables t → IsSortedTables u → durable g t ≡ durable g u → durable g (with_own_fate g t id began) ≡ durable g (with_own_fate g u id began)
+  own_fate_alike t u (Dialogue user) began st su same = same
+  own_fate_alike t u (Asynchronous number) (Some row) st su same = same
+  own_fate_alike t u (Asynchronous number) None st su same = fate_alike t u number _ _ (ap (option_and_then (fate g)) (job_alike t u same number)) st su same
+
+  pub broken_alike : (t u : TableRows) (id : ServiceId) (x : OpenTransaction) → IsSortedTables t → IsSortedTables u → durable g t ≡ durable g u → durable g (broken g t id x) ≡ durable g (broken g u id x)
   unfolding broken
   broken_alike t u id x st su same =
-      change_alike (without_own_job t id x.began) (without_own_job u id x.began) (service_change id None) (own_job_sorted t id x.began st) (own_job_sorted u id x.began su) refl (own_alike t u id x.began st su same)
+      change_alike (with_own_fate g t id x.began) (with_own_fate g u id x.began) (service_change id None) (own_fate_sorted g t id x.began st) (own_fate_sorted g u id x.began su) refl (own_fate_alike t u id x.began st su same)

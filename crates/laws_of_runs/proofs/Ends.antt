@@ -231,8 +231,8 @@ module _ (app : Application) (t : TableRows) (id : ServiceId) (x : OpenTransacti
   }
 
   -- an abnormal end
-  pub breaks_atomic : (ending : Ending) → (statement app v (is_asynchronous id) x).1 ≡ Breaks ending → IsAtomic app t (broken t id x) (kept_record id x ending)
-  breaks_atomic ending is = ends_atomic (broken t id x) ending (subst Ends (sym is) tt) (ap (ended_by app t id x) is)
+  pub breaks_atomic : (ending : Ending) → (statement app v (is_asynchronous id) x).1 ≡ Breaks ending → IsAtomic app t (broken app.generation t id x) (kept_record id x ending)
+  breaks_atomic ending is = ends_atomic (broken app.generation t id x) ending (subst Ends (sym is) tt) (ap (ended_by app t id x) is)
 
   -- a synchronisation point, or the abnormal end of one that is refused
   pub settles_atomic : (o : Outcome) (cause : Option Cause) → (statement app v (is_asynchronous id) x).1 ≡ Settles o → refusal app.generation (durable app.generation (synchronised app.generation t id x o)) ≡ cause

@@ -10,6 +10,7 @@ use Rattle.kdcs_types.specs.declared.key.ServiceId.{ServiceId}
 use Rattle.kdcs_types.specs.declared.key.ServiceId.TheVariants.{Dialogue, Asynchronous}
 use Rattle.kdcs_types.specs.declared.service.Job.{Job}
 use Rattle.kdcs_types.specs.declared.service.Service.{Service}
+use Rattle.kdcs_types.specs.declared.service.JobValue.{JobValue}
 use Rattle.kdcs_types.specs.Keyed.{item_at, without_item}
 use Rattle.kdcs_types.specs.KeyedLaws.{item_at_with, item_at_without}
 use Rattle.kdcs_types.specs.Keys.{area_eq, id_eq, key_eq}
@@ -21,9 +22,9 @@ use Rattle.abstract_monitor.specs.declared.outcome.Outcome.{Outcome}
 use Rattle.abstract_monitor.specs.Bytes.{Bytes}
 use Rattle.abstract_monitor.specs.State.{Application, OpenTransaction}
 use Rattle.abstract_monitor.specs.Calls.{Told, touches}
-use Rattle.abstract_monitor.specs.Endings.{area_change, with_areas, with_service, without_own_job, with_drafts, row_after, synchronised, broken}
+use Rattle.abstract_monitor.specs.Endings.{area_change, with_areas, with_service, without_own_job, job_change, with_own_fate, with_drafts, row_after, synchronised, broken}
 use Rattle.laws_of_steps.specs.JobLaw.{jobs_left, new_jobs}
-use Rattle.laws_of_steps.specs.JobLaws.{points_number, ends_draw_none}
+use Rattle.laws_of_steps.specs.JobLaws.{points_number, ends_draw_none, others_at_end}
 use Rattle.laws_of_steps.specs.Transactions.{HasOwnJob}
 use Rattle.laws_of_places.specs.RowsLaws.{has_job, job_there}
 use Rattle.laws_of_runs.specs.Replays.{SeesTheSame, HasSameJob, ReplaysToItself}
@@ -112,9 +113,22 @@ drafts_content t x (Gssb n) = refl
 drafts_content t x (Tls b l) = refl
 drafts_content t x (Uls b u) = refl
 
-broken_content : (t : TableRows) (id : ServiceId) (x : OpenTransaction) (area : Area) → content_of (broken t id x) area ≡ content_of t area
+fate_content : (t : TableRows) (number : ℕ) (o : Option JobValue) (area : Area) → content_of (with_change t (job_change number o)) area ≡ content_of t area
+fate_content t number None (Gssb n) = refl
+fate_content t number None (Tls b l) = refl
+fate_content t number None (Uls b u) = refl
+fate_content t number (Some v) (Gssb n) = refl
+fate_content t number (Some v) (Tls b l) = refl
+fate_content t number (Some v) (Uls b u) = refl
+
+own_fate_content : (g : Generated) (t : TableRows) (id : ServiceId) (began : Option Service) (area : Area) → content_of (with_own_fate g t id began) area ≡ content_of t area
+own_fate_content g t (Dialogue user) began area = refl
+own_fate_content g t (Asynchronous number) (Some row) area = refl
+own_fate_content g t (Asynchronous number) None area = fate_content t number _ area
+
+broken_content : (g : Generated) (t : TableRows) (id : ServiceId) (x : OpenTransaction) (area : Area) → content_of (broken g t id x) area ≡ content_of t area
 unfolding broken
-broken_content t id x area = service_content (without_own_job t id x.began) id None area ∙ own_job_content t id x.began area
+broken_content g t id x area = service_content (with_own_fate g t id x.began) id None area ∙ own_fate_content g t id x.began area
 
 -- a point changes what its transaction wrote alone
 synchronised_content : (g : Generated) (t : TableRows) (id : ServiceId) (x : OpenTransaction) (o : Outcome) (area : Area)
@@ -157,8 +171,8 @@ synchronised_job g t id x o = same_jobs t (synchronised g t id x o) id (λ n apa
     ∙ before_kept n (jobs_left id x.began t.jobs) (new_jobs t x) (ap is_some (left_kept id x.began n t.jobs apart) ∙ h)
     ∙ left_kept id x.began n t.jobs apart)
 
-broken_job : (t : TableRows) (id : ServiceId) (x : OpenTransaction) (i : ServiceId) (began : Option Service) → id_eq i id ≡ false → HasOwnJob t i began → HasSameJob t (broken t id x) i began
-broken_job t id x = same_jobs t (broken t id x) id (λ n apart h. ap (item_at job_key (JobKey n)) (ends_draw_none t id x).jobs ∙ left_kept id x.began n t.jobs apart)
+broken_job : (g : Generated) (t : TableRows) (id : ServiceId) (x : OpenTransaction) (i : ServiceId) (began : Option Service) → id_eq i id ≡ false → HasOwnJob t i began → HasSameJob t (broken g t id x) i began
+broken_job g t id x = same_jobs t (broken g t id x) id (λ n apart h. ap (item_at job_key (JobKey n)) (ends_draw_none g t id x).jobs ∙ others_at_end g id x.began n t.jobs apart)
 
 -- ---- ends of others
 
@@ -185,5 +199,5 @@ synchronised_seen g t id x o i y other apart written job = record {
   job = synchronised_job g t id x o i y.began other job;
 }
 
-pub broken_seen : (t : TableRows) (id : ServiceId) (x : OpenTransaction) (i : ServiceId) (y : OpenTransaction) → id_eq i id ≡ false → HasOwnJob t i y.began → SeesTheSame t (broken t id x) i y
-broken_seen t id x i y other job = record { areas = λ area held. broken_content t id x area; job = broken_job t id x i y.began other job }
+pub broken_seen : (g : Generated) (t : TableRows) (id : ServiceId) (x : OpenTransaction) (i : ServiceId) (y : OpenTransaction) → id_eq i id ≡ false → HasOwnJob t i y.began → SeesTheSame t (broken g t id x) i y
+broken_seen g t id x i y other job = record { areas = λ area held. broken_content g t id x area; job = broken_job g t id x i y.began other job }

@@ -26,7 +26,7 @@ use Rattle.abstract_monitor.specs.Endings.{synchronised, broken, durable, refusa
 use Rattle.abstract_monitor.specs.Picks.{pick}
 use Rattle.abstract_monitor.specs.State.{Application, OpenTransaction, State}
 use Rattle.abstract_monitor.specs.Statements.{kept_record}
-use Rattle.abstract_monitor.specs.Turns.{without_work, abnormal, after_point, settled_by, settled, last_again, back_by, back, happens, told_here, statement_now, worked, took_job_for, took_job, took, turn_by, turn_of}
+use Rattle.abstract_monitor.specs.Turns.{without_transaction, abnormal, after_point, settled_by, settled, last_again, back_by, back, happens, told_here, statement_now, served, took_job_for, took_job, took, turn_by, turn_of}
 use Rattle.laws_of_steps.specs.Facts.{IsConsistent}
 use Rattle.laws_of_steps.specs.Replay.{settled_as, IsAtomic, IsReplayable, SettlesAs}
 use Rattle.laws_of_runs.proofs.Ends.{breaks_atomic, settles_atomic}
@@ -39,7 +39,7 @@ IfSettled P t (Some kept) = P t kept
 
 module _ (app : Application) (s : State) (task : ℕ) (id : ServiceId) (x : OpenTransaction) where
   abbrev left : State
-  left = without_work s task id
+  left = without_transaction s task id
 
   module _ (P : TableRows → Settled → Type 0) where
     point_settles : (u : State) (o : Outcome) (row : Option Service) (commit : Act) (kept : Settled) → P u.tables kept
@@ -56,7 +56,7 @@ module _ (app : Application) (s : State) (task : ℕ) (id : ServiceId) (x : Open
     point_settles u Break row commit kept h = h
     point_settles u Back row commit kept h = h
 
-    module _ (breaks_so : (ending : Ending) → (statement_now app s id x).1 ≡ Breaks ending → P (broken s.tables id x) (kept_record id x ending))
+    module _ (breaks_so : (ending : Ending) → (statement_now app s id x).1 ≡ Breaks ending → P (broken app.generation s.tables id x) (kept_record id x ending))
         (settles_so : (o : Outcome) (cause : Option Cause) → (statement_now app s id x).1 ≡ Settles o → refusal app.generation (durable app.generation (synchronised app.generation s.tables id x o)) ≡ cause
         → (let e = settled_as app s.tables id x (synchronised app.generation s.tables id x o) cause in P e.tables (kept_record id x e.ending))) where
       settled_so : (o : Outcome) → (statement_now app s id x).1 ≡ Settles o → (let turned = settled app s task id x o in IfSettled P turned.after.tables turned.settled)
@@ -90,7 +90,7 @@ module _ (app : Application) (s : State) (task : ℕ) (id : ServiceId) (x : Open
 
 -- of each turn
 pub turn_ends_so : (app : Application) (s : State) (task : ℕ) (P : TableRows → Settled → Type 0)
-    → ((id : ServiceId) (x : OpenTransaction) (ending : Ending) → find id_cmp id s.active ≡ Some x → (statement_now app s id x).1 ≡ Breaks ending → P (broken s.tables id x) (kept_record id x ending))
+    → ((id : ServiceId) (x : OpenTransaction) (ending : Ending) → find id_cmp id s.active ≡ Some x → (statement_now app s id x).1 ≡ Breaks ending → P (broken app.generation s.tables id x) (kept_record id x ending))
     → ((id : ServiceId) (x : OpenTransaction) (o : Outcome) (cause : Option Cause) → find id_cmp id s.active ≡ Some x → (statement_now app s id x).1 ≡ Settles o
     → refusal app.generation (durable app.generation (synchronised app.generation s.tables id x o)) ≡ cause
     → (let e = settled_as app s.tables id x (synchronised app.generation s.tables id x o) cause in P e.tables (kept_record id x e.ending)))
@@ -98,9 +98,9 @@ pub turn_ends_so : (app : Application) (s : State) (task : ℕ) (P : TableRows �
 unfolding turn_of
 turn_ends_so app s task P breaks_so settles_so = by (slice_get s.tasks (task - 1))
   where
-    works : (id : ServiceId) (o : Option OpenTransaction) → find id_cmp id s.active ≡ o → (let turned = worked app s task id o in IfSettled P turned.after.tables turned.settled)
-    works id None e = tt
-    works id (Some x) e =
+    serves : (id : ServiceId) (o : Option OpenTransaction) → find id_cmp id s.active ≡ o → (let turned = served app s task id o in IfSettled P turned.after.tables turned.settled)
+    serves id None e = tt
+    serves id (Some x) e =
         ends_so app s task id x P (λ ending now. breaks_so id x ending e now) (λ o cause now refused. settles_so id x o cause e now refused)
         (statement_now app s id x).0 (statement_now app s id x).1 refl
 
@@ -120,7 +120,7 @@ turn_ends_so app s task P breaks_so settles_so = by (slice_get s.tasks (task - 1
     by : (o : Option (Option ServiceId)) → (let turned = turn_by app s task o in IfSettled P turned.after.tables turned.settled)
     by None = tt
     by (Some None) = takes (pick app s)
-    by (Some (Some id)) = works id (find id_cmp id s.active) refl
+    by (Some (Some id)) = serves id (find id_cmp id s.active) refl
 
 -- the transactions of a state whose open ones are the replays of their records
 pub turns_are_serial : (app : Application) (s : State) (task : ℕ) → IsConsistent app s → IsReplayable app s → SettlesAs app s.tables (turn_of app s task).after.tables (turn_of app s task).settled

@@ -291,7 +291,7 @@ module _ (app : Application) (t : TableRows) (id : ServiceId) (x : OpenTransacti
   at_end [] b m = refl
   at_end (a ∷ l) b m = at_end l b m
 
-  -- what stands at a PEND KP goes on with its input
+  -- what is at a PEND KP goes on with its input
   pub input_replays : (tac text : Bytes) → ((v : Told) → does v ≡ (x, Held tac)) → ReplaysToItself app t id (followed_by_input app.generation x tac text)
   unfolding followed_by_input
   input_replays tac text stands =

@@ -30,7 +30,7 @@ use Rattle.abstract_monitor.specs.Locks.{told_now, locks_of, touched_by}
 use Rattle.abstract_monitor.specs.Picks.{pick}
 use Rattle.abstract_monitor.specs.State.{Application, OpenTransaction, Session, State}
 use Rattle.abstract_monitor.specs.Statements.{Stated, area_of}
-use Rattle.abstract_monitor.specs.Turns.{pterm_of_user, noted_last, last_told, message_sent, with_open, without_wait, with_task, queued, without_work, abnormal, goes_on, after_point, settled, back_by, back, waiting_for, happens, told_here, statement_now, worked, took_job_for, took_job, took, turn_by, turn_of}
+use Rattle.abstract_monitor.specs.Turns.{pterm_of_user, noted_last, last_told, message_sent, with_open, without_wait, with_task, queued, without_transaction, abnormal, goes_on, after_point, settled, back_by, back, waiting_for, happens, told_here, statement_now, served, took_job_for, took_job, took, turn_by, turn_of}
 use Rattle.laws_of_steps.specs.EachTurnLaws.{of_point}
 use Rattle.laws_of_steps.specs.Keeping.{HasFacts}
 use Rattle.laws_of_steps.specs.Replay.{opened_from}
@@ -97,7 +97,7 @@ sent_replays app u (Asynchronous number) x h = h
 
 module _ (app : Application) (s : State) (facts : HasFacts app s) (all : AllReplay app s) (task : ℕ) (id : ServiceId) (x : OpenTransaction) (is : find id_cmp id s.active ≡ Some x) where
   abbrev left : State
-  left = without_work s task id
+  left = without_transaction s task id
 
   -- no other holds what it holds
   apart : (i : ServiceId) (y : OpenTransaction) → id_eq i id ≡ false → find id_cmp i s.active ≡ Some y → (area : Area) → IsTrue (touches x area) → IsTrue (touches y area) → ⊥
@@ -120,15 +120,15 @@ module _ (app : Application) (s : State) (facts : HasFacts app s) (all : AllRepl
       after_step app s all (queued (record left { tables = t }) id y) id (λ i e. other_put i id y left.active e ∙ other_without i id s.active e) sees
       (λ z h. subst (λ (k : OpenTransaction). ReplaysToItself app t id k) (some_is y z (sym (found_put id y left.active) ∙ h)) (row_replays app t id row x.lterm awaits at))
 
-  sees_broken : (i : ServiceId) (y : OpenTransaction) → id_eq i id ≡ false → find id_cmp i s.active ≡ Some y → SeesTheSame s.tables (broken s.tables id x) i y
-  sees_broken i y e was = broken_seen s.tables id x i y e (facts.0.rooted i y was).job
+  sees_broken : (i : ServiceId) (y : OpenTransaction) → id_eq i id ≡ false → find id_cmp i s.active ≡ Some y → SeesTheSame s.tables (broken app.generation s.tables id x) i y
+  sees_broken i y e was = broken_seen app.generation s.tables id x i y e (facts.0.rooted i y was).job
 
   sees_point : (o : Outcome) (i : ServiceId) (y : OpenTransaction) → id_eq i id ≡ false → find id_cmp i s.active ≡ Some y → SeesTheSame s.tables (synchronised app.generation s.tables id x o) i y
   sees_point o i y e was = synchronised_seen app.generation s.tables id x o i y e (apart i y e was) (facts.1.transactions id x is).written_held (facts.0.rooted i y was).job
 
   breaks : (ending : Ending) → AllReplay app (abnormal app s task id x ending).after
   unfolding abnormal
-  breaks ending = closed (broken s.tables id x) sees_broken
+  breaks ending = closed (broken app.generation s.tables id x) sees_broken
 
   point_lterm : (i : ServiceId) (row : Service) → i ≡ id → row.lterm ≡ lterm_in_row i x.lterm → GoesOnAt i row x.lterm
   point_lterm (Dialogue user) row same e = tt
@@ -226,9 +226,9 @@ took_replays app s all task None = all
 took_replays app s all task (Some (work.Service id)) = all
 took_replays app s all task (Some (work.Job number)) = job_taken app s all task number (job_of s.tables number) refl
 
-worked_replays : (app : Application) (s : State) → HasFacts app s → AllReplay app s → (task : ℕ) (id : ServiceId) (o : Option OpenTransaction) → find id_cmp id s.active ≡ o → AllReplay app (worked app s task id o).after
-worked_replays app s facts all task id None e = all
-worked_replays app s facts all task id (Some x) e = does app s facts all task id x e (statement_now app s id x) refl
+served_replays : (app : Application) (s : State) → HasFacts app s → AllReplay app s → (task : ℕ) (id : ServiceId) (o : Option OpenTransaction) → find id_cmp id s.active ≡ o → AllReplay app (served app s task id o).after
+served_replays app s facts all task id None e = all
+served_replays app s facts all task id (Some x) e = does app s facts all task id x e (statement_now app s id x) refl
 
 pub turns_replay : (app : Application) (s : State) (task : ℕ) → HasFacts app s → AllReplay app s → AllReplay app (turn_of app s task).after
 unfolding turn_of
@@ -237,4 +237,4 @@ turns_replay app s task facts all = by (slice_get s.tasks (task - 1))
     by : (o : Option (Option ServiceId)) → AllReplay app (turn_by app s task o).after
     by None = all
     by (Some None) = took_replays app s all task (pick app s)
-    by (Some (Some id)) = worked_replays app s facts all task id (find id_cmp id s.active) refl
+    by (Some (Some id)) = served_replays app s facts all task id (find id_cmp id s.active) refl

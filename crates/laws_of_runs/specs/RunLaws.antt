@@ -24,7 +24,7 @@ ScriptsKeepFacts = HoldsAlong HasFacts
 abbrev pub HistoriesCommitOnce : Type 0
 HistoriesCommitOnce = (app : Application) (s : State) (script : List Command) → EachStep (CommitsOnce app) s (history app s script)
 
--- the commit of each step of a script, from a state with its facts, makes of the durable tables before the step those behind it; a step without one keeps them
+-- the commit of each step of a script, from a state with its facts, makes of the durable tables before the step those after it; a step without one keeps them
 abbrev pub HistoriesMakeTables : Type 0
 HistoriesMakeTables =
     (app : Application) (s : State) (script : List Command) → IsApplication app → IsScriptOf app script → HasFacts app s → EachStep (MakesItsTables app) s (history app s script)

@@ -93,7 +93,7 @@ IsSerialBy app s after (Some by) = AtomicLaw app (durable app.generation s.table
 abbrev pub IsSerialStep : Application → State → ScriptStep → Type 0
 IsSerialStep app s d = IsSerialBy app s d.after.tables d.by
 
--- the record of such a commit began with the row that stands in the durable tables, where its service outlives a stop
+-- the record of such a commit began with the row that is in the durable tables, where its service outlives a stop
 abbrev pub CommitsBeginWithTheirRow : Type 0
 CommitsBeginWithTheirRow =
     (app : Application) (before after : TableRows) (kept : Settled) → is_durable app.generation kept.service ≡ true → IsAtomicCommit app before after kept → service_of before kept.service ≡ kept.began

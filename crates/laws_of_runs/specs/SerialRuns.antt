@@ -57,7 +57,7 @@ ScriptsAreSerialRuns =
     → (let steps = history app (started app t) script in
     MakeInTurn app (durable app.generation t) (durable app.generation (state_after (started app t) steps).tables) (makers_of steps))
 
--- and so are those that the first steps of it leave: a stop behind any step leaves a serial run too
+-- and so are those that the first steps of it leave: a stop after any step leaves a serial run too
 abbrev pub StopsLeaveSerialRuns : Type 0
 StopsLeaveSerialRuns =
     (app : Application) (t : TableRows) (script : List Command) → IsApplication app → IsScriptOf app script → IsSortedTables t → Suits app.generation t

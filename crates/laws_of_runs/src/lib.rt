@@ -26,7 +26,7 @@ pub fn facts_hold_along_every_script()
     facts_hold_along();
 }
 
-/// Each step of a script commits once at most, and its commit makes of the durable tables before it those behind it; so
+/// Each step of a script commits once at most, and its commit makes of the durable tables before it those after it; so
 /// the commits of a script make the durable tables of the state that it comes to.
 pub fn commits_make_the_tables()
     ensures once { HistoriesCommitOnce }

@@ -1,4 +1,4 @@
--- Each step has at most one commit, which stands first and is the difference that the step makes.
+-- Each step has at most one commit, which is first and is the difference that the step makes.
 use Rattle.std.specs.Prelude.{◌≡◌, refl, ℕ, ◌+◌, Bool, true, false, List, [], ◌∷◌, ◌++◌, ◌⊎◌, Option, Some, None, nat_le, codes}
 use Rattle.std.proofs.Common.{sym, ap, ◌∙◌, inl, inr}
 use Rattle.std.specs.FinMap.{find}
@@ -27,7 +27,7 @@ use Rattle.abstract_monitor.specs.State.{Application, OpenTransaction, Session, 
 use Rattle.abstract_monitor.specs.Endings.{durable, synchronised, row_after, restarts}
 use Rattle.abstract_monitor.specs.Statements.{area_of, kept_record}
 use Rattle.abstract_monitor.specs.Lines.{sys_line}
-use Rattle.abstract_monitor.specs.Turns.{Turned, commit_of, committed, without_work, with_task, without_wait, waiting_for, pterm_of_user, out_acts, ended_at, ended_acts, dump_acts, message_sent, message_acts, goes_on, after_point, settled, abnormal, last_again, back_by, back, happens, worked, turn_of}
+use Rattle.abstract_monitor.specs.Turns.{Turned, commit_of, committed, without_transaction, with_task, without_wait, waiting_for, pterm_of_user, out_acts, ended_at, ended_acts, dump_acts, message_sent, message_acts, goes_on, after_point, settled, abnormal, last_again, back_by, back, happens, served, turn_of}
 use Rattle.abstract_monitor.specs.declared.command.Command.TheVariants.{Input, Tick, Run, Turn, Drop, Print, PrintLast, Restart}
 use Rattle.abstract_monitor.specs.Commands.{Maker, ByTransaction, started, signed_on_by, resumed_by, with_session, signed_off, rolled_tables, show_next, show_by, show_again_by, due_for, display, last_by, next_by, used, use_now, tick_by, drop_by, command_of, turned_step, lterm_at, uncommitted, says, committing, maker_of, out_again, restarted}
 use Rattle.abstract_monitor.specs.Trace.{tables_after}
@@ -97,7 +97,7 @@ module _ (app : Application) (s : State) (task : ℕ) (id : ServiceId) (x : Open
   settled_fine o =
       let new = synchronised app.generation s.tables id x o in
       of_point app s task id x o (Fine app s) (λ cause. abnormal_fine (Broken cause))
-      (point_fine (record (without_work s task id) { tables = new }) new refl o (row_after app.generation id x o) (kept_record id x Synced))
+      (point_fine (record (without_transaction s task id) { tables = new }) new refl o (row_after app.generation id x o) (kept_record id x Synced))
 
   again_fine : (u : State) → u.tables ≡ s.tables → (last : Option Bytes) → Fine app s (last_again u id last)
   again_fine u e None = inl (refl, (tt, e))
@@ -107,12 +107,12 @@ module _ (app : Application) (s : State) (task : ℕ) (id : ServiceId) (x : Open
       by (Dialogue user) = inl (refl, (out_lines (pterm_of_user u.signed user) message, last_tables u (pterm_of_user u.signed user) message ∙ e))
       by (Asynchronous number) = inl (refl, (tt, e))
 
-  back_fine : (began : Option Service) → Fine app s (back app (without_work s task id) id x began)
-  back_fine None = inl (refl, (ends_lines (without_work s task id) id, refl))
+  back_fine : (began : Option Service) → Fine app s (back app (without_transaction s task id) id x began)
+  back_fine None = inl (refl, (ends_lines (without_transaction s task id) id, refl))
   back_fine (Some row) = by row.awaits
     where
-      by : (b : Bool) → Fine app s (back_by app (without_work s task id) id x row b)
-      by true = again_fine (without_work s task id) refl row.last
+      by : (b : Bool) → Fine app s (back_by app (without_transaction s task id) id x row b)
+      by true = again_fine (without_transaction s task id) refl row.last
       by false = inl (refl, (tt, refl))
 
   waits_tables : (o : _) → (waiting_for s id o).tables ≡ s.tables
@@ -129,9 +129,9 @@ module _ (app : Application) (s : State) (task : ℕ) (id : ServiceId) (x : Open
   happens_fine y (Breaks ending) = abnormal_fine ending
   happens_fine y Returns = back_fine x.began
 
-worked_fine : (app : Application) (s : State) (task : ℕ) (id : ServiceId) (o : Option OpenTransaction) → Fine app s (worked app s task id o)
-worked_fine app s task id None = inl (refl, (tt, refl))
-worked_fine app s task id (Some x) = happens_fine app s task id x _ _
+served_fine : (app : Application) (s : State) (task : ℕ) (id : ServiceId) (o : Option OpenTransaction) → Fine app s (served app s task id o)
+served_fine app s task id None = inl (refl, (tt, refl))
+served_fine app s task id (Some x) = happens_fine app s task id x _ _
 
 as_step : (app : Application) (s : State) (t : Turned) → Fine app s t → CommitsOnce app s (turned_step t)
 as_step app s t (inl k) = inl (record { by = ap maker_of k.0; lines = k.1.0; tables = ap (durable app.generation) k.1.1 })
@@ -139,7 +139,7 @@ as_step app s t (inr e) = inr (record { maker = ByTransaction e.kept; by = ap ma
 
 pub turns_commit_once : TurnsCommitOnce
 turns_commit_once app s task =
-    as_step app s (turn_of app s task) (of_turn app s task (Fine app s) (λ t r. inl (r.settled, (r.lines, r.tables))) (λ id. worked_fine app s task id (find id_cmp id s.active)))
+    as_step app s (turn_of app s task) (of_turn app s task (Fine app s) (λ t r. inl (r.settled, (r.lines, r.tables))) (λ id. served_fine app s task id (find id_cmp id s.active)))
 
 -- ---- the other commands
 

@@ -36,7 +36,7 @@ use Rattle.abstract_monitor.specs.State.{Application, OpenTransaction, Session, 
 use Rattle.abstract_monitor.specs.Endings.{synchronised, broken, row_after, restarts}
 use Rattle.abstract_monitor.specs.Statements.{area_of, kept_record}
 use Rattle.abstract_monitor.specs.Picks.{pick}
-use Rattle.abstract_monitor.specs.Turns.{without_work, with_task, without_wait, queued, waiting_for, pterm_of_user, noted_last, last_told, message_sent, goes_on, after_point, settled, abnormal, back_by, back, happens, worked, took_job_for, took_job, took, turn_by, turn_of}
+use Rattle.abstract_monitor.specs.Turns.{without_transaction, with_task, without_wait, queued, waiting_for, pterm_of_user, noted_last, last_told, message_sent, goes_on, after_point, settled, abnormal, back_by, back, happens, served, took_job_for, took_job, took, turn_by, turn_of}
 use Rattle.abstract_monitor.specs.declared.command.Command.TheVariants.{Input, Tick, Run, Turn, Drop, Print, PrintLast, Restart}
 use Rattle.abstract_monitor.specs.Commands.{signed_on_by, resumed_by, with_session, signed_off, rolled_tables, show_next, show_by, due_for, last_by, next_by, used, use_now, tick_by, drop_by, command_of, lterm_at}
 use Rattle.laws_of_steps.specs.EachTurnLaws.{of_point}
@@ -88,7 +88,7 @@ module _ (id : ServiceId) where
   goes app s x (Some row) = record { transactions = λ other e. put_other s.active id other _ e; rows = λ other e. refl; waits = λ other e. refl }
 
   -- the transaction is over, in these tables
-  over : (s : State) (task : ℕ) (new : TableRows) → ((other : ServiceId) → id_eq other id ≡ false → service_of new other ≡ service_of s.tables other) → LeavesOthers id s (record (without_work s task id) { tables = new })
+  over : (s : State) (task : ℕ) (new : TableRows) → ((other : ServiceId) → id_eq other id ≡ false → service_of new other ≡ service_of s.tables other) → LeavesOthers id s (record (without_transaction s task id) { tables = new })
   over s task new rows = record { transactions = λ other e. without_other s.active id other e; rows = rows; waits = λ other e. without_other s.waits id other e }
 
 -- ---- a turn
@@ -96,7 +96,7 @@ module _ (id : ServiceId) where
 module _ (app : Application) (s : State) (task : ℕ) (id : ServiceId) (x : OpenTransaction) where
   abnormal_fine : (e : Ending) → LeavesOthers id s (abnormal app s task id x e).after
   unfolding abnormal
-  abnormal_fine ending = over id s task (broken s.tables id x) (λ other e. ends_remove s.tables id x other ∙ ap (λ b. cond b None (service_of s.tables other)) e)
+  abnormal_fine ending = over id s task (broken app.generation s.tables id x) (λ other e. ends_remove app.generation s.tables id x other ∙ ap (λ b. cond b None (service_of s.tables other)) e)
 
   point_fine : (u : State) → LeavesOthers id s u → (o : Outcome) (row : Option Service) (commit : Act) (kept : Settled) → LeavesOthers id s (after_point app u id x o row commit kept).after
   point_fine u h (Wait tac) row commit kept = both_leave id s u _ h (sent id u id x)
@@ -109,22 +109,22 @@ module _ (app : Application) (s : State) (task : ℕ) (id : ServiceId) (x : Open
   settled_fine o =
       let new = synchronised app.generation s.tables id x o in
       of_point app s task id x o (λ t. LeavesOthers id s t.after) (λ cause. abnormal_fine (Broken cause))
-      (point_fine (record (without_work s task id) { tables = new })
+      (point_fine (record (without_transaction s task id) { tables = new })
       (over id s task _ (λ other e. points_set app.generation s.tables id x o other ∙ ap (λ b. cond b (row_after app.generation id x o) (service_of s.tables other)) e))
       o (row_after app.generation id x o) _ (kept_record id x Synced))
 
-  closed : LeavesOthers id s (without_work s task id)
+  closed : LeavesOthers id s (without_transaction s task id)
   closed = record { transactions = λ other e. without_other s.active id other e; rows = λ other e. refl; waits = λ other e. without_other s.waits id other e }
 
-  back_fine : (began : Option Service) → LeavesOthers id s (back app (without_work s task id) id x began).after
+  back_fine : (began : Option Service) → LeavesOthers id s (back app (without_transaction s task id) id x began).after
   back_fine None = closed
   back_fine (Some row) = by row.awaits
     where
-      by : (b : Bool) → LeavesOthers id s (back_by app (without_work s task id) id x row b).after
+      by : (b : Bool) → LeavesOthers id s (back_by app (without_transaction s task id) id x row b).after
       by true =
-          let left = without_work s task id in
+          let left = without_transaction s task id in
           last_again_stays (LeavesOthers id s) left (λ pterm message. both_leave id s left _ closed (told id left pterm message)) closed id row.last
-      by false = both_leave id s (without_work s task id) _ closed (record { transactions = λ other e. put_other _ id other _ e; rows = λ other e. refl; waits = λ other e. refl })
+      by false = both_leave id s (without_transaction s task id) _ closed (record { transactions = λ other e. put_other _ id other _ e; rows = λ other e. refl; waits = λ other e. refl })
 
   happens_fine : (y : OpenTransaction) (h : Happened) → LeavesOthers id s (happens app s task id x y h).after
   unfolding happens
@@ -136,13 +136,13 @@ module _ (app : Application) (s : State) (task : ℕ) (id : ServiceId) (x : Open
   happens_fine y (Breaks ending) = abnormal_fine ending
   happens_fine y Returns = back_fine x.began
 
-worked_fine : (app : Application) (s : State) (task : ℕ) (id : ServiceId) (o : Option OpenTransaction) → LeavesOthers id s (worked app s task id o).after
-worked_fine app s task id None = stays id s
-worked_fine app s task id (Some x) = happens_fine app s task id x _ _
+served_fine : (app : Application) (s : State) (task : ℕ) (id : ServiceId) (o : Option OpenTransaction) → LeavesOthers id s (served app s task id o).after
+served_fine app s task id None = stays id s
+served_fine app s task id (Some x) = happens_fine app s task id x _ _
 
 pub turns_leave_others : TurnsLeaveOthers
 unfolding turn_of
-turns_leave_others app s task id e = subst (λ place. LeavesOthers id s (turn_by app s task place).after) (sym e) (worked_fine app s task id (find id_cmp id s.active))
+turns_leave_others app s task id e = subst (λ place. LeavesOthers id s (turn_by app s task place).after) (sym e) (served_fine app s task id (find id_cmp id s.active))
 
 -- any service will do where none is touched
 abbrev nobody : ServiceId
@@ -178,7 +178,7 @@ turn_touches app s task = by (slice_get s.tasks (task - 1))
     by : (place : Option (Option ServiceId)) → TouchesOne s (turn_by app s task place).after
     by None = untouched s s refl refl refl
     by (Some None) = took_touches app s task (pick app s)
-    by (Some (Some id)) = (id, worked_fine app s task id (find id_cmp id s.active))
+    by (Some (Some id)) = (id, served_fine app s task id (find id_cmp id s.active))
 
 -- ---- the other commands
 

@@ -1,5 +1,5 @@
 -- The laws on one commit of a history: what becomes of jobs, of services' rows, and of all tables.
-use Rattle.std.specs.Prelude.{◌≡◌, ◌⊎◌, ℕ, ◌+◌, Bool, true, false, cond, ◌&&◌, List, [], ◌∷◌, ◌++◌, length, Option, Some, None, IfSome, Contains, bytes_eq, ◌==◌}
+use Rattle.std.specs.Prelude.{◌≡◌, ◌⊎◌, ℕ, ◌+◌, Bool, true, false, cond, ◌&&◌, List, [], ◌∷◌, ◌++◌, length, Option, Some, None, Contains, bytes_eq, ◌==◌}
 use Rattle.std.specs.FinMap.{find}
 use Rattle.kdcs_types.specs.declared.act.Act.{Act}
 use Rattle.kdcs_types.specs.declared.act.Act.TheVariants.{Commit, Emit}
@@ -12,13 +12,16 @@ use Rattle.kdcs_types.specs.declared.key.Target.TheVariants.{Lterm}
 use Rattle.kdcs_types.specs.declared.service.Ending.{Ending}
 use Rattle.kdcs_types.specs.declared.service.Ending.TheVariants.{Synced, Broken, BrokenFr}
 use Rattle.kdcs_types.specs.declared.service.Job.{Job}
+use Rattle.kdcs_types.specs.declared.service.JobValue.{JobValue}
 use Rattle.kdcs_types.specs.declared.service.Service.{Service}
 use Rattle.kdcs_types.specs.declared.service.Settled.{Settled}
 use Rattle.kdcs_types.specs.Difference.{difference}
-use Rattle.kdcs_types.specs.Keyed.{without_item}
+use Rattle.kdcs_types.specs.Keyed.{with_item, without_item}
 use Rattle.kdcs_types.specs.Keys.{id_cmp, id_eq}
 use Rattle.kdcs_types.specs.Tables.{TableRows, job_key, service_of, shown_of}
 use Rattle.abstract_monitor.specs.Bytes.{Bytes}
+use Rattle.kdcdef_types.specs.Generation.{Generated}
+use Rattle.abstract_monitor.specs.Redelivery.{fate}
 use Rattle.abstract_monitor.specs.State.{Application, OpenTransaction, State}
 use Rattle.abstract_monitor.specs.Endings.{row_after, with_service, synchronised, is_durable, durable, refusal}
 use Rattle.abstract_monitor.specs.declared.answer.Happened.{Happened}
@@ -36,10 +39,23 @@ abbrev pub AreNumberedFrom : ℕ → List Job → Type 0
 AreNumberedFrom n [] = Unit {0}
 AreNumberedFrom n (job ∷ jobs) = (job.number ≡ n) × AreNumberedFrom (n + 1) jobs
 
--- the jobs without the one that goes
-abbrev pub without_gone : Option Job → List Job → List Job
-without_gone None jobs = jobs
-without_gone (Some job) jobs = without_item job_key (JobKey job.number) jobs
+-- what a commit makes of the jobs that were there: all stay as they are, or one goes, or one has another value
+pub data OldJobs : Type 0 where
+  AllStay : OldJobs
+  OneGoes : (job : Job) → OldJobs
+  OneChanges : (job : Job) → (value : JobValue) → OldJobs
+
+-- these jobs behind the commit
+abbrev pub old_jobs : OldJobs → List Job → List Job
+old_jobs AllStay jobs = jobs
+old_jobs (OneGoes job) jobs = without_item job_key (JobKey job.number) jobs
+old_jobs (OneChanges job value) jobs = with_item job_key (record { number = job.number; value = value }) jobs
+
+-- the one that goes or changes is among them
+abbrev pub IsAmong : OldJobs → List Job → Type 0
+IsAmong AllStay jobs = Unit {0}
+IsAmong (OneGoes job) jobs = Contains jobs job
+IsAmong (OneChanges job value) jobs = Contains jobs job
 
 -- a commit, and then the message at the terminal or printer of this LTERM
 abbrev pub SendsNext : Application → (lterm message : Bytes) → List Act → Type 0
@@ -50,18 +66,29 @@ SendsNext app lterm message (Commit changes ∷ Commit more ∷ acts) = ⊥
 SendsNext app lterm message (Commit changes ∷ Emit bytes ∷ acts) =
     (pterm : Bytes) × ((lterm_at app pterm ≡ lterm) × ((bytes ≡ asy_line pterm message) ⊎ (bytes ≡ prt_line pterm message)))
 
--- an asynchronous service takes its own job away at its first synchronisation point or its abnormal end before one; no other transaction takes any
-abbrev pub TakesOwn : ServiceId → Option Service → Option Job → Type 0
-TakesOwn (Dialogue user) began gone = gone ≡ None
-TakesOwn (Asynchronous number) (Some row) gone = gone ≡ None
-TakesOwn (Asynchronous number) None gone = (job : Job) × ((gone ≡ Some job) × (job.number ≡ number))
+-- the fate of a job: it is delivered again or is a dead letter, with this value, or goes
+abbrev pub by_fate : Job → Option JobValue → OldJobs
+by_fate job None = OneGoes job
+by_fate job (Some value) = OneChanges job value
 
--- which job leaves the tables, if one does: that of an asynchronous service's first transaction, or the one that KDCOUT and PRINT show and send next
-abbrev pub Takes : Application → Maker → Option Job → TableRows → List Act → Type 0
-Takes app (ByTick ticks) gone after acts = gone ≡ None
-Takes app (ByShow lterm) gone after acts =
-    (job : Job) × ((gone ≡ Some job) × ((job.value.to ≡ Lterm lterm) × ((shown_of after lterm ≡ Some job.value) × SendsNext app lterm job.value.message acts)))
-Takes app (ByTransaction kept) gone after acts = TakesOwn kept.service kept.began gone
+-- what the end of a service's first transaction makes of its job: at a synchronisation point it goes, at an abnormal end it meets its fate
+abbrev pub by_end : Generated → Ending → Job → OldJobs
+by_end g Synced job = OneGoes job
+by_end g (Broken cause) job = by_fate job (fate g job.value)
+by_end g BrokenFr job = by_fate job (fate g job.value)
+
+-- an asynchronous service treats its own job so in its first transaction; no other transaction touches any
+abbrev pub TreatsOwn : Generated → Settled → ServiceId → Option Service → OldJobs → Type 0
+TreatsOwn g kept (Dialogue user) began old = old ≡ AllStay
+TreatsOwn g kept (Asynchronous number) (Some row) old = old ≡ AllStay
+TreatsOwn g kept (Asynchronous number) None old = (job : Job) × ((job.number ≡ number) × (old ≡ by_end g kept.ending job))
+
+-- which job goes or changes, if one does: that of an asynchronous service's first transaction, or the one that KDCOUT and PRINT show and send next
+abbrev pub Treats : Application → Maker → OldJobs → TableRows → List Act → Type 0
+Treats app (ByTick ticks) old after acts = old ≡ AllStay
+Treats app (ByShow lterm) old after acts =
+    (job : Job) × ((old ≡ OneGoes job) × ((job.value.to ≡ Lterm lterm) × ((shown_of after lterm ≡ Some job.value) × SendsNext app lterm job.value.message acts)))
+Treats app (ByTransaction kept) old after acts = TreatsOwn app.generation kept kept.service kept.began old
 
 -- an abnormal end makes no jobs
 abbrev pub MakesAtEnd : Ending → List Job → Type 0
@@ -75,20 +102,20 @@ Makes (ByTick ticks) made = made ≡ []
 Makes (ByShow lterm) made = made ≡ []
 Makes (ByTransaction kept) made = MakesAtEnd kept.ending made
 
--- jobs keep their values; the one that is taken goes, and no other; new ones are numbered from the next job number
+-- jobs keep their numbers and values, but for at most one that goes or is delivered again; new ones are numbered from the next job number
 pub record QueueLaw (app : Application) (before after : TableRows) (by : Maker) (acts : List Act) : Type 0 where
-  pub gone : Option Job
+  pub old : OldJobs
   pub made : List Job
-  pub jobs : after.jobs ≡ without_gone gone before.jobs ++ made
+  pub jobs : after.jobs ≡ old_jobs old before.jobs ++ made
   pub numbers : AreNumberedFrom before.next_job made
   pub next : after.next_job ≡ before.next_job + length made
-  pub was_there : IfSome gone (λ (job : Job). Contains before.jobs job)
-  pub taken : Takes app by gone after acts
+  pub was_there : IsAmong old before.jobs
+  pub treats : Treats app by old after acts
   pub makes : Makes by made
 
 -- ---- services
 
--- the row behind a synchronisation point, and none behind an abnormal end
+-- the row after a synchronisation point, and none after an abnormal end
 abbrev pub row_by_ending : Application → ServiceId → OpenTransaction → Happened → Ending → Option Service
 row_by_ending app id x (Settles o) Synced = row_after app.generation id x o
 row_by_ending app id x (Settles o) (Broken cause) = None
@@ -180,7 +207,7 @@ abbrev pub is_result : Application → TableRows → Settled → Option Ended �
 is_result app after kept None = false
 is_result app after kept (Some result) = same_tables after (durable app.generation result.tables) && same_ending kept.ending result.ending
 
--- the record names the row that stands in these tables, and its replay on them reads as many inputs and makes as many notes as it has
+-- the record names the row that is in these tables, and its replay on them reads as many inputs and makes as many notes as it has
 abbrev pub is_record_on : Application → TableRows → Kept → Bool
 is_record_on app t r =
     let x = replay app t r r.statements in

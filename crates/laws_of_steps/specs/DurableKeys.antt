@@ -13,7 +13,7 @@ key_is_durable g (key.Service id) = is_durable g id
 key_is_durable g _ = true
 
 -- a change is one of the durable part, or of no part of it
-abbrev pub DurableFollows : Type 0
-DurableFollows =
+abbrev pub DurableIsChanged : Type 0
+DurableIsChanged =
     (g : Generated) (t : TableRows) (c : Change) → IsSortedTables t → IsTrue (change_fits c)
     → durable g (with_change t c) ≡ cond (key_is_durable g (change_key c)) (with_change (durable g t) c) (durable g t)

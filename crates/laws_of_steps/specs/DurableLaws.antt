@@ -12,16 +12,15 @@ use Rattle.kdcs_types.specs.declared.key.ServiceId.{ServiceId}
 use Rattle.kdcs_types.specs.declared.service.Service.{Service}
 use Rattle.kdcs_types.specs.declared.act.Change.{Change}
 use Rattle.kdcs_types.specs.declared.act.Change.TheVariants.{Set, Remove}
-use Rattle.kdcs_types.specs.declared.act.Row.TheVariants as row
 use Rattle.kdcs_types.specs.Keys.{key_cmp, key_eq, id_eq}
 use Rattle.kdcs_types.specs.Keyed.{keyed, item_at, without_item}
 use Rattle.kdcs_types.specs.KeyLaws.{same_key, key_eq_same, id_eq_same}
 use Rattle.kdcs_types.specs.Tables.{TableRows, service_key, service_row, service_fits, row_at, with_change, change_fits, change_key, IsSortedTables, service_of}
 use Rattle.kdcs_types.specs.TableLaws.{row_after}
-use Rattle.kdcs_types.specs.RowLaws.{row_at_with_change, sorted_with_change, same_tables}
+use Rattle.kdcs_types.specs.RowLaws.{numbers_with_change, row_at_with_change, sorted_with_change, same_tables}
 use Rattle.kdcdef_types.specs.Generation.{Generated}
 use Rattle.abstract_monitor.specs.Endings.{is_durable, durable, with_service}
-use Rattle.laws_of_steps.specs.DurableKeys.{key_is_durable, DurableFollows}
+use Rattle.laws_of_steps.specs.DurableKeys.{key_is_durable, DurableIsChanged}
 use Rattle.kd_base.specs.OrderLaws.{holds, is_true}
 use Rattle.kdcs_types.specs.declared.key.ServiceId.TheVariants.{Asynchronous}
 
@@ -91,26 +90,12 @@ module _ (g : Generated) where
 
   -- ---- a change
 
-  numbers_kept : (t : TableRows) (c : Change) → ((with_change t c).clock ≡ t.clock) × ((with_change t c).next_job ≡ t.next_job)
-  numbers_kept t (Set (row.Gssb n c)) = (refl, refl)
-  numbers_kept t (Set (row.Tls b l c)) = (refl, refl)
-  numbers_kept t (Set (row.Uls b u c)) = (refl, refl)
-  numbers_kept t (Set (row.Service i s)) = (refl, refl)
-  numbers_kept t (Set (row.Job n v)) = (refl, refl)
-  numbers_kept t (Set (row.Shown l v)) = (refl, refl)
-  numbers_kept t (Remove (key.Gssb n)) = (refl, refl)
-  numbers_kept t (Remove (key.Tls b l)) = (refl, refl)
-  numbers_kept t (Remove (key.Uls b u)) = (refl, refl)
-  numbers_kept t (Remove (key.Service i)) = (refl, refl)
-  numbers_kept t (Remove (key.Job n)) = (refl, refl)
-  numbers_kept t (Remove (key.Shown l)) = (refl, refl)
-
   numbers_durable : (t : TableRows) → ((durable g t).clock ≡ t.clock) × ((durable g t).next_job ≡ t.next_job)
   unfolding durable
   numbers_durable t = (refl, refl)
 
   clock_after : (t : TableRows) (c : Change) → ((durable g (with_change t c)).clock ≡ t.clock) × ((durable g (with_change t c)).next_job ≡ t.next_job)
-  clock_after t c = ((numbers_durable (with_change t c)).0 ∙ (numbers_kept t c).0, (numbers_durable (with_change t c)).1 ∙ (numbers_kept t c).1)
+  clock_after t c = ((numbers_durable (with_change t c)).0 ∙ (numbers_with_change t c).0, (numbers_durable (with_change t c)).1 ∙ (numbers_with_change t c).1)
 
   module _ (t : TableRows) (c : Change) (sorted : IsSortedTables t) (fits : IsTrue (change_fits c)) where
     after_change : (q : Key) → row_at (durable g (with_change t c)) q ≡ cond (key_is_durable g q) (cond (key_eq q (change_key c)) (row_after (Some c) (row_at t q)) (row_at t q)) None
@@ -118,7 +103,7 @@ module _ (g : Generated) where
 
     in_part : (b : Bool) → key_is_durable g (change_key c) ≡ b → durable g (with_change t c) ≡ cond b (with_change (durable g t) c) (durable g t)
     in_part true d =
-        let kept = numbers_kept (durable g t) c in
+        let kept = numbers_with_change (durable g t) c in
         same_tables (durable g (with_change t c)) (with_change (durable g t) c) (durable_sorted _ (sorted_with_change t c sorted fits)) (sorted_with_change _ c (durable_sorted t sorted) fits)
         ((clock_after t c).0 ∙ sym (kept.0 ∙ (numbers_durable t).0)) ((clock_after t c).1 ∙ sym (kept.1 ∙ (numbers_durable t).1))
         (λ q. after_change q ∙ moved q (key_eq q (change_key c)) refl ∙ sym (row_at_with_change (durable g t) c q fits))
@@ -141,8 +126,8 @@ module _ (g : Generated) where
             ∙ sym (ap (λ b. cond b (row_at t q) None) (ap (key_is_durable g) (key_eq_same q (change_key c) same) ∙ d))
         unmoved q false other = refl
 
-pub durable_follows : DurableFollows
-durable_follows g t c sorted fits = in_part g t c sorted fits (key_is_durable g (change_key c)) refl
+pub durable_changed : DurableIsChanged
+durable_changed g t c sorted fits = in_part g t c sorted fits (key_is_durable g (change_key c)) refl
 
 -- a service that does not outlive a stop goes without a trace
 pub durable_without : (g : Generated) (t : TableRows) (id : ServiceId) → is_durable g id ≡ false → durable g (with_service t id None) ≡ durable g t

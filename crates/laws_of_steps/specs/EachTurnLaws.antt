@@ -1,4 +1,4 @@
--- What holds of each turn: it rests, without a commit and in the same tables, or it works for the service of its task. And what holds of each synchronisation point.
+-- What holds of each turn: it rests, without a commit and in the same tables, or it serves the service of its task. And what holds of each synchronisation point.
 use Rattle.std.specs.Prelude.{◌≡◌, refl, ℕ, ◌-◌, Option, Some, None, slice_get}
 use Rattle.std.specs.FinMap.{find}
 use Rattle.kdcs_types.specs.declared.call.Cause.{Cause}
@@ -15,7 +15,7 @@ use Rattle.abstract_monitor.specs.declared.work.Work.TheVariants as work
 use Rattle.abstract_monitor.specs.Endings.{durable, synchronised, refusal}
 use Rattle.abstract_monitor.specs.Picks.{pick}
 use Rattle.abstract_monitor.specs.State.{Application, OpenTransaction, State}
-use Rattle.abstract_monitor.specs.Turns.{Turned, abnormal, settled_by, settled, worked, took_job_for, took_job, took, turn_by, turn_of}
+use Rattle.abstract_monitor.specs.Turns.{Turned, abnormal, settled_by, settled, served, took_job_for, took_job, took, turn_by, turn_of}
 use Rattle.laws_of_steps.specs.Steps.{AreLines}
 
 -- no transaction ends, and the tables stay
@@ -34,7 +34,7 @@ of_point app s task id x o P refused through = by (refusal app.generation (durab
     by (Some cause) = refused cause
     by None = through
 
-module _ (app : Application) (s : State) (task : ℕ) (P : Turned → Type 0) (rests : (t : Turned) → Rests s t → P t) (works : (id : ServiceId) → P (worked app s task id (find id_cmp id s.active))) where
+module _ (app : Application) (s : State) (task : ℕ) (P : Turned → Type 0) (rests : (t : Turned) → Rests s t → P t) (serves : (id : ServiceId) → P (served app s task id (find id_cmp id s.active))) where
   of_job : (number : ℕ) (job : Option JobValue) → P (took_job app s task number job)
   of_job number None = rests (took_job app s task number None) (record { settled = refl; lines = tt; tables = refl })
   of_job number (Some job) = by job.to
@@ -55,4 +55,4 @@ module _ (app : Application) (s : State) (task : ℕ) (P : Turned → Type 0) (r
       by : (place : Option (Option ServiceId)) → P (turn_by app s task place)
       by None = rests (turn_by app s task None) (record { settled = refl; lines = tt; tables = refl })
       by (Some None) = of_work (pick app s)
-      by (Some (Some id)) = works id
+      by (Some (Some id)) = serves id

@@ -34,7 +34,7 @@ IsSignedOn s user = IsSome (pterm_of_user s.signed user)
 abbrev pub IsOpen : State → ServiceId → Type 0
 IsOpen s id = IsSome (find id_cmp id s.active)
 
--- the open transaction stands at a PEND KP, whatever its statement is told, and waits for the input that this TAC reads
+-- the open transaction is at a PEND KP, whatever its statement is told, and waits for the input that this TAC reads
 abbrev pub StandsAtKeep : Application → ServiceId → OpenTransaction → Type 0
 StandsAtKeep app id x = (tac : Bytes) × ((told : Told) → statement app told (is_asynchronous id) x ≡ (x, Held tac))
 
@@ -47,25 +47,25 @@ pub record IsWaiting (s : State) (id : ServiceId) (w : Waiting) : Type 0 where
 pub record IsConsistent (app : Application) (s : State) : Type 0 where
   -- there are TASKS tasks
   pub tasks : length s.tasks ≡ app.generation.limits.tasks
-  -- a service stands in at most one place of the ready list and the tasks together
+  -- a service is in at most one place of the ready list and the tasks together
   pub placed_once : (id : ServiceId) → count_by (id_eq id) (placed s) ≤ 1
-  -- each service that stands there has an open transaction
+  -- each service that is there has an open transaction
   pub placed_open : (id : ServiceId) → IsTrue (is_running s id) → IsOpen s id
-  -- sessions stand in the order of their PTERMs, and a user is signed on once
+  -- sessions are in the order of their PTERMs, and a user is signed on once
   pub sessions : IsTrue (is_sorted bytes_cmp s.signed)
   pub signed_once : (user : Bytes) → count_by (λ (e : Bytes × Session). bytes_eq e.1.user user) s.signed ≤ 1
   -- a dialogue service with an open transaction has its user signed on
   pub open_signed : (user : Bytes) → IsOpen s (Dialogue user) → IsSignedOn s user
   -- a signed-on user's service whose row awaits no input is ready or in a task, or its open transaction is kept for an input
   pub row_goes_on : (user : Bytes) (row : Service) → IsSignedOn s user → service_of s.tables (Dialogue user) ≡ Some row → row.awaits ≡ false → IsOpen s (Dialogue user)
-  -- an open transaction that is neither ready nor in a task stands at a PEND KP
+  -- an open transaction that is neither ready nor in a task is at a PEND KP
   pub kept : (id : ServiceId) (x : OpenTransaction) → find id_cmp id s.active ≡ Some x → is_running s id ≡ false → StandsAtKeep app id x
-  -- open transactions stand in the order of their services, and no area is touched by two of them
+  -- open transactions are in the order of their services, and no area is touched by two of them
   pub active : IsTrue (is_sorted id_cmp s.active)
   pub exclusive : IsExclusive s.active
   -- each began with its service's row
   pub rooted : (id : ServiceId) (x : OpenTransaction) → find id_cmp id s.active ≡ Some x → IsRooted s.tables id x
-  -- requests that wait stand in the order of their services
+  -- requests that wait are in the order of their services
   pub waits : IsTrue (is_sorted id_cmp s.waits)
   pub waiting : (id : ServiceId) (w : Waiting) → find id_cmp id s.waits ≡ Some w → IsWaiting s id w
 
@@ -77,7 +77,7 @@ IsSessionOf app e = IsTrue (is_pterm app.generation e.0) × IsTrue (is_user app.
 
 -- what holds of tables, sessions and open transactions against the application
 pub record IsSoundState (app : Application) (s : State) : Type 0 where
-  -- the tables stand in order, and what a stop leaves of them suits the generation
+  -- the tables are in order, and what a stop leaves of them suits the generation
   pub order : IsSortedTables s.tables
   pub suits : Suits app.generation (durable app.generation s.tables)
   -- so does each service's row, also of a user with RESTART=NO

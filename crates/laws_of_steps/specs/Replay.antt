@@ -70,7 +70,7 @@ answer_by_note None = Granted
 answer_by_note (Some (Released area content)) = Granted
 answer_by_note (Some (Refused area code)) = answer_of_code code
 
--- what it saw in an area that it released, else what stands in the tables
+-- what it saw in an area that it released, else what is in the tables
 abbrev pub content_by_note : Option Note → Option Bytes → Option Bytes
 content_by_note None outside = outside
 content_by_note (Some (Released area content)) outside = content
@@ -151,15 +151,15 @@ pub record Ended : Type 0 where
 -- the synchronised tables, or the broken ones with the cause that refuses the point
 abbrev pub settled_as : Application → TableRows → ServiceId → OpenTransaction → TableRows → Option Cause → Ended
 settled_as app t id x new None = record { tables = new; ending = Synced }
-settled_as app t id x new (Some cause) = record { tables = broken t id x; ending = Broken cause }
+settled_as app t id x new (Some cause) = record { tables = broken app.generation t id x; ending = Broken cause }
 
 -- none where the statement leaves the transaction open, or goes back to the last point
 abbrev pub ended_by : Application → TableRows → ServiceId → OpenTransaction → Happened → Option Ended
 ended_by app t id x (Settles o) = let new = synchronised app.generation t id x o in Some (settled_as app t id x new (refusal app.generation (durable app.generation new)))
-ended_by app t id x (Breaks ending) = Some (record { tables = broken t id x; ending = ending })
+ended_by app t id x (Breaks ending) = Some (record { tables = broken app.generation t id x; ending = ending })
 ended_by app t id x _ = None
 
--- the result of the statement behind those of the record
+-- the result of the statement after those of the record
 unfoldable pub atomic : Application → TableRows → Kept → Option Ended
 atomic app t r = let x = replay app t r r.statements in ended_by app t r.service x (replay_statement app t r x).1
 

@@ -17,5 +17,5 @@ PointsSetOwnRow =
 -- an abnormal end removes its own row, and keeps all others
 abbrev pub EndsRemoveOwnRow : Type 0
 EndsRemoveOwnRow =
-    (t : TableRows) (id : ServiceId) (x : OpenTransaction) (other : ServiceId)
-    → service_of (broken t id x) other ≡ cond (id_eq other id) None (service_of t other)
+    (g : Generated) (t : TableRows) (id : ServiceId) (x : OpenTransaction) (other : ServiceId)
+    → service_of (broken g t id x) other ≡ cond (id_eq other id) None (service_of t other)

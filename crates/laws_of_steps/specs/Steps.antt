@@ -1,4 +1,4 @@
--- What each step of a script makes of the durable tables: it has at most one commit, which stands first and is the difference that the step makes.
+-- What each step of a script makes of the durable tables: it has at most one commit, which is first and is the difference that the step makes.
 use Rattle.std.specs.Prelude.{◌≡◌, ◌⊎◌, ℕ, List, [], ◌∷◌, Some, None}
 use Rattle.kdcs_types.specs.declared.act.Act.{Act}
 use Rattle.kdcs_types.specs.declared.act.Act.TheVariants.{Commit, Emit}
@@ -45,7 +45,7 @@ CommandsCommitOnce = (app : Application) (s : State) (c : Command) → CommitsOn
 abbrev pub MakesItsTables : Application → State → ScriptStep → Type 0
 MakesItsTables app before d = tables_after (durable app.generation before.tables) d.acts ≡ durable app.generation d.after.tables
 
--- each step does, where both tables stand in order
+-- each step does, where both tables are in order
 abbrev pub StepsMakeTheirTables : Type 0
 StepsMakeTheirTables =
     (app : Application) (before : State) (d : ScriptStep)

@@ -1,4 +1,4 @@
--- Laws: what each step of a script makes of the durable tables: it has at most one commit, which stands first and is the difference that the step makes.
+-- Laws: what each step of a script makes of the durable tables: it has at most one commit, which is first and is the difference that the step makes.
 use Rattle.std.specs.Prelude.{◌≡◌, refl, ℕ, ◌+◌, cond, List, [], ◌∷◌, ◌++◌}
 use Rattle.std.proofs.Common.{ap, ◌∙◌}
 use Rattle.std.proofs.lemmas.List.Sums.{sum_by-cons, sum_by-append}

@@ -21,7 +21,7 @@ use Rattle.laws_of_steps.specs.Suits.{is_user, is_lterm, fits_content, fits_mess
 
 -- ---- against the tables
 
--- an asynchronous service without a row is in its first transaction, and its job stands in the tables until that ends
+-- an asynchronous service without a row is in its first transaction, and its job is in the tables until that ends
 abbrev pub HasOwnJob : TableRows → ServiceId → Option Service → Type 0
 HasOwnJob t (Dialogue user) began = Unit {0}
 HasOwnJob t (Asynchronous number) None = IsSome (job_of t number)

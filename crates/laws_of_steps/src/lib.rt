@@ -5,14 +5,15 @@
 //! which all crates above may cite.
 #![tactic(auto)]
 
-ghost use Rattle.laws_of_steps.specs.{DeadlockLaw.{DeadlocksAreFound}, DurableKeys.{DurableFollows}, Frames.{TurnsLeaveOthers, CommandsTouchOne, ShowsAtItsTerminal}, Steps.{TurnsCommitOnce, CommandsCommitOnce, StepsMakeTheirTables}, JobLaw.{PointsNumberJobs, EndsDrawNoNumber}, RowLaw.{PointsSetOwnRow, EndsRemoveOwnRow}};
+ghost use Rattle.laws_of_steps.specs.{DeadlockLaw.{DeadlocksAreFound}, DurableKeys.{DurableIsChanged}, Frames.{TurnsLeaveOthers, CommandsTouchOne, ShowsAtItsTerminal}, Steps.{TurnsCommitOnce, CommandsCommitOnce, StepsMakeTheirTables}, JobLaw.{PointsNumberJobs, EndsDrawNoNumber}, RowLaw.{PointsSetOwnRow, EndsRemoveOwnRow}};
 
 /// A request that is answered K05 waits in a chain that ends at its own service, and no other does.
 pub fn deadlocks_are_found()
     ensures { DeadlocksAreFound }
 {}
 
-/// Job numbers are drawn at synchronisation points alone, one after another; and only its own service takes a job away.
+/// Job numbers are drawn at synchronisation points alone, one after another; and only its own service takes a job away, or
+/// has it delivered again.
 pub fn points_number_jobs()
     ensures points { PointsNumberJobs }
     ensures ends { EndsDrawNoNumber }
@@ -24,7 +25,7 @@ pub fn ends_change_their_own_row()
     ensures ends { EndsRemoveOwnRow }
 {}
 
-/// A step of a script has at most one commit. It stands first, and is the difference of the durable tables before and
+/// A step of a script has at most one commit. It is first, and is the difference of the durable tables before and
 /// after; a step without one changes nothing durable. So a step's commit makes of the durable tables those after it.
 pub fn steps_commit_once()
     ensures turns { TurnsCommitOnce }
@@ -33,8 +34,8 @@ pub fn steps_commit_once()
 {}
 
 /// A change of a row that outlives a stop is the same change of the durable tables, and any other is none of them.
-pub fn durable_part_follows()
-    ensures { DurableFollows }
+pub fn durable_part_is_changed()
+    ensures { DurableIsChanged }
 {}
 
 /// A step touches one service at most: all others keep their open transactions, rows and requests. RESTART alone ends

@@ -32,6 +32,7 @@ use Rattle.kdcdef_types.specs.declared.entry.TacEntry.{TacEntry}
 use Rattle.kdcdef_types.specs.declared.entry.LtermEntry.{LtermEntry}
 use Rattle.kdcdef_types.specs.Generation.{Generated, tac_of, lterm_of, has_tls, has_uls}
 use Rattle.unit_semantics.specs.Contents.{number_of}
+use Rattle.abstract_monitor.specs.declared.access.Denial.{Denial}
 use Rattle.abstract_monitor.specs.declared.answer.LockAnswer.{LockAnswer}
 use Rattle.abstract_monitor.specs.declared.answer.LockAnswer.TheVariants.{Granted, Wait as MustWait, Busy, Deadlock}
 use Rattle.abstract_monitor.specs.declared.answer.Called.{Called}
@@ -43,7 +44,8 @@ use Rattle.abstract_monitor.specs.declared.draft.Draft.{Draft}
 use Rattle.abstract_monitor.specs.Bytes.{Bytes, bytes_cmp}
 use Rattle.abstract_monitor.specs.State.{OpenTransaction}
 use Rattle.abstract_monitor.specs.Outcomes.{same_kind, goes_within, goes_first, is_for_kind, may_follow, takes_follow_up, needs_message, fits_follow_up, goes_by, name_or_empty, pend_by, pend_outcome}
-use Rattle.abstract_monitor.specs.Calls.{Told, Performed, replied, read_answer, refused, read_or, for_kind, within_length, with_name, declared, name_in_operand, touches, touching, noted, on_answer, answer_by, locked, shown_by, seen, got_by, got, put_part, target_by, job_target, due_in, moment_of, moment_by, drafted, put_job, wrote, deleted, or_empty, read_block, write_block, unlocked_by, unlocked, without_local, write_local, read_away_by, delete_local_by, has_message, pended, name_by, called, first_call, called_by, call_outcome}
+use Rattle.abstract_monitor.specs.Access.{denial_of}
+use Rattle.abstract_monitor.specs.Calls.{Told, Performed, replied, read_answer, refused, read_or, for_kind, within_length, with_name, declared, name_in_operand, touches, touching, noted, on_answer, answer_by, locked, shown_by, seen, got_by, got, put_part, target_by, job_target, due_in, moment_of, moment_by, drafted, put_job, wrote, deleted, or_empty, read_block, write_block, unlocked_by, unlocked, without_local, write_local, read_away_by, delete_local_by, has_message, pended, name_by, unless_denied, follow_up_denial, follow_up_entry, called, first_call, called_by, call_outcome}
 use Rattle.abstract_monitor.specs.Endings.{is_asynchronous}
 use Rattle.laws_of_steps.specs.Suits.{fits_content, fits_message, is_user, is_lterm, has_kind_by, target_suits, target_name}
 use Rattle.laws_of_steps.specs.Transactions.{IsMessage, PutsNone, area_is_declared, fits_if_there, written_fits, last_moment, due_fits, draft_fits, CanGoOn}
@@ -126,15 +128,15 @@ module _ (g : Generated) (id : ServiceId) (reading : Bool) (run : RunState) wher
   keeps_code : (x : OpenTransaction) (code : Code) → CanGoOn g id x → x.run ≡ run → KeepsOn (replied x code)
   keeps_code x code can same = record { can = can; same_run = same; fits = (omega arith, λ e. absurd (true≢false (sym e))) }
 
-  keeps_read : (x : OpenTransaction) (room : ℕ) (bytes : Bytes) → IsTrue reading → CanGoOn g id x → x.run ≡ run → length bytes ≤ 32767 → KeepsOn (read_answer x room bytes)
-  keeps_read x room bytes r can same h = record { can = can; same_run = same; fits = (h, λ e. r) }
+  keeps_read : (x : OpenTransaction) (capacity : ℕ) (bytes : Bytes) → IsTrue reading → CanGoOn g id x → x.run ≡ run → length bytes ≤ 32767 → KeepsOn (read_answer x capacity bytes)
+  keeps_read x capacity bytes r can same h = record { can = can; same_run = same; fits = (h, λ e. r) }
 
   keeps_refused : (x : OpenTransaction) (cause : Cause) → CanGoOn g id x → x.run ≡ run → KeepsOn (refused x cause)
   keeps_refused x cause can same = record { can = can; same_run = same; fits = tt }
 
-  keeps_read_or : (code : Code) (x : OpenTransaction) (room : ℕ) (o : Option Bytes) → IsTrue reading → CanGoOn g id x → x.run ≡ run → IsTrue (fits_if_there o) → KeepsOn (read_or code x room o)
-  keeps_read_or code x room None r can same h = keeps_code x code can same
-  keeps_read_or code x room (Some bytes) r can same h = keeps_read x room bytes r can same (leb-true (length bytes) 32767 h)
+  keeps_read_or : (code : Code) (x : OpenTransaction) (capacity : ℕ) (o : Option Bytes) → IsTrue reading → CanGoOn g id x → x.run ≡ run → IsTrue (fits_if_there o) → KeepsOn (read_or code x capacity o)
+  keeps_read_or code x capacity None r can same h = keeps_code x code can same
+  keeps_read_or code x capacity (Some bytes) r can same h = keeps_read x capacity bytes r can same (leb-true (length bytes) 32767 h)
 
   keeps_kind : (x : OpenTransaction) (b : Bool) (go : Performed) → CanGoOn g id x → x.run ≡ run → (b ≡ true → KeepsOn go) → KeepsOn (for_kind x b go)
   keeps_kind x true go can same h = h refl
@@ -221,9 +223,9 @@ module _ (g : Generated) (id : ServiceId) (reading : Bool) (run : RunState) wher
   or_empty_fits None h = omega arith
   or_empty_fits (Some bytes) h = leb-true (length bytes) 32767 h
 
-  keeps_read_block : (v : Told) (x : OpenTransaction) (area : Area) (room : ℕ) → IsTrue reading → ToldFits v → CanGoOn g id x → x.run ≡ run → KeepsOn (read_block v x area room)
-  keeps_read_block v x area room r told can same =
-      keeps_locked v x area _ can same (λ y c s held. keeps_read y room (or_empty (seen v y area)) r c s (or_empty_fits (seen v y area) (seen_fits v y area told c)))
+  keeps_read_block : (v : Told) (x : OpenTransaction) (area : Area) (capacity : ℕ) → IsTrue reading → ToldFits v → CanGoOn g id x → x.run ≡ run → KeepsOn (read_block v x area capacity)
+  keeps_read_block v x area capacity r told can same =
+      keeps_locked v x area _ can same (λ y c s held. keeps_read y capacity (or_empty (seen v y area)) r c s (or_empty_fits (seen v y area) (seen_fits v y area told c)))
 
   keeps_write_block : (v : Told) (x : OpenTransaction) (area : Area) (bytes : Bytes) → CanGoOn g id x → x.run ≡ run → IsTrue (area_is_declared g area) → IsTrue (fits_content bytes) → KeepsOn (write_block v x area bytes)
   keeps_write_block v x area bytes can same is fits = keeps_locked v x area _ can same (λ y c s held. keeps_wrote y area (Some bytes) c s held is fits)
@@ -257,13 +259,13 @@ module _ (g : Generated) (id : ServiceId) (reading : Bool) (run : RunState) wher
 
   -- ---- messages
 
-  got_by_keeps : (x : OpenTransaction) (room : ℕ) (parts : List Bytes) → x.unread ≡ parts → IsTrue reading → g.limits.nb ≤ 32767 → CanGoOn g id x → x.run ≡ run → KeepsOn (got_by x room parts)
-  got_by_keeps x room [] e r nb can same = keeps_code x _ can same
-  got_by_keeps x room (part ∷ rest) e r nb can same =
+  got_by_keeps : (x : OpenTransaction) (capacity : ℕ) (parts : List Bytes) → x.unread ≡ parts → IsTrue reading → g.limits.nb ≤ 32767 → CanGoOn g id x → x.run ≡ run → KeepsOn (got_by x capacity parts)
+  got_by_keeps x capacity [] e r nb can same = keeps_code x _ can same
+  got_by_keeps x capacity (part ∷ rest) e r nb can same =
       let m = subst (IsMessage g) e can.unread in
       let all : length part + sum_by length rest ≤ g.limits.nb = omega (arith, sum_by-cons length part rest, m.bytes) in
       let count : length rest ≤ 16 = omega (arith, m.count) in
-      keeps_read (record x { unread = rest }) room part r (with_unread g id x can rest (record { count = count; bytes = omega arith })) same (omega arith)
+      keeps_read (record x { unread = rest }) capacity part r (with_unread g id x can rest (record { count = count; bytes = omega arith })) same (omega arith)
 
   keeps_put_part : (x : OpenTransaction) (bytes : Bytes) → is_asynchronous id ≡ false → CanGoOn g id x → x.run ≡ run → KeepsOn (put_part g x bytes)
   keeps_put_part x bytes dialogue can same =
@@ -334,13 +336,13 @@ module _ (g : Generated) (id : ServiceId) (reading : Bool) (run : RunState) wher
   local_fits : (x : OpenTransaction) (name bytes : Bytes) → CanGoOn g id x → find bytes_cmp name x.lssbs ≡ Some bytes → IsTrue (fits_content bytes)
   local_fits x name bytes can e = (found_passes bytes_cmp (λ (l : Bytes × Bytes). fits_content l.1) name x.lssbs bytes can.lssbs e).1
 
-  keeps_read_local : (x : OpenTransaction) (name : Bytes) (room : ℕ) (o : Option Bytes) → find bytes_cmp name x.lssbs ≡ o → IsTrue reading → CanGoOn g id x → x.run ≡ run → KeepsOn (read_or K03 x room o)
-  keeps_read_local x name room None e r can same = keeps_read_or K03 x room None r can same refl
-  keeps_read_local x name room (Some bytes) e r can same = keeps_read_or K03 x room (Some bytes) r can same (local_fits x name bytes can e)
+  keeps_read_local : (x : OpenTransaction) (name : Bytes) (capacity : ℕ) (o : Option Bytes) → find bytes_cmp name x.lssbs ≡ o → IsTrue reading → CanGoOn g id x → x.run ≡ run → KeepsOn (read_or K03 x capacity o)
+  keeps_read_local x name capacity None e r can same = keeps_read_or K03 x capacity None r can same refl
+  keeps_read_local x name capacity (Some bytes) e r can same = keeps_read_or K03 x capacity (Some bytes) r can same (local_fits x name bytes can e)
 
-  keeps_read_away : (x : OpenTransaction) (name : Bytes) (room : ℕ) (o : Option Bytes) → find bytes_cmp name x.lssbs ≡ o → IsTrue reading → CanGoOn g id x → x.run ≡ run → KeepsOn (read_away_by x name room o)
-  keeps_read_away x name room None e r can same = keeps_code x K03 can same
-  keeps_read_away x name room (Some bytes) e r can same = keeps_read _ room bytes r (without_local_can x name can) same (leb-true _ _ (local_fits x name bytes can e))
+  keeps_read_away : (x : OpenTransaction) (name : Bytes) (capacity : ℕ) (o : Option Bytes) → find bytes_cmp name x.lssbs ≡ o → IsTrue reading → CanGoOn g id x → x.run ≡ run → KeepsOn (read_away_by x name capacity o)
+  keeps_read_away x name capacity None e r can same = keeps_code x K03 can same
+  keeps_read_away x name capacity (Some bytes) e r can same = keeps_read _ capacity bytes r (without_local_can x name can) same (leb-true _ _ (local_fits x name bytes can e))
 
   keeps_delete_local : (x : OpenTransaction) (name : Bytes) (o : Option Bytes) → CanGoOn g id x → x.run ≡ run → KeepsOn (delete_local_by x name o)
   keeps_delete_local x name None can same = keeps_code x K03 can same
@@ -385,12 +387,24 @@ pended_by_fits g asynchronous o p true false c fits e = absurd cc
 pended_by_fits g asynchronous o p true true false fits e = absurd cc
 pended_by_fits g asynchronous o p true true true fits e = subst (OutcomeFits g asynchronous) (ok_is Cause p o e) (fits refl refl)
 
-pend_outcome_fits : (g : Generated) (asynchronous : Bool) (variant : Variant) (has : Bool) (name : Option Bytes) (o : Outcome)
-    → pend_outcome asynchronous variant has (option_and_then (tac_of g) name) name ≡ Ok o → OutcomeFits g asynchronous o
+-- a follow-up that the rule admits is one without the rule
+undenied_fits : (g : Generated) (x : OpenTransaction) (asynchronous : Bool) (variant : Variant) (free : Bool) (name : Option Bytes)
+    → IsTrue (free || fits_follow_up asynchronous variant (follow_up_entry (denial_of g) g x variant name) name) → IsTrue (free || fits_follow_up asynchronous variant (option_and_then (tac_of g) name) name)
+undenied_fits g x asynchronous variant true name h = refl
+undenied_fits g x asynchronous variant false None h = absurd (true≢false (sym h))
+undenied_fits g x asynchronous variant false (Some n) h = by (follow_up_denial (denial_of g) x variant n) h
+  where
+    by : (o : Option Denial) → IsTrue (fits_follow_up asynchronous variant (unless_denied o (tac_of g n)) (Some n)) → IsTrue (fits_follow_up asynchronous variant (tac_of g n) (Some n))
+    by None h = h
+    by (Some denial) h = absurd (true≢false (sym h))
+
+pend_outcome_fits : (g : Generated) (x : OpenTransaction) (asynchronous : Bool) (variant : Variant) (has : Bool) (name : Option Bytes) (o : Outcome)
+    → pend_outcome asynchronous variant has (follow_up_entry (denial_of g) g x variant name) name ≡ Ok o → OutcomeFits g asynchronous o
 unfolding pend_outcome
-pend_outcome_fits g asynchronous variant has name o e =
-    pended_by_fits g asynchronous o (goes_by variant (name_or_empty name)) (is_for_kind asynchronous variant) (not (takes_follow_up variant) || fits_follow_up asynchronous variant (option_and_then (tac_of g) name) name) (not (needs_message asynchronous variant) || has)
-    (goes_fits g asynchronous variant name) e
+pend_outcome_fits g x asynchronous variant has name o e =
+    let free = not (takes_follow_up variant) in
+    pended_by_fits g asynchronous o (goes_by variant (name_or_empty name)) (is_for_kind asynchronous variant) (free || fits_follow_up asynchronous variant (follow_up_entry (denial_of g) g x variant name) name) (not (needs_message asynchronous variant) || has)
+    (λ kind fits. goes_fits g asynchronous variant name kind (undenied_fits g x asynchronous variant free name fits)) e
 
 -- ---- all calls
 
@@ -404,39 +418,39 @@ second_fits a b h = (both_true (fits_content b) true (both_true (fits_content a)
 called_keeps : (g : Generated) (id : ServiceId) (v : Told) (x : OpenTransaction) (call : Call) → g.limits.nb ≤ 32767 → ToldFits v → IsTrue (has_short_operands call) → CanGoOn g id x → Keeps g id (reads call) x.run (called g v (is_asynchronous id) x call)
 unfolding called
 called_keeps g id v x Init nb told short can = keeps_refused g id false x.run x _ can refl
-called_keeps g id v x (Mget room) nb told short can =
-    keeps_kind g id true x.run x (not (is_asynchronous id)) (got x room) can refl (λ h. got_by_keeps g id true x.run x room x.unread refl refl nb can refl)
+called_keeps g id v x (Mget capacity) nb told short can =
+    keeps_kind g id true x.run x (not (is_asynchronous id)) (got x capacity) can refl (λ h. got_by_keeps g id true x.run x capacity x.unread refl refl nb can refl)
 called_keeps g id v x (Mput bytes) nb told short can =
     keeps_kind g id false x.run x (not (is_asynchronous id)) (put_part g x bytes) can refl (λ h. keeps_put_part g id false x.run x bytes (not_yes (is_asynchronous id) h) can refl)
-called_keeps g id v x (Fget room) nb told short can =
-    keeps_kind g id true x.run x (is_asynchronous id) (got x room) can refl (λ h. got_by_keeps g id true x.run x room x.unread refl refl nb can refl)
+called_keeps g id v x (Fget capacity) nb told short can =
+    keeps_kind g id true x.run x (is_asynchronous id) (got x capacity) can refl (λ h. got_by_keeps g id true x.run x capacity x.unread refl refl nb can refl)
 called_keeps g id v x (Fput to message) nb told short can = keeps_put_job g id false x.run x to (Some (After 0)) message (le-leb 0 last_moment (omega arith)) can refl
 called_keeps g id v x (Dput to mode d h m s message) nb told short can =
     keeps_put_job g id false x.run x to (moment_by mode (number_of d) (number_of h) (number_of m) (number_of s)) message (moment_by_fits mode (number_of d) (number_of h) (number_of m) (number_of s)) can refl
-called_keeps g id v x (SgetGb name room) nb told short can =
+called_keeps g id v x (SgetGb name capacity) nb told short can =
     keeps_name g id true x.run x (name_in_operand name) _ can refl
-    (λ n. keeps_locked g id true x.run v x (Gssb n) _ can refl (λ y c s held. keeps_read_or g id true x.run K03 y room (seen v y (Gssb n)) refl c s (seen_fits g id true x.run v y (Gssb n) told c)))
+    (λ n. keeps_locked g id true x.run v x (Gssb n) _ can refl (λ y c s held. keeps_read_or g id true x.run K03 y capacity (seen v y (Gssb n)) refl c s (seen_fits g id true x.run v y (Gssb n) told c)))
 called_keeps g id v x (SputGb name bytes) nb told short can =
     keeps_name g id false x.run x (name_in_operand name) _ can refl
     (λ n. keeps_locked g id false x.run v x (Gssb n) _ can refl (λ y c s held. keeps_wrote g id false x.run y (Gssb n) (Some bytes) c s held refl (second_fits name bytes short)))
 called_keeps g id v x (SrelGb name) nb told short can =
     keeps_name g id false x.run x (name_in_operand name) _ can refl
     (λ n. keeps_locked g id false x.run v x (Gssb n) _ can refl (λ y c s held. keeps_deleted g id false x.run y (Gssb n) (seen v y (Gssb n)) c s held refl))
-called_keeps g id v x (SgetKp name room) nb told short can =
-    keeps_name g id true x.run x (name_in_operand name) _ can refl (λ n. keeps_read_local g id true x.run x n room (find bytes_cmp n x.lssbs) refl refl can refl)
-called_keeps g id v x (SgetRl name room) nb told short can =
-    keeps_name g id true x.run x (name_in_operand name) _ can refl (λ n. keeps_read_away g id true x.run x n room (find bytes_cmp n x.lssbs) refl refl can refl)
+called_keeps g id v x (SgetKp name capacity) nb told short can =
+    keeps_name g id true x.run x (name_in_operand name) _ can refl (λ n. keeps_read_local g id true x.run x n capacity (find bytes_cmp n x.lssbs) refl refl can refl)
+called_keeps g id v x (SgetRl name capacity) nb told short can =
+    keeps_name g id true x.run x (name_in_operand name) _ can refl (λ n. keeps_read_away g id true x.run x n capacity (find bytes_cmp n x.lssbs) refl refl can refl)
 called_keeps g id v x (SputMs name bytes) nb told short can =
     keeps_name g id false x.run x (name_in_operand name) _ can refl (λ n. keeps_write_local g id false x.run x n bytes (second_fits name bytes short) can refl)
 called_keeps g id v x (SrelLb name) nb told short can =
     keeps_name g id false x.run x (name_in_operand name) _ can refl (λ n. keeps_delete_local g id false x.run x n (find bytes_cmp n x.lssbs) can refl)
-called_keeps g id v x (SgetUs name room) nb told short can =
-    keeps_its_name g id true x.run x name (has_uls g) _ can refl (λ n h. keeps_read_block g id true x.run v x (Uls n x.user) room refl told can refl)
+called_keeps g id v x (SgetUs name capacity) nb told short can =
+    keeps_its_name g id true x.run x name (has_uls g) _ can refl (λ n h. keeps_read_block g id true x.run v x (Uls n x.user) capacity refl told can refl)
 called_keeps g id v x (SputUs name bytes) nb told short can =
     keeps_its_name g id false x.run x name (has_uls g) _ can refl
     (λ n h. keeps_write_block g id false x.run v x (Uls n x.user) bytes can refl (true_both (has_uls g n) (is_user g x.user) h can.user) (second_fits name bytes short))
-called_keeps g id v x (Gtda name room) nb told short can =
-    keeps_its_name g id true x.run x name (has_tls g) _ can refl (λ n h. keeps_read_block g id true x.run v x (Tls n x.lterm) room refl told can refl)
+called_keeps g id v x (Gtda name capacity) nb told short can =
+    keeps_its_name g id true x.run x name (has_tls g) _ can refl (λ n h. keeps_read_block g id true x.run v x (Tls n x.lterm) capacity refl told can refl)
 called_keeps g id v x (Ptda name bytes) nb told short can =
     keeps_its_name g id false x.run x name (has_tls g) _ can refl
     (λ n h. keeps_write_block g id false x.run v x (Tls n x.lterm) bytes can refl (true_both (has_tls g n) (is_lterm g x.lterm) h can.lterm) (second_fits name bytes short))
@@ -445,8 +459,8 @@ called_keeps g id v x (UnlkGb name) nb told short can =
 called_keeps g id v x (UnlkUs name) nb told short can = keeps_its_name g id false x.run x name (has_uls g) _ can refl (λ n h. keeps_unlocked g id false x.run v x (Uls n x.user) can refl)
 called_keeps g id v x (UnlkDa name) nb told short can = keeps_its_name g id false x.run x name (has_tls g) _ can refl (λ n h. keeps_unlocked g id false x.run v x (Tls n x.lterm) can refl)
 called_keeps g id v x (Pend variant op) nb told short can =
-    keeps_pended g id false x.run x variant (pend_outcome (is_asynchronous id) variant (has_message x.parts) (option_and_then (tac_of g) (name_by op)) (name_by op))
-    (pend_outcome_fits g (is_asynchronous id) variant (has_message x.parts) (name_by op)) can refl
+    keeps_pended g id false x.run x variant (pend_outcome (is_asynchronous id) variant (has_message x.parts) (follow_up_entry (denial_of g) g x variant (name_by op)) (name_by op))
+    (pend_outcome_fits g x (is_asynchronous id) variant (has_message x.parts) (name_by op)) can refl
 
 first_keeps : (g : Generated) (id : ServiceId) (reading : Bool) (x : OpenTransaction) (call : Call) → CanGoOn g id x → Keeps g id reading x.run (first_call x call)
 first_keeps g id reading x Init can = keeps_code g id reading x.run (record x { inited = true }) Done (with_inited g id x can true) refl

@@ -21,10 +21,11 @@ use Rattle.abstract_monitor.specs.declared.input_use.ServiceState.TheVariants.{A
 use Rattle.abstract_monitor.specs.declared.input_use.Use.{Use}
 use Rattle.abstract_monitor.specs.declared.input_use.Use.TheVariants.{Sign, SignRefused, SignFirst, AlreadySigned, Off, Display, Output, Again, Busy, TooLong, Next, Start, TacRefused}
 use Rattle.abstract_monitor.specs.Bytes.{Bytes, bytes_cmp}
+use Rattle.abstract_monitor.specs.Access.{denial_of}
 use Rattle.abstract_monitor.specs.State.{Application, OpenTransaction, Session, State}
 use Rattle.abstract_monitor.specs.Calls.{nothing_told}
 use Rattle.abstract_monitor.specs.Endings.{is_asynchronous, lterm_of_row, opened_by_start, opened_by_input, opened_by_row, followed_by_input, durable, restarts}
-use Rattle.abstract_monitor.specs.Sessions.{is_running, is_awaiting, service_state_by, service_state, use_of}
+use Rattle.abstract_monitor.specs.Sessions.{is_running, is_awaiting, service_state_by, service_state, use_under, use_of}
 use Rattle.abstract_monitor.specs.Statements.{statement}
 use Rattle.abstract_monitor.specs.Turns.{turn_of}
 use Rattle.abstract_monitor.specs.declared.command.Command.{Command}
@@ -193,8 +194,8 @@ used_parts app s pterm user application facts is p (TacRefused fault) fits = p
 
 -- the use of an input, as the system stands
 use_now_fits : (app : Application) (s : State) (pterm text : Bytes) → Parts app s → UseFits app.generation (user_at s pterm) (service_state s (user_at s pterm)) (use_now app s pterm text)
-unfolding use_of use_now
-use_now_fits app s pterm text p = use_fits app.generation s.signed (service_state s) text (find bytes_cmp pterm s.signed) (by (find bytes_cmp pterm s.signed) (p.sessions pterm))
+unfolding use_of use_under use_now
+use_now_fits app s pterm text p = use_fits app.generation (denial_of app.generation) s.signed (service_state s) (lterm_at app pterm) text (find bytes_cmp pterm s.signed) (by (find bytes_cmp pterm s.signed) (p.sessions pterm))
   where
     by : (o : Option Session) → IfSome o (λ (v : Session). IsSessionOf app (pterm, v)) → IfSome o (λ (v : Session). IsTrue (is_user app.generation v.user))
     by None h = tt

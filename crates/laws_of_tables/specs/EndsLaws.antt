@@ -1,5 +1,5 @@
 -- Abnormal ends, signing off, shown messages, ticks and starts leave sound tables, which take no more pages.
-use Rattle.std.specs.Prelude.{◌≡◌, refl, ◌≤◌, Bool, true, false, cond, ◌&&◌, not, IsTrue, IsSome, List, [], ◌∷◌, length, filter, Option, None, Some, nat_le, if◌then◌else◌}
+use Rattle.std.specs.Prelude.{◌≡◌, refl, ℕ, ◌≤◌, Bool, true, false, cond, ◌&&◌, not, IsTrue, IsSome, List, [], ◌∷◌, length, filter, Option, None, Some, is_some, nat_le, nat_lt, option_map, option_and_then, if◌then◌else◌}
 use Rattle.std.proofs.Common.{inl, inr, sym, ap, subst, ◌∙◌, arith, true≢false}
 use Rattle.std.specs.List.{list_all}
 use Rattle.kd_base.specs.ToolsLaws.{both_true, true_both, some_is}
@@ -12,12 +12,12 @@ use Rattle.kdcs_types.specs.declared.service.Job.{Job}
 use Rattle.kdcs_types.specs.declared.service.JobValue.{JobValue}
 use Rattle.kdcs_types.specs.declared.service.Service.{Service}
 use Rattle.kdcs_types.specs.Keys.{key_eq}
-use Rattle.kdcs_types.specs.Keyed.{with_item}
+use Rattle.kdcs_types.specs.Keyed.{item_at, with_item}
 use Rattle.kdcs_types.specs.KeyLaws.{key_eq_itself}
-use Rattle.kdcs_types.specs.KeyedLaws.{ascends_with, all_with}
+use Rattle.kdcs_types.specs.KeyedLaws.{ascends_with, all_with, found_passes}
 use Rattle.kd_base.specs.Limits.{last_next_job}
 use Rattle.kdcs_types.specs.Same.{target_eq}
-use Rattle.kdcs_types.specs.Tables.{TableRows, service_key, job_key, shown_key}
+use Rattle.kdcs_types.specs.Tables.{TableRows, service_key, job_key, shown_key, with_change}
 use Rattle.kdcdef_types.specs.declared.entry.TacEntry.{TacEntry}
 use Rattle.kdcdef_types.specs.declared.entry.LtermEntry.{LtermEntry}
 use Rattle.kdcdef_types.specs.Generation.{Generated, tac_of, lterm_of}
@@ -25,16 +25,19 @@ use Rattle.abstract_monitor.specs.Bytes.{Bytes}
 use Rattle.abstract_monitor.specs.Calls.{target_by, job_target}
 use Rattle.abstract_monitor.specs.Charges.{charge_of, service_length, job_length, total_charge}
 use Rattle.abstract_monitor.specs.Outcomes.{goes_first}
-use Rattle.abstract_monitor.specs.Endings.{with_service, without_job, without_own_job, broken, durable}
+use Rattle.abstract_monitor.specs.Endings.{with_service, without_job, job_change, with_own_fate, broken, durable}
+use Rattle.abstract_monitor.specs.Redelivery.{again, dead_letter_queue, has_dead_letter_queue, dead_letter, fate}
 use Rattle.abstract_monitor.specs.Picks.{is_free, free_jobs, is_earlier, earlier_of, least_job}
 use Rattle.abstract_monitor.specs.Commands.{is_for, due_for, shown_tables}
 use Rattle.abstract_monitor.specs.State.{State}
+use Rattle.laws_of_steps.specs.JobLaw.{job_with}
+use Rattle.laws_of_steps.specs.JobLaws.{of_fate}
 use Rattle.laws_of_steps.specs.Suits.{Suits, is_lterm, value_suits, target_suits, target_name, job_suits, shown_suits}
 use Rattle.laws_of_tables.specs.PointLaws.{AreSound, TakesNoMore, EndSound, EndsStaySound, SignOffsStaySound, ShowsStaySound, TicksStaySound, StartsAreSound}
-use Rattle.laws_of_tables.specs.ItemsLaws.{IsIn, in_passes, in_filter, sum_with, sum_without}
+use Rattle.laws_of_tables.specs.ItemsLaws.{IsIn, in_passes, in_filter, sum_with, sum_without, sum_changed, found_in, job_number}
 use Rattle.laws_of_tables.specs.ListsLaws.{bytes_eq_itself, sum_filter, filter_passes}
-use Rattle.laws_of_tables.specs.OpeningsLaws.{job_parts}
-use Rattle.laws_of_tables.specs.RowsLaws.{GoodRows, durable_row, with_shown, with_clock, some_jobs, some_services, sound, sound_within, good, sum_filters}
+use Rattle.laws_of_tables.specs.OpeningsLaws.{job_parts, job_whole}
+use Rattle.laws_of_tables.specs.RowsLaws.{GoodRows, has_no_service, durable_row, with_shown, with_clock, with_job, some_jobs, some_services, sound, sound_within, good, sum_filters}
 use Rattle.std.proofs.lemmas.Slice.Eq.{bytes_eq-Decides}
 
 -- ---- fewer rows
@@ -82,11 +85,61 @@ fewer_jobs g t q = record {
 
 -- ---- abnormal ends and signing off
 
-own_job_good : (g : Generated) (t : TableRows) (id : ServiceId) (began : Option Service) → GoodRows g t → GoodRows g (without_own_job t id began) × NoMore g t (without_own_job t id began)
-own_job_good g t (Dialogue user) began r = (r, same_no_more g t)
-own_job_good g t (Asynchronous number) (Some row) r = (r, same_no_more g t)
-own_job_good g t (Asynchronous number) None r =
-    (some_jobs g t r (λ (j : Job). not (key_eq (JobKey number) (job_key j))), fewer_jobs g t (λ (j : Job). not (key_eq (JobKey number) (job_key j))))
+-- the dead letter queue is an LTERM of the generation
+queue_by : (g : Generated) (l : Option LtermEntry) (t : Option TacEntry) → is_some l ≡ true → IsTrue (target_suits g (Lterm dead_letter_queue) (target_by dead_letter_queue l t))
+queue_by g (Some l) t h = refl
+queue_by g None t h = absurd (true≢false (sym h))
+
+queue_suits : (g : Generated) → has_dead_letter_queue g ≡ true → IsTrue (target_suits g (Lterm dead_letter_queue) (job_target g dead_letter_queue))
+unfolding job_target
+queue_suits g h = queue_by g (lterm_of g dead_letter_queue) (tac_of g dead_letter_queue) h
+
+dead_letter_suits : (g : Generated) (number : ℕ) (v : JobValue) → has_dead_letter_queue g ≡ true → IsTrue (job_suits g (job_with number v)) → IsTrue (job_suits g (job_with number (dead_letter v)))
+dead_letter_suits g number v h suits =
+    let parts = job_parts g (job_with number v) suits in
+    job_whole g (job_with number (dead_letter v)) (record { due = parts.due; user = parts.user; lterm = parts.lterm; message = parts.message; target = queue_suits g h })
+
+module _ (g : Generated) (t : TableRows) (r : GoodRows g t) (number : ℕ) where
+  abbrev IsGood : TableRows → Type 0
+  IsGood u = GoodRows g u × NoMore g t u
+
+  gone_good : IsGood (without_job t number)
+  gone_good = (some_jobs g t r (λ (j : Job). not (key_eq (JobKey number) (job_key j))), fewer_jobs g t (λ (j : Job). not (key_eq (JobKey number) (job_key j))))
+
+  module _ (j : Job) (found : item_at job_key (JobKey number) t.jobs ≡ Some j) where
+    passes : (p : Job → Bool) → IsTrue (list_all p t.jobs) → IsTrue (p (job_with number j.value))
+    passes p all = subst (λ (n : ℕ). IsTrue (p (job_with n j.value))) (job_number number t.jobs j found) (found_passes job_key p (JobKey number) t.jobs j all found)
+
+    -- a job of the same number with a message of the same length
+    changed_good : (v : JobValue) → IsTrue (job_suits g (job_with number v)) → job_length v ≡ job_length j.value → IsGood (with_change t (job_change number (Some v)))
+    unfolding durable total_charge
+    changed_good v suits long = (
+      with_job g t r (job_with number v) suits (passes (λ (k : Job). nat_lt k.number t.next_job) r.numbers.0) (passes (has_no_service t.services) r.numbers.2),
+      record {
+        next_job = refl;
+        gssbs = refl;
+        charge = omega (
+          arith,
+          sum_changed job_key (λ (k : Job). charge_of g.limits.blksize (job_length k.value)) (job_with number v) j t.jobs r.jobs.0
+              (ap (λ n. key_eq (JobKey number) (JobKey n)) (job_number number t.jobs j found) ∙ key_eq_itself (JobKey number)) (found_in job_key (JobKey number) t.jobs j found) (ap (charge_of g.limits.blksize) long),
+        );
+      },
+    )
+
+    fate_good : IsGood (with_change t (job_change number (fate g j.value)))
+    fate_good =
+        let suits : IsTrue (job_suits g (job_with number j.value)) = passes (job_suits g) r.jobs.1 in
+        of_fate g j.value (λ o. IsGood (with_change t (job_change number o)))
+        (changed_good (again j.value) suits refl) (λ h. changed_good (dead_letter j.value) (dead_letter_suits g number j.value h suits) refl) gone_good
+
+own_fate_good : (g : Generated) (t : TableRows) (id : ServiceId) (began : Option Service) → GoodRows g t → GoodRows g (with_own_fate g t id began) × NoMore g t (with_own_fate g t id began)
+own_fate_good g t (Dialogue user) began r = (r, same_no_more g t)
+own_fate_good g t (Asynchronous number) (Some row) r = (r, same_no_more g t)
+own_fate_good g t (Asynchronous number) None r = by (item_at job_key (JobKey number) t.jobs) refl
+  where
+    by : (o : Option Job) → item_at job_key (JobKey number) t.jobs ≡ o → IsGood g t r number (with_change t (job_change number (option_and_then (fate g) (option_map (λ (j : Job). j.value) o))))
+    by None e = gone_good g t r number
+    by (Some j) e = fate_good g t r number j e
 
 no_service_good : (g : Generated) (t : TableRows) (id : ServiceId) → GoodRows g t → GoodRows g (with_service t id None) × NoMore g t (with_service t id None)
 no_service_good g t id r =
@@ -95,8 +148,8 @@ no_service_good g t id r =
 pub ends_stay_sound : EndsStaySound
 unfolding broken
 ends_stay_sound g t id x s =
-    let u = without_own_job t id x.began in
-    let a = own_job_good g t id x.began (good g t s) in
+    let u = with_own_fate g t id x.began in
+    let a = own_fate_good g t id x.began (good g t s) in
     let b = no_service_good g u id a.0 in
     no_more_sound g t (with_service u id None) s b.0 (no_more_joins g t u (with_service u id None) a.1 b.1)
 

@@ -1,5 +1,5 @@
 -- Lists of items in ascending order of their keys: some of them, more of them, and sums over them.
-use Rattle.std.specs.Prelude.{◌≡◌, refl, ℕ, zero, suc, Contains, ◌+◌, ◌≤◌, ◌<◌, Bool, true, false, cond, not, ◌⊎◌, IsTrue, List, [], ◌∷◌, ◌++◌, map, filter, sum_by, Some, is_some, nat_lt, nat_le, ◌==◌}
+use Rattle.std.specs.Prelude.{◌≡◌, refl, ℕ, zero, suc, Contains, ◌+◌, ◌≤◌, ◌<◌, Bool, true, false, cond, not, ◌⊎◌, IsTrue, List, [], ◌∷◌, ◌++◌, map, filter, sum_by, Option, Some, None, is_some, nat_lt, nat_le, ◌==◌}
 use Rattle.std.proofs.Common.{inl, inr, sym, ap, subst, ◌∙◌, arith, true≢false}
 use Rattle.std.proofs.lemmas.Bool.{lt-ltb, ltb-true, leb-true}
 use Rattle.std.proofs.lemmas.List.Sums.{sum_by-cons}
@@ -9,13 +9,13 @@ use Rattle.std.specs.declared.cmp.Ordering.{Ordering}
 use Rattle.std.specs.declared.cmp.Ordering.TheVariants.{Less, Equal, Greater}
 use Rattle.std.specs.FinMap.{put}
 use Rattle.std.specs.FinMap.Entries.{by_order, below_all}
-use Rattle.kd_base.specs.ToolsLaws.{both_true, true_both}
+use Rattle.kd_base.specs.ToolsLaws.{both_true, true_both, some_is}
 use Rattle.kdcs_types.specs.declared.key.Key.{Key}
 use Rattle.kdcs_types.specs.declared.key.Key.TheVariants.{Job as JobKey}
 use Rattle.kdcs_types.specs.declared.service.Job.{Job}
 use Rattle.kdcs_types.specs.Keys.{key_cmp, key_eq}
 use Rattle.kdcs_types.specs.Keyed.{keyed, ascends, item_at, with_item, without_item}
-use Rattle.kdcs_types.specs.KeyedLaws.{items_back}
+use Rattle.kdcs_types.specs.KeyedLaws.{items_back, item_at_with, item_at_without, ascends_with, ascends_without, same_items, found_key}
 use Rattle.kdcs_types.specs.Tables.{job_key}
 use Rattle.laws_of_tables.specs.ListsLaws.{sum_filter}
 
@@ -114,6 +114,34 @@ module _ {E : Type 0} (key_of : E → Key) where
       by true h = omega (arith, h, sum_by-cons f x (without_item key_of k xs), sum_by-cons f x xs)
       by false h = omega (arith, h, sum_by-cons f x xs)
 
+  -- an item in place of another of its key
+  with_and_without : (e : E) (es : List E) → IsTrue (ascends key_of es) → with_item key_of e es ≡ with_item key_of e (without_item key_of (key_of e) es)
+  with_and_without e es up =
+      same_items key_of _ _ (ascends_with key_of e es up) (ascends_with key_of e _ (ascends_without key_of (key_of e) es up)) (λ q.
+      item_at_with key_of q e es
+      ∙ one (key_eq q (key_of e)) (item_at key_of q es)
+      ∙ ap (λ (o : Option E). cond (key_eq q (key_of e)) (Some e) o) (sym (item_at_without key_of q (key_of e) es))
+      ∙ sym (item_at_with key_of q e (without_item key_of (key_of e) es)))
+    where
+      one : (b : Bool) (o : Option E) → cond b (Some e) o ≡ cond b (Some e) (cond b None o)
+      one true o = refl
+      one false o = refl
+
+  pub sum_changed : (f : E → ℕ) (e x : E) (es : List E) → IsTrue (ascends key_of es) → IsTrue (key_eq (key_of e) (key_of x)) → IsIn x es → f e ≡ f x → sum_by f (with_item key_of e es) ≤ sum_by f es
+  sum_changed f e x es up is there same =
+      let more : sum_by f (with_item key_of e es) ≤ f e + sum_by f (without_item key_of (key_of e) es) =
+      subst (λ (l : List E). sum_by f l ≤ f e + sum_by f (without_item key_of (key_of e) es)) (sym (with_and_without e es up)) (sum_with f e (without_item key_of (key_of e) es)) in
+      omega (arith, more, sum_without f (key_of e) x es is there, same)
+
+  -- what is found is in the list
+  pub found_in : (k : Key) (es : List E) (x : E) → item_at key_of k es ≡ Some x → IsIn x es
+  found_in k [] x e = absurd cc
+  found_in k (y ∷ ys) x e = by (key_eq k (key_of y)) e (found_in k ys x)
+    where
+      by : (b : Bool) → cond b (Some y) (item_at key_of k ys) ≡ Some x → (item_at key_of k ys ≡ Some x → IsIn x ys) → IsIn x (y ∷ ys)
+      by true is rest = inl (some_is y x is)
+      by false is rest = inr (rest is)
+
 -- ---- jobs by their numbers
 
 pub job_less : (a b : ℕ) → a < b → IsTrue (is_lt (key_cmp (JobKey a) (JobKey b)))
@@ -147,3 +175,12 @@ pub contains : {E : Type 0} (e : E) (xs : List E) → IsIn e xs → Contains xs 
 contains e [] i = absurd i
 contains e (x ∷ xs) (inl same) = (zero, omega arith, same)
 contains e (x ∷ xs) (inr later) = contains_later x e xs (contains e xs later)
+
+-- ---- jobs
+
+-- a job is under its number
+pub job_number : (number : ℕ) (jobs : List Job) (j : Job) → item_at job_key (JobKey number) jobs ≡ Some j → j.number ≡ number
+job_number number jobs j found = by j.number (found_key job_key (JobKey number) jobs j found)
+  where
+    by : (n : ℕ) → JobKey n ≡ JobKey number → n ≡ number
+    by n e = cc

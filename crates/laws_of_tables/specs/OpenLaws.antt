@@ -38,21 +38,21 @@ bytes_if_there (Some bytes) = bytes ∷ []
 -- the bytes that a call has as operands
 abbrev pub operands_of : Call → List Bytes
 operands_of Init = []
-operands_of (Mget room) = []
+operands_of (Mget capacity) = []
 operands_of (Mput bytes) = bytes ∷ []
-operands_of (Fget room) = []
+operands_of (Fget capacity) = []
 operands_of (Fput to message) = to ∷ message ∷ []
 operands_of (Dput to mode d h m s message) = to ∷ d ∷ h ∷ m ∷ s ∷ message ∷ []
-operands_of (SgetGb name room) = name ∷ []
+operands_of (SgetGb name capacity) = name ∷ []
 operands_of (SputGb name bytes) = name ∷ bytes ∷ []
 operands_of (SrelGb name) = name ∷ []
-operands_of (SgetKp name room) = name ∷ []
-operands_of (SgetRl name room) = name ∷ []
+operands_of (SgetKp name capacity) = name ∷ []
+operands_of (SgetRl name capacity) = name ∷ []
 operands_of (SputMs name bytes) = name ∷ bytes ∷ []
 operands_of (SrelLb name) = name ∷ []
-operands_of (SgetUs name room) = name ∷ []
+operands_of (SgetUs name capacity) = name ∷ []
 operands_of (SputUs name bytes) = name ∷ bytes ∷ []
-operands_of (Gtda name room) = name ∷ []
+operands_of (Gtda name capacity) = name ∷ []
 operands_of (Ptda name bytes) = name ∷ bytes ∷ []
 operands_of (UnlkGb name) = name ∷ []
 operands_of (UnlkUs name) = name ∷ []
@@ -65,13 +65,13 @@ has_short_operands call = list_all fits_content (operands_of call)
 
 -- a call that reads into a field
 abbrev pub reads : Call → Bool
-reads (Mget room) = true
-reads (Fget room) = true
-reads (SgetGb name room) = true
-reads (SgetKp name room) = true
-reads (SgetRl name room) = true
-reads (SgetUs name room) = true
-reads (Gtda name room) = true
+reads (Mget capacity) = true
+reads (Fget capacity) = true
+reads (SgetGb name capacity) = true
+reads (SgetKp name capacity) = true
+reads (SgetRl name capacity) = true
+reads (SgetUs name capacity) = true
+reads (Gtda name capacity) = true
 reads _ = false
 
 -- an open transaction in its unit

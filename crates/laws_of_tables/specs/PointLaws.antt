@@ -45,7 +45,7 @@ pub record EndSound (g : Generated) (before after : TableRows) : Type 0 where
   pub charge : TakesNoMore g before after
 
 abbrev pub EndsStaySound : Type 0
-EndsStaySound = (g : Generated) (t : TableRows) (id : ServiceId) (x : OpenTransaction) → AreSound g t → EndSound g t (broken t id x)
+EndsStaySound = (g : Generated) (t : TableRows) (id : ServiceId) (x : OpenTransaction) → AreSound g t → EndSound g t (broken g t id x)
 
 -- without the row of a user who signs off
 abbrev pub SignOffsStaySound : Type 0

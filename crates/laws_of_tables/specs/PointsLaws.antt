@@ -21,6 +21,7 @@ use Rattle.kdcs_types.specs.Keys.{key_eq}
 use Rattle.kdcs_types.specs.Keyed.{ascends, item_at, with_item, without_item}
 use Rattle.kdcs_types.specs.KeyLaws.{key_eq_same, key_eq_itself, id_eq_itself}
 use Rattle.kdcs_types.specs.KeyedLaws.{item_at_with, ascends_with, ascends_without, all_with, all_without, found_key, found_passes}
+use Rattle.kdcs_types.specs.RowLaws.{own_id}
 use Rattle.kd_base.specs.Limits.{last_clock, last_next_job}
 use Rattle.kdcs_types.specs.Tables.{TableRows, gssb_key, tls_key, uls_key, service_key, job_key, is_filled, service_fits, lterm_fits, service_of, with_change, change_fits}
 use Rattle.kdcdef_types.specs.Generation.{Generated}
@@ -117,13 +118,10 @@ rooted_own g t (Dialogue user) began r e job = record { rows = r; below = refl; 
     all_true (j ∷ js) = true_both (not_own (Dialogue user) j) (list_all (not_own (Dialogue user)) js) refl (all_true js)
 rooted_own g t (Asynchronous number) (Some row) r e job = record {
   rows = r;
-  below = subst (λ (i : ServiceId). IsTrue (number_is_below t.next_job i)) (own_id row (found_key service_key (ServiceKey (Asynchronous number)) t.services row e)) (found_passes service_key (λ (s : Service). number_is_below t.next_job s.id) (ServiceKey (Asynchronous number)) t.services row r.numbers.1 e);
+  below = subst (λ (i : ServiceId). IsTrue (number_is_below t.next_job i)) (own_id t (Asynchronous number) row e) (found_passes service_key (λ (s : Service). number_is_below t.next_job s.id) (ServiceKey (Asynchronous number)) t.services row r.numbers.1 e);
   left = all_imply (has_no_service t.services) (not_own (Asynchronous number)) apart t.jobs r.numbers.2;
 }
   where
-    own_id : (s : Service) → ServiceKey s.id ≡ ServiceKey (Asynchronous number) → s.id ≡ Asynchronous number
-    own_id s same = cc
-
     apart : (j : Job) → IsTrue (not (is_some (service_of t (Asynchronous j.number)))) → IsTrue (not_own (Asynchronous number) j)
     apart j none = by (key_eq (ServiceKey (Asynchronous j.number)) (ServiceKey (Asynchronous number))) refl
       where
@@ -173,11 +171,11 @@ due_le (After ticks) clock h fits = omega (arith, h, leb-true ticks last_moment 
 due_le (At ticks) clock h fits = omega (arith, h, leb-true ticks last_moment fits)
 
 draft_job : (g : Generated) (d : Draft) (number clock : ℕ) (user lterm : Bytes) → clock ≤ last_clock → IsTrue (is_user g user) → IsTrue (is_lterm g lterm) → IsTrue (draft_fits g d)
-    → IsTrue (job_suits g (record { number = number; value = record { to = d.to; due = due_at d.due clock; user = user; lterm = lterm; message = d.message } }))
+    → IsTrue (job_suits g (record { number = number; value = record { to = d.to; due = due_at d.due clock; redelivered = 0; user = user; lterm = lterm; message = d.message } }))
 draft_job g d number clock user lterm h u l fits =
     let a = both_true (target_suits g d.to (job_target g (target_name d.to)) && fits_message g d.message) (due_fits d.due) fits in
     let b = both_true (target_suits g d.to (job_target g (target_name d.to))) (fits_message g d.message) a.0 in
-    job_whole g (record { number = number; value = record { to = d.to; due = due_at d.due clock; user = user; lterm = lterm; message = d.message } })
+    job_whole g (record { number = number; value = record { to = d.to; due = due_at d.due clock; redelivered = 0; user = user; lterm = lterm; message = d.message } })
     (record { due = le-leb (due_at d.due clock) last_due (due_le d.due clock h a.1); user = u; lterm = l; message = b.1; target = b.0 })
 
 numbered_new : (g : Generated) (clock : ℕ) (user lterm : Bytes) → clock ≤ last_clock → IsTrue (is_user g user) → IsTrue (is_lterm g lterm) → (ds : List Draft) (next : ℕ) → IsTrue (list_all (draft_fits g) ds)
@@ -188,7 +186,7 @@ numbered_new g clock user lterm h u l (d ∷ ds) next fits =
     let parts = both_true (draft_fits g d) (list_all (draft_fits g) ds) fits in
     let rest = numbered_new g clock user lterm h u l ds (next + 1) parts.1 in
     let js = numbered (next + 1) clock user lterm ds in
-    let job : Job = record { number = next; value = record { to = d.to; due = due_at d.due clock; user = user; lterm = lterm; message = d.message } } in
+    let job : Job = record { number = next; value = record { to = d.to; due = due_at d.due clock; redelivered = 0; user = user; lterm = lterm; message = d.message } } in
     record {
       suit = true_both (job_suits g job) (list_all (job_suits g) js) (draft_job g d next clock user lterm h u l parts.0) rest.suit;
       low = true_both (nat_le next next) (list_all (λ (j : Job). nat_le next j.number) js) (le-leb next next (omega arith))
@@ -385,10 +383,7 @@ row_after_suits g id x _ can began fits = tt
 
 began_suits : (g : Generated) (t : TableRows) (id : ServiceId) (began : Option Service) → GoodRows g t → service_of t id ≡ began → BeganSuits g id began
 began_suits g t id None r e = tt
-began_suits g t id (Some row) r e = (row_parts g row (found_passes service_key (service_suits g) (ServiceKey id) t.services row r.services.2 e), own row (found_key service_key (ServiceKey id) t.services row e))
-  where
-    own : (s : Service) → ServiceKey s.id ≡ ServiceKey id → s.id ≡ id
-    own s same = cc
+began_suits g t id (Some row) r e = (row_parts g row (found_passes service_key (service_suits g) (ServiceKey id) t.services row r.services.2 e), own_id t id row e)
 
 point_good : (g : Generated) (t : TableRows) (id : ServiceId) (x : OpenTransaction) (o : Outcome) → GoodRows g t → CanGoOn g id x → IsRooted t id x → OutcomeFits g (is_asynchronous id) o → GoodRows g (synchronised g t id x o)
 unfolding synchronised
@@ -417,7 +412,7 @@ pub points_stay_sound : PointsStaySound
 points_stay_sound g t id x o stands fits h =
     sound g (synchronised g t id x o) (point_good g t id x o (good g t stands.sound) stands.can stands.rooted fits) (not_refused g (durable g (synchronised g t id x o)) h)
 
--- the row behind a point suits
+-- the row after a point suits
 pub next_row : (g : Generated) (t : TableRows) (id : ServiceId) (x : OpenTransaction) (o : Outcome) → Stands g t id x → OutcomeFits g (is_asynchronous id) o → (row : Service) → row_after g id x o ≡ Some row → IsTrue (service_suits g row) × (row.id ≡ id)
 next_row g t id x o stands fits row e =
     let row_fits : RowFits g id row =

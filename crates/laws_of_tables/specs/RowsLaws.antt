@@ -11,7 +11,8 @@ use Rattle.kdcs_types.specs.declared.key.ServiceId.TheVariants.{Dialogue, Asynch
 use Rattle.kdcs_types.specs.declared.service.Job.{Job}
 use Rattle.kdcs_types.specs.declared.service.JobValue.{JobValue}
 use Rattle.kdcs_types.specs.declared.service.Service.{Service}
-use Rattle.kdcs_types.specs.Keyed.{ascends, item_at}
+use Rattle.kdcs_types.specs.Keyed.{ascends, item_at, with_item}
+use Rattle.kdcs_types.specs.KeyedLaws.{ascends_with, all_with}
 use Rattle.kd_base.specs.Limits.{last_clock, last_next_job}
 use Rattle.kdcs_types.specs.Tables.{TableRows, IsSortedTables, gssb_key, tls_key, uls_key, service_key, job_key, shown_key, is_filled, service_fits}
 use Rattle.kdcdef_types.specs.Generation.{Generated}
@@ -96,6 +97,13 @@ module _ (g : Generated) (t : TableRows) (r : GoodRows g t) where
   some_jobs q =
       let jobs : JobRows g (filter q t.jobs) = (ascends_filter job_key q t.jobs r.jobs.0, all_filter (job_suits g) q t.jobs r.jobs.1) in
       let numbers : NumbersFit t.next_job (filter q t.jobs) t.services = (all_filter (λ (j : Job). nat_lt j.number t.next_job) q t.jobs r.numbers.0, r.numbers.1, all_filter (has_no_service t.services) q t.jobs r.numbers.2) in
+      record { clock = r.clock; next_job = r.next_job; gssbs = r.gssbs; tlss = r.tlss; ulss = r.ulss; services = r.services; jobs = jobs; shown = r.shown; numbers = numbers }
+
+  pub with_job : (job : Job) → IsTrue (job_suits g job) → IsTrue (nat_lt job.number t.next_job) → IsTrue (has_no_service t.services job) → GoodRows g (record t { jobs = with_item job_key job t.jobs })
+  with_job job suits below apart =
+      let jobs : JobRows g (with_item job_key job t.jobs) = (ascends_with job_key job t.jobs r.jobs.0, all_with job_key (job_suits g) job t.jobs suits r.jobs.1) in
+      let numbers : NumbersFit t.next_job (with_item job_key job t.jobs) t.services =
+      (all_with job_key (λ (j : Job). nat_lt j.number t.next_job) job t.jobs below r.numbers.0, r.numbers.1, all_with job_key (has_no_service t.services) job t.jobs apart r.numbers.2) in
       record { clock = r.clock; next_job = r.next_job; gssbs = r.gssbs; tlss = r.tlss; ulss = r.ulss; services = r.services; jobs = jobs; shown = r.shown; numbers = numbers }
 
   pub some_services : (q : Service → Bool) → GoodRows g (record t { services = filter q t.services })

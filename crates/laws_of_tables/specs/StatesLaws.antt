@@ -25,12 +25,14 @@ use Rattle.kdcdef_types.specs.Generation.{Generated, pterm_of, has_tls, has_uls}
 use Rattle.abstract_monitor.specs.Bytes.{Bytes, bytes_cmp}
 use Rattle.abstract_monitor.specs.State.{Application, OpenTransaction, Session, State}
 use Rattle.abstract_monitor.specs.Locks.{Active, Locks, told_now}
-use Rattle.abstract_monitor.specs.Commands.{lterm_by, lterm_at}
+use Rattle.abstract_monitor.specs.Commands.{lterm_at}
+use Rattle.abstract_monitor.specs.Sessions.{lterm_by}
 use Rattle.laws_of_steps.specs.Applications.{IsApplication}
 use Rattle.abstract_monitor.specs.CommandsOf.{is_pterm}
 use Rattle.laws_of_steps.specs.Suits.{gssb_suits, tls_suits, uls_suits, is_user, is_lterm, fits_content, service_suits, job_suits}
 use Rattle.laws_of_steps.specs.Transactions.{fits_if_there, CanGoOn}
 use Rattle.laws_of_steps.specs.Facts.{IsSessionOf, IsSoundState}
+use Rattle.laws_of_tables.specs.ItemsLaws.{job_number}
 use Rattle.laws_of_tables.specs.OpenLaws.{ToldFits}
 use Rattle.laws_of_tables.specs.PointLaws.{AreSound}
 use Rattle.laws_of_tables.specs.RowsLaws.{good}
@@ -135,15 +137,12 @@ pub record FoundJob (g : Generated) (number : ℕ) (value : JobValue) : Type 0 w
 pub job_found : (g : Generated) (t : TableRows) (number : ℕ) (value : JobValue) → AreSound g t → job_of t number ≡ Some value → FoundJob g number value
 job_found g t number value s e = by (item_at job_key (JobKey number) t.jobs) refl e
   where
-    same : (n : ℕ) → JobKey n ≡ JobKey number → n ≡ number
-    same n f = cc
-
     by : (o : Option Job) → item_at job_key (JobKey number) t.jobs ≡ o → option_map (λ (j : Job). j.value) o ≡ Some value → FoundJob g number value
     by None is f = absurd cc
     by (Some j) is f = record {
       job = j;
       suits = found_passes job_key (job_suits g) (JobKey number) t.jobs j (good g t s).jobs.1 is;
-      number_is = same j.number (found_key job_key (JobKey number) t.jobs j is);
+      number_is = job_number number t.jobs j is;
       value_is = some_is j.value value f;
     }
 

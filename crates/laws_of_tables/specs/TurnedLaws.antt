@@ -28,7 +28,7 @@ use Rattle.abstract_monitor.specs.Endings.{is_asynchronous, opened_by_row, opene
 use Rattle.abstract_monitor.specs.Statements.{area_of}
 use Rattle.abstract_monitor.specs.Locks.{locks_of}
 use Rattle.abstract_monitor.specs.Picks.{pick}
-use Rattle.abstract_monitor.specs.Turns.{without_wait, with_task, queued, without_work, pterm_of_user, noted_last, last_told, abnormal, message_sent, goes_on, after_point, settled_by, settled, last_again, back_by, back, waiting_for, happens, told_here, statement_now, worked, took_job_for, took_job, took, turn_by, turn_of}
+use Rattle.abstract_monitor.specs.Turns.{without_wait, with_task, queued, without_transaction, pterm_of_user, noted_last, last_told, abnormal, message_sent, goes_on, after_point, settled_by, settled, last_again, back_by, back, waiting_for, happens, told_here, statement_now, served, took_job_for, took_job, took, turn_by, turn_of}
 use Rattle.laws_of_steps.specs.Applications.{IsApplication}
 use Rattle.laws_of_steps.specs.Transactions.{IsRooted, CanGoOn}
 use Rattle.laws_of_steps.specs.Facts.{IsConsistent}
@@ -66,7 +66,7 @@ again_parts app s (Asynchronous number) (Some message) p = p
 
 module _ (app : Application) (application : IsApplication app) (s : State) (p : Parts app s) (task : ℕ) (id : ServiceId) (x : OpenTransaction) (can : CanGoOn app.generation id x) (rooted : IsRooted s.tables id x) where
   -- without the transaction, over other tables
-  ended_parts : (t : TableRows) → AreSound app.generation t → Parts app (record (without_work s task id) { tables = t })
+  ended_parts : (t : TableRows) → AreSound app.generation t → Parts app (record (without_transaction s task id) { tables = t })
   ended_parts t sound = record { tables = sound; sessions = p.sessions; opens = opens_without app s.active id p.opens }
 
   queued_parts : (u : State) → Parts app u → (row : Service) → CanGoOn app.generation id (opened_by_row app.generation id row x.lterm) → Parts app (queued u id (opened_by_row app.generation id row x.lterm))
@@ -74,7 +74,7 @@ module _ (app : Application) (application : IsApplication app) (s : State) (p : 
 
   abnormal_parts : (e : Ending) → Parts app (abnormal app s task id x e).after
   unfolding abnormal
-  abnormal_parts e = ended_parts (broken s.tables id x) (ends_stay_sound app.generation s.tables id x p.tables).sound
+  abnormal_parts e = ended_parts (broken app.generation s.tables id x) (ends_stay_sound app.generation s.tables id x p.tables).sound
 
   goes_on_parts : (o : Outcome) → OutcomeFits app.generation (is_asynchronous id) o → (u : State) → Parts app u → (row : Option Service) → row_after app.generation id x o ≡ row → Parts app (goes_on app u id x row)
   goes_on_parts o fits u q None e = q
@@ -99,18 +99,18 @@ module _ (app : Application) (application : IsApplication app) (s : State) (p : 
       by : (c : Option Cause) → refusal app.generation (durable app.generation new) ≡ c → Parts app (settled_by app s task id x o new c).after
       by (Some cause) e = abnormal_parts (Broken cause)
       by None e =
-          point_parts o fits (record (without_work s task id) { tables = new })
+          point_parts o fits (record (without_transaction s task id) { tables = new })
           (ended_parts new (points_stay_sound app.generation s.tables id x o (record { sound = p.tables; can = can; rooted = rooted }) fits e)) _ _
 
-  back_parts : (began : Option Service) → service_of s.tables id ≡ began → Parts app (back app (without_work s task id) id x began).after
+  back_parts : (began : Option Service) → service_of s.tables id ≡ began → Parts app (back app (without_transaction s task id) id x began).after
   back_parts None e = ended_parts s.tables p.tables
   back_parts (Some row) e = by row.awaits
     where
-      by : (b : Bool) → Parts app (back_by app (without_work s task id) id x row b).after
-      by true = again_parts app (without_work s task id) id row.last (ended_parts s.tables p.tables)
+      by : (b : Bool) → Parts app (back_by app (without_transaction s task id) id x row b).after
+      by true = again_parts app (without_transaction s task id) id row.last (ended_parts s.tables p.tables)
       by false =
           let found = row_found app.generation s.tables id row p.tables e in
-          queued_parts (without_work s task id) (ended_parts s.tables p.tables) row (rows_can app.generation id row x.lterm found.suits found.own can.lterm)
+          queued_parts (without_transaction s task id) (ended_parts s.tables p.tables) row (rows_can app.generation id row x.lterm found.suits found.own can.lterm)
 
   waiting_parts : (o : Option Area) → Parts app (waiting_for s id o)
   waiting_parts None = p
@@ -128,9 +128,9 @@ module _ (app : Application) (application : IsApplication app) (s : State) (p : 
 
 -- ---- a turn
 
-worked_parts : (app : Application) (s : State) (task : ℕ) (id : ServiceId) → IsApplication app → IsConsistent app s → Parts app s → (o : Option OpenTransaction) → find id_cmp id s.active ≡ o → Parts app (worked app s task id o).after
-worked_parts app s task id application facts p None e = p
-worked_parts app s task id application facts p (Some x) e =
+served_parts : (app : Application) (s : State) (task : ℕ) (id : ServiceId) → IsApplication app → IsConsistent app s → Parts app s → (o : Option OpenTransaction) → find id_cmp id s.active ≡ o → Parts app (served app s task id o).after
+served_parts app s task id application facts p None e = p
+served_parts app s task id application facts p (Some x) e =
     let can = p.opens id x e in
     let told = told_fits app.generation s.tables (locks_of s) app.generation.limits.reswait id (area_of app x) p.tables in
     let kept = statements_keep app id x (told_here app s id x) application can told in
@@ -164,4 +164,4 @@ turn_parts app s task application facts p = by (slice_get s.tasks (task - 1))
     by : (o : Option (Option ServiceId)) → Parts app (turn_by app s task o).after
     by None = p
     by (Some None) = took_parts app s task p (pick app s)
-    by (Some (Some id)) = worked_parts app s task id application facts p (find id_cmp id s.active) refl
+    by (Some (Some id)) = served_parts app s task id application facts p (find id_cmp id s.active) refl

@@ -7,15 +7,17 @@ use Rattle.kdcdef_types.specs.declared.entry.TacEntry.{TacEntry}
 use Rattle.kdcdef_types.specs.declared.entry.UserEntry.{UserEntry}
 use Rattle.kdcdef_types.specs.Generation.{Generated, tac_of, user_of}
 use Rattle.kd_base.specs.Text.{name_of, is_name_byte}
+use Rattle.abstract_monitor.specs.declared.access.Denial.{Denial}
 use Rattle.abstract_monitor.specs.declared.input_use.TacFault.TheVariants.{NotAllowed, IsOff}
 use Rattle.abstract_monitor.specs.declared.input_use.ServiceState.{ServiceState}
 use Rattle.abstract_monitor.specs.declared.input_use.ServiceState.TheVariants.{NoService, Awaits, Running}
 use Rattle.abstract_monitor.specs.declared.input_use.Use.{Use}
 use Rattle.abstract_monitor.specs.declared.input_use.Use.TheVariants.{Sign, SignFirst, AlreadySigned, Display, Output, Again, TooLong, Next, Start, TacRefused}
 use Rattle.abstract_monitor.specs.Bytes.{Bytes}
+use Rattle.abstract_monitor.specs.Access.{Rule}
 use Rattle.abstract_monitor.specs.State.{Session}
 use Rattle.abstract_monitor.specs.Outcomes.{goes_first}
-use Rattle.abstract_monitor.specs.Sessions.{Split, first_word, after_word, split_at, same_password, has_user, sign_by, sign_user, sign_name, sign_on_use, use_unsigned, start_by, tac_named, use_of_text, off_use, use_signed, use_by}
+use Rattle.abstract_monitor.specs.Sessions.{Split, first_word, after_word, split_at, same_password, has_user, sign_by, sign_user, sign_name, sign_on_use, use_unsigned, admitted, start_by, tac_named, use_of_text, off_use, use_signed, use_by}
 use Rattle.abstract_monitor.specs.Commands.{user_by}
 use Rattle.laws_of_steps.specs.Suits.{is_user, has_kind, has_kind_by, fits_message}
 
@@ -78,35 +80,40 @@ module _ (g : Generated) (user : Bytes) (state : ServiceState) where
       by true h = h
       by false h = absurd cc
 
-  start_fits : (tac text : Bytes) (o : Option TacEntry) → tac_named g tac ≡ o → IsTrue (is_user g user) → Fits (start_by g tac text o)
-  start_fits tac text None e is = tt
-  start_fits tac text (Some t) e is = by t.asynchronous refl (not (goes_first t.call))
+  admitted_fits : (tac text : Bytes) (o : Option Denial) → (IsTrue (fits_message g text) → Fits (Start tac text)) → Fits (admitted g tac text o)
+  admitted_fits tac text (Some denial) h = tt
+  admitted_fits tac text None h = short_or_too_long text (Start tac text) h
+
+  start_fits : (denies : Bytes → Option Denial) (tac text : Bytes) (o : Option TacEntry) → tac_named g tac ≡ o → IsTrue (is_user g user) → Fits (start_by g denies tac text o)
+  start_fits denies tac text None e is = tt
+  start_fits denies tac text (Some t) e is = by t.asynchronous refl (not (goes_first t.call))
     where
-      by : (a : Bool) → t.asynchronous ≡ a → (b : Bool) → Fits (if a || b then TacRefused NotAllowed else if not t.on then TacRefused IsOff else if nat_lt g.limits.nb (length text) then TooLong else Start tac text)
+      by : (a : Bool) → t.asynchronous ≡ a → (b : Bool) → Fits (if a || b then TacRefused NotAllowed else if not t.on then TacRefused IsOff else admitted g tac text (denies tac))
       by true d b = tt
       by false d true = tt
       by false d false =
-          either (not t.on) (TacRefused IsOff) (if nat_lt g.limits.nb (length text) then TooLong else Start tac text) tt
-          (short_or_too_long text (Start tac text) (λ fits. record { is = is; kind = ap (λ (o : Option TacEntry). has_kind_by o false) (named_tac tac t e) ∙ ap not d; fits = fits }))
+          either (not t.on) (TacRefused IsOff) (admitted g tac text (denies tac)) tt
+          (admitted_fits tac text (denies tac) (λ fits. record { is = is; kind = ap (λ (o : Option TacEntry). has_kind_by o false) (named_tac tac t e) ∙ ap not d; fits = fits }))
 
-  text_fits : (text : Bytes) (r : Split) (s : ServiceState) → state ≡ s → IsTrue (is_user g user) → Fits (use_of_text g text r s)
-  text_fits text r Running e is = tt
-  text_fits text r Awaits e is = short_or_too_long text (Next text) (λ fits. record { is = is; awaits = e; fits = fits })
-  text_fits text r NoService e is = start_fits r.word (after_word r) (tac_named g r.word) refl is
+  text_fits : (denies : Bytes → Option Denial) (text : Bytes) (r : Split) (s : ServiceState) → state ≡ s → IsTrue (is_user g user) → Fits (use_of_text g denies text r s)
+  text_fits denies text r Running e is = tt
+  text_fits denies text r Awaits e is = short_or_too_long text (Next text) (λ fits. record { is = is; awaits = e; fits = fits })
+  text_fits denies text r NoService e is = start_fits denies r.word (after_word r) (tac_named g r.word) refl is
 
   off_fits : (s : ServiceState) → Fits (off_use s)
   off_fits Running = tt
   off_fits Awaits = tt
   off_fits NoService = tt
 
-  signed_fits : (text : Bytes) (r : Split) → IsTrue (is_user g user) → Fits (use_signed g text r state)
-  signed_fits text r is =
+  signed_fits : (denies : Bytes → Option Denial) (text : Bytes) (r : Split) → IsTrue (is_user g user) → Fits (use_signed g denies text r state)
+  signed_fits denies text r is =
       either (bytes_eq r.word (codes "KDCSIGN")) AlreadySigned _ tt
       (either (bytes_eq r.word (codes "KDCDISP")) Display _ tt
       (either (bytes_eq r.word (codes "KDCOUT")) Output _ tt
       (either (bytes_eq r.word (codes "KDCLAST")) Again _ tt
-      (either (bytes_eq r.word (codes "KDCOFF")) (off_use state) (use_of_text g text r state) (off_fits state) (text_fits text r state refl is)))))
+      (either (bytes_eq r.word (codes "KDCOFF")) (off_use state) (use_of_text g denies text r state) (off_fits state) (text_fits denies text r state refl is)))))
 
-pub use_fits : (g : Generated) (signed : List (Bytes × Session)) (state : Bytes → ServiceState) (text : Bytes) (o : Option Session) → IfSome o (λ (v : Session). IsTrue (is_user g v.user)) → UseFits g (user_by o) (state (user_by o)) (use_by g signed (state (user_by o)) text o)
-use_fits g signed state text None h = unsigned_fits g [] (state []) signed (first_word text)
-use_fits g signed state text (Some v) h = signed_fits g v.user (state v.user) text (first_word text) h
+pub use_fits : (g : Generated) (rule : Rule) (signed : List (Bytes × Session)) (state : Bytes → ServiceState) (lterm text : Bytes) (o : Option Session) → IfSome o (λ (v : Session). IsTrue (is_user g v.user))
+    → UseFits g (user_by o) (state (user_by o)) (use_by g rule signed (state (user_by o)) lterm text o)
+use_fits g rule signed state lterm text None h = unsigned_fits g [] (state []) signed (first_word text)
+use_fits g rule signed state lterm text (Some v) h = signed_fits g v.user (state v.user) (rule v.user lterm) text (first_word text) h

@@ -18,7 +18,7 @@ use Rattle.core_state.specs.declared.parts.MonitorParts.{MonitorParts}
 use Rattle.core_state.specs.Standing.{Each, IsIndexed, PlaceHasClass, SameApplication, state_of}
 use Rattle.core_state.specs.Whole.{app_of}
 use Rattle.core_state.specs.WholeLaws.{same_app}
-use Rattle.monitor_core.specs.Starting.{AreFresh, all_opened, at_rest, opened_then}
+use Rattle.monitor_core.specs.Starting.{AreFresh, all_opened, idle, opened_then}
 use Rattle.monitor_core.specs.StartingLaws.{fresh_of, fresh_then, started_so}
 
 module _ (p q r : MonitorParts) (row : Service) (all rest : List Service) (same : SameApplication p q) (steps : all ≡ row ∷ rest) (state : state_of r ≡ opened_then (app_of q) (state_of q) row) where
@@ -47,10 +47,10 @@ all_free_jobs : (jobs : List Job) → list_all (is_free []) jobs ≡ true
 all_free_jobs [] = refl
 all_free_jobs (job ∷ jobs) = all_free_jobs jobs
 
-pub rest_state : (p : MonitorParts) → p.scheduler ≡ all_free p.generation.limits.tasks → p.sessions ≡ [] → p.active ≡ [] → p.locks ≡ no_locks → state_of p ≡ at_rest p.generation p.tables
+pub rest_state : (p : MonitorParts) → p.scheduler ≡ all_free p.generation.limits.tasks → p.sessions ≡ [] → p.active ≡ [] → p.locks ≡ no_locks → state_of p ≡ idle p.generation p.tables
 rest_state p scheduler sessions active locks =
     (λ i. state_of (record p { scheduler = scheduler i; sessions = sessions i; active = active i; locks = locks i }))
-    ∙ ap (λ (l : List (Option ServiceId)). record (at_rest p.generation p.tables) { tasks = l }) (free_places p.generation.limits.tasks)
+    ∙ ap (λ (l : List (Option ServiceId)). record (idle p.generation p.tables) { tasks = l }) (free_places p.generation.limits.tasks)
 
 resting : (p : MonitorParts) → IsIndexed (record p { scheduler = all_free p.generation.limits.tasks; sessions = []; active = []; locks = no_locks; jobs = map untaken p.tables.jobs })
 resting p = record { owned = tt; ready = tt; places = no_classes p.generation p.generation.limits.tasks; locks = λ id area. refl; jobs = untaken_of [] p.tables.jobs (all_free_jobs p.tables.jobs) }
@@ -61,15 +61,15 @@ rest_indexed p scheduler sessions active locks jobs =
 
 -- ---- the whole start
 
-pub fresh_there : (p : MonitorParts) (g : Generated) (t : TableRows) (rows : List Service) → state_of p ≡ at_rest g t → rows ≡ asynchronous_rows t → IsSortedTables t → AreFresh (state_of p) rows
+pub fresh_there : (p : MonitorParts) (g : Generated) (t : TableRows) (rows : List Service) → state_of p ≡ idle g t → rows ≡ asynchronous_rows t → IsSortedTables t → AreFresh (state_of p) rows
 fresh_there p g t rows state e order =
-    subst (λ (s : State). AreFresh s rows) (sym state) (subst (AreFresh (at_rest g t)) (sym e) (fresh_of g t order))
+    subst (λ (s : State). AreFresh s rows) (sym state) (subst (AreFresh (idle g t)) (sym e) (fresh_of g t order))
 
-pub started_there : (p q : MonitorParts) (g : Generated) (t : TableRows) (rows : List Service) → SameApplication p q → p.generation ≡ g → state_of p ≡ at_rest g t → rows ≡ asynchronous_rows t → IsSortedTables t
+pub started_there : (p q : MonitorParts) (g : Generated) (t : TableRows) (rows : List Service) → SameApplication p q → p.generation ≡ g → state_of p ≡ idle g t → rows ≡ asynchronous_rows t → IsSortedTables t
     → state_of q ≡ all_opened (app_of p) (state_of p) rows → state_of q ≡ started (app_of q) t
 started_there p q g t rows same generation state e order opened =
     opened
-    ∙ ap (λ (s : State). all_opened (app_of p) s rows) (state ∙ ap (λ (h : Generated). at_rest h t) (sym generation))
-    ∙ ap (all_opened (app_of p) (at_rest p.generation t)) e
+    ∙ ap (λ (s : State). all_opened (app_of p) s rows) (state ∙ ap (λ (h : Generated). idle h t) (sym generation))
+    ∙ ap (all_opened (app_of p) (idle p.generation t)) e
     ∙ started_so (app_of p) t order
     ∙ ap (λ (app : Application). started app t) (sym (same_app p q same.generation same.units))

@@ -9,10 +9,11 @@ use Rattle.kdcs_types.specs.Keys.{id_cmp, id_eq}
 use Rattle.kdcs_types.specs.Tables.{service_of}
 use Rattle.abstract_monitor.specs.declared.input_use.ServiceState.{ServiceState}
 use Rattle.abstract_monitor.specs.Bytes.{Bytes, bytes_cmp}
-use Rattle.abstract_monitor.specs.Commands.{no_place, rolled_tables, signed_off, use_now, user_at, user_by, withdrawn, without_session}
+use Rattle.abstract_monitor.specs.Commands.{lterm_at, no_place, rolled_tables, signed_off, use_now, user_at, user_by, withdrawn, without_session}
 use Rattle.abstract_monitor.specs.Endings.{restarts, with_service}
 use Rattle.abstract_monitor.specs.Picks.{Classed}
-use Rattle.abstract_monitor.specs.Sessions.{awaits_by, in_place, is_awaiting, is_running, service_state, use_by, use_of}
+use Rattle.abstract_monitor.specs.Access.{denial_of}
+use Rattle.abstract_monitor.specs.Sessions.{awaits_by, in_place, is_awaiting, is_running, service_state, use_by, use_under, use_of}
 use Rattle.abstract_monitor.specs.State.{Application, Session, State}
 use Rattle.abstract_monitor.specs.Turns.{without_open}
 use Rattle.step_scheduler.specs.Schedule as schedule
@@ -109,10 +110,11 @@ meant_signed p pterm text user state e is =
 -- without a session no service is asked
 pub meant_unsigned : (p : MonitorParts) (pterm text : Bytes) (state : ServiceState) → None ≡ option_map user_in (find bytes_cmp pterm (state_of p).signed)
     → use_of p.generation (state_of p).signed state pterm text ≡ use_now (app_of p) (state_of p) pterm text
-unfolding use_now use_of
+unfolding use_now use_of use_under
 meant_unsigned p pterm text state e = by (find bytes_cmp pterm (state_of p).signed) e
   where
     by : (o : Option Session) → None ≡ option_map user_in o
-        → use_by p.generation (state_of p).signed state text o ≡ use_by p.generation (state_of p).signed (service_state (state_of p) (user_at (state_of p) pterm)) text o
+        → use_by p.generation (denial_of p.generation) (state_of p).signed state (lterm_at (app_of p) pterm) text o
+        ≡ use_by p.generation (denial_of p.generation) (state_of p).signed (service_state (state_of p) (user_at (state_of p) pterm)) (lterm_at (app_of p) pterm) text o
     by None h = refl
     by (Some v) h = absurd cc

@@ -17,7 +17,7 @@ use Rattle.kdcdef_types.specs.Generation.{Generated}
 use Rattle.sorted_pairs.specs.MappedLaws.{put_mapped}
 use Rattle.area_locks.specs.Asked.{is_holder, other_than}
 use Rattle.async_queue.specs.Marks.{queue_of}
-use Rattle.kdcs_calls.specs.Calling.{HoldersFollow, HoldsJust}
+use Rattle.kdcs_calls.specs.Calling.{HoldersMatch, HoldsJust}
 use Rattle.step_scheduler.specs.Schedule.{service_in}
 use Rattle.open_transaction.specs.Transactions.{Boxed, boxed_transaction}
 use Rattle.abstract_monitor.specs.declared.answer.Happened.{Happened}
@@ -39,7 +39,7 @@ use Rattle.laws_of_places.specs.EntriesLaws.{found_put, other_put}
 use Rattle.service_statement.specs.Stating.{waits_after}
 use Rattle.core_state.specs.declared.parts.MonitorParts.{MonitorParts}
 use Rattle.core_state.specs.ChangesLaws.{SameHolds, each_found, each_put, places_stay, put_others, ready_stay, neither}
-use Rattle.core_state.specs.KeptLaws.{found_open, found_owned, found_work, opened_state}
+use Rattle.core_state.specs.KeptLaws.{found_open, found_owned, found_transaction, opened_state}
 use Rattle.core_state.specs.Kept.{with_active}
 use Rattle.core_state.specs.QueueLaws.{kept_queue}
 use Rattle.core_state.specs.Standing.{Each, HasClass, IsIndexed, IsOwned, PlaceHasClass, active_of, id_of, state_of}
@@ -115,8 +115,8 @@ waits_none app s id c rests = by (find id_cmp id s.waits) refl
 
 -- ---- the locks stay as they are, where the transaction does
 
-same_holder : (l m : Locks) (id : ServiceId) (x : OpenTransaction) → HoldsJust l id x → HoldersFollow l m id x → (area : Area) → holder m area ≡ holder l area
-same_holder l m id x just follow area = follow area ∙ by (holder l area) (touches x area) (just area)
+same_holder : (l m : Locks) (id : ServiceId) (x : OpenTransaction) → HoldsJust l id x → HoldersMatch l m id x → (area : Area) → holder m area ≡ holder l area
+same_holder l m id x just matching area = matching area ∙ by (holder l area) (touches x area) (just area)
   where
     by : (o : Option ServiceId) (b : Bool) → is_holder o id ≡ b → (if b then Some id else other_than id o) ≡ o
     by None true e = absurd (true≢false (sym e))
@@ -127,7 +127,7 @@ same_holder l m id x just follow area = follow area ∙ by (holder l area) (touc
 -- and in a further unit run it holds what it held
 same_holds : (l m : Locks) (active : Active) (id : ServiceId) (x y : OpenTransaction) → find id_cmp id active ≡ Some x → y.touched ≡ x.touched → ((area : Area) → holder m area ≡ holder l area)
     → SameHolds l active → SameHolds m (put id_cmp id y active)
-same_holds l m active id x y is touched follow same i area = ap (λ (o : Option ServiceId). is_holder o i) (follow area) ∙ same i area ∙ by (id_eq i id) refl
+same_holds l m active id x y is touched matching same i area = ap (λ (o : Option ServiceId). is_holder o i) (matching area) ∙ same i area ∙ by (id_eq i id) refl
   where
     by : (b : Bool) → id_eq i id ≡ b → holds active i area ≡ holds (put id_cmp id y active) i area
     by true e =
@@ -142,7 +142,7 @@ further : (g : Generated) (x : OpenTransaction) (tac input : Bytes) → ((follow
 unfolding followed_by_input
 further g x tac input = (refl, refl)
 
--- ---- the transaction that stands at a PEND KP
+-- ---- the transaction that is at a PEND KP
 
 module _ (p : MonitorParts) (user : Bytes) (transaction : Boxed) (whole : IsWhole p) (there : Some transaction ≡ find id_cmp (Dialogue user) p.active) where
   abbrev its : ServiceId
@@ -155,7 +155,7 @@ module _ (p : MonitorParts) (user : Bytes) (transaction : Boxed) (whole : IsWhol
   own = found_owned p its (Some transaction) there whole.indexed
 
   open_at : find id_cmp its (state_of p).active ≡ Some x
-  open_at = sym (found_work p its (Some transaction) there)
+  open_at = sym (found_transaction p its (Some transaction) there)
 
   pub can_go_on : CanGoOn p.generation transaction.value.id x
   can_go_on = subst (λ (i : ServiceId). CanGoOn p.generation i x) (sym own.id) (whole.facts.1.transactions its x open_at)
@@ -237,8 +237,8 @@ module _ (p : MonitorParts) (user : Bytes) (transaction : Boxed) (whole : IsWhol
           e ∙ ap (λ (t : State). record t { ready = t.ready ++ its ∷ [] }) gone_state
           ∙ ap (λ (z : OpenTransaction). queued (state_of p) its (followed_by_input p.generation z (held_tac (app_of p) z) text)) (some_is x y (sym open_at ∙ is))
 
-      pub gone_indexed : IsAhead p → HoldersFollow p.locks locks transaction.value.id (boxed_transaction after) → next.value.id ≡ after.value.id → after.value.id ≡ transaction.value.id → next.value.messages.nb ≡ p.generation.limits.nb → IsIndexed gone_on
-      gone_indexed ahead follow own_next own_after nb =
+      pub gone_indexed : IsAhead p → HoldersMatch p.locks locks transaction.value.id (boxed_transaction after) → next.value.id ≡ after.value.id → after.value.id ≡ transaction.value.id → next.value.messages.nb ≡ p.generation.limits.nb → IsIndexed gone_on
+      gone_indexed ahead matching own_next own_after nb =
           let there_now = put_mapped id_cmp boxed_transaction its next p.active in
           let nowhere = neither (list_any (id_eq its) (map id_of p.scheduler.ready)) (list_any (in_place its) (map service_in p.scheduler.places)) rests in
           let others = put_others its (boxed_transaction next) (active_of p.active) in
@@ -247,14 +247,14 @@ module _ (p : MonitorParts) (user : Bytes) (transaction : Boxed) (whole : IsWhol
           let count : next.value.statements ≡ after.value.statements + 1 = ap (λ (y : OpenTransaction). y.statements) goes ∙ runs.1 in
           let same : after.value.statements ≡ transaction.value.statements = ap (λ (y : OpenTransaction). y.statements) unchanged in
           let same_touched : (boxed_transaction next).touched ≡ x.touched = ap (λ (y : OpenTransaction). y.touched) goes ∙ runs.0 ∙ ap (λ (y : OpenTransaction). y.touched) unchanged in
-          let followed : HoldersFollow p.locks locks its x =
-          subst (λ (i : ServiceId). HoldersFollow p.locks locks i x) own.id (subst (HoldersFollow p.locks locks transaction.value.id) unchanged follow) in
+          let matched : HoldersMatch p.locks locks its x =
+          subst (λ (i : ServiceId). HoldersMatch p.locks locks i x) own.id (subst (HoldersMatch p.locks locks transaction.value.id) unchanged matching) in
           let just : HoldsJust p.locks its x = subst (λ (i : ServiceId). HoldsJust p.locks i x) own.id holds_just in
           record {
             owned = each_put (IsOwned p.generation p.steps) its next p.active (record { id = own_next ∙ own_after ∙ own.id; nb = nb; counted = omega arith }) whole.indexed.owned;
             ready = subst (λ a. Each (HasClass p.generation a) p.scheduler.ready) there_now (ready_stay p.generation (active_of p.active) _ its others p.scheduler.ready nowhere.0 whole.indexed.ready);
             places = subst (λ a. Each (PlaceHasClass p.generation a) p.scheduler.places) there_now (places_stay p.generation (active_of p.active) _ its others p.scheduler.places nowhere.1 whole.indexed.places);
             locks = subst (SameHolds locks) there_now
-                (same_holds p.locks locks (active_of p.active) its x (boxed_transaction next) open_at same_touched (same_holder p.locks locks its x just followed) whole.indexed.locks);
+                (same_holds p.locks locks (active_of p.active) its x (boxed_transaction next) open_at same_touched (same_holder p.locks locks its x just matched) whole.indexed.locks);
             jobs = whole.indexed.jobs ∙ kept_queue its (boxed_transaction next) (active_of p.active) p.tables.jobs (ap is_some open_at) ∙ ap (λ a. queue_of a p.tables.jobs) there_now;
           }

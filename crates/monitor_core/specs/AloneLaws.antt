@@ -1,4 +1,4 @@
--- A service in a task stands nowhere else.
+-- A service in a task is nowhere else.
 use Rattle.std.specs.Prelude.{◌≡◌, ℕ, ◌-◌, false, slice_get, Some, None}
 use Rattle.std.proofs.Common.{arith}
 use Rattle.kdcs_types.specs.declared.key.ServiceId.{ServiceId}

@@ -49,7 +49,7 @@ IsFor s pterm _ = Unit {0}
 abbrev pub off_step : Application → State → (pterm : Bytes) → ScriptStep
 off_step app s pterm = says (signed_off app s pterm (user_at s pterm)) (sys_line pterm (codes "SIGNED OFF " ++ user_at s pterm))
 
--- the open transaction of a dialogue service stands at a PEND KP, and its follow-up reads the input
+-- the open transaction of a dialogue service is at a PEND KP, and its follow-up reads the input
 abbrev pub queued_with : Application → State → (user : Bytes) → OpenTransaction → (text : Bytes) → State
 queued_with app s user x text = queued s (Dialogue user) (followed_by_input app.generation x (held_tac app x) text)
 

@@ -47,18 +47,18 @@ same_told l m same reswait t id (Some area) = ap (λ (a : LockAnswer). record { 
 -- ---- after a statement
 
 -- the service holds what its transaction touches, and no other area changes hands
-abbrev pub FollowsAreas : (before after : Locks) → ServiceId → OpenTransaction → Type 0
-FollowsAreas l m id y = (area : Area) → holder m area ≡ (if touches y area then Some id else other_than id (holder l area))
+abbrev pub AreasMatch : (before after : Locks) → ServiceId → OpenTransaction → Type 0
+AreasMatch l m id y = (area : Area) → holder m area ≡ (if touches y area then Some id else other_than id (holder l area))
 
-pub stated_holds : (l m : Locks) (active : Active) (id : ServiceId) (y : OpenTransaction) → FollowsAreas l m id y → SameHolds l active → IsExclusive (put id_cmp id y active)
+pub stated_holds : (l m : Locks) (active : Active) (id : ServiceId) (y : OpenTransaction) → AreasMatch l m id y → SameHolds l active → IsExclusive (put id_cmp id y active)
     → SameHolds m (put id_cmp id y active)
-stated_holds l m active id y follow same exclusive i area = by (id_eq i id) refl (touches y area) refl
+stated_holds l m active id y matching same exclusive i area = by (id_eq i id) refl (touches y area) refl
   where
     own : holds (put id_cmp id y active) id area ≡ touches y area
     own = ap (λ (o : Option OpenTransaction). touched_by o area) (found_put id y active)
 
     was : (b : Bool) → touches y area ≡ b → holds_area m i area ≡ is_holder (if b then Some id else other_than id (holder l area)) i
-    was b t = ap (λ (o : Option ServiceId). is_holder o i) (follow area) ∙ ap (λ (c : Bool). is_holder (if c then Some id else other_than id (holder l area)) i) t
+    was b t = ap (λ (o : Option ServiceId). is_holder o i) (matching area) ∙ ap (λ (c : Bool). is_holder (if c then Some id else other_than id (holder l area)) i) t
 
     none : id_eq i id ≡ false → touches y area ≡ true → (b : Bool) → holds (put id_cmp id y active) i area ≡ b → false ≡ b
     none e t true h = absurd (true≢false (sym (ap (λ (k : ServiceId). id_eq k id) (exclusive i id area h (own ∙ t)) ∙ id_eq_itself id) ∙ e))

@@ -14,8 +14,8 @@ use Rattle.abstract_monitor.specs.Turns.{queued}
 use Rattle.core_state.specs.Standing.{Each}
 
 -- nobody is signed on, all tasks are free, and no service is open
-abbrev pub at_rest : Generated → TableRows → State
-at_rest g t = record { tables = t; signed = []; ready = []; tasks = replicate g.limits.tasks None; active = []; waits = [] }
+abbrev pub idle : Generated → TableRows → State
+idle g t = record { tables = t; signed = []; ready = []; tasks = replicate g.limits.tasks None; active = []; waits = [] }
 
 -- the service goes on from its row
 abbrev pub opened_then : Application → State → Service → State

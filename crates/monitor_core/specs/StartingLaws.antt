@@ -26,12 +26,12 @@ use Rattle.abstract_monitor.specs.State.{Application, OpenTransaction, State}
 use Rattle.laws_of_places.specs.EntriesLaws.{other_put}
 use Rattle.core_state.specs.ChangesLaws.{each_push, each_where}
 use Rattle.core_state.specs.Standing.{Each}
-use Rattle.monitor_core.specs.Starting.{at_rest, opened_then, all_opened, IsFresh, IsApart, AreFresh}
+use Rattle.monitor_core.specs.Starting.{idle, opened_then, all_opened, IsFresh, IsApart, AreFresh}
 use Rattle.kd_base.specs.OrderLaws.{is_less}
 
 -- ---- rows in the order of their services
 
--- the services come behind this one
+-- the services come after this one
 abbrev pub ComeBehind : ServiceId → List Service → Type 0
 ComeBehind id = Each (λ (row : Service). id_cmp id row.id ≡ Less)
 
@@ -93,13 +93,13 @@ apart_of : (id : ServiceId) (rows : List Service) → ComeBehind id rows → IsA
 apart_of id [] h = tt
 apart_of id (row ∷ rows) h = (ap is_eq (id_total.antisymm row.id id ∙ ap ordering_reverse h.0), apart_of id rows h.1)
 
-pub fresh_at_rest : (g : Generated) (t : TableRows) (rows : List Service) → Rise rows → AreOfJobs rows → AreFresh (at_rest g t) rows
-fresh_at_rest g t [] rise jobs = tt
-fresh_at_rest g t (row ∷ rows) rise jobs =
+pub fresh_idle : (g : Generated) (t : TableRows) (rows : List Service) → Rise rows → AreOfJobs rows → AreFresh (idle g t) rows
+fresh_idle g t [] rise jobs = tt
+fresh_idle g t (row ∷ rows) rise jobs =
     let order = (both_true (lterm_fits row.id row.lterm) (is_sorted bytes_cmp row.lssbs) jobs.0).1 in (
       record { closed = refl; unplaced = nowhere row.id g.limits.tasks; lterm = has_lterm row jobs.0 jobs.1; order = order },
       apart_of row.id rows rise.0,
-      fresh_at_rest g t rows rise.1 jobs.2,
+      fresh_idle g t rows rise.1 jobs.2,
     )
 
 -- ---- the rest is fresh still
@@ -154,11 +154,11 @@ nothing_before : (rows : List Service) → AllBehind [] rows
 nothing_before [] = tt
 nothing_before (row ∷ rows) = (tt, nothing_before rows)
 
-pub started_so : (app : Application) (t : TableRows) → IsSortedTables t → all_opened app (at_rest app.generation t) (asynchronous_rows t) ≡ started app t
+pub started_so : (app : Application) (t : TableRows) → IsSortedTables t → all_opened app (idle app.generation t) (asynchronous_rows t) ≡ started app t
 unfolding started
 started_so app t order =
-    all_there app (at_rest app.generation t) (asynchronous_rows t) (rise_filter (λ (s : Service). is_asynchronous s.id) t.services (rise_of t.services order.services)) (nothing_before (asynchronous_rows t))
+    all_there app (idle app.generation t) (asynchronous_rows t) (rise_filter (λ (s : Service). is_asynchronous s.id) t.services (rise_of t.services order.services)) (nothing_before (asynchronous_rows t))
 
-pub fresh_of : (g : Generated) (t : TableRows) → IsSortedTables t → AreFresh (at_rest g t) (asynchronous_rows t)
+pub fresh_of : (g : Generated) (t : TableRows) → IsSortedTables t → AreFresh (idle g t) (asynchronous_rows t)
 fresh_of g t order =
-    fresh_at_rest g t (asynchronous_rows t) (rise_filter (λ (s : Service). is_asynchronous s.id) t.services (rise_of t.services order.services)) (jobs_filter t.services order.services_fit)
+    fresh_idle g t (asynchronous_rows t) (rise_filter (λ (s : Service). is_asynchronous s.id) t.services (rise_of t.services order.services)) (jobs_filter t.services order.services_fit)

@@ -6,7 +6,7 @@ use Rattle.kd_base.specs.ToolsLaws.{some_is}
 use Rattle.kdcs_types.specs.declared.key.Area.{Area}
 use Rattle.kdcs_types.specs.declared.key.ServiceId.{ServiceId}
 use Rattle.kdcs_types.specs.Keys.{id_cmp}
-use Rattle.kdcs_calls.specs.Calling.{HoldersFollow, HoldsJust}
+use Rattle.kdcs_calls.specs.Calling.{HoldersMatch, HoldsJust}
 use Rattle.sorted_pairs.specs.MappedLaws.{find_mapped}
 use Rattle.open_transaction.specs.Transactions.{Boxed, boxed_transaction}
 use Rattle.step_scheduler.specs.Schedule.{Schedule}
@@ -105,12 +105,12 @@ module _ (p : MonitorParts) (task : ℕ) (id : ServiceId) (transaction after : B
       stepped_state p task id x h facts.0 at open_at after locks now done class
       ∙ by_then now same_then (e ∙ ap (λ i. waits_after (app_of p) p.tables p.locks i x now) (owned p id transaction h facts there).id)
 
-  pub then_indexed : (class : ℕ) → class ≡ class_of p.generation after.value.current → HoldersFollow p.locks locks transaction.value.id (boxed_transaction after) → after.value.id ≡ transaction.value.id → after.value.messages.nb ≡ transaction.value.messages.nb
+  pub then_indexed : (class : ℕ) → class ≡ class_of p.generation after.value.current → HoldersMatch p.locks locks transaction.value.id (boxed_transaction after) → after.value.id ≡ transaction.value.id → after.value.messages.nb ≡ transaction.value.messages.nb
       → after.value.statements ≤ transaction.value.statements + 1 → IsIndexed (stepped p task id after locks class)
-  then_indexed class e follow same nb counted =
+  then_indexed class e matching same nb counted =
       let own = owned p id transaction h facts there in
       stepped_indexed p task id x h facts.0 at open_at after locks now done class e
-      (subst (λ i. HoldersFollow p.locks locks i (boxed_transaction after)) own.id follow)
+      (subst (λ i. HoldersMatch p.locks locks i (boxed_transaction after)) own.id matching)
       record { id = same ∙ own.id; nb = nb ∙ own.nb; counted = let a : transaction.value.statements ≤ p.steps = own.counted in omega (arith, a, counted) }
 
   pub then_exact : (y : OpenTransaction) → find id_cmp id (state_of p).active ≡ Some y → now ≡ (statement_now (app_of p) (state_of p) id y).1

@@ -39,7 +39,7 @@ use Rattle.core_state.specs.ChangesLaws.{SameHolds, each_put, each_set, map_set,
 use Rattle.core_state.specs.QueueLaws.{kept_queue}
 use Rattle.core_state.specs.Standing.{Each, HasClass, IsIndexed, IsOwned, PlaceHasClass, active_of, id_of, state_of}
 use Rattle.core_state.specs.Whole.{app_of}
-use Rattle.monitor_core.specs.LockingLaws.{FollowsAreas, put_same, stated_holds}
+use Rattle.monitor_core.specs.LockingLaws.{AreasMatch, put_same, stated_holds}
 
 -- ---- a statement that is not done leaves its transaction as it was
 
@@ -125,7 +125,7 @@ one_more g n (e ∷ es) h = (record { id = h.0.id; nb = h.0.nb; counted = omega 
 
 -- ---- the parts
 
--- the service has this transaction, the locks follow it, and the task has its class
+-- the service has this transaction, the locks match it, and the task has its class
 abbrev pub stepped : MonitorParts → (task : ℕ) → ServiceId → Boxed → Locks → (class : ℕ) → MonitorParts
 stepped p task id transaction locks class = record p {
   steps = p.steps + 1;
@@ -169,15 +169,15 @@ module _ (p : MonitorParts) (task : ℕ) (id : ServiceId) (x : OpenTransaction) 
         (set_again p.scheduler.places (task - 1) None (Some (id, class)) ∙ ap (slice_set p.scheduler.places (task - 1)) (sym (place_set p.scheduler.places (task - 1) id class at)))
         (each_set (PlaceHasClass p.generation after) none (task - 1) (Some (id, class)) (class_now class e) stay)
 
-    pub stepped_indexed : (class : ℕ) → class ≡ class_of p.generation transaction.value.current → FollowsAreas p.locks locks id (boxed_transaction transaction)
+    pub stepped_indexed : (class : ℕ) → class ≡ class_of p.generation transaction.value.current → AreasMatch p.locks locks id (boxed_transaction transaction)
         → IsOwned p.generation (p.steps + 1) (id, transaction) → IsIndexed (stepped p task id transaction locks class)
-    stepped_indexed class e follow owned =
+    stepped_indexed class e matching owned =
         let there = put_mapped id_cmp boxed_transaction id transaction p.active in
         record {
           owned = each_put (IsOwned p.generation (p.steps + 1)) id transaction p.active owned (one_more p.generation p.steps p.active h.owned);
           ready = subst (λ a. Each (HasClass p.generation a) p.scheduler.ready) there (ready_stay p.generation (active_of p.active) after id (put_others id (boxed_transaction transaction) (active_of p.active)) p.scheduler.ready not_ready h.ready);
           places = subst (λ a. Each (PlaceHasClass p.generation a) (slice_set p.scheduler.places (task - 1) (with_class class (place_of task p.scheduler)))) there (places_after class e);
-          locks = subst (λ a. SameHolds locks a) there (stated_holds p.locks locks (active_of p.active) id (boxed_transaction transaction) follow h.locks exclusive);
+          locks = subst (λ a. SameHolds locks a) there (stated_holds p.locks locks (active_of p.active) id (boxed_transaction transaction) matching h.locks exclusive);
           jobs = h.jobs ∙ kept_queue id (boxed_transaction transaction) (active_of p.active) p.tables.jobs (ap is_some is) ∙ ap (λ a. Rattle.async_queue.specs.Marks.queue_of a p.tables.jobs) there;
         }
 

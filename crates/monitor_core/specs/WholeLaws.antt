@@ -19,7 +19,7 @@ use Rattle.abstract_monitor.specs.Bytes.{Bytes}
 use Rattle.abstract_monitor.specs.Picks.{Classed, pick}
 use Rattle.abstract_monitor.specs.State.{Application, OpenTransaction, State}
 use Rattle.abstract_monitor.specs.Statements.{area_of}
-use Rattle.abstract_monitor.specs.Turns.{Turned, abnormal, back, happens, message_acts, message_sent, moved_to, settled, statement_now, took, turn_by, turn_of, unmoved, waiting_for, with_task, without_wait, without_work, worked}
+use Rattle.abstract_monitor.specs.Turns.{Turned, abnormal, back, happens, message_acts, message_sent, moved_to, settled, statement_now, took, turn_by, turn_of, unmoved, waiting_for, with_task, without_wait, without_transaction, served}
 use Rattle.laws_of_steps.specs.Applications.{IsApplication}
 use Rattle.laws_of_steps.specs.Facts.{IsConsistent}
 use Rattle.laws_of_steps.specs.Keeping.{HasFacts}
@@ -34,7 +34,7 @@ use Rattle.core_state.specs.Standing.{IsIndexed, state_of}
 use Rattle.core_state.specs.Whole.{IsWhole, app_of}
 use Rattle.core_state.specs.WholeLaws.{same_app}
 use Rattle.service_ends.specs.declared.turned.Turned.{Turned as Did}
-use Rattle.service_ends.specs.Ending.{Works, turned_to}
+use Rattle.service_ends.specs.Ending.{Serves, turned_to}
 use Rattle.monitor_core.specs.AloneLaws.{alone_of}
 use Rattle.monitor_core.specs.StatedLaws.{sound_tables}
 use Rattle.monitor_core.specs.SteppingLaws.{one_more}
@@ -113,9 +113,9 @@ module _ (p : MonitorParts) (task : ℕ) (id : ServiceId) (whole : IsWhole p) (a
         is_task app s q task whole.facts.0 within (ap (λ (u : State). u.tasks) then_now ∙ then_tasks app s id open_there.0 (statement_now app s id open_there.0).0 now)
 
     -- the turn is what happens then
-    pub worked_so : (t : Turned) → t ≡ happens app s task id open_there.0 (statement_now app s id open_there.0).0 now → t ≡ worked app s task id (find id_cmp id s.active)
-    worked_so t e =
-        e ∙ ap (happens app s task id open_there.0 (statement_now app s id open_there.0).0) (exact open_there.0 open_there.1) ∙ sym (ap (worked app s task id) open_there.1)
+    pub served_so : (t : Turned) → t ≡ happens app s task id open_there.0 (statement_now app s id open_there.0).0 now → t ≡ served app s task id (find id_cmp id s.active)
+    served_so t e =
+        e ∙ ap (happens app s task id open_there.0 (statement_now app s id open_there.0).0) (exact open_there.0 open_there.1) ∙ sym (ap (served app s task id) open_there.1)
 
 module _ (p : MonitorParts) (task : ℕ) (id : ServiceId) (whole : IsWhole p) (at : IsHeldBy (state_of p) task id) (q : MonitorParts) where
   abbrev x : OpenTransaction
@@ -131,32 +131,32 @@ module _ (p : MonitorParts) (task : ℕ) (id : ServiceId) (whole : IsWhole p) (a
   abbrev pub StateThen : Happened → Type 0
   StateThen now = (x : OpenTransaction) → find id_cmp id (state_of p).active ≡ Some x → state_of q ≡ state_then (app_of p) (state_of p) id x (statement_now (app_of p) (state_of p) id x).0 now
 
-  abbrev Worked : Turned → Type 0
-  Worked t = t ≡ worked (app_of p) (state_of p) task id (find id_cmp id (state_of p).active)
+  abbrev Served : Turned → Type 0
+  Served t = t ≡ served (app_of p) (state_of p) task id (find id_cmp id (state_of p).active)
 
   there : find id_cmp id (state_of p).active ≡ Some x
   there = (open_there p task id whole at).1
 
-  pub went : Exact Went → StateThen Went → Worked (moved_to (state_of q) [])
+  pub went : Exact Went → StateThen Went → Served (moved_to (state_of q) [])
   unfolding happens
-  went exact state = worked_so p task id whole at q Went exact state _ (ap (λ (u : State). moved_to u []) (state x there))
+  went exact state = served_so p task id whole at q Went exact state _ (ap (λ (u : State). moved_to u []) (state x there))
 
-  pub waited : Exact Waited → StateThen Waited → Worked (unmoved (state_of q))
+  pub waited : Exact Waited → StateThen Waited → Served (unmoved (state_of q))
   unfolding happens
-  waited exact state = worked_so p task id whole at q Waited exact state _ (ap (λ (u : State). unmoved u) (state x there))
+  waited exact state = served_so p task id whole at q Waited exact state _ (ap (λ (u : State). unmoved u) (state x there))
 
   pub queued_there : StateThen Queued → is_some (find id_cmp id (state_of q).active) ≡ true
   queued_there state = ap (λ (u : State). is_some (find id_cmp id u.active)) (state x there) ∙ ap is_some (found_put id y (state_of p).active)
 
-  pub queues : Exact Queued → StateThen Queued → (t : Turned) → t ≡ moved_to (record (with_task (state_of q) task None) { ready = (state_of q).ready ++ id ∷ [] }) [] → Worked t
+  pub queues : Exact Queued → StateThen Queued → (t : Turned) → t ≡ moved_to (record (with_task (state_of q) task None) { ready = (state_of q).ready ++ id ∷ [] }) [] → Served t
   unfolding happens
-  queues exact state t e = worked_so p task id whole at q Queued exact state t (e ∙ ap (λ (u : State). moved_to (record (with_task u task None) { ready = u.ready ++ id ∷ [] }) []) (state x there))
+  queues exact state t e = served_so p task id whole at q Queued exact state t (e ∙ ap (λ (u : State). moved_to (record (with_task u task None) { ready = u.ready ++ id ∷ [] }) []) (state x there))
 
   pub holds_it : (tac : Bytes) → Exact (Held tac) → StateThen (Held tac) → (t : Turned)
-      → ((z : OpenTransaction) → find id_cmp id (state_of q).active ≡ Some z → t ≡ moved_to (message_sent (with_task (state_of q) task None) id z) (message_acts (state_of q) id z)) → Worked t
+      → ((z : OpenTransaction) → find id_cmp id (state_of q).active ≡ Some z → t ≡ moved_to (message_sent (with_task (state_of q) task None) id z) (message_acts (state_of q) id z)) → Served t
   unfolding happens
   holds_it tac exact state t e =
-      worked_so p task id whole at q (Held tac) exact state t
+      served_so p task id whole at q (Held tac) exact state t
       (e x (ap (λ (u : State). find id_cmp id u.active) (state x there) ∙ there)
       ∙ ap (λ (u : State). moved_to (message_sent (with_task u task None) id x) (message_acts u id x)) (state x there)
       ∙ ap (moved_to (message_sent (with_task (without_wait (state_of p) id) task None) id x)) (acts_without (state_of p) id id x))
@@ -167,8 +167,8 @@ module _ (p : MonitorParts) (task : ℕ) (id : ServiceId) (whole : IsWhole p) (a
     still_there : find id_cmp id (state_of q).active ≡ Some x
     still_there = ap (λ (u : State). find id_cmp id u.active) state ∙ there
 
-    pub still_works : IsIndexed q → IsTask task q.scheduler → (z : OpenTransaction) × Works q task id z
-    still_works h is = (
+    pub still_serves : IsIndexed q → IsTask task q.scheduler → (z : OpenTransaction) × Serves q task id z
+    still_serves h is = (
       x,
       record {
         indexed = h;
@@ -187,31 +187,31 @@ module _ (p : MonitorParts) (task : ℕ) (id : ServiceId) (whole : IsWhole p) (a
     as_before t f e = e x still_there ∙ (λ i. f (same_app p q generation units i) (state i) x)
 
   pub settles : (generation : q.generation ≡ p.generation) (units : q.units ≡ p.units) (o : Outcome) → Exact (Settles o) → StateThen (Settles o) → (t : Turned)
-      → ((z : OpenTransaction) → find id_cmp id (state_of q).active ≡ Some z → t ≡ settled (app_of q) (state_of q) task id z o) → Worked t
+      → ((z : OpenTransaction) → find id_cmp id (state_of q).active ≡ Some z → t ≡ settled (app_of q) (state_of q) task id z o) → Served t
   unfolding happens
   settles generation units o exact state t e =
-      worked_so p task id whole at q (Settles o) exact state t (as_before generation units (state x there) t (λ app s z. settled app s task id z o) e)
+      served_so p task id whole at q (Settles o) exact state t (as_before generation units (state x there) t (λ app s z. settled app s task id z o) e)
 
   pub breaks : (generation : q.generation ≡ p.generation) (units : q.units ≡ p.units) (ending : Ending) → Exact (Breaks ending) → StateThen (Breaks ending) → (t : Turned)
-      → ((z : OpenTransaction) → find id_cmp id (state_of q).active ≡ Some z → t ≡ abnormal (app_of q) (state_of q) task id z ending) → Worked t
+      → ((z : OpenTransaction) → find id_cmp id (state_of q).active ≡ Some z → t ≡ abnormal (app_of q) (state_of q) task id z ending) → Served t
   unfolding happens
   breaks generation units ending exact state t e =
-      worked_so p task id whole at q (Breaks ending) exact state t (as_before generation units (state x there) t (λ app s z. abnormal app s task id z ending) e)
+      served_so p task id whole at q (Breaks ending) exact state t (as_before generation units (state x there) t (λ app s z. abnormal app s task id z ending) e)
 
   pub returns : (generation : q.generation ≡ p.generation) (units : q.units ≡ p.units) → Exact Returns → StateThen Returns → (t : Turned)
-      → ((z : OpenTransaction) → find id_cmp id (state_of q).active ≡ Some z → t ≡ back (app_of q) (without_work (state_of q) task id) id z z.began) → Worked t
+      → ((z : OpenTransaction) → find id_cmp id (state_of q).active ≡ Some z → t ≡ back (app_of q) (without_transaction (state_of q) task id) id z z.began) → Served t
   unfolding happens
   returns generation units exact state t e =
-      worked_so p task id whole at q Returns exact state t (as_before generation units (state x there) t (λ app s z. back app (without_work s task id) id z z.began) e)
+      served_so p task id whole at q Returns exact state t (as_before generation units (state x there) t (λ app s z. back app (without_transaction s task id) id z z.began) e)
 
-  pub settles_works : (generation : q.generation ≡ p.generation) (units : q.units ≡ p.units) (o : Outcome) → StateThen (Settles o) → IsIndexed q → IsTask task q.scheduler → (z : OpenTransaction) × Works q task id z
-  settles_works generation units o state = still_works generation units (state x there)
+  pub settles_serves : (generation : q.generation ≡ p.generation) (units : q.units ≡ p.units) (o : Outcome) → StateThen (Settles o) → IsIndexed q → IsTask task q.scheduler → (z : OpenTransaction) × Serves q task id z
+  settles_serves generation units o state = still_serves generation units (state x there)
 
-  pub breaks_works : (generation : q.generation ≡ p.generation) (units : q.units ≡ p.units) (ending : Ending) → StateThen (Breaks ending) → IsIndexed q → IsTask task q.scheduler → (z : OpenTransaction) × Works q task id z
-  breaks_works generation units ending state = still_works generation units (state x there)
+  pub breaks_serves : (generation : q.generation ≡ p.generation) (units : q.units ≡ p.units) (ending : Ending) → StateThen (Breaks ending) → IsIndexed q → IsTask task q.scheduler → (z : OpenTransaction) × Serves q task id z
+  breaks_serves generation units ending state = still_serves generation units (state x there)
 
-  pub returns_works : (generation : q.generation ≡ p.generation) (units : q.units ≡ p.units) → StateThen Returns → IsIndexed q → IsTask task q.scheduler → (z : OpenTransaction) × Works q task id z
-  returns_works generation units state = still_works generation units (state x there)
+  pub returns_serves : (generation : q.generation ≡ p.generation) (units : q.units ≡ p.units) → StateThen Returns → IsIndexed q → IsTask task q.scheduler → (z : OpenTransaction) × Serves q task id z
+  returns_serves generation units state = still_serves generation units (state x there)
 
 -- ---- a turn
 
@@ -219,7 +219,7 @@ pub turned_free : (app : Application) (s : State) (task : ℕ) → slice_get s.t
 unfolding turn_of
 turned_free app s task e = sym (ap (turn_by app s task) e)
 
-pub turned_held : (app : Application) (s : State) (task : ℕ) (id : ServiceId) → slice_get s.tasks (task - 1) ≡ Some (Some id) → worked app s task id (find id_cmp id s.active) ≡ turn_of app s task
+pub turned_held : (app : Application) (s : State) (task : ℕ) (id : ServiceId) → slice_get s.tasks (task - 1) ≡ Some (Some id) → served app s task id (find id_cmp id s.active) ≡ turn_of app s task
 unfolding turn_of
 turned_held app s task id e = sym (ap (turn_by app s task) e)
 
@@ -242,8 +242,8 @@ whole_after p q task t consistent sound whole within generation units indexed af
 -- the service of a task did its statement
 module _ {E : Type 0} (p q : MonitorParts) (task : ℕ) (id : ServiceId) (consistent : TurnsStayConsistent) (sound : StatesStaySound) (whole : IsWhole p) (within : IsWithin 1 p.generation.limits.tasks task)
     (at : IsHeldBy (state_of p) task id) where
-  pub whole_worked : (r : Result Did E) → IfOk r (λ (did : Did). turned_to (state_of q) did ≡ worked (app_of p) (state_of p) task id (find id_cmp id (state_of p).active))
+  pub whole_served : (r : Result Did E) → IfOk r (λ (did : Did). turned_to (state_of q) did ≡ served (app_of p) (state_of p) task id (find id_cmp id (state_of p).active))
       → OnOk r (IsIndexed q) → OnOk r (q.generation ≡ p.generation) → OnOk r (q.units ≡ p.units) → OnOk r (IsWhole q)
-  whole_worked (Ok did) exact indexed generation units =
+  whole_served (Ok did) exact indexed generation units =
       whole_after p q task (turned_to (state_of q) did) consistent sound whole within generation units indexed refl (exact ∙ turned_held (app_of p) (state_of p) task id at)
-  whole_worked (Err e) exact indexed generation units = tt
+  whole_served (Err e) exact indexed generation units = tt

@@ -5,7 +5,7 @@ ghost use Rattle.core_state.specs.{Whole.{app_of, IsWhole}, Standing.{IsIndexed,
 ghost use Rattle.monitor_core.specs.{Commanding.{printed, Comes, IsSingle}, Counted.{IsAhead}};
 
 use crate::clock::tick;
-use crate::input::{input, lterm_of};
+use crate::input::input;
 use crate::showing::{Shown, show_again, show_next};
 use crate::signing::drop_terminal;
 use abstract_monitor::Command;
@@ -14,6 +14,7 @@ use kd_base::{Name, OutOfMemory};
 use kdcs_types::Acts;
 use laws_of_places::states_stay_consistent;
 use laws_of_tables::states_stay_sound;
+use session_table::lterm_of;
 use std::alloc::Global;
 
 // PRINT and PRINT LAST: the LTERM of the printer takes its next message, or prints the last one again.
@@ -30,7 +31,7 @@ fn print(
     ensures indexed { OnOk result (IsIndexed parts.new) }
     ensures same { OnOk result (SameApplication parts.old parts.new) }
 {
-    let lterm = lterm_of(&parts.generation, pterm);
+    let lterm = lterm_of(&parts.generation, *pterm);
     if again {
         return show_again(parts, alloc, Shown::Printer, pterm, &lterm);
     }

@@ -1,7 +1,6 @@
 //! Terminal inputs: what they mean, and what is done.
 ghost use Rattle.std.specs.{Prelude.{◌≡◌, ◌<◌, ◌^◌, ◌++◌, [], IfOk, IsSome, IsTrue, OnOk, codes}, FinMap.{find}};
-ghost use Rattle.kdcdef_types.specs.Generation.{pterm_of};
-ghost use Rattle.abstract_monitor.specs.{CommandsOf.{is_pterm}, declared.command.Command.TheVariants.{Input}, declared.input_use.ServiceState.TheVariants.{Awaits, NoService}, Bytes.{bytes_cmp}, Commands.{command_of, lterm_at, lterm_by, next_input, says, start_service, uncommitted, use_now, used, user_at}, Lines.{sys_line}, Sessions.{is_awaiting, service_state}};
+ghost use Rattle.abstract_monitor.specs.{CommandsOf.{is_pterm}, declared.command.Command.TheVariants.{Input}, declared.input_use.ServiceState.TheVariants.{Awaits, NoService}, Bytes.{bytes_cmp}, Commands.{command_of, lterm_at, next_input, says, start_service, uncommitted, use_now, used, user_at}, Lines.{sys_line}, Sessions.{is_awaiting, service_state}};
 ghost use Rattle.core_state.specs.{Whole.{app_of, IsWhole}, Standing.{IsIndexed, SameApplication, state_of}};
 ghost use Rattle.monitor_core.specs.{Commanding.{Comes, HasService, IsFor, off_step}, Counted.{IsAhead}};
 
@@ -12,9 +11,9 @@ use crate::starting::{next_input, start_service};
 use abstract_monitor::{ServiceState, Use};
 use core_state::MonitorParts;
 use kd_base::{Bytes, Name, OutOfMemory};
-use kdcdef_check::Generation;
 use kdcs_types::{Acts, ServiceId};
-use output_lines::{fault_text, refusal_text, signed_off_line};
+use output_lines::{fault_text, refused_line, signed_off_line};
+use session_table::lterm_of;
 use std::alloc::Global;
 
 // Whether the dialogue service of a user awaits an input, where it is neither ready nor in a task.
@@ -45,9 +44,11 @@ fn service_state(parts: &MonitorParts, user: &Name) -> ServiceState
     ServiceState::NoService
 }
 
-/// What an input at this PTERM means, as the monitor stands. Memory is wanted only for the text that a service reads.
+/// What an input at this PTERM of the generation means, as the monitor is now. Memory is wanted only for the text that a
+/// service reads.
 #[tactic(auto, unfolding(abstract_monitor::specs::Commands::use_now))]
 pub(crate) fn use_of(parts: &MonitorParts, pterm: &Name, text: &[u8]) -> Result<Use, OutOfMemory>
+    requires pterm { IsTrue (is_pterm parts.now.generation pterm.now) }
     ensures { IfOk result (λ u. u ≡ use_now (app_of parts.now) (state_of parts.now) pterm.now text.now) }
 {
     let state = match parts.sessions.user_at(*pterm) {
@@ -150,18 +151,7 @@ fn use_it(
         Use::TooLong => say(alloc, pterm, b"INPUT TOO LONG"),
         Use::Next(text) => read_next(parts, alloc, pterm, lterm, text),
         Use::Start(tac, text) => begin(parts, alloc, pterm, lterm, &tac, text),
-        Use::TacRefused(fault) => say(alloc, pterm, refusal_text(fault)),
-    }
-}
-
-// The LTERM of a PTERM of the generation.
-pub(crate) fn lterm_of(generation: &Generation, pterm: &Name) -> Name
-    requires pterm { IsTrue (is_pterm generation.now pterm.now) }
-    ensures { result ≡ lterm_by (pterm_of generation.now pterm.now) }
-{
-    match generation.pterm(*pterm) {
-        Some(entry) => entry.lterm,
-        None => unreachable!(),
+        Use::TacRefused(fault) => line_alone(alloc, refused_line(alloc, *pterm, fault)?),
     }
 }
 
@@ -181,7 +171,7 @@ pub(crate) fn input(
     ensures indexed { OnOk result (IsIndexed parts.new) }
     ensures same { OnOk result (SameApplication parts.old parts.new) }
 {
-    let lterm = lterm_of(&parts.generation, pterm);
+    let lterm = lterm_of(&parts.generation, *pterm);
     let meaning = use_of(parts, pterm, text)?;
     use_it(parts, alloc, pterm, &lterm, meaning)
 }

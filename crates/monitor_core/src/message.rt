@@ -1,4 +1,4 @@
-//! Lines of the monitor, alone or behind a commit.
+//! Lines of the monitor, alone or after a commit.
 ghost use Rattle.std.specs.Prelude.{◌≡◌, ◌∷◌, [], IfOk};
 ghost use Rattle.kdcs_types.specs.declared.act.Act.TheVariants.{Commit, Emit};
 ghost use Rattle.abstract_monitor.specs.Lines.{sys_line};

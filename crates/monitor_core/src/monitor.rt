@@ -1,12 +1,12 @@
 //! A monitor between two commands.
-ghost use Rattle.std.specs.Prelude.{◌≡◌, ◌<◌, ◌^◌, IfOk};
+ghost use Rattle.std.specs.Prelude.{◌≡◌, ◌<◌, ◌^◌, IfOk, IsTrue};
 ghost use Rattle.kdcdef_check.specs.Soundness.{AreLimits};
 ghost use Rattle.kdcdef_types.specs.Statements.{IsWithin};
 ghost use Rattle.kdcs_types.specs.Tables.{IsSortedTables};
 ghost use Rattle.unit_check.specs.Fitted.{IsFit};
 ghost use Rattle.laws_of_applications.specs.Applied.{applied};
 ghost use Rattle.laws_of_steps.specs.{Applications.{IsApplication}, Keeping.{HasFacts}, Replay.{SettlesAs}, Suits.{Suits}};
-ghost use Rattle.abstract_monitor.specs.{CommandsOf.{IsCommandOf}, Commands.{command_of, started, turned_step, use_now}, Endings.{durable}, Turns.{turn_of}};
+ghost use Rattle.abstract_monitor.specs.{CommandsOf.{IsCommandOf, is_pterm}, Commands.{command_of, started, turned_step, use_now}, Endings.{durable}, Turns.{turn_of}};
 ghost use Rattle.laws_of_jobs.specs.QueueLaws.{KeepsQueues};
 ghost use Rattle.laws_of_runs.specs.{Replays.{AllReplay}, SerialLaws.{IsSerialStep}};
 ghost use Rattle.service_ends.specs.Ending.{turned_to};
@@ -135,8 +135,9 @@ impl Core {
         &self.parts.tables
     }
 
-    /// What an input at this PTERM means, as the monitor stands.
+    /// What an input at this PTERM of the generation means, as the monitor is now.
     pub fn use_of(&self, pterm: &Name, text: &[u8]) -> Result<Use, OutOfMemory>
+        requires pterm { IsTrue (is_pterm self.now.application.generation pterm.now) }
         ensures { IfOk result (λ u. u ≡ use_now self.now.application self.now.state pterm.now text.now) }
     {
         use_of(&self.parts, pterm, text)

@@ -4,7 +4,7 @@ ghost use Rattle.async_queue.specs.Queue.{untaken};
 ghost use Rattle.step_scheduler.specs.Schedule.{all_free};
 ghost use Rattle.abstract_monitor.specs.{Commands.{asynchronous_rows, started}, Endings.{is_asynchronous}};
 ghost use Rattle.core_state.specs.{Standing.{IsIndexed, SameApplication, state_of}, Whole.{app_of}};
-ghost use Rattle.monitor_core.specs.Starting.{AreFresh, IsFresh, all_opened, at_rest, opened_then};
+ghost use Rattle.monitor_core.specs.Starting.{AreFresh, IsFresh, all_opened, idle, opened_then};
 
 use area_locks::LockTable;
 use async_queue::Jobs;
@@ -34,7 +34,7 @@ fn queues(
 }
 
 // Nobody is signed on, all tasks are free, and no service is open.
-fn at_rest(
+fn idle(
     alloc: Global,
     generation: Generation,
     units: Units,
@@ -44,7 +44,7 @@ fn at_rest(
 ) -> MonitorParts
     requires scheduler { scheduler ≡ all_free generation.limits.tasks }
     requires jobs { jobs ≡ map untaken tables.jobs }
-    ensures state { state_of result ≡ at_rest generation tables }
+    ensures state { state_of result ≡ idle generation tables }
     ensures indexed { IsIndexed result }
     ensures generation { result.generation ≡ generation }
     ensures units { result.units ≡ units }
@@ -146,7 +146,7 @@ pub(crate) fn parts_of(
 {
     let _clock = tables.clock(); // for the proof
     let (scheduler, jobs) = queues(alloc, &generation, &tables)?;
-    let resting = at_rest(alloc, generation, units, tables, scheduler, jobs);
+    let resting = idle(alloc, generation, units, tables, scheduler, jobs);
     let mut parts = Box::new(alloc, resting)?;
     open_services(&mut parts, alloc)?;
     Ok(parts)

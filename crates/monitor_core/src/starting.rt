@@ -70,7 +70,7 @@ pub(crate) fn start_service(
     )
 }
 
-// The open transaction stands at a PEND KP, whose statement is done now, since only its place was kept: its follow-up reads
+// The open transaction is at a PEND KP, whose statement is done now, since only its place was kept: its follow-up reads
 // the input.
 fn follow_keep(
     parts: &mut MonitorParts,
@@ -102,7 +102,7 @@ fn follow_keep(
             transaction.follow(alloc, &parts.generation, tac, Some(text))?;
             parts.make_ready(&id)
         }
-        // It stands at no other statement.
+        // It is at no other statement.
         Happened::Settles(_outcome) => Ok(()),
         _ => Ok(()),
     }

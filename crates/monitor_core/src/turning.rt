@@ -2,7 +2,7 @@
 ghost use Rattle.std.specs.{Prelude.{◌≡◌, ◌+◌, ◌<◌, ◌^◌, IfOk, OnOk}, FinMap.{find}};
 ghost use Rattle.kdcdef_types.specs.Statements.{IsWithin};
 ghost use Rattle.kdcs_types.specs.Keys.{id_cmp};
-ghost use Rattle.abstract_monitor.specs.Turns.{turn_of, worked};
+ghost use Rattle.abstract_monitor.specs.Turns.{turn_of, served};
 ghost use Rattle.service_ends.specs.Ending.{turned_to};
 ghost use Rattle.core_state.specs.{Standing.{IsIndexed, state_of}, Whole.{IsWhole, app_of}};
 ghost use Rattle.monitor_core.specs.Turning.{IsHeldBy};
@@ -29,7 +29,7 @@ fn serve(
     requires task { IsWithin 1 parts.old.generation.limits.tasks task }
     requires held { IsHeldBy (state_of parts.old) task id.now }
     requires steps { parts.old.steps + 1 < 2 ^ 64 }
-    ensures exact { IfOk result (λ did. turned_to (state_of parts.new) did ≡ worked (app_of parts.old) (state_of parts.old) task id.now (find id_cmp id.now (state_of parts.old).active)) }
+    ensures exact { IfOk result (λ did. turned_to (state_of parts.new) did ≡ served (app_of parts.old) (state_of parts.old) task id.now (find id_cmp id.now (state_of parts.old).active)) }
     ensures indexed { OnOk result (IsIndexed parts.new) }
     ensures generation { OnOk result (parts.new.generation ≡ parts.old.generation) }
     ensures units { OnOk result (parts.new.units ≡ parts.old.units) }

@@ -1,8 +1,6 @@
 //! How a transaction opens, and goes on in a further unit run.
 ghost use Rattle.std.specs.{Prelude.{◌≡◌, ◌+◌, ◌<◌, ◌^◌, ◌∷◌, [], ◌++◌, IfOk, IsTrue, OnOk, OnErr}, FinMap.{is_sorted}};
-ghost use Rattle.kdcdef_types.specs.Generation.{tac_of};
-ghost use Rattle.kdcs_types.specs.declared.call.Code.TheVariants as code;
-ghost use Rattle.abstract_monitor.specs.{Bytes.{bytes_cmp}, Endings.{joined, opened, spaces, budget_by, is_asynchronous, fresh_run, kb_of, lssbs_of, handed_on}, Statements.{counted}};
+ghost use Rattle.abstract_monitor.specs.{Bytes.{bytes_cmp}, Endings.{joined, opened, is_asynchronous, fresh_run, kb_of, lssbs_of, handed_on}, Statements.{counted}};
 ghost use Rattle.unit_semantics.specs.Ready.{CanAnswer, IsReady};
 ghost use Rattle.open_transaction.specs.Transactions.{transaction_of, accepted_of, followed_with, HasOrder};
 
@@ -10,8 +8,9 @@ use crate::held::HeldAreas;
 use async_queue::DraftJobs;
 use kd_base::{Bytes, Name, OutOfMemory};
 use kdcdef_check::Generation;
-use kdcs_types::{Areas, Code, Header, Notes, Parts, Reply, RunState, Service, ServiceId};
+use kdcs_types::{Areas, Header, Notes, Parts, Reply, RunState, Service, ServiceId};
 use message_area::MessageArea;
+use service_runs::{budget, fresh_run, kb_of, restart, spaces};
 use std::alloc::Global;
 use storage_areas::Overlay;
 use unit_step::answered;
@@ -48,36 +47,6 @@ pub struct OpenTransaction {
     pub statements: u64,
 }
 
-fn spaces(alloc: Global, count: u32) -> Result<Bytes, OutOfMemory>
-    ensures { IfOk result (λ bytes. bytes ≡ spaces count) }
-{
-    Ok(Bytes::from_vec(vec![in alloc; b' '; count as usize]?))
-}
-
-// TIME of a TAC.
-fn budget(generation: &Generation, tac: Name) -> u32
-    ensures { result ≡ budget_by (tac_of generation.now tac) }
-{
-    match generation.tac(tac) {
-        Some(entry) => entry.time,
-        None => 0,
-    }
-}
-
-// The KB of the row, or a new one.
-fn kb_of(
-    alloc: Global,
-    generation: &Generation,
-    began: &Option<Service>,
-) -> Result<Bytes, OutOfMemory>
-    ensures { IfOk result (λ kb. kb ≡ kb_of generation.now began.now) }
-{
-    match began {
-        Some(row) => Ok(row.kb.clone()?),
-        None => spaces(alloc, generation.max().kb),
-    }
-}
-
 // The LSSBs of the row, or none.
 fn lssbs_of(alloc: Global, began: &Option<Service>) -> Result<Areas, OutOfMemory>
     requires { HasOrder began.now }
@@ -88,40 +57,6 @@ fn lssbs_of(alloc: Global, began: &Option<Service>) -> Result<Areas, OutOfMemory
         Some(row) => Ok(row.lssbs.clone()?),
         None => Ok(Areas::new(alloc)),
     }
-}
-
-// A unit run before its first statement.
-fn fresh_run(
-    alloc: Global,
-    generation: &Generation,
-    kb: Bytes,
-    header: Header,
-) -> Result<RunState, OutOfMemory>
-    ensures { IfOk result (λ run. run ≡ fresh_run generation.now kb header) }
-{
-    Ok(RunState {
-        place: 1,
-        count: 0,
-        budget: budget(generation, header.tacal),
-        kb,
-        spab: spaces(alloc, generation.max().spab)?,
-        code: Code::Done,
-        length: 0,
-        header,
-    })
-}
-
-// The same run begins anew, for this TAC. It keeps the KB.
-fn restart(run: &mut RunState, budget: u32, tac: Name, spab: Bytes)
-    ensures { run.new ≡ record { place = 1; count = 0; budget = budget; kb = run.old.kb; spab = spab; code = code.Done; length = 0; header = record run.old.header { tacal = tac } } }
-{
-    run.place = 1;
-    run.count = 0;
-    run.budget = budget;
-    run.spab = spab;
-    run.code = Code::Done;
-    run.length = 0;
-    run.header.tacal = tac;
 }
 
 // The inputs accepted: the message to read, if it is one.
@@ -166,7 +101,7 @@ fn begin_with(
 
 impl OpenTransaction {
     /// A transaction of a service opens, from its row if it has one. Its unit run has the parts `handed` to read, which
-    /// are an input that it accepted, or a message that was handed on or is a job's. It stands in a box, since it is wide
+    /// are an input that it accepted, or a message that was handed on or is a job's. It is in a box, since it is wide
     /// and has several owners one after another.
     #[tactic(auto, unfolding(abstract_monitor::specs::Endings::opened))]
     pub fn begin(

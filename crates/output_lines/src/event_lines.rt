@@ -1,8 +1,10 @@
 //! One output line for each event, ended by LF. Each call takes memory for its line.
 ghost use Rattle.std.specs.Prelude.{◌≡◌, ◌∷◌, ◌++◌, codes, decimal, IfOk, OnOk};
+ghost use Rattle.abstract_monitor.specs.Commands.{refusal_text};
 ghost use Rattle.abstract_monitor.specs.Lines.{line, out_line, asy_line, prt_line, sys_line, no_message_line, ended_line, owner_text, dump_line, tick_line, tick_refused_line};
 
 use crate::texts::cause_text;
+use abstract_monitor::{Denial, TacFault};
 use kd_base::{Bytes, Name, OutOfMemory, escape};
 use kdcs_types::{Cause, ServiceId};
 use std::alloc::Global;
@@ -23,7 +25,7 @@ fn put_number(out: &mut Bytes, alloc: Global, number: u64) -> Result<(), OutOfMe
     out.append(digits.as_bytes())
 }
 
-// What happened, with a space behind it, at a terminal or printer.
+// What happened, with a space after it, at a terminal or printer.
 fn line_at(alloc: Global, event: &[u8], pterm: Name, text: &[u8]) -> Result<Bytes, OutOfMemory>
     ensures { IfOk result (λ out. out ≡ line (event.now ++ pterm ++ 32 ∷ text.now)) }
 {
@@ -55,14 +57,14 @@ pub fn prt_line(alloc: Global, pterm: Name, message: &[u8]) -> Result<Bytes, Out
     line_at(alloc, b"PRT ", pterm, escape(alloc, message)?.as_slice())
 }
 
-/// `SYS`: what the monitor itself says at a terminal. The text stands as it is.
+/// `SYS`: what the monitor itself says at a terminal. The text is printed as it is.
 pub fn sys_line(alloc: Global, pterm: Name, text: &[u8]) -> Result<Bytes, OutOfMemory>
     ensures { IfOk result (λ out. out ≡ sys_line pterm text.now) }
 {
     line_at(alloc, b"SYS ", pterm, text)
 }
 
-// What the monitor says at a terminal of a user, whose name stands last.
+// What the monitor says at a terminal of a user, whose name is last.
 fn user_line(alloc: Global, pterm: Name, said: &[u8], user: Name) -> Result<Bytes, OutOfMemory>
     ensures { IfOk result (λ out. out ≡ sys_line pterm (said.now ++ user)) }
 {
@@ -83,6 +85,35 @@ pub fn signed_off_line(alloc: Global, pterm: Name, user: Name) -> Result<Bytes, 
     ensures { IfOk result (λ out. out ≡ sys_line pterm (codes "SIGNED OFF " ++ user)) }
 {
     user_line(alloc, pterm, b"SIGNED OFF ", user)
+}
+
+// A text that ends with a code of keys.
+fn text_of_code(alloc: Global, said: &[u8], code: u16) -> Result<Bytes, OutOfMemory>
+    ensures { IfOk result (λ out. out ≡ said.now ++ decimal code) }
+{
+    let mut text = Bytes::from_slice(alloc, said)?;
+    put_number(&mut text, alloc, u64::from(code))?;
+    Ok(text)
+}
+
+// Why a TAC is refused.
+fn refusal_text(alloc: Global, fault: TacFault) -> Result<Bytes, OutOfMemory>
+    ensures { IfOk result (λ out. out ≡ refusal_text fault) }
+{
+    match fault {
+        TacFault::UnknownTac => Bytes::from_slice(alloc, b"UNKNOWN TAC"),
+        TacFault::NotAllowed => Bytes::from_slice(alloc, b"TAC NOT ALLOWED"),
+        TacFault::IsOff => Bytes::from_slice(alloc, b"TAC IS OFF"),
+        TacFault::Denied(Denial::User(code)) => text_of_code(alloc, b"TAC DENIED USER ", code),
+        TacFault::Denied(Denial::Lterm(code)) => text_of_code(alloc, b"TAC DENIED LTERM ", code),
+    }
+}
+
+/// A TAC is refused: no service starts with it.
+pub fn refused_line(alloc: Global, pterm: Name, fault: TacFault) -> Result<Bytes, OutOfMemory>
+    ensures { IfOk result (λ out. out ≡ sys_line pterm (refusal_text fault)) }
+{
+    sys_line(alloc, pterm, refusal_text(alloc, fault)?.as_slice())
 }
 
 /// There is no message to show, by KDCDISP, KDCOUT, KDCLAST or PRINT.

@@ -14,8 +14,8 @@ mod texts;
 mod words;
 
 pub use event_lines::{
-    asy_line, dump_line, ended_line, no_message_line, out_line, owner_text, prt_line,
+    asy_line, dump_line, ended_line, no_message_line, out_line, owner_text, prt_line, refused_line,
     signed_off_line, signed_on_line, sys_line, tick_line, tick_refused_line,
 };
 pub use listing::table_lines;
-pub use texts::{cause_text, fault_text, refusal_text};
+pub use texts::{cause_text, fault_text};

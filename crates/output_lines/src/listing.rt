@@ -1,4 +1,4 @@
-//! All lines of tables, one behind the other.
+//! All lines of tables, one after the other.
 ghost use Rattle.std.specs.Prelude.{◌≡◌, ◌++◌, flat_map, OnOk, IfOk};
 ghost use Rattle.abstract_monitor.specs.Listing.{gssb_line, block_line, lssb_line, service_lines, job_line, shown_line, listing};
 
@@ -79,7 +79,7 @@ fn put_shown(alloc: Global, rows: &[(Name, JobValue)], text: &mut Bytes) -> Resu
 }
 
 /// The lines of tables, as `show` prints them: the clock, the next job number, and the rows in the order of kinds and
-/// keys, a service with its KB and its LSSBs behind it. Contents and messages stand by escape; each line ends with LF.
+/// keys, a service with its KB and its LSSBs after it. Contents and messages are escaped; each line ends with LF.
 pub fn table_lines(alloc: Global, tables: &Tables) -> Result<Bytes, OutOfMemory>
     ensures { IfOk result (λ text. text ≡ listing tables.now) }
 {

@@ -1,8 +1,8 @@
-//! The words for causes and refusals. No call takes memory.
+//! The words for causes and refused sign-ons. No call takes memory.
 ghost use Rattle.std.specs.Prelude.{◌≡◌};
-ghost use Rattle.abstract_monitor.specs.{Commands.{fault_text, refusal_text}, Lines.{cause_text}};
+ghost use Rattle.abstract_monitor.specs.{Commands.{fault_text}, Lines.{cause_text}};
 
-use abstract_monitor::{SignFault, TacFault};
+use abstract_monitor::SignFault;
 use kdcs_types::Cause;
 
 /// The name of a cause in a dump line: `E01` to `E12`, and `ER` for PEND ER.
@@ -35,16 +35,5 @@ pub fn fault_text(fault: SignFault) -> &'static [u8]
         SignFault::UnknownUser => b"UNKNOWN USER",
         SignFault::WrongPassword => b"WRONG PASSWORD",
         SignFault::InUse => b"USER IS SIGNED ON",
-    }
-}
-
-/// Why a TAC is refused, as the text of a `SYS` line.
-pub fn refusal_text(fault: TacFault) -> &'static [u8]
-    ensures { result.now ≡ refusal_text fault }
-{
-    match fault {
-        TacFault::UnknownTac => b"UNKNOWN TAC",
-        TacFault::NotAllowed => b"TAC NOT ALLOWED",
-        TacFault::IsOff => b"TAC IS OFF",
     }
 }

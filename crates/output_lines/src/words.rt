@@ -1,4 +1,4 @@
-//! Words of a line, each behind a space.
+//! Words of a line, each after a space.
 ghost use Rattle.std.specs.Prelude.{◌≡◌, ◌∷◌, ◌++◌, decimal, IfOk, OnOk};
 ghost use Rattle.kd_base.specs.Text.{escaped};
 ghost use Rattle.abstract_monitor.specs.Lines.{line, owner_text};

@@ -2,7 +2,7 @@ mod Eight
 mod Failed
 mod Grown
 mod Neighbours
-mod Room
+mod ShortItems
 mod SetsSoFar
 mod Short
 mod SoMany

@@ -1,4 +1,4 @@
--- How values are read: readers of what stands in front of some bytes, each with what was written for it to read.
+-- How values are read: readers of what is in front of some bytes, each with what was written for it to read.
 use Rattle.std.specs.Prelude.{ℕ, zero, suc, ◌^◌, ◌<◌, List, [], ◌∷◌, length, get_or, Option, Some, None, option_and_then, ◌==◌, if◌then◌else◌}
 use Rattle.std.specs.Int.{Width, w8, w32}
 use Rattle.std.specs.List.{AllByRecursion as Each}
@@ -30,7 +30,7 @@ IsShort bytes = length bytes < 2 ^ 32
 
 -- ---- one after another
 
--- two, one behind the other
+-- two, one after the other
 abbrev pub both : {A B : Type 0} → (List ℕ → Option (A × List ℕ)) → (List ℕ → Option (B × List ℕ)) → List ℕ → Option ((A × B) × List ℕ)
 both one two bytes = option_and_then (λ p. option_map (λ q. ((p.0, q.0), q.1)) (two p.1)) (one bytes)
 
@@ -52,6 +52,6 @@ FitAll F xs = (length xs < 2 ^ 32) × Each F xs
 abbrev pub chosen_by : {A : Type 0} → (ℕ → List ℕ → Option (A × List ℕ)) → List ℕ → Option (A × List ℕ)
 chosen_by by bytes = option_and_then (λ p. by p.0 p.1) (number_field w8 bytes)
 
--- read in one way behind one byte, and in another behind another
+-- read in one way after one byte, and in another after another
 abbrev pub either : {A : Type 0} → ℕ → (List ℕ → Option (A × List ℕ)) → ℕ → (List ℕ → Option (A × List ℕ)) → ℕ → List ℕ → Option (A × List ℕ)
 either a one b two n rest = if n == a then one rest else (if n == b then two rest else None)

@@ -1,4 +1,4 @@
--- Laws: how values are read: readers of what stands in front of some bytes, each with what was written for it to read.
+-- Laws: how values are read: readers of what is in front of some bytes, each with what was written for it to read.
 use Rattle.std.specs.Prelude.{◌≡◌, refl, ℕ, zero, suc, ◌+◌, ◌^◌, ◌<◌, ◌≤◌, cond, List, [], ◌∷◌, ◌++◌, length, take, drop, flat_map, Option, Some, None, option_and_then, ◌==◌, if◌then◌else◌, nat_lt}
 use Rattle.std.proofs.Common.{sym, ap, subst, ◌∙◌, inl, inr, arith, append_assoc, ⊎_elim}
 use Rattle.std.proofs.lemmas.Bool.{cases_lt, ltb-false, eqb-true}

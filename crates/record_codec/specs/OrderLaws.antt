@@ -37,7 +37,7 @@ equal_is n =
     let e : (n == n) ≡ true = grind (arith, nat_tests) in
     rw (t, e) refl
 
--- ---- lists of one length, one behind the other
+-- ---- lists of one length, one after the other
 
 then_then : (a b c : Ordering) → ordering_then (ordering_then a b) c ≡ ordering_then a (ordering_then b c)
 then_then Less b c = refl

@@ -15,5 +15,5 @@ abbrev pub HasProperKeys : TableRows → Type 0
 HasProperKeys t = All (λ (r : Row). IsProperKey (row_key r)) (rows_of t)
 
 -- the patch of some changes makes of the records of tables those of the changed tables
-abbrev pub PatchesFollowChanges : Type 0
-PatchesFollowChanges = (t : TableRows) (c : Changes) → HasProperKeys t → All (λ (ch : Change). IsProperKey (change_key ch)) c.items → AreChanges c.items → patched (content_of_tables t) (patch_of c) ≡ content_of_tables (changed t c)
+abbrev pub PatchesMatchChanges : Type 0
+PatchesMatchChanges = (t : TableRows) (c : Changes) → HasProperKeys t → All (λ (ch : Change). IsProperKey (change_key ch)) c.items → AreChanges c.items → patched (content_of_tables t) (patch_of c) ≡ content_of_tables (changed t c)

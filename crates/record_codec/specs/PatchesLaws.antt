@@ -33,7 +33,7 @@ use Rattle.record_codec.specs.Values.{record_key, value_bytes, service_bytes, jo
 use Rattle.record_codec.specs.Records.{rows_of}
 use Rattle.record_codec.specs.Order.{IsProperKey}
 use Rattle.record_codec.specs.OrderLaws.{keys_keep_their_order}
-use Rattle.record_codec.specs.Patches.{PatchesFollowChanges}
+use Rattle.record_codec.specs.Patches.{PatchesMatchChanges}
 use Rattle.std.proofs.ByRecursion.{All-append}
 use Rattle.kd_base.specs.ListsLaws.{each_front, each_behind}
 
@@ -194,7 +194,7 @@ past key_of value_of k v es rest there below e =
     put_in_front (record_key k) v (map (record_at key_of value_of) es) rest (each_mapped (Below (record_key k)) (record_at key_of value_of) below es)
     ∙ ap (λ (l : List Record). map (record_at key_of value_of) es ++ l) e
 
--- the records of this kind, with those of the kinds behind it
+-- the records of this kind, with those of the kinds after it
 here : {E : Type 0} (key_of : E → Key) (value_of : E → List ℕ) (e : E) (es : List E) (rest : List Record)
     → IsProperKey (key_of e) → Each (λ x. IsProperKey (key_of x)) es → Each (Above (record_key (key_of e))) rest
     → put record_cmp (record_key (key_of e)) (value_of e) (map (record_at key_of value_of) es ++ rest) ≡ map (record_at key_of value_of) (with_item key_of e es) ++ rest
@@ -218,7 +218,7 @@ value_of_job j = job_bytes j.value
 abbrev pub value_of_shown : List ℕ × JobValue → List ℕ
 value_of_shown r = job_bytes r.1
 
--- the records of areas, as a key behind them meets them
+-- the records of areas, as a key after them meets them
 past_areas : (t : TableRows) (k : Key) (v : List ℕ) (rest there : List Record)
     → ((e : List ℕ × List ℕ) → record_cmp (record_key k) (record_key (gssb_key e)) ≡ Greater)
     → ((e : List ℕ × List ℕ × List ℕ) → record_cmp (record_key k) (record_key (tls_key e)) ≡ Greater)
@@ -227,34 +227,34 @@ past_areas : (t : TableRows) (k : Key) (v : List ℕ) (rest there : List Record)
     → put record_cmp (record_key k) v (gssb_records t.gssbs ++ (tls_records t.tlss ++ (uls_records t.ulss ++ rest))) ≡ gssb_records t.gssbs ++ (tls_records t.tlss ++ (uls_records t.ulss ++ there))
 past_areas t k v rest there gssbs tlss ulss e = past gssb_key (λ r. r.1) k v t.gssbs _ _ gssbs (past tls_key second k v t.tlss _ _ tlss (past uls_key second k v t.ulss _ _ ulss e))
 
-set_follows : (t : TableRows) (r : Row) → EachRow HasProperKey t → HasProperKey r → IsTrue (row_fits r) → put record_cmp (record_key (row_key r)) (value_bytes r) (by_kinds t) ≡ by_kinds (with_row t r)
-set_follows t (row.Gssb name content) h k fits =
+set_matches : (t : TableRows) (r : Row) → EachRow HasProperKey t → HasProperKey r → IsTrue (row_fits r) → put record_cmp (record_key (row_key r)) (value_bytes r) (by_kinds t) ≡ by_kinds (with_row t r)
+set_matches t (row.Gssb name content) h k fits =
     let q = key.Gssb name in
     here gssb_key (λ r. r.1) (name, content) t.gssbs _ k h.gssbs
     (above_more tls_key second q (λ e. refl) t.tlss _ (above_more uls_key second q (λ e. refl) t.ulss _ (above_more service_key service_bytes q (λ e. refl) t.services _ (above_more job_key value_of_job q (λ e. refl) t.jobs _ (above_all shown_key value_of_shown q (λ e. refl) t.shown)))))
-set_follows t (row.Tls block lterm content) h k fits =
+set_matches t (row.Tls block lterm content) h k fits =
     let q = key.Tls block lterm in
     past gssb_key (λ r. r.1) q content t.gssbs _ _ (λ e. refl)
     (here tls_key second (block, lterm, content) t.tlss _ k h.tlss
     (above_more uls_key second q (λ e. refl) t.ulss _ (above_more service_key service_bytes q (λ e. refl) t.services _ (above_more job_key value_of_job q (λ e. refl) t.jobs _ (above_all shown_key value_of_shown q (λ e. refl) t.shown)))))
-set_follows t (row.Uls block user content) h k fits =
+set_matches t (row.Uls block user content) h k fits =
     let q = key.Uls block user in
     past gssb_key (λ r. r.1) q content t.gssbs _ _ (λ e. refl)
     (past tls_key second q content t.tlss _ _ (λ e. refl)
     (here uls_key second (block, user, content) t.ulss _ k h.ulss
     (above_more service_key service_bytes q (λ e. refl) t.services _ (above_more job_key value_of_job q (λ e. refl) t.jobs _ (above_all shown_key value_of_shown q (λ e. refl) t.shown)))))
-set_follows t (row.Service id service) h k fits =
+set_matches t (row.Service id service) h k fits =
     let own : service.id ≡ id = id_eq_same service.id id (both_true (id_eq service.id id) (service_fits service) fits).0 in
     past_areas t (key.Service id) (service_bytes service) _ _ (λ e. refl) (λ e. refl) (λ e. refl)
     (ap (λ i. put record_cmp (record_key (key.Service i)) (service_bytes service) (service_records t.services ++ (job_records t.jobs ++ shown_records t.shown))) (sym own)
     ∙ here service_key service_bytes service t.services _ (subst (λ i. IsProperKey (key.Service i)) (sym own) k) h.services
     (above_more job_key value_of_job (key.Service service.id) (λ e. refl) t.jobs _ (above_all shown_key value_of_shown (key.Service service.id) (λ e. refl) t.shown)))
-set_follows t (row.Job number value) h k fits =
+set_matches t (row.Job number value) h k fits =
     let q = key.Job number in
     past_areas t q (job_bytes value) _ _ (λ e. refl) (λ e. refl) (λ e. refl)
     (past service_key service_bytes q (job_bytes value) t.services _ _ (λ e. refl)
     (here job_key value_of_job (record { number = number; value = value }) t.jobs _ k h.jobs (above_all shown_key value_of_shown q (λ e. refl) t.shown)))
-set_follows t (row.Shown lterm value) h k fits =
+set_matches t (row.Shown lterm value) h k fits =
     let q = key.Shown lterm in
     past_areas t q (job_bytes value) _ _ (λ e. refl) (λ e. refl) (λ e. refl)
     (past service_key service_bytes q (job_bytes value) t.services _ _ (λ e. refl)
@@ -283,28 +283,28 @@ leaves key_of value_of k es rest there h hs e =
     without_both (record_key k) (map (record_at key_of value_of) es) rest
     ∙ (λ i. ◌++◌ {A = Record} (section_without key_of value_of k es h hs i) (e i))
 
-remove_follows : (t : TableRows) (q : Key) → EachRow HasProperKey t → IsProperKey q → without (record_key q) (by_kinds t) ≡ by_kinds (without_row t q)
-remove_follows t (key.Gssb name) h k =
+remove_matches : (t : TableRows) (q : Key) → EachRow HasProperKey t → IsProperKey q → without (record_key q) (by_kinds t) ≡ by_kinds (without_row t q)
+remove_matches t (key.Gssb name) h k =
     let q = key.Gssb name in
     leaves gssb_key (λ r. r.1) q t.gssbs _ _ k h.gssbs
     (stays tls_key second q t.tlss _ _ (λ e. refl) (stays uls_key second q t.ulss _ _ (λ e. refl) (stays service_key service_bytes q t.services _ _ (λ e. refl) (stays job_key value_of_job q t.jobs _ _ (λ e. refl) (last_stays shown_key value_of_shown q t.shown (λ e. refl))))))
-remove_follows t (key.Tls block lterm) h k =
+remove_matches t (key.Tls block lterm) h k =
     let q = key.Tls block lterm in
     stays gssb_key (λ r. r.1) q t.gssbs _ _ (λ e. refl)
     (leaves tls_key second q t.tlss _ _ k h.tlss (stays uls_key second q t.ulss _ _ (λ e. refl) (stays service_key service_bytes q t.services _ _ (λ e. refl) (stays job_key value_of_job q t.jobs _ _ (λ e. refl) (last_stays shown_key value_of_shown q t.shown (λ e. refl))))))
-remove_follows t (key.Uls block user) h k =
+remove_matches t (key.Uls block user) h k =
     let q = key.Uls block user in
     stays gssb_key (λ r. r.1) q t.gssbs _ _ (λ e. refl)
     (stays tls_key second q t.tlss _ _ (λ e. refl) (leaves uls_key second q t.ulss _ _ k h.ulss (stays service_key service_bytes q t.services _ _ (λ e. refl) (stays job_key value_of_job q t.jobs _ _ (λ e. refl) (last_stays shown_key value_of_shown q t.shown (λ e. refl))))))
-remove_follows t (key.Service id) h k =
+remove_matches t (key.Service id) h k =
     let q = key.Service id in
     stays gssb_key (λ r. r.1) q t.gssbs _ _ (λ e. refl)
     (stays tls_key second q t.tlss _ _ (λ e. refl) (stays uls_key second q t.ulss _ _ (λ e. refl) (leaves service_key service_bytes q t.services _ _ k h.services (stays job_key value_of_job q t.jobs _ _ (λ e. refl) (last_stays shown_key value_of_shown q t.shown (λ e. refl))))))
-remove_follows t (key.Job number) h k =
+remove_matches t (key.Job number) h k =
     let q = key.Job number in
     stays gssb_key (λ r. r.1) q t.gssbs _ _ (λ e. refl)
     (stays tls_key second q t.tlss _ _ (λ e. refl) (stays uls_key second q t.ulss _ _ (λ e. refl) (stays service_key service_bytes q t.services _ _ (λ e. refl) (leaves job_key value_of_job q t.jobs _ _ k h.jobs (last_stays shown_key value_of_shown q t.shown (λ e. refl))))))
-remove_follows t (key.Shown lterm) h k =
+remove_matches t (key.Shown lterm) h k =
     let q = key.Shown lterm in
     stays gssb_key (λ r. r.1) q t.gssbs _ _ (λ e. refl)
     (stays tls_key second q t.tlss _ _ (λ e. refl) (stays uls_key second q t.ulss _ _ (λ e. refl) (stays service_key service_bytes q t.services _ _ (λ e. refl) (stays job_key value_of_job q t.jobs _ _ (λ e. refl) (section_without shown_key value_of_shown q t.shown k h.shown)))))
@@ -343,15 +343,15 @@ changes_keep P (Set r ∷ cs) t h ks fits =
     changes_keep P cs (with_row t r) (set_keeps P t r h ks.0 parts.0) ks.1 parts.1
 changes_keep P (Remove q ∷ cs) t h ks fits = changes_keep P cs (without_row t q) (remove_keeps P t q h) ks.1 fits
 
-follow : (cs : List Change) (t : TableRows) → EachRow HasProperKey t → Each (λ (c : Change). IsProperKey (change_key c)) cs → IsTrue (list_all change_fits cs) → changed_all (by_kinds t) (map record_change cs) ≡ by_kinds (with_changes t cs)
-follow [] t h ks fits = refl
-follow (Set r ∷ cs) t h ks fits =
+all_match : (cs : List Change) (t : TableRows) → EachRow HasProperKey t → Each (λ (c : Change). IsProperKey (change_key c)) cs → IsTrue (list_all change_fits cs) → changed_all (by_kinds t) (map record_change cs) ≡ by_kinds (with_changes t cs)
+all_match [] t h ks fits = refl
+all_match (Set r ∷ cs) t h ks fits =
     let parts = both_true (row_fits r) (list_all change_fits cs) fits in
-    ap (λ (l : List Record). changed_all l (map record_change cs)) (set_follows t r h ks.0 parts.0)
-    ∙ follow cs (with_row t r) (set_keeps HasProperKey t r h ks.0 parts.0) ks.1 parts.1
-follow (Remove q ∷ cs) t h ks fits =
-    ap (λ (l : List Record). changed_all l (map record_change cs)) (remove_follows t q h ks.0)
-    ∙ follow cs (without_row t q) (remove_keeps HasProperKey t q h) ks.1 fits
+    ap (λ (l : List Record). changed_all l (map record_change cs)) (set_matches t r h ks.0 parts.0)
+    ∙ all_match cs (with_row t r) (set_keeps HasProperKey t r h ks.0 parts.0) ks.1 parts.1
+all_match (Remove q ∷ cs) t h ks fits =
+    ap (λ (l : List Record). changed_all l (map record_change cs)) (remove_matches t q h ks.0)
+    ∙ all_match cs (without_row t q) (remove_keeps HasProperKey t q h) ks.1 fits
 
 module _ {X : Type 0} (P : X → Type 0) where
   pub each_unmapped : {A : Type 0} (f : A → X) (xs : List A) → Each P (map f xs) → Each (λ a. P (f a)) xs
@@ -392,13 +392,13 @@ all_rows P t h =
     (All-append P (map job_row t.jobs) _ (each_listed P job_row t.jobs h.jobs)
     (each_listed P shown_row t.shown h.shown))))))
 
-pub patches_follow_changes : PatchesFollowChanges
-patches_follow_changes t c h ks are =
+pub patches_match_changes : PatchesMatchChanges
+patches_match_changes t c h ks are =
     let numbers = numbers_changed t c in
     let kept = each_row HasProperKey t h in
     let begun : EachRow HasProperKey (record t { clock = c.clock; next_job = c.next_job }) = record { gssbs = kept.gssbs; tlss = kept.tlss; ulss = kept.ulss; services = kept.services; jobs = kept.jobs; shown = kept.shown } in
     let items : changed_all (map record_of (rows_of t)) (map record_change c.items) ≡ map record_of (rows_of (changed t c)) =
     ap (λ (l : List Record). changed_all l (map record_change c.items)) (kinds_are t)
-    ∙ follow c.items (record t { clock = c.clock; next_job = c.next_job }) begun (recursion_from_All (λ (ch : Change). IsProperKey (change_key ch)) c.items ks) are.fit
+    ∙ all_match c.items (record t { clock = c.clock; next_job = c.next_job }) begun (recursion_from_All (λ (ch : Change). IsProperKey (change_key ch)) c.items ks) are.fit
     ∙ sym (kinds_are (changed t c)) in
     λ i. record { clock = sym numbers.0 i; next_job = sym numbers.1 i; items = items i }

@@ -3,7 +3,7 @@ use Rattle.std.specs.Prelude.{◌≡◌, ℕ, List, ⊤, Option, Some, None, Res
 use Rattle.record_codec.specs.declared.reading.Unread.{Unread}
 use Rattle.record_codec.specs.declared.reading.Unread.TheVariants.{NoRow, Memory}
 
--- it answers just what stands there, unless memory ran out
+-- it answers just what is there, unless memory ran out
 abbrev pub Reads : {A : Type 0} → Result A Unread → List ℕ → Option (A × List ℕ) → Type 0
 Reads (Ok x) left found = found ≡ Some (x, left)
 Reads (Err NoRow) left found = found ≡ None

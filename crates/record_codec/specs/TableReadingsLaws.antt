@@ -30,7 +30,7 @@ use Rattle.record_codec.specs.Values.{record_key, service_bytes, record_of, reco
 use Rattle.record_codec.specs.Records.{rows_of, content_of_tables, patch_of, AreTablesOf}
 use Rattle.record_codec.specs.Order.{IsProperKey}
 use Rattle.record_codec.specs.OrderLaws.{keys_keep_their_order}
-use Rattle.record_codec.specs.PatchesLaws.{put_in_front, each_mapped, record_at, Above, above_all, above_more, second, value_of_job, value_of_shown, by_kinds, kinds_are, EachRow, HasProperKey, OfSet, each_row, all_rows, changes_keep, patches_follow_changes}
+use Rattle.record_codec.specs.PatchesLaws.{put_in_front, each_mapped, record_at, Above, above_all, above_more, second, value_of_job, value_of_shown, by_kinds, kinds_are, EachRow, HasProperKey, OfSet, each_row, all_rows, changes_keep, patches_match_changes}
 use Rattle.record_codec.specs.RowReadings.{IsProperRow, row_read}
 use Rattle.record_codec.specs.RowReadingsLaws.{row_back, row_there}
 use Rattle.record_codec.specs.TableReadings.{sets_read, AreRecordBytes, AreProperTables}
@@ -40,7 +40,7 @@ use Rattle.std.proofs.ByRecursion.{All-append}
 abbrev set_record : Record → RecordChange
 set_record x = (x.0, Some x.1)
 
--- ---- records put one behind another
+-- ---- records put one after another
 
 reversed : (x a : Record) → IsTrue (is_lt (record_cmp a.0 x.0)) → record_cmp x.0 a.0 ≡ Greater
 reversed x a h = key_total.antisymm x.0 a.0 ∙ by (record_cmp a.0 x.0) h
@@ -54,7 +54,7 @@ nil_behind : (xs : List Record) → xs ++ [] ≡ xs
 nil_behind [] = refl
 nil_behind (x ∷ xs) = ap (λ (l : List Record). x ∷ l) (nil_behind xs)
 
--- each of the later records is behind each of the former ones
+-- each of the later records is after each of the former ones
 abbrev AllBehind : List Record → List Record → Type 0
 AllBehind done xs = Each (λ (x : Record). Each (λ (a : Record). record_cmp x.0 a.0 ≡ Greater) done) xs
 
@@ -144,7 +144,7 @@ tables_there x c clock next_job are h e =
     let s = sets_there x.items c.items (recursion_from_All AreRecordBytes x.items are) e in
     let changes = changes_are x.items c.items are h e in
     let made : patched (content_of_tables empty_tables) (patch_of c) ≡ content_of_tables (changed empty_tables c)
-    = patches_follow_changes empty_tables c (All-nil (λ (r : Row). IsProperKey (row_key r))) (All-from_recursion (λ (ch : Change). IsProperKey (change_key ch)) c.items s.proper) changes in
+    = patches_match_changes empty_tables c (All-nil (λ (r : Row). IsProperKey (row_key r))) (All-from_recursion (λ (ch : Change). IsProperKey (change_key ch)) c.items s.proper) changes in
     let items : changed_all [] (map record_change c.items) ≡ x.items = ap (changed_all []) s.records ∙ records_put x.items h in
     record {
       sorted = changed_sorted empty_tables c empty_sorted changes;
@@ -211,7 +211,7 @@ sorted_both (x ∷ xs) ys h above k =
     let parts = both_true (below_all record_cmp x.0 xs) (is_sorted record_cmp xs) h in
     true_both (below_all record_cmp x.0 (xs ++ ys)) (is_sorted record_cmp (xs ++ ys)) (below_both x.0 xs ys parts.0 above.0) (sorted_both xs ys parts.1 above.1 k)
 
--- the rows of one kind, before those of the kinds behind
+-- the rows of one kind, before those of the kinds after
 sorted_more : {E : Type 0} (key_of : E → Key) (value_of : E → List ℕ) (es : List E) (rest : List Record) → Each (λ e. IsProperKey (key_of e)) es → IsTrue (ascends key_of es) → ((e : E) → Each (Above (record_key (key_of e))) rest) → IsTrue (is_sorted record_cmp rest) → IsTrue (is_sorted record_cmp (map (record_at key_of value_of) es ++ rest))
 sorted_more key_of value_of es rest hs h above k =
     sorted_both (map (record_at key_of value_of) es) rest (section_sorted key_of value_of es hs h)

@@ -1,6 +1,6 @@
 -- The bytes of keys and values: how a row of the tables is written as a record.
 use Rattle.std.specs.Prelude.{◌<◌, ◌^◌, ⊤, ℕ, ◌-◌, Bool, true, false, List, [], ◌∷◌, ◌++◌, length, flat_map, replicate, Option, Some, None}
-use Rattle.std.specs.Int.{w32, w64, to_be_bytes}
+use Rattle.std.specs.Int.{w32, w64, to_be_bytes, bytes_high_first}
 use Rattle.kd_base.specs.Field.{list}
 use Rattle.kd_base.specs.Text.{padded}
 use Rattle.kd_records.specs.declared.key.RecordKey.{RecordKey}
@@ -79,9 +79,13 @@ abbrev pub target_bytes : Target → List ℕ
 target_bytes (Tac tac) = 84 ∷ padded tac
 target_bytes (Lterm lterm) = 76 ∷ padded lterm
 
--- target, due, user and LTERM, message
+-- how often it was delivered again in one byte, and its due in seven
+abbrev pub times_bytes : JobValue → List ℕ
+times_bytes v = v.redelivered ∷ bytes_high_first 7 v.due
+
+-- target, redelivered and due, user and LTERM, message
 abbrev pub job_bytes : JobValue → List ℕ
-job_bytes v = target_bytes v.to ++ to_be_bytes w64 v.due ++ padded v.user ++ padded v.lterm ++ list v.message
+job_bytes v = target_bytes v.to ++ times_bytes v ++ padded v.user ++ padded v.lterm ++ list v.message
 
 -- the value of a row's record
 abbrev pub value_bytes : Row → List ℕ
@@ -101,9 +105,19 @@ abbrev pub record_change : Change → RecordChange
 record_change (Set r) = (record_key (row_key r), Some (value_bytes r))
 record_change (Remove k) = (record_key k, None)
 
--- the value's length has four bytes
-abbrev pub HasShortValue : Row → Type 0
-HasShortValue r = length (value_bytes r) < 2 ^ 32
+-- the due of a job or of a shown message; other rows have none, that is 0
+abbrev pub due_in : Row → ℕ
+due_in (row.Gssb name content) = 0
+due_in (row.Tls block lterm content) = 0
+due_in (row.Uls block user content) = 0
+due_in (row.Service id service) = 0
+due_in (row.Job number value) = value.due
+due_in (row.Shown lterm value) = value.due
+
+-- the value's length has four bytes, and its due seven
+pub record HasShortValue (r : Row) : Type 0 where
+  pub short : length (value_bytes r) < 2 ^ 32
+  pub due : due_in r < 2 ^ 56
 
 -- the same of the row that a change sets
 abbrev pub HasShortChange : Change → Type 0

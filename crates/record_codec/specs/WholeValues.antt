@@ -1,5 +1,5 @@
 -- Whole values: a job's and a service's.
-use Rattle.std.specs.Prelude.{ℕ, ◌^◌, ◌<◌, Bool, List, [], ◌∷◌, Option, Some, None, option_and_then}
+use Rattle.std.specs.Prelude.{ℕ, ◌^◌, ◌/◌, ◌%◌, ◌<◌, Bool, List, [], ◌∷◌, Option, Some, None, option_and_then}
 use Rattle.std.specs.Int.{w64}
 use Rattle.kd_base.specs.Text.{IsName}
 use Rattle.kdcs_types.specs.declared.key.ServiceId.{ServiceId}
@@ -11,14 +11,16 @@ use Rattle.record_codec.specs.Readings.{turned, flag_reading, last_reading, Last
 
 -- ---- jobs
 
--- names are names, the due has eight bytes, and the message's length four
+-- names are names, the due has seven bytes, the number of deliveries one, and the message's length four
 pub record JobFits (v : JobValue) : Type 0 where
   pub to : TargetFits v.to
-  pub due : v.due < 2 ^ 64
+  pub due : v.due < 2 ^ 56
+  pub redelivered : v.redelivered < 2 ^ 8
   pub user : IsName v.user
   pub lterm : IsName v.lterm
   pub message : IsShort v.message
 
+-- target; redelivered and due as one number of eight bytes; user, LTERM and message
 abbrev pub JobPart : Type 0
 JobPart = Target × (ℕ × (List ℕ × (List ℕ × List ℕ)))
 
@@ -26,7 +28,7 @@ abbrev pub job_part : List ℕ → Option (JobPart × List ℕ)
 job_part = both target_reading (both (number_field w64) (both name_field (both name_field list_field)))
 
 abbrev pub job_of : JobPart → JobValue
-job_of p = record { to = p.0; due = p.1.0; user = p.1.1.0; lterm = p.1.1.1.0; message = p.1.1.1.1 }
+job_of p = record { to = p.0; due = p.1.0 % 2 ^ 56; redelivered = p.1.0 / 2 ^ 56; user = p.1.1.0; lterm = p.1.1.1.0; message = p.1.1.1.1 }
 
 abbrev pub job_reading : List ℕ → Option (JobValue × List ℕ)
 job_reading = turned job_of job_part
@@ -92,6 +94,6 @@ abbrev pub ended : {A : Type 0} → A → List ℕ → Option A
 ended x [] = Some x
 ended x (b ∷ bytes) = None
 
--- what stands in the bytes, with nothing behind it
+-- what is in the bytes, with nothing after it
 abbrev pub whole : {A : Type 0} → (List ℕ → Option (A × List ℕ)) → List ℕ → Option A
 whole reads bytes = option_and_then (λ p. ended p.0 p.1) (reads bytes)

@@ -1,21 +1,21 @@
 -- Laws: whole values: a job's and a service's.
-use Rattle.std.specs.Prelude.{◌≡◌, refl, ℕ, ◌+◌, ◌^◌, ◌<◌, List, [], ◌∷◌, ◌++◌, length, Option, Some, option_and_then}
+use Rattle.std.specs.Prelude.{◌≡◌, refl, ℕ, ◌+◌, ◌*◌, ◌^◌, ◌/◌, ◌%◌, ◌<◌, List, [], ◌∷◌, ◌++◌, length, Option, Some, option_and_then}
 use Rattle.std.proofs.Common.{sym, ap, subst, ◌∙◌, append_assoc, append-nil, arith, length-append}
-use Rattle.std.specs.Int.{w64, to_be_bytes}
+use Rattle.std.specs.Int.{w64, to_be_bytes, byte_at, bytes_high_first}
 use Rattle.kd_base.specs.Text.{IsName, padded}
 use Rattle.kd_base.specs.Field.{list}
 use Rattle.kd_base.specs.ToolsLaws.{some_is, and_some}
 use Rattle.kdcs_types.specs.declared.key.ServiceId.{ServiceId}
 use Rattle.kdcs_types.specs.declared.service.JobValue.{JobValue}
 use Rattle.kdcs_types.specs.declared.service.Service.{Service}
-use Rattle.record_codec.specs.Values.{counted, last_bytes, flag, lterm_bytes, lssb_bytes, service_bytes, target_bytes, job_bytes}
+use Rattle.record_codec.specs.Values.{counted, last_bytes, flag, lterm_bytes, lssb_bytes, service_bytes, target_bytes, times_bytes, job_bytes}
 use Rattle.record_codec.specs.Fields.{AreBytes, IsShort, FitAll, name_field, list_field}
 use Rattle.record_codec.specs.FieldsLaws.{IsReading, names_are_read, u64s_are_read, lists_are_read, both_are_read, counted_are_read}
 use Rattle.record_codec.specs.ReadingsLaws.{turned_back, turned_there, AnyFlag, flags_are_read, lasts_are_read, targets_are_read, lterms_are_read}
 use Rattle.record_codec.specs.Readings.{LastFits, TargetFits, LtermFits}
 use Rattle.record_codec.specs.WholeValues.{JobFits, JobPart, job_part, job_of, job_reading, lssb_reading, LssbFits, ServiceFits, EndPart, ServicePart, end_part, service_part, service_of, service_reading, ended, whole}
 
--- ---- bytes one behind another
+-- ---- bytes one after another
 
 abbrev joined : List ℕ → List (List ℕ) → List ℕ
 joined a [] = a
@@ -47,7 +47,7 @@ joined_long a bs = ap length (joined_nested a bs) ∙ nested_long a bs
 -- ---- jobs
 
 abbrev part_of_job : JobValue → JobPart
-part_of_job v = (v.to, (v.due, (v.user, (v.lterm, v.message))))
+part_of_job v = (v.to, (v.redelivered * 2 ^ 56 + v.due, (v.user, (v.lterm, v.message))))
 
 abbrev job_part_bytes : JobPart → List ℕ
 job_part_bytes p = target_bytes p.0 ++ (to_be_bytes w64 p.1.0 ++ (padded p.1.1.0 ++ (padded p.1.1.1.0 ++ list p.1.1.1.1)))
@@ -59,10 +59,35 @@ job_parts_are_read : IsReading job_part job_part_bytes JobPartFits
 job_parts_are_read = both_are_read _ _ _ _ _ _ targets_are_read (both_are_read _ _ _ _ _ _ u64s_are_read (both_are_read _ _ _ _ _ _ names_are_read (both_are_read _ _ _ _ _ _ names_are_read lists_are_read)))
 
 abbrev behind_target : JobValue → List (List ℕ)
-behind_target v = to_be_bytes w64 v.due ∷ padded v.user ∷ padded v.lterm ∷ list v.message ∷ []
+behind_target v = times_bytes v ∷ padded v.user ∷ padded v.lterm ∷ list v.message ∷ []
 
-job_parted : (p : JobPart) → job_bytes (job_of p) ≡ job_part_bytes p
-job_parted p = joined_nested (target_bytes p.0) (behind_target (job_of p))
+-- eight bytes as one number
+times_parted : (n : ℕ) → n < 2 ^ 64 → (n / 2 ^ 56) ∷ bytes_high_first 7 (n % 2 ^ 56) ≡ to_be_bytes w64 n
+times_parted n h =
+    let a : n / 2 ^ 56 ≡ byte_at 7 n = omega (arith, h) in
+    let b : byte_at 6 (n % 2 ^ 56) ≡ byte_at 6 n = omega arith in
+    let c : byte_at 5 (n % 2 ^ 56) ≡ byte_at 5 n = omega arith in
+    let d : byte_at 4 (n % 2 ^ 56) ≡ byte_at 4 n = omega arith in
+    let e : byte_at 3 (n % 2 ^ 56) ≡ byte_at 3 n = omega arith in
+    let f : byte_at 2 (n % 2 ^ 56) ≡ byte_at 2 n = omega arith in
+    let g : byte_at 1 (n % 2 ^ 56) ≡ byte_at 1 n = omega arith in
+    let k : byte_at 0 (n % 2 ^ 56) ≡ byte_at 0 n = omega arith in
+    λ i. a i ∷ b i ∷ c i ∷ d i ∷ e i ∷ f i ∷ g i ∷ k i ∷ []
+
+job_parted : (p : JobPart) → p.1.0 < 2 ^ 64 → job_bytes (job_of p) ≡ job_part_bytes p
+job_parted p h =
+    joined_nested (target_bytes p.0) (behind_target (job_of p))
+    ∙ ap (λ (l : List ℕ). target_bytes p.0 ++ (l ++ (padded p.1.1.0 ++ (padded p.1.1.1.0 ++ list p.1.1.1.1)))) (times_parted p.1.0 h)
+
+-- the number of eight bytes says what it was made of
+times_there : (v : JobValue) → JobFits v → v.redelivered * 2 ^ 56 + v.due < 2 ^ 64
+times_there v fits = omega (arith, fits.redelivered, fits.due)
+
+job_there : (v : JobValue) → JobFits v → job_of (part_of_job v) ≡ v
+job_there v fits =
+    let due : (v.redelivered * 2 ^ 56 + v.due) % 2 ^ 56 ≡ v.due = omega (arith, fits.due) in
+    let redelivered : (v.redelivered * 2 ^ 56 + v.due) / 2 ^ 56 ≡ v.redelivered = omega (arith, fits.due) in
+    λ i. record { to = v.to; due = due i; redelivered = redelivered i; user = v.user; lterm = v.lterm; message = v.message }
 
 pub job_lengths : (v : JobValue) → length (job_bytes v) ≡ length (target_bytes v.to) + (8 + (length (padded v.user) + (length (padded v.lterm) + length (list v.message))))
 job_lengths v = joined_long (target_bytes v.to) (behind_target v)
@@ -70,12 +95,15 @@ job_lengths v = joined_long (target_bytes v.to) (behind_target v)
 pub jobs_are_read : IsReading job_reading job_bytes JobFits
 jobs_are_read = record {
   comes_back = λ v rest fits.
-      ap (λ (l : List ℕ). job_reading (l ++ rest)) (job_parted (part_of_job v))
-      ∙ turned_back job_of job_part job_part_bytes JobPartFits job_parts_are_read (part_of_job v) rest (fits.to, (fits.due, (fits.user, (fits.lterm, fits.message))));
+      let there = job_there v fits in
+      let short = times_there v fits in
+      ap (λ (l : List ℕ). job_reading (l ++ rest)) (ap job_bytes (sym there) ∙ job_parted (part_of_job v) short)
+      ∙ turned_back job_of job_part job_part_bytes JobPartFits job_parts_are_read (part_of_job v) rest (fits.to, (short, (fits.user, (fits.lterm, fits.message))))
+      ∙ ap (λ (w : JobValue). Some (w, rest)) there;
   stands_there = λ v bytes rest are e.
       let t = turned_there job_of job_part job_part_bytes JobPartFits job_parts_are_read v bytes rest are e in
       let f = t.3 in
-      subst (λ (w : JobValue). (bytes ≡ job_bytes w ++ rest) × JobFits w) t.1 (t.2 ∙ ap (λ (l : List ℕ). l ++ rest) (sym (job_parted t.0)), record { to = f.0; due = f.1.0; user = f.1.1.0; lterm = f.1.1.1.0; message = f.1.1.1.1 });
+      subst (λ (w : JobValue). (bytes ≡ job_bytes w ++ rest) × JobFits w) t.1 (t.2 ∙ ap (λ (l : List ℕ). l ++ rest) (sym (job_parted t.0 f.1.0)), record { to = f.0; due = omega arith; redelivered = omega (arith, f.1.0); user = f.1.1.0; lterm = f.1.1.1.0; message = f.1.1.1.1 });
 }
 
 -- ---- services

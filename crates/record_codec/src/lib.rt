@@ -20,5 +20,5 @@ mod values;
 pub use ascending::ascend;
 pub use decode::tables_of;
 pub use encode::{difference, records};
-pub use laws::{keys_keep_their_order, patches_follow_changes, records_are_one_to_one};
+pub use laws::{keys_keep_their_order, patches_match_changes, records_are_one_to_one};
 pub use rows::row_of;

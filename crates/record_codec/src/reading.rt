@@ -104,24 +104,28 @@ fn lterm_in(id: &ServiceId, reader: &mut Reader) -> Result<Option<Name>, Unread>
     }
 }
 
+/// A due is below this: it has seven bytes.
+const DUE_END: u64 = 0x0100_0000_0000_0000;
+
 pub(crate) fn job_in(alloc: Global, reader: &mut Reader) -> Result<JobValue, Unread>
     ensures { Reads result reader.new (job_reading reader.old) }
 {
     let to = target_in(reader)?;
-    let due = u64_in(reader)?;
+    let times = u64_in(reader)?;
     let user = name_in(reader)?;
     let lterm = name_in(reader)?;
     let message = list_in(alloc, reader)?;
     Ok(JobValue {
         to,
-        due,
+        due: times % DUE_END,
+        redelivered: (times / DUE_END) as u8,
         user,
         lterm,
         message,
     })
 }
 
-/// What stands in a value as often as a count before it says.
+/// What is in a value as often as a count before it says.
 trait Item: Drop {
     ghost reading: { List ℕ → Option (Self × List ℕ) };
 

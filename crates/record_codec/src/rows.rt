@@ -70,7 +70,7 @@ fn key_in(key: &RecordKey) -> Result<Key, Unread>
     }
 }
 
-// What was read, where nothing is left behind it.
+// What was read, where nothing is left after it.
 fn ended<T: Drop>(reader: &Reader, read: T) -> Result<T, Unread>
     ensures { ReadsWhole result (ended read reader.now) }
 {
@@ -149,7 +149,7 @@ pub(crate) fn row_in(alloc: Global, key: &RecordKey, value: &[u8]) -> Result<Row
     }
 }
 
-/// The row that has this record: under this key this value. `None` exactly where no row that may stand in tables has it.
+/// The row that has this record: under this key this value. `None` exactly where no row that may be in tables has it.
 pub fn row_of(alloc: Global, key: &RecordKey, value: &[u8]) -> Result<Option<Row>, OutOfMemory>
     ensures found { IfOk result (λ row. IfSome row (λ r. RowThere (key.now, value.now) r)) }
     ensures none { IfOk result (λ row. row ≡ None → (r : RowIs) → IsProperRow r → IsTrue (row_fits r) → (key.now, value.now) ≢ record_of r) }

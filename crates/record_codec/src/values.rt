@@ -2,7 +2,7 @@
 ghost use Rattle.std.specs.Prelude.{◌≡◌, ◌<◌, ◌^◌, ◌++◌, List, ℕ, length, flat_map, All, OnOk, IfOk};
 ghost use Rattle.kd_base.specs.Field.{list};
 ghost use Rattle.kdcs_types.specs.Tables.{row_key};
-ghost use Rattle.record_codec.specs.Values.{counted, flag, last_bytes, lterm_bytes, lssb_bytes, service_bytes, target_bytes, job_bytes, value_bytes, HasShortValue};
+ghost use Rattle.record_codec.specs.Values.{counted, flag, last_bytes, lterm_bytes, lssb_bytes, service_bytes, target_bytes, times_bytes, job_bytes, value_bytes, HasShortValue};
 
 use kd_base::{Bytes, Name, OutOfMemory};
 use kdcs_types::{JobValue, Row, Service, Target};
@@ -23,14 +23,22 @@ fn put_target(to: &Target, w: &mut Bytes) -> Result<(), OutOfMemory>
     }
 }
 
-/// The value of a job's record.
+// How often a job was delivered again, and its due in seven bytes.
+fn put_times(value: &JobValue, w: &mut Bytes) -> Result<(), OutOfMemory>
+    ensures { OnOk result (w.new ≡ w.old ++ times_bytes value.now) }
+{
+    w.push(value.redelivered)?;
+    w.append(&value.due.to_be_bytes()[1..])
+}
+
+/// The value of a job's record. Its due is below 2^56.
 pub(crate) fn job_value(alloc: Global, value: &JobValue) -> Result<Bytes, OutOfMemory>
     requires { length (job_bytes value.now) < 2 ^ 32 }
     ensures { IfOk result (λ bytes. bytes ≡ job_bytes value.now) }
 {
     let mut w = Bytes::new(alloc);
     put_target(&value.to, &mut w)?;
-    w.put_u64(value.due)?;
+    put_times(value, &mut w)?;
     w.put_name(value.user)?;
     w.put_name(value.lterm)?;
     w.put_list(value.message.as_slice())?;
@@ -75,7 +83,7 @@ fn put_each_part(parts: &[Bytes], w: &mut Bytes) -> Result<(), OutOfMemory>
     Ok(())
 }
 
-#[tactic(auto, using(crate::proofs::Room::few_parts, crate::proofs::Room::short_parts))]
+#[tactic(auto, using(crate::proofs::ShortItems::few_parts, crate::proofs::ShortItems::short_parts))]
 fn put_parts(parts: &[Bytes], w: &mut Bytes) -> Result<(), OutOfMemory>
     requires { length (counted list parts.now) < 2 ^ 32 }
     ensures { OnOk result (w.new ≡ w.old ++ counted list parts.now) }
@@ -95,7 +103,7 @@ fn put_each_lssb(lssbs: &[(Name, Bytes)], w: &mut Bytes) -> Result<(), OutOfMemo
     Ok(())
 }
 
-#[tactic(auto, using(crate::proofs::Room::few_lssbs, crate::proofs::Room::short_lssbs))]
+#[tactic(auto, using(crate::proofs::ShortItems::few_lssbs, crate::proofs::ShortItems::short_lssbs))]
 fn put_lssbs(lssbs: &[(Name, Bytes)], w: &mut Bytes) -> Result<(), OutOfMemory>
     requires { length (counted lssb_bytes lssbs.now) < 2 ^ 32 }
     ensures { OnOk result (w.new ≡ w.old ++ counted lssb_bytes lssbs.now) }

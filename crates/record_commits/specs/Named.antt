@@ -13,10 +13,10 @@ use Rattle.kdcs_types.specs.Tables.{row_key}
 use Rattle.record_codec.specs.Order.{IsProperKey}
 use Rattle.record_codec.specs.Readings.{TargetFits}
 
--- the names of a job's value are names, and its due has eight bytes
+-- the names of a job's value are names, and the number of its deliveries has one byte
 pub record IsNamedJob (v : JobValue) : Type 0 where
   pub to : TargetFits v.to
-  pub due : v.due < 2 ^ 64
+  pub redelivered : v.redelivered < 2 ^ 8
   pub user : IsName v.user
   pub lterm : IsName v.lterm
 

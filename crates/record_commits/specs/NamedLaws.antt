@@ -39,7 +39,7 @@ service_named s fits = record {
 }
 
 job_named : (v : JobValue) → JobFits v → IsNamedJob v
-job_named v fits = record { to = fits.to; due = fits.due; user = fits.user; lterm = fits.lterm }
+job_named v fits = record { to = fits.to; redelivered = fits.redelivered; user = fits.user; lterm = fits.lterm }
 
 value_named : (r : Row) → ValueFits r → IsNamedValue r
 value_named (row.Gssb name content) fits = tt

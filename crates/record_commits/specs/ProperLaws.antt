@@ -30,10 +30,12 @@ use Rattle.record_codec.specs.Records.{rows_of}
 use Rattle.record_codec.specs.RowReadings.{IsProperRow, ValueFits}
 use Rattle.record_codec.specs.TableReadings.{AreProperTables}
 use Rattle.record_codec.specs.TableReadingsLaws.{FitsThere, rows_fit}
+use Rattle.record_codec.specs.Values.{due_in}
 use Rattle.record_codec.specs.WholeValues.{JobFits, LssbFits, ServiceFits}
 use Rattle.table_fit.specs.Charging.{AreShort, RowsSuit}
 use Rattle.table_fit.specs.ChargingLaws.{rows_short, shown_few}
 use Rattle.table_fit.specs.Lengths.{value_length}
+use Rattle.table_fit.specs.ShortLaws.{suiting_dues}
 use Rattle.record_commits.specs.Named.{IsNamedJob, IsNamedRow, IsNamedService, IsNamedValue}
 use Rattle.record_commits.specs.NamedTables.{AreNamedTables}
 
@@ -86,19 +88,19 @@ service_proper s named fits short =
       lssbs = (omega (arith, lssbs, lssbs_few s.lssbs), lssbs_fit s.lssbs (recursion_from_All (λ (l : Bytes × Bytes). IsName l.0) s.lssbs named.lssbs) lssbs);
     }
 
-job_proper : (v : JobValue) → IsNamedJob v → job_length v < 2 ^ 32 → JobFits v
-job_proper v named short = record { to = named.to; due = named.due; user = named.user; lterm = named.lterm; message = omega (arith, short) }
+job_proper : (v : JobValue) → IsNamedJob v → v.due < 2 ^ 56 → job_length v < 2 ^ 32 → JobFits v
+job_proper v named due short = record { to = named.to; due = due; redelivered = named.redelivered; user = named.user; lterm = named.lterm; message = omega (arith, short) }
 
-value_proper : (r : Row) → IsNamedValue r → FitsThere r → value_length r < 2 ^ 32 → ValueFits r
-value_proper (row.Gssb name content) named fits short = tt
-value_proper (row.Tls block lterm content) named fits short = tt
-value_proper (row.Uls block user content) named fits short = tt
-value_proper (row.Service id service) named fits short = service_proper service named (both_true (id_eq service.id id) (service_fits service) fits).1 short
-value_proper (row.Job number value) named fits short = job_proper value named short
-value_proper (row.Shown lterm value) named fits short = job_proper value named short
+value_proper : (r : Row) → IsNamedValue r → FitsThere r → due_in r < 2 ^ 56 → value_length r < 2 ^ 32 → ValueFits r
+value_proper (row.Gssb name content) named fits due short = tt
+value_proper (row.Tls block lterm content) named fits due short = tt
+value_proper (row.Uls block user content) named fits due short = tt
+value_proper (row.Service id service) named fits due short = service_proper service named (both_true (id_eq service.id id) (service_fits service) fits).1 short
+value_proper (row.Job number value) named fits due short = job_proper value named due short
+value_proper (row.Shown lterm value) named fits due short = job_proper value named due short
 
-row_proper : (r : Row) → IsNamedRow r → FitsThere r → value_length r < 2 ^ 32 → IsProperRow r
-row_proper r named fits short = record { key = named.key; value = value_proper r named.value fits short }
+row_proper : (r : Row) → IsNamedRow r → FitsThere r → due_in r < 2 ^ 56 → value_length r < 2 ^ 32 → IsProperRow r
+row_proper r named fits due short = record { key = named.key; value = value_proper r named.value fits due short }
 
 -- ---- tables
 
@@ -123,4 +125,4 @@ named_proper g t limits sorted suits named =
     let few = shown_few g.limits.blksize g.limits.pgpool t limits.blksize (omega (arith, limits.pgpool)) suits.charge in
     let short : All HasShortLength (rows_of t) = all_rows HasShortLength t (each_short t (rows_short g t limits (rows_suit g t suits) few)) in
     let fits : All FitsThere (rows_of t) = All-from_recursion FitsThere (rows_of t) (rows_fit t sorted) in
-    λ k d i. row_proper _ (named k d i) (fits k d i) (short k d i)
+    λ k d i. row_proper _ (named k d i) (fits k d i) (suiting_dues g t suits k d i) (short k d i)

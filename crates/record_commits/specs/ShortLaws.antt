@@ -1,12 +1,12 @@
 -- The rows that a difference sets are those of the new tables, and so as short.
-use Rattle.std.specs.Prelude.{◌≡◌, refl, ◌^◌, Bool, true, false, IsTrue, List, [], ◌∷◌, length, nat_lt, Option, Some, None, All}
+use Rattle.std.specs.Prelude.{◌≡◌, refl, ◌^◌, Bool, true, false, ◌&&◌, IsTrue, List, [], ◌∷◌, length, nat_lt, Option, Some, None, All}
 use Rattle.std.proofs.Common.{subst}
 use Rattle.std.proofs.lemmas.Bool.{lt-ltb, ltb-true}
 use Rattle.std.proofs.lemmas.List.Elements.{All-from_recursion, All-weaker}
 use Rattle.std.proofs.lemmas.List.Sums.{AllPass-from_list_all, list_all-from_AllPass}
 use Rattle.std.specs.List.{list_all, AllByRecursion as Each}
 use Rattle.std.specs.Option.{option_map}
-use Rattle.kd_base.specs.ToolsLaws.{map_some}
+use Rattle.kd_base.specs.ToolsLaws.{both_true, map_some, true_both}
 use Rattle.kdcs_types.specs.declared.act.Change.{Change}
 use Rattle.kdcs_types.specs.declared.act.Change.TheVariants.{Set, Remove}
 use Rattle.kdcs_types.specs.declared.act.Row.{Row}
@@ -19,7 +19,7 @@ use Rattle.kdcs_types.specs.Same.{row_same}
 use Rattle.kdcs_types.specs.Tables.{TableRows, change_key, gssb_key, gssb_row, job_key, job_row, row_at, service_key, service_row, shown_key, shown_row, tls_key, tls_row, uls_key, uls_row}
 use Rattle.record_codec.specs.PatchesLaws.{EachRow, each_row}
 use Rattle.record_codec.specs.Records.{HasShortValues, rows_of}
-use Rattle.record_codec.specs.Values.{HasShortChange, HasShortValue, value_bytes}
+use Rattle.record_codec.specs.Values.{HasShortChange, HasShortValue, due_in, value_bytes}
 
 -- ---- what passes a test
 
@@ -66,13 +66,15 @@ module _ (test : Row → Bool) where
 -- ---- short values
 
 abbrev has_short_value : Row → Bool
-has_short_value r = nat_lt (length (value_bytes r)) (2 ^ 32)
+has_short_value r = nat_lt (length (value_bytes r)) (2 ^ 32) && nat_lt (due_in r) (2 ^ 56)
 
 value_passes : (r : Row) → HasShortValue r → IsTrue (has_short_value r)
-value_passes r h = lt-ltb (length (value_bytes r)) (2 ^ 32) h
+value_passes r h = true_both _ _ (lt-ltb (length (value_bytes r)) (2 ^ 32) h.short) (lt-ltb (due_in r) (2 ^ 56) h.due)
 
 short_left : (c : Change) → IsTrue (leaves has_short_value c) → HasShortChange c
-short_left (Set r) h = ltb-true (length (value_bytes r)) (2 ^ 32) h
+short_left (Set r) h =
+    let parts = both_true (nat_lt (length (value_bytes r)) (2 ^ 32)) (nat_lt (due_in r) (2 ^ 56)) h in
+    record { short = ltb-true (length (value_bytes r)) (2 ^ 32) parts.0; due = ltb-true (due_in r) (2 ^ 56) parts.1 }
 short_left (Remove k) h = tt
 
 pub difference_short : (old new : TableRows) → HasShortValues new → All HasShortChange (difference old new).items

@@ -19,7 +19,7 @@ use Rattle.laws_of_steps.specs.Facts.{IsSoundState}
 use Rattle.laws_of_steps.specs.Steps.{AreLines, CommandsCommitOnce, CommitsOnce, TurnsCommitOnce}
 use Rattle.laws_of_steps.specs.Suits.{Suits}
 use Rattle.laws_of_tables.specs.StateLaws.{StatesStaySound}
-use Rattle.record_codec.specs.PatchesLaws.{HasProperKey, patches_follow_changes}
+use Rattle.record_codec.specs.PatchesLaws.{HasProperKey, patches_match_changes}
 use Rattle.record_codec.specs.Patches.{HasProperKeys}
 use Rattle.record_codec.specs.Records.{content_of_tables, rows_of}
 use Rattle.record_codec.specs.RowReadings.{IsProperRow}
@@ -61,7 +61,7 @@ difference_stored g t u limits tables suits fit named =
       short = difference_short t u (suiting_tables_are_short g u limits fit.suits proper);
       patch = patch_there c keys are.ascending;
       before = charged g t suits tables.proper;
-      records = patches_follow_changes t c (proper_keys t tables.proper) keys are;
+      records = patches_match_changes t c (proper_keys t tables.proper) keys are;
       after = subst (λ (v : TableRows). records_charge g.limits.blksize (content_of_tables v).items ≤ g.limits.pgpool) (sym makes) (charged g u fit.suits proper);
       tables = subst AreTables (sym makes) there;
     }

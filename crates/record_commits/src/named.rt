@@ -26,7 +26,7 @@ fn target_is_named(to: &Target)
 fn job_is_named(value: &JobValue)
     ensures { IsNamedJob value.now }
 {
-    let _due = value.due; // for the proof
+    let _redelivered = value.redelivered; // for the proof
     target_is_named(&value.to);
     is_name(&value.user);
     is_name(&value.lterm);

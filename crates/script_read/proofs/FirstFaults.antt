@@ -27,7 +27,7 @@ before_err : {C : Type 0} (c : C) (rest : Result (List C) ScriptFault) (fault : 
 before_err c (Ok commands) fault h = absurd cc
 before_err c (Err e) fault h = h
 
--- the fault is this line's, or that of the lines behind it
+-- the fault is this line's, or that of the lines after it
 abbrev HereOrBehind : {C : Type 0} → ℕ → Line C → Result (List C) ScriptFault → ScriptFault → Type 0
 HereOrBehind n line rest fault = IsFaultOf n line fault ⊎ (IsRight line × (rest ≡ Err fault))
 
@@ -103,10 +103,10 @@ pub record SaysAll {C : Type 0} (reads : List ℕ → Line C) (all : List (List 
   pub right : AreRight reads all
   pub said : commands ≡ all_said reads all
 
-abbrev Follows : {C : Type 0} → C → Result (List C) ScriptFault → List C → Type 0
-Follows {C} c rest commands = (more : List C) × (rest ≡ Ok more) × (commands ≡ c ∷ more)
+abbrev IsPutBefore : {C : Type 0} → C → Result (List C) ScriptFault → List C → Type 0
+IsPutBefore {C} c rest commands = (more : List C) × (rest ≡ Ok more) × (commands ≡ c ∷ more)
 
-before_ok : {C : Type 0} (c : C) (rest : Result (List C) ScriptFault) (commands : List C) → before c rest ≡ Ok commands → Follows c rest commands
+before_ok : {C : Type 0} (c : C) (rest : Result (List C) ScriptFault) (commands : List C) → before c rest ≡ Ok commands → IsPutBefore c rest commands
 before_ok c (Ok more) commands h = (more, refl, sym (ok_is ScriptFault (c ∷ more) commands h))
 before_ok c (Err e) commands h = absurd cc
 

@@ -19,14 +19,14 @@ use Rattle.script_read.specs.SameLaws.{same_bytes}
 use Rattle.script_read.proofs.Shapes.{as_said, as_out}
 use Rattle.script_read.proofs.Names.{name_word, pterm_said, pterm_only, pterm_never_out}
 
--- ---- before and behind the first space
+-- ---- before and after the first space
 
 spaceless : (word : List ℕ) → All (λ b. is_space b ≡ false) word → IsTrue (list_all (λ b. not (is_space b)) word)
 spaceless [] none = refl
 spaceless (b ∷ word) none =
     true_both (not (is_space b)) (list_all (λ b. not (is_space b)) word) (ap not (All-head (λ b. is_space b ≡ false) b word none)) (spaceless word (All-tail (λ b. is_space b ≡ false) b word none))
 
--- a word, and what stands before and behind the first space
+-- a word, and what is before and after the first space
 record Splits (line word rest : List ℕ) : Type 0 where
   pub before : before_first is_space line ≡ word
   pub behind : after_first is_space line ≡ rest
@@ -52,7 +52,7 @@ splits_last word none =
       behind = drop_all (position_or_len is_space word + 1) word (omega arith);
     }
 
--- a line is what stands before and behind its first space, if it has one
+-- a line is what is before and after its first space, if it has one
 parts : (line : List ℕ)
     → (line ≡ before_first is_space line ++ 32 ∷ after_first is_space line) ⊎ ((line ≡ before_first is_space line) × (after_first is_space line ≡ []))
 parts line =

@@ -23,7 +23,7 @@ AreWords (word ∷ more) = IsWord word × AreWords more
 
 -- ---- parted words are the words
 
--- spaces behind which nothing stands
+-- spaces after which there is nothing
 spaces_alone : (n : ℕ) → words (replicate n 32) ≡ []
 spaces_alone zero = refl
 spaces_alone (suc n) = words_behind_space 32 (replicate n 32) refl ∙ spaces_alone n
@@ -77,7 +77,7 @@ spaces_all line none =
           ∙ append-nil (replicate (prefix_len is_space line) 32)
     ]
 
--- the first word and what is behind it
+-- the first word and what is after it
 record Begins (line word : List ℕ) (others : List (List ℕ)) : Type 0 where
   pub rest : List ℕ
   pub spelled : line ≡ replicate (prefix_len is_space line) 32 ++ (word ++ rest)

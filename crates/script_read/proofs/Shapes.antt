@@ -22,7 +22,7 @@ as_out say (Says a) h = absurd cc
 as_out say IsBad h = absurd cc
 as_out say IsOutOfRange h = refl
 
--- what stands behind the first of parted words
+-- what is after the first of parted words
 pub front_of : (word : List ℕ) (words : List (List ℕ)) (line : List ℕ) → AreParted (word ∷ words) line → (rest : List ℕ) × (line ≡ word ++ rest)
 front_of word [] line p = (replicate p.0 32, p.1)
 front_of word (next ∷ words) line p = (replicate p.0 32 ++ p.1, p.3 ∙ append_assoc word (replicate p.0 32) p.1)

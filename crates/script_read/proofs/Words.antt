@@ -85,7 +85,7 @@ no_words line front n e at none =
     ∙ ap words (sym at)
     ∙ ap words (nil_from_length front none)
 
--- behind the spaces, the bytes before the next space are a word
+-- after the spaces, the bytes before the next space are a word
 pub record IsNextWord (line word rest : List ℕ) : Type 0 where
   pub words : words line ≡ word ∷ words rest
   pub some : 0 < length word

@@ -51,7 +51,7 @@ abbrev pub input_by : Bool → Line (List ℕ) → List ℕ → Line Command
 input_by true name text = as_command (λ named. Input named text) name
 input_by false name text = IsBad
 
--- behind `IN` and its space: the name up to the first space, and behind that space the text
+-- after `IN` and its space: the name up to the first space, and after that space the text
 abbrev pub input : Generated → List ℕ → Line Command
 input g rest = input_by (list_all is_text_byte (after_first is_space rest)) (pterm_in g false (before_first is_space rest)) (after_first is_space rest)
 

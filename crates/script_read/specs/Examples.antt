@@ -1,5 +1,5 @@
 -- Worked lines.
-use Rattle.std.specs.Prelude.{◌≡◌, ℕ, true, false, List, [], ◌∷◌, ◌++◌, map, codes, Ok, Err}
+use Rattle.std.specs.Prelude.{◌≡◌, ℕ, true, false, List, [], ◌∷◌, ◌++◌, map, codes, None, Ok, Err}
 use Rattle.kdcdef_types.specs.Generation.{Generated}
 use Rattle.abstract_monitor.specs.Made.{made_generation}
 use Rattle.abstract_monitor.specs.declared.command.Command.{Command}
@@ -12,17 +12,17 @@ use Rattle.script_read.specs.Commands.{line_in, script_in}
 abbrev pub example : Generated
 example = record made_generation {
   pterms = (codes "P1", record { lterm = codes "L1" }) ∷ (codes "P3", record { lterm = codes "L3" }) ∷ [];
-  lterms = (codes "L1", record { printer = false }) ∷ (codes "L3", record { printer = true }) ∷ [];
+  lterms = (codes "L1", record { printer = false; kset = None }) ∷ (codes "L3", record { printer = true; kset = None }) ∷ [];
 }
 
 abbrev pub line_said : List ℕ → Line Command
 line_said line = line_in example line
 
--- each line says what stands beside it
+-- each line says what is beside it
 abbrev pub AreSaid : List (List ℕ × Line Command) → Type 0
 AreSaid rows = map (λ (row : List ℕ × Line Command). line_said row.0) rows ≡ map (λ (row : List ℕ × Line Command). row.1) rows
 
--- one space is dropped in front of the text, and none behind it
+-- one space is dropped in front of the text, and none after it
 abbrev pub InputRows : Type 0
 InputRows = AreSaid (
     (codes "IN P1 KDCSIGN U1,PW1", Says (Input (codes "P1") (codes "KDCSIGN U1,PW1")))

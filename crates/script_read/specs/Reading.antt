@@ -11,11 +11,11 @@ is_memory Memory = true
 is_memory _ = false
 
 -- the command of a line with this number, if it has one, or its fault
-abbrev pub outcome : {C : Type 0} → ℕ → Line C → Result (Option C) ScriptFault
-outcome number Nothing = Ok None
-outcome number (Says command) = Ok (Some command)
-outcome number IsBad = Err (BadLine number)
-outcome number IsOutOfRange = Err (OutOfRange number)
+abbrev pub line_result : {C : Type 0} → ℕ → Line C → Result (Option C) ScriptFault
+line_result number Nothing = Ok None
+line_result number (Says command) = Ok (Some command)
+line_result number IsBad = Err (BadLine number)
+line_result number IsOutOfRange = Err (OutOfRange number)
 
 -- what was found in a line that is not passed over
 abbrev pub found_of : {C : Type 0} → Result C ScriptFault → Result (Option C) ScriptFault

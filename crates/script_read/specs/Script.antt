@@ -65,7 +65,7 @@ number_by false low high word = IsBad
 abbrev pub numbered : ℕ → ℕ → List ℕ → Line ℕ
 numbered low high word = number_by (list_all is_digit word) low high word
 
--- a line before the commands of the lines behind it
+-- a line before the commands of the lines after it
 abbrev pub before : {C : Type 0} → C → Result (List C) ScriptFault → Result (List C) ScriptFault
 before c (Ok commands) = Ok (c ∷ commands)
 before c (Err fault) = Err fault

@@ -12,7 +12,7 @@ use Rattle.abstract_monitor.specs.declared.command.Command.TheVariants.{Input, T
 use Rattle.script_read.specs.Script.{Nothing, Says, IsOutOfRange}
 use Rattle.script_read.specs.Commands.{last_turns, is_text_byte, line_in}
 
--- the line is these words, parted by one or more spaces, with any spaces behind them
+-- the line is these words, parted by one or more spaces, with any spaces after them
 abbrev pub AreParted : List (List ℕ) → List ℕ → Type 0
 AreParted [] line = (behind : ℕ) × (line ≡ replicate behind 32)
 AreParted (word ∷ []) line = (behind : ℕ) × (line ≡ word ++ replicate behind 32)
@@ -36,7 +36,7 @@ pub record IsPterm (g : Generated) (printer : Bool) (name : List ℕ) : Type 0 w
   pub is_lterm : lterm_of g terminal.lterm ≡ Some lterm
   pub usage : lterm.printer ≡ printer
 
--- `IN`, one space and the name; behind it a space and the text, or nothing for the empty text
+-- `IN`, one space and the name; after it a space and the text, or nothing for the empty text
 pub record IsInput (g : Generated) (pterm text line : List ℕ) : Type 0 where
   pub dialogue : IsPterm g false pterm
   pub printable : IsTrue (list_all is_text_byte text)

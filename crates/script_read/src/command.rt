@@ -1,6 +1,6 @@
 //! The command of a line.
 ghost use Rattle.std.specs.{Prelude.{◌≡◌, ◌<◌, length}, List.{list_all}};
-ghost use Rattle.script_read.specs.{Script.{words, is_passed, begins_with_space}, Commands.{is_text_byte, input, alone, with_one, with_two, line_of_words, command_by, begins_with_in, line_in}, Reading.{outcome, found_of, Gives}};
+ghost use Rattle.script_read.specs.{Script.{words, is_passed, begins_with_space}, Commands.{is_text_byte, input, alone, with_one, with_two, line_of_words, command_by, begins_with_in, line_in}, Reading.{line_result, found_of, Gives}};
 
 use crate::fault::ScriptFault;
 use crate::keyword::{Keyword, keyword_of};
@@ -23,14 +23,14 @@ fn is_text(bytes: &[u8]) -> bool
     bytes.iter().all(|b| b' ' <= *b && *b <= b'~')
 }
 
-// What stands behind `IN` and its space: the name up to the first space, and behind that space the text.
+// What is after `IN` and its space: the name up to the first space, and after that space the text.
 fn input_of(
     alloc: Global,
     generation: &Generation,
     line: u32,
     rest: &[u8],
 ) -> Result<Command, ScriptFault>
-    ensures { Gives (found_of result) (outcome line (input generation.now rest.now)) }
+    ensures { Gives (found_of result) (line_result line (input generation.now rest.now)) }
 {
     let (name, text) = split_at_space(rest);
     if !is_text(text) {
@@ -42,7 +42,7 @@ fn input_of(
 
 // A keyword alone.
 fn alone(line: u32, keyword: Keyword) -> Result<Command, ScriptFault>
-    ensures { found_of result ≡ outcome line (alone keyword) }
+    ensures { found_of result ≡ line_result line (alone keyword) }
 {
     match keyword {
         Keyword::Restart => Ok(Command::Restart),
@@ -58,7 +58,7 @@ fn with_one(
     word: &[u8],
 ) -> Result<Command, ScriptFault>
     requires { 0 < length word.now }
-    ensures { found_of result ≡ outcome line (with_one generation.now keyword word.now) }
+    ensures { found_of result ≡ line_result line (with_one generation.now keyword word.now) }
 {
     let tasks = generation.max().tasks;
     match keyword {
@@ -79,7 +79,7 @@ fn with_two(
     word: &[u8],
     last: &[u8],
 ) -> Result<Command, ScriptFault>
-    ensures { found_of result ≡ outcome line (with_two generation.now keyword word.now last.now) }
+    ensures { found_of result ≡ line_result line (with_two generation.now keyword word.now last.now) }
 {
     match keyword {
         Keyword::Print if same(last, b"LAST") => {
@@ -95,7 +95,7 @@ fn command_of_words(
     number: u32,
     line: &[u8],
 ) -> Result<Command, ScriptFault>
-    ensures { found_of result ≡ outcome number (line_of_words generation.now (words line.now)) }
+    ensures { found_of result ≡ line_result number (line_of_words generation.now (words line.now)) }
 {
     let Some((first, rest)) = next_word(line) else {
         return Err(ScriptFault::BadLine(number));
@@ -122,7 +122,7 @@ fn command_on(
     number: u32,
     line: &[u8],
 ) -> Result<Command, ScriptFault>
-    ensures { Gives (found_of result) (outcome number (command_by (begins_with_in line.now) generation.now line.now)) }
+    ensures { Gives (found_of result) (line_result number (command_by (begins_with_in line.now) generation.now line.now)) }
 {
     match line.strip_prefix(b"IN ") {
         Some(rest) => input_of(alloc, generation, number, rest),

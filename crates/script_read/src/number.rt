@@ -2,7 +2,7 @@
 ghost use Rattle.std.specs.{Prelude.{◌≡◌, ◌≤◌, ◌<◌, length, IfOk}, List.{list_all}};
 ghost use Rattle.kd_base.specs.Text.{is_digit};
 ghost use Rattle.kdcdef_types.specs.Statements.{IsWithin};
-ghost use Rattle.script_read.specs.{Script.{numbered}, Reading.{outcome, found_of}};
+ghost use Rattle.script_read.specs.{Script.{numbered}, Reading.{line_result, found_of}};
 
 use crate::fault::ScriptFault;
 use kd_base::decimal_of;
@@ -16,7 +16,7 @@ fn are_digits(bytes: &[u8]) -> bool
 // The number from `low` to `high` that a word on this line stands for.
 pub(crate) fn number_of(line: u32, low: u64, high: u64, word: &[u8]) -> Result<u64, ScriptFault>
     requires { 0 < length word.now }
-    ensures said { found_of result ≡ outcome line (numbered low high word.now) }
+    ensures said { found_of result ≡ line_result line (numbered low high word.now) }
     ensures within { IfOk result (IsWithin low high) }
 {
     if !are_digits(word) {

@@ -1,7 +1,7 @@
 //! Reading a script.
 ghost use Rattle.std.specs.{Prelude.{◌≡◌, ◌≢◌, ◌<◌, ◌-◌, ◌^◌, List, ℕ, length, nat_lt, Ok, Err, IfOk, IfErr}, List.{All}, Str.Lines.{lines}};
 ghost use Rattle.kd_base.specs.FirstFaults.{items_of};
-ghost use Rattle.script_read.specs.{declared.fault.ScriptFault.TheVariants.{Memory}, Script.{Line, command_lines, is_too_long}, Commands.{script_in}, Reading.{outcome, Gives, commands_of}};
+ghost use Rattle.script_read.specs.{declared.fault.ScriptFault.TheVariants.{Memory}, Script.{Line, command_lines, is_too_long}, Commands.{script_in}, Reading.{line_result, Gives, commands_of}};
 ghost use Rattle.abstract_monitor.specs.CommandsOf.{IsCommandOf};
 
 use crate::fault::ScriptFault;
@@ -29,7 +29,7 @@ pub(crate) trait LineReader {
         number: u32,
         line: &[u8],
     ) -> Result<Option<Self::Command>, ScriptFault>
-        ensures { Gives result (outcome number (line_of self.now line.now)) };
+        ensures { Gives result (line_result number (line_of self.now line.now)) };
 }
 
 fn has_too_many_commands(text: &[u8]) -> bool

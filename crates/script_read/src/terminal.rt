@@ -1,6 +1,6 @@
 //! The PTERMs of a generation, by the USAGE of their LTERMs.
 ghost use Rattle.std.specs.Prelude.{◌≡◌, Some};
-ghost use Rattle.script_read.specs.{Commands.{lterm_at, pterm_in}, Reading.{outcome, found_of}};
+ghost use Rattle.script_read.specs.{Commands.{lterm_at, pterm_in}, Reading.{line_result, found_of}};
 
 use crate::fault::ScriptFault;
 use kd_base::Name;
@@ -22,7 +22,7 @@ pub(crate) fn pterm_of(
     printer: bool,
     word: &[u8],
 ) -> Result<Name, ScriptFault>
-    ensures { found_of result ≡ outcome line (pterm_in generation.now printer word.now) }
+    ensures { found_of result ≡ line_result line (pterm_in generation.now printer word.now) }
 {
     let Some(name) = Name::from_bytes(word) else {
         return Err(ScriptFault::BadLine(line));

@@ -12,7 +12,7 @@ pub(crate) fn same(a: &[u8], b: &[u8]) -> bool
     a == b
 }
 
-// How many spaces stand in front.
+// How many spaces are in front.
 fn spaces_len(line: &[u8]) -> usize
     ensures { result ≡ prefix_len is_space line.now }
 {
@@ -35,7 +35,7 @@ pub(crate) fn next_word(line: &[u8]) -> Option<(&[u8], &[u8])>
     Some(front.split_at(len_before(b' ', front)))
 }
 
-// The bytes before the first space, and those behind it.
+// The bytes before the first space, and those after it.
 pub(crate) fn split_at_space(line: &[u8]) -> (&[u8], &[u8])
     ensures before { result.0.now ≡ before_first is_space line.now }
     ensures behind { result.1.now ≡ after_first is_space line.now }

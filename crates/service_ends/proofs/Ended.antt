@@ -27,12 +27,12 @@ use Rattle.abstract_monitor.specs.Endings.{broken, joined, row_after, service_ch
 use Rattle.abstract_monitor.specs.Sessions.{is_running}
 use Rattle.abstract_monitor.specs.State.{Application, OpenTransaction, State}
 use Rattle.abstract_monitor.specs.Statements.{kept_record}
-use Rattle.abstract_monitor.specs.Turns.{Turned, abnormal, after_point, committed, dump_acts, ended_acts, message_acts, message_sent, moved_to, settled, settled_by, told_user, user_acts, with_open, with_task, without_open, without_work}
+use Rattle.abstract_monitor.specs.Turns.{Turned, abnormal, after_point, committed, dump_acts, ended_acts, message_acts, message_sent, moved_to, settled, settled_by, told_user, user_acts, with_open, with_task, without_open, without_transaction}
 use Rattle.laws_of_places.specs.EntriesLaws.{found_put, found_without}
 use Rattle.laws_of_tables.specs.PointLaws.{Stands}
 use Rattle.open_transaction.specs.Transactions.{Boxed, boxed_transaction, HasOrder}
 use Rattle.core_state.specs.declared.parts.MonitorParts.{MonitorParts}
-use Rattle.core_state.specs.KeptLaws.{found_work}
+use Rattle.core_state.specs.KeptLaws.{found_transaction}
 use Rattle.core_state.specs.Standing.{IsOwned, SameApplication, state_of}
 use Rattle.core_state.specs.Whole.{app_of}
 use Rattle.core_state.specs.WholeLaws.{same_app, same_twice}
@@ -41,9 +41,9 @@ use Rattle.sync_points.specs.Answers.{answer_by}
 use Rattle.laws_of_commits.specs.CommitLaws.{durable_difference}
 use Rattle.laws_of_commits.specs.EndsLaws.{end_made, point_made}
 use Rattle.service_ends.specs.declared.turned.Turned.{Turned as Did}
-use Rattle.service_ends.specs.Ending.{CanGoOn, IsClosed, Works, behind_end, behind_point, broken_to, emitted, pointed_to, settled_to, turned_to}
+use Rattle.service_ends.specs.Ending.{CanGoOn, IsClosed, Serves, behind_end, behind_point, broken_to, emitted, pointed_to, settled_to, turned_to}
 
--- ---- the parts behind a step
+-- ---- the parts after a step
 
 pub found_one : (o : Option Boxed) (transaction : Boxed) (found : Option OpenTransaction) (x : OpenTransaction) → o ≡ Some transaction → option_map boxed_transaction o ≡ found → found ≡ Some x → boxed_transaction transaction ≡ x
 found_one o transaction found x is found_is x_is = under (sym (ap (option_map boxed_transaction) is) ∙ found_is ∙ x_is)
@@ -56,33 +56,33 @@ stands_as g h t u i j x y a b c d s =
     subst (λ k. Stands k u j y) (sym a) (subst (λ k. Stands g k j y) (sym b) (subst (λ k. Stands g t k y) (sym c) (subst (λ k. Stands g t i k) (sym d) s)))
 
 -- the transaction that was closed
-pub closed_work : (p q : MonitorParts) (task : ℕ) (id : ServiceId) (x : OpenTransaction) (transaction : Boxed) → Works p task id x → SameApplication p q
-    → state_of q ≡ without_work (state_of p) task id → transaction.value.id ≡ id → boxed_transaction transaction ≡ x → IsClosed q transaction
-closed_work p q task id x transaction works same state own is = record {
+pub closed_transaction : (p q : MonitorParts) (task : ℕ) (id : ServiceId) (x : OpenTransaction) (transaction : Boxed) → Serves p task id x → SameApplication p q
+    → state_of q ≡ without_transaction (state_of p) task id → transaction.value.id ≡ id → boxed_transaction transaction ≡ x → IsClosed q transaction
+closed_transaction p q task id x transaction serves same state own is = record {
   closed = (λ i. find id_cmp (own i) (state i).active) ∙ found_without id (state_of p).active;
-  unplaced = (λ i. is_running (state i) (own i)) ∙ works.alone;
-  stands = stands_as p.generation q.generation p.tables q.tables id transaction.value.id x (boxed_transaction transaction) same.generation (ap (λ (s : State). s.tables) state) own is works.stands;
+  unplaced = (λ i. is_running (state i) (own i)) ∙ serves.alone;
+  stands = stands_as p.generation q.generation p.tables q.tables id transaction.value.id x (boxed_transaction transaction) same.generation (ap (λ (s : State). s.tables) state) own is serves.stands;
 }
 
 -- it can go on from a row in order
 pub goes_on : (p : MonitorParts) (transaction : Boxed) (id : ServiceId) (row : Option Service) → IsClosed p transaction → id ≡ transaction.value.id → HasOrder row → CanGoOn p id row
 goes_on p transaction id row h own order = record { closed = (λ i. find id_cmp (own i) (state_of p).active) ∙ h.closed; unplaced = (λ i. is_running (state_of p) (own i)) ∙ h.unplaced; order = order }
 
-pub closed_result : (p m q : MonitorParts) (task : ℕ) (id : ServiceId) (transaction : Boxed) → ((x : OpenTransaction) × Works p task id x) → SameApplication p m → SameApplication m q
+pub closed_result : (p m q : MonitorParts) (task : ℕ) (id : ServiceId) (transaction : Boxed) → ((x : OpenTransaction) × Serves p task id x) → SameApplication p m → SameApplication m q
     → state_of m ≡ with_task (state_of p) task None → state_of q ≡ without_open (state_of m) id → Some (boxed_transaction transaction) ≡ find id_cmp id (state_of m).active
     → IsOwned m.generation m.steps (id, transaction) → IsClosed q transaction
-closed_result p m q task id transaction works a b s t found own =
-    closed_work p q task id works.0 transaction works.1 (same_twice p m q a b) (t ∙ ap (λ (u : State). without_open u id) s) own.id
-    (found_one (Some transaction) transaction _ works.0 refl (found ∙ ap (λ (u : State). find id_cmp id u.active) s) works.1.is_open)
+closed_result p m q task id transaction serves a b s t found own =
+    closed_transaction p q task id serves.0 transaction serves.1 (same_twice p m q a b) (t ∙ ap (λ (u : State). without_open u id) s) own.id
+    (found_one (Some transaction) transaction _ serves.0 refl (found ∙ ap (λ (u : State). find id_cmp id u.active) s) serves.1.is_open)
 
 -- there is one
-pub none_closed : (p m : MonitorParts) (task : ℕ) (id : ServiceId) → ((x : OpenTransaction) × Works p task id x) → state_of m ≡ with_task (state_of p) task None → None ≡ find id_cmp id (state_of m).active → ⊥
-none_closed p m task id works s none = apart works.0 (none ∙ ap (λ (u : State). find id_cmp id u.active) s ∙ works.1.is_open)
+pub none_closed : (p m : MonitorParts) (task : ℕ) (id : ServiceId) → ((x : OpenTransaction) × Serves p task id x) → state_of m ≡ with_task (state_of p) task None → None ≡ find id_cmp id (state_of m).active → ⊥
+none_closed p m task id serves s none = apart serves.0 (none ∙ ap (λ (u : State). find id_cmp id u.active) s ∙ serves.1.is_open)
   where
     apart : (x : OpenTransaction) → None ≡ Some x → ⊥
     apart x e = cc
 
--- LSSBs of a row that stands in the tables ascend
+-- LSSBs of a row that is in the tables ascend
 row_order : (t : TableRows) (id : ServiceId) (o : Option Service) → IsSortedTables t → service_of t id ≡ o → HasOrder o
 row_order t id None h e = tt
 row_order t id (Some row) h e = (both_true (lterm_fits row.id row.lterm) (is_sorted bytes_cmp row.lssbs) (found_passes service_key service_fits (key.Service id) t.services row h.services_fit e)).1
@@ -98,39 +98,39 @@ opened_open p q id x e = subst (λ (o : Option OpenTransaction). IsSome o) (sym 
 
 -- what a transaction that was closed comes to, where that is the definition's
 pub over_as : {E : Type 0} (r : Result Did E) (p m q : MonitorParts) (task : ℕ) (id : ServiceId) (transaction : Boxed) (f : Application → State → ServiceId → OpenTransaction → Turned) (g : OpenTransaction → Turned)
-    → ((x : OpenTransaction) → f (app_of p) (without_work (state_of p) task id) id x ≡ g x) → SameApplication p m → state_of m ≡ without_work (state_of p) task id → transaction.value.id ≡ id
+    → ((x : OpenTransaction) → f (app_of p) (without_transaction (state_of p) task id) id x ≡ g x) → SameApplication p m → state_of m ≡ without_transaction (state_of p) task id → transaction.value.id ≡ id
     → Some (boxed_transaction transaction) ≡ find id_cmp id (state_of p).active → IfOk r (λ (did : Did). turned_to (state_of q) did ≡ f (app_of m) (state_of m) transaction.value.id (boxed_transaction transaction))
     → IfOk r (λ (did : Did). (x : OpenTransaction) → find id_cmp id (state_of p).active ≡ Some x → turned_to (state_of q) did ≡ g x)
 over_as r p m q task id transaction f g law same state own found =
     IfOk-weaker r _ _ (λ did e x is. e ∙ (λ k. f (same_app p m same.generation same.units k) (state k) (own k) (found_one (Some transaction) transaction _ x refl found is k)) ∙ law x)
 
 -- an abnormal end of a transaction that was closed
-pub breaks : (app : Application) (s : State) (task : ℕ) (id : ServiceId) (x : OpenTransaction) (e : Ending) → broken_to app (without_work s task id) id x e ≡ abnormal app s task id x e
+pub breaks : (app : Application) (s : State) (task : ℕ) (id : ServiceId) (x : OpenTransaction) (e : Ending) → broken_to app (without_transaction s task id) id x e ≡ abnormal app s task id x e
 unfolding abnormal
 breaks app s task (Dialogue user) x e = refl
 breaks app s task (Asynchronous number) x e = refl
 
 -- a point of one
 settles_by : (app : Application) (s : State) (task : ℕ) (id : ServiceId) (x : OpenTransaction) (o : Outcome) (r : Option Cause)
-    → settled_to app (without_work s task id) id x o r ≡ settled_by app s task id x o (synchronised app.generation s.tables id x o) r
+    → settled_to app (without_transaction s task id) id x o r ≡ settled_by app s task id x o (synchronised app.generation s.tables id x o) r
 settles_by app s task id x o None = refl
 settles_by app s task id x o (Some cause) = breaks app s task id x (ending.Broken cause)
 
-pub settles : (app : Application) (s : State) (task : ℕ) (id : ServiceId) (x : OpenTransaction) (o : Outcome) → pointed_to app (without_work s task id) id x o ≡ settled app s task id x o
+pub settles : (app : Application) (s : State) (task : ℕ) (id : ServiceId) (x : OpenTransaction) (o : Outcome) → pointed_to app (without_transaction s task id) id x o ≡ settled app s task id x o
 unfolding settled
 settles app s task id x o = settles_by app s task id x o _
 
--- an abnormal end behind its commit
-pub breaks_as : (p : MonitorParts) (w : Boxed) (e : Ending) (id : ServiceId) (dump : Option (List ℕ)) (changes : Changes) (kept : Settled) → changes ≡ durable_difference p.generation p.tables (broken p.tables w.value.id (boxed_transaction w))
+-- an abnormal end after its commit
+pub breaks_as : (p : MonitorParts) (w : Boxed) (e : Ending) (id : ServiceId) (dump : Option (List ℕ)) (changes : Changes) (kept : Settled) → changes ≡ durable_difference p.generation p.tables (broken p.generation p.tables w.value.id (boxed_transaction w))
     → kept ≡ kept_record w.value.id (boxed_transaction w) e → emitted dump ≡ dump_acts w.value.id (boxed_transaction w) e → id ≡ w.value.id → Stands p.generation p.tables w.value.id (boxed_transaction w)
     → behind_end (record (state_of p) { tables = with_service (changed p.tables changes) id None }) id dump (Commit changes) kept ≡ broken_to (app_of p) (state_of p) w.value.id (boxed_transaction w) e
 breaks_as p w e id dump changes kept c k d i stands =
     (λ j. committed (record (state_of p) { tables = with_service (changed p.tables (c j)) (i j) None }) (Commit (c j)) (k j) (d j ++ ended_acts (record (state_of p) { tables = with_service (changed p.tables (c j)) (i j) None }) (i j)))
-    ∙ ap (λ (t : TableRows). committed (record (state_of p) { tables = t }) (Commit (durable_difference p.generation p.tables (broken p.tables w.value.id (boxed_transaction w)))) (kept_record w.value.id (boxed_transaction w) e) (dump_acts w.value.id (boxed_transaction w) e ++ ended_acts (record (state_of p) { tables = t }) w.value.id))
+    ∙ ap (λ (t : TableRows). committed (record (state_of p) { tables = t }) (Commit (durable_difference p.generation p.tables (broken p.generation p.tables w.value.id (boxed_transaction w)))) (kept_record w.value.id (boxed_transaction w) e) (dump_acts w.value.id (boxed_transaction w) e ++ ended_acts (record (state_of p) { tables = t }) w.value.id))
     (end_made p.generation p.tables w.value.id (boxed_transaction w) stands.sound.order).tables
     ∙ by w.value.id
   where
-    by : (id : ServiceId) → committed (record (state_of p) { tables = broken p.tables id (boxed_transaction w) }) (Commit (durable_difference p.generation p.tables (broken p.tables id (boxed_transaction w)))) (kept_record id (boxed_transaction w) e) (dump_acts id (boxed_transaction w) e ++ ended_acts (record (state_of p) { tables = broken p.tables id (boxed_transaction w) }) id) ≡ broken_to (app_of p) (state_of p) id (boxed_transaction w) e
+    by : (id : ServiceId) → committed (record (state_of p) { tables = broken p.generation p.tables id (boxed_transaction w) }) (Commit (durable_difference p.generation p.tables (broken p.generation p.tables id (boxed_transaction w)))) (kept_record id (boxed_transaction w) e) (dump_acts id (boxed_transaction w) e ++ ended_acts (record (state_of p) { tables = broken p.generation p.tables id (boxed_transaction w) }) id) ≡ broken_to (app_of p) (state_of p) id (boxed_transaction w) e
     by (Dialogue user) = refl
     by (Asynchronous number) = refl
 
@@ -185,7 +185,7 @@ refuses_as p w v o r cause e =
     let is = refused_as p.generation p.tables w v o r cause e in
     (λ k. broken_to (app_of p) (state_of p) (is.1 k).value.id (boxed_transaction (is.1 k)) (ending.Broken cause)) ∙ sym (ap (settled_to (app_of p) (state_of p) w.value.id (boxed_transaction w) o) is.0)
 
--- behind its commit a point goes on as it does
+-- after its commit a point goes on as it does
 goes_as : (app : Application) (s : State) (id : ServiceId) (x : OpenTransaction) (row : Option Service) (o : Outcome) (commit : Act) (kept : Settled)
     → behind_point app s id row o (joined x.parts) x.lterm commit kept ≡ after_point app s id x o row commit kept
 goes_as app s (Dialogue user) x row (Wait tac) commit kept = refl
@@ -228,7 +228,7 @@ holds_as s q r task id x acts e f a =
 
 -- the message of the transaction that is found
 pub found_is : (p : MonitorParts) (id : ServiceId) (transaction : Boxed) (x : OpenTransaction) → Some transaction ≡ find id_cmp id p.active → find id_cmp id (state_of p).active ≡ Some x → boxed_transaction transaction ≡ x
-found_is p id transaction x e f = found_one (Some transaction) transaction _ x refl (found_work p id (Some transaction) e) f
+found_is p id transaction x e f = found_one (Some transaction) transaction _ x refl (found_transaction p id (Some transaction) e) f
 
 pub sends_as : (p q : MonitorParts) (id : ServiceId) (user message : Bytes) (transaction : Boxed) (x : OpenTransaction) → id ≡ Dialogue user → message ≡ joined transaction.value.messages.parts → Some transaction ≡ find id_cmp id p.active
     → find id_cmp id (state_of p).active ≡ Some x → state_of q ≡ told_user (state_of p) user message → state_of q ≡ message_sent (state_of p) id x

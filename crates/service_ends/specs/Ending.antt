@@ -51,7 +51,7 @@ emitted (Some line) = Emit line ∷ []
 -- the abnormal end of a transaction that is open no more, or PEND FR
 abbrev pub broken_to : Application → State → ServiceId → OpenTransaction → Ending → Turned
 broken_to app s id x ending =
-    committed (record s { tables = broken s.tables id x }) (commit_of app s.tables (broken s.tables id x)) (kept_record id x ending) (dump_acts id x ending ++ ended_acts s id)
+    committed (record s { tables = broken app.generation s.tables id x }) (commit_of app s.tables (broken app.generation s.tables id x)) (kept_record id x ending) (dump_acts id x ending ++ ended_acts s id)
 
 -- the synchronisation point of one
 abbrev pub settled_to : Application → State → ServiceId → OpenTransaction → Outcome → Option Cause → Turned
@@ -63,7 +63,7 @@ settled_to app s id x o None =
 abbrev pub pointed_to : Application → State → ServiceId → OpenTransaction → Outcome → Turned
 pointed_to app s id x o = settled_to app s id x o (refusal app.generation (durable app.generation (synchronised app.generation s.tables id x o)))
 
--- behind the commit of a point by SP or FC the service goes on from its row, and by RE or FI its message is the last one of its user
+-- after the commit of a point by SP or FC the service goes on from its row, and by RE or FI its message is the last one of its user
 abbrev pub goes_on_from : Application → State → ServiceId → Option Service → Outcome → (message lterm : Bytes) → State
 goes_on_from app s id row (Wait tac) message lterm = told_by s id message
 goes_on_from app s id row Finish message lterm = told_by s id message
@@ -116,21 +116,21 @@ held_to s task id x = moved_to (message_sent (with_task s task None) id x) (mess
 abbrev pub turned_to : State → Did → Turned
 turned_to s did = record { after = s; moved = did.moved; acts = did.acts; settled = did.settled }
 
--- the task works for the service, which stands nowhere else, and this is its transaction, which tables may take
-pub record Works (p : MonitorParts) (task : ℕ) (id : ServiceId) (x : OpenTransaction) : Type 0 where
+-- the task serves the service, which is nowhere else, and this is its transaction, which tables may take
+pub record Serves (p : MonitorParts) (task : ℕ) (id : ServiceId) (x : OpenTransaction) : Type 0 where
   pub indexed : IsIndexed p
   pub is_task : IsTask task p.scheduler
   pub alone : is_running (with_task (state_of p) task None) id ≡ false
   pub is_open : find id_cmp id (state_of p).active ≡ Some x
   pub stands : Stands p.generation p.tables id x
 
--- a service that stands nowhere can go on from this row
+-- a service that is nowhere can go on from this row
 pub record CanGoOn (p : MonitorParts) (id : ServiceId) (row : Option Service) : Type 0 where
   pub closed : find id_cmp id (state_of p).active ≡ None
   pub unplaced : is_running (state_of p) id ≡ false
   pub order : HasOrder row
 
--- a transaction that was closed: its service stands nowhere, and tables may take it
+-- a transaction that was closed: its service is nowhere, and tables may take it
 pub record IsClosed (p : MonitorParts) (transaction : Boxed) : Type 0 where
   pub closed : find id_cmp transaction.value.id (state_of p).active ≡ None
   pub unplaced : is_running (state_of p) transaction.value.id ≡ false

@@ -1,8 +1,8 @@
 //! The way back to the last synchronisation point.
 ghost use Rattle.std.specs.Prelude.{◌≡◌, true, Some, None, IfOk, OnOk};
-ghost use Rattle.abstract_monitor.specs.{State.{OpenTransaction as Transaction}, Turns.{back, back_by, ended_acts, last_again, moved_to, without_work}};
+ghost use Rattle.abstract_monitor.specs.{State.{OpenTransaction as Transaction}, Turns.{back, back_by, ended_acts, last_again, moved_to, without_transaction}};
 ghost use Rattle.open_transaction.specs.Transactions.{boxed_transaction};
-ghost use Rattle.service_ends.specs.Ending.{turned_to, CanGoOn, ForOpen, IsClosed, Works};
+ghost use Rattle.service_ends.specs.Ending.{turned_to, CanGoOn, ForOpen, IsClosed, Serves};
 ghost use Rattle.core_state.specs.{Standing.{IsIndexed, SameApplication, state_of}, Whole.{app_of}};
 
 use crate::closed::close_transaction;
@@ -106,8 +106,8 @@ pub fn go_back(
     task: u16,
     id: &ServiceId,
 ) -> Result<Turned, OutOfMemory>
-    requires works { (x : Transaction) × Works parts.old task id.now x }
-    ensures exact { IfOk result (λ did. ForOpen (state_of parts.old) id.now (λ x. turned_to (state_of parts.new) did ≡ back (app_of parts.old) (without_work (state_of parts.old) task id.now) id.now x x.began)) }
+    requires serves { (x : Transaction) × Serves parts.old task id.now x }
+    ensures exact { IfOk result (λ did. ForOpen (state_of parts.old) id.now (λ x. turned_to (state_of parts.new) did ≡ back (app_of parts.old) (without_transaction (state_of parts.old) task id.now) id.now x x.began)) }
     ensures indexed { OnOk result (IsIndexed parts.new) }
     ensures same { OnOk result (SameApplication parts.old parts.new) }
 {

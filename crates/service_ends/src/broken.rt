@@ -3,7 +3,7 @@ ghost use Rattle.std.specs.Prelude.{◌≡◌, ◌++◌, ◌∷◌, [], None, If
 ghost use Rattle.kdcs_types.specs.{Tables.{AreChanges}, declared.act.Act.TheVariants.{Commit}};
 ghost use Rattle.abstract_monitor.specs.{Endings.{service_change}, State.{OpenTransaction as Transaction}, Turns.{abnormal, dump_acts, ended_acts}};
 ghost use Rattle.open_transaction.specs.Transactions.{boxed_transaction, transaction_of};
-ghost use Rattle.service_ends.specs.Ending.{behind_end, broken_to, committed_in, emitted, turned_to, ForOpen, IsClosed, Works};
+ghost use Rattle.service_ends.specs.Ending.{behind_end, broken_to, committed_in, emitted, turned_to, ForOpen, IsClosed, Serves};
 ghost use Rattle.core_state.specs.{Standing.{IsIndexed, SameApplication, state_of}, Whole.{app_of}};
 
 use crate::closed::close_transaction;
@@ -122,7 +122,7 @@ pub fn end(
     id: &ServiceId,
     ending: Ending,
 ) -> Result<Turned, OutOfMemory>
-    requires works { (x : Transaction) × Works parts.old task id.now x }
+    requires serves { (x : Transaction) × Serves parts.old task id.now x }
     ensures exact { IfOk result (λ did. ForOpen (state_of parts.old) id.now (λ x. turned_to (state_of parts.new) did ≡ abnormal (app_of parts.old) (state_of parts.old) task id.now x ending)) }
     ensures indexed { OnOk result (IsIndexed parts.new) }
     ensures same { OnOk result (SameApplication parts.old parts.new) }

@@ -1,9 +1,9 @@
 //! Transactions that are over.
 ghost use Rattle.std.specs.{Prelude.{◌≡◌, Some}, FinMap.{find}};
 ghost use Rattle.kdcs_types.specs.Keys.{id_cmp};
-ghost use Rattle.abstract_monitor.specs.{State.{OpenTransaction as Transaction}, Turns.{without_work}};
+ghost use Rattle.abstract_monitor.specs.{State.{OpenTransaction as Transaction}, Turns.{without_transaction}};
 ghost use Rattle.open_transaction.specs.Transactions.{boxed_transaction};
-ghost use Rattle.service_ends.specs.Ending.{IsClosed, Works};
+ghost use Rattle.service_ends.specs.Ending.{IsClosed, Serves};
 ghost use Rattle.core_state.specs.Standing.{IsIndexed, SameApplication, state_of};
 
 use core_state::MonitorParts;
@@ -16,10 +16,10 @@ pub(crate) fn close_transaction(
     task: u16,
     id: &ServiceId,
 ) -> Box<OpenTransaction>
-    requires works { (x : Transaction) × Works parts.old task id.now x }
+    requires serves { (x : Transaction) × Serves parts.old task id.now x }
     ensures indexed { IsIndexed parts.new }
     ensures same { SameApplication parts.old parts.new }
-    ensures state { state_of parts.new ≡ without_work (state_of parts.old) task id.now }
+    ensures state { state_of parts.new ≡ without_transaction (state_of parts.old) task id.now }
     ensures found { Some (boxed_transaction result) ≡ find id_cmp id.now (state_of parts.old).active }
     ensures own { result.value.id ≡ id.now }
     ensures closed { IsClosed parts.new result }

@@ -3,7 +3,7 @@ ghost use Rattle.std.specs.Prelude.{◌≡◌, ◌++◌, ◌∷◌, [], IfOk, On
 ghost use Rattle.kdcs_types.specs.{Tables.{AreChanges}, declared.act.Act.TheVariants.{Commit}};
 ghost use Rattle.abstract_monitor.specs.{Endings.{joined, service_change}, State.{OpenTransaction as Transaction}, Turns.{settled}};
 ghost use Rattle.open_transaction.specs.Transactions.{boxed_transaction, transaction_of};
-ghost use Rattle.service_ends.specs.Ending.{committed_in, goes_on_from, point_with, pointed_to, sent_by, turned_to, CanGoOn, ForOpen, IsClosed, Works};
+ghost use Rattle.service_ends.specs.Ending.{committed_in, goes_on_from, point_with, pointed_to, sent_by, turned_to, CanGoOn, ForOpen, IsClosed, Serves};
 ghost use Rattle.core_state.specs.{Standing.{IsIndexed, SameApplication, state_of}, Whole.{app_of}};
 
 use crate::broken::end_transaction;
@@ -170,7 +170,7 @@ pub fn settle(
     id: &ServiceId,
     outcome: Outcome,
 ) -> Result<Turned, OutOfMemory>
-    requires works { (x : Transaction) × Works parts.old task id.now x }
+    requires serves { (x : Transaction) × Serves parts.old task id.now x }
     ensures exact { IfOk result (λ did. ForOpen (state_of parts.old) id.now (λ x. turned_to (state_of parts.new) did ≡ settled (app_of parts.old) (state_of parts.old) task id.now x outcome)) }
     ensures indexed { OnOk result (IsIndexed parts.new) }
     ensures same { OnOk result (SameApplication parts.old parts.new) }

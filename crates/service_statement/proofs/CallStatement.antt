@@ -10,7 +10,7 @@ use Rattle.kdcdef_types.specs.Generation.{Generated}
 use Rattle.unit_types.specs.UnitText.{UnitText}
 use Rattle.unit_semantics.specs.Ready.{IsReady}
 use Rattle.unit_semantics.specs.Statement.{Asks, step}
-use Rattle.kdcs_calls.specs.Calling.{CanRead, HoldersFollow, performed_now}
+use Rattle.kdcs_calls.specs.Calling.{CanRead, HoldersMatch, performed_now}
 use Rattle.abstract_monitor.specs.declared.answer.Called.{Called}
 use Rattle.abstract_monitor.specs.declared.answer.Called.TheVariants.{Pends}
 use Rattle.abstract_monitor.specs.declared.answer.Happened.{Happened}
@@ -68,12 +68,12 @@ module _ (app : Application) (asynchronous : Bool) (unit : UnitText) (y : Transa
   touched_by_call _ = refl
 
   -- what follows the call touches no other area
-  holders_stay : (l m : Locks) (id : ServiceId) (z : Transaction) (h : Happened) (c : Called) → HoldersFollow l m id y → (z, h) ≡ by_call app asynchronous unit y c → HoldersFollow l m id z
-  holders_stay l m id z h c follow e =
-      subst (λ (held : List Area). HoldersFollow l m id (record z { touched = held }))
-      (sym (ap (λ (s : Transaction × Happened). s.0.touched) e ∙ touched_by_call c)) follow
+  holders_stay : (l m : Locks) (id : ServiceId) (z : Transaction) (h : Happened) (c : Called) → HoldersMatch l m id y → (z, h) ≡ by_call app asynchronous unit y c → HoldersMatch l m id z
+  holders_stay l m id z h c matching e =
+      subst (λ (held : List Area). HoldersMatch l m id (record z { touched = held }))
+      (sym (ap (λ (s : Transaction × Happened). s.0.touched) e ∙ touched_by_call c)) matching
 
-  pub holders_done : {E : Type 0} (l m : Locks) (id : ServiceId) (z : Transaction) (c : Called) (r : Result Happened E) → HoldersFollow l m id y
-      → IfOk r (λ (h : Happened). (z, h) ≡ by_call app asynchronous unit y c) → OnOk r (HoldersFollow l m id z)
-  holders_done l m id z c (Ok h) follow e = holders_stay l m id z h c follow e
-  holders_done l m id z c (Err e) follow is = tt
+  pub holders_done : {E : Type 0} (l m : Locks) (id : ServiceId) (z : Transaction) (c : Called) (r : Result Happened E) → HoldersMatch l m id y
+      → IfOk r (λ (h : Happened). (z, h) ≡ by_call app asynchronous unit y c) → OnOk r (HoldersMatch l m id z)
+  holders_done l m id z c (Ok h) matching e = holders_stay l m id z h c matching e
+  holders_done l m id z c (Err e) matching is = tt

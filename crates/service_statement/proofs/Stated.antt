@@ -9,10 +9,10 @@ use Rattle.kdcs_types.specs.Tables.{TableRows}
 use Rattle.unit_types.specs.UnitText.{UnitText}
 use Rattle.unit_semantics.specs.Statement.{Meaning, Plain, Asks, Ends, step}
 use Rattle.unit_step.specs.Answers.{meaning_of}
-use Rattle.unit_step.specs.declared.outcome.Stepped.{Stepped}
-use Rattle.unit_step.specs.declared.outcome.Stepped.TheVariants as stepped
-use Rattle.kdcs_calls.specs.Calling.{HoldersFollow, HoldsJust, performed_now}
-use Rattle.kdcs_calls.specs.HoldingLaws.{follow_holds, quiet_follows}
+use Rattle.unit_step.specs.declared.stepped.Stepped.{Stepped}
+use Rattle.unit_step.specs.declared.stepped.Stepped.TheVariants as stepped
+use Rattle.kdcs_calls.specs.Calling.{HoldersMatch, HoldsJust, performed_now}
+use Rattle.kdcs_calls.specs.HoldingLaws.{match_holds, quiet_matches}
 use Rattle.kdcs_types.specs.declared.service.Ending.TheVariants.{Broken}
 use Rattle.abstract_monitor.specs.declared.answer.Happened.{Happened}
 use Rattle.abstract_monitor.specs.declared.answer.Happened.TheVariants.{Went, Breaks}
@@ -63,8 +63,8 @@ module _ (app : Application) (t : TableRows) (l : Locks) (x y : OpenTransaction)
         ap (λ (w : OpenTransaction). (transaction_of w, Went)) (left stepped.Plain is)
         ∙ stated app t l x.id (transaction_of x) unit (Plain y.run) found (means stepped.Plain is)
 
-    pub plain_holders : HoldsJust l x.id (transaction_of x) → HoldersFollow l l x.id (transaction_of y)
-    plain_holders holds = quiet_follows l x.id (transaction_of x) holds (transaction_of y) (ap (λ (w : OpenTransaction). w.touched) (left stepped.Plain is))
+    pub plain_holders : HoldsJust l x.id (transaction_of x) → HoldersMatch l l x.id (transaction_of y)
+    plain_holders holds = quiet_matches l x.id (transaction_of x) holds (transaction_of y) (ap (λ (w : OpenTransaction). w.touched) (left stepped.Plain is))
 
   module _ (cause : Cause) (is : s ≡ stepped.Ends cause) where
     pub ends_exact : (transaction_of y, Breaks (Broken cause)) ≡ now
@@ -72,8 +72,8 @@ module _ (app : Application) (t : TableRows) (l : Locks) (x y : OpenTransaction)
         ap (λ (w : OpenTransaction). (transaction_of w, Breaks (Broken cause))) (left (stepped.Ends cause) is)
         ∙ stated app t l x.id (transaction_of x) unit (Ends cause) found (means (stepped.Ends cause) is)
 
-    pub ends_holders : HoldsJust l x.id (transaction_of x) → HoldersFollow l l x.id (transaction_of y)
-    ends_holders holds = quiet_follows l x.id (transaction_of x) holds (transaction_of y) (ap (λ (w : OpenTransaction). w.touched) (left (stepped.Ends cause) is))
+    pub ends_holders : HoldsJust l x.id (transaction_of x) → HoldersMatch l l x.id (transaction_of y)
+    ends_holders holds = quiet_matches l x.id (transaction_of x) holds (transaction_of y) (ap (λ (w : OpenTransaction). w.touched) (left (stepped.Ends cause) is))
 
   module _ (call : Call) (is : s ≡ stepped.Asks call) where
     pub asks_stands : StandsIn app x.id (transaction_of x) unit → StandsIn app y.id (transaction_of y) unit
@@ -98,10 +98,10 @@ module _ (app : Application) (t : TableRows) (l : Locks) (x y : OpenTransaction)
     asks_waits m (Err e) is_none = tt
 
 -- the end of a wait moves no area
-ended_follow : (l m : Locks) (id : ServiceId) (y : Transaction) (h : Happened) → HoldersFollow l m id y → HoldersFollow l (wait_ended m id h) id y
-ended_follow l m id y Went follow = follow
-ended_follow l m id y _ follow = follow
+ended_match : (l m : Locks) (id : ServiceId) (y : Transaction) (h : Happened) → HoldersMatch l m id y → HoldersMatch l (wait_ended m id h) id y
+ended_match l m id y Went matching = matching
+ended_match l m id y _ matching = matching
 
-pub ended_holds : (l m new : Locks) (id i : ServiceId) (y : Transaction) (h : Happened) → i ≡ id → HoldersFollow l m id y → new ≡ wait_ended m i h → HoldsJust new id y
-ended_holds l m new id i y h same follow e =
-    follow_holds l new id y (subst (λ (k : Locks). HoldersFollow l k id y) (sym (e ∙ ap (λ (k : ServiceId). wait_ended m k h) same)) (ended_follow l m id y h follow))
+pub ended_holds : (l m new : Locks) (id i : ServiceId) (y : Transaction) (h : Happened) → i ≡ id → HoldersMatch l m id y → new ≡ wait_ended m i h → HoldsJust new id y
+ended_holds l m new id i y h same matching e =
+    match_holds l new id y (subst (λ (k : Locks). HoldersMatch l k id y) (sym (e ∙ ap (λ (k : ServiceId). wait_ended m k h) same)) (ended_match l m id y h matching))

@@ -4,8 +4,8 @@ use Rattle.kdcs_types.specs.declared.key.Area.{Area}
 use Rattle.kdcs_types.specs.declared.key.ServiceId.{ServiceId}
 use Rattle.kdcs_types.specs.Tables.{TableRows}
 use Rattle.open_transaction.specs.declared.open.OpenTransaction.{OpenTransaction}
-use Rattle.unit_step.specs.declared.outcome.Stepped.{Stepped}
-use Rattle.unit_step.specs.declared.outcome.Stepped.TheVariants as stepped
+use Rattle.unit_step.specs.declared.stepped.Stepped.{Stepped}
+use Rattle.unit_step.specs.declared.stepped.Stepped.TheVariants as stepped
 use Rattle.area_locks.specs.Asked.{without_wait}
 use Rattle.open_transaction.specs.Transactions.{transaction_of}
 use Rattle.unit_types.specs.UnitText.{UnitText}

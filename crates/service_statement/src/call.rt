@@ -1,6 +1,6 @@
 //! A statement that is a KDCS call.
 ghost use Rattle.std.specs.Prelude.{◌≡◌, ◌+◌, ◌≤◌, ◌<◌, ◌^◌, IfOk, OnOk};
-ghost use Rattle.kdcs_calls.specs.Calling.{HoldersFollow, HoldsJust};
+ghost use Rattle.kdcs_calls.specs.Calling.{HoldersMatch, HoldsJust};
 ghost use Rattle.abstract_monitor.specs.{Endings.{is_asynchronous}, Statements.{area_of_call}};
 ghost use Rattle.laws_of_tables.specs.{OpenLaws.{CalledFits, StandsIn}, PointLaws.{AreSound}};
 ghost use Rattle.open_transaction.specs.Transactions.{transaction_of};
@@ -60,7 +60,7 @@ pub(crate) fn perform_call(
     requires statements { transaction.old.statements + 1 < 2 ^ 64 }
     ensures exact { IfOk result (λ h. (transaction_of transaction.new, h) ≡ call_now (applied outside.now.generation.now outside.now.units.now) outside.now.tables.now locks.old transaction.old unit.now call.now) }
     ensures waits { IfOk result (λ h. (wait_ended locks.new transaction.old.id h).waits ≡ waits_by locks.old transaction.old.id outside.now.tables.now.clock (area_of_call (transaction_of transaction.old) call.now) h) }
-    ensures holders { OnOk result (HoldersFollow locks.old locks.new transaction.old.id (transaction_of transaction.new)) }
+    ensures holders { OnOk result (HoldersMatch locks.old locks.new transaction.old.id (transaction_of transaction.new)) }
     ensures id { transaction.new.id ≡ transaction.old.id }
     ensures counted { OnOk result (transaction.new.statements ≤ transaction.old.statements + 1) }
     ensures nb { transaction.new.messages.nb ≡ transaction.old.messages.nb }

@@ -1,6 +1,6 @@
 //! The next statement of a service.
 ghost use Rattle.std.specs.Prelude.{◌≡◌, ◌+◌, ◌≤◌, ◌<◌, ◌^◌, IfOk, OnOk};
-ghost use Rattle.kdcs_calls.specs.Calling.{HoldersFollow, HoldsJust};
+ghost use Rattle.kdcs_calls.specs.Calling.{HoldersMatch, HoldsJust};
 ghost use Rattle.laws_of_steps.specs.{Applications.{IsApplication}, Transactions.{CanGoOn}};
 ghost use Rattle.laws_of_tables.specs.PointLaws.{AreSound};
 ghost use Rattle.open_transaction.specs.Transactions.{transaction_of};
@@ -59,7 +59,7 @@ fn next_statement(
     requires statements { transaction.old.statements + 1 < 2 ^ 64 }
     ensures exact { IfOk result (λ h. (transaction_of transaction.new, h) ≡ stated_now (applied outside.now.generation.now outside.now.units.now) outside.now.tables.now locks.old transaction.old) }
     ensures waits { IfOk result (λ h. WaitsAfter (applied outside.now.generation.now outside.now.units.now) outside.now.tables.now locks.old locks.new transaction.old h) }
-    ensures holders { OnOk result (HoldersFollow locks.old locks.new transaction.old.id (transaction_of transaction.new)) }
+    ensures holders { OnOk result (HoldersMatch locks.old locks.new transaction.old.id (transaction_of transaction.new)) }
     ensures id { transaction.new.id ≡ transaction.old.id }
     ensures nb { transaction.new.messages.nb ≡ transaction.old.messages.nb }
     ensures counted { OnOk result (transaction.new.statements ≤ transaction.old.statements + 1) }
@@ -75,7 +75,7 @@ fn next_statement(
 }
 
 /// Does the next statement of a service, at the clock of the tables, and says what became of it. A statement that waits
-/// changes nothing but the wait, and is repeated as it stands. `locks` gives the service exactly the areas that its
+/// changes nothing but the wait, and is repeated as it is. `locks` gives the service exactly the areas that its
 /// transaction holds. Fewer than 2^64 - 1 statements were done. When memory runs out, the transaction and the locks
 /// are of no use any more.
 pub fn do_statement<'a>(
@@ -95,7 +95,7 @@ pub fn do_statement<'a>(
     requires statements { transaction.old.statements + 1 < 2 ^ 64 }
     ensures exact { IfOk result (λ h. (transaction_of transaction.new, h) ≡ stated_now (applied generation.now units.now) tables.now locks.old transaction.old) }
     ensures waits { IfOk result (λ h. locks.new.waits ≡ waits_after (applied generation.now units.now) tables.now locks.old transaction.old.id (transaction_of transaction.old) h) }
-    ensures holders { OnOk result (HoldersFollow locks.old locks.new transaction.old.id (transaction_of transaction.new)) }
+    ensures holders { OnOk result (HoldersMatch locks.old locks.new transaction.old.id (transaction_of transaction.new)) }
     ensures holds { OnOk result (HoldsJust locks.new transaction.old.id (transaction_of transaction.new)) }
     ensures id { transaction.new.id ≡ transaction.old.id }
     ensures nb { transaction.new.messages.nb ≡ transaction.old.messages.nb }

@@ -9,7 +9,7 @@ use Rattle.abstract_monitor.specs.Sessions.{split_at}
 abbrev pub IsBefore : (mark : ℕ) → Bytes → (n : ℕ) → Type 0
 IsBefore mark bytes n = (k : ℕ) → k < n → get_or bytes k 0 ≡ mark → ⊥
 
--- it stands at this place first
+-- it is at this place first
 pub parts_at : (mark : ℕ) (bytes : List ℕ) (n : ℕ) → n < length bytes → IsBefore mark bytes n → get_or bytes n 0 ≡ mark → split_at mark bytes ≡ record { word = take n bytes; rest = Some (drop (suc n) bytes) }
 unfolding split_at
 parts_at mark [] n lt before here = absurd (omega arith)
@@ -21,7 +21,7 @@ parts_at mark (c ∷ cs) (suc n) lt before here =
     let rest = parts_at mark cs n (omega arith) (λ k below is. before (suc k) (omega arith) is) here in
     rw (other, rest) refl
 
--- it stands nowhere
+-- it is nowhere
 pub parts_nowhere : (mark : ℕ) (bytes : List ℕ) → IsBefore mark bytes (length bytes) → split_at mark bytes ≡ record { word = bytes; rest = None }
 unfolding split_at
 parts_nowhere mark [] before = refl

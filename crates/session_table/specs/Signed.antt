@@ -5,7 +5,7 @@ use Rattle.abstract_monitor.specs.Bytes.{Bytes, bytes_cmp}
 use Rattle.abstract_monitor.specs.State.{Session}
 use Rattle.abstract_monitor.specs.Turns.{pterm_of_user}
 
--- they stand in the order of their PTERMs, and a user is in one session at most
+-- they are in the order of their PTERMs, and a user is in one session at most
 pub record AreSessions (signed : List (Bytes × Session)) : Type 0 where
   pub sorted : IsTrue (is_sorted bytes_cmp signed)
   pub once : (p q : Bytes) (v w : Session) → find bytes_cmp p signed ≡ Some v → find bytes_cmp q signed ≡ Some w → v.user ≡ w.user → p ≡ q

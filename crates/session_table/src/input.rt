@@ -1,15 +1,35 @@
 //! What a terminal input means, in the order of the tests.
 ghost use Rattle.std.specs.{Prelude.{◌≡◌, List, ℕ, None, IfOk, IsTrue, OnErr, length, nat_lt}, Option.{option_copied}};
-ghost use Rattle.abstract_monitor.specs.{Sessions.{after_word, off_use, same_password, sign_on_use, start_by, tac_named, use_signed, use_unsigned}, Turns.{pterm_of_user}, declared.input_use.Use.TheVariants.{Sign}};
-ghost use Rattle.session_table.specs.Inputs.{holds_text};
+ghost use Rattle.kdcdef_types.specs.Generation.{pterm_of};
+ghost use Rattle.abstract_monitor.specs.{CommandsOf.{is_pterm}, Sessions.{after_word, lterm_by, off_use, same_password, sign_on_use, use_signed, use_unsigned}, Turns.{pterm_of_user}, declared.input_use.Use.TheVariants.{Sign}};
+ghost use Rattle.session_table.specs.Inputs.{denies, holds_text, start_use};
 
 use crate::sessions::Sessions;
 use crate::split::Split;
 use abstract_monitor::{ServiceState, SignFault, TacFault, Use};
+use access_rules::decide;
 use kd_base::{Bytes, Name, OutOfMemory};
 use kdcdef_check::Generation;
 use kdcdef_types::CallUse;
 use std::alloc::Global;
+
+/// Who types an input, and the LTERM of the terminal.
+#[derive(Clone, Copy)]
+pub struct Caller {
+    pub user: Name,
+    pub lterm: Name,
+}
+
+/// The LTERM of a PTERM of the generation. It takes no memory.
+pub fn lterm_of(generation: &Generation, pterm: Name) -> Name
+    requires pterm { IsTrue (is_pterm generation.now pterm) }
+    ensures { result ≡ lterm_by (pterm_of generation.now pterm) }
+{
+    match generation.pterm(pterm) {
+        Some(entry) => entry.lterm,
+        None => unreachable!(),
+    }
+}
 
 // Both have none, or both have the same.
 fn same_password(given: &Option<Bytes>, said: Option<&[u8]>) -> bool
@@ -22,7 +42,7 @@ fn same_password(given: &Option<Bytes>, said: Option<&[u8]>) -> bool
     }
 }
 
-// A user and, after a comma, the password, as they stand behind KDCSIGN.
+// A user and, after a comma, the password, as they are after KDCSIGN.
 fn sign_on_use(generation: &Generation, sessions: &Sessions, named: &Split) -> Use
     ensures exact { result ≡ sign_on_use generation.now sessions.now named.now }
     ensures nowhere { (user : List ℕ) → result ≡ Sign user → pterm_of_user sessions.now user ≡ None }
@@ -60,9 +80,14 @@ fn is_too_long(generation: &Generation, text: &[u8]) -> bool
 }
 
 // A service starts with the TAC that the first word names, or why it does not.
-fn start(alloc: Global, generation: &Generation, text: &Split) -> Result<Use, OutOfMemory>
-    ensures ok { IfOk result (λ u. u ≡ start_by generation.now text.now.word (after_word text.now) (tac_named generation.now text.now.word)) }
-    ensures memory { OnErr result (IsTrue (holds_text (start_by generation.now text.now.word (after_word text.now) (tac_named generation.now text.now.word)))) }
+fn start(
+    alloc: Global,
+    generation: &Generation,
+    caller: Caller,
+    text: &Split,
+) -> Result<Use, OutOfMemory>
+    ensures ok { IfOk result (λ u. u ≡ start_use generation.now caller text.now) }
+    ensures memory { OnErr result (IsTrue (holds_text (start_use generation.now caller text.now))) }
 {
     let Some(tac) = Name::from_bytes(text.word()) else {
         return Ok(Use::TacRefused(TacFault::UnknownTac));
@@ -75,6 +100,9 @@ fn start(alloc: Global, generation: &Generation, text: &Split) -> Result<Use, Ou
     }
     if !entry.on {
         return Ok(Use::TacRefused(TacFault::IsOff));
+    }
+    if let Some(denial) = decide(generation, caller.user, caller.lterm, tac) {
+        return Ok(Use::TacRefused(TacFault::Denied(denial)));
     }
     let message = text.after_word();
     if is_too_long(generation, message) {
@@ -97,12 +125,13 @@ fn off_use(state: ServiceState) -> Use
 pub fn use_signed(
     alloc: Global,
     generation: &Generation,
+    caller: Caller,
     whole: &[u8],
     text: &Split,
     state: ServiceState,
 ) -> Result<Use, OutOfMemory>
-    ensures ok { IfOk result (λ u. u ≡ use_signed generation.now whole.now text.now state) }
-    ensures memory { OnErr result (IsTrue (holds_text (use_signed generation.now whole.now text.now state))) }
+    ensures ok { IfOk result (λ u. u ≡ use_signed generation.now (denies generation.now caller) whole.now text.now state) }
+    ensures memory { OnErr result (IsTrue (holds_text (use_signed generation.now (denies generation.now caller) whole.now text.now state))) }
 {
     let word = text.word();
     if word == b"KDCSIGN".as_slice() {
@@ -124,6 +153,6 @@ pub fn use_signed(
         ServiceState::Running => Ok(Use::Busy),
         ServiceState::Awaits if is_too_long(generation, whole) => Ok(Use::TooLong),
         ServiceState::Awaits => Ok(Use::Next(Bytes::from_slice(alloc, whole)?)),
-        ServiceState::NoService => start(alloc, generation, text),
+        ServiceState::NoService => start(alloc, generation, caller, text),
     }
 }

@@ -10,4 +10,5 @@ mod session;
 mod sessions;
 mod split;
 
+pub use input::lterm_of;
 pub use sessions::Sessions;

@@ -1,9 +1,9 @@
 //! The sessions.
 ghost use Rattle.std.specs.{Prelude.{◌≡◌, List, ℕ, [], MatchOption, Ok, Some, None, OnOk, OnErr, IfOk, IsTrue, bytes_eq, not}, Bool.{OnFalse}, Option.{option_copied, option_map}, List.{list_any}, FinMap.{find, put}, FinMap.Entries.{where_key}};
-ghost use Rattle.abstract_monitor.specs.{Bytes.{bytes_cmp}, Commands.{last_by}, Sessions.{has_user, use_of}, Turns.{pterm_of_user}, declared.input_use.Use.TheVariants.{Sign}};
+ghost use Rattle.abstract_monitor.specs.{Bytes.{bytes_cmp}, Commands.{last_by}, CommandsOf.{is_pterm}, Sessions.{has_user, use_of}, Turns.{pterm_of_user}, declared.input_use.Use.TheVariants.{Sign}};
 ghost use Rattle.session_table.specs.{Inputs.{holds_text}, Signed.{AreSessions, CanSignOn}};
 
-use crate::input::{use_signed, use_unsigned};
+use crate::input::{Caller, lterm_of, use_signed, use_unsigned};
 use crate::session::Session;
 use crate::split::Split;
 use abstract_monitor::{ServiceState, Use};
@@ -89,8 +89,8 @@ impl Sessions {
         self.pterm_of(user).is_some()
     }
 
-    /// What an input means at this PTERM, where the service of the user who is signed on there, if one is, has this state.
-    /// Memory is wanted only for the text that a service reads.
+    /// What an input means at this PTERM of the generation, where the service of the user who is signed on there, if one
+    /// is, has this state. Memory is wanted only for the text that a service reads.
     pub fn use_of(
         &self,
         generation: &Generation,
@@ -98,15 +98,18 @@ impl Sessions {
         pterm: Name,
         text: &[u8],
     ) -> Result<Use, OutOfMemory>
+        requires pterm { IsTrue (is_pterm generation.now pterm) }
         ensures ok { IfOk result (λ u. u ≡ use_of generation.now self.now state pterm text.now) }
         ensures sign { (user : List ℕ) → result ≡ Ok (Sign user) → CanSignOn self.now pterm user }
         ensures memory { OnErr result (IsTrue (holds_text (use_of generation.now self.now state pterm text.now))) }
     {
         let pieces = Split::at(b' ', text);
-        if !self.by_pterm.contains_key(&pterm) {
+        let Some(user) = self.user_at(pterm) else {
             return Ok(use_unsigned(generation, self, &pieces));
-        }
-        use_signed(self.alloc, generation, text, &pieces, state)
+        };
+        let lterm = lterm_of(generation, pterm);
+        let caller = Caller { user, lterm };
+        use_signed(self.alloc, generation, caller, text, &pieces, state)
     }
 
     /// A message becomes the last one of the session at this PTERM. Nothing changes where nobody is signed on there. It

@@ -4,7 +4,7 @@ ghost use Rattle.abstract_monitor.specs.Sessions.{after_word, split_at};
 
 use std::marker::Model;
 
-/// The bytes before the first byte of a kind, and those behind it, if it is there.
+/// The bytes before the first byte of a kind, and those after it, if it is there.
 #[derive(Drop)]
 pub struct Split<'a> {
     word: &'a [u8],
@@ -51,7 +51,7 @@ impl<'a> Split<'a> {
         self.rest
     }
 
-    /// What stands behind the byte, nothing where it is not there.
+    /// What is after the byte, nothing where it is not there.
     pub fn after_word(&self) -> &'a [u8]
         ensures { result.now ≡ after_word self.now }
     {

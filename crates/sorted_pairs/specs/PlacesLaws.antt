@@ -16,7 +16,7 @@ use Rattle.kd_base.specs.ToolsLaws.{both_true, true_both}
 use Rattle.sorted_pairs.specs.Places.{IsPlace, without}
 use Rattle.kd_base.specs.OrderLaws.{is_less, holds, is_true}
 
--- the value at a place, if one stands there
+-- the value at a place, if one is there
 abbrev pub value_there : {K X : Type 0} → Result ℕ ℕ → List (K × X) → Option X
 value_there (Ok at) pairs = option_map (λ e. e.1) (slice_get pairs at)
 value_there (Err at) pairs = None
@@ -125,7 +125,7 @@ module _ {K X : Type 0} (R : K → K → Ordering) (o : IsTotalOrder R) where
         ap (λ r. by_order r ((k, v) ∷ x ∷ xs) ((x.0, v) ∷ xs) (x ∷ put R k v xs)) (before x xs i up (omega arith) at)
         ∙ ap (λ (l : List (K × X)). x ∷ l) (present_put v xs i d (up_tail x xs up) (omega arith) (λ z. at z))
 
-    -- the pairs behind one with this key have greater ones
+    -- the pairs after one with this key have greater ones
     above_absent : (x : K × X) (xs : List (K × X)) → IsTrue (below_all R x.0 xs) → R x.0 k ≡ Equal → IsAbsent xs
     above_absent x xs up at i d lt = ap is_eq (sym (o.congr x.0 k _ at) ∙ below_at x.0 xs i d up lt)
 
@@ -138,9 +138,9 @@ module _ {K X : Type 0} (R : K → K → Ordering) (o : IsTotalOrder R) where
         ap (λ r. cond (not (is_eq r)) (x ∷ without R k xs) (without R k xs)) (before x xs i up (omega arith) at)
         ∙ ap (λ (l : List (K × X)). x ∷ l) (present_without xs i (up_tail x xs up) (omega arith) (λ d. at d))
 
-    -- ---- what stands at the place of a key
+    -- ---- what is at the place of a key
 
-    -- what stands there is what is found for it
+    -- what is there is what is found for it
     pub found_there : (es : List (K × X)) → IsTrue (is_sorted R es) → (r : Result ℕ ℕ) → IsPlace R k es r → value_there r es ≡ find R k es
     found_there es up (Ok i) p = sym (present_found es i up p.range p.position)
     found_there es up (Err i) p = sym (absent_found es (gap_absent es i up p))

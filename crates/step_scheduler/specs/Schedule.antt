@@ -39,7 +39,7 @@ without_ready id s = record s { ready = filter (λ (e : Classed). not (id_eq id 
 abbrev pub IsTask : ℕ → Schedule → Type 0
 IsTask task s = (1 ≤ task) × (task ≤ length s.places)
 
--- what stands in a place, if there is such a place
+-- what is in a place, if there is such a place
 abbrev pub place_by : Option (Option Classed) → Option Classed
 place_by None = None
 place_by (Some place) = place

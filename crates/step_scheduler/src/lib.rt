@@ -5,8 +5,8 @@
 //! the work of the definitions, and what becomes of the ready list and of the tasks.
 #![tactic(auto)]
 
-mod room;
+mod limits;
 mod scheduler;
 
-pub use room::class_of;
+pub use limits::class_of;
 pub use scheduler::Scheduler;

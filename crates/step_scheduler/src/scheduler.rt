@@ -5,7 +5,7 @@ ghost use Rattle.abstract_monitor.specs.Picks.{pick_work};
 ghost use Rattle.async_queue.specs.Queue.{free};
 ghost use Rattle.step_scheduler.specs.Schedule.{all_free, is_ready, is_running, holds, left_by, released, with_ready, without_ready, IsTask, place_of, service_in, with_class, with_place, took_service, took_job, picked};
 
-use crate::room::{Classed, Room, class_of_target, first_allowed};
+use crate::limits::{Classed, TaskLimits, class_of_target, first_allowed};
 use abstract_monitor::Work;
 use async_queue::Jobs;
 use kd_base::OutOfMemory;
@@ -127,14 +127,14 @@ impl Scheduler {
         ensures work { result ≡ pick_work generation.now self.old.ready self.old.places now (free jobs.now) }
         ensures state { self.new ≡ picked generation.now task now (free jobs.now) self.old }
     {
-        let room = Room {
+        let limits = TaskLimits {
             generation,
             places: &self.places,
         };
-        match first_allowed(&self.ready, &room) {
+        match first_allowed(&self.ready, &limits) {
             Some(entry) => Some(self.take_service(task, &entry)),
             None => {
-                let job = jobs.first_allowed(&room, now)?;
+                let job = jobs.first_allowed(&limits, now)?;
                 Some(self.take_job(generation, task, job))
             }
         }

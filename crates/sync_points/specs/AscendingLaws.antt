@@ -16,21 +16,22 @@ use Rattle.kdcs_types.specs.declared.key.Key.TheVariants.{Job as JobKey}
 use Rattle.kdcs_types.specs.declared.key.ServiceId.{ServiceId}
 use Rattle.kdcs_types.specs.declared.key.ServiceId.TheVariants.{Dialogue, Asynchronous}
 use Rattle.kdcs_types.specs.declared.service.Job.{Job}
+use Rattle.kdcs_types.specs.declared.service.JobValue.{JobValue}
 use Rattle.kdcs_types.specs.declared.service.Service.{Service}
 use Rattle.kdcs_types.specs.Keyed.{ascends, keyed}
 use Rattle.kdcs_types.specs.Keys.{area_cmp, area_key, key_cmp, key_kind, texts_behind, texts_cmp}
-use Rattle.kdcs_types.specs.Tables.{change_fits, change_key}
+use Rattle.kdcs_types.specs.Tables.{TableRows, change_fits, change_key}
 use Rattle.kdcdef_types.specs.Generation.{Generated}
 use Rattle.abstract_monitor.specs.Bytes.{Bytes}
-use Rattle.abstract_monitor.specs.Endings.{area_change, is_durable, service_change}
+use Rattle.abstract_monitor.specs.Endings.{area_change, is_durable, job_change, service_change}
 use Rattle.laws_of_steps.specs.Commits.{AreNumberedFrom}
 use Rattle.laws_of_steps.specs.DurableKeys.{key_is_durable}
 use Rattle.laws_of_tables.specs.ItemsLaws.{job_less}
 use Rattle.laws_of_tables.specs.ListsLaws.{all_append, all_imply}
 use Rattle.storage_areas.specs.Areas.{changes_of}
-use Rattle.sync_points.specs.PointChanges.{job_changes, own_job_changes, service_changes}
+use Rattle.sync_points.specs.PointChanges.{fate_changes, job_changes, own_job_changes, service_changes}
 
--- ---- one list behind another
+-- ---- one list after another
 
 -- each key of the first is below all keys of the second
 abbrev are_below : List Change → List Change → Bool
@@ -161,6 +162,15 @@ of_own_job g (Dialogue user) began = record { up = refl; fits = refl; from = ref
 of_own_job g (Asynchronous number) (Some row) = record { up = refl; fits = refl; from = refl; is_durable = refl }
 of_own_job g (Asynchronous number) None = record { up = refl; fits = refl; from = refl; is_durable = refl }
 
+of_fate : (g : Generated) (number : ℕ) (o : Option JobValue) → IsOfOwnJob g (job_change number o ∷ [])
+of_fate g number None = record { up = refl; fits = refl; from = refl; is_durable = refl }
+of_fate g number (Some v) = record { up = refl; fits = refl; from = refl; is_durable = refl }
+
+of_own_fate : (g : Generated) (t : TableRows) (id : ServiceId) (began : Option Service) → IsOfOwnJob g (fate_changes g t id began)
+of_own_fate g t (Dialogue user) began = record { up = refl; fits = refl; from = refl; is_durable = refl }
+of_own_fate g t (Asynchronous number) (Some row) = record { up = refl; fits = refl; from = refl; is_durable = refl }
+of_own_fate g t (Asynchronous number) None = of_fate g number _
+
 own_below_new : (id : ServiceId) (began : Option Service) (n : ℕ) → OwnIsBelow id began n → (ys : List Job) → AreNumberedFrom n ys → IsTrue (are_below (own_job_changes id began) (job_changes ys))
 own_below_new (Dialogue user) began n h ys from = refl
 own_below_new (Asynchronous number) (Some row) n h ys from = refl
@@ -169,14 +179,17 @@ own_below_new (Asynchronous number) None n h ys from = true_both _ _ (below_new 
 -- ---- together
 
 -- the service's row and the own job
-pub ends_ascend : (g : Generated) (id : ServiceId) (row began : Option Service) → IsTrue (ascends change_key (service_changes g id row ++ own_job_changes id began))
-ends_ascend g id row began =
+pub ends_ascend : (g : Generated) (t : TableRows) (id : ServiceId) (row began : Option Service) → IsTrue (ascends change_key (service_changes g id row ++ fate_changes g t id began))
+ends_ascend g t id row began =
     let s = of_service g id row in
-    let j = of_own_job g id began in
-    ascends_join (service_changes g id row) (own_job_changes id began) s.up j.up (below_by_kind 5 (service_changes g id row) (own_job_changes id began) s.below j.from)
+    let j = of_own_fate g t id began in
+    ascends_join (service_changes g id row) (fate_changes g t id began) s.up j.up (below_by_kind 5 (service_changes g id row) (fate_changes g t id began) s.below j.from)
 
-pub ends_durable : (g : Generated) (id : ServiceId) (row began : Option Service) → IsTrue (list_all (λ (c : Change). key_is_durable g (change_key c)) (service_changes g id row ++ own_job_changes id began))
-ends_durable g id row began = all_append _ (service_changes g id row) (own_job_changes id began) (of_service g id row).is_durable (of_own_job g id began).is_durable
+pub ends_durable : (g : Generated) (t : TableRows) (id : ServiceId) (row began : Option Service) → IsTrue (list_all (λ (c : Change). key_is_durable g (change_key c)) (service_changes g id row ++ fate_changes g t id began))
+ends_durable g t id row began = all_append _ (service_changes g id row) (fate_changes g t id began) (of_service g id row).is_durable (of_own_fate g t id began).is_durable
+
+pub fate_fits : (g : Generated) (t : TableRows) (id : ServiceId) (began : Option Service) → IsTrue (list_all change_fits (fate_changes g t id began))
+fate_fits g t id began = (of_own_fate g t id began).fits
 
 pub own_fits : (g : Generated) (id : ServiceId) (began : Option Service) → IsTrue (list_all change_fits (own_job_changes id began))
 own_fits g id began = (of_own_job g id began).fits

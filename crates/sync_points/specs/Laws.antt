@@ -20,4 +20,4 @@ PointsChangeWhatWasWritten =
 abbrev pub EndsChangeTheirOwnRows : Type 0
 EndsChangeTheirOwnRows =
     (g : Generated) (t : TableRows) (id : ServiceId) (x : OpenTransaction) → IsSortedTables t
-    → difference (durable g t) (durable g (broken t id x)) ≡ end_changes g t id x
+    → difference (durable g t) (durable g (broken g t id x)) ≡ end_changes g t id x

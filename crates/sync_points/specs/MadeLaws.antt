@@ -1,4 +1,4 @@
--- What a transaction wrote makes of the durable tables those behind its end.
+-- What a transaction wrote makes of the durable tables those after its end.
 use Rattle.std.specs.Prelude.{◌≡◌, refl, ℕ, ◌+◌, ◌<◌, Bool, true, false, cond, IsTrue, List, [], ◌∷◌, ◌++◌, length, Option, Some, None, nat_lt, is_some}
 use Rattle.std.proofs.Common.{sym, ap, subst, ◌∙◌, arith, append_assoc}
 use Rattle.std.proofs.lemmas.Bool.{ltb-true, lt-ltb}
@@ -15,6 +15,7 @@ use Rattle.kdcs_types.specs.declared.key.Key.TheVariants.{Job as JobKey}
 use Rattle.kdcs_types.specs.declared.key.ServiceId.{ServiceId}
 use Rattle.kdcs_types.specs.declared.key.ServiceId.TheVariants.{Dialogue, Asynchronous}
 use Rattle.kdcs_types.specs.declared.service.Job.{Job}
+use Rattle.kdcs_types.specs.declared.service.JobValue.{JobValue}
 use Rattle.kdcs_types.specs.declared.service.Service.{Service}
 use Rattle.kdcs_types.specs.Difference.{difference}
 use Rattle.kdcs_types.specs.DifferenceLaws.{difference_makes_new}
@@ -25,20 +26,20 @@ use Rattle.kdcs_types.specs.Tables.{AreChanges, IsSortedTables, TableRows, chang
 use Rattle.kdcdef_types.specs.Generation.{Generated}
 use Rattle.abstract_monitor.specs.declared.outcome.Outcome.{Outcome}
 use Rattle.abstract_monitor.specs.Bytes.{Bytes}
-use Rattle.abstract_monitor.specs.Endings.{area_change, broken, durable, is_durable, numbered, row_after, service_change, synchronised, with_areas, with_drafts, with_service, without_own_job}
+use Rattle.abstract_monitor.specs.Endings.{area_change, broken, durable, is_durable, job_change, numbered, row_after, service_change, synchronised, with_areas, with_drafts, with_own_fate, with_service, without_own_job}
 use Rattle.abstract_monitor.specs.State.{OpenTransaction}
 use Rattle.laws_of_steps.specs.Commits.{AreNumberedFrom}
-use Rattle.laws_of_steps.specs.DurableLaws.{durable_follows, durable_sorted}
+use Rattle.laws_of_steps.specs.DurableLaws.{durable_changed, durable_sorted}
 use Rattle.laws_of_steps.specs.JobLaw.{new_jobs}
-use Rattle.laws_of_steps.specs.JobLaws.{points_number, service_jobs}
+use Rattle.laws_of_steps.specs.JobLaws.{areas_same, ends_draw_none, points_number, service_jobs}
 use Rattle.laws_of_steps.specs.Transactions.{HasOwnJob}
 use Rattle.laws_of_tables.specs.ItemsLaws.{ascends_filter}
 use Rattle.laws_of_tables.specs.ListsLaws.{all_append, all_filter, all_imply}
 use Rattle.laws_of_tables.specs.PointLaws.{Stands}
 use Rattle.storage_areas.specs.Areas.{changes_of}
-use Rattle.sync_points.specs.AscendingLaws.{OwnIsBelow, areas_fit, ends_ascend, ends_durable, new_fits, own_fits, points_ascend, points_durable}
+use Rattle.sync_points.specs.AscendingLaws.{OwnIsBelow, areas_fit, ends_ascend, ends_durable, fate_fits, new_fits, own_fits, points_ascend, points_durable}
 use Rattle.sync_points.specs.Laws.{EndsChangeTheirOwnRows, PointsChangeWhatWasWritten}
-use Rattle.sync_points.specs.PointChanges.{end_writes, is_real, job_changes, own_job_changes, point_changes, point_writes, service_changes}
+use Rattle.sync_points.specs.PointChanges.{end_writes, fate_changes, is_real, job_changes, own_job_changes, point_changes, point_writes, service_changes}
 use Rattle.sync_points.specs.RealChangesLaws.{difference_is_real, real_in_durable}
 use Rattle.kd_base.specs.OrderLaws.{greater_is}
 use Rattle.laws_of_tables.specs.PointsLaws.{point_row_fits}
@@ -80,30 +81,6 @@ written_made (w ∷ ws) u = written_made ws (with_change u (area_change w.0 w.1)
 areas_sorted : (g : Generated) (ws : Written) (u : TableRows) → IsSortedTables u → IsSortedTables (with_areas u ws)
 areas_sorted g ws u h = subst (λ v. IsSortedTables v) (written_made ws u) (sorted_with_changes u (changes_of ws) h (areas_fit g ws))
 
--- areas leave the jobs and the numbers
-record SameQueue (t u : TableRows) : Type 0 where
-  jobs : u.jobs ≡ t.jobs
-  next : u.next_job ≡ t.next_job
-  clock : u.clock ≡ t.clock
-
-one_queue : (u : TableRows) (area : Area) (content : Option Bytes) → SameQueue u (with_change u (area_change area content))
-one_queue u (Gssb name) None = record { jobs = refl; next = refl; clock = refl }
-one_queue u (Gssb name) (Some bytes) = record { jobs = refl; next = refl; clock = refl }
-one_queue u (Tls block lterm) None = record { jobs = refl; next = refl; clock = refl }
-one_queue u (Tls block lterm) (Some []) = record { jobs = refl; next = refl; clock = refl }
-one_queue u (Tls block lterm) (Some (c ∷ cs)) = record { jobs = refl; next = refl; clock = refl }
-one_queue u (Uls block user) None = record { jobs = refl; next = refl; clock = refl }
-one_queue u (Uls block user) (Some []) = record { jobs = refl; next = refl; clock = refl }
-one_queue u (Uls block user) (Some (c ∷ cs)) = record { jobs = refl; next = refl; clock = refl }
-
-areas_queue : (ws : Written) (u : TableRows) → SameQueue u (with_areas u ws)
-unfolding with_areas
-areas_queue [] u = record { jobs = refl; next = refl; clock = refl }
-areas_queue (w ∷ ws) u =
-    let one = one_queue u w.0 w.1 in
-    let rest = areas_queue ws (with_change u (area_change w.0 w.1)) in
-    record { jobs = rest.jobs ∙ one.jobs; next = rest.next ∙ one.next; clock = rest.clock ∙ one.clock }
-
 -- ---- the service's row
 
 service_apart : (n : ℕ) (v : TableRows) (id : ServiceId) (row : Option Service) → with_service (record v { next_job = n }) id row ≡ record (with_service v id row) { next_job = n }
@@ -111,8 +88,8 @@ service_apart n v id None = refl
 service_apart n v id (Some row) = refl
 
 service_durable : (g : Generated) (u : TableRows) (id : ServiceId) (row : Option Service) → IsSortedTables u → IsTrue (change_fits (service_change id row)) → durable g (with_service u id row) ≡ cond (is_durable g id) (with_service (durable g u) id row) (durable g u)
-service_durable g u id None h fits = durable_follows g u (service_change id None) h fits
-service_durable g u id (Some row) h fits = durable_follows g u (service_change id (Some row)) h fits
+service_durable g u id None h fits = durable_changed g u (service_change id None) h fits
+service_durable g u id (Some row) h fits = durable_changed g u (service_change id (Some row)) h fits
 
 service_made : (g : Generated) (n : ℕ) (u : TableRows) (id : ServiceId) (row : Option Service) → IsSortedTables u → IsTrue (change_fits (service_change id row)) → with_changes (durable_with g n u) (service_changes g id row) ≡ durable_with g n (with_service u id row)
 service_made g n u id row h fits = by (is_durable g id) refl
@@ -131,10 +108,22 @@ own_made g n u (Dialogue user) began = refl
 own_made g n u (Asynchronous number) (Some row) = refl
 own_made g n u (Asynchronous number) None = refl
 
+fate_made : (g : Generated) (n number : ℕ) (u : TableRows) (o : Option JobValue) → with_changes (durable_with g n u) (job_change number o ∷ []) ≡ durable_with g n (with_change u (job_change number o))
+unfolding durable
+fate_made g n number u None = refl
+fate_made g n number u (Some v) = refl
+
+-- after the service's row, which is no job's
+own_fate_made : (g : Generated) (n : ℕ) (t : TableRows) (id : ServiceId) (began : Option Service)
+    → with_changes (durable_with g n (with_service t id None)) (fate_changes g t id began) ≡ durable_with g n (with_own_fate g (with_service t id None) id began)
+own_fate_made g n t (Dialogue user) began = refl
+own_fate_made g n t (Asynchronous number) (Some row) = refl
+own_fate_made g n t (Asynchronous number) None = fate_made g n number (with_service t (Asynchronous number) None) _
+
 abbrev has_number_below : ℕ → Job → Bool
 has_number_below n j = nat_lt j.number n
 
--- a job behind all lesser ones
+-- a job after all lesser ones
 last_job : (j : Job) (es : List Job) → IsTrue (list_all (has_number_below j.number) es) → with_item job_key j es ≡ es ++ j ∷ []
 last_job j [] h = refl
 last_job j (e ∷ es) h =
@@ -192,42 +181,45 @@ begun g t c e = ap (λ k. with_changes (record (durable g t) { clock = k; next_j
 
 -- an abnormal end
 module _ (g : Generated) (t : TableRows) (id : ServiceId) (x : OpenTransaction) (order : IsSortedTables t) where
-  end_fits : IsTrue (list_all change_fits (end_writes g id x))
-  end_fits = all_append change_fits (service_changes g id None) (own_job_changes id x.began) (gone (is_durable g id)) (own_fits g id x.began)
+  end_fits : IsTrue (list_all change_fits (end_writes g t id x))
+  end_fits = all_append change_fits (service_changes g id None) (fate_changes g t id x.began) (gone (is_durable g id)) (fate_fits g t id x.began)
     where
       gone : (b : Bool) → IsTrue (list_all change_fits (cond b (service_change id None ∷ []) []))
       gone true = refl
       gone false = refl
 
-  end_are : AreChanges (end_writes g id x)
-  end_are = record { ascending = ends_ascend g id None x.began; fit = end_fits }
+  end_are : AreChanges (end_writes g t id x)
+  end_are = record { ascending = ends_ascend g t id None x.began; fit = end_fits }
 
-  end_order : durable g (without_own_job (with_service t id None) id x.began) ≡ durable g (broken t id x)
-  unfolding broken durable
+  -- the row and the job in the other order
+  end_order : with_own_fate g (with_service t id None) id x.began ≡ broken g t id x
+  unfolding broken
   end_order = by id x.began
     where
-      by : (i : ServiceId) (began : Option Service) → durable g (without_own_job (with_service t i None) i began) ≡ durable g (with_service (without_own_job t i began) i None)
+      other : (i : ServiceId) (number : ℕ) (o : Option JobValue) → with_change (with_service t i None) (job_change number o) ≡ with_service (with_change t (job_change number o)) i None
+      other i number None = refl
+      other i number (Some v) = refl
+
+      by : (i : ServiceId) (began : Option Service) → with_own_fate g (with_service t i None) i began ≡ with_service (with_own_fate g t i began) i None
       by (Dialogue user) began = refl
       by (Asynchronous number) (Some row) = refl
-      by (Asynchronous number) None = refl
+      by (Asynchronous number) None = other (Asynchronous number) number _
 
-  next_same : (u : TableRows) (i : ServiceId) (began : Option Service) → u.next_job ≡ t.next_job → durable_with g t.next_job (without_own_job (with_service u i None) i began) ≡ durable g (without_own_job (with_service u i None) i began)
+  next_same : (u : TableRows) → u.next_job ≡ t.next_job → durable_with g t.next_job u ≡ durable g u
   unfolding durable
-  next_same u (Dialogue user) began e = ap (λ n. record (durable g (with_service u (Dialogue user) None)) { next_job = n }) (sym e)
-  next_same u (Asynchronous number) (Some row) e = ap (λ n. record (durable g (with_service u (Asynchronous number) None)) { next_job = n }) (sym e)
-  next_same u (Asynchronous number) None e = ap (λ n. record (durable g (without_own_job (with_service u (Asynchronous number) None) (Asynchronous number) None)) { next_job = n }) (sym e)
+  next_same u e = ap (λ n. record (durable g u) { next_job = n }) (sym e)
 
   abbrev end_written : Changes
-  end_written = record { clock = t.clock; next_job = t.next_job; items = end_writes g id x }
+  end_written = record { clock = t.clock; next_job = t.next_job; items = end_writes g t id x }
 
-  end_made : changed (durable g t) end_written ≡ durable g (broken t id x)
+  end_made : changed (durable g t) end_written ≡ durable g (broken g t id x)
   end_made =
       begun g t end_written refl
-      ∙ changes_append (durable_with g t.next_job t) (service_changes g id None) (own_job_changes id x.began)
-      ∙ ap (λ v. with_changes v (own_job_changes id x.began)) (service_made g t.next_job t id None order refl)
-      ∙ own_made g t.next_job (with_service t id None) id x.began
-      ∙ next_same t id x.began refl
-      ∙ end_order
+      ∙ changes_append (durable_with g t.next_job t) (service_changes g id None) (fate_changes g t id x.began)
+      ∙ ap (λ v. with_changes v (fate_changes g t id x.began)) (service_made g t.next_job t id None order refl)
+      ∙ own_fate_made g t.next_job t id x.began
+      ∙ ap (durable_with g t.next_job) end_order
+      ∙ next_same (broken g t id x) (ends_draw_none g t id x).next
 
 -- a synchronisation point
 module _ (g : Generated) (t : TableRows) (id : ServiceId) (x : OpenTransaction) (s : Stands g t id x) where
@@ -268,7 +260,7 @@ module _ (g : Generated) (t : TableRows) (id : ServiceId) (x : OpenTransaction) 
     unfolding durable
     low =
         left_low t.next_job (with_service areas_in id row) id x.began
-        (subst (λ (l : List Job). IsTrue (list_all (has_number_below t.next_job) l)) (sym (service_jobs areas_in id row ∙ (areas_queue x.written t).jobs)) (numbers_low g t id x s))
+        (subst (λ (l : List Job). IsTrue (list_all (has_number_below t.next_job) l)) (sym (service_jobs areas_in id row ∙ (areas_same x.written t).jobs)) (numbers_low g t id x s))
 
     abbrev point_written : Changes
     point_written = record { clock = t.clock; next_job = last; items = point_writes g t id x o }
@@ -295,7 +287,7 @@ module _ (g : Generated) (t : TableRows) (id : ServiceId) (x : OpenTransaction) 
     numbers_same : durable g (synchronised g t id x o) ≡ record (durable_with g last left) { jobs = (durable_with g last left).jobs ++ new_jobs t x }
     unfolding synchronised
     numbers_same =
-        let queue = areas_queue x.written t in
+        let queue = areas_same x.written t in
         point_order areas_in id x.began row
         ∙ (λ i. record (durable g left) { jobs = durable_jobs left i ++ numbered (queue.next i) (queue.clock i) x.user x.lterm x.drafts; next_job = queue.next i + length x.drafts })
 
@@ -329,11 +321,11 @@ ends_change g t id x order =
     let written = end_written g t id x order in
     ap (difference (durable g t)) (sym (end_made g t id x order))
     ∙ difference_is_real (durable g t) written (durable_sorted g t order) (end_are g t id x order)
-    ∙ ap (λ (cs : List Change). record written { items = cs }) (real_in_durable g t (end_writes g id x) (ends_durable g id None x.began))
+    ∙ ap (λ (cs : List Change). record written { items = cs }) (real_in_durable g t (end_writes g t id x) (ends_durable g t id None x.began))
 
 -- ---- what the changes are
 
--- the tables behind a synchronisation point are the durable ones with its changes
+-- the tables after a synchronisation point are the durable ones with its changes
 pub points_make : (g : Generated) (t : TableRows) (id : ServiceId) (x : OpenTransaction) (o : Outcome) → Stands g t id x → durable g (synchronised g t id x o) ≡ changed (durable g t) (point_changes g t id x o)
 points_make g t id x o s =
     let order = durable_sorted g t s.sound.order in

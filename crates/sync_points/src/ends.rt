@@ -6,7 +6,7 @@ ghost use Rattle.open_transaction.specs.Transactions.{transaction_of};
 ghost use Rattle.sync_points.specs.PointChanges.{end_changes};
 
 use crate::kept::kept_record;
-use crate::writes::{real_of, write_own_job, write_service};
+use crate::writes::{real_of, write_fate, write_service};
 use kd_base::OutOfMemory;
 use kdcdef_check::Generation;
 use kdcs_types::{Changes, Ending, RowChanges, Settled, Tables};
@@ -24,7 +24,13 @@ fn end_changes(
 {
     let mut changes = RowChanges::new(alloc);
     write_service(&mut changes, generation, transaction.id, &None)?;
-    write_own_job(&mut changes, transaction.id, &transaction.began)?;
+    write_fate(
+        &mut changes,
+        generation,
+        tables,
+        transaction.id,
+        &transaction.began,
+    )?;
     Ok(Changes {
         clock: tables.clock(),
         next_job: tables.next_job(),
@@ -33,8 +39,8 @@ fn end_changes(
 }
 
 /// The changes of the durable tables by an abnormal end, by PEND ER or by PEND FR, and what the transaction keeps for
-/// its replay: what it wrote is dropped, the service's row goes, and the own job of an asynchronous service without a row.
-/// The changes cost what they are, and a look-up for each; there may be none, and the clock and the next job number stay.
+/// its replay: what it wrote is dropped, the service's row goes, and the own job of an asynchronous service without a row
+/// is delivered again, is a dead letter, or goes. The changes cost what they are, and a look-up for each; there may be none, and the clock and the next job number stay.
 /// The transaction is lost where memory runs out.
 pub fn broken(
     transaction: Box<OpenTransaction>,
@@ -43,7 +49,7 @@ pub fn broken(
     tables: &Tables,
     ending: Ending,
 ) -> Result<(Changes, Settled), OutOfMemory>
-    ensures changes { IfOk result (λ ended. ended.0 ≡ difference (durable generation.now tables.now) (durable generation.now (broken tables.now transaction.value.id (transaction_of transaction.value)))) }
+    ensures changes { IfOk result (λ ended. ended.0 ≡ difference (durable generation.now tables.now) (durable generation.now (broken generation.now tables.now transaction.value.id (transaction_of transaction.value)))) }
     ensures kept { IfOk result (λ ended. ended.1 ≡ kept_record transaction.value.id (transaction_of transaction.value) ending) }
 {
     let changes = end_changes(alloc, generation, tables, &transaction)?;

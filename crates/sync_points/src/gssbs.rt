@@ -15,7 +15,7 @@ fn made(change: &Change) -> u64
     }
 }
 
-// 1 where a GSSB's row stands at the key of the change.
+// 1 where a GSSB's row is at the key of the change.
 fn replaced(tables: &Tables, change: &Change) -> u64
     ensures { result ≡ row_weight gssb_weight (row_at tables.now (change_key change.now)) }
 {

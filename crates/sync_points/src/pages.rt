@@ -8,7 +8,8 @@ use kd_base::{Bytes, Name};
 use kd_records::charge;
 use kdcdef_check::Generation;
 use kdcs_types::{Job, JobValue, Service, Tables};
-use table_fit::{is_durable, job_length, service_length};
+use service_runs::is_durable;
+use table_fit::{job_length, service_length};
 
 /// A row of the tables, with the pages that it takes.
 pub(crate) trait Paged {

@@ -22,7 +22,7 @@ use std::alloc::Global;
 /// What a synchronisation point comes to.
 #[derive(Drop)]
 pub enum SettleAnswer {
-    /// The changes of the durable tables, the row of the service behind the point, also for a user with RESTART=NO, and
+    /// The changes of the durable tables, the row of the service after the point, also for a user with RESTART=NO, and
     /// what the transaction keeps for its replay.
     Synced(Changes, Option<Service>, Settled),
     /// E10, E11 or E09, and the transaction as it was.
@@ -111,7 +111,7 @@ fn point_of(
 /// A synchronisation point by PEND RE, SP, FI or FC, whose outcomes are Wait, Point, Finish and Follow. Where it is
 /// refused, the tests are in this order: E10 where there would be more than GSSBS GSSBs, E11 where a job's number would
 /// pass 999,999,999,999, and E09 where the page pool would be full. The changes cost what they are, and a look-up for
-/// each; the test for E09 goes over all rows. The transaction can go on, and its service's row stands in the tables as it
+/// each; the test for E09 goes over all rows. The transaction can go on, and its service's row is in the tables as it
 /// began; their durable part suits the generation. The transaction is lost where memory runs out.
 pub fn settle(
     transaction: Box<OpenTransaction>,

@@ -60,7 +60,7 @@ fn content_length(content: Option<&Bytes>) -> Option<u64>
     }
 }
 
-// The pages of the row that stands at the key of the change.
+// The pages of the row that is at the key of the change.
 fn replaced(tables: &Tables, change: &Change, blksize: u32) -> u64
     requires blksize { IsBlockSize blksize }
     requires short { IsTrue (is_short (row_at tables.now (change_key change.now))) }

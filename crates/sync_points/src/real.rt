@@ -1,4 +1,4 @@
-//! Whether a change leaves another row than stands there.
+//! Whether a change leaves another row than is there.
 ghost use Rattle.std.specs.{Prelude.{◌≡◌, Some, bytes_eq, is_some}, Option.{option_eq}};
 ghost use Rattle.kdcs_types.specs.{Same.{job_value_eq, row_same, service_eq}, Tables.{content_of, row_at, row_key}};
 ghost use Rattle.sync_points.specs.PointChanges.{is_real};
@@ -26,6 +26,7 @@ fn same_value(a: &JobValue, b: &JobValue) -> bool
 {
     a.to == b.to
         && a.due == b.due
+        && a.redelivered == b.redelivered
         && a.user == b.user
         && a.lterm == b.lterm
         && a.message == b.message
@@ -75,7 +76,7 @@ fn has_key(tables: &Tables, key: &Key) -> bool
     }
 }
 
-/// Whether the change leaves another row in the tables than stands there. It takes no memory.
+/// Whether the change leaves another row in the tables than is there. It takes no memory.
 pub fn is_real(tables: &Tables, change: &Change) -> bool
     ensures { result ≡ is_real tables.now change.now }
 {

@@ -1,6 +1,6 @@
-//! The row of a service behind a synchronisation point.
+//! The row of a service after a synchronisation point.
 ghost use Rattle.std.specs.Prelude.{◌≡◌, IfOk, Some};
-ghost use Rattle.abstract_monitor.specs.Endings.{last_of, lterm_in_row, new_row, point_row, row_after, spaces};
+ghost use Rattle.abstract_monitor.specs.Endings.{last_of, lterm_in_row, new_row, point_row, row_after};
 ghost use Rattle.open_transaction.specs.Transactions.{transaction_of};
 
 use abstract_monitor::Outcome;
@@ -8,13 +8,8 @@ use kd_base::{Bytes, Name, OutOfMemory};
 use kdcdef_check::Generation;
 use kdcs_types::{Areas, Parts, Service, ServiceId};
 use open_transaction::OpenTransaction;
+use service_runs::spaces;
 use std::alloc::Global;
-
-fn spaces(alloc: Global, count: u32) -> Result<Bytes, OutOfMemory>
-    ensures { IfOk result (λ bytes. bytes ≡ spaces count) }
-{
-    Ok(Bytes::from_vec(vec![in alloc; b' '; count as usize]?))
-}
 
 fn lterm_in_row(id: ServiceId, lterm: Name) -> Option<Name>
     ensures { result ≡ lterm_in_row id lterm }

@@ -1,12 +1,14 @@
 //! What ends of transactions write, one kind of row after another.
-ghost use Rattle.std.specs.Prelude.{◌≡◌, ◌++◌, OnOk, option_copied, filter};
-ghost use Rattle.sync_points.specs.PointChanges.{is_real, own_job_changes, service_changes};
+ghost use Rattle.std.specs.Prelude.{◌≡◌, ◌++◌, IfOk, OnOk, option_and_then, option_copied, filter};
+ghost use Rattle.sync_points.specs.PointChanges.{fate_changes, is_real, own_job_changes, service_changes};
+ghost use Rattle.abstract_monitor.specs.{Endings.{job_change}, Redelivery.{fate, has_dead_letter_queue}};
 
 use crate::real::is_real;
+use async_queue::{dead_letter_queue, fate_change, own_job};
 use kd_base::OutOfMemory;
 use kdcdef_check::Generation;
-use kdcs_types::{Change, Key, Row, RowChanges, Service, ServiceId, Tables};
-use table_fit::is_durable;
+use kdcs_types::{Change, JobValue, Key, Row, RowChanges, Service, ServiceId, Tables};
+use service_runs::is_durable;
 
 pub(crate) fn write_service(
     changes: &mut RowChanges,
@@ -38,7 +40,48 @@ pub(crate) fn write_own_job(
     }
 }
 
-/// The changes that leave another row than stands there.
+// The dead letter queue is an LTERM of the generation.
+fn has_dead_letter_queue(generation: &Generation) -> bool
+    ensures { result ≡ has_dead_letter_queue generation.now }
+{
+    generation.lterm(dead_letter_queue()).is_some()
+}
+
+// What becomes of a job whose service ends abnormally before its first point.
+#[tactic(auto, unfolding(abstract_monitor::specs::Redelivery::fate))]
+fn fate_of_own(
+    generation: &Generation,
+    number: u64,
+    value: Option<&JobValue>,
+) -> Result<Change, OutOfMemory>
+    ensures { IfOk result (λ change. change ≡ job_change number (option_and_then (fate generation.now) (option_copied value.entry))) }
+{
+    match value {
+        Some(value) => {
+            let limit = generation.max().redelivery;
+            fate_change(number, value, limit, has_dead_letter_queue(generation))
+        }
+        None => Ok(Change::Remove(Key::Job(number))),
+    }
+}
+
+/// The own job meets its fate, where there is one.
+pub(crate) fn write_fate(
+    changes: &mut RowChanges,
+    generation: &Generation,
+    tables: &Tables,
+    id: ServiceId,
+    began: &Option<Service>,
+) -> Result<(), OutOfMemory>
+    ensures { OnOk result (changes.new ≡ changes.old ++ fate_changes generation.now tables.now id began.now) }
+{
+    match own_job(id, began) {
+        Some(number) => changes.push(fate_of_own(generation, number, tables.job(number))?),
+        None => Ok(()),
+    }
+}
+
+/// The changes that leave another row than is there.
 pub(crate) fn real_of(tables: &Tables, changes: RowChanges) -> RowChanges
     ensures { result ≡ filter (is_real tables.now) changes }
 {

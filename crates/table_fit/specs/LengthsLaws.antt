@@ -92,7 +92,7 @@ lengths_are_those_of_the_bytes _ h = refl
 abbrev record_charge : ℕ → Record → ℕ
 record_charge blksize r = charge_of_length blksize (length r.1)
 
--- rows of one kind, before those of the kinds behind
+-- rows of one kind, before those of the kinds after
 kind_charged : {E : Type 0} (blksize : ℕ) (row_of : E → Row) (es : List E) (rest : List Row) (more : ℕ) → Each (λ e. IsProperRow (row_of e)) es
     → sum_by (record_charge blksize) (map record_of rest) ≡ more
     → sum_by (record_charge blksize) (map record_of (map row_of es ++ rest)) ≡ sum_by (λ e. charge_of blksize (value_length (row_of e))) es + more

@@ -17,5 +17,4 @@ mod tables;
 
 pub use laws::{charges_are_those_of_the_bytes, suiting_tables_are_short};
 pub use lengths::{job_length, service_length, value_length};
-pub use services::is_durable;
 pub use tables::suits;

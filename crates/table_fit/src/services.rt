@@ -10,6 +10,7 @@ use kd_base::{Bytes, Name};
 use kdcdef_check::Generation;
 use kdcs_types::{Service, ServiceId};
 use record_codec::ascend;
+use service_runs::is_durable;
 
 /// The greatest number of handed parts.
 const MOST_PARTS: usize = 16;
@@ -68,10 +69,10 @@ fn last_fits(generation: &Generation, last: &Option<Bytes>) -> bool
 fn parts_fit(parts: &[Bytes], nb: u32) -> bool
     ensures { result ≡ nat_le (sum_by length parts.now) nb }
 {
-    let mut room = nb as usize;
+    let mut spare = nb as usize;
     for part in parts {
-        match room.checked_sub(part.len()) {
-            Some(left) => room = left,
+        match spare.checked_sub(part.len()) {
+            Some(left) => spare = left,
             None => return false,
         }
     }
@@ -116,19 +117,6 @@ pub(crate) fn services_suit(generation: &Generation, services: &[Service]) -> bo
     services
         .iter()
         .all(|service| service_suits(generation, service))
-}
-
-/// Whether the service outlives a stop: not a dialogue service of a user with RESTART=NO.
-pub fn is_durable(generation: &Generation, id: ServiceId) -> bool
-    ensures { result ≡ is_durable generation.now id }
-{
-    match id {
-        ServiceId::Dialogue(user) => match generation.user(user) {
-            Some(entry) => entry.restart,
-            None => false,
-        },
-        ServiceId::Asynchronous(_) => true,
-    }
 }
 
 /// Each dialogue service is of a user with RESTART=YES.

@@ -11,7 +11,7 @@ AreParts written IsPart Ends [] bytes = IsTrue (list_all is_blank bytes)
 AreParts written IsPart Ends (p ∷ ps) bytes =
     (gap rest : List ℕ) × (bytes ≡ gap ++ (written p ++ rest)) × IsTrue (list_all is_blank gap) × IsPart p × Ends p rest × AreParts written IsPart Ends ps rest
 
--- a part at the front of bytes that begin with no blank, and what follows it and the blanks behind it
+-- a part at the front of bytes that begin with no blank, and what follows it and the blanks after it
 abbrev pub part_step : {P : Type 0} → (List ℕ → Option (P × List ℕ)) → List ℕ → Option (P × List ℕ)
 part_step {P} part_at bytes = option_map (λ (p : P × List ℕ). (p.0, from_first p.1)) (part_at bytes)
 

@@ -5,7 +5,7 @@ use Rattle.kd_base.specs.Tools.{onto_first}
 abbrev pub is_quote : ℕ → Bool
 is_quote b = b == 39
 
--- behind a quote: the bytes up to its end, where two quotes stand for one, and what follows
+-- after a quote: the bytes up to its end, where two quotes stand for one, and what follows
 abbrev pub quoted_at : List ℕ → Option (List ℕ × List ℕ)
 quoted_at [] = None
 quoted_at (b ∷ []) = if is_quote b then Some ([], []) else None
@@ -14,7 +14,7 @@ quoted_at (b ∷ c ∷ bytes) =
     then (if is_quote c then onto_first (39 ∷ []) (quoted_at bytes) else Some ([], c ∷ bytes))
     else onto_first (b ∷ []) (quoted_at (c ∷ bytes))
 
--- the front of the bytes behind a quote is this: nothing, or a byte that it stands for or their end, and what follows
+-- the front of the bytes after a quote is this: nothing, or a byte that it stands for or their end, and what follows
 abbrev pub IsFront : List ℕ → Option (Option ℕ × List ℕ) → Type 0
 IsFront bytes None = quoted_at bytes ≡ None
 IsFront bytes (Some (None, rest)) = quoted_at bytes ≡ Some ([], rest)

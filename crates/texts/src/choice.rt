@@ -2,7 +2,7 @@
 ghost use Rattle.std.specs.Prelude.{◌≡◌};
 ghost use Rattle.kd_base.specs.FirstFaults.{first_true};
 
-/// What stands beside the first test that is true.
+/// What is beside the first test that is true.
 pub fn first_true<T: Copy>(tests: &[(bool, T)]) -> Option<T>
     ensures { result ≡ first_true tests.now }
 {

@@ -1,8 +1,8 @@
 //! Lines, blanks, quoted bytes, and the parts of a line, as every reader of a text takes them.
 //!
 //! It stands on kd_base. To the readers of definitions, of units and of scripts its contract says what the first line of a
-//! text is without its end, what a line is without the blanks in front, what stands between two quotes, which parts
-//! a line has, whatever a part is, and what stands beside the first test that is true.
+//! text is without its end, what a line is without the blanks in front, what is between two quotes, which parts
+//! a line has, whatever a part is, and what is beside the first test that is true.
 #![tactic(auto)]
 
 mod blank;

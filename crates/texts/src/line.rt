@@ -1,7 +1,7 @@
 //! Lines, each up to its line feed.
 ghost use Rattle.std.specs.{Prelude.{◌≡◌, ◌==◌, ◌<◌, ◌∷◌, length}, List.{position_or_len}, Str.Lines.{lines, strip_carriage_return}};
 
-/// How many bytes stand before the first such byte.
+/// How many bytes are before the first such byte.
 pub fn len_before(byte: u8, bytes: &[u8]) -> usize
     ensures { result ≡ position_or_len (λ b. b == byte) bytes.now }
 {

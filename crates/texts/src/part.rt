@@ -17,7 +17,7 @@ pub trait Part: Drop {
         ensures { IfOk result (λ found. option_map (λ p. (p.0, p.1.now)) found ≡ part_at bytes.now) };
 }
 
-// The part at the front, and what follows it and the blanks behind it.
+// The part at the front, and what follows it and the blanks after it.
 fn part_step<P: Part>(alloc: Global, bytes: &[u8]) -> Result<Option<(P, &[u8])>, OutOfMemory>
     requires { 0 < length bytes.now }
     ensures { IfOk result (λ found. option_map (λ p. (p.0, p.1.now)) found ≡ part_step P.part_at bytes.now) }

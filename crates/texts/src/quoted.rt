@@ -5,7 +5,7 @@ ghost use Rattle.texts.specs.Quotes.{quoted_at, IsFront};
 use kd_base::{Bytes, OutOfMemory};
 use std::alloc::Global;
 
-// Behind a quote: the byte that the front stands for, or none at the end, and what follows; `None` where nothing is left.
+// After a quote: the byte that the front stands for, or none at the end, and what follows; `None` where nothing is left.
 fn front_of(bytes: &[u8]) -> Option<(Option<u8>, &[u8])>
     ensures { IsFront bytes.now (option_map (λ front. (front.0, front.1.now)) result) }
 {
@@ -19,7 +19,7 @@ fn front_of(bytes: &[u8]) -> Option<(Option<u8>, &[u8])>
     }
 }
 
-/// Behind a quote: the bytes up to its end, where two quotes stand for one, and what follows.
+/// After a quote: the bytes up to its end, where two quotes stand for one, and what follows.
 pub fn quoted_at(alloc: Global, bytes: &[u8]) -> Result<Option<(Bytes, &[u8])>, OutOfMemory>
     ensures { IfOk result (λ found. option_map (λ q. (q.0, q.1.now)) found ≡ quoted_at bytes.now) }
 {

@@ -47,8 +47,8 @@ field_first limits f =
 abbrev LabelHas : UnitText → UnitStatement → FitFault → Type 0
 LabelHas unit s e = (e ≡ NoLabel s.line) × LacksLabel unit s
 
-abbrev FollowHas : List (List ℕ × TacEntry) → UnitStatement → FitFault → Type 0
-FollowHas tacs s e = (e ≡ LiteralFollowUp s.line) × NamesNoTac tacs s
+abbrev FollowUpHas : List (List ℕ × TacEntry) → UnitStatement → FitFault → Type 0
+FollowUpHas tacs s e = (e ≡ LiteralFollowUp s.line) × NamesNoTac tacs s
 
 -- what is named is not there
 abbrev Lacks : {A : Type 0} → Option (List ℕ) → (List ℕ → Option A) → Type 0
@@ -76,7 +76,7 @@ label_told unit s = there (jump_of s.action) (label_place unit) (NoLabel s.line)
 tac_told : (tacs : List (List ℕ × TacEntry)) (s : UnitStatement) → IsTold (NamesNoTac tacs s) (IsThere (literal_follow_up s.action) (tac_in tacs)) (follow_up_fault tacs s) (LiteralFollowUp s.line)
 tac_told tacs s = there (literal_follow_up s.action) (tac_in tacs) (LiteralFollowUp s.line)
 
-statement_splits : (tacs : List (List ℕ × TacEntry)) (unit : UnitText) (s : UnitStatement) (e : FitFault) → StatementHas tacs unit s e → LabelHas unit s e ⊎ FollowHas tacs s e
+statement_splits : (tacs : List (List ℕ × TacEntry)) (unit : UnitText) (s : UnitStatement) (e : FitFault) → StatementHas tacs unit s e → LabelHas unit s e ⊎ FollowUpHas tacs s e
 statement_splits tacs unit s (NoLabel n) h = inl (ap NoLabel h.0, h.1)
 statement_splits tacs unit s (LiteralFollowUp n) h = inr (ap LiteralFollowUp h.0, h.1)
 statement_splits tacs unit s _ h = absurd h
@@ -84,7 +84,7 @@ statement_splits tacs unit s _ h = absurd h
 statement_first : (tacs : List (List ℕ × TacEntry)) (unit : UnitText) (s : UnitStatement) → IsFirstOf (StatementHas tacs unit s) (statement_fault tacs unit s)
 statement_first tacs unit s =
     let has = StatementHas tacs unit s in
-    first_of_both line_of number_of (LabelHas unit s) (FollowHas tacs s) has (statement_splits tacs unit s) (λ e h. subst has (sym h.0) (refl, h.1)) (λ e h. subst has (sym h.0) (refl, h.1)) (label_fault unit s) (follow_up_fault tacs s)
+    first_of_both line_of number_of (LabelHas unit s) (FollowUpHas tacs s) has (statement_splits tacs unit s) (λ e h. subst has (sym h.0) (refl, h.1)) (λ e h. subst has (sym h.0) (refl, h.1)) (label_fault unit s) (follow_up_fault tacs s)
     (told_first (LacksLabel unit s) _ (label_fault unit s) (NoLabel s.line) (label_told unit s))
     (told_first (NamesNoTac tacs s) _ (follow_up_fault tacs s) (LiteralFollowUp s.line) (tac_told tacs s))
 

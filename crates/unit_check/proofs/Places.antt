@@ -25,7 +25,7 @@ has_place test i (x ∷ all) =
 pub place_says : (units : List UnitText) (name : List ℕ) (place : Option ℕ) → place ≡ position_from (λ (v : UnitText). bytes_eq name v.name) 0 units → is_some place ≡ is_some (unit_named units name)
 place_says units name place h = ap (λ (o : Option ℕ). is_some o) h ∙ has_place (λ (v : UnitText). bytes_eq name v.name) 0 units
 
--- what stands at the place of a name is its unit
+-- what is at the place of a name is its unit
 pub unit_at : (units : List UnitText) (name : List ℕ) (place : Option ℕ) → place ≡ position_from (λ (v : UnitText). bytes_eq name v.name) 0 units → option_and_then (slice_get units) place ≡ unit_named units name
 unit_at units name place h = ap (option_and_then (slice_get units)) h ∙ found_at (λ (v : UnitText). bytes_eq name v.name) units
 

@@ -1,4 +1,4 @@
--- A fault stands in units that are to fit a generation.
+-- A fault is in units that are to fit a generation.
 use Rattle.std.specs.Prelude.{◌≡◌, ℕ, ◌+◌, ◌<◌, ◌⊎◌, Bool, true, false, List, [], ◌∷◌, codes, None, Result, IsTrue, IsSome, Any, All}
 use Rattle.std.specs.Option.{IsSomeAnd}
 use Rattle.kd_base.specs.FirstFaults.{GivesUnless, first_by}
@@ -67,7 +67,7 @@ StatementHas tacs unit s _ = ⊥
 abbrev pub UnitHas : Generated → UnitText → FitFault → Type 0
 UnitHas g unit fault = Any (λ f. FieldHas g.limits f fault) unit.fields ⊎ Any (λ s. StatementHas g.tacs unit s fault) unit.statements
 
--- the fault stands in the units, and none on a lesser line, nor one of a lesser number on its line
+-- the fault is in the units, and none on a lesser line, nor one of a lesser number on its line
 pub record IsFirstInUnits (g : Generated) (units : List UnitText) (fault : FitFault) : Type 0 where
   pub stands : Any (λ u. UnitHas g u fault) units
   pub first : (other : FitFault) → Any (λ u. UnitHas g u other) units → IsTrue (comes_first fault other)
@@ -81,7 +81,7 @@ IsFirstWithout units (p ∷ programs) n = ((unit_named units p.0 ≡ None) × (n
 abbrev pub HaveUnits : List UnitText → List (List ℕ × ℕ) → Type 0
 HaveUnits units programs = All (λ (p : List ℕ × ℕ). IsSome (unit_named units p.0)) programs
 
--- the fault stands, and comes first
+-- the fault is there, and comes first
 abbrev pub IsFirstFault : Generated → List UnitText → FitFault → Type 0
 IsFirstFault g units (NoUnit n) = IsFirstWithout units g.programs n
 IsFirstFault g units Memory = ⊥

@@ -9,7 +9,7 @@ use thiserror::Error;
 /// The first reason why units do not fit a generation, with a line counted from 1.
 ///
 /// A PROGRAM statement without a unit comes before all others; of these the one of the least line is answered, and on one
-/// line the one that stands first here.
+/// line the one that is first here.
 #[derive(Clone, Copy, Error)]
 pub enum FitFault {
     /// A PROGRAM statement, on this line of the definition, whose unit is missing.
@@ -18,7 +18,7 @@ pub enum FitFault {
     /// A statement that jumps to a label that its unit has not.
     #[error("line {0}: no such label")]
     NoLabel(u32),
-    /// A field that ends behind the last byte of KB or SPAB.
+    /// A field that ends after the last byte of KB or SPAB.
     #[error("line {0}: a field past the end of its area")]
     FieldPastArea(u32),
     /// A PEND that names by a literal what is no TAC.

@@ -84,7 +84,7 @@ pub fn fit(alloc: Global, units: Vec<Unit>, generation: &Generation) -> Result<U
     ensures found { IfOk result (λ fitted. AreFittedTo generation.now units.items fitted) }
     // Units that fit are taken, unless memory runs out.
     ensures only { (fitted : FittedUnits) → AreFittedTo generation.now units.items fitted → Gives result (Ok fitted) }
-    // The fault that is answered stands, and comes first.
+    // The fault that is answered is there, and comes first.
     ensures fault { IfErr result (λ fault. fault ≢ Memory → IsFirstFault generation.now units.items fault) }
     // Units with the fault are refused for it, unless memory runs out.
     ensures refused { (fault : FitFault) → IsFirstFault generation.now units.items fault → Gives result (Err fault) }

@@ -9,7 +9,7 @@ use kdcdef_check::Generation;
 use kdcdef_types::Limits;
 use unit_types::{Field, Unit, UnitStatement};
 
-// The field, if it ends behind its area.
+// The field, if it ends after its area.
 fn field_fault(limits: &Limits, field: &Field) -> Option<FitFault>
     ensures { result ≡ field_fault limits.now field.now }
 {

@@ -18,7 +18,7 @@ pub(crate) struct Fitted {
     pub(crate) units: Vec<Unit>,
     pub(crate) limits: Limits,
     pub(crate) tacs: IndexMap<Name, TacEntry, NameHashing>,
-    // Where the first unit of a name stands.
+    // Where the first unit of a name is.
     pub(crate) places: BTreeMap<ProgName, usize>,
 }
 
@@ -65,7 +65,7 @@ impl Fitted {
 }
 
 /// Units that fit a generation. Contracts see the units in their order, and the limits and TACs of the generation. They
-/// are handed from owner to owner, so what is known of them stands in a box.
+/// are handed from owner to owner, so what is known of them is in a box.
 #[derive(Drop)]
 pub struct Units {
     fitted: Box<Fitted, Global>,

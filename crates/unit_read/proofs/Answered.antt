@@ -6,7 +6,7 @@ use Rattle.kd_base.specs.FirstFaults.{items_of}
 use Rattle.unit_types.specs.UnitText.{UnitText, IsWhole}
 use Rattle.unit_read.specs.declared.fault.UnitFault.{UnitFault}
 use Rattle.unit_read.specs.declared.fault.UnitFault.TheVariants.{Memory}
-use Rattle.unit_read.specs.Outcomes.{Gives}
+use Rattle.unit_read.specs.Answers.{Gives}
 use Rattle.unit_read.specs.Reading.{read_text}
 use Rattle.unit_read.specs.Spelling.{SpellsUnits}
 use Rattle.unit_read.specs.WholeLaws.{spelled_whole}

@@ -1,4 +1,4 @@
--- The faults of pieces and of texts: what is answered stands there, and what stands there is answered.
+-- The faults of pieces and of texts: what is answered is there, and what is there is answered.
 use Rattle.std.proofs.Common.{◌≡◌, ℕ, ◌+◌, ◌<◌, ◌≤◌, true, false, cond, List, [], ◌∷◌, ◌++◌, length, Option, Some, None, Result, Ok, Err, refl, sym, ap, ◌∙◌, subst, inl, inr, arith}
 use Rattle.std.specs.Prelude.{nat_le, nat_lt}
 use Rattle.std.specs.Str.Lines.{lines}

@@ -18,17 +18,17 @@ use Rattle.unit_read.specs.Used.{uses}
 use Rattle.unit_read.specs.Units.{begun, add_field, add_label, add_statement, State, nothing_read, in_unit, stepped}
 use Rattle.unit_read.specs.Reading.{piece_in, piece_step, line_step}
 use Rattle.unit_read.specs.Grammar.{SpellsPiece}
-use Rattle.unit_read.specs.Spelling.{Placed, placed, has_no_body, ArePieces, is_field, is_inner, are_fields, are_inner, field_in, label_in, statement_in, fields_in, statements_in, labels_in, FieldsAreNew, LabelsAreNew, are_defined, IsBegun, MayFollow, AreUnits}
+use Rattle.unit_read.specs.Spelling.{Placed, placed, has_no_body, ArePieces, is_field, is_inner, are_fields, are_inner, field_in, label_in, statement_in, fields_in, statements_in, labels_in, FieldsAreNew, LabelsAreNew, are_defined, IsBegun, MayComeAfter, AreUnits}
 use Rattle.unit_read.specs.Faults.{IsOpen, Stand}
 use Rattle.unit_read.proofs.Pieced.{line_is, line_again}
 use Rattle.unit_read.proofs.Standing.{stand_more}
 
--- the state behind pieces
+-- the state after pieces
 abbrev pub run : List Placed → State → Result State UnitFault
 run [] s = Ok s
 run (p ∷ ps) s = stepped p.line p.piece s >>= run ps
 
--- the state behind lines
+-- the state after lines
 abbrev pub after_lines : ℕ → List (List ℕ) → State → Result State UnitFault
 after_lines n [] s = Ok s
 after_lines n (line ∷ rest) s = line_step n line s >>= after_lines (n + 1) rest
@@ -135,7 +135,7 @@ statement_step us u n a k defined few = record {
   statements = refl;
 }
 
--- what is left to hold behind the first piece
+-- what is left to hold after the first piece
 record Later (us : List UnitText) (u : UnitText) (n : ℕ) (piece : Piece) (k : ℕ) (ls : List (List ℕ × ℕ)) (ss : List UnitStatement) : Type 0 where
   next : UnitText
   steps : Steps us u n piece k next
@@ -201,10 +201,10 @@ body_run us (p ∷ body) rest u v k is at new defined few more =
 abbrev pub no_unit : List UnitText → State
 no_unit us = record { units = us; current = None }
 
-unit_line_step : (us : List UnitText) (u : UnitText) → MayFollow us u → stepped u.line (pieces.Unit u.name) (no_unit us) ≡ Ok (in_unit us (begun u.name u.line))
+unit_line_step : (us : List UnitText) (u : UnitText) → MayComeAfter us u → stepped u.line (pieces.Unit u.name) (no_unit us) ≡ Ok (in_unit us (begun u.name u.line))
 unit_line_step us u may = let few = may.few in rw (may.new, below (length us) 1000 (omega arith)) refl
 
-unit_run : (us : List UnitText) (u : UnitText) (own rest : List Placed) → MayFollow us u → IsBegun u own → run (own ++ rest) (no_unit us) ≡ run rest (in_unit us u)
+unit_run : (us : List UnitText) (u : UnitText) (own rest : List Placed) → MayComeAfter us u → IsBegun u own → run (own ++ rest) (no_unit us) ≡ run rest (in_unit us u)
 unit_run us u own rest may b =
     let with_heads = unit_with u.name u.line (fields_in b.heads) [] [] in
     let parts : own ++ rest ≡ placed u.line (pieces.Unit u.name) ∷ (b.heads ++ (b.body ++ rest)) =

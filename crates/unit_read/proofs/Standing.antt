@@ -1,4 +1,4 @@
--- Pieces behind pieces: what is read so far stands above.
+-- Pieces after pieces: what is read so far is above.
 use Rattle.std.proofs.Common.{◌≡◌, ℕ, ◌+◌, ◌<◌, ◌≤◌, Bool, true, false, cond, eqb, List, [], ◌∷◌, ◌++◌, length, Option, Some, None, Ok, Err, refl, sym, ap, ◌∙◌, subst, inl, inr, arith, append_assoc, length-append}
 use Rattle.std.specs.Prelude.{nat_le}
 use Rattle.std.specs.List.{list_all}
@@ -16,7 +16,7 @@ use Rattle.unit_read.specs.declared.piece.Piece.TheVariants as pieces
 use Rattle.unit_read.specs.Names.{has_field, has_label, has_unit}
 use Rattle.unit_read.specs.Used.{uses}
 use Rattle.unit_read.specs.Units.{begun, add_field, add_label, add_statement, with_field, with_label, with_statement, State, in_unit, by_current}
-use Rattle.unit_read.specs.Spelling.{Placed, placed, has_no_body, is_field, is_inner, are_inner, field_in, label_in, statement_in, fields_in, statements_in, labels_in, FieldsAreNew, LabelsAreNew, are_defined, IsBegun, MayFollow, AreUnits}
+use Rattle.unit_read.specs.Spelling.{Placed, placed, has_no_body, is_field, is_inner, are_inner, field_in, label_in, statement_in, fields_in, statements_in, labels_in, FieldsAreNew, LabelsAreNew, are_defined, IsBegun, MayComeAfter, AreUnits}
 use Rattle.unit_read.specs.Faults.{Stand}
 
 -- ---- lists with one more at the end
@@ -137,9 +137,9 @@ statement_more u n a own b defined few =
 
 -- ---- units with one more
 
-units_more : (before us : List UnitText) (u : UnitText) (whole own : List Placed) (n : ℕ) → AreUnits before us whole → MayFollow (before ++ us) u → IsBegun u own → AreUnits before (us ++ u ∷ []) (whole ++ (own ++ placed n pieces.End ∷ []))
+units_more : (before us : List UnitText) (u : UnitText) (whole own : List Placed) (n : ℕ) → AreUnits before us whole → MayComeAfter (before ++ us) u → IsBegun u own → AreUnits before (us ++ u ∷ []) (whole ++ (own ++ placed n pieces.End ∷ []))
 units_more before [] u whole own n h may b =
-    (own, [], n, ap (λ (x : List Placed). x ++ (own ++ placed n pieces.End ∷ [])) h, subst (λ (x : List UnitText). MayFollow x u) (append-nil before) may, b, refl)
+    (own, [], n, ap (λ (x : List Placed). x ++ (own ++ placed n pieces.End ∷ [])) h, subst (λ (x : List UnitText). MayComeAfter x u) (append-nil before) may, b, refl)
 units_more before (v ∷ vs) u whole own n h may b =
     let tail = own ++ placed n pieces.End ∷ [] in (
       h.0,
@@ -148,7 +148,7 @@ units_more before (v ∷ vs) u whole own n h may b =
       ap (λ (x : List Placed). x ++ tail) h.3 ∙ append_assoc h.0 (placed h.2 pieces.End ∷ h.1) tail,
       h.4,
       h.5,
-      units_more (before ++ v ∷ []) vs u h.1 own n h.6 (subst (λ (x : List UnitText). MayFollow x u) (sym (append_assoc before (v ∷ []) vs)) may) b,
+      units_more (before ++ v ∷ []) vs u h.1 own n h.6 (subst (λ (x : List UnitText). MayComeAfter x u) (sym (append_assoc before (v ∷ []) vs)) may) b,
     )
 
 -- ---- one more piece
@@ -169,7 +169,7 @@ begins us n name ps h new few =
       ),
     )
 
-goes_further : (us : List UnitText) (u v : UnitText) (ps : List Placed) (p : Placed) (h : Stand us (Some u) ps) → MayFollow us v → IsBegun v (h.1 ++ p ∷ []) → StandsNow (in_unit us v) (ps ++ p ∷ [])
+goes_further : (us : List UnitText) (u v : UnitText) (ps : List Placed) (p : Placed) (h : Stand us (Some u) ps) → MayComeAfter us v → IsBegun v (h.1 ++ p ∷ []) → StandsNow (in_unit us v) (ps ++ p ∷ [])
 goes_further us u v ps p h may b =
     (h.0, h.1 ++ p ∷ [], ap (λ (x : List Placed). x ++ p ∷ []) h.2 ∙ append_assoc h.0 h.1 (p ∷ []), h.3, (may, b))
 

@@ -1,4 +1,4 @@
--- A fault stands at a line.
+-- A fault is at a line.
 use Rattle.std.specs.Prelude.{◌≡◌, ℕ, ◌+◌, ◌<◌, ◌≤◌, ◌⊎◌, true, false, List, [], ◌∷◌, ◌++◌, length, codes, Option, Some, None}
 use Rattle.std.specs.Str.Lines.{lines}
 use Rattle.kd_base.specs.Limits.{longest_text}
@@ -11,21 +11,21 @@ use Rattle.unit_read.specs.Lines.{is_passed}
 use Rattle.unit_read.specs.Grammar.{SpellsPiece}
 use Rattle.unit_read.specs.Names.{has_field, has_label, has_unit}
 use Rattle.unit_read.specs.Used.{uses}
-use Rattle.unit_read.specs.Spelling.{Placed, has_no_body, ArePieces, IsBegun, MayFollow, AreUnits}
+use Rattle.unit_read.specs.Spelling.{Placed, has_no_body, ArePieces, IsBegun, MayComeAfter, AreUnits}
 
--- ---- what stands above a line
+-- ---- what is above a line
 
 abbrev pub IsOpen : List UnitText → Option UnitText → List Placed → Type 0
 IsOpen before None own = own ≡ []
-IsOpen before (Some u) own = MayFollow before u × IsBegun u own
+IsOpen before (Some u) own = MayComeAfter before u × IsBegun u own
 
 -- the pieces are these whole units, and then those of the unit that is open
 abbrev pub Stand : List UnitText → Option UnitText → List Placed → Type 0
 Stand us open_unit ps = (whole own : List Placed) × (ps ≡ whole ++ own) × AreUnits [] us whole × IsOpen us open_unit own
 
--- ---- faults of a piece, behind these whole units and in the open one
+-- ---- faults of a piece, after these whole units and in the open one
 
--- anything but a UNIT line where no unit is open, or a FIELD line behind a label or a statement
+-- anything but a UNIT line where no unit is open, or a FIELD line after a label or a statement
 abbrev pub IsMisplaced : Option UnitText → Piece → Type 0
 IsMisplaced None (pieces.Unit name) = ⊥
 IsMisplaced None _ = Unit {0}
@@ -53,7 +53,7 @@ abbrev pub RepeatsUnit : List UnitText → Option UnitText → Piece → Type 0
 RepeatsUnit us None (pieces.Unit name) = has_unit us name ≡ true
 RepeatsUnit _ _ _ = ⊥
 
--- a statement behind 10,000, or a unit behind 1,000
+-- a statement after 10,000, or a unit after 1,000
 abbrev pub IsOneTooMany : List UnitText → Option UnitText → Piece → Type 0
 IsOneTooMany us None (pieces.Unit name) = (has_unit us name ≡ false) × (1000 ≤ length us)
 IsOneTooMany us (Some u) (pieces.Statement a) = (uses (has_field u.fields) a ≡ true) × (10000 ≤ length u.statements)
@@ -86,7 +86,7 @@ abbrev pub FaultNext : ℕ → List (List ℕ) → List UnitText → Option Unit
 FaultNext n [] us o fault = EndFault n o fault
 FaultNext n (line ∷ rest) us o fault = LineFault n line us o fault
 
--- behind lines without a fault, a line or the end of the text has the fault
+-- after lines without a fault, a line or the end of the text has the fault
 pub record FirstFault (all : List (List ℕ)) (fault : UnitFault) : Type 0 where
   pub above : List (List ℕ)
   pub below : List (List ℕ)

@@ -7,7 +7,7 @@ pub mod Statements
 pub mod Pieces
 pub mod Names
 pub mod Used
-pub mod Outcomes
+pub mod Answers
 pub mod Units
 pub mod Open
 pub mod Reading

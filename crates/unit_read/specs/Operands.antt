@@ -42,7 +42,7 @@ header_of name =
     else (if bytes_eq name (codes "KCRCCC") then Some Crccc
     else (if bytes_eq name (codes "KCRLM") then Some Rlm else None)))))
 
--- what stands between `TRIM(` and `)`
+-- what is between `TRIM(` and `)`
 abbrev pub in_trim : List ℕ → Option (List ℕ)
 in_trim word =
     if nat_le 6 (length word) && bytes_eq (take 5 word) (codes "TRIM(") && bytes_eq (drop (length word - 6) (drop 5 word)) (codes ")")

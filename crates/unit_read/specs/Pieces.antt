@@ -35,11 +35,11 @@ abbrev pub new_field : Word → Option (List ℕ)
 new_field (Plain word) = if is_name word && not (is_some (header_of word)) then Some word else None
 new_field (Literal bytes) = None
 
--- name, whether it stands in SPAB, offset and length
+-- name, whether it is in SPAB, offset and length
 abbrev pub field_parts : Word → Word → Word → Word → Option (List ℕ × (Bool × (ℕ × ℕ)))
 field_parts n a o l = both (new_field n) (both (area_of a) (both (number_from 0 o) (number_from 1 l)))
 
--- behind FIELD
+-- after FIELD
 abbrev pub field_of : List Word → Option Piece
 field_of [] = None
 field_of (n ∷ []) = None
@@ -49,7 +49,7 @@ field_of (n ∷ a ∷ o ∷ l ∷ []) =
     option_map (λ (p : List ℕ × (Bool × (ℕ × ℕ))). pieces.Field p.0 p.1.0 p.1.1.0 p.1.1.1) (field_parts n a o l)
 field_of (n ∷ a ∷ o ∷ l ∷ x ∷ ws) = None
 
--- behind UNIT
+-- after UNIT
 abbrev pub unit_of : List Word → Option Piece
 unit_of [] = None
 unit_of (w ∷ []) = option_and_then (λ (bytes : List ℕ). option_map (λ (name : List ℕ). pieces.Unit name) (prog_name_of bytes)) (plain w)

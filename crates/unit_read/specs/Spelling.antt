@@ -65,7 +65,7 @@ abbrev pub statements_in : List Placed → List UnitStatement
 statements_in [] = []
 statements_in (p ∷ ps) = statement_in p.line p.piece ++ statements_in ps
 
--- each label with the number of the statement that it stands before, where the next statement has number k
+-- each label with the number of the statement that it is before, where the next statement has number k
 abbrev pub labels_in : ℕ → List Placed → List (List ℕ × ℕ)
 labels_in k [] = []
 labels_in k (p ∷ ps) = label_in k p.piece ++ labels_in (k + length (statement_in p.line p.piece)) ps
@@ -104,16 +104,16 @@ pub record IsBegun (u : UnitText) (ps : List Placed) : Type 0 where
   pub defined : are_defined u.fields u.statements ≡ true
   pub few : length u.statements ≤ 10000
 
--- a unit, which may stand behind these
-pub record MayFollow (before : List UnitText) (u : UnitText) : Type 0 where
+-- a unit, which may be after these
+pub record MayComeAfter (before : List UnitText) (u : UnitText) : Type 0 where
   pub new : has_unit before u.name ≡ false
   pub few : length before + 1 ≤ 1000
 
--- these pieces are whole units, behind those before
+-- these pieces are whole units, after those before
 abbrev pub AreUnits : List UnitText → List UnitText → List Placed → Type 0
 AreUnits before [] ps = ps ≡ []
 AreUnits before (u ∷ us) ps =
-    (own rest : List Placed) × (last : ℕ) × (ps ≡ own ++ placed last pieces.End ∷ rest) × MayFollow before u × IsBegun u own × AreUnits (before ++ u ∷ []) us rest
+    (own rest : List Placed) × (last : ℕ) × (ps ≡ own ++ placed last pieces.End ∷ rest) × MayComeAfter before u × IsBegun u own × AreUnits (before ++ u ∷ []) us rest
 
 -- the text is cut into lines, those into pieces, and these into units
 abbrev pub SpellsUnits : List ℕ → List UnitText → Type 0

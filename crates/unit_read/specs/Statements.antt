@@ -34,15 +34,60 @@ pend_action variant words =
 abbrev pub delayed_action : List Word → Option Action
 delayed_action words = option_map (λ (d : DelayedMessage). actions.Dput d.to d.mode d.days d.rest.0 d.rest.1 d.rest.2 d.rest.3) (delayed words)
 
+abbrev pub join_action : List Word → Option Action
+join_action words = option_map (λ (p : List ℕ × Operand × Operand). actions.Join p.0 p.1 p.2) (name_and_two words)
+
+abbrev pub if_action : List Word → Option Action
+if_action words = option_map (λ (p : Operand × Relation × Operand × List ℕ). actions.If p.0 p.1 p.2 p.3) (compared words)
+
+-- MOVE, or an arithmetic statement: what is stored in a field
+abbrev pub stored : Key → (field : List ℕ) → Operand → Action
+stored keys.Add f o = actions.Add f o
+stored keys.Sub f o = actions.Sub f o
+stored keys.Mul f o = actions.Mul f o
+stored keys.Div f o = actions.Div f o
+stored _ f o = actions.Move f o
+
+-- JUMP, MGET or FGET: a label, or the field that a message is read into
+abbrev pub named : Key → List ℕ → Action
+named keys.Mget n = actions.Mget n
+named keys.Fget n = actions.Fget n
+named _ n = actions.Jump n
+
+-- MPUT, or a call that gives an area or its lock back
+abbrev pub given : Key → Operand → Action
+given keys.SrelGb o = actions.SrelGb o
+given keys.SrelLb o = actions.SrelLb o
+given keys.UnlkGb o = actions.UnlkGb o
+given keys.UnlkUs o = actions.UnlkUs o
+given keys.UnlkDa o = actions.UnlkDa o
+given _ o = actions.Mput o
+
+-- FPUT, or a call that writes an area
+abbrev pub written : Key → (name content : Operand) → Action
+written keys.SputGb n o = actions.SputGb n o
+written keys.SputMs n o = actions.SputMs n o
+written keys.SputUs n o = actions.SputUs n o
+written keys.Ptda n o = actions.Ptda n o
+written _ n o = actions.Fput n o
+
+-- a call that reads an area into a field
+abbrev pub read : Key → (name : Operand) → (field : List ℕ) → Action
+read keys.SgetKp n f = actions.SgetKp n f
+read keys.SgetRl n f = actions.SgetRl n f
+read keys.SgetUs n f = actions.SgetUs n f
+read keys.Gtda n f = actions.Gtda n f
+read _ n f = actions.SgetGb n f
+
 -- the statement with these keywords, from its operands
 abbrev pub action_at : Key → List Word → Option Action
 action_at keys.Move ws = option_map (λ (p : List ℕ × Operand). actions.Move p.0 p.1) (name_and_operand ws)
-action_at keys.Join ws = option_map (λ (p : List ℕ × Operand × Operand). actions.Join p.0 p.1 p.2) (name_and_two ws)
+action_at keys.Join ws = join_action ws
 action_at keys.Add ws = option_map (λ (p : List ℕ × Operand). actions.Add p.0 p.1) (name_and_operand ws)
 action_at keys.Sub ws = option_map (λ (p : List ℕ × Operand). actions.Sub p.0 p.1) (name_and_operand ws)
 action_at keys.Mul ws = option_map (λ (p : List ℕ × Operand). actions.Mul p.0 p.1) (name_and_operand ws)
 action_at keys.Div ws = option_map (λ (p : List ℕ × Operand). actions.Div p.0 p.1) (name_and_operand ws)
-action_at keys.If ws = option_map (λ (p : Operand × Relation × Operand × List ℕ). actions.If p.0 p.1 p.2 p.3) (compared ws)
+action_at keys.If ws = if_action ws
 action_at keys.Jump ws = option_map (λ (l : List ℕ). actions.Jump l) (one_name ws)
 action_at keys.Init ws = alone actions.Init ws
 action_at keys.Mget ws = option_map (λ (f : List ℕ). actions.Mget f) (one_name ws)

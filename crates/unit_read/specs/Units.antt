@@ -11,7 +11,7 @@ use Rattle.kd_base.specs.Tools.{◌>>=◌}
 use Rattle.unit_read.specs.Names.{has_field, has_label, has_unit}
 use Rattle.unit_read.specs.Used.{uses}
 
--- a unit behind its UNIT line
+-- a unit after its UNIT line
 abbrev pub begun : List ℕ → ℕ → UnitText
 begun name line = record { name = name; line = line; fields = []; labels = []; statements = [] }
 

@@ -8,16 +8,16 @@ use thiserror::Error;
 
 /// The first fault of a units text, with the number of its line, counted from 1.
 ///
-/// The fault of the least line is answered, and on one line the one that stands first here.
+/// The fault of the least line is answered, and on one line the one that is first here.
 #[derive(Clone, Copy, Error)]
 pub enum UnitFault {
-    /// A line that is no piece of a unit, or not one that may stand there.
+    /// A line that is no piece of a unit, or not one that may be there.
     BadStatement(u32),
     /// A field that is not defined, a field that is defined twice, or a header name where bytes are stored.
     BadField(u32),
     /// A label that the unit already has.
     LabelTwice(u32),
-    /// A UNIT line, or the line behind the last, where a unit is open.
+    /// A UNIT line, or the line after the last, where a unit is open.
     NoEnd(u32),
     /// A UNIT line with the name of a unit above.
     UnitTwice(u32),

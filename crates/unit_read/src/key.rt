@@ -192,7 +192,7 @@ fn keyword_count(key: Key) -> usize
     if second_keyword(key).is_empty() { 1 } else { 2 }
 }
 
-/// What stands behind the keywords.
+/// What is after the keywords.
 pub(crate) fn behind_keywords(words: &[Word], key: Key) -> &[Word]
     requires { keyword_count key ≤ length words.now }
     ensures { result.now ≡ drop (keyword_count key) words.now }

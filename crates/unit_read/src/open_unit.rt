@@ -1,6 +1,6 @@
 //! A unit whose END has not come yet.
 ghost use Rattle.std.specs.Prelude.{◌≡◌, IfOk, OnOk};
-ghost use Rattle.unit_read.specs.{Names.{AreFieldNames, AreLabelNames}, Units.{begun, with_field, with_label, with_statement, with_piece}, Open.{unit_so_far, IsKept}, Outcomes.{Gives, after}};
+ghost use Rattle.unit_read.specs.{Names.{AreFieldNames, AreLabelNames}, Units.{begun, with_field, with_label, with_statement, with_piece}, Open.{unit_so_far, IsKept}, Answers.{Gives, after}};
 
 use crate::fault::UnitFault;
 use crate::names::{Names, add_name, holds, no_names};

@@ -76,7 +76,7 @@ pub(crate) fn header_of(name: &[u8]) -> Option<HeaderName>
     ])
 }
 
-// What stands between `TRIM(` and `)`.
+// What is between `TRIM(` and `)`.
 fn in_trim(word: &[u8]) -> Option<&[u8]>
     ensures { option_copied result ≡ in_trim word.now }
 {

@@ -14,7 +14,7 @@ use std::alloc::Global;
 #[derive(Drop)]
 pub(crate) enum Piece {
     Unit(ProgName),
-    /// Name, whether it stands in SPAB, offset and length.
+    /// Name, whether it is in SPAB, offset and length.
     Field(Bytes, bool, u32, u32),
     Label(Bytes),
     Statement(Said),
@@ -66,7 +66,7 @@ fn new_field(word: &Word) -> Option<&[u8]>
     Some(name)
 }
 
-// Name, whether it stands in SPAB, offset and length.
+// Name, whether it is in SPAB, offset and length.
 fn field_parts<'a>(
     name: &'a Word,
     area: &Word,
@@ -83,7 +83,7 @@ fn field_parts<'a>(
     ))
 }
 
-// Behind FIELD.
+// After FIELD.
 fn field_of(alloc: Global, words: &[Word]) -> Result<Option<Piece>, OutOfMemory>
     ensures { IfOk result (λ found. found ≡ field_of words.now) }
 {
@@ -99,7 +99,7 @@ fn field_of(alloc: Global, words: &[Word]) -> Result<Option<Piece>, OutOfMemory>
     }
 }
 
-// Behind UNIT.
+// After UNIT.
 fn unit_of(words: &[Word]) -> Option<Piece>
     ensures { result ≡ unit_of words.now }
 {

@@ -2,7 +2,7 @@
 ghost use Rattle.std.specs.Prelude.{◌≢◌, All, List, IfOk, IfErr, OnOk};
 ghost use Rattle.kd_base.specs.FirstFaults.{items_of};
 ghost use Rattle.unit_types.specs.UnitText.{UnitText, IsWhole};
-ghost use Rattle.unit_read.specs.{declared.fault.UnitFault.TheVariants.{Memory}, Spelling.{SpellsUnits}, Faults.{HasTextFault}, Open.{state_of, AreKept}, Outcomes.{Gives, after}, Reading.{line_step, read_text}};
+ghost use Rattle.unit_read.specs.{declared.fault.UnitFault.TheVariants.{Memory}, Spelling.{SpellsUnits}, Faults.{HasTextFault}, Open.{state_of, AreKept}, Answers.{Gives, after}, Reading.{line_step, read_text}};
 
 use crate::fault::UnitFault;
 use crate::line::is_passed;
@@ -63,7 +63,7 @@ pub fn read_units(alloc: Global, text: &[u8]) -> Result<Vec<Unit>, UnitFault>
     ensures whole { IfOk result (λ units. All IsWhole units.items) }
     // What the text spells is read, unless memory runs out.
     ensures only { (units : List UnitText) → SpellsUnits text.now units → Gives (items_of result) (Ok units) }
-    // The fault that is answered stands there.
+    // The fault that is answered is there.
     ensures fault { IfErr result (λ e. e ≢ Memory → HasTextFault text.now e) }
     // A text with the fault is refused for it, unless memory runs out.
     ensures refused { (e : UnitFault) → HasTextFault text.now e → Gives (items_of result) (Err e) }

@@ -1,7 +1,7 @@
 //! What was read so far: whole units, and perhaps an open one.
 ghost use Rattle.std.specs.Prelude.{◌≡◌, None, OnOk};
 ghost use Rattle.kd_base.specs.FirstFaults.{items_of};
-ghost use Rattle.unit_read.specs.{Units.{nothing_read, opened, closed, stepped, finished}, Open.{unit_so_far, IsKept, state_of, AreKept}, Outcomes.{Gives, after}};
+ghost use Rattle.unit_read.specs.{Units.{nothing_read, opened, closed, stepped, finished}, Open.{unit_so_far, IsKept, state_of, AreKept}, Answers.{Gives, after}};
 
 use crate::fault::UnitFault;
 use crate::names::{UnitNames, add_unit_name, holds_unit, no_unit_names};

@@ -125,7 +125,7 @@ pub(crate) struct DelayedMessage {
     pub rest: (Operand, Operand, Operand, Operand),
 }
 
-// The mode and what is behind it.
+// The mode and what is after it.
 fn behind_to(
     alloc: Global,
     mode: &Word,

@@ -1,6 +1,8 @@
 //! A statement from its words: the table of keywords and operands.
-ghost use Rattle.std.specs.{Prelude.{◌≡◌, IfOk, IsOkAnd, IsSomeAnd, MatchOption, None}, Option.{ForSome}};
-ghost use Rattle.unit_read.specs.Statements.{takes_follow_up, pend_action, delayed_action, action_at, action_of};
+ghost use Rattle.std.specs.{Prelude.{◌≡◌, ℕ, List, IfOk}, Option.{option_map}};
+ghost use Rattle.unit_types.specs.declared.action.Operand.{Operand};
+ghost use Rattle.unit_read.specs.Shapes.{one_name, one_operand, two_operands, name_and_operand, operand_and_name};
+ghost use Rattle.unit_read.specs.Statements.{takes_follow_up, pend_action, delayed_action, stored, join_action, if_action, named, given, written, read, action_at, action_of};
 
 use crate::key::{Key, behind_keywords, key_of};
 use crate::said::Said;
@@ -22,22 +24,14 @@ fn takes_follow_up(variant: Variant) -> bool
     )
 }
 
-// The action that is made of what was found.
-fn made<T: Drop, F: FnOnce(T) -> Action>(found: Found<T>, make: F) -> Found<Action>
-    requires { IfOk found (λ o. ForSome o (F.pre make)) }
-    ensures { IfOk result (λ action. IsOkAnd found (λ o. MatchOption o (action ≡ None) (λ x. IsSomeAnd action (F.post make x)))) }
-{
-    Ok(found?.map(make))
-}
-
 fn pend_action(alloc: Global, variant: Variant, words: &[Word]) -> Found<Action>
     ensures { IfOk result (λ found. found ≡ pend_action variant words.now) }
 {
     if takes_follow_up(variant) {
-        return made(
-            one_operand(alloc, words),
-            |next| Action::Pend(variant, Some(next)),
-        );
+        return Ok(match one_operand(alloc, words)? {
+            Some(next) => Some(Action::Pend(variant, Some(next))),
+            None => None,
+        });
     }
     Ok(match words {
         [] => Some(Action::Pend(variant, None)),
@@ -62,60 +56,126 @@ fn delayed_action(alloc: Global, words: &[Word]) -> Found<Action>
     Ok(Some(Action::Dput(to, mode, days, hours, minutes, seconds, message)))
 }
 
+// MOVE, or an arithmetic statement: what is stored in a field.
+fn stored(alloc: Global, key: Key, words: &[Word]) -> Found<Action>
+    ensures { IfOk result (λ found. found ≡ option_map (λ (p : List ℕ × Operand). stored key p.0 p.1) (name_and_operand words.now)) }
+{
+    let Some((field, operand)) = name_and_operand(alloc, words)? else {
+        return Ok(None);
+    };
+    Ok(Some(match key {
+        Key::Add => Action::Add(field, operand),
+        Key::Sub => Action::Sub(field, operand),
+        Key::Mul => Action::Mul(field, operand),
+        Key::Div => Action::Div(field, operand),
+        _ => Action::Move(field, operand),
+    }))
+}
+
+fn join_action(alloc: Global, words: &[Word]) -> Found<Action>
+    ensures { IfOk result (λ found. found ≡ join_action words.now) }
+{
+    let Some((field, first, second)) = name_and_two(alloc, words)? else {
+        return Ok(None);
+    };
+    Ok(Some(Action::Join(field, first, second)))
+}
+
+fn if_action(alloc: Global, words: &[Word]) -> Found<Action>
+    ensures { IfOk result (λ found. found ≡ if_action words.now) }
+{
+    let Some((first, relation, second, label)) = compared(alloc, words)? else {
+        return Ok(None);
+    };
+    Ok(Some(Action::If(first, relation, second, label)))
+}
+
+// JUMP, MGET or FGET: a label, or the field that a message is read into.
+fn named(key: Key, words: &[Word]) -> Found<Action>
+    ensures { IfOk result (λ found. found ≡ option_map (named key) (one_name words.now)) }
+{
+    let Some(name) = one_name(words)? else {
+        return Ok(None);
+    };
+    Ok(Some(match key {
+        Key::Mget => Action::Mget(name),
+        Key::Fget => Action::Fget(name),
+        _ => Action::Jump(name),
+    }))
+}
+
+// MPUT, or a call that gives an area or its lock back.
+fn given(alloc: Global, key: Key, words: &[Word]) -> Found<Action>
+    ensures { IfOk result (λ found. found ≡ option_map (given key) (one_operand words.now)) }
+{
+    let Some(operand) = one_operand(alloc, words)? else {
+        return Ok(None);
+    };
+    Ok(Some(match key {
+        Key::SrelGb => Action::SrelGb(operand),
+        Key::SrelLb => Action::SrelLb(operand),
+        Key::UnlkGb => Action::UnlkGb(operand),
+        Key::UnlkUs => Action::UnlkUs(operand),
+        Key::UnlkDa => Action::UnlkDa(operand),
+        _ => Action::Mput(operand),
+    }))
+}
+
+// FPUT, or a call that writes an area.
+fn written(alloc: Global, key: Key, words: &[Word]) -> Found<Action>
+    ensures { IfOk result (λ found. found ≡ option_map (λ (p : Operand × Operand). written key p.0 p.1) (two_operands words.now)) }
+{
+    let Some((name, content)) = two_operands(alloc, words)? else {
+        return Ok(None);
+    };
+    Ok(Some(match key {
+        Key::SputGb => Action::SputGb(name, content),
+        Key::SputMs => Action::SputMs(name, content),
+        Key::SputUs => Action::SputUs(name, content),
+        Key::Ptda => Action::Ptda(name, content),
+        _ => Action::Fput(name, content),
+    }))
+}
+
+// A call that reads an area into a field.
+fn read(alloc: Global, key: Key, words: &[Word]) -> Found<Action>
+    ensures { IfOk result (λ found. found ≡ option_map (λ (p : Operand × List ℕ). read key p.0 p.1) (operand_and_name words.now)) }
+{
+    let Some((name, field)) = operand_and_name(alloc, words)? else {
+        return Ok(None);
+    };
+    Ok(Some(match key {
+        Key::SgetKp => Action::SgetKp(name, field),
+        Key::SgetRl => Action::SgetRl(name, field),
+        Key::SgetUs => Action::SgetUs(name, field),
+        Key::Gtda => Action::Gtda(name, field),
+        _ => Action::SgetGb(name, field),
+    }))
+}
+
 // The statement with these keywords, from its operands.
 fn action_at(alloc: Global, key: Key, words: &[Word]) -> Found<Action>
     ensures { IfOk result (λ found. found ≡ action_at key words.now) }
 {
     match key {
-        Key::Move => made(name_and_operand(alloc, words), |(f, o)| Action::Move(f, o)),
-        Key::Join => made(
-            name_and_two(alloc, words),
-            |(f, o, p)| Action::Join(f, o, p),
-        ),
-        Key::Add => made(name_and_operand(alloc, words), |(f, o)| Action::Add(f, o)),
-        Key::Sub => made(name_and_operand(alloc, words), |(f, o)| Action::Sub(f, o)),
-        Key::Mul => made(name_and_operand(alloc, words), |(f, o)| Action::Mul(f, o)),
-        Key::Div => made(name_and_operand(alloc, words), |(f, o)| Action::Div(f, o)),
-        Key::If => made(
-            compared(alloc, words),
-            |(o, r, p, l)| Action::If(o, r, p, l),
-        ),
-        Key::Jump => made(one_name(words), |l| Action::Jump(l)),
+        Key::Move | Key::Add | Key::Sub | Key::Mul | Key::Div => stored(alloc, key, words),
+        Key::Join => join_action(alloc, words),
+        Key::If => if_action(alloc, words),
+        Key::Jump | Key::Mget | Key::Fget => named(key, words),
         Key::Init => match words {
             [] => Ok(Some(Action::Init)),
             _ => Ok(None),
         },
-        Key::Mget => made(one_name(words), |f| Action::Mget(f)),
-        Key::Mput => made(one_operand(alloc, words), |o| Action::Mput(o)),
-        Key::Fget => made(one_name(words), |f| Action::Fget(f)),
-        Key::Fput => made(two_operands(alloc, words), |(t, o)| Action::Fput(t, o)),
+        Key::Mput | Key::SrelGb | Key::SrelLb | Key::UnlkGb | Key::UnlkUs | Key::UnlkDa => {
+            given(alloc, key, words)
+        }
+        Key::Fput | Key::SputGb | Key::SputMs | Key::SputUs | Key::Ptda => {
+            written(alloc, key, words)
+        }
         Key::Dput => delayed_action(alloc, words),
-        Key::SgetGb => made(
-            operand_and_name(alloc, words),
-            |(n, f)| Action::SgetGb(n, f),
-        ),
-        Key::SputGb => made(two_operands(alloc, words), |(n, o)| Action::SputGb(n, o)),
-        Key::SrelGb => made(one_operand(alloc, words), |n| Action::SrelGb(n)),
-        Key::SgetKp => made(
-            operand_and_name(alloc, words),
-            |(n, f)| Action::SgetKp(n, f),
-        ),
-        Key::SgetRl => made(
-            operand_and_name(alloc, words),
-            |(n, f)| Action::SgetRl(n, f),
-        ),
-        Key::SputMs => made(two_operands(alloc, words), |(n, o)| Action::SputMs(n, o)),
-        Key::SrelLb => made(one_operand(alloc, words), |n| Action::SrelLb(n)),
-        Key::SgetUs => made(
-            operand_and_name(alloc, words),
-            |(n, f)| Action::SgetUs(n, f),
-        ),
-        Key::SputUs => made(two_operands(alloc, words), |(n, o)| Action::SputUs(n, o)),
-        Key::Gtda => made(operand_and_name(alloc, words), |(n, f)| Action::Gtda(n, f)),
-        Key::Ptda => made(two_operands(alloc, words), |(n, o)| Action::Ptda(n, o)),
-        Key::UnlkGb => made(one_operand(alloc, words), |n| Action::UnlkGb(n)),
-        Key::UnlkUs => made(one_operand(alloc, words), |n| Action::UnlkUs(n)),
-        Key::UnlkDa => made(one_operand(alloc, words), |n| Action::UnlkDa(n)),
+        Key::SgetGb | Key::SgetKp | Key::SgetRl | Key::SgetUs | Key::Gtda => {
+            read(alloc, key, words)
+        }
         Key::Pend(variant) => pend_action(alloc, variant, words),
     }
 }

@@ -26,7 +26,7 @@ fn split_plain(bytes: &[u8]) -> (&[u8], &[u8])
     bytes.split_at(n)
 }
 
-// Behind a quote: the literal, which ends at a blank or with the line, and what follows.
+// After a quote: the literal, which ends at a blank or with the line, and what follows.
 fn literal(alloc: Global, bytes: &[u8]) -> Result<Option<(Word, &[u8])>, OutOfMemory>
     ensures { IfOk result (λ found. option_map (λ w. (w.0, w.1.now)) found ≡ literal_at (quoted_at bytes.now)) }
 {

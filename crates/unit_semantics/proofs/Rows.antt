@@ -17,4 +17,4 @@ comparisons = record { shorter_is_filled = refl; filled_before_compared = refl; 
 
 pub calls_and_ends : CallsAndEnds
 unfolding statements
-calls_and_ends = record { asks_with_its_bytes = refl; asks_with_its_room = refl; last_of_its_time = refl; time_is_spent = refl; behind_the_last = refl; takes_the_answer = refl }
+calls_and_ends = record { asks_with_its_bytes = refl; asks_with_its_capacity = refl; last_of_its_time = refl; time_is_spent = refl; behind_the_last = refl; takes_the_answer = refl }

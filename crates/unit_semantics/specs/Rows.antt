@@ -85,7 +85,7 @@ pub record Comparisons : Type 0 where
 -- calls, and the ends of a run
 pub record CallsAndEnds : Type 0 where
   pub asks_with_its_bytes : done (action.SputGb (read.Trim f) (read.Field n)) (codes "A B   ") (codes "0010") ≡ Asks (call.SputGb (codes "A B") (codes "0010"))
-  pub asks_with_its_room : done (action.Mget g) (codes "ABCDEF") (codes "0010") ≡ Asks (call.Mget 4)
+  pub asks_with_its_capacity : done (action.Mget g) (codes "ABCDEF") (codes "0010") ≡ Asks (call.Mget 4)
   pub last_of_its_time : step (unit (action.Jump (codes "l"))) (run 1 8 [] []) ≡ Plain (run 7 9 [] [])
   pub time_is_spent : step (unit (action.Div n (read.Literal (codes "")))) (run 1 9 [] []) ≡ Ends E07
   pub behind_the_last : step (unit action.Init) (run 2 9 [] []) ≡ Ends E08

@@ -45,9 +45,9 @@ quotient_of a b = if b == 0 then None else Some (a / b)
 -- the bytes that a calculation gives to a field of this length; none where an operand is no number, or there is no result
 -- that fits
 abbrev pub calculated : ℕ → (ℕ → ℕ → Option ℕ) → Option ℕ → Option ℕ → Option (List ℕ)
-calculated room calculation None b = None
-calculated room calculation (Some a) None = None
-calculated room calculation (Some a) (Some b) = option_and_then (number_in room) (calculation a b)
+calculated capacity calculation None b = None
+calculated capacity calculation (Some a) None = None
+calculated capacity calculation (Some a) (Some b) = option_and_then (number_in capacity) (calculation a b)
 
 -- ---- the next statement
 
@@ -86,8 +86,8 @@ calculates unit run (Some f) operand calculation =
     gets_result run f (calculated f.length calculation (number_of (field_bytes run (Some f))) (number_of (value_of unit run operand)))
 
 -- the length of a target field
-abbrev pub target_room : UnitText → List ℕ → ℕ
-target_room unit name = field_length (field_named unit name)
+abbrev pub target_capacity : UnitText → List ℕ → ℕ
+target_capacity unit name = field_length (field_named unit name)
 
 unfoldable pub done_by : UnitText → RunState → Action → Meaning
 done_by unit run (action.Move f x) = gets unit run f (value_of unit run x)
@@ -100,22 +100,22 @@ done_by unit run (action.If x relation y label) =
     Plain (branched unit run label (relates relation (compared (value_of unit run x) (value_of unit run y))))
 done_by unit run (action.Jump label) = Plain (jumped run (label_place unit label))
 done_by unit run action.Init = Asks call.Init
-done_by unit run (action.Mget f) = Asks (call.Mget (target_room unit f))
+done_by unit run (action.Mget f) = Asks (call.Mget (target_capacity unit f))
 done_by unit run (action.Mput x) = Asks (call.Mput (value_of unit run x))
-done_by unit run (action.Fget f) = Asks (call.Fget (target_room unit f))
+done_by unit run (action.Fget f) = Asks (call.Fget (target_capacity unit f))
 done_by unit run (action.Fput to x) = Asks (call.Fput (value_of unit run to) (value_of unit run x))
 done_by unit run (action.Dput to mode d h m s x) =
     Asks (call.Dput (value_of unit run to) mode (value_of unit run d) (value_of unit run h) (value_of unit run m) (value_of unit run s) (value_of unit run x))
-done_by unit run (action.SgetGb name f) = Asks (call.SgetGb (value_of unit run name) (target_room unit f))
+done_by unit run (action.SgetGb name f) = Asks (call.SgetGb (value_of unit run name) (target_capacity unit f))
 done_by unit run (action.SputGb name x) = Asks (call.SputGb (value_of unit run name) (value_of unit run x))
 done_by unit run (action.SrelGb name) = Asks (call.SrelGb (value_of unit run name))
-done_by unit run (action.SgetKp name f) = Asks (call.SgetKp (value_of unit run name) (target_room unit f))
-done_by unit run (action.SgetRl name f) = Asks (call.SgetRl (value_of unit run name) (target_room unit f))
+done_by unit run (action.SgetKp name f) = Asks (call.SgetKp (value_of unit run name) (target_capacity unit f))
+done_by unit run (action.SgetRl name f) = Asks (call.SgetRl (value_of unit run name) (target_capacity unit f))
 done_by unit run (action.SputMs name x) = Asks (call.SputMs (value_of unit run name) (value_of unit run x))
 done_by unit run (action.SrelLb name) = Asks (call.SrelLb (value_of unit run name))
-done_by unit run (action.SgetUs name f) = Asks (call.SgetUs (value_of unit run name) (target_room unit f))
+done_by unit run (action.SgetUs name f) = Asks (call.SgetUs (value_of unit run name) (target_capacity unit f))
 done_by unit run (action.SputUs name x) = Asks (call.SputUs (value_of unit run name) (value_of unit run x))
-done_by unit run (action.Gtda name f) = Asks (call.Gtda (value_of unit run name) (target_room unit f))
+done_by unit run (action.Gtda name f) = Asks (call.Gtda (value_of unit run name) (target_capacity unit f))
 done_by unit run (action.Ptda name x) = Asks (call.Ptda (value_of unit run name) (value_of unit run x))
 done_by unit run (action.UnlkGb name) = Asks (call.UnlkGb (value_of unit run name))
 done_by unit run (action.UnlkUs name) = Asks (call.UnlkUs (value_of unit run name))
@@ -145,7 +145,7 @@ abbrev pub within_time : UnitText → RunState → Action → Bool → Meaning
 within_time unit run says true = Ends E07
 within_time unit run says false = done_by unit run says
 
--- E08 behind the last statement
+-- E08 after the last statement
 abbrev pub next_step : UnitText → RunState → Option Action → Meaning
 next_step unit run None = Ends E08
 next_step unit run (Some says) = within_time unit run says (run.count == run.budget)

@@ -60,7 +60,7 @@ decided a b i x y so_far h x_is y_is differ =
     sym
     (so_far ∙ cmp_from a b i h ∙ rw (sym x_is, sym y_is) (first_decides x y differ (slice_cmp nat_cmp (drop (suc i) (filled (length b) a)) (drop (suc i) (filled (length a) b)))))
 
--- and else those behind them
+-- and else those after them
 pub goes_on : (a b : List ℕ) (i x y : ℕ) → from_place a b i → i < max (length a) (length b) → x ≡ get_or a i 32 → y ≡ get_or b i 32 → x ≡ y → from_place a b (i + 1)
 goes_on a b i x y so_far h x_is y_is same =
     let e : get_or a i 32 ≡ get_or b i 32 = sym x_is ∙ same ∙ y_is in

@@ -32,9 +32,9 @@ front_is_enough n bytes =
 cut_behind : (n : ℕ) (a b : List ℕ) → length a < n → n ≤ length b → fitted n (a ++ take n b) ≡ fitted n (a ++ b)
 cut_behind n a b short long =
     let whole : a ++ b ≡ (a ++ take n b) ++ drop n b = ap (λ (x : List ℕ). a ++ x) (sym (take-append-drop n b)) ∙ sym (append_assoc a (take n b) (drop n b)) in
-    let room : n ≤ length (a ++ take n b) = omega (arith, length-append a (take n b), length-take n b) in
+    let bounded : n ≤ length (a ++ take n b) = omega (arith, length-append a (take n b), length-take n b) in
     let all : n ≤ length (a ++ b) = omega (arith, length-append a b) in
-    is_cut n (a ++ take n b) room ∙ sym (take-append-le n (a ++ take n b) (drop n b) room) ∙ ap (take n) (sym whole) ∙ sym (is_cut n (a ++ b) all)
+    is_cut n (a ++ take n b) bounded ∙ sym (take-append-le n (a ++ take n b) (drop n b) bounded) ∙ ap (take n) (sym whole) ∙ sym (is_cut n (a ++ b) all)
 
 behind_is_enough : (n : ℕ) (a b : List ℕ) → length a < n → fitted n (a ++ take (min (length b) n) b) ≡ fitted n (a ++ b)
 behind_is_enough n a b short =

@@ -98,26 +98,26 @@ whole_digits len n k h none =
 
 -- the number has too many digits
 pub refused : (len n m left : ℕ) (cells : List ℕ) → length cells ≡ 18 → m ≡ min len 18 → left ≡ n / 10 ^ length (take m cells) → left ≢ 0 → number_in len n ≡ None
-refused len n m left cells room is left_is more =
+refused len n m left cells bounded is left_is more =
     let k : length (take m cells) ≡ min len 18 = omega (arith, length-take m cells) in
     number_none len n (length (take m cells)) k (λ e. more (left_is ∙ e))
 
 -- the number fits
 pub fits : (len n m left : ℕ) (cells : List ℕ) → length cells ≡ 18 → m ≡ min len 18 → left ≡ n / 10 ^ length (take m cells) → left ≡ 0 → number_in len n ≡ Some (in_digits len n)
-fits len n m left cells room is left_is none =
+fits len n m left cells bounded is left_is none =
     let k : length (take m cells) ≡ min len 18 = omega (arith, length-take m cells) in
     number_some len n (length (take m cells)) k (sym left_is ∙ none)
 
 -- and its digits with zeros before them fill the field
 pub gets_number : (run : RunState) (f : Field) (n m left : ℕ) (cells digits : List ℕ) → length cells ≡ 18 → m ≡ min f.length 18 → left ≡ n / 10 ^ length (take m cells) → left ≡ 0 → digits ≡ in_digits (length (take m cells)) n → written run f.spab f.offset (replicate (f.length - length digits) zero_digit ++ digits) ≡ with_result run f (number_in f.length n)
-gets_number run f n m left cells digits room is left_is none digits_are =
+gets_number run f n m left cells digits bounded is left_is none digits_are =
     let k = length (take m cells) in
     let short : k ≤ f.length = omega (arith, length-take m cells) in
     let count : length digits ≡ k = ap length digits_are ∙ length_in_digits k n in
     let all : replicate (f.length - length digits) zero_digit ++ digits ≡ in_digits f.length n =
     ap (λ (x : ℕ). replicate (f.length - x) zero_digit ++ digits) count ∙ ap (λ (x : List ℕ). replicate (f.length - k) zero_digit ++ x) digits_are ∙ whole_digits f.length n k short (sym left_is ∙ none) in
     let same : fitted f.length (in_digits f.length n) ≡ in_digits f.length n = fits_as_it_is f.length (in_digits f.length n) (length_in_digits f.length n) in
-    rw (fits f.length n m left cells room is left_is none) (ap (λ (x : List ℕ). written run f.spab f.offset x) (all ∙ sym same))
+    rw (fits f.length n m left cells bounded is left_is none) (ap (λ (x : List ℕ). written run f.spab f.offset x) (all ∙ sym same))
 
 -- five digits in eight cells
 pub five_fit : (n len : ℕ) (digits rest : List ℕ) → len ≡ 5 → digits ≡ in_digits len n → take 5 (digits ++ rest) ≡ in_digits 5 n

@@ -1,13 +1,13 @@
--- Bytes put over others, one piece behind another.
+-- Bytes put over others, one piece after another.
 use Rattle.std.proofs.Common.{◌≡◌, ℕ, ◌+◌, ◌-◌, ◌≤◌, inl, inr, min, List, ◌++◌, length, take, drop, replicate, arith, sym, ◌∙◌, ap, append_assoc, length-append, length-take}
 use Rattle.std.proofs.lemmas.List.{take_at, drop_at, drop-drop, take-append-le, take_all, length-replicate, append-nil}
 use Rattle.std.proofs.lemmas.Bool.{cases_lt}
 use Rattle.unit_semantics.specs.Contents.{fitted, overlaid}
 
--- a piece is put behind the one before
+-- a piece is put after the one before
 pub one_behind : (at : ℕ) (a b under : List ℕ) → at + length a + length b ≤ length under → overlaid (at + length a) b (overlaid at a under) ≡ overlaid at (a ++ b) under
 unfolding overlaid
-one_behind at a b under room =
+one_behind at a b under bounded =
     let front = take at under ++ a in
     let len : length front ≡ at + length a = omega (arith, length-append (take at under) a, length-take at under) in
     let rest = drop (at + length a) under in
@@ -43,10 +43,10 @@ fitted_is count m bytes e =
           rw (is, none) (append-nil (take count bytes) ∙ sym (is_cut count bytes h))
     ]
 
--- bytes are put, and spaces behind them
+-- bytes are put, and spaces after them
 pub put_and_filled : (at count m : ℕ) (bytes area put all : List ℕ) → m ≡ min (length bytes) count → at + count ≤ length area → put ≡ take at area ++ take m bytes ++ drop (at + length (take m bytes)) area → all ≡ take (at + length (take m bytes)) put ++ replicate (count - length (take m bytes)) 32 ++ drop (at + length (take m bytes) + (count - length (take m bytes))) put → all ≡ overlaid at (fitted count bytes) area
 unfolding overlaid
-put_and_filled at count m bytes area put all e room first second =
+put_and_filled at count m bytes area put all e bounded first second =
     let front = take m bytes in
     let spaces = replicate (count - length front) 32 in
     let len : length spaces ≡ count - length front = length-replicate (count - length front) 32 in
@@ -54,10 +54,10 @@ put_and_filled at count m bytes area put all e room first second =
     second ∙ ap (λ (n : ℕ). take (at + length front) put ++ spaces ++ drop (at + length front + n) put) (sym len)
     ∙ ap (λ (x : List ℕ). overlaid (at + length front) spaces x) first ∙ one_behind at front spaces area fits ∙ ap (λ (x : List ℕ). overlaid at x area) (fitted_is count m bytes e)
 
--- zeros are put, and digits behind them
+-- zeros are put, and digits after them
 pub zeros_and_digits : (at count : ℕ) (digits area first all : List ℕ) → length digits ≤ count → at + count ≤ length area → first ≡ take at area ++ replicate (count - length digits) 48 ++ drop (at + (count - length digits)) area → all ≡ take (at + (count - length digits)) first ++ digits ++ drop (at + (count - length digits) + length digits) first → all ≡ overlaid at (replicate (count - length digits) 48 ++ digits) area
 unfolding overlaid
-zeros_and_digits at count digits area first all short room one two =
+zeros_and_digits at count digits area first all short bounded one two =
     let zeros = replicate (count - length digits) 48 in
     let len : length zeros ≡ count - length digits = length-replicate (count - length digits) 48 in
     let fits : at + length zeros + length digits ≤ length area = omega arith in

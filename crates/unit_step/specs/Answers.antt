@@ -5,8 +5,8 @@ use Rattle.kdcs_types.specs.declared.call.Call.{Call}
 use Rattle.unit_types.specs.declared.action.Action.{Action}
 use Rattle.unit_types.specs.declared.action.Action.TheVariants as action
 use Rattle.unit_semantics.specs.Statement.{Meaning, Plain, Asks, Ends, takes_memory}
-use Rattle.unit_step.specs.declared.outcome.Stepped.{Stepped}
-use Rattle.unit_step.specs.declared.outcome.Stepped.TheVariants as stepped
+use Rattle.unit_step.specs.declared.stepped.Stepped.{Stepped}
+use Rattle.unit_step.specs.declared.stepped.Stepped.TheVariants as stepped
 
 -- an answer, with the state that was left
 abbrev pub meaning_of : Stepped → RunState → Meaning

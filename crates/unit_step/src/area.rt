@@ -6,7 +6,7 @@ use kd_base::Bytes;
 use kdcs_types::RunState;
 use unit_types::Field;
 
-// The bytes fill so many from a place on, with spaces behind them, or are cut.
+// The bytes fill so many from a place on, with spaces after them, or are cut.
 fn fill_or_cut(area: &mut Bytes, at: u32, count: u32, bytes: &[u8])
     requires { at + count ≤ length area.old }
     ensures { area.new ≡ overlaid at (fitted count bytes.now) area.old }
@@ -20,7 +20,7 @@ fn fill_or_cut(area: &mut Bytes, at: u32, count: u32, bytes: &[u8])
 // The digits fill so many bytes from a place on, with zeros before them.
 fn fill_with_zeros(area: &mut Bytes, at: u32, count: u32, digits: &[u8])
     requires inside { at + count ≤ length area.old }
-    requires room { length digits.now ≤ count }
+    requires bounded { length digits.now ≤ count }
     ensures { area.new ≡ overlaid at (replicate (count - length digits.now) 48 ++ digits.now) area.old }
 {
     let zeros = count as usize - digits.len();
@@ -45,7 +45,7 @@ pub fn store(run: &mut RunState, field: &Field, bytes: &[u8])
 /// The field gets the digits, with leading zeros.
 pub fn store_digits(run: &mut RunState, field: &Field, digits: &[u8])
     requires inside { IsInside run.old field.now }
-    requires room { length digits.now ≤ field.now.length }
+    requires bounded { length digits.now ≤ field.now.length }
     ensures place { run.new.place ≡ run.old.place }
     ensures count { run.new.count ≡ run.old.count }
     ensures written { run.new ≡ written run.old field.now.spab field.now.offset (replicate (field.now.length - length digits.now) 48 ++ digits.now) }

@@ -3,7 +3,7 @@ ghost use Rattle.std.specs.Prelude.{◌≡◌, All, IfOk, IsTrue, OnErr};
 ghost use Rattle.unit_semantics.specs.{Fields.{value_of}, Ready.{IsInside}, Statement.{done_by, takes_memory}};
 ghost use Rattle.unit_step.specs.Answers.{IsAsked, IsCall, IsDput};
 
-use crate::operand::{bytes_of, room};
+use crate::operand::{bytes_of, capacity};
 use kd_base::{Bytes, OutOfMemory};
 use kdcs_types::{Call, RunState};
 use std::alloc::Global;
@@ -55,8 +55,8 @@ pub fn call_of(
 {
     match action {
         Action::Init => Ok(Call::Init),
-        Action::Mget(field) => Ok(Call::Mget(room(unit, field))),
-        Action::Fget(field) => Ok(Call::Fget(room(unit, field))),
+        Action::Mget(field) => Ok(Call::Mget(capacity(unit, field))),
+        Action::Fget(field) => Ok(Call::Fget(capacity(unit, field))),
         Action::Mput(operand)
         | Action::SrelGb(operand)
         | Action::SrelLb(operand)
@@ -96,13 +96,13 @@ pub fn call_of(
         | Action::SgetUs(name, field)
         | Action::Gtda(name, field) => {
             let name = bytes_of(alloc, unit, run, name)?;
-            let room = room(unit, field);
+            let capacity = capacity(unit, field);
             Ok(match action {
-                Action::SgetGb(..) => Call::SgetGb(name, room),
-                Action::SgetKp(..) => Call::SgetKp(name, room),
-                Action::SgetRl(..) => Call::SgetRl(name, room),
-                Action::SgetUs(..) => Call::SgetUs(name, room),
-                Action::Gtda(..) => Call::Gtda(name, room),
+                Action::SgetGb(..) => Call::SgetGb(name, capacity),
+                Action::SgetKp(..) => Call::SgetKp(name, capacity),
+                Action::SgetRl(..) => Call::SgetRl(name, capacity),
+                Action::SgetUs(..) => Call::SgetUs(name, capacity),
+                Action::Gtda(..) => Call::Gtda(name, capacity),
                 _ => unreachable!(),
             })
         },

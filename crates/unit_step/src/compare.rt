@@ -4,7 +4,7 @@ ghost use Rattle.unit_semantics.specs.Contents.{compared};
 
 use std::cmp::Ordering;
 
-// The byte at this place, a space behind the last one.
+// The byte at this place, a space after the last one.
 fn byte_at(bytes: &[u8], i: usize) -> u8
     ensures { result ≡ slice_index_or bytes.now i 32 }
 {

@@ -13,12 +13,12 @@ mod compare;
 mod laws;
 mod number;
 mod operand;
-mod outcome;
 mod plain;
+mod stepped;
 mod stepping;
 
 pub use answer::answered;
 pub use laws::runs_stay_ready;
 pub use number::number_of;
-pub use outcome::Stepped;
+pub use stepped::Stepped;
 pub use stepping::step;

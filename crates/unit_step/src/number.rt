@@ -37,7 +37,7 @@ pub fn number_of(bytes: &[u8]) -> Option<u64>
     decimal_of(digits)
 }
 
-/// The last digits of a number, as many as there is room for; answers the number without them.
+/// The last digits of a number, as many as fit; answers the number without them.
 pub fn last_digits(number: u64, into: &mut [u8]) -> u64
     ensures digits { into.new ≡ in_digits (length into.old) number }
     ensures left { result ≡ number / 10 ^ length into.old }

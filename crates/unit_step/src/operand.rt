@@ -1,7 +1,7 @@
 //! What a statement reads of its unit run.
 ghost use Rattle.std.specs.{Prelude.{◌≡◌, ◌≤◌, All, IfOk, Some, take}, Option.{option_copied}};
 ghost use Rattle.unit_types.specs.UnitText.{field_named};
-ghost use Rattle.unit_semantics.specs.{Contents.{in_digits}, Fields.{code_text, field_bytes, header_value, value_of}, Ready.{IsInside}, Statement.{target_room}};
+ghost use Rattle.unit_semantics.specs.{Contents.{in_digits}, Fields.{code_text, field_bytes, header_value, value_of}, Ready.{IsInside}, Statement.{target_capacity}};
 ghost use Rattle.unit_step.specs.Header.{HoldsHeader};
 
 use crate::number::last_digits;
@@ -129,8 +129,8 @@ pub fn bytes_of(
 }
 
 /// The length of a target field.
-pub fn room(unit: &Unit, name: &Bytes) -> u32
-    ensures { result ≡ target_room unit.now name.now }
+pub fn capacity(unit: &Unit, name: &Bytes) -> u32
+    ensures { result ≡ target_capacity unit.now name.now }
 {
     match unit.field(name.as_slice()) {
         Some(field) => field.length,

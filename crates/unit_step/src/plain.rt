@@ -8,7 +8,7 @@ use crate::area::{store, store_digits};
 use crate::compare::compared;
 use crate::number::{Calculation, last_digits, number_of, result_of};
 use crate::operand::{content, operand_cells, value};
-use crate::outcome::Stepped;
+use crate::stepped::Stepped;
 use kd_base::{Bytes, OutOfMemory};
 use kdcs_types::{Cause, RunState};
 use std::alloc::Global;
@@ -62,7 +62,7 @@ pub fn move_bytes(
 }
 
 #[tactic(auto, unfolding(unit_semantics::specs::Fields::stored), using(crate::proofs::Fields::found_inside, crate::proofs::Fields::gets_nothing))]
-/// JOIN: the field gets the operands, one behind the other. Both are read first.
+/// JOIN: the field gets the operands, one after the other. Both are read first.
 pub fn join_bytes(
     alloc: Global,
     unit: &Unit,

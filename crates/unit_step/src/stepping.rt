@@ -5,8 +5,8 @@ ghost use Rattle.unit_step.specs.Answers.{OnlyPlainMoves, meaning_of, next_takes
 
 use crate::call::call_of;
 use crate::number::Calculation;
-use crate::outcome::Stepped;
 use crate::plain::{arithmetic, branch, join_bytes, jump, move_bytes};
+use crate::stepped::Stepped;
 use kd_base::OutOfMemory;
 use kdcs_types::{Cause, RunState};
 use std::alloc::Global;
@@ -70,7 +70,7 @@ fn do_action(
     }
 }
 
-/// Does one plain statement of a unit run, or says which KDCS call comes next, or which cause ends the run: E08 behind
+/// Does one plain statement of a unit run, or says which KDCS call comes next, or which cause ends the run: E08 after
 /// the last statement, else E07 where TIME is spent, else E06 where a calculation has no result that fits. Only moves,
 /// joins and calls with operands take memory; where it runs out, nothing has changed.
 #[tactic(auto, unfolding(unit_semantics::specs::Statement::step))]

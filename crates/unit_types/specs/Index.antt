@@ -13,7 +13,7 @@ use Rattle.unit_types.specs.declared.unit.Field.{Field}
 abbrev pub at_name : {P : Type 0} → BTreeMap (Vec ℕ) P → List ℕ → Option P
 at_name places name = get_by (λ (k : Vec ℕ). slice_cmp nat_cmp name k.items) places
 
--- what is found, with this place behind the others
+-- what is found, with this place after the others
 abbrev pub or_first : {P : Type 0} → Option P → List ℕ → P → List ℕ → Option P
 or_first found name place wanted = option_or found (cond (bytes_eq wanted name) (Some place) None)
 

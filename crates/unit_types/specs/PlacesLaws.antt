@@ -97,7 +97,7 @@ behind_first : {A : Type 0} (x : A) (all : List A) (place : Option ℕ) → opti
 behind_first x all None = refl
 behind_first x all (Some n) = refl
 
--- what stands at the first place that passes is what is found
+-- what is at the first place that passes is what is found
 pub found_at : {A : Type 0} (test : A → Bool) (all : List A) → option_and_then (slice_get all) (position_from test 0 all) ≡ find test all
 found_at test [] = refl
 found_at test (x ∷ all) =

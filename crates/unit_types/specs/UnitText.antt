@@ -12,7 +12,7 @@ pub record UnitText : Type 0 where
   pub name : List ℕ
   pub line : ℕ
   pub fields : List UnitField
-  -- each with the number, from 1, of the statement that it stands before
+  -- each with the number, from 1, of the statement that it is before
   pub labels : List (List ℕ × ℕ)
   pub statements : List UnitStatement
 
@@ -20,7 +20,7 @@ pub record UnitText : Type 0 where
 abbrev pub field_named : UnitText → List ℕ → Option UnitField
 field_named unit name = find (λ (f : UnitField). bytes_eq name f.name) unit.fields
 
--- the number of the statement that a label stands before
+-- the number of the statement that a label is before
 abbrev pub label_place : UnitText → List ℕ → Option ℕ
 label_place unit name = lookup (bytes_eq name) unit.labels
 
@@ -39,7 +39,7 @@ jump_of _ = None
 abbrev pub KnowsItsLabels : UnitText → Type 0
 KnowsItsLabels unit = All (λ (s : UnitStatement). IfSome (jump_of s.action) (λ label. IsSome (label_place unit label))) unit.statements
 
--- labels stand before statements, which are counted from 1
+-- labels are before statements, which are counted from 1
 abbrev pub LabelsFromOne : UnitText → Type 0
 LabelsFromOne unit = (name : List ℕ) → IfSome (label_place unit name) (λ place. 1 ≤ place)
 

@@ -7,7 +7,7 @@ use kd_base::{Bytes, OutOfMemory};
 use std::alloc::Global;
 use std::collections::BTreeMap;
 
-// Puts what stands at a name, unless an earlier one of this name is there.
+// Puts what is at a name, unless an earlier one of this name is there.
 fn put_first<P: Drop>(
     alloc: Global,
     places: &mut BTreeMap<Vec<u8>, P>,
@@ -36,7 +36,7 @@ pub(crate) fn field_index(
     Ok(places)
 }
 
-/// The number of the statement that the first label of each name stands before.
+/// The number of the statement that the first label of each name is before.
 pub(crate) fn label_index(
     alloc: Global,
     labels: &[(Bytes, u32)],

@@ -23,7 +23,7 @@ pub struct Field {
 }
 
 /// A program unit. Contracts see its name, its line, its fields, its labels with the number of the statement that each
-/// stands before, and its statements.
+/// is before, and its statements.
 #[derive(Drop)]
 pub struct Unit {
     name: ProgName,
@@ -31,9 +31,9 @@ pub struct Unit {
     fields: Vec<Field>,
     labels: Vec<(Bytes, u32)>,
     statements: Vec<UnitStatement>,
-    // Where the first field of a name stands among the fields.
+    // Where the first field of a name is among the fields.
     field_places: BTreeMap<Vec<u8>, usize>,
-    // The number of the statement that the first label of a name stands before.
+    // The number of the statement that the first label of a name is before.
     label_places: BTreeMap<Vec<u8>, u32>,
 }
 
@@ -114,8 +114,8 @@ impl Unit {
         }
     }
 
-    /// The number, from 1, of the statement that the label of this name stands before: one more than the last where it
-    /// stands at the end. It is found in a time that grows only with the logarithm of the number of labels.
+    /// The number, from 1, of the statement that the label of this name is before: one more than the last where it
+    /// is at the end. It is found in a time that grows only with the logarithm of the number of labels.
     pub fn label(&self, name: &[u8]) -> Option<u32>
         ensures { result ≡ label_place self.now name.now }
     {

@@ -1,7 +1,7 @@
 //! Tries `utm` on cases: the words are the names of texts of cases, of which `docs/cases.md` says the form.
 //!
 //! It stands on case_text, which reads the texts, and on utm_cli, whose call `utm` it makes. Each line that is not met
-//! is printed, and at the end of each text how many lines of it were wrong. What must be printed stands in `stdout`, so
+//! is printed, and at the end of each text how many lines of it were wrong. What must be printed is in `stdout`, so
 //! that the gate fails where a line is not met. The last text is wrong on purpose: a wrong line is seen.
 #![tactic(auto)]
 

@@ -4,7 +4,7 @@ use Rattle.kd_base.specs.ToolsLaws.{cases_option}
 use Rattle.kd_device.specs.Device.{State, LeavesOnly, Only}
 use Rattle.kd_device.specs.Room.{RoomState, text_of}
 use Rattle.kdcs_types.specs.Tables.{TableRows}
-use Rattle.utm_cli.specs.declared.error.Refusal.{Refusal}
+use Rattle.refusals.specs.declared.error.Refusal.{Refusal}
 use Rattle.utm_cli.specs.declared.words.Word.{Word}
 use Rattle.utm_cli.specs.declared.words.Word.TheVariants.{Gen, Run, Show, Make}
 use Rattle.utm_cli.specs.MadeTexts.{definition_text as made_definition, units_text as made_units, script_text as made_script}

@@ -1,8 +1,7 @@
 -- Statuses among statuses.
-use Rattle.std.proofs.Common.{◌≡◌, ◌⊎◌, inl, inr, ℕ, ◌<◌, ◌≤◌, [], ◌∷◌, arith}
+use Rattle.std.proofs.Common.{◌≡◌, ℕ, [], ◌∷◌, arith}
 use Rattle.std.proofs.lemmas.Bool.Decides.{nat_tests}
-use Rattle.kd_device.specs.Device.{State, Frame, SameLineFaults}
-use Rattle.utm_cli.specs.Promise.{IsOneOf, TellsFailure}
+use Rattle.refusals.specs.Statuses.{IsOneOf}
 
 pub of_run : (n : ℕ) → IsOneOf (0 ∷ 4 ∷ 5 ∷ 7 ∷ []) n → IsOneOf (0 ∷ 1 ∷ 2 ∷ 3 ∷ 4 ∷ 5 ∷ 6 ∷ 7 ∷ []) n
 of_run n h = grind (arith, nat_tests)
@@ -22,17 +21,3 @@ of_refused k n h = grind (arith, nat_tests)
 
 pub not_refused : (n : ℕ) → IsOneOf (0 ∷ 4 ∷ 5 ∷ 7 ∷ []) n → IsOneOf (2 ∷ 3 ∷ []) n → ⊥
 not_refused n h k = grind (arith, nat_tests)
-
-same_or_more : (m n : ℕ) → (n ≤ m) ⊎ (m < n)
-same_or_more m n = grind (arith, nat_tests)
-
-same_count : (code m n : ℕ) → m ≤ n → (m < n → code ≡ 5) → code ≡ 7 → n ≡ m
-same_count code m n up tells is = by (same_or_more m n)
-  where
-    by : (n ≤ m) ⊎ (m < n) → n ≡ m
-    by (inl down) = omega arith
-    by (inr more) = let five = tells more in absurd (omega arith)
-
--- where memory ran out, no call of the line failed
-pub line_same : (code : ℕ) (a b : State) → Frame a b → TellsFailure code a b → code ≡ 7 → SameLineFaults a b
-line_same code a b frame tells is = same_count code a.line_faults b.line_faults frame.line_faults tells is

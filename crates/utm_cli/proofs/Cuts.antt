@@ -10,7 +10,7 @@ use Rattle.kdcs_types.specs.declared.act.Act.{Act}
 use Rattle.kdcs_types.specs.declared.act.Act.TheVariants.{Commit, Emit}
 use Rattle.kdcs_types.specs.Tables.{TableRows}
 use Rattle.abstract_monitor.specs.Trace.{tables_after, bytes_of}
-use Rattle.device_acts.specs.Performing.{is_line, commits_nothing, content_after, IsCutOf, Performs}
+use Rattle.device_acts.specs.Acting.{is_line, commits_nothing, content_after, IsCutOf, WithinActs}
 use Rattle.device_run.specs.Running.{IsCutSince}
 
 pub bytes_of_line : (line : List ℕ) (rest : List Act) → bytes_of (Emit line ∷ rest) ≡ line ++ bytes_of rest
@@ -60,8 +60,8 @@ module _ (keeps : Content → List ℕ → Type 0) (x : Content) (stands : Table
       }
 
   -- the same lines, as acts on tables
-  pub lines_performed : (a b : State) (la lb : ℕ → List ℕ → List ℕ → Type 0) → Performs content_after keeps x acts a b la lb → Performs tables_after stands t acts a b la lb
-  lines_performed a b la lb h = record {
+  pub lines_within : (a b : State) (la lb : ℕ → List ℕ → List ℕ → Type 0) → WithinActs content_after keeps x acts a b la lb → WithinActs tables_after stands t acts a b la lb
+  lines_within a b la lb h = record {
     frame = h.frame;
     names = h.names;
     any_moment = λ told. leaves_weaker a b la lb (IsCutOf content_after keeps x acts a.sent) (IsCutOf tables_after stands t acts a.sent) (h.any_moment told) (lines_cut a.sent);

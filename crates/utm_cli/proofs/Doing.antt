@@ -20,15 +20,15 @@ use Rattle.laws_of_steps.specs.Keeping.{HasFacts, IsScriptOf}
 use Rattle.laws_of_steps.specs.Suits.{Suits}
 use Rattle.warm_start.specs.Stands.{StandsForTables, KeepsTables, identity_for}
 use Rattle.monitor_core.specs.CoreValue.{CoreValue}
-use Rattle.device_acts.specs.Performing.{commits_nothing, content_after, AreCommittable, Performs, Sent}
-use Rattle.device_run.specs.Running.{IsRunning, PerformsSteps, Ran as RanSteps}
+use Rattle.device_acts.specs.Acting.{commits_nothing, content_after, AreCommittable, WithinActs, Sent}
+use Rattle.device_run.specs.Running.{IsRunning, WithinSteps, Ran as RanSteps}
 use Rattle.utm_cli.specs.declared.words.Word.{Word}
 use Rattle.utm_cli.specs.declared.words.Word.TheVariants.{Gen, Run}
 use Rattle.utm_cli.specs.Asking.{Errand, CanRun, app_of}
 use Rattle.utm_cli.specs.Doing.{identity_of, acts_by, acts_of}
 use Rattle.utm_cli.specs.Report.{report}
 use Rattle.utm_cli.specs.Promise.{RanOver}
-use Rattle.utm_cli.proofs.Cuts.{tables_same, kept_content, lines_performed}
+use Rattle.utm_cli.proofs.Cuts.{tables_same, kept_content, lines_within}
 use Rattle.laws_of_tables.specs.EndsLaws.{durable_same}
 use Rattle.laws_of_steps.specs.TablesStayLaws.{started_tables}
 
@@ -56,10 +56,10 @@ module _ (e : Errand) (t : TableRows) (acts : List Act) (gen : e.word ≡ Gen) (
   report_lines = ap commits_nothing made
 
   module _ (store : Whole) (keeps : KeepsTables (identity_of e) store t) (a b : State) (la lb : ℕ → List ℕ → List ℕ → Type 0) where
-    pub report_performs : Performs content_after (StandsFor store.identity) store.content acts a b la lb → Performs tables_after (StandsForTables (identity_of e)) t (acts_of e t) a b la lb
-    report_performs h =
-        subst (λ (l : List Act). Performs tables_after (StandsForTables (identity_of e)) t l a b la lb) report_is
-        (lines_performed (StandsFor store.identity) store.content (StandsForTables (identity_of e)) t (keeps_means (identity_of e) store t keeps) acts report_lines a b la lb h)
+    pub report_within : WithinActs content_after (StandsFor store.identity) store.content acts a b la lb → WithinActs tables_after (StandsForTables (identity_of e)) t (acts_of e t) a b la lb
+    report_within h =
+        subst (λ (l : List Act). WithinActs tables_after (StandsForTables (identity_of e)) t l a b la lb) report_is
+        (lines_within (StandsFor store.identity) store.content (StandsForTables (identity_of e)) t (keeps_means (identity_of e) store t keeps) acts report_lines a b la lb h)
 
     pub report_ran : (after : Whole) → after.identity ≡ store.identity → after.content ≡ content_after store.content acts → Sent (HasFile after) acts a b lb → IsTrue a.told → RanOver (identity_of e) (acts_of e) t a b lb
     report_ran after identity content sent told =
@@ -69,7 +69,7 @@ module _ (e : Errand) (t : TableRows) (acts : List Act) (gen : e.word ≡ Gen) (
         record {
           sent = subst (λ (l : List Act). b.sent ≡ a.sent ++ bytes_of l) report_is (sent.sent told);
           holds = subst (λ (l : List Act). StandsForTables (identity_of e) (tables_after t l) b.holds) report_is holds;
-          settled = (sent.rest told).settled;
+          at_rest = (sent.rest told).at_rest;
         }
 
 -- ---- the script
@@ -104,11 +104,11 @@ module _ (e : Errand) (t : TableRows) (core : CoreValue) (application : core.app
     unfolding trace
     script_is = sym (ap (λ (word : Word). acts_by word (app_of e) e.commands t) run)
 
-    pub script_performs : PerformsSteps e.fingerprint core (history core.application core.state e.commands) a b la lb → Performs tables_after (StandsForTables (identity_of e)) t (acts_of e t) a b la lb
-    script_performs h =
-        let here = subst (λ (c : CoreValue). PerformsSteps e.fingerprint c (history c.application c.state e.commands) a b la lb) core_is h in
-        subst (λ (u : TableRows). Performs tables_after (StandsForTables (identity_of e)) u (acts_of e t) a b la lb) (durable_is suits)
-        (subst (λ (l : List Act). Performs tables_after (StandsForTables (identity_of e)) (durable e.application.generation (started (app_of e) t).tables) l a b la lb) script_is here)
+    pub script_within : WithinSteps e.fingerprint core (history core.application core.state e.commands) a b la lb → WithinActs tables_after (StandsForTables (identity_of e)) t (acts_of e t) a b la lb
+    script_within h =
+        let here = subst (λ (c : CoreValue). WithinSteps e.fingerprint c (history c.application c.state e.commands) a b la lb) core_is h in
+        subst (λ (u : TableRows). WithinActs tables_after (StandsForTables (identity_of e)) u (acts_of e t) a b la lb) (durable_is suits)
+        (subst (λ (l : List Act). WithinActs tables_after (StandsForTables (identity_of e)) (durable e.application.generation (started (app_of e) t).tables) l a b la lb) script_is here)
 
     pub script_ran : RanSteps e.fingerprint core (history core.application core.state e.commands) a b lb → RanOver (identity_of e) (acts_of e) t a b lb
     script_ran h =
@@ -117,7 +117,7 @@ module _ (e : Errand) (t : TableRows) (core : CoreValue) (application : core.app
           sent = subst (λ (l : List Act). b.sent ≡ a.sent ++ bytes_of l) script_is here.sent;
           holds = subst (λ (u : TableRows). StandsForTables (identity_of e) (tables_after u (acts_of e t)) b.holds) (durable_is suits)
               (subst (λ (l : List Act). StandsForTables (identity_of e) (tables_after (durable e.application.generation (started (app_of e) t).tables) l) b.holds) script_is here.holds);
-          settled = here.settled;
+          at_rest = here.at_rest;
         }
 
 -- ---- an errand, and what its parts make
@@ -139,10 +139,10 @@ module _ (e v : Errand) (same : e ≡ v) (t : TableRows) (core : CoreValue) (app
     run_too : v.word ≡ Run
     run_too = sym (ap (λ (x : Errand). x.word) same) ∙ run
 
-    pub parts_perform : PerformsSteps v.fingerprint core (history core.application core.state commands) a b la lb → Performs tables_after (StandsForTables (identity_of e)) t (acts_of e t) a b la lb
-    parts_perform h =
-        subst (λ (x : Errand). Performs tables_after (StandsForTables (identity_of x)) t (acts_of x t) a b la lb) (sym same)
-        (script_performs v t core application state steps run_too suits_too a b la lb (subst (λ (l : List Command). PerformsSteps v.fingerprint core (history core.application core.state l) a b la lb) is h))
+    pub parts_within : WithinSteps v.fingerprint core (history core.application core.state commands) a b la lb → WithinActs tables_after (StandsForTables (identity_of e)) t (acts_of e t) a b la lb
+    parts_within h =
+        subst (λ (x : Errand). WithinActs tables_after (StandsForTables (identity_of x)) t (acts_of x t) a b la lb) (sym same)
+        (script_within v t core application state steps run_too suits_too a b la lb (subst (λ (l : List Command). WithinSteps v.fingerprint core (history core.application core.state l) a b la lb) is h))
 
     pub parts_ran : RanSteps v.fingerprint core (history core.application core.state commands) a b lb → RanOver (identity_of e) (acts_of e) t a b lb
     parts_ran h =

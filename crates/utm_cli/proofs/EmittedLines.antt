@@ -40,8 +40,9 @@ use Rattle.abstract_monitor.specs.declared.command.Command.{Command}
 use Rattle.abstract_monitor.specs.declared.command.Command.TheVariants.{Input, Tick, Run, Turn, Drop, Print, PrintLast, Restart}
 use Rattle.abstract_monitor.specs.declared.input_use.SignFault.{SignFault}
 use Rattle.abstract_monitor.specs.declared.input_use.SignFault.TheVariants.{BadForm, UnknownUser, WrongPassword, InUse}
+use Rattle.abstract_monitor.specs.declared.access.Denial.TheVariants as denial
 use Rattle.abstract_monitor.specs.declared.input_use.TacFault.{TacFault}
-use Rattle.abstract_monitor.specs.declared.input_use.TacFault.TheVariants.{UnknownTac, NotAllowed, IsOff}
+use Rattle.abstract_monitor.specs.declared.input_use.TacFault.TheVariants.{UnknownTac, NotAllowed, IsOff, Denied}
 use Rattle.abstract_monitor.specs.declared.input_use.Use.{Use}
 use Rattle.abstract_monitor.specs.declared.input_use.Use.TheVariants.{Sign, SignRefused, SignFirst, AlreadySigned, Off, Display, Output, Again, Busy, TooLong, Next, Start, TacRefused}
 use Rattle.abstract_monitor.specs.declared.outcome.Outcome.{Outcome}
@@ -53,10 +54,11 @@ use Rattle.abstract_monitor.specs.Statements.{kept_record}
 use Rattle.abstract_monitor.specs.Lines.{out_line, asy_line, prt_line, sys_line, no_message_line, cause_text, owner_text, dump_line}
 use Rattle.abstract_monitor.specs.Made.{is_emit}
 use Rattle.abstract_monitor.specs.Picks.{pick}
-use Rattle.abstract_monitor.specs.Sessions.{use_of, service_state}
+use Rattle.abstract_monitor.specs.Access.{denial_of}
+use Rattle.abstract_monitor.specs.Sessions.{use_under, use_of, service_state}
 use Rattle.abstract_monitor.specs.State.{Application, OpenTransaction, Session, State}
 use Rattle.abstract_monitor.specs.Trace.{history, trace, bytes_of}
-use Rattle.abstract_monitor.specs.Turns.{Turned, pterm_by, pterm_of_user, commit_of, without_work, out_acts, user_acts, ended_at, ended_acts, dump_acts, abnormal, message_acts, after_point, settled, last_again, back_by, back, happens, statement_now, worked, took_job_for, took_job, took, turn_by, turn_of}
+use Rattle.abstract_monitor.specs.Turns.{Turned, pterm_by, pterm_of_user, commit_of, without_transaction, out_acts, user_acts, ended_at, ended_acts, dump_acts, abnormal, message_acts, after_point, settled, last_again, back_by, back, happens, statement_now, served, took_job_for, took_job, took, turn_by, turn_of}
 use Rattle.abstract_monitor.specs.Commands.{ScriptStep, started, acts_of, user_by, fault_text, refusal_text, out_again, signed_on_by, last_by, due_for, show_by, show_next, show_again_by, show_again, display, used, user_at, lterm_at, use_now, tick_by, drop_by, command_of}
 use Rattle.laws_of_places.specs.Along.{StepLaw}
 use Rattle.laws_of_places.specs.AlongLaws.{EachMeets, meets_along}
@@ -283,22 +285,22 @@ module _ (app : Application) (names : AreNamed app.generation) (s : State) (soun
     settled_lines : (o : Outcome) → AllLines (settled app s task id x o).acts
     settled_lines o =
         of_point app s task id x o (λ (t : Turned). AllLines t.acts) (λ cause. abnormal_lines (Broken cause))
-        (point_lines (record (without_work s task id) { tables = synchronised app.generation s.tables id x o }) refl o (row_after app.generation id x o) (commit_of app s.tables (synchronised app.generation s.tables id x o)) (kept_record id x Synced) tt)
+        (point_lines (record (without_transaction s task id) { tables = synchronised app.generation s.tables id x o }) refl o (row_after app.generation id x o) (commit_of app s.tables (synchronised app.generation s.tables id x o)) (kept_record id x Synced) tt)
 
-    again_lines : (i : ServiceId) (o : Option Bytes) → AllLines (last_again (without_work s task id) i o).acts
+    again_lines : (i : ServiceId) (o : Option Bytes) → AllLines (last_again (without_transaction s task id) i o).acts
     again_lines i None = tt
     again_lines (Dialogue user) (Some message) = user_lines user message
     again_lines (Asynchronous number) (Some message) = tt
 
-    back_lines : (o : Option Service) → AllLines (back app (without_work s task id) id x o).acts
+    back_lines : (o : Option Service) → AllLines (back app (without_transaction s task id) id x o).acts
     back_lines None = gone id
       where
-        gone : (i : ServiceId) → AllLines (ended_acts (without_work s task id) i)
+        gone : (i : ServiceId) → AllLines (ended_acts (without_transaction s task id) i)
         gone (Dialogue user) = ended_lines (Dialogue user)
         gone (Asynchronous number) = tt
     back_lines (Some row) = by row.awaits
       where
-        by : (b : Bool) → AllLines (back_by app (without_work s task id) id x row b).acts
+        by : (b : Bool) → AllLines (back_by app (without_transaction s task id) id x row b).acts
         by true = again_lines id row.last
         by false = tt
 
@@ -315,9 +317,9 @@ module _ (app : Application) (names : AreNamed app.generation) (s : State) (soun
     happens_lines y (Breaks ending) = abnormal_lines ending
     happens_lines y Returns = back_lines x.began
 
-  worked_lines : (task : ℕ) (id : ServiceId) (o : Option OpenTransaction) → find id_cmp id s.active ≡ o → AllLines (worked app s task id o).acts
-  worked_lines task id None is = tt
-  worked_lines task id (Some x) is = let r = statement_now app s id x in happens_lines task id x (sound.transactions id x is) r.0 r.1
+  served_lines : (task : ℕ) (id : ServiceId) (o : Option OpenTransaction) → find id_cmp id s.active ≡ o → AllLines (served app s task id o).acts
+  served_lines task id None is = tt
+  served_lines task id (Some x) is = let r = statement_now app s id x in happens_lines task id x (sound.transactions id x is) r.0 r.1
 
   job_lines : (task number : ℕ) (o : Option JobValue) → AllLines (took_job app s task number o).acts
   job_lines task number None = tt
@@ -339,7 +341,7 @@ module _ (app : Application) (names : AreNamed app.generation) (s : State) (soun
       by : (place : Option (Option ServiceId)) → AllLines (turn_by app s task place).acts
       by None = tt
       by (Some None) = work_lines task (pick app s)
-      by (Some (Some id)) = worked_lines task id (find id_cmp id s.active) refl
+      by (Some (Some id)) = served_lines task id (find id_cmp id s.active) refl
 
   -- ---- commands
 
@@ -354,6 +356,8 @@ module _ (app : Application) (names : AreNamed app.generation) (s : State) (soun
     refusal_unbroken UnknownTac = refl
     refusal_unbroken NotAllowed = refl
     refusal_unbroken IsOff = refl
+    refusal_unbroken (Denied (denial.User code)) = number_unbroken code
+    refusal_unbroken (Denied (denial.Lterm code)) = number_unbroken code
 
     signed_lines : (user lterm : Bytes) → IsUnbroken user → (o : Option Service) → AllLines (signed_on_by app s pterm user lterm o).acts
     signed_lines user lterm named None = (sys pterm is (codes "SIGNED ON " ++ user) named, tt)
@@ -431,10 +435,10 @@ module _ (app : Application) (names : AreNamed app.generation) (s : State) (soun
     session_user (Some v) found = (session_of pterm v found).1
 
     input_signs : (text : Bytes) → SignsOn (use_now app s pterm text)
-    unfolding use_now use_of
+    unfolding use_now use_of use_under
     input_signs text =
         let o = find bytes_cmp pterm s.signed in
-        signs_on (user_by o) (service_state s (user_by o)) (use_now app s pterm text) (use_fits app.generation s.signed (λ user. service_state s user) text o (session_user o refl))
+        signs_on (user_by o) (service_state s (user_by o)) (use_now app s pterm text) (use_fits app.generation (denial_of app.generation) s.signed (λ user. service_state s user) (lterm_at app pterm) text o (session_user o refl))
 
   tick_lines : (ticks clock : ℕ) (within : Bool) → AllLines (tick_by app s ticks clock within).acts
   tick_lines ticks clock false = ((codes "TICK REFUSED", refl, refl), tt)

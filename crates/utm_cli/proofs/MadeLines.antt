@@ -1,4 +1,4 @@
--- The report of the made script is the made lines, and the digest behind them: line feeds count the lines.
+-- The report of the made script is the made lines, and the digest after them: line feeds count the lines.
 use Rattle.std.proofs.Common.{ℕ, ◌++◌, ap, arith, refl}
 use Rattle.std.specs.Prelude.{codes}
 use Rattle.std.specs.Fmt.{digits}

@@ -13,18 +13,19 @@ use Rattle.abstract_monitor.specs.Made.{made_script}
 use Rattle.script_read.specs.Commands.{script_in}
 use Rattle.script_read.specs.Script.{same}
 use Rattle.warm_start.specs.Fingerprints.{fingerprint as print_of}
-use Rattle.utm_cli.specs.declared.error.Refusal.{Refusal}
-use Rattle.utm_cli.specs.declared.error.TextError.{TextError}
-use Rattle.utm_cli.specs.declared.error.TextError.TheVariants as error
+use Rattle.refusals.specs.declared.error.Refusal.{Refusal}
+use Rattle.refusals.specs.declared.error.TextError.{TextError}
+use Rattle.refusals.specs.declared.error.TextError.TheVariants as error
 use Rattle.utm_cli.specs.declared.words.Word.{Word}
 use Rattle.utm_cli.specs.declared.words.Word.TheVariants.{Gen, Run, Show, Make}
 use Rattle.utm_cli.specs.Asking.{Errand, Reading, AskFor}
-use Rattle.utm_cli.specs.Causes.{of_room}
+use Rattle.refusals.specs.Causes.{of_room}
 use Rattle.utm_cli.specs.Doing.{IsOverFile}
 use Rattle.utm_cli.specs.MadeApplication.{generated_application, AreMade, MadeTextsAreTaken}
 use Rattle.utm_cli.specs.MadeReading.{MakeIsRead}
 use Rattle.utm_cli.specs.MadeTexts.{definition_text, units_text, script_text}
-use Rattle.utm_cli.specs.Promise.{IsOneOf, Request}
+use Rattle.refusals.specs.Statuses.{IsOneOf}
+use Rattle.utm_cli.specs.Promise.{Request}
 use Rattle.utm_cli.specs.Words.{is_input_count, is_base, word_by, made_by, made_input, over_base, word_with, asked}
 
 -- ---- how many inputs

@@ -120,7 +120,7 @@ add_text (suc (suc (suc (suc (suc (suc (suc (suc zero)))))))) few = record { pri
 add_text (suc (suc (suc (suc (suc (suc (suc (suc (suc zero))))))))) few = record { printable = refl; short = omega arith }
 add_text (suc (suc (suc (suc (suc (suc (suc (suc (suc (suc d)))))))))) few = absurd (omega (arith, few))
 
--- what stands before the text of an input at a terminal
+-- what is before the text of an input at a terminal
 record IsFront (k : ℕ) (text : Bytes) : Type 0 where
   printable : list_all is_text_byte (codes "IN " ++ numbered_name (codes "P") k ++ 32 ∷ text) ≡ list_all is_text_byte text
   length_is : length (codes "IN " ++ numbered_name (codes "P") k ++ 32 ∷ text) ≡ 6 + length text

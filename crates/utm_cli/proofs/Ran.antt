@@ -1,8 +1,7 @@
 -- A call over its store: the opening, and what is done then.
 use Rattle.std.proofs.Common.{◌≡◌, inl, inr, ⊎_elim, ℕ, List, [], ◌++◌, take, sym, ap, subst, ◌∙◌}
 use Rattle.std.proofs.lemmas.List.{append-nil}
-use Rattle.std.specs.Prelude.{IsTrue}
-use Rattle.kd_device.specs.Device.{State, Frame, LeavesOnly, Only}
+use Rattle.kd_device.specs.Device.{State, LeavesOnly, Only}
 use Rattle.kd_device.specs.TimeLaws.{leaves_weaker, leaves_then}
 use Rattle.kd_device.specs.Rest.{Rests}
 use Rattle.kdcs_types.specs.Tables.{TableRows, empty_tables}
@@ -11,7 +10,7 @@ use Rattle.warm_start.specs.Stands.{StandsForTables}
 use Rattle.warm_start.specs.Opening.{IsOpening, IsBeingMade}
 use Rattle.warm_start.specs.MeaningLaws.{nothing_stands, answers_exclude_each_other}
 use Rattle.device_acts.specs.Said.{Said, SaidPart}
-use Rattle.device_acts.specs.Performing.{IsCutOf}
+use Rattle.device_acts.specs.Acting.{IsCutOf}
 use Rattle.device_run.specs.Running.{IsCutSince}
 use Rattle.utm_cli.specs.Asking.{Errand}
 use Rattle.utm_cli.specs.Doing.{Opens, identity_of, acts_of}
@@ -81,7 +80,3 @@ module _ (line : List ℕ) (a b d : State) (la lb : ℕ → List ℕ → List �
 -- nothing was said
 pub nothing_said : (line : List ℕ) (a b : State) (la lb : ℕ → List ℕ → List ℕ → Type 0) → Rests a b la lb → SaidPart line a b
 nothing_said line a b la lb rests = record { disk = record { holds = rests.holds; put = rests.put }; sent = (0, rests.sent ∙ sym (append-nil a.sent)) }
-
--- calls go on to tell
-pub told_then : (a b : State) → Frame a b → IsTrue a.told → IsTrue b.told
-told_then a b frame told = rw frame.told told

@@ -7,6 +7,7 @@ use Rattle.laws_of_steps.specs.EmptyTablesLaws.{empty_suit}
 use Rattle.laws_of_steps.specs.Suits.{Suits}
 use Rattle.abstract_monitor.specs.Commands.{started}
 use Rattle.laws_of_runs.specs.RunLaws.{StartsHaveFacts}
+use Rattle.laws_of_access.specs.Access.{RunsKeepAccess, LocksMakeTheRule}
 use Rattle.laws_of_jobs.specs.Lawful.{RunsAreLawful}
 use Rattle.laws_of_jobs.specs.ManyRuns.{AllRunsKeepJobs}
 use Rattle.laws_of_jobs.specs.QueueLaws.{JobsAreDoneOnce}
@@ -29,13 +30,15 @@ suited_by Run e bytes t starts = opened e bytes t starts
 suited_by Show e bytes t starts = opened e bytes t starts
 suited_by (Make n) e bytes t is = opened e [] t (inl (refl, is))
 
-pub runs_lawfully : (e : Errand) → CanRun e → StartsHaveFacts → RunsAreLawful → JobsAreDoneOnce → CutsResume → CutsAreSerial → AllRunsKeepJobs
+pub runs_lawfully : (e : Errand) → CanRun e → StartsHaveFacts → RunsAreLawful → RunsKeepAccess → LocksMakeTheRule → JobsAreDoneOnce → CutsResume → CutsAreSerial → AllRunsKeepJobs
     → (bytes : List ℕ) (t : TableRows) → Starts e bytes t → RunsLawfully (app_of e) t e.commands
-runs_lawfully e can facts lawful once resume serial runs bytes t starts =
+runs_lawfully e can facts lawful access ruleless once resume serial runs bytes t starts =
     let there = suited_by e.word e bytes t starts in
     record {
       lasting = durable_same e.application.generation t there.1;
       steps = lawful (app_of e) t e.commands can.applies can.names there.0 there.1;
+      access = access (app_of e) t e.commands can.applies can.names there.0 there.1;
+      ruleless = ruleless e.application.generation;
       jobs = λ first more rest whole. once (app_of e) (started (app_of e) t) e.commands can.applies can.names (facts (app_of e) t can.applies there.0 there.1) first more rest whole;
       resumes = λ done left whole. resume (app_of e) t e.commands can.applies can.names there.0 there.1 done left whole;
       serial = λ done left whole. serial (app_of e) t e.commands can.applies can.names there.0 there.1 done left whole;

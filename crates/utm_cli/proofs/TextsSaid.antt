@@ -26,16 +26,17 @@ use Rattle.warm_start.specs.Fingerprints.{fingerprint as print_of}
 use Rattle.script_read.specs.declared.fault.ScriptFault.{ScriptFault}
 use Rattle.script_read.specs.declared.fault.ScriptFault.TheVariants as fault
 use Rattle.script_read.specs.Commands.{script_in}
-use Rattle.utm_cli.specs.declared.error.Refusal.{Refusal}
-use Rattle.utm_cli.specs.declared.error.Refusal.TheVariants.{Application, Script}
-use Rattle.utm_cli.specs.declared.error.TextError.{TextError}
-use Rattle.utm_cli.specs.declared.error.TextError.TheVariants as error
+use Rattle.refusals.specs.declared.error.Refusal.{Refusal}
+use Rattle.refusals.specs.declared.error.Refusal.TheVariants.{Application, Script}
+use Rattle.refusals.specs.declared.error.TextError.{TextError}
+use Rattle.refusals.specs.declared.error.TextError.TheVariants as error
 use Rattle.utm_cli.specs.declared.words.Word.{Word}
 use Rattle.utm_cli.specs.declared.words.Word.TheVariants.{Gen, Run, Show, Make}
-use Rattle.utm_cli.specs.Causes.{of_room, of_application, of_fault}
+use Rattle.refusals.specs.Causes.{of_room, of_application, of_fault}
 use Rattle.utm_cli.specs.Words.{definition_name, units_name, script_name}
 use Rattle.utm_cli.specs.Doing.{IsOverFile}
-use Rattle.utm_cli.specs.Asking.{shown_of, IsLong, AreAlike, Reading, AskFor, TextIs, ScriptIs, WereRead, ReadsFor}
+use Rattle.refusals.specs.Texts.{shown_of}
+use Rattle.utm_cli.specs.Asking.{IsLong, AreAlike, Reading, AskFor, TextIs, ScriptIs, WereRead, ReadsFor}
 use Rattle.std.proofs.lemmas.Option.{same_Some}
 
 -- ---- texts longer than the limit

@@ -1,5 +1,5 @@
 -- What the texts of a call ask for.
-use Rattle.std.specs.Prelude.{◌≡◌, ◌⊎◌, ◌≤◌, ◌<◌, ◌^◌, ℕ, List, [], length, take, sum_by, Some, Result, Ok, Err}
+use Rattle.std.specs.Prelude.{◌≡◌, ◌⊎◌, ◌≤◌, ◌<◌, ◌^◌, ℕ, List, [], length, sum_by, Some, Result, Ok, Err}
 use Rattle.kd_base.specs.Limits.{longest_text}
 use Rattle.kd_device.specs.Room.{RoomState, text_of}
 use Rattle.unit_check.specs.Fitted.{IsFit}
@@ -14,15 +14,11 @@ use Rattle.script_read.specs.Commands.{script_in}
 use Rattle.warm_start.specs.Fingerprints.{fingerprint as print_of}
 use Rattle.device_run.specs.Running.{turns_of}
 use Rattle.utm_cli.specs.MadeTexts.{definition_text as made_definition, units_text as made_units, script_text as made_script}
-use Rattle.utm_cli.specs.declared.error.Refusal.{Refusal}
-use Rattle.utm_cli.specs.declared.error.Refusal.TheVariants.{Application, Script}
+use Rattle.refusals.specs.declared.error.Refusal.{Refusal}
+use Rattle.refusals.specs.declared.error.Refusal.TheVariants.{Application, Script}
 use Rattle.utm_cli.specs.declared.words.Word.{Word}
 use Rattle.utm_cli.specs.declared.words.Word.TheVariants.{Gen, Run, Show, Make}
 use Rattle.utm_cli.specs.Words.{definition_name, units_name, script_name}
-
--- what is read of a text: all of it, or one byte more than the limit
-abbrev pub shown_of : List ℕ → List ℕ
-shown_of text = take 16777217 text
 
 -- what is to be done: the word, the application that the texts make with their fingerprint, and the commands of the script
 pub record Errand : Type 0 where
@@ -41,10 +37,6 @@ AskFor word definition units text (Ok e) =
     (e.word ≡ word) × TextsGenerate definition units e.application × (e.fingerprint ≡ print_of definition units) × (script_in e.application.generation text ≡ Ok e.commands)
 AskFor word definition units text (Err (Application fault)) = TextsHaveFault definition units fault
 AskFor word definition units text (Err (Script fault)) = (a : Made) × TextsGenerate definition units a × (script_in a.generation text ≡ Err fault)
-
--- no read of the room failed
-abbrev pub NoReadFailed : (old new : RoomState) → Type 0
-NoReadFailed old new = new.faults ≡ old.faults
 
 -- a text of a word: the room's of this name, or for `make` the made one
 abbrev pub TextIs : Word → RoomState → (name : List ℕ) → (made : ℕ → List ℕ) → List ℕ → Type 0

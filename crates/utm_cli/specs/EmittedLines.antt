@@ -20,7 +20,7 @@ use Rattle.utm_cli.specs.MadeReport.{lines_in}
 abbrev pub IsUnbroken : Bytes → Type 0
 IsUnbroken text = IsTrue (list_all (λ b. not (b == 10)) text)
 
--- a text without a line feed, and one behind it
+-- a text without a line feed, and one after it
 abbrev pub IsOneLine : Bytes → Type 0
 IsOneLine bytes = (text : Bytes) × (bytes ≡ line text) × IsUnbroken text
 

@@ -2,7 +2,6 @@ pub mod Words
 pub mod Report
 pub mod Asking
 pub mod Doing
-pub mod Causes
 pub mod Promise
 pub mod Parts
 pub mod MadeTexts

@@ -25,6 +25,6 @@ MakeIsRead = (words : List (List ℕ)) (n : ℕ) (operand : List ℕ) (room : Ro
 abbrev pub made_acts : ℕ → List Act
 made_acts n = trace made_application empty_tables (made_script n)
 
--- it reports the made lines, and the digest behind them
+-- it reports the made lines, and the digest after them
 abbrev pub MakeReports : Type 0
 MakeReports = (n : ℕ) → report_of n (app_of (made_errand n)) (made_script n) ≡ made_lines n ++ digest_line (bytes_of (made_acts n)) (tables_after empty_tables (made_acts n))

@@ -7,7 +7,7 @@ use Rattle.abstract_monitor.specs.Listing.{listing}
 use Rattle.abstract_monitor.specs.Trace.{tables_after}
 use Rattle.warm_start.specs.Opening.{IsOpening}
 use Rattle.warm_start.specs.Stands.{StandsForTables}
-use Rattle.device_acts.specs.Performing.{Performs}
+use Rattle.device_acts.specs.Acting.{WithinActs}
 use Rattle.utm_cli.specs.Asking.{Errand}
 use Rattle.utm_cli.specs.Doing.{Opens, Starts, identity_of, acts_of}
 use Rattle.utm_cli.specs.Promise.{RanOver, IsCutOver, IsCutOfRun, SaysFront}
@@ -17,8 +17,8 @@ abbrev pub LeavesOpening : Identity → (a b : State) → (la lb : ℕ → List 
 LeavesOpening i a b la lb = IsTrue a.told → LeavesOnly a b la lb (IsOpening i a la)
 
 -- whatever became of them, the acts of the errand were begun from these tables
-abbrev pub PerformsActs : Errand → TableRows → (a b : State) → (la lb : ℕ → List ℕ → List ℕ → Type 0) → Type 0
-PerformsActs e t a b la lb = Performs tables_after (StandsForTables (identity_of e)) t (acts_of e t) a b la lb
+abbrev pub WithinErrand : Errand → TableRows → (a b : State) → (la lb : ℕ → List ℕ → List ℕ → Type 0) → Type 0
+WithinErrand e t a b la lb = WithinActs tables_after (StandsForTables (identity_of e)) t (acts_of e t) a b la lb
 
 -- the acts of the errand were done over the store
 abbrev pub RanActs : Errand → TableRows → (a b : State) → (ℕ → List ℕ → List ℕ → Type 0) → Type 0

@@ -1,7 +1,6 @@
 -- The words in which the top call promises.
-use Rattle.std.specs.Prelude.{◌≡◌, ⊤, ◌⊎◌, ℕ, ◌<◌, nat_eq, true, IsTrue, List, [], ◌∷◌, ◌++◌, take, Some, None, Ok, Err}
-use Rattle.std.specs.List.{list_any}
-use Rattle.kd_device.specs.Device.{State, Rose, SameDiskFaults, SameLineFaults, LeavesOnly, Only}
+use Rattle.std.specs.Prelude.{◌≡◌, ⊤, ◌⊎◌, ℕ, true, IsTrue, List, [], ◌∷◌, ◌++◌, take, Some, None, Ok, Err}
+use Rattle.kd_device.specs.Device.{State, Rose, LeavesOnly, Only}
 use Rattle.kd_device.specs.Room.{RoomState, text_of}
 use Rattle.kd_records.specs.Identity.{Identity}
 use Rattle.kdcfile_images.specs.File.{IsNoImage}
@@ -12,25 +11,25 @@ use Rattle.abstract_monitor.specs.declared.command.Command.{Command}
 use Rattle.abstract_monitor.specs.Commands.{started}
 use Rattle.abstract_monitor.specs.Endings.{durable}
 use Rattle.abstract_monitor.specs.Trace.{history, trace, tables_after, bytes_of}
+use Rattle.laws_of_steps.specs.EachStep.{EachStep}
 use Rattle.laws_of_jobs.specs.Lawful.{IsLawful}
 use Rattle.laws_of_jobs.specs.ManyRuns.{StoppedRun, AreRunsFrom, RunsKeepJobs}
 use Rattle.laws_of_jobs.specs.QueueLaws.{JobsAreKept}
 use Rattle.laws_of_jobs.specs.ResumeLaws.{CutResumes}
 use Rattle.laws_of_jobs.specs.SerialCuts.{IsSerialCut}
+use Rattle.laws_of_access.specs.Access.{KeepsAccess, HasNoLocks, IsWithoutRule}
 use Rattle.warm_start.specs.Stands.{StandsForTables}
-use Rattle.device_acts.specs.Performing.{commits_nothing}
+use Rattle.device_acts.specs.Acting.{commits_nothing}
 use Rattle.device_acts.specs.Said.{SameDisk, Said, SaidPart}
 use Rattle.device_run.specs.Running.{IsCutSince}
-use Rattle.utm_cli.specs.declared.error.Refusal.{Refusal}
+use Rattle.refusals.specs.declared.error.Refusal.{Refusal}
+use Rattle.refusals.specs.Lines.{refusal_line, other_generation_line}
+use Rattle.refusals.specs.Statuses.{IsOneOf, status_of}
 use Rattle.utm_cli.specs.declared.words.Word.{Word}
 use Rattle.utm_cli.specs.declared.words.Word.TheVariants.{Gen, Run, Show, Make}
-use Rattle.utm_cli.specs.Words.{request_of, definition_name, units_name, script_name, file_name, status_of, refusal_line, not_a_kdcfile_line, other_generation_line}
-use Rattle.utm_cli.specs.Asking.{Errand, Reading, ReadsFor, NoReadFailed}
+use Rattle.utm_cli.specs.Words.{request_of, definition_name, units_name, script_name, file_name, not_a_kdcfile_line}
+use Rattle.utm_cli.specs.Asking.{Errand, Reading, ReadsFor}
 use Rattle.utm_cli.specs.Doing.{Starts, Refuses, IsOfOthers, identity_of, acts_of}
-
--- the status is one of these
-abbrev pub IsOneOf : List ℕ → ℕ → Type 0
-IsOneOf codes code = IsTrue (list_any (λ k. nat_eq code k) codes)
 
 -- the words are this word with this BASE
 abbrev pub Request : List (List ℕ) → Word → List ℕ → Type 0
@@ -65,7 +64,7 @@ pub record Misses (words : List (List ℕ)) (room : RoomState) : Type 0 where
 pub record RanOver (i : Identity) (acts : TableRows → List Act) (t : TableRows) (a b : State) (lb : ℕ → List ℕ → List ℕ → Type 0) : Type 0 where
   pub sent : b.sent ≡ a.sent ++ bytes_of (acts t)
   pub holds : StandsForTables i (tables_after t (acts t)) b.holds
-  pub settled : Only b.holds b lb
+  pub at_rest : Only b.holds b lb
 
 -- all acts were done: `gen` and `run` over the store, while `show` and `make` send their lines and leave the file as it was
 abbrev pub RanBy : Word → Identity → (TableRows → List Act) → TableRows → State → State → (ℕ → List ℕ → List ℕ → Type 0) → Type 0
@@ -123,11 +122,14 @@ MakesFile Run = ⊤
 MakesFile Show = ⊥
 MakesFile (Make n) = ⊥
 
--- every step of the script is lawful, and jobs are kept from each of its states to each later one; wherever a stop cuts its acts, what is stored are tables from which all services go on, and a serial run of the commits that are done stores the same; and jobs are kept over runs of any scripts one after another
+-- every step of the script is lawful, begins only services that the rule of locks and keys allows, and jobs are kept from each of its states to each later one; wherever a stop cuts its acts, what is stored are tables from which all services go on, and a serial run of the commits that are done stores the same; and jobs are kept over runs of any scripts one after another
 pub record RunsLawfully (app : Application) (t : TableRows) (script : List Command) : Type 0 where
   -- all rows of the first tables outlive a stop
   pub lasting : durable app.generation t ≡ t
   pub steps : IsLawful app (started app t) (history app (started app t) script)
+  -- who may start what
+  pub access : EachStep (KeepsAccess app) (started app t) (history app (started app t) script)
+  pub ruleless : HasNoLocks app.generation → IsWithoutRule app.generation
   pub jobs : JobsAreKept app (started app t) (history app (started app t) script)
   pub resumes : (done left : List Act) → trace app t script ≡ done ++ left → CutResumes app t script done
   pub serial : (done left : List Act) → trace app t script ≡ done ++ left → IsSerialCut app t script done
@@ -166,11 +168,6 @@ call words room device = record { words = words; room = room; device = device }
 abbrev pub AsksNothing : List (List ℕ) → Type 0
 AsksNothing words = request_of words ≡ None
 
--- the room tells, and the words and the texts ask for no errand
-pub record NoErrand (c : Call) : Type 0 where
-  pub told : IsTrue c.room.told
-  pub none : (e : Errand) → Reads c.words c.room (Ok e) → ⊥
-
 -- what holds of the errand that the words and the texts ask for
 abbrev pub ForErrand : Call → (Errand → Type 0) → Type 0
 ForErrand c P = IsTrue c.room.told → (e : Errand) → Reads c.words c.room (Ok e) → P e
@@ -192,8 +189,8 @@ abbrev pub ForStart : Call → (Errand → TableRows → Type 0) → Type 0
 ForStart c P = IsTrue c.room.told → IsTrue c.device.told → (e : Errand) (t : TableRows) → Reads c.words c.room (Ok e) → Starts e c.device.holds t → P e t
 
 -- the same, where a stop before the call leaves just the file
-abbrev pub ForSettledStart : Call → (ℕ → List ℕ → List ℕ → Type 0) → (Errand → TableRows → Type 0) → Type 0
-ForSettledStart c la P =
+abbrev pub ForStartAtRest : Call → (ℕ → List ℕ → List ℕ → Type 0) → (Errand → TableRows → Type 0) → Type 0
+ForStartAtRest c la P =
     IsTrue c.room.told → IsTrue c.device.told → Only c.device.holds c.device la → (e : Errand) (t : TableRows) → Reads c.words c.room (Ok e) → Starts e c.device.holds t → P e t
 
 -- ---- what became of it
@@ -202,19 +199,9 @@ ForSettledStart c la P =
 abbrev pub CallFailed : (a b : State) → Type 0
 CallFailed a b = Rose a.disk_faults b.disk_faults ⊎ Rose a.line_faults b.line_faults
 
--- no count of faults rose
-pub record NoneFailed (r s : RoomState) (a b : State) : Type 0 where
-  pub room : NoReadFailed r s
-  pub disk : SameDiskFaults a b
-  pub line : SameLineFaults a b
-
 -- a front of this line was sent, and nothing else
 abbrev pub SaysPart : List ℕ → (a b : State) → Type 0
 SaysPart line a b = IsTrue a.told → SaidPart line a b
-
--- where a call of the line failed, the status is 5
-abbrev pub TellsFailure : (code : ℕ) → (a b : State) → Type 0
-TellsFailure code a b = a.line_faults < b.line_faults → code ≡ 5
 
 -- the texts were refused with this status, and the line of their fault was sent
 abbrev pub SaysRefusal : Call → (code : ℕ) → State → Type 0

@@ -1,18 +1,10 @@
--- What the words of a call ask for, and the lines of its refusals.
+-- What the words of a call ask for, and two lines of its refusals.
 use Rattle.std.specs.Prelude.{⊤, ℕ, Bool, true, false, ◌&&◌, nat_le, List, [], ◌∷◌, ◌++◌, length, codes, Option, Some, None}
-use Rattle.std.specs.Fmt.{decimal}
-use Rattle.hex.specs.Hex.{encode_lower}
 use Rattle.kd_base.specs.Text.{decimal_of}
 use Rattle.kdcdef_types.specs.Statements.{IsWithin}
-use Rattle.application_read.specs.declared.fault.ApplicationFault.{ApplicationFault}
-use Rattle.application_read.specs.Faults.{text_of, line_of, name_of}
 use Rattle.script_read.specs.Script.{same}
-use Rattle.utm_cli.specs.declared.error.Refusal.{Refusal}
-use Rattle.utm_cli.specs.declared.error.Refusal.TheVariants.{Application, Script}
 use Rattle.utm_cli.specs.declared.words.Word.{Word}
 use Rattle.utm_cli.specs.declared.words.Word.TheVariants.{Gen, Run, Show, Make}
-use Rattle.script_read.specs.declared.fault.ScriptFault.{ScriptFault}
-use Rattle.script_read.specs.declared.fault.ScriptFault.TheVariants.{BadLine, OutOfRange, TooLong, Memory}
 
 abbrev pub word_by : (gen run show : Bool) → Option Word
 word_by true run show = Some Gen
@@ -52,7 +44,7 @@ abbrev pub over_base : Bool → List ℕ → Option Word
 over_base true word = word_of word
 over_base false word = None
 
--- the word before this operand: N of 1 to 18 digits behind `make`, and else a BASE
+-- the word before this operand: N of 1 to 18 digits after `make`, and else a BASE
 abbrev pub word_with : (make : Bool) → (word operand : List ℕ) → Option Word
 word_with true word operand = made_input (decimal_of operand)
 word_with false word operand = over_base (is_base operand) word
@@ -88,30 +80,6 @@ file_name base = base ++ codes ".KDCA"
 abbrev pub usage_line : List ℕ
 usage_line = codes "USAGE: utm gen BASE, run BASE, show BASE, make N\n"
 
--- status 2: the text, the line of the fault in it, and its name
-abbrev pub application_line : ApplicationFault → List ℕ
-application_line fault = text_of fault ++ (codes " " ++ (decimal (line_of fault) ++ codes " ")) ++ name_of fault ++ 10 ∷ []
-
--- status 3: the line of the fault, and its name; want of memory is no fault of a script
-abbrev pub fault_line : ScriptFault → List ℕ
-fault_line (BadLine line) = codes "SCRIPT " ++ (decimal line ++ codes " BadLine\n")
-fault_line (OutOfRange line) = codes "SCRIPT " ++ (decimal line ++ codes " OutOfRange\n")
-fault_line TooLong = codes "SCRIPT 0 TooLong\n"
-fault_line Memory = []
-
--- the status of texts that are refused, and the line that says why
-abbrev pub status_of : Refusal → ℕ
-status_of (Application fault) = 2
-status_of (Script fault) = 3
-
-abbrev pub refusal_line : Refusal → List ℕ
-refusal_line (Application fault) = application_line fault
-refusal_line (Script fault) = fault_line fault
-
 -- status 4: the file is no KDCFILE of this application
 abbrev pub not_a_kdcfile_line : List ℕ
 not_a_kdcfile_line = codes "KDCFILE NOT A KDCFILE\n"
-
--- status 4: the file was made with other texts, which have this fingerprint; each of its bytes as two digits
-abbrev pub other_generation_line : List ℕ → List ℕ
-other_generation_line stored = codes "KDCFILE OTHER GENERATION " ++ encode_lower stored ++ 10 ∷ []

@@ -5,18 +5,14 @@
 //! It stands on all other crates. Its public call `utm` carries the promises that the whole program makes.
 #![tactic(auto)]
 
-mod error;
 mod lawful;
 mod made_run;
 mod opening;
 mod reading;
-mod refuse;
 mod report;
 mod run;
-mod status;
-mod text;
 mod top;
 mod words;
 
-pub use status::Status;
+pub use refusals::Status;
 pub use top::utm;

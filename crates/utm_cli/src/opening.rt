@@ -1,6 +1,6 @@
 //! The KDCFILE of a BASE is attached and opened.
 ghost use Rattle.std.specs.Prelude.{◌≡◌, ◌++◌, ◌∷◌, [], List, ℕ, IsTrue, IfOk, OnOk, IsErrOf};
-ghost use Rattle.kd_device.specs.{Device.{Rose, Frame}, Rest.{Rests}};
+ghost use Rattle.kd_device.specs.{Device.{Rose, Frame, SameFaults}, Rest.{Rests}};
 ghost use Rattle.kdcfile_store.specs.{Kept.{IsKept}, Whole.{HasFile}};
 ghost use Rattle.laws_of_steps.specs.Suits.{Suits};
 ghost use Rattle.warm_start.specs.{Stands.{KeepsTables, identity_for}, Opening.{StartsFrom, IsRefused, IsOfOtherTexts}};
@@ -20,6 +20,7 @@ fn attach<D: Device>(device: &mut D, name: &[u8]) -> Result<(), OpenError>
     ensures named { OnOk result (IsTrue (D.state device.old).told → (D.state device.new).names ≡ (D.state device.old).names ++ name.now ∷ []) }
     ensures refused { IsErrOf result OpenError.NotKdcfile → ⊥ }
     ensures other { (stored : List ℕ) → IsErrOf result (OpenError.OtherGeneration stored) → ⊥ }
+    ensures fine { (IsErrOf result OpenError.Failed → ⊥) → SameFaults (D.state device.old) (D.state device.new) }
     ensures failed { IsErrOf result OpenError.Failed → Rose (D.state device.old).disk_faults (D.state device.new).disk_faults }
     ensures frame { Frame (D.state device.old) (D.state device.new) }
 {
@@ -50,6 +51,7 @@ pub(crate) fn open<D: Device>(
 
     ensures names { IsTrue (D.state device.old).told → MayAttach name.now (D.state device.old) (D.state device.new) }
     ensures named { OnOk result (IsTrue (D.state device.old).told → (D.state device.new).names ≡ (D.state device.old).names ++ name.now ∷ []) }
+    ensures fine { (IsErrOf result OpenError.Failed → ⊥) → SameFaults (D.state device.old) (D.state device.new) }
     ensures failed { IsErrOf result OpenError.Failed → Rose (D.state device.old).disk_faults (D.state device.new).disk_faults }
     ensures frame { Frame (D.state device.old) (D.state device.new) }
 {
@@ -71,6 +73,7 @@ pub(crate) fn look<D: Device>(
     ensures rests { IsTrue (D.state device.old).told → Rests (D.state device.old) (D.state device.new) (D.leaves device.old) (D.leaves device.new) }
     ensures names { IsTrue (D.state device.old).told → MayAttach name.now (D.state device.old) (D.state device.new) }
     ensures named { OnOk result (IsTrue (D.state device.old).told → (D.state device.new).names ≡ (D.state device.old).names ++ name.now ∷ []) }
+    ensures fine { (IsErrOf result OpenError.Failed → ⊥) → SameFaults (D.state device.old) (D.state device.new) }
     ensures failed { IsErrOf result OpenError.Failed → Rose (D.state device.old).disk_faults (D.state device.new).disk_faults }
     ensures frame { Frame (D.state device.old) (D.state device.new) }
 {

@@ -1,20 +1,20 @@
 //! The texts of a call, read from the room, and what they say.
-ghost use Rattle.std.specs.Prelude.{◌≡◌, ◌++◌, List, ℕ, IsTrue, IfOk, OnOk, IsErrOf, IsSome, IsSomeAnd, Ok, Err};
-ghost use Rattle.kd_device.specs.{Device.{Rose}, Room.{SameRoom, text_of}};
-ghost use Rattle.utm_cli.specs.{Asking.{NoReadFailed, Reading, AskFor, CanRun, ScriptIs, ReadsFor, AreThere, WereRead, shown_of}, Doing.{IsOverFile}, Words.{IsForm}, declared.error.Refusal.{Refusal}};
+ghost use Rattle.std.specs.Prelude.{◌≡◌, List, ℕ, IsTrue, IfOk, OnOk, IsErrOf, Ok, Err};
+ghost use Rattle.kd_device.specs.{Device.{Rose}, Room.{SameRoom}};
+ghost use Rattle.utm_cli.specs.{Asking.{Reading, AskFor, CanRun, ScriptIs, ReadsFor, AreThere, WereRead}, Doing.{IsOverFile}, Words.{IsForm}};
+ghost use Rattle.refusals.specs.{Texts.{NoReadFailed, shown_of}, declared.error.Refusal.{Refusal}};
 ghost use Rattle.utm_cli.specs.MadeTexts.{definition_text as made_definition, units_text as made_units, script_text as made_script};
 ghost use Rattle.utm_cli.specs.{MadeApplication.{AreMade}, declared.words.Word.TheVariants.{Make}};
 ghost use Rattle.kdcdef_types.specs.Statements.{IsWithin};
 
-use crate::error::TextError;
 use crate::made_run::{made, made_texts_are_taken};
-use crate::text::named;
 use crate::words::Word;
 use abstract_monitor::Command;
 use application_read::{Application, read_application};
-use kd_base::{LONGEST_TEXT, OutOfMemory};
+use kd_base::OutOfMemory;
 use kd_device::{DeviceError, Room};
 use laws_of_applications::fitted_units_make_an_application;
+use refusals::{TextError, text};
 use script_read::{commands_are_said, read_script};
 use std::alloc::Global;
 use std::marker::Model;
@@ -45,26 +45,6 @@ struct Texts {
     definition: Vec<u8>,
     units: Vec<u8>,
     script: Vec<u8>,
-}
-
-/// The text of this BASE with this ending, up to one byte past the limit.
-fn text<R: Room>(
-    alloc: Global,
-    room: &mut R,
-    base: &[u8],
-    ending: &[u8],
-) -> Result<Vec<u8>, DeviceError>
-    ensures value { IfOk result (λ text. IsTrue (R.room room.old).told → IsSomeAnd (text_of (base.now ++ ending.now) (R.room room.old).texts) (λ whole. text.items ≡ shown_of whole)) }
-    ensures room { IsErrOf result DeviceError.Failed → Rose (R.room room.old).faults (R.room room.new).faults }
-    ensures sure { IsTrue (R.room room.old).sure → IsSome (text_of (base.now ++ ending.now) (R.room room.old).texts) → IsErrOf result DeviceError.Failed → ⊥ }
-    ensures fine { OnOk result (NoReadFailed (R.room room.old) (R.room room.new)) }
-    ensures memory { IsErrOf result DeviceError.Memory → NoReadFailed (R.room room.old) (R.room room.new) }
-    ensures same { SameRoom (R.room room.old) (R.room room.new) }
-{
-    let Ok(name) = named(alloc, base, ending) else {
-        return Err(DeviceError::Memory);
-    };
-    room.read(alloc, &name, LONGEST_TEXT as u64)
 }
 
 /// The text of the script, which `gen` and `show` do not read.

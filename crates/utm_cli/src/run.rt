@@ -1,13 +1,14 @@
 //! What a call does over the KDCFILE.
 ghost use Rattle.std.specs.Prelude.{◌≡◌, ◌++◌, ◌∷◌, [], List, ℕ, IsTrue, OnOk, IsErrOf};
-ghost use Rattle.kd_device.specs.{Device.{Rose, Frame, SameNames}, Rest.{Rests}};
+ghost use Rattle.kd_device.specs.{Device.{Rose, Frame, SameFaults, SameNames}, Rest.{Rests}};
 ghost use Rattle.kdcfile_store.specs.{Kept.{IsKept}, Whole.{HasFile}};
 ghost use Rattle.kdcs_types.specs.Tables.{TableRows};
 ghost use Rattle.laws_of_steps.specs.Suits.{Suits};
 ghost use Rattle.kdcdef_types.specs.Statements.{IsWithin};
 ghost use Rattle.abstract_monitor.specs.Listing.{listing};
 ghost use Rattle.warm_start.specs.{Opening.{IsRefused, IsOfOtherTexts}, Stands.{KeepsTables}};
-ghost use Rattle.utm_cli.specs.{Words.{IsForm, file_name, not_a_kdcfile_line, other_generation_line}, declared.words.Word.TheVariants.{Gen, Run}, Asking.{CanRun, app_of}, Doing.{Opens, Starts, Refuses, IsOfOthers, identity_of}, Promise.{IsOneOf, Ran, SaysFront, MakesFile, MayAttach, MayHandOn, HandsOn, AttachedBy, CallFailed, LeavesFile, LeavesLines, SaysWhich}, Parts.{PerformsActs, RanActs, RanOpened, ShowsFront, StopsInCut, StopsOverStore}};
+ghost use Rattle.utm_cli.specs.{Words.{IsForm, file_name, not_a_kdcfile_line}, declared.words.Word.TheVariants.{Gen, Run}, Asking.{CanRun, app_of}, Doing.{Opens, Starts, Refuses, IsOfOthers, identity_of}, Promise.{Ran, SaysFront, MakesFile, MayAttach, MayHandOn, HandsOn, AttachedBy, CallFailed, LeavesFile, LeavesLines, SaysWhich}, Parts.{WithinErrand, RanActs, RanOpened, ShowsFront, StopsInCut, StopsOverStore}};
+ghost use Rattle.refusals.specs.{Lines.{other_generation_line}, Statuses.{IsOneOf}};
 ghost use Rattle.device_acts.specs.Said.{Said, SaidPart};
 ghost use Rattle.utm_cli.specs.MadeReport.{report_of};
 ghost use Rattle.utm_cli.specs.Doing.{IsOverFile};
@@ -15,10 +16,7 @@ ghost use Rattle.utm_cli.specs.Doing.{IsOverFile};
 use crate::made_run::made_report;
 use crate::opening::{look, open};
 use crate::reading::Errand;
-use crate::refuse::{refuse, refuse_other};
 use crate::report::report;
-use crate::status::Status;
-use crate::text::named;
 use crate::words::Word;
 use application_read::Application;
 use device_acts::{do_acts, say};
@@ -28,6 +26,7 @@ use kdcfile_store::WholeStore;
 use kdcs_types::Tables;
 use monitor_core::Core;
 use output_lines::table_lines;
+use refusals::{Status, named, refuse, refuse_other};
 use std::alloc::Global;
 use warm_start::OpenError;
 
@@ -35,7 +34,7 @@ use warm_start::OpenError;
 const NOT_A_KDCFILE: &[u8] = b"KDCFILE NOT A KDCFILE\n";
 
 /// The report of the generation, over an opened store.
-fn perform_report<D: Device>(
+fn do_report<D: Device>(
     alloc: Global,
     device: &mut D,
     mut store: WholeStore,
@@ -43,8 +42,9 @@ fn perform_report<D: Device>(
 ) -> Result<(), DeviceError>
     requires word { asked.now.word ≡ Gen }
     requires kept { IsTrue (D.state device.old).told → IsKept (HasFile store) (D.state device.old) (D.leaves device.old) }
-    ensures any { (t : TableRows) → KeepsTables (identity_of asked.now) store t → PerformsActs asked.now t (D.state device.old) (D.state device.new) (D.leaves device.old) (D.leaves device.new) }
+    ensures any { (t : TableRows) → KeepsTables (identity_of asked.now) store t → WithinErrand asked.now t (D.state device.old) (D.state device.new) (D.leaves device.old) (D.leaves device.new) }
     ensures done { OnOk result ((t : TableRows) → KeepsTables (identity_of asked.now) store t → RanActs asked.now t (D.state device.old) (D.state device.new) (D.leaves device.new)) }
+    ensures fine { (IsErrOf result DeviceError.Failed → ⊥) → SameFaults (D.state device.old) (D.state device.new) }
     ensures failed { IsErrOf result DeviceError.Failed → CallFailed (D.state device.old) (D.state device.new) }
 {
     let acts = report(alloc, &asked.application.generation)?;
@@ -52,7 +52,7 @@ fn perform_report<D: Device>(
 }
 
 /// The script, from the tables that an opened store keeps, and how many commits it made.
-fn perform_script<D: Device>(
+fn do_script<D: Device>(
     alloc: Global,
     device: &mut D,
     store: WholeStore,
@@ -64,8 +64,9 @@ fn perform_script<D: Device>(
     requires tables { KeepsTables (identity_of asked) store tables }
     requires suits { Suits asked.application.generation tables }
     requires kept { IsTrue (D.state device.old).told → IsKept (HasFile store) (D.state device.old) (D.leaves device.old) }
-    ensures any { PerformsActs asked tables (D.state device.old) (D.state device.new) (D.leaves device.old) (D.leaves device.new) }
+    ensures any { WithinErrand asked tables (D.state device.old) (D.state device.new) (D.leaves device.old) (D.leaves device.new) }
     ensures done { OnOk result (RanActs asked tables (D.state device.old) (D.state device.new) (D.leaves device.new)) }
+    ensures fine { (IsErrOf result OpenError.Failed → ⊥) → SameFaults (D.state device.old) (D.state device.new) }
     ensures failed { IsErrOf result OpenError.Failed → CallFailed (D.state device.old) (D.state device.new) }
     ensures refused { IsErrOf result OpenError.NotKdcfile → IsTrue (D.state device.old).told → ⊥ }
     ensures other { (stored : List ℕ) → IsErrOf result (OpenError.OtherGeneration stored) → IsTrue (D.state device.old).told → ⊥ }
@@ -81,7 +82,7 @@ fn perform_script<D: Device>(
 }
 
 /// What is asked for, from the tables that an opened store keeps: the report of the generation, or the script.
-fn perform<D: Device>(
+fn do_errand<D: Device>(
     alloc: Global,
     device: &mut D,
     store: WholeStore,
@@ -93,16 +94,17 @@ fn perform<D: Device>(
     requires tables { KeepsTables (identity_of asked) store tables }
     requires suits { Suits asked.application.generation tables }
     requires kept { IsTrue (D.state device.old).told → IsKept (HasFile store) (D.state device.old) (D.leaves device.old) }
-    ensures any { PerformsActs asked tables (D.state device.old) (D.state device.new) (D.leaves device.old) (D.leaves device.new) }
+    ensures any { WithinErrand asked tables (D.state device.old) (D.state device.new) (D.leaves device.old) (D.leaves device.new) }
     ensures done { OnOk result (RanActs asked tables (D.state device.old) (D.state device.new) (D.leaves device.new)) }
+    ensures fine { (IsErrOf result OpenError.Failed → ⊥) → SameFaults (D.state device.old) (D.state device.new) }
     ensures failed { IsErrOf result OpenError.Failed → CallFailed (D.state device.old) (D.state device.new) }
     ensures refused { IsErrOf result OpenError.NotKdcfile → IsTrue (D.state device.old).told → ⊥ }
     ensures other { (stored : List ℕ) → IsErrOf result (OpenError.OtherGeneration stored) → IsTrue (D.state device.old).told → ⊥ }
 {
     match asked.word {
-        Word::Gen => Ok(perform_report(alloc, device, store, &asked)?),
+        Word::Gen => Ok(do_report(alloc, device, store, &asked)?),
         Word::Run => {
-            perform_script(alloc, device, store, tables, asked)?;
+            do_script(alloc, device, store, tables, asked)?;
             Ok(())
         }
         Word::Show | Word::Make(_) => unreachable!(),
@@ -121,6 +123,7 @@ fn run_stored<D: Device>(
     ensures done { OnOk result (RanOpened asked (D.state device.old) (D.state device.new) (D.leaves device.new)) }
     ensures refused { IsErrOf result OpenError.NotKdcfile → IsTrue (D.state device.old).told → IsRefused asked.application.generation asked.fingerprint (D.state device.old).holds }
     ensures other { (stored : List ℕ) → IsErrOf result (OpenError.OtherGeneration stored) → IsTrue (D.state device.old).told → IsOfOtherTexts stored asked.fingerprint (D.state device.old).holds }
+    ensures fine { (IsErrOf result OpenError.Failed → ⊥) → SameFaults (D.state device.old) (D.state device.new) }
     ensures failed { IsErrOf result OpenError.Failed → CallFailed (D.state device.old) (D.state device.new) }
 
     // A file that the call does not start from stays as it is.
@@ -134,7 +137,7 @@ fn run_stored<D: Device>(
 {
     let generation = &asked.application.generation;
     let (store, tables) = open(alloc, device, name, generation, &asked.fingerprint)?;
-    perform(alloc, device, store, tables, asked)
+    do_errand(alloc, device, store, tables, asked)
 }
 
 /// The list of the tables of the KDCFILE of this name, which stays as it is.
@@ -147,6 +150,7 @@ fn show_over<D: Device>(
     ensures done { OnOk result (IsTrue (D.state device.old).told → (t : TableRows) × Opens asked.now (D.state device.old).holds t × Said (listing t) (D.state device.old) (D.state device.new)) }
     ensures refused { IsErrOf result OpenError.NotKdcfile → IsTrue (D.state device.old).told → IsRefused asked.now.application.generation asked.now.fingerprint (D.state device.old).holds }
     ensures other { (stored : List ℕ) → IsErrOf result (OpenError.OtherGeneration stored) → IsTrue (D.state device.old).told → IsOfOtherTexts stored asked.now.fingerprint (D.state device.old).holds }
+    ensures fine { (IsErrOf result OpenError.Failed → ⊥) → SameFaults (D.state device.old) (D.state device.new) }
     ensures failed { IsErrOf result OpenError.Failed → CallFailed (D.state device.old) (D.state device.new) }
 
     // Nothing is said of a file that is not shown, and else a front of its list.
@@ -175,6 +179,7 @@ fn make<D: Device>(
     ensures done { OnOk result (IsTrue (D.state device.old).told → Said (report_of inputs (app_of asked) asked.commands) (D.state device.old) (D.state device.new)) }
     ensures refused { IsErrOf result OpenError.NotKdcfile → ⊥ }
     ensures other { (stored : List ℕ) → IsErrOf result (OpenError.OtherGeneration stored) → ⊥ }
+    ensures fine { (IsErrOf result OpenError.Failed → ⊥) → SameFaults (D.state device.old) (D.state device.new) }
     ensures failed { IsErrOf result OpenError.Failed → Rose (D.state device.old).line_faults (D.state device.new).line_faults }
     ensures front { IsTrue (D.state device.old).told → SaysFront (report_of inputs (app_of asked) asked.commands) (D.state device.old) (D.state device.new) (D.leaves device.old) (D.leaves device.new) }
     ensures frame { Frame (D.state device.old) (D.state device.new) }
@@ -203,6 +208,7 @@ fn run_over<D: Device>(
     ensures done { OnOk result (IsTrue (D.state device.old).told → (t : TableRows) × Starts asked (D.state device.old).holds t × Ran asked t (D.state device.old) (D.state device.new) (D.leaves device.new)) }
     ensures refused { IsErrOf result OpenError.NotKdcfile → IsTrue (D.state device.old).told → Refuses asked (D.state device.old).holds }
     ensures other { (stored : List ℕ) → IsErrOf result (OpenError.OtherGeneration stored) → IsTrue (D.state device.old).told → IsOfOthers stored asked (D.state device.old).holds }
+    ensures fine { (IsErrOf result OpenError.Failed → ⊥) → SameFaults (D.state device.old) (D.state device.new) }
     ensures failed { IsErrOf result OpenError.Failed → CallFailed (D.state device.old) (D.state device.new) }
 
     // A file that the call does not start from stays as it is.
@@ -248,6 +254,7 @@ pub(crate) fn run<D: Device>(alloc: Global, device: &mut D, base: &[u8], asked: 
 
     ensures names { IsTrue (D.state device.old).told → MayHandOn asked.word (file_name base.now) (D.state device.old) (D.state device.new) }
     ensures attached { result.code ≡ 0 → IsTrue (D.state device.old).told → AttachedBy asked.word base.now (D.state device.old) (D.state device.new) }
+    ensures fine { (result.code ≡ 5 → ⊥) → SameFaults (D.state device.old) (D.state device.new) }
     ensures failed { result.code ≡ 5 → CallFailed (D.state device.old) (D.state device.new) }
     ensures frame { Frame (D.state device.old) (D.state device.new) }
 

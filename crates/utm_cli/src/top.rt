@@ -1,27 +1,26 @@
 //! The top call: what the words ask for is done, and answered as a status.
 ghost use Rattle.std.specs.{Prelude.{◌≡◌, ◌⊎◌, ◌∷◌, [], List, ℕ, IsTrue, map}, String.{string_bytes}};
-ghost use Rattle.kd_device.specs.{Device.{Rose, Frame, SameNames}, Room.{SameRoom}};
+ghost use Rattle.kd_device.specs.{Device.{Rose, Frame, SameFaults, SameNames}, Room.{SameRoom}};
 ghost use Rattle.kdcs_types.specs.Tables.{TableRows};
-ghost use Rattle.utm_cli.specs.{Words.{usage_line, status_of, refusal_line, not_a_kdcfile_line, other_generation_line}, Asking.{NoReadFailed, app_of}, Doing.{Starts}};
-ghost use Rattle.utm_cli.specs.Promise.{IsOneOf, Misses, Request, EndsInCut, RunsLawfully, Attaches, AsksNothing, CallFailed, Completes, ForErrand, ForNoKdcfile, ForOthers, ForRefusal, ForSettledStart, ForStart, HasDone, LeavesCuts, LeavesFile, NoErrand, NoneFailed, SaysFile, SaysPart, SaysRefusal, TellsFailure, call};
+ghost use Rattle.utm_cli.specs.{Words.{usage_line, not_a_kdcfile_line}, Asking.{app_of}, Doing.{Starts}};
+ghost use Rattle.utm_cli.specs.Promise.{Misses, Request, EndsInCut, RunsLawfully, Attaches, AsksNothing, CallFailed, Completes, ForErrand, ForNoKdcfile, ForOthers, ForRefusal, ForStartAtRest, ForStart, HasDone, LeavesCuts, LeavesFile, SaysFile, SaysPart, SaysRefusal, call};
+ghost use Rattle.refusals.specs.{Lines.{refusal_line, other_generation_line}, Statuses.{IsOneOf, status_of}, Texts.{NoReadFailed}};
 ghost use Rattle.device_acts.specs.Said.{Said, SaidPart};
 ghost use Rattle.utm_cli.specs.declared.words.Word.TheVariants.{Make};
 
-use crate::error::TextError;
 use crate::lawful::scripts_run_lawfully;
 use crate::reading::read_texts;
-use crate::refuse::{refuse, refuse_texts};
 use crate::run::run;
-use crate::status::Status;
 use crate::words::request_of;
 use kd_device::{Device, Room};
+use refusals::{Status, TextError, refuse, refuse_texts};
 use std::alloc::Global;
 
 /// What is sent where the words are none of the forms.
 const USAGE: &[u8] = b"USAGE: utm gen BASE, run BASE, show BASE, make N\n";
 
 /// Does what the words after the program's name ask for. `gen BASE` reads BASE.def and BASE.units from the room and
-/// reports the generation; `run BASE` reads BASE.script too and performs its commands, each of which is stored before
+/// reports the generation; `run BASE` reads BASE.script too and does its commands, each of which is stored before
 /// its line is sent. Both make BASE.KDCA where it is empty, with BLKSIZE and PGPOOL of the generation, or open it. `show
 /// BASE` lists the tables of BASE.KDCA, which stays as it is; an empty one is listed as the empty tables. `make N` runs the
 /// made application with N inputs, from 1 to 20,000, on a device of its own, and reports of that run.
@@ -42,14 +41,12 @@ pub fn utm<R: Room, D: Device>(
     ensures usage_only { result.code ≡ 1 → AsksNothing (map string_bytes words.now.items) }
     ensures usage_said { result.code ≡ 1 → IsTrue (D.state device.old).told → Said usage_line (D.state device.old) (D.state device.new) }
     ensures usage_part { AsksNothing (map string_bytes words.now.items) → SaysPart usage_line (D.state device.old) (D.state device.new) }
-    ensures usage_failed { AsksNothing (map string_bytes words.now.items) → TellsFailure result.code (D.state device.old) (D.state device.new) }
     ensures usage_names { AsksNothing (map string_bytes words.now.items) → SameNames (D.state device.old) (D.state device.new) }
 
     // 2 and 3: the definition and the units, or else the script, are refused. Nothing is done but the line of the first fault.
     ensures texts { ForRefusal (call (map string_bytes words.now.items) (R.room room.old) (D.state device.old)) (λ why. IsOneOf (status_of why ∷ 6 ∷ 5 ∷ 7 ∷ []) result.code) }
     ensures texts_only { IsOneOf (2 ∷ 3 ∷ []) result.code → SaysRefusal (call (map string_bytes words.now.items) (R.room room.old) (D.state device.old)) result.code (D.state device.new) }
     ensures texts_part { ForRefusal (call (map string_bytes words.now.items) (R.room room.old) (D.state device.old)) (λ why. SaysPart (refusal_line why) (D.state device.old) (D.state device.new)) }
-    ensures texts_failed { ForRefusal (call (map string_bytes words.now.items) (R.room room.old) (D.state device.old)) (λ why. TellsFailure result.code (D.state device.old) (D.state device.new)) }
     ensures texts_names { ForRefusal (call (map string_bytes words.now.items) (R.room room.old) (D.state device.old)) (λ why. SameNames (D.state device.old) (D.state device.new)) }
 
     // 4: the file is refused, for its bytes or for its other texts. Nothing is done but the line that says which.
@@ -59,20 +56,18 @@ pub fn utm<R: Room, D: Device>(
     ensures file_part { ForNoKdcfile (call (map string_bytes words.now.items) (R.room room.old) (D.state device.old)) (SaidPart not_a_kdcfile_line (D.state device.old) (D.state device.new)) }
     ensures other_part { ForOthers (call (map string_bytes words.now.items) (R.room room.old) (D.state device.old)) (λ stored. SaidPart (other_generation_line stored) (D.state device.old) (D.state device.new)) }
 
-    // 5: a call of the device failed.
+    // 5: a call of the disk or the line failed. At any other status none did: at 7 it is memory alone that ran out.
     ensures device { result.code ≡ 5 → CallFailed (D.state device.old) (D.state device.new) }
+    ensures device_told { (result.code ≡ 5 → ⊥) → SameFaults (D.state device.old) (D.state device.new) }
 
-    // 6: the room failed; over a sure room a text is not there. Nothing is done.
+    // 6: the room failed, and at any other status it did not; over a sure room a text is not there. Nothing is done.
     ensures room { result.code ≡ 6 → Rose (R.room room.old).faults (R.room room.new).faults }
+    ensures room_told { (result.code ≡ 6 → ⊥) → NoReadFailed (R.room room.old) (R.room room.new) }
     ensures room_sure { result.code ≡ 6 → IsTrue (R.room room.old).sure → Misses (map string_bytes words.now.items) (R.room room.old) }
     ensures room_said { result.code ≡ 6 → IsTrue (D.state device.old).told → Said [] (D.state device.old) (D.state device.new) }
     ensures missing { IsTrue (R.room room.old).told → Misses (map string_bytes words.now.items) (R.room room.old) → IsOneOf (6 ∷ 7 ∷ []) result.code }
     ensures missing_said { IsTrue (R.room room.old).told → IsTrue (D.state device.old).told → Misses (map string_bytes words.now.items) (R.room room.old) → Said [] (D.state device.old) (D.state device.new) }
     ensures missing_names { IsTrue (R.room room.old).told → Misses (map string_bytes words.now.items) (R.room room.old) → SameNames (D.state device.old) (D.state device.new) }
-
-    // 7: memory ran out. No read failed, and where the words and the texts ask for nothing no call of the device did.
-    ensures memory_room { result.code ≡ 7 → NoReadFailed (R.room room.old) (R.room room.new) }
-    ensures memory_early { result.code ≡ 7 → NoErrand (call (map string_bytes words.now.items) (R.room room.old) (D.state device.old)) → NoneFailed (R.room room.old) (R.room room.new) (D.state device.old) (D.state device.new) }
 
     // 0: all was done. The lines of all acts were sent, and the file stands for the tables after them, or is as it was.
     ensures done { result.code ≡ 0 → HasDone (call (map string_bytes words.now.items) (R.room room.old) (D.state device.old)) (D.state device.new) (D.leaves device.new) }
@@ -82,11 +77,11 @@ pub fn utm<R: Room, D: Device>(
     ensures complete { ForStart (call (map string_bytes words.now.items) (R.room room.old) (D.state device.old)) (λ e t. Completes result.code (R.room room.old) (R.room room.new) (D.state device.old) (D.state device.new)) }
 
     // At a stop since the call, whatever its status, the bytes sent and the file are a cut of the acts.
-    ensures cut { ForSettledStart (call (map string_bytes words.now.items) (R.room room.old) (D.state device.old)) (D.leaves device.old) (λ e t. LeavesCuts e t (D.state device.old) (D.leaves device.new)) }
+    ensures cut { ForStartAtRest (call (map string_bytes words.now.items) (R.room room.old) (D.state device.old)) (D.leaves device.old) (λ e t. LeavesCuts e t (D.state device.old) (D.leaves device.new)) }
 
     // As the call left them, whatever its status, the bytes sent and the file are such a cut too. The lines are a front of
     // those of all acts, so those of `gen` are a front of its report.
-    ensures ended { ForSettledStart (call (map string_bytes words.now.items) (R.room room.old) (D.state device.old)) (D.leaves device.old) (λ e t. EndsInCut e t (D.state device.old) (D.state device.new)) }
+    ensures ended { ForStartAtRest (call (map string_bytes words.now.items) (R.room room.old) (D.state device.old)) (D.leaves device.old) (λ e t. EndsInCut e t (D.state device.old) (D.state device.new)) }
 
     // A file that is there keeps its bytes, whatever the status, where the acts commit nothing, as those of `gen`. Under
     // `show` and `make` an empty one does too.

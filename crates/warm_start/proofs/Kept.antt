@@ -19,7 +19,7 @@ use Rattle.record_codec.specs.TableReadings.{AreProperTables}
 use Rattle.warm_start.specs.Stands.{AreTables, StandsForTables, KeepsTables, identity_for}
 use Rattle.warm_start.specs.Kept.{KeepsNoneFor}
 use Rattle.warm_start.specs.Opening.{HasNoTablesFor}
-use Rattle.warm_start.specs.MeaningLaws.{one_table, has_room}
+use Rattle.warm_start.specs.MeaningLaws.{one_table, content_fits}
 use Rattle.warm_start.specs.declared.error.OpenError.{OpenError}
 
 -- ---- tables that are read from what a store keeps
@@ -82,6 +82,6 @@ empty_are_tables = record {
 }
 
 -- there are pages for what the store keeps, where one was opened
-pub room_there : (g : Generated) (fingerprint : List ℕ) (r : Result (Whole × TableRows) OpenError) → IfOk r (λ o. KeepsTables (identity_for g fingerprint) o.0 o.1) → IfOk r (λ o. Suits g o.1) → IfOk r (λ o. records_charge o.0.identity.blksize o.0.content.items ≤ o.0.identity.pages)
-room_there g fingerprint (Ok o) keeps suits = has_room g fingerprint o.0 o.1 keeps suits
-room_there g fingerprint (Err e) keeps suits = tt
+pub fits_there : (g : Generated) (fingerprint : List ℕ) (r : Result (Whole × TableRows) OpenError) → IfOk r (λ o. KeepsTables (identity_for g fingerprint) o.0 o.1) → IfOk r (λ o. Suits g o.1) → IfOk r (λ o. records_charge o.0.identity.blksize o.0.content.items ≤ o.0.identity.pages)
+fits_there g fingerprint (Ok o) keeps suits = content_fits g fingerprint o.0 o.1 keeps suits
+fits_there g fingerprint (Err e) keeps suits = tt

@@ -66,8 +66,8 @@ answers_exclude_each_other g fingerprint bytes = record {
 
 -- ---- there are pages for what a store keeps
 
-pub has_room : (g : Generated) (fingerprint : List ℕ) (s : Whole) (t : TableRows) → KeepsTables (identity_for g fingerprint) s t → Suits g t → records_charge s.identity.blksize s.content.items ≤ s.identity.pages
-has_room g fingerprint s t k suits =
+pub content_fits : (g : Generated) (fingerprint : List ℕ) (s : Whole) (t : TableRows) → KeepsTables (identity_for g fingerprint) s t → Suits g t → records_charge s.identity.blksize s.content.items ≤ s.identity.pages
+content_fits g fingerprint s t k suits =
     let charged : total_charge g.limits.blksize t ≡ records_charge g.limits.blksize (content_of_tables t).items = charges_are_those_of_the_bytes g.limits.blksize t k.tables.proper in
     subst (λ (i : Identity). records_charge i.blksize s.content.items ≤ i.pages) (sym k.identity_is)
     (subst (λ (x : Content). records_charge g.limits.blksize x.items ≤ g.limits.pgpool) (sym k.content) (subst (λ (n : ℕ). n ≤ g.limits.pgpool) charged suits.charge))

@@ -1,6 +1,6 @@
 //! The KDCFILE is made where it is empty, and else opened warm; or its tables are read, and it stays as it is.
 ghost use Rattle.std.specs.Prelude.{◌≡◌, ◌≤◌, [], List, ℕ, IsTrue, length, IfOk, OnOk, IsErrOf};
-ghost use Rattle.kd_device.specs.{Device.{State, Rose, Frame, SameNames, Only}, Rest.{Rests}};
+ghost use Rattle.kd_device.specs.{Device.{State, Rose, Frame, SameFaults, SameNames, Only}, Rest.{Rests}};
 ghost use Rattle.kd_records.specs.Charge.{total_charge};
 ghost use Rattle.kdcdef_types.specs.Statements.{IsBlksize, IsWithin};
 ghost use Rattle.kdcs_types.specs.Tables.{empty_tables};
@@ -18,11 +18,12 @@ use std::alloc::Global;
 use table_fit::suits;
 
 /// The length of the file. Nothing is pending then.
-fn settled_size<D: Device>(device: &mut D) -> Result<u64, DeviceError>
+fn size_at_rest<D: Device>(device: &mut D) -> Result<u64, DeviceError>
     ensures size { IfOk result (λ n. IsTrue (D.state device.old).told → n ≡ length (D.state device.old).holds) }
-    ensures settled { OnOk result (IsTrue (D.state device.old).told → Only (D.state device.new).holds (D.state device.new) (D.leaves device.new)) }
+    ensures at_rest { OnOk result (IsTrue (D.state device.old).told → Only (D.state device.new).holds (D.state device.new) (D.leaves device.new)) }
     ensures rests { IsTrue (D.state device.old).told → Rests (D.state device.old) (D.state device.new) (D.leaves device.old) (D.leaves device.new) }
     ensures failed { IsErrOf result DeviceError.Failed → Rose (D.state device.old).disk_faults (D.state device.new).disk_faults }
+    ensures fine { (IsErrOf result DeviceError.Failed → ⊥) → SameFaults (D.state device.old) (D.state device.new) }
     ensures frame { Frame (D.state device.old) (D.state device.new) }
     ensures names { SameNames (D.state device.old) (D.state device.new) }
 {
@@ -79,7 +80,7 @@ fn make<D: Device>(
     fingerprint: &[u8; 32],
 ) -> Result<(WholeStore, Tables), OpenError>
     requires empty { IsTrue (D.state device.old).told → (D.state device.old).holds ≡ [] }
-    requires settled { IsTrue (D.state device.old).told → Only (D.state device.old).holds (D.state device.old) (D.leaves device.old) }
+    requires at_rest { IsTrue (D.state device.old).told → Only (D.state device.old).holds (D.state device.old) (D.leaves device.old) }
     ensures empty { IfOk result (λ o. o.1 ≡ empty_tables) }
     ensures tables { IfOk result (λ o. KeepsTables (identity_for generation.now fingerprint.now) o.0 o.1) }
     ensures suits { IfOk result (λ o. Suits generation.now o.1) }
@@ -90,6 +91,7 @@ fn make<D: Device>(
     ensures other { (stored : List ℕ) → IsErrOf result (OpenError.OtherGeneration stored) → ⊥ }
     ensures failed { IsErrOf result OpenError.Failed → Rose (D.state device.old).disk_faults (D.state device.new).disk_faults }
     ensures memory { IsErrOf result OpenError.Memory → IsTrue (D.state device.old).told → Rests (D.state device.old) (D.state device.new) (D.leaves device.old) (D.leaves device.new) }
+    ensures fine { (IsErrOf result OpenError.Failed → ⊥) → SameFaults (D.state device.old) (D.state device.new) }
     ensures frame { Frame (D.state device.old) (D.state device.new) }
     ensures names { SameNames (D.state device.old) (D.state device.new) }
 {
@@ -113,6 +115,7 @@ fn warm<D: Device>(
     ensures other { (stored : List ℕ) → IsErrOf result (OpenError.OtherGeneration stored) → IsTrue (D.state device.old).told → IsOfOtherTexts stored fingerprint.now (D.state device.old).holds }
     ensures rests { IsTrue (D.state device.old).told → Rests (D.state device.old) (D.state device.new) (D.leaves device.old) (D.leaves device.new) }
     ensures failed { IsErrOf result OpenError.Failed → Rose (D.state device.old).disk_faults (D.state device.new).disk_faults }
+    ensures fine { (IsErrOf result OpenError.Failed → ⊥) → SameFaults (D.state device.old) (D.state device.new) }
     ensures frame { Frame (D.state device.old) (D.state device.new) }
     ensures names { SameNames (D.state device.old) (D.state device.new) }
 {
@@ -134,7 +137,7 @@ pub fn open_tables<D: Device>(
     ensures suits { IfOk result (λ o. Suits generation.now o.1) }
 
     // There are pages for what the store keeps, as a commit asks.
-    ensures room { IfOk result (λ o. total_charge o.0.identity.blksize o.0.content.items ≤ o.0.identity.pages) }
+    ensures fits { IfOk result (λ o. total_charge o.0.identity.blksize o.0.content.items ≤ o.0.identity.pages) }
 
     ensures starts { IfOk result (λ o. IsTrue (D.state device.old).told → StartsFrom generation.now fingerprint.now (D.state device.old).holds o.1) }
     ensures kept { IfOk result (λ o. IsTrue (D.state device.old).told → IsKept (HasFile o.0) (D.state device.new) (D.leaves device.new)) }
@@ -150,10 +153,11 @@ pub fn open_tables<D: Device>(
     ensures memory { IsErrOf result OpenError.Memory → IsTrue (D.state device.old).told → Rests (D.state device.old) (D.state device.new) (D.leaves device.old) (D.leaves device.new) }
 
     ensures failed { IsErrOf result OpenError.Failed → Rose (D.state device.old).disk_faults (D.state device.new).disk_faults }
+    ensures fine { (IsErrOf result OpenError.Failed → ⊥) → SameFaults (D.state device.old) (D.state device.new) }
     ensures frame { Frame (D.state device.old) (D.state device.new) }
     ensures names { SameNames (D.state device.old) (D.state device.new) }
 {
-    let size = settled_size(device)?;
+    let size = size_at_rest(device)?;
     if size == 0 {
         make(alloc, device, generation, fingerprint)
     } else {
@@ -179,10 +183,11 @@ pub fn read_tables<D: Device>(
     ensures rests { IsTrue (D.state device.old).told → Rests (D.state device.old) (D.state device.new) (D.leaves device.old) (D.leaves device.new) }
 
     ensures failed { IsErrOf result OpenError.Failed → Rose (D.state device.old).disk_faults (D.state device.new).disk_faults }
+    ensures fine { (IsErrOf result OpenError.Failed → ⊥) → SameFaults (D.state device.old) (D.state device.new) }
     ensures frame { Frame (D.state device.old) (D.state device.new) }
     ensures names { SameNames (D.state device.old) (D.state device.new) }
 {
-    let size = settled_size(device)?;
+    let size = size_at_rest(device)?;
     if size == 0 {
         Ok(Tables::empty(alloc))
     } else {

@@ -9,6 +9,6 @@ returns c = λ app s script application names facts first more rest whole.
     let queues = c.commits_keep_queues.ensures in
     record {
       numbers = numbers_are_drawn_once keeps once.turns once.commands queues.turns queues.commands app s script application names facts first more rest whole;
-      lost = λ job. no_job_is_lost keeps once.turns once.commands queues.turns queues.commands app s script application names facts first more rest whole job.number job.value;
+      lost = no_job_is_lost keeps once.turns once.commands queues.turns queues.commands app s script application names facts first more rest whole;
       doubled = jobs_stay_over keeps once.turns once.commands queues.turns queues.commands app s script application names facts first more rest whole;
     }

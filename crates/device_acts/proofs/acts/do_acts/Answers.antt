@@ -1,8 +1,10 @@
 use Rattle.std.proofs.Common.{◌∙◌, ◌∷◌, [], refl, sym, subst}
 use Rattle.std.specs.Prelude.{IsTrue}
 use Rattle.kd_records.specs.Identity.{Identity}
-use Rattle.device_acts.specs.Performing.{Performs, content_after, AreCommittable}
-use Rattle.device_acts.specs.ActingLaws.{running_start, act_performs, act_more}
+use Rattle.kd_device.specs.TimeLaws.{faults_then}
+use Rattle.device_acts.specs.ErrorsLaws.{other_error}
+use Rattle.device_acts.specs.Acting.{WithinActs, content_after, AreCommittable}
+use Rattle.device_acts.specs.ActingLaws.{running_start, act_within, act_more}
 use Rattle.device_acts.specs.ContentsLaws.{content_goes, content_more, can_here, can_more}
 use Rattle.device_acts.proofs.acts.do_acts.Goals as goal
 
@@ -15,7 +17,7 @@ loop-act-init g c = record {
 }
 
 pub do_act-requires-clause-kept : goal.do_act-requires-clause-kept
-do_act-requires-clause-kept g c = λ told. c.loop-act.invariant.run.sent.rest (subst IsTrue c.loop-act.invariant.run.performs.frame.told told)
+do_act-requires-clause-kept g c = λ told. c.loop-act.invariant.run.sent.rest (subst IsTrue c.loop-act.invariant.run.within.frame.told told)
 
 pub do_act-requires-clause-can : goal.do_act-requires-clause-can
 do_act-requires-clause-can g c =
@@ -25,8 +27,14 @@ do_act-requires-clause-can g c =
 
 pub returns-in_err-do_act-clause-any : goal.returns-in_err-do_act-clause-any
 returns-in_err-do_act-clause-any g c =
-    act_performs content_after content_goes _ _ _ _ _ _ _ c.act-item.is c.loop-act-test.true _ _ _ _ _ _ (λ told. c.loop-act.invariant.content) c.loop-act.invariant.run
-    (subst (λ (j : Identity). Performs content_after (g.S.Store.stands j) (g.S.Store.kept c.loop-act.store) (c.act-item.result ∷ []) (g.D.Device.state c.loop-act.device) (g.D.Device.state c.do_act.new.device) (g.D.Device.leaves c.loop-act.device) (g.D.Device.leaves c.do_act.new.device)) c.loop-act.invariant.identity c.do_act.ensures.any)
+    act_within content_after content_goes _ _ _ _ _ _ _ c.act-item.is c.loop-act-test.true _ _ _ _ _ _ (λ told. c.loop-act.invariant.content) c.loop-act.invariant.run
+    (subst (λ (j : Identity). WithinActs content_after (g.S.Store.stands j) (g.S.Store.kept c.loop-act.store) (c.act-item.result ∷ []) (g.D.Device.state c.loop-act.device) (g.D.Device.state c.do_act.new.device) (g.D.Device.leaves c.loop-act.device) (g.D.Device.leaves c.do_act.new.device)) c.loop-act.invariant.identity c.do_act.ensures.any)
+
+pub returns-in_err-do_act-clause-fine : goal.returns-in_err-do_act-clause-fine
+returns-in_err-do_act-clause-fine g c = λ none. faults_then _ _ _ c.loop-act.invariant.run.sent.faults (c.in_err-do_act.ensures.fine (other_error _ _ c.from_residual.result c.in_err-do_act.field-0.0 _ c.from_residual.ensures.1 none))
+
+pub returns-clause-fine : goal.returns-clause-fine
+returns-clause-fine g c = λ none. c.loop-act.invariant.run.sent.faults
 
 pub loop-act-preserved : goal.loop-act-preserved
 loop-act-preserved g c =
@@ -40,6 +48,6 @@ loop-act-preserved g c =
       content = content_more now acts i act c.act-item.is c.loop-act-test.true (g.S.Store.kept c.args.store.now) next c.loop-act.invariant.content c.in_ok-do_act.ensures.content;
       can = can_more now acts i act c.act-item.is c.loop-act-test.true (g.S.Store.identity c.args.store.now) next c.loop-act.invariant.can c.in_ok-do_act.ensures.content;
       run = act_more content_after content_goes _ _ _ _ _ _ _ c.act-item.is c.loop-act-test.true _ _ _ _ _ _ (λ told. c.loop-act.invariant.content) c.loop-act.invariant.run
-          (subst (λ (j : Identity). Performs content_after (g.S.Store.stands j) (g.S.Store.kept c.loop-act.store) (c.act-item.result ∷ []) (g.D.Device.state c.loop-act.device) (g.D.Device.state c.do_act.new.device) (g.D.Device.leaves c.loop-act.device) (g.D.Device.leaves c.do_act.new.device)) c.loop-act.invariant.identity c.do_act.ensures.any)
+          (subst (λ (j : Identity). WithinActs content_after (g.S.Store.stands j) (g.S.Store.kept c.loop-act.store) (c.act-item.result ∷ []) (g.D.Device.state c.loop-act.device) (g.D.Device.state c.do_act.new.device) (g.D.Device.leaves c.loop-act.device) (g.D.Device.leaves c.do_act.new.device)) c.loop-act.invariant.identity c.do_act.ensures.any)
           (g.S.Store.file c.do_act.new.store) c.in_ok-do_act.ensures.done;
     }

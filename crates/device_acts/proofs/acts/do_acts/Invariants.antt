@@ -1,5 +1,5 @@
 use Rattle.std.proofs.Common.{◌≡◌, take, drop}
-use Rattle.device_acts.specs.Performing.{content_after, AreCommittable}
+use Rattle.device_acts.specs.Acting.{content_after, AreCommittable}
 use Rattle.device_acts.specs.ActingLaws.{Running}
 use Rattle.device_acts.proofs.acts.do_acts.Given as goal
 

@@ -5,11 +5,12 @@ use Rattle.abstract_monitor.specs.Commands.{ScriptStep, command_of, rotated, tur
 use Rattle.abstract_monitor.specs.Turns.{turn_of}
 use Rattle.abstract_monitor.specs.declared.command.Command.{Command}
 use Rattle.abstract_monitor.specs.CommandsOf.{IsCommandOf}
-use Rattle.device_run.specs.Running.{turns_of, PerformsSteps, DidSteps}
+use Rattle.device_run.specs.Running.{turns_of, WithinSteps, DidSteps}
 use Rattle.device_run.proofs.Counting.{commits_by}
-use Rattle.device_run.proofs.Commanding.{own_running, steps_of_run, steps_of_turn, steps_of_restart, steps_of_single, single_of, performs_command, did_command, one_counts, restart_counts, run_no_restart, turn_no_restart, single_no_restart}
+use Rattle.device_run.proofs.Commanding.{own_running, steps_of_run, steps_of_turn, steps_of_restart, steps_of_single, single_of, command_within, did_command, one_counts, restart_counts, run_no_restart, turn_no_restart, single_no_restart}
 use Rattle.kd_base.specs.ToolsLaws.{error_same}
-use Rattle.device_run.proofs.Errors.{err_is_no_value, no_error, on_err, on_err_weaker}
+use Rattle.device_run.proofs.Errors.{err_is_no_value, on_err, on_err_weaker}
+use Rattle.device_acts.specs.ErrorsLaws.{no_error, other_error}
 use Rattle.device_run.proofs.steps.do_command.Goals as goal
 
 pub run_turns-requires-clause-running : goal.run_turns-requires-clause-running
@@ -18,8 +19,8 @@ run_turns-requires-clause-running g c = own_running c.args.fingerprint.now c.arg
 pub run_turns-requires-clause-steps : goal.run_turns-requires-clause-steps
 run_turns-requires-clause-steps g c = let e = ap turns_of c.in-Run.is in omega (arith, e, c.requires.steps)
 
-pub run_turns-requires-clause-room : goal.run_turns-requires-clause-room
-run_turns-requires-clause-room g c = subst (λ (l : List ScriptStep). c.args.commits.now + commits_by l ≤ 10 ^ 18) (steps_of_run c.args.core.application c.args.core.state c.args.command.now c.in-Run.turns c.in-Run.is) c.requires.room
+pub run_turns-requires-clause-bounded : goal.run_turns-requires-clause-bounded
+run_turns-requires-clause-bounded g c = subst (λ (l : List ScriptStep). c.args.commits.now + commits_by l ≤ 10 ^ 18) (steps_of_run c.args.core.application c.args.core.state c.args.command.now c.in-Run.turns c.in-Run.is) c.requires.bounded
 
 pub run_turns-requires-clause-kept : goal.run_turns-requires-clause-kept
 run_turns-requires-clause-kept g c = c.requires.kept
@@ -33,8 +34,8 @@ do_turn-requires-clause-task g c = subst (λ (x : Command). IsCommandOf c.args.c
 pub do_turn-requires-clause-steps : goal.do_turn-requires-clause-steps
 do_turn-requires-clause-steps g c = let e = ap turns_of c.in-Turn.is in omega (arith, e, c.requires.steps)
 
-pub do_turn-requires-clause-room : goal.do_turn-requires-clause-room
-do_turn-requires-clause-room g c = subst (λ n. c.args.commits.now + n ≤ 10 ^ 18) (one_counts c.args.core.application c.args.core.state c.args.command.now (turned_step (turn_of c.args.core.application c.args.core.state c.in-Turn.task)) (steps_of_turn c.args.core.application c.args.core.state c.args.command.now c.in-Turn.task c.in-Turn.is)) c.requires.room
+pub do_turn-requires-clause-bounded : goal.do_turn-requires-clause-bounded
+do_turn-requires-clause-bounded g c = subst (λ n. c.args.commits.now + n ≤ 10 ^ 18) (one_counts c.args.core.application c.args.core.state c.args.command.now (turned_step (turn_of c.args.core.application c.args.core.state c.in-Turn.task)) (steps_of_turn c.args.core.application c.args.core.state c.args.command.now c.in-Turn.task c.in-Turn.is)) c.requires.bounded
 
 pub do_turn-requires-clause-kept : goal.do_turn-requires-clause-kept
 do_turn-requires-clause-kept g c = c.requires.kept
@@ -57,14 +58,14 @@ do_single-requires-clause-names g c = c.requires.names
 pub do_single-requires-clause-steps : goal.do_single-requires-clause-steps
 do_single-requires-clause-steps g c = let e = (single_of c.args.command.now c.in-Input.is).1 in omega (arith, e, c.requires.steps)
 
-pub do_single-requires-clause-room : goal.do_single-requires-clause-room
-do_single-requires-clause-room g c = subst (λ n. c.args.commits.now + n ≤ 10 ^ 18) (one_counts c.args.core.application c.args.core.state c.args.command.now (command_of c.args.core.application c.args.core.state c.args.command.now) (steps_of_single c.args.core.application c.args.core.state c.args.command.now (single_of c.args.command.now c.in-Input.is).0)) c.requires.room
+pub do_single-requires-clause-bounded : goal.do_single-requires-clause-bounded
+do_single-requires-clause-bounded g c = subst (λ n. c.args.commits.now + n ≤ 10 ^ 18) (one_counts c.args.core.application c.args.core.state c.args.command.now (command_of c.args.core.application c.args.core.state c.args.command.now) (steps_of_single c.args.core.application c.args.core.state c.args.command.now (single_of c.args.command.now c.in-Input.is).0)) c.requires.bounded
 
 pub do_single-requires-clause-kept : goal.do_single-requires-clause-kept
 do_single-requires-clause-kept g c = c.requires.kept
 
 pub returns-in-Run-clause-any : goal.returns-in-Run-clause-any
-returns-in-Run-clause-any g c = performs_command c.args.fingerprint.now c.args.core c.args.store.now c.requires.running c.args.command.now (rotated c.args.core.application c.in-Run.turns false c.args.core.state 1 0) (steps_of_run c.args.core.application c.args.core.state c.args.command.now c.in-Run.turns c.in-Run.is) (g.D.Device.state c.args.device.now) (g.D.Device.state c.run_turns.new.device) (g.D.Device.leaves c.args.device.now) (g.D.Device.leaves c.run_turns.new.device) c.run_turns.ensures.any
+returns-in-Run-clause-any g c = command_within c.args.fingerprint.now c.args.core c.args.store.now c.requires.running c.args.command.now (rotated c.args.core.application c.in-Run.turns false c.args.core.state 1 0) (steps_of_run c.args.core.application c.args.core.state c.args.command.now c.in-Run.turns c.in-Run.is) (g.D.Device.state c.args.device.now) (g.D.Device.state c.run_turns.new.device) (g.D.Device.leaves c.args.device.now) (g.D.Device.leaves c.run_turns.new.device) c.run_turns.ensures.any
 
 pub returns-in-Run-clause-done : goal.returns-in-Run-clause-done
 returns-in-Run-clause-done g c = IfOk-weaker c.run_turns.result _ _ (λ next h. did_command c.args.fingerprint.now c.args.core c.args.store.now c.requires.running c.args.command.now (rotated c.args.core.application c.in-Run.turns false c.args.core.state 1 0) (steps_of_run c.args.core.application c.args.core.state c.args.command.now c.in-Run.turns c.in-Run.is) (g.D.Device.state c.args.device.now) (g.D.Device.state c.run_turns.new.device) (g.D.Device.leaves c.run_turns.new.device) next c.run_turns.new.store h) c.run_turns.ensures.done
@@ -85,10 +86,10 @@ pub returns-in-Run-clause-counted : goal.returns-in-Run-clause-counted
 returns-in-Run-clause-counted g c = on_ok_weaker c.run_turns.result (λ h. h ∙ ap (λ (l : List ScriptStep). c.args.commits.now + commits_by l) (sym (steps_of_run c.args.core.application c.args.core.state c.args.command.now c.in-Run.turns c.in-Run.is))) c.run_turns.ensures.counted
 
 pub returns-in_err-next-in-Turn-clause-any : goal.returns-in_err-next-in-Turn-clause-any
-returns-in_err-next-in-Turn-clause-any g c = performs_command c.args.fingerprint.now c.args.core c.args.store.now c.requires.running c.args.command.now (turned_step (turn_of c.args.core.application c.args.core.state c.in-Turn.task) ∷ []) (steps_of_turn c.args.core.application c.args.core.state c.args.command.now c.in-Turn.task c.in-Turn.is) (g.D.Device.state c.args.device.now) (g.D.Device.state c.do_turn.new.device) (g.D.Device.leaves c.args.device.now) (g.D.Device.leaves c.do_turn.new.device) c.do_turn.ensures.any
+returns-in_err-next-in-Turn-clause-any g c = command_within c.args.fingerprint.now c.args.core c.args.store.now c.requires.running c.args.command.now (turned_step (turn_of c.args.core.application c.args.core.state c.in-Turn.task) ∷ []) (steps_of_turn c.args.core.application c.args.core.state c.args.command.now c.in-Turn.task c.in-Turn.is) (g.D.Device.state c.args.device.now) (g.D.Device.state c.do_turn.new.device) (g.D.Device.leaves c.args.device.now) (g.D.Device.leaves c.do_turn.new.device) c.do_turn.ensures.any
 
 pub returns-in_ok-next-in-Turn-clause-any : goal.returns-in_ok-next-in-Turn-clause-any
-returns-in_ok-next-in-Turn-clause-any g c = performs_command c.args.fingerprint.now c.args.core c.args.store.now c.requires.running c.args.command.now (turned_step (turn_of c.args.core.application c.args.core.state c.in-Turn.task) ∷ []) (steps_of_turn c.args.core.application c.args.core.state c.args.command.now c.in-Turn.task c.in-Turn.is) (g.D.Device.state c.args.device.now) (g.D.Device.state c.do_turn.new.device) (g.D.Device.leaves c.args.device.now) (g.D.Device.leaves c.do_turn.new.device) c.do_turn.ensures.any
+returns-in_ok-next-in-Turn-clause-any g c = command_within c.args.fingerprint.now c.args.core c.args.store.now c.requires.running c.args.command.now (turned_step (turn_of c.args.core.application c.args.core.state c.in-Turn.task) ∷ []) (steps_of_turn c.args.core.application c.args.core.state c.args.command.now c.in-Turn.task c.in-Turn.is) (g.D.Device.state c.args.device.now) (g.D.Device.state c.do_turn.new.device) (g.D.Device.leaves c.args.device.now) (g.D.Device.leaves c.do_turn.new.device) c.do_turn.ensures.any
 
 pub returns-in_ok-next-in-Turn-clause-done : goal.returns-in_ok-next-in-Turn-clause-done
 returns-in_ok-next-in-Turn-clause-done g c = did_command c.args.fingerprint.now c.args.core c.args.store.now c.requires.running c.args.command.now (turned_step (turn_of c.args.core.application c.args.core.state c.in-Turn.task) ∷ []) (steps_of_turn c.args.core.application c.args.core.state c.args.command.now c.in-Turn.task c.in-Turn.is) (g.D.Device.state c.args.device.now) (g.D.Device.state c.do_turn.new.device) (g.D.Device.leaves c.do_turn.new.device) c.in_ok-next-in-Turn.next c.do_turn.new.store c.in_ok-next-in-Turn.ensures.done
@@ -127,7 +128,7 @@ pub returns-in_err-next-in-Turn-clause-other : goal.returns-in_err-next-in-Turn-
 returns-in_err-next-in-Turn-clause-other g c = λ stored is told. c.in_err-next-in-Turn.ensures.other stored (error_same _ _ c.from_residual.result c.in_err-next-in-Turn.field-0.0 _ c.from_residual.ensures.1 is)
 
 pub returns-in-Restart-clause-any : goal.returns-in-Restart-clause-any
-returns-in-Restart-clause-any g c = subst (λ (l : List ScriptStep). PerformsSteps c.args.fingerprint.now c.args.core l (g.D.Device.state c.args.device.now) (g.D.Device.state c.restart.new.device) (g.D.Device.leaves c.args.device.now) (g.D.Device.leaves c.restart.new.device)) (sym (steps_of_restart c.args.core.application c.args.core.state c.args.command.now c.in-Restart.is)) c.restart.ensures.any
+returns-in-Restart-clause-any g c = subst (λ (l : List ScriptStep). WithinSteps c.args.fingerprint.now c.args.core l (g.D.Device.state c.args.device.now) (g.D.Device.state c.restart.new.device) (g.D.Device.leaves c.args.device.now) (g.D.Device.leaves c.restart.new.device)) (sym (steps_of_restart c.args.core.application c.args.core.state c.args.command.now c.in-Restart.is)) c.restart.ensures.any
 
 pub returns-in-Restart-clause-done : goal.returns-in-Restart-clause-done
 returns-in-Restart-clause-done g c = IfOk-weaker c.restart.result _ _ (λ next h. subst (λ (l : List ScriptStep). DidSteps c.args.fingerprint.now c.args.core l next c.restart.new.store (g.D.Device.state c.args.device.now) (g.D.Device.state c.restart.new.device) (g.D.Device.leaves c.restart.new.device)) (sym (steps_of_restart c.args.core.application c.args.core.state c.args.command.now c.in-Restart.is)) h) c.restart.ensures.done
@@ -148,7 +149,7 @@ pub returns-in-Restart-clause-other : goal.returns-in-Restart-clause-other
 returns-in-Restart-clause-other g c = c.restart.ensures.other
 
 pub returns-in-Input-clause-any : goal.returns-in-Input-clause-any
-returns-in-Input-clause-any g c = performs_command c.args.fingerprint.now c.args.core c.args.store.now c.requires.running c.args.command.now (command_of c.args.core.application c.args.core.state c.args.command.now ∷ []) (steps_of_single c.args.core.application c.args.core.state c.args.command.now (single_of c.args.command.now c.in-Input.is).0) (g.D.Device.state c.args.device.now) (g.D.Device.state c.do_single.new.device) (g.D.Device.leaves c.args.device.now) (g.D.Device.leaves c.do_single.new.device) c.do_single.ensures.any
+returns-in-Input-clause-any g c = command_within c.args.fingerprint.now c.args.core c.args.store.now c.requires.running c.args.command.now (command_of c.args.core.application c.args.core.state c.args.command.now ∷ []) (steps_of_single c.args.core.application c.args.core.state c.args.command.now (single_of c.args.command.now c.in-Input.is).0) (g.D.Device.state c.args.device.now) (g.D.Device.state c.do_single.new.device) (g.D.Device.leaves c.args.device.now) (g.D.Device.leaves c.do_single.new.device) c.do_single.ensures.any
 
 pub returns-in-Input-clause-done : goal.returns-in-Input-clause-done
 returns-in-Input-clause-done g c = IfOk-weaker c.do_single.result _ _ (λ next h. did_command c.args.fingerprint.now c.args.core c.args.store.now c.requires.running c.args.command.now (command_of c.args.core.application c.args.core.state c.args.command.now ∷ []) (steps_of_single c.args.core.application c.args.core.state c.args.command.now (single_of c.args.command.now c.in-Input.is).0) (g.D.Device.state c.args.device.now) (g.D.Device.state c.do_single.new.device) (g.D.Device.leaves c.do_single.new.device) next c.do_single.new.store h) c.do_single.ensures.done
@@ -179,3 +180,18 @@ returns-in-Restart-clause-unsaid g c = on_err_weaker c.restart.result (λ h rest
 
 pub returns-in-Input-clause-unsaid : goal.returns-in-Input-clause-unsaid
 returns-in-Input-clause-unsaid g c = on_err c.do_single.result (λ restart told. absurd (single_no_restart c.args.command.now (single_of c.args.command.now c.in-Input.is).0 restart))
+
+pub returns-in-Run-clause-fine : goal.returns-in-Run-clause-fine
+returns-in-Run-clause-fine g c = c.run_turns.ensures.fine
+
+pub returns-in_err-next-in-Turn-clause-fine : goal.returns-in_err-next-in-Turn-clause-fine
+returns-in_err-next-in-Turn-clause-fine g c = λ none. c.in_err-next-in-Turn.ensures.fine (other_error _ _ c.from_residual.result c.in_err-next-in-Turn.field-0.0 _ c.from_residual.ensures.1 none)
+
+pub returns-in_ok-next-in-Turn-clause-fine : goal.returns-in_ok-next-in-Turn-clause-fine
+returns-in_ok-next-in-Turn-clause-fine g c = λ none. c.in_ok-next-in-Turn.ensures.done.acts.faults
+
+pub returns-in-Restart-clause-fine : goal.returns-in-Restart-clause-fine
+returns-in-Restart-clause-fine g c = c.restart.ensures.fine
+
+pub returns-in-Input-clause-fine : goal.returns-in-Input-clause-fine
+returns-in-Input-clause-fine g c = c.do_single.ensures.fine

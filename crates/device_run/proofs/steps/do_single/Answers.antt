@@ -3,31 +3,31 @@ use Rattle.kdcs_types.specs.declared.act.Act.{Act}
 use Rattle.abstract_monitor.specs.Trace.{tables_after}
 use Rattle.abstract_monitor.specs.Commands.{acts_of, command_of}
 use Rattle.warm_start.specs.Stands.{StandsForTables}
-use Rattle.device_run.specs.HandedOnLaws.{act_failed, act_refuses_nothing, act_knows_no_other}
+use Rattle.device_run.specs.HandedOnLaws.{act_failed, act_not_failed, act_refuses_nothing, act_knows_no_other}
 use Rattle.laws_of_steps.specs.Cut.{commits_in}
 use Rattle.device_run.specs.Running.{identity_of, durable_of}
-use Rattle.device_acts.specs.ActingLaws.{performs_none}
-use Rattle.device_run.proofs.Stepping.{can_perform, performs_step, did_step}
+use Rattle.device_acts.specs.ActingLaws.{none_within}
+use Rattle.device_run.proofs.Stepping.{can_act, step_within, did_step}
 use Rattle.device_run.proofs.Storables.{command_can}
 use Rattle.device_run.proofs.Tables.{tables_go}
 use Rattle.device_run.proofs.steps.do_single.Goals as goal
 
 pub do_acts-requires-clause-can : goal.do_acts-requires-clause-can
 do_acts-requires-clause-can g c =
-    can_perform c.args.store.now.identity.fingerprint c.args.core c.args.store.now (command_of c.args.core.application c.args.core.state c.args.command.now) c.as_slice-acts.result.now (command_can c.args.store.now.identity.fingerprint c.args.core c.args.store.now c.requires.running c.as_slice-acts.result.now c.acts_are_named.ensures.named c.steps_can_be_stored.ensures.commands c.args.command.now c.requires.names (c.as_slice-acts.ensures ∙ c.in_ok-next.ensures.exact.acts))
+    can_act c.args.store.now.identity.fingerprint c.args.core c.args.store.now (command_of c.args.core.application c.args.core.state c.args.command.now) c.as_slice-acts.result.now (command_can c.args.store.now.identity.fingerprint c.args.core c.args.store.now c.requires.running c.as_slice-acts.result.now c.acts_are_named.ensures.named c.steps_can_be_stored.ensures.commands c.args.command.now c.requires.names (c.as_slice-acts.ensures ∙ c.in_ok-next.ensures.exact.acts))
 
 pub returns-in_err-next-clause-any : goal.returns-in_err-next-clause-any
 returns-in_err-next-clause-any g c =
-    performs_none tables_after tables_go (StandsForTables (identity_of c.args.store.now.identity.fingerprint c.args.core)) (durable_of c.args.core) (acts_of ((command_of c.args.core.application c.args.core.state c.args.command.now) ∷ [])) (g.D.Device.state c.args.device.now) (g.D.Device.leaves c.args.device.now)
+    none_within tables_after tables_go (StandsForTables (identity_of c.args.store.now.identity.fingerprint c.args.core)) (durable_of c.args.core) (acts_of ((command_of c.args.core.application c.args.core.state c.args.command.now) ∷ [])) (g.D.Device.state c.args.device.now) (g.D.Device.leaves c.args.device.now)
 
 pub returns-in_err-do_acts-clause-any : goal.returns-in_err-do_acts-clause-any
 returns-in_err-do_acts-clause-any g c =
-    performs_step c.args.store.now.identity.fingerprint c.args.core c.args.store.now (command_of c.args.core.application c.args.core.state c.args.command.now) c.as_slice-acts.result.now (command_can c.args.store.now.identity.fingerprint c.args.core c.args.store.now c.requires.running c.as_slice-acts.result.now c.acts_are_named.ensures.named c.steps_can_be_stored.ensures.commands c.args.command.now c.requires.names (c.as_slice-acts.ensures ∙ c.in_ok-next.ensures.exact.acts))
+    step_within c.args.store.now.identity.fingerprint c.args.core c.args.store.now (command_of c.args.core.application c.args.core.state c.args.command.now) c.as_slice-acts.result.now (command_can c.args.store.now.identity.fingerprint c.args.core c.args.store.now c.requires.running c.as_slice-acts.result.now c.acts_are_named.ensures.named c.steps_can_be_stored.ensures.commands c.args.command.now c.requires.names (c.as_slice-acts.ensures ∙ c.in_ok-next.ensures.exact.acts))
     (g.D.Device.state c.args.device.now) (g.D.Device.state c.do_acts.new.device) (g.D.Device.leaves c.args.device.now) (g.D.Device.leaves c.do_acts.new.device) c.do_acts.ensures.any
 
 pub returns-clause-any : goal.returns-clause-any
 returns-clause-any g c =
-    performs_step c.args.store.now.identity.fingerprint c.args.core c.args.store.now (command_of c.args.core.application c.args.core.state c.args.command.now) c.as_slice-acts.result.now (command_can c.args.store.now.identity.fingerprint c.args.core c.args.store.now c.requires.running c.as_slice-acts.result.now c.acts_are_named.ensures.named c.steps_can_be_stored.ensures.commands c.args.command.now c.requires.names (c.as_slice-acts.ensures ∙ c.in_ok-next.ensures.exact.acts))
+    step_within c.args.store.now.identity.fingerprint c.args.core c.args.store.now (command_of c.args.core.application c.args.core.state c.args.command.now) c.as_slice-acts.result.now (command_can c.args.store.now.identity.fingerprint c.args.core c.args.store.now c.requires.running c.as_slice-acts.result.now c.acts_are_named.ensures.named c.steps_can_be_stored.ensures.commands c.args.command.now c.requires.names (c.as_slice-acts.ensures ∙ c.in_ok-next.ensures.exact.acts))
     (g.D.Device.state c.args.device.now) (g.D.Device.state c.do_acts.new.device) (g.D.Device.leaves c.args.device.now) (g.D.Device.leaves c.do_acts.new.device) c.do_acts.ensures.any
 
 pub returns-clause-done : goal.returns-clause-done
@@ -37,7 +37,7 @@ returns-clause-done g c =
     c.in_ok-next.ensures.one.application c.in_ok-next.ensures.facts c.in_ok-next.ensures.exact.state c.do_acts.ensures.identity c.in_ok-do_acts.ensures.content c.in_ok-do_acts.ensures.done
 
 pub count_commits-requires : goal.count_commits-requires
-count_commits-requires g c = subst (λ (l : List Act). c.args.commits.now + commits_in l ≤ 10 ^ 18) (sym (c.as_slice-acts.ensures ∙ c.in_ok-next.ensures.exact.acts)) c.requires.room
+count_commits-requires g c = subst (λ (l : List Act). c.args.commits.now + commits_in l ≤ 10 ^ 18) (sym (c.as_slice-acts.ensures ∙ c.in_ok-next.ensures.exact.acts)) c.requires.bounded
 
 pub returns-clause-counted : goal.returns-clause-counted
 returns-clause-counted g c = c.count_commits.ensures ∙ ap (λ (l : List Act). c.args.commits.now + commits_in l) (c.as_slice-acts.ensures ∙ c.in_ok-next.ensures.exact.acts)
@@ -50,3 +50,6 @@ returns-in_err-do_acts-clause-refused g c = λ is. act_refuses_nothing _ c.from_
 
 pub returns-in_err-do_acts-clause-other : goal.returns-in_err-do_acts-clause-other
 returns-in_err-do_acts-clause-other g c = λ stored is. act_knows_no_other _ c.from_residual-in_err-do_acts.result c.in_err-do_acts.field-0.0 stored c.from_residual-in_err-do_acts.ensures.1 is
+
+pub returns-in_err-do_acts-clause-fine : goal.returns-in_err-do_acts-clause-fine
+returns-in_err-do_acts-clause-fine g c = λ none. c.in_err-do_acts.ensures.fine (act_not_failed _ _ c.from_residual-in_err-do_acts.result c.in_err-do_acts.field-0.0 c.from_residual-in_err-do_acts.ensures.1 none)

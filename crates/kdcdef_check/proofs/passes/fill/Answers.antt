@@ -32,7 +32,7 @@ loop-statement-preserved c =
       first = rw c.earlier-first.ensures (next_first ss (OwnFault ss) i s c.loop-statement.first c.own_fault.result within is was.first (rw fault (own_first ss i s)));
     }
 
--- behind the last statement all are taken
+-- after the last statement all are taken
 at_end : (c : goal.After-loop-statement) → take c.loop-statement.statement-index c.args.statements.now ≡ c.args.statements.now
 at_end c = take_all c.loop-statement.statement-index c.args.statements.now (omega (arith, c.loop-statement-test.false))
 

@@ -28,7 +28,7 @@ pub loop-body-init : goal.loop-body-init
 loop-body-init c = record {
   so_far = ap (λ (text : List ℕ). groups (Some (c.args.number, text)) c.args.number (c.args.line.now ∷ lines c.args.rest.now)) c.new-text.ensures
       ∙ begins c.args.number c.args.line.now (lines c.args.rest.now) c.requires.begins;
-  room = omega arith;
+  bounded = omega arith;
   shorter = omega arith;
 }
 
@@ -44,7 +44,7 @@ loop-body-preserved c = record {
   so_far = ap (groups (Some (c.args.number, c.append.new.self)) (c.loop-body.last + 1)) (sym c.next_line.ensures.lines)
       ∙ sym (goes_on c.args.number c.loop-body.last c.loop-body.text c.loop-body.line.now c.in-Some.body.now c.append.new.self (lines c.loop-body.rest.now) (sym c.in-Some.ensures) c.in_ok-append.ensures.ok)
       ∙ c.loop-body.invariant.so_far;
-  room = omega (arith, c.next_line.ensures.shorter, c.loop-body.invariant.room);
+  bounded = omega (arith, c.next_line.ensures.shorter, c.loop-body.invariant.bounded);
   shorter = omega (arith, c.next_line.ensures.shorter, c.loop-body.invariant.shorter);
 }
 

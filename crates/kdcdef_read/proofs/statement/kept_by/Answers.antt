@@ -13,5 +13,5 @@ returns-in-Ok c =
     c.in-Ok.ensures
     ∙ ap (λ (taken : List Bool). read_operands c.args.keyword taken c.as_slice.result.now) c.for_max-before.ensures
     ∙ ap (λ (os : List RawOperand). read_operands c.args.keyword (for_max c.args.keyword c.args.taken no_keys) os) c.as_slice.ensures in
-    let P : Result Given Cause → Type 0 = λ x. Gives c.given_by.result (given_by c.args.keyword c.args.taken c.args.raw.now.line x) in
+    let P : Result Given Cause → Type 0 = λ x. Gives c.given_by.result (given_by c.args.keyword c.args.taken c.args.raw.now.line c.args.raw.now.operands x) in
     subst P read c.given_by.ensures

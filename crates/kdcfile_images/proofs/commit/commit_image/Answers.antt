@@ -19,7 +19,7 @@ pub returns-in_err-replace-clause-any_moment : goal.returns-in_err-replace-claus
 returns-in_err-replace-clause-any_moment g c = λ told x y old new.
     let told_r : IsTrue (g.D.Device.state c.reserve.new.self).told = rw c.reserve.ensures.frame.told told in
     any_moment c.args.image.now c.args.body.now c.args.root.now _ _ _ _ _ _ (c.reserve.ensures.content told) c.unselected-at.result c.as_slice.result.now c.unselected-at.ensures
-    (c.as_slice.ensures ∙ c.in_ok-bytes.ensures.bytes) (rw c.as_slice.ensures c.in_ok-bytes.ensures.length) c.requires.inside (c.replace.ensures.any_moment told_r) (c.requires.settled told) x y old new
+    (c.as_slice.ensures ∙ c.in_ok-bytes.ensures.bytes) (rw c.as_slice.ensures c.in_ok-bytes.ensures.length) c.requires.inside (c.replace.ensures.any_moment told_r) (c.requires.at_rest told) x y old new
 
 pub returns-clause-sent : goal.returns-clause-sent
 returns-clause-sent g c = λ told.
@@ -31,4 +31,4 @@ pub returns-clause-any_moment : goal.returns-clause-any_moment
 returns-clause-any_moment g c = λ told x y old new.
     let told_r : IsTrue (g.D.Device.state c.reserve.new.self).told = rw c.reserve.ensures.frame.told told in
     any_moment c.args.image.now c.args.body.now c.args.root.now _ _ _ _ _ _ (c.reserve.ensures.content told) c.unselected-at.result c.as_slice.result.now c.unselected-at.ensures
-    (c.as_slice.ensures ∙ c.in_ok-bytes.ensures.bytes) (rw c.as_slice.ensures c.in_ok-bytes.ensures.length) c.requires.inside (c.replace.ensures.any_moment told_r) (c.requires.settled told) x y old new
+    (c.as_slice.ensures ∙ c.in_ok-bytes.ensures.bytes) (rw c.as_slice.ensures c.in_ok-bytes.ensures.length) c.requires.inside (c.replace.ensures.any_moment told_r) (c.requires.at_rest told) x y old new

@@ -7,11 +7,11 @@ use Rattle.kdcfile_images.proofs.commit.replace.Goals as goal
 pub returns-in_err-write_image-clause-any_moment : goal.returns-in_err-write_image-clause-any_moment
 returns-in_err-write_image-clause-any_moment g c = λ told upto within inside. replaces_first c.args.at upto _ _ _ _ _ _ (c.write_image.ensures.any_moment told upto within inside)
 
-pub write_synced-requires-clause-settled : goal.write_synced-requires-clause-settled
-write_synced-requires-clause-settled g c = λ told_b.
+pub write_synced-requires-clause-at_rest : goal.write_synced-requires-clause-at_rest
+write_synced-requires-clause-at_rest g c = λ told_b.
     let told : IsTrue (g.D.Device.state c.args.device.now).told = rw (← c.write_image.ensures.frame.told) told_b in
     let synced = c.in_ok-write_image.ensures.ok told in
-    λ e left. synced.settled e left ∙ sym synced.holds
+    λ e left. synced.at_rest e left ∙ sym synced.holds
 
 pub returns-clause-any_moment : goal.returns-clause-any_moment
 returns-clause-any_moment g c = λ told upto within inside.

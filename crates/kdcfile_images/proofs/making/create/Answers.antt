@@ -5,12 +5,12 @@ use Rattle.kdcfile_images.proofs.making.create.Goals as goal
 
 pub returns-in_err-write_file-clause-any_moment : goal.returns-in_err-write_file-clause-any_moment
 returns-in_err-write_file-clause-any_moment g c = λ told.
-    in_making (record { blksize = c.args.blksize; pages = c.args.pgpool; fingerprint = c.args.fingerprint.now }) c.requires.identity c.deref.result.now (c.deref.ensures.value ∙ c.in_ok-draft.ensures.rest) _ _ _ _ _ _ (c.requires.empty told) (c.requires.settled told) (c.reserve.ensures.content told)
+    in_making (record { blksize = c.args.blksize; pages = c.args.pgpool; fingerprint = c.args.fingerprint.now }) c.requires.identity c.deref.result.now (c.deref.ensures.value ∙ c.in_ok-draft.ensures.rest) _ _ _ _ _ _ (c.requires.empty told) (c.requires.at_rest told) (c.reserve.ensures.content told)
     (c.write_file.ensures.any_moment (rw c.reserve.ensures.frame.told told))
 
 pub returns-clause-any_moment : goal.returns-clause-any_moment
 returns-clause-any_moment g c = λ told.
-    in_making (record { blksize = c.args.blksize; pages = c.args.pgpool; fingerprint = c.args.fingerprint.now }) c.requires.identity c.deref.result.now (c.deref.ensures.value ∙ c.in_ok-draft.ensures.rest) _ _ _ _ _ _ (c.requires.empty told) (c.requires.settled told) (c.reserve.ensures.content told)
+    in_making (record { blksize = c.args.blksize; pages = c.args.pgpool; fingerprint = c.args.fingerprint.now }) c.requires.identity c.deref.result.now (c.deref.ensures.value ∙ c.in_ok-draft.ensures.rest) _ _ _ _ _ _ (c.requires.empty told) (c.requires.at_rest told) (c.reserve.ensures.content told)
     (c.write_file.ensures.any_moment (rw c.reserve.ensures.frame.told told))
 
 pub returns-clause-stands : goal.returns-clause-stands

@@ -1,7 +1,7 @@
 use Rattle.open_transaction.specs.Transactions.{transaction_of}
 use Rattle.kdcs_calls.proofs.CallHolders.{first_performed, later_performed, still_holds}
 use Rattle.kdcs_calls.proofs.CallWaits.{first_waits, later_waited}
-use Rattle.kdcs_calls.specs.HoldingLaws.{follow_holds}
+use Rattle.kdcs_calls.specs.HoldingLaws.{match_holds}
 use Rattle.kdcs_calls.proofs.calls.perform.Goals as goal
 
 pub returns-then-not-open_work-clause-holders : goal.returns-then-not-open_work-clause-holders
@@ -10,7 +10,7 @@ returns-then-not-open_work-clause-holders c =
 
 pub returns-then-not-open_work-clause-holds : goal.returns-then-not-open_work-clause-holds
 returns-then-not-open_work-clause-holds c =
-    follow_holds c.args.locks.now c.args.locks.now c.args.open_work.now.id (transaction_of c.first_call.new.transaction)
+    match_holds c.args.locks.now c.args.locks.now c.args.open_work.now.id (transaction_of c.first_call.new.transaction)
     (first_performed c.args.generation.now c.args.tables.now c.args.locks.now c.args.open_work.now.id (transaction_of c.args.open_work.now) c.requires.holds c.args.call.now _ _ c.first_call.ensures.exact)
 
 pub returns-clause-holders : goal.returns-clause-holders

@@ -2,7 +2,7 @@ use Rattle.std.proofs.Common.{ap, subst, ◌∙◌}
 use Rattle.std.proofs.lemmas.Result.{IfOk-weaker}
 use Rattle.service_ends.specs.Ending.{turned_to}
 use Rattle.core_state.specs.Standing.{state_of}
-use Rattle.monitor_core.specs.WholeLaws.{Exact, StateThen, breaks, breaks_works, holds_it, queued_there, queues, returns, returns_works, settles, settles_works, task_then, waited, went}
+use Rattle.monitor_core.specs.WholeLaws.{Exact, StateThen, breaks, breaks_serves, holds_it, queued_there, queues, returns, returns_serves, settles, settles_serves, task_then, waited, went}
 use Rattle.monitor_core.proofs.turning.serve.Goals as goal
 
 pub queue-requires-clause-task : goal.queue-requires-clause-task
@@ -21,7 +21,7 @@ hold-requires-clause-task c =
 pub settle-requires : goal.settle-requires
 settle-requires c =
     record {
-      works = settles_works c.args.parts.now c.args.task c.args.id.now c.requires.whole c.requires.held c.next_statement.new.parts c.in_ok-next_statement.ensures.generation c.in_ok-next_statement.ensures.units c.in-Settles.outcome
+      serves = settles_serves c.args.parts.now c.args.task c.args.id.now c.requires.whole c.requires.held c.next_statement.new.parts c.in_ok-next_statement.ensures.generation c.in_ok-next_statement.ensures.units c.in-Settles.outcome
           (subst (StateThen c.args.parts.now c.args.task c.args.id.now c.requires.whole c.requires.held c.next_statement.new.parts) c.in-Settles.is c.in_ok-next_statement.ensures.state) c.in_ok-next_statement.ensures.indexed
           (task_then c.args.parts.now c.args.task c.args.id.now c.requires.whole c.requires.held c.next_statement.new.parts c.in_ok-next_statement.field-0 c.in_ok-next_statement.ensures.exact c.in_ok-next_statement.ensures.state c.requires.task);
     }
@@ -29,7 +29,7 @@ settle-requires c =
 pub end-requires : goal.end-requires
 end-requires c =
     record {
-      works = breaks_works c.args.parts.now c.args.task c.args.id.now c.requires.whole c.requires.held c.next_statement.new.parts c.in_ok-next_statement.ensures.generation c.in_ok-next_statement.ensures.units c.in-Breaks.ending
+      serves = breaks_serves c.args.parts.now c.args.task c.args.id.now c.requires.whole c.requires.held c.next_statement.new.parts c.in_ok-next_statement.ensures.generation c.in_ok-next_statement.ensures.units c.in-Breaks.ending
           (subst (StateThen c.args.parts.now c.args.task c.args.id.now c.requires.whole c.requires.held c.next_statement.new.parts) c.in-Breaks.is c.in_ok-next_statement.ensures.state) c.in_ok-next_statement.ensures.indexed
           (task_then c.args.parts.now c.args.task c.args.id.now c.requires.whole c.requires.held c.next_statement.new.parts c.in_ok-next_statement.field-0 c.in_ok-next_statement.ensures.exact c.in_ok-next_statement.ensures.state c.requires.task);
     }
@@ -37,7 +37,7 @@ end-requires c =
 pub go_back-requires : goal.go_back-requires
 go_back-requires c =
     record {
-      works = returns_works c.args.parts.now c.args.task c.args.id.now c.requires.whole c.requires.held c.next_statement.new.parts c.in_ok-next_statement.ensures.generation c.in_ok-next_statement.ensures.units
+      serves = returns_serves c.args.parts.now c.args.task c.args.id.now c.requires.whole c.requires.held c.next_statement.new.parts c.in_ok-next_statement.ensures.generation c.in_ok-next_statement.ensures.units
           (subst (StateThen c.args.parts.now c.args.task c.args.id.now c.requires.whole c.requires.held c.next_statement.new.parts) c.in-Returns.is c.in_ok-next_statement.ensures.state) c.in_ok-next_statement.ensures.indexed
           (task_then c.args.parts.now c.args.task c.args.id.now c.requires.whole c.requires.held c.next_statement.new.parts c.in_ok-next_statement.field-0 c.in_ok-next_statement.ensures.exact c.in_ok-next_statement.ensures.state c.requires.task);
     }

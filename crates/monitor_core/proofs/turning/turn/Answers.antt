@@ -4,7 +4,7 @@ use Rattle.std.proofs.lemmas.Result.{IfOk-weaker}
 use Rattle.service_ends.specs.Ending.{turned_to}
 use Rattle.core_state.specs.Standing.{state_of}
 use Rattle.core_state.specs.Whole.{app_of}
-use Rattle.monitor_core.specs.WholeLaws.{is_task, more_steps, seat_of, turned_free, turned_held, whole_after, whole_worked}
+use Rattle.monitor_core.specs.WholeLaws.{is_task, more_steps, seat_of, turned_free, turned_held, whole_after, whole_served}
 use Rattle.monitor_core.proofs.turning.turn.Goals as goal
 
 pub returns-in_ok-did-in-None-clause-exact : goal.returns-in_ok-did-in-None-clause-exact
@@ -28,6 +28,6 @@ returns-in-Some-clause-exact c =
 
 pub returns-in-Some-clause-whole : goal.returns-in-Some-clause-whole
 returns-in-Some-clause-whole c =
-    whole_worked c.args.parts.now c.serve.new.parts c.args.task c.in-Some.id c.states_stay_consistent.ensures.turns c.states_stay_sound.ensures c.requires.whole c.requires.task
+    whole_served c.args.parts.now c.serve.new.parts c.args.task c.in-Some.id c.states_stay_consistent.ensures.turns c.states_stay_sound.ensures c.requires.whole c.requires.task
     (seat_of c.args.parts.now c.args.task (is_task (app_of c.args.parts.now) (state_of c.args.parts.now) c.args.parts.now c.args.task c.requires.whole.facts.0 c.requires.task refl) (Some c.in-Some.id) c.in-Some.ensures)
     c.serve.result c.serve.ensures.exact c.serve.ensures.indexed c.serve.ensures.generation c.serve.ensures.units

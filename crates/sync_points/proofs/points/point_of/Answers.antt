@@ -40,7 +40,7 @@ module _ (g : Generated) (t : TableRows) (w : OpenTransaction) (o : Outcome) (s 
   abbrev points : Changes
   points = point_changes g t w.id (transaction_of w) o
 
-  -- the changes that were made, with the row behind the point
+  -- the changes that were made, with the row after the point
   made : {changes : Changes} {row : Option Service} → changes ≡ changes_with g t w.id (transaction_of w) row → row ≡ row_after g w.id (transaction_of w) o → changes ≡ points
   made e r = e ∙ ap (changes_with g t w.id (transaction_of w)) r
 

@@ -9,7 +9,7 @@ abbrev pub invariant-loop-rest : goal.invariant-loop-rest
 invariant-loop-rest l = record {
   so_far : read_from l.number (lines l.rest) (state_of l.reading) ≡ read_from 1 (lines l.text) nothing_read;
   kept : AreKept l.reading;
-  room : l.number + length l.rest ≤ 1 + length l.text;
+  bounded : l.number + length l.rest ≤ 1 + length l.text;
   short : length l.text ≤ 16777216;
 }
 

@@ -1,5 +1,5 @@
 use Rattle.std.proofs.Common.{ap, ◌∙◌, subst, Err}
-use Rattle.utm_cli.specs.declared.error.Refusal.{Refusal}
+use Rattle.refusals.specs.declared.error.Refusal.{Refusal}
 use Rattle.utm_cli.specs.Asking.{AskFor}
 use Rattle.utm_cli.proofs.TextsSaid.{application_is, application_one, script_is, script_refused, script_one, script_never_room, asked_one, said_refused, made_fit}
 use Rattle.utm_cli.proofs.Scripts.{few_turns}

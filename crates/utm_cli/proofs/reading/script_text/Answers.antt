@@ -1,7 +1,8 @@
 use Rattle.std.proofs.Common.{◌≡◌, sym, subst}
 use Rattle.kd_device.specs.Room.{text_of}
 use Rattle.utm_cli.specs.declared.words.Word.{Word}
-use Rattle.utm_cli.specs.Asking.{shown_of, ScriptIs}
+use Rattle.refusals.specs.Texts.{shown_of}
+use Rattle.utm_cli.specs.Asking.{ScriptIs}
 use Rattle.utm_cli.specs.Words.{script_name}
 use Rattle.utm_cli.proofs.TextsSaid.{ok_weaker, some_and}
 use Rattle.utm_cli.proofs.reading.script_text.Goals as goal

@@ -1,7 +1,8 @@
 use Rattle.std.proofs.Common.{◌∙◌, ap, subst, inl, inr, List, ℕ, Err}
 use Rattle.std.specs.Prelude.{IsTrue}
 use Rattle.warm_start.specs.declared.error.OpenError.{OpenError}
-use Rattle.utm_cli.specs.Words.{file_name, not_a_kdcfile_line, other_generation_line}
+use Rattle.refusals.specs.Lines.{other_generation_line}
+use Rattle.utm_cli.specs.Words.{file_name, not_a_kdcfile_line}
 use Rattle.device_acts.specs.Said.{SaidPart}
 use Rattle.utm_cli.proofs.ByWord.{not_both, not_of_others, refused_or_other, one_other, may_then}
 use Rattle.utm_cli.proofs.Ran.{said_then, part_then, nothing_said}

@@ -7,13 +7,14 @@ use Rattle.abstract_monitor.specs.Trace.{bytes_of}
 use Rattle.warm_start.specs.Opening.{IsOpening, IsRefused, IsOfOtherTexts}
 use Rattle.utm_cli.specs.Asking.{Errand}
 use Rattle.utm_cli.specs.Doing.{Opens, identity_of, acts_of}
-use Rattle.device_acts.specs.Performing.{commits_nothing}
+use Rattle.device_acts.specs.Acting.{commits_nothing}
 use Rattle.kd_base.specs.ToolsLaws.{error_same}
+use Rattle.device_acts.specs.ErrorsLaws.{no_error, other_error}
 use Rattle.utm_cli.proofs.ByWord.{not_empty, opened_once}
-use Rattle.utm_cli.proofs.Ran.{opening_cut, run_cut, told_then}
+use Rattle.utm_cli.proofs.Ran.{opening_cut, run_cut}
 use Rattle.utm_cli.proofs.run.run_stored.Given.{Over}
 use Rattle.utm_cli.proofs.run.run_stored.Goals as goal
-use Rattle.kd_device.specs.TimeLaws.{rose_either}
+use Rattle.kd_device.specs.TimeLaws.{faults_then, rose_either, told_after}
 
 pub returns-in_err-store-clause-refused : goal.returns-in_err-store-clause-refused
 returns-in_err-store-clause-refused g c = λ is told.
@@ -39,16 +40,16 @@ returns-in_err-store-clause-any_moment g c = λ told only t starts.
 
 -- ---- the file was opened
 
-opens : (g : Over) (c : goal.After-perform g) → IsTrue (g.D.Device.state c.args.device.now).told → Opens c.args.asked (g.D.Device.state c.args.device.now).holds c.in_ok-store.tables
+opens : (g : Over) (c : goal.After-do_errand g) → IsTrue (g.D.Device.state c.args.device.now).told → Opens c.args.asked (g.D.Device.state c.args.device.now).holds c.in_ok-store.tables
 opens g c told = subst (λ (e : Errand). Opens e (g.D.Device.state c.args.device.now).holds c.in_ok-store.tables) c.asked.view_is (c.in_ok-store.ensures.starts told)
 
 pub returns-clause-done : goal.returns-clause-done
-returns-clause-done g c = on_ok_weaker c.perform.result (λ ran told.
-    let done = ran (told_then _ _ c.open.ensures.frame told) in
-    (_, opens g c told, record { sent = done.sent ∙ ap (λ (s : List ℕ). s ++ bytes_of (acts_of c.args.asked c.in_ok-store.tables)) (c.open.ensures.sent told); holds = done.holds; settled = done.settled })) c.perform.ensures.done
+returns-clause-done g c = on_ok_weaker c.do_errand.result (λ ran told.
+    let done = ran (told_after _ _ c.open.ensures.frame told) in
+    (_, opens g c told, record { sent = done.sent ∙ ap (λ (s : List ℕ). s ++ bytes_of (acts_of c.args.asked c.in_ok-store.tables)) (c.open.ensures.sent told); holds = done.holds; at_rest = done.at_rest })) c.do_errand.ensures.done
 
 pub returns-clause-other : goal.returns-clause-other
-returns-clause-other g c = λ stored is told. absurd (c.perform.ensures.other stored is (told_then _ _ c.open.ensures.frame told))
+returns-clause-other g c = λ stored is told. absurd (c.do_errand.ensures.other stored is (told_after _ _ c.open.ensures.frame told))
 
 pub returns-clause-still : goal.returns-clause-still
 returns-clause-still g c = λ told none. absurd (none c.in_ok-store.tables (opens g c told))
@@ -60,15 +61,21 @@ returns-clause-any_moment g c = λ told only t starts.
     let la = g.D.Device.leaves c.args.device.now in
     let lb = g.D.Device.leaves c.open.new.device in
     let first = subst (λ (e : Errand). LeavesOnly a b la lb (IsOpening (identity_of e) a la)) c.asked.view_is (c.open.ensures.any_moment told) in
-    run_cut c.args.asked t a la only starts c.in_ok-store.tables b (g.D.Device.state c.perform.new.device) lb (g.D.Device.leaves c.perform.new.device) (opens g c told) first
-    (c.open.ensures.sent told) (c.perform.ensures.any.any_moment (told_then _ _ c.open.ensures.frame told))
+    run_cut c.args.asked t a la only starts c.in_ok-store.tables b (g.D.Device.state c.do_errand.new.device) lb (g.D.Device.leaves c.do_errand.new.device) (opens g c told) first
+    (c.open.ensures.sent told) (c.do_errand.ensures.any.any_moment (told_after _ _ c.open.ensures.frame told))
 
 pub returns-clause-left : goal.returns-clause-left
 returns-clause-left g c = λ told t starts some lines.
     let same = opened_once c.args.asked _ t _ starts (opens g c told) in
     let rests = c.open.ensures.still told some in
-    let quiet = c.perform.ensures.any.quiet (told_then _ _ c.open.ensures.frame told) (subst (λ (v : TableRows). commits_nothing (acts_of c.args.asked v) ≡ true) same lines) in
+    let quiet = c.do_errand.ensures.any.quiet (told_after _ _ c.open.ensures.frame told) (subst (λ (v : TableRows). commits_nothing (acts_of c.args.asked v) ≡ true) same lines) in
     record { holds = quiet.holds ∙ rests.holds; put = quiet.put ∙ rests.put }
 
 pub returns-clause-failed : goal.returns-clause-failed
-returns-clause-failed g c = λ is. rose_either (g.D.Device.state c.args.device.now) (g.D.Device.state c.open.new.device) (g.D.Device.state c.perform.new.device) c.open.ensures.frame (c.perform.ensures.failed is)
+returns-clause-failed g c = λ is. rose_either (g.D.Device.state c.args.device.now) (g.D.Device.state c.open.new.device) (g.D.Device.state c.do_errand.new.device) c.open.ensures.frame (c.do_errand.ensures.failed is)
+
+pub returns-in_err-store-clause-fine : goal.returns-in_err-store-clause-fine
+returns-in_err-store-clause-fine g c = λ none. c.in_err-store.ensures.fine (other_error _ _ c.from_residual.result c.in_err-store.field-0.0 _ c.from_residual.ensures.1 none)
+
+pub returns-clause-fine : goal.returns-clause-fine
+returns-clause-fine g c = λ none. faults_then _ _ _ (c.in_ok-store.ensures.fine (no_error _ _)) (c.do_errand.ensures.fine none)

@@ -1,18 +1,21 @@
 use Rattle.std.proofs.Common.{◌≡◌, ◌∙◌, ⊎_elim, inl, inr, refl, sym, ap, subst, map, ℕ, List, [], ◌∷◌, Ok, Err}
 use Rattle.std.specs.Prelude.{IsTrue, true}
 use Rattle.std.specs.String.{string_bytes}
-use Rattle.utm_cli.specs.declared.error.Refusal.{Refusal}
-use Rattle.utm_cli.specs.declared.error.TextError.{TextError}
-use Rattle.utm_cli.specs.Words.{request_of, status_of, refusal_line, not_a_kdcfile_line, other_generation_line}
+use Rattle.refusals.specs.declared.error.Refusal.{Refusal}
+use Rattle.refusals.specs.declared.error.TextError.{TextError}
+use Rattle.refusals.specs.Statuses.{status_of}
+use Rattle.refusals.specs.Lines.{refusal_line, other_generation_line}
+use Rattle.utm_cli.specs.Words.{request_of, not_a_kdcfile_line}
 use Rattle.device_acts.specs.Said.{SameDisk, Said, SaidPart}
 use Rattle.utm_cli.specs.Asking.{Reading, AreThere}
 use Rattle.utm_cli.specs.Doing.{Starts, Refuses, IsOfOthers, acts_of}
-use Rattle.device_acts.specs.Performing.{commits_nothing}
+use Rattle.device_acts.specs.Acting.{commits_nothing}
 use Rattle.utm_cli.specs.declared.words.Word.{Word}
-use Rattle.utm_cli.specs.Promise.{IsOneOf, Request, Reads, IsCutOfRun, MakesFile, AttachedBy}
+use Rattle.refusals.specs.Statuses.{IsOneOf}
+use Rattle.utm_cli.specs.Promise.{Request, Reads, IsCutOfRun, MakesFile, AttachedBy}
 use Rattle.utm_cli.proofs.Asking.{reads_of, one_reading, not_missed, misses_of, ok_not, moved, err_not, err_same, cut_at_call, cut_since_call}
 use Rattle.utm_cli.proofs.Ends.{ends}
-use Rattle.utm_cli.proofs.Codes.{line_same, of_run, of_file, of_done, of_refused, not_refused, not_device}
+use Rattle.utm_cli.proofs.Codes.{of_run, of_file, of_done, of_refused, not_refused, not_device}
 use Rattle.utm_cli.proofs.MadeReading.{asked_make, looks_not, not_of_file}
 use Rattle.utm_cli.proofs.top.utm.Given.{Over}
 use Rattle.utm_cli.proofs.top.utm.Goals as goal
@@ -44,13 +47,6 @@ returns-in-Ok-clause-texts_part g c = λ told why said. absurd (ok_not _ _ _ (on
 
 pub returns-in-Ok-clause-texts_names : goal.returns-in-Ok-clause-texts_names
 returns-in-Ok-clause-texts_names g c = λ told why said. absurd (ok_not _ _ _ (one_said g c told) why said)
-
-pub returns-in-Ok-clause-texts_failed : goal.returns-in-Ok-clause-texts_failed
-returns-in-Ok-clause-texts_failed g c = λ told why said. absurd (ok_not _ _ _ (one_said g c told) why said)
-
-pub returns-in-Ok-clause-memory_early : goal.returns-in-Ok-clause-memory_early
-returns-in-Ok-clause-memory_early g c = λ code none.
-    absurd (none.none c.in-Ok.asked (reads_of _ _ _ _ (asked_ok g c) (Ok c.in-Ok.asked) (c.in-Ok.ensures.found none.told)))
 
 pub returns-in-Ok-clause-texts_only : goal.returns-in-Ok-clause-texts_only
 returns-in-Ok-clause-texts_only g c = λ code. absurd (not_refused c.run.result.code c.run.ensures.code code)
@@ -181,15 +177,8 @@ returns-in-Err-Refused-clause-texts_part g c = λ told other said told_device.
     let one = one_refused g c told in
     subst (λ (x : Refusal). SaidPart (refusal_line x) (g.D.Device.state c.args.device.now) (g.D.Device.state c.refuse_texts.new.device)) (c.in-Err-Refused.why-is ∙ sym (err_same _ _ _ one other said)) (c.refuse_texts.ensures.part told_device)
 
-pub returns-in-Err-Refused-clause-memory_room : goal.returns-in-Err-Refused-clause-memory_room
-returns-in-Err-Refused-clause-memory_room g c = λ code. c.in-Err-Refused.ensures.refused_fine c.in-Err-Refused.why (ap (λ (e : TextError). Err e) c.in-Err-Refused.field-0-is)
-
-pub returns-in-Err-Refused-clause-memory_early : goal.returns-in-Err-Refused-clause-memory_early
-returns-in-Err-Refused-clause-memory_early g c = λ code none. record {
-  room = returns-in-Err-Refused-clause-memory_room g c code;
-  disk = c.refuse_texts.ensures.disk;
-  line = line_same c.refuse_texts.result.code (g.D.Device.state c.args.device.now) (g.D.Device.state c.refuse_texts.new.device) c.refuse_texts.ensures.frame c.refuse_texts.ensures.told code;
-}
+pub returns-in-Err-Refused-clause-room_told : goal.returns-in-Err-Refused-clause-room_told
+returns-in-Err-Refused-clause-room_told g c = λ none. c.in-Err-Refused.ensures.refused_fine c.in-Err-Refused.why (ap (λ (e : TextError). Err e) c.in-Err-Refused.field-0-is)
 
 pub returns-in-Err-Refused-clause-file : goal.returns-in-Err-Refused-clause-file
 returns-in-Err-Refused-clause-file g c = λ told told_device f said. absurd (err_not _ _ _ (one_refused g c told) f said)
@@ -274,11 +263,11 @@ returns-in-Err-Memory-clause-ended g c = λ told told_device only f t said start
     let a = g.D.Device.state c.args.device.now in
     ends f t a a (returns-in-Err-Memory-clause-cut g c told told_device only f t said starts a.holds a.sent (g.met.D.Device.holds_now c.args.device.now told_device))
 
-pub returns-in-Err-Memory-clause-memory_room : goal.returns-in-Err-Memory-clause-memory_room
-returns-in-Err-Memory-clause-memory_room g c = λ code. c.in-Err-Memory.ensures.memory (ap (λ (e : TextError). Err e) c.in-Err-Memory.field-0-is)
+pub returns-in-Err-Room-clause-room_told : goal.returns-in-Err-Room-clause-room_told
+returns-in-Err-Room-clause-room_told g c = λ none. absurd (none refl)
 
-pub returns-in-Err-Memory-clause-memory_early : goal.returns-in-Err-Memory-clause-memory_early
-returns-in-Err-Memory-clause-memory_early g c = λ code none. record { room = returns-in-Err-Memory-clause-memory_room g c code; disk = refl; line = refl }
+pub returns-in-Err-Memory-clause-room_told : goal.returns-in-Err-Memory-clause-room_told
+returns-in-Err-Memory-clause-room_told g c = λ none. c.in-Err-Memory.ensures.memory (ap (λ (e : TextError). Err e) c.in-Err-Memory.field-0-is)
 
 -- ---- the laws
 

@@ -9,4 +9,4 @@ pub returns-then-size-eq0-clause-suits : goal.returns-then-size-eq0-clause-suits
 returns-then-size-eq0-clause-suits g c = subst (λ (t : TableRows). Suits c.args.generation.now t) (sym c.empty.ensures) (empty_suit c.args.generation.now)
 
 pub returns-in_ok-tables-clause-rests : goal.returns-in_ok-tables-clause-rests
-returns-in_ok-tables-clause-rests g c = λ told. rests_then _ _ _ _ _ _ (c.settled_size.ensures.rests told) (c.warm.ensures.rests (rw c.settled_size.ensures.frame.told told))
+returns-in_ok-tables-clause-rests g c = λ told. rests_then _ _ _ _ _ _ (c.size_at_rest.ensures.rests told) (c.warm.ensures.rests (rw c.size_at_rest.ensures.frame.told told))

@@ -9,5 +9,5 @@ returns-clause-deadlock c = deadlock_answered c.args.self.now c.args.reswait c.a
 
 pub returns-clause-holders : goal.returns-clause-holders
 returns-clause-holders c a =
-    ap (λ (l : Locks). holder l a) c.in_ok-settle.ensures.locks
+    ap (λ (l : Locks). holder l a) c.in_ok-record_answer.ensures.locks
     ∙ holder_after_is c.answer-answer.result c.args.self.now c.args.now c.args.who c.args.area a

@@ -1,4 +1,4 @@
-use Rattle.core_state.specs.KeptLaws.{closed_indexed, closed_state, found_owned, found_work}
+use Rattle.core_state.specs.KeptLaws.{closed_indexed, closed_state, found_owned, found_transaction}
 use Rattle.core_state.proofs.parts.MonitorParts.close.Goals as goal
 
 pub returns-clause-indexed : goal.returns-clause-indexed
@@ -9,7 +9,7 @@ pub returns-clause-state : goal.returns-clause-state
 returns-clause-state c = closed_state c.args.self.now c.args.id.now _ _ c.mark.new.jobs c.remove-transaction.ensures.left c.free_all.ensures.locks
 
 pub returns-clause-found : goal.returns-clause-found
-returns-clause-found c = found_work c.args.self.now c.args.id.now _ c.remove-transaction.ensures.value
+returns-clause-found c = found_transaction c.args.self.now c.args.id.now _ c.remove-transaction.ensures.value
 
 pub returns-clause-owned : goal.returns-clause-owned
 returns-clause-owned c = found_owned c.args.self.now c.args.id.now _ c.remove-transaction.ensures.value c.requires.indexed

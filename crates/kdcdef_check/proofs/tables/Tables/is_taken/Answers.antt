@@ -15,3 +15,6 @@ returns-in-Tls c = λ g have. rw c.in-Tls.is (c.contains.ensures ∙ have.tls _)
 
 pub returns-in-Uls : goal.returns-in-Uls
 returns-in-Uls c = λ g have. rw c.in-Uls.is (c.contains-in-Uls.ensures ∙ have.uls _)
+
+pub returns-in-Kset : goal.returns-in-Kset
+returns-in-Kset c = λ g have. rw c.in-Kset.is (c.contains_key-in-Kset.ensures ∙ have.ksets _)

@@ -1,0 +1,70 @@
+-- How far some acts are done, over whatever the acts make of one another: contents of records, or tables.
+use Rattle.std.specs.Prelude.{◌≡◌, ◌≤◌, ℕ, Bool, true, false, IsTrue, ⊤, List, [], ◌∷◌, ◌++◌, All}
+use Rattle.std.specs.List.{list_all}
+use Rattle.kd_device.specs.Device.{State, Frame, SameFaults, SameNames, LeavesOnly}
+use Rattle.kd_records.specs.Charge.{total_charge}
+use Rattle.kd_records.specs.Contents.{patched, IsPatch}
+use Rattle.kd_records.specs.Identity.{Identity}
+use Rattle.kd_records.specs.declared.content.Content.{Content}
+use Rattle.kdcfile_store.specs.Kept.{IsKept}
+use Rattle.kdcs_types.specs.declared.act.Act.{Act}
+use Rattle.kdcs_types.specs.declared.act.Act.TheVariants.{Commit, Emit}
+use Rattle.kdcs_types.specs.declared.act.Changes.{Changes}
+use Rattle.abstract_monitor.specs.Bytes.{Bytes}
+use Rattle.abstract_monitor.specs.Trace.{bytes_of}
+use Rattle.laws_of_steps.specs.Cut.{SentBy}
+use Rattle.record_codec.specs.Records.{patch_of}
+use Rattle.record_codec.specs.Values.{HasShortChange}
+use Rattle.device_acts.specs.Said.{SameDisk}
+
+abbrev pub is_line : Act → Bool
+is_line (Commit changes) = false
+is_line (Emit line) = true
+
+-- the acts are lines alone
+abbrev pub commits_nothing : List Act → Bool
+commits_nothing acts = list_all is_line acts
+
+-- some first acts were done, the image stands for what they make of the start, and these bytes were sent beyond those before
+pub record IsCutOf {X : Type 0} (after : X → List Act → X) (stands : X → Bytes → Type 0) (start : X) (all : List Act) (sent image out : Bytes) : Type 0 where
+  pub since : Bytes
+  pub more : out ≡ sent ++ since
+  pub done : List Act
+  pub left : List Act
+  pub whole : all ≡ done ++ left
+  pub file : stands (after start done) image
+  pub bytes : SentBy done left since
+
+-- whatever became of the acts: at each moment, what was sent and what a stop leaves are a cut of them
+pub record WithinActs {X : Type 0} (after : X → List Act → X) (stands : X → Bytes → Type 0) (start : X) (acts : List Act) (a b : State) (la lb : ℕ → List ℕ → List ℕ → Type 0) : Type 0 where
+  pub frame : Frame a b
+  pub names : SameNames a b
+  pub any_moment : IsTrue a.told → LeavesOnly a b la lb (IsCutOf after stands start acts a.sent)
+  pub quiet : IsTrue a.told → commits_nothing acts ≡ true → SameDisk a b
+
+-- all their lines were sent, a stop leaves just the bytes of the store, and no call failed
+pub record Sent (file : List ℕ → Type 0) (acts : List Act) (a b : State) (lb : ℕ → List ℕ → List ℕ → Type 0) : Type 0 where
+  pub rest : IsTrue a.told → IsKept file b lb
+  pub sent : IsTrue a.told → b.sent ≡ a.sent ++ bytes_of acts
+  pub faults : SameFaults a b
+
+-- ---- contents of records
+
+-- the content after some acts
+abbrev pub content_after : Content → List Act → Content
+content_after x [] = x
+content_after x (Commit c ∷ acts) = content_after (patched x (patch_of c)) acts
+content_after x (Emit line ∷ acts) = content_after x acts
+
+-- a store of this identity that keeps the content can take the changes
+pub record CanCommit (i : Identity) (x : Content) (c : Changes) : Type 0 where
+  pub short : All HasShortChange c.items
+  pub patch : IsPatch (patch_of c)
+  pub before : total_charge i.blksize x.items ≤ i.pages
+  pub after : total_charge i.blksize (patched x (patch_of c)).items ≤ i.pages
+
+-- and all commits of some acts, one after another
+abbrev pub AreCommittable : Identity → Content → List Act → Type 0
+AreCommittable i x [] = ⊤
+AreCommittable i x (Commit c ∷ acts) = CanCommit i x c × AreCommittable i (patched x (patch_of c)) acts
+AreCommittable i x (Emit line ∷ acts) = AreCommittable i x acts

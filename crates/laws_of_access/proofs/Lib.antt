@@ -1,0 +1,6 @@
+mod Denials
+mod Firsts
+mod Beginnings
+mod Turns
+mod Commands
+mod Ruleless

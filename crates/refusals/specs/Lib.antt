@@ -1,0 +1,4 @@
+pub mod Lines
+pub mod Statuses
+pub mod Texts
+pub mod Causes

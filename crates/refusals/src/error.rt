@@ -1,0 +1,69 @@
+//! Why texts ask for nothing.
+
+use application_read::ApplicationFault;
+use kd_device::DeviceError;
+use script_read::ScriptFault;
+use thiserror::Error;
+
+/// Why a call does nothing with its texts.
+#[derive(Debug, Clone, Copy)]
+pub enum Refusal {
+    /// The definition and the units make no application.
+    Application(ApplicationFault),
+    /// The script has no commands.
+    Script(ScriptFault),
+}
+
+/// Why the texts of a call ask for nothing.
+#[derive(Clone, Copy, Debug, Error)]
+pub enum TextError {
+    /// A text is not there, or could not be read.
+    #[error("a text could not be read")]
+    Room,
+    #[error("a text is refused")]
+    Refused(Refusal),
+    #[error("out of memory")]
+    Memory,
+}
+
+impl From<DeviceError> for TextError {
+    ghost use Rattle.std.specs.Prelude.{◌≡◌};
+    ghost use Rattle.refusals.specs.Causes.{of_room};
+
+    ghost from_gives = { λ e r. r ≡ of_room e };
+
+    fn from(e: DeviceError) -> Self {
+        match e {
+            DeviceError::Failed => TextError::Room,
+            DeviceError::Memory => TextError::Memory,
+        }
+    }
+}
+
+impl From<ApplicationFault> for TextError {
+    ghost use Rattle.std.specs.Prelude.{◌≡◌};
+    ghost use Rattle.refusals.specs.Causes.{of_application};
+
+    ghost from_gives = { λ e r. r ≡ of_application e };
+
+    fn from(e: ApplicationFault) -> Self {
+        match e {
+            ApplicationFault::Memory => TextError::Memory,
+            fault => TextError::Refused(Refusal::Application(fault)),
+        }
+    }
+}
+
+impl From<ScriptFault> for TextError {
+    ghost use Rattle.std.specs.Prelude.{◌≡◌};
+    ghost use Rattle.refusals.specs.Causes.{of_fault};
+
+    ghost from_gives = { λ e r. r ≡ of_fault e };
+
+    fn from(e: ScriptFault) -> Self {
+        match e {
+            ScriptFault::Memory => TextError::Memory,
+            fault => TextError::Refused(Refusal::Script(fault)),
+        }
+    }
+}

@@ -1,0 +1,118 @@
+//! A call that is refused sends one line, and does nothing else.
+ghost use Rattle.std.specs.{Prelude.{◌≡◌, ◌∷◌, [], IsTrue, IfOk}, String.{string_bytes}};
+ghost use Rattle.kd_device.specs.Device.{Rose, Frame, SameFaults, SameNames};
+ghost use Rattle.device_acts.specs.Said.{Said, SaidPart};
+ghost use Rattle.refusals.specs.{Statuses.{IsOneOf, status_of}, Lines.{fault_line, application_line, refusal_line, other_generation_line}};
+
+use crate::error::Refusal;
+use crate::status::Status;
+use application_read::ApplicationFault;
+use device_acts::say;
+use kd_device::{Device, DeviceError};
+use script_read::ScriptFault;
+use std::alloc::{AllocError, Global};
+
+/// Sends the line of a refusal with this status.
+pub fn refuse<D: Device>(device: &mut D, line: &[u8], status: Status) -> Status
+    requires { IsOneOf (1 ∷ 2 ∷ 3 ∷ 4 ∷ []) status.code }
+    ensures code { IsOneOf (status.code ∷ 5 ∷ 7 ∷ []) result.code }
+    ensures said { result.code ≡ status.code → IsTrue (D.state device.old).told → Said line.now (D.state device.old) (D.state device.new) }
+    ensures part { IsTrue (D.state device.old).told → SaidPart line.now (D.state device.old) (D.state device.new) }
+    ensures failed { result.code ≡ 5 → Rose (D.state device.old).line_faults (D.state device.new).line_faults }
+    ensures fine { (result.code ≡ 5 → ⊥) → SameFaults (D.state device.old) (D.state device.new) }
+    ensures frame { Frame (D.state device.old) (D.state device.new) }
+    ensures names { SameNames (D.state device.old) (D.state device.new) }
+{
+    match say(device, line) {
+        Ok(()) => status,
+        Err(DeviceError::Failed) => Status::DEVICE,
+        Err(DeviceError::Memory) => Status::MEMORY,
+    }
+}
+
+/// The line of a script's fault.
+fn script_line(alloc: Global, fault: ScriptFault) -> Result<String, AllocError>
+    ensures { IfOk result (λ line. string_bytes line ≡ fault_line fault) }
+{
+    match fault {
+        ScriptFault::BadLine(line) => format!(in alloc; "SCRIPT {line} BadLine\n"),
+        ScriptFault::OutOfRange(line) => format!(in alloc; "SCRIPT {line} OutOfRange\n"),
+        ScriptFault::TooLong => String::from_str(alloc, "SCRIPT 0 TooLong\n"),
+        ScriptFault::Memory => Ok(String::new(alloc)),
+    }
+}
+
+/// The line of a fault of the definition or the units.
+fn application_line(alloc: Global, fault: ApplicationFault) -> Result<Vec<u8>, AllocError>
+    ensures { IfOk result (λ line. line.items ≡ application_line fault) }
+{
+    let line = fault.line();
+    let number = format!(in alloc; " {line} ")?;
+    let mut text = Vec::from_slice(alloc, fault.text().as_bytes())?;
+    text.extend_from_slice(number.as_bytes())?;
+    text.extend_from_slice(fault.name().as_bytes())?;
+    text.extend_from_slice(b"\n")?;
+    Ok(text)
+}
+
+fn refusal_line(alloc: Global, why: Refusal) -> Result<Vec<u8>, AllocError>
+    ensures { IfOk result (λ line. line.items ≡ refusal_line why) }
+{
+    match why {
+        Refusal::Application(fault) => application_line(alloc, fault),
+        Refusal::Script(fault) => Ok(script_line(alloc, fault)?.into_bytes()),
+    }
+}
+
+fn status_of(why: Refusal) -> Status
+    ensures status { result.code ≡ status_of why }
+    ensures texts { IsOneOf (2 ∷ 3 ∷ []) result.code }
+{
+    match why {
+        Refusal::Application(_) => Status::APPLICATION,
+        Refusal::Script(_) => Status::SCRIPT,
+    }
+}
+
+/// Refuses texts for their first fault.
+pub fn refuse_texts<D: Device>(alloc: Global, device: &mut D, why: Refusal) -> Status
+    ensures code { IsOneOf (status_of why ∷ 5 ∷ 7 ∷ []) result.code }
+    ensures said { IsOneOf (2 ∷ 3 ∷ []) result.code → (result.code ≡ status_of why) × (IsTrue (D.state device.old).told → Said (refusal_line why) (D.state device.old) (D.state device.new)) }
+    ensures part { IsTrue (D.state device.old).told → SaidPart (refusal_line why) (D.state device.old) (D.state device.new) }
+    ensures failed { result.code ≡ 5 → Rose (D.state device.old).line_faults (D.state device.new).line_faults }
+    ensures fine { (result.code ≡ 5 → ⊥) → SameFaults (D.state device.old) (D.state device.new) }
+    ensures frame { Frame (D.state device.old) (D.state device.new) }
+    ensures names { SameNames (D.state device.old) (D.state device.new) }
+{
+    let Ok(line) = refusal_line(alloc, why) else {
+        return Status::MEMORY;
+    };
+    refuse(device, &line, status_of(why))
+}
+
+/// The line of a file that was made with other texts.
+fn other_generation_line(alloc: Global, stored: &[u8; 32]) -> Result<Vec<u8>, AllocError>
+    ensures { IfOk result (λ line. line.items ≡ other_generation_line stored.now) }
+{
+    let digits = hex::encode(alloc, stored.as_slice())?;
+    let mut line = Vec::from_slice(alloc, b"KDCFILE OTHER GENERATION ")?;
+    line.extend_from_slice(digits.as_bytes())?;
+    line.extend_from_slice(b"\n")?;
+    Ok(line)
+}
+
+/// Refuses a file that was made with other texts, which have this fingerprint.
+pub fn refuse_other<D: Device>(alloc: Global, device: &mut D, stored: &[u8; 32]) -> Status
+    ensures code { IsOneOf (4 ∷ 5 ∷ 7 ∷ []) result.code }
+    ensures said { result.code ≡ 4 → IsTrue (D.state device.old).told → Said (other_generation_line stored.now) (D.state device.old) (D.state device.new) }
+    ensures part { IsTrue (D.state device.old).told → SaidPart (other_generation_line stored.now) (D.state device.old) (D.state device.new) }
+    ensures failed { result.code ≡ 5 → Rose (D.state device.old).line_faults (D.state device.new).line_faults }
+    ensures fine { (result.code ≡ 5 → ⊥) → SameFaults (D.state device.old) (D.state device.new) }
+    ensures frame { Frame (D.state device.old) (D.state device.new) }
+    ensures names { SameNames (D.state device.old) (D.state device.new) }
+{
+    let Ok(line) = other_generation_line(alloc, stored) else {
+        return Status::MEMORY;
+    };
+    refuse(device, &line, Status::FILE)
+}
