@@ -1,8 +1,10 @@
 #!/usr/bin/env python3
 """Prints which modules of a crate's proof are dear: the seconds that each took in a check with one job.
 
-    rt check --jobs 1 --incremental FOLDER
-    python3 tools/dear_modules.py FOLDER [HOW MANY]
+    cd crates/NAME
+    rm -rf out/incremental
+    rt check --jobs 1
+    python3 ../../tools/dear_modules.py out/incremental [HOW MANY]
 
 A check from nothing with one job writes a file for each module as soon as it has checked it. The time since the file
 before is what the module took. Printed are the dearest modules, the sums by kind of module, which is the last part of
