@@ -1,11 +1,12 @@
 -- How far some acts are done, over whatever the acts make of one another: contents of records, or tables.
-use Rattle.std.specs.Prelude.{◌≡◌, ◌≤◌, ℕ, Bool, true, false, IsTrue, ⊤, List, [], ◌∷◌, ◌++◌, All}
+use Rattle.std.specs.Prelude.{◌≡◌, ◌≤◌, ℕ, ◌+◌, Bool, true, false, IsTrue, ⊤, List, [], ◌∷◌, ◌++◌, All}
 use Rattle.std.specs.List.{list_all}
 use Rattle.kd_device.specs.Device.{State, Frame, SameFaults, SameNames, LeavesOnly}
 use Rattle.kd_records.specs.Charge.{total_charge}
 use Rattle.kd_records.specs.Contents.{patched, IsPatch}
 use Rattle.kd_records.specs.Identity.{Identity}
 use Rattle.kd_records.specs.declared.content.Content.{Content}
+use Rattle.kd_records.specs.declared.content.Patch.{Patch}
 use Rattle.kdcfile_store.specs.Kept.{IsKept}
 use Rattle.kdcs_types.specs.declared.act.Act.{Act}
 use Rattle.kdcs_types.specs.declared.act.Act.TheVariants.{Commit, Emit}
@@ -48,6 +49,16 @@ pub record Sent (file : List ℕ → Type 0) (acts : List Act) (a b : State) (lb
   pub sent : IsTrue a.told → b.sent ≡ a.sent ++ bytes_of acts
   pub faults : SameFaults a b
 
+-- some first acts were performed, or begun: their lines were sent beyond the bytes before, and perhaps a part of the line that is next, and the bytes that were written since are at most those that these acts write
+pub record WritesUpTo (most : List Act → ℕ) (acts : List Act) (a b : State) : Type 0 where
+  pub since : Bytes
+  pub more : b.sent ≡ a.sent ++ since
+  pub done : List Act
+  pub left : List Act
+  pub whole : acts ≡ done ++ left
+  pub bytes : SentBy done left since
+  pub put : b.put ≤ a.put + most done
+
 -- ---- contents of records
 
 -- the content after some acts
@@ -68,3 +79,9 @@ abbrev pub AreCommittable : Identity → Content → List Act → Type 0
 AreCommittable i x [] = ⊤
 AreCommittable i x (Commit c ∷ acts) = CanCommit i x c × AreCommittable i (patched x (patch_of c)) acts
 AreCommittable i x (Emit line ∷ acts) = AreCommittable i x acts
+
+-- how many bytes some acts write at most, by the bound of a commit over a content: a commit after another is over what that one makes, and a line writes none
+abbrev pub acts_most : (Identity → Content → Patch → ℕ) → Identity → Content → List Act → ℕ
+acts_most most i x [] = 0
+acts_most most i x (Commit c ∷ acts) = most i x (patch_of c) + acts_most most i (patched x (patch_of c)) acts
+acts_most most i x (Emit line ∷ acts) = acts_most most i x acts

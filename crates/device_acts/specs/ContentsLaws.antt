@@ -55,7 +55,7 @@ module _ (now : Content) (acts : List Act) (i : ℕ) (act : Act) (is : act ≡ g
 pub not_lines : (changes : Changes) (act : Act) → act ≡ Commit changes → commits_nothing (act ∷ []) ≡ true → ⊥
 not_lines changes act is lines = let no_line = ap (λ (x : Act). commits_nothing (x ∷ [])) (sym is) ∙ lines in cc
 
-bytes_of_commit : (c : Changes) → bytes_of (Commit c ∷ []) ≡ []
+pub bytes_of_commit : (c : Changes) → bytes_of (Commit c ∷ []) ≡ []
 unfolding bytes_of
 bytes_of_commit c = refl
 

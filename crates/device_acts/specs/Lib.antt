@@ -2,4 +2,5 @@ pub mod Said
 pub mod Acting
 pub mod ActingLaws
 pub mod ContentsLaws
+pub mod WritingLaws
 pub mod ErrorsLaws

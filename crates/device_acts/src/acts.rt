@@ -2,7 +2,7 @@
 ghost use Rattle.std.specs.Prelude.{◌≡◌, ◌⊎◌, ◌∷◌, [], IsTrue, OnOk, IsErrOf};
 ghost use Rattle.kd_device.specs.Device.{Rose, SameFaults};
 ghost use Rattle.kdcfile_store.specs.Kept.{IsKept};
-ghost use Rattle.device_acts.specs.Acting.{content_after, AreCommittable, WithinActs, Sent};
+ghost use Rattle.device_acts.specs.Acting.{acts_most, content_after, AreCommittable, WithinActs, WritesUpTo, Sent};
 
 use crate::saying::say;
 use kd_device::{Device, DeviceError};
@@ -24,6 +24,7 @@ fn do_act<D: Device, S: Store<D>>(
     ensures any { WithinActs content_after (S.stands (S.identity store.old)) (S.kept store.old) (act.now ∷ []) (D.state device.old) (D.state device.new) (D.leaves device.old) (D.leaves device.new) }
     ensures content { OnOk result (S.kept store.new ≡ content_after (S.kept store.old) (act.now ∷ [])) }
     ensures done { OnOk result (Sent (S.file store.new) (act.now ∷ []) (D.state device.old) (D.state device.new) (D.leaves device.new)) }
+    ensures put { IsTrue (D.state device.old).told → WritesUpTo (acts_most S.most_written (S.identity store.old) (S.kept store.old)) (act.now ∷ []) (D.state device.old) (D.state device.new) }
     ensures fine { (IsErrOf result DeviceError.Failed → ⊥) → SameFaults (D.state device.old) (D.state device.new) }
     ensures failed { IsErrOf result DeviceError.Failed → Rose (D.state device.old).disk_faults (D.state device.new).disk_faults ⊎ Rose (D.state device.old).line_faults (D.state device.new).line_faults }
 {
@@ -38,7 +39,7 @@ fn do_act<D: Device, S: Store<D>>(
 }
 
 /// Acts in their order, which the store can take. At a stop, and at an error, what was sent and what the file stands for
-/// are a cut of them.
+/// are a cut of them. A commit writes at most its bound, and a line nothing.
 pub fn do_acts<D: Device, S: Store<D>>(
     alloc: Global,
     device: &mut D,
@@ -51,6 +52,7 @@ pub fn do_acts<D: Device, S: Store<D>>(
     ensures any { WithinActs content_after (S.stands (S.identity store.old)) (S.kept store.old) acts.now (D.state device.old) (D.state device.new) (D.leaves device.old) (D.leaves device.new) }
     ensures content { OnOk result (S.kept store.new ≡ content_after (S.kept store.old) acts.now) }
     ensures done { OnOk result (Sent (S.file store.new) acts.now (D.state device.old) (D.state device.new) (D.leaves device.new)) }
+    ensures put { IsTrue (D.state device.old).told → WritesUpTo (acts_most S.most_written (S.identity store.old) (S.kept store.old)) acts.now (D.state device.old) (D.state device.new) }
     ensures fine { (IsErrOf result DeviceError.Failed → ⊥) → SameFaults (D.state device.old) (D.state device.new) }
     ensures failed { IsErrOf result DeviceError.Failed → Rose (D.state device.old).disk_faults (D.state device.new).disk_faults ⊎ Rose (D.state device.old).line_faults (D.state device.new).line_faults }
 {

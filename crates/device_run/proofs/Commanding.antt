@@ -2,7 +2,7 @@
 use Rattle.std.proofs.Common.{◌≡◌, ◌⊎◌, inl, inr, arith, ℕ, ◌+◌, List, [], ◌∷◌, refl, sym, ap, subst, ◌∙◌}
 use Rattle.std.specs.Prelude.{false}
 use Rattle.kd_device.specs.Device.{State}
-use Rattle.kdcfile_store.specs.Whole.{Whole}
+use Rattle.kdcfile_store.specs.Paged.{Paged}
 use Rattle.abstract_monitor.specs.declared.command.Command.{Command}
 use Rattle.abstract_monitor.specs.declared.command.Command.TheVariants.{Input, Tick, Run, Turn, Drop, Print, PrintLast, Restart}
 use Rattle.abstract_monitor.specs.Commands.{ScriptStep, command_of, rotated, steps_of, turned_step}
@@ -11,7 +11,7 @@ use Rattle.abstract_monitor.specs.Turns.{turn_of}
 use Rattle.monitor_core.specs.CoreValue.{CoreValue}
 use Rattle.monitor_core.specs.Commanding.{IsSingle}
 use Rattle.laws_of_steps.specs.Cut.{commits_in}
-use Rattle.device_run.specs.Running.{turns_of, IsRunning, WithinSteps, DidSteps}
+use Rattle.device_run.specs.Running.{turns_of, IsRunning, WithinSteps, StepsWrite, DidSteps}
 use Rattle.device_run.proofs.Counting.{commits_by, commits_of_one}
 use Rattle.device_run.proofs.Restarting.{acts_again}
 use Rattle.device_run.proofs.Stepping.{fingerprint_is}
@@ -67,14 +67,17 @@ turn_no_restart command task is restart = cc (sym is ∙ restart)
 pub single_no_restart : (command : Command) → IsSingle command → command ≡ Restart → ⊥
 single_no_restart command single restart = subst IsSingle restart single
 
-pub own_running : (fingerprint : List ℕ) (c : CoreValue) (store : Whole) → IsRunning fingerprint c store → IsRunning store.identity.fingerprint c store
+pub own_running : (fingerprint : List ℕ) (c : CoreValue) (store : Paged) → IsRunning fingerprint c store → IsRunning store.identity.fingerprint c store
 own_running fingerprint c store h = subst (λ f. IsRunning f c store) (sym (fingerprint_is fingerprint c store h)) h
 
-module _ (fingerprint : List ℕ) (c : CoreValue) (store : Whole) (running : IsRunning fingerprint c store) (command : Command) (steps : List ScriptStep) (is : steps_of c.application c.state command ≡ steps) where
+module _ (fingerprint : List ℕ) (c : CoreValue) (store : Paged) (running : IsRunning fingerprint c store) (command : Command) (steps : List ScriptStep) (is : steps_of c.application c.state command ≡ steps) where
   pub command_within : (a b : State) (la lb : ℕ → List ℕ → List ℕ → Type 0) → WithinSteps store.identity.fingerprint c steps a b la lb → WithinSteps fingerprint c (steps_of c.application c.state command) a b la lb
   command_within a b la lb h = subst (λ f. WithinSteps f c (steps_of c.application c.state command) a b la lb) (fingerprint_is fingerprint c store running) (subst (λ (l : List ScriptStep). WithinSteps store.identity.fingerprint c l a b la lb) (sym is) h)
 
-  pub did_command : (a b : State) (lb : ℕ → List ℕ → List ℕ → Type 0) (d : CoreValue) (store' : Whole) → DidSteps store.identity.fingerprint c steps d store' a b lb → DidSteps fingerprint c (steps_of c.application c.state command) d store' a b lb
+  pub command_writes : (a b : State) → StepsWrite store.identity.fingerprint c steps a b → StepsWrite fingerprint c (steps_of c.application c.state command) a b
+  command_writes a b h = subst (λ f. StepsWrite f c (steps_of c.application c.state command) a b) (fingerprint_is fingerprint c store running) (subst (λ (l : List ScriptStep). StepsWrite store.identity.fingerprint c l a b) (sym is) h)
+
+  pub did_command : (a b : State) (lb : ℕ → List ℕ → List ℕ → Type 0) (d : CoreValue) (store' : Paged) → DidSteps store.identity.fingerprint c steps d store' a b lb → DidSteps fingerprint c (steps_of c.application c.state command) d store' a b lb
   did_command a b lb d store' h = subst (λ f. DidSteps f c (steps_of c.application c.state command) d store' a b lb) (fingerprint_is fingerprint c store running) (subst (λ (l : List ScriptStep). DidSteps store.identity.fingerprint c l d store' a b lb) (sym is) h)
 
 -- ---- its commits

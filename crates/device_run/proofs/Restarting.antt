@@ -1,16 +1,13 @@
 -- A restart: the file is opened again, and a line is said.
-use Rattle.std.proofs.Common.{◌≡◌, inr, ℕ, List, [], ◌∷◌, ◌++◌, take, refl, sym, ap, subst, ◌∙◌}
+use Rattle.std.proofs.Common.{◌≡◌, arith, inr, ℕ, List, [], ◌∷◌, ◌++◌, take, refl, sym, ap, subst, ◌∙◌}
 use Rattle.std.specs.Prelude.{IsTrue}
 use Rattle.std.proofs.lemmas.List.{append-nil}
 use Rattle.kd_device.specs.Device.{State, Frame, SameFaults, SameNames, LeavesOnly}
 use Rattle.kd_device.specs.Rest.{Rests, Before}
 use Rattle.kd_device.specs.TimeLaws.{faults_then, leaves_weaker, told_after}
-use Rattle.kd_records.specs.Identity.{Identity}
-use Rattle.kd_records.specs.declared.content.Content.{Content}
 use Rattle.kdcdef_types.specs.Generation.{Generated}
-use Rattle.kdcfile_images.specs.File.{Stands}
 use Rattle.kdcfile_store.specs.Kept.{IsKept}
-use Rattle.kdcfile_store.specs.Whole.{Whole, HasFile}
+use Rattle.kdcfile_store.specs.Paged.{Paged, HasFile}
 use Rattle.kdcs_types.specs.declared.act.Act.{Act}
 use Rattle.kdcs_types.specs.declared.act.Act.TheVariants.{Emit}
 use Rattle.kdcs_types.specs.Tables.{TableRows}
@@ -25,25 +22,19 @@ use Rattle.laws_of_steps.specs.Applications.{IsApplication}
 use Rattle.laws_of_steps.specs.Keeping.{HasFacts}
 use Rattle.laws_of_steps.specs.Suits.{Suits}
 use Rattle.record_codec.specs.Records.{content_of_tables}
-use Rattle.warm_start.specs.MeaningLaws.{nothing_stands}
+use Rattle.warm_start.specs.MeaningLaws.{kept_stands, nothing_stands}
 use Rattle.warm_start.specs.Opening.{StartsFrom, IsRefused, IsOfOtherTexts, AnswersExcludeEachOther}
 use Rattle.warm_start.specs.Stands.{AreTables, StandsForTables, KeepsTables, identity_for}
 use Rattle.monitor_core.specs.CoreValue.{CoreValue}
-use Rattle.device_acts.specs.Acting.{IsCutOf, WithinActs, Sent}
-use Rattle.device_run.specs.Running.{identity_of, durable_of, IsAgain, IsRunning, WithinSteps, DidSteps}
+use Rattle.device_acts.specs.Acting.{IsCutOf, WithinActs, WritesUpTo, Sent}
+use Rattle.device_run.specs.Running.{identity_of, durable_of, commits_most, IsAgain, IsRunning, WithinSteps, StepsWrite, DidSteps}
 use Rattle.device_acts.specs.Said.{Said, SaidPart}
 use Rattle.device_acts.specs.ActingLaws.{no_bytes, cut_none, Running, running_within}
 use Rattle.device_acts.specs.ContentsLaws.{line_within, line_sent}
+use Rattle.device_acts.specs.WritingLaws.{writes_line, writes_none}
 use Rattle.device_run.proofs.Tables.{tables_go}
 use Rattle.laws_of_tables.specs.EndsLaws.{durable_same}
 use Rattle.laws_of_steps.specs.TablesStayLaws.{started_tables}
-
--- the bytes of a store that keeps tables stand for them
-pub kept_stands : (i : Identity) (store : Whole) (t : TableRows) (bytes : List ℕ) → KeepsTables i store t → HasFile store bytes → StandsForTables i t bytes
-kept_stands i store t bytes keeps file = record {
-  tables = keeps.tables;
-  content = (store.second, subst (λ (x : Content). Stands i store.second x bytes) keeps.content (subst (λ (j : Identity). Stands j store.second store.content bytes) keeps.identity_is file));
-}
 
 abbrev pub again : CoreValue → ScriptStep
 again c = command_of c.application c.state Restart
@@ -60,7 +51,7 @@ line_makes_nothing : (t : TableRows) (line : List ℕ) → tables_after t (Emit 
 unfolding tables_after
 line_makes_nothing t line = refl
 
-module _ (fingerprint : List ℕ) (c : CoreValue) (store : Whole) (a : State) (la : ℕ → List ℕ → List ℕ → Type 0) (running : IsRunning fingerprint c store) (kept : IsTrue a.told → IsKept (HasFile store) a la) where
+module _ (fingerprint : List ℕ) (c : CoreValue) (store : Paged) (a : State) (la : ℕ → List ℕ → List ℕ → Type 0) (running : IsRunning fingerprint c store) (kept : IsTrue a.told → IsKept (HasFile store) a la) where
   stands_now : IsTrue a.told → StandsForTables (identity_of fingerprint c) (durable_of c) a.holds
   stands_now told = kept_stands (identity_of fingerprint c) store (durable_of c) a.holds running.keeps (kept told).bytes
 
@@ -84,7 +75,7 @@ module _ (fingerprint : List ℕ) (c : CoreValue) (store : Whole) (a : State) (l
     same_start one told t from = (one g fingerprint a.holds).started_once t (durable_of c) from (starts_here told)
 
     -- a core that starts from the tables that the file was opened with
-    pub starts_again : AnswersExcludeEachOther → (t : TableRows) (next : CoreValue) (opened : Whole) (b : State) (lb : ℕ → List ℕ → List ℕ → Type 0) → KeepsTables (identity_for g fingerprint) opened t → Suits g t → (IsTrue a.told → StartsFrom g fingerprint a.holds t) → (IsTrue a.told → IsKept (HasFile opened) b lb) → SameFaults a b
+    pub starts_again : AnswersExcludeEachOther → (t : TableRows) (next : CoreValue) (opened : Paged) (b : State) (lb : ℕ → List ℕ → List ℕ → Type 0) → KeepsTables (identity_for g fingerprint) opened t → Suits g t → (IsTrue a.told → StartsFrom g fingerprint a.holds t) → (IsTrue a.told → IsKept (HasFile opened) b lb) → SameFaults a b
         → next.application ≡ c.application → next.state ≡ started next.application t → HasFacts next.application next.state → next.steps ≡ 0
         → IsAgain fingerprint c next opened a b lb
     starts_again one t next opened b lb keeps suits from now faults app state facts steps =
@@ -123,7 +114,20 @@ module _ (fingerprint : List ℕ) (c : CoreValue) (store : Whole) (a : State) (l
           quiet = λ told lines. record { holds = (rests told).holds; put = (rests told).put };
         }
 
-    module _ (next : CoreValue) (opened : Whole) (begun : IsAgain fingerprint c next opened a b lb) (d : State) (ld : ℕ → List ℕ → List ℕ → Type 0) (frame' : Frame b d) (names' : SameNames b d) (part : IsTrue b.told → SaidPart restart_line b d) (left : IsTrue b.told → LeavesOnly b d lb ld (λ image out. lb b.moment image b.sent × ((n : ℕ) × (out ≡ b.sent ++ take n restart_line)))) where
+    -- it writes nothing
+    pub opening_writes : StepsWrite fingerprint c (again c ∷ []) a b
+    opening_writes = λ told. let same = (rests told).put in writes_none (commits_most (identity_of fingerprint c)) (acts_of (again c ∷ [])) a b (rests told).sent (omega (arith, same))
+
+    -- nor does the line
+    pub restart_writes : (d : State) → (IsTrue b.told → SaidPart restart_line b d) → StepsWrite fingerprint c (again c ∷ []) a d
+    restart_writes d part = λ told.
+        let rest = rests told in
+        let said = part (subst IsTrue (sym frame.told) told) in
+        subst (λ (l : List Act). WritesUpTo (commits_most (identity_of fingerprint c)) l a d) (sym (acts_again c))
+        (writes_line (commits_most (identity_of fingerprint c)) a d (Emit restart_line) restart_line refl
+        (record { disk = record { holds = said.disk.holds ∙ rest.holds; put = said.disk.put ∙ rest.put }; sent = (said.sent.0, said.sent.1 ∙ ap (λ (s : List ℕ). s ++ take said.sent.0 restart_line) rest.sent) }))
+
+    module _ (next : CoreValue) (opened : Paged) (begun : IsAgain fingerprint c next opened a b lb) (d : State) (ld : ℕ → List ℕ → List ℕ → Type 0) (frame' : Frame b d) (names' : SameNames b d) (part : IsTrue b.told → SaidPart restart_line b d) (left : IsTrue b.told → LeavesOnly b d lb ld (λ image out. lb b.moment image b.sent × ((n : ℕ) × (out ≡ b.sent ++ take n restart_line)))) where
       told_before : IsTrue b.told → IsTrue a.told
       told_before told = subst IsTrue frame.told told
 

@@ -6,15 +6,15 @@ use Rattle.std.proofs.lemmas.List.{append-nil}
 use Rattle.kd_device.specs.Device.{State}
 use Rattle.kdcdef_types.specs.Statements.{IsWithin}
 use Rattle.kdcfile_store.specs.Kept.{IsKept}
-use Rattle.kdcfile_store.specs.Whole.{Whole, HasFile}
+use Rattle.kdcfile_store.specs.Paged.{Paged, HasFile}
 use Rattle.abstract_monitor.specs.State.{Application, State as MonitorState}
 use Rattle.abstract_monitor.specs.Turns.{Turned, turn_of}
 use Rattle.abstract_monitor.specs.Commands.{ScriptStep, turned_step, rotated, next_task, in_a_row}
 use Rattle.monitor_core.specs.CoreValue.{CoreValue}
 use Rattle.laws_of_steps.specs.Cut.{commits_in}
-use Rattle.device_run.specs.Running.{IsRunning, WithinSteps, DidSteps}
+use Rattle.device_run.specs.Running.{IsRunning, WithinSteps, StepsWrite, DidSteps}
 use Rattle.device_run.proofs.Counting.{commits_by, commits_both, commits_of_one}
-use Rattle.device_run.proofs.Stepping.{fingerprint_is, Stepping, stepping_start, stepping_within, stepping_more}
+use Rattle.device_run.proofs.Stepping.{fingerprint_is, Stepping, stepping_start, stepping_within, stepping_writes, stepping_over, stepping_more}
 
 -- no turns are left
 rotated_none : (app : Application) (s : MonitorState) (task unmoved : ℕ) → rotated app 0 false s task unmoved ≡ []
@@ -49,7 +49,7 @@ abbrev pub all_turns : CoreValue → ℕ → List ScriptStep
 all_turns c turns = rotated c.application turns false c.state 1 0
 
 -- some first turns are done, and this task is next; their commits were counted from this number on
-pub record Rotation (fingerprint : List ℕ) (c d : CoreValue) (store : Whole) (turns at task unmoved start commits : ℕ) (a b : State) (la lb : ℕ → List ℕ → List ℕ → Type 0) : Type 0 where
+pub record Rotation (fingerprint : List ℕ) (c d : CoreValue) (store : Paged) (turns at task unmoved start commits : ℕ) (a b : State) (la lb : ℕ → List ℕ → List ℕ → Type 0) : Type 0 where
   pub within : IsWithin 1 d.application.generation.limits.tasks task
   pub fewer : unmoved < d.application.generation.limits.tasks
   pub steps : d.steps ≡ c.steps + at
@@ -58,7 +58,7 @@ pub record Rotation (fingerprint : List ℕ) (c d : CoreValue) (store : Whole) (
   pub counted : commits ≡ start + commits_by done
   pub run : Stepping fingerprint c d store (all_turns c turns) done a b la lb
 
-pub rotation_start : (fingerprint : List ℕ) (c : CoreValue) (store : Whole) (turns start : ℕ) (a : State) (la : ℕ → List ℕ → List ℕ → Type 0) → IsRunning fingerprint c store → (IsTrue a.told → IsKept (HasFile store) a la) → Rotation fingerprint c c store turns 0 1 0 start start a a la la
+pub rotation_start : (fingerprint : List ℕ) (c : CoreValue) (store : Paged) (turns start : ℕ) (a : State) (la : ℕ → List ℕ → List ℕ → Type 0) → IsRunning fingerprint c store → (IsTrue a.told → IsKept (HasFile store) a la) → Rotation fingerprint c c store turns 0 1 0 start start a a la la
 rotation_start fingerprint c store turns start a la running kept = record {
   within = (omega arith, running.application.tasks);
   fewer = omega (arith, running.application.tasks);
@@ -69,7 +69,7 @@ rotation_start fingerprint c store turns start a la running kept = record {
   run = stepping_start fingerprint c store (all_turns c turns) a la running kept;
 }
 
-module _ (fingerprint : List ℕ) (c d : CoreValue) (store : Whole) (turns at task unmoved start commits : ℕ) (a b : State) (la lb : ℕ → List ℕ → List ℕ → Type 0) (run : Rotation fingerprint c d store turns at task unmoved start commits a b la lb) where
+module _ (fingerprint : List ℕ) (c d : CoreValue) (store : Paged) (turns at task unmoved start commits : ℕ) (a b : State) (la lb : ℕ → List ℕ → List ℕ → Type 0) (run : Rotation fingerprint c d store turns at task unmoved start commits a b la lb) where
   all_done : turns ≡ at → all_turns c turns ≡ run.done
   all_done over =
       let none : turns - at ≡ 0 = omega (arith, over) in
@@ -79,6 +79,9 @@ module _ (fingerprint : List ℕ) (c d : CoreValue) (store : Whole) (turns at ta
   -- all turns are done
   pub rotation_over : turns ≡ at → DidSteps fingerprint c (all_turns c turns) d store a b lb
   rotation_over over = subst (λ (l : List ScriptStep). DidSteps fingerprint c l d store a b lb) (sym (all_done over)) run.run.did
+
+  pub rotation_written : turns ≡ at → StepsWrite fingerprint c (all_turns c turns) a b
+  rotation_written over = stepping_over fingerprint c d store (all_turns c turns) run.done a b la lb run.run (all_done over)
 
   pub rotation_counted : turns ≡ at → commits ≡ start + commits_by (all_turns c turns)
   rotation_counted over = run.counted ∙ ap (λ (l : List ScriptStep). start + commits_by l) (sym (all_done over))
@@ -131,16 +134,23 @@ module _ (fingerprint : List ℕ) (c d : CoreValue) (store : Whole) (turns at ta
         let is : commits_by (all_turns c turns) ≡ commits_by (run.done ++ here) + commits_by (behind ended) = ap commits_by (split ended refl ∙ sym (append_assoc run.done here (behind ended))) ∙ commits_both (run.done ++ here) (behind ended) in
         omega (arith, bounded, is, counted_here)
 
-    module _ (e : State) (le : ℕ → List ℕ → List ℕ → Type 0) (step : WithinSteps store.identity.fingerprint d (turned_step (turn_of d.application d.state task) ∷ []) b e lb le) where
+    module _ (e : State) (le : ℕ → List ℕ → List ℕ → Type 0) (step : WithinSteps store.identity.fingerprint d (turned_step (turn_of d.application d.state task) ∷ []) b e lb le) (writes : StepsWrite store.identity.fingerprint d (turned_step (turn_of d.application d.state task) ∷ []) b e) where
       step_here : WithinSteps fingerprint d here b e lb le
       step_here = subst (λ f. WithinSteps f d here b e lb le) (fingerprint_is fingerprint d store run.run.did.running) step
+
+      writes_here : StepsWrite fingerprint d here b e
+      writes_here = subst (λ f. StepsWrite f d here b e) (fingerprint_is fingerprint d store run.run.did.running) writes
 
       -- whatever became of the turn
       pub rotation_within : WithinSteps fingerprint c (all_turns c turns) a e la le
       rotation_within =
-          stepping_within fingerprint c d store (all_turns c turns) run.done here (behind (row == d.application.generation.limits.tasks)) a b e la lb le run.run (λ told. split (row == d.application.generation.limits.tasks) refl) step_here
+          stepping_within fingerprint c d store (all_turns c turns) run.done here (behind (row == d.application.generation.limits.tasks)) a b e la lb le run.run (λ told. split (row == d.application.generation.limits.tasks) refl) step_here writes_here
 
-      module _ (next : CoreValue) (store' : Whole) (moved : Bool) (unmoved' tasks : ℕ) (did : DidSteps store.identity.fingerprint d (turned_step (turn_of d.application d.state task) ∷ []) next store' b e le) (moved_is : moved ≡ (turn_of d.application d.state task).moved) (row_is : unmoved' ≡ in_a_row moved unmoved) (tasks_are : tasks ≡ c.application.generation.limits.tasks) where
+      pub rotation_writes : StepsWrite fingerprint c (all_turns c turns) a e
+      rotation_writes =
+          stepping_writes fingerprint c d store (all_turns c turns) run.done here (behind (row == d.application.generation.limits.tasks)) a b e la lb le run.run (λ told. split (row == d.application.generation.limits.tasks) refl) step_here writes_here
+
+      module _ (next : CoreValue) (store' : Paged) (moved : Bool) (unmoved' tasks : ℕ) (did : DidSteps store.identity.fingerprint d (turned_step (turn_of d.application d.state task) ∷ []) next store' b e le) (moved_is : moved ≡ (turn_of d.application d.state task).moved) (row_is : unmoved' ≡ in_a_row moved unmoved) (tasks_are : tasks ≡ c.application.generation.limits.tasks) where
         did_here : DidSteps fingerprint d here next store' b e le
         did_here = subst (λ f. DidSteps f d here next store' b e le) (fingerprint_is fingerprint d store run.run.did.running) did
 
@@ -153,7 +163,7 @@ module _ (fingerprint : List ℕ) (c d : CoreValue) (store : Whole) (turns at ta
         -- the last turn
         pub rotation_ended : unmoved' ≡ tasks → DidSteps fingerprint c (all_turns c turns) next store' a e le
         rotation_ended ended =
-            (stepping_more fingerprint c d store (all_turns c turns) run.done here (behind true) a b e la lb le run.run (λ told. split true (eq-eqb row d.application.generation.limits.tasks (row_ended ended))) step_here next store' (all_turns c turns) (λ told. all_ended (row_ended ended)) did_here).did
+            (stepping_more fingerprint c d store (all_turns c turns) run.done here (behind true) a b e la lb le run.run (λ told. split true (eq-eqb row d.application.generation.limits.tasks (row_ended ended))) step_here writes_here next store' (all_turns c turns) (λ told. all_ended (row_ended ended)) did_here).did
 
         pub rotation_ended_counted : unmoved' ≡ tasks → (commits' : ℕ) → commits' ≡ commits + commits_in (turn_of d.application d.state task).acts → commits' ≡ start + commits_by (all_turns c turns)
         rotation_ended_counted ended commits' counted = counted ∙ counted_here ∙ ap (λ (l : List ScriptStep). start + commits_by l) (sym (all_ended (row_ended ended)))
@@ -174,5 +184,5 @@ module _ (fingerprint : List ℕ) (c d : CoreValue) (store : Whole) (turns at ta
               done = run.done ++ here;
               whole = is ∙ sym (append_assoc run.done here (behind false)) ∙ (λ k. (run.done ++ here) ++ rotated (sym did.application k) (turns - (at + 1)) false (sym state k) (sym task_now k) (sym row_now k));
               counted = counted ∙ counted_here;
-              run = stepping_more fingerprint c d store (all_turns c turns) run.done here (behind false) a b e la lb le run.run (λ told. is) step_here next store' (run.done ++ here) (λ told. refl) did_here;
+              run = stepping_more fingerprint c d store (all_turns c turns) run.done here (behind false) a b e la lb le run.run (λ told. is) step_here writes_here next store' (run.done ++ here) (λ told. refl) did_here;
             }

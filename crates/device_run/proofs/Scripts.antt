@@ -5,7 +5,7 @@ use Rattle.std.proofs.lemmas.List.{append-nil, drop_more, take_all}
 use Rattle.std.proofs.lemmas.List.Sums.{sum_by-cons}
 use Rattle.kd_device.specs.Device.{Rose, State as Device}
 use Rattle.kdcfile_store.specs.Kept.{IsKept}
-use Rattle.kdcfile_store.specs.Whole.{Whole, HasFile}
+use Rattle.kdcfile_store.specs.Paged.{Paged, HasFile}
 use Rattle.abstract_monitor.specs.CommandsOf.{IsCommandOf}
 use Rattle.laws_of_steps.specs.Keeping.{IsScriptOf}
 use Rattle.laws_of_steps.specs.Steps.{TurnsCommitOnce, CommandsCommitOnce}
@@ -13,9 +13,9 @@ use Rattle.kdcs_types.specs.declared.act.Act.{Act}
 use Rattle.abstract_monitor.specs.Bytes.{Bytes}
 use Rattle.warm_start.specs.Stands.{StandsForTables}
 use Rattle.monitor_core.specs.CoreValue.{CoreValue}
-use Rattle.device_run.specs.Running.{turns_of, identity_of, durable_of, WithinSteps, DidSteps, SaysNothing, SendsPart, StoppedIn}
+use Rattle.device_run.specs.Running.{turns_of, identity_of, durable_of, WithinSteps, StepsWrite, DidSteps, SaysNothing, SendsPart, StoppedIn}
 use Rattle.device_run.proofs.Counting.{commits_by, commits_both, command_commits}
-use Rattle.device_run.proofs.Stepping.{Stepping, stepping_within, stepping_more}
+use Rattle.device_run.proofs.Stepping.{Stepping, stepping_within, stepping_writes, stepping_over, stepping_more}
 use Rattle.laws_of_runs.specs.ListsLaws.{after_both}
 use Rattle.abstract_monitor.specs.declared.command.Command.{Command}
 use Rattle.abstract_monitor.specs.declared.command.Command.TheVariants.{Restart}
@@ -72,13 +72,18 @@ sends_part after stands start acts sent image out (inr h) = record { since = h.s
 
 -- ---- the commands so far
 
-module _ (fingerprint : List ℕ) (c d : CoreValue) (store : Whole) (cs : List Command) (i : ℕ) (a b : Device) (la lb : ℕ → List ℕ → List ℕ → Type 0) (run : Stepping fingerprint c d store (history c.application c.state cs) (history c.application c.state (take i cs)) a b la lb) where
+module _ (fingerprint : List ℕ) (c d : CoreValue) (store : Paged) (cs : List Command) (i : ℕ) (a b : Device) (la lb : ℕ → List ℕ → List ℕ → Type 0) (run : Stepping fingerprint c d store (history c.application c.state cs) (history c.application c.state (take i cs)) a b la lb) where
   pub script_kept : IsTrue b.told → IsKept (HasFile store) b lb
   script_kept told = run.did.acts.rest (subst IsTrue run.within.frame.told told)
 
   -- all commands are done
   pub script_over : length cs ≤ i → DidSteps fingerprint c (history c.application c.state cs) d store a b lb
   script_over over = subst (λ (l : List Command). DidSteps fingerprint c (history c.application c.state l) d store a b lb) (take_all i cs over) run.did
+
+  -- and what they write is known
+  pub script_written : length cs ≤ i → StepsWrite fingerprint c (history c.application c.state cs) a b
+  script_written over =
+      stepping_over fingerprint c d store (history c.application c.state cs) (history c.application c.state (take i cs)) a b la lb run (ap (history c.application c.state) (sym (take_all i cs over)))
 
   -- and all their commits counted
   pub script_counted_over : length cs ≤ i → (commits : ℕ) → commits ≡ commits_by (history c.application c.state (take i cs)) → commits ≡ commits_by (history c.application c.state cs)
@@ -118,14 +123,18 @@ module _ (fingerprint : List ℕ) (c d : CoreValue) (store : Whole) (cs : List C
             ∙ sym (commits_both (history c.application c.state (take i cs)) (steps_of d.application d.state command))
             ∙ ap commits_by (sym (more told))
 
-    module _ (e : Device) (le : ℕ → List ℕ → List ℕ → Type 0) (step : WithinSteps fingerprint d (steps_of d.application d.state command) b e lb le) where
+    module _ (e : Device) (le : ℕ → List ℕ → List ℕ → Type 0) (step : WithinSteps fingerprint d (steps_of d.application d.state command) b e lb le) (writes : StepsWrite fingerprint d (steps_of d.application d.state command) b e) where
       pub script_within : WithinSteps fingerprint c (history c.application c.state cs) a e la le
       script_within =
-          stepping_within fingerprint c d store (history c.application c.state cs) (history c.application c.state (take i cs)) (steps_of d.application d.state command) (history c.application (state_after d.state (steps_of c.application d.state command)) (drop (i + 1) cs)) a b e la lb le run split step
+          stepping_within fingerprint c d store (history c.application c.state cs) (history c.application c.state (take i cs)) (steps_of d.application d.state command) (history c.application (state_after d.state (steps_of c.application d.state command)) (drop (i + 1) cs)) a b e la lb le run split step writes
 
-      pub script_more : (next : CoreValue) (store' : Whole) → DidSteps fingerprint d (steps_of d.application d.state command) next store' b e le → Stepping fingerprint c next store' (history c.application c.state cs) (history c.application c.state (take (i + 1) cs)) a e la le
+      pub script_writes : StepsWrite fingerprint c (history c.application c.state cs) a e
+      script_writes =
+          stepping_writes fingerprint c d store (history c.application c.state cs) (history c.application c.state (take i cs)) (steps_of d.application d.state command) (history c.application (state_after d.state (steps_of c.application d.state command)) (drop (i + 1) cs)) a b e la lb le run split step writes
+
+      pub script_more : (next : CoreValue) (store' : Paged) → DidSteps fingerprint d (steps_of d.application d.state command) next store' b e le → Stepping fingerprint c next store' (history c.application c.state cs) (history c.application c.state (take (i + 1) cs)) a e la le
       script_more next store' did =
-          stepping_more fingerprint c d store (history c.application c.state cs) (history c.application c.state (take i cs)) (steps_of d.application d.state command) (history c.application (state_after d.state (steps_of c.application d.state command)) (drop (i + 1) cs)) a b e la lb le run split step next store'
+          stepping_more fingerprint c d store (history c.application c.state cs) (history c.application c.state (take i cs)) (steps_of d.application d.state command) (history c.application (state_after d.state (steps_of c.application d.state command)) (drop (i + 1) cs)) a b e la lb le run split step writes next store'
           (history c.application c.state (take (i + 1) cs)) more did
 
       -- the script stopped within this command

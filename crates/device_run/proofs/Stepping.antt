@@ -1,14 +1,14 @@
 -- How steps of a script go on from one another.
-use Rattle.std.proofs.Common.{◌≡◌, ℕ, List, [], ◌∷◌, ◌++◌, refl, sym, ap, subst, ◌∙◌}
+use Rattle.std.proofs.Common.{◌≡◌, ◌≤◌, ◌+◌, arith, ℕ, List, [], ◌∷◌, ◌++◌, refl, sym, ap, subst, ◌∙◌}
 use Rattle.std.specs.Prelude.{IsTrue}
 use Rattle.std.proofs.lemmas.List.{append-nil}
 use Rattle.std.proofs.lemmas.Grind.{flat_map-append}
 use Rattle.kd_device.specs.Device.{State}
 use Rattle.kd_records.specs.Identity.{Identity}
 use Rattle.kd_records.specs.declared.content.Content.{Content}
-use Rattle.kdcfile_images.specs.File.{Stands, StandsFor}
-use Rattle.kdcfile_store.specs.Kept.{IsKept}
-use Rattle.kdcfile_store.specs.Whole.{Whole, HasFile}
+use Rattle.kdcfile_layout.specs.Layout.{Stands, StandsFor}
+use Rattle.kdcfile_store.specs.Kept.{IsKept, write_most}
+use Rattle.kdcfile_store.specs.Paged.{Paged, HasFile}
 use Rattle.kdcs_types.specs.declared.act.Act.{Act}
 use Rattle.kdcs_types.specs.Tables.{TableRows, IsSortedTables}
 use Rattle.laws_of_steps.specs.Applications.{IsApplication}
@@ -25,10 +25,11 @@ use Rattle.record_codec.specs.Records.{content_of_tables}
 use Rattle.warm_start.specs.Stands.{AreTables, StandsForTables, identity_for}
 use Rattle.monitor_core.specs.CoreValue.{CoreValue}
 use Rattle.record_commits.specs.Storing.{AreStorable}
-use Rattle.device_acts.specs.Acting.{WithinActs, Sent, content_after, AreCommittable}
-use Rattle.device_run.specs.Running.{identity_of, durable_of, IsRunning, WithinSteps, DidSteps, Ran}
+use Rattle.device_acts.specs.Acting.{WithinActs, WritesUpTo, Sent, acts_most, content_after, AreCommittable}
+use Rattle.device_run.specs.Running.{identity_of, durable_of, commits_most, IsRunning, WithinSteps, StepsWrite, DidSteps, Ran}
 use Rattle.device_acts.specs.ActingLaws.{Running, running_start, running_within, running_more}
-use Rattle.device_run.proofs.Tables.{tables_go, tables_stay, contents_are, committable, tables_within}
+use Rattle.device_acts.specs.WritingLaws.{writes_all, writes_none, writes_within, put_then}
+use Rattle.device_run.proofs.Tables.{tables_go, tables_stay, contents_are, committable, tables_within, nothing_after, most_of, commits_add, commits_written}
 
 pub acts_both : (xs ys : List ScriptStep) → acts_of (xs ++ ys) ≡ acts_of xs ++ acts_of ys
 acts_both xs ys = flat_map-append (λ (d : ScriptStep). d.acts) xs ys
@@ -45,18 +46,18 @@ unfolding state_after
 after_none s = refl
 
 -- the fingerprint that a running core's file was made with
-pub fingerprint_is : (fingerprint : List ℕ) (c : CoreValue) (store : Whole) → IsRunning fingerprint c store → store.identity.fingerprint ≡ fingerprint
+pub fingerprint_is : (fingerprint : List ℕ) (c : CoreValue) (store : Paged) → IsRunning fingerprint c store → store.identity.fingerprint ≡ fingerprint
 fingerprint_is fingerprint c store h = ap (λ (i : Identity). i.fingerprint) h.keeps.identity_is
 
 -- ---- one step whose acts are performed
 
 -- a step of a core, whose acts these are, and which its store can take
-pub record CanStep (fingerprint : List ℕ) (c : CoreValue) (store : Whole) (step : ScriptStep) (acts : List Act) : Type 0 where
+pub record CanStep (fingerprint : List ℕ) (c : CoreValue) (store : Paged) (step : ScriptStep) (acts : List Act) : Type 0 where
   pub running : IsRunning fingerprint c store
   pub same : acts ≡ step.acts
   pub storable : AreStorable c.application.generation.limits.blksize c.application.generation.limits.pgpool (durable_of c) step.acts
 
-module _ (fingerprint : List ℕ) (c : CoreValue) (store : Whole) (step : ScriptStep) (acts : List Act) (can : CanStep fingerprint c store step acts) where
+module _ (fingerprint : List ℕ) (c : CoreValue) (store : Paged) (step : ScriptStep) (acts : List Act) (can : CanStep fingerprint c store step acts) where
   kept_content : content_of_tables (durable_of c) ≡ store.content
   kept_content = sym can.running.keeps.content
 
@@ -74,7 +75,13 @@ module _ (fingerprint : List ℕ) (c : CoreValue) (store : Whole) (step : Script
       let at_acts = subst (λ (l : List Act). WithinActs content_after (StandsFor i) (content_of_tables (durable_of c)) l a b la lb) can.same at_content in
       subst (λ (l : List Act). WithinActs tables_after (StandsForTables i) (durable_of c) l a b la lb) (sym (acts_of_one step)) (tables_within i (durable_of c) step.acts a b la lb can.running.keeps.tables can.storable at_acts)
 
-  pub did_step : StepsMakeTheirTables → CommitsOnce c.application c.state step → (d : CoreValue) (store' : Whole) (a b : State) (lb : ℕ → List ℕ → List ℕ → Type 0) → d.application ≡ c.application → HasFacts d.application d.state → d.state ≡ step.after
+  pub step_writes : (a b : State) → (IsTrue a.told → WritesUpTo (acts_most write_most store.identity store.content) acts a b) → StepsWrite fingerprint c (step ∷ []) a b
+  step_writes a b h = λ told.
+      let i = identity_of fingerprint c in
+      let at_identity = subst (λ (j : Identity). WritesUpTo (commits_most j) acts a b) can.running.keeps.identity_is (commits_written store.identity store.content acts a b (h told)) in
+      subst (λ (l : List Act). WritesUpTo (commits_most i) l a b) (can.same ∙ sym (acts_of_one step)) at_identity
+
+  pub did_step : StepsMakeTheirTables → CommitsOnce c.application c.state step → (d : CoreValue) (store' : Paged) (a b : State) (lb : ℕ → List ℕ → List ℕ → Type 0) → d.application ≡ c.application → HasFacts d.application d.state → d.state ≡ step.after
       → store'.identity ≡ store.identity → store'.content ≡ content_after store.content acts → Sent (HasFile store') acts a b lb → DidSteps fingerprint c (step ∷ []) d store' a b lb
   did_step make once d store' a b lb app facts after identity content sent =
       let i = identity_of fingerprint c in
@@ -99,22 +106,32 @@ module _ (fingerprint : List ℕ) (c : CoreValue) (store : Whole) (step : Script
         acts = subst (λ (l : List Act). Sent (HasFile store') l a b lb) (can.same ∙ sym (acts_of_one step)) sent;
       }
 
+-- nothing was written or sent
+pub none_written : (fingerprint : List ℕ) (c : CoreValue) (steps : List ScriptStep) (a : State) → StepsWrite fingerprint c steps a a
+none_written fingerprint c steps a = λ told. writes_none (commits_most (identity_of fingerprint c)) (acts_of steps) a a refl (omega arith)
+
 -- ---- steps so far, of all
 
+-- the bytes that some steps write at most
+abbrev pub steps_most : (fingerprint : List ℕ) → CoreValue → List ScriptStep → ℕ
+steps_most fingerprint c steps = commits_most (identity_of fingerprint c) (acts_of steps)
+
 -- some first steps of all are done: a is the device at the start, and b the device now
-pub record Stepping (fingerprint : List ℕ) (c d : CoreValue) (store : Whole) (all done : List ScriptStep) (a b : State) (la lb : ℕ → List ℕ → List ℕ → Type 0) : Type 0 where
+pub record Stepping (fingerprint : List ℕ) (c d : CoreValue) (store : Paged) (all done : List ScriptStep) (a b : State) (la lb : ℕ → List ℕ → List ℕ → Type 0) : Type 0 where
   pub within : WithinSteps fingerprint c all a b la lb
   pub did : DidSteps fingerprint c done d store a b lb
+  pub put : IsTrue a.told → b.put ≤ a.put + steps_most fingerprint c done
 
-pub stepping_start : (fingerprint : List ℕ) (c : CoreValue) (store : Whole) (all : List ScriptStep) (a : State) (la : ℕ → List ℕ → List ℕ → Type 0) → IsRunning fingerprint c store → (IsTrue a.told → IsKept (HasFile store) a la) → Stepping fingerprint c c store all [] a a la la
+pub stepping_start : (fingerprint : List ℕ) (c : CoreValue) (store : Paged) (all : List ScriptStep) (a : State) (la : ℕ → List ℕ → List ℕ → Type 0) → IsRunning fingerprint c store → (IsTrue a.told → IsKept (HasFile store) a la) → Stepping fingerprint c c store all [] a a la la
 stepping_start fingerprint c store all a la running kept =
     let start = running_start tables_after tables_go (StandsForTables (identity_of fingerprint c)) (HasFile store) (durable_of c) (acts_of all) a la kept in
     record {
       within = start.within;
       did = record { application = refl; running = running; state = λ told. sym (after_none c.state); tables = λ told. sym (tables_go.none (durable_of c)); acts = start.sent };
+      put = λ told. omega arith;
     }
 
-module _ (fingerprint : List ℕ) (c d : CoreValue) (store : Whole) (all done here rest : List ScriptStep) (a b e : State) (la lb le : ℕ → List ℕ → List ℕ → Type 0) (run : Stepping fingerprint c d store all done a b la lb) (split : IsTrue a.told → all ≡ done ++ (here ++ rest)) (step : WithinSteps fingerprint d here b e lb le) where
+module _ (fingerprint : List ℕ) (c d : CoreValue) (store : Paged) (all done here rest : List ScriptStep) (a b e : State) (la lb le : ℕ → List ℕ → List ℕ → Type 0) (run : Stepping fingerprint c d store all done a b la lb) (split : IsTrue a.told → all ≡ done ++ (here ++ rest)) (step : WithinSteps fingerprint d here b e lb le) (writes : StepsWrite fingerprint d here b e) where
   told_then : IsTrue a.told → IsTrue b.told
   told_then told = rw run.within.frame.told told
 
@@ -134,7 +151,18 @@ module _ (fingerprint : List ℕ) (c d : CoreValue) (store : Whole) (all done he
   stepping_within =
       running_within tables_after tables_go (StandsForTables (identity_of fingerprint c)) (HasFile store) (durable_of c) (durable_of d) (acts_of all) (acts_of done) (acts_of here) (acts_of rest) a b e la lb le run.did.tables split_acts so_far step_here
 
-  pub stepping_more : (next : CoreValue) (store' : Whole) (done' : List ScriptStep) → (IsTrue a.told → done' ≡ done ++ here) → DidSteps fingerprint d here next store' b e le → Stepping fingerprint c next store' all done' a e la le
+  writes_here : IsTrue a.told → WritesUpTo (commits_most (identity_of fingerprint c)) (acts_of here) b e
+  writes_here told = subst (λ (i : Identity). WritesUpTo (commits_most i) (acts_of here) b e) same_identity (writes (told_then told))
+
+  pub stepping_writes : StepsWrite fingerprint c all a e
+  stepping_writes = λ told.
+      writes_within nothing_after (most_of (identity_of fingerprint c)) (commits_add (identity_of fingerprint c)) tt tt (acts_of all) (acts_of done) (acts_of here) (acts_of rest) a b e refl (run.did.acts.sent told) (run.put told) (writes_here told) (split_acts told)
+
+  put_here : IsTrue a.told → e.put ≤ a.put + commits_most (identity_of fingerprint c) (acts_of done ++ acts_of here)
+  put_here told =
+      put_then nothing_after (most_of (identity_of fingerprint c)) (commits_add (identity_of fingerprint c)) tt tt (acts_of all) (acts_of done) (acts_of here) (acts_of rest) a b e refl (run.did.acts.sent told) (run.put told) (writes_here told)
+
+  pub stepping_more : (next : CoreValue) (store' : Paged) (done' : List ScriptStep) → (IsTrue a.told → done' ≡ done ++ here) → DidSteps fingerprint d here next store' b e le → Stepping fingerprint c next store' all done' a e la le
   stepping_more next store' done' more did =
       let i = identity_of fingerprint c in
       let acts_more : Running tables_after (StandsForTables i) (HasFile store') (durable_of c) (acts_of all) (acts_of done ++ acts_of here) a e la le =
@@ -153,15 +181,21 @@ module _ (fingerprint : List ℕ) (c d : CoreValue) (store : Whole) (all done he
             faults = acts_more.sent.faults;
           };
         };
+        put = λ told. subst (λ (l : List Act). e.put ≤ a.put + commits_most (identity_of fingerprint c) l) (sym (done_acts told)) (put_here told);
       }
 
+-- these are all steps
+pub stepping_over : (fingerprint : List ℕ) (c d : CoreValue) (store : Paged) (all done : List ScriptStep) (a b : State) (la lb : ℕ → List ℕ → List ℕ → Type 0) → Stepping fingerprint c d store all done a b la lb → all ≡ done → StepsWrite fingerprint c all a b
+stepping_over fingerprint c d store all done a b la lb run over =
+    subst (λ (l : List ScriptStep). StepsWrite fingerprint c l a b) (sym over) (λ told. writes_all (commits_most (identity_of fingerprint c)) (acts_of done) a b (run.did.acts.sent told) (run.put told))
+
 -- all steps were done
-pub steps_ran : (fingerprint : List ℕ) (c d : CoreValue) (store : Whole) (steps : List ScriptStep) (a b : State) (lb : ℕ → List ℕ → List ℕ → Type 0) → DidSteps fingerprint c steps d store a b lb → IsTrue a.told → Ran fingerprint c steps a b lb
+pub steps_ran : (fingerprint : List ℕ) (c d : CoreValue) (store : Paged) (steps : List ScriptStep) (a b : State) (lb : ℕ → List ℕ → List ℕ → Type 0) → DidSteps fingerprint c steps d store a b lb → IsTrue a.told → Ran fingerprint c steps a b lb
 steps_ran fingerprint c d store steps a b lb did told =
     let kept = did.acts.rest told in
     let keeps = did.running.keeps in
     let same : identity_of fingerprint d ≡ identity_of fingerprint c = ap (λ (x : Application). identity_for x.generation fingerprint) did.application in
-    let content : StandsFor (identity_of fingerprint d) (content_of_tables (durable_of d)) b.holds = (store.second, subst (λ (x : Content). Stands (identity_of fingerprint d) store.second x b.holds) keeps.content (subst (λ (i : Identity). Stands i store.second store.content b.holds) keeps.identity_is kept.bytes)) in
+    let content : StandsFor (identity_of fingerprint d) (content_of_tables (durable_of d)) b.holds = (store.second, store.layout, subst (λ (x : Content). Stands (identity_of fingerprint d) store.second x store.layout b.holds) keeps.content (subst (λ (i : Identity). Stands i store.second store.content store.layout b.holds) keeps.identity_is kept.bytes)) in
     let stands : StandsForTables (identity_of fingerprint d) (durable_of d) b.holds = record { tables = keeps.tables; content = content } in
     record {
       sent = did.acts.sent told;
@@ -174,5 +208,5 @@ unfolding history
 no_history app s = refl
 
 -- nothing of a script is done yet
-pub history_start : (fingerprint : List ℕ) (c : CoreValue) (store : Whole) (cs : List Command) (a : State) (la : ℕ → List ℕ → List ℕ → Type 0) → IsRunning fingerprint c store → (IsTrue a.told → IsKept (HasFile store) a la) → Stepping fingerprint c c store (history c.application c.state cs) (history c.application c.state []) a a la la
+pub history_start : (fingerprint : List ℕ) (c : CoreValue) (store : Paged) (cs : List Command) (a : State) (la : ℕ → List ℕ → List ℕ → Type 0) → IsRunning fingerprint c store → (IsTrue a.told → IsKept (HasFile store) a la) → Stepping fingerprint c c store (history c.application c.state cs) (history c.application c.state []) a a la la
 history_start fingerprint c store cs a la running kept = subst (λ (l : List ScriptStep). Stepping fingerprint c c store (history c.application c.state cs) l a a la la) (sym (no_history c.application c.state)) (stepping_start fingerprint c store (history c.application c.state cs) a la running kept)

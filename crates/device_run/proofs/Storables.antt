@@ -2,7 +2,7 @@
 use Rattle.std.proofs.Common.{◌≡◌, ℕ, List, subst}
 use Rattle.std.specs.Prelude.{All}
 use Rattle.kdcdef_types.specs.Statements.{IsWithin}
-use Rattle.kdcfile_store.specs.Whole.{Whole}
+use Rattle.kdcfile_store.specs.Paged.{Paged}
 use Rattle.kdcs_types.specs.declared.act.Act.{Act}
 use Rattle.abstract_monitor.specs.CommandsOf.{IsCommandOf}
 use Rattle.abstract_monitor.specs.Commands.{command_of, turned_step}
@@ -14,7 +14,7 @@ use Rattle.record_commits.specs.Storing.{TurnsCanBeStored, CommandsCanBeStored}
 use Rattle.device_run.specs.Running.{IsRunning}
 use Rattle.device_run.proofs.Stepping.{CanStep}
 
-module _ (fingerprint : List ℕ) (c : CoreValue) (store : Whole) (running : IsRunning fingerprint c store) (acts : List Act) (named : All IsNamedAct acts) where
+module _ (fingerprint : List ℕ) (c : CoreValue) (store : Paged) (running : IsRunning fingerprint c store) (acts : List Act) (named : All IsNamedAct acts) where
   pub turn_can : TurnsCanBeStored → (task : ℕ) → IsWithin 1 c.application.generation.limits.tasks task → acts ≡ (turn_of c.application c.state task).acts → CanStep fingerprint c store (turned_step (turn_of c.application c.state task)) acts
   turn_can law task within same = record {
     running = running;

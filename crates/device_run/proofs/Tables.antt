@@ -1,21 +1,26 @@
 -- What acts make of tables, where a store has the records of them.
-use Rattle.std.proofs.Common.{◌≡◌, ℕ, ◌≤◌, List, [], ◌∷◌, ◌++◌, refl, sym, ap, subst, ◌∙◌}
+use Rattle.std.proofs.Common.{◌≡◌, ℕ, ◌≤◌, ◌+◌, arith, List, [], ◌∷◌, ◌++◌, refl, sym, ap, subst, ◌∙◌}
 use Rattle.kd_device.specs.Device.{State}
 use Rattle.kd_device.specs.TimeLaws.{leaves_weaker}
+use Rattle.std.specs.Prelude.{⊤}
 use Rattle.kd_records.specs.Charge.{total_charge}
+use Rattle.kd_records.specs.Contents.{patched}
 use Rattle.kd_records.specs.Identity.{Identity}
 use Rattle.kd_records.specs.declared.content.Content.{Content}
-use Rattle.kdcfile_images.specs.File.{StandsFor}
+use Rattle.kdcfile_layout.specs.Layout.{StandsFor}
+use Rattle.kdcfile_store.specs.Kept.{write_most}
 use Rattle.kdcs_types.specs.declared.act.Act.{Act}
 use Rattle.kdcs_types.specs.declared.act.Act.TheVariants.{Commit, Emit}
 use Rattle.kdcs_types.specs.Tables.{TableRows, changed}
 use Rattle.abstract_monitor.specs.Trace.{tables_after}
 use Rattle.laws_of_runs.specs.ListsLaws.{tables_both}
-use Rattle.record_codec.specs.Records.{content_of_tables}
+use Rattle.record_codec.specs.Records.{content_of_tables, patch_of}
 use Rattle.warm_start.specs.Stands.{AreTables, StandsForTables}
 use Rattle.record_commits.specs.Storing.{AreStorable}
-use Rattle.device_acts.specs.Acting.{IsCutOf, WithinActs, content_after, AreCommittable}
+use Rattle.device_acts.specs.Acting.{IsCutOf, WithinActs, WritesUpTo, acts_most, content_after, AreCommittable}
 use Rattle.device_acts.specs.ActingLaws.{Goes}
+use Rattle.device_acts.specs.WritingLaws.{Adds}
+use Rattle.device_run.specs.Running.{changes_most, commits_most}
 
 tables_none : (t : TableRows) → tables_after t [] ≡ t
 unfolding tables_after
@@ -71,3 +76,31 @@ module _ (i : Identity) where
     any_moment = λ told. leaves_weaker a b la lb (IsCutOf content_after (StandsFor i) (content_of_tables t) acts a.sent) (IsCutOf tables_after (StandsForTables i) t acts a.sent) (p.any_moment told) (λ image out cut. cut_of_tables t acts a.sent image out h s cut);
     quiet = p.quiet;
   }
+
+-- ---- what acts write
+
+most_both : (i : Identity) (p q : List Act) → commits_most i (p ++ q) ≡ commits_most i p + commits_most i q
+most_both i [] q = omega arith
+most_both i (Commit c ∷ p) q = let rest = most_both i p q in omega (arith, rest)
+most_both i (Emit line ∷ p) q = most_both i p q
+
+-- what a commit writes at most does not hang on what acts make
+abbrev pub nothing_after : ⊤ → List Act → ⊤
+nothing_after x acts = x
+
+abbrev pub most_of : Identity → ⊤ → List Act → ℕ
+most_of i x acts = commits_most i acts
+
+pub commits_add : (i : Identity) → Adds nothing_after (most_of i)
+commits_add i = record { joined = λ x p q. most_both i p q }
+
+-- what acts write over contents is what their commits write
+most_is : (i : Identity) (x : Content) (acts : List Act) → acts_most write_most i x acts ≡ commits_most i acts
+most_is i x [] = refl
+most_is i x (Commit c ∷ acts) = ap (λ n. changes_most i c + n) (most_is i (patched x (patch_of c)) acts)
+most_is i x (Emit line ∷ acts) = most_is i x acts
+
+pub commits_written : (i : Identity) (x : Content) (acts : List Act) (a b : State) → WritesUpTo (acts_most write_most i x) acts a b → WritesUpTo (commits_most i) acts a b
+commits_written i x acts a b h =
+    let same = most_is i x h.done in
+    record { since = h.since; more = h.more; done = h.done; left = h.left; whole = h.whole; bytes = h.bytes; put = omega (arith, h.put, same) }

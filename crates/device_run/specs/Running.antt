@@ -1,10 +1,13 @@
 -- A core and its store, between two steps of a script.
-use Rattle.std.specs.Prelude.{◌≡◌, ◌⊎◌, ℕ, IsTrue, List, [], ◌∷◌, ◌++◌}
+use Rattle.std.specs.Prelude.{◌≡◌, ◌⊎◌, ℕ, ◌+◌, IsTrue, List, [], ◌∷◌, ◌++◌}
 use Rattle.kd_device.specs.Device.{State, Only, Rose, SameFaults}
 use Rattle.kd_records.specs.Identity.{Identity}
 use Rattle.kdcfile_store.specs.Kept.{IsKept}
-use Rattle.kdcfile_store.specs.Whole.{Whole, HasFile}
+use Rattle.kdcfile_layout.specs.Bound.{write_bound}
+use Rattle.kdcfile_store.specs.Paged.{Paged, HasFile}
 use Rattle.kdcs_types.specs.declared.act.Act.{Act}
+use Rattle.kdcs_types.specs.declared.act.Act.TheVariants.{Commit, Emit}
+use Rattle.kdcs_types.specs.declared.act.Changes.{Changes}
 use Rattle.kdcs_types.specs.Tables.{TableRows}
 use Rattle.kdcdef_check.specs.Soundness.{AreLimits}
 use Rattle.abstract_monitor.specs.Bytes.{Bytes}
@@ -17,9 +20,10 @@ use Rattle.abstract_monitor.specs.Turns.{turn_of}
 use Rattle.laws_of_steps.specs.Applications.{IsApplication}
 use Rattle.laws_of_steps.specs.Cut.{IsCut, SentBy}
 use Rattle.laws_of_steps.specs.Keeping.{HasFacts}
+use Rattle.record_codec.specs.Records.{patch_of}
 use Rattle.warm_start.specs.Stands.{StandsForTables, KeepsTables, identity_for}
 use Rattle.monitor_core.specs.CoreValue.{CoreValue}
-use Rattle.device_acts.specs.Acting.{WithinActs, Sent}
+use Rattle.device_acts.specs.Acting.{WithinActs, WritesUpTo, Sent}
 
 -- what the file of this core was made with, from texts with this fingerprint
 abbrev pub identity_of : (fingerprint : List ℕ) → CoreValue → Identity
@@ -30,7 +34,7 @@ abbrev pub durable_of : CoreValue → TableRows
 durable_of c = durable c.application.generation c.state.tables
 
 -- the state has its facts, under an application within its ranges, and the store keeps its durable tables
-pub record IsRunning (fingerprint : List ℕ) (c : CoreValue) (store : Whole) : Type 0 where
+pub record IsRunning (fingerprint : List ℕ) (c : CoreValue) (store : Paged) : Type 0 where
   pub application : IsApplication c.application
   pub limits : AreLimits c.application.generation.limits
   pub facts : HasFacts c.application c.state
@@ -47,8 +51,22 @@ command_steps c command = command_of c.application c.state command ∷ []
 abbrev pub WithinSteps : (fingerprint : List ℕ) → CoreValue → List ScriptStep → (a b : State) → (la lb : ℕ → List ℕ → List ℕ → Type 0) → Type 0
 WithinSteps fingerprint c steps a b la lb = WithinActs tables_after (StandsForTables (identity_of fingerprint c)) (durable_of c) (acts_of steps) a b la lb
 
+-- how many bytes the commit of some changes writes at most, in a file that was made with this
+abbrev pub changes_most : Identity → Changes → ℕ
+changes_most i c = write_bound i (patch_of c)
+
+-- and all commits of some acts; a line writes none
+abbrev pub commits_most : Identity → List Act → ℕ
+commits_most i [] = 0
+commits_most i (Commit c ∷ acts) = changes_most i c + commits_most i acts
+commits_most i (Emit line ∷ acts) = commits_most i acts
+
+-- whatever became of some steps of the core: the bytes written are at most those of their commits that were performed or begun
+abbrev pub StepsWrite : (fingerprint : List ℕ) → CoreValue → List ScriptStep → (a b : State) → Type 0
+StepsWrite fingerprint c steps a b = IsTrue a.told → WritesUpTo (commits_most (identity_of fingerprint c)) (acts_of steps) a b
+
 -- the core came to the state after some steps, and all their acts are done
-pub record DidSteps (fingerprint : List ℕ) (c : CoreValue) (steps : List ScriptStep) (d : CoreValue) (store : Whole) (a b : State) (lb : ℕ → List ℕ → List ℕ → Type 0) : Type 0 where
+pub record DidSteps (fingerprint : List ℕ) (c : CoreValue) (steps : List ScriptStep) (d : CoreValue) (store : Paged) (a b : State) (lb : ℕ → List ℕ → List ℕ → Type 0) : Type 0 where
   pub application : d.application ≡ c.application
   pub running : IsRunning fingerprint d store
   pub state : IsTrue a.told → d.state ≡ state_after c.state steps
@@ -56,7 +74,7 @@ pub record DidSteps (fingerprint : List ℕ) (c : CoreValue) (steps : List Scrip
   pub acts : Sent (HasFile store) (acts_of steps) a b lb
 
 -- the core is one that starts from the durable tables, which the store keeps, a stop leaves just its bytes, and no call failed
-pub record IsAgain (fingerprint : List ℕ) (c d : CoreValue) (store : Whole) (a b : State) (lb : ℕ → List ℕ → List ℕ → Type 0) : Type 0 where
+pub record IsAgain (fingerprint : List ℕ) (c d : CoreValue) (store : Paged) (a b : State) (lb : ℕ → List ℕ → List ℕ → Type 0) : Type 0 where
   pub application : d.application ≡ c.application
   pub running : IsRunning fingerprint d store
   pub steps : d.steps ≡ 0

@@ -1,16 +1,16 @@
 //! A whole script.
 ghost use Rattle.std.specs.Prelude.{◌≡◌, ◌⊎◌, ◌≤◌, ◌+◌, ◌^◌, ℕ, List, IsTrue, IfOk, OnOk, OnErr, IsErrOf, sum_by};
 ghost use Rattle.kd_device.specs.Device.{Rose, SameFaults};
-ghost use Rattle.kdcfile_store.specs.{Kept.{IsKept}, Whole.{HasFile}};
+ghost use Rattle.kdcfile_store.specs.{Kept.{IsKept}, Paged.{HasFile}};
 ghost use Rattle.laws_of_steps.specs.Keeping.{IsScriptOf};
 ghost use Rattle.abstract_monitor.specs.{Commands.{acts_of}, Trace.{history}};
 ghost use Rattle.laws_of_steps.specs.Cut.{commits_in};
-ghost use Rattle.device_run.specs.Running.{turns_of, Ran, IsRunning, WithinSteps, StoppedIn};
+ghost use Rattle.device_run.specs.Running.{turns_of, Ran, IsRunning, StepsWrite, WithinSteps, StoppedIn};
 
 use crate::steps::do_command;
 use abstract_monitor::Command;
 use kd_device::Device;
-use kdcfile_store::WholeStore;
+use kdcfile_store::PagedStore;
 use laws_of_steps::steps_commit_once;
 use monitor_core::Core;
 use std::alloc::Global;
@@ -22,7 +22,7 @@ use warm_start::OpenError;
 pub fn run_script<D: Device>(
     alloc: Global,
     device: &mut D,
-    mut store: WholeStore,
+    mut store: PagedStore,
     mut core: Core,
     fingerprint: &[u8; 32],
     commands: &[Command],
@@ -32,6 +32,7 @@ pub fn run_script<D: Device>(
     requires steps { core.steps + sum_by turns_of commands.now ≤ 10 ^ 18 }
     requires kept { IsTrue (D.state device.old).told → IsKept (HasFile store) (D.state device.old) (D.leaves device.old) }
     ensures any { WithinSteps fingerprint.now core (history core.application core.state commands.now) (D.state device.old) (D.state device.new) (D.leaves device.old) (D.leaves device.new) }
+    ensures put { StepsWrite fingerprint.now core (history core.application core.state commands.now) (D.state device.old) (D.state device.new) }
     ensures done { OnOk result (IsTrue (D.state device.old).told → Ran fingerprint.now core (history core.application core.state commands.now) (D.state device.old) (D.state device.new) (D.leaves device.new)) }
     ensures counted { IfOk result (λ n. IsTrue (D.state device.old).told → n ≡ commits_in (acts_of (history core.application core.state commands.now))) }
     // Of a RESTART nothing is said before the KDCFILE is opened again.

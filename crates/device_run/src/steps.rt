@@ -1,21 +1,21 @@
 //! The steps of a script: turns, and commands, each with its acts.
 ghost use Rattle.std.specs.Prelude.{◌≡◌, ◌⊎◌, ◌≤◌, ◌<◌, ◌+◌, ◌^◌, ◌==◌, if◌then◌else◌, [], false, ℕ, List, IsTrue, IfOk, OnOk, OnErr, IsErrOf};
 ghost use Rattle.kd_device.specs.{Device.{Rose, SameFaults, Frame, SameNames}, Rest.{Rests}};
-ghost use Rattle.kdcfile_store.specs.{Kept.{IsKept}, Whole.{HasFile}};
+ghost use Rattle.kdcfile_store.specs.{Kept.{IsKept}, Paged.{HasFile}};
 ghost use Rattle.kdcdef_types.specs.Statements.{IsWithin};
 ghost use Rattle.abstract_monitor.specs.{CommandsOf.{IsCommandOf}, Commands.{acts_of, command_of, in_a_row, rotated, steps_of}, Turns.{turn_of}, declared.command.Command.TheVariants.{Restart}};
 ghost use Rattle.laws_of_steps.specs.Suits.{Suits};
 ghost use Rattle.monitor_core.specs.Commanding.{IsSingle};
 ghost use Rattle.warm_start.specs.{Opening.{StartsFrom, IsRefused, IsOfOtherTexts}, Stands.{KeepsTables, identity_for}};
 ghost use Rattle.laws_of_steps.specs.Cut.{commits_in};
-ghost use Rattle.device_run.specs.Running.{command_steps, turn_steps, turns_of, DidSteps, IsAgain, IsRunning, WithinSteps, SaysNothing};
+ghost use Rattle.device_run.specs.Running.{command_steps, turn_steps, turns_of, DidSteps, IsAgain, IsRunning, StepsWrite, WithinSteps, SaysNothing};
 
 use crate::commits::count_commits;
 use abstract_monitor::Command;
 use device_acts::{do_acts, say};
 use kd_device::Device;
 use kdcdef_check::Generation;
-use kdcfile_store::WholeStore;
+use kdcfile_store::PagedStore;
 use kdcs_types::Tables;
 use laws_of_steps::steps_commit_once;
 use monitor_core::Core;
@@ -27,7 +27,7 @@ use warm_start::{OpenError, answers_exclude_each_other, open_tables};
 fn do_turn<D: Device>(
     alloc: Global,
     device: &mut D,
-    store: &mut WholeStore,
+    store: &mut PagedStore,
     core: Core,
     task: u16,
     commits: &mut u64,
@@ -38,6 +38,7 @@ fn do_turn<D: Device>(
     requires bounded { commits.old + commits_in (turn_of core.application core.state task).acts ≤ 10 ^ 18 }
     requires kept { IsTrue (D.state device.old).told → IsKept (HasFile store.old) (D.state device.old) (D.leaves device.old) }
     ensures any { WithinSteps store.old.identity.fingerprint core (turn_steps core task) (D.state device.old) (D.state device.new) (D.leaves device.old) (D.leaves device.new) }
+    ensures put { StepsWrite store.old.identity.fingerprint core (turn_steps core task) (D.state device.old) (D.state device.new) }
     ensures done { IfOk result (λ next. DidSteps store.old.identity.fingerprint core (turn_steps core task) next.0 store.new (D.state device.old) (D.state device.new) (D.leaves device.new)) }
     ensures moved { IfOk result (λ next. next.1 ≡ (turn_of core.application core.state task).moved) }
     ensures state { IfOk result (λ next. next.0.state ≡ (turn_of core.application core.state task).after) }
@@ -78,7 +79,7 @@ fn task_after(task: u16, tasks: u16) -> u16
 fn run_turns<D: Device>(
     alloc: Global,
     device: &mut D,
-    store: &mut WholeStore,
+    store: &mut PagedStore,
     mut core: Core,
     turns: u64,
     commits: &mut u64,
@@ -88,6 +89,7 @@ fn run_turns<D: Device>(
     requires bounded { commits.old + commits_in (acts_of (rotated core.application turns false core.state 1 0)) ≤ 10 ^ 18 }
     requires kept { IsTrue (D.state device.old).told → IsKept (HasFile store.old) (D.state device.old) (D.leaves device.old) }
     ensures any { WithinSteps store.old.identity.fingerprint core (rotated core.application turns false core.state 1 0) (D.state device.old) (D.state device.new) (D.leaves device.old) (D.leaves device.new) }
+    ensures put { StepsWrite store.old.identity.fingerprint core (rotated core.application turns false core.state 1 0) (D.state device.old) (D.state device.new) }
     ensures done { IfOk result (λ next. DidSteps store.old.identity.fingerprint core (rotated core.application turns false core.state 1 0) next store.new (D.state device.old) (D.state device.new) (D.leaves device.new)) }
     ensures steps { IfOk result (λ next. next.steps ≤ core.steps + turns) }
     ensures counted { OnOk result (commits.new ≡ commits.old + commits_in (acts_of (rotated core.application turns false core.state 1 0))) }
@@ -115,7 +117,7 @@ fn run_turns<D: Device>(
 fn do_single<D: Device>(
     alloc: Global,
     device: &mut D,
-    store: &mut WholeStore,
+    store: &mut PagedStore,
     core: Core,
     command: &Command,
     commits: &mut u64,
@@ -127,6 +129,7 @@ fn do_single<D: Device>(
     requires bounded { commits.old + commits_in (command_of core.application core.state command.now).acts ≤ 10 ^ 18 }
     requires kept { IsTrue (D.state device.old).told → IsKept (HasFile store.old) (D.state device.old) (D.leaves device.old) }
     ensures any { WithinSteps store.old.identity.fingerprint core (command_steps core command.now) (D.state device.old) (D.state device.new) (D.leaves device.old) (D.leaves device.new) }
+    ensures put { StepsWrite store.old.identity.fingerprint core (command_steps core command.now) (D.state device.old) (D.state device.new) }
     ensures done { IfOk result (λ next. DidSteps store.old.identity.fingerprint core (command_steps core command.now) next store.new (D.state device.old) (D.state device.new) (D.leaves device.new)) }
     ensures steps { IfOk result (λ next. next.steps ≡ core.steps + 1) }
     ensures counted { OnOk result (commits.new ≡ commits.old + commits_in (command_of core.application core.state command.now).acts) }
@@ -149,7 +152,7 @@ fn do_single<D: Device>(
 fn reopen<D: Device>(
     alloc: Global,
     device: &mut D,
-    store: &mut WholeStore,
+    store: &mut PagedStore,
     generation: &Generation,
     fingerprint: &[u8; 32],
 ) -> Result<Tables, OpenError>
@@ -174,7 +177,7 @@ fn reopen<D: Device>(
 fn start_again<D: Device>(
     alloc: Global,
     device: &mut D,
-    store: &mut WholeStore,
+    store: &mut PagedStore,
     core: Core,
     fingerprint: &[u8; 32],
 ) -> Result<Core, OpenError>
@@ -202,13 +205,14 @@ const RESTARTED: &[u8] = b"RESTART\n";
 fn restart<D: Device>(
     alloc: Global,
     device: &mut D,
-    store: &mut WholeStore,
+    store: &mut PagedStore,
     core: Core,
     fingerprint: &[u8; 32],
 ) -> Result<Core, OpenError>
     requires running { IsRunning fingerprint.now core store.old }
     requires kept { IsTrue (D.state device.old).told → IsKept (HasFile store.old) (D.state device.old) (D.leaves device.old) }
     ensures any { WithinSteps fingerprint.now core (command_steps core Restart) (D.state device.old) (D.state device.new) (D.leaves device.old) (D.leaves device.new) }
+    ensures put { StepsWrite fingerprint.now core (command_steps core Restart) (D.state device.old) (D.state device.new) }
     ensures done { IfOk result (λ next. DidSteps fingerprint.now core (command_steps core Restart) next store.new (D.state device.old) (D.state device.new) (D.leaves device.new)) }
     ensures steps { IfOk result (λ next. next.steps ≡ 0) }
     ensures fine { (IsErrOf result OpenError.Failed → ⊥) → SameFaults (D.state device.old) (D.state device.new) }
@@ -226,7 +230,7 @@ fn restart<D: Device>(
 pub(crate) fn do_command<D: Device>(
     alloc: Global,
     device: &mut D,
-    store: &mut WholeStore,
+    store: &mut PagedStore,
     core: Core,
     fingerprint: &[u8; 32],
     command: &Command,
@@ -238,6 +242,7 @@ pub(crate) fn do_command<D: Device>(
     requires bounded { commits.old + commits_in (acts_of (steps_of core.application core.state command.now)) ≤ 10 ^ 18 }
     requires kept { IsTrue (D.state device.old).told → IsKept (HasFile store.old) (D.state device.old) (D.leaves device.old) }
     ensures any { WithinSteps fingerprint.now core (steps_of core.application core.state command.now) (D.state device.old) (D.state device.new) (D.leaves device.old) (D.leaves device.new) }
+    ensures put { StepsWrite fingerprint.now core (steps_of core.application core.state command.now) (D.state device.old) (D.state device.new) }
     ensures done { IfOk result (λ next. DidSteps fingerprint.now core (steps_of core.application core.state command.now) next store.new (D.state device.old) (D.state device.new) (D.leaves device.new)) }
     ensures steps { IfOk result (λ next. next.steps ≤ core.steps + turns_of command.now) }
     ensures counted { OnOk result (commits.new ≡ commits.old + commits_in (acts_of (steps_of core.application core.state command.now))) }

@@ -1,4 +1,4 @@
-//! Tests of kd_device and kd_host: what no case of the whole program reaches.
+//! Tests of kd_device, kd_host and the two stores: what no case of the whole program reaches.
 //!
 //! They are here, so that these crates are proved once and not once more with their tests. A test is here only where
 //! no script and no KDCFILE of a case makes the call, or where no line shows the value. No crate uses it.

@@ -1,6 +1,3 @@
-pub mod RecordsSoFar
-pub mod Torns
-pub mod Writing
-pub mod Replacing
-pub mod Crash
+pub mod Staging
+pub mod Committing
 pub mod Fresh

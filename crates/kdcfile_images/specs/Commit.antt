@@ -1,72 +1,59 @@
 -- What a commit makes of a file, and what a stop within it leaves.
-use Rattle.std.specs.Prelude.{◌≡◌, ◌⊎◌, ◌≤◌, ◌+◌, ℕ, min, not, List, [], ◌∷◌, ◌++◌, length, codes}
+use Rattle.std.specs.Prelude.{◌≡◌, ◌⊎◌, ◌<◌, ◌≤◌, ◌+◌, ℕ, not, List, [], ◌∷◌, ◌++◌, length, codes, All}
+use Rattle.std.specs.List.{flat_map}
 use Rattle.std.specs.Int.{w32, w64, to_be_bytes}
-use Rattle.kd_device.specs.Device.{State, LeavesOnly, Torn, written}
+use Rattle.kd_device.specs.Device.{State, LeavesOnly, written}
 use Rattle.kd_records.specs.declared.content.Content.{Content}
 use Rattle.kd_records.specs.Identity.{Identity}
-use Rattle.kdcfile_images.specs.File.{Stands, StandsFor, place, image_size, selector}
+use Rattle.kdcfile_layout.specs.declared.page.PageWrite.{PageWrite}
+use Rattle.kdcfile_layout.specs.Layout.{Layout, Stands, StandsFor, IsImage, page_place, page_count, root_place, selector}
+use Rattle.kdcfile_layout.specs.Crash.{AllFree}
+use Rattle.kdcfile_layout.specs.Writes.{written_all, total, AllBelow}
 use Rattle.kdcfile_images.specs.Opened.{Opened, identity_of, renewed}
-use Rattle.kdcfile_images.specs.Writes.{IsSynced, WritesOnly}
 use Rattle.kdcfile_images.specs.declared.image.Root.{Root}
 
--- a root as 64 bytes
+-- a root as bytes: 64, and four for each page of the directory
 abbrev pub spelled_root : Root → List ℕ
 spelled_root r =
-    r.fingerprint ++ to_be_bytes w64 r.clock ++ to_be_bytes w64 r.next_job ++ to_be_bytes w32 r.pgpool ++ to_be_bytes w32 0 ++ to_be_bytes w32 r.records ++ codes "ROOT"
+    r.fingerprint ++ to_be_bytes w64 r.clock ++ to_be_bytes w64 r.next_job ++ to_be_bytes w32 r.pgpool ++ to_be_bytes w32 (length r.directory) ++ to_be_bytes w32 r.records ++ codes "ROOT" ++ flat_map (λ p. to_be_bytes w32 p) r.directory
 
--- where the unselected image stands
-abbrev pub other_place : Opened → ℕ
-other_place i = place (identity_of i) (not i.second)
+-- a write of a whole page that there is
+abbrev pub IsPage : ℕ → ℕ → PageWrite → Type 0
+IsPage size pool w = (p : ℕ) × (p < page_count size pool) × (w.at ≡ page_place size p) × (length w.bytes ≡ size)
 
-abbrev pub other_end : Opened → ℕ
-other_end i = other_place i + image_size (identity_of i)
+abbrev pub ArePages : ℕ → ℕ → List PageWrite → Type 0
+ArePages size pool pages = All (IsPage size pool) pages
 
--- the file with these records after this root in the unselected image
-abbrev pub staged : Opened → List ℕ → Root → List ℕ → List ℕ
-staged i body root h = written (written h (other_place i + 64) body) (other_place i) (spelled_root root)
+-- the file with these pages, and this root as the unselected one
+abbrev pub staged : Opened → List PageWrite → Root → List ℕ → List ℕ
+staged i pages root h = written (written_all h pages) (root_place (not i.second)) (spelled_root root)
 
 -- and with the selector on that image
-abbrev pub committed : Opened → List ℕ → Root → List ℕ → List ℕ
-committed i body root h = written (staged i body root h) 4096 (selector (not i.second) ∷ [])
+abbrev pub committed : Opened → List PageWrite → Root → List ℕ → List ℕ
+committed i pages root h = written (staged i pages root h) 4096 (selector (not i.second) ∷ [])
+
+-- these writes make the staged file, with just its bytes: none is past an end that the pages keep, and none is of the
+-- selected image if none of the pages is
+pub record AreStaged (i : Opened) (pages : List PageWrite) (root : Root) (writes : List PageWrite) : Type 0 where
+  pub file : (h : List ℕ) → written_all h writes ≡ staged i pages root h
+  pub total : total writes ≡ total pages + length (spelled_root root)
+  pub below : (end : ℕ) → AllBelow end pages → root_place (not i.second) + length (spelled_root root) ≤ end → AllBelow end writes
+  pub free : (l : Layout) → 0 < i.blksize → AllFree i.blksize i.second l pages → length (spelled_root root) ≤ 8192 → AllFree i.blksize i.second l writes
 
 -- nothing more was sent, and the file stands for the one content or for the other, each with what it was made with
 abbrev pub Either : Identity → Content → Identity → Content → List ℕ → List ℕ → List ℕ → Type 0
 Either i x j y sent c out = (out ≡ sent) × (StandsFor i x c ⊎ StandsFor j y c)
 
--- what a stop leaves where an image is written between two places and then selected: any bytes in the one, or the
--- new image with any selector
-abbrev pub InImageOrSelector : ℕ → ℕ → List ℕ → List ℕ → List ℕ → Type 0
-InImageOrSelector from upto new h c = Torn (min from (length h)) upto h c ⊎ Torn (min 4096 (length new)) 4097 new c
+-- the selected image is the one of this content, and names none of these pages
+pub record IsApartFrom (i : Opened) (x : Content) (l : Layout) (pages : List PageWrite) (h : List ℕ) : Type 0 where
+  pub stands : Stands (identity_of i) i.second x l h
+  pub free : AllFree i.blksize i.second l pages
 
--- from a to b at most n bytes were written, those of an image between these places, and then the selector's
-pub record Replaces (from upto : ℕ) (new : List ℕ) (n : ℕ) (a b : State) (la lb : ℕ → List ℕ → List ℕ → Type 0) : Type 0 where
-  pub sent : b.sent ≡ a.sent
-  pub put : b.put ≤ a.put + n
-  pub leaves : LeavesOnly a b la lb (λ c out. (out ≡ a.sent) × InImageOrSelector from upto new a.holds c)
+-- with these pages and this root, the unselected image would be the one of this content
+abbrev pub WouldBe : Opened → List PageWrite → Root → Content → Layout → List ℕ → Type 0
+WouldBe i pages root y m h = IsImage (renewed i root) (not i.second) y m (staged i pages root h)
 
--- a file with these records and this root
-abbrev pub with_image : List ℕ → (behind at : ℕ) → (body root : List ℕ) → List ℕ
-with_image h behind at body root = written (written h behind body) at root
-
--- from a to b no more than the records and the root were written, between the root and any place that both end before
-abbrev pub WritesImage : (behind at : ℕ) → (body root : List ℕ) → (a b : State) → (la lb : ℕ → List ℕ → List ℕ → Type 0) → Type 0
-WritesImage behind at body root a b la lb =
-    (upto : ℕ) → behind + length body ≤ upto → at + length root ≤ upto → WritesOnly at upto (length body + length root) a b la lb
-
--- they were written, and are on the disk
-abbrev pub WroteImage : (behind at : ℕ) → (body root : List ℕ) → (a b : State) → (lb : ℕ → List ℕ → List ℕ → Type 0) → Type 0
-WroteImage behind at body root a b lb = IsSynced (length body + length root) (with_image a.holds behind at body root) a b lb
-
--- the same, and then the selector
-abbrev pub ReplacesImage : (behind at : ℕ) → (body root : List ℕ) → (a b : State) → (la lb : ℕ → List ℕ → List ℕ → Type 0) → Type 0
-ReplacesImage behind at body root a b la lb =
-    (upto : ℕ) → behind + length body ≤ upto → at + length root ≤ upto → Replaces at upto (with_image a.holds behind at body root) (length body + length root + 1) a b la lb
-
-abbrev pub ReplacedImage : (behind at : ℕ) → (body root : List ℕ) → (selector : ℕ) → (a b : State) → (lb : ℕ → List ℕ → List ℕ → Type 0) → Type 0
-ReplacedImage behind at body root selector a b lb =
-    IsSynced (length body + length root + 1) (written (with_image a.holds behind at body root) 4096 (selector ∷ [])) a b lb
-
--- where the file stands for a content, and would stand for another with this image selected, a stop leaves the one or the other
-abbrev pub LeavesEither : Opened → (body : List ℕ) → Root → (a b : State) → (la lb : ℕ → List ℕ → List ℕ → Type 0) → Type 0
-LeavesEither i body root a b la lb =
-    (x y : Content) → Stands (identity_of i) i.second x a.holds → Stands (renewed i root) (not i.second) y (committed i body root a.holds) → LeavesOnly a b la lb (Either (identity_of i) x (renewed i root) y a.sent)
+-- where the file stands for a content, and would stand for another, a stop leaves the one or the other
+abbrev pub LeavesEither : Opened → List PageWrite → Root → (a b : State) → (la lb : ℕ → List ℕ → List ℕ → Type 0) → Type 0
+LeavesEither i pages root a b la lb =
+    (x y : Content) (l m : Layout) → IsApartFrom i x l pages a.holds → WouldBe i pages root y m a.holds → LeavesOnly a b la lb (Either (identity_of i) x (renewed i root) y a.sent)

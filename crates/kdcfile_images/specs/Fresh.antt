@@ -1,37 +1,46 @@
 -- A fresh file, and what a stop within its making leaves.
-use Rattle.std.specs.Prelude.{◌≡◌, ◌≤◌, ◌⊎◌, ℕ, ◌+◌, ◌*◌, List, ◌∷◌, ◌++◌, length, get_or, replicate}
+use Rattle.std.specs.Prelude.{◌≡◌, ◌⊎◌, ℕ, zero, suc, ◌+◌, ◌*◌, List, [], ◌∷◌, ◌++◌, replicate, codes}
+use Rattle.std.specs.Int.{w32, to_be_bytes}
 use Rattle.kd_device.specs.Device.{State, LeavesOnly}
 use Rattle.kd_records.specs.Identity.{Identity}
-use Rattle.kdcfile_images.specs.File.{StandsFor, IsNoImage, mark, root, fresh}
+use Rattle.kdcfile_layout.specs.Layout.{Layout, StandsFor, IsNoImage, directory_pages, slots_in_page, free_slot, head, root, zeros, fresh}
+use Rattle.kdcfile_layout.specs.Pages.{padded}
+use Rattle.kdcfile_images.specs.Opened.{root_for}
 use Rattle.kdcfile_images.specs.declared.image.Root.{Root}
-
--- so many zero bytes
-unfoldable pub zeros : ℕ → List ℕ
-zeros n = replicate n 0
 
 -- what a file with this BLKSIZE, PGPOOL and fingerprint is made with
 abbrev pub made_with : (blksize pages : ℕ) → (fingerprint : List ℕ) → Identity
 made_with blksize pages fingerprint = record { blksize = blksize; pages = pages; fingerprint = fingerprint }
 
--- a list, and zero bytes up to the end of an image
-abbrev pub in_image : Identity → List ℕ → List ℕ
-in_image i part = part ++ zeros (8128 + i.pages * i.blksize)
+-- the numbers below n, in order
+unfoldable pub numbers : ℕ → List ℕ
+numbers zero = []
+numbers (suc n) = numbers n ++ n ∷ []
 
--- after the gate: the mark, and two images with no records
-abbrev pub fresh_rest : Identity → List ℕ
-fresh_rest i = mark i ++ zeros 8175 ++ in_image i (root i fresh) ++ in_image i (root i fresh)
-
--- after the sizes: a gap, and two images with this root
-abbrev pub two_images : (root : List ℕ) → (gap left : ℕ) → List ℕ
-two_images root gap left = zeros gap ++ (root ++ zeros left) ++ (root ++ zeros left)
-
--- a fresh file: the open gate, and what is after it
-abbrev pub fresh_file : Identity → List ℕ
-fresh_file i = 75 ∷ fresh_rest i
+-- the directory's pages are the first ones, and all slots are free
+abbrev pub fresh_layout : Identity → Layout
+fresh_layout i = record { directory = numbers (directory_pages i.blksize i.pages); slots = replicate (directory_pages i.blksize i.pages * slots_in_page i.blksize) free_slot }
 
 -- the root of both images
 abbrev pub fresh_root : Identity → Root
-fresh_root i = record { fingerprint = i.fingerprint; clock = 0; next_job = 1; pgpool = i.pages; records = 0 }
+fresh_root i = root_for i fresh (fresh_layout i).directory
+
+-- a list, and zero bytes up to 8,192
+abbrev pub in_part : List ℕ → List ℕ
+in_part text = padded 8192 text
+
+-- a fresh file: the head, two roots with no records, and the pages of the directory, which are zero bytes
+abbrev pub fresh_file : Identity → List ℕ
+fresh_file i =
+    in_part (head i) ++ in_part (root i fresh (fresh_layout i).directory) ++ in_part (root i fresh (fresh_layout i).directory) ++ zeros (directory_pages i.blksize i.pages * i.blksize)
+
+-- what is after the gate, with this root, so many zero bytes after the head, and so many of pages
+abbrev pub after_gate : (blksize : ℕ) → (root : List ℕ) → (gap rest : ℕ) → List ℕ
+after_gate blksize root gap rest = (codes "UTMKDCF" ++ 2 ∷ [] ++ to_be_bytes w32 blksize) ++ zeros gap ++ in_part root ++ in_part root ++ zeros rest
+
+-- how many bytes it has
+abbrev pub fresh_length : Identity → ℕ
+fresh_length i = 24576 + directory_pages i.blksize i.pages * i.blksize
 
 -- nothing more was sent, and the file is no image or stands for the fresh content
 abbrev pub Made : Identity → List ℕ → List ℕ → List ℕ → Type 0
@@ -40,11 +49,3 @@ Made i sent c out = (out ≡ sent) × (IsNoImage c ⊎ StandsFor i fresh c)
 -- a stop within a making leaves no more
 abbrev pub LeavesMade : Identity → (a b : State) → (la lb : ℕ → List ℕ → List ℕ → Type 0) → Type 0
 LeavesMade i a b la lb = LeavesOnly a b la lb (Made i a.sent)
-
--- the gate is not open, or nothing is after it
-abbrev pub IsShut : List ℕ → Type 0
-IsShut c = (length c ≤ 1) ⊎ (get_or c 0 0 ≡ 75 → ⊥)
-
--- nothing more was sent, and the file is shut, or this is after the open gate
-abbrev pub ShutOr : List ℕ → List ℕ → List ℕ → List ℕ → Type 0
-ShutOr rest sent c out = (out ≡ sent) × (IsShut c ⊎ (c ≡ 75 ∷ rest))

@@ -1,14 +1,6 @@
-pub mod Causes
-pub mod File
 pub mod Opened
-pub mod Reading
-pub mod Writes
 pub mod Commit
 pub mod Fresh
-pub mod TestsLaws
-pub mod PlacesLaws
-pub mod HeadsLaws
-pub mod ReadRecordsLaws
-pub mod ReadImagesLaws
-pub mod PartsLaws
-pub mod WrittenLaws
+pub mod FreshLaws
+pub mod Examples
+pub mod ExamplesLaws

@@ -1,8 +1,9 @@
--- What is known of a file, and the content that a root has with its records.
-use Rattle.std.specs.Prelude.{ℕ, Bool, List}
+-- What is known of a file that was made or loaded: its selected image.
+use Rattle.std.specs.Prelude.{◌≡◌, ℕ, Bool, List, length, Option}
 use Rattle.kd_records.specs.declared.content.Content.{Content}
-use Rattle.kd_records.specs.Contents.{Record}
-use Rattle.kd_records.specs.Identity.{Identity}
+use Rattle.kd_records.specs.Identity.{Identity, IsIdentity}
+use Rattle.kdcfile_layout.specs.declared.chain.Chain.{Chain}
+use Rattle.kdcfile_layout.specs.Layout.{Layout, directory_pages}
 use Rattle.kdcfile_images.specs.declared.image.Root.{Root}
 
 -- the selected image of a file: its block size, its root, and whether it is image B
@@ -19,6 +20,15 @@ identity_of i = record { blksize = i.blksize; pages = i.root.pgpool; fingerprint
 abbrev pub renewed : Opened → Root → Identity
 renewed i root = record (identity_of i) { fingerprint = root.fingerprint }
 
--- the content of an image with this root and these records
-abbrev pub content_in : Root → List Record → Content
-content_in root records = record { clock = root.clock; next_job = root.next_job; items = records }
+-- the sizes are those that a file may have, and the root has the numbers of all pages of the directory
+pub record IsOpened (i : Opened) : Type 0 where
+  pub identity : IsIdentity (identity_of i)
+  pub directory : length i.root.directory ≡ directory_pages i.blksize i.root.pgpool
+
+-- where all is, in an image with these slots
+abbrev pub layout_in : Root → List (Option Chain) → Layout
+layout_in root slots = record { directory = root.directory; slots = slots }
+
+-- the root of an image of this content, whose directory has these pages
+abbrev pub root_for : Identity → Content → List ℕ → Root
+root_for i x directory = record { fingerprint = i.fingerprint; clock = x.clock; next_job = x.next_job; pgpool = i.pages; directory = directory; records = length x.items }

@@ -1,19 +1,19 @@
 //! What is known of a file that was made or loaded: its selected image.
 ghost use Rattle.std.specs.Prelude.{◌≡◌, not};
-ghost use Rattle.kd_records.specs.Identity.{IsIdentity};
-ghost use Rattle.kdcfile_images.specs.Opened.{identity_of};
+ghost use Rattle.kdcfile_images.specs.Opened.{IsOpened};
 
-use kd_records::Records;
+use page_pool::Pages;
 use std::marker::Model;
 
-/// What is at the beginning of an image: the fingerprint of the texts, the clock in ticks, the next job number,
-/// PGPOOL in pages, and the number of records.
-#[derive(Clone, Copy)]
+/// What is at the beginning of an image: the fingerprint of the texts, the clock in ticks, the next job number, PGPOOL
+/// in pages, the numbers of the directory's pages in order, and the number of records.
+#[derive(Drop)]
 pub struct Root {
     pub fingerprint: [u8; 32],
     pub clock: u64,
     pub next_job: u64,
     pub pgpool: u32,
+    pub directory: Pages,
     pub records: u32,
 }
 
@@ -26,19 +26,19 @@ pub struct Image {
 }
 
 impl Model for Image {
-    ghost use Rattle.kd_records.specs.Identity.{IsIdentity};
-    ghost use Rattle.kdcfile_images.specs.Opened.{Opened, identity_of};
+    ghost use Rattle.kdcfile_images.specs.Opened.{Opened, IsOpened};
 
     ghost Value = { Opened };
 
     ghost view = { λ i. record { blksize = i.blksize; root = i.root; second = i.second } };
 
-    ghost invariant = { λ i. IsIdentity (identity_of (record { blksize = i.blksize; root = i.root; second = i.second })) };
+    ghost invariant = { λ i. IsOpened (record { blksize = i.blksize; root = i.root; second = i.second }) };
 }
 
 impl Image {
+    /// The image with this root, in a file with blocks of `blksize` bytes; image B where `second` is true.
     pub fn new(blksize: u32, root: Root, second: bool) -> Image
-        requires { IsIdentity (identity_of (record { blksize = blksize; root = root; second = second })) }
+        requires { IsOpened (record { blksize = blksize; root = root; second = second }) }
         ensures { result ≡ record { blksize = blksize; root = root; second = second } }
     {
         Image {
@@ -51,14 +51,15 @@ impl Image {
     /// BLKSIZE in bytes.
     pub fn blksize(&self) -> u32
         ensures value { result ≡ self.now.blksize }
-        ensures identity { IsIdentity (identity_of self.now) }
+        ensures opened { IsOpened self.now }
     {
         self.blksize
     }
 
+    /// What is at its beginning.
     pub fn root(&self) -> &Root
         ensures value { result.now ≡ self.now.root }
-        ensures identity { IsIdentity (identity_of self.now) }
+        ensures opened { IsOpened self.now }
     {
         &self.root
     }
@@ -72,17 +73,10 @@ impl Image {
 
     /// From now on the other image is the selected one.
     pub(crate) fn turn(&mut self, root: Root)
-        requires { root.pgpool ≡ self.old.root.pgpool }
+        requires { IsOpened (record self.old { root = root; second = not self.old.second }) }
         ensures { self.new ≡ record self.old { root = root; second = not self.old.second } }
     {
         self.root = root;
         self.second = !self.second;
     }
-}
-
-/// What a load gives: the selected image, and its records.
-#[derive(Drop)]
-pub struct Loaded {
-    pub image: Image,
-    pub records: Records,
 }

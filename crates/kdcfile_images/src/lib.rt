@@ -1,26 +1,18 @@
-//! A KDCFILE as two whole images and a selector between them: making one, loading the selected image, and writing
-//! the unselected one and then selecting it.
+//! The two images of a KDCFILE: a file is made with no records in either, and a commit writes pages and the root of the
+//! unselected image and then selects it.
 //!
-//! It stands on kd_device and kd_records. To the store above, its contract says that bytes are loaded exactly where
-//! they stand for an image, and that during a commit a stop leaves the old image or the new one, after `Ok` the new
-//! one alone.
+//! It stands on kdcfile_layout. To the store above, its contract says which file is made, that a commit writes just the
+//! bytes that it is given, a root and the selector, and that during it a stop leaves the old image or the new one,
+//! after `Ok` the new one alone.
 #![tactic(auto)]
 
 mod commit;
-mod fault;
-mod head;
 mod image;
-mod loading;
+mod laws;
 mod making;
-mod part;
-mod read_root;
-mod record;
 mod root;
-mod synced;
 
 pub use commit::commit_image;
-pub use fault::LoadError;
-pub use image::{Image, Loaded, Root};
-pub use loading::{load, one_meaning};
+pub use image::{Image, Root};
+pub use laws::worked_rows;
 pub use making::create;
-pub use synced::write_synced;

@@ -1,22 +1,23 @@
-//! A file is made: with a closed gate, which is opened when all else is on the disk.
-ghost use Rattle.std.specs.Prelude.{◌≡◌, ◌≤◌, ◌<◌, ◌+◌, ◌-◌, ◌*◌, ◌^◌, ◌++◌, ◌∷◌, [], List, ℕ, Bool, false, IsTrue, length, IfOk, OnOk, OnErr, IsErrOf};
+//! A file is made, with no records.
+ghost use Rattle.std.specs.Prelude.{◌≡◌, ◌≤◌, ◌<◌, ◌+◌, ◌-◌, ◌^◌, ◌++◌, ◌∷◌, [], List, ℕ, Bool, false, IsTrue, length, IfOk, OnOk, OnErr, IsErrOf};
 ghost use Rattle.kd_device.specs.{Device.{State, Rose, Frame, SameFaults, SameNames, LeavesOnly, Only}, Rest.{Rests}};
-ghost use Rattle.kd_records.specs.Identity.{Identity, IsIdentity};
-ghost use Rattle.kdcfile_images.specs.{File.{Stands, mark, image_size, fresh}, Writes.{IsSynced}, Commit.{spelled_root}, Fresh.{zeros, in_image, fresh_rest, fresh_file, fresh_root, LeavesMade, ShutOr, made_with, two_images}};
+ghost use Rattle.kd_records.specs.Identity.{IsIdentity};
+ghost use Rattle.kdcfile_layout.specs.{Layout.{Stands, fresh, zeros}};
+ghost use Rattle.kdcfile_images.specs.Fresh.{after_gate, numbers as numbers_below, in_part, fresh_file, fresh_layout, fresh_length, fresh_root, LeavesMade, made_with};
 
 use crate::image::{Image, Root};
 use crate::root::root_bytes;
-use crate::synced::write_synced;
 use kd_base::OutOfMemory;
-use kd_device::{Device, DeviceError, Failed};
+use kd_device::{Device, DeviceError};
+use kdcfile_layout::{directory_pages, make_file};
+use page_pool::Pages;
 use std::alloc::Global;
 
-const CLOSED: u8 = 0;
+/// The zero bytes between the head and the root of image A.
+const GAP: usize = 8179;
 
-const OPEN: u8 = 75;
-
-/// The zero bytes between the head and image A.
-const GAP: usize = 8175;
+/// The bytes of a root with the zero bytes after it.
+const ROOT_PART: usize = 8192;
 
 /// Adds so many zero bytes.
 fn add_zeros(to: &mut Vec<u8>, count: usize) -> Result<(), OutOfMemory>
@@ -27,37 +28,67 @@ fn add_zeros(to: &mut Vec<u8>, count: usize) -> Result<(), OutOfMemory>
     Ok(())
 }
 
-/// Adds an image of these first bytes and zero bytes.
-fn add_image(to: &mut Vec<u8>, root: &[u8], left: usize) -> Result<(), OutOfMemory>
-    requires { left < 2 ^ 28 }
-    ensures { OnOk result (to.new.items ≡ to.old.items ++ (root.now ++ zeros left)) }
+/// Adds a root, and zero bytes up to the end of its part.
+fn add_root(to: &mut Vec<u8>, root: &[u8]) -> Result<(), OutOfMemory>
+    requires { length root.now ≤ 8192 }
+    ensures { OnOk result (to.new.items ≡ to.old.items ++ in_part root.now) }
 {
     to.extend_from_slice(root)?;
-    add_zeros(to, left)
+    add_zeros(to, ROOT_PART - root.len())
 }
 
 /// What is after the gate of a fresh file.
 fn rest_bytes(
     alloc: Global,
     blksize: u32,
-    pgpool: u32,
     root: &[u8],
     gap: usize,
-    left: usize,
+    pages: usize,
 ) -> Result<Vec<u8>, OutOfMemory>
-    requires root { length root.now ≡ 64 }
-    requires gap { gap < 2 ^ 16 }
-    requires left { left < 2 ^ 28 }
-    ensures { IfOk result (λ v. (fingerprint : List ℕ) → v.items ≡ mark (record { blksize = blksize; pages = pgpool; fingerprint = fingerprint }) ++ two_images root.now gap left) }
+    requires root { length root.now ≤ 8192 }
+    requires gap { gap ≤ 8192 }
+    requires pages { pages < 2 ^ 28 }
+    ensures { IfOk result (λ v. v.items ≡ after_gate blksize root.now gap pages) }
 {
-    let mut rest = Vec::with_capacity(alloc, 144 + gap + 2 * left)?;
-    rest.extend_from_slice(b"UTMKDCF\x01")?;
+    let mut rest = Vec::with_capacity(alloc, 12 + gap + 2 * ROOT_PART + pages)?;
+    rest.extend_from_slice(b"UTMKDCF\x02")?;
     rest.extend_from_slice(&blksize.to_be_bytes())?;
-    rest.extend_from_slice(&pgpool.to_be_bytes())?;
     add_zeros(&mut rest, gap)?;
-    add_image(&mut rest, root, left)?;
-    add_image(&mut rest, root, left)?;
+    add_root(&mut rest, root)?;
+    add_root(&mut rest, root)?;
+    add_zeros(&mut rest, pages)?;
     Ok(rest)
+}
+
+/// The page numbers from 0 on, so many.
+fn numbers(alloc: Global, count: u32) -> Result<Pages, OutOfMemory>
+    ensures { IfOk result (λ p. p ≡ numbers_below count) }
+{
+    let mut pages = Pages::new(alloc);
+    for n in 0..count {
+        pages.push(n)?;
+    }
+    Ok(pages)
+}
+
+/// The root of both images of a fresh file.
+fn new_root(
+    alloc: Global,
+    blksize: u32,
+    pgpool: u32,
+    fingerprint: &[u8; 32],
+) -> Result<Root, OutOfMemory>
+    requires { IsIdentity (made_with blksize pgpool fingerprint.now) }
+    ensures { IfOk result (λ r. r ≡ fresh_root (made_with blksize pgpool fingerprint.now)) }
+{
+    Ok(Root {
+        fingerprint: *fingerprint,
+        clock: 0,
+        next_job: 1,
+        pgpool,
+        directory: numbers(alloc, directory_pages(blksize, pgpool))?,
+        records: 0,
+    })
 }
 
 /// A fresh file in memory: its image, and what is after the gate.
@@ -73,48 +104,22 @@ fn make(
     pgpool: u32,
     fingerprint: &[u8; 32],
 ) -> Result<Draft, OutOfMemory>
-    requires { IsIdentity (record { blksize = blksize; pages = pgpool; fingerprint = fingerprint.now }) }
-    ensures image { IfOk result (λ m. m.image ≡ record { blksize = blksize; root = fresh_root (record { blksize = blksize; pages = pgpool; fingerprint = fingerprint.now }); second = false }) }
-    ensures rest { IfOk result (λ m. m.rest.items ≡ fresh_rest (record { blksize = blksize; pages = pgpool; fingerprint = fingerprint.now })) }
+    requires { IsIdentity (made_with blksize pgpool fingerprint.now) }
+    ensures image { IfOk result (λ m. m.image ≡ record { blksize = blksize; root = fresh_root (made_with blksize pgpool fingerprint.now); second = false }) }
+    ensures rest { IfOk result (λ m. 75 ∷ m.rest.items ≡ fresh_file (made_with blksize pgpool fingerprint.now)) }
 {
-    let root = Root {
-        fingerprint: *fingerprint,
-        clock: 0,
-        next_job: 1,
-        pgpool,
-        records: 0,
-    };
+    let root = new_root(alloc, blksize, pgpool, fingerprint)?;
     let bytes = root_bytes(alloc, &root)?;
-    let left = 8128 + pgpool as usize * blksize as usize;
-    let rest = rest_bytes(alloc, blksize, pgpool, bytes.as_slice(), GAP, left)?;
+    let pages = directory_pages(blksize, pgpool) as usize * blksize as usize;
+    let rest = rest_bytes(alloc, blksize, bytes.as_slice(), GAP, pages)?;
     Ok(Draft {
         image: Image::new(blksize, root, false),
         rest,
     })
 }
 
-/// Writes a closed gate, then what is after it, then the open gate, and syncs after each.
-fn write_file<D: Device>(device: &mut D, rest: &[u8]) -> Result<(), Failed>
-    requires calls { 6 ≤ (D.state device.old).spare_calls }
-    requires bytes { length rest.now + 2 ≤ (D.state device.old).spare_bytes }
-    requires inside { length rest.now + 1 ≤ (D.state device.old).spare_end }
-    requires empty { IsTrue (D.state device.old).told → (D.state device.old).holds ≡ [] }
-    requires at_rest { IsTrue (D.state device.old).told → Only (D.state device.old).holds (D.state device.old) (D.leaves device.old) }
-    ensures failed { OnErr result (Rose (D.state device.old).disk_faults (D.state device.new).disk_faults) }
-    ensures fine { OnOk result (SameFaults (D.state device.old) (D.state device.new)) }
-    ensures frame { Frame (D.state device.old) (D.state device.new) }
-    ensures names { SameNames (D.state device.old) (D.state device.new) }
-    ensures sent { IsTrue (D.state device.old).told → (D.state device.new).sent ≡ (D.state device.old).sent }
-    ensures put_most { IsTrue (D.state device.old).told → (D.state device.new).put ≤ (D.state device.old).put + length rest.now + 2 }
-    ensures any_moment { IsTrue (D.state device.old).told → LeavesOnly (D.state device.old) (D.state device.new) (D.leaves device.old) (D.leaves device.new) (ShutOr rest.now (D.state device.old).sent) }
-    ensures ok { OnOk result (IsTrue (D.state device.old).told → IsSynced (length rest.now + 2) (75 ∷ rest.now) (D.state device.old) (D.state device.new) (D.leaves device.new)) }
-{
-    write_synced(device, 0, &[CLOSED])?;
-    write_synced(device, 1, rest)?;
-    write_synced(device, 0, &[OPEN])
-}
-
-/// Makes the file, with no records in either image. A stop leaves no image, or that one. `Memory` comes before the
+/// Makes the file, which is empty, with no records in either image: blocks of `blksize` bytes, and `pgpool` pages for
+/// records. A stop leaves no image, or that one. `Memory` comes before the
 /// first write.
 pub fn create<D: Device>(
     alloc: Global,
@@ -127,14 +132,15 @@ pub fn create<D: Device>(
     requires empty { IsTrue (D.state device.old).told → (D.state device.old).holds ≡ [] }
     requires at_rest { IsTrue (D.state device.old).told → Only (D.state device.old).holds (D.state device.old) (D.leaves device.old) }
     ensures image { IfOk result (λ i. i ≡ record { blksize = blksize; root = fresh_root (made_with blksize pgpool fingerprint.now); second = false }) }
-    ensures stands { OnOk result (IsTrue (D.state device.old).told → Stands (made_with blksize pgpool fingerprint.now) false fresh (D.state device.new).holds) }
+    ensures stands { OnOk result (IsTrue (D.state device.old).told → Stands (made_with blksize pgpool fingerprint.now) false fresh (fresh_layout (made_with blksize pgpool fingerprint.now)) (D.state device.new).holds) }
 
-    // Both images are there, and every byte that is not theirs, the gate's or the mark's is zero.
+    // Both roots are there, and every byte that is not theirs, the gate's or the mark's is zero.
     ensures holds { OnOk result (IsTrue (D.state device.old).told → (D.state device.new).holds ≡ fresh_file (made_with blksize pgpool fingerprint.now)) }
-    ensures length { OnOk result (IsTrue (D.state device.old).told → length (D.state device.new).holds ≡ 8192 + 2 * image_size (made_with blksize pgpool fingerprint.now)) }
+    ensures length { OnOk result (IsTrue (D.state device.old).told → length (D.state device.new).holds ≡ fresh_length (made_with blksize pgpool fingerprint.now)) }
     ensures at_rest { OnOk result (IsTrue (D.state device.old).told → Only (D.state device.new).holds (D.state device.new) (D.leaves device.new)) }
     ensures sent { IsTrue (D.state device.old).told → (D.state device.new).sent ≡ (D.state device.old).sent }
-    ensures put { OnOk result (IsTrue (D.state device.old).told → (D.state device.new).put ≡ (D.state device.old).put + length (D.state device.new).holds + 1) }
+    ensures put { OnOk result (IsTrue (D.state device.old).told → (D.state device.new).put ≡ (D.state device.old).put + fresh_length (made_with blksize pgpool fingerprint.now) + 1) }
+    ensures put_most { IsTrue (D.state device.old).told → (D.state device.new).put ≤ (D.state device.old).put + fresh_length (made_with blksize pgpool fingerprint.now) + 1 }
     ensures any_moment { IsTrue (D.state device.old).told → LeavesMade (made_with blksize pgpool fingerprint.now) (D.state device.old) (D.state device.new) (D.leaves device.old) (D.leaves device.new) }
     ensures failed { IsErrOf result DeviceError.Failed → Rose (D.state device.old).disk_faults (D.state device.new).disk_faults }
     ensures memory { IsErrOf result DeviceError.Memory → IsTrue (D.state device.old).told → Rests (D.state device.old) (D.state device.new) (D.leaves device.old) (D.leaves device.new) }
@@ -145,6 +151,6 @@ pub fn create<D: Device>(
     let draft = make(alloc, blksize, pgpool, fingerprint)?;
     let len = draft.rest.len() as u64;
     device.reserve(6, len + 2, len + 1)?;
-    write_file(device, &draft.rest)?;
+    make_file(device, draft.rest.as_slice())?;
     Ok(draft.image)
 }

@@ -1,1 +1,5 @@
-pub mod Writing
+pub mod Committing
+pub mod FreshPool
+pub mod FreshStored
+pub mod Making
+pub mod Planning

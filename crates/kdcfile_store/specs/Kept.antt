@@ -4,6 +4,8 @@ use Rattle.kd_device.specs.Device.{State, LeavesOnly, Only}
 use Rattle.kd_records.specs.Contents.{patched}
 use Rattle.kd_records.specs.declared.content.Content.{Content}
 use Rattle.kd_records.specs.declared.content.Patch.{Patch}
+use Rattle.kd_records.specs.Identity.{Identity}
+use Rattle.kdcfile_layout.specs.Bound.{write_bound}
 
 -- the file is this store's, and a stop leaves just these bytes
 pub record IsKept (file : List ℕ → Type 0) (s : State) (leaves : ℕ → List ℕ → List ℕ → Type 0) : Type 0 where
@@ -17,3 +19,7 @@ OldOrNew stands x y sent c out = (out ≡ sent) × (stands x c ⊎ stands y c)
 -- a stop within a commit leaves no more than the content with the patch or without it
 abbrev pub LeavesPatched : (Content → List ℕ → Type 0) → Content → Patch → (a b : State) → (la lb : ℕ → List ℕ → List ℕ → Type 0) → Type 0
 LeavesPatched stands x patch a b la lb = LeavesOnly a b la lb (OldOrNew stands x (patched x patch) a.sent)
+
+-- how many bytes a commit of a patch writes at most
+abbrev pub write_most : Identity → Content → Patch → ℕ
+write_most i x patch = write_bound i patch

@@ -1,7 +1,7 @@
 //! The trait of everything that keeps a content in a file.
-ghost use Rattle.std.specs.Prelude.{◌≡◌, ◌≤◌, List, ℕ, IsTrue, OnOk, IsErrOf};
+ghost use Rattle.std.specs.Prelude.{◌≡◌, ◌≤◌, ◌+◌, List, ℕ, IsTrue, OnOk, IsErrOf};
 ghost use Rattle.kd_device.specs.{Device.{State, Rose, Frame, SameFaults, SameNames}, Rest.{Rests}};
-ghost use Rattle.kd_records.specs.{Identity.{Identity}, Contents.{IsPatch, patched}, declared.content.Content.{Content}, Charge.{total_charge}};
+ghost use Rattle.kd_records.specs.{Identity.{Identity}, Contents.{IsPatch, patched}, declared.content.Content.{Content}, declared.content.Patch.{Patch}, Charge.{total_charge}};
 ghost use Rattle.kdcfile_store.specs.Kept.{IsKept, LeavesPatched};
 
 use kd_device::{Device, DeviceError};
@@ -22,6 +22,9 @@ pub trait Store<D: Device> {
     /// The bytes that stand for a content, in a file that was made with this.
     ghost stands: { Identity → Content → List ℕ → Type 0 };
 
+    /// How many bytes a commit writes at most, in a file that was made with this, where it keeps this content.
+    ghost most_written: { Identity → Content → Patch → ℕ };
+
     /// What is kept. It takes no memory.
     fn content(&self) -> &Content
         ensures { result.now ≡ kept self.now };
@@ -40,6 +43,8 @@ pub trait Store<D: Device> {
 
         // A stop at any moment of the call leaves the content with the patch or without it.
         ensures any_moment { IsTrue (D.state device.old).told → LeavesPatched (stands (identity self.old)) (kept self.old) patch.now (D.state device.old) (D.state device.new) (D.leaves device.old) (D.leaves device.new) }
+
+        ensures put_most { IsTrue (D.state device.old).told → (D.state device.new).put ≤ (D.state device.old).put + most_written (identity self.old) (kept self.old) patch.now }
 
         ensures failed { IsErrOf result DeviceError.Failed → Rose (D.state device.old).disk_faults (D.state device.new).disk_faults }
         ensures memory { IsErrOf result DeviceError.Memory → IsTrue (D.state device.old).told → Rests (D.state device.old) (D.state device.new) (D.leaves device.old) (D.leaves device.new) }

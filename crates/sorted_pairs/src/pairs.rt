@@ -1,6 +1,6 @@
 //! Pairs in a `Vec`, found by binary search.
-ghost use Rattle.std.specs.{Prelude.{◌≡◌, [], IsTrue, IfNone, OnOk, OnErr, Ok, Some, filter, is_some, length, not, option_copied}, FinMap.{find, put, is_sorted}, Option.{option_copied_mut}, Borrow.{sem}};
-ghost use Rattle.sorted_pairs.specs.{Lends.{lends_value, lends_found}, Places.{IsPlace, without}};
+ghost use Rattle.std.specs.{Prelude.{◌≡◌, [], IsTrue, IfNone, IfSome, ◌<◌, OnOk, OnErr, Ok, Some, filter, is_some, length, not, option_copied}, FinMap.{find, put, is_sorted}, Option.{option_copied_mut}, List.{IsAllAdjacentAnswer}, List.Sorted.{IsPermutation}, Ordering.{is_lt}, Borrow.{sem}};
+ghost use Rattle.sorted_pairs.specs.{Lends.{lends_value, lends_found}, Places.{IsPlace, times, without}};
 
 use kd_base::OutOfMemory;
 use std::alloc::Global;
@@ -28,6 +28,13 @@ fn place_of<K: Ord + Copy, V>(pairs: &[(K, V)], key: &K) -> Result<usize, usize>
     pairs.binary_search_by_key(key, |pair| pair.0)
 }
 
+/// Whether each key is less than the next one.
+fn ascend<K: Ord + Copy, V>(pairs: &[(K, V)]) -> bool
+    ensures { IsAllAdjacentAnswer (λ x y b. b ≡ is_lt (K.cmp x.0 y.0)) pairs.now result }
+{
+    pairs.is_sorted_by(|first, second| first.0 < second.0)
+}
+
 impl<K: Ord + Copy, V: Drop> SortedPairs<K, V> {
     pub fn new(alloc: Global) -> SortedPairs<K, V>
         ensures { result ≡ [] }
@@ -43,6 +50,19 @@ impl<K: Ord + Copy, V: Drop> SortedPairs<K, V> {
         ensures { result ≡ pairs.items }
     {
         SortedPairs { pairs }
+    }
+
+    /// The pairs of a `Vec` put in order, unless a key is there twice. It takes no memory, and time as a sort does.
+    pub fn from_pairs(mut pairs: Vec<(K, V)>) -> Option<SortedPairs<K, V>>
+        ensures pairs { IfSome result (λ p. IsPermutation pairs.items p) }
+        ensures ascending { IfSome result (λ p. IsTrue (is_sorted K.cmp p)) }
+        ensures twice { IfNone result ((k : K) × 1 < times K.cmp k pairs.items) }
+    {
+        pairs.sort_unstable_by_key(|pair| pair.0);
+        if !ascend(pairs.as_slice()) {
+            return None;
+        }
+        Some(SortedPairs { pairs })
     }
 
     /// The `Vec` of these pairs, which takes no memory.

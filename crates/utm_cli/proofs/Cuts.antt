@@ -28,7 +28,7 @@ module _ (stands : TableRows → List ℕ → Type 0) (start : TableRows) (all :
 
 -- ---- acts that are lines alone
 
-front_lines : (p q : List Act) → commits_nothing (p ++ q) ≡ true → commits_nothing p ≡ true
+pub front_lines : (p q : List Act) → commits_nothing (p ++ q) ≡ true → commits_nothing p ≡ true
 front_lines p q lines = (both_true (commits_nothing p) (commits_nothing q) (sym (list_all-append is_line p q) ∙ lines)).0
 
 content_same : (p : List Act) (x : Content) → commits_nothing p ≡ true → content_after x p ≡ x

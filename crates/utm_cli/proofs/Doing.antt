@@ -5,8 +5,9 @@ use Rattle.kdcdef_check.specs.Soundness.{AreLimits}
 use Rattle.kd_device.specs.Device.{State}
 use Rattle.kd_records.specs.Identity.{Identity}
 use Rattle.kd_records.specs.declared.content.Content.{Content}
-use Rattle.kdcfile_images.specs.File.{StandsFor}
-use Rattle.kdcfile_store.specs.Whole.{Whole, HasFile}
+use Rattle.kdcfile_layout.specs.Layout.{StandsFor}
+use Rattle.kdcfile_store.specs.Kept.{write_most}
+use Rattle.kdcfile_store.specs.Paged.{Paged, HasFile}
 use Rattle.kdcdef_types.specs.Generation.{Generated}
 use Rattle.kdcs_types.specs.declared.act.Act.{Act}
 use Rattle.kdcs_types.specs.Tables.{TableRows}
@@ -20,15 +21,17 @@ use Rattle.laws_of_steps.specs.Keeping.{HasFacts, IsScriptOf}
 use Rattle.laws_of_steps.specs.Suits.{Suits}
 use Rattle.warm_start.specs.Stands.{StandsForTables, KeepsTables, identity_for}
 use Rattle.monitor_core.specs.CoreValue.{CoreValue}
-use Rattle.device_acts.specs.Acting.{commits_nothing, content_after, AreCommittable, WithinActs, Sent}
-use Rattle.device_run.specs.Running.{IsRunning, WithinSteps, Ran as RanSteps}
+use Rattle.device_acts.specs.Acting.{acts_most, commits_nothing, content_after, AreCommittable, WithinActs, WritesUpTo, Sent}
+use Rattle.device_run.specs.Running.{commits_most, IsRunning, WithinSteps, StepsWrite, Ran as RanSteps}
 use Rattle.utm_cli.specs.declared.words.Word.{Word}
 use Rattle.utm_cli.specs.declared.words.Word.TheVariants.{Gen, Run}
 use Rattle.utm_cli.specs.Asking.{Errand, CanRun, app_of}
 use Rattle.utm_cli.specs.Doing.{identity_of, acts_by, acts_of}
 use Rattle.utm_cli.specs.Report.{report}
+use Rattle.utm_cli.specs.Parts.{ErrandWrites}
 use Rattle.utm_cli.specs.Promise.{RanOver}
 use Rattle.utm_cli.proofs.Cuts.{tables_same, kept_content, lines_within}
+use Rattle.utm_cli.proofs.Writing.{lines_written}
 use Rattle.laws_of_tables.specs.EndsLaws.{durable_same}
 use Rattle.laws_of_steps.specs.TablesStayLaws.{started_tables}
 
@@ -38,14 +41,14 @@ on_ok_both (Ok x) P Q R f h k = f h k
 on_ok_both (Err e) P Q R f h k = h
 
 -- what a store of this content has stands for the tables that it keeps
-keeps_means : (i : Identity) (store : Whole) (t : TableRows) → KeepsTables i store t → (bytes : List ℕ) → StandsFor store.identity store.content bytes → StandsForTables i t bytes
+keeps_means : (i : Identity) (store : Paged) (t : TableRows) → KeepsTables i store t → (bytes : List ℕ) → StandsFor store.identity store.content bytes → StandsForTables i t bytes
 keeps_means i store t keeps bytes stands =
     record { tables = keeps.tables; content = subst (λ (x : Content). StandsFor i x bytes) keeps.content (subst (λ (j : Identity). StandsFor j store.content bytes) keeps.identity_is stands) }
 
 -- ---- the report
 
 -- lines ask nothing of a store
-pub report_can : (g : Generated) (store : Whole) (acts : List Act) → acts ≡ report g → AreCommittable store.identity store.content acts
+pub report_can : (g : Generated) (store : Paged) (acts : List Act) → acts ≡ report g → AreCommittable store.identity store.content acts
 report_can g store acts made = subst (λ (l : List Act). AreCommittable store.identity store.content l) (sym made) tt
 
 module _ (e : Errand) (t : TableRows) (acts : List Act) (gen : e.word ≡ Gen) (made : acts ≡ report e.application.generation) where
@@ -55,15 +58,19 @@ module _ (e : Errand) (t : TableRows) (acts : List Act) (gen : e.word ≡ Gen) (
   report_lines : commits_nothing acts ≡ true
   report_lines = ap commits_nothing made
 
-  module _ (store : Whole) (keeps : KeepsTables (identity_of e) store t) (a b : State) (la lb : ℕ → List ℕ → List ℕ → Type 0) where
+  pub report_writes : (store : Paged) (a b : State) → (IsTrue a.told → WritesUpTo (acts_most write_most store.identity store.content) acts a b) → ErrandWrites e t a b
+  report_writes store a b h = λ told.
+      subst (λ (l : List Act). WritesUpTo (commits_most (identity_of e)) l a b) report_is (lines_written write_most store.identity store.content (commits_most (identity_of e)) acts a b report_lines (h told))
+
+  module _ (store : Paged) (keeps : KeepsTables (identity_of e) store t) (a b : State) (la lb : ℕ → List ℕ → List ℕ → Type 0) where
     pub report_within : WithinActs content_after (StandsFor store.identity) store.content acts a b la lb → WithinActs tables_after (StandsForTables (identity_of e)) t (acts_of e t) a b la lb
     report_within h =
         subst (λ (l : List Act). WithinActs tables_after (StandsForTables (identity_of e)) t l a b la lb) report_is
         (lines_within (StandsFor store.identity) store.content (StandsForTables (identity_of e)) t (keeps_means (identity_of e) store t keeps) acts report_lines a b la lb h)
 
-    pub report_ran : (after : Whole) → after.identity ≡ store.identity → after.content ≡ content_after store.content acts → Sent (HasFile after) acts a b lb → IsTrue a.told → RanOver (identity_of e) (acts_of e) t a b lb
+    pub report_ran : (after : Paged) → after.identity ≡ store.identity → after.content ≡ content_after store.content acts → Sent (HasFile after) acts a b lb → IsTrue a.told → RanOver (identity_of e) (acts_of e) t a b lb
     report_ran after identity content sent told =
-        let file : StandsFor after.identity after.content b.holds = (after.second, (sent.rest told).bytes) in
+        let file : StandsFor after.identity after.content b.holds = (after.second, after.layout, (sent.rest told).bytes) in
         let here : StandsFor store.identity store.content b.holds = subst (λ (x : Content). StandsFor store.identity x b.holds) (kept_content acts store.content after.content report_lines content) (subst (λ (j : Identity). StandsFor j after.content b.holds) identity file) in
         let holds = subst (λ (u : TableRows). StandsForTables (identity_of e) u b.holds) (sym (tables_same acts t report_lines)) (keeps_means (identity_of e) store t keeps b.holds here) in
         record {
@@ -87,7 +94,7 @@ module _ (e : Errand) (t : TableRows) (core : CoreValue) (application : core.app
   durable_is : Suits e.application.generation t → durable e.application.generation (started (app_of e) t).tables ≡ t
   durable_is suits = ap (durable e.application.generation) (started_tables (app_of e) t) ∙ durable_same e.application.generation t suits
 
-  pub core_runs : CanRun e → Suits e.application.generation t → HasFacts core.application core.state → AreLimits core.application.generation.limits → (store : Whole) → KeepsTables (identity_of e) store t → IsRunning e.fingerprint core store
+  pub core_runs : CanRun e → Suits e.application.generation t → HasFacts core.application core.state → AreLimits core.application.generation.limits → (store : Paged) → KeepsTables (identity_of e) store t → IsRunning e.fingerprint core store
   core_runs can suits facts limits store keeps = record {
     application = subst IsApplication (sym application) can.applies;
     limits = limits;
@@ -110,6 +117,11 @@ module _ (e : Errand) (t : TableRows) (core : CoreValue) (application : core.app
         subst (λ (u : TableRows). WithinActs tables_after (StandsForTables (identity_of e)) u (acts_of e t) a b la lb) (durable_is suits)
         (subst (λ (l : List Act). WithinActs tables_after (StandsForTables (identity_of e)) (durable e.application.generation (started (app_of e) t).tables) l a b la lb) script_is here)
 
+    pub script_writes : StepsWrite e.fingerprint core (history core.application core.state e.commands) a b → ErrandWrites e t a b
+    script_writes h =
+        let here = subst (λ (c : CoreValue). StepsWrite e.fingerprint c (history c.application c.state e.commands) a b) core_is h in
+        subst (λ (l : List Act). IsTrue a.told → WritesUpTo (commits_most (identity_of e)) l a b) script_is here
+
     pub script_ran : RanSteps e.fingerprint core (history core.application core.state e.commands) a b lb → RanOver (identity_of e) (acts_of e) t a b lb
     script_ran h =
         let here = subst (λ (c : CoreValue). RanSteps e.fingerprint c (history c.application c.state e.commands) a b lb) core_is h in
@@ -129,7 +141,7 @@ module _ (e v : Errand) (same : e ≡ v) (t : TableRows) (core : CoreValue) (app
   suits_too : Suits v.application.generation t
   suits_too = subst (λ (x : Errand). Suits x.application.generation t) same suits
 
-  pub parts_run : HasFacts core.application core.state → AreLimits core.application.generation.limits → (store : Whole) → KeepsTables (identity_of e) store t → IsRunning v.fingerprint core store
+  pub parts_run : HasFacts core.application core.state → AreLimits core.application.generation.limits → (store : Paged) → KeepsTables (identity_of e) store t → IsRunning v.fingerprint core store
   parts_run facts limits store keeps = core_runs v t core application state steps can_too suits_too facts limits store (subst (λ (x : Errand). KeepsTables (identity_of x) store t) same keeps)
 
   pub parts_script : (commands : List Command) → commands ≡ v.commands → IsScriptOf core.application commands
@@ -143,6 +155,11 @@ module _ (e v : Errand) (same : e ≡ v) (t : TableRows) (core : CoreValue) (app
     parts_within h =
         subst (λ (x : Errand). WithinActs tables_after (StandsForTables (identity_of x)) t (acts_of x t) a b la lb) (sym same)
         (script_within v t core application state steps run_too suits_too a b la lb (subst (λ (l : List Command). WithinSteps v.fingerprint core (history core.application core.state l) a b la lb) is h))
+
+    pub parts_writes : StepsWrite v.fingerprint core (history core.application core.state commands) a b → ErrandWrites e t a b
+    parts_writes h =
+        subst (λ (x : Errand). ErrandWrites x t a b) (sym same)
+        (script_writes v t core application state steps run_too suits_too a b la lb (subst (λ (l : List Command). StepsWrite v.fingerprint core (history core.application core.state l) a b) is h))
 
     pub parts_ran : RanSteps v.fingerprint core (history core.application core.state commands) a b lb → RanOver (identity_of e) (acts_of e) t a b lb
     parts_ran h =

@@ -6,6 +6,7 @@ pub mod Started
 pub mod Opened
 pub mod Ran
 pub mod ByWord
+pub mod Writing
 pub mod Doing
 pub mod Ends
 pub mod Asking

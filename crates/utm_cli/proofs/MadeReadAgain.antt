@@ -5,11 +5,11 @@ use Rattle.kd_device.specs.Device.{Rose}
 use Rattle.kd_records.specs.Identity.{Identity}
 use Rattle.kd_records.specs.declared.content.Content.{Content}
 use Rattle.kdcs_types.specs.Tables.{TableRows}
-use Rattle.kdcfile_images.specs.declared.fault.LoadError.{LoadError}
-use Rattle.kdcfile_images.specs.declared.fault.LoadError.TheVariants as load
-use Rattle.kdcfile_images.specs.File.{IsNoImage}
-use Rattle.kdcfile_images.specs.ReadImagesLaws.{one_meaning}
-use Rattle.kdcfile_store.specs.Whole.{Whole, HasFile}
+use Rattle.kdcfile_load.specs.declared.fault.LoadError.{LoadError}
+use Rattle.kdcfile_load.specs.declared.fault.LoadError.TheVariants as load
+use Rattle.kdcfile_layout.specs.Layout.{IsNoImage}
+use Rattle.kdcfile_read.specs.ReadFilesLaws.{one_meaning}
+use Rattle.kdcfile_store.specs.Paged.{Paged, HasFile}
 use Rattle.record_codec.specs.Records.{content_of_tables, AreTablesOf}
 use Rattle.record_codec.specs.TableReadings.{AreProperTables}
 use Rattle.warm_start.specs.MeaningLaws.{one_table}
@@ -26,9 +26,9 @@ only_memory r load.NotKdcfile is no_kdcfile failed = absurd (no_kdcfile is)
 only_memory r load.Failed is no_kdcfile failed = absurd (failed is)
 only_memory r load.Memory is no_kdcfile failed = refl
 
-module _ (s : Whole) (bytes : List ℕ) (file : HasFile s bytes) (x : Content) (kept : x ≡ s.content) (i : Identity) (t : TableRows) (stands : StandsForTables i t bytes) where
+module _ (s : Paged) (bytes : List ℕ) (file : HasFile s bytes) (x : Content) (kept : x ≡ s.content) (i : Identity) (t : TableRows) (stands : StandsForTables i t bytes) where
   content_is : x ≡ content_of_tables t
-  content_is = kept ∙ (one_meaning s.identity i s.content (content_of_tables t) bytes (s.second, file) stands.content).1
+  content_is = kept ∙ (one_meaning s.identity i s.content (content_of_tables t) bytes (s.second, s.layout, file) stands.content).1
 
   pub are_read : AreTablesOf x t
   are_read = record { sorted = stands.tables.sorted; records = content_is }

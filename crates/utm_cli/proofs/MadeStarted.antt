@@ -2,7 +2,7 @@
 use Rattle.std.proofs.Common.{◌≡◌, ℕ, List, refl, sym, ap, subst, ◌∙◌}
 use Rattle.std.specs.Prelude.{Result, Ok, Err, IfOk}
 use Rattle.kdcdef_check.specs.Soundness.{AreLimits}
-use Rattle.kdcfile_store.specs.Whole.{Whole}
+use Rattle.kdcfile_store.specs.Paged.{Paged}
 use Rattle.kdcs_types.specs.declared.act.Act.{Act}
 use Rattle.kdcs_types.specs.Tables.{TableRows, empty_tables}
 use Rattle.laws_of_steps.specs.Applications.{IsApplication}
@@ -35,7 +35,7 @@ module _ (app : Application) (fingerprint : List ℕ) (t : TableRows) (is : t �
   durable_is : durable app.generation (started app empty_tables).tables ≡ empty_tables
   durable_is = ap (durable app.generation) (started_tables app empty_tables) ∙ durable_same app.generation empty_tables (subst (λ (u : TableRows). Suits app.generation u) is suits)
 
-  pub runs : IsApplication core.application → AreLimits core.application.generation.limits → HasFacts core.application core.state → (store : Whole) → KeepsTables (identity_for app.generation fingerprint) store t → IsRunning fingerprint core store
+  pub runs : IsApplication core.application → AreLimits core.application.generation.limits → HasFacts core.application core.state → (store : Paged) → KeepsTables (identity_for app.generation fingerprint) store t → IsRunning fingerprint core store
   runs applies limits facts store keeps = record {
     application = applies;
     limits = limits;

@@ -1,13 +1,15 @@
 -- The words in which the parts of a call promise.
-use Rattle.std.specs.Prelude.{ℕ, IsTrue, List}
+use Rattle.std.specs.Prelude.{◌≡◌, ◌⊎◌, ℕ, ◌+◌, IsTrue, List}
 use Rattle.kd_device.specs.Device.{State, LeavesOnly, Only}
 use Rattle.kd_records.specs.Identity.{Identity}
 use Rattle.kdcs_types.specs.Tables.{TableRows}
 use Rattle.abstract_monitor.specs.Listing.{listing}
 use Rattle.abstract_monitor.specs.Trace.{tables_after}
-use Rattle.warm_start.specs.Opening.{IsOpening}
+use Rattle.kdcs_types.specs.declared.act.Act.{Act}
+use Rattle.warm_start.specs.Opening.{IsOpening, opening_most}
 use Rattle.warm_start.specs.Stands.{StandsForTables}
-use Rattle.device_acts.specs.Acting.{WithinActs}
+use Rattle.device_acts.specs.Acting.{WithinActs, WritesUpTo}
+use Rattle.device_run.specs.Running.{commits_most}
 use Rattle.utm_cli.specs.Asking.{Errand}
 use Rattle.utm_cli.specs.Doing.{Opens, Starts, identity_of, acts_of}
 use Rattle.utm_cli.specs.Promise.{RanOver, IsCutOver, IsCutOfRun, SaysFront}
@@ -19,6 +21,15 @@ LeavesOpening i a b la lb = IsTrue a.told → LeavesOnly a b la lb (IsOpening i 
 -- whatever became of them, the acts of the errand were begun from these tables
 abbrev pub WithinErrand : Errand → TableRows → (a b : State) → (la lb : ℕ → List ℕ → List ℕ → Type 0) → Type 0
 WithinErrand e t a b la lb = WithinActs tables_after (StandsForTables (identity_of e)) t (acts_of e t) a b la lb
+
+-- the bytes written are at most those of the errand's commits that were performed or begun
+abbrev pub ErrandWrites : Errand → TableRows → (a b : State) → Type 0
+ErrandWrites e t a b = IsTrue a.told → WritesUpTo (commits_most (identity_of e)) (acts_of e t) a b
+
+-- nothing was written, or the file was opened with tables, and the bytes written are at most those of its making and of the commits that were performed or begun
+abbrev pub StoreWrites : Errand → (a b : State) → Type 0
+StoreWrites e a b =
+    (b.put ≡ a.put) ⊎ ((t : TableRows) × Opens e a.holds t × WritesUpTo (λ (acts : List Act). opening_most (identity_of e) a.holds + commits_most (identity_of e) acts) (acts_of e t) a b)
 
 -- the acts of the errand were done over the store
 abbrev pub RanActs : Errand → TableRows → (a b : State) → (ℕ → List ℕ → List ℕ → Type 0) → Type 0

@@ -1,9 +1,9 @@
 -- The words in which the top call promises.
-use Rattle.std.specs.Prelude.{◌≡◌, ⊤, ◌⊎◌, ℕ, true, IsTrue, List, [], ◌∷◌, ◌++◌, take, Some, None, Ok, Err}
+use Rattle.std.specs.Prelude.{◌≡◌, ⊤, ◌⊎◌, ℕ, ◌+◌, true, IsTrue, List, [], ◌∷◌, ◌++◌, take, Some, None, Ok, Err}
 use Rattle.kd_device.specs.Device.{State, Rose, LeavesOnly, Only}
 use Rattle.kd_device.specs.Room.{RoomState, text_of}
 use Rattle.kd_records.specs.Identity.{Identity}
-use Rattle.kdcfile_images.specs.File.{IsNoImage}
+use Rattle.kdcfile_layout.specs.Layout.{IsNoImage}
 use Rattle.kdcs_types.specs.Tables.{TableRows}
 use Rattle.kdcs_types.specs.declared.act.Act.{Act}
 use Rattle.abstract_monitor.specs.State.{Application}
@@ -18,10 +18,11 @@ use Rattle.laws_of_jobs.specs.QueueLaws.{JobsAreKept}
 use Rattle.laws_of_jobs.specs.ResumeLaws.{CutResumes}
 use Rattle.laws_of_jobs.specs.SerialCuts.{IsSerialCut}
 use Rattle.laws_of_access.specs.Access.{KeepsAccess, HasNoLocks, IsWithoutRule}
+use Rattle.warm_start.specs.Opening.{opening_most}
 use Rattle.warm_start.specs.Stands.{StandsForTables}
-use Rattle.device_acts.specs.Acting.{commits_nothing}
+use Rattle.device_acts.specs.Acting.{commits_nothing, WritesUpTo}
 use Rattle.device_acts.specs.Said.{SameDisk, Said, SaidPart}
-use Rattle.device_run.specs.Running.{IsCutSince}
+use Rattle.device_run.specs.Running.{IsCutSince, commits_most}
 use Rattle.refusals.specs.declared.error.Refusal.{Refusal}
 use Rattle.refusals.specs.Lines.{refusal_line, other_generation_line}
 use Rattle.refusals.specs.Statuses.{IsOneOf, status_of}
@@ -122,6 +123,21 @@ MakesFile Run = ⊤
 MakesFile Show = ⊥
 MakesFile (Make n) = ⊥
 
+-- how many bytes the word writes at most before its acts: those of a fresh file and one, where it makes the file
+abbrev pub making_most : Word → Identity → (bytes : List ℕ) → ℕ
+making_most Gen i bytes = opening_most i bytes
+making_most Run i bytes = opening_most i bytes
+making_most Show i bytes = 0
+making_most (Make n) i bytes = 0
+
+-- how many bytes an errand over a file with these bytes has written at most when it has performed or begun these first acts
+abbrev pub errand_most : Errand → (bytes : List ℕ) → List Act → ℕ
+errand_most e bytes acts = making_most e.word (identity_of e) bytes + commits_most (identity_of e) acts
+
+-- nothing was written, or the errand was begun, and the bytes written are at most those of the making of its file and of the commits that were performed or begun
+abbrev pub WritesFor : Errand → (a b : State) → Type 0
+WritesFor e a b = (b.put ≡ a.put) ⊎ ((t : TableRows) × Starts e a.holds t × WritesUpTo (errand_most e a.holds) (acts_of e t) a b)
+
 -- every step of the script is lawful, begins only services that the rule of locks and keys allows, and jobs are kept from each of its states to each later one; wherever a stop cuts its acts, what is stored are tables from which all services go on, and a serial run of the commits that are done stores the same; and jobs are kept over runs of any scripts one after another
 pub record RunsLawfully (app : Application) (t : TableRows) (script : List Command) : Type 0 where
   -- all rows of the first tables outlive a stop
@@ -220,6 +236,10 @@ SaysFile c b = (e : Errand) × (IsTrue c.room.told → Reads c.words c.room (Ok 
 abbrev pub HasDone : Call → State → (ℕ → List ℕ → List ℕ → Type 0) → Type 0
 HasDone c b lb =
     IsTrue c.room.told → IsTrue c.device.told → (e : Errand) × Reads c.words c.room (Ok e) × (t : TableRows) × Starts e c.device.holds t × Ran e t c.device b lb
+
+-- nothing was written, or what the words and the texts ask for was begun, and the bytes written are at most those of the making of its file and of the commits that were performed or begun
+abbrev pub Writes : Call → State → Type 0
+Writes c b = IsTrue c.room.told → IsTrue c.device.told → (b.put ≡ c.device.put) ⊎ ((e : Errand) × Reads c.words c.room (Ok e) × WritesFor e c.device b)
 
 -- where no call of the device failed and no read did, or the room is sure, all was done or memory ran out
 abbrev pub Completes : (code : ℕ) → (r s : RoomState) → (a b : State) → Type 0

@@ -1,14 +1,14 @@
 //! The KDCFILE of a BASE is attached and opened.
-ghost use Rattle.std.specs.Prelude.{◌≡◌, ◌++◌, ◌∷◌, [], List, ℕ, IsTrue, IfOk, OnOk, IsErrOf};
+ghost use Rattle.std.specs.Prelude.{◌≡◌, ◌≤◌, ◌+◌, ◌++◌, ◌∷◌, [], List, ℕ, IsTrue, IfOk, OnOk, IsErrOf};
 ghost use Rattle.kd_device.specs.{Device.{Rose, Frame, SameFaults}, Rest.{Rests}};
-ghost use Rattle.kdcfile_store.specs.{Kept.{IsKept}, Whole.{HasFile}};
+ghost use Rattle.kdcfile_store.specs.{Kept.{IsKept}, Paged.{HasFile}};
 ghost use Rattle.laws_of_steps.specs.Suits.{Suits};
-ghost use Rattle.warm_start.specs.{Stands.{KeepsTables, identity_for}, Opening.{StartsFrom, IsRefused, IsOfOtherTexts}};
+ghost use Rattle.warm_start.specs.{Stands.{KeepsTables, identity_for}, Opening.{StartsFrom, IsRefused, IsOfOtherTexts, opening_most}};
 ghost use Rattle.utm_cli.specs.{Promise.{MayAttach}, Parts.{LeavesOpening}};
 
 use kd_device::Device;
 use kdcdef_check::Generation;
-use kdcfile_store::WholeStore;
+use kdcfile_store::PagedStore;
 use kdcs_types::Tables;
 use std::alloc::Global;
 use warm_start::{OpenError, open_tables, read_tables};
@@ -36,7 +36,7 @@ pub(crate) fn open<D: Device>(
     name: &[u8],
     generation: &Generation,
     fingerprint: &[u8; 32],
-) -> Result<(WholeStore, Tables), OpenError>
+) -> Result<(PagedStore, Tables), OpenError>
     ensures tables { IfOk result (λ o. KeepsTables (identity_for generation.now fingerprint.now) o.0 o.1) }
     ensures suits { IfOk result (λ o. Suits generation.now o.1) }
     ensures starts { IfOk result (λ o. IsTrue (D.state device.old).told → StartsFrom generation.now fingerprint.now (D.state device.old).holds o.1) }
@@ -49,6 +49,7 @@ pub(crate) fn open<D: Device>(
     ensures sent { IsTrue (D.state device.old).told → (D.state device.new).sent ≡ (D.state device.old).sent }
     ensures any_moment { LeavesOpening (identity_for generation.now fingerprint.now) (D.state device.old) (D.state device.new) (D.leaves device.old) (D.leaves device.new) }
 
+    ensures put_most { IsTrue (D.state device.old).told → (D.state device.new).put ≤ (D.state device.old).put + opening_most (identity_for generation.now fingerprint.now) (D.state device.old).holds }
     ensures names { IsTrue (D.state device.old).told → MayAttach name.now (D.state device.old) (D.state device.new) }
     ensures named { OnOk result (IsTrue (D.state device.old).told → (D.state device.new).names ≡ (D.state device.old).names ++ name.now ∷ []) }
     ensures fine { (IsErrOf result OpenError.Failed → ⊥) → SameFaults (D.state device.old) (D.state device.new) }

@@ -1,13 +1,13 @@
 //! What a call does over the KDCFILE.
 ghost use Rattle.std.specs.Prelude.{◌≡◌, ◌++◌, ◌∷◌, [], List, ℕ, IsTrue, OnOk, IsErrOf};
 ghost use Rattle.kd_device.specs.{Device.{Rose, Frame, SameFaults, SameNames}, Rest.{Rests}};
-ghost use Rattle.kdcfile_store.specs.{Kept.{IsKept}, Whole.{HasFile}};
+ghost use Rattle.kdcfile_store.specs.{Kept.{IsKept}, Paged.{HasFile}};
 ghost use Rattle.kdcs_types.specs.Tables.{TableRows};
 ghost use Rattle.laws_of_steps.specs.Suits.{Suits};
 ghost use Rattle.kdcdef_types.specs.Statements.{IsWithin};
 ghost use Rattle.abstract_monitor.specs.Listing.{listing};
 ghost use Rattle.warm_start.specs.{Opening.{IsRefused, IsOfOtherTexts}, Stands.{KeepsTables}};
-ghost use Rattle.utm_cli.specs.{Words.{IsForm, file_name, not_a_kdcfile_line}, declared.words.Word.TheVariants.{Gen, Run}, Asking.{CanRun, app_of}, Doing.{Opens, Starts, Refuses, IsOfOthers, identity_of}, Promise.{Ran, SaysFront, MakesFile, MayAttach, MayHandOn, HandsOn, AttachedBy, CallFailed, LeavesFile, LeavesLines, SaysWhich}, Parts.{WithinErrand, RanActs, RanOpened, ShowsFront, StopsInCut, StopsOverStore}};
+ghost use Rattle.utm_cli.specs.{Words.{IsForm, file_name, not_a_kdcfile_line}, declared.words.Word.TheVariants.{Gen, Run}, Asking.{CanRun, app_of}, Doing.{Opens, Starts, Refuses, IsOfOthers, identity_of}, Promise.{Ran, WritesFor, SaysFront, MakesFile, MayAttach, MayHandOn, HandsOn, AttachedBy, CallFailed, LeavesFile, LeavesLines, SaysWhich}, Parts.{WithinErrand, ErrandWrites, StoreWrites, RanActs, RanOpened, ShowsFront, StopsInCut, StopsOverStore}};
 ghost use Rattle.refusals.specs.{Lines.{other_generation_line}, Statuses.{IsOneOf}};
 ghost use Rattle.device_acts.specs.Said.{Said, SaidPart};
 ghost use Rattle.utm_cli.specs.MadeReport.{report_of};
@@ -22,7 +22,7 @@ use application_read::Application;
 use device_acts::{do_acts, say};
 use device_run::run_script;
 use kd_device::{Device, DeviceError};
-use kdcfile_store::WholeStore;
+use kdcfile_store::PagedStore;
 use kdcs_types::Tables;
 use monitor_core::Core;
 use output_lines::table_lines;
@@ -37,12 +37,13 @@ const NOT_A_KDCFILE: &[u8] = b"KDCFILE NOT A KDCFILE\n";
 fn do_report<D: Device>(
     alloc: Global,
     device: &mut D,
-    mut store: WholeStore,
+    mut store: PagedStore,
     asked: &Errand,
 ) -> Result<(), DeviceError>
     requires word { asked.now.word ≡ Gen }
     requires kept { IsTrue (D.state device.old).told → IsKept (HasFile store) (D.state device.old) (D.leaves device.old) }
     ensures any { (t : TableRows) → KeepsTables (identity_of asked.now) store t → WithinErrand asked.now t (D.state device.old) (D.state device.new) (D.leaves device.old) (D.leaves device.new) }
+    ensures put { (t : TableRows) → KeepsTables (identity_of asked.now) store t → ErrandWrites asked.now t (D.state device.old) (D.state device.new) }
     ensures done { OnOk result ((t : TableRows) → KeepsTables (identity_of asked.now) store t → RanActs asked.now t (D.state device.old) (D.state device.new) (D.leaves device.new)) }
     ensures fine { (IsErrOf result DeviceError.Failed → ⊥) → SameFaults (D.state device.old) (D.state device.new) }
     ensures failed { IsErrOf result DeviceError.Failed → CallFailed (D.state device.old) (D.state device.new) }
@@ -55,7 +56,7 @@ fn do_report<D: Device>(
 fn do_script<D: Device>(
     alloc: Global,
     device: &mut D,
-    store: WholeStore,
+    store: PagedStore,
     tables: Tables,
     asked: Errand,
 ) -> Result<u64, OpenError>
@@ -65,6 +66,7 @@ fn do_script<D: Device>(
     requires suits { Suits asked.application.generation tables }
     requires kept { IsTrue (D.state device.old).told → IsKept (HasFile store) (D.state device.old) (D.leaves device.old) }
     ensures any { WithinErrand asked tables (D.state device.old) (D.state device.new) (D.leaves device.old) (D.leaves device.new) }
+    ensures put { ErrandWrites asked tables (D.state device.old) (D.state device.new) }
     ensures done { OnOk result (RanActs asked tables (D.state device.old) (D.state device.new) (D.leaves device.new)) }
     ensures fine { (IsErrOf result OpenError.Failed → ⊥) → SameFaults (D.state device.old) (D.state device.new) }
     ensures failed { IsErrOf result OpenError.Failed → CallFailed (D.state device.old) (D.state device.new) }
@@ -85,7 +87,7 @@ fn do_script<D: Device>(
 fn do_errand<D: Device>(
     alloc: Global,
     device: &mut D,
-    store: WholeStore,
+    store: PagedStore,
     tables: Tables,
     asked: Errand,
 ) -> Result<(), OpenError>
@@ -95,6 +97,7 @@ fn do_errand<D: Device>(
     requires suits { Suits asked.application.generation tables }
     requires kept { IsTrue (D.state device.old).told → IsKept (HasFile store) (D.state device.old) (D.leaves device.old) }
     ensures any { WithinErrand asked tables (D.state device.old) (D.state device.new) (D.leaves device.old) (D.leaves device.new) }
+    ensures put { ErrandWrites asked tables (D.state device.old) (D.state device.new) }
     ensures done { OnOk result (RanActs asked tables (D.state device.old) (D.state device.new) (D.leaves device.new)) }
     ensures fine { (IsErrOf result OpenError.Failed → ⊥) → SameFaults (D.state device.old) (D.state device.new) }
     ensures failed { IsErrOf result OpenError.Failed → CallFailed (D.state device.old) (D.state device.new) }
@@ -130,6 +133,7 @@ fn run_stored<D: Device>(
     ensures still { IsTrue (D.state device.old).told → ((t : TableRows) → Opens asked (D.state device.old).holds t → ⊥) → Rests (D.state device.old) (D.state device.new) (D.leaves device.old) (D.leaves device.new) }
 
     ensures any_moment { StopsOverStore asked (D.state device.old) (D.state device.new) (D.leaves device.old) (D.leaves device.new) }
+    ensures written { IsTrue (D.state device.old).told → StoreWrites asked (D.state device.old) (D.state device.new) }
     ensures left { IsTrue (D.state device.old).told → (t : TableRows) → Opens asked (D.state device.old).holds t → ((D.state device.old).holds ≡ [] → ⊥) → LeavesLines asked t (D.state device.old) (D.state device.new) }
     ensures names { IsTrue (D.state device.old).told → MayAttach name.now (D.state device.old) (D.state device.new) }
     ensures named { OnOk result (IsTrue (D.state device.old).told → (D.state device.new).names ≡ (D.state device.old).names ++ name.now ∷ []) }
@@ -156,6 +160,7 @@ fn show_over<D: Device>(
     // Nothing is said of a file that is not shown, and else a front of its list.
     ensures still { IsTrue (D.state device.old).told → ((t : TableRows) → Opens asked.now (D.state device.old).holds t → ⊥) → Rests (D.state device.old) (D.state device.new) (D.leaves device.old) (D.leaves device.new) }
     ensures front { ShowsFront asked.now (D.state device.old) (D.state device.new) (D.leaves device.old) (D.leaves device.new) }
+    ensures unwritten { IsTrue (D.state device.old).told → (D.state device.new).put ≡ (D.state device.old).put }
 
     ensures names { IsTrue (D.state device.old).told → MayAttach name.now (D.state device.old) (D.state device.new) }
     ensures named { OnOk result (IsTrue (D.state device.old).told → (D.state device.new).names ≡ (D.state device.old).names ++ name.now ∷ []) }
@@ -215,6 +220,7 @@ fn run_over<D: Device>(
     ensures still { IsTrue (D.state device.old).told → ((t : TableRows) → Starts asked (D.state device.old).holds t → ⊥) → Rests (D.state device.old) (D.state device.new) (D.leaves device.old) (D.leaves device.new) }
 
     ensures any_moment { StopsInCut asked (D.state device.old) (D.state device.new) (D.leaves device.old) (D.leaves device.new) }
+    ensures written { IsTrue (D.state device.old).told → WritesFor asked (D.state device.old) (D.state device.new) }
     ensures left { IsTrue (D.state device.old).told → (t : TableRows) → Starts asked (D.state device.old).holds t → LeavesFile asked t (D.state device.old) (D.state device.new) }
     ensures names { IsTrue (D.state device.old).told → MayHandOn asked.word name.now (D.state device.old) (D.state device.new) }
     ensures named { OnOk result (IsTrue (D.state device.old).told → HandsOn asked.word name.now (D.state device.old) (D.state device.new)) }
@@ -248,6 +254,7 @@ pub(crate) fn run<D: Device>(alloc: Global, device: &mut D, base: &[u8], asked: 
     ensures accepted { IsTrue (D.state device.old).told → (t : TableRows) → Starts asked (D.state device.old).holds t → IsOneOf (0 ∷ 5 ∷ 7 ∷ []) result.code }
     ensures done { result.code ≡ 0 → IsTrue (D.state device.old).told → (t : TableRows) × Starts asked (D.state device.old).holds t × Ran asked t (D.state device.old) (D.state device.new) (D.leaves device.new) }
     ensures any_moment { StopsInCut asked (D.state device.old) (D.state device.new) (D.leaves device.old) (D.leaves device.new) }
+    ensures written { IsTrue (D.state device.old).told → WritesFor asked (D.state device.old) (D.state device.new) }
 
     // A file that is there stays as it is where nothing is committed, and under `show` and `make` any file does.
     ensures left { IsTrue (D.state device.old).told → (t : TableRows) → Starts asked (D.state device.old).holds t → LeavesFile asked t (D.state device.old) (D.state device.new) }

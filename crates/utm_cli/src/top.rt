@@ -3,7 +3,7 @@ ghost use Rattle.std.specs.{Prelude.{◌≡◌, ◌⊎◌, ◌∷◌, [], List, 
 ghost use Rattle.kd_device.specs.{Device.{Rose, Frame, SameFaults, SameNames}, Room.{SameRoom}};
 ghost use Rattle.kdcs_types.specs.Tables.{TableRows};
 ghost use Rattle.utm_cli.specs.{Words.{usage_line, not_a_kdcfile_line}, Asking.{app_of}, Doing.{Starts}};
-ghost use Rattle.utm_cli.specs.Promise.{Misses, Request, EndsInCut, RunsLawfully, Attaches, AsksNothing, CallFailed, Completes, ForErrand, ForNoKdcfile, ForOthers, ForRefusal, ForStartAtRest, ForStart, HasDone, LeavesCuts, LeavesFile, SaysFile, SaysPart, SaysRefusal, call};
+ghost use Rattle.utm_cli.specs.Promise.{Misses, Request, EndsInCut, RunsLawfully, Attaches, AsksNothing, CallFailed, Completes, ForErrand, ForNoKdcfile, ForOthers, ForRefusal, ForStartAtRest, ForStart, HasDone, LeavesCuts, LeavesFile, SaysFile, SaysPart, SaysRefusal, Writes, call};
 ghost use Rattle.refusals.specs.{Lines.{refusal_line, other_generation_line}, Statuses.{IsOneOf, status_of}, Texts.{NoReadFailed}};
 ghost use Rattle.device_acts.specs.Said.{Said, SaidPart};
 ghost use Rattle.utm_cli.specs.declared.words.Word.TheVariants.{Make};
@@ -86,6 +86,10 @@ pub fn utm<R: Room, D: Device>(
     // A file that is there keeps its bytes, whatever the status, where the acts commit nothing, as those of `gen`. Under
     // `show` and `make` an empty one does too.
     ensures left { ForStart (call (map string_bytes words.now.items) (R.room room.old) (D.state device.old)) (λ e t. LeavesFile e t (D.state device.old) (D.state device.new)) }
+
+    // The bytes written, whatever the status: none, or at most those of the making of the file, where it was empty, and of
+    // the commits that were performed or begun; the lines before these were sent. `show` and `make` write none.
+    ensures written { Writes (call (map string_bytes words.now.items) (R.room room.old) (D.state device.old)) (D.state device.new) }
 
     // Every commit of the script is lawful from tables that a file stands for, and every cut of it can be gone on from and
     // is what a serial run of its first commits stores.

@@ -1,8 +1,8 @@
 -- How an error is handed on.
 use Rattle.kd_device.specs.declared.error.DeviceError.{DeviceError}
-use Rattle.kdcfile_images.specs.declared.fault.LoadError.{LoadError}
-use Rattle.kdcfile_images.specs.declared.fault.LoadError.TheVariants as load
-use Rattle.kdcfile_images.specs.Causes.{of_device as load_of_device}
+use Rattle.kdcfile_load.specs.declared.fault.LoadError.{LoadError}
+use Rattle.kdcfile_load.specs.declared.fault.LoadError.TheVariants as load
+use Rattle.kdcfile_load.specs.Causes.{of_device as load_of_device}
 use Rattle.warm_start.specs.declared.error.OpenError.{OpenError}
 use Rattle.warm_start.specs.declared.error.OpenError.TheVariants as to
 

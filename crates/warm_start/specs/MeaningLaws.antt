@@ -6,8 +6,9 @@ use Rattle.kd_records.specs.Charge.{total_charge as records_charge}
 use Rattle.kd_records.specs.declared.content.Content.{Content}
 use Rattle.kdcdef_types.specs.Generation.{Generated}
 use Rattle.kdcs_types.specs.Tables.{TableRows}
-use Rattle.kdcfile_images.specs.ReadImagesLaws.{one_meaning}
-use Rattle.kdcfile_store.specs.Whole.{Whole}
+use Rattle.kdcfile_read.specs.ReadFilesLaws.{one_meaning}
+use Rattle.kdcfile_layout.specs.Layout.{Stands}
+use Rattle.kdcfile_store.specs.Paged.{Paged, HasFile}
 use Rattle.abstract_monitor.specs.Charges.{total_charge}
 use Rattle.laws_of_steps.specs.Suits.{Suits}
 use Rattle.record_codec.specs.Records.{content_of_tables}
@@ -26,7 +27,14 @@ one_meaning_of_tables i j t u bytes h k =
 
 -- an empty file stands for nothing
 pub nothing_stands : (i : Identity) (t : TableRows) → StandsForTables i t [] → ⊥
-nothing_stands i t stands = absurd (omega (arith, ap (λ (l : List ℕ). length l) stands.content.1.headed, length-take {A = ℕ} 17 []))
+nothing_stands i t stands = absurd (omega (arith, ap (λ (l : List ℕ). length l) stands.content.2.image.headed, length-take {A = ℕ} 13 []))
+
+-- the bytes of a store that keeps tables stand for them
+pub kept_stands : (i : Identity) (store : Paged) (t : TableRows) (bytes : List ℕ) → KeepsTables i store t → HasFile store bytes → StandsForTables i t bytes
+kept_stands i store t bytes keeps file = record {
+  tables = keeps.tables;
+  content = (store.second, store.layout, subst (λ (x : Content). Stands i store.second x store.layout bytes) keeps.content (subst (λ (j : Identity). Stands j store.second store.content store.layout bytes) keeps.identity_is file));
+}
 
 -- ---- a file is answered in one way
 
@@ -66,7 +74,7 @@ answers_exclude_each_other g fingerprint bytes = record {
 
 -- ---- there are pages for what a store keeps
 
-pub content_fits : (g : Generated) (fingerprint : List ℕ) (s : Whole) (t : TableRows) → KeepsTables (identity_for g fingerprint) s t → Suits g t → records_charge s.identity.blksize s.content.items ≤ s.identity.pages
+pub content_fits : (g : Generated) (fingerprint : List ℕ) (s : Paged) (t : TableRows) → KeepsTables (identity_for g fingerprint) s t → Suits g t → records_charge s.identity.blksize s.content.items ≤ s.identity.pages
 content_fits g fingerprint s t k suits =
     let charged : total_charge g.limits.blksize t ≡ records_charge g.limits.blksize (content_of_tables t).items = charges_are_those_of_the_bytes g.limits.blksize t k.tables.proper in
     subst (λ (i : Identity). records_charge i.blksize s.content.items ≤ i.pages) (sym k.identity_is)

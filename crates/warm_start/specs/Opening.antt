@@ -1,10 +1,11 @@
 -- What the opening of a KDCFILE answers, and what a stop within it leaves.
-use Rattle.std.specs.Prelude.{◌≡◌, ◌⊎◌, ℕ, List, []}
+use Rattle.std.specs.Prelude.{◌≡◌, ◌⊎◌, ℕ, ◌+◌, List, [], ◌∷◌}
 use Rattle.kd_device.specs.Device.{State, LeavesOnly}
 use Rattle.kd_records.specs.Identity.{Identity}
 use Rattle.kdcdef_types.specs.Generation.{Generated}
 use Rattle.kdcs_types.specs.Tables.{TableRows, empty_tables}
-use Rattle.kdcfile_images.specs.File.{IsNoImage}
+use Rattle.kdcfile_layout.specs.Layout.{IsNoImage}
+use Rattle.kdcfile_store.specs.Paged.{made_length}
 use Rattle.laws_of_steps.specs.Suits.{Suits, SuitsFrom}
 use Rattle.warm_start.specs.Stands.{StandsForTables, identity_for}
 
@@ -50,3 +51,8 @@ pub record IsOpening (i : Identity) (a : State) (la : ℕ → List ℕ → List 
 -- a stop within the opening leaves no more
 abbrev pub LeavesOpening : Identity → (a b : State) → (la lb : ℕ → List ℕ → List ℕ → Type 0) → Type 0
 LeavesOpening i a b la lb = LeavesOnly a b la lb (IsOpening i a la)
+
+-- how many bytes an opening writes at most: those of a fresh file, and its gate once more, where the file is empty, and none where it is not
+abbrev pub opening_most : Identity → (bytes : List ℕ) → ℕ
+opening_most i [] = made_length i + 1
+opening_most i (b ∷ bs) = 0

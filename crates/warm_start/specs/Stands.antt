@@ -3,9 +3,9 @@ use Rattle.std.specs.Prelude.{◌≡◌, List, ℕ}
 use Rattle.kd_records.specs.Identity.{Identity}
 use Rattle.kdcdef_types.specs.Generation.{Generated}
 use Rattle.kdcs_types.specs.Tables.{TableRows, IsSortedTables}
-use Rattle.kdcfile_images.specs.File.{StandsFor}
+use Rattle.kdcfile_layout.specs.Layout.{StandsFor}
 use Rattle.kdcfile_store.specs.declared.store.StoreLimits.{StoreLimits}
-use Rattle.kdcfile_store.specs.Whole.{Whole, identity_with}
+use Rattle.kdcfile_store.specs.Paged.{Paged, identity_with}
 use Rattle.record_codec.specs.Records.{content_of_tables}
 use Rattle.record_codec.specs.TableReadings.{AreProperTables}
 
@@ -28,7 +28,7 @@ pub record StandsForTables (i : Identity) (t : TableRows) (bytes : List ℕ) : T
   pub content : StandsFor i (content_of_tables t) bytes
 
 -- the store keeps these tables, in a file that was made with this
-pub record KeepsTables (i : Identity) (store : Whole) (t : TableRows) : Type 0 where
+pub record KeepsTables (i : Identity) (store : Paged) (t : TableRows) : Type 0 where
   pub identity_is : store.identity ≡ i
   pub tables : AreTables t
   pub content : store.content ≡ content_of_tables t

@@ -1,8 +1,8 @@
 -- The bytes of a fingerprint tell the texts that they were joined from.
 use Rattle.std.proofs.Common.{◌≡◌, ℕ, ◌+◌, ◌<◌, ◌^◌, List, ◌++◌, length, take, drop, refl, sym, ap, ◌∙◌, append_assoc}
 use Rattle.std.specs.Int.{w64, to_be_bytes}
-use Rattle.kdcfile_images.specs.PlacesLaws.{after, field, written_8}
-use Rattle.kdcfile_images.specs.Reading.{number}
+use Rattle.kdcfile_layout.specs.FieldsLaws.{after, field, written_8}
+use Rattle.kdcfile_layout.specs.Fields.{number}
 use Rattle.warm_start.specs.Fingerprints.{joined, TextsAreToldApart}
 
 module _ (a b : List ℕ) where

@@ -4,8 +4,8 @@
 //! of a file stand for and which files an application starts from. Its contract says that `fingerprint_of` is the
 //! SHA-256 digest of a definition and its units, and that `open_tables` makes an empty file, answers the tables of a file
 //! that is of the same texts and whose tables suit the generation, and refuses every other file, which then stays as it
-//! is; so does every file where memory runs out. After `Ok` a stop leaves just the file that was opened. `read_tables`
-//! answers the same tables, and leaves each file as it is.
+//! is; so does every file where memory runs out. After `Ok` a stop leaves just the file that was opened. What is written is
+//! at most a fresh file and one byte. `read_tables` answers the same tables, and leaves each file as it is.
 #![tactic(auto)]
 
 mod error;

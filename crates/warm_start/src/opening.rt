@@ -1,17 +1,17 @@
 //! The KDCFILE is made where it is empty, and else opened warm; or its tables are read, and it stays as it is.
-ghost use Rattle.std.specs.Prelude.{◌≡◌, ◌≤◌, [], List, ℕ, IsTrue, length, IfOk, OnOk, IsErrOf};
+ghost use Rattle.std.specs.Prelude.{◌≡◌, ◌≤◌, ◌+◌, [], List, ℕ, IsTrue, length, IfOk, OnOk, IsErrOf};
 ghost use Rattle.kd_device.specs.{Device.{State, Rose, Frame, SameFaults, SameNames, Only}, Rest.{Rests}};
 ghost use Rattle.kd_records.specs.Charge.{total_charge};
 ghost use Rattle.kdcdef_types.specs.Statements.{IsBlksize, IsWithin};
 ghost use Rattle.kdcs_types.specs.Tables.{empty_tables};
-ghost use Rattle.kdcfile_store.specs.{Kept.{IsKept}, Whole.{HasFile, LeavesMade}};
+ghost use Rattle.kdcfile_store.specs.{Kept.{IsKept}, Paged.{HasFile, LeavesMade, made_length}};
 ghost use Rattle.laws_of_steps.specs.Suits.{Suits};
-ghost use Rattle.warm_start.specs.{Stands.{AreTables, KeepsTables, StandsForTables, identity_for, limits_of}, Kept.{KeepsNoneFor, KeepsOthers}, Opening.{StartsFrom, HasNoTablesFor, IsRefused, IsOfOtherTexts, LeavesOpening}};
+ghost use Rattle.warm_start.specs.{Stands.{AreTables, KeepsTables, StandsForTables, identity_for, limits_of}, Kept.{KeepsNoneFor, KeepsOthers}, Opening.{StartsFrom, HasNoTablesFor, IsRefused, IsOfOtherTexts, LeavesOpening, opening_most}};
 
 use crate::error::OpenError;
 use kd_device::{Device, DeviceError};
 use kdcdef_check::Generation;
-use kdcfile_store::{StoreLimits, WholeStore};
+use kdcfile_store::{PagedStore, StoreLimits};
 use kdcs_types::Tables;
 use record_codec::tables_of;
 use std::alloc::Global;
@@ -48,7 +48,7 @@ fn limits_of(generation: &Generation) -> StoreLimits
 /// The tables that a store keeps, where they are of the texts with this fingerprint and suit the generation.
 fn tables_in(
     alloc: Global,
-    store: &WholeStore,
+    store: &PagedStore,
     generation: &Generation,
     fingerprint: &[u8; 32],
 ) -> Result<Tables, OpenError>
@@ -78,7 +78,7 @@ fn make<D: Device>(
     device: &mut D,
     generation: &Generation,
     fingerprint: &[u8; 32],
-) -> Result<(WholeStore, Tables), OpenError>
+) -> Result<(PagedStore, Tables), OpenError>
     requires empty { IsTrue (D.state device.old).told → (D.state device.old).holds ≡ [] }
     requires at_rest { IsTrue (D.state device.old).told → Only (D.state device.old).holds (D.state device.old) (D.leaves device.old) }
     ensures empty { IfOk result (λ o. o.1 ≡ empty_tables) }
@@ -87,6 +87,7 @@ fn make<D: Device>(
     ensures kept { IfOk result (λ o. IsTrue (D.state device.old).told → IsKept (HasFile o.0) (D.state device.new) (D.leaves device.new)) }
     ensures sent { IsTrue (D.state device.old).told → (D.state device.new).sent ≡ (D.state device.old).sent }
     ensures any_moment { IsTrue (D.state device.old).told → LeavesMade (identity_for generation.now fingerprint.now) (D.state device.old) (D.state device.new) (D.leaves device.old) (D.leaves device.new) }
+    ensures put_most { IsTrue (D.state device.old).told → (D.state device.new).put ≤ (D.state device.old).put + made_length (identity_for generation.now fingerprint.now) + 1 }
     ensures refused { IsErrOf result OpenError.NotKdcfile → ⊥ }
     ensures other { (stored : List ℕ) → IsErrOf result (OpenError.OtherGeneration stored) → ⊥ }
     ensures failed { IsErrOf result OpenError.Failed → Rose (D.state device.old).disk_faults (D.state device.new).disk_faults }
@@ -96,7 +97,7 @@ fn make<D: Device>(
     ensures names { SameNames (D.state device.old) (D.state device.new) }
 {
     let limits = limits_of(generation);
-    let store = WholeStore::create(alloc, device, &limits, fingerprint)?;
+    let store = PagedStore::create(alloc, device, &limits, fingerprint)?;
     Ok((store, Tables::empty(alloc)))
 }
 
@@ -106,7 +107,7 @@ fn warm<D: Device>(
     device: &mut D,
     generation: &Generation,
     fingerprint: &[u8; 32],
-) -> Result<(WholeStore, Tables), OpenError>
+) -> Result<(PagedStore, Tables), OpenError>
     ensures tables { IfOk result (λ o. KeepsTables (identity_for generation.now fingerprint.now) o.0 o.1) }
     ensures suits { IfOk result (λ o. Suits generation.now o.1) }
     ensures stands { IfOk result (λ o. IsTrue (D.state device.old).told → StandsForTables (identity_for generation.now fingerprint.now) o.1 (D.state device.old).holds) }
@@ -119,7 +120,7 @@ fn warm<D: Device>(
     ensures frame { Frame (D.state device.old) (D.state device.new) }
     ensures names { SameNames (D.state device.old) (D.state device.new) }
 {
-    let store = WholeStore::load(alloc, device)?;
+    let store = PagedStore::load(alloc, device)?;
     let tables = tables_in(alloc, &store, generation, fingerprint)?;
     Ok((store, tables))
 }
@@ -132,7 +133,7 @@ pub fn open_tables<D: Device>(
     device: &mut D,
     generation: &Generation,
     fingerprint: &[u8; 32],
-) -> Result<(WholeStore, Tables), OpenError>
+) -> Result<(PagedStore, Tables), OpenError>
     ensures tables { IfOk result (λ o. KeepsTables (identity_for generation.now fingerprint.now) o.0 o.1) }
     ensures suits { IfOk result (λ o. Suits generation.now o.1) }
 
@@ -148,6 +149,7 @@ pub fn open_tables<D: Device>(
     ensures still { IsTrue (D.state device.old).told → ((D.state device.old).holds ≡ [] → ⊥) → Rests (D.state device.old) (D.state device.new) (D.leaves device.old) (D.leaves device.new) }
     ensures sent { IsTrue (D.state device.old).told → (D.state device.new).sent ≡ (D.state device.old).sent }
     ensures any_moment { IsTrue (D.state device.old).told → LeavesOpening (identity_for generation.now fingerprint.now) (D.state device.old) (D.state device.new) (D.leaves device.old) (D.leaves device.new) }
+    ensures put_most { IsTrue (D.state device.old).told → (D.state device.new).put ≤ (D.state device.old).put + opening_most (identity_for generation.now fingerprint.now) (D.state device.old).holds }
 
     // Where memory runs out, an empty file stays too.
     ensures memory { IsErrOf result OpenError.Memory → IsTrue (D.state device.old).told → Rests (D.state device.old) (D.state device.new) (D.leaves device.old) (D.leaves device.new) }

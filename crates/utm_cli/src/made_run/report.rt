@@ -1,7 +1,7 @@
 //! The run of the commands over a device of its own, and its report.
 ghost use Rattle.std.specs.Prelude.{◌≡◌, ◌≤◌, ◌+◌, ◌^◌, [], IfOk, sum_by};
 ghost use Rattle.kd_device.specs.Sure.{sure_state, sure_leaves};
-ghost use Rattle.kdcfile_store.specs.{Kept.{IsKept}, Whole.{HasFile}};
+ghost use Rattle.kdcfile_store.specs.{Kept.{IsKept}, Paged.{HasFile}};
 ghost use Rattle.kdcs_types.specs.Tables.{empty_tables};
 ghost use Rattle.unit_check.specs.Fitted.{IsFit};
 ghost use Rattle.laws_of_applications.specs.Applied.{applied};
@@ -19,7 +19,7 @@ use device_run::run_script;
 use kd_base::{Bytes, OutOfMemory};
 use kd_device::SureDevice;
 use kdcdef_check::Generation;
-use kdcfile_store::WholeStore;
+use kdcfile_store::PagedStore;
 use kdcs_types::Tables;
 use monitor_core::Core;
 use std::alloc::Global;
@@ -41,7 +41,7 @@ fn opened(
     alloc: Global,
     generation: &Generation,
     fingerprint: &[u8; 32],
-) -> Result<(SureDevice, WholeStore, Tables), OutOfMemory>
+) -> Result<(SureDevice, PagedStore, Tables), OutOfMemory>
     ensures empty { IfOk result (λ o. o.2 ≡ empty_tables) }
     ensures tables { IfOk result (λ o. KeepsTables (identity_for generation.now fingerprint.now) o.1 o.2) }
     ensures suits { IfOk result (λ o. Suits generation.now o.2) }
@@ -60,7 +60,7 @@ fn opened(
 fn ran(
     alloc: Global,
     device: &mut SureDevice,
-    store: WholeStore,
+    store: PagedStore,
     core: Core,
     fingerprint: &[u8; 32],
     n: u32,

@@ -2,13 +2,13 @@
 ghost use Rattle.std.specs.Prelude.{◌≡◌, ℕ, IfOk};
 ghost use Rattle.kd_device.specs.Sure.{sure_state};
 ghost use Rattle.kd_records.specs.Identity.{Identity};
-ghost use Rattle.kdcfile_images.specs.declared.fault.LoadError.TheVariants as errors;
+ghost use Rattle.kdcfile_load.specs.declared.fault.LoadError.TheVariants as errors;
 ghost use Rattle.kdcs_types.specs.Tables.{TableRows};
 ghost use Rattle.warm_start.specs.Stands.{StandsForTables};
 
 use kd_base::OutOfMemory;
 use kd_device::SureDevice;
-use kdcfile_store::{LoadError, WholeStore};
+use kdcfile_store::{LoadError, PagedStore};
 use kdcs_types::Tables;
 use record_codec::tables_of;
 use std::alloc::Global;
@@ -29,7 +29,7 @@ pub(crate) fn stored_tables(alloc: Global, device: &mut SureDevice) -> Result<Ta
     ensures tables { (i : Identity) (t : TableRows) → StandsForTables i t (sure_state device.old).holds → IfOk result (λ u. u ≡ t) }
     ensures sent { (sure_state device.new).sent ≡ (sure_state device.old).sent }
 {
-    let store = match WholeStore::load(alloc, device) {
+    let store = match PagedStore::load(alloc, device) {
         Ok(store) => store,
         Err(error) => return Err(want_of_memory(error)),
     };

@@ -1,9 +1,10 @@
-use Rattle.std.proofs.Common.{ap, sym, ◌∙◌}
+use Rattle.std.proofs.Common.{◌∷◌, [], arith, refl, ap, sym, ◌∙◌}
 use Rattle.std.proofs.lemmas.Result.{on_ok_weaker}
 use Rattle.kdcs_types.specs.declared.act.Act.TheVariants.{Emit}
-use Rattle.device_acts.specs.Acting.{content_after}
+use Rattle.device_acts.specs.Acting.{acts_most, content_after}
 use Rattle.device_acts.specs.ErrorsLaws.{no_error, ok_unless}
 use Rattle.device_acts.specs.ContentsLaws.{content_goes, commit_within, commit_sent, rest_stands, line_within, line_sent}
+use Rattle.device_acts.specs.WritingLaws.{commit_writes, writes_line, writes_none}
 use Rattle.device_acts.proofs.acts.do_act.Goals as goal
 
 pub returns-in_err-commit-in-Commit-clause-any : goal.returns-in_err-commit-in-Commit-clause-any
@@ -35,3 +36,19 @@ returns-in-Emit-clause-done g c =
     on_ok_weaker c.say.result
     (λ both. line_sent (g.S.Store.file c.args.store.now) (g.D.Device.state c.args.device.now) (g.D.Device.state c.say.new.device) (g.D.Device.leaves c.args.device.now) (g.D.Device.leaves c.say.new.device) c.args.act.now c.as_slice.result.now (c.in-Emit.is ∙ ap Emit (sym c.as_slice.ensures)) c.requires.kept c.say.ensures.stop both.0 both.1)
     (ok_unless _ _ c.say.result _ c.say.ensures.sent c.say.ensures.fine)
+
+pub returns-in_err-commit-in-Commit-clause-put : goal.returns-in_err-commit-in-Commit-clause-put
+returns-in_err-commit-in-Commit-clause-put g c = λ told.
+    commit_writes g.S.Store.most_written (g.S.Store.identity c.args.store.now) (g.S.Store.kept c.args.store.now) (g.D.Device.state c.args.device.now) (g.D.Device.state c.commit.new.device) c.args.act.now c.in-Commit.changes c.in_ok-patch-in-Commit.patch c.in-Commit.is c.in_ok-patch-in-Commit.ensures (c.commit.ensures.sent told) (c.commit.ensures.put_most told)
+
+pub returns-in_ok-commit-in-Commit-clause-put : goal.returns-in_ok-commit-in-Commit-clause-put
+returns-in_ok-commit-in-Commit-clause-put g c = λ told.
+    commit_writes g.S.Store.most_written (g.S.Store.identity c.args.store.now) (g.S.Store.kept c.args.store.now) (g.D.Device.state c.args.device.now) (g.D.Device.state c.commit.new.device) c.args.act.now c.in-Commit.changes c.in_ok-patch-in-Commit.patch c.in-Commit.is c.in_ok-patch-in-Commit.ensures (c.commit.ensures.sent told) (c.commit.ensures.put_most told)
+
+pub returns-in-Emit-clause-put : goal.returns-in-Emit-clause-put
+returns-in-Emit-clause-put g c = λ told.
+    writes_line (acts_most g.S.Store.most_written (g.S.Store.identity c.args.store.now) (g.S.Store.kept c.args.store.now)) (g.D.Device.state c.args.device.now) (g.D.Device.state c.say.new.device) c.args.act.now c.as_slice.result.now (c.in-Emit.is ∙ ap Emit (sym c.as_slice.ensures)) (c.say.ensures.part told)
+
+pub returns-in_err-patch-in-Commit-clause-put : goal.returns-in_err-patch-in-Commit-clause-put
+returns-in_err-patch-in-Commit-clause-put g c = λ told.
+    writes_none (acts_most g.S.Store.most_written (g.S.Store.identity c.args.store.now) (g.S.Store.kept c.args.store.now)) (c.args.act.now ∷ []) (g.D.Device.state c.args.device.now) (g.D.Device.state c.args.device.now) refl (omega arith)

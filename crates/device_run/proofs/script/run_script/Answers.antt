@@ -2,7 +2,7 @@ use Rattle.std.proofs.Common.{inl, inr, ⊎_elim, ◌^◌, arith, sym, subst}
 use Rattle.std.specs.Prelude.{IsTrue}
 use Rattle.abstract_monitor.specs.Trace.{history}
 use Rattle.kd_base.specs.ToolsLaws.{error_same}
-use Rattle.device_run.proofs.Scripts.{script_kept, script_over, script_names, script_turns, script_within, script_more, script_bounded, script_bounded_more, script_counted, script_counted_over, script_stopped, nothing_counted}
+use Rattle.device_run.proofs.Scripts.{script_kept, script_over, script_names, script_turns, script_within, script_writes, script_written, script_more, script_bounded, script_bounded_more, script_counted, script_counted_over, script_stopped, nothing_counted}
 use Rattle.device_run.proofs.Stepping.{history_start, steps_ran}
 use Rattle.device_run.proofs.Errors.{on_err}
 use Rattle.device_run.proofs.script.run_script.Goals as goal
@@ -35,7 +35,7 @@ pub do_command-requires-clause-kept : goal.do_command-requires-clause-kept
 do_command-requires-clause-kept g c = script_kept c.args.fingerprint.now c.args.core c.loop-command.core c.loop-command.store c.args.commands.now c.loop-command.command-index (g.D.Device.state c.args.device.now) (g.D.Device.state c.loop-command.device) (g.D.Device.leaves c.args.device.now) (g.D.Device.leaves c.loop-command.device) c.loop-command.invariant.run
 
 pub returns-in_err-core-clause-any : goal.returns-in_err-core-clause-any
-returns-in_err-core-clause-any g c = script_within c.args.fingerprint.now c.args.core c.loop-command.core c.loop-command.store c.args.commands.now c.loop-command.command-index (g.D.Device.state c.args.device.now) (g.D.Device.state c.loop-command.device) (g.D.Device.leaves c.args.device.now) (g.D.Device.leaves c.loop-command.device) c.loop-command.invariant.run c.command-item.result c.command-item.is c.loop-command-test.true (g.D.Device.state c.do_command.new.device) (g.D.Device.leaves c.do_command.new.device) c.do_command.ensures.any
+returns-in_err-core-clause-any g c = script_within c.args.fingerprint.now c.args.core c.loop-command.core c.loop-command.store c.args.commands.now c.loop-command.command-index (g.D.Device.state c.args.device.now) (g.D.Device.state c.loop-command.device) (g.D.Device.leaves c.args.device.now) (g.D.Device.leaves c.loop-command.device) c.loop-command.invariant.run c.command-item.result c.command-item.is c.loop-command-test.true (g.D.Device.state c.do_command.new.device) (g.D.Device.leaves c.do_command.new.device) c.do_command.ensures.any c.do_command.ensures.put
 
 pub loop-command-preserved : goal.loop-command-preserved
 loop-command-preserved g c = record {
@@ -46,7 +46,7 @@ loop-command-preserved g c = record {
   counted = λ told.
       script_counted c.args.fingerprint.now c.args.core c.loop-command.core c.loop-command.store c.args.commands.now c.loop-command.command-index (g.D.Device.state c.args.device.now) (g.D.Device.state c.loop-command.device) (g.D.Device.leaves c.args.device.now) (g.D.Device.leaves c.loop-command.device) c.loop-command.invariant.run c.command-item.result c.command-item.is c.loop-command-test.true
       c.loop-command.commits c.do_command.new.commits c.in_ok-core.ensures.counted told (c.loop-command.invariant.counted told);
-  run = script_more c.args.fingerprint.now c.args.core c.loop-command.core c.loop-command.store c.args.commands.now c.loop-command.command-index (g.D.Device.state c.args.device.now) (g.D.Device.state c.loop-command.device) (g.D.Device.leaves c.args.device.now) (g.D.Device.leaves c.loop-command.device) c.loop-command.invariant.run c.command-item.result c.command-item.is c.loop-command-test.true (g.D.Device.state c.do_command.new.device) (g.D.Device.leaves c.do_command.new.device) c.do_command.ensures.any c.in_ok-core.core c.do_command.new.store c.in_ok-core.ensures.done;
+  run = script_more c.args.fingerprint.now c.args.core c.loop-command.core c.loop-command.store c.args.commands.now c.loop-command.command-index (g.D.Device.state c.args.device.now) (g.D.Device.state c.loop-command.device) (g.D.Device.leaves c.args.device.now) (g.D.Device.leaves c.loop-command.device) c.loop-command.invariant.run c.command-item.result c.command-item.is c.loop-command-test.true (g.D.Device.state c.do_command.new.device) (g.D.Device.leaves c.do_command.new.device) c.do_command.ensures.any c.do_command.ensures.put c.in_ok-core.core c.do_command.new.store c.in_ok-core.ensures.done;
 }
 
 pub returns-clause-any : goal.returns-clause-any
@@ -79,7 +79,7 @@ returns-in_err-core-clause-stopped g c =
     let told_e : IsTrue e.told = subst IsTrue (sym frame.told) told_b in
     let left = g.met.D.Device.earlier c.do_command.new.device b.moment e.moment e.holds e.sent told_e frame.moment (g.met.D.Device.holds_now c.do_command.new.device told_e) in
     let cut = (c.do_command.ensures.any.any_moment told_b).only b.moment e.holds e.sent (omega arith) left in
-    script_stopped c.args.fingerprint.now c.args.core c.loop-command.core c.loop-command.store c.args.commands.now c.loop-command.command-index (g.D.Device.state c.args.device.now) b (g.D.Device.leaves c.args.device.now) (g.D.Device.leaves c.loop-command.device) c.loop-command.invariant.run c.command-item.result c.command-item.is c.loop-command-test.true e (g.D.Device.leaves c.do_command.new.device) c.do_command.ensures.any told
+    script_stopped c.args.fingerprint.now c.args.core c.loop-command.core c.loop-command.store c.args.commands.now c.loop-command.command-index (g.D.Device.state c.args.device.now) b (g.D.Device.leaves c.args.device.now) (g.D.Device.leaves c.loop-command.device) c.loop-command.invariant.run c.command-item.result c.command-item.is c.loop-command-test.true e (g.D.Device.leaves c.do_command.new.device) c.do_command.ensures.any c.do_command.ensures.put told
     (⊎_elim (λ past. inl (g.met.D.Device.sent_now c.loop-command.device e.holds e.sent told_b past)) (λ cut. inr cut) cut)
     (λ restart. c.in_err-core.ensures.unsaid restart told_b))
 
@@ -89,3 +89,10 @@ returns-in_err-core-clause-fine g c = λ none.
 
 pub returns-clause-fine : goal.returns-clause-fine
 returns-clause-fine g c = λ none. c.loop-command.invariant.run.did.acts.faults
+
+pub returns-in_err-core-clause-put : goal.returns-in_err-core-clause-put
+returns-in_err-core-clause-put g c = script_writes c.args.fingerprint.now c.args.core c.loop-command.core c.loop-command.store c.args.commands.now c.loop-command.command-index (g.D.Device.state c.args.device.now) (g.D.Device.state c.loop-command.device) (g.D.Device.leaves c.args.device.now) (g.D.Device.leaves c.loop-command.device) c.loop-command.invariant.run c.command-item.result c.command-item.is c.loop-command-test.true (g.D.Device.state c.do_command.new.device) (g.D.Device.leaves c.do_command.new.device) c.do_command.ensures.any c.do_command.ensures.put
+
+pub returns-clause-put : goal.returns-clause-put
+returns-clause-put g c =
+    script_written c.args.fingerprint.now c.args.core c.loop-command.core c.loop-command.store c.args.commands.now c.loop-command.command-index (g.D.Device.state c.args.device.now) (g.D.Device.state c.loop-command.device) (g.D.Device.leaves c.args.device.now) (g.D.Device.leaves c.loop-command.device) c.loop-command.invariant.run (omega arith)

@@ -5,9 +5,9 @@ use Rattle.abstract_monitor.specs.Commands.{ScriptStep, command_of, rotated, tur
 use Rattle.abstract_monitor.specs.Turns.{turn_of}
 use Rattle.abstract_monitor.specs.declared.command.Command.{Command}
 use Rattle.abstract_monitor.specs.CommandsOf.{IsCommandOf}
-use Rattle.device_run.specs.Running.{turns_of, WithinSteps, DidSteps}
+use Rattle.device_run.specs.Running.{turns_of, StepsWrite, WithinSteps, DidSteps}
 use Rattle.device_run.proofs.Counting.{commits_by}
-use Rattle.device_run.proofs.Commanding.{own_running, steps_of_run, steps_of_turn, steps_of_restart, steps_of_single, single_of, command_within, did_command, one_counts, restart_counts, run_no_restart, turn_no_restart, single_no_restart}
+use Rattle.device_run.proofs.Commanding.{own_running, steps_of_run, steps_of_turn, steps_of_restart, steps_of_single, single_of, command_within, command_writes, did_command, one_counts, restart_counts, run_no_restart, turn_no_restart, single_no_restart}
 use Rattle.kd_base.specs.ToolsLaws.{error_same}
 use Rattle.device_run.proofs.Errors.{err_is_no_value, on_err, on_err_weaker}
 use Rattle.device_acts.specs.ErrorsLaws.{no_error, other_error}
@@ -195,3 +195,18 @@ returns-in-Restart-clause-fine g c = c.restart.ensures.fine
 
 pub returns-in-Input-clause-fine : goal.returns-in-Input-clause-fine
 returns-in-Input-clause-fine g c = c.do_single.ensures.fine
+
+pub returns-in-Run-clause-put : goal.returns-in-Run-clause-put
+returns-in-Run-clause-put g c = command_writes c.args.fingerprint.now c.args.core c.args.store.now c.requires.running c.args.command.now (rotated c.args.core.application c.in-Run.turns false c.args.core.state 1 0) (steps_of_run c.args.core.application c.args.core.state c.args.command.now c.in-Run.turns c.in-Run.is) (g.D.Device.state c.args.device.now) (g.D.Device.state c.run_turns.new.device) c.run_turns.ensures.put
+
+pub returns-in_err-next-in-Turn-clause-put : goal.returns-in_err-next-in-Turn-clause-put
+returns-in_err-next-in-Turn-clause-put g c = command_writes c.args.fingerprint.now c.args.core c.args.store.now c.requires.running c.args.command.now (turned_step (turn_of c.args.core.application c.args.core.state c.in-Turn.task) ∷ []) (steps_of_turn c.args.core.application c.args.core.state c.args.command.now c.in-Turn.task c.in-Turn.is) (g.D.Device.state c.args.device.now) (g.D.Device.state c.do_turn.new.device) c.do_turn.ensures.put
+
+pub returns-in_ok-next-in-Turn-clause-put : goal.returns-in_ok-next-in-Turn-clause-put
+returns-in_ok-next-in-Turn-clause-put g c = command_writes c.args.fingerprint.now c.args.core c.args.store.now c.requires.running c.args.command.now (turned_step (turn_of c.args.core.application c.args.core.state c.in-Turn.task) ∷ []) (steps_of_turn c.args.core.application c.args.core.state c.args.command.now c.in-Turn.task c.in-Turn.is) (g.D.Device.state c.args.device.now) (g.D.Device.state c.do_turn.new.device) c.do_turn.ensures.put
+
+pub returns-in-Restart-clause-put : goal.returns-in-Restart-clause-put
+returns-in-Restart-clause-put g c = subst (λ (l : List ScriptStep). StepsWrite c.args.fingerprint.now c.args.core l (g.D.Device.state c.args.device.now) (g.D.Device.state c.restart.new.device)) (sym (steps_of_restart c.args.core.application c.args.core.state c.args.command.now c.in-Restart.is)) c.restart.ensures.put
+
+pub returns-in-Input-clause-put : goal.returns-in-Input-clause-put
+returns-in-Input-clause-put g c = command_writes c.args.fingerprint.now c.args.core c.args.store.now c.requires.running c.args.command.now (command_of c.args.core.application c.args.core.state c.args.command.now ∷ []) (steps_of_single c.args.core.application c.args.core.state c.args.command.now (single_of c.args.command.now c.in-Input.is).0) (g.D.Device.state c.args.device.now) (g.D.Device.state c.do_single.new.device) c.do_single.ensures.put

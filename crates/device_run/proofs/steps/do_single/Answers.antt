@@ -7,7 +7,7 @@ use Rattle.device_run.specs.HandedOnLaws.{act_failed, act_not_failed, act_refuse
 use Rattle.laws_of_steps.specs.Cut.{commits_in}
 use Rattle.device_run.specs.Running.{identity_of, durable_of}
 use Rattle.device_acts.specs.ActingLaws.{none_within}
-use Rattle.device_run.proofs.Stepping.{can_act, step_within, did_step}
+use Rattle.device_run.proofs.Stepping.{can_act, step_within, step_writes, none_written, did_step}
 use Rattle.device_run.proofs.Storables.{command_can}
 use Rattle.device_run.proofs.Tables.{tables_go}
 use Rattle.device_run.proofs.steps.do_single.Goals as goal
@@ -53,3 +53,17 @@ returns-in_err-do_acts-clause-other g c = λ stored is. act_knows_no_other _ c.f
 
 pub returns-in_err-do_acts-clause-fine : goal.returns-in_err-do_acts-clause-fine
 returns-in_err-do_acts-clause-fine g c = λ none. c.in_err-do_acts.ensures.fine (act_not_failed _ _ c.from_residual-in_err-do_acts.result c.in_err-do_acts.field-0.0 c.from_residual-in_err-do_acts.ensures.1 none)
+
+pub returns-in_err-next-clause-put : goal.returns-in_err-next-clause-put
+returns-in_err-next-clause-put g c =
+    none_written c.args.store.now.identity.fingerprint c.args.core ((command_of c.args.core.application c.args.core.state c.args.command.now) ∷ []) (g.D.Device.state c.args.device.now)
+
+pub returns-in_err-do_acts-clause-put : goal.returns-in_err-do_acts-clause-put
+returns-in_err-do_acts-clause-put g c =
+    step_writes c.args.store.now.identity.fingerprint c.args.core c.args.store.now (command_of c.args.core.application c.args.core.state c.args.command.now) c.as_slice-acts.result.now (command_can c.args.store.now.identity.fingerprint c.args.core c.args.store.now c.requires.running c.as_slice-acts.result.now c.acts_are_named.ensures.named c.steps_can_be_stored.ensures.commands c.args.command.now c.requires.names (c.as_slice-acts.ensures ∙ c.in_ok-next.ensures.exact.acts))
+    (g.D.Device.state c.args.device.now) (g.D.Device.state c.do_acts.new.device) c.do_acts.ensures.put
+
+pub returns-clause-put : goal.returns-clause-put
+returns-clause-put g c =
+    step_writes c.args.store.now.identity.fingerprint c.args.core c.args.store.now (command_of c.args.core.application c.args.core.state c.args.command.now) c.as_slice-acts.result.now (command_can c.args.store.now.identity.fingerprint c.args.core c.args.store.now c.requires.running c.as_slice-acts.result.now c.acts_are_named.ensures.named c.steps_can_be_stored.ensures.commands c.args.command.now c.requires.names (c.as_slice-acts.ensures ∙ c.in_ok-next.ensures.exact.acts))
+    (g.D.Device.state c.args.device.now) (g.D.Device.state c.do_acts.new.device) c.do_acts.ensures.put

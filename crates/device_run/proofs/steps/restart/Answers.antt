@@ -1,6 +1,6 @@
 use Rattle.std.proofs.Common.{inl, inr, arith, sym, subst, ◌∙◌}
 use Rattle.std.specs.Prelude.{IsTrue}
-use Rattle.device_run.proofs.Restarting.{opening_within, restart_within, did_restart}
+use Rattle.device_run.proofs.Restarting.{opening_within, opening_writes, restart_within, restart_writes, did_restart}
 use Rattle.kd_base.specs.ToolsLaws.{error_same}
 use Rattle.device_run.specs.HandedOnLaws.{either_cause, act_failed, act_not_failed, act_refuses_nothing, act_knows_no_other}
 use Rattle.kd_device.specs.TimeLaws.{faults_then}
@@ -71,3 +71,12 @@ returns-in_err-say-clause-fine g c = λ none.
 
 pub returns-clause-fine : goal.returns-clause-fine
 returns-clause-fine g c = λ none. faults_then _ _ _ c.in_ok-next.ensures.again.faults (c.in_ok-say.ensures.fine (no_error _ _))
+
+pub returns-in_err-next-clause-put : goal.returns-in_err-next-clause-put
+returns-in_err-next-clause-put g c = opening_writes c.args.fingerprint.now c.args.core c.args.store.now (g.D.Device.state c.args.device.now) (g.D.Device.leaves c.args.device.now) c.requires.running c.requires.kept (g.D.Device.state c.start_again.new.device) (g.D.Device.leaves c.start_again.new.device) c.start_again.ensures.frame c.start_again.ensures.names c.start_again.ensures.rests
+
+pub returns-in_err-say-clause-put : goal.returns-in_err-say-clause-put
+returns-in_err-say-clause-put g c = restart_writes c.args.fingerprint.now c.args.core c.args.store.now (g.D.Device.state c.args.device.now) (g.D.Device.leaves c.args.device.now) c.requires.running c.requires.kept (g.D.Device.state c.start_again.new.device) (g.D.Device.leaves c.start_again.new.device) c.start_again.ensures.frame c.start_again.ensures.names c.start_again.ensures.rests (g.D.Device.state c.say.new.device) c.say.ensures.part
+
+pub returns-clause-put : goal.returns-clause-put
+returns-clause-put g c = restart_writes c.args.fingerprint.now c.args.core c.args.store.now (g.D.Device.state c.args.device.now) (g.D.Device.leaves c.args.device.now) c.requires.running c.requires.kept (g.D.Device.state c.start_again.new.device) (g.D.Device.leaves c.start_again.new.device) c.start_again.ensures.frame c.start_again.ensures.names c.start_again.ensures.rests (g.D.Device.state c.say.new.device) c.say.ensures.part

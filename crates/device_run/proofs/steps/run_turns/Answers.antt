@@ -1,5 +1,5 @@
 use Rattle.kd_base.specs.ToolsLaws.{error_same}
-use Rattle.device_run.proofs.Rotating.{rotation_start, rotation_over, rotation_counted, rotation_running, rotation_kept, rotation_bounded, rotation_within, rotation_ended, rotation_ended_counted, rotation_more}
+use Rattle.device_run.proofs.Rotating.{rotation_start, rotation_over, rotation_counted, rotation_running, rotation_kept, rotation_bounded, rotation_within, rotation_writes, rotation_written, rotation_ended, rotation_ended_counted, rotation_more}
 use Rattle.std.proofs.Common.{◌^◌, arith}
 use Rattle.device_run.proofs.steps.run_turns.Goals as goal
 use Rattle.kd_device.specs.TimeLaws.{faults_then, rose_either}
@@ -21,7 +21,7 @@ pub do_turn-requires-clause-bounded : goal.do_turn-requires-clause-bounded
 do_turn-requires-clause-bounded g c = rotation_bounded _ _ _ _ _ _ _ _ _ _ _ _ _ _ c.loop-turn.invariant c.loop-turn-test.true (10 ^ 18) c.requires.bounded
 
 pub returns-in_err-next-clause-any : goal.returns-in_err-next-clause-any
-returns-in_err-next-clause-any g c = rotation_within _ _ _ _ _ _ _ _ _ _ _ _ _ _ c.loop-turn.invariant c.loop-turn-test.true (g.D.Device.state c.do_turn.new.device) (g.D.Device.leaves c.do_turn.new.device) c.do_turn.ensures.any
+returns-in_err-next-clause-any g c = rotation_within _ _ _ _ _ _ _ _ _ _ _ _ _ _ c.loop-turn.invariant c.loop-turn-test.true (g.D.Device.state c.do_turn.new.device) (g.D.Device.leaves c.do_turn.new.device) c.do_turn.ensures.any c.do_turn.ensures.put
 
 pub returns-clause-any : goal.returns-clause-any
 returns-clause-any g c = c.loop-turn.invariant.run.within
@@ -37,21 +37,21 @@ returns-in_err-next-clause-failed g c = λ is.
     rose_either (g.D.Device.state c.args.device.now) (g.D.Device.state c.loop-turn.device) (g.D.Device.state c.do_turn.new.device) c.loop-turn.invariant.run.within.frame (c.in_err-next.ensures.failed (error_same _ _ c.from_residual.result c.in_err-next.field-0.0 _ c.from_residual.ensures.1 is))
 
 pub returns-then-unmoved-tasks-clause-any : goal.returns-then-unmoved-tasks-clause-any
-returns-then-unmoved-tasks-clause-any g c = rotation_within _ _ _ _ _ _ _ _ _ _ _ _ _ _ c.loop-turn.invariant c.loop-turn-test.true (g.D.Device.state c.do_turn.new.device) (g.D.Device.leaves c.do_turn.new.device) c.do_turn.ensures.any
+returns-then-unmoved-tasks-clause-any g c = rotation_within _ _ _ _ _ _ _ _ _ _ _ _ _ _ c.loop-turn.invariant c.loop-turn-test.true (g.D.Device.state c.do_turn.new.device) (g.D.Device.leaves c.do_turn.new.device) c.do_turn.ensures.any c.do_turn.ensures.put
 
 pub returns-then-unmoved-tasks-clause-done : goal.returns-then-unmoved-tasks-clause-done
 returns-then-unmoved-tasks-clause-done g c =
-    rotation_ended _ _ _ _ _ _ _ _ _ _ _ _ _ _ c.loop-turn.invariant c.loop-turn-test.true (g.D.Device.state c.do_turn.new.device) (g.D.Device.leaves c.do_turn.new.device) c.do_turn.ensures.any
+    rotation_ended _ _ _ _ _ _ _ _ _ _ _ _ _ _ c.loop-turn.invariant c.loop-turn-test.true (g.D.Device.state c.do_turn.new.device) (g.D.Device.leaves c.do_turn.new.device) c.do_turn.ensures.any c.do_turn.ensures.put
     c.in_ok-next.next c.do_turn.new.store c.in_ok-next.moved c.row_with-unmoved.result c.tasks-tasks.result c.in_ok-next.ensures.done c.in_ok-next.ensures.moved c.row_with-unmoved.ensures c.tasks-tasks.ensures c.if-unmoved-tasks.true
 
 pub returns-then-unmoved-tasks-clause-counted : goal.returns-then-unmoved-tasks-clause-counted
 returns-then-unmoved-tasks-clause-counted g c =
-    rotation_ended_counted _ _ _ _ _ _ _ _ _ _ _ _ _ _ c.loop-turn.invariant c.loop-turn-test.true (g.D.Device.state c.do_turn.new.device) (g.D.Device.leaves c.do_turn.new.device) c.do_turn.ensures.any
+    rotation_ended_counted _ _ _ _ _ _ _ _ _ _ _ _ _ _ c.loop-turn.invariant c.loop-turn-test.true (g.D.Device.state c.do_turn.new.device) (g.D.Device.leaves c.do_turn.new.device) c.do_turn.ensures.any c.do_turn.ensures.put
     c.in_ok-next.next c.do_turn.new.store c.in_ok-next.moved c.row_with-unmoved.result c.tasks-tasks.result c.in_ok-next.ensures.done c.in_ok-next.ensures.moved c.row_with-unmoved.ensures c.tasks-tasks.ensures c.if-unmoved-tasks.true c.do_turn.new.commits c.in_ok-next.ensures.counted
 
 pub loop-turn-preserved : goal.loop-turn-preserved
 loop-turn-preserved g c =
-    rotation_more _ _ _ _ _ _ _ _ _ _ _ _ _ _ c.loop-turn.invariant c.loop-turn-test.true (g.D.Device.state c.do_turn.new.device) (g.D.Device.leaves c.do_turn.new.device) c.do_turn.ensures.any
+    rotation_more _ _ _ _ _ _ _ _ _ _ _ _ _ _ c.loop-turn.invariant c.loop-turn-test.true (g.D.Device.state c.do_turn.new.device) (g.D.Device.leaves c.do_turn.new.device) c.do_turn.ensures.any c.do_turn.ensures.put
     c.in_ok-next.next c.do_turn.new.store c.in_ok-next.moved c.row_with-unmoved.result c.tasks-tasks.result c.in_ok-next.ensures.done c.in_ok-next.ensures.moved c.row_with-unmoved.ensures c.tasks-tasks.ensures c.if-unmoved-tasks.false
     c.in_ok-next.ensures.state c.in_ok-next.ensures.steps c.task_after-task.result c.task_after-task.ensures c.do_turn.new.commits c.in_ok-next.ensures.counted
 
@@ -64,3 +64,12 @@ returns-then-unmoved-tasks-clause-fine g c = λ none. faults_then _ _ _ c.loop-t
 
 pub returns-clause-fine : goal.returns-clause-fine
 returns-clause-fine g c = λ none. c.loop-turn.invariant.run.did.acts.faults
+
+pub returns-in_err-next-clause-put : goal.returns-in_err-next-clause-put
+returns-in_err-next-clause-put g c = rotation_writes _ _ _ _ _ _ _ _ _ _ _ _ _ _ c.loop-turn.invariant c.loop-turn-test.true (g.D.Device.state c.do_turn.new.device) (g.D.Device.leaves c.do_turn.new.device) c.do_turn.ensures.any c.do_turn.ensures.put
+
+pub returns-then-unmoved-tasks-clause-put : goal.returns-then-unmoved-tasks-clause-put
+returns-then-unmoved-tasks-clause-put g c = rotation_writes _ _ _ _ _ _ _ _ _ _ _ _ _ _ c.loop-turn.invariant c.loop-turn-test.true (g.D.Device.state c.do_turn.new.device) (g.D.Device.leaves c.do_turn.new.device) c.do_turn.ensures.any c.do_turn.ensures.put
+
+pub returns-clause-put : goal.returns-clause-put
+returns-clause-put g c = rotation_written _ _ _ _ _ _ _ _ _ _ _ _ _ _ c.loop-turn.invariant (omega arith)

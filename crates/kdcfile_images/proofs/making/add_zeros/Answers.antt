@@ -1,6 +1,6 @@
 use Rattle.std.proofs.Common.{◌∙◌}
 use Rattle.std.specs.Vec.{vec_len}
-use Rattle.kdcfile_images.proofs.Fresh.{filled}
+use Rattle.kdcfile_images.specs.FreshLaws.{filled}
 use Rattle.kdcfile_images.proofs.making.add_zeros.Goals as goal
 
 pub returns : goal.returns

@@ -1,11 +1,13 @@
-use Rattle.std.proofs.Common.{◌≡◌, ◌∙◌, ◌++◌, ◌+◌, ◌*◌, List, ℕ, subst}
-use Rattle.kd_records.specs.Identity.{Identity}
-use Rattle.kdcfile_images.specs.File.{root, mark, fresh}
-use Rattle.kdcfile_images.specs.Fresh.{zeros}
+use Rattle.std.proofs.Common.{◌∙◌}
+use Rattle.kdcfile_images.specs.Fresh.{made_with}
+use Rattle.kdcfile_images.proofs.Fresh.{few_pages, root_fits, fresh_opened}
 use Rattle.kdcfile_images.proofs.making.make.Goals as goal
 
-pub returns-clause-rest : goal.returns-clause-rest
-returns-clause-rest c =
-    let i : Identity = record { blksize = c.args.blksize; pages = c.args.pgpool; fingerprint = c.args.fingerprint.now } in
-    let bytes : c.as_slice.result.now ≡ root i fresh = c.as_slice.ensures ∙ c.in_ok-bytes.ensures.bytes in
-    subst (λ (l : List ℕ). c.in_ok-rest.rest.items ≡ mark i ++ zeros 8175 ++ (l ++ zeros (8128 + c.args.pgpool * c.args.blksize)) ++ (l ++ zeros (8128 + c.args.pgpool * c.args.blksize))) bytes (c.in_ok-rest.ensures c.args.fingerprint.now)
+pub root_bytes-requires : goal.root_bytes-requires
+root_bytes-requires c = few_pages (made_with c.args.blksize c.args.pgpool c.args.fingerprint.now) c.requires c.in_ok-root.root c.in_ok-root.ensures
+
+pub rest_bytes-requires-clause-root : goal.rest_bytes-requires-clause-root
+rest_bytes-requires-clause-root c = root_fits (made_with c.args.blksize c.args.pgpool c.args.fingerprint.now) c.requires c.in_ok-root.root c.in_ok-root.ensures c.as_slice.result.now (c.as_slice.ensures ∙ c.in_ok-bytes.ensures)
+
+pub new-requires : goal.new-requires
+new-requires c = fresh_opened (made_with c.args.blksize c.args.pgpool c.args.fingerprint.now) c.requires c.in_ok-root.root c.in_ok-root.ensures

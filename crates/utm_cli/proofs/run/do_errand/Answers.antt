@@ -15,3 +15,9 @@ returns-in_err-do_report-in-Gen-clause-other g c = λ stored is told. act_knows_
 
 pub returns-in_err-do_report-in-Gen-clause-fine : goal.returns-in_err-do_report-in-Gen-clause-fine
 returns-in_err-do_report-in-Gen-clause-fine g c = λ none. c.in_err-do_report-in-Gen.ensures.fine (act_not_failed _ _ c.from_residual.result c.in_err-do_report-in-Gen.field-0.0 c.from_residual.ensures.1 none)
+
+pub returns-in_ok-do_report-in-Gen-clause-put : goal.returns-in_ok-do_report-in-Gen-clause-put
+returns-in_ok-do_report-in-Gen-clause-put g c = c.do_report.ensures.put c.args.tables c.requires.tables
+
+pub returns-in_err-do_report-in-Gen-clause-put : goal.returns-in_err-do_report-in-Gen-clause-put
+returns-in_err-do_report-in-Gen-clause-put g c = c.do_report.ensures.put c.args.tables c.requires.tables

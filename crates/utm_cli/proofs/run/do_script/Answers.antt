@@ -1,6 +1,7 @@
 use Rattle.std.proofs.Common.{sym}
 use Rattle.std.proofs.lemmas.Result.{on_ok_weaker}
-use Rattle.utm_cli.proofs.Doing.{parts_run, parts_script, parts_within, parts_ran}
+use Rattle.utm_cli.proofs.Doing.{parts_run, parts_script, parts_within, parts_writes, parts_ran}
+use Rattle.utm_cli.proofs.Writing.{none_written}
 use Rattle.utm_cli.proofs.run.do_script.Goals as goal
 
 pub run_script-requires-clause-running : goal.run_script-requires-clause-running
@@ -23,3 +24,11 @@ returns-clause-done g c =
     on_ok_weaker c.run_script.result (λ ran told.
     parts_ran c.args.asked (record { word = c.asked.inside.word; application = c.asked.inside.application; fingerprint = c.asked.inside.fingerprint; commands = c.asked.inside.commands.items }) (sym c.asked.view_is) c.args.tables c.in_ok-core.core c.in_ok-core.ensures.application c.in_ok-core.ensures.state c.in_ok-core.ensures.steps
     c.requires.can c.requires.suits c.requires.word c.deref.result.now c.deref.ensures.value (g.D.Device.state c.args.device.now) (g.D.Device.state c.run_script.new.device) (g.D.Device.leaves c.args.device.now) (g.D.Device.leaves c.run_script.new.device) (ran told)) c.run_script.ensures.done
+
+pub returns-in_err-core-clause-put : goal.returns-in_err-core-clause-put
+returns-in_err-core-clause-put g c = none_written c.args.asked c.args.tables (g.D.Device.state c.args.device.now)
+
+pub returns-clause-put : goal.returns-clause-put
+returns-clause-put g c =
+    parts_writes c.args.asked (record { word = c.asked.inside.word; application = c.asked.inside.application; fingerprint = c.asked.inside.fingerprint; commands = c.asked.inside.commands.items }) (sym c.asked.view_is) c.args.tables c.in_ok-core.core c.in_ok-core.ensures.application c.in_ok-core.ensures.state c.in_ok-core.ensures.steps
+    c.requires.can c.requires.suits c.requires.word c.deref.result.now c.deref.ensures.value (g.D.Device.state c.args.device.now) (g.D.Device.state c.run_script.new.device) (g.D.Device.leaves c.args.device.now) (g.D.Device.leaves c.run_script.new.device) c.run_script.ensures.put

@@ -129,3 +129,19 @@ pub returns-clause-names : goal.returns-clause-names
 returns-clause-names g c = λ told.
     may_then c.args.asked.word (file_name c.args.base.now) (g.D.Device.state c.args.device.now) (g.D.Device.state c.run_over.new.device) (g.D.Device.state c.refuse_other.new.device)
     (subst (λ (name : List ℕ). MayHandOn c.args.asked.word name (g.D.Device.state c.args.device.now) (g.D.Device.state c.run_over.new.device)) (c.deref.ensures.value ∙ c.in-Ok.ensures) (c.run_over.ensures.names told)) c.refuse_other.ensures.names
+
+-- ---- the bytes written
+
+pub returns-in-Err-NotKdcfile-clause-written : goal.returns-in-Err-NotKdcfile-clause-written
+returns-in-Err-NotKdcfile-clause-written g c = λ told.
+    let told_b : IsTrue (g.D.Device.state c.run_over.new.device).told = rw c.run_over.ensures.frame.told told in
+    let refused = c.in-Err-NotKdcfile.ensures.refused (ap (λ (e : OpenError). Err e) c.in-Err-NotKdcfile.field-0-is) told in
+    let rests = c.run_over.ensures.still told (λ t starts. not_both c.args.asked (g.D.Device.state c.args.device.now).holds t starts refused) in
+    inl ((c.refuse.ensures.part told_b).disk.put ∙ rests.put)
+
+pub returns-clause-written : goal.returns-clause-written
+returns-clause-written g c = λ told.
+    let told_b : IsTrue (g.D.Device.state c.run_over.new.device).told = rw c.run_over.ensures.frame.told told in
+    let other = c.in-Err-OtherGeneration.ensures.other c.in-Err-OtherGeneration.stored (ap (λ (e : OpenError). Err e) c.in-Err-OtherGeneration.field-0-is) told in
+    let rests = c.run_over.ensures.still told (λ t starts. not_of_others c.args.asked (g.D.Device.state c.args.device.now).holds t c.in-Err-OtherGeneration.stored starts other) in
+    inl ((c.refuse_other.ensures.part told_b).disk.put ∙ rests.put)

@@ -1,4 +1,4 @@
-use Rattle.std.proofs.Common.{◌≡◌, ◌∙◌, sym, ap, subst, refl}
+use Rattle.std.proofs.Common.{◌≡◌, ◌∙◌, inl, sym, ap, subst, refl}
 use Rattle.std.proofs.lemmas.Result.{on_ok_weaker}
 use Rattle.kdcs_types.specs.Tables.{TableRows, empty_tables}
 use Rattle.abstract_monitor.specs.Listing.{listing}
@@ -9,6 +9,7 @@ use Rattle.utm_cli.specs.Asking.{Errand, app_of}
 use Rattle.utm_cli.specs.Doing.{IsOverFile, StartsBy}
 use Rattle.utm_cli.specs.Promise.{MakesFile}
 use Rattle.utm_cli.proofs.ByWord.{opens, starts, stored_word, stored_over, ran_stored, cut_stored, hands_on, may_hand_on, SendsAside, ran_aside, cut_aside}
+use Rattle.utm_cli.proofs.Writing.{run_written}
 use Rattle.utm_cli.proofs.run.run_over.Given.{Over}
 use Rattle.utm_cli.proofs.run.run_over.Goals as goal
 
@@ -103,3 +104,14 @@ returns-in-Make-clause-still g c = λ told none. absurd (none empty_tables (star
 
 pub returns-in-Make-clause-any_moment : goal.returns-in-Make-clause-any_moment
 returns-in-Make-clause-any_moment g c = λ told only t is. cut_aside c.args.asked t _ (reports g c t) _ _ _ _ only (c.make.ensures.front told)
+
+-- ---- the bytes written
+
+pub returns-in-Gen-clause-written : goal.returns-in-Gen-clause-written
+returns-in-Gen-clause-written g c = λ told. run_written c.args.asked (stored g c) (g.D.Device.state c.args.device.now) (g.D.Device.state c.run_stored.new.device) (c.run_stored.ensures.written told)
+
+pub returns-in-Show-clause-written : goal.returns-in-Show-clause-written
+returns-in-Show-clause-written g c = λ told. inl (c.show_over.ensures.unwritten told)
+
+pub returns-in-Make-clause-written : goal.returns-in-Make-clause-written
+returns-in-Make-clause-written g c = λ told. inl (c.make.ensures.front told).part.disk.put

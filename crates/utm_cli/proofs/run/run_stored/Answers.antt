@@ -1,10 +1,10 @@
-use Rattle.std.proofs.Common.{◌≡◌, ◌∙◌, ◌++◌, ap, subst, inl, List, ℕ}
+use Rattle.std.proofs.Common.{◌≡◌, ◌≤◌, ◌+◌, ◌∙◌, ◌++◌, ap, subst, inl, List, ℕ}
 use Rattle.std.specs.Prelude.{IsTrue, true}
 use Rattle.std.proofs.lemmas.Result.{on_ok_weaker}
 use Rattle.kd_device.specs.Device.{LeavesOnly}
 use Rattle.kdcs_types.specs.Tables.{TableRows}
 use Rattle.abstract_monitor.specs.Trace.{bytes_of}
-use Rattle.warm_start.specs.Opening.{IsOpening, IsRefused, IsOfOtherTexts}
+use Rattle.warm_start.specs.Opening.{IsOpening, IsRefused, IsOfOtherTexts, opening_most}
 use Rattle.utm_cli.specs.Asking.{Errand}
 use Rattle.utm_cli.specs.Doing.{Opens, identity_of, acts_of}
 use Rattle.device_acts.specs.Acting.{commits_nothing}
@@ -12,6 +12,7 @@ use Rattle.kd_base.specs.ToolsLaws.{error_same}
 use Rattle.device_acts.specs.ErrorsLaws.{no_error, other_error}
 use Rattle.utm_cli.proofs.ByWord.{not_empty, opened_once}
 use Rattle.utm_cli.proofs.Ran.{opening_cut, run_cut}
+use Rattle.utm_cli.proofs.Writing.{opening_written, store_written}
 use Rattle.utm_cli.proofs.run.run_stored.Given.{Over}
 use Rattle.utm_cli.proofs.run.run_stored.Goals as goal
 use Rattle.kd_device.specs.TimeLaws.{faults_then, rose_either, told_after}
@@ -79,3 +80,17 @@ returns-in_err-store-clause-fine g c = λ none. c.in_err-store.ensures.fine (oth
 
 pub returns-clause-fine : goal.returns-clause-fine
 returns-clause-fine g c = λ none. faults_then _ _ _ (c.in_ok-store.ensures.fine (no_error _ _)) (c.do_errand.ensures.fine none)
+
+pub returns-in_err-store-clause-written : goal.returns-in_err-store-clause-written
+returns-in_err-store-clause-written g c = λ told.
+    let a = g.D.Device.state c.args.device.now in
+    let b = g.D.Device.state c.open.new.device in
+    opening_written c.args.asked a b (g.D.Device.leaves c.args.device.now) (g.D.Device.leaves c.open.new.device) (c.open.ensures.sent told)
+    (subst (λ (e : Errand). b.put ≤ a.put + opening_most (identity_of e) a.holds) c.asked.view_is (c.open.ensures.put_most told)) (c.open.ensures.still told)
+
+pub returns-clause-written : goal.returns-clause-written
+returns-clause-written g c = λ told.
+    let a = g.D.Device.state c.args.device.now in
+    let b = g.D.Device.state c.open.new.device in
+    store_written c.args.asked c.in_ok-store.tables a b (g.D.Device.state c.do_errand.new.device) (opens g c told) (c.open.ensures.sent told)
+    (subst (λ (e : Errand). b.put ≤ a.put + opening_most (identity_of e) a.holds) c.asked.view_is (c.open.ensures.put_most told)) (c.do_errand.ensures.put (told_after _ _ c.open.ensures.frame told))

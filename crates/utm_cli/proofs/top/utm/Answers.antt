@@ -282,3 +282,12 @@ returns-in-Err-Room-clause-laws g c = λ told. c.scripts_run_lawfully.ensures (m
 
 pub returns-in-Err-Memory-clause-laws : goal.returns-in-Err-Memory-clause-laws
 returns-in-Err-Memory-clause-laws g c = λ told. c.scripts_run_lawfully.ensures (map string_bytes c.args.words.now.items) (g.R.Room.room c.args.room.now)
+
+-- ---- the bytes written
+
+pub returns-in-Ok-clause-written : goal.returns-in-Ok-clause-written
+returns-in-Ok-clause-written g c = λ told told_device.
+    inr (c.in-Ok.asked, reads_of _ _ _ _ (asked_ok g c) (Ok c.in-Ok.asked) (c.in-Ok.ensures.found told), c.run.ensures.written told_device)
+
+pub returns-in-Err-Refused-clause-written : goal.returns-in-Err-Refused-clause-written
+returns-in-Err-Refused-clause-written g c = λ told told_device. inl (c.refuse_texts.ensures.part told_device).disk.put

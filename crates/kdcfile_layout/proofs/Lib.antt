@@ -1,0 +1,3 @@
+pub mod Several
+pub mod OneByOne
+pub mod Gates

@@ -1,0 +1,6 @@
+use Rattle.std.proofs.Common.{take}
+use Rattle.kdcfile_layout.specs.Joined.{AreJoined}
+use Rattle.kdcfile_layout.proofs.joining.joined.Given as goal
+
+abbrev pub invariant-loop-write : goal.invariant-loop-write
+invariant-loop-write l = AreJoined (take l.write-index l.writes) l.out.items

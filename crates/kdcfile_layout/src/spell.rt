@@ -1,0 +1,190 @@
+//! Pages as bytes.
+ghost use Rattle.std.specs.Prelude.{◌≡◌, ◌≤◌, ◌<◌, ◌+◌, ◌-◌, ◌*◌, ◌/◌, ◌^◌, ◌++◌, List, length, drop, IfOk, OnOk};
+ghost use Rattle.std.specs.List.{flat_map};
+ghost use Rattle.kd_records.specs.Charge.{IsBlockSize};
+ghost use Rattle.kdcfile_layout.specs.Layout.{zeros, spelled_slot, directory_text, chain_head, first_of_pages, record_parts, page_place};
+ghost use Rattle.kdcfile_layout.specs.Pages.{padded, page_writes};
+
+use crate::chain::Chain;
+use crate::page::PageWrite;
+use kd_base::{Bytes, OutOfMemory};
+use kd_records::RecordKey;
+use std::alloc::Global;
+
+/// Stands for no page, after the last of a chain.
+pub const NO_PAGE: u32 = 0xFFFF_FFFF;
+
+// The length of what is in front of a value's part.
+const HEAD_LEN: usize = 48;
+
+/// Where a page begins, in bytes from the beginning of the file.
+pub fn page_place(size: u32, page: u32) -> u64
+    requires { size ≤ 8192 }
+    ensures { result ≡ page_place size page }
+{
+    24_576 + u64::from(page) * u64::from(size)
+}
+
+#[tactic(auto, unfolding(crate::specs::Layout::zeros))]
+// Adds so many zero bytes.
+fn add_zeros(to: &mut Vec<u8>, count: usize) -> Result<(), OutOfMemory>
+    requires small { count ≤ 8192 }
+    requires room { length to.old.items ≤ 8192 }
+    ensures bytes { OnOk result (to.new.items ≡ to.old.items ++ zeros count) }
+    ensures length { OnOk result (length to.new.items ≡ length to.old.items + count) }
+{
+    to.resize(to.len() + count, 0)?;
+    Ok(())
+}
+
+// Fills a page with zero bytes.
+fn pad(page: &mut Vec<u8>, size: u32) -> Result<(), OutOfMemory>
+    requires size { size ≤ 8192 }
+    requires fits { length page.old.items ≤ size }
+    ensures { OnOk result (page.new.items ≡ padded size page.old.items) }
+{
+    let count = size as usize - page.len();
+    add_zeros(page, count)
+}
+
+#[tactic(auto, unfolding(crate::specs::Layout::chain_head))]
+/// The 48 bytes in front of a value's part: the key, the length of the whole value, the number of the part from 0 on,
+/// the next page, and zero bytes.
+pub fn head_bytes(
+    alloc: Global,
+    key: &RecordKey,
+    whole: u32,
+    part: u32,
+    next: u32,
+) -> Result<Vec<u8>, OutOfMemory>
+    ensures bytes { IfOk result (λ v. v.items ≡ chain_head key.now whole part next) }
+    ensures length { IfOk result (λ v. length v.items ≡ 48) }
+{
+    let mut out = Vec::new(alloc);
+    out.push(key.kind)?;
+    out.extend_from_slice(&key.bytes)?;
+    out.extend_from_slice(&whole.to_be_bytes())?;
+    out.extend_from_slice(&part.to_be_bytes())?;
+    out.extend_from_slice(&next.to_be_bytes())?;
+    add_zeros(&mut out, 11)?;
+    Ok(out)
+}
+
+// A page of a record, with this part of its value.
+fn chain_page(
+    alloc: Global,
+    size: u32,
+    key: &RecordKey,
+    whole: u32,
+    part: u32,
+    next: u32,
+    front: &[u8],
+) -> Result<Bytes, OutOfMemory>
+    requires size { size ≤ 8192 }
+    requires fits { 48 + length front.now ≤ size }
+    ensures { IfOk result (λ b. b ≡ padded size (chain_head key.now whole part next ++ front.now)) }
+{
+    let mut out = head_bytes(alloc, key, whole, part, next)?;
+    out.extend_from_slice(front)?;
+    pad(&mut out, size)?;
+    Ok(Bytes::from_vec(out))
+}
+
+// The first of these pages, or what stands for none.
+fn first_page(pages: &[u32]) -> u32
+    ensures { result ≡ first_of_pages pages.now }
+{
+    match pages {
+        [] => NO_PAGE,
+        [page, ..] => *page,
+    }
+}
+
+/// Adds the writes of a record's pages: each has as much of the value as it holds.
+pub fn put_chain(
+    alloc: Global,
+    size: u32,
+    chain: &Chain,
+    value: &[u8],
+    writes: &mut Vec<PageWrite>,
+) -> Result<(), OutOfMemory>
+    requires size { IsBlockSize size }
+    requires value { length value.now < 2 ^ 32 }
+    requires pages { length chain.now.pages < 2 ^ 32 }
+    ensures { OnOk result (writes.new.items ≡ writes.old.items ++ page_writes size (record_parts size value.now chain.now)) }
+{
+    let payload = size as usize - HEAD_LEN;
+    let pages = chain.pages.as_slice();
+    let mut left = value;
+    for part in 0..pages.len() {
+        let (front, rest) = left.split_at(payload.min(left.len()));
+        let (_, more) = pages.split_at(part + 1);
+        let next = first_page(more);
+        let bytes = chain_page(
+            alloc,
+            size,
+            &chain.key,
+            value.len() as u32,
+            part as u32,
+            next,
+            front,
+        )?;
+        writes.push(PageWrite {
+            at: page_place(size, pages[part]),
+            bytes,
+        })?;
+        left = rest;
+    }
+    Ok(())
+}
+
+#[tactic(auto, unfolding(crate::specs::Layout::spelled_slot))]
+// Adds a slot.
+fn put_slot(to: &mut Vec<u8>, slot: &Option<Chain>) -> Result<(), OutOfMemory>
+    requires room { length to.old.items + 32 ≤ 8192 }
+    ensures bytes { OnOk result (to.new.items ≡ to.old.items ++ spelled_slot slot.now) }
+    ensures length { OnOk result (length to.new.items ≡ length to.old.items + 32) }
+{
+    match slot {
+        None => add_zeros(to, 32),
+        Some(chain) => {
+            to.push(chain.key.kind)?;
+            to.extend_from_slice(&chain.key.bytes)?;
+            to.extend_from_slice(&first_page(chain.pages.as_slice()).to_be_bytes())?;
+            add_zeros(to, 3)
+        }
+    }
+}
+
+// The slots of a directory page, as its bytes.
+fn slots_page(alloc: Global, size: u32, slots: &[Option<Chain>]) -> Result<Bytes, OutOfMemory>
+    requires size { size ≤ 8192 }
+    requires fits { 32 * length slots.now ≤ size }
+    ensures bytes { IfOk result (λ b. b ≡ padded size (flat_map spelled_slot slots.now)) }
+    ensures fits { OnOk result (length (flat_map spelled_slot slots.now) ≤ size) }
+{
+    let mut out = Vec::with_capacity(alloc, size as usize)?;
+    for slot in slots {
+        put_slot(&mut out, slot)?;
+    }
+    pad(&mut out, size)?;
+    Ok(Bytes::from_vec(out))
+}
+
+/// The k-th page of a directory, from 0 on, with the slots that are its own.
+pub fn directory_page(
+    alloc: Global,
+    size: u32,
+    slots: &[Option<Chain>],
+    k: usize,
+) -> Result<Bytes, OutOfMemory>
+    requires size { IsBlockSize size }
+    requires there { k * (size / 32) + size / 32 ≤ length slots.now }
+    ensures bytes { IfOk result (λ b. b ≡ padded size (directory_text size k slots.now)) }
+    ensures fits { OnOk result (length (directory_text size k slots.now) ≤ size) }
+{
+    let per = size as usize / 32;
+    let (_, rest) = slots.split_at(k * per);
+    let (own, _) = rest.split_at(per);
+    slots_page(alloc, size, own)
+}

@@ -1,0 +1,16 @@
+mod Choices
+mod DirectoryLaws
+mod FirstsLaws
+mod GathersLaws
+mod ImagesLaws
+mod MarksLaws
+mod OpeningsLaws
+mod PutsLaws
+mod RecordsLaws
+mod Rested
+mod RestedLaws
+mod SoFar
+mod SoFarLaws
+mod SortingLaws
+mod StepsLaws
+mod StoredLaws

@@ -1,0 +1,6 @@
+use Rattle.kdcfile_load.proofs.SoFar.{Reading}
+use Rattle.kdcfile_load.proofs.chain.read_chain.Given as goal
+
+abbrev pub invariant-loop-part : goal.invariant-loop-part
+invariant-loop-part g l =
+    Reading l.size l.count l.key l.whole l.pages l.first l.part l.room l.page l.found.pages l.found.value (g.D.Device.state l.fn.device) (g.D.Device.state l.device) (g.D.Device.leaves l.fn.device) (g.D.Device.leaves l.device)

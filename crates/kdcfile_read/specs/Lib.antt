@@ -1,0 +1,15 @@
+pub mod Examples
+pub mod Chains
+pub mod ExamplesLaws
+pub mod ReadChains
+pub mod ReadChainsLaws
+pub mod ReadFilesLaws
+pub mod ReadHeadsLaws
+pub mod ReadRootsLaws
+pub mod ReadSlots
+pub mod ReadSlotsLaws
+pub mod Reading
+pub mod Reads
+pub mod ReadsLaws
+pub mod SizesLaws
+pub mod Slots

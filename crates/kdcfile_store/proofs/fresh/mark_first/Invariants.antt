@@ -1,0 +1,7 @@
+use Rattle.std.proofs.Common.{◌≡◌, true}
+use Rattle.page_pool.specs.Pools.{flagged}
+use Rattle.kdcfile_images.specs.Fresh.{numbers}
+use Rattle.kdcfile_store.proofs.fresh.mark_first.Given as goal
+
+abbrev pub invariant-loop-page : goal.invariant-loop-page
+invariant-loop-page l = l.pool ≡ flagged true l.initial.pool (numbers l.page)

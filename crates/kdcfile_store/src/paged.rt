@@ -1,0 +1,170 @@
+//! A store that keeps its content in pages: a commit writes the records that it changes on free pages, the pages of the
+//! directory with their slots, and the unselected root, and then selects that image.
+ghost use Rattle.std.specs.Prelude.{◌≡◌, ◌≤◌, ◌+◌, [], IsTrue, IfOk, IsErrOf};
+ghost use Rattle.kd_device.specs.{Device.{Rose, Frame, SameFaults, SameNames, Only}, Rest.{Rests}};
+ghost use Rattle.kd_records.specs.Identity.{IsIdentity};
+ghost use Rattle.kdcfile_layout.specs.Layout.{StandsFor, IsNoImage, fresh};
+ghost use Rattle.kdcfile_store.specs.{Kept.{IsKept, write_most}, Paged.{HasFile, LeavesMade, identity_with, made_length}};
+
+use crate::fresh::{fresh_pool, fresh_table};
+use crate::next::{Next, make_next};
+use crate::store::{Store, StoreLimits};
+use kd_device::{Device, DeviceError};
+use kd_records::{Content, Patch, Records};
+use kdcfile_images::{Image, commit_image, create};
+use kdcfile_load::{LoadError, load};
+use page_drafts::Table;
+use page_pool::Pool;
+use std::alloc::Global;
+use std::marker::Model;
+
+/// A content in a file of pages: the selected image, the slots of its directory with their index, the pages that it
+/// uses, and the content.
+#[derive(Drop)]
+pub struct PagedStore {
+    image: Image,
+    table: Table,
+    pool: Pool,
+    content: Content,
+}
+
+impl Model for PagedStore {
+    ghost use Rattle.kdcfile_images.specs.Opened.{identity_of, layout_in};
+    ghost use Rattle.kdcfile_store.specs.Paged.{Paged, IsPaged};
+
+    ghost Value = { Paged };
+
+    ghost view = { λ s. record { identity = identity_of s.image; second = s.image.second; content = s.content; layout = layout_in s.image.root s.table; used = s.pool } };
+
+    ghost invariant = { λ s. IsPaged (record { identity = identity_of s.image; second = s.image.second; content = s.content; layout = layout_in s.image.root s.table; used = s.pool }) };
+}
+
+impl PagedStore {
+    /// Makes the file. A stop leaves it without a content, or with the first one.
+    pub fn create<D: Device>(
+        alloc: Global,
+        device: &mut D,
+        limits: &StoreLimits,
+        fingerprint: &[u8; 32],
+    ) -> Result<PagedStore, DeviceError>
+        requires identity { IsIdentity (identity_with limits.now fingerprint.now) }
+        requires empty { IsTrue (D.state device.old).told → (D.state device.old).holds ≡ [] }
+        requires at_rest { IsTrue (D.state device.old).told → Only (D.state device.old).holds (D.state device.old) (D.leaves device.old) }
+        ensures identity { IfOk result (λ s. s.identity ≡ identity_with limits.now fingerprint.now) }
+        ensures content { IfOk result (λ s. s.content ≡ fresh) }
+        ensures kept { IfOk result (λ s. IsTrue (D.state device.old).told → IsKept (HasFile s) (D.state device.new) (D.leaves device.new)) }
+        ensures sent { IsTrue (D.state device.old).told → (D.state device.new).sent ≡ (D.state device.old).sent }
+        ensures any_moment { IsTrue (D.state device.old).told → LeavesMade (identity_with limits.now fingerprint.now) (D.state device.old) (D.state device.new) (D.leaves device.old) (D.leaves device.new) }
+        ensures put_most { IsTrue (D.state device.old).told → (D.state device.new).put ≤ (D.state device.old).put + made_length (identity_with limits.now fingerprint.now) + 1 }
+        ensures failed { IsErrOf result DeviceError.Failed → Rose (D.state device.old).disk_faults (D.state device.new).disk_faults }
+        ensures memory { IsErrOf result DeviceError.Memory → IsTrue (D.state device.old).told → Rests (D.state device.old) (D.state device.new) (D.leaves device.old) (D.leaves device.new) }
+        ensures fine { (IsErrOf result DeviceError.Failed → ⊥) → SameFaults (D.state device.old) (D.state device.new) }
+        ensures frame { Frame (D.state device.old) (D.state device.new) }
+        ensures names { SameNames (D.state device.old) (D.state device.new) }
+    {
+        // All memory is taken before the file is made.
+        let pool = fresh_pool(alloc, limits.blksize, limits.pgpool)?;
+        let table = fresh_table(alloc, limits.blksize, limits.pgpool)?;
+        let image = create(alloc, device, limits.blksize, limits.pgpool, fingerprint)?;
+        let content = Content {
+            clock: 0,
+            next_job: 1,
+            items: Records::new(alloc),
+        };
+        Ok(PagedStore {
+            image,
+            table,
+            pool,
+            content,
+        })
+    }
+
+    /// Opens the file, if its bytes stand for an image.
+    pub fn load<D: Device>(alloc: Global, device: &mut D) -> Result<PagedStore, LoadError>
+        ensures identity { IfOk result (λ s. IsIdentity s.identity) }
+        ensures stands { IfOk result (λ s. IsTrue (D.state device.old).told → HasFile s (D.state device.old).holds) }
+        ensures kept { IfOk result (λ s. IsTrue (D.state device.old).told → IsKept (HasFile s) (D.state device.new) (D.leaves device.new)) }
+        ensures none { IsErrOf result LoadError.NotKdcfile → IsTrue (D.state device.old).told → IsNoImage (D.state device.old).holds }
+        ensures rests { IsTrue (D.state device.old).told → Rests (D.state device.old) (D.state device.new) (D.leaves device.old) (D.leaves device.new) }
+        ensures failed { IsErrOf result LoadError.Failed → Rose (D.state device.old).disk_faults (D.state device.new).disk_faults }
+        ensures fine { (IsErrOf result LoadError.Failed → ⊥) → SameFaults (D.state device.old) (D.state device.new) }
+        ensures frame { Frame (D.state device.old) (D.state device.new) }
+        ensures names { SameNames (D.state device.old) (D.state device.new) }
+    {
+        let loaded = load(alloc, device)?;
+        let Ok(table) = Table::from_slots(alloc, loaded.slots) else {
+            return Err(LoadError::Memory);
+        };
+        Ok(PagedStore {
+            image: loaded.image,
+            table,
+            pool: loaded.pool,
+            content: loaded.content,
+        })
+    }
+
+    /// What is kept.
+    pub fn kept(&self) -> &Content
+        ensures { result.now ≡ self.now.content }
+    {
+        &self.content
+    }
+
+    /// The fingerprint that the file holds.
+    pub fn fingerprint(&self) -> &[u8; 32]
+        ensures { result.now ≡ self.now.identity.fingerprint }
+    {
+        &self.image.root().fingerprint
+    }
+
+    /// The sizes that the file holds.
+    pub fn limits(&self) -> StoreLimits
+        ensures blksize { result.blksize ≡ self.now.identity.blksize }
+        ensures pgpool { result.pgpool ≡ self.now.identity.pages }
+    {
+        StoreLimits {
+            blksize: self.image.blksize(),
+            pgpool: self.image.root().pgpool,
+        }
+    }
+}
+
+impl<D: Device> Store<D> for PagedStore {
+    ghost identity = { λ s. s.identity };
+
+    ghost kept = { λ s. s.content };
+
+    ghost file = { HasFile };
+
+    ghost stands = { StandsFor };
+
+    ghost most_written = { write_most };
+
+    fn content(&self) -> &Content {
+        self.kept()
+    }
+
+    fn commit(&mut self, alloc: Global, device: &mut D, patch: &Patch) -> Result<(), DeviceError> {
+        let Next {
+            content,
+            root,
+            table,
+            writes,
+            last,
+        } = make_next(
+            alloc,
+            &self.image,
+            &self.table,
+            &self.pool,
+            &self.content,
+            patch,
+        )?;
+        commit_image(alloc, device, &mut self.image, writes.as_slice(), root)?;
+        self.table = table;
+        self.pool.settle(last);
+        self.content = content;
+        Ok(())
+    }
+
+    ghost file_stands = { λ s bytes file. (s.second, s.layout, file) };
+}

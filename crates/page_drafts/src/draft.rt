@@ -1,0 +1,307 @@
+//! A commit that is being prepared: the next layout, and the pages that are written for it.
+ghost use Rattle.std.specs.Prelude.{◌≡◌, ◌≤◌, ◌<◌, ◌+◌, ◌*◌, ◌/◌, ◌^◌, min, true, false, List, ℕ, Some, length, IfOk, OnOk};
+ghost use Rattle.kd_records.specs.Contents.{Record, Change};
+ghost use Rattle.kd_records.specs.Charge.{IsBlockSize, charge_of};
+ghost use Rattle.page_pool.specs.Places.{At};
+ghost use Rattle.kdcfile_layout.specs.Layout.{used};
+ghost use Rattle.kdcfile_layout.specs.Bound.{charge_put, put_charge};
+ghost use Rattle.page_drafts.specs.Tables.{IsPlaceFor, IsAbsent};
+ghost use Rattle.page_drafts.specs.DraftSteps.{next_pages};
+ghost use Rattle.page_drafts.specs.Drafting.{Drafting, put_in, touched, unprepared, IsRemoved, IsPageWritten, IsSized, stale_pages};
+ghost use Rattle.page_drafts.specs.DraftRuns.{RemovesOne, RemovesAll, PutsOne, PutsAll, HasRoom, AreWide, FreshensOne, Freshens};
+ghost use Rattle.page_drafts.specs.Prepared.{CanPrepare, Prepared};
+
+use crate::table::Table;
+use kd_base::{Bytes, OutOfMemory};
+use kd_records::{RecordKey, charge};
+use kdcfile_layout::{Chain, PageWrite, directory_page, page_place, put_chain};
+use page_pool::Pages;
+use std::alloc::Global;
+use std::marker::Model;
+
+/// What a commit has prepared so far: the layout, which pages of the directory are stale, the writes, how many pages of
+/// the plan they take, and the pages that only the old layout names.
+#[derive(Drop)]
+pub struct Draft {
+    directory: Vec<u32>,
+    table: Table,
+    stale: Vec<bool>,
+    writes: Vec<PageWrite>,
+    taken: usize,
+    freed: Vec<u32>,
+}
+
+/// A draft in parts: the numbers of the directory's pages, the slots, what is to be written, how many pages of the plan
+/// that takes, and the pages that only the old layout names.
+#[derive(Drop)]
+pub struct DraftParts {
+    pub directory: Vec<u32>,
+    pub table: Table,
+    pub writes: Vec<PageWrite>,
+    pub taken: usize,
+    pub freed: Vec<u32>,
+}
+
+impl Model for Draft {
+    ghost use Rattle.page_drafts.specs.Drafting.{Drafting};
+
+    ghost Value = { Drafting };
+
+    ghost view = { λ d. record { layout = record { directory = d.directory.items; slots = d.table }; stale = d.stale.items; writes = d.writes.items; taken = d.taken; freed = d.freed.items } };
+}
+
+/// So many pages of the plan, from this one on.
+fn planned(alloc: Global, plan: &[u32], from: usize, count: usize) -> Result<Pages, OutOfMemory>
+    requires { from + count ≤ length plan.now }
+    ensures { IfOk result (λ p. p ≡ next_pages plan.now from count) }
+{
+    let (_, rest) = plan.split_at(from);
+    let (front, _) = rest.split_at(count);
+    Ok(Pages::from_vec(Vec::from_slice(alloc, front)?))
+}
+
+impl Draft {
+    // The directory page of a slot is stale.
+    fn touch(&mut self, size: u32, place: usize)
+        requires size { IsBlockSize size }
+        requires there { place / (size / 32) < length self.old.stale }
+        ensures { self.new ≡ touched size place self.old }
+    {
+        self.stale[place / (size as usize / 32)] = true;
+    }
+
+    // Gives a key this value, on the next pages of the plan.
+    fn put(
+        &mut self,
+        alloc: Global,
+        size: u32,
+        plan: &[u32],
+        key: RecordKey,
+        value: &[u8],
+    ) -> Result<(), OutOfMemory>
+        requires size { IsBlockSize size }
+        requires value { length value.now < 2 ^ 32 }
+        requires enough { self.old.taken + charge_of size (length value.now) ≤ length plan.now }
+        requires plan { length plan.now < 2 ^ 32 }
+        requires stale { (s : ℕ) → s < length self.old.layout.slots → s / (size / 32) < length self.old.stale }
+        requires room { IsAbsent key self.old.layout.slots → used self.old.layout.slots < length self.old.layout.slots }
+        ensures { OnOk result ((s : ℕ) × IsPlaceFor key s self.old.layout.slots × (self.new ≡ put_in size plan.now key value.now s self.old)) }
+    {
+        let count = charge(value.len() as u64, size) as usize;
+        let pages = planned(alloc, plan, self.taken, count)?;
+        let chain = Chain { key, pages };
+        self.freed.extend_from_slice(self.table.pages(&key))?;
+        put_chain(alloc, size, &chain, value, &mut self.writes)?;
+        let place = self.table.put(chain)?;
+        self.touch(size, place);
+        self.taken += count;
+        Ok(())
+    }
+
+    // Removes a key's record, if there is one.
+    fn remove(&mut self, size: u32, key: &RecordKey) -> Result<(), OutOfMemory>
+        requires size { IsBlockSize size }
+        requires stale { (s : ℕ) → s < length self.old.layout.slots → s / (size / 32) < length self.old.stale }
+        ensures { OnOk result (IsRemoved size key.now self.old self.new) }
+    {
+        self.freed.extend_from_slice(self.table.pages(key))?;
+        if let Some(place) = self.table.remove(key)? {
+            self.touch(size, place);
+        }
+        Ok(())
+    }
+
+    // Writes the k-th page of the directory on the next page of the plan.
+    fn put_directory_page(
+        &mut self,
+        alloc: Global,
+        size: u32,
+        plan: &[u32],
+        k: usize,
+    ) -> Result<(), OutOfMemory>
+        requires size { IsBlockSize size }
+        requires there { k < length self.old.layout.directory }
+        requires stale { length self.old.stale ≡ length self.old.layout.directory }
+        requires slots { k * (size / 32) + size / 32 ≤ length self.old.layout.slots }
+        requires enough { self.old.taken < length plan.now }
+        ensures written { OnOk result (IsPageWritten size plan.now k self.old self.new) }
+    {
+        let page = plan[self.taken];
+        let bytes = directory_page(alloc, size, self.table.slots(), k)?;
+        self.writes.push(PageWrite {
+            at: page_place(size, page),
+            bytes,
+        })?;
+        self.freed.push(self.directory[k])?;
+        self.directory[k] = page;
+        self.stale[k] = false;
+        self.taken += 1;
+        Ok(())
+    }
+
+    // Removes a record, if the change does so.
+    fn remove_change(
+        &mut self,
+        size: u32,
+        change: &(RecordKey, Option<Bytes>),
+    ) -> Result<(), OutOfMemory>
+        requires size { IsBlockSize size }
+        requires stale { (s : ℕ) → s < length self.old.layout.slots → s / (size / 32) < length self.old.stale }
+        ensures { OnOk result (RemovesOne size change.now self.old self.new) }
+    {
+        match &change.1 {
+            None => self.remove(size, &change.0),
+            Some(_) => Ok(()),
+        }
+    }
+
+    // Removes the records that the changes remove.
+    fn remove_all(
+        &mut self,
+        size: u32,
+        changes: &[(RecordKey, Option<Bytes>)],
+    ) -> Result<(), OutOfMemory>
+        requires size { IsBlockSize size }
+        requires sized { IsSized size self.old }
+        ensures { OnOk result (RemovesAll size changes.now self.old self.new) }
+    {
+        for change in changes {
+            self.remove_change(size, change)?;
+        }
+        Ok(())
+    }
+
+    // Puts a record, if the change does so.
+    fn put_change(
+        &mut self,
+        alloc: Global,
+        size: u32,
+        plan: &[u32],
+        change: &(RecordKey, Option<Bytes>),
+    ) -> Result<(), OutOfMemory>
+        requires size { IsBlockSize size }
+        requires value { (v : List ℕ) → change.now.1 ≡ Some v → length v < 2 ^ 32 }
+        requires enough { self.old.taken + charge_put size change.now.1 ≤ length plan.now }
+        requires plan { length plan.now < 2 ^ 32 }
+        requires stale { (s : ℕ) → s < length self.old.layout.slots → s / (size / 32) < length self.old.stale }
+        requires room { (v : List ℕ) → change.now.1 ≡ Some v → IsAbsent change.now.0 self.old.layout.slots → used self.old.layout.slots < length self.old.layout.slots }
+        ensures { OnOk result (PutsOne size plan.now change.now self.old self.new) }
+    {
+        match &change.1 {
+            None => Ok(()),
+            Some(value) => self.put(alloc, size, plan, change.0, value.as_slice()),
+        }
+    }
+
+    // Puts the records that the changes put.
+    fn put_all(
+        &mut self,
+        alloc: Global,
+        size: u32,
+        plan: &[u32],
+        changes: &[(RecordKey, Option<Bytes>)],
+    ) -> Result<(), OutOfMemory>
+        requires size { IsBlockSize size }
+        requires sized { IsSized size self.old }
+        requires values { (k : ℕ) (c : Change) (v : List ℕ) → At changes.now k c → c.1 ≡ Some v → length v < 2 ^ 32 }
+        requires wide { AreWide changes.now }
+        requires enough { self.old.taken + put_charge size changes.now ≤ length plan.now }
+        requires plan { length plan.now < 2 ^ 32 }
+        requires room { (pool : ℕ) × (items : List Record) × HasRoom size pool items plan.now changes.now self.old }
+        ensures { OnOk result (PutsAll size plan.now changes.now self.old self.new) }
+    {
+        for change in changes {
+            self.put_change(alloc, size, plan, change)?;
+        }
+        Ok(())
+    }
+
+    // Writes the k-th page of the directory, if it is stale.
+    fn freshen(
+        &mut self,
+        alloc: Global,
+        size: u32,
+        plan: &[u32],
+        k: usize,
+    ) -> Result<(), OutOfMemory>
+        requires size { IsBlockSize size }
+        requires sized { IsSized size self.old }
+        requires there { k < length self.old.layout.directory }
+        requires enough { At self.old.stale k true → self.old.taken < length plan.now }
+        requires slots { k * (size / 32) + size / 32 ≤ length self.old.layout.slots }
+        ensures { OnOk result (FreshensOne size plan.now k self.old self.new) }
+    {
+        if self.stale[k] {
+            self.put_directory_page(alloc, size, plan, k)
+        } else {
+            Ok(())
+        }
+    }
+
+    // Writes the stale pages of the directory.
+    fn freshen_all(&mut self, alloc: Global, size: u32, plan: &[u32]) -> Result<(), OutOfMemory>
+        requires size { IsBlockSize size }
+        requires sized { IsSized size self.old }
+        requires enough { self.old.taken + stale_pages self.old ≤ length plan.now }
+        ensures { OnOk result (Freshens size plan.now (length self.old.layout.directory) self.old self.new) }
+    {
+        for k in 0..self.directory.len() {
+            self.freshen(alloc, size, plan, k)?;
+        }
+        Ok(())
+    }
+
+    /// Makes the changes of a patch: what it removes first, so that its slots are free for what it puts.
+    pub fn prepare(
+        &mut self,
+        alloc: Global,
+        size: u32,
+        plan: &[u32],
+        changes: &[(RecordKey, Option<Bytes>)],
+    ) -> Result<(), OutOfMemory>
+        requires size { IsBlockSize size }
+        requires fresh { self.old ≡ unprepared self.old.layout }
+        requires values { (k : ℕ) (c : Change) (v : List ℕ) → At changes.now k c → c.1 ≡ Some v → length v < 2 ^ 32 }
+        requires wide { AreWide changes.now }
+        requires enough { put_charge size changes.now + min (length changes.now) (length self.old.layout.directory) ≤ length plan.now }
+        requires plan { length plan.now < 2 ^ 32 }
+        requires room { (pool : ℕ) × (items : List Record) × CanPrepare size pool items plan.now changes.now self.old.layout }
+        ensures { OnOk result (Prepared size plan.now changes.now self.old.layout self.new) }
+    {
+        self.remove_all(size, changes)?;
+        self.put_all(alloc, size, plan, changes)?;
+        self.freshen_all(alloc, size, plan)
+    }
+
+    /// A draft that begins from the layout of a directory with these pages and slots.
+    pub fn new(alloc: Global, directory: Vec<u32>, table: Table) -> Result<Draft, OutOfMemory>
+        ensures { IfOk result (λ d. d ≡ unprepared (record { directory = directory.items; slots = table })) }
+    {
+        let stale = vec![in alloc; false; directory.len()]?;
+        Ok(Draft {
+            directory,
+            table,
+            stale,
+            writes: Vec::new(alloc),
+            taken: 0,
+            freed: Vec::new(alloc),
+        })
+    }
+
+    /// Its parts. It takes no memory.
+    pub fn into_parts(self) -> DraftParts
+        ensures directory { result.directory.items ≡ self.layout.directory }
+        ensures table { result.table ≡ self.layout.slots }
+        ensures writes { result.writes.items ≡ self.writes }
+        ensures taken { result.taken ≡ self.taken }
+        ensures freed { result.freed.items ≡ self.freed }
+    {
+        DraftParts {
+            directory: self.directory,
+            table: self.table,
+            writes: self.writes,
+            taken: self.taken,
+            freed: self.freed,
+        }
+    }
+}

@@ -1,0 +1,4 @@
+pub mod Places
+pub mod PlacesLaws
+pub mod Pools
+pub mod PoolsLaws

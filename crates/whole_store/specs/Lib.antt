@@ -1,0 +1,10 @@
+pub mod Commit
+pub mod File
+pub mod Fresh
+pub mod HeadsLaws
+pub mod Opened
+pub mod ReadImagesLaws
+pub mod ReadRecordsLaws
+pub mod Reading
+pub mod Whole
+pub mod WrittenLaws
