@@ -12,7 +12,7 @@ Looked at are README.md and docs/*.md:
 - a name after a crate's, as kdcfile_images `load`, is a word of that crate; one after a file of definitions, as
   `Turns.antt`, `turn_of`, a word of that file;
 - the clauses of docs/PROVED.md: the crate of the section has the call, and the call's contract the clause; those at its
-  beginning, and those in brackets in README.md, are clauses of `utm`.
+  beginning, and those in brackets in README.md, are clauses of `utm`. So it is in its tables of answers.
 """
 
 import re
@@ -185,6 +185,21 @@ def proved_faults(text):
                 yield from piece_faults(crates_of(name), piece)
 
 
+def answer_faults(text):
+    """The tables of answers: each call is one of its crate, and each clause one of these calls."""
+    section = text[text.index("## Answers and their causes") : text.index("## What is only tested")]
+    for cells in [[it.strip() for it in line.split("|")] for line in re.findall(r"(?m)^\|(.*)\|$", section)]:
+        if cells[-1] == "Clauses" or set(cells[0]) <= set("-"):
+            continue
+        calls = [("utm_cli", "`utm`")] if cells[0].isdigit() else re.findall(r"(\w+) ((?:`[\w:]+`(?:, )?)+)", cells[0])
+        found = []
+        for crate, names in calls:
+            for name in QUOTED.findall(names):
+                found += contracts(name.split("::")[-1], crate)
+                yield from clause_faults(f"{cells[0]} in {crate}", name, [], contracts(name.split("::")[-1], crate))
+        yield from clause_faults("the answers", cells[0], QUOTED.findall(cells[-1]), found)
+
+
 def readme_faults(text):
     section = text[text.index("## What is promised") : text.index("## What is not proved")]
     for brackets in re.findall(r"\((`\w+`(?:,\s+`\w+`)*)\)", section):
@@ -214,7 +229,8 @@ def main():
     faults += [f"README.md: {it}" for it in readme_faults((TOP / "README.md").read_text(encoding="utf-8"))]
     docs = TOP / "docs"
     faults += [f"docs/RULES.md: {it}" for it in rule_faults((docs / "RULES.md").read_text(encoding="utf-8"))]
-    faults += [f"docs/PROVED.md: {it}" for it in proved_faults((docs / "PROVED.md").read_text(encoding="utf-8"))]
+    proved = (docs / "PROVED.md").read_text(encoding="utf-8")
+    faults += [f"docs/PROVED.md: {it}" for it in [*proved_faults(proved), *answer_faults(proved)]]
     for it in faults:
         print("tools/named.py:", it)
     return 1 if faults else 0

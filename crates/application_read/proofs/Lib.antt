@@ -1,3 +1,4 @@
+pub mod Gatherings
 pub mod DefinitionLayers
 pub mod Layers
 pub mod Named

@@ -1,13 +1,27 @@
 //! From the text to the generation.
-ghost use Rattle.std.specs.Prelude.{◌≢◌, Ok, Err, IfOk, IfErr};
-ghost use Rattle.kdcdef_types.specs.Generation.{Generated};
+ghost use Rattle.std.specs.Prelude.{◌≡◌, ◌≢◌, List, Ok, Err, IfOk, IfErr};
+ghost use Rattle.kdcdef_types.specs.{Generation.{Generated}, declared.statement.Statement.{Statement}};
+ghost use Rattle.kdcdef_read.specs.declared.fault.ReadFault.TheVariants.{Memory as ReadMemory};
+ghost use Rattle.kdcdef_check.specs.Gathering.{WereGathered};
 ghost use Rattle.application_read.specs.{Definition.{Generates, HasFault, Gives}, declared.definition_fault.DefinitionFault.{DefinitionFault}, declared.definition_fault.DefinitionFault.TheVariants.{Memory}};
 
 use crate::definition_fault::DefinitionFault;
-use kdcdef_check::{Generation, check};
+use kdcdef_check::{Gathered, Generation, check};
 use kdcdef_lex::lines;
-use kdcdef_read::read;
+use kdcdef_read::{ReadFault, Reader, read};
 use std::alloc::Global;
+
+// The statements that are left to read, gathered.
+fn gather(alloc: Global, mut reader: Reader<'_>, key: &[u8]) -> Result<Gathered, ReadFault>
+    ensures found { IfOk result (λ gathered. (ss : List Statement) × (reader.entry.read ≡ Ok ss) × WereGathered gathered ss) }
+    ensures fault { IfErr result (λ e. e ≢ ReadMemory → reader.entry.read ≡ Err e) }
+{
+    let mut gathered = Gathered::new(alloc, key)?;
+    while let Some(statement) = reader.next(alloc)? {
+        gathered.add(alloc, statement)?;
+    }
+    Ok(gathered)
+}
 
 /// The generation that a KDCDEF text makes, or its first fault. A text has at most 16,777,216 bytes.
 pub fn generate(alloc: Global, definition: &[u8]) -> Result<Generation, DefinitionFault>
@@ -21,6 +35,6 @@ pub fn generate(alloc: Global, definition: &[u8]) -> Result<Generation, Definiti
     ensures refused { (e : DefinitionFault) → HasFault definition.now e → Gives result (Err e) }
 {
     let raw = lines(alloc, definition)?;
-    let statements = read(alloc, &raw)?;
-    Ok(check(alloc, &statements)?)
+    let gathered = gather(alloc, read(&raw), raw.bytes())?;
+    Ok(check(alloc, gathered)?)
 }

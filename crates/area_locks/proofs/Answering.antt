@@ -8,6 +8,7 @@ use Rattle.abstract_monitor.specs.declared.answer.LockAnswer.{LockAnswer}
 use Rattle.abstract_monitor.specs.declared.answer.LockAnswer.TheVariants.{Granted, Deadlock}
 use Rattle.abstract_monitor.specs.Locks.{Locks, IsDeadlocked, answer_by_holder, answer_of, answer_of_held, holder, is_deadlocked, reaches, refused_by, since, waits_for}
 use Rattle.abstract_monitor.specs.DeadlocksLaws.{deadlocks_found}
+use Rattle.area_locks.specs.Index.{IsOpenTo}
 
 module _ (l : Locks) (asker : ServiceId) where
   -- the asker is reached where one stands on it
@@ -56,6 +57,11 @@ module _ (l : Locks) (reswait now : ℕ) (id : ServiceId) (area : Area) where
   refused_deadlock false true = (λ e. absurd cc, λ e. absurd (true≢false (sym e)))
   refused_deadlock false false = (λ e. absurd cc, λ e. absurd (true≢false (sym e)))
 
+  refused_grants : (deadlock late : Bool) → refused_by deadlock late ≡ Granted → ⊥
+  refused_grants true late e = absurd cc
+  refused_grants false true e = absurd cc
+  refused_grants false false e = absurd cc
+
   -- K05 is answered exactly where a chain of waits ends at the asker
   pub deadlock_answered : (answer : LockAnswer) → answer ≡ answer_of l reswait now id area → (other : ServiceId) → holder l area ≡ Some other → id_eq other id ≡ false → answer ≡ Deadlock ↔ IsDeadlocked l id area
   deadlock_answered answer is other e different =
@@ -65,3 +71,12 @@ module _ (l : Locks) (reswait now : ℕ) (id : ServiceId) (area : Area) where
         λ k. found.0 (both.0 (refused ∙ sym is ∙ k)),
         λ d. is ∙ sym refused ∙ both.1 (found.1 d),
       )
+
+  -- what is granted, no other service holds
+  pub granted_open : answer_of l reswait now id area ≡ Granted → IsOpenTo l id area
+  granted_open granted other e = by (id_eq other id) refl
+    where
+      by : (b : Bool) → id_eq other id ≡ b → b ≡ true
+      by true own = refl
+      by false different =
+          absurd (refused_grants (is_deadlocked l id other) (nat_le (since l id area now + reswait) now) (anothers other e different ∙ granted))

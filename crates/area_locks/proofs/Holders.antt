@@ -1,21 +1,23 @@
 -- Who holds an area once others were given, given back or freed.
-use Rattle.std.specs.Prelude.{◌≡◌, refl, ℕ, Bool, true, false, cond, not, ◌&&◌, IsTrue, List, [], ◌∷◌, filter, Option, Some, None, if◌then◌else◌}
-use Rattle.std.proofs.Common.{ap, sym, ◌∙◌}
+use Rattle.std.specs.Prelude.{◌≡◌, refl, ℕ, Bool, true, false, cond, not, ◌&&◌, IsTrue, List, [], ◌∷◌, filter, Option, Some, None, is_some, if◌then◌else◌}
+use Rattle.std.proofs.Common.{ap, sym, ◌∙◌, true≢false}
 use Rattle.std.specs.Ordering.{is_eq, is_lt}
 use Rattle.std.specs.declared.cmp.Ordering.{Ordering}
 use Rattle.std.specs.declared.cmp.Ordering.TheVariants.{Less, Equal, Greater}
-use Rattle.std.specs.Cmp.{alike_right, Equal-is}
+use Rattle.std.specs.Cmp.{Equal-is}
 use Rattle.std.specs.FinMap.{find, is_sorted}
-use Rattle.std.specs.FinMap.Entries.{below_all, find-put, find-where_key}
+use Rattle.std.specs.FinMap.Entries.{below_all, find-put}
 use Rattle.kd_base.specs.ToolsLaws.{both_true}
+use Rattle.sorted_pairs.specs.PlacesLaws.{find_without, put_again}
 use Rattle.kdcs_types.specs.declared.key.Area.{Area}
 use Rattle.kdcs_types.specs.declared.key.ServiceId.{ServiceId}
 use Rattle.kdcs_types.specs.Keys.{area_cmp, area_eq, id_eq}
-use Rattle.kdcs_types.specs.KeyLaws.{area_total, area_eq_sym}
+use Rattle.kdcs_types.specs.KeyLaws.{area_total, id_eq_same, same_area}
 use Rattle.abstract_monitor.specs.declared.answer.LockAnswer.{LockAnswer}
 use Rattle.abstract_monitor.specs.declared.answer.LockAnswer.TheVariants.{Granted}
 use Rattle.abstract_monitor.specs.Locks.{Locks, holder}
-use Rattle.area_locks.specs.Asked.{freed, given_back, holder_after, locks_after, other_than, with_holder, without_holder}
+use Rattle.area_locks.specs.Asked.{freed, given_back, holder_after, locks_after, other_than, with_holder}
+use Rattle.area_locks.specs.Index.{IsOpenTo}
 
 abbrev Holders : Type 0
 Holders = List (Area × ServiceId)
@@ -33,20 +35,19 @@ pub holder_after_is : (answer : LockAnswer) (l : Locks) (now : ℕ) (who : Servi
 holder_after_is Granted l now who area a = holder_given l who area a ∙ after_granted who (area_eq a area) (holder l a)
 holder_after_is _ l now who area a = refl
 
+-- an area that it holds already
+pub own_again : (l : Locks) (who : ServiceId) (area : Area) → IsTrue (is_sorted area_cmp l.holders) → IsOpenTo l who area → (o : Option ServiceId) → o ≡ holder l area → is_some o ≡ true → l ≡ with_holder l who area
+own_again l who area up free None is there = absurd (true≢false (sym there))
+own_again l who area up free (Some other) is there =
+    sym (
+    ap (λ (hs : Holders). record l { holders = hs })
+    (put_again area_cmp area_total same_area area who l.holders up (sym is ∙ ap (λ (i : ServiceId). Some i) (id_eq_same other who (free other (sym is)))))
+    )
+
 -- ---- an area is given back
 
-turned : (b : Bool) (o : Option ServiceId) → cond (not b) o None ≡ cond b None o
-turned true o = refl
-turned false o = refl
-
-holder_back : (l : Locks) (area a : Area) → holder (without_holder l area) a ≡ cond (area_eq a area) None (holder l a)
-holder_back l area a =
-    find-where_key area_cmp (λ x. not (area_eq area x)) a (λ x t. ap (λ r. not (is_eq r)) (sym (alike_right area_total a x area t))) l.holders
-    ∙ turned (area_eq area a) (holder l a)
-    ∙ ap (λ b. cond b None (holder l a)) (area_eq_sym area a)
-
 pub holder_given_back : (l : Locks) (area a : Area) (held : Bool) → holder (given_back l area held) a ≡ (if held && area_eq a area then None else holder l a)
-holder_given_back l area a true = holder_back l area a
+holder_given_back l area a true = find_without area_cmp area_total a area l.holders
 holder_given_back l area a false = refl
 
 -- ---- all areas of a service are given back

@@ -1,2 +1,4 @@
 pub mod Answering
+pub mod Freeing
 pub mod Holders
+pub mod Indexing

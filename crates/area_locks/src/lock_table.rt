@@ -1,31 +1,40 @@
 //! The lock table.
-ghost use Rattle.std.specs.{Prelude.{◌≡◌, ◌↔◌, false, IsTrue, IfOk, OnOk, OnErr, None, Some, ◌&&◌, if◌then◌else◌, ◌+◌, nat_le}, FinMap.{is_sorted}};
+ghost use Rattle.std.specs.{Prelude.{◌≡◌, ◌↔◌, false, IsTrue, IfOk, IfNone, IfSome, OnOk, OnErr, None, Some, ◌&&◌, if◌then◌else◌, ◌+◌, nat_le}, FinMap.{is_sorted}};
 ghost use Rattle.kdcs_types.specs.{declared.key.Area.{Area}, declared.key.ServiceId.{ServiceId}, Keys.{area_cmp, area_eq, id_eq}};
 ghost use Rattle.abstract_monitor.specs.declared.answer.LockAnswer.TheVariants as lock_answer;
 ghost use Rattle.abstract_monitor.specs.Locks.{holder, waits_for, since, is_deadlocked, answer_of, refused_by, IsDeadlocked};
-ghost use Rattle.area_locks.specs.Asked.{no_locks, asked, locks_after, holder_after, holds_area, unlocked, without_wait, freed, other_than};
+ghost use Rattle.area_locks.specs.{Asked.{no_locks, asked, locks_after, holder_after, holds_area, unlocked, with_holder, without_wait, freed, other_than}, Index.{IsOpenTo}};
 
 use abstract_monitor::LockAnswer;
 use kd_base::OutOfMemory;
 use kdcs_types::{Area, ServiceId};
-use sorted_pairs::SortedPairs;
+use sorted_pairs::OrderedMap;
 use std::alloc::Global;
 use std::marker::Model;
 
-/// Who holds which area, and who waits for which. Contracts see the two lists.
+/// A service, and an area that it holds. A service with no area stands before all its areas.
+type Holding = (ServiceId, Option<Area>);
+
+/// Who holds which area, and who waits for which. Contracts see the two lists. A call costs in proportion to the
+/// logarithm of their lengths, but where it says more.
 #[derive(Drop)]
 pub struct LockTable {
-    holders: SortedPairs<Area, ServiceId>,
+    holders: OrderedMap<Area, ServiceId>,
+    // the holders once more, by service
+    held: OrderedMap<Holding, ()>,
     // the area, and the clock of the first request of this wait
-    waits: SortedPairs<ServiceId, (Area, u64)>,
+    waits: OrderedMap<ServiceId, (Area, u64)>,
 }
 
 impl Model for LockTable {
     ghost use Rattle.abstract_monitor.specs.Locks.{Locks};
+    ghost use Rattle.area_locks.specs.Index.{IsIndex};
 
     ghost Value = { Locks };
 
     ghost view = { λ t. record { holders = t.holders; waits = t.waits } };
+
+    ghost invariant = { λ t. IsIndex t.holders t.held };
 }
 
 impl LockTable {
@@ -34,8 +43,9 @@ impl LockTable {
         ensures { result ≡ no_locks }
     {
         LockTable {
-            holders: SortedPairs::new(alloc),
-            waits: SortedPairs::new(alloc),
+            holders: OrderedMap::new(alloc),
+            held: OrderedMap::new(alloc),
+            waits: OrderedMap::new(alloc),
         }
     }
 
@@ -47,9 +57,9 @@ impl LockTable {
         self.holders.get(area).copied()
     }
 
-    /// Answers the request of a service for an area, at this clock, in ticks, where a wait lasts at most `reswait` ticks:
-    /// the area is its own from now on, or the request waits, or it is refused with K04 or K05. The cost grows with the
-    /// number of waits. On an error nothing changes.
+    /// Answers the request of a service for an area, at this clock, in ticks, where a wait lasts at most `reswait`
+    /// ticks: the area is its own from now on, or the request waits, or it is refused with K04 or K05. It looks at each
+    /// wait of the chain that begins at the area's holder. On an error nothing changes.
     pub fn ask(
         &mut self,
         who: ServiceId,
@@ -74,10 +84,12 @@ impl LockTable {
         ensures locks { self.new ≡ unlocked self.old who area.now }
         ensures holders { (a : Area) → holder self.new a ≡ (if result && area_eq a area.now then None else holder self.old a) }
     {
+        let holding = holding(&who, area);
         if self.holder(area) != Some(who) {
             return false;
         }
         self.holders.remove(area);
+        self.held.remove(&holding);
         true
     }
 
@@ -88,13 +100,26 @@ impl LockTable {
         self.waits.remove(&who);
     }
 
-    /// Gives back all that a service holds, and ends its wait. It takes no memory.
+    /// Gives back all that a service holds, area by area, and ends its wait. It looks at no area of another service,
+    /// and takes no memory.
     pub fn free_all(&mut self, who: ServiceId)
         ensures locks { self.new ≡ freed self.old who }
         ensures holders { (a : Area) → holder self.new a ≡ other_than who (holder self.old a) }
     {
-        self.holders.remove_value(&who);
         self.waits.remove(&who);
+        while let Some(area) = self.first_held(who) {
+            self.unlock(who, &area);
+        }
+    }
+
+    // The first of the areas that a service holds.
+    fn first_held(&self, who: ServiceId) -> Option<Area>
+        ensures held { IfSome result (λ area. IsTrue (holds_area self.now who area)) }
+        ensures none { IfNone result ((area : Area) → holds_area self.now who area ≡ false) }
+        ensures ascending { IsTrue (is_sorted area_cmp self.now.holders) }
+    {
+        let (holding, _) = self.held.from(&(who, None)).next()?;
+        if holding.0 == who { holding.1 } else { None }
     }
 
     fn answer(&self, who: &ServiceId, area: &Area, now: u64, reswait: u64) -> LockAnswer
@@ -118,6 +143,7 @@ impl LockTable {
         area: &Area,
         now: u64,
     ) -> Result<(), OutOfMemory>
+        requires { answer ≡ lock_answer.Granted → IsOpenTo self.old who.now area.now }
         ensures locks { OnOk result (self.new ≡ locks_after answer self.old now who.now area.now) }
         ensures err { OnErr result (self.new ≡ self.old) }
     {
@@ -126,10 +152,28 @@ impl LockTable {
                 let since = self.since(who, area, now);
                 return self.waits.put(*who, (*area, since));
             }
-            LockAnswer::Granted => self.holders.put(*area, *who)?,
+            LockAnswer::Granted => self.grant(who, area)?,
             LockAnswer::Busy | LockAnswer::Deadlock => {}
         }
         self.waits.remove(who);
+        Ok(())
+    }
+
+    // The area is the service's own from now on.
+    fn grant(&mut self, who: &ServiceId, area: &Area) -> Result<(), OutOfMemory>
+        requires { IsOpenTo self.old who.now area.now }
+        ensures locks { OnOk result (self.new ≡ with_holder self.old who.now area.now) }
+        ensures err { OnErr result (self.new ≡ self.old) }
+    {
+        if self.holder(area).is_some() {
+            return Ok(());
+        }
+        self.held.put(holding(who, area), ())?;
+        if let Err(error) = self.holders.put(*area, *who) {
+            // nothing is left of a request that failed
+            self.held.remove(&holding(who, area));
+            return Err(error);
+        }
         Ok(())
     }
 
@@ -176,6 +220,12 @@ impl LockTable {
         }
         at == *asker
     }
+}
+
+fn holding(who: &ServiceId, area: &Area) -> Holding
+    ensures { result ≡ (who.now, Some area.now) }
+{
+    (*who, Some(*area))
 }
 
 // A deadlock is answered before the wait is looked at.

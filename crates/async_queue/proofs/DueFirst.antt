@@ -1,59 +1,110 @@
--- Which job is due first, where one more is in front.
-use Rattle.std.proofs.Common.{◌≡◌, ◌+◌, ◌<◌, ◌≤◌, ℕ, suc, Bool, true, false, cond, List, ◌∷◌, length, get_or, drop, map, filter, Option, Some, None, sym, ap, ◌∙◌, add-one, drop-cons}
-use Rattle.std.specs.Prelude.{◌&&◌, not, nat_le}
-use Rattle.std.proofs.lemmas.Bool.{le-leb, lt-leb}
-use Rattle.std.proofs.lemmas.List.{at_drop_all}
-use Rattle.kdcs_types.specs.declared.service.Job.{Job}
-use Rattle.kdcs_types.specs.declared.key.Target.{Target}
-use Rattle.abstract_monitor.specs.Picks.{due_job, least_job, earlier_of}
+-- The first of the jobs that are kept by due is the first due one of the queue.
+use Rattle.std.proofs.Common.{◌≡◌, ◌⊎◌, inl, inr, refl, ℕ, Bool, true, false, cond, IsTrue, [], ◌∷◌, filter, Option, Some, None, sym, ap, subst, ◌∙◌, arith, true≢false}
+use Rattle.std.specs.Cmp.{nat_cmp_total}
+use Rattle.std.proofs.lemmas.Cmp.{ranked}
+use Rattle.std.specs.FinMap.{find, is_sorted}
+use Rattle.std.specs.Ordering.{nat_cmp}
+use Rattle.std.specs.declared.cmp.Ordering.TheVariants.{Equal}
+use Rattle.kd_base.specs.ToolsLaws.{chosen, some_is}
 use Rattle.async_queue.specs.declared.queue.QueuedJob.{QueuedJob}
-use Rattle.async_queue.specs.Queue.{free}
+use Rattle.async_queue.specs.declared.queue.Waiting.{Waiting}
+use Rattle.async_queue.specs.DueIndex.{AreIndexed, IsFirst, IsThere, due_key, key_of, mark_of, queue_in, queued}
+use Rattle.async_queue.specs.DueOrder.{due_eq}
+use Rattle.async_queue.specs.Queue.{is_earlier, least_queued}
+use Rattle.sorted_pairs.specs.PlacesLaws.{up_tail}
+use Rattle.async_queue.proofs.Finds.{found_cases, found_here, found_later}
+use Rattle.async_queue.proofs.Firsts.{Both, IsFrom, first_of_both, first_same, from_it, not_earlier}
+use Rattle.async_queue.proofs.Index.{Marked, key_itself, same_key}
+use Rattle.async_queue.proofs.Views.{Numbered}
 
-module _ (now : ℕ) (allowed : Target → Bool) where
-  -- the due job of those from a place on
-  abbrev pub due_from : List QueuedJob → ℕ → Option Job
-  due_from queue i = due_job now allowed (free (drop i queue))
+-- a job without its number
+abbrev waiting_of : QueuedJob → Waiting
+waiting_of q = record { to = q.to; due = q.due; taken = q.taken }
 
-  abbrev pub passes : Job → Bool
-  passes job = nat_le job.value.due now && allowed job.value.to
+-- it is kept under its number
+abbrev IsNumbered : Numbered → QueuedJob → Type 0
+IsNumbered es q = find nat_cmp q.number es ≡ Some (waiting_of q)
 
-  pub due_none : (queue : List QueuedJob) (i : ℕ) → length queue ≤ i → due_from queue i ≡ None
-  unfolding least_job
-  due_none queue i le = at_drop_all (λ (l : List QueuedJob). due_job now allowed (free l)) queue i le
+-- ---- a list of jobs
 
-  abbrev after_free : Bool → QueuedJob → List QueuedJob → Option Job
-  after_free b q qs = least_job (cond b (q.job ∷ filter passes (free qs)) (filter passes (free qs)))
+module _ (e : ℕ × Waiting) (es : Numbered) (up : IsTrue (is_sorted nat_cmp (e ∷ es))) where
+  abbrev IsIt : QueuedJob → Type 0
+  IsIt q = q ≡ queued e
 
-  step_taken : (q : QueuedJob) (qs : List QueuedJob) → q.taken ≡ true → due_job now allowed (free (q ∷ qs)) ≡ due_job now allowed (free qs)
-  step_taken q qs e = ap (λ b. least_job (filter passes (map (λ (r : QueuedJob). r.job) (cond (not b) (q ∷ filter (λ (r : QueuedJob). not r.taken) qs) (filter (λ (r : QueuedJob). not r.taken) qs))))) e
+  joined : (q : QueuedJob) → IsIt q ⊎ IsNumbered es q → IsNumbered (e ∷ es) q
+  joined q (inl it) = subst (IsNumbered (e ∷ es)) (sym it) (found_here nat_cmp nat_cmp_total e es)
+  joined q (inr later) = found_later nat_cmp nat_cmp_total e es up q.number (waiting_of q) later
 
-  step_free : (q : QueuedJob) (qs : List QueuedJob) (b : Bool) → q.taken ≡ false → passes q.job ≡ b → due_job now allowed (free (q ∷ qs)) ≡ after_free b q qs
-  step_free q qs b e h =
-      ap (λ t. least_job (filter passes (map (λ (r : QueuedJob). r.job) (cond (not t) (q ∷ filter (λ (r : QueuedJob). not r.taken) qs) (filter (λ (r : QueuedJob). not r.taken) qs))))) e
-      ∙ ap (λ t. after_free t q qs) h
+  parted : (q : QueuedJob) → IsNumbered (e ∷ es) q → IsIt q ⊎ IsNumbered es q
+  parted q h =
+      elim (found_cases nat_cmp nat_cmp_total e es up q.number (waiting_of q) h) [
+        | inl here ↦ inl (sym (λ i. queued (number here.0 i, here.1 i)))
+        | inr later ↦ inr later.1
+      ]
+    where
+      number : nat_cmp e.0 q.number ≡ Equal → e.0 ≡ q.number
+      number tied = ranked e.0 q.number Equal (sym tied)
 
-  -- the job at a place is in front of those after it
-  behind_it : (queue : List QueuedJob) (i j : ℕ) (q : QueuedJob) → i < length queue → j ≡ i + 1 → q ≡ get_or queue i q → drop i queue ≡ q ∷ drop j queue
-  behind_it queue i j q lt e is =
-      drop-cons queue i q lt
-      ∙ ap (λ (r : QueuedJob). r ∷ drop (suc i) queue) (sym is)
-      ∙ ap (λ (k : ℕ). q ∷ drop k queue) (sym (e ∙ add-one i))
+module _ (test : QueuedJob → Bool) where
+  first_of_list : (es : Numbered) → IsTrue (is_sorted nat_cmp es) → IsFirst (IsNumbered es) test (least_queued (filter test (queue_in es)))
+  first_of_list [] up = λ q there. absurd cc
+  first_of_list (e ∷ es) up = by (test (queued e)) refl (first_of_list es (up_tail nat_cmp nat_cmp_total e es up))
+    where
+      by : (b : Bool) → test (queued e) ≡ b → IsFirst (IsNumbered es) test (least_queued (filter test (queue_in es)))
+          → IsFirst (IsNumbered (e ∷ es)) test (least_queued (cond b (queued e ∷ filter test (queue_in es)) (filter test (queue_in es))))
+      by true is rest =
+          first_same test (Both test (IsIt e es up) (IsNumbered es)) (IsNumbered (e ∷ es)) _ (λ q t b. joined e es up q b) (λ q t n. parted e es up q n)
+          (first_of_both test (IsIt e es up) (IsNumbered es) (Some (queued e)) (least_queued (filter test (queue_in es)))
+          (refl, is, λ q it t. ap (λ (x : QueuedJob). is_earlier x (queued e)) it ∙ not_earlier (queued e) (queued e) (inr (refl, omega arith))) rest)
+      by false is rest =
+          first_same test (IsNumbered es) (IsNumbered (e ∷ es)) _ (λ q t n. joined e es up q (inr n))
+          (λ q t n. elim (parted e es up q n) [ inl it ↦ absurd (true≢false (sym t ∙ ap test it ∙ is)) | inr later ↦ later ]) rest
 
-  module _ (queue : List QueuedJob) (i j : ℕ) (q : QueuedJob) (lt : i < length queue) (next : j ≡ i + 1) (is : q ≡ get_or queue i q) where
-    -- the due job of those from it on
-    due_here : due_from queue i ≡ due_job now allowed (free (q ∷ drop j queue))
-    due_here = ap (λ (l : List QueuedJob). due_job now allowed (free l)) (behind_it queue i j q lt next is)
+  -- ---- there is one first job
 
-    pub due_taken : (found : Option Job) → found ≡ due_from queue j → q.taken ≡ true → found ≡ due_from queue i
-    due_taken found h e = h ∙ sym (due_here ∙ step_taken q (drop j queue) e)
+  module _ (es : Numbered) where
+    same_job : (a b : QueuedJob) → IsNumbered es a → IsNumbered es b → a.number ≡ b.number → a ≡ b
+    same_job a b h k e =
+        let value = some_is (waiting_of a) (waiting_of b) (sym h ∙ ap (λ n. find nat_cmp n es) e ∙ k) in
+        λ i. queued (e i, value i)
 
-    pub due_late : (found : Option Job) → found ≡ due_from queue j → q.taken ≡ false → now < q.job.value.due → found ≡ due_from queue i
-    due_late found h e late = h ∙ sym (due_here ∙ step_free q (drop j queue) false e (ap (λ b. b && allowed q.job.value.to) (lt-leb q.job.value.due now late)))
+    one_number : (a b : QueuedJob) → IsFrom a b → IsFrom b a → a.number ≡ b.number
+    one_number a b (inl h) (inl k) = absurd (omega (arith, h, k))
+    one_number a b (inl h) (inr k) = absurd (omega (arith, h, k.0))
+    one_number a b (inr h) (inl k) = absurd (omega (arith, h.0, k))
+    one_number a b (inr h) (inr k) = omega (arith, h.1, k.1)
 
-    pub due_other : (found : Option Job) → found ≡ due_from queue j → q.taken ≡ false → q.job.value.due ≤ now → allowed q.job.value.to ≡ false → found ≡ due_from queue i
-    due_other found h e due refused = h ∙ sym (due_here ∙ step_free q (drop j queue) false e (ap (λ b. b && allowed q.job.value.to) (le-leb q.job.value.due now due) ∙ refused))
+    one_first : (r s : Option QueuedJob) → IsFirst (IsNumbered es) test r → IsFirst (IsNumbered es) test s → r ≡ s
+    one_first None None h k = refl
+    one_first None (Some g) h k = absurd (true≢false (sym k.1 ∙ h g k.0))
+    one_first (Some f) None h k = absurd (true≢false (sym h.1 ∙ k f h.0))
+    one_first (Some f) (Some g) h k =
+        ap Some (same_job f g h.0 k.0 (one_number f g (from_it f g (h.2 g k.0 k.1)) (from_it g f (k.2 f h.0 h.1))))
 
-    pub due_first : (found : Option Job) (job : Job) → found ≡ due_from queue j → q.taken ≡ false → q.job.value.due ≤ now → allowed q.job.value.to ≡ true → Some job ≡ earlier_of q.job found → Some job ≡ due_from queue i
-    unfolding least_job
-    due_first found job h e due passed first =
-        first ∙ ap (earlier_of q.job) h ∙ sym (due_here ∙ step_free q (drop j queue) true e (ap (λ b. b && allowed q.job.value.to) (le-leb q.job.value.due now due) ∙ passed))
+  -- ---- by due and by number
+
+  module _ (es : Numbered) (due : Marked) (h : AreIndexed es due) where
+    of_there : (q : QueuedJob) → IsThere due q → IsNumbered es q
+    of_there q there = by (find nat_cmp q.number es) refl (sym (h.same (due_key q)) ∙ there)
+      where
+        by : (o : Option Waiting) → find nat_cmp q.number es ≡ o → mark_of (due_key q) o ≡ Some q.taken → find nat_cmp q.number es ≡ Some (waiting_of q)
+        by None is e = absurd cc
+        by (Some w) is e = is ∙ elim (chosen (due_eq (due_key q) (key_of q.number w)) (Some w.taken) None (Some q.taken) e) [
+          | inl same ↦ ap Some (it (same_key (due_key q) (key_of q.number w) same.0) (some_is w.taken q.taken same.1))
+          | inr other ↦ absurd (nothing q.taken other.1)
+        ]
+          where
+            nothing : (b : Bool) → None ≡ Some b → ⊥
+            nothing b e = cc
+
+            it : due_key q ≡ key_of q.number w → w.taken ≡ q.taken → w ≡ waiting_of q
+            it key mark = λ i. record { to = (sym key i).to; due = (sym key i).due; taken = mark i }
+
+    to_there : (q : QueuedJob) → IsNumbered es q → IsThere due q
+    to_there q n = h.same (due_key q) ∙ ap (mark_of (due_key q)) n ∙ ap (λ b. cond b (Some q.taken) None) (key_itself (due_key q))
+
+    pub first_is : (r : Option QueuedJob) → IsFirst (IsThere due) test r → r ≡ least_queued (filter test (queue_in es))
+    first_is r first =
+        one_first es r (least_queued (filter test (queue_in es)))
+        (first_same test (IsThere due) (IsNumbered es) r (λ q t there. of_there q there) (λ q t n. to_there q n) first)
+        (first_of_list es h.numbers)

@@ -1,4 +1,11 @@
-pub mod Order
-pub mod Places
+pub mod Finds
+pub mod Found
+pub mod Firsts
+pub mod Scans
+pub mod Targets
+pub mod Steps
+pub mod Views
+pub mod Index
 pub mod DueFirst
+pub mod Filling
 pub mod DraftLemmas

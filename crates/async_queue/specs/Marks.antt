@@ -5,10 +5,11 @@ use Rattle.kdcs_types.specs.declared.service.Job.{Job}
 use Rattle.abstract_monitor.specs.Locks.{Active}
 use Rattle.abstract_monitor.specs.Picks.{is_free}
 use Rattle.async_queue.specs.declared.queue.QueuedJob.{QueuedJob}
+use Rattle.async_queue.specs.Queue.{untaken, with_taken}
 
 -- a job of the tables with its mark
 abbrev pub queued_in : Active → Job → QueuedJob
-queued_in active job = record { job = job; taken = not (is_free active job) }
+queued_in active job = with_taken (not (is_free active job)) (untaken job)
 
 -- the jobs of the tables with their marks
 abbrev pub queue_of : Active → List Job → List QueuedJob

@@ -1,6 +1,6 @@
 -- Laws: the queue of a state of the monitor: the jobs of its tables, of which those with an open service are taken. Each call on
 -- the queue is a step of the state.
-use Rattle.std.specs.Prelude.{◌≡◌, refl, ℕ, Option, Some, None, true, false, cond, not, ◌==◌, IsTrue, List, [], ◌∷◌, map, filter, nat_lt, is_some}
+use Rattle.std.specs.Prelude.{◌≡◌, refl, ℕ, Bool, Option, Some, None, true, false, cond, not, ◌==◌, IsTrue, List, [], ◌∷◌, map, filter, nat_le, nat_lt, is_some, ◌&&◌, option_map}
 use Rattle.std.proofs.Common.{sym, ap, ◌∙◌, arith}
 use Rattle.std.specs.List.{list_all}
 use Rattle.std.specs.Ordering.{nat_cmp, is_eq, ordering_then}
@@ -11,6 +11,7 @@ use Rattle.std.specs.FinMap.{find as found_at, put}
 use Rattle.std.specs.FinMap.Entries.{where_key, find-put, find-where_key}
 use Rattle.kd_base.specs.ToolsLaws.{both_true}
 use Rattle.kdcs_types.specs.declared.service.Job.{Job}
+use Rattle.kdcs_types.specs.declared.key.Target.{Target}
 use Rattle.kdcs_types.specs.declared.key.ServiceId.TheVariants.{Asynchronous}
 use Rattle.kdcs_types.specs.declared.key.Key.TheVariants as key
 use Rattle.kdcs_types.specs.Keys.{id_cmp, id_eq, key_eq}
@@ -19,28 +20,52 @@ use Rattle.kdcs_types.specs.Keyed.{without_item}
 use Rattle.kdcs_types.specs.Tables.{job_key}
 use Rattle.abstract_monitor.specs.State.{OpenTransaction}
 use Rattle.abstract_monitor.specs.Locks.{Active}
-use Rattle.abstract_monitor.specs.Picks.{is_free, free_jobs}
+use Rattle.abstract_monitor.specs.Picks.{due_job, earlier_of as earlier_job, free_jobs, is_earlier as is_earlier_job, is_free, least_job}
 use Rattle.async_queue.specs.declared.queue.QueuedJob.{QueuedJob}
-use Rattle.async_queue.specs.Queue.{untaken, free, marked, with_mark, without_job}
+use Rattle.async_queue.specs.Queue.{earlier_of, first_due, is_due, least_queued, marked, untaken, with_mark, with_taken, without_job}
 use Rattle.async_queue.specs.Marks.{queued_in, queue_of}
 
--- ---- its free jobs
+-- ---- its first due job
 
-pub free_of : (active : Active) (jobs : List Job) → free (queue_of active jobs) ≡ free_jobs active jobs
-free_of active [] = refl
-free_of active (job ∷ jobs) =
-    elim (is_free active job) as (λ b. map (λ (q : QueuedJob). q.job) (cond (not (not b)) (queued_in active job ∷ filter (λ (q : QueuedJob). not q.taken) (queue_of active jobs)) (filter (λ (q : QueuedJob). not q.taken) (queue_of active jobs)))
-    ≡ cond b (job ∷ free_jobs active jobs) (free_jobs active jobs)) [
-      | true ↦ ap (λ (l : List Job). job ∷ l) (free_of active jobs)
-      | false ↦ free_of active jobs
-    ]
+earlier_so : (job : Job) (o : Option Job) → earlier_of (untaken job) (option_map untaken o) ≡ option_map untaken (earlier_job job o)
+earlier_so job None = refl
+earlier_so job (Some other) = by (is_earlier_job other job)
+  where
+    by : (b : Bool) → Some (cond b (untaken other) (untaken job)) ≡ option_map untaken (Some (cond b other job))
+    by true = refl
+    by false = refl
+
+module _ (now : ℕ) (allowed : Target → Bool) (active : Active) where
+  abbrev passes : Job → Bool
+  passes job = nat_le job.value.due now && allowed job.value.to
+
+  -- it is the due one of those that no open service has taken
+  pub first_due_of : (jobs : List Job) → first_due now allowed (queue_of active jobs) ≡ option_map untaken (due_job now allowed (free_jobs active jobs))
+  unfolding least_job
+  first_due_of [] = refl
+  first_due_of (job ∷ jobs) = by (is_free active job) (first_due_of jobs)
+    where
+      rest : List QueuedJob
+      rest = filter (is_due now allowed) (queue_of active jobs)
+
+      free : List Job
+      free = filter passes (free_jobs active jobs)
+
+      one : (c : Bool) → least_queued rest ≡ option_map untaken (least_job free) → least_queued (cond c (untaken job ∷ rest) rest) ≡ option_map untaken (least_job (cond c (job ∷ free) free))
+      one true h = ap (earlier_of (untaken job)) h ∙ earlier_so job (least_job free)
+      one false h = h
+
+      by : (b : Bool) → least_queued rest ≡ option_map untaken (least_job free)
+          → least_queued (cond (not (not b) && passes job) (with_taken (not b) (untaken job) ∷ rest) rest) ≡ option_map untaken (least_job (filter passes (cond b (job ∷ free_jobs active jobs) (free_jobs active jobs))))
+      by true h = one (passes job) h
+      by false h = h
 
 -- where no job has an open service
 pub untaken_of : (active : Active) (jobs : List Job) → IsTrue (list_all (is_free active) jobs) → map untaken jobs ≡ queue_of active jobs
 untaken_of active [] h = refl
 untaken_of active (job ∷ jobs) h =
     let parts = both_true (is_free active job) (list_all (is_free active) jobs) h in
-    ap (λ b. record { job = job; taken = not b } ∷ map untaken jobs) (sym parts.0) ∙ ap (λ (l : List QueuedJob). queued_in active job ∷ l) (untaken_of active jobs parts.1)
+    ap (λ b. with_taken (not b) (untaken job) ∷ map untaken jobs) (sym parts.0) ∙ ap (λ (l : List QueuedJob). queued_in active job ∷ l) (untaken_of active jobs parts.1)
 
 -- ---- the numbers tell services and jobs apart
 
@@ -62,8 +87,8 @@ same_job a b = same_answer a b
 take_one : (active : Active) (n : ℕ) (x : OpenTransaction) (job : Job) → marked n true (queued_in active job) ≡ queued_in (put id_cmp (Asynchronous n) x active) job
 take_one active n x job =
     let before = found_at id_cmp (Asynchronous job.number) active in
-    elim (job.number == n) as (λ b. cond b (record (queued_in active job) { taken = true }) (queued_in active job) ≡ record { job = job; taken = not (not (is_some (cond b (Some x) before))) }) [ true ↦ refl | false ↦ refl ]
-    ∙ sym (ap (λ (o : Option OpenTransaction). record { job = job; taken = not (not (is_some o)) })
+    elim (job.number == n) as (λ b. cond b (record (queued_in active job) { taken = true }) (queued_in active job) ≡ with_taken (not (not (is_some (cond b (Some x) before)))) (untaken job)) [ true ↦ refl | false ↦ refl ]
+    ∙ sym (ap (λ (o : Option OpenTransaction). with_taken (not (not (is_some o))) (untaken job))
     (find-put id_cmp id_total (Asynchronous job.number) (Asynchronous n) x active ∙ ap (λ b. cond b (Some x) before) (same_service job.number n)))
 
 pub take_of : (active : Active) (n : ℕ) (x : OpenTransaction) (jobs : List Job) → with_mark n true (queue_of active jobs) ≡ queue_of (put id_cmp (Asynchronous n) x active) jobs
@@ -80,8 +105,8 @@ without_service n active = where_key id_cmp (λ i. not (id_eq (Asynchronous n) i
 put_back_one : (active : Active) (n : ℕ) (job : Job) → marked n false (queued_in active job) ≡ queued_in (without_service n active) job
 put_back_one active n job =
     let before = found_at id_cmp (Asynchronous job.number) active in
-    elim (job.number == n) as (λ b. cond b (record (queued_in active job) { taken = false }) (queued_in active job) ≡ record { job = job; taken = not (not (is_some (cond (not b) before None))) }) [ true ↦ refl | false ↦ refl ]
-    ∙ sym (ap (λ (o : Option OpenTransaction). record { job = job; taken = not (not (is_some o)) })
+    elim (job.number == n) as (λ b. cond b (record (queued_in active job) { taken = false }) (queued_in active job) ≡ with_taken (not (not (is_some (cond (not b) before None)))) (untaken job)) [ true ↦ refl | false ↦ refl ]
+    ∙ sym (ap (λ (o : Option OpenTransaction). with_taken (not (not (is_some o))) (untaken job))
     (find-where_key id_cmp (λ i. not (id_eq (Asynchronous n) i)) (Asynchronous job.number) (λ i e. ap (λ j. not (id_eq (Asynchronous n) j)) (sym (same_id (Asynchronous job.number) i e))) active
     ∙ ap (λ b. cond (not b) before None) ((eq_by_cmp_equiv id_total).symm (Asynchronous n) (Asynchronous job.number) ∙ same_service job.number n)))
 

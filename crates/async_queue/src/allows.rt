@@ -1,26 +1,16 @@
-//! Which targets a job may have.
-ghost use Rattle.std.specs.Prelude.{◌≡◌, Bool};
-ghost use Rattle.kdcs_types.specs.{declared.key.Target.{Target}, Same.{target_eq}};
+//! Which TACs a job may have.
+ghost use Rattle.std.specs.Prelude.{◌≡◌, ℕ, Bool, false, List};
+ghost use Rattle.kdcs_types.specs.declared.key.Target.{Target};
+ghost use Rattle.kdcs_types.specs.declared.key.Target.TheVariants.{Tac, Lterm};
 
-use kdcs_types::Target;
+use kd_base::Name;
 
-/// A test of targets, by which a job is chosen.
+/// A test of targets, by which a job is chosen. It allows no LTERM.
 pub trait Allows {
     ghost allows: { Self → Target → Bool };
 
-    fn allows(&self, to: &Target) -> bool
-        ensures { result ≡ allows self.now to.now };
-}
+    fn allows(&self, tac: Name) -> bool
+        ensures { result ≡ allows self.now (Tac tac) };
 
-/// A target allows itself alone.
-impl Allows for Target {
-    ghost allows = { target_eq };
-
-    fn allows(&self, to: &Target) -> bool {
-        match (self, to) {
-            (Target::Tac(tac), Target::Tac(other)) => tac == other,
-            (Target::Lterm(lterm), Target::Lterm(other)) => lterm == other,
-            (Target::Tac(_), Target::Lterm(_)) | (Target::Lterm(_), Target::Tac(_)) => false,
-        }
-    }
+    ghost no_lterm: { (test : Self) (lterm : List ℕ) → allows test (Lterm lterm) ≡ false };
 }

@@ -1,34 +1,61 @@
 //! The jobs of the tables, with marks.
-ghost use Rattle.std.specs.Prelude.{◌≡◌, true, false, not, IfOk, OnOk, OnErr, None, is_some, map, option_copied};
-ghost use Rattle.kdcs_types.specs.declared.service.Job.{Job};
-ghost use Rattle.abstract_monitor.specs.Picks.{due_job};
-ghost use Rattle.async_queue.specs.Queue.{untaken, queued_at, value_at, has_mark, with_delivery, with_job, with_mark, without_job, free};
+ghost use Rattle.std.specs.{Prelude.{◌≡◌, IsTrue, false, true, is_some, map, not, IfOk, OnOk, OnErr, None, Some}, FinMap.{find, put}};
+ghost use Rattle.kdcs_types.specs.Same.{target_eq};
+ghost use Rattle.async_queue.specs.DueIndex.{rekeyed};
+ghost use Rattle.async_queue.specs.Queue.{first_due, has_mark, queued_at, untaken, with_delivery, with_job, with_mark, without_job};
 
 use crate::allows::Allows;
-use crate::choice::first_of;
-use crate::queue::{QueuedJob, lesser_count, place_of};
+use crate::choice::{DueIndex, first_allowed, first_for};
+use crate::due::DueKey;
+use crate::queue::{QueuedJob, Waiting};
 use kd_base::OutOfMemory;
-use kdcs_types::{Job, JobValue, Tables, Target};
+use kdcs_types::{Tables, Target};
+use sorted_pairs::OrderedMap;
 use std::alloc::Global;
 use std::marker::Model;
 
-/// The jobs of the tables in ascending order of their numbers, each with a mark that says whether an open service has
-/// taken it. A job that is taken stays until it is removed, so that it is there again where its service rolls back.
-/// Contracts see the list.
+/// The jobs of the tables in ascending order of their numbers, without their messages, each with a mark that says whether
+/// an open service has taken it. A job that is taken stays until it is removed, so that it is there again where its
+/// service rolls back. Contracts see the list.
+///
+/// A call with a number costs in proportion to the logarithm of the number of jobs.
 #[derive(Drop)]
 pub struct Jobs {
-    queue: Vec<QueuedJob>,
+    by_number: OrderedMap<u64, Waiting>,
+    by_due: DueIndex,
 }
 
 impl Model for Jobs {
     ghost use Rattle.std.specs.Prelude.{List};
-    ghost use Rattle.async_queue.specs.{declared.queue.QueuedJob.{QueuedJob}, Queue.{IsAscending}};
+    ghost use Rattle.async_queue.specs.{declared.queue.QueuedJob.{QueuedJob}, DueIndex.{AreIndexed, queue_in}};
 
     ghost Value = { List QueuedJob };
 
-    ghost view = { λ j. j.queue.items };
+    ghost view = { λ j. queue_in j.by_number };
 
-    ghost invariant = { λ j. IsAscending j.queue.items };
+    ghost invariant = { λ j. AreIndexed j.by_number j.by_due };
+}
+
+// Another value of a key that has one.
+fn replace<K: Ord + Copy, V: Drop>(map: &mut OrderedMap<K, V>, key: &K, value: V)
+    requires { IsTrue (is_some (find K.cmp key.now map.old)) }
+    ensures values { map.new ≡ put K.cmp key.now value map.old }
+{
+    if let Some(kept) = map.get_mut(key) {
+        *kept = value;
+    }
+}
+
+// The job with the key `old` has the key `new` and is free, or nothing changes.
+fn rekey(by_due: &mut DueIndex, old: &DueKey, new: DueKey) -> Result<(), OutOfMemory>
+    ensures ok { OnOk result (by_due.new ≡ rekeyed old.now new by_due.old) }
+    ensures err { OnErr result (by_due.new ≡ by_due.old) }
+{
+    by_due.put(new, false)?;
+    if *old != new {
+        by_due.remove(old);
+    }
+    Ok(())
 }
 
 impl Jobs {
@@ -36,26 +63,35 @@ impl Jobs {
     pub fn from_tables(alloc: Global, tables: &Tables) -> Result<Jobs, OutOfMemory>
         ensures { IfOk result (λ jobs. jobs ≡ map untaken tables.now.jobs) }
     {
-        let jobs = tables.jobs();
-        let mut queue = Vec::with_capacity(alloc, jobs.len())?;
-        for job in jobs {
-            queue.push(QueuedJob {
-                job: job.clone()?,
-                taken: false,
-            })?;
-        }
         let _clock = tables.clock(); // for the proof
-        Ok(Jobs { queue })
+        let mut jobs = Jobs {
+            by_number: OrderedMap::new(alloc),
+            by_due: OrderedMap::new(alloc),
+        };
+        for job in tables.jobs() {
+            jobs.insert(job.number, job.value.to, job.value.due)?;
+        }
+        Ok(jobs)
     }
 
     /// Adds a job, whose number is new, or changes nothing. It is not taken.
-    pub fn insert(&mut self, job: Job) -> Result<(), OutOfMemory>
-        requires { queued_at job.number self.old ≡ None }
-        ensures ok { OnOk result (self.new ≡ with_job job self.old) }
+    pub fn insert(&mut self, number: u64, to: Target, due: u64) -> Result<(), OutOfMemory>
+        requires { queued_at number self.old ≡ None }
+        ensures ok { OnOk result (self.new ≡ with_job (record { number = number; to = to; due = due; taken = false }) self.old) }
         ensures err { OnErr result (self.new ≡ self.old) }
     {
-        let at = lesser_count(&self.queue, job.number);
-        Ok(self.queue.insert(at, QueuedJob { job, taken: false })?)
+        let waiting = Waiting {
+            to,
+            due,
+            taken: false,
+        };
+        let key = waiting.key(number);
+        self.by_due.put(key, false)?;
+        if let Err(error) = self.by_number.put(number, waiting) {
+            self.by_due.remove(&key);
+            return Err(error);
+        }
+        Ok(())
     }
 
     /// Marks the job with this number as taken by an open service. It answers false exactly where the job is not there or
@@ -81,50 +117,59 @@ impl Jobs {
         ensures result { result ≡ has_mark (not taken) (queued_at number self.old) }
         ensures marked { self.new ≡ with_mark number taken self.old }
     {
-        match place_of(&self.queue, number) {
-            Some(at) => {
-                let queued = &mut self.queue[at];
-                let changes = queued.taken != taken;
-                queued.taken = taken;
-                changes
+        let Some(waiting) = self.by_number.get(&number) else {
+            return false;
+        };
+        let changes = waiting.taken != taken;
+        let marked = waiting.with_mark(taken);
+        replace(&mut self.by_number, &number, marked);
+        replace(&mut self.by_due, &marked.key(number), taken);
+        changes
+    }
+
+    /// Gives the job with this number this target, and frees it: it is delivered again, or is a dead letter. It answers
+    /// false exactly where the job is not there. On an error nothing changes.
+    pub fn again(&mut self, number: u64, to: Target) -> Result<bool, OutOfMemory>
+        ensures result { IfOk result (λ found. found ≡ is_some (queued_at number self.old)) }
+        ensures ok { OnOk result (self.new ≡ with_delivery number to self.old) }
+        ensures err { OnErr result (self.new ≡ self.old) }
+    {
+        let Some(waiting) = self.by_number.get(&number) else {
+            return Ok(false);
+        };
+        let again = waiting.for_target(to);
+        rekey(&mut self.by_due, &waiting.key(number), again.key(number))?;
+        replace(&mut self.by_number, &number, again);
+        Ok(true)
+    }
+
+    /// Takes the job with this number out, and answers whether it was there. It takes no memory.
+    pub fn remove(&mut self, number: u64) -> bool
+        ensures found { result ≡ is_some (queued_at number self.old) }
+        ensures left { self.new ≡ without_job number self.old }
+    {
+        match self.by_number.remove(&number) {
+            Some(waiting) => {
+                self.by_due.remove(&waiting.key(number));
+                true
             }
             None => false,
         }
     }
 
-    /// Gives the job with this number this target and this number of deliveries, and frees it: it is delivered again, or
-    /// is a dead letter. It answers false exactly where the job is not there, and takes no memory.
-    pub fn again(&mut self, number: u64, to: Target, redelivered: u8) -> Result<bool, OutOfMemory>
-        ensures result { IfOk result (λ found. found ≡ is_some (queued_at number self.old)) }
-        ensures ok { OnOk result (self.new ≡ with_delivery number to redelivered self.old) }
-        ensures err { OnErr result (self.new ≡ self.old) }
-    {
-        match place_of(&self.queue, number) {
-            Some(at) => {
-                let queued = &mut self.queue[at];
-                queued.job.value.to = to;
-                queued.job.value.redelivered = redelivered;
-                queued.taken = false;
-                Ok(true)
-            }
-            None => Ok(false),
-        }
-    }
-
-    /// Takes the job with this number out, and answers what it is. It takes no memory.
-    pub fn remove(&mut self, number: u64) -> Option<JobValue>
-        ensures value { result ≡ value_at number self.old }
-        ensures left { self.new ≡ without_job number self.old }
-    {
-        let at = place_of(&self.queue, number)?;
-        Some(self.queue.remove(at).job.value)
-    }
-
     /// Of the jobs that no service has taken, that are due and whose target is allowed, the one with the least due, and of
-    /// those the least number. A job that is due at `now` itself is due. It takes no memory.
-    pub fn first_allowed<A: Allows>(&self, allowed: &A, now: u64) -> Option<&Job>
-        ensures { option_copied result ≡ due_job now (A.allows allowed.now) (free self.now) }
+    /// those the least number. A job that is due at `now` itself is due. It takes no memory. It goes over the TACs that have
+    /// jobs, and for each that is allowed over the jobs that are taken before its first free one.
+    pub fn first_allowed<A: Allows>(&self, allowed: &A, now: u64) -> Option<QueuedJob>
+        ensures { result ≡ first_due now (A.allows allowed.now) self.now }
     {
-        first_of(&self.queue, allowed, now)
+        first_allowed(&self.by_due, allowed, now)
+    }
+
+    /// The same of the jobs of one target. It goes over the jobs that are taken before the first free one.
+    pub fn first_for(&self, to: &Target, now: u64) -> Option<QueuedJob>
+        ensures { result ≡ first_due now (target_eq to.now) self.now }
+    {
+        first_for(&self.by_due, to, now)
     }
 }

@@ -1,34 +1,60 @@
-//! Where a job is among others in ascending order of their numbers.
+//! What the queue keeps of a job.
 ghost use Rattle.std.specs.Prelude.{◌≡◌};
-ghost use Rattle.async_queue.specs.Queue.{IsAscending, IsPlace, lesser_count};
+ghost use Rattle.async_queue.specs.DueIndex.{for_target, key_of, with_mark};
 
-use kdcs_types::Job;
+use crate::due::DueKey;
+use kdcs_types::Target;
 
-/// A job of the tables.
-#[derive(Drop)]
+/// A job of the tables, without its message.
+#[derive(Clone, Copy)]
 pub struct QueuedJob {
-    pub job: Job,
+    pub number: u64,
+    pub to: Target,
+    /// From this clock on it is due.
+    pub due: u64,
     /// An open service has taken it.
     pub taken: bool,
 }
 
-// How many jobs have a lesser number.
-pub(crate) fn lesser_count(queue: &[QueuedJob], number: u64) -> usize
-    requires { IsAscending queue.now }
-    ensures { result ≡ lesser_count number queue.now }
-{
-    queue.partition_point(|queued| queued.job.number < number)
+/// What is kept under the number of a job.
+#[derive(Clone, Copy)]
+pub(crate) struct Waiting {
+    pub(crate) to: Target,
+    pub(crate) due: u64,
+    pub(crate) taken: bool,
 }
 
-// Where the job with this number is, if it is there.
-pub(crate) fn place_of(queue: &[QueuedJob], number: u64) -> Option<usize>
-    requires { IsAscending queue.now }
-    ensures { IsPlace number queue.now result }
-{
-    let at = lesser_count(queue, number);
-    if at < queue.len() && queue[at].job.number == number {
-        Some(at)
-    } else {
-        None
+impl Waiting {
+    // The same with this mark.
+    pub(crate) fn with_mark(&self, taken: bool) -> Waiting
+        ensures { result ≡ with_mark taken self.now }
+    {
+        Waiting {
+            to: self.to,
+            due: self.due,
+            taken,
+        }
+    }
+
+    // The same for another target, and free.
+    pub(crate) fn for_target(&self, to: Target) -> Waiting
+        ensures { result ≡ for_target to self.now }
+    {
+        Waiting {
+            to,
+            due: self.due,
+            taken: false,
+        }
+    }
+
+    // Where the job with this number stands among all that are due.
+    pub(crate) fn key(&self, number: u64) -> DueKey
+        ensures { result ≡ key_of number self.now }
+    {
+        DueKey {
+            to: self.to,
+            due: self.due,
+            number,
+        }
     }
 }

@@ -21,6 +21,8 @@ pub enum Tries {
     Stop(u64, u64),
     /// The same after each of these counts of calls, with each of the choices.
     Stops(u64, u64),
+    /// Over what each try of the last call left.
+    Again,
 }
 
 /// The words and texts of a call, and what fails in it.

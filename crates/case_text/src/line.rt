@@ -43,6 +43,8 @@ pub enum Line<'a> {
     Stop(u64, u64),
     /// The next call is tried over what stops after each of these counts leave.
     Stops(u64, u64),
+    /// The next call is tried over what each try of the last one left.
+    Again,
     /// The next call is made over a device of which no call fails.
     Sure,
     /// A call with these words.
@@ -149,6 +151,7 @@ fn of_a_call<'a>(word: &str, rest: &'a str) -> Option<Line<'a>> {
         "fails" => fails_of(rest),
         "stop" => stop_of(rest),
         "stops" => stops_of(rest),
+        "again" if rest.is_empty() => Some(Line::Again),
         "sure" if rest.is_empty() => Some(Line::Sure),
         "call" => Some(Line::Call(rest)),
         _ => None,

@@ -29,6 +29,8 @@ pub struct Stage {
     file: Vec<u8>,
     /// What the last call did, at each of its tries.
     answers: Vec<Answer>,
+    /// What the call before it did.
+    left: Vec<Answer>,
     /// Whether the status of the last call is still to be said.
     unsaid: bool,
     /// The device of the last plain call.
@@ -70,6 +72,7 @@ impl Stage {
             tries: Tries::Plain,
             file: Vec::new(alloc),
             answers: Vec::new(alloc),
+            left: Vec::new(alloc),
             unsaid: false,
             device: None,
             cases: 0,
@@ -97,6 +100,7 @@ impl Stage {
             Line::Fails(kind, from, to) => self.try_with(alloc, Tries::Fails(kind, from, to)),
             Line::Stop(call, choice) => self.try_with(alloc, Tries::Stop(call, choice)),
             Line::Stops(from, to) => self.try_with(alloc, Tries::Stops(from, to)),
+            Line::Again => self.try_with(alloc, Tries::Again),
             Line::Sure => self.try_with(alloc, Tries::Sure),
             Line::NoFile => {
                 self.file.clear();
@@ -149,7 +153,7 @@ impl Stage {
     /// What no line has said of the last call, which is then done with.
     pub fn finish_call(&mut self, alloc: Global) -> Judged {
         let found = sent_too(alloc, &self.answers)?;
-        self.answers.clear();
+        self.left = mem::replace(&mut self.answers, Vec::new(alloc));
         if self.unsaid {
             self.unsaid = false;
             return complaint(alloc, "the call before has no status line");
@@ -223,6 +227,7 @@ impl Stage {
             Tries::Fails(kind, from, to) => self.call_failing::<P>(alloc, call, kind, from, to),
             Tries::Stop(stop, choice) => self.call_after_one::<P>(alloc, call, stop, choice),
             Tries::Stops(from, to) => self.call_after_each::<P>(alloc, call, from, to),
+            Tries::Again => self.call_again::<P>(alloc, call),
         }
     }
 
@@ -279,6 +284,28 @@ impl Stage {
             self.call_with::<P>(alloc, call, kind, number)?;
         }
         unless(alloc, from <= to, "no number")
+    }
+
+    /// The call over what this answer left.
+    fn call_over<P: Program>(
+        &mut self,
+        alloc: Global,
+        call: &Call,
+        before: &Answer,
+    ) -> Result<(), OutOfMemory> {
+        let mut device = call.device(alloc, before.file(), None)?;
+        let at = String::from_str(alloc, before.at())?;
+        let answer = call.over::<P>(alloc, &mut device, before.file(), None, at)?;
+        self.keep(answer)
+    }
+
+    /// The call over what each try of the last one left. The KDCFILE stays.
+    fn call_again<P: Program>(&mut self, alloc: Global, call: &Call) -> Judged {
+        let left = mem::replace(&mut self.left, Vec::new(alloc));
+        for before in &left {
+            self.call_over::<P>(alloc, call, before)?;
+        }
+        unless(alloc, !left.is_empty(), "no call before")
     }
 
     /// The call over what a stop of the last plain call leaves; what this leaves, or nothing where there is no such stop.

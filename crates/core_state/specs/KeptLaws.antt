@@ -15,7 +15,9 @@ use Rattle.area_locks.specs.Asked.{freed, other_than}
 use Rattle.async_queue.specs.declared.queue.QueuedJob.{QueuedJob}
 use Rattle.open_transaction.specs.Transactions.{Boxed, boxed_transaction}
 use Rattle.step_scheduler.specs.Schedule.{Schedule, with_ready, without_ready, released, with_place, service_in}
+use Rattle.abstract_monitor.specs.Charges.{total_charge}
 use Rattle.abstract_monitor.specs.Commands.{no_place}
+use Rattle.abstract_monitor.specs.Endings.{durable}
 use Rattle.abstract_monitor.specs.Locks.{Locks, holder}
 use Rattle.abstract_monitor.specs.Picks.{class_of, current_by}
 use Rattle.abstract_monitor.specs.Sessions.{is_running, in_place}
@@ -36,7 +38,7 @@ use Rattle.kdcs_types.specs.RowLaws.{numbers_apart}
 pub scheduled : (p : MonitorParts) (schedule : Schedule) → IsIndexed p
     → Each (HasClass p.generation (active_of p.active)) schedule.ready → Each (PlaceHasClass p.generation (active_of p.active)) schedule.places
     → IsIndexed (record p { scheduler = schedule })
-scheduled p schedule h ready places = record { owned = h.owned; ready = ready; places = places; locks = h.locks; jobs = h.jobs }
+scheduled p schedule h ready places = record { owned = h.owned; ready = ready; places = places; locks = h.locks; jobs = h.jobs; charge = h.charge }
 
 abbrev pub with_schedule : MonitorParts → Schedule → MonitorParts
 with_schedule p schedule = record p { scheduler = schedule }
@@ -98,6 +100,7 @@ module _ (p : MonitorParts) (id : ServiceId) (h : IsIndexed p) (unplaced : IsUnp
         places = subst (λ a. Each (PlaceHasClass p.generation a) p.scheduler.places) left (places_stay p.generation (active_of p.active) _ id (without_others id (active_of p.active)) p.scheduler.places nowhere.1 h.places);
         locks = subst (λ a. SameHolds (freed p.locks id) a) left (freed_holds p.locks (freed p.locks id) (active_of p.active) id change_jobs h.locks);
         jobs = ap (marked_for false id) h.jobs ∙ closed_queue id (active_of p.active) p.tables.jobs ∙ ap (λ a. queue_of a p.tables.jobs) left;
+        charge = h.charge;
       }
 
   pub closed_indexed : (active : List (ServiceId × Boxed)) (locks : Locks) (jobs : List QueuedJob) → active ≡ without id_cmp id p.active → locks ≡ freed p.locks id
@@ -115,6 +118,7 @@ module _ (p : MonitorParts) (id : ServiceId) (h : IsIndexed p) (unplaced : IsUnp
         places = subst (λ a. Each (PlaceHasClass p.generation a) p.scheduler.places) there (places_stay p.generation (active_of p.active) _ id (put_others id (boxed_transaction transaction) (active_of p.active)) p.scheduler.places nowhere.1 h.places);
         locks = subst (λ a. SameHolds p.locks a) there (opened_holds p.locks (active_of p.active) id (boxed_transaction transaction) closed none h.locks);
         jobs = j ∙ ap (marked_for true id) h.jobs ∙ opened_queue id (boxed_transaction transaction) (active_of p.active) p.tables.jobs ∙ ap (λ a. queue_of a p.tables.jobs) there;
+        charge = h.charge;
       }
 
 pub closed_state : (p : MonitorParts) (id : ServiceId) (active : List (ServiceId × Boxed)) (locks : Locks) (jobs : List QueuedJob) → active ≡ without id_cmp id p.active → locks ≡ freed p.locks id
@@ -153,10 +157,11 @@ found_open transactions id = by (find id_cmp id transactions) ∙ ap is_some (sy
     by None = refl
     by (Some transaction) = refl
 
--- the changes of a commit, in the tables and in the marked jobs
-pub changed_indexed : (p : MonitorParts) (tables : TableRows) (jobs : List QueuedJob) (c : Changes) → IsIndexed p → IsSortedTables p.tables → AreChanges c.items
-    → tables ≡ changed p.tables c → jobs ≡ queue_after_all (active_of p.active) c.items p.jobs → IsIndexed (record p { tables = tables; jobs = jobs })
-changed_indexed p tables jobs c h sorted fit t j =
+-- the changes of a commit, in the tables, in their charge and in the marked jobs
+pub changed_indexed : (p : MonitorParts) (tables : TableRows) (charge : ℕ) (jobs : List QueuedJob) (c : Changes) → IsIndexed p → IsSortedTables p.tables → AreChanges c.items
+    → tables ≡ changed p.tables c → charge ≡ total_charge p.generation.limits.blksize (durable p.generation (changed p.tables c)) → jobs ≡ queue_after_all (active_of p.active) c.items p.jobs
+    → IsIndexed (record p { tables = tables; charge = charge; jobs = jobs })
+changed_indexed p tables charge jobs c h sorted fit t e j =
     record {
       owned = h.owned;
       ready = h.ready;
@@ -166,4 +171,5 @@ changed_indexed p tables jobs c h sorted fit t j =
           j ∙ ap (queue_after_all (active_of p.active) c.items) h.jobs
           ∙ queue_after_all_there (active_of p.active) c.items (record p.tables { clock = c.clock; next_job = c.next_job }) (numbers_apart p.tables c.clock c.next_job sorted) fit.fit
           ∙ ap (λ (u : TableRows). queue_of (active_of p.active) u.jobs) (sym t);
+      charge = e ∙ ap (λ (u : TableRows). total_charge p.generation.limits.blksize (durable p.generation u)) (sym t);
     }

@@ -10,7 +10,7 @@ use Rattle.kdcs_types.specs.declared.key.ServiceId.TheVariants.{Dialogue, Asynch
 use Rattle.kdcs_types.specs.declared.service.Job.{Job}
 use Rattle.kdcs_types.specs.Keys.{id_cmp}
 use Rattle.async_queue.specs.declared.queue.QueuedJob.{QueuedJob}
-use Rattle.async_queue.specs.Queue.{with_job, with_mark, without_job}
+use Rattle.async_queue.specs.Queue.{untaken, with_job, with_mark, without_job}
 use Rattle.abstract_monitor.specs.Locks.{Active}
 
 -- the job of an asynchronous service has this mark
@@ -30,7 +30,7 @@ is_open_job active number = is_some (find id_cmp (Asynchronous number) active)
 
 -- the job is in its place, with its mark
 abbrev pub with_marked : Active → Job → List QueuedJob → List QueuedJob
-with_marked active job queue = marked_if (is_open_job active job.number) job.number (with_job job (without_job job.number queue))
+with_marked active job queue = marked_if (is_open_job active job.number) job.number (with_job (untaken job) (without_job job.number queue))
 
 -- what a change of the tables does to the marked jobs
 abbrev pub queue_after : Active → Change → List QueuedJob → List QueuedJob

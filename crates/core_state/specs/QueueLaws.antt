@@ -24,7 +24,7 @@ use Rattle.kdcs_types.specs.Tables.{TableRows, IsSortedTables, change_fits, job_
 use Rattle.async_queue.specs.declared.queue.QueuedJob.{QueuedJob}
 use Rattle.async_queue.specs.MarksLaws.{put_back_of, take_of, without_of}
 use Rattle.async_queue.specs.Marks.{queue_of, queued_in}
-use Rattle.async_queue.specs.Queue.{has_number, lesser_count, queued_at, untaken, with_job, with_mark, without_job}
+use Rattle.async_queue.specs.Queue.{has_number, lesser_count, queued_at, untaken, with_job, with_mark, with_taken, without_job}
 use Rattle.abstract_monitor.specs.Locks.{Active}
 use Rattle.abstract_monitor.specs.Picks.{is_free}
 use Rattle.abstract_monitor.specs.State.{OpenTransaction}
@@ -35,7 +35,7 @@ use Rattle.core_state.specs.Queue.{marked_for, marked_if, is_open_job, with_mark
 
 same_queue : (active after : Active) → ((job : Job) → is_free active job ≡ is_free after job) → (jobs : List Job) → queue_of active jobs ≡ queue_of after jobs
 same_queue active after h [] = refl
-same_queue active after h (job ∷ jobs) = λ i. record { job = job; taken = not (h job i) } ∷ same_queue active after h jobs i
+same_queue active after h (job ∷ jobs) = λ i. with_taken (not (h job i)) (untaken job) ∷ same_queue active after h jobs i
 
 free_by : (active after : Active) (job : Job) → find id_cmp (Asynchronous job.number) after ≡ find id_cmp (Asynchronous job.number) active → is_free active job ≡ is_free after job
 free_by active after job e = ap (λ (o : Option OpenTransaction). not (is_some o)) (sym e)
@@ -116,18 +116,18 @@ marked_first : (active : Active) (job : Job) (jobs : List Job) → IsAbove job.n
     → marked_if b job.number (untaken job ∷ queue_of active jobs) ≡ queue_of active (job ∷ jobs)
 marked_first active job jobs h true e =
     (λ i. ap (λ c. cond c (record (untaken job) { taken = true }) (untaken job)) (eq-eqb job.number job.number refl) i ∷ mark_above active job.number jobs h i)
-    ∙ ap (λ (b : Bool). record { job = job; taken = not (not b) } ∷ queue_of active jobs) (sym e)
-marked_first active job jobs h false e = ap (λ (b : Bool). record { job = job; taken = not (not b) } ∷ queue_of active jobs) (sym e)
+    ∙ ap (λ (b : Bool). with_taken (not (not b)) (untaken job) ∷ queue_of active jobs) (sym e)
+marked_first active job jobs h false e = ap (λ (b : Bool). with_taken (not (not b)) (untaken job) ∷ queue_of active jobs) (sym e)
 
 -- before all others
 first_there : (active : Active) (job : Job) (jobs : List Job) → IsAbove job.number jobs
-    → marked_if (is_open_job active job.number) job.number (with_job job (queue_of active jobs)) ≡ queue_of active (job ∷ jobs)
+    → marked_if (is_open_job active job.number) job.number (with_job (untaken job) (queue_of active jobs)) ≡ queue_of active (job ∷ jobs)
 first_there active job jobs h =
     ap (λ (at : ℕ). marked_if (is_open_job active job.number) job.number (insert (queue_of active jobs) at (untaken job))) (count_above active job.number jobs h)
     ∙ marked_first active job jobs h _ refl
 
 -- after one with a lesser number
-behind : (job : Job) (q : QueuedJob) (qs : List QueuedJob) → nat_lt q.job.number job.number ≡ true → with_job job (q ∷ qs) ≡ q ∷ with_job job qs
+behind : (job : Job) (q : QueuedJob) (qs : List QueuedJob) → nat_lt q.number job.number ≡ true → with_job (untaken job) (q ∷ qs) ≡ q ∷ with_job (untaken job) qs
 behind job q qs h =
     let one : 1 + lesser_count job.number qs ≡ suc (lesser_count job.number qs) = omega arith in
     ap (λ (i : ℕ). insert (q ∷ qs) i (untaken job)) (ap (λ b. cond b (1 + lesser_count job.number qs) 0) h ∙ one)
@@ -166,7 +166,7 @@ module _ (active : Active) (job j : Job) (js : List Job) (above : IsAbove j.numb
   rest_of b = cond (not b) (queued_in active j ∷ without_job job.number (queue_of active js)) (without_job job.number (queue_of active js))
 
   abbrev marked_rest : List QueuedJob → List QueuedJob
-  marked_rest q = marked_if (is_open_job active job.number) job.number (with_job job q)
+  marked_rest q = marked_if (is_open_job active job.number) job.number (with_job (untaken job) q)
 
   set_before : nat_lt job.number j.number ≡ true → with_marked active job (queue_of active (j ∷ js)) ≡ queue_of active (with_item job_key job (j ∷ js))
   set_before lt =
@@ -193,7 +193,7 @@ module _ (active : Active) (job j : Job) (js : List Job) (above : IsAbove j.numb
       let other : (j.number == job.number) ≡ false = ne_eqb j.number job.number (λ e. omega (arith, more, e)) in
       ap (λ b. marked_rest (rest_of b)) other
       ∙ ap (marked_if (is_open_job active job.number) job.number) (behind job (queued_in active j) (without_job job.number (queue_of active js)) (lt_true j.number job.number more))
-      ∙ mark_passes (is_open_job active job.number) job.number (queued_in active j) (with_job job (without_job job.number (queue_of active js))) other
+      ∙ mark_passes (is_open_job active job.number) job.number (queued_in active j) (with_job (untaken job) (without_job job.number (queue_of active js))) other
       ∙ ap (λ (l : List QueuedJob). queued_in active j ∷ l) rest
       ∙ ap (λ r. queue_of active (placed r)) (sym (order_by job.number j.number ∙ ap (λ t. cond t Less (cond (job.number == j.number) Equal Greater)) lt ∙ ap (λ t. cond t Equal Greater) same))
 

@@ -8,6 +8,8 @@ use Rattle.kdcdef_types.specs.Generation.{Generated}
 use Rattle.area_locks.specs.Asked.{holds_area}
 use Rattle.open_transaction.specs.Transactions.{Boxed, boxed_transaction}
 use Rattle.step_scheduler.specs.Schedule.{service_in}
+use Rattle.abstract_monitor.specs.Charges.{total_charge}
+use Rattle.abstract_monitor.specs.Endings.{durable}
 use Rattle.abstract_monitor.specs.Locks.{Active, holds}
 use Rattle.abstract_monitor.specs.Picks.{Classed, class_of, current_by}
 use Rattle.abstract_monitor.specs.State.{OpenTransaction, State}
@@ -58,13 +60,14 @@ pub record IsOwned (g : Generated) (steps : ℕ) (e : ServiceId × Boxed) : Type
   pub nb : e.1.value.messages.nb ≡ g.limits.nb
   pub counted : e.1.value.statements ≤ steps
 
--- classes, locks and marks are those of the state
+-- classes, locks and marks are those of the state, and the charge is that of its durable tables
 pub record IsIndexed (p : MonitorParts) : Type 0 where
   pub owned : Each (IsOwned p.generation p.steps) p.active
   pub ready : Each (HasClass p.generation (active_of p.active)) p.scheduler.ready
   pub places : Each (PlaceHasClass p.generation (active_of p.active)) p.scheduler.places
   pub locks : (id : ServiceId) (area : Area) → holds_area p.locks id area ≡ holds (active_of p.active) id area
   pub jobs : p.jobs ≡ queue_of (active_of p.active) p.tables.jobs
+  pub charge : p.charge ≡ total_charge p.generation.limits.blksize (durable p.generation p.tables)
 
 -- generation, units and the number of steps are the same
 pub record SameApplication (p q : MonitorParts) : Type 0 where

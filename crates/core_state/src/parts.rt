@@ -6,7 +6,7 @@ use kdcdef_check::Generation;
 use kdcs_types::{ServiceId, Tables};
 use open_transaction::OpenTransaction;
 use session_table::Sessions;
-use sorted_pairs::SortedPairs;
+use sorted_pairs::OrderedMap;
 use step_scheduler::Scheduler;
 use unit_check::Units;
 
@@ -18,11 +18,13 @@ pub struct MonitorParts {
     /// How many turns and commands it has done.
     pub steps: u64,
     pub tables: Tables,
+    /// How many pages the durable rows of the tables take together.
+    pub charge: u64,
     pub sessions: Sessions,
     /// The ready list and the tasks, with the classes of the services there.
     pub scheduler: Scheduler,
     /// The open transactions by their services, each in a box, so that nothing wide is moved.
-    pub active: SortedPairs<ServiceId, Box<OpenTransaction>>,
+    pub active: OrderedMap<ServiceId, Box<OpenTransaction>>,
     /// The areas that the open transactions hold, and the requests that wait.
     pub locks: LockTable,
     /// The jobs of the tables, with marks on those that open services have taken.

@@ -1,17 +1,19 @@
 //! The tables.
 ghost use Rattle.std.specs.Prelude.{◌≡◌, OnOk};
 ghost use Rattle.kdcs_types.specs.Tables.{changed, AreChanges};
+ghost use Rattle.row_charges.specs.Pages.{FitPool};
 ghost use Rattle.core_state.specs.{Queue.{queue_after, queue_after_all, is_open_job, marked_if, with_marked}, Standing.{IsIndexed, SameApplication, active_of, state_of}};
 
 use crate::parts::MonitorParts;
 use async_queue::Jobs;
 use kd_base::OutOfMemory;
-use kdcs_types::{Change, Changes, Job, JobValue, Key, Row, ServiceId};
+use kdcs_types::{Change, Changes, JobValue, Key, Row, ServiceId};
 use open_transaction::OpenTransaction;
-use sorted_pairs::SortedPairs;
+use row_charges::charge_after;
+use sorted_pairs::OrderedMap;
 
 /// The open transactions by their services.
-type OpenTransactions = SortedPairs<ServiceId, Box<OpenTransaction>>;
+type OpenTransactions = OrderedMap<ServiceId, Box<OpenTransaction>>;
 
 // The job is taken where its service is open.
 fn mark_if_open(jobs: &mut Jobs, active: &OpenTransactions, number: u64)
@@ -32,8 +34,7 @@ fn set_job(
     ensures { OnOk result (jobs.new ≡ with_marked (active_of active.now) (record { number = number; value = value.now }) jobs.old) }
 {
     jobs.remove(number);
-    let value = value.clone()?;
-    jobs.insert(Job { number, value })?;
+    jobs.insert(number, value.to, value.due)?;
     mark_if_open(jobs, active, number);
     Ok(())
 }
@@ -71,16 +72,21 @@ fn change_all_jobs(
 
 impl MonitorParts {
     /// Makes the changes in the tables, which cost in proportion to their number, and to the rows after those that come or
-    /// go.
+    /// go. The durable rows fit into the page pool before and after them.
     pub fn change(&mut self, changes: &Changes) -> Result<(), OutOfMemory>
         requires indexed { IsIndexed self.old }
         requires changes { AreChanges changes.now.items }
+        requires before { FitPool self.old.generation self.old.tables }
+        requires after { FitPool self.old.generation (changed self.old.tables changes.now) }
         ensures indexed { OnOk result (IsIndexed self.new) }
         ensures same { OnOk result (SameApplication self.old self.new) }
         ensures state { OnOk result (state_of self.new ≡ record (state_of self.old) { tables = changed self.old.tables changes.now }) }
     {
         let _clock = self.tables.clock(); // for the proof
+        let _limits = self.generation.max(); // for the proof
+        let charge = charge_after(&self.generation, &self.tables, changes, self.charge);
         self.tables.change(changes)?;
+        self.charge = charge as u64;
         change_all_jobs(&mut self.jobs, &self.active, changes.items.as_slice())?;
         Ok(())
     }

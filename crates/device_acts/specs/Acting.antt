@@ -49,7 +49,7 @@ pub record Sent (file : List ℕ → Type 0) (acts : List Act) (a b : State) (lb
   pub sent : IsTrue a.told → b.sent ≡ a.sent ++ bytes_of acts
   pub faults : SameFaults a b
 
--- some first acts were performed, or begun: their lines were sent beyond the bytes before, and perhaps a part of the line that is next, and the bytes that were written since are at most those that these acts write
+-- the lines of some first acts were sent beyond the bytes before, and perhaps a part of the line that is next, and the bytes that were written since are at most those that these acts write
 pub record WritesUpTo (most : List Act → ℕ) (acts : List Act) (a b : State) : Type 0 where
   pub since : Bytes
   pub more : b.sent ≡ a.sent ++ since

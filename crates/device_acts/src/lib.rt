@@ -3,7 +3,7 @@
 //! It stands on kdcfile_store, which keeps each commit whole or not at all, on kd_device, and on record_codec, whose patch a
 //! commit's changes are. It knows no core and no command. To the run of a script, its contract says that at each moment what
 //! was sent and what the file stands for are a cut of the acts, that after `Ok` all of them are done, and that the bytes
-//! written are at most the bounds of the commits that were performed or begun.
+//! written are at most the bounds of the commits among some first acts whose lines were sent.
 #![tactic(auto)]
 
 mod acts;

@@ -61,7 +61,7 @@ commits_most i [] = 0
 commits_most i (Commit c ∷ acts) = changes_most i c + commits_most i acts
 commits_most i (Emit line ∷ acts) = commits_most i acts
 
--- whatever became of some steps of the core: the bytes written are at most those of their commits that were performed or begun
+-- whatever became of some steps of the core: the bytes written are at most those of the commits among some first acts, whose lines were sent
 abbrev pub StepsWrite : (fingerprint : List ℕ) → CoreValue → List ScriptStep → (a b : State) → Type 0
 StepsWrite fingerprint c steps a b = IsTrue a.told → WritesUpTo (commits_most (identity_of fingerprint c)) (acts_of steps) a b
 

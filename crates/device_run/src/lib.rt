@@ -4,7 +4,8 @@
 //! and sends lines, on record_commits, by which each commit can be stored, and on warm_start, which a RESTART asks again. To
 //! the top call, its contract says that a run that ends well sends and stores all acts of the abstract monitor's history of
 //! the script and tells how many commits are among them, that at each moment what was sent and what the file has are a
-//! cut of them, and that the bytes written are at most the bounds of the commits that were performed or begun.
+//! cut of them, and that the bytes written are at most the bounds of the commits among some first acts whose lines were
+//! sent.
 #![tactic(auto)]
 
 mod commits;

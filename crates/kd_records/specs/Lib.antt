@@ -1,4 +1,5 @@
 pub mod Identity
+pub mod InPlace
 pub mod Keys
 pub mod Contents
 pub mod Charge

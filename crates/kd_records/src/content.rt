@@ -90,8 +90,8 @@ pub struct Content {
 }
 
 impl Content {
-    /// The content that a patch makes of this one. Each change goes through the records from the front, which is
-    /// enough where contents are small and patches are few.
+    /// The content that a patch makes of this one, with copies of all records. Each change goes through them from the
+    /// front; `patch_in_place` costs what the patch changes.
     pub fn patched(&self, alloc: Global, patch: &Patch) -> Result<Content, OutOfMemory>
         ensures { IfOk result (λ x. x ≡ patched self.now patch.now) }
     {

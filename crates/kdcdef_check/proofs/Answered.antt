@@ -1,5 +1,5 @@
 -- What an answer of the check says of the statements.
-use Rattle.std.proofs.Common.{◌≡◌, ◌≢◌, ℕ, ◌<◌, ◌≤◌, refl, sym, ◌∙◌, ap, subst, arith, false, List, length, Option, Some, None, is_none}
+use Rattle.std.proofs.Common.{◌≡◌, ◌≢◌, ℕ, ◌<◌, ◌≤◌, refl, sym, ◌∙◌, ap, arith, false, List, Option, Some, None, is_none}
 use Rattle.std.specs.Prelude.{Result, Ok, Err, IfOk, IfErr, IsSome, slice_index}
 use Rattle.kd_base.specs.FirstFaultsLaws.{first_both}
 use Rattle.kd_base.specs.ToolsLaws.{ok_of, err_of}
@@ -15,11 +15,10 @@ use Rattle.kdcdef_check.specs.declared.tables.Tables.{Tables}
 use Rattle.kdcdef_check.specs.declared.tally.Tally.{Tally}
 use Rattle.kdcdef_check.specs.Soundness.{IsSound}
 use Rattle.kdcdef_check.specs.Generating.{generated, max_given, with_defaults, counts_of}
-use Rattle.kdcdef_check.specs.Faults.{Stands, line_of, number_of, AreFaultless, IsFirstFault, Gives}
-use Rattle.kdcdef_check.specs.Steps.{earlier, IsFirstOf, AmongFirst, OwnFault, OuterFault, AreFilled, AllNamed, IsTallyOf, counts_in, made_of}
+use Rattle.kdcdef_check.specs.Faults.{line_of, number_of, AreFaultless, IsFirstFault, Gives}
+use Rattle.kdcdef_check.specs.Steps.{AreFilled, AllNamed, IsTallyOf, counts_in, made_of}
 use Rattle.kdcdef_check.proofs.Counting.{program_count, tac_count, user_count, pterm_count, lterm_count, passed_statements}
 use Rattle.kdcdef_check.proofs.Faultless.{few, appliname_said}
-use Rattle.kdcdef_check.proofs.Chains.{both_passes}
 use Rattle.kdcdef_check.proofs.Exact.{made_exactly}
 use Rattle.kdcdef_check.proofs.Sound.{sound}
 
@@ -62,13 +61,7 @@ refused_for ss (Ok g) found fault e first = absurd (found.1 e first.0)
 refused_for ss (Err Memory) found fault e first = tt
 refused_for ss (Err d) found fault e first = ap (λ (x : CheckFault). err_of {A = Generated} x) (same_first ss e d first (fault (λ is. absurd cc)))
 
--- ---- the two ends of the check
-
-pub first_found : (ss : List Statement) (a b found : Option CheckFault) (e : CheckFault) → IsFirstOf (AmongFirst ss (OwnFault ss) (length ss)) a → IsFirstOf (AmongFirst ss (OuterFault ss) (length ss)) b → found ≡ earlier a b → found ≡ Some e → IsFirstFault ss e
-first_found ss a b found e p q is some = subst (IsFirstOf (Stands ss)) (sym is ∙ some) (both_passes ss a b p q)
-
-pub none_found : (ss : List Statement) (a b found : Option CheckFault) → IsFirstOf (AmongFirst ss (OwnFault ss) (length ss)) a → IsFirstOf (AmongFirst ss (OuterFault ss) (length ss)) b → found ≡ earlier a b → found ≡ None → AreFaultless ss
-none_found ss a b found p q is none = subst (IsFirstOf (Stands ss)) (sym is ∙ none) (both_passes ss a b p q)
+-- ---- what an answer is made of
 
 pub few_filled : (ss : List Statement) (t : Tally) → AreFaultless ss → IsTallyOf t ss → (kind : ℕ) → kind < 12 → slice_index t.counts kind ≤ 20000
 few_filled ss t free tally kind below = rw (tally.counts kind below) (few ss free kind)

@@ -20,13 +20,13 @@ tested_is Such [] show e h = absurd h
 tested_is Such ((test, fault) ∷ rest) show e (inl h) = subst Such (sym h.1) (show.0 h.0)
 tested_is Such ((test, fault) ∷ rest) show e (inr h) = tested_is Such rest show.1 e h
 
-own_has : (all : List Statement) (i : ℕ) (s : Statement) (e : CheckFault) → OwnFault all i s e → HasFault all (take i all) s e
+pub own_has : (all : List Statement) (i : ℕ) (s : Statement) (e : CheckFault) → OwnFault all i s e → HasFault all (take i all) s e
 own_has all i s e h = tested_is (HasFault all (take i all) s) (own_tests (generated (take i all)) (kind_count (kind_of s.said) (take i all)) s) (λ t. (refl, t), (λ t. (refl, t), (λ t. (refl, t), (λ t. (refl, t), tt)))) e h
 
-outer_has : (all : List Statement) (i : ℕ) (s : Statement) (e : CheckFault) → OuterFault all i s e → HasFault all (take i all) s e
+pub outer_has : (all : List Statement) (i : ℕ) (s : Statement) (e : CheckFault) → OuterFault all i s e → HasFault all (take i all) s e
 outer_has all i s e h = tested_is (HasFault all (take i all) s) (outer_tests all s) (λ t. (refl, t), (λ t. (refl, t), (λ t. (refl, t), (λ t. (refl, t), (λ t. (refl, t), (λ t. (refl, t), tt)))))) e h
 
-fault_tested : (all : List Statement) (i : ℕ) (s : Statement) (e : CheckFault) → HasFault all (take i all) s e → OwnFault all i s e ⊎ OuterFault all i s e
+pub fault_tested : (all : List Statement) (i : ℕ) (s : Statement) (e : CheckFault) → HasFault all (take i all) s e → OwnFault all i s e ⊎ OuterFault all i s e
 fault_tested all i s (NameTwice n) h = inl (inl (h.1, cc h.0))
 fault_tested all i s (LtermTwice n) h = inl (inr (inl (h.1, cc h.0)))
 fault_tested all i s (ClassOfWrongKind n) h = inl (inr (inr (inl (h.1, cc h.0))))

@@ -1,8 +1,7 @@
 -- Tables that were filled from the statements so far.
-use Rattle.std.proofs.Common.{◌≡◌, ◌+◌, ◌<◌, ◌||◌, ℕ, refl, sym, ◌∙◌, ap, nat_eq, bytes_eq, is_some, List, [], ◌∷◌, ◌++◌, length, take, get_or, Option, filter_map}
+use Rattle.std.proofs.Common.{◌≡◌, ◌||◌, ℕ, refl, sym, ◌∙◌, ap, nat_eq, bytes_eq, is_some, List, [], ◌∷◌, ◌++◌, Option, filter_map}
 use Rattle.std.specs.List.{cons_option, list_any}
 use Rattle.std.specs.Map.{lookup}
-use Rattle.std.proofs.lemmas.List.Elements.{All-push}
 use Rattle.std.proofs.lemmas.List.Sums.{fold-append}
 use Rattle.kdcdef_types.specs.declared.entry.PtermEntry.{PtermEntry}
 use Rattle.kdcdef_types.specs.declared.statement.Said.{Said}
@@ -10,18 +9,17 @@ use Rattle.kdcdef_types.specs.declared.statement.Said.TheVariants.{Pterm}
 use Rattle.kdcdef_types.specs.declared.statement.Statement.{Statement}
 use Rattle.kdcdef_check.specs.declared.tables.Tables.{Tables}
 use Rattle.kdcdef_check.specs.Generating.{as_program, as_tac, as_user, as_pterm, as_lterm, as_tls, as_uls, as_class, as_kset, said_as, generated}
-use Rattle.kdcdef_check.specs.Steps.{put, put_key, filled_by, lterm_said, IsAdded, AreFilled, HaveNames, IsNamed, AllNamed}
+use Rattle.kdcdef_check.specs.Steps.{put, put_key, filled_by, lterm_said, IsAdded, AreFilled, AreNamedFilled, HaveNames, HaveNamed}
 use Rattle.kdcdef_check.proofs.Names.{exact_numbers, exact_bytes, there_table_of, among_keys_table}
-use Rattle.kdcdef_check.proofs.Passing.{next_taken}
 
 pub filled_by_push : {A : Type 0} (add : Option A → List A → List A) (f : Statement → Option A) (ss : List Statement) (s : Statement) → filled_by add f (ss ++ s ∷ []) ≡ add (f s) (filled_by add f ss)
 filled_by_push {A} add f ss s = fold-append (λ (made : List A) (s : Statement). add (f s) made) [] ss (s ∷ [])
 
 -- a table, and the same with one more statement
-further : {A : Type 0} (add : Option A → List A → List A) (f : Statement → Option A) (ss : List Statement) (s : Statement) (old new : List A) → old ≡ filled_by add f ss → new ≡ add (f s) old → new ≡ filled_by add f (ss ++ s ∷ [])
+pub further : {A : Type 0} (add : Option A → List A → List A) (f : Statement → Option A) (ss : List Statement) (s : Statement) (old new : List A) → old ≡ filled_by add f ss → new ≡ add (f s) old → new ≡ filled_by add f (ss ++ s ∷ [])
 further add f ss s old new was is = is ∙ ap (add (f s)) was ∙ sym (filled_by_push add f ss s)
 
-filled_further : (ss : List Statement) (s : Statement) (old new : Tables) → AreFilled old ss → IsAdded old new s.line s.said → AreFilled new (ss ++ s ∷ [])
+pub filled_further : (ss : List Statement) (s : Statement) (old new : Tables) → AreFilled old ss → IsAdded old new s.line s.said → AreFilled new (ss ++ s ∷ [])
 filled_further ss s old new was added = record {
   programs = further (put bytes_eq) (λ (s : Statement). as_program s.line s.said) ss s _ _ was.programs added.programs;
   tacs = further (put bytes_eq) (λ (s : Statement). as_tac s.said) ss s _ _ was.tacs added.tacs;
@@ -35,14 +33,6 @@ filled_further ss s old new was added = record {
   served = further (put_key bytes_eq) (λ (s : Statement). lterm_said s.said) ss s _ _ was.served added.served;
 }
 
--- the tables of the loop, one statement further
-pub next_filled : (ss : List Statement) (i : ℕ) (s : Statement) (old new : Tables) → i < length ss → s ≡ get_or ss i s → AreFilled old (take i ss) → IsAdded old new s.line s.said → AreFilled new (take (i + 1) ss)
-next_filled ss i s old new within is was added = rw (next_taken ss i s within is) (filled_further (take i ss) s old new was added)
-
--- the statements of the loop, one further
-pub next_named : (ss : List Statement) (i : ℕ) (s : Statement) → i < length ss → s ≡ get_or ss i s → AllNamed (take i ss) → IsNamed s.said → AllNamed (take (i + 1) ss)
-next_named ss i s within is was named = rw (next_taken ss i s within is) (All-push (λ (t : Statement). IsNamed t.said) (take i ss) s was named)
-
 -- an LTERM is among those of the PTERMs
 served_so : (said : Said) (name : List ℕ) (ks : List (List ℕ)) (ps : List (List ℕ × PtermEntry)) → list_any (bytes_eq name) ks ≡ list_any (λ (p : List ℕ × PtermEntry). bytes_eq name p.1.lterm) ps → list_any (bytes_eq name) (cons_option (lterm_said said) ks) ≡ list_any (λ (p : List ℕ × PtermEntry). bytes_eq name p.1.lterm) (cons_option (as_pterm said) ps)
 served_so (Pterm n entry) name ks ps h = ap (λ b. bytes_eq name entry.lterm || b) h
@@ -51,6 +41,14 @@ served_so _ name ks ps h = h
 served_by : (ss : List Statement) (name : List ℕ) → list_any (bytes_eq name) (filter_map (λ (s : Statement). lterm_said s.said) ss) ≡ list_any (λ (p : List ℕ × PtermEntry). bytes_eq name p.1.lterm) (said_as as_pterm ss)
 served_by [] name = refl
 served_by (s ∷ ss) name = served_so s.said name (filter_map (λ (s : Statement). lterm_said s.said) ss) (said_as as_pterm ss) (served_by ss name)
+
+-- the tables that others name have the names of what the statements generate, where these filled them
+pub named_names : (t : Tables) (ss : List Statement) → AreNamedFilled t ss → HaveNamed t (generated ss)
+named_names t ss filled = record {
+  programs = λ (name : List ℕ). ap (λ (es : List (List ℕ × _)). is_some (lookup (bytes_eq name) es)) filled.programs ∙ there_table_of bytes_eq exact_bytes (λ (s : Statement). as_program s.line s.said) ss name;
+  lterms = λ (name : List ℕ). ap (λ (es : List (List ℕ × _)). is_some (lookup (bytes_eq name) es)) filled.lterms ∙ there_table_of bytes_eq exact_bytes (λ (s : Statement). as_lterm s.said) ss name;
+  ksets = λ (name : List ℕ). ap (λ (es : List (List ℕ × _)). is_some (lookup (bytes_eq name) es)) filled.ksets ∙ there_table_of bytes_eq exact_bytes (λ (s : Statement). as_kset s.said) ss name;
+}
 
 -- the tables that the statements filled have the names of what these generate
 pub filled_names : (t : Tables) (ss : List Statement) → AreFilled t ss → HaveNames t (generated ss)

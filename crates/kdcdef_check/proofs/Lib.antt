@@ -13,3 +13,6 @@ pub mod Apart
 pub mod Sound
 pub mod Answered
 pub mod PassedOperands
+pub mod Fronts
+pub mod Gathering
+pub mod FirstGathered

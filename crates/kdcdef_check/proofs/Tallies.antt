@@ -1,10 +1,10 @@
 -- How many statements there are of each kind, one statement further.
-use Rattle.std.proofs.Common.{◌≡◌, ◌⊎◌, ℕ, ◌+◌, ◌<◌, ◌≤◌, ◌==◌, sym, ◌∙◌, ap, inl, inr, arith, Bool, true, false, List, length, take, get_or, set}
+use Rattle.std.proofs.Common.{◌≡◌, ◌⊎◌, ℕ, ◌+◌, ◌<◌, ◌==◌, sym, ◌∙◌, ap, inl, inr, arith, Bool, true, false, List, length, take, get_or, set}
 use Rattle.std.specs.Prelude.{slice_index}
 use Rattle.std.proofs.lemmas.Bool.Decides.{eqb_tells}
-use Rattle.std.proofs.lemmas.List.{get_or-set_other, length-set, length-take}
+use Rattle.std.proofs.lemmas.List.{get_or-set_other, length-set}
 use Rattle.std.proofs.lemmas.Grind.{get_or-set_at}
-use Rattle.std.proofs.lemmas.List.Sums.{count_by_more_yes, count_by_more_no, count_by-le-length}
+use Rattle.std.proofs.lemmas.List.Sums.{count_by_more_yes, count_by_more_no}
 use Rattle.kdcdef_types.specs.declared.statement.Said.{Said}
 use Rattle.kdcdef_types.specs.declared.statement.Said.TheVariants.{Passed}
 use Rattle.kdcdef_types.specs.declared.statement.Statement.{Statement}
@@ -15,11 +15,6 @@ use Rattle.kdcdef_check.specs.Steps.{IsTallyOf}
 pub kind_within : (said : Said) → kind_of said < 12
 kind_within Passed = omega arith
 kind_within said = omega arith
-
--- the count of a kind can be one more
-pub count_within : (ss : List Statement) (i : ℕ) (t : Tally) (kind : ℕ) → i < length ss → kind < 12 → IsTallyOf t (take i ss) → slice_index t.counts kind ≤ i
-count_within ss i t kind within below tally =
-    rw (tally.counts kind below) (omega (arith, count_by-le-length (λ (s : Statement). kind_of s.said == kind) (take i ss), length-take i ss))
 
 pub next_tally : (ss : List Statement) (i : ℕ) (s : Statement) (old new : Tally) (k : ℕ) → i < length ss → s ≡ get_or ss i s → k ≡ kind_of s.said → k < 12 → IsTallyOf old (take i ss) → new.counts ≡ set old.counts k (slice_index old.counts k + 1) → IsTallyOf new (take (i + 1) ss)
 next_tally ss i s old new k within is kind_is small was added = record {

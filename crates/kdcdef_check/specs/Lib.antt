@@ -3,3 +3,5 @@ pub mod Tables
 pub mod Generating
 pub mod Faults
 pub mod Steps
+pub mod Gathering
+pub mod EndsLaws

@@ -150,6 +150,18 @@ pub record HaveNames (t : Tables) (g : Generated) : Type 0 where
   pub ksets : (name : List ℕ) → is_some (entry_of t.ksets.entries name) ≡ is_some (entry_of g.ksets name)
   pub served : (name : List ℕ) → list_any (bytes_eq name) t.served.keys ≡ list_any (λ (p : List ℕ × PtermEntry). bytes_eq name p.1.lterm) g.pterms
 
+-- the tables that other statements name have the names of a generation
+pub record HaveNamed (t : Tables) (g : Generated) : Type 0 where
+  pub programs : (name : List ℕ) → is_some (entry_of t.programs.entries name) ≡ is_some (entry_of g.programs name)
+  pub lterms : (name : List ℕ) → is_some (entry_of t.lterms.entries name) ≡ is_some (lterm_of g name)
+  pub ksets : (name : List ℕ) → is_some (entry_of t.ksets.entries name) ≡ is_some (entry_of g.ksets name)
+
+-- the same tables were filled from these statements
+pub record AreNamedFilled (t : Tables) (ss : List Statement) : Type 0 where
+  pub programs : t.programs.entries ≡ table_of bytes_eq (λ (s : Statement). as_program s.line s.said) ss
+  pub lterms : t.lterms.entries ≡ table_of bytes_eq (λ (s : Statement). as_lterm s.said) ss
+  pub ksets : t.ksets.entries ≡ table_of bytes_eq (λ (s : Statement). as_kset s.said) ss
+
 -- ---- counts
 
 pub record IsTallyOf (t : Tally) (ss : List Statement) : Type 0 where

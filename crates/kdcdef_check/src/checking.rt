@@ -1,12 +1,13 @@
 //! The check of the statements together.
-ghost use Rattle.std.specs.Prelude.{◌≡◌, ◌≢◌, ◌≤◌, IfOk, IfErr, Ok, Err};
-ghost use Rattle.kdcdef_types.specs.Statements.{AreRead, passed_count};
-ghost use Rattle.kdcdef_check.specs.{declared.fault.CheckFault.{CheckFault}, declared.fault.CheckFault.TheVariants.{Memory}, Generating.{generated}, Faults.{AreFaultless, IsFirstFault, Gives}};
+ghost use Rattle.std.specs.Prelude.{◌≡◌, ◌≢◌, ◌≤◌, List, IfOk, IfErr, Ok, Err};
+ghost use Rattle.kdcdef_types.specs.{Statements.{AreRead, passed_count}, declared.statement.Statement.{Statement}};
+ghost use Rattle.kdcdef_check.specs.{declared.fault.CheckFault.{CheckFault}, declared.fault.CheckFault.TheVariants.{Memory}, Generating.{generated}, Faults.{AreFaultless, IsFirstFault, Gives}, Gathering.{WereGathered, OfGathered}};
 
 use crate::fault::{CheckFault, earlier};
+use crate::gathered::Gathered;
 use crate::generation::Generation;
 use crate::limits::limits_of;
-use crate::passes::{fill, first_outer_fault};
+use crate::passes::first_outer_fault;
 use crate::whole::Whole;
 use kdcdef_types::{Counts, Statement};
 use std::alloc::Global;
@@ -22,29 +23,28 @@ fn passed_operands(statements: &[Statement]) -> u32
     count
 }
 
-/// The generation of these statements, or their first fault.
-pub fn check(alloc: Global, statements: &Vec<Statement>) -> Result<Generation, CheckFault>
-    requires { AreRead statements.now.items }
+/// The generation of the statements that were gathered, or their first fault.
+pub fn check(alloc: Global, gathered: Gathered) -> Result<Generation, CheckFault>
+    requires { (ss : List Statement) × WereGathered gathered ss × AreRead ss }
     // A generation is that of the statements, and there is no fault.
-    ensures found { IfOk result (λ g. (g ≡ generated statements.now.items) × AreFaultless statements.now.items) }
+    ensures found { OfGathered gathered (λ ss. AreRead ss → IfOk result (λ g. (g ≡ generated ss) × AreFaultless ss)) }
     // The fault that is answered is there, and comes first.
-    ensures fault { IfErr result (λ e. e ≢ Memory → IsFirstFault statements.now.items e) }
+    ensures fault { OfGathered gathered (λ ss. AreRead ss → IfErr result (λ e. e ≢ Memory → IsFirstFault ss e)) }
     // Statements with no fault make their generation, unless memory runs out.
-    ensures only { AreFaultless statements.now.items → Gives result (Ok (generated statements.now.items)) }
+    ensures only { OfGathered gathered (λ ss. AreRead ss → AreFaultless ss → Gives result (Ok (generated ss))) }
     // The first fault is answered, unless memory runs out.
-    ensures refused { (e : CheckFault) → IsFirstFault statements.now.items e → Gives result (Err e) }
+    ensures refused { OfGathered gathered (λ ss. AreRead ss → (e : CheckFault) → IsFirstFault ss e → Gives result (Err e)) }
 {
-    let statements = statements.as_slice();
-    let filled = fill(alloc, statements)?;
-    let whole = Whole::of(statements, &filled.tally);
-    let outer = first_outer_fault(&filled.tables, &whole, statements);
-    if let Some(fault) = earlier(filled.first, outer) {
+    let statements = gathered.kept.as_slice();
+    let whole = Whole::of(statements, &gathered.tally);
+    let outer = first_outer_fault(&gathered.tables, &whole, statements);
+    if let Some(fault) = earlier(gathered.first, outer) {
         return Err(fault);
     }
-    let counts = filled.tally.counts(passed_operands(statements));
+    let counts = gathered.tally.counts(passed_operands(statements));
     let generation = Generation::of(
         alloc,
-        Box::into_inner(filled.tables),
+        Box::into_inner(gathered.tables),
         limits_of(&whole.max),
         counts,
     )?;

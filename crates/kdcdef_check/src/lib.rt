@@ -7,6 +7,7 @@
 
 mod checking;
 mod fault;
+mod gathered;
 mod generation;
 mod hashing;
 mod keys;
@@ -19,6 +20,7 @@ mod whole;
 
 pub use checking::check;
 pub use fault::CheckFault;
+pub use gathered::Gathered;
 pub use generation::Generation;
 pub use hashing::NameHashing;
 pub use keys::Keys;

@@ -1,7 +1,7 @@
 //! The tables of names, filled from the statements.
 ghost use Rattle.std.specs.Prelude.{◌≡◌, [], OnOk, IfOk};
 ghost use Rattle.kdcdef_types.specs.Generation.{Generated};
-ghost use Rattle.kdcdef_check.specs.{Faults.{is_taken, shares_lterm, lacks_program, lacks_lterm, lacks_keys, lacks_kset}, Steps.{IsAdded, AreFilled, HaveNames}};
+ghost use Rattle.kdcdef_check.specs.{Faults.{is_taken, shares_lterm, lacks_program, lacks_lterm, lacks_keys, lacks_kset}, Steps.{IsAdded, AreFilled, HaveNames, HaveNamed}};
 
 use crate::hashing::NameHashing;
 use indexmap::{IndexMap, IndexSet};
@@ -137,7 +137,7 @@ impl Tables {
 
     /// Whether the statement is a TAC that names no PROGRAM.
     pub(crate) fn lacks_program(&self, said: &Said) -> bool
-        ensures { (g : Generated) → HaveNames self.now g → result ≡ lacks_program g said.now }
+        ensures { (g : Generated) → HaveNamed self.now g → result ≡ lacks_program g said.now }
     {
         match said {
             Said::Tac(_, entry) => !self.programs.contains_key(&entry.program),
@@ -147,7 +147,7 @@ impl Tables {
 
     /// Whether the statement is a PTERM that names no LTERM.
     pub(crate) fn lacks_lterm(&self, said: &Said) -> bool
-        ensures { (g : Generated) → HaveNames self.now g → result ≡ lacks_lterm g said.now }
+        ensures { (g : Generated) → HaveNamed self.now g → result ≡ lacks_lterm g said.now }
     {
         match said {
             Said::Pterm(_, entry) => !self.lterms.contains_key(&entry.lterm),
@@ -157,7 +157,7 @@ impl Tables {
 
     // Whether there is a name, and no KSET has it.
     fn lacks_keys(&self, name: &Option<Name>) -> bool
-        ensures { (g : Generated) → HaveNames self.now g → result ≡ lacks_keys g name.now }
+        ensures { (g : Generated) → HaveNamed self.now g → result ≡ lacks_keys g name.now }
     {
         match name {
             Some(name) => !self.ksets.contains_key(name),
@@ -167,7 +167,7 @@ impl Tables {
 
     /// Whether the statement is a USER or an LTERM that names no KSET.
     pub(crate) fn lacks_kset(&self, said: &Said) -> bool
-        ensures { (g : Generated) → HaveNames self.now g → result ≡ lacks_kset g said.now }
+        ensures { (g : Generated) → HaveNamed self.now g → result ≡ lacks_kset g said.now }
     {
         match said {
             Said::User(_, entry) => self.lacks_keys(&entry.kset),

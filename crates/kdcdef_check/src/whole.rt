@@ -1,7 +1,7 @@
 //! What the statements say together, and the faults that show against it.
-ghost use Rattle.std.specs.Prelude.{◌≡◌, ◌+◌, ◌≤◌, List, length, nat_lt, unwrap_or};
+ghost use Rattle.std.specs.Prelude.{◌≡◌, ◌+◌, ◌≤◌, List, length, nat_lt, unwrap_or, true};
 ghost use Rattle.kdcdef_types.specs.declared.statement.Statement.{Statement};
-ghost use Rattle.kdcdef_check.specs.{Soundness.{restart_count}, Generating.{as_user, said_as, generated}, Faults.{is_end}, Steps.{HaveNames, IsTallyOf, IsWhole, is_restart, outer_fault}};
+ghost use Rattle.kdcdef_check.specs.{Soundness.{restart_count}, Generating.{as_user, said_as, generated}, Faults.{is_end}, Steps.{HaveNamed, IsTallyOf, IsWhole, is_restart, outer_fault}};
 
 use crate::fault::CheckFault;
 use crate::limits::max_given;
@@ -71,7 +71,7 @@ impl Whole {
 
     /// The first of a statement's faults against all statements.
     pub(crate) fn fault_of(&self, tables: &Tables, statement: &Statement) -> Option<CheckFault>
-        ensures { (all : List Statement) → HaveNames tables.now (generated all) → IsWhole self.now all → result ≡ outer_fault all statement.now }
+        ensures { (all : List Statement) → HaveNamed tables.now (generated all) → (is_end statement.now.said ≡ true → IsWhole self.now all) → result ≡ outer_fault all statement.now }
     {
         let said = &statement.said;
         if tables.lacks_program(said) {

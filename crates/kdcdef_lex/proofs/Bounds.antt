@@ -1,7 +1,6 @@
 -- The statements of a text are within the bounds: each line has a byte, and each operand has one.
 use Rattle.std.proofs.Common.{◌≡◌, ℕ, zero, suc, ◌+◌, ◌-◌, ◌<◌, ◌≤◌, eqb, ltb, List, [], ◌∷◌, ◌++◌, length, take, drop, Some, None, Result, Ok, Err, sym, ap, ◌∙◌, arith, inl, inr, length-append, length-drop, length-take-le}
 use Rattle.std.specs.Prelude.{IfOk, slice_index}
-use Rattle.std.specs.Global.{Vec}
 use Rattle.std.specs.List.{position_or_len, suffix_len}
 use Rattle.std.specs.Str.Lines.{lines, strip_carriage_return}
 use Rattle.std.proofs.lemmas.Bool.{cases_Bool, ltb-false, ltb-true}
@@ -14,11 +13,11 @@ use Rattle.texts.specs.Blanks.{is_blank}
 use Rattle.kdcdef_lex.specs.Lines.{is_mark, up_to_last, continued}
 use Rattle.kdcdef_lex.specs.Grammar.{written, AreTokens, IsStatement}
 use Rattle.kdcdef_lex.specs.Spelling.{Joins, BeginsStatement, Cut, AllSay, SpellsStatements}
-use Rattle.kdcdef_lex.specs.Bounds.{LinesUpTo, operand_count, AreWithinBounds}
+use Rattle.kdcdef_lex.specs.Bounds.{LinesUpTo, LinesFrom, operand_count, AreWithinBounds}
 use Rattle.kd_base.specs.ToolsLaws.{chosen, some_is}
 use Rattle.texts.specs.LinesLaws.{is_line_feed, first_line, last_line}
 use Rattle.kdcdef_lex.proofs.Words.{starts}
-use Rattle.kdcdef_lex.proofs.Statements.{operands_fit}
+use Rattle.kdcdef_lex.proofs.Parsed.{operands_fit}
 
 -- the bytes of lines
 total : List (List ℕ) → ℕ
@@ -98,11 +97,15 @@ begun_some : (own : List (List ℕ)) → BeginsStatement own → 0 < length own
 begun_some [] h = absurd h
 begun_some (line ∷ own) h = omega arith
 
-abbrev Fit : ℕ → List (List ℕ) → List RawStatement → Type 0
-Fit last all ss = LinesUpTo last ss × (operand_count ss ≤ total all)
+abbrev Fit : ℕ → ℕ → List (List ℕ) → List RawStatement → Type 0
+Fit n last all ss = LinesUpTo last ss × (operand_count ss ≤ total all) × LinesFrom n ss
 
-say_fit : (gs : List Group) (ss : List RawStatement) (n last : ℕ) (all : List (List ℕ)) → Cut n all gs → AllSay gs ss → n + length all ≤ last + 1 → Fit last all ss
-say_fit [] [] n last all cut say bounded = (tt, omega arith)
+from_lower : (ss : List RawStatement) (a b : ℕ) → a ≤ b → LinesFrom b ss → LinesFrom a ss
+from_lower [] a b le h = tt
+from_lower (s ∷ ss) a b le h = (omega (arith, h.0), h.1)
+
+say_fit : (gs : List Group) (ss : List RawStatement) (n last : ℕ) (all : List (List ℕ)) → Cut n all gs → AllSay gs ss → n + length all ≤ last + 1 → Fit n last all ss
+say_fit [] [] n last all cut say bounded = (tt, omega arith, tt)
 say_fit [] (s ∷ ss) n last all cut say bounded = absurd say
 say_fit (g ∷ gs) [] n last all cut say bounded = absurd say
 say_fit (g ∷ gs) (s ∷ ss) n last all cut say bounded =
@@ -120,7 +123,11 @@ say_fit (g ∷ gs) (s ∷ ss) n last all cut say bounded =
       | inr k ↦ absurd (cc (sym say.0.0 ∙ k.1))
     ] in
     let operands = statement_fits s say.0.1.1 g.text say.0.1.2 say.0.1.3 in
-    ((omega (arith, say.0.2, group.first, begun_some own group.begins), deep.0), omega (arith, deep.1))
+    let behind : s.line + 1 ≤ g.last + 1 = omega (arith, say.0.2, group.first, begun_some own group.begins) in (
+      (omega (arith, say.0.2, group.first, begun_some own group.begins), deep.0),
+      omega (arith, deep.1),
+      (omega (arith, say.0.2, group.first), from_lower ss (s.line + 1) (g.last + 1) behind deep.2),
+    )
 
 up_to : (ss : List RawStatement) (a b : ℕ) → a ≤ b → LinesUpTo a ss → LinesUpTo b ss
 up_to [] a b le h = tt
@@ -131,8 +138,8 @@ are_within_bounds text ss h =
     let fit = lines_fit (length text) text (omega arith) in
     let short : length text ≤ 16777216 = h.0 in
     let all = say_fit h.1 ss 1 (length text) (lines text) h.2 h.3 (omega (arith, fit.0)) in
-    record { lines = up_to ss (length text) 16777217 (omega arith) all.0; operands = omega (arith, all.1, fit.1) }
+    record { lines = up_to ss (length text) 16777217 (omega arith) all.0; order = all.2; operands = omega (arith, all.1, fit.1) }
 
-pub found_within : (text : List ℕ) (r : Result (Vec RawStatement) LexFault) → IfOk r (λ v. SpellsStatements text v.items) → IfOk r (λ v. AreWithinBounds v.items)
-found_within text (Ok v) h = are_within_bounds text v.items h
+pub found_within : (text : List ℕ) (r : Result (List RawStatement) LexFault) → IfOk r (λ ss. SpellsStatements text ss) → IfOk r (λ ss. AreWithinBounds ss)
+found_within text (Ok ss) h = are_within_bounds text ss h
 found_within text (Err e) h = tt

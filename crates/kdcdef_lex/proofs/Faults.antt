@@ -1,7 +1,6 @@
 -- A fault that is answered is there, and one that is there is answered.
 use Rattle.std.proofs.Common.{◌≡◌, ◌≢◌, ℕ, ◌+◌, ◌-◌, ◌<◌, ◌≤◌, ◌&&◌, Bool, true, false, cond, eqb, ltb, List, [], ◌∷◌, ◌++◌, length, Option, Some, None, Result, Ok, Err, refl, sym, ap, ◌∙◌, subst, append_assoc, arith, inl, inr, ◌⊎◌, eq-eqb}
 use Rattle.std.specs.Prelude.{IfOk, IfErr}
-use Rattle.std.specs.Global.{Vec}
 use Rattle.std.specs.List.{list_all}
 use Rattle.std.specs.Str.Lines.{lines}
 use Rattle.std.proofs.lemmas.Bool.{cases_Bool, false≢true, ltb-false, ltb-true, le-ltb, lt-ltb, eqb-true}
@@ -16,13 +15,12 @@ use Rattle.kdcdef_lex.specs.Groups.{groups}
 use Rattle.kdcdef_lex.specs.Tokens.{tokens_of}
 use Rattle.kdcdef_lex.specs.Parsing.{statement_at}
 use Rattle.kdcdef_lex.specs.Reading.{is_text_byte, leaves_open, operands_fault, tokens_fault, statement_of, with_front, statements_of, read_text, Gives}
-use Rattle.kd_base.specs.FirstFaults.{items_of}
 use Rattle.kdcdef_lex.specs.Grammar.{AreTokens, IsStatement}
 use Rattle.kdcdef_lex.specs.Spelling.{Joins, JoinsOpen, BeginsStatement, IsGroup, Cut, SpellsStatements}
 use Rattle.kdcdef_lex.specs.Faults.{IsText, HasFault, FirstFault, HasTextFault}
 use Rattle.kd_base.specs.ToolsLaws.{chosen, both_true, not_both, cases_option, err_of, err_is, bind_err}
 use Rattle.kdcdef_lex.proofs.Words.{tokens_are, are_tokens}
-use Rattle.kdcdef_lex.proofs.Statements.{statement_is, is_statement}
+use Rattle.kdcdef_lex.proofs.Parsed.{statement_is, is_statement}
 use Rattle.kdcdef_lex.proofs.Spelling.{group_says, group_reads, groups_passed, groups_begun, cons_joins, say_read, read_say}
 use Rattle.kdcdef_lex.proofs.Quotes.{open_quote, quote_open}
 
@@ -288,13 +286,13 @@ stands_fault text TextTooLong h = rw (lt-ltb 16777216 (length text) h) refl
 stands_fault text Memory h = absurd (not_memory h.1 h.3)
 stands_fault text fault h = fault_read text fault h
 
-pub fault_found : (text : List ℕ) (r : Result (Vec RawStatement) LexFault) → Gives (items_of r) (read_text text) → IfErr r (λ e. e ≢ Memory → HasTextFault text e)
+pub fault_found : (text : List ℕ) (r : Result (List RawStatement) LexFault) → Gives r (read_text text) → IfErr r (λ e. e ≢ Memory → HasTextFault text e)
 fault_found text (Ok v) h = tt
 fault_found text (Err Memory) h = λ ne. absurd (ne refl)
 fault_found text (Err fault) h = λ _. fault_stands text fault h
 
-pub refused_for : (text : List ℕ) (r : Result (Vec RawStatement) LexFault) → Gives (items_of r) (read_text text) → (f : LexFault) → HasTextFault text f → Gives (items_of r) (Err f)
-refused_for text r h f stands = subst (Gives (items_of r)) (stands_fault text f stands) h
+pub refused_for : (text : List ℕ) (r : Result (List RawStatement) LexFault) → Gives r (read_text text) → (f : LexFault) → HasTextFault text f → Gives r (Err f)
+refused_for text r h f stands = subst (Gives r) (stands_fault text f stands) h
 
 pub text_stands : (text : List ℕ) (ss : List RawStatement) → read_text text ≡ Ok ss → SpellsStatements text ss
 text_stands text ss e =
@@ -308,9 +306,9 @@ text_stands text ss e =
 pub stands_text : (text : List ℕ) (ss : List RawStatement) → SpellsStatements text ss → read_text text ≡ Ok ss
 stands_text text ss h = rw (le-ltb 16777216 (length text) h.0, cut_groups h.1 1 (lines text) h.2) (say_read h.1 ss h.3)
 
-pub found_stands : (text : List ℕ) (r : Result (Vec RawStatement) LexFault) → Gives (items_of r) (read_text text) → IfOk r (λ v. SpellsStatements text v.items)
-found_stands text (Ok v) h = text_stands text v.items h
+pub found_stands : (text : List ℕ) (r : Result (List RawStatement) LexFault) → Gives r (read_text text) → IfOk r (λ ss. SpellsStatements text ss)
+found_stands text (Ok ss) h = text_stands text ss h
 found_stands text (Err e) h = tt
 
-pub only_that : (text : List ℕ) (r : Result (Vec RawStatement) LexFault) → Gives (items_of r) (read_text text) → (ss : List RawStatement) → SpellsStatements text ss → Gives (items_of r) (Ok ss)
-only_that text r h ss stands = subst (Gives (items_of r)) (stands_text text ss stands) h
+pub only_that : (text : List ℕ) (r : Result (List RawStatement) LexFault) → Gives r (read_text text) → (ss : List RawStatement) → SpellsStatements text ss → Gives r (Ok ss)
+only_that text r h ss stands = subst (Gives r) (stands_text text ss stands) h

@@ -1,9 +1,12 @@
-pub mod Onto
-pub mod Reading
+pub mod HexPairs
 pub mod Words
-pub mod Statements
+pub mod Parsed
+pub mod Following
 pub mod Spelling
 pub mod Quotes
+pub mod NextTokens
+pub mod Reading
+pub mod Keeping
 pub mod Faults
 pub mod Bounds
 pub mod Writing

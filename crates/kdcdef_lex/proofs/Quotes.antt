@@ -34,6 +34,11 @@ unfolding xor
 xor_not true b = sym (twice b)
 xor_not false b = refl
 
+xor_turned : (a b : Bool) → xor a (not b) ≡ not (xor a b)
+unfolding xor
+xor_turned true b = refl
+xor_turned false b = refl
+
 quotes_then : (xs ys : List ℕ) → odd_quotes (xs ++ ys) ≡ xor (odd_quotes xs) (odd_quotes ys)
 unfolding xor
 quotes_then [] ys = refl
@@ -152,3 +157,23 @@ by_tokens bytes (Some ts) e odd = absurd (false≢true (sym (tokens_even ts byte
 
 pub quote_open : (bytes : List ℕ) → odd_quotes bytes ≡ true → tokens_of bytes ≡ None
 quote_open bytes odd = by_tokens bytes (tokens_of bytes) refl odd
+
+-- whether the number is odd, with the quotes that were passed
+abbrev pub odd_after : Bool → List ℕ → Bool
+odd_after is_open [] = is_open
+odd_after is_open (b ∷ bytes) = odd_after (cond (is_quote b) (not is_open) is_open) bytes
+
+odd_one : (q is_open : Bool) (bytes : List ℕ) → odd_after (not is_open) bytes ≡ xor (not is_open) (odd_quotes bytes) → odd_after is_open bytes ≡ xor is_open (odd_quotes bytes)
+    → odd_after (cond q (not is_open) is_open) bytes ≡ xor is_open (cond q (not (odd_quotes bytes)) (odd_quotes bytes))
+odd_one true is_open bytes h k = h ∙ xor_not is_open (odd_quotes bytes) ∙ sym (xor_turned is_open (odd_quotes bytes))
+odd_one false is_open bytes h k = k
+
+odd_then : (is_open : Bool) (bytes : List ℕ) → odd_after is_open bytes ≡ xor is_open (odd_quotes bytes)
+unfolding xor
+odd_then true [] = refl
+odd_then false [] = refl
+odd_then is_open (b ∷ bytes) = odd_one (is_quote b) is_open bytes (odd_then (not is_open) bytes) (odd_then is_open bytes)
+
+pub odd_whole : (bytes : List ℕ) → odd_after false bytes ≡ odd_quotes bytes
+unfolding xor
+odd_whole bytes = odd_then false bytes

@@ -20,7 +20,7 @@ use Rattle.kdcdef_lex.specs.Grammar.{IsValue, IsKeyed, AreOperands, IsStatement}
 use Rattle.kdcdef_lex.specs.Spelling.{Joins, BeginsStatement, Says, AllSay}
 use Rattle.kd_base.specs.ToolsLaws.{chosen, both_true, ok_is, bind_ok}
 use Rattle.kdcdef_lex.proofs.Words.{tokens_are, are_tokens}
-use Rattle.kdcdef_lex.proofs.Statements.{statement_is, is_statement}
+use Rattle.kdcdef_lex.proofs.Parsed.{statement_is, is_statement}
 
 -- ---- a statement leaves no parenthesis open
 

@@ -22,7 +22,7 @@ use Rattle.kdcdef_lex.specs.declared.statement.RawStatement.{RawStatement}
 use Rattle.texts.specs.Blanks.{is_blank}
 use Rattle.kdcdef_lex.specs.Lines.{is_word_byte}
 use Rattle.texts.specs.Quotes.{is_quote, doubled}
-use Rattle.kdcdef_lex.specs.Parsing.{hex_digit, hex_bytes, quoted_value}
+use Rattle.kdcdef_lex.specs.QuotedValues.{hex_digit, hex_bytes, quoted_value}
 use Rattle.kdcdef_lex.specs.Reading.{is_text_byte}
 use Rattle.kdcdef_lex.specs.Grammar.{written, IsToken, Ends, AreTokens, IsItem, AreItems, IsValue, IsKeyed, AreOperands, IsStatement}
 use Rattle.kdcdef_lex.specs.Spelling.{IsGroup, Cut, Spells, AllSay}

@@ -13,7 +13,7 @@ use Rattle.kdcdef_lex.specs.declared.statement.RawStatement.{RawStatement}
 use Rattle.texts.specs.Quotes.{is_quote, doubled}
 use Rattle.texts.specs.Parts.{AreParts}
 use Rattle.kdcdef_lex.specs.Lines.{is_word_byte}
-use Rattle.kdcdef_lex.specs.Parsing.{quoted_value}
+use Rattle.kdcdef_lex.specs.QuotedValues.{quoted_value}
 
 -- ---- tokens as bytes
 

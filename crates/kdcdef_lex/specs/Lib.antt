@@ -1,7 +1,9 @@
 pub mod Lines
 pub mod Groups
 pub mod Tokens
+pub mod QuotedValues
 pub mod Parsing
+pub mod Kept
 pub mod Reading
 pub mod Grammar
 pub mod Spelling

@@ -56,5 +56,9 @@ abbrev pub statements_of : List Group → Result (List RawStatement) LexFault
 statements_of [] = Ok []
 statements_of (g ∷ gs) = statement_of g >>= λ statement. with_front (statement ∷ []) (statements_of gs)
 
+-- what is read of the lines from number n on
+abbrev pub read_from : ℕ → List ℕ → Result (List RawStatement) LexFault
+read_from n text = statements_of (groups None n (lines text))
+
 abbrev pub read_text : List ℕ → Result (List RawStatement) LexFault
-read_text text = if nat_lt longest_text (length text) then Err TextTooLong else statements_of (groups None 1 (lines text))
+read_text text = if nat_lt longest_text (length text) then Err TextTooLong else read_from 1 text

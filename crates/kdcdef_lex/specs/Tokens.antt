@@ -1,5 +1,5 @@
 -- The tokens of a statement.
-use Rattle.std.specs.Prelude.{ℕ, ◌==◌, List, drop, Option, Some, None, if◌then◌else◌, slice_index}
+use Rattle.std.specs.Prelude.{ℕ, ◌==◌, List, [], drop, Option, Some, None, if◌then◌else◌, slice_index, unwrap_or}
 use Rattle.kd_base.specs.Fronts.{begins}
 use Rattle.std.specs.Option.{option_map}
 use Rattle.std.specs.List.{prefix_len, take_while}
@@ -34,3 +34,6 @@ token_at bytes = marked (mark_of (slice_index bytes 0)) bytes
 -- the tokens of bytes; None where a quote has no end
 abbrev pub tokens_of : List ℕ → Option (List Token)
 tokens_of bytes = parts_of token_at bytes
+
+abbrev pub tokens_in : List ℕ → List Token
+tokens_in bytes = unwrap_or (tokens_of bytes) []

@@ -1,8 +1,8 @@
 //! Groups: the lines of one statement, joined where they are continued.
-ghost use Rattle.std.specs.{Prelude.{◌≡◌, ◌+◌, ◌-◌, ◌<◌, ◌≤◌, ◌^◌, ◌∷◌, false, length, IfOk, None}, Str.Lines.{lines}};
+ghost use Rattle.std.specs.{Prelude.{◌≡◌, ◌+◌, ◌-◌, ◌<◌, ◌≤◌, ◌^◌, ◌∷◌, [], false, length, IfOk, IfSome, MatchOption, None}, Str.Lines.{lines}};
 ghost use Rattle.kdcdef_lex.specs.{Lines.{is_passed, continued}, Groups.{groups}};
 
-use crate::line::continued;
+use crate::line::{continued, is_passed};
 use kd_base::{Bytes, OutOfMemory};
 use std::alloc::Global;
 use texts::next_line;
@@ -18,7 +18,7 @@ pub(crate) struct Group {
 }
 
 // The lines that belong to a statement which begins at this line, and the text after them.
-pub(crate) fn group_of<'a>(
+fn group_of<'a>(
     alloc: Global,
     number: u32,
     mut line: &'a [u8],
@@ -60,4 +60,42 @@ pub(crate) fn group_of<'a>(
         },
         rest,
     ))
+}
+
+// The first line that is neither empty nor a comment: its number, itself, and the text after it.
+fn begun(number: u32, text: &[u8]) -> Option<(u32, &[u8], &[u8])>
+    requires bounded { number + length text.now < 2 ^ 32 }
+    ensures groups { MatchOption result (groups None number (lines text.now) ≡ []) (λ found. groups None number (lines text.now) ≡ groups None found.0 (found.1.now ∷ lines found.2.now)) }
+    ensures begins { IfSome result (λ found. is_passed found.1.now ≡ false) }
+    ensures bounded { IfSome result (λ found. found.0 + length found.2.now < number + length text.now) }
+    ensures shorter { IfSome result (λ found. length found.2.now < length text.now) }
+{
+    let mut number = number;
+    let mut rest = text;
+    while !rest.is_empty() {
+        let (line, after) = next_line(rest);
+        if !is_passed(line) {
+            return Some((number, line, after));
+        }
+        number += 1;
+        rest = after;
+    }
+    None
+}
+
+/// The lines of the next statement, and the text after them.
+pub(crate) fn next_group(
+    alloc: Global,
+    number: u32,
+    text: &[u8],
+) -> Result<Option<(Group, &[u8])>, OutOfMemory>
+    requires bounded { number + length text.now < 2 ^ 32 }
+    ensures group { IfOk result (λ found. MatchOption found (groups None number (lines text.now) ≡ []) (λ g. groups None number (lines text.now) ≡ g.0 ∷ groups None (g.0.last + 1) (lines g.1.now))) }
+    ensures bounded { IfOk result (λ found. IfSome found (λ g. g.0.last + length g.1.now < number + length text.now)) }
+    ensures shorter { IfOk result (λ found. IfSome found (λ g. length g.1.now < length text.now)) }
+{
+    match begun(number, text) {
+        None => Ok(None),
+        Some((number, line, rest)) => Ok(Some(group_of(alloc, number, line, rest)?)),
+    }
 }

@@ -10,11 +10,18 @@ mod group;
 mod laws;
 mod line;
 mod parse;
+mod quoted;
 mod read;
 mod statement;
+mod statements;
 mod token;
+mod tokens;
+mod word;
 
 pub use fault::LexFault;
 pub use laws::{plain_text_spells, read_statements_are_spelled};
+pub use quoted::QuotedBytes;
 pub use read::lines;
 pub use statement::{Items, Operands, RawItem, RawOperand, RawStatement, RawValue};
+pub use statements::Statements;
+pub use word::Word;

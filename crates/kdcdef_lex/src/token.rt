@@ -1,18 +1,17 @@
 //! Tokens: the words, quoted values and marks of a statement, without the blanks between them.
-ghost use Rattle.std.specs.{Prelude.{◌≡◌, List, ℕ, IfOk, Option}, Option.{option_map}};
+ghost use Rattle.std.specs.{Prelude.{◌≡◌, ◌<◌, length}, Option.{option_map}};
 ghost use Rattle.kdcdef_lex.specs.Tokens.{word_at, token_at};
 
 use crate::line::split_word;
-use kd_base::{Bytes, OutOfMemory};
-use std::alloc::Global;
-use texts::{Part, quoted_at};
+use crate::word::Word;
+use texts::Quoted;
 
-/// A piece of a statement.
+/// A piece of a statement, where it stands in the text.
 #[derive(Drop)]
-pub(crate) enum Token {
-    Word(Bytes),
+pub(crate) enum Token<'a> {
+    Word(Word<'a>),
     /// What is before the quote, and the bytes between the quotes.
-    Quoted(Bytes, Bytes),
+    Quoted(Word<'a>, Quoted<'a>),
     Comma,
     Equals,
     Open,
@@ -20,31 +19,31 @@ pub(crate) enum Token {
 }
 
 // The word or the quoted value at the front, and what follows.
-fn word_of(alloc: Global, bytes: &[u8]) -> Result<Option<(Token, &[u8])>, OutOfMemory>
-    ensures { IfOk result (λ found. option_map (λ t. (t.0, t.1.now)) found ≡ word_at bytes.now) }
+fn word_of(bytes: &[u8]) -> Option<(Token<'_>, &[u8])>
+    ensures { option_map (λ t. (t.0, t.1.now)) result ≡ word_at bytes.now }
 {
     let (word, rest) = split_word(bytes);
-    let word = Bytes::from_slice(alloc, word)?;
+    let word = Word::new(word);
     match rest {
-        [b'\'', inside @ ..] => match quoted_at(alloc, inside)? {
-            None => Ok(None),
-            Some((content, after)) => Ok(Some((Token::Quoted(word, content), after))),
-        },
-        _ => Ok(Some((Token::Word(word), rest))),
+        [b'\'', inside @ ..] => {
+            let (content, after) = Quoted::at(inside)?;
+            Some((Token::Quoted(word, content), after))
+        }
+        _ => Some((Token::Word(word), rest)),
     }
 }
 
-impl Part for Token {
-    ghost part_at = { token_at };
-
-    fn at_front(alloc: Global, bytes: &[u8]) -> Result<Option<(Token, &[u8])>, OutOfMemory> {
-        let token = match bytes[0] {
-            b',' => Token::Comma,
-            b'=' => Token::Equals,
-            b'(' => Token::Open,
-            b')' => Token::Close,
-            _ => return word_of(alloc, bytes),
-        };
-        Ok(Some((token, &bytes[1..])))
-    }
+/// The token at the front of bytes that begin with no blank, and what follows; `None` where a quote has no end.
+pub(crate) fn token_of(bytes: &[u8]) -> Option<(Token<'_>, &[u8])>
+    requires { 0 < length bytes.now }
+    ensures { option_map (λ t. (t.0, t.1.now)) result ≡ token_at bytes.now }
+{
+    let token = match bytes[0] {
+        b',' => Token::Comma,
+        b'=' => Token::Equals,
+        b'(' => Token::Open,
+        b')' => Token::Close,
+        _ => return word_of(bytes),
+    };
+    Some((token, &bytes[1..]))
 }

@@ -1,5 +1,5 @@
 -- Codes that are read are one or more, each in its range; what is told to be one is one.
-use Rattle.std.proofs.Common.{◌≡◌, ℕ, ◌≤◌, Bool, true, false, List, [], ◌∷◌, length, Option, Some, None, Result, Ok, Err, refl, ap, ◌∙◌, subst, arith, leb, eqb, cond, inl, inr}
+use Rattle.std.proofs.Common.{◌≡◌, ℕ, ◌≤◌, Bool, true, false, List, [], ◌∷◌, length, Option, Some, None, Result, Ok, Err, refl, ap, ◌∙◌, subst, arith, leb, cond, inl, inr}
 use Rattle.std.specs.Prelude.{◌&&◌, is_some, codes}
 use Rattle.std.specs.List.{All, list_all}
 use Rattle.std.specs.Result.{result_ok}
@@ -7,6 +7,7 @@ use Rattle.std.proofs.lemmas.Bool.{leb-true}
 use Rattle.std.proofs.lemmas.List.Elements.{All-nil, All-cons}
 use Rattle.kd_base.specs.Text.{decimal_of}
 use Rattle.kd_base.specs.ToolsLaws.{chosen, both_true, some_is, some_of, ok_of, err_of, ok_is, bind_ok}
+use Rattle.texts.specs.Firsts.{first_of}
 use Rattle.kdcdef_lex.specs.declared.statement.RawItem.{RawItem}
 use Rattle.kdcdef_lex.specs.declared.statement.RawOperand.{RawOperand}
 use Rattle.kdcdef_lex.specs.declared.statement.RawValue.{RawValue}
@@ -124,12 +125,12 @@ not_found : (cause : Cause) (found : Option (List ℕ)) → is_some found ≡ fa
 not_found cause None h = refl
 not_found cause (Some list) h = absurd cc
 
-pub codes_fit : (items : List (Option RawItem)) → eqb (length items) 0 ≡ false → list_all is_code items ≡ true → codes_in items ≡ Ok values.Keys
+pub codes_fit : (items : List (Option RawItem)) → is_some (first_of items) ≡ true → list_all is_code items ≡ true → codes_in items ≡ Ok values.Keys
 codes_fit [] some h = absurd cc
 codes_fit (item ∷ more) some h = found_fits (codes_cause (item ∷ more)) (codes_of (item ∷ more)) (codes_there (item ∷ more) ∙ h)
 
 -- why items are not codes, where they are all numbers or not
-pub codes_refused : (items : List (Option RawItem)) (numbers : Bool) → eqb (length items) 0 ≡ false → list_all is_code items ≡ false → list_all is_number items ≡ numbers → codes_in items ≡ Err (cond numbers OutOfRange BadNumber)
+pub codes_refused : (items : List (Option RawItem)) (numbers : Bool) → is_some (first_of items) ≡ true → list_all is_code items ≡ false → list_all is_number items ≡ numbers → codes_in items ≡ Err (cond numbers OutOfRange BadNumber)
 codes_refused [] numbers some h n = absurd cc
 codes_refused (item ∷ more) numbers some h n =
     not_found (codes_cause (item ∷ more)) (codes_of (item ∷ more)) (codes_there (item ∷ more) ∙ h)

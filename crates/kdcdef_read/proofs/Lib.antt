@@ -3,9 +3,9 @@ pub mod Slots
 pub mod Filled
 pub mod Marks
 pub mod Readings
-pub mod Loops
 pub mod Fitting
 pub mod KeySets
 pub mod Ranges
 pub mod Apart
-pub mod Clauses
+pub mod Passwords
+pub mod NextStatements

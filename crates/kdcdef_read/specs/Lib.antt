@@ -12,3 +12,5 @@ pub mod Said
 pub mod Meaning
 pub mod Filling
 pub mod Steps
+pub mod Left
+pub mod Reading

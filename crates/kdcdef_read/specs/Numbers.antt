@@ -1,6 +1,7 @@
 -- Numbers that operands have as their values.
 use Rattle.std.specs.Prelude.{ℕ, ◌&&◌, nat_le, List, [], ◌∷◌, Option, Some, None, Result, Ok, Err, if◌then◌else◌}
 use Rattle.kd_base.specs.Text.{decimal_of}
+use Rattle.kdcdef_lex.specs.declared.statement.RawItem.{RawItem}
 use Rattle.kdcdef_lex.specs.declared.statement.RawItem.TheVariants as items
 use Rattle.kdcdef_lex.specs.declared.statement.RawValue.{RawValue}
 use Rattle.kdcdef_lex.specs.declared.statement.RawValue.TheVariants as raw
@@ -11,6 +12,13 @@ use Rattle.kdcdef_read.specs.declared.fault.Cause.TheVariants.{BadNumber, OutOfR
 abbrev pub or_cause : {A B : Type 0} → (A → B) → Cause → Option A → Result B Cause
 or_cause made cause None = Err cause
 or_cause made cause (Some x) = Ok (made x)
+
+-- the word that is the first item, and the items behind it
+abbrev pub first_word : List (Option RawItem) → Option (List ℕ × List (Option RawItem))
+first_word [] = None
+first_word (None ∷ more) = None
+first_word (Some (items.Word word) ∷ more) = Some (word, more)
+first_word (Some (items.Quoted bytes) ∷ more) = None
 
 -- the word, or the first item of a list where that is a word
 abbrev pub number_text : RawValue → List ℕ

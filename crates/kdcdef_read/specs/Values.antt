@@ -4,6 +4,7 @@ use Rattle.kd_base.specs.FirstFaults.{first_true}
 use Rattle.kd_base.specs.Text.{name_up_to}
 use Rattle.kd_base.specs.Tools.{◌>>=◌}
 use Rattle.kdcdef_types.specs.declared.entry.CallUse.TheVariants as calls
+use Rattle.kdcdef_lex.specs.declared.statement.RawItem.{RawItem}
 use Rattle.kdcdef_lex.specs.declared.statement.RawItem.TheVariants as items
 use Rattle.kdcdef_lex.specs.declared.statement.RawValue.{RawValue}
 use Rattle.kdcdef_lex.specs.declared.statement.RawValue.TheVariants as raw
@@ -79,6 +80,11 @@ password_in (raw.Listed is) = Err BadChoice
 -- a choice of two words, of which this profile has the first
 abbrev pub first_of : List ℕ → List ℕ → List ℕ → Result Value Cause
 first_of kept other word = if is word kept then Ok values.Accepted else (if is word other then Err NotInProfile else Err BadChoice)
+
+-- the second of two words
+abbrev pub second_word : List (Option RawItem) → Option (List ℕ)
+second_word (Some (items.Word first) ∷ Some (items.Word word) ∷ []) = Some word
+second_word _ = None
 
 -- a base, or a list of a base and a word
 abbrev pub file_in : RawValue → Result Value Cause

@@ -6,7 +6,7 @@ use crate::fault::Cause;
 use crate::value::{Value, number_between};
 use crate::words::is;
 use kd_base::{OutOfMemory, decimal_of};
-use kdcdef_lex::{RawItem, RawOperand, RawValue};
+use kdcdef_lex::{Items, Operands, RawItem, RawOperand, RawValue};
 use kdcdef_types::{Codes, KeySet};
 use std::alloc::Global;
 
@@ -44,36 +44,52 @@ fn is_code(item: &Option<RawItem>) -> bool
 }
 
 // The codes that the items are, if each is one.
-fn codes_of(alloc: Global, items: &[Option<RawItem>]) -> Result<Option<Codes>, OutOfMemory>
+fn codes_of(alloc: Global, items: &Items) -> Result<Option<Codes>, OutOfMemory>
     ensures { IfOk result (λ codes. codes ≡ codes_of items.now) }
 {
     let mut codes = Codes::new(alloc);
-    for item in items {
-        let Some(code) = code_of(item) else {
+    let mut left = items.again();
+    while let Some((item, rest)) = left.next() {
+        let Some(code) = code_of(&item) else {
             return Ok(None);
         };
         codes.push(code)?;
+        left = rest;
     }
     Ok(Some(codes))
 }
 
-fn are_numbers(items: &[Option<RawItem>]) -> bool
+fn are_numbers(items: &Items) -> bool
     ensures { result ≡ list_all is_number items.now }
 {
-    items.iter().all(|item| is_number(item))
+    let mut left = items.again();
+    while let Some((item, rest)) = left.next() {
+        if !is_number(&item) {
+            return false;
+        }
+        left = rest;
+    }
+    true
 }
 
-fn are_codes(items: &[Option<RawItem>]) -> bool
+fn are_codes(items: &Items) -> bool
     ensures { result ≡ list_all is_code items.now }
 {
-    items.iter().all(|item| is_code(item))
+    let mut left = items.again();
+    while let Some((item, rest)) = left.next() {
+        if !is_code(&item) {
+            return false;
+        }
+        left = rest;
+    }
+    true
 }
 
 // Whether the items are codes, which are not taken over here.
-fn codes_in(items: &[Option<RawItem>]) -> Result<Value, Cause>
+fn codes_in(items: &Items) -> Result<Value, Cause>
     ensures { result ≡ codes_in items.now }
 {
-    if items.is_empty() {
+    if items.next().is_none() {
         return Err(Cause::BadNumber);
     }
     if are_codes(items) {
@@ -96,7 +112,7 @@ pub(crate) fn keys_in(raw: &RawValue) -> Result<Value, Cause>
             Ok(Value::Keys)
         }
         RawValue::Quoted(_) => Err(Cause::BadNumber),
-        RawValue::Listed(items) => codes_in(items.as_slice()),
+        RawValue::Listed(items) => codes_in(items),
     }
 }
 
@@ -113,10 +129,10 @@ fn one_code(alloc: Global, raw: &RawValue) -> Result<Option<KeySet>, OutOfMemory
 }
 
 // The key set of a list of codes.
-fn listed_codes(alloc: Global, items: &[Option<RawItem>]) -> Result<Option<KeySet>, OutOfMemory>
+fn listed_codes(alloc: Global, items: &Items) -> Result<Option<KeySet>, OutOfMemory>
     ensures { IfOk result (λ set. set ≡ result_ok (listed_codes items.now)) }
 {
-    if items.is_empty() {
+    if items.next().is_none() {
         return Ok(None);
     }
     match codes_of(alloc, items)? {
@@ -133,7 +149,7 @@ fn key_set_in(alloc: Global, raw: &RawValue) -> Result<Option<KeySet>, OutOfMemo
         RawValue::Word(word) if is(word.as_slice(), "MASTER") => Ok(Some(KeySet::Master)),
         RawValue::Word(_) => one_code(alloc, raw),
         RawValue::Quoted(_) => Ok(None),
-        RawValue::Listed(items) => listed_codes(alloc, items.as_slice()),
+        RawValue::Listed(items) => listed_codes(alloc, items),
     }
 }
 
@@ -147,16 +163,15 @@ fn is_keys(operand: &RawOperand) -> bool
 }
 
 /// The key set that the operand KEYS of a statement gives.
-pub(crate) fn key_set_of(
-    alloc: Global,
-    operands: &[RawOperand],
-) -> Result<Option<KeySet>, OutOfMemory>
+pub(crate) fn key_set_of(alloc: Global, operands: &Operands) -> Result<Option<KeySet>, OutOfMemory>
     ensures { IfOk result (λ set. set ≡ key_set_of operands.now) }
 {
-    for operand in operands {
-        if is_keys(operand) {
+    let mut left = operands.again();
+    while let Some((operand, rest)) = left.next() {
+        if is_keys(&operand) {
             return key_set_in(alloc, &operand.value);
         }
+        left = rest;
     }
     Ok(None)
 }

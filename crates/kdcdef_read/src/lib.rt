@@ -17,4 +17,4 @@ mod value;
 mod words;
 
 pub use fault::ReadFault;
-pub use reading::read;
+pub use reading::{Reader, read};

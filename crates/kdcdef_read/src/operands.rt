@@ -6,7 +6,7 @@ use crate::fault::Cause;
 use crate::rows::{Row, row_of};
 use crate::value::{Value, value_of};
 use crate::words::{KEYS, Key, Keyword, key_of, place_of};
-use kdcdef_lex::RawOperand;
+use kdcdef_lex::{Operands, RawOperand};
 
 /// For each key, whether an operand with it was given.
 pub(crate) type Taken = [bool; KEYS];
@@ -72,7 +72,7 @@ fn add_operand(
 pub(crate) fn read_operands(
     keyword: Keyword,
     taken: Taken,
-    operands: &[RawOperand],
+    operands: &Operands,
 ) -> Result<Given, Cause>
     requires { length operands.now ≤ 16777216 }
     ensures { result ≡ read_operands keyword taken operands.now }
@@ -83,9 +83,11 @@ pub(crate) fn read_operands(
         passed: 0,
     };
     let mut first = true;
-    for operand in operands {
-        add_operand(keyword, first, &mut given, operand)?;
+    let mut left = operands.again();
+    while let Some((operand, rest)) = left.next() {
+        add_operand(keyword, first, &mut given, &operand)?;
         first = false;
+        left = rest;
     }
     Ok(given)
 }

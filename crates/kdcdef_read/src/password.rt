@@ -2,6 +2,7 @@
 ghost use Rattle.std.specs.Prelude.{◌≡◌};
 ghost use Rattle.kdcdef_read.specs.Passwords.{password_of};
 
+use kdcdef_lex::QuotedBytes;
 use std::marker::Model;
 
 /// A password: 1 to 16 bytes. Contracts see the list of them.
@@ -42,6 +43,24 @@ impl Password {
             cells,
             used: bytes.len() as u8,
         })
+    }
+
+    /// The same from a quoted value.
+    pub fn from_quoted(bytes: &QuotedBytes) -> Option<Password>
+        ensures { result ≡ password_of bytes.now }
+    {
+        let mut cells = [b' '; 16];
+        let mut used: usize = 0;
+        let mut left = bytes.again();
+        while let Some((byte, rest)) = left.next() {
+            if used == 16 {
+                return None;
+            }
+            cells[used] = byte;
+            used += 1;
+            left = rest;
+        }
+        Password::from_bytes(&cells[..used])
     }
 
     /// The bytes of the password.

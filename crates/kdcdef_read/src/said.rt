@@ -10,7 +10,7 @@ use crate::rows::row_of;
 use crate::value::Value;
 use crate::words::{Key, Keyword, place_of};
 use kd_base::{Bytes, Name, OutOfMemory, ProgName};
-use kdcdef_lex::RawOperand;
+use kdcdef_lex::Operands;
 use kdcdef_types::{CallUse, LtermEntry, MaxOperands, PtermEntry, Said, TacEntry, UserEntry};
 use std::alloc::Global;
 
@@ -256,11 +256,7 @@ fn class_said(given: &Given) -> Option<Said>
     Some(Said::TacClass(class, tasks))
 }
 
-fn kset_said(
-    alloc: Global,
-    given: &Given,
-    operands: &[RawOperand],
-) -> Result<Option<Said>, OutOfMemory>
+fn kset_said(alloc: Global, given: &Given, operands: &Operands) -> Result<Option<Said>, OutOfMemory>
     ensures { IfOk result (λ said. said ≡ kset_said (answers keywords.Kset given.now.slots) (key_set_of operands.now)) }
 {
     let Some(name) = name_at(&answer(Keyword::Kset, given, Key::First)) else {
@@ -277,7 +273,7 @@ pub(crate) fn said_of(
     alloc: Global,
     keyword: Keyword,
     given: &Given,
-    operands: &[RawOperand],
+    operands: &Operands,
 ) -> Result<Option<Said>, OutOfMemory>
     ensures { IfOk result (λ said. said ≡ said_of keyword (answers keyword given.now.slots) (key_set_of operands.now)) }
 {

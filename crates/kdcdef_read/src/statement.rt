@@ -30,7 +30,7 @@ fn said_by(
 ) -> Result<Statement, ReadFault>
     ensures { Gives result (said_by keyword raw.now.line raw.now.operands given.now) }
 {
-    match said_of(alloc, keyword, given, raw.operands.as_slice())? {
+    match said_of(alloc, keyword, given, &raw.operands)? {
         Some(said) => Ok(Statement {
             line: raw.line,
             passed: given.passed,
@@ -75,7 +75,7 @@ fn kept_by(
     ensures { Gives result (kept_by keyword taken raw.now) }
 {
     let before = for_max(keyword, taken, [false; KEYS]);
-    match read_operands(keyword, before, raw.operands.as_slice()) {
+    match read_operands(keyword, before, &raw.operands) {
         Ok(given) => given_by(alloc, keyword, taken, raw, &given),
         Err(cause) => Err(at_line(raw.line, cause)),
     }
@@ -105,7 +105,7 @@ fn statement_by(
             ))
         }
         Some(Form::End) => {
-            let passed = raw.operands.as_slice().len() as u32;
+            let passed = raw.operands.count();
             let said = Said::End;
             Ok((Statement { line, passed, said }, taken))
         }

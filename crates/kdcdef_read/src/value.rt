@@ -1,7 +1,7 @@
 //! The value of an operand, by the kind of its row.
 ghost use Rattle.std.specs.Prelude.{◌≡◌};
-ghost use Rattle.kdcdef_read.specs.Numbers.{number_text, number_between};
-ghost use Rattle.kdcdef_read.specs.Values.{number_in, class_in, redelivery_in, time_in, flag_of, call_of, blksize_of, choice_of, one_of, written_name, password_in, first_of, file_in, mode_in, value_of};
+ghost use Rattle.kdcdef_read.specs.Numbers.{first_word, number_text, number_between};
+ghost use Rattle.kdcdef_read.specs.Values.{number_in, class_in, redelivery_in, time_in, flag_of, call_of, blksize_of, choice_of, one_of, written_name, password_in, first_of, second_word, file_in, mode_in, value_of};
 
 use crate::fault::Cause;
 use crate::key_set::keys_in;
@@ -9,7 +9,7 @@ use crate::password::Password;
 use crate::rows::{Choice, Kind};
 use crate::words::is;
 use kd_base::{Name, NameOf, ProgName, decimal_of};
-use kdcdef_lex::{RawItem, RawValue};
+use kdcdef_lex::{Items, RawItem, RawValue, Word};
 use kdcdef_types::CallUse;
 
 /// What an operand says.
@@ -34,15 +34,26 @@ pub enum Value {
     Keys,
 }
 
+// The word that is the first item, and the items behind it.
+fn first_word<'a>(items: &Items<'a>) -> Option<(Word<'a>, Items<'a>)>
+    ensures { result ≡ first_word items.now }
+{
+    let (item, rest) = items.next()?;
+    match item {
+        Some(RawItem::Word(word)) => Some((word, rest)),
+        _ => None,
+    }
+}
+
 // The digits of a number: a word, or the word that is a list's first item.
-fn number_text(raw: &RawValue) -> &[u8]
+fn number_text<'a>(raw: &RawValue<'a>) -> &'a [u8]
     ensures { result.now ≡ number_text raw.now }
 {
     match raw {
         RawValue::Word(word) => word.as_slice(),
-        RawValue::Listed(items) => match items.as_slice() {
-            [Some(RawItem::Word(word)), ..] => word.as_slice(),
-            _ => &[],
+        RawValue::Listed(items) => match first_word(items) {
+            Some((word, _)) => word.as_slice(),
+            None => &[],
         },
         RawValue::Quoted(_) => &[],
     }
@@ -177,12 +188,14 @@ fn password_in(raw: &RawValue) -> Result<Value, Cause>
     ensures { result ≡ password_in raw.now }
 {
     match raw {
-        RawValue::Word(bytes) | RawValue::Quoted(bytes) => {
-            match Password::from_bytes(bytes.as_slice()) {
-                Some(password) => Ok(Value::Password(password)),
-                None => Err(Cause::OutOfRange),
-            }
-        }
+        RawValue::Word(word) => match Password::from_bytes(word.as_slice()) {
+            Some(password) => Ok(Value::Password(password)),
+            None => Err(Cause::OutOfRange),
+        },
+        RawValue::Quoted(bytes) => match Password::from_quoted(bytes) {
+            Some(password) => Ok(Value::Password(password)),
+            None => Err(Cause::OutOfRange),
+        },
         RawValue::Listed(_) => Err(Cause::BadChoice),
     }
 }
@@ -200,19 +213,27 @@ fn first_of(kept: &str, other: &str, word: &[u8]) -> Result<Value, Cause>
     }
 }
 
+// The second of two words, if the items are two.
+fn second_word<'a>(items: &Items<'a>) -> Option<Word<'a>>
+    ensures { result ≡ second_word items.now }
+{
+    let (_, rest) = first_word(items)?;
+    let (word, rest) = first_word(&rest)?;
+    if rest.next().is_some() {
+        return None;
+    }
+    Some(word)
+}
+
 fn file_in(raw: &RawValue) -> Result<Value, Cause>
     ensures { result ≡ file_in raw.now }
 {
     match raw {
         RawValue::Word(_) => Ok(Value::Accepted),
         RawValue::Quoted(_) => Err(Cause::BadChoice),
-        RawValue::Listed(items) => match items.as_slice() {
-            [Some(RawItem::Word(_)), Some(RawItem::Word(word))] => first_of(
-                "SINGLE",
-                "DOUBLE",
-                word.as_slice(),
-            ),
-            _ => Err(Cause::BadChoice),
+        RawValue::Listed(items) => match second_word(items) {
+            Some(word) => first_of("SINGLE", "DOUBLE", word.as_slice()),
+            None => Err(Cause::BadChoice),
         },
     }
 }

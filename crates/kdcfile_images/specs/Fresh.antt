@@ -34,9 +34,9 @@ abbrev pub fresh_file : Identity → List ℕ
 fresh_file i =
     in_part (head i) ++ in_part (root i fresh (fresh_layout i).directory) ++ in_part (root i fresh (fresh_layout i).directory) ++ zeros (directory_pages i.blksize i.pages * i.blksize)
 
--- what is after the gate, with this root, so many zero bytes after the head, and so many of pages
-abbrev pub after_gate : (blksize : ℕ) → (root : List ℕ) → (gap rest : ℕ) → List ℕ
-after_gate blksize root gap rest = (codes "UTMKDCF" ++ 2 ∷ [] ++ to_be_bytes w32 blksize) ++ zeros gap ++ in_part root ++ in_part root ++ zeros rest
+-- what is after the gate and before the pages, with this root and so many zero bytes after the head
+abbrev pub after_gate : (blksize : ℕ) → (root : List ℕ) → (gap : ℕ) → List ℕ
+after_gate blksize root gap = (codes "UTMKDCF" ++ 2 ∷ [] ++ to_be_bytes w32 blksize) ++ zeros gap ++ in_part root ++ in_part root
 
 -- how many bytes it has
 abbrev pub fresh_length : Identity → ℕ

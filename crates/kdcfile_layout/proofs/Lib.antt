@@ -1,3 +1,4 @@
+pub mod PartByPart
 pub mod Several
 pub mod OneByOne
 pub mod Gates

@@ -12,6 +12,8 @@ pub mod Layout
 pub mod Pages
 pub mod PagesLaws
 pub mod PartsLaws
+pub mod Series
+pub mod SeriesLaws
 pub mod Stored
 pub mod Synced
 pub mod TestsLaws

@@ -14,6 +14,7 @@ mod laws;
 mod making;
 mod page;
 mod part;
+mod series;
 mod sizes;
 mod spell;
 mod synced;

@@ -25,18 +25,18 @@ module _ {i : Opened} {x : Content} {l : Layout} {used : List Bool} {patch : Pat
     pub apart : (h : List ℕ) → Stands (identity_of i) i.second x l h → IsApartFrom i x l writes h
     apart h stands = record { stands = stands; free = rw writes_are next.apart }
 
-    pub would_be : (h : List ℕ) → Stands (identity_of i) i.second x l h → WouldBe i writes n.root n.content (layout_in n.root n.table) h
+    pub would_be : (h : List ℕ) → Stands (identity_of i) i.second x l h → WouldBe i writes n.root n.filing.content.content (layout_in n.root n.filing.table.slots) h
     would_be h stands = rw writes_are (next.would_be h stands)
 
     pub leaves_patched : (a d : State) (la ld : ℕ → List ℕ → List ℕ → Type 0) → Stands (identity_of i) i.second x l a.holds → LeavesEither i writes n.root a d la ld → LeavesOnly a d la ld (OldOrNew (StandsFor (identity_of i)) x (patched x patch) a.sent)
     leaves_patched a d la ld stands leaves =
         subst (λ (y : Content). LeavesOnly a d la ld (Either (identity_of i) x (identity_of i) y a.sent)) next.content
-        (subst (λ (p : List ℕ). LeavesOnly a d la ld (Either (identity_of i) x (record (identity_of i) { fingerprint = p }) n.content a.sent)) print
-        (leaves x n.content l (layout_in n.root n.table) (apart a.holds stands) (would_be a.holds stands)))
+        (subst (λ (p : List ℕ). LeavesOnly a d la ld (Either (identity_of i) x (record (identity_of i) { fingerprint = p }) n.filing.content.content a.sent)) print
+        (leaves x n.filing.content.content l (layout_in n.root n.filing.table.slots) (apart a.holds stands) (would_be a.holds stands)))
 
     pub new_stands : (o : Opened) (h g : List ℕ) → o ≡ record i { root = n.root; second = not i.second } → Stands (identity_of i) i.second x l h
-        → ((y : Content) (m : Layout) → WouldBe i writes n.root y m h → Stands (renewed i n.root) (not i.second) y m g) → Stands (identity_of o) o.second n.content (layout_in o.root n.table) g
+        → ((y : Content) (m : Layout) → WouldBe i writes n.root y m h → Stands (renewed i n.root) (not i.second) y m g) → Stands (identity_of o) o.second n.filing.content.content (layout_in o.root n.filing.table.slots) g
     new_stands o h g is stands after =
         rw is
-        (subst (λ (p : ℕ). Stands (record { blksize = i.blksize; pages = p; fingerprint = n.root.fingerprint }) (not i.second) n.content (layout_in n.root n.table) g) (sym pool)
-        (after n.content (layout_in n.root n.table) (would_be h stands)))
+        (subst (λ (p : ℕ). Stands (record { blksize = i.blksize; pages = p; fingerprint = n.root.fingerprint }) (not i.second) n.filing.content.content (layout_in n.root n.filing.table.slots) g) (sym pool)
+        (after n.filing.content.content (layout_in n.root n.filing.table.slots) (would_be h stands)))

@@ -1,8 +1,9 @@
 -- What a prepared patch makes is the next content with its image.
-use Rattle.std.proofs.Common.{◌≡◌, ℕ, ◌<◌, ◌≤◌, ◌^◌, Bool, List, length, Option, refl, ap, ◌∙◌, arith}
+use Rattle.std.proofs.Common.{◌≡◌, ℕ, ◌<◌, ◌≤◌, ◌^◌, Bool, List, length, Option, refl, ap, arith}
 use Rattle.kd_records.specs.declared.content.Content.{Content}
 use Rattle.kd_records.specs.declared.content.Patch.{Patch}
 use Rattle.kd_records.specs.Contents.{patched, IsContent, IsPatch}
+use Rattle.kd_records.specs.InPlace.{Patching}
 use Rattle.kd_records.specs.Charge.{total_charge}
 use Rattle.kd_records.specs.ChargeLaws.{length_within}
 use Rattle.kd_records.specs.ContentLaws.{patch_keeps_content}
@@ -17,25 +18,25 @@ use Rattle.kdcfile_store.specs.declared.next.Next.{Next}
 use Rattle.kdcfile_store.specs.Next.{IsDrafted, IsNext}
 
 module _ (i : Opened) (slots : List (Option Chain)) (x : Content) (used : List Bool) (patch : Patch) (stored : IsStored (identity_of i) x (layout_in i.root slots) used) (is : IsPatch patch) (before : total_charge i.blksize x.items ≤ i.root.pgpool)
-    (after : total_charge i.blksize (patched x patch).items ≤ i.root.pgpool) (y : Content) (made : y ≡ patched x patch) where
-  pub few_records : length y.items < 2 ^ 32
+    (after : total_charge i.blksize (patched x patch).items ≤ i.root.pgpool) (p : Patching) (made : p.content ≡ patched x patch) where
+  pub few_records : length p.content.items < 2 ^ 32
   few_records = omega (arith, ap (λ (z : Content). length z.items) made, length_within i.blksize (patched x patch).items, after, stored.identity.most)
 
-  module _ (clock : y.clock < 2 ^ 64) (next_job : y.next_job < 2 ^ 64) (needed : ℕ) (plan : List ℕ) (planned : ArePlanned used needed plan) (few : length plan < 2 ^ 32) (e : Drafting) (prepared : Prepared i.blksize plan patch.items (layout_in i.root slots) e) (n : Next) (drafted : IsDrafted i y plan e n) where
-    content : IsContent y
+  module _ (needed : ℕ) (plan : List ℕ) (planned : ArePlanned used needed plan) (few : length plan < 2 ^ 32) (e : Drafting) (prepared : Prepared i.blksize plan patch.items (layout_in i.root slots) e) (n : Next) (drafted : IsDrafted i p plan e n) where
+    content : IsContent p.content
     content =
         rw made
         (patch_keeps_content i.blksize i.root.pgpool x patch stored.identity.blksize stored.identity.most stored.content is
-        (omega (arith, clock, ap (λ (z : Content). z.clock) made))
-        (omega (arith, next_job, ap (λ (z : Content). z.next_job) made))
+        (omega (arith, drafted.clock, ap (λ (z : Content). z.clock) made))
+        (omega (arith, drafted.next_job, ap (λ (z : Content). z.next_job) made))
         after)
 
-    items : y.items ≡ (patched x patch).items
+    items : p.content.items ≡ (patched x patch).items
     items = ap (λ (z : Content). z.items) made
 
     pub is_next : IsNext i x (layout_in i.root slots) used patch n
     is_next = record {
-      content = drafted.content ∙ made;
+      content = rw drafted.content made;
       root = rw (drafted.root, drafted.content) refl;
       pages = rw drafted.writes (whole_pages _ _ _ _ stored _ is.ascending before after _ _ planned _ prepared);
       few = rw drafted.writes (omega (arith, few, prepared.enough, count_pages _ _ _ _ stored _ is.ascending before after _ _ planned _ prepared));
@@ -43,9 +44,9 @@ module _ (i : Opened) (slots : List (Option Chain)) (x : Content) (used : List B
       planned = rw drafted.pages (taken_planned _ _ _ _ stored _ is.ascending before after _ _ planned _ prepared);
       distinct = rw drafted.freed (freed_once _ _ _ _ stored _ is.ascending before after _ _ planned _ prepared);
       freed = rw drafted.freed (freed_used _ _ _ _ stored _ is.ascending before after _ _ planned _ prepared);
-      stored = rw (drafted.content, drafted.root, drafted.table, drafted.pages, drafted.freed) (stored_after _ _ _ _ stored _ is.ascending before after _ _ planned _ prepared y content items);
+      stored = rw (drafted.content, drafted.root, drafted.table, drafted.pages, drafted.freed) (stored_after _ _ _ _ stored _ is.ascending before after _ _ planned _ prepared p.content content items);
       apart = rw drafted.writes (pages_free _ _ _ _ stored _ is.ascending before after _ _ planned _ prepared i.second);
       would_be = λ h stands.
           rw (drafted.content, drafted.root, drafted.table, drafted.writes)
-          (would_be _ _ _ _ stored _ is.ascending before after _ _ planned _ prepared i.second h stands y content items i.root.fingerprint stored.identity);
+          (would_be _ _ _ _ stored _ is.ascending before after _ _ planned _ prepared i.second h stands p.content content items i.root.fingerprint stored.identity);
     }

@@ -3,6 +3,7 @@ use Rattle.std.specs.Prelude.{◌≡◌, ◌≤◌, ◌<◌, ◌+◌, ◌*◌, �
 use Rattle.kd_records.specs.declared.content.Content.{Content}
 use Rattle.kd_records.specs.declared.content.Patch.{Patch}
 use Rattle.kd_records.specs.Contents.{Record, Change, patched}
+use Rattle.kd_records.specs.InPlace.{Patching}
 use Rattle.page_pool.specs.Places.{At, IsDistinct}
 use Rattle.page_pool.specs.Pools.{ArePlanned, flagged}
 use Rattle.kdcfile_layout.specs.declared.chain.Chain.{Chain}
@@ -31,10 +32,12 @@ pub record CanDraft (i : Opened) (slots : List (Option Chain)) (plan : List ℕ)
   pub room : (items : List Record) × CanPrepare i.blksize i.root.pgpool items plan changes (layout_in i.root slots)
 
 -- the parts of a draft of this content in their places
-pub record IsDrafted (i : Opened) (y : Content) (plan : List ℕ) (e : Drafting) (n : Next) : Type 0 where
-  pub content : n.content ≡ y
-  pub root : n.root ≡ root_for (identity_of i) y e.layout.directory
-  pub table : n.table ≡ e.layout.slots
+pub record IsDrafted (i : Opened) (y : Patching) (plan : List ℕ) (e : Drafting) (n : Next) : Type 0 where
+  pub content : n.filing.content ≡ y
+  pub clock : y.content.clock < 2 ^ 64
+  pub next_job : y.content.next_job < 2 ^ 64
+  pub root : n.root ≡ root_for (identity_of i) y.content e.layout.directory
+  pub table : n.filing.table ≡ record { slots = e.layout.slots; before = e.before }
   pub writes : n.writes.items ≡ e.writes
   pub pages : n.last.pages ≡ take e.taken plan
   pub freed : n.last.freed ≡ e.freed
@@ -42,14 +45,14 @@ pub record IsDrafted (i : Opened) (y : Content) (plan : List ℕ) (e : Drafting)
 -- the content that the patch makes, with its root; whole pages that the image does not name, with which the other image
 -- would be that content's; and the pages that become used and free, so that all is stored as before
 pub record IsNext (i : Opened) (x : Content) (l : Layout) (used : List Bool) (patch : Patch) (n : Next) : Type 0 where
-  pub content : n.content ≡ patched x patch
-  pub root : n.root ≡ root_for (identity_of i) n.content n.root.directory
+  pub content : n.filing.content.content ≡ patched x patch
+  pub root : n.root ≡ root_for (identity_of i) n.filing.content.content n.root.directory
   pub pages : ArePages i.blksize i.root.pgpool n.writes.items
   pub few : length n.writes.items < 2 ^ 32
   pub most : total n.writes.items ≤ i.blksize * (put_charge i.blksize patch.items + length patch.items)
   pub planned : ArePlanned used (length n.last.pages) n.last.pages
   pub distinct : IsDistinct n.last.freed
   pub freed : (m p : ℕ) → At n.last.freed m p → At used p true
-  pub stored : IsStored (identity_of i) n.content (layout_in n.root n.table) (flagged false (flagged true used n.last.pages) n.last.freed)
+  pub stored : IsStored (identity_of i) n.filing.content.content (layout_in n.root n.filing.table.slots) (flagged false (flagged true used n.last.pages) n.last.freed)
   pub apart : AllFree i.blksize i.second l n.writes.items
-  pub would_be : (h : List ℕ) → Stands (identity_of i) i.second x l h → WouldBe i n.writes.items n.root n.content (layout_in n.root n.table) h
+  pub would_be : (h : List ℕ) → Stands (identity_of i) i.second x l h → WouldBe i n.writes.items n.root n.filing.content.content (layout_in n.root n.filing.table.slots) h

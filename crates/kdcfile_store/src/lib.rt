@@ -7,6 +7,7 @@
 //! changes.
 #![tactic(auto)]
 
+mod filed;
 mod fresh;
 mod next;
 mod paged;

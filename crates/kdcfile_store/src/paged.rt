@@ -6,6 +6,7 @@ ghost use Rattle.kd_records.specs.Identity.{IsIdentity};
 ghost use Rattle.kdcfile_layout.specs.Layout.{StandsFor, IsNoImage, fresh};
 ghost use Rattle.kdcfile_store.specs.{Kept.{IsKept, write_most}, Paged.{HasFile, LeavesMade, identity_with, made_length}};
 
+use crate::filed::Filed;
 use crate::fresh::{fresh_pool, fresh_table};
 use crate::next::{Next, make_next};
 use crate::store::{Store, StoreLimits};
@@ -17,15 +18,15 @@ use page_drafts::Table;
 use page_pool::Pool;
 use std::alloc::Global;
 use std::marker::Model;
+use std::mem;
 
 /// A content in a file of pages: the selected image, the slots of its directory with their index, the pages that it
 /// uses, and the content.
 #[derive(Drop)]
 pub struct PagedStore {
     image: Image,
-    table: Table,
+    filed: Filed,
     pool: Pool,
-    content: Content,
 }
 
 impl Model for PagedStore {
@@ -34,9 +35,9 @@ impl Model for PagedStore {
 
     ghost Value = { Paged };
 
-    ghost view = { λ s. record { identity = identity_of s.image; second = s.image.second; content = s.content; layout = layout_in s.image.root s.table; used = s.pool } };
+    ghost view = { λ s. record { identity = identity_of s.image; second = s.image.second; content = s.filed.content; layout = layout_in s.image.root s.filed.table; used = s.pool } };
 
-    ghost invariant = { λ s. IsPaged (record { identity = identity_of s.image; second = s.image.second; content = s.content; layout = layout_in s.image.root s.table; used = s.pool }) };
+    ghost invariant = { λ s. IsPaged (record { identity = identity_of s.image; second = s.image.second; content = s.filed.content; layout = layout_in s.image.root s.filed.table; used = s.pool }) };
 }
 
 impl PagedStore {
@@ -73,9 +74,8 @@ impl PagedStore {
         };
         Ok(PagedStore {
             image,
-            table,
+            filed: Filed { table, content },
             pool,
-            content,
         })
     }
 
@@ -97,9 +97,11 @@ impl PagedStore {
         };
         Ok(PagedStore {
             image: loaded.image,
-            table,
+            filed: Filed {
+                table,
+                content: loaded.content,
+            },
             pool: loaded.pool,
-            content: loaded.content,
         })
     }
 
@@ -107,7 +109,7 @@ impl PagedStore {
     pub fn kept(&self) -> &Content
         ensures { result.now ≡ self.now.content }
     {
-        &self.content
+        &self.filed.content
     }
 
     /// The fingerprint that the file holds.
@@ -145,25 +147,31 @@ impl<D: Device> Store<D> for PagedStore {
     }
 
     fn commit(&mut self, alloc: Global, device: &mut D, patch: &Patch) -> Result<(), DeviceError> {
+        let filed = mem::replace(&mut self.filed, Filed::nothing(alloc));
+        let next = match make_next(alloc, &self.image, &self.pool, filed, patch) {
+            Ok(next) => next,
+            Err(filed) => {
+                self.filed = filed;
+                return Err(DeviceError::Memory);
+            }
+        };
         let Next {
-            content,
+            filing,
             root,
-            table,
             writes,
             last,
-        } = make_next(
-            alloc,
-            &self.image,
-            &self.table,
-            &self.pool,
-            &self.content,
-            patch,
-        )?;
-        commit_image(alloc, device, &mut self.image, writes.as_slice(), root)?;
-        self.table = table;
-        self.pool.settle(last);
-        self.content = content;
-        Ok(())
+        } = next;
+        match commit_image(alloc, device, &mut self.image, writes.as_slice(), root) {
+            Ok(()) => {
+                self.filed = filing.done();
+                self.pool.settle(last);
+                Ok(())
+            }
+            Err(error) => {
+                self.filed = filing.back();
+                Err(error)
+            }
+        }
     }
 
     ghost file_stands = { λ s bytes file. (s.second, s.layout, file) };

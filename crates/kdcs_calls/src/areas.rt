@@ -163,6 +163,7 @@ fn unlock_held(
     transaction: &mut OpenTransaction,
     area: Result<Area, Code>,
 ) -> Result<Called, OutOfMemory>
+    requires { HoldsJust locks.old transaction.old.id (transaction_of transaction.old) }
     ensures exact { IfOk result (λ called. (transaction_of transaction.new, called) ≡ unlocked_in outside.now.generation.now outside.now.tables.now locks.old transaction.old area) }
     ensures locks { OnOk result (locks.new ≡ released_in locks.old transaction.old.id (transaction_of transaction.old) area) }
     ensures id { transaction.new.id ≡ transaction.old.id }
@@ -171,7 +172,7 @@ fn unlock_held(
 {
     match area {
         Err(code) => Ok(replied(code)),
-        Ok(area) if !touches(transaction, &area) => Ok(replied(Code::K06)),
+        Ok(area) if !touches(locks, transaction, &area) => Ok(replied(Code::K06)),
         Ok(area) if transaction.areas.changed(&area) => Ok(replied(Code::K07)),
         Ok(area) => {
             let content = content(outside.tables, &area)?;
@@ -191,6 +192,7 @@ pub(crate) fn unlock(
     owner: Owner,
     operand: &Bytes,
 ) -> Result<Called, OutOfMemory>
+    requires { HoldsJust locks.old transaction.old.id (transaction_of transaction.old) }
     ensures exact { IfOk result (λ called. (transaction_of transaction.new, called) ≡ unlocked_by outside.now.generation.now outside.now.tables.now locks.old transaction.old owner operand.now) }
     ensures locks { OnOk result (locks.new ≡ after_release outside.now.generation.now locks.old transaction.old.id (transaction_of transaction.old) (option_map (named_by owner) (name_in_operand operand.now))) }
     ensures id { transaction.new.id ≡ transaction.old.id }

@@ -13,19 +13,22 @@ use kd_base::OutOfMemory;
 use kdcs_types::{Area, Code, Note};
 use open_transaction::OpenTransaction;
 
-/// Whether the transaction holds the area. It takes no memory.
-pub(crate) fn touches(transaction: &OpenTransaction, area: &Area) -> bool
+/// Whether the transaction holds the area, as the locks tell. It takes no memory.
+pub(crate) fn touches(locks: &LockTable, transaction: &OpenTransaction, area: &Area) -> bool
+    requires { HoldsJust locks.now transaction.now.id (transaction_of transaction.now) }
     ensures { result ≡ touches (transaction_of transaction.now) area.now }
 {
-    transaction.touched.as_slice().contains(area)
+    locks.holder(area) == Some(transaction.id)
 }
 
-// A lock that is granted is held from now on, and a refusal is noted.
+// A lock that is granted is held from now on, if it was not before, and a refusal is noted.
 fn take_answer(
     transaction: &mut OpenTransaction,
     area: &Area,
+    held: bool,
     answer: LockAnswer,
 ) -> Result<Option<Called>, OutOfMemory>
+    requires { held ≡ touches (transaction_of transaction.old) area.now }
     ensures exact { IfOk result (λ called. (go : Transaction → Performed) → after_lock called (transaction_of transaction.new) go ≡ on_answer (transaction_of transaction.old) area.now answer go) }
     ensures areas { transaction.new.areas ≡ transaction.old.areas }
     ensures id { transaction.new.id ≡ transaction.old.id }
@@ -33,7 +36,7 @@ fn take_answer(
     ensures messages { transaction.new.messages ≡ transaction.old.messages }
 {
     match answer {
-        LockAnswer::Granted if touches(transaction, area) => Ok(None),
+        LockAnswer::Granted if held => Ok(None),
         LockAnswer::Granted => {
             transaction.touched.push(*area)?;
             Ok(None)
@@ -65,7 +68,8 @@ pub(crate) fn lock(
     ensures statements { transaction.new.statements ≡ transaction.old.statements }
     ensures messages { transaction.new.messages ≡ transaction.old.messages }
 {
+    let held = touches(locks, transaction, area);
     let reswait = outside.generation.max().reswait;
     let answer = locks.ask(transaction.id, *area, outside.tables.clock(), reswait)?;
-    take_answer(transaction, area, answer)
+    take_answer(transaction, area, held, answer)
 }

@@ -393,7 +393,7 @@ point_good g t id x o r can rooted fits =
     let gone = own_job_gone g (with_areas t x.written) id x.began (areas_own g id x.began x.written t can.written own) in
     service_good g (with_drafts u x) id (row_after g id x o) (row_after_suits g id x o can (began_suits g t id x.began r rooted.began) fits) (drafts_good g u id x can gone)
 
-not_refused : (g : Generated) (t : TableRows) → refusal g t ≡ None → IsWithinLimits g t
+pub not_refused : (g : Generated) (t : TableRows) → refusal g t ≡ None → IsWithinLimits g t
 unfolding refusal
 not_refused g t h = by (nat_lt g.limits.gssbs (length t.gssbs)) refl (nat_lt last_next_job t.next_job) refl (nat_lt g.limits.pgpool (total_charge g.limits.blksize t)) refl h
   where

@@ -11,7 +11,9 @@ use Rattle.area_locks.specs.Asked.{no_locks}
 use Rattle.async_queue.specs.MarksLaws.{untaken_of}
 use Rattle.async_queue.specs.Queue.{untaken}
 use Rattle.step_scheduler.specs.Schedule.{all_free, service_in}
+use Rattle.abstract_monitor.specs.Charges.{total_charge}
 use Rattle.abstract_monitor.specs.Commands.{asynchronous_rows, started}
+use Rattle.abstract_monitor.specs.Endings.{durable}
 use Rattle.abstract_monitor.specs.Picks.{is_free}
 use Rattle.abstract_monitor.specs.State.{Application, State}
 use Rattle.core_state.specs.declared.parts.MonitorParts.{MonitorParts}
@@ -52,12 +54,15 @@ rest_state p scheduler sessions active locks =
     (λ i. state_of (record p { scheduler = scheduler i; sessions = sessions i; active = active i; locks = locks i }))
     ∙ ap (λ (l : List (Option ServiceId)). record (idle p.generation p.tables) { tasks = l }) (free_places p.generation.limits.tasks)
 
-resting : (p : MonitorParts) → IsIndexed (record p { scheduler = all_free p.generation.limits.tasks; sessions = []; active = []; locks = no_locks; jobs = map untaken p.tables.jobs })
-resting p = record { owned = tt; ready = tt; places = no_classes p.generation p.generation.limits.tasks; locks = λ id area. refl; jobs = untaken_of [] p.tables.jobs (all_free_jobs p.tables.jobs) }
+abbrev pub IsCharged : MonitorParts → Type 0
+IsCharged p = p.charge ≡ total_charge p.generation.limits.blksize (durable p.generation p.tables)
 
-pub rest_indexed : (p : MonitorParts) → p.scheduler ≡ all_free p.generation.limits.tasks → p.sessions ≡ [] → p.active ≡ [] → p.locks ≡ no_locks → p.jobs ≡ map untaken p.tables.jobs → IsIndexed p
-rest_indexed p scheduler sessions active locks jobs =
-    subst IsIndexed (sym (λ i. record p { scheduler = scheduler i; sessions = sessions i; active = active i; locks = locks i; jobs = jobs i })) (resting p)
+resting : (p : MonitorParts) → IsCharged p → IsIndexed (record p { scheduler = all_free p.generation.limits.tasks; sessions = []; active = []; locks = no_locks; jobs = map untaken p.tables.jobs })
+resting p charge = record { owned = tt; ready = tt; places = no_classes p.generation p.generation.limits.tasks; locks = λ id area. refl; jobs = untaken_of [] p.tables.jobs (all_free_jobs p.tables.jobs); charge = charge }
+
+pub rest_indexed : (p : MonitorParts) → p.scheduler ≡ all_free p.generation.limits.tasks → p.sessions ≡ [] → p.active ≡ [] → p.locks ≡ no_locks → p.jobs ≡ map untaken p.tables.jobs → IsCharged p → IsIndexed p
+rest_indexed p scheduler sessions active locks jobs charge =
+    subst IsIndexed (sym (λ i. record p { scheduler = scheduler i; sessions = sessions i; active = active i; locks = locks i; jobs = jobs i })) (resting p charge)
 
 -- ---- the whole start
 

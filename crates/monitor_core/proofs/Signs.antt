@@ -1,12 +1,13 @@
 -- Sessions that end, and what a service does.
 use Rattle.std.specs.Prelude.{◌≡◌, refl, Bool, true, false, cond, not, ◌||◌, List, [], ◌∷◌, map, filter, Option, Some, None, option_map, is_some}
-use Rattle.std.proofs.Common.{sym, ap, ◌∙◌}
+use Rattle.std.proofs.Common.{arith, sym, ap, subst, ◌∙◌}
 use Rattle.std.specs.FinMap.{find}
 use Rattle.std.specs.List.{list_any}
 use Rattle.kdcs_types.specs.declared.key.ServiceId.{ServiceId}
 use Rattle.kdcs_types.specs.declared.key.ServiceId.TheVariants.{Dialogue}
 use Rattle.kdcs_types.specs.Keys.{id_cmp, id_eq}
-use Rattle.kdcs_types.specs.Tables.{service_of}
+use Rattle.kdcs_types.specs.Tables.{TableRows, service_of}
+use Rattle.kdcdef_types.specs.Generation.{Generated}
 use Rattle.abstract_monitor.specs.declared.input_use.ServiceState.{ServiceState}
 use Rattle.abstract_monitor.specs.Bytes.{Bytes, bytes_cmp}
 use Rattle.abstract_monitor.specs.Commands.{lterm_at, no_place, rolled_tables, signed_off, use_now, user_at, user_by, withdrawn, without_session}
@@ -16,6 +17,9 @@ use Rattle.abstract_monitor.specs.Access.{denial_of}
 use Rattle.abstract_monitor.specs.Sessions.{awaits_by, in_place, is_awaiting, is_running, service_state, use_by, use_under, use_of}
 use Rattle.abstract_monitor.specs.State.{Application, Session, State}
 use Rattle.abstract_monitor.specs.Turns.{without_open}
+use Rattle.laws_of_tables.specs.EndsLaws.{sign_offs_stay_sound}
+use Rattle.laws_of_tables.specs.PointLaws.{AreSound}
+use Rattle.row_charges.specs.Pages.{FitPool}
 use Rattle.step_scheduler.specs.Schedule as schedule
 use Rattle.step_scheduler.specs.Schedule.{holds, service_in}
 use Rattle.core_state.specs.declared.parts.MonitorParts.{MonitorParts}
@@ -74,6 +78,21 @@ rests s t id e = ap (λ (u : State). is_running u id) e ∙ (λ k. not_ready id 
 module _ (app : Application) (pterm user : Bytes) (s t u v : State) (withdraws : t ≡ left_out (Dialogue user) s) (closes : u ≡ without_open t (Dialogue user)) (leaves : v ≡ without_session u pterm) where
   without : v ≡ without_session (withdrawn s (Dialogue user)) pterm
   without = leaves ∙ ap (λ (w : State). without_session w pterm) (closes ∙ ap (λ (w : State). without_open w (Dialogue user)) withdraws)
+
+  -- the rows are still there, and fit into the page pool, and so they do without one
+  module _ (sound : AreSound app.generation s.tables) (g : Generated) (same : g ≡ app.generation) where
+    same_rows : v.tables ≡ s.tables
+    same_rows = ap (λ (w : State). w.tables) without
+
+    pub still_fits : FitPool g v.tables
+    still_fits = subst (λ (k : Generated). FitPool k v.tables) (sym same) (subst (FitPool app.generation) (sym same_rows) sound.suits.charge)
+
+    pub over_fits : FitPool g (with_service v.tables (Dialogue user) None)
+    over_fits =
+        let less = (sign_offs_stay_sound app.generation s.tables user sound).charge in
+        let fit : FitPool app.generation (with_service s.tables (Dialogue user) None) = omega (arith, less, sound.suits.charge) in
+        subst (λ (k : Generated). FitPool k (with_service v.tables (Dialogue user) None)) (sym same)
+        (subst (λ (t : TableRows). FitPool app.generation (with_service t (Dialogue user) None)) (sym same_rows) fit)
 
   abbrev rolled : Bool → State
   rolled b = record (without_session (withdrawn s (Dialogue user)) pterm) { tables = rolled_tables app s.tables user b }

@@ -257,4 +257,5 @@ module _ (p : MonitorParts) (user : Bytes) (transaction : Boxed) (whole : IsWhol
             locks = subst (SameHolds locks) there_now
                 (same_holds p.locks locks (active_of p.active) its x (boxed_transaction next) open_at same_touched (same_holder p.locks locks its x just matched) whole.indexed.locks);
             jobs = whole.indexed.jobs ∙ kept_queue its (boxed_transaction next) (active_of p.active) p.tables.jobs (ap is_some open_at) ∙ ap (λ a. queue_of a p.tables.jobs) there_now;
+            charge = whole.indexed.charge;
           }

@@ -1,6 +1,6 @@
 -- The steps of TICK.
 use Rattle.std.specs.Prelude.{◌≡◌, ℕ, Bool, true, ◌+◌, ◌≤◌, List, [], ◌∷◌}
-use Rattle.std.proofs.Common.{sym, ap, subst, ◌∙◌}
+use Rattle.std.proofs.Common.{arith, sym, ap, subst, ◌∙◌}
 use Rattle.std.proofs.lemmas.Bool.{le-leb}
 use Rattle.kdcs_types.specs.declared.act.Act.{Act}
 use Rattle.kdcs_types.specs.declared.act.Act.TheVariants.{Commit, Emit}
@@ -13,10 +13,21 @@ use Rattle.abstract_monitor.specs.Lines.{tick_line}
 use Rattle.abstract_monitor.specs.State.{State}
 use Rattle.laws_of_commits.specs.CommitLaws.{tick_changes}
 use Rattle.laws_of_commits.specs.ShowsLaws.{tick_made}
+use Rattle.laws_of_tables.specs.EndsLaws.{ticks_stay_sound}
+use Rattle.laws_of_tables.specs.PointLaws.{AreSound}
+use Rattle.row_charges.specs.Pages.{FitPool}
 use Rattle.core_state.specs.declared.parts.MonitorParts.{MonitorParts}
 use Rattle.core_state.specs.Standing.{state_of}
 use Rattle.core_state.specs.Whole.{app_of}
 use Rattle.monitor_core.specs.Commanding.{Comes}
+
+-- another clock leaves the pages as they are
+pub tick_fits : (p : MonitorParts) (ticks clock : ℕ) (changes : Changes) (now : ℕ) → AreSound p.generation p.tables → now ≡ p.tables.clock → (now + ticks ≤ last_clock) × (clock ≡ now + ticks) → changes ≡ tick_changes p.tables clock
+    → FitPool p.generation (changed p.tables changes)
+tick_fits p ticks clock changes now sound is_now sum is =
+    let less = (ticks_stay_sound p.generation p.tables clock sound (subst (λ (n : ℕ). n ≤ last_clock) (sym sum.1) sum.0)).charge in
+    let fit : FitPool p.generation (record p.tables { clock = clock }) = omega (arith, less, sound.suits.charge) in
+    subst (FitPool p.generation) (sym (ap (changed p.tables) is ∙ (tick_made p.generation p.tables clock).tables)) fit
 
 -- the greatest clock is not passed
 pub tick_comes : (p : MonitorParts) (ticks clock : ℕ) (changes : Changes) (line : Bytes) (after : State) (now : ℕ) → now ≡ p.tables.clock

@@ -21,7 +21,7 @@ one_ahead p h = fewer_done p.generation p.steps p.active h.owned
 -- and the parts stay whole
 pub one_counted : (p : MonitorParts) → IsWhole p → IsWhole (record p { steps = p.steps + 1 })
 one_counted p h = record {
-  indexed = record { owned = one_more p.generation p.steps p.active h.indexed.owned; ready = h.indexed.ready; places = h.indexed.places; locks = h.indexed.locks; jobs = h.indexed.jobs };
+  indexed = record { owned = one_more p.generation p.steps p.active h.indexed.owned; ready = h.indexed.ready; places = h.indexed.places; locks = h.indexed.locks; jobs = h.indexed.jobs; charge = h.indexed.charge };
   fit = h.fit;
   application = h.application;
   facts = h.facts;

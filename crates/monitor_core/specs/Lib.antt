@@ -7,6 +7,7 @@ pub mod SteppingLaws
 pub mod StatedLaws
 pub mod WholeLaws
 pub mod Commanding
+pub mod Showing
 pub mod Counted
 pub mod CountedLaws
 pub mod Starting

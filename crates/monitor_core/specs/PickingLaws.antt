@@ -16,15 +16,15 @@ use Rattle.kdcs_types.specs.Keyed.{ascends, item_at, keyed}
 use Rattle.kdcs_types.specs.Keys.{id_eq, key_cmp, key_eq}
 use Rattle.kdcs_types.specs.KeyLaws.{key_eq_itself, key_total}
 use Rattle.kdcs_types.specs.Tables.{job_key, job_of}
-use Rattle.async_queue.specs.MarksLaws.{free_of}
-use Rattle.async_queue.specs.Queue.{free}
+use Rattle.async_queue.specs.MarksLaws.{first_due_of}
+use Rattle.async_queue.specs.Queue.{first_due, untaken}
 use Rattle.abstract_monitor.specs.declared.work.Work.{Work}
 use Rattle.abstract_monitor.specs.declared.work.Work.TheVariants as work
 use Rattle.abstract_monitor.specs.Bytes.{Bytes}
-use Rattle.abstract_monitor.specs.Picks.{Classed, classed, due_job, earlier_of, free_jobs, is_earlier, is_free, least_job, pick, pick_work, service_is_allowed, target_is_allowed}
+use Rattle.abstract_monitor.specs.Picks.{Classed, classed, due_job, earlier_of, free_jobs, is_earlier, is_free, least_job, pick, pick_by as state_pick_by, pick_work, service_is_allowed, target_is_allowed}
 use Rattle.abstract_monitor.specs.State.{Application, State}
 use Rattle.abstract_monitor.specs.Turns.{with_task}
-use Rattle.step_scheduler.specs.Schedule.{Schedule, picked, service_in, took_job, took_service}
+use Rattle.step_scheduler.specs.Schedule.{Schedule, pick_by, pick_queued, picked, picked_by, service_in, took_job, took_service}
 use Rattle.core_state.specs.declared.parts.MonitorParts.{MonitorParts}
 use Rattle.core_state.specs.ChangesLaws.{each_set, each_where, map_set, ready_without}
 use Rattle.core_state.specs.KeptLaws.{scheduled, with_schedule}
@@ -48,14 +48,29 @@ module _ (app : Application) (s : State) where
 
 -- what the parts give a free task
 abbrev pub pick_of : MonitorParts → Option Work
-pick_of p = pick_work p.generation p.scheduler.ready p.scheduler.places p.tables.clock (free p.jobs)
+pick_of p = pick_queued p.generation p.scheduler.ready p.scheduler.places p.tables.clock p.jobs
 
-free_same : (p : MonitorParts) → IsIndexed p → free p.jobs ≡ free_jobs (active_of p.active) p.tables.jobs
-free_same p h = ap free h.jobs ∙ free_of (active_of p.active) p.tables.jobs
+-- the due job of those that no open service has taken
+abbrev due_of : MonitorParts → (Target → Bool) → Option Job
+due_of p allowed = due_job p.tables.clock allowed (free_jobs (active_of p.active) p.tables.jobs)
+
+-- it is the first due one of the queue
+pub first_same : (p : MonitorParts) (allowed : Target → Bool) → IsIndexed p → first_due p.tables.clock allowed p.jobs ≡ option_map untaken (due_of p allowed)
+first_same p allowed h = ap (first_due p.tables.clock allowed) h.jobs ∙ first_due_of p.tables.clock allowed (active_of p.active) p.tables.jobs
+
+queued_pick : (o : Option Classed) (q : Option Job) → pick_by o (option_map untaken q) ≡ state_pick_by o q
+queued_pick (Some e) q = refl
+queued_pick None (Some job) = refl
+queued_pick None None = refl
 
 pub picks : (p : MonitorParts) → IsIndexed p → pick_of p ≡ pick (app_of p) (state_of p)
 unfolding pick
-picks p h = λ i. pick_work p.generation (ready_same (app_of p) (state_of p) p.scheduler.ready h.ready i) (places_same (app_of p) (state_of p) p.scheduler.places h.places i) p.tables.clock (free_same p h i)
+picks p h =
+    let allowed = target_is_allowed p.generation p.scheduler.places in
+    let ready = find_first (service_is_allowed p.generation p.scheduler.places) p.scheduler.ready in
+    ap (pick_by ready) (first_same p allowed h)
+    ∙ queued_pick ready (due_of p allowed)
+    ∙ (λ i. pick_work p.generation (ready_same (app_of p) (state_of p) p.scheduler.ready h.ready i) (places_same (app_of p) (state_of p) p.scheduler.places h.places i) p.tables.clock (free_jobs (active_of p.active) p.tables.jobs))
 
 -- ---- a job that is picked
 
@@ -142,20 +157,23 @@ first_each {X} P test (y ∷ ys) x h is = by (test y) is (first_each P test ys x
 abbrev pub Picked : MonitorParts → (task : ℕ) → Schedule → Option Work → Type 0
 Picked p task schedule None = schedule ≡ p.scheduler
 Picked p task schedule (Some (work.Service id)) = (class : ℕ) × HasClass p.generation (active_of p.active) (id, class) × (schedule ≡ took_service task (id, class) p.scheduler)
-Picked p task schedule (Some (work.Job number)) = (j : Job) × (number ≡ j.number) × IsTakeable p.generation (state_of p) j × (schedule ≡ took_job p.generation task j p.scheduler)
+Picked p task schedule (Some (work.Job number)) = (j : Job) × (number ≡ j.number) × IsTakeable p.generation (state_of p) j × (schedule ≡ took_job p.generation task (untaken j) p.scheduler)
 
-pub picked_so : (p : MonitorParts) (task : ℕ) (schedule : Schedule) → IsIndexed p → IsTrue (ascends job_key p.tables.jobs) → schedule ≡ picked p.generation task p.tables.clock (free p.jobs) p.scheduler
+pub picked_so : (p : MonitorParts) (task : ℕ) (schedule : Schedule) → IsIndexed p → IsTrue (ascends job_key p.tables.jobs) → schedule ≡ picked p.generation task p.tables.clock p.jobs p.scheduler
     → Picked p task schedule (pick_of p)
-picked_so p task schedule h up is = by (find_first allowed p.scheduler.ready) refl (due_job p.tables.clock (target_is_allowed p.generation p.scheduler.places) (free p.jobs)) refl is
+picked_so p task schedule h up is =
+    subst (λ q. Picked p task schedule (pick_by ready q)) (sym (first_same p allowed h))
+    (by ready refl (due_of p allowed) refl (is ∙ ap (λ q. picked_by p.generation task ready q p.scheduler) (first_same p allowed h)))
   where
-    allowed : Classed → Bool
-    allowed = service_is_allowed p.generation p.scheduler.places
+    allowed : Target → Bool
+    allowed = target_is_allowed p.generation p.scheduler.places
 
-    by : (o : Option Classed) → find_first allowed p.scheduler.ready ≡ o → (q : Option Job) → due_job p.tables.clock (target_is_allowed p.generation p.scheduler.places) (free p.jobs) ≡ q
-        → schedule ≡ Rattle.step_scheduler.specs.Schedule.picked_by p.generation task o q p.scheduler → Picked p task schedule (Rattle.abstract_monitor.specs.Picks.pick_by o q)
-    by (Some e) f q d t = (e.1, first_each (HasClass p.generation (active_of p.active)) allowed p.scheduler.ready e h.ready f, t)
-    by None f (Some j) d t =
-        (j, refl, due_takeable p.generation p.scheduler.places (state_of p) j up (sym (ap (due_job p.tables.clock (target_is_allowed p.generation p.scheduler.places)) (free_same p h)) ∙ d), t)
+    ready : Option Classed
+    ready = find_first (service_is_allowed p.generation p.scheduler.places) p.scheduler.ready
+
+    by : (o : Option Classed) → ready ≡ o → (q : Option Job) → due_of p allowed ≡ q → schedule ≡ picked_by p.generation task o (option_map untaken q) p.scheduler → Picked p task schedule (pick_by o (option_map untaken q))
+    by (Some e) f q d t = (e.1, first_each (HasClass p.generation (active_of p.active)) (service_is_allowed p.generation p.scheduler.places) p.scheduler.ready e h.ready f, t)
+    by None f (Some j) d t = (j, refl, due_takeable p.generation p.scheduler.places (state_of p) j up d, t)
     by None f None d t = t
 
 module _ (p : MonitorParts) (task : ℕ) (schedule : Schedule) (e : Classed) (is : schedule ≡ took_service task e p.scheduler) where

@@ -179,6 +179,7 @@ module _ (p : MonitorParts) (task : ℕ) (id : ServiceId) (x : OpenTransaction) 
           places = subst (λ a. Each (PlaceHasClass p.generation a) (slice_set p.scheduler.places (task - 1) (with_class class (place_of task p.scheduler)))) there (places_after class e);
           locks = subst (λ a. SameHolds locks a) there (stated_holds p.locks locks (active_of p.active) id (boxed_transaction transaction) matching h.locks exclusive);
           jobs = h.jobs ∙ kept_queue id (boxed_transaction transaction) (active_of p.active) p.tables.jobs (ap is_some is) ∙ ap (λ a. Rattle.async_queue.specs.Marks.queue_of a p.tables.jobs) there;
+          charge = h.charge;
         }
 
     -- the tasks hold the services that they held

@@ -10,14 +10,14 @@ use Rattle.kdcs_types.specs.declared.service.JobValue.{JobValue}
 use Rattle.kdcs_types.specs.Keys.{id_cmp}
 use Rattle.kdcs_types.specs.Tables.{IsSortedTables, job_of}
 use Rattle.laws_of_commits.specs.NumbersLaws.{free_not_placed}
-use Rattle.async_queue.specs.Queue.{free, with_mark}
+use Rattle.async_queue.specs.Queue.{untaken, with_mark}
 use Rattle.open_transaction.specs.Transactions.{Boxed, boxed_transaction}
-use Rattle.step_scheduler.specs.Schedule.{Schedule, class_of_target, picked, service_in, took_job}
+use Rattle.step_scheduler.specs.Schedule.{Schedule, class_of_target, pick_queued, picked, service_in, took_job}
 use Rattle.abstract_monitor.specs.declared.work.Work.{Work}
 use Rattle.abstract_monitor.specs.declared.work.Work.TheVariants as work
 use Rattle.abstract_monitor.specs.Bytes.{Bytes}
 use Rattle.abstract_monitor.specs.Endings.{opened, opened_by_job}
-use Rattle.abstract_monitor.specs.Picks.{class_of, current_by, pick, pick_work}
+use Rattle.abstract_monitor.specs.Picks.{class_of, current_by, pick}
 use Rattle.abstract_monitor.specs.State.{OpenTransaction, State}
 use Rattle.abstract_monitor.specs.Turns.{Turned, moved_to, took, took_job as state_took, took_job_for, unmoved, with_open, with_task}
 use Rattle.laws_of_steps.specs.Facts.{IsConsistent}
@@ -35,14 +35,14 @@ use Rattle.monitor_core.specs.Turning.{Begun, BegunBy, BegunFor}
 
 -- what it answered at the clock of the tables
 module _ (p : MonitorParts) (task : ℕ) (schedule : Schedule) (w : Option Work) (now : ℕ) (h : IsIndexed p) (order : IsSortedTables p.tables) (clock : now ≡ p.tables.clock)
-    (transaction : w ≡ pick_work p.generation p.scheduler.ready p.scheduler.places now (free p.jobs)) (state : schedule ≡ picked p.generation task now (free p.jobs) p.scheduler) where
+    (transaction : w ≡ pick_queued p.generation p.scheduler.ready p.scheduler.places now p.jobs) (state : schedule ≡ picked p.generation task now p.jobs p.scheduler) where
   pub answered : w ≡ pick_of p
-  answered = transaction ∙ ap (λ (n : ℕ). pick_work p.generation p.scheduler.ready p.scheduler.places n (free p.jobs)) clock
+  answered = transaction ∙ ap (λ (n : ℕ). pick_queued p.generation p.scheduler.ready p.scheduler.places n p.jobs) clock
 
   pub picked_for : Picked p task schedule w
   picked_for =
       subst (Picked p task schedule) (sym answered)
-      (picked_so p task schedule h order.jobs (state ∙ ap (λ (n : ℕ). picked p.generation task n (free p.jobs) p.scheduler) clock))
+      (picked_so p task schedule h order.jobs (state ∙ ap (λ (n : ℕ). picked p.generation task n p.jobs p.scheduler) clock))
 
 -- the turn of a task that took this
 abbrev pub took_by : MonitorParts → (task : ℕ) → Option Work → Turned
@@ -74,7 +74,7 @@ not_open None h = refl
 not_open (Some x) h = absurd (true≢false (sym h))
 
 module _ (p : MonitorParts) (task : ℕ) (schedule : Schedule) (j : Job) (h : IsIndexed p) (c : IsConsistent (app_of p) (state_of p))
-    (t : IsTakeable p.generation (state_of p) j) (is : schedule ≡ took_job p.generation task j p.scheduler) where
+    (t : IsTakeable p.generation (state_of p) j) (is : schedule ≡ took_job p.generation task (untaken j) p.scheduler) where
   abbrev id : ServiceId
   id = Asynchronous j.number
 
@@ -114,7 +114,7 @@ module _ (p : MonitorParts) (task : ℕ) (schedule : Schedule) (j : Job) (h : Is
       let open_now = opened_with b.transaction b.exact b.id b.nb in
       let active = put id_cmp id b.transaction p.active in
       let next = with_active p active p.locks (with_mark j.number true p.jobs) in
-      let there = took_job p.generation task j p.scheduler in
+      let there = took_job p.generation task (untaken j) p.scheduler in
       subst IsIndexed (sym (b.parts ∙ ap (λ (s : Schedule). with_schedule next s) is))
       (scheduled next there open_now open_now.ready (each_set (PlaceHasClass p.generation (active_of active)) p.scheduler.places (task - 1) (Some (id, class_of_target p.generation j.value.to)) (job_class b.transaction b.exact) open_now.places))
 

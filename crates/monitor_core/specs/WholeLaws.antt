@@ -42,7 +42,7 @@ use Rattle.monitor_core.specs.Turning.{IsHeldBy, state_then}
 
 -- one turn or command more
 pub more_steps : (p : MonitorParts) → IsIndexed p → IsIndexed (record p { steps = p.steps + 1 })
-more_steps p h = record { owned = one_more p.generation p.steps p.active h.owned; ready = h.ready; places = h.places; locks = h.locks; jobs = h.jobs }
+more_steps p h = record { owned = one_more p.generation p.steps p.active h.owned; ready = h.ready; places = h.places; locks = h.locks; jobs = h.jobs; charge = h.charge }
 
 -- ---- tasks
 

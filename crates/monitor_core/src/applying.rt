@@ -25,7 +25,7 @@ fn print(
     pterm: &Name,
     again: bool,
 ) -> Result<Acts, OutOfMemory>
-    requires indexed { IsIndexed parts.old }
+    requires whole { IsWhole parts.old }
     requires pterm { IsTrue (is_pterm parts.old.generation pterm.now) }
     ensures exact { IfOk result (λ acts. Comes (state_of parts.new) acts (command_of (app_of parts.old) (state_of parts.old) (printed again pterm.now))) }
     ensures indexed { OnOk result (IsIndexed parts.new) }

@@ -2,7 +2,7 @@
 ghost use Rattle.std.specs.Prelude.{◌≡◌, ◌≤◌, ◌+◌, IfOk, OnOk, SomeIff};
 ghost use Rattle.kd_base.specs.Limits.{last_clock};
 ghost use Rattle.abstract_monitor.specs.Commands.{ticked};
-ghost use Rattle.core_state.specs.{Whole.{app_of}, Standing.{IsIndexed, SameApplication, state_of}};
+ghost use Rattle.core_state.specs.{Whole.{app_of, IsWhole}, Standing.{IsIndexed, SameApplication, state_of}};
 ghost use Rattle.monitor_core.specs.Commanding.{Comes};
 
 use crate::message::{line_alone, line_behind};
@@ -24,7 +24,7 @@ fn later(clock: u64, ticks: u64) -> Option<u64>
 
 /// So many ticks are added to the clock, in one commit; a clock past the greatest one is refused, without a commit.
 pub(crate) fn tick(parts: &mut MonitorParts, alloc: Global, ticks: u64) -> Result<Acts, OutOfMemory>
-    requires indexed { IsIndexed parts.old }
+    requires whole { IsWhole parts.old }
     ensures exact { IfOk result (λ acts. Comes (state_of parts.new) acts (ticked (app_of parts.old) (state_of parts.old) ticks)) }
     ensures indexed { OnOk result (IsIndexed parts.new) }
     ensures same { OnOk result (SameApplication parts.old parts.new) }

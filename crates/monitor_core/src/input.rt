@@ -62,7 +62,7 @@ pub(crate) fn use_of(parts: &MonitorParts, pterm: &Name, text: &[u8]) -> Result<
 
 // KDCOFF of the user who is signed on at this PTERM.
 fn leave(parts: &mut MonitorParts, alloc: Global, pterm: &Name) -> Result<Acts, OutOfMemory>
-    requires indexed { IsIndexed parts.old }
+    requires whole { IsWhole parts.old }
     requires signed { IsSome (find bytes_cmp pterm.now (state_of parts.old).signed) }
     ensures exact { IfOk result (λ acts. Comes (state_of parts.new) acts (off_step (app_of parts.old) (state_of parts.old) pterm.now)) }
     ensures indexed { OnOk result (IsIndexed parts.new) }

@@ -1,15 +1,15 @@
 //! The messages of jobs for LTERMs: KDCOUT and KDCLAST at a terminal, PRINT at a printer; and KDCDISP.
-ghost use Rattle.std.specs.{Prelude.{◌≡◌, ◌++◌, Some, IfOk, OnOk}, Option.{option_eq}, FinMap.{find}};
+ghost use Rattle.std.specs.{Prelude.{◌≡◌, ◌++◌, Some, IfOk, OnOk}, Option.{option_eq, option_map}, FinMap.{find}};
 ghost use Rattle.kdcs_types.specs.{Same.{job_value_eq}, Tables.{shown_of}};
-ghost use Rattle.abstract_monitor.specs.{Bytes.{bytes_cmp}, Commands.{display, last_by, show_again, show_next}, Lines.{no_message_line}};
-ghost use Rattle.core_state.specs.{Whole.{app_of}, Standing.{IsIndexed, SameApplication, state_of}};
+ghost use Rattle.abstract_monitor.specs.{Bytes.{bytes_cmp}, Commands.{display, due_for, last_by, show_again, show_next}, Lines.{no_message_line}};
+ghost use Rattle.core_state.specs.{Whole.{app_of, IsWhole}, Standing.{IsIndexed, SameApplication, state_of}};
 ghost use Rattle.laws_of_commits.specs.CommitLaws.{shown_changes, shown_set};
-ghost use Rattle.monitor_core.specs.Commanding.{shown_line, Comes};
+ghost use Rattle.monitor_core.specs.{Commanding.{shown_line, Comes}, Showing.{shown_job, job_with}};
 
 use crate::message::{line_alone, line_behind};
 use core_state::MonitorParts;
 use kd_base::{Bytes, Name, OutOfMemory};
-use kdcs_types::{Acts, Change, Changes, Job, JobValue, Key, Row, RowChanges, Tables, Target};
+use kdcs_types::{Acts, Change, Changes, JobValue, Key, Row, RowChanges, Tables, Target};
 use output_lines::{asy_line, no_message_line, out_line, prt_line};
 use std::alloc::Global;
 use sync_points::is_real;
@@ -19,6 +19,13 @@ use sync_points::is_real;
 pub(crate) enum Shown {
     Terminal,
     Printer,
+}
+
+/// A job of the tables whose message is shown.
+#[derive(Clone, Copy)]
+struct DueJob<'a> {
+    number: u64,
+    value: &'a JobValue,
 }
 
 fn shown_line(
@@ -57,18 +64,38 @@ fn shown_changes(
     alloc: Global,
     tables: &Tables,
     lterm: &Name,
-    job: &Job,
+    due: &DueJob<'_>,
 ) -> Result<Changes, OutOfMemory>
-    ensures { IfOk result (λ changes. changes ≡ shown_changes tables.now lterm.now job.now) }
+    ensures { IfOk result (λ changes. changes ≡ shown_changes tables.now lterm.now (shown_job due.now)) }
 {
     let mut items = RowChanges::new(alloc);
-    items.push(Change::Remove(Key::Job(job.number)))?;
-    set_shown(&mut items, tables, lterm, &job.value)?;
+    items.push(Change::Remove(Key::Job(due.number)))?;
+    set_shown(&mut items, tables, lterm, due.value)?;
     Ok(Changes {
         clock: tables.clock(),
         next_job: tables.next_job(),
         items,
     })
+}
+
+fn job_at(tables: &Tables, number: u64) -> Option<DueJob<'_>>
+    ensures { option_map shown_job result ≡ job_with tables.now number }
+{
+    let value = tables.job(number)?;
+    Some(DueJob { number, value })
+}
+
+// The job that is due first for this LTERM.
+fn due_for<'a>(parts: &'a MonitorParts, lterm: &Name) -> Option<DueJob<'a>>
+    requires { IsIndexed parts.now }
+    ensures { option_map shown_job result ≡ due_for (state_of parts.now) lterm.now }
+{
+    let clock = parts.tables.clock();
+    let first = parts.jobs.first_for(&Target::Lterm(*lterm), clock);
+    match &first {
+        Some(queued) => job_at(&parts.tables, queued.number),
+        None => None,
+    }
 }
 
 /// The next message for this LTERM, if one is due: its job leaves the tables in one commit, and it is shown.
@@ -79,17 +106,17 @@ pub(crate) fn show_next(
     pterm: &Name,
     lterm: &Name,
 ) -> Result<Acts, OutOfMemory>
-    requires indexed { IsIndexed parts.old }
+    requires whole { IsWhole parts.old }
     ensures exact { IfOk result (λ acts. Comes (state_of parts.new) acts (show_next (app_of parts.old) (state_of parts.old) lterm.now (no_message_line pterm.now) (shown_line shown pterm.now))) }
     ensures indexed { OnOk result (IsIndexed parts.new) }
     ensures same { OnOk result (SameApplication parts.old parts.new) }
 {
-    let clock = parts.tables.clock();
-    let Some(job) = parts.jobs.first_allowed(&Target::Lterm(*lterm), clock) else {
+    let _clock = parts.tables.clock(); // for the proof
+    let Some(due) = due_for(parts, lterm) else {
         return line_alone(alloc, no_message_line(alloc, *pterm)?);
     };
-    let line = shown_line(alloc, shown, pterm, job.value.message.as_slice())?;
-    let changes = shown_changes(alloc, &parts.tables, lterm, job)?;
+    let line = shown_line(alloc, shown, pterm, due.value.message.as_slice())?;
+    let changes = shown_changes(alloc, &parts.tables, lterm, &due)?;
     parts.change(&changes)?;
     line_behind(alloc, changes, line)
 }

@@ -112,7 +112,7 @@ pub(crate) fn sign_off(
     pterm: &Name,
     user: &Name,
 ) -> Result<(), OutOfMemory>
-    requires indexed { IsIndexed parts.old }
+    requires whole { IsWhole parts.old }
     ensures state { OnOk result (state_of parts.new ≡ signed_off (app_of parts.old) (state_of parts.old) pterm.now user.now) }
     ensures indexed { OnOk result (IsIndexed parts.new) }
     ensures same { OnOk result (SameApplication parts.old parts.new) }
@@ -134,7 +134,7 @@ pub(crate) fn drop_terminal(
     alloc: Global,
     pterm: &Name,
 ) -> Result<Acts, OutOfMemory>
-    requires indexed { IsIndexed parts.old }
+    requires whole { IsWhole parts.old }
     ensures exact { IfOk result (λ acts. Comes (state_of parts.new) acts (drop_by (app_of parts.old) (state_of parts.old) pterm.now (find bytes_cmp pterm.now (state_of parts.old).signed))) }
     ensures indexed { OnOk result (IsIndexed parts.new) }
     ensures same { OnOk result (SameApplication parts.old parts.new) }

@@ -3,6 +3,7 @@ ghost use Rattle.std.specs.Prelude.{◌≡◌, ◌++◌, ◌∷◌, [], IfOk, On
 ghost use Rattle.async_queue.specs.Queue.{untaken};
 ghost use Rattle.step_scheduler.specs.Schedule.{all_free};
 ghost use Rattle.abstract_monitor.specs.{Commands.{asynchronous_rows, started}, Endings.{is_asynchronous}};
+ghost use Rattle.laws_of_steps.specs.Suits.{Suits};
 ghost use Rattle.core_state.specs.{Standing.{IsIndexed, SameApplication, state_of}, Whole.{app_of}};
 ghost use Rattle.monitor_core.specs.Starting.{AreFresh, IsFresh, all_opened, idle, opened_then};
 
@@ -14,9 +15,10 @@ use kdcdef_check::Generation;
 use kdcs_types::{Service, ServiceId, Tables};
 use service_ends::go_on;
 use session_table::Sessions;
-use sorted_pairs::SortedPairs;
+use sorted_pairs::OrderedMap;
 use std::alloc::Global;
 use step_scheduler::Scheduler;
+use table_fit::total_charge;
 use unit_check::Units;
 
 // The ready list with all tasks free, and the jobs of the tables, of which none is taken.
@@ -42,6 +44,7 @@ fn idle(
     scheduler: Scheduler,
     jobs: Jobs,
 ) -> MonitorParts
+    requires suits { Suits generation tables }
     requires scheduler { scheduler ≡ all_free generation.limits.tasks }
     requires jobs { jobs ≡ map untaken tables.jobs }
     ensures state { state_of result ≡ idle generation tables }
@@ -50,14 +53,16 @@ fn idle(
     ensures units { result.units ≡ units }
     ensures steps { result.steps ≡ 0 }
 {
+    let charge = total_charge(&tables, generation.max().blksize);
     MonitorParts {
         generation,
         units,
         steps: 0,
         tables,
+        charge,
         sessions: Sessions::new(alloc),
         scheduler,
-        active: SortedPairs::new(alloc),
+        active: OrderedMap::new(alloc),
         locks: LockTable::new(alloc),
         jobs,
     }
@@ -130,14 +135,15 @@ fn open_services(parts: &mut MonitorParts, alloc: Global) -> Result<(), OutOfMem
     open_all(parts, alloc, rows)
 }
 
-/// The parts of a monitor that starts from these tables: nobody is signed on, all tasks are free, and each asynchronous
-/// service is ready, in the order of the numbers. No turn and no command was done.
+/// The parts of a monitor that starts from these tables, which suit: nobody is signed on, all tasks are free, and each
+/// asynchronous service is ready, in the order of the numbers. No turn and no command was done. It goes over all rows.
 pub(crate) fn parts_of(
     alloc: Global,
     generation: Generation,
     units: Units,
     tables: Tables,
 ) -> Result<Box<MonitorParts>, OutOfMemory>
+    requires suits { Suits generation tables }
     ensures state { IfOk result (λ parts. state_of parts.value ≡ started (app_of parts.value) tables) }
     ensures indexed { IfOk result (λ parts. IsIndexed parts.value) }
     ensures generation { IfOk result (λ parts. parts.value.generation ≡ generation) }

@@ -14,18 +14,19 @@ use Rattle.page_drafts.specs.Drafts.{Drafted}
 use Rattle.page_drafts.specs.DraftSteps.{next_pages, after}
 use Rattle.page_drafts.specs.Tables.{IsPlaceFor, IsAbsent, pages_in}
 
--- the layout, which pages of the directory are stale, the writes, how many pages of the plan they take, and the pages
--- that only the old layout names
+-- the layout, which pages of the directory are stale, the writes, how many pages of the plan they take, the pages that
+-- only the old layout names, and the slots of the old layout
 pub record Drafting : Type 0 where
   pub layout : Layout
   pub stale : List Bool
   pub writes : List PageWrite
   pub taken : ℕ
   pub freed : List ℕ
+  pub before : List (Option Chain)
 
 -- nothing is prepared yet
 abbrev pub unprepared : Layout → Drafting
-unprepared l = record { layout = l; stale = replicate (length l.directory) false; writes = []; taken = 0; freed = [] }
+unprepared l = record { layout = l; stale = replicate (length l.directory) false; writes = []; taken = 0; freed = []; before = l.slots }
 
 -- the directory page of this slot is stale
 abbrev pub touched : ℕ → ℕ → Drafting → Drafting
@@ -44,6 +45,7 @@ put_in size plan k v s d =
       writes = d.writes ++ page_writes size (record_parts size v (new_chain size plan k v d.taken));
       taken = d.taken + charge_of size (length v);
       freed = d.freed ++ pages_in (get_or d.layout.slots s None);
+      before = d.before;
     }
 
 -- the slot is freed

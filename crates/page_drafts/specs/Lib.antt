@@ -18,3 +18,5 @@ pub mod Prepared
 pub mod PreparedLaws
 pub mod Tables
 pub mod TablesLaws
+pub mod Undoing
+pub mod UndoingLaws

@@ -1,5 +1,5 @@
 -- The slots of a directory, with an index of their keys and a list of the free ones.
-use Rattle.std.proofs.Common.{◌≡◌, ℕ, ◌+◌, ◌<◌, ◌≤◌, not, List, [], drop, length, Option, Some, None}
+use Rattle.std.proofs.Common.{◌≡◌, ◌⊎◌, ℕ, ◌+◌, ◌<◌, ◌≤◌, not, List, [], drop, length, Option, Some, None}
 use Rattle.std.specs.Prelude.{IsTrue, Contains}
 use Rattle.std.specs.Ordering.{eq_by_cmp}
 use Rattle.std.specs.FinMap.{find, is_sorted}
@@ -8,7 +8,6 @@ use Rattle.kd_records.specs.declared.key.RecordKey.{RecordKey}
 use Rattle.kd_records.specs.Keys.{key_cmp}
 use Rattle.kdcfile_layout.specs.declared.chain.Chain.{Chain}
 use Rattle.page_pool.specs.Places.{At, IsDistinct}
-use Rattle.sorted_pairs.specs.Places.{times}
 use Rattle.kdcfile_layout.specs.Layout.{used}
 
 -- keys with their slots
@@ -18,28 +17,34 @@ Index = List (RecordKey × ℕ)
 abbrev pub without : RecordKey → Index → Index
 without k index = where_key key_cmp (λ x. not (eq_by_cmp key_cmp k x)) index
 
--- the index has just the keys of the used slots, and the list just the free slots, each once
-pub record IsIndexed (slots : List (Option Chain)) (index : Index) (free : List ℕ) : Type 0 where
-  pub found : (k : RecordKey) (s : ℕ) → find key_cmp k index ≡ Some s → (c : Chain) × At slots s (Some c) × (c.key ≡ k)
-  pub kept : (s : ℕ) (c : Chain) → At slots s (Some c) → find key_cmp c.key index ≡ Some s
-  pub unused : (n s : ℕ) → At free n s → At slots s None
-  pub distinct : IsDistinct free
-  pub count : length free + used slots ≡ length slots
-  pub ascending : IsTrue (is_sorted key_cmp index)
+-- the slots of a directory, the places of their keys, and the places of the free ones
+pub record Parts : Type 0 where
+  pub slots : List (Option Chain)
+  pub index : Index
+  pub free : List ℕ
+
+-- the slot has a record with this key
+abbrev pub HasKey : List (Option Chain) → ℕ → RecordKey → Type 0
+HasKey slots s k = (c : Chain) × At slots s (Some c) × (c.key ≡ k)
+
+-- the index has the keys of the used slots, and besides none but keys that are gone; the list has just the free slots,
+-- each once
+pub record IsIndexed (t : Parts) (gone : List RecordKey) : Type 0 where
+  pub there : (k : RecordKey) (s : ℕ) → find key_cmp k t.index ≡ Some s → s < length t.slots
+  pub found : (k : RecordKey) (s : ℕ) → find key_cmp k t.index ≡ Some s → HasKey t.slots s k ⊎ Contains gone k
+  pub kept : (s : ℕ) (c : Chain) → At t.slots s (Some c) → find key_cmp c.key t.index ≡ Some s
+  pub unused : (n s : ℕ) → At t.free n s → At t.slots s None
+  pub distinct : IsDistinct t.free
+  pub count : length t.free + used t.slots ≡ length t.slots
+  pub ascending : IsTrue (is_sorted key_cmp t.index)
 
 -- no key is in two slots
 abbrev pub HasKeysOnce : List (Option Chain) → Type 0
 HasKeysOnce slots = (s t : ℕ) (c d : Chain) → At slots s (Some c) → At slots t (Some d) → c.key ≡ d.key → s ≡ t
 
--- the keys of the first n slots, each once, with their places
-pub record AreKeysTo (slots : List (Option Chain)) (keys : Index) (n : ℕ) : Type 0 where
-  pub found : (k : RecordKey) (s : ℕ) → Contains keys (k, s) → (c : Chain) × At slots s (Some c) × (c.key ≡ k) × (s < n)
-  pub kept : (s : ℕ) (c : Chain) → At slots s (Some c) → s < n → Contains keys (c.key, s)
-  pub once : (k : RecordKey) → times key_cmp k keys ≤ 1
-
 -- the index has just the keys of the first n slots
 pub record IsIndexedTo (slots : List (Option Chain)) (index : Index) (n : ℕ) : Type 0 where
-  pub found : (k : RecordKey) (s : ℕ) → find key_cmp k index ≡ Some s → (c : Chain) × At slots s (Some c) × (c.key ≡ k) × (s < n)
+  pub found : (k : RecordKey) (s : ℕ) → find key_cmp k index ≡ Some s → HasKey slots s k × (s < n)
   pub kept : (s : ℕ) (c : Chain) → At slots s (Some c) → s < n → find key_cmp c.key index ≡ Some s
   pub ascending : IsTrue (is_sorted key_cmp index)
 

@@ -1,19 +1,19 @@
 -- The slots of a directory, with an index of their keys and a list of the free ones.
-use Rattle.std.proofs.Common.{◌≡◌, ⊎_elim, ℕ, zero, suc, ◌+◌, ◌-◌, ◌<◌, Bool, true, false, cond, not, T, List, [], ◌∷◌, ◌++◌, length, take, drop, Option, Some, None, refl, ap, sym, subst, ◌∙◌, arith, length-append}
-use Rattle.std.specs.Prelude.{set, get_or, replicate, IsTrue, Contains}
+use Rattle.std.proofs.Common.{◌≡◌, ⊎_elim, inl, inr, ℕ, zero, suc, ◌+◌, ◌-◌, ◌<◌, Bool, true, false, cond, not, List, [], ◌∷◌, ◌++◌, length, take, drop, Option, Some, None, refl, ap, sym, subst, ◌∙◌, arith, length-append}
+use Rattle.std.specs.Prelude.{set, get_or, replicate, Contains}
 use Rattle.std.proofs.lemmas.List.Sums.{sum_by-cons}
 use Rattle.std.proofs.lemmas.List.Folds.{sum_by-replicate}
 use Rattle.std.specs.Ordering.{eq_by_cmp, is_eq}
-use Rattle.std.specs.FinMap.{find, put, is_sorted}
-use Rattle.std.specs.List.Sorted.{IsPermutation}
+use Rattle.std.specs.FinMap.{find, put}
 use Rattle.std.proofs.lemmas.List.Elements.{Contains-push, Contains-push_cases, Contains-append_left}
-use Rattle.sorted_pairs.specs.TimesLaws.{times_none, times_last, found_pair, pair_found}
-use Rattle.std.specs.FinMap.Entries.{find-put, find-where_key, is_sorted-put, is_sorted-where_key}
+use Rattle.sorted_pairs.specs.PlacesLaws.{left_sorted}
+use Rattle.kd_base.specs.OrderLaws.{sorted_put}
+use Rattle.std.specs.FinMap.Entries.{find-put, find-where_key}
 use Rattle.std.specs.declared.cmp.Ordering.{Ordering}
 use Rattle.std.specs.declared.cmp.Ordering.TheVariants.{Less, Equal, Greater}
 use Rattle.std.proofs.lemmas.Bool.{cases_eq}
 use Rattle.std.proofs.lemmas.Cmp.{tied_itself}
-use Rattle.std.proofs.lemmas.Option.{none-some, same_Some, get_or_from_slice_get}
+use Rattle.std.proofs.lemmas.Option.{none-some, same_Some, get_or_from_slice_get, slice_get_read}
 use Rattle.std.proofs.lemmas.List.{length-set, length-replicate, take_all, take_more, drop_more}
 use Rattle.kd_records.specs.declared.key.RecordKey.{RecordKey}
 use Rattle.kd_records.specs.Keys.{key_cmp}
@@ -24,7 +24,7 @@ use Rattle.kdcfile_layout.specs.Layout.{used, if_used, free_slot}
 use Rattle.page_pool.specs.PlacesLaws.{no_item, at_one, at_set, at_set_other, at_set_same, at_within, at_push, at_front, at_end}
 use Rattle.page_drafts.specs.CountsLaws.{over_slots_set}
 use Rattle.page_drafts.specs.DraftsLaws.{same_or_not}
-use Rattle.page_drafts.specs.Tables.{Index, without, IsIndexed, IsPlaceFor, IsAbsent, IsDescending, HasKeysOnce, AreKeysTo, IsIndexedTo, IsFreeFrom}
+use Rattle.page_drafts.specs.Tables.{Index, Parts, HasKey, without, IsIndexed, IsPlaceFor, IsAbsent, IsDescending, HasKeysOnce, IsIndexedTo, IsFreeFrom}
 
 pub tied : (k : RecordKey) → eq_by_cmp key_cmp k k ≡ true
 tied k = ap (λ (o : Ordering). is_eq o) (tied_itself key_total k)
@@ -37,14 +37,14 @@ untied q k apart = by (key_cmp q k) refl
     by Equal e = absurd (apart (same_key q k e))
     by Greater e = ap (λ (o : Ordering). is_eq o) e
 
-found_put_same : (k : RecordKey) (s : ℕ) (index : Index) → find key_cmp k (put key_cmp k s index) ≡ Some s
+pub found_put_same : (k : RecordKey) (s : ℕ) (index : Index) → find key_cmp k (put key_cmp k s index) ≡ Some s
 found_put_same k s index = find-put key_cmp key_total k k s index ∙ ap (λ (b : Bool). cond b (Some s) (find key_cmp k index)) (tied k)
 
 found_put_other : (q k : RecordKey) (s : ℕ) (index : Index) → (q ≡ k → ⊥) → find key_cmp q (put key_cmp k s index) ≡ find key_cmp q index
 found_put_other q k s index apart = find-put key_cmp key_total q k s index ∙ ap (λ (b : Bool). cond b (Some s) (find key_cmp q index)) (untied q k apart)
 
-gone : (k : RecordKey) (index : Index) → find key_cmp k (without k index) ≡ None
-gone k index =
+gone_out : (k : RecordKey) (index : Index) → find key_cmp k (without k index) ≡ None
+gone_out k index =
     find-where_key key_cmp (λ x. not (eq_by_cmp key_cmp k x)) k (λ x e. ap (λ (j : RecordKey). not (eq_by_cmp key_cmp k j)) (sym (same_key k x e))) index
     ∙ ap (λ (b : Bool). cond (not b) (find key_cmp k index) None) (tied k)
 
@@ -52,10 +52,6 @@ left : (q k : RecordKey) (index : Index) → (q ≡ k → ⊥) → find key_cmp 
 left q k index apart =
     find-where_key key_cmp (λ x. not (eq_by_cmp key_cmp k x)) q (λ x e. ap (λ (j : RecordKey). not (eq_by_cmp key_cmp k j)) (sym (same_key q x e))) index
     ∙ ap (λ (b : Bool). cond (not b) (find key_cmp q index) None) (untied k q (λ e. apart (sym e)))
-
-true_of : {b : Bool} → T b → IsTrue b
-true_of {b = true} h = refl
-true_of {b = false} h = absurd h
 
 key_same : (c d : Chain) → Some c ≡ Some d → c.key ≡ d.key
 key_same c d e = ap (λ (o : Chain). o.key) (same_Some c d e)
@@ -71,92 +67,130 @@ last_split xs m x some long e =
 not_last : (xs : List ℕ) (n : ℕ) → n < length xs → n ≡ length xs → ⊥
 not_last xs n lt e = omega (arith, lt, e)
 
-module _ (slots : List (Option Chain)) (index : Index) (free : List ℕ) (is : IsIndexed slots index free) where
-  here_is : (s : ℕ) (o : Option Chain) → At slots s o → if_used (λ c. 1) (get_or slots s None) ≡ if_used (λ c. 1) o
-  here_is s o at = ap {B = ℕ} (λ (x : Option Chain). if_used (λ c. 1) x) (get_or_from_slice_get slots s o None at)
+-- whether a slot that is read has the key
+module _ (slots : List (Option Chain)) (s : ℕ) (o : Option Chain) (k : RecordKey) (there : s < length slots) (read : o ≡ get_or slots s o) where
+  pub key_read : (c : Chain) × (o ≡ Some c) × (c.key ≡ k) → HasKey slots s k
+  key_read c = (c.0, slice_get_read slots (length slots) s o refl there read ∙ ap (λ (x : Option Chain). Some x) c.1, c.2)
 
-  -- the slot that the index has is the key's
-  pub indexed_place : (k : RecordKey) (s : ℕ) → find key_cmp k index ≡ Some s → IsPlaceFor k s slots
-  indexed_place k s found =
-      let c = is.found k s found in
+  pub no_key_read : ((c : Chain) → o ≡ Some c → c.key ≡ k → ⊥) → HasKey slots s k → ⊥
+  no_key_read none c = none c.0 (at_one slots s o (Some c.0) (slice_get_read slots (length slots) s o refl there read) c.1) c.2
+
+module _ (t : Parts) (gone : List RecordKey) (is : IsIndexed t gone) where
+  here_is : (s : ℕ) (o : Option Chain) → At t.slots s o → if_used (λ c. 1) (get_or t.slots s None) ≡ if_used (λ c. 1) o
+  here_is s o at = ap {B = ℕ} (λ (x : Option Chain). if_used (λ c. 1) x) (get_or_from_slice_get t.slots s o None at)
+
+  -- a slot that has the key is the key's
+  pub key_place : (k : RecordKey) (s : ℕ) → HasKey t.slots s k → IsPlaceFor k s t.slots
+  key_place k s c = record {
+    there = at_within t.slots s (Some c.0) c.1;
+    own = λ d at. ap (λ (o : Chain). o.key) (same_Some d c.0 (at_one t.slots s (Some d) (Some c.0) at c.1)) ∙ c.2;
+    only = λ r d at e. same_Some r s (sym (is.kept r d at) ∙ ap (λ (q : RecordKey). find key_cmp q t.index) (e ∙ sym c.2) ∙ is.kept s c.0 c.1);
+  }
+
+  -- a key that the index does not have, or whose slot there has it not, has no slot
+  pub index_absent : (k : RecordKey) → find key_cmp k t.index ≡ None → IsAbsent k t.slots
+  index_absent k none r c at e = none-some r (sym none ∙ ap (λ (q : RecordKey). find key_cmp q t.index) (sym e) ∙ is.kept r c at)
+
+  pub slot_absent : (k : RecordKey) (s : ℕ) → find key_cmp k t.index ≡ Some s → (HasKey t.slots s k → ⊥) → IsAbsent k t.slots
+  slot_absent k s found not_there r c at e =
+      let same : r ≡ s = same_Some r s (sym (is.kept r c at) ∙ ap (λ (q : RecordKey). find key_cmp q t.index) e ∙ found) in
+      not_there (c, subst (λ (m : ℕ). At t.slots m (Some c)) same at, e)
+
+  -- ---- a chain in place of another with its key
+
+  pub indexed_replaced : (s : ℕ) (c d : Chain) → At t.slots s (Some c) → c.key ≡ d.key → IsIndexed (record t { slots = set t.slots s (Some d) }) gone
+  indexed_replaced s c d here key =
+      let slots = t.slots in
+      let there : s < length slots = at_within slots s (Some c) here in
       record {
-        there = at_within slots s (Some c.0) c.1;
-        own = λ d at. ap (λ (o : Chain). o.key) (same_Some d c.0 (at_one slots s (Some d) (Some c.0) at c.1)) ∙ c.2;
-        only = λ r d at e. same_Some r s (sym (is.kept r d at) ∙ ap (λ (q : RecordKey). find key_cmp q index) e ∙ found);
-      }
-
-  pub indexed_absent : (k : RecordKey) → find key_cmp k index ≡ None → IsAbsent k slots
-  indexed_absent k none r c at e = none-some r (sym none ∙ ap (λ (q : RecordKey). find key_cmp q index) (sym e) ∙ is.kept r c at)
-
-  -- a chain in place of another with its key
-  pub indexed_replaced : (s : ℕ) (d : Chain) → find key_cmp d.key index ≡ Some s → IsIndexed (set slots s (Some d)) index free
-  indexed_replaced s d here =
-      let c = is.found d.key s here in
-      let there : s < length slots = at_within slots s (Some c.0) c.1 in
-      record {
+        there = λ k r found. omega (arith, is.there k r found, length-set slots s (Some d));
         found = λ k r found.
-            let b = is.found k r found in
             ⊎_elim
-            (λ e. (d, subst (λ (m : ℕ). At (set slots s (Some d)) m (Some d)) e (at_set_same slots s (Some d) there), sym c.2 ∙ key_same c.0 b.0 (at_one slots s (Some c.0) (Some b.0) c.1 (subst (λ (m : ℕ). At slots m (Some b.0)) (sym e) b.1)) ∙ b.2))
-            (λ apart. (b.0, at_set_other slots s r (Some d) (Some b.0) apart b.1, b.2))
-            (cases_eq s r);
+            (λ b.
+            ⊎_elim
+            (λ e.
+            inl
+            (d, subst (λ (m : ℕ). At (set slots s (Some d)) m (Some d)) e (at_set_same slots s (Some d) there), sym key ∙ key_same c b.0 (at_one slots s (Some c) (Some b.0) here (subst (λ (m : ℕ). At slots m (Some b.0)) (sym e) b.1)) ∙ b.2))
+            (λ apart. inl (b.0, at_set_other slots s r (Some d) (Some b.0) apart b.1, b.2))
+            (cases_eq s r))
+            (λ g. inr g)
+            (is.found k r found);
         kept = λ r b at.
             ⊎_elim
-            (λ x. ap (λ (k : RecordKey). find key_cmp k index) (sym (key_same d b x.1)) ∙ here ∙ ap (λ (m : ℕ). Some m) x.0)
+            (λ x. ap (λ (k : RecordKey). find key_cmp k t.index) (sym (key_same d b x.1) ∙ sym key) ∙ is.kept s c here ∙ ap (λ (m : ℕ). Some m) x.0)
             (λ y. is.kept r b y.1)
             (at_set slots s r (Some d) (Some b) at);
-        unused = λ n r at. at_set_other slots s r (Some d) None (λ e. none-some c.0 (at_one slots s None (Some c.0) (subst (λ (m : ℕ). At slots m None) (sym e) (is.unused n r at)) c.1)) (is.unused n r at);
+        unused = λ n r at. at_set_other slots s r (Some d) None (λ e. none-some c (at_one slots s None (Some c) (subst (λ (m : ℕ). At slots m None) (sym e) (is.unused n r at)) here)) (is.unused n r at);
         distinct = is.distinct;
-        count = omega (arith, is.count, length-set slots s (Some d), over_slots_set (λ (b : Chain). 1) slots s (Some d) there, here_is s (Some c.0) c.1);
+        count = omega (arith, is.count, length-set slots s (Some d), over_slots_set (λ (b : Chain). 1) slots s (Some d) there, here_is s (Some c) here);
         ascending = is.ascending;
       }
 
-  -- a chain with a new key in the last free slot
-  pub indexed_added : (less : List ℕ) (s : ℕ) (d : Chain) → free ≡ less ++ s ∷ [] → find key_cmp d.key index ≡ None → IsIndexed (set slots s (Some d)) (put key_cmp d.key s index) less
-  indexed_added less s d split none =
-      let last : At free (length less) s = subst (λ (l : List ℕ). At l (length less) s) (sym split) (at_end less s) in
+  -- ---- a chain with a new key in the last free slot
+
+  pub indexed_added : (less : List ℕ) (s : ℕ) (d : Chain) → t.free ≡ less ++ s ∷ [] → IsAbsent d.key t.slots → IsIndexed (record { slots = set t.slots s (Some d); index = put key_cmp d.key s t.index; free = less }) gone
+  indexed_added less s d split absent =
+      let slots = t.slots in
+      let index = t.index in
+      let last : At t.free (length less) s = subst (λ (l : List ℕ). At l (length less) s) (sym split) (at_end less s) in
       let was : At slots s None = is.unused (length less) s last in
       let there : s < length slots = at_within slots s None was in
-      let in_free : (n r : ℕ) → At less n r → At free n r = λ n r at. subst (λ (l : List ℕ). At l n r) (sym split) (at_front less (s ∷ []) n r at) in
+      let in_free : (n r : ℕ) → At less n r → At t.free n r = λ n r at. subst (λ (l : List ℕ). At l n r) (sym split) (at_front less (s ∷ []) n r at) in
       record {
+        there = λ k r found.
+            ⊎_elim
+            (λ e.
+            let same : s ≡ r = same_Some s r (sym (found_put_same d.key s index) ∙ ap (λ (q : RecordKey). find key_cmp q (put key_cmp d.key s index)) (sym e) ∙ found) in
+            omega (arith, there, same, length-set slots s (Some d)))
+            (λ apart. omega (arith, is.there k r (sym (found_put_other k d.key s index apart) ∙ found), length-set slots s (Some d)))
+            (same_or_not k d.key);
         found = λ k r found.
             ⊎_elim
             (λ e.
             let same : s ≡ r = same_Some s r (sym (found_put_same d.key s index) ∙ ap (λ (q : RecordKey). find key_cmp q (put key_cmp d.key s index)) (sym e) ∙ found) in
-            (d, subst (λ (m : ℕ). At (set slots s (Some d)) m (Some d)) same (at_set_same slots s (Some d) there), sym e))
+            inl (d, subst (λ (m : ℕ). At (set slots s (Some d)) m (Some d)) same (at_set_same slots s (Some d) there), sym e))
             (λ apart.
-            let b = is.found k r (sym (found_put_other k d.key s index apart) ∙ found) in
-            (b.0, at_set_other slots s r (Some d) (Some b.0) (λ e. none-some b.0 (at_one slots s None (Some b.0) was (subst (λ (m : ℕ). At slots m (Some b.0)) (sym e) b.1))) b.1, b.2))
+            ⊎_elim
+            (λ b. inl (b.0, at_set_other slots s r (Some d) (Some b.0) (λ e. none-some b.0 (at_one slots s None (Some b.0) was (subst (λ (m : ℕ). At slots m (Some b.0)) (sym e) b.1))) b.1, b.2))
+            (λ g. inr g)
+            (is.found k r (sym (found_put_other k d.key s index apart) ∙ found)))
             (same_or_not k d.key);
         kept = λ r b at.
             ⊎_elim
             (λ x. ap (λ (k : RecordKey). find key_cmp k (put key_cmp d.key s index)) (sym (key_same d b x.1)) ∙ found_put_same d.key s index ∙ ap (λ (m : ℕ). Some m) x.0)
-            (λ y. found_put_other b.key d.key s index (λ e. none-some r (sym none ∙ ap (λ (q : RecordKey). find key_cmp q index) (sym e) ∙ is.kept r b y.1)) ∙ is.kept r b y.1)
+            (λ y. found_put_other b.key d.key s index (λ e. absurd (absent r b y.1 e)) ∙ is.kept r b y.1)
             (at_set slots s r (Some d) (Some b) at);
-        unused = λ n r at. at_set_other slots s r (Some d) None (λ e. not_last less n (at_within less n r at) (is.distinct n (length less) s (subst (λ (m : ℕ). At free n m) (sym e) (in_free n r at)) last)) (is.unused n r (in_free n r at));
+        unused = λ n r at. at_set_other slots s r (Some d) None (λ e. not_last less n (at_within less n r at) (is.distinct n (length less) s (subst (λ (m : ℕ). At t.free n m) (sym e) (in_free n r at)) last)) (is.unused n r (in_free n r at));
         distinct = λ m n r a b. is.distinct m n r (in_free m r a) (in_free n r b);
         count = omega (arith, is.count, length-set slots s (Some d), ap (λ (l : List ℕ). length l) split, length-append less (s ∷ []), over_slots_set (λ (b : Chain). 1) slots s (Some d) there, here_is s None was);
-        ascending = true_of (is_sorted-put key_cmp key_total d.key s index (subst T (sym is.ascending) tt));
+        ascending = sorted_put key_total d.key s index is.ascending;
       }
 
-  -- a slot that is freed
-  pub indexed_removed : (k : RecordKey) (s : ℕ) → find key_cmp k index ≡ Some s → IsIndexed (set slots s None) (without k index) (free ++ s ∷ [])
-  indexed_removed k s here =
-      let c = is.found k s here in
-      let there : s < length slots = at_within slots s (Some c.0) c.1 in
-      let not_free : (n : ℕ) → At free n s → ⊥ = λ n at. none-some c.0 (at_one slots s None (Some c.0) (is.unused n s at) c.1) in
+  -- ---- a slot that is freed, whose key stays in the index
+
+  pub indexed_removed : (s : ℕ) (c : Chain) → At t.slots s (Some c) → IsIndexed (record t { slots = set t.slots s None; free = t.free ++ s ∷ [] }) (gone ++ c.key ∷ [])
+  indexed_removed s c here =
+      let slots = t.slots in
+      let free = t.free in
+      let there : s < length slots = at_within slots s (Some c) here in
+      let not_free : (n : ℕ) → At free n s → ⊥ = λ n at. none-some c (at_one slots s None (Some c) (is.unused n s at) here) in
       record {
+        there = λ k r found. omega (arith, is.there k r found, length-set slots s None);
         found = λ q r found.
             ⊎_elim
-            (λ e. absurd (none-some r (sym (gone k index) ∙ ap (λ (j : RecordKey). find key_cmp j (without k index)) (sym e) ∙ found)))
-            (λ apart.
-            let b = is.found q r (sym (left q k index apart) ∙ found) in
-            (b.0, at_set_other slots s r None (Some b.0) (λ e. apart (sym b.2 ∙ sym (key_same c.0 b.0 (at_one slots s (Some c.0) (Some b.0) c.1 (subst (λ (m : ℕ). At slots m (Some b.0)) (sym e) b.1))) ∙ c.2)) b.1, b.2))
-            (same_or_not q k);
+            (λ b.
+            ⊎_elim
+            (λ e.
+            let same : c.key ≡ q = key_same c b.0 (at_one slots s (Some c) (Some b.0) here (subst (λ (m : ℕ). At slots m (Some b.0)) (sym e) b.1)) ∙ b.2 in
+            inr (subst (λ (k : RecordKey). Contains (gone ++ c.key ∷ []) k) same (Contains-push gone c.key)))
+            (λ apart. inl (b.0, at_set_other slots s r None (Some b.0) apart b.1, b.2))
+            (cases_eq s r))
+            (λ g. inr (Contains-append_left gone (c.key ∷ []) q g))
+            (is.found q r found);
         kept = λ r b at.
             ⊎_elim
             (λ x. absurd (none-some b x.1))
-            (λ y. left b.key k index (λ e. y.0 (same_Some s r (sym here ∙ ap (λ (q : RecordKey). find key_cmp q index) (sym e) ∙ is.kept r b y.1))) ∙ is.kept r b y.1)
+            (λ y. is.kept r b y.1)
             (at_set slots s r None (Some b) at);
         unused = λ n r at.
             ⊎_elim
@@ -168,30 +202,68 @@ module _ (slots : List (Option Chain)) (index : Index) (free : List ℕ) (is : I
             (λ x. ⊎_elim (λ y. is.distinct m n r x y) (λ y. absurd (not_free m (subst (λ (j : ℕ). At free m j) (sym y.1) x))) (at_push free s n r b))
             (λ x. ⊎_elim (λ y. absurd (not_free n (subst (λ (j : ℕ). At free n j) (sym x.1) y))) (λ y. x.0 ∙ sym y.0) (at_push free s n r b))
             (at_push free s m r a);
-        count = omega (arith, is.count, length-set slots s None, length-append free (s ∷ []), over_slots_set (λ (b : Chain). 1) slots s None there, here_is s (Some c.0) c.1);
-        ascending = true_of (is_sorted-where_key key_cmp (λ x. not (eq_by_cmp key_cmp k x)) index (subst T (sym is.ascending) tt));
+        count = omega (arith, is.count, length-set slots s None, length-append free (s ∷ []), over_slots_set (λ (b : Chain). 1) slots s None there, here_is s (Some c) here);
+        ascending = is.ascending;
       }
 
   -- the last free slot, where not all are used
-  pub last_free : used slots < length slots → (n m x : ℕ) → n ≡ m → m ≡ length free → x ≡ get_or free (n - 1) x → (free ≡ take (m - 1) free ++ x ∷ []) × At slots x None
-  last_free room n m x same long e =
-      let some : 0 < length free = omega (arith, is.count, room) in
-      let split = last_split free m x some long (subst (λ (k : ℕ). x ≡ get_or free (k - 1) x) same e) in
-      let last : At free (length (take (m - 1) free)) x = subst (λ (l : List ℕ). At l (length (take (m - 1) free)) x) (sym split) (at_end (take (m - 1) free) x) in
+  pub last_free : used t.slots < length t.slots → (free : List ℕ) (n m x : ℕ) → free ≡ t.free → n ≡ m → m ≡ length free → x ≡ get_or free (n - 1) x → (t.free ≡ take (m - 1) free ++ x ∷ []) × At t.slots x None
+  last_free room free n m x own same long e =
+      let some : 0 < length free = omega (arith, is.count, room, ap (λ (l : List ℕ). length l) own) in
+      let split = sym own ∙ last_split free m x some long (subst (λ (k : ℕ). x ≡ get_or free (k - 1) x) same e) in
+      let last : At t.free (length (take (m - 1) free)) x = subst (λ (l : List ℕ). At l (length (take (m - 1) free)) x) (sym split) (at_end (take (m - 1) free) x) in
       (split, is.unused (length (take (m - 1) free)) x last)
 
-  pub absent_index : (k : RecordKey) → IsAbsent k slots → find key_cmp k index ≡ None
-  absent_index k absent = by (find key_cmp k index) refl
-    where
-      by : (o : Option ℕ) → find key_cmp k index ≡ o → find key_cmp k index ≡ None
-      by None e = e
-      by (Some s) e = let c = is.found k s e in absurd (absent s c.0 c.1 c.2)
-
-  pub place_from_free : (k : RecordKey) (s : ℕ) → IsAbsent k slots → At slots s None → IsPlaceFor k s slots
+  pub place_from_free : (k : RecordKey) (s : ℕ) → IsAbsent k t.slots → At t.slots s None → IsPlaceFor k s t.slots
   place_from_free k s absent at = record {
-    there = at_within slots s None at;
+    there = at_within t.slots s None at;
     own = λ c here. absurd (none-some c (same_Some None (Some c) (sym at ∙ here)));
     only = λ r c here e. absurd (absent r c here e);
+  }
+
+-- ---- a key that is gone is taken out of the index, unless a slot has it again
+
+module _ (t : Parts) (gone : List RecordKey) (k : RecordKey) (is : IsIndexed t (gone ++ k ∷ [])) where
+  pub indexed_forgotten : IsAbsent k t.slots → IsIndexed (record t { index = without k t.index }) gone
+  indexed_forgotten absent = record {
+    there = λ q s found. is.there q s (kept_by q s found);
+    found = λ q s found.
+        ⊎_elim
+        (λ b. inl b)
+        (λ g. ⊎_elim (λ x. inr x) (λ e. absurd (other q s found (sym e))) (Contains-push_cases gone k q g))
+        (is.found q s (kept_by q s found));
+    kept = λ s c at. left c.key k t.index (λ e. absent s c at e) ∙ is.kept s c at;
+    unused = is.unused;
+    distinct = is.distinct;
+    count = is.count;
+    ascending = left_sorted key_cmp k t.index is.ascending;
+  }
+    where
+      other : (q : RecordKey) (s : ℕ) → find key_cmp q (without k t.index) ≡ Some s → q ≡ k → ⊥
+      other q s found e = none-some s (sym (gone_out k t.index) ∙ ap (λ (j : RecordKey). find key_cmp j (without k t.index)) (sym e) ∙ found)
+
+      kept_by : (q : RecordKey) (s : ℕ) → find key_cmp q (without k t.index) ≡ Some s → find key_cmp q t.index ≡ Some s
+      kept_by q s found = sym (left q k t.index (other q s found)) ∙ found
+
+  pub indexed_there : (s : ℕ) → HasKey t.slots s k → IsIndexed t gone
+  indexed_there s b = record {
+    there = is.there;
+    found = λ q r found.
+        ⊎_elim
+        (λ x. inl x)
+        (λ g.
+        ⊎_elim
+        (λ x. inr x)
+        (λ e.
+        let same : s ≡ r = same_Some s r (sym (is.kept s b.0 b.1) ∙ ap (λ (j : RecordKey). find key_cmp j t.index) (b.2 ∙ e) ∙ found) in
+        inl (b.0, subst (λ (m : ℕ). At t.slots m (Some b.0)) same b.1, b.2 ∙ e))
+        (Contains-push_cases gone k q g))
+        (is.found q r found);
+    kept = is.kept;
+    unused = is.unused;
+    distinct = is.distinct;
+    count = is.count;
+    ascending = is.ascending;
   }
 
 pub descending_more : (free : List ℕ) (n count s : ℕ) → n < count → s ≡ count - 1 - n → IsDescending free n count → IsDescending (free ++ s ∷ []) (n + 1) count
@@ -210,8 +282,9 @@ free_there zero s lt = absurd (omega (arith, lt))
 free_there (suc n) zero lt = refl
 free_there (suc n) (suc s) lt = free_there n s (omega (arith, lt))
 
-pub empty_table : (free : List ℕ) (count : ℕ) → IsDescending free count count → IsIndexed (replicate count free_slot) [] free
+pub empty_table : (free : List ℕ) (count : ℕ) → IsDescending free count count → IsIndexed (record { slots = replicate count free_slot; index = []; free = free }) []
 empty_table free count is = record {
+  there = λ k s h. absurd (none-some s h);
   found = λ k s h. absurd (none-some s h);
   kept = λ s c at. absurd (none-some c (sym (all_free count s (Some c) at)));
   unused = λ n s at. free_there count s (omega (arith, is.down n s at));
@@ -225,68 +298,45 @@ empty_table free count is = record {
 
 -- ---- a table of slots that are there
 
-module _ (slots : List (Option Chain)) (once : HasKeysOnce slots) (keys : Index) (n : ℕ) (are : AreKeysTo slots keys n) where
+module _ (slots : List (Option Chain)) (once : HasKeysOnce slots) (index : Index) (n : ℕ) (are : IsIndexedTo slots index n) where
   -- a free slot has no key
-  keys_past_free : At slots n None → AreKeysTo slots keys (n + 1)
-  keys_past_free at = record {
-    found = λ k s h. let c = are.found k s h in (c.0, c.1, c.2, omega (arith, c.3));
+  index_past_free : At slots n None → IsIndexedTo slots index (n + 1)
+  index_past_free at = record {
+    found = λ k s h. let c = are.found k s h in (c.0, omega (arith, c.1));
     kept = λ s c here lt.
         ⊎_elim
         (λ e. absurd (none-some c (at_one slots n None (Some c) at (subst (λ (m : ℕ). At slots m (Some c)) e here))))
         (λ apart. are.kept s c here (omega (arith, lt, apart)))
         (cases_eq s n);
-    once = are.once;
+    ascending = are.ascending;
   }
 
   -- a used one has a key that no slot before it has
-  keys_with : (d : Chain) → At slots n (Some d) → AreKeysTo slots (keys ++ (d.key, n) ∷ []) (n + 1)
-  keys_with d at = record {
+  index_with : (d : Chain) → At slots n (Some d) → IsIndexedTo slots (put key_cmp d.key n index) (n + 1)
+  index_with d at = record {
     found = λ k s h.
         ⊎_elim
-        (λ before. let c = are.found k s before in (c.0, c.1, c.2, omega (arith, c.3)))
-        (λ last.
-        let place : n ≡ s = ap {B = ℕ} (λ (e : RecordKey × ℕ). e.1) last in
-        (d, subst (λ (m : ℕ). At slots m (Some d)) place at, ap {B = RecordKey} (λ (e : RecordKey × ℕ). e.0) last, omega (arith, place)))
-        (Contains-push_cases keys (d.key, n) (k, s) h);
+        (λ e.
+        let place : n ≡ s = same_Some n s (sym (found_put_same d.key n index) ∙ ap (λ (q : RecordKey). find key_cmp q (put key_cmp d.key n index)) (sym e) ∙ h) in
+        ((d, subst (λ (m : ℕ). At slots m (Some d)) place at, sym e), omega (arith, place)))
+        (λ apart. let c = are.found k s (sym (found_put_other k d.key n index apart) ∙ h) in (c.0, omega (arith, c.1)))
+        (same_or_not k d.key);
     kept = λ s c here lt.
         ⊎_elim
         (λ e.
         let same : d ≡ c = same_Some d c (at_one slots n (Some d) (Some c) at (subst (λ (m : ℕ). At slots m (Some c)) e here)) in
-        subst (λ (p : RecordKey × ℕ). Contains (keys ++ (d.key, n) ∷ []) p) (pair_same d.key c.key n s (ap (λ (x : Chain). x.key) same) (sym e)) (Contains-push keys (d.key, n)))
-        (λ apart. Contains-append_left keys ((d.key, n) ∷ []) (c.key, s) (are.kept s c here (omega (arith, lt, apart))))
+        ap (λ (x : Chain). find key_cmp x.key (put key_cmp d.key n index)) (sym same) ∙ found_put_same d.key n index ∙ ap (λ (m : ℕ). Some m) (sym e))
+        (λ apart. found_put_other c.key d.key n index (λ e. apart (once s n c d here at e)) ∙ are.kept s c here (omega (arith, lt, apart)))
         (cases_eq s n);
-    once = λ k.
-        ⊎_elim
-        (λ e.
-        let none = times_none key_cmp k keys (λ p there tie. new_key k e p there tie) in
-        omega (arith, none, times_last key_cmp k keys (d.key, n) true (ap (λ (q : RecordKey). eq_by_cmp key_cmp k q) (sym e) ∙ tied k)))
-        (λ apart. omega (arith, are.once k, times_last key_cmp k keys (d.key, n) false (untied k d.key apart)))
-        (same_or_not k d.key);
+    ascending = sorted_put key_total d.key n index are.ascending;
   }
-    where
-      new_key : (k : RecordKey) → k ≡ d.key → (p : RecordKey × ℕ) → Contains keys p → key_cmp k p.0 ≡ Equal → ⊥
-      new_key k e p there tie =
-          let c = are.found p.0 p.1 there in
-          let same : n ≡ p.1 = once n p.1 d c.0 at c.1 (sym e ∙ same_key k p.0 tie ∙ sym c.2) in
-          absurd (omega (arith, same, c.3))
 
-      pair_same : (k q : RecordKey) (m s : ℕ) → k ≡ q → m ≡ s → ◌≡◌ {A = RecordKey × ℕ} (k, m) (q, s)
-      pair_same k q m s e f = λ i. (e i, f i)
+  pub index_more : (o : Option Chain) (now : Index) → At slots n o → (o ≡ None → now ≡ index) → ((c : Chain) → o ≡ Some c → now ≡ put key_cmp c.key n index) → IsIndexedTo slots now (n + 1)
+  index_more None now at none some = subst (λ (x : Index). IsIndexedTo slots x (n + 1)) (sym (none refl)) (index_past_free at)
+  index_more (Some c) now at none some = subst (λ (x : Index). IsIndexedTo slots x (n + 1)) (sym (some c refl)) (index_with c at)
 
-  pub keys_more : (o : Option Chain) (now : Index) → At slots n o → (o ≡ None → now ≡ keys) → ((c : Chain) → o ≡ Some c → now ≡ keys ++ (c.key, n) ∷ []) → AreKeysTo slots now (n + 1)
-  keys_more None now at none some = subst (λ (x : Index). AreKeysTo slots x (n + 1)) (sym (none refl)) (keys_past_free at)
-  keys_more (Some c) now at none some = subst (λ (x : Index). AreKeysTo slots x (n + 1)) (sym (some c refl)) (keys_with c at)
-
--- the keys in ascending order
-pub keys_sorted : (slots : List (Option Chain)) (keys index : Index) (n : ℕ) → AreKeysTo slots keys n → IsPermutation keys index → IsTrue (is_sorted key_cmp index) → IsIndexedTo slots index n
-keys_sorted slots keys index n are p up = record {
-  found = λ k s h.
-      let c = pair_found key_cmp key_total keys index p up k s h in
-      let there = are.found c.0 s c.2 in
-      (there.0, there.1, there.2 ∙ sym (same_key k c.0 c.1), there.3);
-  kept = λ s c at lt. found_pair key_cmp key_total keys index p up c.key s (are.kept s c at lt);
-  ascending = up;
-}
+pub index_none : (slots : List (Option Chain)) (index : Index) → index ≡ [] → IsIndexedTo slots index 0
+index_none slots index e = rw e record { found = λ k s h. absurd (none-some s h); kept = λ s c at lt. absurd (omega (arith, lt)); ascending = refl }
 
 module _ (slots : List (Option Chain)) (free : List ℕ) (s : ℕ) (lt : s < length slots) (is : IsFreeFrom slots free (s + 1)) where
   rest : (o : Option Chain) → At slots s o → (used (drop s slots) ≡ if_used (λ c. 1) o + used (drop (s + 1) slots)) × (length (drop s slots) ≡ 1 + length (drop (s + 1) slots))

@@ -1,5 +1,5 @@
 //! A commit that is being prepared: the next layout, and the pages that are written for it.
-ghost use Rattle.std.specs.Prelude.{◌≡◌, ◌≤◌, ◌<◌, ◌+◌, ◌*◌, ◌/◌, ◌^◌, min, true, false, List, ℕ, Some, length, IfOk, OnOk};
+ghost use Rattle.std.specs.Prelude.{◌≡◌, ◌≤◌, ◌<◌, ◌+◌, ◌*◌, ◌/◌, ◌^◌, min, true, false, List, ℕ, Some, length, IfOk, IfErr, OnOk};
 ghost use Rattle.kd_records.specs.Contents.{Record, Change};
 ghost use Rattle.kd_records.specs.Charge.{IsBlockSize, charge_of};
 ghost use Rattle.page_pool.specs.Places.{At};
@@ -12,6 +12,7 @@ ghost use Rattle.page_drafts.specs.DraftRuns.{RemovesOne, RemovesAll, PutsOne, P
 ghost use Rattle.page_drafts.specs.Prepared.{CanPrepare, Prepared};
 
 use crate::table::Table;
+use crate::table_draft::TableDraft;
 use kd_base::{Bytes, OutOfMemory};
 use kd_records::{RecordKey, charge};
 use kdcfile_layout::{Chain, PageWrite, directory_page, page_place, put_chain};
@@ -24,19 +25,19 @@ use std::marker::Model;
 #[derive(Drop)]
 pub struct Draft {
     directory: Vec<u32>,
-    table: Table,
+    table: TableDraft,
     stale: Vec<bool>,
     writes: Vec<PageWrite>,
     taken: usize,
     freed: Vec<u32>,
 }
 
-/// A draft in parts: the numbers of the directory's pages, the slots, what is to be written, how many pages of the plan
+/// A draft in parts: the numbers of the directory's pages, the slots, which can be taken back, what is to be written, how many pages of the plan
 /// that takes, and the pages that only the old layout names.
 #[derive(Drop)]
 pub struct DraftParts {
     pub directory: Vec<u32>,
-    pub table: Table,
+    pub table: TableDraft,
     pub writes: Vec<PageWrite>,
     pub taken: usize,
     pub freed: Vec<u32>,
@@ -47,7 +48,7 @@ impl Model for Draft {
 
     ghost Value = { Drafting };
 
-    ghost view = { λ d. record { layout = record { directory = d.directory.items; slots = d.table }; stale = d.stale.items; writes = d.writes.items; taken = d.taken; freed = d.freed.items } };
+    ghost view = { λ d. record { layout = record { directory = d.directory.items; slots = d.table.slots }; stale = d.stale.items; writes = d.writes.items; taken = d.taken; freed = d.freed.items; before = d.table.before } };
 }
 
 /// So many pages of the plan, from this one on.
@@ -85,7 +86,8 @@ impl Draft {
         requires plan { length plan.now < 2 ^ 32 }
         requires stale { (s : ℕ) → s < length self.old.layout.slots → s / (size / 32) < length self.old.stale }
         requires room { IsAbsent key self.old.layout.slots → used self.old.layout.slots < length self.old.layout.slots }
-        ensures { OnOk result ((s : ℕ) × IsPlaceFor key s self.old.layout.slots × (self.new ≡ put_in size plan.now key value.now s self.old)) }
+        ensures ok { OnOk result ((s : ℕ) × IsPlaceFor key s self.old.layout.slots × (self.new ≡ put_in size plan.now key value.now s self.old)) }
+        ensures before { self.new.before ≡ self.old.before }
     {
         let count = charge(value.len() as u64, size) as usize;
         let pages = planned(alloc, plan, self.taken, count)?;
@@ -102,7 +104,8 @@ impl Draft {
     fn remove(&mut self, size: u32, key: &RecordKey) -> Result<(), OutOfMemory>
         requires size { IsBlockSize size }
         requires stale { (s : ℕ) → s < length self.old.layout.slots → s / (size / 32) < length self.old.stale }
-        ensures { OnOk result (IsRemoved size key.now self.old self.new) }
+        ensures ok { OnOk result (IsRemoved size key.now self.old self.new) }
+        ensures before { self.new.before ≡ self.old.before }
     {
         self.freed.extend_from_slice(self.table.pages(key))?;
         if let Some(place) = self.table.remove(key)? {
@@ -125,6 +128,7 @@ impl Draft {
         requires slots { k * (size / 32) + size / 32 ≤ length self.old.layout.slots }
         requires enough { self.old.taken < length plan.now }
         ensures written { OnOk result (IsPageWritten size plan.now k self.old self.new) }
+        ensures before { self.new.before ≡ self.old.before }
     {
         let page = plan[self.taken];
         let bytes = directory_page(alloc, size, self.table.slots(), k)?;
@@ -147,7 +151,8 @@ impl Draft {
     ) -> Result<(), OutOfMemory>
         requires size { IsBlockSize size }
         requires stale { (s : ℕ) → s < length self.old.layout.slots → s / (size / 32) < length self.old.stale }
-        ensures { OnOk result (RemovesOne size change.now self.old self.new) }
+        ensures ok { OnOk result (RemovesOne size change.now self.old self.new) }
+        ensures before { self.new.before ≡ self.old.before }
     {
         match &change.1 {
             None => self.remove(size, &change.0),
@@ -163,7 +168,8 @@ impl Draft {
     ) -> Result<(), OutOfMemory>
         requires size { IsBlockSize size }
         requires sized { IsSized size self.old }
-        ensures { OnOk result (RemovesAll size changes.now self.old self.new) }
+        ensures ok { OnOk result (RemovesAll size changes.now self.old self.new) }
+        ensures before { self.new.before ≡ self.old.before }
     {
         for change in changes {
             self.remove_change(size, change)?;
@@ -185,7 +191,8 @@ impl Draft {
         requires plan { length plan.now < 2 ^ 32 }
         requires stale { (s : ℕ) → s < length self.old.layout.slots → s / (size / 32) < length self.old.stale }
         requires room { (v : List ℕ) → change.now.1 ≡ Some v → IsAbsent change.now.0 self.old.layout.slots → used self.old.layout.slots < length self.old.layout.slots }
-        ensures { OnOk result (PutsOne size plan.now change.now self.old self.new) }
+        ensures ok { OnOk result (PutsOne size plan.now change.now self.old self.new) }
+        ensures before { self.new.before ≡ self.old.before }
     {
         match &change.1 {
             None => Ok(()),
@@ -208,7 +215,8 @@ impl Draft {
         requires enough { self.old.taken + put_charge size changes.now ≤ length plan.now }
         requires plan { length plan.now < 2 ^ 32 }
         requires room { (pool : ℕ) × (items : List Record) × HasRoom size pool items plan.now changes.now self.old }
-        ensures { OnOk result (PutsAll size plan.now changes.now self.old self.new) }
+        ensures ok { OnOk result (PutsAll size plan.now changes.now self.old self.new) }
+        ensures before { self.new.before ≡ self.old.before }
     {
         for change in changes {
             self.put_change(alloc, size, plan, change)?;
@@ -229,7 +237,8 @@ impl Draft {
         requires there { k < length self.old.layout.directory }
         requires enough { At self.old.stale k true → self.old.taken < length plan.now }
         requires slots { k * (size / 32) + size / 32 ≤ length self.old.layout.slots }
-        ensures { OnOk result (FreshensOne size plan.now k self.old self.new) }
+        ensures ok { OnOk result (FreshensOne size plan.now k self.old self.new) }
+        ensures before { self.new.before ≡ self.old.before }
     {
         if self.stale[k] {
             self.put_directory_page(alloc, size, plan, k)
@@ -243,7 +252,8 @@ impl Draft {
         requires size { IsBlockSize size }
         requires sized { IsSized size self.old }
         requires enough { self.old.taken + stale_pages self.old ≤ length plan.now }
-        ensures { OnOk result (Freshens size plan.now (length self.old.layout.directory) self.old self.new) }
+        ensures ok { OnOk result (Freshens size plan.now (length self.old.layout.directory) self.old self.new) }
+        ensures before { self.new.before ≡ self.old.before }
     {
         for k in 0..self.directory.len() {
             self.freshen(alloc, size, plan, k)?;
@@ -251,7 +261,8 @@ impl Draft {
         Ok(())
     }
 
-    /// Makes the changes of a patch: what it removes first, so that its slots are free for what it puts.
+    /// Makes the changes of a patch: what it removes first, so that its slots are free for what it puts. It costs what the
+    /// changes are, with the slots of each page of the directory that they touch, and goes once over the directory's pages.
     pub fn prepare(
         &mut self,
         alloc: Global,
@@ -266,21 +277,26 @@ impl Draft {
         requires enough { put_charge size changes.now + min (length changes.now) (length self.old.layout.directory) ≤ length plan.now }
         requires plan { length plan.now < 2 ^ 32 }
         requires room { (pool : ℕ) × (items : List Record) × CanPrepare size pool items plan.now changes.now self.old.layout }
-        ensures { OnOk result (Prepared size plan.now changes.now self.old.layout self.new) }
+        ensures ok { OnOk result (Prepared size plan.now changes.now self.old.layout self.new) }
+        ensures before { self.new.before ≡ self.old.before }
     {
         self.remove_all(size, changes)?;
         self.put_all(alloc, size, plan, changes)?;
         self.freshen_all(alloc, size, plan)
     }
 
-    /// A draft that begins from the layout of a directory with these pages and slots.
-    pub fn new(alloc: Global, directory: Vec<u32>, table: Table) -> Result<Draft, OutOfMemory>
-        ensures { IfOk result (λ d. d ≡ unprepared (record { directory = directory.items; slots = table })) }
+    /// A draft that begins from the layout of a directory with these pages and slots. Where memory runs out, it gives the
+    /// slots back.
+    pub fn new(alloc: Global, directory: Vec<u32>, table: Table) -> Result<Draft, Table>
+        ensures ok { IfOk result (λ d. d ≡ unprepared (record { directory = directory.items; slots = table })) }
+        ensures err { IfErr result (λ kept. kept ≡ table) }
     {
-        let stale = vec![in alloc; false; directory.len()]?;
+        let Ok(stale) = vec![in alloc; false; directory.len()] else {
+            return Err(table);
+        };
         Ok(Draft {
             directory,
-            table,
+            table: TableDraft::new(alloc, table),
             stale,
             writes: Vec::new(alloc),
             taken: 0,
@@ -288,10 +304,17 @@ impl Draft {
         })
     }
 
+    /// The slots as they were before. It takes no memory, and costs as much as the changes did.
+    pub fn back(self) -> Table
+        ensures { result ≡ self.before }
+    {
+        self.table.back()
+    }
+
     /// Its parts. It takes no memory.
     pub fn into_parts(self) -> DraftParts
         ensures directory { result.directory.items ≡ self.layout.directory }
-        ensures table { result.table ≡ self.layout.slots }
+        ensures table { result.table ≡ record { slots = self.layout.slots; before = self.before } }
         ensures writes { result.writes.items ≡ self.writes }
         ensures taken { result.taken ≡ self.taken }
         ensures freed { result.freed.items ≡ self.freed }

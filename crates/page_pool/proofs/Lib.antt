@@ -1,2 +1,3 @@
 pub mod Exchanges
 pub mod Plans
+pub mod Widening

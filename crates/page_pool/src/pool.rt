@@ -1,5 +1,5 @@
 //! Free and used pages.
-ghost use Rattle.std.specs.Prelude.{◌≡◌, ◌≤◌, ◌<◌, ◌+◌, ◌^◌, ◌-◌, ℕ, true, false, not, List, length, set, replicate, take, drop, IsTrue, IfOk, OnOk, All};
+ghost use Rattle.std.specs.Prelude.{◌≡◌, ◌≤◌, ◌<◌, ◌+◌, ◌++◌, ◌^◌, ◌-◌, ℕ, true, false, not, List, length, set, replicate, take, drop, IsTrue, IfOk, OnOk, All};
 ghost use Rattle.page_pool.specs.Places.{At, IsDistinct};
 ghost use Rattle.page_pool.specs.Pools.{IsPool, IsCountedDown, AreLast, ArePlanned, free_count, flagged, moved_order, moved_place};
 
@@ -147,6 +147,30 @@ impl Pool {
     {
         for n in 0..pages.len() {
             self.release(pages[pages.len() - 1 - n]);
+        }
+    }
+
+    /// The same pool with more pages, `pages` in all, of which the new ones are free. It costs as much as they are all.
+    pub fn widened(&self, alloc: Global, pages: u32) -> Result<Pool, OutOfMemory>
+        requires few { length self.now < 2 ^ 32 }
+        requires more { length self.now ≤ pages }
+        ensures { IfOk result (λ p. p ≡ self.now ++ replicate (pages - length self.now) false) }
+    {
+        let mut pool = Pool::new(alloc, pages)?;
+        for page in 0..self.used.len() {
+            pool.copy_mark(page as u32, self.used[page]);
+        }
+        Ok(pool)
+    }
+
+    // The free page is used, if it is used elsewhere.
+    fn copy_mark(&mut self, page: u32, used: bool)
+        requires few { length self.old < 2 ^ 32 }
+        requires free { At self.old page false }
+        ensures { self.new ≡ set self.old page used }
+    {
+        if used {
+            self.mark(page);
         }
     }
 

@@ -3,7 +3,7 @@ use Rattle.std.specs.Prelude.{◌≡◌, ℕ, false, List, [], ◌∷◌, ◌++�
 use Rattle.std.specs.FinMap.{find}
 use Rattle.kdcs_types.specs.declared.key.ServiceId.{ServiceId}
 use Rattle.kdcs_types.specs.Keys.{id_cmp}
-use Rattle.kdcs_types.specs.Tables.{changed}
+use Rattle.kdcs_types.specs.Tables.{AreChanges, changed}
 use Rattle.kdcs_types.specs.declared.act.Changes.{Changes}
 use Rattle.kdcs_types.specs.declared.act.Act.{Act}
 use Rattle.kdcs_types.specs.declared.act.Act.TheVariants.{Commit, Emit}
@@ -16,7 +16,7 @@ use Rattle.kdcs_types.specs.declared.service.Settled.{Settled}
 use Rattle.abstract_monitor.specs.declared.outcome.Outcome.{Outcome}
 use Rattle.abstract_monitor.specs.declared.outcome.Outcome.TheVariants.{Hold, Stay, Queue, Wait, Point, Follow, Finish, Break, Back}
 use Rattle.abstract_monitor.specs.Bytes.{Bytes}
-use Rattle.abstract_monitor.specs.Endings.{broken, durable, opened_by_row, refusal, row_after, synchronised, with_service}
+use Rattle.abstract_monitor.specs.Endings.{broken, durable, opened_by_row, refusal, row_after, service_change, synchronised, with_service}
 use Rattle.abstract_monitor.specs.Statements.{kept_record}
 use Rattle.abstract_monitor.specs.Sessions.{is_running}
 use Rattle.abstract_monitor.specs.State.{Application, OpenTransaction, State}
@@ -24,6 +24,7 @@ use Rattle.abstract_monitor.specs.Turns.{Turned, after_point, commit_of, committ
 use Rattle.laws_of_tables.specs.PointLaws.{Stands}
 use Rattle.step_scheduler.specs.Schedule.{IsTask}
 use Rattle.open_transaction.specs.Transactions.{Boxed, boxed_transaction, HasOrder}
+use Rattle.row_charges.specs.Pages.{FitPool}
 use Rattle.service_ends.specs.declared.turned.Turned.{Turned as Did}
 use Rattle.core_state.specs.declared.parts.MonitorParts.{MonitorParts}
 use Rattle.core_state.specs.Standing.{IsIndexed, state_of}
@@ -102,6 +103,14 @@ ForOpen s id P = (x : OpenTransaction) → find id_cmp id s.active ≡ Some x �
 -- the state with the changes of a commit, and this row of its service
 abbrev pub committed_in : MonitorParts → Changes → ServiceId → Option Service → State
 committed_in p changes id row = record (state_of p) { tables = with_service (changed p.tables changes) id row }
+
+-- tables take these changes, and then this row of the service, and what outlives a stop fits into the page pool all the time
+pub record CanCommit (p : MonitorParts) (c : Changes) (id : ServiceId) (row : Option Service) : Type 0 where
+  pub changes : AreChanges c.items
+  pub own : AreChanges (service_change id row ∷ [])
+  pub before : FitPool p.generation p.tables
+  pub between : FitPool p.generation (changed p.tables c)
+  pub after : FitPool p.generation (with_service (changed p.tables c) id row)
 
 -- a point with this commit, and what follows it
 abbrev pub point_with : MonitorParts → Changes → ServiceId → Option Service → Outcome → (message lterm : Bytes) → Settled → Turned

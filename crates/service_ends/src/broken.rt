@@ -1,9 +1,9 @@
 //! Abnormal ends.
 ghost use Rattle.std.specs.Prelude.{◌≡◌, ◌++◌, ◌∷◌, [], None, IfOk, OnOk};
-ghost use Rattle.kdcs_types.specs.{Tables.{AreChanges}, declared.act.Act.TheVariants.{Commit}};
-ghost use Rattle.abstract_monitor.specs.{Endings.{service_change}, State.{OpenTransaction as Transaction}, Turns.{abnormal, dump_acts, ended_acts}};
+ghost use Rattle.kdcs_types.specs.declared.act.Act.TheVariants.{Commit};
+ghost use Rattle.abstract_monitor.specs.{State.{OpenTransaction as Transaction}, Turns.{abnormal, dump_acts, ended_acts}};
 ghost use Rattle.open_transaction.specs.Transactions.{boxed_transaction, transaction_of};
-ghost use Rattle.service_ends.specs.Ending.{behind_end, broken_to, committed_in, emitted, turned_to, ForOpen, IsClosed, Serves};
+ghost use Rattle.service_ends.specs.Ending.{behind_end, broken_to, CanCommit, committed_in, emitted, turned_to, ForOpen, IsClosed, Serves};
 ghost use Rattle.core_state.specs.{Standing.{IsIndexed, SameApplication, state_of}, Whole.{app_of}};
 
 use crate::closed::close_transaction;
@@ -56,8 +56,7 @@ fn end_acts(
     changes: Changes,
 ) -> Result<Acts, OutOfMemory>
     requires indexed { IsIndexed parts.old }
-    requires changes { AreChanges changes.items }
-    requires own { AreChanges (service_change id.now None ∷ []) }
+    requires commits { CanCommit parts.old changes id.now None }
     ensures acts { IfOk result (λ acts. acts ≡ Commit changes ∷ (emitted dump ++ ended_acts (state_of parts.new) id.now)) }
     ensures state { OnOk result (state_of parts.new ≡ committed_in parts.old changes id.now None) }
     ensures indexed { OnOk result (IsIndexed parts.new) }
@@ -80,8 +79,7 @@ fn break_off(
     kept: Settled,
 ) -> Result<Turned, OutOfMemory>
     requires indexed { IsIndexed parts.old }
-    requires changes { AreChanges changes.items }
-    requires own { AreChanges (service_change id.now None ∷ []) }
+    requires commits { CanCommit parts.old changes id.now None }
     ensures exact { IfOk result (λ did. turned_to (state_of parts.new) did ≡ behind_end (committed_in parts.old changes id.now None) id.now dump (Commit changes) kept) }
     ensures indexed { OnOk result (IsIndexed parts.new) }
     ensures same { OnOk result (SameApplication parts.old parts.new) }

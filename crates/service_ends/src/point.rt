@@ -1,9 +1,9 @@
 //! Synchronisation points.
 ghost use Rattle.std.specs.Prelude.{◌≡◌, ◌++◌, ◌∷◌, [], IfOk, OnOk};
-ghost use Rattle.kdcs_types.specs.{Tables.{AreChanges}, declared.act.Act.TheVariants.{Commit}};
-ghost use Rattle.abstract_monitor.specs.{Endings.{joined, service_change}, State.{OpenTransaction as Transaction}, Turns.{settled}};
+ghost use Rattle.kdcs_types.specs.declared.act.Act.TheVariants.{Commit};
+ghost use Rattle.abstract_monitor.specs.{Endings.{joined}, State.{OpenTransaction as Transaction}, Turns.{settled}};
 ghost use Rattle.open_transaction.specs.Transactions.{boxed_transaction, transaction_of};
-ghost use Rattle.service_ends.specs.Ending.{committed_in, goes_on_from, point_with, pointed_to, sent_by, turned_to, CanGoOn, ForOpen, IsClosed, Serves};
+ghost use Rattle.service_ends.specs.Ending.{CanCommit, committed_in, goes_on_from, point_with, pointed_to, sent_by, turned_to, CanGoOn, ForOpen, IsClosed, Serves};
 ghost use Rattle.core_state.specs.{Standing.{IsIndexed, SameApplication, state_of}, Whole.{app_of}};
 
 use crate::broken::end_transaction;
@@ -88,8 +88,7 @@ fn point_acts(
     row: Option<Service>,
 ) -> Result<Acts, OutOfMemory>
     requires indexed { IsIndexed parts.old }
-    requires changes { AreChanges changes.items }
-    requires own { AreChanges (service_change ended.id row ∷ []) }
+    requires commits { CanCommit parts.old changes ended.id row }
     requires rests { CanGoOn parts.old ended.id row }
     ensures acts { IfOk result (λ acts. acts ≡ Commit changes ∷ sent_by (committed_in parts.old changes ended.id row) ended.id ended.outcome ended.message) }
     ensures state { OnOk result (state_of parts.new ≡ goes_on_from (app_of parts.old) (committed_in parts.old changes ended.id row) ended.id row ended.outcome ended.message ended.lterm) }
@@ -113,8 +112,7 @@ fn synchronise(
     kept: Settled,
 ) -> Result<Turned, OutOfMemory>
     requires indexed { IsIndexed parts.old }
-    requires changes { AreChanges changes.items }
-    requires own { AreChanges (service_change ended.id row ∷ []) }
+    requires commits { CanCommit parts.old changes ended.id row }
     requires rests { CanGoOn parts.old ended.id row }
     ensures exact { IfOk result (λ did. turned_to (state_of parts.new) did ≡ point_with parts.old changes ended.id row ended.outcome ended.message ended.lterm kept) }
     ensures indexed { OnOk result (IsIndexed parts.new) }
@@ -147,6 +145,7 @@ fn settle_transaction(
         alloc,
         &parts.generation,
         &parts.tables,
+        parts.charge,
         outcome,
     )? {
         SettleAnswer::Refused(cause, transaction) => end_transaction(

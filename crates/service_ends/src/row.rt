@@ -4,7 +4,8 @@ ghost use Rattle.kdcs_types.specs.{Keys.{id_cmp}, declared.act.Act.TheVariants.{
 ghost use Rattle.abstract_monitor.specs.{Endings.{header_of_row, opened_by_row, service_change, user_in_row, with_service}, Sessions.{is_running}, Turns.{queued}};
 ghost use Rattle.open_transaction.specs.Transactions.{HasOrder};
 ghost use Rattle.core_state.specs.Standing.{IsIndexed, SameApplication, state_of};
-ghost use Rattle.service_ends.specs.Ending.{committed_in};
+ghost use Rattle.row_charges.specs.Pages.{FitPool};
+ghost use Rattle.service_ends.specs.Ending.{CanCommit, committed_in};
 
 use core_state::MonitorParts;
 use kd_base::{Name, OutOfMemory};
@@ -20,7 +21,7 @@ fn service_change(id: &ServiceId, row: &Option<Service>) -> Result<Change, OutOf
     }
 }
 
-/// The service has this row in the tables, or none.
+/// The service has this row in the tables, or none. The durable rows fit into the page pool before and after that.
 pub fn set_row(
     parts: &mut MonitorParts,
     alloc: Global,
@@ -29,6 +30,8 @@ pub fn set_row(
 ) -> Result<(), OutOfMemory>
     requires indexed { IsIndexed parts.old }
     requires fits { AreChanges (service_change id.now row.now ∷ []) }
+    requires before { FitPool parts.old.generation parts.old.tables }
+    requires after { FitPool parts.old.generation (with_service parts.old.tables id.now row.now) }
     ensures indexed { OnOk result (IsIndexed parts.new) }
     ensures same { OnOk result (SameApplication parts.old parts.new) }
     ensures state { OnOk result (state_of parts.new ≡ record (state_of parts.old) { tables = with_service parts.old.tables id.now row.now }) }
@@ -54,8 +57,7 @@ pub(crate) fn commit(
     acts: &mut Acts,
 ) -> Result<(), OutOfMemory>
     requires indexed { IsIndexed parts.old }
-    requires changes { AreChanges changes.items }
-    requires own { AreChanges (service_change id.now row.now ∷ []) }
+    requires commits { CanCommit parts.old changes id.now row.now }
     ensures indexed { OnOk result (IsIndexed parts.new) }
     ensures same { OnOk result (SameApplication parts.old parts.new) }
     ensures state { OnOk result (state_of parts.new ≡ committed_in parts.old changes id.now row.now) }

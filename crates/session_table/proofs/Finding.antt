@@ -1,35 +1,66 @@
--- The terminal of a user, found by going over the sessions.
-use Rattle.std.proofs.Common.{◌≡◌, refl, ℕ, ◌<◌, ◌≤◌, zero, suc, true, false, List, [], ◌∷◌, length, drop, get_or, Some, None, is_some, ◌||◌, bytes_eq, arith}
+-- Where a user is signed on.
+use Rattle.std.proofs.Common.{◌≡◌, refl, ap, sym, ◌∙◌, zero, suc, true, false, List, [], ◌∷◌, Some, None, IsTrue, is_some, ◌||◌, bytes_eq, arith, inl, inr}
+use Rattle.std.proofs.lemmas.Bool.{cases_Bool}
+use Rattle.std.proofs.lemmas.Cmp.{nat_list_cmp_total, nat_list_eq_equiv}
+use Rattle.std.proofs.lemmas.Map.Text.{is_eq-slice_cmp}
+use Rattle.std.proofs.lemmas.Option.{none-some}
+use Rattle.std.specs.Prelude.{Contains}
 use Rattle.std.specs.List.{list_any}
+use Rattle.std.specs.Ordering.{eq_by_cmp}
+use Rattle.std.specs.FinMap.{find, is_sorted}
+use Rattle.kd_base.specs.ToolsLaws.{cases_option}
+use Rattle.sorted_pairs.specs.TimesLaws.{found_of}
 use Rattle.abstract_monitor.specs.Sessions.{has_user}
-use Rattle.abstract_monitor.specs.Bytes.{Bytes}
+use Rattle.abstract_monitor.specs.Bytes.{Bytes, bytes_cmp}
 use Rattle.abstract_monitor.specs.State.{Session}
 use Rattle.abstract_monitor.specs.Turns.{pterm_of_user, pterm_by}
+use Rattle.session_table.specs.Signed.{ArePterms}
+use Rattle.session_table.proofs.Keys.{tied}
 
 abbrev Signed : Type 0
 Signed = List (Bytes × Session)
 
--- the session at a place is of the user
-pub found_here : (es : Signed) (i : ℕ) (e : Bytes × Session) (user : Bytes) → i < length es → e ≡ get_or es i e → bytes_eq e.1.user user ≡ true → Some e.0 ≡ pterm_of_user (drop i es) user
+-- a user in a session is signed on somewhere
+pub somewhere : (q : Bytes) (w : Session) (es : Signed) → find bytes_cmp q es ≡ Some w → pterm_of_user es w.user ≡ None → ⊥
 unfolding pterm_of_user
-found_here [] i e user lt is own = absurd (omega arith)
-found_here (x ∷ es) zero e user lt is own = rw (← is, own) refl
-found_here (x ∷ es) (suc i) e user lt is own = found_here es i e user (omega arith) is own
+somewhere q w [] is none = cc
+somewhere q w (x ∷ es) is none =
+    elim (cases_Bool (bytes_eq x.1.user w.user)) [
+      | inl h ↦ absurd (let found = rw h at none in cc)
+      | inr h ↦
+          let rest = rw h at none in
+          elim (cases_Bool (eq_by_cmp bytes_cmp q x.0)) [
+            | inl t ↦
+                let same : x.1 ≡ w = (let here = rw t at is in cc) in
+                absurd (let own = sym (nat_list_eq_equiv.refl w.user) ∙ ap (λ (v : Session). bytes_eq v.user w.user) (sym same) ∙ h in cc)
+            | inr t ↦ somewhere q w es (rw t at is) rest
+          ]
+    ]
 
--- it is not, and a later one may be
-pub found_later : (es : Signed) (i : ℕ) (e : Bytes × Session) (user : Bytes) → i < length es → e ≡ get_or es i e → bytes_eq e.1.user user ≡ false → pterm_of_user (drop (suc i) es) user ≡ pterm_of_user (drop i es) user
+-- a user who is signed on somewhere is in a session there
+listed : (es : Signed) (user pterm : Bytes) → pterm_of_user es user ≡ Some pterm → (v : Session) × (v.user ≡ user) × Contains es (pterm, v)
 unfolding pterm_of_user
-found_later [] i e user lt is other = absurd (omega arith)
-found_later (x ∷ es) zero e user lt is other = rw (← is, other) refl
-found_later (x ∷ es) (suc i) e user lt is other = found_later es i e user (omega arith) is other
+listed [] user pterm is = absurd (none-some pterm is)
+listed (e ∷ es) user pterm is =
+    elim (cases_Bool (bytes_eq e.1.user user)) [
+      | inl own ↦
+          let here : e.0 ≡ pterm = (let found = rw own at is in cc) in
+          (e.1, tied e.1.user user (is_eq-slice_cmp e.1.user user ∙ own), (zero, omega arith, ap (λ (q : Bytes). (q, e.1)) here))
+      | inr other ↦ let rest = listed es user pterm (rw other at is) in (rest.0, rest.1, (suc rest.2.0, omega (arith, rest.2.1), rest.2.2))
+    ]
 
--- no session is left
-pub found_nowhere : (es : Signed) (i : ℕ) (user : Bytes) → length es ≤ i → None ≡ pterm_of_user (drop i es) user
-unfolding pterm_of_user
-found_nowhere [] zero user le = refl
-found_nowhere [] (suc i) user le = refl
-found_nowhere (x ∷ es) zero user le = absurd (omega arith)
-found_nowhere (x ∷ es) (suc i) user le = found_nowhere es i user (omega arith)
+-- the PTERM that is kept for a user
+pub pterm_kept : (es : Signed) (by_user : List (Bytes × Bytes)) (user : Bytes) → IsTrue (is_sorted bytes_cmp es) → ArePterms es by_user → find bytes_cmp user by_user ≡ pterm_of_user es user
+pterm_kept es by_user user up are =
+    elim (cases_option (pterm_of_user es user)) [
+      | inr there ↦
+          let s = listed es user there.0 there.1 in
+          ap (λ (u : Bytes). find bytes_cmp u by_user) (sym s.1) ∙ are.each there.0 s.0 (found_of bytes_cmp nat_list_cmp_total there.0 s.0 es up s.2) ∙ sym there.1
+      | inl none ↦ elim (cases_option (find bytes_cmp user by_user)) [
+        | inl absent ↦ absent ∙ sym none
+        | inr kept ↦ let s = are.only user kept.0 kept.1 in absurd (somewhere kept.0 s.0 es s.1 (ap (pterm_of_user es) s.2 ∙ none))
+      ]
+    ]
 
 -- a user is signed on somewhere where a session is theirs
 pub signed_on : (es : Signed) (user : Bytes) → is_some (pterm_of_user es user) ≡ list_any (has_user user) es

@@ -1,4 +1,6 @@
 pub mod Finding
 pub mod Keeping
+pub mod Keys
+pub mod Pterms
 pub mod Splitting
 pub mod Using

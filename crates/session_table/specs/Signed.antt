@@ -14,3 +14,8 @@ pub record AreSessions (signed : List (Bytes × Session)) : Type 0 where
 pub record CanSignOn (signed : List (Bytes × Session)) (pterm user : Bytes) : Type 0 where
   pub pterm_is_free : find bytes_cmp pterm signed ≡ None
   pub user_is_free : pterm_of_user signed user ≡ None
+
+-- the PTERM of each user who is signed on, and of nobody else
+pub record ArePterms (signed : List (Bytes × Session)) (by_user : List (Bytes × Bytes)) : Type 0 where
+  pub each : (pterm : Bytes) (v : Session) → find bytes_cmp pterm signed ≡ Some v → find bytes_cmp v.user by_user ≡ Some pterm
+  pub only : (user pterm : Bytes) → find bytes_cmp user by_user ≡ Some pterm → (v : Session) × (find bytes_cmp pterm signed ≡ Some v) × (v.user ≡ user)

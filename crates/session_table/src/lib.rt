@@ -2,7 +2,7 @@
 //!
 //! It stands on the generation and on the definitions of the abstract monitor. Its contract gives the core the use of each
 //! input, and the sessions as the list that the monitor's state has: in ascending order of their PTERMs, a user in one at
-//! most.
+//! most. They are found by PTERM and by user.
 #![tactic(auto)]
 
 mod input;

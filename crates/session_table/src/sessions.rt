@@ -9,28 +9,29 @@ use crate::split::Split;
 use abstract_monitor::{ServiceState, Use};
 use kd_base::{Bytes, Name, OutOfMemory};
 use kdcdef_check::Generation;
-use sorted_pairs::SortedPairs;
+use sorted_pairs::OrderedMap;
 use std::alloc::Global;
 use std::marker::Model;
 
-/// The sessions by their PTERMs. Contracts see their list, in ascending order of the PTERMs; a user is in one session at
-/// most.
+/// The sessions by their PTERMs, and the PTERM of each user who is signed on. Contracts see the list of sessions, in
+/// ascending order of the PTERMs; a user is in one at most. A call costs in proportion to the logarithm of their number.
 #[derive(Drop)]
 pub struct Sessions {
-    by_pterm: SortedPairs<Name, Session>,
+    by_pterm: OrderedMap<Name, Session>,
+    by_user: OrderedMap<Name, Name>,
     alloc: Global,
 }
 
 impl Model for Sessions {
     ghost use Rattle.std.specs.Prelude.{List, ℕ};
     ghost use Rattle.abstract_monitor.specs.State.{Session as Signed};
-    ghost use Rattle.session_table.specs.Signed.{AreSessions};
+    ghost use Rattle.session_table.specs.Signed.{AreSessions, ArePterms};
 
     ghost Value = { List (List ℕ × Signed) };
 
     ghost view = { λ s. s.by_pterm };
 
-    ghost invariant = { λ s. AreSessions s.by_pterm };
+    ghost invariant = { λ s. AreSessions s.by_pterm × ArePterms s.by_pterm s.by_user };
 }
 
 impl Sessions {
@@ -39,7 +40,8 @@ impl Sessions {
         ensures { result ≡ [] }
     {
         Sessions {
-            by_pterm: SortedPairs::new(alloc),
+            by_pterm: OrderedMap::new(alloc),
+            by_user: OrderedMap::new(alloc),
             alloc,
         }
     }
@@ -50,7 +52,12 @@ impl Sessions {
         ensures ok { OnOk result (self.new ≡ put bytes_cmp pterm (record { user = user; last = None }) self.old) }
         ensures err { OnErr result (self.new ≡ self.old) }
     {
-        self.by_pterm.put(pterm, Session::of(user))
+        self.by_user.put(user, pterm)?;
+        if let Err(error) = self.by_pterm.put(pterm, Session::of(user)) {
+            self.by_user.remove(&user);
+            return Err(error);
+        }
+        Ok(())
     }
 
     /// The user at this PTERM signs off; `None` where nobody is signed on there. It takes no memory.
@@ -58,7 +65,9 @@ impl Sessions {
         ensures user { result ≡ option_map (λ v. v.user) (find bytes_cmp pterm self.old) }
         ensures left { self.new ≡ where_key bytes_cmp (λ p. not (bytes_eq pterm p)) self.old }
     {
-        Some(self.by_pterm.remove(&pterm)?.user())
+        let user = self.by_pterm.remove(&pterm)?.user();
+        self.by_user.remove(&user);
+        Some(user)
     }
 
     /// Who is signed on at this PTERM. It takes no memory.
@@ -73,12 +82,7 @@ impl Sessions {
         ensures exact { result ≡ pterm_of_user self.now user }
         ensures once { AreSessions self.now }
     {
-        for (pterm, session) in self.by_pterm.as_slice() {
-            if session.user() == user {
-                return Some(*pterm);
-            }
-        }
-        None
+        self.by_user.get(&user).copied()
     }
 
     /// Whether this user is signed on anywhere. It takes no memory.

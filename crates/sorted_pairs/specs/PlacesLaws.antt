@@ -4,15 +4,15 @@ use Rattle.std.proofs.Common.{arith, sym, ap, subst, ◌∙◌, inl, inr}
 use Rattle.std.specs.Ordering.{is_eq, is_lt, eq_by_cmp, ordering_reverse}
 use Rattle.std.specs.declared.cmp.Ordering.{Ordering}
 use Rattle.std.specs.declared.cmp.Ordering.TheVariants.{Less, Equal, Greater}
-use Rattle.std.specs.Cmp.{IsTotalOrder, alike_right}
+use Rattle.std.specs.Cmp.{IsTotalOrder, alike_right, eq_by_cmp_equiv}
 use Rattle.std.specs.FinMap.{find, put, is_sorted}
-use Rattle.std.specs.FinMap.Entries.{by_order, below_all, is_sorted-where_key}
+use Rattle.std.specs.FinMap.Entries.{by_order, below_all, find-put, find-where_key, find_tied, is_sorted-put, is_sorted-where_key, same_entries}
 use Rattle.std.specs.List.{AllWithin, HoldsAt, insert, remove}
 use Rattle.std.specs.List.Sorted.{IsSortedBy}
 use Rattle.std.proofs.lemmas.Bool.{cases_lt}
 use Rattle.std.proofs.lemmas.List.Sorted.{searchable_from_sorted}
 use Rattle.std.proofs.lemmas.Option.{slice_get_read}
-use Rattle.kd_base.specs.ToolsLaws.{both_true, true_both}
+use Rattle.kd_base.specs.ToolsLaws.{both_true, cond_not, true_both}
 use Rattle.sorted_pairs.specs.Places.{IsPlace, without}
 use Rattle.kd_base.specs.OrderLaws.{is_less, holds, is_true}
 
@@ -40,6 +40,25 @@ filtered_sorted R test (e ∷ es) up =
     let rest = filtered_sorted R test es parts.1 in
     elim (test e) as (λ b. IsTrue (is_sorted R (cond b (e ∷ filter test es) (filter test es)))) [ true ↦ true_both _ _ (below_filtered R test e.0 es parts.0) rest | false ↦ rest ]
 
+-- ---- what is found after a change
+
+module _ {K X : Type 0} (R : K → K → Ordering) (o : IsTotalOrder R) where
+  pub find_without : (q k : K) (pairs : List (K × X)) → find R q (without R k pairs) ≡ cond (eq_by_cmp R q k) None (find R q pairs)
+  find_without q k pairs =
+      find-where_key R (λ x. not (eq_by_cmp R k x)) q (λ x t. ap (λ r. not (is_eq r)) (sym (alike_right o q x k t))) pairs
+      ∙ cond_not (eq_by_cmp R k q) (find R q pairs) None
+      ∙ ap (λ b. cond b None (find R q pairs)) ((eq_by_cmp_equiv o).symm k q)
+
+  -- the value that a key has already
+  pub put_again : ((a b : K) → R a b ≡ Equal → a ≡ b) → (k : K) (v : X) (pairs : List (K × X)) → IsTrue (is_sorted R pairs) → find R k pairs ≡ Some v → put R k v pairs ≡ pairs
+  put_again same k v pairs up found =
+      same_entries R o same (put R k v pairs) pairs (is_sorted-put R o k v pairs (holds _ up)) (holds _ up) (λ q. find-put R o q k v pairs ∙ by q (R q k) refl)
+    where
+      by : (q : K) (r : Ordering) → R q k ≡ r → cond (is_eq r) (Some v) (find R q pairs) ≡ find R q pairs
+      by q Equal t = sym found ∙ find_tied R o q k t pairs
+      by q Less t = refl
+      by q Greater t = refl
+
 module _ {K : Type 0} (R : K → K → Ordering) (o : IsTotalOrder R) where
   turned : (a b : K) {r : Ordering} → R a b ≡ r → R b a ≡ ordering_reverse r
   turned a b e = o.antisymm b a ∙ ap ordering_reverse e
@@ -50,10 +69,10 @@ module _ {K X : Type 0} (R : K → K → Ordering) (o : IsTotalOrder R) where
   below_at k (x ∷ xs) zero d h lt = is_less _ (both_true (is_lt (R k x.0)) (below_all R k xs) h).0
   below_at k (x ∷ xs) (suc i) d h lt = below_at k xs i d (both_true (is_lt (R k x.0)) (below_all R k xs) h).1 (omega arith)
 
-  up_tail : (x : K × X) (xs : List (K × X)) → IsTrue (is_sorted R (x ∷ xs)) → IsTrue (is_sorted R xs)
+  pub up_tail : (x : K × X) (xs : List (K × X)) → IsTrue (is_sorted R (x ∷ xs)) → IsTrue (is_sorted R xs)
   up_tail x xs up = (both_true (below_all R x.0 xs) (is_sorted R xs) up).1
 
-  up_head : (x : K × X) (xs : List (K × X)) → IsTrue (is_sorted R (x ∷ xs)) → IsTrue (below_all R x.0 xs)
+  pub up_head : (x : K × X) (xs : List (K × X)) → IsTrue (is_sorted R (x ∷ xs)) → IsTrue (below_all R x.0 xs)
   up_head x xs up = (both_true (below_all R x.0 xs) (is_sorted R xs) up).0
 
   sorted_by : (es : List (K × X)) → IsTrue (is_sorted R es) → IsSortedBy (λ a b. is_lt (R a.0 b.0)) es

@@ -1,5 +1,5 @@
 -- Laws: how often a key is among pairs, and pairs that are sorted by their keys.
-use Rattle.std.specs.Prelude.{◌≡◌, refl, ℕ, zero, suc, ◌+◌, ◌<◌, ◌≤◌, Bool, true, false, cond, IsTrue, List, [], ◌∷◌, ◌++◌, length, Some, Contains, slice_index_or}
+use Rattle.std.specs.Prelude.{◌≡◌, refl, ℕ, zero, suc, ◌+◌, ◌<◌, ◌≤◌, Bool, true, false, cond, IsTrue, List, [], ◌∷◌, length, Some, Contains, slice_index_or}
 use Rattle.std.proofs.Common.{arith, sym, ap, ◌∙◌}
 use Rattle.std.specs.Ordering.{is_eq, is_lt, eq_by_cmp, ordering_reverse}
 use Rattle.std.specs.declared.cmp.Ordering.{Ordering}
@@ -10,7 +10,7 @@ use Rattle.std.specs.FinMap.Entries.{below_all}
 use Rattle.std.specs.List.Sorted.{IsPermutation, IsSortedByKey}
 use Rattle.std.proofs.lemmas.Cmp.{tied_itself}
 use Rattle.std.proofs.lemmas.Option.{none-some, same_Some}
-use Rattle.std.proofs.lemmas.List.Sums.{sum_by-cons, sum_by-append}
+use Rattle.std.proofs.lemmas.List.Sums.{sum_by-cons}
 use Rattle.std.proofs.lemmas.List.Sorted.{sum_by-IsPermutation, Contains-permutation, IsPermutation-sym}
 use Rattle.kd_base.specs.ToolsLaws.{both_true, true_both}
 use Rattle.kd_base.specs.OrderLaws.{is_less}
@@ -19,15 +19,6 @@ use Rattle.sorted_pairs.specs.Places.{times}
 module _ {K X : Type 0} (R : K → K → Ordering) where
   pub times_first : (q : K) (e : K × X) (es : List (K × X)) (b : Bool) → eq_by_cmp R q e.0 ≡ b → times R q (e ∷ es) ≡ cond b 1 0 + times R q es
   times_first q e es b is = sum_by-cons (λ (x : K × X). cond (eq_by_cmp R q x.0) 1 0) e es ∙ ap (λ (t : Bool). cond t 1 0 + times R q es) is
-
-  pub times_last : (q : K) (es : List (K × X)) (e : K × X) (b : Bool) → eq_by_cmp R q e.0 ≡ b → times R q (es ++ e ∷ []) ≡ times R q es + cond b 1 0
-  times_last q es e b is =
-      sum_by-append (λ (x : K × X). cond (eq_by_cmp R q x.0) 1 0) es (e ∷ [])
-      ∙ ap (λ (n : ℕ). times R q es + n) (times_first q e [] b is)
-      ∙ short (times R q es) (cond b 1 0)
-    where
-      short : (m n : ℕ) → m + (n + 0) ≡ m + n
-      short m n = omega arith
 
   -- a key that is apart pair's is there no time
   pub times_none : (q : K) (es : List (K × X)) → ((e : K × X) → Contains es e → R q e.0 ≡ Equal → ⊥) → times R q es ≡ 0

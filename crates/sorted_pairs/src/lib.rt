@@ -5,6 +5,8 @@
 //! fails changes nothing.
 #![tactic(auto)]
 
+mod ordered;
 mod pairs;
 
-pub use pairs::SortedPairs;
+pub use ordered::OrderedMap;
+pub use pairs::{SortedPairs, place_of};

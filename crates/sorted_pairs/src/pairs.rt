@@ -1,5 +1,5 @@
 //! Pairs in a `Vec`, found by binary search.
-ghost use Rattle.std.specs.{Prelude.{◌≡◌, [], IsTrue, IfNone, IfSome, ◌<◌, OnOk, OnErr, Ok, Some, filter, is_some, length, not, option_copied}, FinMap.{find, put, is_sorted}, Option.{option_copied_mut}, List.{IsAllAdjacentAnswer}, List.Sorted.{IsPermutation}, Ordering.{is_lt}, Borrow.{sem}};
+ghost use Rattle.std.specs.{Prelude.{◌≡◌, [], IsTrue, IfNone, IfSome, ◌<◌, OnOk, OnErr, Ok, Some, is_some, length, option_copied}, FinMap.{find, put, is_sorted}, Option.{option_copied_mut}, List.{IsAllAdjacentAnswer}, List.Sorted.{IsPermutation}, Ordering.{is_lt}, Borrow.{sem}};
 ghost use Rattle.sorted_pairs.specs.{Lends.{lends_value, lends_found}, Places.{IsPlace, times, without}};
 
 use kd_base::OutOfMemory;
@@ -22,7 +22,9 @@ impl<K: Ord, V> Model for SortedPairs<K, V> {
     ghost invariant = { λ p. IsTrue (is_sorted K.cmp p.pairs.items) };
 }
 
-fn place_of<K: Ord + Copy, V>(pairs: &[(K, V)], key: &K) -> Result<usize, usize>
+/// Where the pair with this key is, or else where it would go, in time as the logarithm of their number. Where the pairs
+/// are in no order, it tells nothing.
+pub fn place_of<K: Ord + Copy, V>(pairs: &[(K, V)], key: &K) -> Result<usize, usize>
     ensures { IsPlace K.cmp key.now pairs.now result }
 {
     pairs.binary_search_by_key(key, |pair| pair.0)
@@ -155,15 +157,5 @@ impl<K: Ord + Copy, V: Drop> SortedPairs<K, V> {
             Ok(at) => Some(self.pairs.remove(at).1),
             Err(_) => None,
         }
-    }
-
-    /// Takes out each pair that has this value. It takes no memory.
-    pub fn remove_value(&mut self, value: &V)
-    where
-        V: PartialEq,
-        ensures left { self.new ≡ filter (λ e. not (V.eq e.1 value.now)) self.old }
-        ensures ascending { IsTrue (is_sorted K.cmp self.old) }
-    {
-        self.pairs.retain(|pair| pair.1 != *value);
     }
 }

@@ -1,1 +1,7 @@
-pub mod Found
+pub mod FirstFrom
+pub mod Least
+pub mod Indexed
+pub mod Marked
+pub mod Allowed
+pub mod Counts
+pub mod Arrived

@@ -1,1 +1,5 @@
 pub mod Schedule
+pub mod Kinds
+pub mod Counted
+pub mod Index
+pub mod Arrivals

@@ -5,10 +5,13 @@ use Rattle.kdcs_types.specs.declared.key.ServiceId.{ServiceId}
 use Rattle.kdcs_types.specs.declared.key.ServiceId.TheVariants.{Asynchronous}
 use Rattle.kdcs_types.specs.declared.key.Target.{Target}
 use Rattle.kdcs_types.specs.declared.key.Target.TheVariants.{Tac, Lterm}
-use Rattle.kdcs_types.specs.declared.service.Job.{Job}
 use Rattle.kdcs_types.specs.Keys.{id_eq}
 use Rattle.kdcdef_types.specs.Generation.{Generated}
-use Rattle.abstract_monitor.specs.Picks.{Classed, class_of, due_job, place_passes, service_is_allowed, target_is_allowed}
+use Rattle.abstract_monitor.specs.declared.work.Work.{Work}
+use Rattle.abstract_monitor.specs.declared.work.Work.TheVariants as work
+use Rattle.abstract_monitor.specs.Picks.{Classed, class_of, place_passes, service_is_allowed, target_is_allowed}
+use Rattle.async_queue.specs.declared.queue.QueuedJob.{QueuedJob}
+use Rattle.async_queue.specs.Queue.{first_due}
 
 -- services with the classes of their current TACs
 pub record Schedule : Type 0 where
@@ -88,15 +91,24 @@ abbrev pub took_service : (task : ℕ) → Classed → Schedule → Schedule
 took_service task e s = with_place task (Some e) (without_ready e.0 s)
 
 -- the service that a job begins goes to the task
-abbrev pub took_job : Generated → (task : ℕ) → Job → Schedule → Schedule
-took_job g task job s = with_place task (Some (Asynchronous job.number, class_of_target g job.value.to)) s
+abbrev pub took_job : Generated → (task : ℕ) → QueuedJob → Schedule → Schedule
+took_job g task job s = with_place task (Some (Asynchronous job.number, class_of_target g job.to)) s
 
 -- a ready service comes before a job
-abbrev pub picked_by : Generated → (task : ℕ) → Option Classed → Option Job → Schedule → Schedule
+abbrev pub pick_by : Option Classed → Option QueuedJob → Option Work
+pick_by (Some e) job = Some (work.Service e.0)
+pick_by None (Some job) = Some (work.Job job.number)
+pick_by None None = None
+
+-- what a free task takes: the first allowed service of the ready list, else the first due job of an allowed TAC, if any
+abbrev pub pick_queued : Generated → (ready : List Classed) → (places : List (Option Classed)) → (now : ℕ) → List QueuedJob → Option Work
+pick_queued g ready places now jobs = pick_by (find (service_is_allowed g places) ready) (first_due now (target_is_allowed g places) jobs)
+
+-- what becomes of the tasks and the ready list then
+abbrev pub picked_by : Generated → (task : ℕ) → Option Classed → Option QueuedJob → Schedule → Schedule
 picked_by g task (Some e) job s = took_service task e s
 picked_by g task None (Some job) s = took_job g task job s
 picked_by g task None None s = s
 
--- a free task takes the first allowed service of the ready list, else the due job of an allowed TAC, if there is one
-abbrev pub picked : Generated → (task now : ℕ) → (free : List Job) → Schedule → Schedule
-picked g task now free s = picked_by g task (find (service_is_allowed g s.places) s.ready) (due_job now (target_is_allowed g s.places) free) s
+abbrev pub picked : Generated → (task now : ℕ) → List QueuedJob → Schedule → Schedule
+picked g task now jobs s = picked_by g task (find (service_is_allowed g s.places) s.ready) (first_due now (target_is_allowed g s.places) jobs) s

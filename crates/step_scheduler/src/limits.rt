@@ -1,67 +1,21 @@
 //! Which services and jobs a task may work for: the limits of TAC classes, and ASYNTASKS.
-ghost use Rattle.std.specs.Prelude.{◌≡◌, Bool, ◌==◌, find};
+ghost use Rattle.std.specs.Prelude.{◌≡◌, refl, Bool};
 ghost use Rattle.kdcs_types.specs.declared.key.Target.{Target};
-ghost use Rattle.abstract_monitor.specs.{Endings.{is_asynchronous}, Picks.{class_of, place_passes, tasks_with, class_is_free, asynchronous_is_free, is_allowed, service_is_allowed, target_is_allowed}};
+ghost use Rattle.abstract_monitor.specs.Picks.{class_of, class_is_free, asynchronous_is_free, is_allowed, target_is_allowed};
 ghost use Rattle.step_scheduler.specs.Schedule.{class_of_target};
 
+use crate::kinds::Kind;
+use crate::places::Places;
 use async_queue::Allows;
 use kd_base::Name;
 use kdcdef_check::Generation;
-use kdcs_types::{ServiceId, Target};
-
-/// A service with the class of its current TAC: 1 to 16, and 0 for none.
-pub(crate) type Classed = (ServiceId, u8);
+use kdcs_types::Target;
 
 /// The tasks, of which each is free or holds a service, under the limits of a generation.
 #[derive(Clone, Copy)]
 pub(crate) struct TaskLimits<'a> {
     pub(crate) generation: &'a Generation,
-    pub(crate) places: &'a [Option<Classed>],
-}
-
-fn is_asynchronous(id: &ServiceId) -> bool
-    ensures { result ≡ is_asynchronous id.now }
-{
-    match id {
-        ServiceId::Dialogue(_) => false,
-        ServiceId::Asynchronous(_) => true,
-    }
-}
-
-fn has_class(place: &Option<Classed>, class: u8) -> bool
-    ensures { result ≡ place_passes (λ e. e.1 == class) place.now }
-{
-    match place {
-        Some(entry) => entry.1 == class,
-        None => false,
-    }
-}
-
-fn holds_asynchronous(place: &Option<Classed>) -> bool
-    ensures { result ≡ place_passes (λ e. is_asynchronous e.0) place.now }
-{
-    match place {
-        Some(entry) => is_asynchronous(&entry.0),
-        None => false,
-    }
-}
-
-fn tasks_of_class(places: &[Option<Classed>], class: u8) -> usize
-    ensures { result ≡ tasks_with places.now (λ e. e.1 == class) }
-{
-    places
-        .iter()
-        .filter(|place| has_class(place, class))
-        .count()
-}
-
-fn asynchronous_tasks(places: &[Option<Classed>]) -> usize
-    ensures { result ≡ tasks_with places.now (λ e. is_asynchronous e.0) }
-{
-    places
-        .iter()
-        .filter(|place| holds_asynchronous(place))
-        .count()
+    pub(crate) places: &'a Places,
 }
 
 /// The class of a TAC: 1 to 16, and 0 for none.
@@ -88,7 +42,7 @@ fn class_is_free(limits: &TaskLimits<'_>, class: u8) -> bool
     ensures { result ≡ class_is_free limits.now.generation.now limits.now.places.now class }
 {
     match limits.generation.class_limit(class) {
-        Some(limit) => tasks_of_class(limits.places, class) < limit as usize,
+        Some(limit) => limits.places.of_class(class) < limit as usize,
         None => true,
     }
 }
@@ -96,41 +50,27 @@ fn class_is_free(limits: &TaskLimits<'_>, class: u8) -> bool
 fn asynchronous_is_free(limits: &TaskLimits<'_>) -> bool
     ensures { result ≡ asynchronous_is_free limits.now.generation.now limits.now.places.now }
 {
-    asynchronous_tasks(limits.places) < limits.generation.max().asyntasks as usize
+    limits.places.asynchronous() < limits.generation.max().asyntasks as usize
 }
 
-fn is_allowed(limits: &TaskLimits<'_>, asynchronous: bool, class: u8) -> bool
-    ensures { result ≡ is_allowed limits.now.generation.now limits.now.places.now asynchronous class }
+/// A task may work for a service of this kind. It costs as much as finding the class's limit.
+pub(crate) fn is_allowed(limits: &TaskLimits<'_>, kind: &Kind) -> bool
+    ensures { result ≡ is_allowed limits.now.generation.now limits.now.places.now kind.now.asynchronous kind.now.class }
 {
-    class_is_free(limits, class) && (!asynchronous || asynchronous_is_free(limits))
-}
-
-fn service_is_allowed(limits: &TaskLimits<'_>, entry: &Classed) -> bool
-    ensures { result ≡ service_is_allowed limits.now.generation.now limits.now.places.now entry.now }
-{
-    is_allowed(limits, is_asynchronous(&entry.0), entry.1)
+    class_is_free(limits, kind.class) && (!kind.asynchronous || asynchronous_is_free(limits))
 }
 
 /// A task may begin a service of this TAC. A job for an LTERM is no work of tasks.
 impl Allows for TaskLimits<'_> {
     ghost allows = { λ r. target_is_allowed r.generation.now r.places.now };
 
-    fn allows(&self, to: &Target) -> bool {
-        match to {
-            Target::Tac(tac) => is_allowed(self, true, class_of(self.generation, *tac)),
-            Target::Lterm(_) => false,
-        }
-    }
-}
+    ghost no_lterm = { λ r lterm. refl };
 
-/// The first service that a task may work for. One that is not allowed is passed over, and blocks none after it.
-pub(crate) fn first_allowed(ready: &[Classed], limits: &TaskLimits<'_>) -> Option<Classed>
-    ensures { result ≡ find (service_is_allowed limits.now.generation.now limits.now.places.now) ready.now }
-{
-    for entry in ready {
-        if service_is_allowed(limits, entry) {
-            return Some(*entry);
-        }
+    fn allows(&self, tac: Name) -> bool {
+        let kind = Kind {
+            asynchronous: true,
+            class: class_of(self.generation, tac),
+        };
+        is_allowed(self, &kind)
     }
-    None
 }

@@ -1,16 +1,16 @@
 //! The ready list and the tasks.
-ghost use Rattle.std.specs.{Prelude.{◌≡◌, ◌-◌, IsTrue, is_some, IfOk, OnOk, OnErr, None}, List.{list_any}};
-ghost use Rattle.kdcs_types.specs.Keys.{id_eq};
-ghost use Rattle.abstract_monitor.specs.Picks.{pick_work};
-ghost use Rattle.async_queue.specs.Queue.{free};
-ghost use Rattle.step_scheduler.specs.Schedule.{all_free, is_ready, is_running, holds, left_by, released, with_ready, without_ready, IsTask, place_of, service_in, with_class, with_place, took_service, took_job, picked};
+ghost use Rattle.std.specs.Prelude.{◌≡◌, IsTrue, is_some, IfOk, OnOk, OnErr, None};
+ghost use Rattle.step_scheduler.specs.Schedule.{all_free, is_ready, is_running, released, with_ready, without_ready, IsTask, place_of, service_in, with_class, with_place, took_service, took_job, pick_queued, picked};
 
-use crate::limits::{Classed, TaskLimits, class_of_target, first_allowed};
+use crate::kinds::Classed;
+use crate::limits::{TaskLimits, class_of_target};
+use crate::places::Places;
+use crate::ready::ReadyQueue;
 use abstract_monitor::Work;
-use async_queue::Jobs;
+use async_queue::{Jobs, QueuedJob};
 use kd_base::OutOfMemory;
 use kdcdef_check::Generation;
-use kdcs_types::{Job, ServiceId};
+use kdcs_types::ServiceId;
 use std::alloc::Global;
 use std::marker::Model;
 
@@ -18,61 +18,17 @@ use std::marker::Model;
 /// current TAC. Tasks count from 1, and classes are 1 to 16, and 0 for a TAC with none. Contracts see both lists.
 #[derive(Drop)]
 pub struct Scheduler {
-    ready: Vec<Classed>,
-    places: Vec<Option<Classed>>,
+    ready: ReadyQueue,
+    places: Places,
 }
 
 impl Model for Scheduler {
+    ghost use Rattle.std.specs.Map.{values_of};
     ghost use Rattle.step_scheduler.specs.Schedule.{Schedule};
 
     ghost Value = { Schedule };
 
-    ghost view = { λ s. record { ready = s.ready.items; places = s.places.items } };
-}
-
-fn service_in(place: &Option<Classed>) -> Option<ServiceId>
-    ensures { result ≡ service_in place.now }
-{
-    match place {
-        Some(entry) => Some(entry.0),
-        None => None,
-    }
-}
-
-fn stands_in(ready: &[Classed], id: &ServiceId) -> bool
-    ensures { result ≡ list_any (λ e. id_eq id.now e.0) ready.now }
-{
-    ready.iter().any(|entry| *id == entry.0)
-}
-
-fn holds(place: &Option<Classed>, id: &ServiceId) -> bool
-    ensures { result ≡ holds id.now place.now }
-{
-    match place {
-        Some(entry) => *id == entry.0,
-        None => false,
-    }
-}
-
-fn is_held(places: &[Option<Classed>], id: &ServiceId) -> bool
-    ensures { result ≡ list_any (holds id.now) places.now }
-{
-    places.iter().any(|place| holds(place, id))
-}
-
-fn left_by(place: &Option<Classed>, id: &ServiceId) -> Option<Classed>
-    ensures { result ≡ left_by id.now place.now }
-{
-    if holds(place, id) { None } else { *place }
-}
-
-fn with_class(place: &Option<Classed>, class: u8) -> Option<Classed>
-    ensures { result ≡ with_class class place.now }
-{
-    match place {
-        Some(entry) => Some((entry.0, class)),
-        None => None,
-    }
+    ghost view = { λ s. record { ready = values_of s.ready; places = s.places } };
 }
 
 impl Scheduler {
@@ -81,40 +37,43 @@ impl Scheduler {
         ensures { IfOk result (λ s. s ≡ all_free tasks) }
     {
         Ok(Scheduler {
-            ready: Vec::new(alloc),
-            places: vec![in alloc; None; tasks as usize]?,
+            ready: ReadyQueue::new(alloc),
+            places: Places::new(alloc, tasks)?,
         })
     }
 
-    /// Puts a service at the back of the ready list, or changes nothing.
+    /// Puts a service at the back of the ready list, or changes nothing. It costs in proportion to the logarithm of how
+    /// many services are ready.
     pub fn ready(&mut self, id: ServiceId, class: u8) -> Result<(), OutOfMemory>
         ensures ok { OnOk result (self.new ≡ with_ready id class self.old) }
         ensures err { OnErr result (self.new ≡ self.old) }
     {
-        Ok(self.ready.push((id, class))?)
+        self.ready.push(&(id, class))
     }
 
-    /// Whether the service is ready or in a task. It takes no memory.
+    /// Whether the service is ready or in a task. It takes no memory. It costs in proportion to how many tasks there
+    /// are, and to the logarithm of how many services are ready.
     pub fn is_running(&self, id: ServiceId) -> bool
         ensures { result ≡ is_running id self.now }
     {
-        stands_in(&self.ready, &id) || is_held(&self.places, &id)
+        self.ready.contains(&id) || self.places.holds(&id)
     }
 
-    /// Takes a service out of the ready list. It answers false exactly where the service is not in the list. A task that
-    /// holds the service keeps it until `release`. It takes no memory.
+    /// Takes a service out of the ready list. It answers false exactly where the service is not in the list. A task
+    /// that holds the service keeps it until `release`. It takes no memory. For each time that the service is in the
+    /// list, it costs in proportion to the logarithm of how many are ready.
     pub fn withdraw(&mut self, id: ServiceId) -> bool
         ensures result { result ≡ is_ready id self.old }
         ensures left { self.new ≡ without_ready id self.old }
     {
-        let is_ready = stands_in(&self.ready, &id);
-        self.ready.retain(|entry| id != entry.0);
-        is_ready
+        self.ready.withdraw(&id)
     }
 
-    /// What a free task takes: the first service of the ready list that is allowed, else the due job of an allowed TAC with
-    /// the least due and number. The task holds it from now on. A service leaves the ready list, and a job is still to be
-    /// marked as taken. It takes no memory.
+    /// What a free task takes: the first service of the ready list that is allowed, else the due job of an allowed TAC
+    /// with the least due and number. The task holds it from now on. A service leaves the ready list, and a job is
+    /// still to be marked as taken. It takes no memory. Of the ready list it asks for the first service of each kind,
+    /// of which there are at most two for each class; each costs in proportion to the logarithm of how many services
+    /// are ready.
     pub fn pick(
         &mut self,
         generation: &Generation,
@@ -124,41 +83,44 @@ impl Scheduler {
     ) -> Option<Work>
         requires task { IsTask task self.old }
         requires free { place_of task self.old ≡ None }
-        ensures work { result ≡ pick_work generation.now self.old.ready self.old.places now (free jobs.now) }
-        ensures state { self.new ≡ picked generation.now task now (free jobs.now) self.old }
+        ensures work { result ≡ pick_queued generation.now self.old.ready self.old.places now jobs.now }
+        ensures state { self.new ≡ picked generation.now task now jobs.now self.old }
     {
         let limits = TaskLimits {
             generation,
             places: &self.places,
         };
-        match first_allowed(&self.ready, &limits) {
+        match self.ready.first_allowed(&limits) {
             Some(entry) => Some(self.take_service(task, &entry)),
-            None => {
-                let job = jobs.first_allowed(&limits, now)?;
-                Some(self.take_job(generation, task, job))
-            }
+            None => match jobs.first_allowed(&limits, now) {
+                Some(job) => Some(self.take_job(generation, task, &job)),
+                None => None,
+            },
         }
     }
 
     // The task holds this service of the ready list.
     fn take_service(&mut self, task: u16, entry: &Classed) -> Work
-        requires { IsTask task self.old }
+        requires task { IsTask task self.old }
+        requires free { place_of task self.old ≡ None }
         ensures work { result ≡ Work.Service entry.now.0 }
         ensures state { self.new ≡ took_service task entry.now self.old }
     {
-        self.withdraw(entry.0);
-        self.places[task as usize - 1] = Some(*entry);
+        self.ready.withdraw(&entry.0);
+        self.places.fill(task as usize - 1, entry);
         Work::Service(entry.0)
     }
 
     // The task holds the service that this job begins.
-    fn take_job(&mut self, generation: &Generation, task: u16, job: &Job) -> Work
-        requires { IsTask task self.old }
+    fn take_job(&mut self, generation: &Generation, task: u16, job: &QueuedJob) -> Work
+        requires task { IsTask task self.old }
+        requires free { place_of task self.old ≡ None }
         ensures work { result ≡ Work.Job job.now.number }
         ensures state { self.new ≡ took_job generation.now task job.now self.old }
     {
-        let class = class_of_target(generation, &job.value.to);
-        self.places[task as usize - 1] = Some((ServiceId::Asynchronous(job.number), class));
+        let class = class_of_target(generation, &job.to);
+        let entry = (ServiceId::Asynchronous(job.number), class);
+        self.places.fill(task as usize - 1, &entry);
         Work::Job(job.number)
     }
 
@@ -167,27 +129,29 @@ impl Scheduler {
         requires { IsTask task self.old }
         ensures { self.new ≡ with_place task None self.old }
     {
-        self.places[task as usize - 1] = None;
+        self.places.clear(task as usize - 1);
     }
 
-    /// Frees the task that holds this service, if one does, as where its user signs off. It takes no memory.
+    /// Frees the task that holds this service, if one does, as where its user signs off. It takes no memory, and goes
+    /// over the tasks.
     pub fn release(&mut self, id: ServiceId)
         ensures { self.new ≡ released id self.old }
     {
-        for place in self.places.iter_mut() {
-            *place = left_by(place, &id);
-        }
+        self.places.release(&id);
     }
 
-    /// The service that the task holds has this class from now on, as PEND PR asks, which looks at no limit. It takes no
-    /// memory.
+    /// The service that the task holds has this class from now on, as PEND PR asks, which looks at no limit. It takes
+    /// no memory.
     pub fn stay(&mut self, task: u16, class: u8)
         requires task { IsTask task self.old }
         requires held { IsTrue (is_some (place_of task self.old)) }
         ensures { self.new ≡ with_place task (with_class class (place_of task self.old)) self.old }
     {
         let at = task as usize - 1;
-        self.places[at] = with_class(&self.places[at], class);
+        if let Some(entry) = self.places.at(at) {
+            self.places.clear(at);
+            self.places.fill(at, &(entry.0, class));
+        }
     }
 
     /// The service that the task holds, if it holds one. It takes no memory.
@@ -195,6 +159,7 @@ impl Scheduler {
         requires { IsTask task self.now }
         ensures { result ≡ service_in (place_of task self.now) }
     {
-        service_in(&self.places[task as usize - 1])
+        let entry = self.places.at(task as usize - 1)?;
+        Some(entry.0)
     }
 }

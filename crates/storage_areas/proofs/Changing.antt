@@ -1,7 +1,6 @@
 -- The changes of a transaction's writes are in the order of their keys, may be made, and make what the writes make.
-use Rattle.std.specs.Prelude.{◌≡◌, ◌≤◌, refl, ℕ, IsTrue, List, [], ◌∷◌, length, take, Option}
-use Rattle.std.proofs.Common.{ap, ◌∙◌}
-use Rattle.std.proofs.lemmas.List.{take_all}
+use Rattle.std.specs.Prelude.{◌≡◌, refl, IsTrue, List, [], ◌∷◌, ◌++◌, Option}
+use Rattle.std.proofs.Common.{ap, append-nil, sym, ◌∙◌}
 use Rattle.std.specs.Ordering.{is_lt}
 use Rattle.std.specs.FinMap.{is_sorted}
 use Rattle.std.specs.FinMap.Entries.{below_all}
@@ -45,6 +44,6 @@ unfolding with_areas
 makes_the_writes [] t = refl
 makes_the_writes (w ∷ ws) t = makes_the_writes ws (with_change t (area_change w.0 w.1))
 
--- where all were gone over
-pub all_made : (items written : Written) (n : ℕ) (changes : List Change) → changes ≡ changes_of (take n items) → length items ≤ n → items ≡ written → changes ≡ changes_of written
-all_made items written n changes made within same = made ∙ ap changes_of (take_all n items within ∙ same)
+-- where none is left to make
+pub all_made : (changes : List Change) (left written : Written) → changes ++ changes_of left ≡ changes_of written → left ≡ [] → changes ≡ changes_of written
+all_made changes left written whole none = sym (append-nil changes) ∙ ap (λ (l : Written). changes ++ changes_of l) (sym none) ∙ whole

@@ -9,15 +9,16 @@ ghost use Rattle.storage_areas.specs.Areas.{PrivateAreas, changes_of, is_one_too
 use crate::change::area_change;
 use kd_base::{Bytes, Name, OutOfMemory};
 use kdcs_types::{Area, Areas, Code, RowChanges, Tables};
-use sorted_pairs::SortedPairs;
+use sorted_pairs::{OrderedMap, SortedPairs};
 use std::alloc::Global;
 use std::marker::Model;
 
 /// The areas that a transaction wrote or deleted, and its LSSBs. Contracts see the two lists, in the order of the keys.
+/// A call on an area costs in proportion to the logarithm of their number.
 #[derive(Drop)]
 pub struct Overlay {
     // none where the area is deleted
-    written: SortedPairs<Area, Option<Bytes>>,
+    written: OrderedMap<Area, Option<Bytes>>,
     lssbs: SortedPairs<Name, Bytes>,
 }
 
@@ -36,7 +37,7 @@ impl Overlay {
         ensures { result ≡ record { written = []; lssbs = lssbs } }
     {
         Overlay {
-            written: SortedPairs::new(alloc),
+            written: OrderedMap::new(alloc),
             lssbs: SortedPairs::from_vec(lssbs.into_vec()),
         }
     }
@@ -129,7 +130,7 @@ impl Overlay {
         ensures tables { IfOk result (λ changes. (t : TableRows) → with_changes t changes ≡ with_areas t self.now.written) }
     {
         let mut changes = RowChanges::new(alloc);
-        for (area, content) in self.written.as_slice() {
+        for (area, content) in self.written.iter() {
             changes.push(area_change(area, content)?)?;
         }
         Ok(changes)

@@ -1,13 +1,8 @@
 pub mod PointChanges
 pub mod Laws
 pub mod RowsLaws
-pub mod Weights
-pub mod WeightsLaws
 pub mod Refusals
 pub mod RefusalsLaws
-pub mod Pages
-pub mod PagesLaws
-pub mod Short
 pub mod ShortLaws
 pub mod Answers
 pub mod RealChangesLaws

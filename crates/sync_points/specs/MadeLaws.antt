@@ -21,7 +21,7 @@ use Rattle.kdcs_types.specs.Difference.{difference}
 use Rattle.kdcs_types.specs.DifferenceLaws.{difference_makes_new}
 use Rattle.kdcs_types.specs.Keyed.{item_at, with_item}
 use Rattle.kdcs_types.specs.KeyedLaws.{all_without, found_key, found_passes}
-use Rattle.kdcs_types.specs.RowLaws.{changed_sorted, sorted_with_changes}
+use Rattle.kdcs_types.specs.RowLaws.{changed_sorted, numbers_apart, sorted_with_change, sorted_with_changes}
 use Rattle.kdcs_types.specs.Tables.{AreChanges, IsSortedTables, TableRows, change_fits, change_key, changed, job_key, with_change, with_changes}
 use Rattle.kdcdef_types.specs.Generation.{Generated}
 use Rattle.abstract_monitor.specs.declared.outcome.Outcome.{Outcome}
@@ -29,6 +29,7 @@ use Rattle.abstract_monitor.specs.Bytes.{Bytes}
 use Rattle.abstract_monitor.specs.Endings.{area_change, broken, durable, is_durable, job_change, numbered, row_after, service_change, synchronised, with_areas, with_drafts, with_own_fate, with_service, without_own_job}
 use Rattle.abstract_monitor.specs.State.{OpenTransaction}
 use Rattle.laws_of_steps.specs.Commits.{AreNumberedFrom}
+use Rattle.laws_of_steps.specs.DurableKeys.{key_is_durable}
 use Rattle.laws_of_steps.specs.DurableLaws.{durable_changed, durable_sorted}
 use Rattle.laws_of_steps.specs.JobLaw.{new_jobs}
 use Rattle.laws_of_steps.specs.JobLaws.{areas_same, ends_draw_none, points_number, service_jobs}
@@ -87,7 +88,7 @@ service_apart : (n : ℕ) (v : TableRows) (id : ServiceId) (row : Option Service
 service_apart n v id None = refl
 service_apart n v id (Some row) = refl
 
-service_durable : (g : Generated) (u : TableRows) (id : ServiceId) (row : Option Service) → IsSortedTables u → IsTrue (change_fits (service_change id row)) → durable g (with_service u id row) ≡ cond (is_durable g id) (with_service (durable g u) id row) (durable g u)
+pub service_durable : (g : Generated) (u : TableRows) (id : ServiceId) (row : Option Service) → IsSortedTables u → IsTrue (change_fits (service_change id row)) → durable g (with_service u id row) ≡ cond (is_durable g id) (with_service (durable g u) id row) (durable g u)
 service_durable g u id None h fits = durable_changed g u (service_change id None) h fits
 service_durable g u id (Some row) h fits = durable_changed g u (service_change id (Some row)) h fits
 
@@ -337,3 +338,31 @@ pub points_are : (g : Generated) (t : TableRows) (id : ServiceId) (x : OpenTrans
 points_are g t id x o s =
     let are = point_are g t id x s o in
     record { ascending = ascends_filter change_key (is_real t) (point_writes g t id x o) are.ascending; fit = all_filter change_fits (is_real t) (point_writes g t id x o) are.fit }
+
+pub points_kept : (g : Generated) (t : TableRows) (id : ServiceId) (x : OpenTransaction) (o : Outcome) → IsTrue (list_all (λ (c : Change). key_is_durable g (change_key c)) (point_changes g t id x o).items)
+points_kept g t id x o =
+    all_filter (λ (c : Change). key_is_durable g (change_key c)) (is_real t) (point_writes g t id x o)
+    (points_durable g id (row_after g id x o) x.began x.written (new_jobs t x) t.next_job)
+
+-- ---- the durable part of the tables with them
+
+durable_with_changes : (g : Generated) (t : TableRows) (cs : List Change) → IsSortedTables t → IsTrue (list_all change_fits cs) → IsTrue (list_all (λ (c : Change). key_is_durable g (change_key c)) cs)
+    → durable g (with_changes t cs) ≡ with_changes (durable g t) cs
+durable_with_changes g t [] h fit kept = refl
+durable_with_changes g t (c ∷ cs) h fit kept =
+    let fits = both_true (change_fits c) (list_all change_fits cs) fit in
+    let keeps = both_true (key_is_durable g (change_key c)) (list_all (λ (d : Change). key_is_durable g (change_key d)) cs) kept in
+    durable_with_changes g (with_change t c) cs (sorted_with_change t c h fits.0) fits.1 keeps.1
+    ∙ ap (λ (u : TableRows). with_changes u cs) (durable_changed g t c h fits.0 ∙ ap (λ (b : Bool). cond b (with_change (durable g t) c) (durable g t)) keeps.0)
+
+numbers_outlive : (g : Generated) (t : TableRows) (clock next : ℕ) → durable g (record t { clock = clock; next_job = next }) ≡ record (durable g t) { clock = clock; next_job = next }
+unfolding durable
+numbers_outlive g t clock next = refl
+
+-- it is that after the synchronisation point
+pub points_after : (g : Generated) (t : TableRows) (id : ServiceId) (x : OpenTransaction) (o : Outcome) → Stands g t id x → durable g (synchronised g t id x o) ≡ durable g (changed t (point_changes g t id x o))
+points_after g t id x o s =
+    let c = point_changes g t id x o in
+    points_make g t id x o s
+    ∙ ap (λ (u : TableRows). with_changes u c.items) (sym (numbers_outlive g t c.clock c.next_job))
+    ∙ sym (durable_with_changes g (record t { clock = c.clock; next_job = c.next_job }) c.items (numbers_apart t c.clock c.next_job s.sound.order) (points_are g t id x o s).fit (points_kept g t id x o))

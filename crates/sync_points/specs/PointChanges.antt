@@ -3,7 +3,6 @@ use Rattle.std.specs.Prelude.{ℕ, ◌+◌, not, Bool, cond, List, [], ◌∷◌
 use Rattle.kdcs_types.specs.declared.act.Change.{Change}
 use Rattle.kdcs_types.specs.declared.act.Change.TheVariants.{Set, Remove}
 use Rattle.kdcs_types.specs.declared.act.Changes.{Changes}
-use Rattle.kdcs_types.specs.declared.act.Row.{Row}
 use Rattle.kdcs_types.specs.declared.key.Key.TheVariants.{Job as JobKey}
 use Rattle.kdcs_types.specs.declared.key.ServiceId.{ServiceId}
 use Rattle.kdcs_types.specs.declared.key.ServiceId.TheVariants.{Dialogue, Asynchronous}
@@ -18,12 +17,8 @@ use Rattle.abstract_monitor.specs.Redelivery.{fate}
 use Rattle.abstract_monitor.specs.State.{OpenTransaction}
 use Rattle.laws_of_steps.specs.JobLaw.{new_jobs}
 use Rattle.async_queue.specs.Deliveries.{own_job}
+use Rattle.row_charges.specs.Weights.{row_left}
 use Rattle.storage_areas.specs.Areas.{changes_of}
-
--- the row that a change leaves
-abbrev pub row_left : Change → Option Row
-row_left (Set r) = Some r
-row_left (Remove k) = None
 
 -- the change leaves another row than is there
 abbrev pub is_real : TableRows → Change → Bool

@@ -26,7 +26,8 @@ use Rattle.laws_of_steps.specs.DurableKeys.{key_is_durable}
 use Rattle.laws_of_steps.specs.DurableLaws.{row_at_durable}
 use Rattle.laws_of_tables.specs.ItemsLaws.{ascends_filter}
 use Rattle.laws_of_tables.specs.ListsLaws.{all_filter}
-use Rattle.sync_points.specs.PointChanges.{is_real, row_left}
+use Rattle.row_charges.specs.Weights.{row_left}
+use Rattle.sync_points.specs.PointChanges.{is_real}
 use Rattle.std.proofs.lemmas.Bool.{not-true, not-false}
 
 -- the item that was found, where it passes

@@ -18,11 +18,12 @@ use Rattle.abstract_monitor.specs.Charges.{total_charge}
 use Rattle.abstract_monitor.specs.Endings.{durable, refusal, row_after, synchronised, with_areas, with_drafts, with_service, without_own_job}
 use Rattle.abstract_monitor.specs.State.{OpenTransaction}
 use Rattle.laws_of_tables.specs.PointLaws.{Stands}
+use Rattle.row_charges.specs.Weights.{made_weight, replaced_weight, weight}
+use Rattle.row_charges.specs.WeightsLaws.{changes_weigh}
 use Rattle.storage_areas.specs.Areas.{changes_of}
 use Rattle.sync_points.specs.PointChanges.{point_changes}
-use Rattle.sync_points.specs.MadeLaws.{points_make, written_made}
-use Rattle.sync_points.specs.WeightsLaws.{changes_weigh, made_weight, replaced_weight, weight}
-use Rattle.sync_points.specs.Refusals.{gssb_weight, row_charge}
+use Rattle.sync_points.specs.MadeLaws.{points_after, points_make, written_made}
+use Rattle.sync_points.specs.Refusals.{gssb_weight}
 
 -- ---- GSSBs
 
@@ -52,15 +53,6 @@ gssbs_after t cs h are = omega (arith, changes_weigh gssb_weight t cs h are.asce
 pub lt_alike : (a b c d : ℕ) → a + d ≡ c + b → nat_lt a b ≡ nat_lt c d
 lt_alike a b c d e = grind (arith, nat_tests)
 
--- ---- pages
-
-pub pages_weigh : (blksize : ℕ) (t : TableRows) → weight (row_charge blksize) t ≡ total_charge blksize t
-unfolding total_charge
-pages_weigh blksize t = refl
-
-pub pages_after : (blksize : ℕ) (t : TableRows) (cs : List Change) → IsSortedTables t → AreChanges cs → total_charge blksize (with_changes t cs) + replaced_weight (row_charge blksize) t cs ≡ total_charge blksize t + made_weight (row_charge blksize) cs
-pages_after blksize t cs h are = omega (arith, changes_weigh (row_charge blksize) t cs h are.ascending are.fit, pages_weigh blksize t, pages_weigh blksize (with_changes t cs))
-
 -- ---- the tests
 
 abbrev pub refused_by : Generated → (gssbs next pages : ℕ) → Option Cause
@@ -88,12 +80,12 @@ module _ (g : Generated) (t : TableRows) (id : ServiceId) (x : OpenTransaction) 
   gssbs_left = gssbs_of (with_areas t x.written) x.began (row_after g id x o) ∙ ap (λ (u : TableRows). u.gssbs) (sym (written_made x.written t))
 
   -- the tests of a refusal, by what the transaction wrote
-  pub refusal_is : Stands g t id x → refusal g (durable g (synchronised g t id x o)) ≡ refused_by g (length (with_changes t (changes_of x.written)).gssbs) (t.next_job + length x.drafts) (total_charge g.limits.blksize (changed (durable g t) (point_changes g t id x o)))
+  pub refusal_is : Stands g t id x → refusal g (durable g (synchronised g t id x o)) ≡ refused_by g (length (with_changes t (changes_of x.written)).gssbs) (t.next_job + length x.drafts) (total_charge g.limits.blksize (durable g (changed t (point_changes g t id x o))))
   unfolding refusal
   refusal_is s i =
       let made = points_make g t id x o s in
       let next : (durable g (synchronised g t id x o)).next_job ≡ t.next_job + length x.drafts = ap (λ (u : TableRows). u.next_job) made ∙ (numbers_changed (durable g t) (point_changes g t id x o)).1 in
-      refused_by g (length (gssbs_left i)) (next i) (total_charge g.limits.blksize (made i))
+      refused_by g (length (gssbs_left i)) (next i) (total_charge g.limits.blksize (points_after g t id x o s i))
 
 -- what a test found
 module _ (g : Generated) (gssbs next pages : ℕ) where

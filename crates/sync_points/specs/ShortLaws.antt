@@ -28,23 +28,33 @@ use Rattle.laws_of_steps.specs.DurableKeys.{key_is_durable}
 use Rattle.laws_of_steps.specs.JobLaw.{new_jobs}
 use Rattle.laws_of_steps.specs.Suits.{fits_content, fits_message, last_fits, service_suits, target_name, target_suits}
 use Rattle.laws_of_steps.specs.Transactions.{area_is_declared, draft_fits, due_fits, fits_if_there, written_fits}
-use Rattle.laws_of_tables.specs.ListsLaws.{all_append, all_filter}
+use Rattle.laws_of_tables.specs.ListsLaws.{all_append, all_filter, all_imply}
 use Rattle.laws_of_tables.specs.PointLaws.{Stands}
 use Rattle.laws_of_tables.specs.RowPartsLaws.{row_parts}
 use Rattle.table_fit.specs.SmallLaws.{IsSmall, small_short}
+use Rattle.row_charges.specs.Pages.{is_short, leaves_short, longest}
+use Rattle.row_charges.specs.Weights.{row_left}
 use Rattle.storage_areas.specs.Areas.{changes_of}
-use Rattle.sync_points.specs.AscendingLaws.{points_durable}
-use Rattle.sync_points.specs.Pages.{longest}
 use Rattle.sync_points.specs.PointChanges.{is_real, job_changes, own_job_changes, point_changes, point_writes, service_changes}
-use Rattle.sync_points.specs.Short.{leaves_short}
 use Rattle.laws_of_tables.specs.PointsLaws.{length_joined}
+
+-- the row that a change leaves is short, durable or not
+abbrev row_is_short : Change → Bool
+row_is_short c = is_short (row_left c)
+
+short_if_durable : (g : Generated) (c : Change) → IsTrue (row_is_short c) → IsTrue (leaves_short g c)
+short_if_durable g c h = by (key_is_durable g (change_key c))
+  where
+    by : (b : Bool) → IsTrue (cond b (row_is_short c) true)
+    by true = h
+    by false = refl
 
 -- ---- areas
 
 content_short : (content : Bytes) → IsTrue (fits_content content) → IsTrue (nat_lt (length content) longest)
 content_short content h = lt-ltb (length content) longest (omega (arith, leb-true (length content) 32767 h))
 
-area_short : (area : Area) (content : Option Bytes) → IsTrue (fits_if_there content) → IsTrue (leaves_short (area_change area content))
+area_short : (area : Area) (content : Option Bytes) → IsTrue (fits_if_there content) → IsTrue (row_is_short (area_change area content))
 area_short (Gssb name) None h = refl
 area_short (Gssb name) (Some bytes) h = content_short bytes h
 area_short (Tls block lterm) None h = refl
@@ -54,7 +64,7 @@ area_short (Uls block user) None h = refl
 area_short (Uls block user) (Some []) h = refl
 area_short (Uls block user) (Some (c ∷ cs)) h = content_short (c ∷ cs) h
 
-areas_short : (g : Generated) (ws : List (Area × Option Bytes)) → IsTrue (list_all (written_fits g) ws) → IsTrue (list_all leaves_short (changes_of ws))
+areas_short : (g : Generated) (ws : List (Area × Option Bytes)) → IsTrue (list_all (written_fits g) ws) → IsTrue (list_all row_is_short (changes_of ws))
 areas_short g [] h = refl
 areas_short g (w ∷ ws) h =
     let parts = both_true (written_fits g w) (list_all (written_fits g) ws) h in
@@ -86,7 +96,7 @@ module _ (g : Generated) (limits : AreLimits g.limits) (t : TableRows) (id : Ser
   handed_small : sum_by length x.parts ≤ 32700
   handed_small = omega (arith, s.can.parts.bytes, limits.nb)
 
-  row_short : (o : Outcome) → IsTrue (leaves_short (service_change id (row_after g id x o)))
+  row_short : (o : Outcome) → IsTrue (row_is_short (service_change id (row_after g id x o)))
   unfolding row_after
   row_short (Wait tac) =
       small (point_row id x tac true [] (Some (joined x.parts))) (record { kb = kb_small; count = omega arith; handed = omega arith; last = last_small (joined x.parts) (omega (arith, length_joined x.parts, s.can.parts.bytes)); lssbs_count = lssbs_few; lssbs = s.can.lssbs })
@@ -97,21 +107,21 @@ module _ (g : Generated) (limits : AreLimits g.limits) (t : TableRows) (id : Ser
   row_short Finish = refl
   row_short _ = refl
 
-  service_short : (o : Outcome) → IsTrue (list_all leaves_short (service_changes g id (row_after g id x o)))
+  service_short : (o : Outcome) → IsTrue (list_all row_is_short (service_changes g id (row_after g id x o)))
   service_short o = by (is_durable g id)
     where
-      by : (b : Bool) → IsTrue (list_all leaves_short (cond b (service_change id (row_after g id x o) ∷ []) []))
+      by : (b : Bool) → IsTrue (list_all row_is_short (cond b (service_change id (row_after g id x o) ∷ []) []))
       by true = true_both _ _ (row_short o) refl
       by false = refl
 
   -- ---- jobs
 
-  own_short : (i : ServiceId) (began : Option Service) → IsTrue (list_all leaves_short (own_job_changes i began))
+  own_short : (i : ServiceId) (began : Option Service) → IsTrue (list_all row_is_short (own_job_changes i began))
   own_short (Dialogue user) began = refl
   own_short (Asynchronous number) (Some row) = refl
   own_short (Asynchronous number) None = refl
 
-  jobs_short : (ds : List Draft) (next clock : ℕ) → IsTrue (list_all (draft_fits g) ds) → IsTrue (list_all leaves_short (job_changes (numbered next clock x.user x.lterm ds)))
+  jobs_short : (ds : List Draft) (next clock : ℕ) → IsTrue (list_all (draft_fits g) ds) → IsTrue (list_all row_is_short (job_changes (numbered next clock x.user x.lterm ds)))
   unfolding numbered
   jobs_short [] next clock h = refl
   jobs_short (d ∷ ds) next clock h =
@@ -121,16 +131,12 @@ module _ (g : Generated) (limits : AreLimits g.limits) (t : TableRows) (id : Ser
 
   -- ---- together
 
-  pub points_short : (o : Outcome) → IsTrue (list_all leaves_short (point_changes g t id x o).items)
+  pub points_short : (o : Outcome) → IsTrue (list_all (leaves_short g) (point_changes g t id x o).items)
   points_short o =
-      all_filter leaves_short (is_real t) (point_writes g t id x o)
-      (all_append leaves_short (changes_of x.written ++ service_changes g id (row_after g id x o) ++ own_job_changes id x.began) (job_changes (new_jobs t x))
-      (all_append leaves_short (changes_of x.written ++ service_changes g id (row_after g id x o)) (own_job_changes id x.began)
-      (all_append leaves_short (changes_of x.written) (service_changes g id (row_after g id x o)) (areas_short g x.written s.can.written) (service_short o))
+      all_imply row_is_short (leaves_short g) (short_if_durable g) (point_changes g t id x o).items
+      (all_filter row_is_short (is_real t) (point_writes g t id x o)
+      (all_append row_is_short (changes_of x.written ++ service_changes g id (row_after g id x o) ++ own_job_changes id x.began) (job_changes (new_jobs t x))
+      (all_append row_is_short (changes_of x.written ++ service_changes g id (row_after g id x o)) (own_job_changes id x.began)
+      (all_append row_is_short (changes_of x.written) (service_changes g id (row_after g id x o)) (areas_short g x.written s.can.written) (service_short o))
       (own_short id x.began))
-      (jobs_short x.drafts t.next_job t.clock s.can.drafts))
-
-  pub points_kept : (o : Outcome) → IsTrue (list_all (λ (c : Change). key_is_durable g (change_key c)) (point_changes g t id x o).items)
-  points_kept o =
-      all_filter (λ (c : Change). key_is_durable g (change_key c)) (is_real t) (point_writes g t id x o)
-      (points_durable g id (row_after g id x o) x.began x.written (new_jobs t x) t.next_job)
+      (jobs_short x.drafts t.next_job t.clock s.can.drafts)))

@@ -1,7 +1,7 @@
 //! Synchronisation points.
 ghost use Rattle.std.specs.Prelude.{◌≡◌, ◌++◌, ◌+◌, ◌≤◌, IfOk, OnOk, length, nat_lt};
 ghost use Rattle.kd_base.specs.Limits.{last_clock, last_next_job};
-ghost use Rattle.abstract_monitor.specs.Endings.{durable, numbered, refusal, row_after, synchronised};
+ghost use Rattle.abstract_monitor.specs.{Charges.{total_charge}, Endings.{durable, numbered, refusal, row_after, synchronised}};
 ghost use Rattle.laws_of_tables.specs.PointLaws.{Stands};
 ghost use Rattle.open_transaction.specs.Transactions.{transaction_of};
 ghost use Rattle.storage_areas.specs.Areas.{changes_of};
@@ -86,10 +86,12 @@ fn point_of(
     alloc: Global,
     generation: &Generation,
     tables: &Tables,
+    charge: u64,
     transaction: &OpenTransaction,
     outcome: Outcome,
 ) -> Result<Point, OutOfMemory>
     requires stands { Stands generation.now tables.now transaction.now.id (transaction_of transaction.now) }
+    requires charge { charge ≡ total_charge generation.now.limits.blksize (durable generation.now tables.now) }
     ensures { IfOk result (λ point. point ≡ point_by generation.now tables.now transaction.now outcome (refused_by generation.now tables.now transaction.now outcome)) }
 {
     let limits = generation.max();
@@ -102,7 +104,7 @@ fn point_of(
     }
     let row = row_after(alloc, generation, transaction, outcome)?;
     let changes = point_changes(alloc, generation, tables, transaction, areas, &row)?;
-    if is_pool_full(generation, tables, &changes) {
+    if is_pool_full(generation, tables, &changes, charge) {
         return Ok(Point::Refused(Cause::E09));
     }
     Ok(Point::Passed(changes, row))
@@ -110,20 +112,23 @@ fn point_of(
 
 /// A synchronisation point by PEND RE, SP, FI or FC, whose outcomes are Wait, Point, Finish and Follow. Where it is
 /// refused, the tests are in this order: E10 where there would be more than GSSBS GSSBs, E11 where a job's number would
-/// pass 999,999,999,999, and E09 where the page pool would be full. The changes cost what they are, and a look-up for
-/// each; the test for E09 goes over all rows. The transaction can go on, and its service's row is in the tables as it
-/// began; their durable part suits the generation. The transaction is lost where memory runs out.
+/// pass 999,999,999,999, and E09 where the page pool would be full. `charge` is how many pages the durable rows of the
+/// tables take together. The changes and the tests cost what the changes are, and a look-up for each. The transaction can
+/// go on, and its service's row is in the tables as it began; their durable part suits the generation. The transaction is
+/// lost where memory runs out.
 pub fn settle(
     transaction: Box<OpenTransaction>,
     alloc: Global,
     generation: &Generation,
     tables: &Tables,
+    charge: u64,
     outcome: Outcome,
 ) -> Result<SettleAnswer, OutOfMemory>
     requires stands { Stands generation.now tables.now transaction.value.id (transaction_of transaction.value) }
+    requires charge { charge ≡ total_charge generation.now.limits.blksize (durable generation.now tables.now) }
     ensures { IfOk result (λ answer. answer ≡ answer_by generation.now tables.now transaction outcome (refused_by generation.now tables.now transaction.value outcome)) }
 {
-    match point_of(alloc, generation, tables, &transaction, outcome)? {
+    match point_of(alloc, generation, tables, charge, &transaction, outcome)? {
         Point::Refused(cause) => Ok(SettleAnswer::Refused(cause, transaction)),
         Point::Passed(changes, row) => {
             let kept = kept_record(alloc, transaction, Ending::Synced)?;

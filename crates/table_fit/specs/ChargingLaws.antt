@@ -18,20 +18,20 @@ use Rattle.kdcdef_check.specs.Soundness.{AreLimits}
 use Rattle.abstract_monitor.specs.Bytes.{Bytes}
 use Rattle.abstract_monitor.specs.Calls.{job_target}
 use Rattle.abstract_monitor.specs.Charges.{charge_of, job_length, last_length, service_length, total_charge}
-use Rattle.laws_of_steps.specs.Suits.{fits_content, fits_message, gssb_suits, is_lterm, is_user, job_suits, last_fits, service_suits, target_name, target_suits, tls_suits, uls_suits, value_suits}
+use Rattle.laws_of_steps.specs.Suits.{Suits, fits_content, fits_message, gssb_suits, is_lterm, is_user, job_suits, last_fits, service_suits, target_name, target_suits, tls_suits, uls_suits, value_suits}
 use Rattle.table_fit.specs.SmallLaws.{small_short}
 use Rattle.table_fit.specs.Charging.{RowsSuit, AreShort, most_bytes, has_few_bytes, left_after}
 
 -- ---- values are short
 
-content_short : (content : Bytes) → IsTrue (fits_content content) → length content < 2 ^ 32
+pub content_short : (content : Bytes) → IsTrue (fits_content content) → length content < 2 ^ 32
 content_short content h = omega (arith, leb-true (length content) 32767 h)
 
 last_small : (g : Generated) → AreLimits g.limits → (last : Option Bytes) → IsTrue (last_fits g last) → last_length last ≤ 32705
 last_small g limits None h = omega arith
 last_small g limits (Some message) h = omega (arith, leb-true (length message) g.limits.nb h, limits.nb)
 
-service_short : (g : Generated) → AreLimits g.limits → (s : Service) → IsTrue (service_suits g s) → service_length s < 2 ^ 32
+pub service_short : (g : Generated) → AreLimits g.limits → (s : Service) → IsTrue (service_suits g s) → service_length s < 2 ^ 32
 service_short g limits s h =
     let bytes = both_true _ _ h in
     let count = both_true _ _ bytes.0 in
@@ -50,7 +50,7 @@ service_short g limits s h =
       lssbs = lssbs.1;
     })
 
-job_short : (g : Generated) → AreLimits g.limits → (j : Job) → IsTrue (job_suits g j) → job_length j.value < 2 ^ 32
+pub job_short : (g : Generated) → AreLimits g.limits → (j : Job) → IsTrue (job_suits g j) → job_length j.value < 2 ^ 32
 job_short g limits j h =
     let parts = both_true (value_suits g j.value && fits_message g j.value.message) (target_suits g j.value.to (job_target g (target_name j.value.to))) h in
     omega (arith, leb-true (length j.value.message) g.limits.nb (both_true (value_suits g j.value) (fits_message g j.value.message) parts.0).1, limits.nb)
@@ -103,6 +103,13 @@ charged_too_much g t limits none = by (nat_le (total_charge g.limits.blksize t) 
     by true e =
         absurd (true≢false (sym (shown_few g.limits.blksize g.limits.pgpool t limits.blksize (omega (arith, limits.pgpool)) (leb-true (total_charge g.limits.blksize t) g.limits.pgpool e)) ∙ none))
     by false e = refl
+
+-- the rows of tables that suit are short
+pub suiting_short : (g : Generated) (t : TableRows) → AreLimits g.limits → Suits g t → AreShort t
+suiting_short g t limits s =
+    rows_short g t limits
+    (record { count = s.count; gssbs = s.gssbs; tlss = s.tlss; ulss = s.ulss; services = s.services; durable = s.durable; jobs = s.jobs; shown = s.shown })
+    (shown_few g.limits.blksize g.limits.pgpool t limits.blksize (omega (arith, limits.pgpool)) s.charge)
 
 -- ---- what is left of the pages
 

@@ -6,14 +6,22 @@ use crate::names::{fits_content, is_lterm, is_user};
 use kd_base::{Bytes, Name};
 use kdcdef_check::Generation;
 
+/// The content of the GSSB is not too long.
+pub fn gssb_suits(row: &(Name, Bytes)) -> bool
+    ensures { result ≡ gssb_suits row.now }
+{
+    fits_content(&row.1)
+}
+
 /// No content of a GSSB is too long.
 pub(crate) fn gssbs_suit(rows: &[(Name, Bytes)]) -> bool
     ensures { result ≡ list_all gssb_suits rows.now }
 {
-    rows.iter().all(|row| fits_content(&row.1))
+    rows.iter().all(gssb_suits)
 }
 
-fn tls_suits(generation: &Generation, row: &(Name, Name, Bytes)) -> bool
+/// Block and LTERM are declared, and the content is not too long.
+pub fn tls_suits(generation: &Generation, row: &(Name, Name, Bytes)) -> bool
     ensures { result ≡ tls_suits generation.now row.now }
 {
     generation.has_tls(row.0) && is_lterm(generation, row.1) && fits_content(&row.2)
@@ -26,7 +34,8 @@ pub(crate) fn tlss_suit(generation: &Generation, rows: &[(Name, Name, Bytes)]) -
     rows.iter().all(|row| tls_suits(generation, row))
 }
 
-fn uls_suits(generation: &Generation, row: &(Name, Name, Bytes)) -> bool
+/// Block and user are declared, and the content is not too long.
+pub fn uls_suits(generation: &Generation, row: &(Name, Name, Bytes)) -> bool
     ensures { result ≡ uls_suits generation.now row.now }
 {
     generation.has_uls(row.0) && is_user(generation, row.1) && fits_content(&row.2)

@@ -1,5 +1,5 @@
 //! Whether the rows of tables fit into the page pool together.
-ghost use Rattle.std.specs.{Prelude.{◌≡◌, ◌-◌, ◌<◌, ◌≤◌, ◌^◌, ℕ, SomeIff, length, nat_le, sum_by, All}, List.{list_all}};
+ghost use Rattle.std.specs.{Prelude.{◌≡◌, ◌-◌, ◌<◌, ◌≤◌, ◌^◌, ℕ, SomeIff, length, min, nat_le, sum_by, All}, List.{list_all}};
 ghost use Rattle.kd_records.specs.Charge.{IsBlockSize};
 ghost use Rattle.abstract_monitor.specs.Charges.{charge_of, job_length, service_length, total_charge};
 ghost use Rattle.table_fit.specs.Charging.{AreShort, RowsSuit, has_few_bytes, left_after};
@@ -107,6 +107,19 @@ fn pages_left(pages: u64, tables: &Tables, blksize: u32) -> Option<u64>
     let services = left_after(ulss, tables.services(), blksize);
     let jobs = left_after(services, tables.jobs(), blksize);
     left_after(jobs, tables.shown(), blksize)
+}
+
+/// The charges of all rows together, in pages of this BLKSIZE; the greatest u64 stands for itself and more. It
+/// goes over all rows.
+pub fn total_charge(tables: &Tables, blksize: u32) -> u64
+    requires block { IsBlockSize blksize }
+    requires short { AreShort tables.now }
+    ensures { result ≡ min (total_charge blksize tables.now) (2 ^ 64 - 1) }
+{
+    match pages_left(u64::MAX, tables, blksize) {
+        Some(left) => u64::MAX - left,
+        None => u64::MAX,
+    }
 }
 
 /// The charges of all rows together are at most PGPOOL. It goes over all rows.

@@ -49,7 +49,8 @@ fn target_suits(generation: &Generation, to: Target) -> bool
     }
 }
 
-fn job_suits(generation: &Generation, job: &Job) -> bool
+/// The job's due is in range, user and LTERM are declared, the message has at most NB bytes, and its target takes jobs.
+pub fn job_suits(generation: &Generation, job: &Job) -> bool
     ensures { result ≡ job_suits generation.now job.now }
 {
     value_suits(generation, &job.value)
@@ -64,7 +65,8 @@ pub(crate) fn jobs_suit(generation: &Generation, jobs: &[Job]) -> bool
     jobs.iter().all(|job| job_suits(generation, job))
 }
 
-fn shown_suits(generation: &Generation, row: &(Name, JobValue)) -> bool
+/// The message was for the LTERM that shows it, and its due, user and LTERM suit.
+pub fn shown_suits(generation: &Generation, row: &(Name, JobValue)) -> bool
     ensures { result ≡ shown_suits generation.now row.now }
 {
     is_lterm(generation, row.0)

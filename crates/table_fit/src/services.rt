@@ -91,9 +91,9 @@ fn names_suit(generation: &Generation, service: &Service) -> bool
         && has_kind(generation, service.next, asynchronous)
 }
 
-// Every condition on a service's row but RESTART=YES: KB has MAX KB bytes, there are at most LSSBS LSSBs in order, and at
-// most 16 handed parts, which have at most NB bytes together.
-fn service_suits(generation: &Generation, service: &Service) -> bool
+/// Every condition on a service's row but RESTART=YES: KB has MAX KB bytes, there are at most LSSBS LSSBs in order, and at
+/// most 16 handed parts, which have at most NB bytes together.
+pub fn service_suits(generation: &Generation, service: &Service) -> bool
     ensures { result ≡ service_suits generation.now service.now }
 {
     let limits = generation.max();

@@ -2,7 +2,7 @@
 ghost use Rattle.std.specs.{Prelude.{◌≡◌, ◌↔◌, ◌&&◌, not, IsTrue, is_some, length, nat_le, nat_lt}, List.{list_all}};
 ghost use Rattle.kdcs_types.specs.{declared.service.Job.{Job as JobRow}, declared.service.Service.{Service as ServiceRow}, declared.key.ServiceId.TheVariants.{Asynchronous}, Limits.{IsInRange}, Tables.{service_of}};
 ghost use Rattle.laws_of_steps.specs.Suits.{SuitsFrom, number_is_below};
-ghost use Rattle.table_fit.specs.{Charging.{RowsSuit}, Suiting.{AreNumbersApart}};
+ghost use Rattle.table_fit.specs.{Charging.{RowsSuit}, Suiting.{AreNumbersApart, are_numbers_apart, are_numbers_in_range}};
 
 use crate::areas::{gssbs_suit, tlss_suit, ulss_suit};
 use crate::charges::charges_suit;
@@ -12,9 +12,10 @@ use kd_base::{LAST_CLOCK, LAST_NEXT_JOB};
 use kdcdef_check::Generation;
 use kdcs_types::{Job, Service, ServiceId, Tables};
 
-// The clock and the next job number are in range.
-fn numbers_suit(tables: &Tables) -> bool
-    ensures { IsTrue result ↔ IsInRange tables.now }
+/// The clock and the next job number are in range.
+pub fn numbers_suit(tables: &Tables) -> bool
+    ensures test { result ≡ are_numbers_in_range tables.now }
+    ensures range { IsTrue result ↔ IsInRange tables.now }
 {
     tables.clock() <= LAST_CLOCK && 1 <= tables.next_job() && tables.next_job() <= LAST_NEXT_JOB
 }
@@ -65,9 +66,11 @@ fn no_number_is_both(tables: &Tables) -> bool
         .is_none())
 }
 
-// The numbers of jobs and asynchronous services are below the next job number, and none is both.
-fn numbers_are_apart(tables: &Tables) -> bool
-    ensures { IsTrue result ↔ AreNumbersApart tables.now }
+/// The numbers of jobs and asynchronous services are below the next job number, and none is both. It takes time in
+/// proportion to the rows, with a look-up for each job.
+pub fn numbers_are_apart(tables: &Tables) -> bool
+    ensures test { result ≡ are_numbers_apart tables.now }
+    ensures apart { IsTrue result ↔ AreNumbersApart tables.now }
 {
     jobs_are_below(tables.next_job(), tables.jobs())
         && services_are_below(tables.next_job(), tables.services())

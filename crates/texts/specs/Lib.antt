@@ -5,3 +5,5 @@ pub mod Quotes
 pub mod QuotedLaws
 pub mod Parts
 pub mod PartedLaws
+pub mod Firsts
+pub mod FirstsLaws

@@ -15,4 +15,4 @@ pub use blank::{from_first, is_blank};
 pub use choice::first_true;
 pub use line::{len_before, next_line};
 pub use part::{Part, parts_of};
-pub use quoted::quoted_at;
+pub use quoted::{Quoted, quoted_at};

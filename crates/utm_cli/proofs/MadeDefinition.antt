@@ -20,6 +20,7 @@ use Rattle.kdcdef_read.specs.Meaning.{Say}
 use Rattle.kdcdef_check.specs.declared.fault.CheckFault.{CheckFault}
 use Rattle.kdcdef_check.specs.declared.fault.CheckFault.TheVariants as faults
 use Rattle.kdcdef_check.specs.Generating.{generated, max_given}
+use Rattle.kdcdef_check.specs.EndsLaws.{end_is}
 use Rattle.kdcdef_check.specs.Faults.{AreFaultless, shows, is_taken, shares_lterm, kind_of, kind_count, lacks_program, lacks_lterm, has_other_class, is_end, has_small_pool, lacks_user, lacks_kset}
 use Rattle.unit_types.specs.declared.action.UnitStatement.{UnitStatement}
 use Rattle.unit_types.specs.UnitText.{UnitText, IsWhole, jump_of, label_place}
@@ -137,10 +138,6 @@ abbrev ends_once : List Statement → Bool
 ends_once [] = false
 ends_once (s ∷ []) = is_end s.said
 ends_once (s ∷ t ∷ more) = not (is_end s.said) && ends_once (t ∷ more)
-
-end_is : (said : Said) → is_end said ≡ true → said ≡ says.End
-end_is says.End h = refl
-end_is _ h = absurd (true≢false (sym h))
 
 no_end : (said : Said) → not (is_end said) ≡ true → said ≡ says.End → ⊥
 no_end said h is = true≢false (sym (ap (λ (x : Said). not (is_end x)) (sym is) ∙ h))

@@ -88,7 +88,7 @@ pub fn utm<R: Room, D: Device>(
     ensures left { ForStart (call (map string_bytes words.now.items) (R.room room.old) (D.state device.old)) (λ e t. LeavesFile e t (D.state device.old) (D.state device.new)) }
 
     // The bytes written, whatever the status: none, or at most those of the making of the file, where it was empty, and of
-    // the commits that were performed or begun; the lines before these were sent. `show` and `make` write none.
+    // the commits among some first acts whose lines were sent. `show` and `make` write none.
     ensures written { Writes (call (map string_bytes words.now.items) (R.room room.old) (D.state device.old)) (D.state device.new) }
 
     // Every commit of the script is lawful from tables that a file stands for, and every cut of it can be gone on from and

@@ -126,6 +126,6 @@ pub fn create<D: Device>(
     let draft = make(alloc, blksize, pgpool, fingerprint)?;
     let len = draft.rest.len() as u64;
     device.reserve(6, len + 2, len + 1)?;
-    make_file(device, &draft.rest)?;
+    make_file(device, &[draft.rest.as_slice()])?;
     Ok(draft.image)
 }

@@ -1,5 +1,11 @@
-use Rattle.kdcdef_check.specs.Steps.{IsFirstOf, AmongFirst, OuterFault}
+use Rattle.std.proofs.Common.{◌≡◌, ℕ, List, Some, slice_get, true}
+use Rattle.kdcdef_types.specs.declared.statement.Statement.{Statement}
+use Rattle.kdcdef_check.specs.Generating.{generated}
+use Rattle.kdcdef_check.specs.Faults.{is_end}
+use Rattle.kdcdef_check.specs.Steps.{IsFirstOf, AmongFirst, OuterFault, HaveNamed, IsWhole}
 use Rattle.kdcdef_check.proofs.passes.first_outer_fault.Given as goal
 
 abbrev pub invariant-loop-statement : goal.invariant-loop-statement
-invariant-loop-statement l = IsFirstOf (AmongFirst l.statements (OuterFault l.statements) l.statement-index) l.first
+invariant-loop-statement l =
+    (all : List Statement) → HaveNamed l.tables (generated all) → ((i : ℕ) (s : Statement) → slice_get l.statements i ≡ Some s → is_end s.said ≡ true → IsWhole l.whole all)
+    → IsFirstOf (AmongFirst l.statements (OuterFault all) l.statement-index) l.first

@@ -1,11 +1,18 @@
-use Rattle.kdcdef_read.proofs.Clauses.{stands, only_that, fault_found, refused_for, read_well}
+use Rattle.kdcdef_read.proofs.Readings.{found, only, fault_is, refused}
+use Rattle.kdcdef_read.proofs.Apart.{are_read}
 use Rattle.kdcdef_read.proofs.reading.read.Goals as goal
 
-pub returns : goal.returns
-returns c = record {
-  found = stands c.args.raw.now.items c.read_all.result c.read_all.ensures;
-  only = only_that c.args.raw.now.items c.read_all.result c.read_all.ensures;
-  fault = fault_found c.args.raw.now.items c.read_all.result c.read_all.ensures;
-  refused = refused_for c.args.raw.now.items c.read_all.result c.read_all.ensures;
-  read = read_well c.args.raw.now.items c.read_all.result c.requires (stands c.args.raw.now.items c.read_all.result c.read_all.ensures);
-}
+pub returns-clause-found : goal.returns-clause-found
+returns-clause-found c = found c.args.raw.now
+
+pub returns-clause-only : goal.returns-clause-only
+returns-clause-only c = only c.args.raw.now
+
+pub returns-clause-fault : goal.returns-clause-fault
+returns-clause-fault c = fault_is c.args.raw.now
+
+pub returns-clause-refused : goal.returns-clause-refused
+returns-clause-refused c = refused c.args.raw.now
+
+pub returns-clause-read : goal.returns-clause-read
+returns-clause-read c = λ ss read. are_read c.args.raw.now ss c.requires (found c.args.raw.now ss read)

@@ -1,6 +1,5 @@
 use Rattle.std.proofs.Common.{◌≡◌, Bool, List, Result, ap, ◌∙◌, subst}
 use Rattle.kd_base.specs.ToolsLaws.{ok_of}
-use Rattle.kdcdef_lex.specs.declared.statement.RawOperand.{RawOperand}
 use Rattle.kdcdef_read.specs.declared.fault.Cause.{Cause}
 use Rattle.kdcdef_read.specs.declared.operands.Given.{Given}
 use Rattle.kdcdef_read.specs.Filling.{read_operands}
@@ -11,7 +10,6 @@ pub returns-in-Ok : goal.returns-in-Ok
 returns-in-Ok c =
     let read : ok_of {E = Cause} c.in-Ok.given ≡ read_operands c.args.keyword (for_max c.args.keyword c.args.taken no_keys) c.args.raw.now.operands =
     c.in-Ok.ensures
-    ∙ ap (λ (taken : List Bool). read_operands c.args.keyword taken c.as_slice.result.now) c.for_max-before.ensures
-    ∙ ap (λ (os : List RawOperand). read_operands c.args.keyword (for_max c.args.keyword c.args.taken no_keys) os) c.as_slice.ensures in
+    ∙ ap (λ (taken : List Bool). read_operands c.args.keyword taken c.args.raw.now.operands) c.for_max-before.ensures in
     let P : Result Given Cause → Type 0 = λ x. Gives c.given_by.result (given_by c.args.keyword c.args.taken c.args.raw.now.line c.args.raw.now.operands x) in
     subst P read c.given_by.ensures

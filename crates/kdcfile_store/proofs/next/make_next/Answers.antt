@@ -1,3 +1,5 @@
+use Rattle.std.proofs.Common.{ap}
+use Rattle.kd_records.specs.InPlace.{Patching}
 use Rattle.kdcfile_store.proofs.Planning.{plan_few, plan_enough, can_draft, few_planned}
 use Rattle.kdcfile_store.proofs.Making.{few_records, is_next}
 use Rattle.kdcfile_store.proofs.next.make_next.Goals as goal
@@ -9,12 +11,12 @@ pub next_plan-requires-clause-enough : goal.next_plan-requires-clause-enough
 next_plan-requires-clause-enough c = plan_enough c.args.image.now _ _ _ _ c.requires.stored c.requires.patch c.requires.charge_before c.requires.charge_after
 
 pub next_draft-requires : goal.next_draft-requires
-next_draft-requires c = can_draft c.args.image.now _ _ _ _ c.requires.stored c.requires.patch c.requires.charge_before c.requires.charge_after _ c.in_ok-plan.ensures
+next_draft-requires c = can_draft c.args.image.now _ _ _ _ c.requires.stored c.requires.patch c.requires.charge_before c.requires.charge_after _ c.in-Ok.ensures
 
 pub next_of-requires-clause-few : goal.next_of-requires-clause-few
-next_of-requires-clause-few c = few_records c.args.image.now _ _ _ _ c.requires.stored c.requires.patch c.requires.charge_before c.requires.charge_after _ c.in_ok-next.ensures.content
+next_of-requires-clause-few c = few_records c.args.image.now _ _ _ _ c.requires.stored c.requires.patch c.requires.charge_before c.requires.charge_after c.in-Ok-patch_in_place.content (ap (λ (p : Patching). p.content) c.in-Ok-patch_in_place.ensures.ok)
 
-pub returns : goal.returns
-returns c =
-    is_next c.args.image.now _ _ _ _ c.requires.stored c.requires.patch c.requires.charge_before c.requires.charge_after _ c.in_ok-next.ensures.content c.in_ok-next.ensures.clock c.in_ok-next.ensures.next_job _ _ c.in_ok-plan.ensures
-    (few_planned c.args.image.now _ _ _ _ c.requires.stored c.requires.patch c.requires.charge_before c.requires.charge_after _ c.in_ok-plan.ensures) _ c.in_ok-draft.ensures _ c.next_of.ensures
+pub returns-in-Ok-next_draft-clause-ok : goal.returns-in-Ok-next_draft-clause-ok
+returns-in-Ok-next_draft-clause-ok c =
+    is_next c.args.image.now _ _ _ _ c.requires.stored c.requires.patch c.requires.charge_before c.requires.charge_after c.in-Ok-patch_in_place.content (ap (λ (p : Patching). p.content) c.in-Ok-patch_in_place.ensures.ok) _ _ c.in-Ok.ensures
+    (few_planned c.args.image.now _ _ _ _ c.requires.stored c.requires.patch c.requires.charge_before c.requires.charge_after _ c.in-Ok.ensures) _ c.in-Ok-next_draft.ensures.ok _ c.next_of.ensures

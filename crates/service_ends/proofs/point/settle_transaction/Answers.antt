@@ -1,17 +1,12 @@
-use Rattle.std.specs.Prelude.{[], ◌∷◌, Option}
 use Rattle.std.proofs.Common.{ap, subst, sym, ◌∙◌}
 use Rattle.std.proofs.lemmas.Result.{IfOk-weaker}
-use Rattle.kdcs_types.specs.declared.act.Changes.{Changes}
-use Rattle.kdcs_types.specs.declared.key.ServiceId.{ServiceId}
-use Rattle.kdcs_types.specs.declared.service.Service.{Service}
-use Rattle.kdcs_types.specs.Tables.{AreChanges}
-use Rattle.laws_of_commits.specs.EndsLaws.{point_made}
-use Rattle.abstract_monitor.specs.Endings.{joined, service_change}
+use Rattle.abstract_monitor.specs.Endings.{joined}
 use Rattle.open_transaction.specs.declared.open.OpenTransaction.{OpenTransaction}
 use Rattle.open_transaction.specs.Transactions.{Boxed, boxed_transaction, HasOrder}
 use Rattle.service_ends.specs.declared.point.Ended.{Ended}
 use Rattle.service_ends.specs.Ending.{IsClosed}
 use Rattle.service_ends.proofs.Ended.{goes_on, passed_as, points_as, refused_as, refuses_as, row_after_order}
+use Rattle.service_ends.proofs.Fits.{point_commits}
 use Rattle.service_ends.proofs.point.settle_transaction.Goals as goal
 use Rattle.laws_of_tables.specs.PointsLaws.{point_row_fits}
 
@@ -20,18 +15,11 @@ end_transaction-requires-clause-closed c =
     let p = c.args.parts.now in
     subst (λ (w : Boxed). IsClosed p w) (sym (refused_as p.generation p.tables c.args.transaction c.in-Refused.transaction c.args.outcome _ c.in-Refused.cause (sym c.in-Refused.is ∙ c.in_ok-cause.ensures)).1) c.requires.closed
 
-pub synchronise-requires-clause-changes : goal.synchronise-requires-clause-changes
-synchronise-requires-clause-changes c =
+pub synchronise-requires-clause-commits : goal.synchronise-requires-clause-commits
+synchronise-requires-clause-commits c =
     let p = c.args.parts.now in
     let passed = passed_as p.generation p.tables c.args.transaction c.args.outcome _ c.in-Synced.changes c.in-Synced.row c.in-Synced.kept (sym c.in-Synced.is ∙ c.in_ok-cause.ensures) in
-    subst (λ (cs : Changes). AreChanges cs.items) (sym passed.changes_are) (point_made p.generation p.tables c.args.transaction.value.id (boxed_transaction c.args.transaction) c.args.outcome c.requires.closed.stands).changes
-
-pub synchronise-requires-clause-own : goal.synchronise-requires-clause-own
-synchronise-requires-clause-own c =
-    let p = c.args.parts.now in
-    let passed = passed_as p.generation p.tables c.args.transaction c.args.outcome _ c.in-Synced.changes c.in-Synced.row c.in-Synced.kept (sym c.in-Synced.is ∙ c.in_ok-cause.ensures) in
-    subst (λ (i : ServiceId). AreChanges (service_change i c.in-Synced.row ∷ [])) (sym (ap (λ (e : Ended). e.id) c.in_ok-ended.ensures ∙ ap (λ (w : OpenTransaction). w.id) c.deref.ensures))
-    (subst (λ (row : Option Service). AreChanges (service_change c.args.transaction.value.id row ∷ [])) (sym passed.row_is) (point_made p.generation p.tables c.args.transaction.value.id (boxed_transaction c.args.transaction) c.args.outcome c.requires.closed.stands).own)
+    point_commits p c.args.transaction c.args.outcome c.in-Synced.changes c.in-Synced.row c.in-Synced.kept _ passed (ap (λ (e : Ended). e.id) c.in_ok-ended.ensures ∙ ap (λ (w : OpenTransaction). w.id) c.deref.ensures) c.requires.closed.stands
 
 pub synchronise-requires-clause-rests : goal.synchronise-requires-clause-rests
 synchronise-requires-clause-rests c =

@@ -8,23 +8,22 @@ use Rattle.kdcs_types.specs.declared.call.Cause.{Cause}
 use Rattle.kdcs_types.specs.declared.call.Cause.TheVariants.{E09, E10, E11}
 use Rattle.kdcs_types.specs.declared.service.Service.{Service}
 use Rattle.kd_base.specs.Limits.{last_next_job}
-use Rattle.kdcs_types.specs.Tables.{AreChanges, TableRows, change_key, changed, with_changes}
+use Rattle.kdcs_types.specs.Tables.{AreChanges, TableRows, changed, with_changes}
 use Rattle.kdcdef_types.specs.Generation.{Generated}
-use Rattle.laws_of_steps.specs.DurableKeys.{key_is_durable}
 use Rattle.abstract_monitor.specs.declared.outcome.Outcome.{Outcome}
 use Rattle.abstract_monitor.specs.Charges.{total_charge}
 use Rattle.abstract_monitor.specs.Endings.{durable, refusal, row_after, synchronised}
 use Rattle.laws_of_tables.specs.PointLaws.{Stands}
 use Rattle.open_transaction.specs.declared.open.OpenTransaction.{OpenTransaction}
 use Rattle.open_transaction.specs.Transactions.{transaction_of}
+use Rattle.row_charges.specs.Pages.{leaves_short}
 use Rattle.storage_areas.specs.Areas.{changes_of}
 use Rattle.sync_points.specs.declared.points.Point.TheVariants.{Passed}
 use Rattle.sync_points.specs.Answers.{point_by}
 use Rattle.sync_points.specs.MadeLaws.{points_are, points_change}
 use Rattle.sync_points.specs.PointChanges.{changes_with, point_changes}
 use Rattle.sync_points.specs.RefusalsLaws.{full, passed, refusal_is, refused_by, spent, too_many}
-use Rattle.sync_points.specs.Short.{leaves_short}
-use Rattle.sync_points.specs.ShortLaws.{points_kept, points_short}
+use Rattle.sync_points.specs.ShortLaws.{points_short}
 use Rattle.sync_points.proofs.points.point_of.Goals as goal
 
 module _ (g : Generated) (t : TableRows) (w : OpenTransaction) (o : Outcome) (s : Stands g t w.id (transaction_of w)) where
@@ -35,7 +34,7 @@ module _ (g : Generated) (t : TableRows) (w : OpenTransaction) (o : Outcome) (s 
   next = t.next_job + length w.drafts
 
   abbrev charge : Changes → ℕ
-  charge changes = total_charge g.limits.blksize (changed (durable g t) changes)
+  charge changes = total_charge g.limits.blksize (durable g (changed t changes))
 
   abbrev points : Changes
   points = point_changes g t w.id (transaction_of w) o
@@ -92,10 +91,10 @@ is_pool_full-requires c =
     let limits = c.max-limits.ensures.sound.limits in
     let is_made = sym (made g t w c.args.outcome c.requires.stands c.in_ok-changes.ensures c.in_ok-row.ensures) in
     record {
-      sound = c.requires.stands.sound;
+      charge = c.requires.charge;
+      fit = c.requires.stands.sound.suits.charge;
       changes = subst (λ (cs : Changes). AreChanges cs.items) is_made (points_are g t w.id (transaction_of w) c.args.outcome c.requires.stands);
-      kept = subst (λ (cs : Changes). IsTrue (list_all (λ (d : Change). key_is_durable g (change_key d)) cs.items)) is_made (points_kept g limits t w.id (transaction_of w) c.requires.stands c.args.outcome);
-      short = subst (λ (cs : Changes). IsTrue (list_all leaves_short cs.items)) is_made (points_short g limits t w.id (transaction_of w) c.requires.stands c.args.outcome);
+      short = subst (λ (cs : Changes). IsTrue (list_all (leaves_short g) cs.items)) is_made (points_short g limits t w.id (transaction_of w) c.requires.stands c.args.outcome);
     }
 
 pub returns-then-has_too_many_gssbs : goal.returns-then-has_too_many_gssbs

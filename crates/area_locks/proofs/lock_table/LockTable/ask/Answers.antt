@@ -1,8 +1,11 @@
-use Rattle.std.proofs.Common.{◌∙◌, ap}
+use Rattle.std.proofs.Common.{◌∙◌, ap, sym}
 use Rattle.abstract_monitor.specs.Locks.{Locks, holder}
-use Rattle.area_locks.proofs.Answering.{deadlock_answered}
+use Rattle.area_locks.proofs.Answering.{deadlock_answered, granted_open}
 use Rattle.area_locks.proofs.Holders.{holder_after_is}
 use Rattle.area_locks.proofs.lock_table.LockTable.ask.Goals as goal
+
+pub record_answer-requires : goal.record_answer-requires
+record_answer-requires c granted = granted_open c.args.self.now c.args.reswait c.args.now c.args.who c.args.area (sym c.answer-answer.ensures ∙ granted)
 
 pub returns-clause-deadlock : goal.returns-clause-deadlock
 returns-clause-deadlock c = deadlock_answered c.args.self.now c.args.reswait c.args.now c.args.who c.args.area c.answer-answer.result c.answer-answer.ensures

@@ -1,21 +1,39 @@
-use Rattle.std.proofs.Common.{refl, sym, ap, subst, ◌∙◌}
-use Rattle.async_queue.specs.Queue.{IsAscending, queued_at, delivered}
-use Rattle.async_queue.proofs.Order.{ascending_changed}
-use Rattle.async_queue.proofs.Places.{absent_changed, changed_in, is_there}
+-- Both have the other target, or the job is in neither.
+use Rattle.std.proofs.Common.{◌≡◌, Some, None, is_some, sym, ap, ◌∙◌}
+use Rattle.std.specs.Prelude.{option_copied}
+use Rattle.std.specs.FinMap.{find}
+use Rattle.std.specs.Ordering.{nat_cmp}
+use Rattle.async_queue.specs.declared.queue.Waiting.{Waiting}
+use Rattle.async_queue.specs.DueIndex.{queue_in, queued}
+use Rattle.async_queue.specs.Queue.{delivered}
+use Rattle.async_queue.proofs.Index.{readdressed}
+use Rattle.async_queue.proofs.Views.{job_absent, job_changed, job_there, none_changed}
 use Rattle.async_queue.proofs.jobs.Jobs.again.Goals as goal
+use Rattle.async_queue.proofs.jobs.Jobs.again.Goals.{In-Some, In_default}
 
-pub invariant_of-self : goal.invariant_of-self
-invariant_of-self c =
-    subst IsAscending (sym (changed_in c.args.number c.self.inside.queue.items _ c.in-Some.at c.self.invariant c.deref.ensures.value c.in-Some.ensures (delivered c.args.to c.args.redelivered) c.index_mut-queued.result.now c.index_mut-queued.ensures.value))
-    (ascending_changed c.args.number (delivered c.args.to c.args.redelivered) (λ q. refl) _ c.self.invariant)
+absent : (c : In_default) → find nat_cmp c.args.number c.self.inside.by_number ≡ None
+absent c = sym c.get.ensures.value ∙ ap option_copied c.in_default.is
 
-pub returns-in-Some-clause-result : goal.returns-in-Some-clause-result
-returns-in-Some-clause-result c =
-    rw (← c.self.view_is) (is_there c.args.number c.self.inside.queue.items _ c.in-Some.at c.self.invariant c.deref.ensures.value c.in-Some.ensures c.index_mut-queued.result.now c.index_mut-queued.ensures.value)
+there : (c : In-Some) → find nat_cmp c.args.number c.self.inside.by_number ≡ Some c.in-Some.waiting.now
+there c = sym c.get.ensures.value ∙ ap option_copied c.in-Some.is
 
-pub returns-in-Some-clause-ok : goal.returns-in-Some-clause-ok
-returns-in-Some-clause-ok c =
-    rw (← c.self.view_is) (changed_in c.args.number c.self.inside.queue.items _ c.in-Some.at c.self.invariant c.deref.ensures.value c.in-Some.ensures (delivered c.args.to c.args.redelivered) c.index_mut-queued.result.now c.index_mut-queued.ensures.value)
+pub returns-in_default-clause-result : goal.returns-in_default-clause-result
+returns-in_default-clause-result c = sym (ap is_some (job_absent c.args.number c.self.inside.by_number c.args.self.now c.self.view_is (absent c)))
 
-pub returns-in-None-clause-ok : goal.returns-in-None-clause-ok
-returns-in-None-clause-ok c = rw (← c.self.view_is) (sym (absent_changed c.args.number (delivered c.args.to c.args.redelivered) _ (ap (queued_at c.args.number) (sym c.deref.ensures.value) ∙ c.in-None.ensures)))
+pub returns-in_default-clause-ok : goal.returns-in_default-clause-ok
+returns-in_default-clause-ok c = sym c.self.view_is ∙ none_changed c.args.number c.self.inside.by_number c.args.self.now c.self.view_is (delivered c.args.to) (absent c)
+
+pub invariant_of-self-2 : goal.invariant_of-self-2
+invariant_of-self-2 c =
+    rw (c.replace.ensures.values, c.in_ok-rekey.ensures.ok, c.key.ensures, c.key-2.ensures)
+    (readdressed c.args.number c.self.inside.by_number c.self.inside.by_due c.self.invariant c.in-Some.waiting.now c.for_target-again.result
+    (there (goal.at.invariant_of-self-2 c).In-Some) (ap (λ (w : Waiting). w.taken) c.for_target-again.ensures))
+
+pub returns-clause-result : goal.returns-clause-result
+returns-clause-result c = sym (ap is_some (job_there c.args.number c.self.inside.by_number c.args.self.now c.self.view_is c.in-Some.waiting.now (there (goal.at.returns-clause-result c).In-Some)))
+
+pub returns-clause-ok : goal.returns-clause-ok
+returns-clause-ok c =
+    ap queue_in c.replace.ensures.values
+    ∙ job_changed c.args.number c.self.inside.by_number c.args.self.now c.self.view_is (delivered c.args.to) c.in-Some.waiting.now c.for_target-again.result
+    (ap (λ (w : Waiting). queued (c.args.number, w)) (sym c.for_target-again.ensures)) c.self.invariant.numbers (there (goal.at.returns-clause-ok c).In-Some)

@@ -1,11 +1,18 @@
-use Rattle.std.proofs.Common.{map, subst, sym, ap, ◌∙◌, arith}
-use Rattle.std.proofs.lemmas.List.{take_all}
-use Rattle.async_queue.specs.Queue.{IsAscending, untaken}
-use Rattle.async_queue.proofs.Order.{ascending_untaken}
+-- Each job of the tables has a greater number than those before it.
+use Rattle.std.proofs.Common.{IsTrue, List, sym, subst, ◌∙◌}
+use Rattle.kdcs_types.specs.declared.service.Job.{Job}
+use Rattle.kdcs_types.specs.Keyed.{ascends}
+use Rattle.kdcs_types.specs.Tables.{job_key}
+use Rattle.async_queue.proofs.Filling.{next_absent, next_last}
 use Rattle.async_queue.proofs.jobs.Jobs.from_tables.Goals as goal
 
--- all jobs are there, in the order of the tables
-pub invariant_of-result : goal.invariant_of-result
-invariant_of-result c =
-    subst IsAscending (sym (c.loop-job.invariant ∙ ap (map untaken) (take_all c.loop-job.job-index _ (omega arith) ∙ c.jobs-jobs.ensures)))
-    (ascending_untaken c.args.tables.now.jobs c.clock-clock.ensures.sorted.jobs)
+pub insert-requires : goal.insert-requires
+insert-requires c =
+    next_absent c.jobs-job-items.result.now c.loop-job.job-index c.job-item.result c.loop-job.jobs
+    (subst (λ (jobs : List Job). IsTrue (ascends job_key jobs)) (sym c.jobs-job-items.ensures) c.clock-clock.ensures.sorted.jobs) c.loop-job-test.true c.job-item.is c.loop-job.invariant
+
+pub loop-job-preserved : goal.loop-job-preserved
+loop-job-preserved c =
+    c.in_ok-insert.ensures.ok
+    ∙ next_last c.jobs-job-items.result.now c.loop-job.job-index c.job-item.result c.loop-job.jobs
+    (subst (λ (jobs : List Job). IsTrue (ascends job_key jobs)) (sym c.jobs-job-items.ensures) c.clock-clock.ensures.sorted.jobs) c.loop-job-test.true c.job-item.is c.loop-job.invariant

@@ -1,6 +1,7 @@
+-- So far the first jobs of the tables.
 use Rattle.std.proofs.Common.{◌≡◌, map, take}
 use Rattle.async_queue.specs.Queue.{untaken}
 use Rattle.async_queue.proofs.jobs.Jobs.from_tables.Given as goal
 
 abbrev pub invariant-loop-job : goal.invariant-loop-job
-invariant-loop-job l = l.queue.items ≡ map untaken (take l.job-index l.jobs)
+invariant-loop-job l = l.jobs ≡ map untaken (take l.job-index l.job-items)

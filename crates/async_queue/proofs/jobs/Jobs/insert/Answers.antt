@@ -1,17 +1,25 @@
-use Rattle.std.proofs.Common.{sym, ap, subst, ◌∙◌, arith}
-use Rattle.std.specs.Prelude.{nat_lt}
-use Rattle.std.specs.List.{insert}
-use Rattle.std.proofs.lemmas.List.Sums.{prefix_len-le-length}
-use Rattle.async_queue.specs.declared.queue.QueuedJob.{QueuedJob}
-use Rattle.async_queue.specs.Queue.{IsAscending, untaken, lesser_count, queued_at}
-use Rattle.async_queue.proofs.Order.{ascending_with}
+-- The job comes to both, or to neither.
+use Rattle.std.proofs.Common.{false, ap, ◌∙◌}
+use Rattle.async_queue.specs.declared.due.DueKey.{DueKey}
+use Rattle.async_queue.specs.DueIndex.{queue_in}
+use Rattle.async_queue.proofs.Index.{inserted, taken_back}
+use Rattle.async_queue.proofs.Views.{job_added, number_absent}
 use Rattle.async_queue.proofs.jobs.Jobs.insert.Goals as goal
 
-pub insert-requires : goal.insert-requires
-insert-requires c = omega (arith, c.lesser_count-at.ensures, c.deref.ensures.len, prefix_len-le-length (λ (q : QueuedJob). nat_lt q.job.number c.args.job.number) c.deref.result.now)
+pub invariant_of-self-in-Err : goal.invariant_of-self-in-Err
+invariant_of-self-in-Err c =
+    rw (c.in-Err.ensures.err, c.remove.ensures.left, c.in_ok-put.ensures.ok)
+    (taken_back c.args.number c.self.inside.by_number c.self.inside.by_due c.self.invariant c.key-key.result false
+    (ap (λ (k : DueKey). k.number) c.key-key.ensures) (number_absent c.args.number c.self.inside.by_number c.args.self.now c.self.view_is c.requires))
 
-pub invariant_of-self-2 : goal.invariant_of-self-2
-invariant_of-self-2 c =
-    rw c.in_ok-insert.ensures.items
-    (subst (λ i. IsAscending (insert c.self.inside.queue.items i (untaken c.args.job))) (sym (c.lesser_count-at.ensures ∙ ap (lesser_count c.args.job.number) c.deref.ensures.value))
-    (ascending_with c.args.job _ c.self.invariant (ap (queued_at c.args.job.number) c.self.view_is ∙ c.requires)))
+pub invariant_of-self-in_default : goal.invariant_of-self-in_default
+invariant_of-self-in_default c =
+    rw (c.in_default.ensures.ok, c.in_ok-put.ensures.ok, c.key-key.ensures)
+    (inserted c.args.number c.self.inside.by_number c.self.inside.by_due c.self.invariant (record { to = c.args.to; due = c.args.due; taken = false })
+    (number_absent c.args.number c.self.inside.by_number c.args.self.now c.self.view_is c.requires))
+
+pub returns-clause-ok : goal.returns-clause-ok
+returns-clause-ok c =
+    ap queue_in c.in_default.ensures.ok
+    ∙ job_added c.args.number c.self.inside.by_number c.args.self.now c.self.view_is (record { to = c.args.to; due = c.args.due; taken = false })
+    (number_absent c.args.number c.self.inside.by_number c.args.self.now c.self.view_is c.requires)

@@ -1,21 +1,23 @@
-use Rattle.std.proofs.Common.{sym, ap, subst, ◌∙◌}
-use Rattle.async_queue.specs.Queue.{IsAscending, queued_at}
-use Rattle.async_queue.proofs.Order.{ascending_without}
-use Rattle.async_queue.proofs.Places.{absent_without, value_in, without_in}
+-- The job leaves both, or is in neither.
+use Rattle.std.proofs.Common.{is_some, sym, ap, ◌∙◌}
+use Rattle.async_queue.specs.DueIndex.{queue_in}
+use Rattle.async_queue.proofs.Index.{removed}
+use Rattle.async_queue.proofs.Views.{job_absent, job_left, job_there}
 use Rattle.async_queue.proofs.jobs.Jobs.remove.Goals as goal
-
-pub returns-in_err-at-clause-left : goal.returns-in_err-at-clause-left
-returns-in_err-at-clause-left c = rw (← c.self.view_is) (sym (absent_without c.args.number _ (ap (queued_at c.args.number) (sym c.deref.ensures.value) ∙ c.in_err-at.ensures)))
 
 pub invariant_of-self : goal.invariant_of-self
 invariant_of-self c =
-    subst IsAscending (sym (without_in c.args.number c.self.inside.queue.items _ c.in_ok-at.at c.self.invariant c.deref.ensures.value c.in_ok-at.ensures _ c.remove.ensures.items))
-    (ascending_without c.args.number _ c.self.invariant)
+    rw (c.remove.ensures.left, c.remove-in-Some.ensures.left, c.key.ensures)
+    (removed c.args.number c.self.inside.by_number c.self.inside.by_due c.self.invariant c.in-Some.waiting (sym c.remove.ensures.value ∙ c.in-Some.is))
 
-pub returns-clause-value : goal.returns-clause-value
-returns-clause-value c =
-    rw (← c.self.view_is) (value_in c.args.number c.self.inside.queue.items _ c.in_ok-at.at c.self.invariant c.deref.ensures.value c.in_ok-at.ensures c.remove.result c.remove.ensures.value)
+pub returns-in-Some-clause-found : goal.returns-in-Some-clause-found
+returns-in-Some-clause-found c = sym (ap is_some (job_there c.args.number c.self.inside.by_number c.args.self.now c.self.view_is c.in-Some.waiting (sym c.remove.ensures.value ∙ c.in-Some.is)))
 
-pub returns-clause-left : goal.returns-clause-left
-returns-clause-left c =
-    rw (← c.self.view_is) (without_in c.args.number c.self.inside.queue.items _ c.in_ok-at.at c.self.invariant c.deref.ensures.value c.in_ok-at.ensures _ c.remove.ensures.items)
+pub returns-in-Some-clause-left : goal.returns-in-Some-clause-left
+returns-in-Some-clause-left c = ap queue_in c.remove.ensures.left ∙ job_left c.args.number c.self.inside.by_number c.args.self.now c.self.view_is
+
+pub returns-in-None-clause-found : goal.returns-in-None-clause-found
+returns-in-None-clause-found c = sym (ap is_some (job_absent c.args.number c.self.inside.by_number c.args.self.now c.self.view_is (sym c.remove.ensures.value ∙ c.in-None.is)))
+
+pub returns-in-None-clause-left : goal.returns-in-None-clause-left
+returns-in-None-clause-left c = ap queue_in c.remove.ensures.left ∙ job_left c.args.number c.self.inside.by_number c.args.self.now c.self.view_is

@@ -1,6 +1,6 @@
-use Rattle.std.proofs.Common.{take}
+use Rattle.std.proofs.Common.{◌≡◌, take}
 use Rattle.page_drafts.specs.DraftRuns.{RemovesAll}
 use Rattle.page_drafts.proofs.draft.Draft.remove_all.Given as goal
 
 abbrev pub invariant-loop-change : goal.invariant-loop-change
-invariant-loop-change l = RemovesAll l.size (take l.change-index l.changes) l.fn.self l.self
+invariant-loop-change l = record { made : RemovesAll l.size (take l.change-index l.changes) l.fn.self l.self; before : l.self.before ≡ l.fn.self.before }

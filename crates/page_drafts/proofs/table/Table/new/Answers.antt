@@ -1,7 +1,7 @@
 use Rattle.std.proofs.Common.{◌≡◌, ◌∙◌, ◌++◌, ◌∷◌, ◌+◌, [], replicate, refl, ap, sym, subst, List, ℕ, arith, Option}
 use Rattle.std.proofs.lemmas.List.{replicate_more}
 use Rattle.kdcfile_layout.specs.declared.chain.Chain.{Chain}
-use Rattle.page_drafts.specs.Tables.{IsIndexed, IsDescending, Index}
+use Rattle.page_drafts.specs.Tables.{IsDescending}
 use Rattle.kdcfile_layout.specs.Layout.{free_slot}
 use Rattle.page_drafts.specs.TablesLaws.{descending_more, empty_table}
 use Rattle.page_drafts.proofs.table.Table.new.Goals as goal
@@ -18,5 +18,4 @@ pub invariant_of-result : goal.invariant_of-result
 invariant_of-result c =
     let all : c.loop-n.n ≡ c.args.count = omega (arith, c.loop-n-test.false, c.loop-n.auto.n-end) in
     let free : IsDescending c.loop-n.free.items c.args.count c.args.count = subst (λ (n : ℕ). IsDescending c.loop-n.free.items n c.args.count) all c.loop-n.invariant.free in
-    subst (λ (l : List (Option Chain)). IsIndexed l c.new.result c.loop-n.free.items) (sym (c.loop-n.invariant.slots ∙ ap (λ (n : ℕ). replicate n free_slot) all))
-    (subst (λ (x : Index). IsIndexed (replicate c.args.count free_slot) x c.loop-n.free.items) (sym c.new.ensures) (empty_table c.loop-n.free.items c.args.count free))
+    rw (c.loop-n.invariant.slots ∙ ap (λ (n : ℕ). replicate n free_slot) all, c.new.ensures) (empty_table c.loop-n.free.items c.args.count free)

@@ -1,6 +1,10 @@
 use Rattle.std.proofs.Common.{sym, ap}
 use Rattle.session_table.proofs.Keeping.{kept_by_change}
+use Rattle.session_table.proofs.Pterms.{pterms_changed}
 use Rattle.session_table.proofs.sessions.Sessions.set_last.Goals as goal
 
 pub invariant_of-self-2 : goal.invariant_of-self-2
-invariant_of-self-2 c = kept_by_change c.args.pterm _ _ _ c.self.invariant (sym c.in-Some.ensures.value) (sym (ap (λ s. s.user) c.set_last.ensures))
+invariant_of-self-2 c =
+    let same = sym (ap (λ s. s.user) c.set_last.ensures) in
+    let found = sym c.in-Some.ensures.value in
+    (kept_by_change c.args.pterm _ _ _ c.self.invariant.0 found same, pterms_changed _ _ c.self.invariant.1 c.args.pterm _ _ found same)

@@ -1,0 +1,4 @@
+pub mod Weights
+pub mod WeightsLaws
+pub mod Pages
+pub mod PagesLaws

@@ -1,5 +1,0 @@
-use Rattle.sync_points.specs.PagesLaws.{few_pages}
-use Rattle.sync_points.proofs.pages.Tuple2NameJobValuePaged.pages.Goals as goal
-
-pub job_length-requires : goal.job_length-requires
-job_length-requires c = few_pages c.args.generation.now.limits.blksize _ c.max-limits.ensures.sound.limits.blksize c.requires
