@@ -17,7 +17,7 @@ from dataclasses import dataclass
 from pathlib import Path
 from typing import List, Optional
 
-from applications import ALL, Bench, lines  # noqa: E402
+from applications import ALL, Bench, lines
 
 TOP = Path(__file__).resolve().parent.parent
 BUILT = TOP / "crates" / "utm" / "out" / "utm"
@@ -44,7 +44,7 @@ def run_once(program: Path, folder: Path, words: List[str]) -> Usage:
     with open(os.devnull, "w") as nothing:
         process = subprocess.Popen([str(program), *words], cwd=folder, stdout=nothing)
         _, status, usage = os.wait4(process.pid, 0)
-        process.returncode = os.waitstatus_to_exitcode(status)
+        process.returncode = os.WEXITSTATUS(status) if os.WIFEXITED(status) else -os.WTERMSIG(status)
     if process.returncode != 0:
         raise Failed(f"{' '.join(words)} ended with status {process.returncode}")
     return Usage(usage.ru_utime, usage.ru_maxrss / 1024, 0, 0, 0)
