@@ -2,9 +2,9 @@
 
     python3 tools/hostile KIND SEED COUNT [--program PROGRAM]
 
-KIND is `files`, `texts` or `runs`, and COUNT how many files, texts or faults and stops are tried. The program is the
-built utm_cases. What is answered otherwise is printed as a case, in the form of docs/cases.md; the status is 1 then.
-docs/building.md says what each kind makes.
+KIND is `files`, `texts`, `runs` or `updates`, and COUNT how many files, texts, faults and stops of runs, or updates are
+tried. The program is the built utm_cases. What is answered otherwise is printed as a case, in the form of
+docs/cases.md; the status is 1 then. docs/building.md says what each kind makes.
 """
 
 import argparse
@@ -17,9 +17,11 @@ sys.dont_write_bytecode = True
 import made_files
 import made_runs
 import made_texts
+import made_updates
 from cases import PROGRAM
 
-KINDS = {"files": made_files.Batch, "texts": made_texts.Batch, "runs": made_runs.Batch}
+MADE = {"files": made_files, "texts": made_texts, "runs": made_runs, "updates": made_updates}
+KINDS = {kind: made.Batch for kind, made in MADE.items()}
 AT_ONCE = 500
 
 

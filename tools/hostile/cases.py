@@ -88,6 +88,16 @@ class Book:
         self.at = f"emit {NEVER}"
         self.add(f"fails emit {NEVER} {NEVER}")
 
+    def try_failing(self, kind, first, last):
+        """The next call is made with each of these numbers failing, over the file, which stays."""
+        self.at = f"{kind} {first}"
+        self.add(f"fails {kind} {first} {last}")
+
+    def try_again(self):
+        """The next call is made over what the last one left. Where this had several tries, it has as many."""
+        self.at = self.calls[-1].at
+        self.add("again")
+
     def case(self, title, *lines):
         self.script = None
         self.add(f"case {title}", *lines)

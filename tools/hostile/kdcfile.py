@@ -1,4 +1,4 @@
-"""A reader of KDCFILEs by docs/kdcfile.md: what `show` answers for these bytes."""
+"""A reader of KDCFILEs by docs/kdcfile.md: what `show` answers for these bytes; and a writer of rows."""
 
 from collections import namedtuple
 
@@ -12,6 +12,7 @@ LAST_DUE = 1_000_863_999_998
 PAGES_AT = 24576
 ROOTS = (8192, 16384)
 Image = namedtuple("Image", "fingerprint clock next blksize pgpool records")
+Tables = namedtuple("Tables", "fingerprint clock next blksize pgpool rows")
 Job = namedtuple("Job", "kind target again due user lterm message")
 Service = namedtuple("Service", "first next awaits user lterm kb handed last lssbs")
 NOT_A_KDCFILE = "KDCFILE NOT A KDCFILE"
@@ -195,9 +196,54 @@ def row_of(key, value):
     return kind, *row
 
 
-def rows_of(image):
-    """The rows of an image in the order of their keys."""
-    return [row_of(key, image.records[key]) for key in sorted(image.records)]
+def tables_of(file):
+    """The tables for which the bytes stand, with their rows in the order of their keys."""
+    *numbers, records = image_of(file)
+    return Tables(*numbers, [row_of(key, records[key]) for key in sorted(records)])
+
+
+# ---- Rows that are written
+
+
+def listed(data):
+    return len(data).to_bytes(4, "big") + data
+
+
+def job_value(job):
+    numbers = bytes([job.again]) + job.due.to_bytes(7, "big")
+    return job.kind + job.target.ljust(8) + numbers + job.user.ljust(8) + job.lterm.ljust(8) + listed(job.message)
+
+
+def service_value(service):
+    value = service.first.ljust(8) + service.next.ljust(8) + bytes([service.awaits])
+    value += service.user.ljust(8) + (service.lterm or b"").ljust(8) + listed(service.kb)
+    value += len(service.handed).to_bytes(4, "big") + b"".join(map(listed, service.handed))
+    value += b"\0" if service.last is None else b"\1" + listed(service.last)
+    value += len(service.lssbs).to_bytes(4, "big")
+    return value + b"".join(name.ljust(8) + listed(content) for name, content in service.lssbs)
+
+
+def key_of(kind, key):
+    """The key of the record that is a row of this kind and key."""
+    if kind in (2, 3):
+        said = key[0].ljust(8) + key[1].ljust(8)
+    elif kind == 4:
+        said = b"A" + key.to_bytes(8, "big") if isinstance(key, int) else b"D" + key.ljust(8)
+    else:
+        said = key.to_bytes(8, "big") if kind == 5 else key.ljust(8)
+    return bytes([kind]) + said.ljust(24, b"\0")
+
+
+def value_of(kind, content):
+    """The value of the record that is a row of this kind and content."""
+    if kind == 4:
+        return service_value(content)
+    return job_value(content) if kind in (5, 6) else content
+
+
+def charged(rows, blksize):
+    """How many pages the rows take."""
+    return sum(charge(len(value_of(kind, content)), blksize) for kind, _, content in rows)
 
 
 # ---- Whether they suit
@@ -258,23 +304,29 @@ def row_suits(kind, key, content, generation):
     return declared and len(content) <= 32767
 
 
-def numbers_suit(image, rows):
-    jobs = [key for kind, key, _ in rows if kind == 5]
-    services = [key for kind, key, _ in rows if kind == 4 and isinstance(key, int)]
-    below = all(it < image.next for it in jobs + services)
-    return below and not set(jobs) & set(services)
-
-
-def suits(image, rows, generation):
-    charged = sum(charge(len(it), image.blksize) for it in image.records.values())
+def numbers_suit(tables):
+    """Whether clock, numbers and pages are such as a run may leave."""
+    jobs = [key for kind, key, _ in tables.rows if kind == 5]
+    services = [key for kind, key, _ in tables.rows if kind == 4 and isinstance(key, int)]
     return (
-        (image.blksize, image.pgpool) == (generation.blksize, generation.max[b"PGPOOL"])
-        and image.clock <= LAST_CLOCK
-        and 1 <= image.next <= LAST_CLOCK + 1
-        and charged <= image.pgpool
-        and sum(kind == 1 for kind, _, _ in rows) <= generation.max[b"GSSBS"]
-        and all(row_suits(*it, generation) for it in rows)
-        and numbers_suit(image, rows)
+        tables.clock <= LAST_CLOCK
+        and 1 <= tables.next <= LAST_CLOCK + 1
+        and all(it < tables.next for it in jobs + services)
+        and not set(jobs) & set(services)
+        and charged(tables.rows, tables.blksize) <= tables.pgpool
+    )
+
+
+def gssbs_of(rows):
+    return [it for it in rows if it[0] == 1]
+
+
+def suits(tables, generation):
+    return (
+        (tables.blksize, tables.pgpool) == (generation.blksize, generation.max[b"PGPOOL"])
+        and numbers_suit(tables)
+        and len(gssbs_of(tables.rows)) <= generation.max[b"GSSBS"]
+        and all(row_suits(*it, generation) for it in tables.rows)
     )
 
 
@@ -286,7 +338,7 @@ def escaped(data):
     return "".join("\\\\" if it == "\\" else it for it in plain)
 
 
-def listed(kind, key, content):
+def row_lines(kind, key, content):
     """The lines of a row."""
     if kind == 4:
         owner = f"#{key}" if isinstance(key, int) else key.decode()
@@ -307,18 +359,21 @@ def listed(kind, key, content):
         yield f"{'TLS' if kind == 2 else 'ULS'} {key[0].decode()} {key[1].decode()} {escaped(content)}"
 
 
+def table_lines(tables):
+    """The lines of `show` for these tables."""
+    return [f"CLOCK {tables.clock}", f"NEXT {tables.next}", *[it for row in tables.rows for it in row_lines(*row)]]
+
+
 def shown(file, generation, fingerprint):
     """The status and the lines of `show` for a file of these bytes, and the clock where it is accepted."""
     if not file:
         return 0, ["CLOCK 0", "NEXT 1"], 0
     try:
-        image = image_of(file)
-        rows = rows_of(image)
+        tables = tables_of(file)
     except NoImage:
         return 4, [NOT_A_KDCFILE], None
-    if image.fingerprint != fingerprint:
-        return 4, [f"KDCFILE OTHER GENERATION {image.fingerprint.hex()}"], None
-    if not suits(image, rows, generation):
+    if tables.fingerprint != fingerprint:
+        return 4, [f"KDCFILE OTHER GENERATION {tables.fingerprint.hex()}"], None
+    if not suits(tables, generation):
         return 4, [NOT_A_KDCFILE], None
-    lines = [f"CLOCK {image.clock}", f"NEXT {image.next}"]
-    return 0, lines + [line for it in rows for line in listed(*it)], image.clock
+    return 0, table_lines(tables), tables.clock

@@ -7,13 +7,11 @@ from random import Random
 
 from cases import Book, text_lines, written
 from definition import generation_of
-from kdcfile import LAST, LAST_CLOCK, LAST_DUE, MARK, PAGES_AT, ROOTS, charge, directory_pages, fresh, shown, u32
+from kdcfile import LAST, LAST_CLOCK, LAST_DUE, MARK, PAGES_AT, ROOTS
+from kdcfile import charge, directory_pages, fresh, key_of, listed, shown, u32
 
 TRIES = 12
 UNITS = b"UNIT X\nINIT\nPEND ER\nEND\n"
-# No line of a case makes a file longer: each file is put into the fresh one of this definition, which has 35 pages.
-ROOMY = b"MAX APPLINAME=ROOMY,PGPOOL=2240,BLKSIZE=2K\nUSER U\nEND\n"
-ROOM = PAGES_AT + 35 * 2048
 DEFINITION = """MAX APPLINAME=FILES,KB=4,SPAB=8,NB={},GSSBS=4,LSSBS=2,PGPOOL={},BLKSIZE={}
 PROGRAM X
 TAC D1,PROGRAM=X
@@ -61,11 +59,12 @@ class Application:
         return shown(file, self.generation, self.fingerprint)
 
 
+# No line of a case makes a file longer: each file is put into the fresh one of this application, which has 35 pages.
+ROOMY = Application(b"MAX APPLINAME=ROOMY,PGPOOL=2240,BLKSIZE=2K\nUSER U\nEND\n", b"")
+ROOM = PAGES_AT + 35 * 2048
+
+
 # ---- Made rows
-
-
-def gssb_key(name):
-    return b"\1" + name.ljust(8).ljust(24, b"\0")
 
 
 class Rows:
@@ -111,10 +110,6 @@ class Rows:
             return self.bytes_of(nb + 1)
         return self.bytes_of(self.random.choice((0, 1, 3, min(nb, 20), *[nb] * (nb < 5001))))
 
-    @staticmethod
-    def listed(data):
-        return len(data).to_bytes(4, "big") + data
-
     def number(self, right, wrong):
         wrong = [*wrong, *wrong, 9, 10, 11, 2**40, 2**64 - 1]
         return self.one_of(right, wrong).to_bytes(8, "big")
@@ -123,7 +118,7 @@ class Rows:
         due = self.one_of([0, 5, LAST_DUE], [LAST_DUE + 1, 2**40, 2**56 - 1])
         again = self.random.choice((0, 0, 1, 255))
         value = target + bytes([again]) + due.to_bytes(7, "big") + self.user() + self.lterm()
-        return value + self.listed(self.message())
+        return value + listed(self.message())
 
     def handed(self, asynchronous, awaits):
         """The parts of a message that a service reads next."""
@@ -140,13 +135,13 @@ class Rows:
         value = self.name(*tacs) + self.name(*tacs) + bytes([self.one_of([awaits], [0, 1, 2])])
         value += self.user() if asynchronous else self.name([owner], [b"U1", b"U2"])
         value += self.lterm() if asynchronous else self.one_of([b""], [b"L1", b"\0"]).ljust(8)
-        value += self.listed(self.one_of([b"KB\\\0"], [b"", b"KB", b"KB345"]))
+        value += listed(self.one_of([b"KB\\\0"], [b"", b"KB", b"KB345"]))
         handed = self.handed(asynchronous, awaits)
-        value += len(handed).to_bytes(4, "big") + b"".join(map(self.listed, handed))
-        value += b"\1" + self.listed(self.message()) if self.one_of([last], [not last]) else b"\0"
+        value += len(handed).to_bytes(4, "big") + b"".join(map(listed, handed))
+        value += b"\1" + listed(self.message()) if self.one_of([last], [not last]) else b"\0"
         lssbs = self.one_of(["", "", "A", "B", "AB"], ["BA", "AA", "ABC", "ABC"]).encode()
         value += len(lssbs).to_bytes(4, "big")
-        return value + b"".join(self.name([bytes([it])]) + self.listed(self.content()) for it in lssbs)
+        return value + b"".join(self.name([bytes([it])]) + listed(self.content()) for it in lssbs)
 
     def record(self, kind):
         """The key and the value of a row of this kind."""
@@ -179,12 +174,12 @@ class Rows:
         kinds = self.random.choices((1, 1, 2, 3, 4, 4, 5, 5, 6, 6), k=self.random.choice((0, 1, 2, 3, 5, 8, 14)))
         made = dict(self.record(it) for it in kinds)
         if self.slip():
-            made.update({gssb_key(it): b"" for it in (b"A", b"B", b"C", b"D", b"E")})
+            made.update({key_of(1, it): b"" for it in (b"A", b"B", b"C", b"D", b"E")})
         blksize, pgpool = self.generation.blksize, self.generation.max[b"PGPOOL"]
         pages = pgpool - sum(charge(len(it), blksize) for it in made.values())
         wanted = pages + self.slip() if pgpool == 16 and self.random.random() < 0.2 else 0
         if 0 < wanted * (blksize - 48) <= 32767:
-            made[gssb_key(b"CNT")] = bytes(wanted * (blksize - 48))
+            made[key_of(1, b"CNT")] = bytes(wanted * (blksize - 48))
         return sorted(made.items(), key=lambda _: self.random.random())
 
 
@@ -200,6 +195,7 @@ class File:
     root: int
     pages: int  # that the file has room for
     limit: int  # of the numbers of pages
+    free: list = field(default_factory=list)
     directory: list = field(default_factory=list)
     slots: list = field(default_factory=list)
     heads: list = field(default_factory=list)
@@ -217,6 +213,38 @@ class File:
         return replace(self, data=self.data[:])
 
 
+def made_pages(random, blksize, pgpool):
+    """A file without an image, all pages of which are free; what is not looked at may be anything."""
+    limit = 2 * (pgpool + directory_pages(pgpool, blksize))
+    pages = min(limit + (random.random() < 0.05), (ROOM - PAGES_AT) // blksize)
+    file = File(bytearray(ROOM), blksize, ROOTS[random.random() < 0.5], pages, limit)
+    if random.random() < 0.3:
+        for _ in range(20):
+            file.data[random.randrange(13, ROOM)] = random.randrange(256)
+    file.free = random.sample(range(pages), pages) if random.random() < 0.5 else list(range(pages))
+    return file
+
+
+def put_directory(random, file, pgpool):
+    """Puts an empty directory; returns its slots, in the order in which they are used."""
+    file.directory = [file.free.pop(0) for _ in range(directory_pages(pgpool, file.blksize))]
+    slots = []
+    for it in file.directory:
+        file.put(file.place(it), bytes(file.blksize))
+        slots += range(file.place(it), file.place(it + 1), 32)
+    if random.random() < 0.5:
+        random.shuffle(slots)
+    return slots
+
+
+def put_records(file, records, slots):
+    """Puts the records for which there is room."""
+    for key, value in records:
+        wanted = charge(len(value), file.blksize)
+        if wanted <= len(file.free):
+            put_record(file, key, value, slots.pop(0), [file.free.pop(0) for _ in range(wanted)])
+
+
 def put_record(file, key, value, slot, pages):
     """Puts a record into a slot and on these pages."""
     file.put(slot, key)
@@ -231,48 +259,41 @@ def put_record(file, key, value, slot, pages):
         file.heads.append(head)
 
 
-def made_file(random, application, records):
-    """A file with these records; what is not looked at may be anything."""
-    generation = application.generation
-    blksize, pgpool = generation.blksize, generation.max[b"PGPOOL"]
-    count = directory_pages(pgpool, blksize)
-    limit = 2 * (pgpool + count)
-    pages = min(limit + (random.random() < 0.05), (ROOM - PAGES_AT) // blksize)
-    file = File(bytearray(ROOM), blksize, ROOTS[random.random() < 0.5], pages, limit)
-    if random.random() < 0.3:
-        for _ in range(20):
-            file.data[random.randrange(13, ROOM)] = random.randrange(256)
-    free = random.sample(range(pages), pages) if random.random() < 0.5 else list(range(pages))
-    file.directory = [free.pop(0) for _ in range(count)]
-    slots = []
-    for it in file.directory:
-        file.put(file.place(it), bytes(blksize))
-        slots += range(file.place(it), file.place(it + 1), 32)
-    if random.random() < 0.5:
-        random.shuffle(slots)
-    twice = [it for it in records if random.random() < 0.01]
-    for key, value in records + twice:
-        wanted = charge(len(value), blksize)
-        if wanted <= len(free):
-            put_record(file, key, value, slots.pop(0), [free.pop(0) for _ in range(wanted)])
-    put_root(random, file, application, file.root)
-    if random.random() < 0.3:
-        put_root(random, file, application, sum(ROOTS) - file.root)
-    file.put(0, MARK + blksize.to_bytes(4, "big"))
+def put_root(file, root, fingerprint, clock, next_job, pgpool):
+    """Puts a root of the directory and the records."""
+    file.put(root, fingerprint + clock.to_bytes(8, "big") + next_job.to_bytes(8, "big"))
+    numbers = [pgpool, len(file.directory), len(file.slots), int.from_bytes(b"ROOT", "big"), *file.directory]
+    for place, number in enumerate(numbers):
+        file.put_u32(root + 48 + 4 * place, number)
+
+
+def finish(random, file):
+    """Puts the head and the selector, and cuts the file behind the last page that is used, or leaves it long."""
+    file.put(0, MARK + file.blksize.to_bytes(4, "big"))
     file.data[4096] = random.choice((0, 0, 0, 0x76, 0xFE)) + (file.root == ROOTS[1])
     if random.random() < 0.7:
         used = [file.place(it) for it in file.directory] + file.heads
-        del file.data[max(used) + blksize :]
+        del file.data[max(used) + file.blksize :]
+
+
+def made_file(random, application, records):
+    """A file with these records."""
+    pgpool = application.generation.max[b"PGPOOL"]
+    file = made_pages(random, application.generation.blksize, pgpool)
+    slots = put_directory(random, file, pgpool)
+    twice = [it for it in records if random.random() < 0.01]
+    put_records(file, records + twice, slots)
+    put_root(file, file.root, application.fingerprint, *made_numbers(random), pgpool)
+    if random.random() < 0.3:
+        put_root(file, sum(ROOTS) - file.root, application.fingerprint, *made_numbers(random), pgpool)
+    finish(random, file)
     return file
 
 
-def put_root(random, file, application, root):
+def made_numbers(random):
+    """A clock and a next job number."""
     clock = random.choice((0, 7, LAST_CLOCK, *[LAST_CLOCK + 1] * (random.random() < 0.05)))
-    next_job = random.choice((10, 10, 10, LAST_CLOCK + 1, *[0, 1, 9, LAST_CLOCK + 2] * (random.random() < 0.05)))
-    file.put(root, application.fingerprint + clock.to_bytes(8, "big") + next_job.to_bytes(8, "big"))
-    numbers = [application.generation.max[b"PGPOOL"], len(file.directory), len(file.slots)]
-    for place, number in enumerate([*numbers, int.from_bytes(b"ROOT", "big"), *file.directory]):
-        file.put_u32(root + 48 + 4 * place, number)
+    return clock, random.choice((10, 10, 10, LAST_CLOCK + 1, *[0, 1, 9, LAST_CLOCK + 2] * (random.random() < 0.05)))
 
 
 # ---- Changes of a file
@@ -388,6 +409,14 @@ def differences(now, wanted):
         yield start, wanted[start:end]
 
 
+def change_file(book, before, file):
+    """Changes the file of a case into this one, which is not longer."""
+    for at, data in differences(before, file):
+        book.add(f"put {at} {written(data)}")
+    if len(file) < len(before):
+        book.add(f"cut {len(file)}")
+
+
 class Kept:
     """A file whose rows suit, and what is made of it."""
 
@@ -418,13 +447,6 @@ class Try:
         self.word = word
         self.status, self.lines, self.clock = application.shown(file)
 
-    def put(self, book, before):
-        """Changes the file before into this one."""
-        for at, data in differences(before, self.file):
-            book.add(f"put {at} {written(data)}")
-        if len(self.file) < len(before):
-            book.add(f"cut {len(self.file)}")
-
     def ask(self, book):
         book.call("show app", self.status, self.lines)
         book.add("same")
@@ -444,12 +466,12 @@ class Try:
         book.call("show app", 0, [f"CLOCK {clock}", *self.lines[1:]])
 
 
-def begin(book, title, roomy, application):
-    """A case of this application, with the file of another one."""
-    book.case(title, *roomy.texts())
+def begin(book, title):
+    """A case with a file that has room; its bytes are returned."""
+    book.case(title, *ROOMY.texts())
     book.takes([])
     book.call("run app", 0)
-    book.add(*application.texts())
+    return ROOMY.fresh()
 
 
 class Batch:
@@ -458,7 +480,6 @@ class Batch:
     def __init__(self, random, count, first):
         self.book = Book()
         self.tries = []  # with the number of the first line of each
-        self.roomy = Application(ROOMY, b"")
         self.applications = [Application(DEFINITION.format(*it).encode(), UNITS) for it in SIZES]
         while len(self.tries) < count:
             self.case(random, min(TRIES, count - len(self.tries)))
@@ -469,11 +490,11 @@ class Batch:
         files = [kept.changed(random) for _ in range(count)]
         words = [random.choice((None, None, None, "run", "gen")) for _ in files]
         tries = [Try(application, *it) for it in zip(sorted(files, key=len, reverse=True), words)]
-        begin(self.book, f"made files from {len(self.tries) + 1}", self.roomy, application)
-        before = self.roomy.fresh()
+        before = begin(self.book, f"made files from {len(self.tries) + 1}")
+        self.book.add(*application.texts())
         for it in tries:
             self.tries.append((len(self.book.lines), it))
-            it.put(self.book, before)
+            change_file(self.book, before, it.file)
             it.ask(self.book)
             before = it.file
         tries[-1].goes_on(self.book)
@@ -488,8 +509,9 @@ class Batch:
 
     def alone(self, one):
         book = Book()
-        begin(book, "a made file", self.roomy, one.application)
-        one.put(book, self.roomy.fresh())
+        before = begin(book, "a made file")
+        book.add(*one.application.texts())
+        change_file(book, before, one.file)
         one.ask(book)
         one.goes_on(book)
         return book.lines

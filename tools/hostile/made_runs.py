@@ -13,7 +13,7 @@ from cases import TOP, Book, Broken, text_lines
 from kdcfile import NOT_A_KDCFILE
 
 TASKS = 2
-CHOICES = (0, 1, 2, 6)
+CHOICES = (0, 1, 2, 3, 5, 6, 7)
 REST = 2  # writes of what comes after the gate of a fresh file, where the directory has one page
 MOST = 60  # lines of a call that are asked for where they are not known
 UNMADE = [NOT_A_KDCFILE]

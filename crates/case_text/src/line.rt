@@ -28,6 +28,8 @@ pub enum Line<'a> {
     Piece(&'a str),
     /// So many times a part of a line.
     Fill(u64, &'a str),
+    /// This line of the text is another one.
+    SetLine(u64, &'a str),
     /// The KDCFILE is empty again.
     NoFile,
     /// These bytes take the place of those that are there in the KDCFILE.
@@ -105,6 +107,10 @@ fn of_texts<'a>(word: &str, rest: &'a str) -> Option<Line<'a>> {
         "fill" => {
             let (times, piece) = number_and_text(rest)?;
             Some(Line::Fill(times, piece))
+        }
+        "line" => {
+            let (at, line) = number_and_text(rest)?;
+            Some(Line::SetLine(at, line))
         }
         _ => None,
     }

@@ -14,9 +14,9 @@ use std::mem;
 /// What is wrong, where something is.
 type Judged = Result<Option<String>, OutOfMemory>;
 
-/// The choices that each stop is tried with: the old bytes of each write that is not synced, the new ones, and two
+/// The choices that each stop is tried with: the old bytes of each write that is not synced, the new ones, and five
 /// mixtures.
-const CHOICES: [u64; 4] = [0, 1, 2, 6];
+const CHOICES: [u64; 7] = [0, 1, 2, 3, 5, 6, 7];
 
 /// The texts, the KDCFILE and the failing calls of a case, and what its last call did.
 #[derive(Drop)]
@@ -113,7 +113,8 @@ impl Stage {
             | Line::Uses(_, _)
             | Line::Whole(_)
             | Line::Piece(_)
-            | Line::Fill(_, _) => self.write(alloc, line),
+            | Line::Fill(_, _)
+            | Line::SetLine(_, _) => self.write(alloc, line),
             _ => self.judge(alloc, line),
         }
     }
@@ -133,6 +134,7 @@ impl Stage {
             Line::Whole(text) => self.texts.append(alloc, text, 1, "\n")?,
             Line::Piece(text) => self.texts.append(alloc, text, 1, "")?,
             Line::Fill(times, text) => self.texts.append(alloc, text, times, "")?,
+            Line::SetLine(number, text) => self.texts.set_line(alloc, number, text)?,
             _ => false,
         };
         unless(alloc, done, "no such text")

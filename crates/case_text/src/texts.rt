@@ -118,6 +118,22 @@ impl Texts {
         append_to_last(alloc, texts, piece, times, end)
     }
 
+    /// Puts a line in place of the one of this number, from 1 on, of the text that was begun last; whether there is such a
+    /// line.
+    pub fn set_line(
+        &mut self,
+        alloc: Global,
+        number: u64,
+        line: &str,
+    ) -> Result<bool, OutOfMemory> {
+        let texts = if self.sharing {
+            &mut self.shared
+        } else {
+            &mut self.own
+        };
+        set_line_of_last(alloc, texts, number, line)
+    }
+
     /// The texts of the case.
     pub fn own(&self) -> &NamedTexts {
         &self.own
@@ -146,6 +162,50 @@ fn append_to_last(
     }
     whole.append(end.as_bytes())?;
     Ok(true)
+}
+
+fn set_line_of_last(
+    alloc: Global,
+    texts: &mut NamedTexts,
+    number: u64,
+    line: &str,
+) -> Result<bool, OutOfMemory> {
+    let Some(line) = unescaped(alloc, line, 1)? else {
+        return Ok(false);
+    };
+    let Some((_, whole)) = texts.last_mut() else {
+        return Ok(false);
+    };
+    let Some(text) = with_line(alloc, whole.as_slice(), number, line.as_slice())? else {
+        return Ok(false);
+    };
+    *whole = text;
+    Ok(true)
+}
+
+/// The text with another line of this number, if it has one.
+fn with_line(
+    alloc: Global,
+    text: &[u8],
+    number: u64,
+    line: &[u8],
+) -> Result<Option<Bytes>, OutOfMemory> {
+    let mut out = Bytes::new(alloc);
+    let mut at: u64 = 1;
+    let mut found = false;
+    for byte in text {
+        if at == number && !found {
+            out.append(line)?;
+            found = true;
+        }
+        if at != number || *byte == b'\n' {
+            out.push(*byte)?;
+        }
+        if *byte == b'\n' {
+            at = at.saturating_add(1);
+        }
+    }
+    Ok(if found { Some(out) } else { None })
 }
 
 /// Adds the piece with the number 1 in it, then 2, up to the last one.

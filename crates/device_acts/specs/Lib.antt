@@ -4,3 +4,4 @@ pub mod ActingLaws
 pub mod ContentsLaws
 pub mod WritingLaws
 pub mod ErrorsLaws
+pub mod LinesLaws

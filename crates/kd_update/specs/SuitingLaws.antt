@@ -110,13 +110,16 @@ unfolding carried
 apart_still g t n h = ap (λ (o : Option Service). not (is_some o)) (none_left g (key.Service (Asynchronous n)) t.services (none_is (service_of t (Asynchronous n)) (not-true (is_some (service_of t (Asynchronous n))) h)))
 
 -- what the tests say of the old tables and of the new ones
-record Passed (g : Generated) (blksize pgpool : ℕ) (old new : TableRows) : Type 0 where
-  range : IsTrue (are_numbers_in_range old)
-  apart : IsTrue (are_numbers_apart old)
-  count : length new.gssbs ≤ g.limits.gssbs
-  charge : total_charge g.limits.blksize new ≤ g.limits.pgpool
+pub record Passed (g : Generated) (blksize pgpool : ℕ) (old new : TableRows) : Type 0 where
+  pub range : IsTrue (are_numbers_in_range old)
+  pub apart : IsTrue (are_numbers_apart old)
+  pub old_charge : total_charge blksize old ≤ pgpool
+  pub block : blksize ≡ g.limits.blksize
+  pub pool : pgpool ≤ g.limits.pgpool
+  pub count : length new.gssbs ≤ g.limits.gssbs
+  pub charge : total_charge g.limits.blksize new ≤ g.limits.pgpool
 
-passed_all : (g : Generated) (blksize pgpool : ℕ) (old new : TableRows) → judged g blksize pgpool old new ≡ Ok tt → Passed g blksize pgpool old new
+pub passed_all : (g : Generated) (blksize pgpool : ℕ) (old new : TableRows) → judged g blksize pgpool old new ≡ Ok tt → Passed g blksize pgpool old new
 unfolding judged
 passed_all g blksize pgpool old new h =
     let a = passed (are_of_a_kdcfile blksize pgpool old) _ _ h in
@@ -129,6 +132,9 @@ passed_all g blksize pgpool old new h =
     record {
       range = numbers.0;
       apart = numbers.1;
+      old_charge = leb-true (total_charge blksize old) pgpool old_parts.1;
+      block = eqb-true blksize g.limits.blksize b.0;
+      pool = leb-true pgpool g.limits.pgpool c.0;
       count = leb-true (length new.gssbs) g.limits.gssbs d.0;
       charge = leb-true (total_charge g.limits.blksize new) g.limits.pgpool e.0;
     }

@@ -40,38 +40,38 @@ root_upto : (b : Bool) → root_place b ≤ 16384
 root_upto true = omega arith
 root_upto false = omega arith
 
-module _ (i : Opened) (pages : List PageWrite) (root : Root) (writes : List PageWrite) (are : AreStaged i pages root writes) (print : length root.fingerprint ≡ 32) (sizes : root.pgpool ≡ i.root.pgpool) (numbers : length root.directory ≡ directory_pages i.blksize root.pgpool) (opened : IsOpened i) where
-  root_length : length (spelled_root root) ≡ 64 + 4 * directory_pages i.blksize i.root.pgpool
-  root_length = omega (arith, length_spelled_root root print, numbers, ap (λ (n : ℕ). directory_pages i.blksize n) sizes)
+module _ (i : Opened) (pages : List PageWrite) (root : Root) (writes : List PageWrite) (are : AreStaged i pages root writes) (print : length root.fingerprint ≡ 32) (most : root.pgpool ≤ 30000) (numbers : length root.directory ≡ directory_pages i.blksize root.pgpool) (opened : IsOpened i) where
+  root_length : length (spelled_root root) ≡ 64 + 4 * directory_pages i.blksize root.pgpool
+  root_length = omega (arith, length_spelled_root root print, numbers)
 
-  most : directory_pages i.blksize i.root.pgpool ≤ 469
-  most = per_root i.blksize i.root.pgpool opened.identity.blksize opened.identity.most
+  few_numbers : directory_pages i.blksize root.pgpool ≤ 469
+  few_numbers = per_root i.blksize root.pgpool opened.identity.blksize most
 
-  whole : total writes ≡ total pages + 64 + 4 * directory_pages i.blksize i.root.pgpool
+  whole : total writes ≡ total pages + 64 + 4 * directory_pages i.blksize root.pgpool
   whole = omega (arith, are.total, root_length)
 
-  pub few : ArePages i.blksize i.root.pgpool pages → length pages < 2 ^ 32 → total writes < 2 ^ 63
+  pub few : ArePages i.blksize root.pgpool pages → length pages < 2 ^ 32 → total writes < 2 ^ 63
   few all less =
-      omega (arith, whole, total_most i.blksize i.root.pgpool pages all, few_bytes (length pages) i.blksize (directory_pages i.blksize i.root.pgpool) less (block_upto i.blksize opened.identity.blksize) most)
+      omega (arith, whole, total_most i.blksize root.pgpool pages all, few_bytes (length pages) i.blksize (directory_pages i.blksize root.pgpool) less (block_upto i.blksize opened.identity.blksize) few_numbers)
 
-  pub below : (end : ℕ) → end ≡ 24576 + page_count i.blksize i.root.pgpool * i.blksize → ArePages i.blksize i.root.pgpool pages → AllBelow end writes
+  pub below : (end : ℕ) → end ≡ 24576 + page_count i.blksize root.pgpool * i.blksize → ArePages i.blksize root.pgpool pages → AllBelow end writes
   below end is all =
       are.below end
-      (All-weaker (IsPage i.blksize i.root.pgpool) (λ w. w.at + length w.bytes ≤ end)
-      (λ w page. let le : suc page.0 ≤ page_count i.blksize i.root.pgpool = page.1 in omega (arith, is, page.2, page.3, mul-le-mul_left i.blksize le))
+      (All-weaker (IsPage i.blksize root.pgpool) (λ w. w.at + length w.bytes ≤ end)
+      (λ w page. let le : suc page.0 ≤ page_count i.blksize root.pgpool = page.1 in omega (arith, is, page.2, page.3, mul-le-mul_left i.blksize le))
       pages all)
-      (omega (arith, is, root_length, root_upto (not i.second), most))
+      (omega (arith, is, root_length, root_upto (not i.second), few_numbers))
 
-  pub put : (n : ℕ) (new : List ℕ) (a b : State) (lb : ℕ → List ℕ → List ℕ → Type 0) → n ≡ total writes + 1 → IsSynced n new a b lb → b.put ≡ a.put + total pages + 64 + 4 * directory_pages i.blksize i.root.pgpool + 1
+  pub put : (n : ℕ) (new : List ℕ) (a b : State) (lb : ℕ → List ℕ → List ℕ → Type 0) → n ≡ total writes + 1 → IsSynced n new a b lb → b.put ≡ a.put + total pages + 64 + 4 * directory_pages i.blksize root.pgpool + 1
   put n new a b lb is synced = omega (arith, synced.put, is, whole)
 
   module _ (a b : State) (la lb : ℕ → List ℕ → List ℕ → Type 0) where
-    pub put_most : Selects writes a b la lb → b.put ≤ a.put + total pages + 64 + 4 * directory_pages i.blksize i.root.pgpool + 1
+    pub put_most : Selects writes a b la lb → b.put ≤ a.put + total pages + 64 + 4 * directory_pages i.blksize root.pgpool + 1
     put_most selects = omega (arith, selects.put, whole)
 
     module _ (x y : Content) (l m : Layout) (apart : IsApartFrom i x l pages a.holds) (new : WouldBe i pages root y m a.holds) where
       all_free : AllFree i.blksize i.second l writes
-      all_free = are.free l (omega (arith, block_from i.blksize opened.identity.blksize)) apart.free (omega (arith, root_length, most))
+      all_free = are.free l (omega (arith, block_from i.blksize opened.identity.blksize)) apart.free (omega (arith, root_length, few_numbers))
 
       image : IsImage (renewed i root) (not i.second) y m (written_all a.holds writes)
       image = subst (λ (c : List ℕ). IsImage (renewed i root) (not i.second) y m c) (sym (are.file a.holds)) new

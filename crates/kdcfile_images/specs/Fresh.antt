@@ -17,9 +17,13 @@ unfoldable pub numbers : ℕ → List ℕ
 numbers zero = []
 numbers (suc n) = numbers n ++ n ∷ []
 
+-- a directory with these pages, whose slots are all free
+abbrev pub free_layout : (size pool : ℕ) → (directory : List ℕ) → Layout
+free_layout size pool directory = record { directory = directory; slots = replicate (directory_pages size pool * slots_in_page size) free_slot }
+
 -- the directory's pages are the first ones, and all slots are free
 abbrev pub fresh_layout : Identity → Layout
-fresh_layout i = record { directory = numbers (directory_pages i.blksize i.pages); slots = replicate (directory_pages i.blksize i.pages * slots_in_page i.blksize) free_slot }
+fresh_layout i = free_layout i.blksize i.pages (numbers (directory_pages i.blksize i.pages))
 
 -- the root of both images
 abbrev pub fresh_root : Identity → Root

@@ -10,7 +10,7 @@ use Rattle.kd_records.specs.declared.content.Content.{Content}
 use Rattle.kd_records.specs.Charge.{IsBlockSize}
 use Rattle.kd_records.specs.Contents.{IsContent}
 use Rattle.kd_records.specs.Identity.{Identity, IsIdentity}
-use Rattle.page_pool.specs.Places.{At}
+use Rattle.page_pool.specs.Places.{At, IsDistinct}
 use Rattle.page_pool.specs.PlacesLaws.{at_within, at_push, no_item}
 use Rattle.page_pool.specs.Pools.{flagged}
 use Rattle.page_pool.specs.PoolsLaws.{length_flagged, flag_set, count_used}
@@ -20,7 +20,7 @@ use Rattle.kdcfile_layout.specs.CrashLaws.{length_root, per_root}
 use Rattle.kdcfile_layout.specs.PagesLaws.{length_zeros, length_padded}
 use Rattle.kdcfile_layout.specs.Stored.{IsStored}
 use Rattle.kdcfile_layout.specs.Gates.{IsShut}
-use Rattle.kdcfile_images.specs.Fresh.{numbers, fresh_layout, fresh_file, fresh_length, in_part}
+use Rattle.kdcfile_images.specs.Fresh.{numbers, free_layout, fresh_layout, fresh_file, fresh_length, in_part}
 
 -- ---- a shut file
 
@@ -51,32 +51,37 @@ no_chain : (n s : ℕ) (c : Chain) → At (replicate n free_slot) s (Some c) →
 no_chain n s c at = let lt = slice_get_within (replicate n free_slot) s (Some c) at in
     none-some c (sym (get_or-replicate n s free_slot None (omega (arith, lt, length-replicate n free_slot))) ∙ get_or_from_slice_get (replicate n free_slot) s (Some c) None at)
 
-pub fresh_is_layout : (i : Identity) → IsLayout i.blksize i.pages [] (fresh_layout i)
+module _ (size pool : ℕ) (directory : List ℕ) (count : length directory ≡ directory_pages size pool) (apart : IsDistinct directory) (there : (k p : ℕ) → At directory k p → p < page_count size pool) where
+  below_all : (u : Name) (p : ℕ) → Names (free_layout size pool directory) u p → p < page_count size pool
+  below_all (InRoot k) p at = there k p at
+  below_all (InChain s part) p at = absurd (no_chain (directory_pages size pool * slots_in_page size) s at.0 at.1)
+
+  once_all : (u v : Name) (p : ℕ) → Names (free_layout size pool directory) u p → Names (free_layout size pool directory) v p → u ≡ v
+  once_all (InRoot k) (InRoot m) p at other = ap (λ (j : ℕ). InRoot j) (apart k m p at other)
+  once_all (InRoot k) (InChain s part) p at other = absurd (no_chain (directory_pages size pool * slots_in_page size) s other.0 other.1)
+  once_all (InChain s part) v p at other = absurd (no_chain (directory_pages size pool * slots_in_page size) s at.0 at.1)
+
+  pub free_is_layout : IsLayout size pool [] (free_layout size pool directory)
+  free_is_layout =
+      let n = directory_pages size pool * slots_in_page size in
+      record {
+        directory = count;
+        slots = length-replicate n free_slot;
+        table = record {
+          one_slot = λ s t c e at other same. absurd (no_chain n s c at);
+          key_length = λ s c at. absurd (no_chain n s c at);
+          kept = λ s c at. absurd (no_chain n s c at);
+          number = omega (arith, sum_by-replicate (λ (o : Option Chain). if_used (λ (c : Chain). 1) o) n free_slot);
+          placed = λ k value found. absurd (none-some value found);
+        };
+        below = below_all;
+        once = once_all;
+      }
+
+fresh_is_layout : (i : Identity) → IsLayout i.blksize i.pages [] (fresh_layout i)
 fresh_is_layout i =
     let d = directory_pages i.blksize i.pages in
-    let n = d * slots_in_page i.blksize in
-    record {
-      directory = length_numbers d;
-      slots = length-replicate n free_slot;
-      table = record {
-        one_slot = λ s t c e at other same. absurd (no_chain n s c at);
-        key_length = λ s c at. absurd (no_chain n s c at);
-        kept = λ s c at. absurd (no_chain n s c at);
-        number = omega (arith, sum_by-replicate (λ (o : Option Chain). if_used (λ (c : Chain). 1) o) n free_slot);
-        placed = λ k value found. absurd (none-some value found);
-      };
-      below = below_all;
-      once = once_all;
-    }
-  where
-    below_all : (u : Name) (p : ℕ) → Names (fresh_layout i) u p → p < page_count i.blksize i.pages
-    below_all (InRoot k) p at = omega (arith, number_below (directory_pages i.blksize i.pages) k p at)
-    below_all (InChain s part) p at = absurd (no_chain (directory_pages i.blksize i.pages * slots_in_page i.blksize) s at.0 at.1)
-
-    once_all : (u v : Name) (p : ℕ) → Names (fresh_layout i) u p → Names (fresh_layout i) v p → u ≡ v
-    once_all (InRoot k) (InRoot m) p at other = ap (λ (j : ℕ). InRoot j) (own_number (directory_pages i.blksize i.pages) k p at ∙ sym (own_number (directory_pages i.blksize i.pages) m p other))
-    once_all (InRoot k) (InChain s part) p at other = absurd (no_chain (directory_pages i.blksize i.pages * slots_in_page i.blksize) s other.0 other.1)
-    once_all (InChain s part) v p at other = absurd (no_chain (directory_pages i.blksize i.pages * slots_in_page i.blksize) s at.0 at.1)
+    free_is_layout i.blksize i.pages (numbers d) (length_numbers d) (λ a b p h k. own_number d a p h ∙ sym (own_number d b p k)) (λ k p at. omega (arith, number_below d k p at))
 
 pub fresh_content : IsContent fresh
 fresh_content = record { clock = omega arith; next_job = omega arith; records = λ k d lt. absurd (omega (arith, lt)); ascending = refl; few = omega arith }

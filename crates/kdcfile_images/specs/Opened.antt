@@ -16,9 +16,9 @@ pub record Opened : Type 0 where
 abbrev pub identity_of : Opened → Identity
 identity_of i = record { blksize = i.blksize; pages = i.root.pgpool; fingerprint = i.root.fingerprint }
 
--- what the file is made with once this root is in it: its sizes, and the fingerprint of the root
+-- what the file is made with once this root is in it: its block size, and the page pool and the fingerprint of the root
 abbrev pub renewed : Opened → Root → Identity
-renewed i root = record (identity_of i) { fingerprint = root.fingerprint }
+renewed i root = record { blksize = i.blksize; pages = root.pgpool; fingerprint = root.fingerprint }
 
 -- the sizes are those that a file may have, and the root has the numbers of all pages of the directory
 pub record IsOpened (i : Opened) : Type 0 where

@@ -29,12 +29,13 @@ fn root_place(second: bool) -> u64
     if second { 16_384 } else { 8192 }
 }
 
-/// Where the last page ends that there is.
-fn file_end(image: &Image) -> u64
-    ensures value { result ≡ 24576 + page_count_of image.now.blksize image.now.root.pgpool * image.now.blksize }
+/// Where the last page ends that there is once this root is in the file.
+fn file_end(image: &Image, root: &Root) -> u64
+    requires { root.now.pgpool ≤ 30000 }
+    ensures value { result ≡ 24576 + page_count_of image.now.blksize root.now.pgpool * image.now.blksize }
     ensures opened { IsOpened image.now }
 {
-    let pages = page_count(image.blksize(), image.root().pgpool);
+    let pages = page_count(image.blksize(), root.pgpool);
     24_576 + u64::from(pages) * u64::from(image.blksize())
 }
 
@@ -58,7 +59,8 @@ fn writes_of(
 
 /// Writes pages that the selected image does not name and the root of the unselected image, and syncs; then writes the
 /// selector, and syncs. Pages that are side by side in the list and in the file go in one write. `Memory` comes before
-/// the first write. After `Failed` the file is loaded again. The root may have another fingerprint than the file had.
+/// the first write. After `Failed` the file is loaded again. The root may have another fingerprint and a greater PGPOOL
+/// than the file had.
 pub fn commit_image<D: Device>(
     alloc: Global,
     device: &mut D,
@@ -66,10 +68,11 @@ pub fn commit_image<D: Device>(
     pages: &[PageWrite],
     root: Root,
 ) -> Result<(), DeviceError>
-    requires same_sizes { root.pgpool ≡ image.old.root.pgpool }
+    requires pgpool { image.old.root.pgpool ≤ root.pgpool }
+    requires most { root.pgpool ≤ 30000 }
     requires fingerprint { length root.fingerprint ≡ 32 }
     requires directory { length root.directory ≡ directory_pages image.old.blksize root.pgpool }
-    requires pages { ArePages image.old.blksize image.old.root.pgpool pages.now }
+    requires pages { ArePages image.old.blksize root.pgpool pages.now }
     requires few { length pages.now < 2 ^ 32 }
     requires apart { IsTrue (D.state device.old).told → (x : Content) × (l : Layout) × IsApartFrom image.old x l pages.now (D.state device.old).holds }
     requires would_be { IsTrue (D.state device.old).told → (y : Content) × (m : Layout) × WouldBe image.old pages.now root y m (D.state device.old).holds }
@@ -86,8 +89,8 @@ pub fn commit_image<D: Device>(
     ensures any_moment { IsTrue (D.state device.old).told → LeavesEither image.old pages.now root (D.state device.old) (D.state device.new) (D.leaves device.old) (D.leaves device.new) }
 
     // The bytes written are those of the pages, 64 of the root with the directory's numbers, and 1 of the selector.
-    ensures put { OnOk result (IsTrue (D.state device.old).told → (D.state device.new).put ≡ (D.state device.old).put + total pages.now + 64 + 4 * directory_pages image.old.blksize image.old.root.pgpool + 1) }
-    ensures put_most { IsTrue (D.state device.old).told → (D.state device.new).put ≤ (D.state device.old).put + total pages.now + 64 + 4 * directory_pages image.old.blksize image.old.root.pgpool + 1 }
+    ensures put { OnOk result (IsTrue (D.state device.old).told → (D.state device.new).put ≡ (D.state device.old).put + total pages.now + 64 + 4 * directory_pages image.old.blksize root.pgpool + 1) }
+    ensures put_most { IsTrue (D.state device.old).told → (D.state device.new).put ≤ (D.state device.old).put + total pages.now + 64 + 4 * directory_pages image.old.blksize root.pgpool + 1 }
 
     ensures failed { IsErrOf result DeviceError.Failed → Rose (D.state device.old).disk_faults (D.state device.new).disk_faults }
     ensures memory { IsErrOf result DeviceError.Memory → IsTrue (D.state device.old).told → Rests (D.state device.old) (D.state device.new) (D.leaves device.old) (D.leaves device.new) }
@@ -97,7 +100,7 @@ pub fn commit_image<D: Device>(
 {
     let writes = writes_of(alloc, image, pages, &root)?;
     let byte = selector(!image.second());
-    let end = file_end(image);
+    let end = file_end(image, &root);
     commit_pages(device, writes.as_slice(), byte, end)?;
     image.turn(root);
     Ok(())

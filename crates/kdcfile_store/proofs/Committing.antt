@@ -1,13 +1,14 @@
 -- What is made is written, and selected.
-use Rattle.std.proofs.Common.{◌≡◌, ℕ, Bool, not, List, ap, sym, subst}
+use Rattle.std.proofs.Common.{◌≡◌, ℕ, Bool, not, List, ap, subst}
 use Rattle.kd_device.specs.Device.{State, LeavesOnly}
 use Rattle.kd_records.specs.declared.content.Content.{Content}
 use Rattle.kd_records.specs.declared.content.Patch.{Patch}
 use Rattle.kd_records.specs.Contents.{patched}
+use Rattle.kd_records.specs.Identity.{Identity}
 use Rattle.kdcfile_layout.specs.declared.page.PageWrite.{PageWrite}
 use Rattle.kdcfile_layout.specs.Layout.{Layout, Stands, StandsFor}
 use Rattle.kdcfile_images.specs.declared.image.Root.{Root}
-use Rattle.kdcfile_images.specs.Commit.{IsApartFrom, WouldBe, Either, LeavesEither}
+use Rattle.kdcfile_images.specs.Commit.{ArePages, IsApartFrom, WouldBe, Either, LeavesEither}
 use Rattle.kdcfile_images.specs.Opened.{Opened, identity_of, renewed, layout_in}
 use Rattle.kdcfile_store.specs.declared.next.Next.{Next}
 use Rattle.kdcfile_store.specs.Kept.{OldOrNew}
@@ -15,13 +16,16 @@ use Rattle.kdcfile_store.specs.Next.{IsNext}
 
 module _ {i : Opened} {x : Content} {l : Layout} {used : List Bool} {patch : Patch} {n : Next} (next : IsNext i x l used patch n) where
   -- the file keeps its fingerprint and its sizes
-  print : n.root.fingerprint ≡ i.root.fingerprint
-  print = ap (λ (r : Root). r.fingerprint) next.root
+  same : renewed i n.root ≡ identity_of i
+  same = ap (λ (r : Root). renewed i r) next.root
 
   pool : n.root.pgpool ≡ i.root.pgpool
   pool = ap (λ (r : Root). r.pgpool) next.root
 
   module _ (writes : List PageWrite) (writes_are : writes ≡ n.writes.items) where
+    pub are_pages : ArePages i.blksize n.root.pgpool writes
+    are_pages = rw (writes_are, pool) next.pages
+
     pub apart : (h : List ℕ) → Stands (identity_of i) i.second x l h → IsApartFrom i x l writes h
     apart h stands = record { stands = stands; free = rw writes_are next.apart }
 
@@ -31,12 +35,10 @@ module _ {i : Opened} {x : Content} {l : Layout} {used : List Bool} {patch : Pat
     pub leaves_patched : (a d : State) (la ld : ℕ → List ℕ → List ℕ → Type 0) → Stands (identity_of i) i.second x l a.holds → LeavesEither i writes n.root a d la ld → LeavesOnly a d la ld (OldOrNew (StandsFor (identity_of i)) x (patched x patch) a.sent)
     leaves_patched a d la ld stands leaves =
         subst (λ (y : Content). LeavesOnly a d la ld (Either (identity_of i) x (identity_of i) y a.sent)) next.content
-        (subst (λ (p : List ℕ). LeavesOnly a d la ld (Either (identity_of i) x (record (identity_of i) { fingerprint = p }) n.filing.content.content a.sent)) print
+        (subst (λ (j : Identity). LeavesOnly a d la ld (Either (identity_of i) x j n.filing.content.content a.sent)) same
         (leaves x n.filing.content.content l (layout_in n.root n.filing.table.slots) (apart a.holds stands) (would_be a.holds stands)))
 
     pub new_stands : (o : Opened) (h g : List ℕ) → o ≡ record i { root = n.root; second = not i.second } → Stands (identity_of i) i.second x l h
         → ((y : Content) (m : Layout) → WouldBe i writes n.root y m h → Stands (renewed i n.root) (not i.second) y m g) → Stands (identity_of o) o.second n.filing.content.content (layout_in o.root n.filing.table.slots) g
     new_stands o h g is stands after =
-        rw is
-        (subst (λ (p : ℕ). Stands (record { blksize = i.blksize; pages = p; fingerprint = n.root.fingerprint }) (not i.second) n.filing.content.content (layout_in n.root n.filing.table.slots) g) (sym pool)
-        (after n.filing.content.content (layout_in n.root n.filing.table.slots) (would_be h stands)))
+        rw is (after n.filing.content.content (layout_in n.root n.filing.table.slots) (would_be h stands))

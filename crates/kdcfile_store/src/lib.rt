@@ -4,9 +4,11 @@
 //! kd_records. To the monitor's run, the trait `Store` says that at every stop the file stands for the content with the
 //! patch or without it, after an `Ok` for the new content alone, and how many bytes a commit writes at most. The trait
 //! names contents and nothing of images or pages; `PagedStore` keeps them in pages, and a commit writes only what it
-//! changes.
+//! changes. It also carries a whole content into the file in place of its own, in one commit, with another fingerprint
+//! and a greater PGPOOL.
 #![tactic(auto)]
 
+mod carrying;
 mod filed;
 mod fresh;
 mod next;

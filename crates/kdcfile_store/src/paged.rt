@@ -1,11 +1,13 @@
 //! A store that keeps its content in pages: a commit writes the records that it changes on free pages, the pages of the
 //! directory with their slots, and the unselected root, and then selects that image.
-ghost use Rattle.std.specs.Prelude.{◌≡◌, ◌≤◌, ◌+◌, [], IsTrue, IfOk, IsErrOf};
+ghost use Rattle.std.specs.Prelude.{◌≡◌, ◌≤◌, ◌+◌, [], IsTrue, IfOk, OnOk, OnErr, IsErrOf};
 ghost use Rattle.kd_device.specs.{Device.{Rose, Frame, SameFaults, SameNames, Only}, Rest.{Rests}};
 ghost use Rattle.kd_records.specs.Identity.{IsIdentity};
 ghost use Rattle.kdcfile_layout.specs.Layout.{StandsFor, IsNoImage, fresh};
-ghost use Rattle.kdcfile_store.specs.{Kept.{IsKept, write_most}, Paged.{HasFile, LeavesMade, identity_with, made_length}};
+ghost use Rattle.kd_records.specs.{Charge.{total_charge}, Contents.{IsContent}};
+ghost use Rattle.kdcfile_store.specs.{Carried.{LeavesCarried, carry_most}, Kept.{IsKept, write_most}, Paged.{HasFile, LeavesMade, identity_with, made_length}};
 
+use crate::carrying::{Whole, make_whole};
 use crate::filed::Filed;
 use crate::fresh::{fresh_pool, fresh_table};
 use crate::next::{Next, make_next};
@@ -103,6 +105,52 @@ impl PagedStore {
             },
             pool: loaded.pool,
         })
+    }
+
+    /// Keeps another content instead, in the same file with this fingerprint and a page pool that is no smaller, whole or
+    /// not at all. All memory is taken before the first write. It writes all pages of the content anew.
+    pub fn carry<D: Device>(
+        &mut self,
+        alloc: Global,
+        device: &mut D,
+        limits: &StoreLimits,
+        fingerprint: &[u8; 32],
+        content: Content,
+    ) -> Result<(), DeviceError>
+        requires kept { IsTrue (D.state device.old).told → IsKept (HasFile self.old) (D.state device.old) (D.leaves device.old) }
+        requires identity { IsIdentity (identity_with limits.now fingerprint.now) }
+        requires blksize { limits.now.blksize ≡ self.old.identity.blksize }
+        requires pgpool { self.old.identity.pages ≤ limits.now.pgpool }
+        requires content { IsContent content }
+        requires charge_before { total_charge self.old.identity.blksize self.old.content.items ≤ self.old.identity.pages }
+        requires charge_after { total_charge limits.now.blksize content.items ≤ limits.now.pgpool }
+        ensures content { OnOk result (self.new.content ≡ content) }
+        ensures identity { OnOk result (self.new.identity ≡ identity_with limits.now fingerprint.now) }
+        ensures same { OnErr result (self.new ≡ self.old) }
+        ensures kept { OnOk result (IsTrue (D.state device.old).told → IsKept (HasFile self.new) (D.state device.new) (D.leaves device.new)) }
+        ensures sent { IsTrue (D.state device.old).told → (D.state device.new).sent ≡ (D.state device.old).sent }
+
+        // A stop at any moment of the call leaves the old content as it was made, or the new one.
+        ensures any_moment { IsTrue (D.state device.old).told → LeavesCarried self.old.identity self.old.content (identity_with limits.now fingerprint.now) content (D.state device.old) (D.state device.new) (D.leaves device.old) (D.leaves device.new) }
+
+        ensures put_most { IsTrue (D.state device.old).told → (D.state device.new).put ≤ (D.state device.old).put + carry_most (identity_with limits.now fingerprint.now) content }
+        ensures failed { IsErrOf result DeviceError.Failed → Rose (D.state device.old).disk_faults (D.state device.new).disk_faults }
+        ensures memory { IsErrOf result DeviceError.Memory → IsTrue (D.state device.old).told → Rests (D.state device.old) (D.state device.new) (D.leaves device.old) (D.leaves device.new) }
+        ensures fine { (IsErrOf result DeviceError.Failed → ⊥) → SameFaults (D.state device.old) (D.state device.new) }
+        ensures frame { Frame (D.state device.old) (D.state device.new) }
+        ensures names { SameNames (D.state device.old) (D.state device.new) }
+    {
+        let whole = make_whole(alloc, limits, fingerprint, &self.pool, content)?;
+        let Whole {
+            filed,
+            pool,
+            root,
+            writes,
+        } = whole;
+        commit_image(alloc, device, &mut self.image, writes.as_slice(), root)?;
+        self.filed = filed;
+        self.pool = pool;
+        Ok(())
     }
 
     /// What is kept.

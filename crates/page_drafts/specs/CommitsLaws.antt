@@ -1,19 +1,18 @@
 -- A commit of a prepared patch: from what is stored a draft can be prepared; what it writes is, with the root, the
 -- other image; and with its pages used and the freed ones free, all is stored as before.
-use Rattle.std.proofs.Common.{◌≡◌, inl, inr, ⊎_elim, ℕ, zero, suc, ◌+◌, ◌-◌, ◌*◌, ◌/◌, ◌<◌, ◌≤◌, min, Bool, true, false, not, List, [], ◌∷◌, length, take, Some, None, refl, ap, sym, subst, ◌∙◌, arith}
+use Rattle.std.proofs.Common.{◌≡◌, ⊎_elim, ℕ, zero, suc, ◌+◌, ◌-◌, ◌*◌, ◌/◌, ◌<◌, ◌≤◌, min, Bool, true, false, not, List, [], ◌∷◌, length, take, Some, None, refl, ap, sym, subst, ◌∙◌, arith}
 use Rattle.std.specs.Prelude.{All, IsTrue}
 use Rattle.std.specs.FinMap.{is_sorted}
 use Rattle.std.proofs.Math.Nat.{mul-le-mul_left}
 use Rattle.std.proofs.lemmas.Nat.{div-add-mod', mod_below}
 use Rattle.std.proofs.lemmas.List.{length-take}
-use Rattle.std.proofs.lemmas.List.Sums.{sum_by-cons}
-use Rattle.std.proofs.lemmas.List.Elements.{All-nil, All-head, All-tail, All-weaker}
+use Rattle.std.proofs.lemmas.List.Elements.{All-nil, All-weaker}
 use Rattle.kd_device.specs.Device.{written}
 use Rattle.kd_device.specs.TornLaws.{length_written}
 use Rattle.kd_records.specs.declared.content.Content.{Content}
 use Rattle.kd_records.specs.Keys.{key_cmp}
 use Rattle.kd_records.specs.Contents.{Record, Change, changed_all, IsContent}
-use Rattle.kd_records.specs.Charge.{IsBlockSize, total_charge}
+use Rattle.kd_records.specs.Charge.{total_charge}
 use Rattle.kd_records.specs.ChargeLaws.{length_within}
 use Rattle.kd_records.specs.Identity.{Identity, IsIdentity}
 use Rattle.page_pool.specs.Places.{At, IsDistinct}
@@ -24,8 +23,7 @@ use Rattle.kdcfile_layout.specs.declared.page.PageWrite.{PageWrite}
 use Rattle.kdcfile_layout.specs.Layout.{StandsAt, Layout, Part, PartStands, IsLayout, IsImage, Stands, root_place, page_place, page_count, slots_in_page, head, root, directory_text, record_parts, chain_pages}
 use Rattle.kdcfile_layout.specs.WrittenLaws.{written_stands, below_write, above_write}
 use Rattle.kdcfile_layout.specs.Writes.{written_all, total}
-use Rattle.kdcfile_layout.specs.PagesLaws.{pages_apart}
-use Rattle.kdcfile_layout.specs.Crash.{IsFree, AllFree}
+use Rattle.kdcfile_layout.specs.Crash.{AllFree}
 use Rattle.kdcfile_layout.specs.CrashLaws.{per_root, some_slots, length_root, image_after, all_keep, long}
 use Rattle.kdcfile_layout.specs.Bound.{put_charge}
 use Rattle.kdcfile_layout.specs.Stored.{IsStored}
@@ -33,6 +31,7 @@ use Rattle.page_drafts.specs.ChargedLaws.{put_charged}
 use Rattle.page_drafts.specs.Drafts.{IsUnnamed, Drafted}
 use Rattle.page_drafts.specs.Drafting.{Drafting, IsOnPlan, IsDraft, unprepared}
 use Rattle.page_drafts.specs.Freed.{AreFreed}
+use Rattle.page_drafts.specs.OnPlanLaws.{pages_there, pages_written, plan_free}
 use Rattle.page_drafts.specs.Prepared.{CanPrepare, Prepared}
 use Rattle.page_drafts.specs.PreparedLaws.{begun_anywhere}
 
@@ -88,7 +87,8 @@ take_at_front (y ∷ xs) (suc n) (suc a) x at lt = take_at_front xs n a x at (om
 
 -- ---- from what is stored a draft can be prepared
 
-slots_cover : (n s : ℕ) → 0 < s → n ≤ (n + (s - 1)) / s * s
+-- so many pages of s slots have n slots
+pub slots_cover : (n s : ℕ) → 0 < s → n ≤ (n + (s - 1)) / s * s
 slots_cover n s some = omega (arith, div-add-mod' (n + (s - 1)) s, mod_below (n + (s - 1)) s some)
 
 module _ (i : Identity) (x : Content) (l : Layout) (used : List Bool) (stored : IsStored i x l used) (changes : List Change) (sorted : IsTrue (is_sorted key_cmp changes)) (before : total_charge i.blksize x.items ≤ i.pages) (fits : total_charge i.blksize (changed_all x.items changes) ≤ i.pages) where
@@ -131,34 +131,16 @@ module _ (i : Identity) (x : Content) (l : Layout) (used : List Bool) (stored : 
       -- ---- the pages that are written
 
       pub whole_pages : All (λ (w : PageWrite). (p : ℕ) × (p < page_count i.blksize i.pages) × (w.at ≡ page_place i.blksize p) × (length w.bytes ≡ i.blksize)) e.writes
-      whole_pages =
-          All-weaker (IsOnPlan i.blksize plan) (λ (w : PageWrite). (p : ℕ) × (p < page_count i.blksize i.pages) × (w.at ≡ page_place i.blksize p) × (length w.bytes ≡ i.blksize))
-          (λ w on. (on.1, can_prepare.planned.below on.0 on.1 on.2, on.3, on.4)) e.writes now.on_plan
+      whole_pages = pages_there i.blksize i.pages plan can_prepare.planned e.writes now.on_plan
 
       pub count_pages : length e.writes ≡ e.taken
-      count_pages = same_factor i.blksize (length e.writes) e.taken stored.identity.blksize (sym (total_whole e.writes now.on_plan) ∙ now.total)
-        where
-          total_whole : (ws : List PageWrite) → All (IsOnPlan i.blksize plan) ws → total ws ≡ length ws * i.blksize
-          total_whole [] all = omega arith
-          total_whole (w ∷ ws) all =
-              omega (arith, sum_by-cons (λ (v : PageWrite). length v.bytes) w ws, total_whole ws (All-tail (IsOnPlan i.blksize plan) w ws all), (All-head (IsOnPlan i.blksize plan) w ws all).4)
-
-          same_factor : (size a b : ℕ) → IsBlockSize size → a * size ≡ b * size → a ≡ b
-          same_factor size a b is =
-              elim is [
-                | inl h ↦ rw h (λ same. omega (arith, same))
-                | inr k ↦ elim k [ inl h ↦ rw h (λ same. omega (arith, same)) | inr h ↦ rw h (λ same. omega (arith, same)) ]
-              ]
+      count_pages = pages_written i.blksize plan e.writes now.on_plan e.taken stored.identity.blksize now.total
 
       pub bytes_most : total e.writes ≤ i.blksize * (put_charge i.blksize changes + length changes)
       bytes_most = let le : e.taken ≤ put_charge i.blksize changes + length changes = made.most in omega (arith, now.total, mul-le-mul_left i.blksize le)
 
       pub pages_free : (second : Bool) → AllFree i.blksize second l e.writes
-      pages_free second =
-          All-weaker (IsOnPlan i.blksize plan) (IsFree i.blksize second l)
-          (λ w on.
-          inr (omega (arith, on.3), λ u p named. ⊎_elim (λ lower. inl (omega (arith, on.3, lower))) (λ upper. inr (omega (arith, on.3, on.4, upper))) (pages_apart i.blksize p on.1 (λ same. plan_unnamed u p on.0 named (subst (λ (m : ℕ). At plan on.0 m) (sym same) on.2)))))
-          e.writes now.on_plan
+      pages_free second = plan_free i.blksize plan e.writes now.on_plan second l plan_unnamed
 
       -- ---- the pages that become used, and those that become free
 

@@ -1,5 +1,5 @@
 -- All changes of a patch, one after another: first those that remove, then those that put; and then the directory.
-use Rattle.std.proofs.Common.{◌≡◌, ◌⊎◌, ℕ, ◌+◌, ◌<◌, ◌≤◌, true, false, List, [], ◌∷◌, length, Option, Some, None}
+use Rattle.std.proofs.Common.{◌≡◌, ◌⊎◌, ℕ, ◌+◌, ◌<◌, ◌≤◌, Bool, true, false, List, [], ◌∷◌, length, Option, Some, None}
 use Rattle.std.specs.Prelude.{All, sum_by}
 use Rattle.kd_records.specs.Contents.{Record, Change, changed}
 use Rattle.page_pool.specs.Places.{At}
@@ -75,6 +75,7 @@ pub record PutsAll (size : ℕ) (plan : List ℕ) (changes : List Change) (d e :
   pub draft : (pool : ℕ) (items : List Record) (file : Option (List ℕ)) → IsPlan size pool plan → IsDraft size pool items plan file d → IsDraft size pool (put_all items changes) plan file e
   pub sized : IsSized size e
   pub stale : stale_pages e ≤ stale_pages d + puts changes
+  pub stays : (k : ℕ) → At d.stale k true → At e.stale k true
   pub taken : e.taken ≡ d.taken + put_charge size changes
   pub slots : length e.layout.slots ≡ length d.layout.slots
   pub directory : e.layout.directory ≡ d.layout.directory
@@ -87,13 +88,15 @@ pub record PutsAll (size : ℕ) (plan : List ℕ) (changes : List Change) (d e :
 abbrev pub FreshensOne : ℕ → List ℕ → ℕ → Drafting → Drafting → Type 0
 FreshensOne size plan k d e = (At d.stale k false × (e ≡ d)) ⊎ (At d.stale k true × IsPageWritten size plan k d e)
 
--- the first k pages are fresh
+-- the first k pages are fresh, and those of them that were stale are on the plan
 pub record Freshens (size : ℕ) (plan : List ℕ) (k : ℕ) (d e : Drafting) : Type 0 where
   pub draft : (pool : ℕ) (items : List Record) (file : Option (List ℕ)) → IsPlan size pool plan → IsDraft size pool items plan file d → IsDraft size pool items plan file e
   pub clean : (j : ℕ) → j < k → At e.stale j false
+  pub later : (j : ℕ) (b : Bool) → k ≤ j → At d.stale j b → At e.stale j b
+  pub written : (j p : ℕ) → j < k → At d.stale j true → At e.layout.directory j p → (n : ℕ) × At plan n p
   pub sized : IsSized size e
   pub weight : e.taken + stale_pages e ≡ d.taken + stale_pages d
-  pub slots : length e.layout.slots ≡ length d.layout.slots
+  pub slots : e.layout.slots ≡ d.layout.slots
   pub directory : length e.layout.directory ≡ length d.layout.directory
   pub pages : HasPagesOf k d.layout e.layout
   pub freed : (pool : ℕ) (items : List Record) (file : Option (List ℕ)) (from : Layout) → IsPlan size pool plan → IsDraft size pool items plan file d → IsUnnamed from plan → HasPagesOf 0 from d.layout → HasFreed from plan d → HasFreed from plan e

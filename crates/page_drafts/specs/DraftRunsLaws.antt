@@ -1,9 +1,9 @@
 -- All changes of a patch, one after another: first those that remove, then those that put; and then the directory.
 use Rattle.std.specs.FinMap as map
-use Rattle.std.proofs.Common.{◌≡◌, inl, inr, ⊎_elim, ℕ, ◌+◌, ◌*◌, ◌<◌, ◌≤◌, Bool, true, false, List, [], ◌∷◌, ◌++◌, length, take, drop, get_or, Option, Some, None, refl, ap, sym, subst, ◌∙◌, arith}
+use Rattle.std.proofs.Common.{◌≡◌, inl, inr, ⊎_elim, ℕ, ◌+◌, ◌*◌, ◌/◌, ◌<◌, ◌≤◌, Bool, true, false, List, [], ◌∷◌, ◌++◌, length, take, drop, get_or, Option, Some, None, refl, ap, sym, subst, ◌∙◌, arith}
 use Rattle.std.specs.Prelude.{set, IsTrue}
 use Rattle.std.specs.List.{count_by}
-use Rattle.std.proofs.lemmas.Bool.{cases_eq}
+use Rattle.std.proofs.lemmas.Bool.{cases_eq, false≢true}
 use Rattle.std.proofs.lemmas.List.{take_more, take-append-drop, length-set, length-take, length-drop, get_or_default}
 use Rattle.std.proofs.lemmas.Option.{none-some, same_Some, slice_get-get_or}
 use Rattle.std.proofs.lemmas.List.Sums.{sum_by-append, sum_by-cons, sum_by-take-le}
@@ -15,7 +15,8 @@ use Rattle.kdcfile_layout.specs.declared.chain.Chain.{Chain}
 use Rattle.page_pool.specs.Places.{At}
 use Rattle.kdcfile_layout.specs.Layout.{Layout, slots_in_page, used}
 use Rattle.kdcfile_layout.specs.Bound.{charge_put, put_charge}
-use Rattle.page_pool.specs.PlacesLaws.{at_end, at_front, at_set, at_set_same, at_set_other, at_within}
+use Rattle.page_pool.specs.PlacesLaws.{at_one, at_end, at_front, at_set, at_set_same, at_set_other, at_within}
+use Rattle.page_pool.specs.PoolsLaws.{flag_stays}
 use Rattle.page_drafts.specs.Counts.{if_any}
 use Rattle.page_drafts.specs.CountsLaws.{over_changed, ascending_changed, length_over}
 use Rattle.page_drafts.specs.Drafts.{IsUnnamed}
@@ -134,6 +135,7 @@ module _ (size : ℕ) (block : IsBlockSize size) (plan : List ℕ) (d e f : Draf
         draft = λ pool items file planned draft. subst (λ (xs : List Record). IsDraft size pool xs plan file e) (sym (put_joined items changes ((k, None) ∷ []))) (so_far.draft pool items file planned draft);
         sized = so_far.sized;
         stale = omega (arith, so_far.stale, sum_by-append (λ (c : Change). is_put c.1) changes ((k, None) ∷ []));
+        stays = so_far.stays;
         taken = omega (arith, so_far.taken, sum_by-append (λ (c : Change). charge_put size c.1) changes ((k, None) ∷ []));
         slots = so_far.slots;
         directory = so_far.directory;
@@ -148,6 +150,7 @@ module _ (size : ℕ) (block : IsBlockSize size) (plan : List ℕ) (d e f : Draf
             (put_kept size pool plan planned block (put_all items changes) file e (so_far.draft pool items file planned draft) k wide v s place enough);
         sized = put_sized size plan k v s e so_far.sized;
         stale = omega (arith, put_stale size plan k v s e block so_far.sized place.there, so_far.stale, sum_by-append (λ (c : Change). is_put c.1) changes ((k, Some v) ∷ []));
+        stays = λ j at. flag_stays ((s / slots_in_page size) ∷ []) e.stale j (so_far.stays j at);
         taken = omega (arith, so_far.taken, sum_by-append (λ (c : Change). charge_put size c.1) changes ((k, Some v) ∷ []));
         slots = length-set e.layout.slots s _ ∙ so_far.slots;
         directory = so_far.directory;
@@ -233,6 +236,12 @@ module _ (size : ℕ) (block : IsBlockSize size) (plan : List ℕ) (k : ℕ) (d 
       (record {
         draft = so_far.draft;
         clean = λ j le. ⊎_elim (λ is. subst (λ (n : ℕ). At e.stale n false) (sym is) clean) (λ ne. so_far.clean j (omega (arith, le, ne))) (cases_eq j k);
+        later = λ j b le at. so_far.later j b (omega (arith, le)) at;
+        written = λ j p le stale at.
+            ⊎_elim
+            (λ is. absurd (false≢true (at_one e.stale k false true clean (so_far.later k true (omega arith) (subst (λ (n : ℕ). At d.stale n true) is stale)))))
+            (λ ne. so_far.written j p (omega (arith, le, ne)) stale at)
+            (cases_eq j k);
         sized = so_far.sized;
         weight = so_far.weight;
         slots = so_far.slots;
@@ -247,12 +256,18 @@ module _ (size : ℕ) (block : IsBlockSize size) (plan : List ℕ) (k : ℕ) (d 
         clean = λ j le.
             subst (λ (t : List Bool). At t j false) (sym w.stale)
             (⊎_elim (λ is. subst (λ (n : ℕ). At (set e.stale k false) n false) (sym is) (at_set_same e.stale k false there)) (λ ne. at_set_other e.stale k j false false (λ e. ne (sym e)) (so_far.clean j (omega (arith, le, ne)))) (cases_eq j k));
+        later = λ j b le at. subst (λ (t : List Bool). At t j b) (sym w.stale) (at_set_other e.stale k j false b (λ is. omega (arith, le, is)) (so_far.later j b (omega (arith, le)) at));
+        written = λ j p le stale at.
+            ⊎_elim
+            (λ x. (e.taken, subst (λ (m : ℕ). At plan e.taken m) x.1 w.page.1))
+            (λ y. so_far.written j p (omega (arith, le, y.0)) stale y.1)
+            (at_set e.layout.directory k j w.page.0 p (subst (λ (l : List ℕ). At l j p) w.page.2 at));
         sized = record {
           stale = ap (λ (t : List Bool). length t) w.stale ∙ length-set e.stale k false ∙ so_far.sized.stale ∙ sym (length-set e.layout.directory k w.page.0) ∙ sym (ap (λ (l : List ℕ). length l) w.page.2);
           slots = ap (λ (l : List (Option Chain)). length l) w.slots ∙ so_far.sized.slots ∙ sym (ap (λ (n : ℕ). n * slots_in_page size) (ap (λ (l : List ℕ). length l) w.page.2 ∙ length-set e.layout.directory k w.page.0));
         };
         weight = omega (arith, so_far.weight, w.taken, one_less e.stale k stale there, ap (λ (t : List Bool). count_by (λ b. b) t) w.stale);
-        slots = ap (λ (l : List (Option Chain)). length l) w.slots ∙ so_far.slots;
+        slots = w.slots ∙ so_far.slots;
         directory = ap (λ (l : List ℕ). length l) w.page.2 ∙ length-set e.layout.directory k w.page.0 ∙ so_far.directory;
         pages = λ j p le at.
             ⊎_elim (λ x. absurd (omega (arith, le, x.0))) (λ y. so_far.pages j p (omega (arith, le)) y.1)

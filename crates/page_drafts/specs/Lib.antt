@@ -12,6 +12,7 @@ pub mod Drafts
 pub mod DraftsLaws
 pub mod Freed
 pub mod FreedLaws
+pub mod OnPlanLaws
 pub mod Passes
 pub mod PassesLaws
 pub mod Prepared
@@ -20,3 +21,6 @@ pub mod Tables
 pub mod TablesLaws
 pub mod Undoing
 pub mod UndoingLaws
+pub mod Whole
+pub mod WholeCommitsLaws
+pub mod WholeLaws

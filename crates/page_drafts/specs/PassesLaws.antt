@@ -58,7 +58,7 @@ found_left q ((k, Some v) ∷ changes) items sorted =
     (λ apart. sym (ap (λ (o : Said). left_by o (find key_cmp q items)) (said_other q (k, Some v) changes apart)))
     (same_or_not q k)
 
-found_put : (q : RecordKey) (changes : List Change) (items : List Record) → IsTrue (is_sorted key_cmp changes) → find key_cmp q (put_all items changes) ≡ put_by (find key_cmp q changes) (find key_cmp q items)
+pub found_put : (q : RecordKey) (changes : List Change) (items : List Record) → IsTrue (is_sorted key_cmp changes) → find key_cmp q (put_all items changes) ≡ put_by (find key_cmp q changes) (find key_cmp q items)
 found_put q [] items sorted = refl
 found_put q ((k, Some v) ∷ changes) items sorted =
     let said = change_says_what_is_found items k (Some v) in
@@ -91,7 +91,7 @@ sorted_removed [] items h = h
 sorted_removed ((k, None) ∷ changes) items h = sorted_removed changes (changed items (k, None)) (ascending_changed items k None h)
 sorted_removed ((k, Some v) ∷ changes) items h = sorted_removed changes items h
 
-sorted_put : (changes : List Change) (items : List Record) → IsTrue (is_sorted key_cmp items) → IsTrue (is_sorted key_cmp (put_all items changes))
+pub sorted_put : (changes : List Change) (items : List Record) → IsTrue (is_sorted key_cmp items) → IsTrue (is_sorted key_cmp (put_all items changes))
 sorted_put [] items h = h
 sorted_put ((k, None) ∷ changes) items h = sorted_put changes items h
 sorted_put ((k, Some v) ∷ changes) items h = sorted_put changes (changed items (k, Some v)) (ascending_changed items k (Some v) h)

@@ -1,5 +1,5 @@
 -- A patch is prepared whole.
-use Rattle.std.proofs.Common.{◌≡◌, ℕ, ◌+◌, ◌*◌, ◌≤◌, min, Bool, false, cond, List, length, None, ap, sym, subst, ◌∙◌, arith}
+use Rattle.std.proofs.Common.{◌≡◌, ℕ, ◌+◌, ◌*◌, ◌≤◌, min, Bool, false, cond, List, length, Option, None, ap, sym, subst, ◌∙◌, arith}
 use Rattle.std.specs.Prelude.{replicate}
 use Rattle.std.specs.List.{count_by}
 use Rattle.std.proofs.lemmas.List.{length-replicate}
@@ -8,6 +8,7 @@ use Rattle.std.proofs.lemmas.List.Sums.{count_by-le-length}
 use Rattle.std.proofs.lemmas.List.Elements.{All-nil}
 use Rattle.kd_records.specs.Contents.{Record, Change}
 use Rattle.page_pool.specs.Places.{At}
+use Rattle.kdcfile_layout.specs.declared.chain.Chain.{Chain}
 use Rattle.kdcfile_layout.specs.Layout.{Layout, slots_in_page}
 use Rattle.kdcfile_layout.specs.Bound.{put_charge}
 use Rattle.page_drafts.specs.Drafting.{Drafting, IsSized, IsOnPlan, IsDraft, stale_pages, unprepared}
@@ -72,7 +73,7 @@ module _ (size : ℕ) (plan : List ℕ) (changes : List Change) (l : Layout) (e 
       most = omega (arith, freshens.weight, stale_most, puts.taken, removes.taken);
       enough = omega (arith, freshens.weight, pages_after enough);
       directory = freshens.directory ∙ ap (λ (d : List ℕ). length d) same_directory;
-      slots = freshens.slots ∙ puts.slots ∙ removes.slots;
+      slots = ap (λ (s : List (Option Chain)). length s) freshens.slots ∙ puts.slots ∙ removes.slots;
       freed = λ pool items can.
           let none = begun_anywhere size pool items plan changes l can in
           let first = removes.draft pool items plan None can.planned none in

@@ -1,7 +1,7 @@
 //! A commit that is being prepared: the next layout, and the pages that are written for it.
-ghost use Rattle.std.specs.Prelude.{◌≡◌, ◌≤◌, ◌<◌, ◌+◌, ◌*◌, ◌/◌, ◌^◌, min, true, false, List, ℕ, Some, length, IfOk, IfErr, OnOk};
-ghost use Rattle.kd_records.specs.Contents.{Record, Change};
-ghost use Rattle.kd_records.specs.Charge.{IsBlockSize, charge_of};
+ghost use Rattle.std.specs.Prelude.{◌≡◌, ◌≤◌, ◌<◌, ◌+◌, ◌*◌, ◌/◌, ◌^◌, min, true, false, List, ℕ, Some, length, All, IfOk, IfErr, OnOk};
+ghost use Rattle.kd_records.specs.Contents.{Record, Change, IsRecord};
+ghost use Rattle.kd_records.specs.Charge.{IsBlockSize, charge_of, total_charge};
 ghost use Rattle.page_pool.specs.Places.{At};
 ghost use Rattle.kdcfile_layout.specs.Layout.{used};
 ghost use Rattle.kdcfile_layout.specs.Bound.{charge_put, put_charge};
@@ -9,7 +9,7 @@ ghost use Rattle.page_drafts.specs.Tables.{IsPlaceFor, IsAbsent};
 ghost use Rattle.page_drafts.specs.DraftSteps.{next_pages};
 ghost use Rattle.page_drafts.specs.Drafting.{Drafting, put_in, touched, unprepared, IsRemoved, IsPageWritten, IsSized, stale_pages};
 ghost use Rattle.page_drafts.specs.DraftRuns.{RemovesOne, RemovesAll, PutsOne, PutsAll, HasRoom, AreWide, FreshensOne, Freshens};
-ghost use Rattle.page_drafts.specs.Prepared.{CanPrepare, Prepared};
+ghost use Rattle.page_drafts.specs.{Prepared.{CanPrepare, Prepared}, Whole.{unwritten, puts_of, CanPrepareWhole, PreparedWhole}};
 
 use crate::table::Table;
 use crate::table_draft::TableDraft;
@@ -224,6 +224,28 @@ impl Draft {
         Ok(())
     }
 
+    // Puts all these records.
+    fn put_records(
+        &mut self,
+        alloc: Global,
+        size: u32,
+        plan: &[u32],
+        records: &[(RecordKey, Bytes)],
+    ) -> Result<(), OutOfMemory>
+        requires size { IsBlockSize size }
+        requires sized { IsSized size self.old }
+        requires records { All IsRecord records.now }
+        requires enough { self.old.taken + total_charge size records.now ≤ length plan.now }
+        requires plan { length plan.now < 2 ^ 32 }
+        requires room { (pool : ℕ) × (items : List Record) × HasRoom size pool items plan.now (puts_of records.now) self.old }
+        ensures { OnOk result (PutsAll size plan.now (puts_of records.now) self.old self.new) }
+    {
+        for record in records {
+            self.put(alloc, size, plan, record.0, record.1.as_slice())?;
+        }
+        Ok(())
+    }
+
     // Writes the k-th page of the directory, if it is stale.
     fn freshen(
         &mut self,
@@ -285,6 +307,49 @@ impl Draft {
         self.freshen_all(alloc, size, plan)
     }
 
+    /// Makes a whole content: puts all its records, and writes the whole directory. Each page is written once, on the
+    /// next pages of the plan; the numbers that the directory had are given up.
+    pub fn prepare_whole(
+        &mut self,
+        alloc: Global,
+        size: u32,
+        plan: &[u32],
+        records: &[(RecordKey, Bytes)],
+    ) -> Result<(), OutOfMemory>
+        requires size { IsBlockSize size }
+        requires fresh { self.old ≡ unwritten self.old.layout }
+        requires records { All IsRecord records.now }
+        requires enough { total_charge size records.now + length self.old.layout.directory ≤ length plan.now }
+        requires plan { length plan.now < 2 ^ 32 }
+        requires room { (pool : ℕ) × CanPrepareWhole size pool records.now plan.now self.old.layout }
+        ensures { OnOk result (PreparedWhole size plan.now records.now self.old.layout self.new) }
+    {
+        self.put_records(alloc, size, plan, records)?;
+        self.freshen_all(alloc, size, plan)
+    }
+
+    /// A draft of a whole content, over a directory with these numbers and slots of which no page is written yet.
+    pub fn unwritten(alloc: Global, directory: Vec<u32>, table: Table) -> Result<Draft, OutOfMemory>
+        ensures { IfOk result (λ d. d ≡ unwritten (record { directory = directory.items; slots = table })) }
+    {
+        let stale = vec![in alloc; true; directory.len()]?;
+        Ok(Draft::begun(alloc, directory, table, stale))
+    }
+
+    // Nothing is prepared yet. It takes no memory.
+    fn begun(alloc: Global, directory: Vec<u32>, table: Table, stale: Vec<bool>) -> Draft
+        ensures { result ≡ record (unprepared (record { directory = directory.items; slots = table })) { stale = stale.items } }
+    {
+        Draft {
+            directory,
+            table: TableDraft::new(alloc, table),
+            stale,
+            writes: Vec::new(alloc),
+            taken: 0,
+            freed: Vec::new(alloc),
+        }
+    }
+
     /// A draft that begins from the layout of a directory with these pages and slots. Where memory runs out, it gives the
     /// slots back.
     pub fn new(alloc: Global, directory: Vec<u32>, table: Table) -> Result<Draft, Table>
@@ -294,14 +359,7 @@ impl Draft {
         let Ok(stale) = vec![in alloc; false; directory.len()] else {
             return Err(table);
         };
-        Ok(Draft {
-            directory,
-            table: TableDraft::new(alloc, table),
-            stale,
-            writes: Vec::new(alloc),
-            taken: 0,
-            freed: Vec::new(alloc),
-        })
+        Ok(Draft::begun(alloc, directory, table, stale))
     }
 
     /// The slots as they were before. It takes no memory, and costs as much as the changes did.

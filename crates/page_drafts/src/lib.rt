@@ -5,7 +5,7 @@
 //! It stands on kdcfile_layout, page_pool and sorted_pairs. To the store, its contract says that what is prepared on
 //! the pages of a plan is, with its root written, the image of the content that a patch makes, which pages only the
 //! old image names, and that the slots are given back as they were where the commit is not made. A draft costs what the
-//! patch changes, not the number of slots.
+//! patch changes, not the number of slots. A whole content can be drafted too, over a directory that is written anew.
 #![tactic(auto)]
 
 mod draft;

@@ -127,8 +127,8 @@ impl Pool {
         self.release_all(plan.freed.as_slice());
     }
 
-    // These pages become used.
-    fn mark_all(&mut self, pages: &[u32])
+    /// These pages become used. It takes no memory.
+    pub fn mark_all(&mut self, pages: &[u32])
         requires few { length self.old < 2 ^ 32 }
         requires there { (n p : ℕ) → At pages.now n p → p < length self.old }
         ensures { self.new ≡ flagged true self.old pages.now }

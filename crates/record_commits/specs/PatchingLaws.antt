@@ -1,13 +1,11 @@
 -- The patch of changes in order, whose keys are proper, is a patch for a content.
-use Rattle.std.specs.Prelude.{◌≡◌, refl, ℕ, ◌-◌, ◌^◌, ◌<◌, ◌≤◌, IsTrue, List, [], ◌∷◌, ◌++◌, length, map, replicate, All}
-use Rattle.std.proofs.Common.{arith, ap, subst, sym, ◌∙◌, length-append}
-use Rattle.std.proofs.lemmas.List.{length-replicate}
+use Rattle.std.specs.Prelude.{◌≡◌, refl, IsTrue, List, [], ◌∷◌, map, All}
+use Rattle.std.proofs.Common.{ap, subst, sym, ◌∙◌}
 use Rattle.std.proofs.lemmas.List.Elements.{All-map, All-weaker, recursion_from_All}
 use Rattle.std.specs.FinMap.{is_sorted}
 use Rattle.std.specs.FinMap.Entries.{below_all}
 use Rattle.std.specs.List.{AllByRecursion as Each}
 use Rattle.std.specs.Ordering.{is_lt}
-use Rattle.kd_base.specs.Text.{IsName, padded}
 use Rattle.kd_base.specs.ToolsLaws.{both_true, true_both}
 use Rattle.kd_records.specs.declared.key.RecordKey.{RecordKey}
 use Rattle.kd_records.specs.Contents.{Change as RecordChange, IsKey, IsPatch}
@@ -16,47 +14,17 @@ use Rattle.kdcs_types.specs.declared.act.Change.{Change}
 use Rattle.kdcs_types.specs.declared.act.Change.TheVariants.{Set, Remove}
 use Rattle.kdcs_types.specs.declared.act.Changes.{Changes}
 use Rattle.kdcs_types.specs.declared.key.Key.{Key}
-use Rattle.kdcs_types.specs.declared.key.Key.TheVariants as key
-use Rattle.kdcs_types.specs.declared.key.ServiceId.TheVariants.{Dialogue, Asynchronous}
 use Rattle.kdcs_types.specs.Keyed.{ascends, keyed}
-use Rattle.kdcs_types.specs.Keys.{key_cmp, key_kind}
+use Rattle.kdcs_types.specs.Keys.{key_cmp}
 use Rattle.kdcs_types.specs.Tables.{change_key}
 use Rattle.record_codec.specs.Order.{IsProperKey}
 use Rattle.record_codec.specs.OrderLaws.{keys_keep_their_order}
 use Rattle.record_codec.specs.Records.{patch_of}
-use Rattle.record_codec.specs.Values.{filled, key_bytes, record_change, record_key}
+use Rattle.record_codec.specs.Values.{record_change, record_key}
+use Rattle.warm_start.specs.ContentLaws.{record_key_there}
 use Rattle.record_commits.specs.NamedLaws.{HasProperChange}
-use Rattle.kd_base.specs.RoundTripsLaws.{padded_len}
 
 -- ---- keys
-
-kind_there : (k : Key) → (0 < key_kind k) × (key_kind k < 2 ^ 8)
-kind_there (key.Gssb name) = (omega arith, omega arith)
-kind_there (key.Tls block lterm) = (omega arith, omega arith)
-kind_there (key.Uls block user) = (omega arith, omega arith)
-kind_there (key.Service id) = (omega arith, omega arith)
-kind_there (key.Job number) = (omega arith, omega arith)
-kind_there (key.Shown lterm) = (omega arith, omega arith)
-
-two_long : (a b : List ℕ) → IsName a → IsName b → length (padded a ++ padded b) ≤ 24
-two_long a b h k = omega (arith, length-append (padded a) (padded b), padded_len a h, padded_len b k)
-
-bytes_long : (k : Key) → IsProperKey k → length (key_bytes k) ≤ 24
-bytes_long (key.Gssb name) h = omega (arith, padded_len name h)
-bytes_long (key.Tls block lterm) h = two_long block lterm h.0 h.1
-bytes_long (key.Uls block user) h = two_long block user h.0 h.1
-bytes_long (key.Service (Dialogue user)) h = omega (arith, padded_len user h)
-bytes_long (key.Service (Asynchronous number)) h = omega arith
-bytes_long (key.Job number) h = omega arith
-bytes_long (key.Shown lterm) h = omega (arith, padded_len lterm h)
-
-filled_long : (bytes : List ℕ) → length bytes ≤ 24 → length (filled bytes) ≡ 24
-filled_long bytes h =
-    let zeros : length (replicate {A = ℕ} (24 - length bytes) 0) ≡ 24 - length bytes = length-replicate {A = ℕ} (24 - length bytes) 0 in
-    omega (arith, h, zeros, length-append bytes (replicate (24 - length bytes) 0))
-
-record_key_there : (k : Key) → IsProperKey k → IsKey (record_key k)
-record_key_there k h = record { kind_from_one = (kind_there k).0; kind_is_byte = (kind_there k).1; key_length = filled_long (key_bytes k) (bytes_long k h) }
 
 -- the record of a change has its key
 key_of_change : (c : Change) → (record_change c).0 ≡ record_key (change_key c)

@@ -1,6 +1,6 @@
 -- That the commit of a step can be stored.
 use Rattle.std.specs.Prelude.{◌≡◌, ◌≤◌, ℕ, List, [], ◌∷◌, All}
-use Rattle.std.proofs.Common.{arith, inl, inr, sym, subst}
+use Rattle.std.proofs.Common.{inl, inr, sym, subst}
 use Rattle.std.proofs.lemmas.List.Elements.{All-head, All-weaker}
 use Rattle.kd_records.specs.Charge.{total_charge as records_charge}
 use Rattle.kdcs_types.specs.declared.act.Act.{Act}
@@ -24,8 +24,8 @@ use Rattle.record_codec.specs.Patches.{HasProperKeys}
 use Rattle.record_codec.specs.Records.{content_of_tables, rows_of}
 use Rattle.record_codec.specs.RowReadings.{IsProperRow}
 use Rattle.record_codec.specs.TableReadings.{AreProperTables}
-use Rattle.table_fit.specs.LengthsLaws.{charges_are_those_of_the_bytes}
 use Rattle.table_fit.specs.ShortLaws.{suiting_tables_are_short}
+use Rattle.warm_start.specs.ContentLaws.{content_charged}
 use Rattle.warm_start.specs.Stands.{AreTables}
 use Rattle.record_commits.specs.Named.{IsNamedAct, IsNamedChange}
 use Rattle.record_commits.specs.NamedTables.{AreNamedTables}
@@ -42,9 +42,6 @@ record AreFit (g : Generated) (t : TableRows) : Type 0 where
   sorted : IsSortedTables t
   suits : Suits g t
 
-charged : (g : Generated) (t : TableRows) → Suits g t → AreProperTables t → records_charge g.limits.blksize (content_of_tables t).items ≤ g.limits.pgpool
-charged g t suits proper = omega (arith, suits.charge, charges_are_those_of_the_bytes g.limits.blksize t proper)
-
 proper_keys : (t : TableRows) → AreProperTables t → HasProperKeys t
 proper_keys t proper = All-weaker IsProperRow HasProperKey (λ r h. h.key) (rows_of t) proper
 
@@ -60,9 +57,9 @@ difference_stored g t u limits tables suits fit named =
     record {
       short = difference_short t u (suiting_tables_are_short g u limits fit.suits proper);
       patch = patch_there c keys are.ascending;
-      before = charged g t suits tables.proper;
+      before = content_charged g t tables.proper suits;
       records = patches_match_changes t c (proper_keys t tables.proper) keys are;
-      after = subst (λ (v : TableRows). records_charge g.limits.blksize (content_of_tables v).items ≤ g.limits.pgpool) (sym makes) (charged g u fit.suits proper);
+      after = subst (λ (v : TableRows). records_charge g.limits.blksize (content_of_tables v).items ≤ g.limits.pgpool) (sym makes) (content_charged g u proper fit.suits);
       tables = subst AreTables (sym makes) there;
     }
 

@@ -14,6 +14,23 @@ pub enum Refusal {
     Script(ScriptFault),
 }
 
+/// Why a call does nothing with its KDCFILE.
+#[derive(Debug, Clone, Copy)]
+pub enum FileRefusal {
+    /// It stands for no tables, or for some of these texts that do not suit the generation.
+    NotKdcfile,
+    /// It was made with other texts, which have this fingerprint.
+    OtherGeneration([u8; 32]),
+    /// It has this BLKSIZE, in bytes, and the generation another.
+    OtherBlksize(u32),
+    /// It has this PGPOOL, in pages, and the generation a smaller one.
+    SmallerPool(u32),
+    /// So many GSSBs would be carried, and GSSBS is less.
+    TooManyGssbs(u32),
+    /// The rows that would be carried are charged so many pages, and PGPOOL is less.
+    TooLarge(u64),
+}
+
 /// Why the texts of a call ask for nothing.
 #[derive(Clone, Copy, Debug, Error)]
 pub enum TextError {

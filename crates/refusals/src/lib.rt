@@ -11,7 +11,7 @@ mod refusing;
 mod room_text;
 mod status;
 
-pub use error::{Refusal, TextError};
-pub use refusing::{refuse, refuse_other, refuse_texts};
+pub use error::{FileRefusal, Refusal, TextError};
+pub use refusing::{refuse, refuse_file, refuse_texts};
 pub use room_text::{named, text};
 pub use status::Status;

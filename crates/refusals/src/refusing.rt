@@ -1,10 +1,10 @@
 //! A call that is refused sends one line, and does nothing else.
-ghost use Rattle.std.specs.{Prelude.{◌≡◌, ◌∷◌, [], IsTrue, IfOk}, String.{string_bytes}};
+ghost use Rattle.std.specs.{Prelude.{◌≡◌, ◌∷◌, [], List, ℕ, IsTrue, IfOk}, String.{string_bytes}};
 ghost use Rattle.kd_device.specs.Device.{Rose, Frame, SameFaults, SameNames};
 ghost use Rattle.device_acts.specs.Said.{Said, SaidPart};
-ghost use Rattle.refusals.specs.{Statuses.{IsOneOf, status_of}, Lines.{fault_line, application_line, refusal_line, other_generation_line}};
+ghost use Rattle.refusals.specs.{Statuses.{IsOneOf, status_of}, Lines.{fault_line, application_line, file_line, refusal_line, other_generation_line}, declared.error.FileRefusal.TheVariants.{OtherGeneration}};
 
-use crate::error::Refusal;
+use crate::error::{FileRefusal, Refusal};
 use crate::status::Status;
 use application_read::ApplicationFault;
 use device_acts::say;
@@ -101,17 +101,44 @@ fn other_generation_line(alloc: Global, stored: &[u8; 32]) -> Result<Vec<u8>, Al
     Ok(line)
 }
 
-/// Refuses a file that was made with other texts, which have this fingerprint.
-pub fn refuse_other<D: Device>(alloc: Global, device: &mut D, stored: &[u8; 32]) -> Status
+/// The line of a file that is refused with a number, or for its bytes.
+fn limit_line(alloc: Global, why: &FileRefusal) -> Result<String, AllocError>
+    ensures { IfOk result (λ line. ((stored : List ℕ) → why.now ≡ OtherGeneration stored → ⊥) → string_bytes line ≡ file_line why.now) }
+{
+    match why {
+        FileRefusal::NotKdcfile => String::from_str(alloc, "KDCFILE NOT A KDCFILE\n"),
+        FileRefusal::OtherGeneration(_) => Ok(String::new(alloc)),
+        FileRefusal::OtherBlksize(n) => format!(in alloc; "KDCFILE OTHER BLKSIZE {n}\n"),
+        FileRefusal::SmallerPool(n) => format!(in alloc; "KDCFILE SMALLER POOL {n}\n"),
+        FileRefusal::TooManyGssbs(n) => format!(in alloc; "KDCFILE TOO MANY GSSBS {n}\n"),
+        FileRefusal::TooLarge(n) => format!(in alloc; "KDCFILE TABLES TOO LARGE {n}\n"),
+    }
+}
+
+fn file_line(alloc: Global, why: &FileRefusal) -> Result<Vec<u8>, AllocError>
+    ensures { IfOk result (λ line. line.items ≡ file_line why.now) }
+{
+    match why {
+        FileRefusal::OtherGeneration(stored) => other_generation_line(alloc, stored),
+        FileRefusal::NotKdcfile
+        | FileRefusal::OtherBlksize(_)
+        | FileRefusal::SmallerPool(_)
+        | FileRefusal::TooManyGssbs(_)
+        | FileRefusal::TooLarge(_) => Ok(limit_line(alloc, why)?.into_bytes()),
+    }
+}
+
+/// Refuses a KDCFILE.
+pub fn refuse_file<D: Device>(alloc: Global, device: &mut D, why: &FileRefusal) -> Status
     ensures code { IsOneOf (4 ∷ 5 ∷ 7 ∷ []) result.code }
-    ensures said { result.code ≡ 4 → IsTrue (D.state device.old).told → Said (other_generation_line stored.now) (D.state device.old) (D.state device.new) }
-    ensures part { IsTrue (D.state device.old).told → SaidPart (other_generation_line stored.now) (D.state device.old) (D.state device.new) }
+    ensures said { result.code ≡ 4 → IsTrue (D.state device.old).told → Said (file_line why.now) (D.state device.old) (D.state device.new) }
+    ensures part { IsTrue (D.state device.old).told → SaidPart (file_line why.now) (D.state device.old) (D.state device.new) }
     ensures failed { result.code ≡ 5 → Rose (D.state device.old).line_faults (D.state device.new).line_faults }
     ensures fine { (result.code ≡ 5 → ⊥) → SameFaults (D.state device.old) (D.state device.new) }
     ensures frame { Frame (D.state device.old) (D.state device.new) }
     ensures names { SameNames (D.state device.old) (D.state device.new) }
 {
-    let Ok(line) = other_generation_line(alloc, stored) else {
+    let Ok(line) = file_line(alloc, why) else {
         return Status::MEMORY;
     };
     refuse(device, &line, Status::FILE)

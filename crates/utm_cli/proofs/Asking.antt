@@ -3,15 +3,15 @@ use Rattle.std.proofs.Common.{◌≡◌, ◌⊎◌, inl, inr, ⊎_elim, ℕ, Lis
 use Rattle.kd_base.specs.ToolsLaws.{cases_option}
 use Rattle.kd_device.specs.Device.{State, LeavesOnly, Only}
 use Rattle.kd_device.specs.Room.{RoomState, text_of}
-use Rattle.kdcs_types.specs.Tables.{TableRows}
+use Rattle.kdcfile_update.specs.Updating.{Stored}
 use Rattle.refusals.specs.declared.error.Refusal.{Refusal}
 use Rattle.utm_cli.specs.declared.words.Word.{Word}
-use Rattle.utm_cli.specs.declared.words.Word.TheVariants.{Gen, Run, Show, Make}
+use Rattle.utm_cli.specs.declared.words.Word.TheVariants.{Gen, Run, Show, Update, Make}
 use Rattle.utm_cli.specs.MadeTexts.{definition_text as made_definition, units_text as made_units, script_text as made_script}
 use Rattle.utm_cli.specs.Words.{definition_name, units_name, script_name}
 use Rattle.utm_cli.specs.Asking.{Errand, Reading, AreThere, ReadsFor}
 use Rattle.utm_cli.specs.Doing.{Starts}
-use Rattle.utm_cli.specs.Promise.{Request, Reads, Lacks, Misses, IsCutOfRun}
+use Rattle.utm_cli.specs.Promise.{Request, Reads, IsMissing, Lacks, Misses, IsCutOfRun}
 use Rattle.utm_cli.proofs.ByWord.{unchanged_cut}
 use Rattle.std.proofs.lemmas.Option.{same_Some}
 
@@ -33,6 +33,8 @@ module _ (words : List (List ℕ)) (room : RoomState) (word : Word) (base : List
   lacked Gen d u s there (inr none) = let differ = sym there.units_is ∙ none in cc
   lacked Show d u s there (inl none) = let differ = sym there.definition_is ∙ none in cc
   lacked Show d u s there (inr none) = let differ = sym there.units_is ∙ none in cc
+  lacked Update d u s there (inl none) = let differ = sym there.definition_is ∙ none in cc
+  lacked Update d u s there (inr none) = let differ = sym there.units_is ∙ none in cc
   lacked (Make n) d u s there none = none
   lacked Run d u s there (inl none) = let differ = sym there.definition_is ∙ none in cc
   lacked Run d u s there (inr (inl none)) = let differ = sym there.units_is ∙ none in cc
@@ -47,23 +49,19 @@ module _ (words : List (List ℕ)) (room : RoomState) (word : Word) (base : List
   found : (name : List ℕ) → (text_of name room.texts ≡ None) ⊎ ((text : List ℕ) × (text_of name room.texts ≡ Some text))
   found name = cases_option (text_of name room.texts)
 
+  -- the definition and the units, or what is not there
+  two_texts : {A : Type 0} → (IsMissing (definition_name base) room → A) → (IsMissing (units_name base) room → A) → ((d u : List ℕ) → text_of (definition_name base) room.texts ≡ Some d → text_of (units_name base) room.texts ≡ Some u → A) → A
+  two_texts no_definition no_units both =
+      ⊎_elim no_definition (λ d. ⊎_elim no_units (λ u. both d.0 u.0 d.1 u.1) (found (units_name base))) (found (definition_name base))
+
   lacks : (w : Word) → ((d u s : List ℕ) → AreThere w base room d u s → ⊥) → Lacks w base room
-  lacks Gen none_there =
-      ⊎_elim (λ none. inl none)
-      (λ d. ⊎_elim (λ none. inr none) (λ u. absurd (none_there d.0 u.0 [] (record { definition_is = d.1; units_is = u.1; script_is = refl }))) (found (units_name base)))
-      (found (definition_name base))
-  lacks Show none_there =
-      ⊎_elim (λ none. inl none)
-      (λ d. ⊎_elim (λ none. inr none) (λ u. absurd (none_there d.0 u.0 [] (record { definition_is = d.1; units_is = u.1; script_is = refl }))) (found (units_name base)))
-      (found (definition_name base))
+  lacks Gen none_there = two_texts inl inr (λ d u d_is u_is. absurd (none_there d u [] (record { definition_is = d_is; units_is = u_is; script_is = refl })))
+  lacks Show none_there = two_texts inl inr (λ d u d_is u_is. absurd (none_there d u [] (record { definition_is = d_is; units_is = u_is; script_is = refl })))
+  lacks Update none_there = two_texts inl inr (λ d u d_is u_is. absurd (none_there d u [] (record { definition_is = d_is; units_is = u_is; script_is = refl })))
   lacks (Make n) none_there = none_there made_definition made_units (made_script n) (record { definition_is = refl; units_is = refl; script_is = refl })
   lacks Run none_there =
-      ⊎_elim (λ none. inl none)
-      (λ d.
-      ⊎_elim (λ none. inr (inl none))
-      (λ u. ⊎_elim (λ none. inr (inr none)) (λ s. absurd (none_there d.0 u.0 s.0 (record { definition_is = d.1; units_is = u.1; script_is = s.1 }))) (found (script_name base)))
-      (found (units_name base)))
-      (found (definition_name base))
+      two_texts inl (λ none. inr (inl none))
+      (λ d u d_is u_is. ⊎_elim (λ none. inr (inr none)) (λ s. absurd (none_there d u s.0 (record { definition_is = d_is; units_is = u_is; script_is = s.1 }))) (found (script_name base)))
 
   pub misses_of : ((d u s : List ℕ) → AreThere word base room d u s → ⊥) → Misses words room
   misses_of none_there = record { word = word; base = base; asked = asked; not_there = lacks word none_there }
@@ -98,11 +96,11 @@ module _ (words : List (List ℕ)) (room : RoomState) (why : Refusal) (one : (sa
 
 -- ---- what a stop leaves
 
-module _ (e : Errand) (t : TableRows) (a d : State) (la ld : ℕ → List ℕ → List ℕ → Type 0) (only : Only a.holds a la) (starts : Starts e a.holds t) (silent : (c out : List ℕ) → la a.moment c out → out ≡ a.sent) where
-  pub cut_at_call : (image out : List ℕ) → la a.moment image out → IsCutOfRun e t a image out
+module _ (e : Errand) (s : Stored) (a d : State) (la ld : ℕ → List ℕ → List ℕ → Type 0) (only : Only a.holds a la) (starts : Starts e a.holds s) (silent : (c out : List ℕ) → la a.moment c out → out ≡ a.sent) where
+  pub cut_at_call : (image out : List ℕ) → la a.moment image out → IsCutOfRun e s a image out
   cut_at_call image out left =
       let same = silent image out left in
-      unchanged_cut e t a starts image out (only image (subst (λ (o : List ℕ). la a.moment image o) same left)) same
+      unchanged_cut e s a starts image out (only image (subst (λ (o : List ℕ). la a.moment image o) same left)) same
 
-  pub cut_since_call : LeavesOnly a d la ld (IsCutOfRun e t a) → (image out : List ℕ) → ld a.moment image out → IsCutOfRun e t a image out
+  pub cut_since_call : LeavesOnly a d la ld (IsCutOfRun e s a) → (image out : List ℕ) → ld a.moment image out → IsCutOfRun e s a image out
   cut_since_call h image out left = ⊎_elim (λ past. cut_at_call image out past) (λ cut. cut) (h.only a.moment image out (omega arith) left)

@@ -1,59 +1,76 @@
--- What holds of each word: of those over the KDCFILE, and of `make`.
+-- What holds of each word: of those over the store, and of `show` and `make`.
 use Rattle.std.proofs.Common.{◌≡◌, ◌⊎◌, inl, inr, ℕ, List, [], ◌∷◌, ◌++◌, take, refl, sym, ap, subst, ◌∙◌}
+use Rattle.std.specs.Prelude.{⊤}
 use Rattle.std.proofs.lemmas.List.{append-nil}
 use Rattle.kd_device.specs.Device.{State, LeavesOnly, Only}
 use Rattle.kd_device.specs.TimeLaws.{leaves_weaker, leaves_then}
 use Rattle.kd_device.specs.Rest.{Rests, Before}
 use Rattle.kdcs_types.specs.Tables.{TableRows, empty_tables}
+use Rattle.kdcs_types.specs.declared.act.Act.{Act}
 use Rattle.kdcs_types.specs.declared.act.Act.TheVariants.{Emit}
 use Rattle.abstract_monitor.specs.declared.command.Command.{Command}
 use Rattle.abstract_monitor.specs.Listing.{listing}
 use Rattle.abstract_monitor.specs.Trace.{bytes_of}
 use Rattle.warm_start.specs.MeaningLaws.{answers_exclude_each_other}
+use Rattle.warm_start.specs.Stands.{StandsForTables}
+use Rattle.kdcfile_update.specs.Updating.{Stored}
 use Rattle.device_acts.specs.Said.{Said, SaidPart}
+use Rattle.refusals.specs.declared.error.FileRefusal.{FileRefusal}
 use Rattle.utm_cli.specs.MadeReport.{report_of}
 use Rattle.utm_cli.specs.declared.words.Word.{Word}
-use Rattle.utm_cli.specs.declared.words.Word.TheVariants.{Gen, Run, Show, Make}
+use Rattle.utm_cli.specs.declared.words.Word.TheVariants.{Gen, Run, Show, Update, Make}
 use Rattle.utm_cli.specs.Asking.{Errand, app_of}
-use Rattle.utm_cli.specs.Doing.{IsOverFile, Opens, StartsBy, Starts, Refuses, IsOfOthers, identity_of, acts_by, acts_of}
-use Rattle.utm_cli.specs.Promise.{RanOver, RanBy, Ran, IsCutOver, IsCutBy, IsCutOfRun, IsFront, SaysFront, MakesFile, MayAttach, MayHandOn, HandsOn}
+use Rattle.utm_cli.specs.Doing.{IsOverFile, Opens, OpensWith, OpeningRefuses, StartsBy, Starts, RefusesBy, Refuses, identity_of, own, tables_by, tables_of, acts_by, acts_of}
+use Rattle.utm_cli.specs.Promise.{RanOver, RanBy, Ran, IsCutOver, IsCutBy, IsCutOfRun, IsFront, SaysFront, MakesFile, MayAttach, MayHandOn, HandsOn, WritesActsAlone}
 use Rattle.utm_cli.proofs.Ran.{as_it_was, part_then}
 
--- ---- a file is answered in one way
+-- ---- what a call starts from
 
-opens_by : (word : Word) → IsOverFile word → (e : Errand) (bytes : List ℕ) (t : TableRows) → StartsBy word e bytes t → Opens e bytes t
-opens_by Gen over e bytes t starts = starts
-opens_by Run over e bytes t starts = starts
-opens_by Show over e bytes t starts = starts
-opens_by (Make n) over e bytes t starts = absurd over
+-- the words over a file of these texts
+abbrev pub OpensFile : Word → Type 0
+OpensFile Gen = ⊤
+OpensFile Run = ⊤
+OpensFile Show = ⊤
+OpensFile Update = ⊥
+OpensFile (Make n) = ⊥
 
-starts_by : (word : Word) → IsOverFile word → (e : Errand) (bytes : List ℕ) (t : TableRows) → Opens e bytes t → StartsBy word e bytes t
-starts_by Gen over e bytes t opens = opens
-starts_by Run over e bytes t opens = opens
-starts_by Show over e bytes t opens = opens
-starts_by (Make n) over e bytes t opens = absurd over
+opens_by : (word : Word) → OpensFile word → (e : Errand) (bytes : List ℕ) (s : Stored) → StartsBy word e bytes s → OpensWith e bytes s
+opens_by Gen opening e bytes s starts = starts
+opens_by Run opening e bytes s starts = starts
+opens_by Show opening e bytes s starts = starts
+opens_by Update opening e bytes s starts = absurd opening
+opens_by (Make n) opening e bytes s starts = absurd opening
+
+starts_by : (word : Word) → OpensFile word → (e : Errand) (bytes : List ℕ) (t : TableRows) → Opens e bytes t → StartsBy word e bytes (own e t)
+starts_by Gen opening e bytes t opens = record { own_texts = refl; opens = opens }
+starts_by Run opening e bytes t opens = record { own_texts = refl; opens = opens }
+starts_by Show opening e bytes t opens = record { own_texts = refl; opens = opens }
+starts_by Update opening e bytes t opens = absurd opening
+starts_by (Make n) opening e bytes t opens = absurd opening
+
+refuses_by : (word : Word) → OpensFile word → (e : Errand) (bytes : List ℕ) (why : FileRefusal) → OpeningRefuses e bytes why → RefusesBy word e bytes why
+refuses_by Gen opening e bytes why refuses = refuses
+refuses_by Run opening e bytes why refuses = refuses
+refuses_by Show opening e bytes why refuses = refuses
+refuses_by Update opening e bytes why refuses = absurd opening
+refuses_by (Make n) opening e bytes why refuses = absurd opening
 
 module _ (e : Errand) (bytes : List ℕ) where
-  pub opens : IsOverFile e.word → (t : TableRows) → Starts e bytes t → Opens e bytes t
-  opens over t starts = opens_by e.word over e bytes t starts
+  own_is : (s : Stored) → OpensWith e bytes s → own e s.tables ≡ s
+  own_is s h = λ i. record { identity = sym h.own_texts i; tables = s.tables }
 
-  pub starts : IsOverFile e.word → (t : TableRows) → Opens e bytes t → Starts e bytes t
-  starts over t from = starts_by e.word over e bytes t from
+  pub starts : OpensFile e.word → (t : TableRows) → Opens e bytes t → Starts e bytes (own e t)
+  starts opening t from = starts_by e.word opening e bytes t from
+
+  pub refuses_opening : OpensFile e.word → (why : FileRefusal) → OpeningRefuses e bytes why → Refuses e bytes why
+  refuses_opening opening why refuses = refuses_by e.word opening e bytes why refuses
+
+  -- what holds of all tables with which the file is opened holds where the call starts
+  pub for_opened : OpensFile e.word → (P : Stored → Type 0) → ((t : TableRows) → Opens e bytes t → P (own e t)) → (s : Stored) → Starts e bytes s → P s
+  for_opened opening P each s from = let o = opens_by e.word opening e bytes s from in subst P (own_is s o) (each s.tables o.opens)
 
   pub opened_once : (t u : TableRows) → Opens e bytes t → Opens e bytes u → t ≡ u
   opened_once t u h k = (answers_exclude_each_other e.application.generation e.fingerprint bytes).started_once t u h k
-
-  pub not_both : (t : TableRows) → Starts e bytes t → Refuses e bytes → ⊥
-  not_both t h refused = (answers_exclude_each_other e.application.generation e.fingerprint bytes).started_or_refused t (opens refused.0 t h) refused.1
-
-  pub not_of_others : (t : TableRows) (stored : List ℕ) → Starts e bytes t → IsOfOthers stored e bytes → ⊥
-  not_of_others t stored h other = (answers_exclude_each_other e.application.generation e.fingerprint bytes).started_or_other t stored (opens other.0 t h) other.1
-
-  pub refused_or_other : (stored : List ℕ) → Refuses e bytes → IsOfOthers stored e bytes → ⊥
-  refused_or_other stored refused other = (answers_exclude_each_other e.application.generation e.fingerprint bytes).refused_or_other stored refused.1 other.1
-
-  pub one_other : (stored again : List ℕ) → IsOfOthers stored e bytes → IsOfOthers again e bytes → stored ≡ again
-  one_other stored again h k = (answers_exclude_each_other e.application.generation e.fingerprint bytes).other_once stored again h.1 k.1
 
   -- a file that is not opened is not empty
   pub not_empty : ((t : TableRows) → Opens e bytes t → ⊥) → bytes ≡ [] → ⊥
@@ -62,50 +79,76 @@ module _ (e : Errand) (bytes : List ℕ) where
 -- ---- what a stop leaves
 
 -- nothing was done
-unchanged_by : (word : Word) (e : Errand) (t : TableRows) (a : State) → StartsBy word e a.holds t → (image out : List ℕ) → image ≡ a.holds → out ≡ a.sent → IsCutBy word (identity_of e) (acts_of e) t a image out
-unchanged_by Gen e t a from image out same silent = as_it_was e t a from image out same silent
-unchanged_by Run e t a from image out same silent = as_it_was e t a from image out same silent
-unchanged_by Show e t a from image out same silent = (same, (0, silent ∙ sym (append-nil a.sent)))
-unchanged_by (Make n) e t a from image out same silent = (same, (0, silent ∙ sym (append-nil a.sent)))
+unchanged_by : (word : Word) (e : Errand) (acts : List Act) (s : Stored) (a : State) → StartsBy word e a.holds s → (image out : List ℕ) → image ≡ a.holds → out ≡ a.sent → IsCutBy word (identity_of e) acts (tables_by word e s) s a image out
+unchanged_by Gen e acts s a from image out same silent = as_it_was e acts s.tables a from.opens image out same silent
+unchanged_by Run e acts s a from image out same silent = as_it_was e acts s.tables a from.opens image out same silent
+unchanged_by Show e acts s a from image out same silent = (same, (0, silent ∙ sym (append-nil a.sent)))
+unchanged_by Update e acts s a from image out same silent = inl (record { silent = silent; stands = subst (λ (l : List ℕ). StandsForTables s.identity s.tables l) (sym same) from.stands })
+unchanged_by (Make n) e acts s a from image out same silent = (same, (0, silent ∙ sym (append-nil a.sent)))
 
-pub unchanged_cut : (e : Errand) (t : TableRows) (a : State) → Starts e a.holds t → (image out : List ℕ) → image ≡ a.holds → out ≡ a.sent → IsCutOfRun e t a image out
-unchanged_cut e t a from image out same silent = unchanged_by e.word e t a from image out same silent
+pub unchanged_cut : (e : Errand) (s : Stored) (a : State) → Starts e a.holds s → (image out : List ℕ) → image ≡ a.holds → out ≡ a.sent → IsCutOfRun e s a image out
+unchanged_cut e s a from image out same silent = unchanged_by e.word e (acts_of e s) s a from image out same silent
 
 -- ---- words over the store
 
-over_file : (word : Word) → MakesFile word → IsOverFile word
-over_file Gen stored = tt
-over_file Run stored = tt
-over_file Show stored = tt
-over_file (Make n) stored = absurd stored
+opening_word : (word : Word) → MakesFile word → OpensFile word
+opening_word Gen stored = tt
+opening_word Run stored = tt
+opening_word Show stored = absurd stored
+opening_word Update stored = absurd stored
+opening_word (Make n) stored = absurd stored
 
-ran_by : (word : Word) → MakesFile word → (e : Errand) (t : TableRows) (a b : State) (lb : ℕ → List ℕ → List ℕ → Type 0) → RanOver (identity_of e) (acts_of e) t a b lb → RanBy word (identity_of e) (acts_of e) t a b lb
-ran_by Gen stored e t a b lb ran = ran
-ran_by Run stored e t a b lb ran = ran
-ran_by Show stored e t a b lb ran = absurd stored
-ran_by (Make n) stored e t a b lb ran = absurd stored
+over_file : (word : Word) → OpensFile word → IsOverFile word
+over_file Gen opening = tt
+over_file Run opening = tt
+over_file Show opening = tt
+over_file Update opening = absurd opening
+over_file (Make n) opening = absurd opening
 
-cut_by : (word : Word) → MakesFile word → (e : Errand) (t : TableRows) (a : State) (image out : List ℕ) → IsCutOver (identity_of e) (acts_of e) t a image out → IsCutBy word (identity_of e) (acts_of e) t a image out
-cut_by Gen stored e t a image out cut = cut
-cut_by Run stored e t a image out cut = cut
-cut_by Show stored e t a image out cut = absurd stored
-cut_by (Make n) stored e t a image out cut = absurd stored
+ran_by : (word : Word) → MakesFile word → (e : Errand) (acts : List Act) (s : Stored) (a b : State) (lb : ℕ → List ℕ → List ℕ → Type 0) → RanOver (identity_of e) acts s.tables a b lb → RanBy word (identity_of e) acts (tables_by word e s) a b lb
+ran_by Gen stored e acts s a b lb ran = ran
+ran_by Run stored e acts s a b lb ran = ran
+ran_by Show stored e acts s a b lb ran = absurd stored
+ran_by Update stored e acts s a b lb ran = absurd stored
+ran_by (Make n) stored e acts s a b lb ran = absurd stored
+
+cut_by : (word : Word) → MakesFile word → (e : Errand) (acts : List Act) (s : Stored) (a : State) (image out : List ℕ) → IsCutOver (identity_of e) acts s.tables a image out → IsCutBy word (identity_of e) acts (tables_by word e s) s a image out
+cut_by Gen stored e acts s a image out cut = cut
+cut_by Run stored e acts s a image out cut = cut
+cut_by Show stored e acts s a image out cut = absurd stored
+cut_by Update stored e acts s a image out cut = absurd stored
+cut_by (Make n) stored e acts s a image out cut = absurd stored
+
+alone_by : (word : Word) → MakesFile word → (e : Errand) (s : Stored) (a : State) → WritesActsAlone word e s a → a.holds ≡ [] → ⊥
+alone_by Gen stored e s a alone = alone
+alone_by Run stored e s a alone = alone
+alone_by Show stored e s a alone = absurd stored
+alone_by Update stored e s a alone = absurd stored
+alone_by (Make n) stored e s a alone = absurd stored
 
 hands_by : (word : Word) → IsOverFile word → (name : List ℕ) (a b : State) → b.names ≡ a.names ++ name ∷ [] → HandsOn word name a b
 hands_by Gen over name a b is = is
 hands_by Run over name a b is = is
 hands_by Show over name a b is = is
+hands_by Update over name a b is = is
 hands_by (Make n) over name a b is = absurd over
 
 module _ (e : Errand) (stored : MakesFile e.word) where
-  pub stored_over : IsOverFile e.word
-  stored_over = over_file e.word stored
+  pub stored_opening : OpensFile e.word
+  stored_opening = opening_word e.word stored
 
-  pub ran_stored : (t : TableRows) (a b : State) (lb : ℕ → List ℕ → List ℕ → Type 0) → RanOver (identity_of e) (acts_of e) t a b lb → Ran e t a b lb
-  ran_stored t a b lb ran = ran_by e.word stored e t a b lb ran
+  pub ran_stored : (t : TableRows) (a b : State) (lb : ℕ → List ℕ → List ℕ → Type 0) → RanOver (identity_of e) (acts_of e (own e t)) t a b lb → Ran e (own e t) a b lb
+  ran_stored t a b lb ran = ran_by e.word stored e (acts_of e (own e t)) (own e t) a b lb ran
 
-  pub cut_stored : (t : TableRows) (a b : State) (la lb : ℕ → List ℕ → List ℕ → Type 0) → LeavesOnly a b la lb (IsCutOver (identity_of e) (acts_of e) t a) → LeavesOnly a b la lb (IsCutOfRun e t a)
-  cut_stored t a b la lb h = leaves_weaker a b la lb (IsCutOver (identity_of e) (acts_of e) t a) (IsCutOfRun e t a) h (cut_by e.word stored e t a)
+  pub cut_stored : (t : TableRows) (a b : State) (la lb : ℕ → List ℕ → List ℕ → Type 0) → LeavesOnly a b la lb (IsCutOver (identity_of e) (acts_of e (own e t)) t a) → LeavesOnly a b la lb (IsCutOfRun e (own e t) a)
+  cut_stored t a b la lb h = leaves_weaker a b la lb (IsCutOver (identity_of e) (acts_of e (own e t)) t a) (IsCutOfRun e (own e t) a) h (cut_by e.word stored e (acts_of e (own e t)) (own e t) a)
+
+  -- the file is there, where the word writes nothing before its acts
+  pub is_there : (s : Stored) (a : State) → WritesActsAlone e.word e s a → a.holds ≡ [] → ⊥
+  is_there s a alone = alone_by e.word stored e s a alone
+
+pub opening_over : (e : Errand) → OpensFile e.word → IsOverFile e.word
+opening_over e opening = over_file e.word opening
 
 pub hands_on : (e : Errand) → IsOverFile e.word → (name : List ℕ) (a b : State) → b.names ≡ a.names ++ name ∷ [] → HandsOn e.word name a b
 hands_on e over name a b is = hands_by e.word over name a b is
@@ -114,6 +157,7 @@ hands_same_by : (word : Word) (name : List ℕ) (a b d : State) → HandsOn word
 hands_same_by Gen name a b d h same = same ∙ h
 hands_same_by Run name a b d h same = same ∙ h
 hands_same_by Show name a b d h same = same ∙ h
+hands_same_by Update name a b d h same = same ∙ h
 hands_same_by (Make n) name a b d h same = same ∙ h
 
 -- after a call that handed on nothing
@@ -136,41 +180,45 @@ abbrev pub SendsAside : Word → Errand → TableRows → List ℕ → Type 0
 SendsAside Gen e t lines = ⊥
 SendsAside Run e t lines = ⊥
 SendsAside Show e t lines = lines ≡ listing t
+SendsAside Update e t lines = ⊥
 SendsAside (Make n) e t lines = lines ≡ report_of n (app_of e) e.commands
 
 one_line : (line : List ℕ) → line ≡ bytes_of (Emit line ∷ [])
 unfolding bytes_of
 one_line line = sym (append-nil line)
 
-bytes_by : (word : Word) (e : Errand) (t : TableRows) (lines : List ℕ) → SendsAside word e t lines → lines ≡ bytes_of (acts_by word (app_of e) e.commands t)
+bytes_by : (word : Word) (e : Errand) (t : TableRows) (lines : List ℕ) → SendsAside word e t lines → lines ≡ bytes_of (acts_by word e (own e t))
 bytes_by Gen e t lines is = absurd is
 bytes_by Run e t lines is = absurd is
 bytes_by Show e t lines is = is ∙ one_line (listing t)
+bytes_by Update e t lines is = absurd is
 bytes_by (Make n) e t lines is = is ∙ one_line (report_of n (app_of e) e.commands)
 
-said_by : (word : Word) (e : Errand) (t : TableRows) (lines : List ℕ) → SendsAside word e t lines → (a b : State) (lb : ℕ → List ℕ → List ℕ → Type 0) → Said (bytes_of (acts_of e t)) a b → RanBy word (identity_of e) (acts_of e) t a b lb
-said_by Gen e t lines is a b lb said = absurd is
-said_by Run e t lines is a b lb said = absurd is
-said_by Show e t lines is a b lb said = said
-said_by (Make n) e t lines is a b lb said = said
+said_by : (word : Word) (e : Errand) (t : TableRows) (lines : List ℕ) → SendsAside word e t lines → (acts : List Act) (u : TableRows) (a b : State) (lb : ℕ → List ℕ → List ℕ → Type 0) → Said (bytes_of acts) a b → RanBy word (identity_of e) acts u a b lb
+said_by Gen e t lines is acts u a b lb said = absurd is
+said_by Run e t lines is acts u a b lb said = absurd is
+said_by Show e t lines is acts u a b lb said = said
+said_by Update e t lines is acts u a b lb said = absurd is
+said_by (Make n) e t lines is acts u a b lb said = said
 
-front_by : (word : Word) (e : Errand) (t : TableRows) (lines : List ℕ) → SendsAside word e t lines → (a : State) (image out : List ℕ) → IsFront (bytes_of (acts_of e t)) a image out → IsCutBy word (identity_of e) (acts_of e) t a image out
-front_by Gen e t lines is a image out front = absurd is
-front_by Run e t lines is a image out front = absurd is
-front_by Show e t lines is a image out front = front
-front_by (Make n) e t lines is a image out front = front
+front_by : (word : Word) (e : Errand) (t : TableRows) (lines : List ℕ) → SendsAside word e t lines → (acts : List Act) (u : TableRows) (s : Stored) (a : State) (image out : List ℕ) → IsFront (bytes_of acts) a image out → IsCutBy word (identity_of e) acts u s a image out
+front_by Gen e t lines is acts u s a image out front = absurd is
+front_by Run e t lines is acts u s a image out front = absurd is
+front_by Show e t lines is acts u s a image out front = front
+front_by Update e t lines is acts u s a image out front = absurd is
+front_by (Make n) e t lines is acts u s a image out front = front
 
 module _ (e : Errand) (t : TableRows) (lines : List ℕ) (is : SendsAside e.word e t lines) (a b : State) (la lb : ℕ → List ℕ → List ℕ → Type 0) where
-  sends : lines ≡ bytes_of (acts_of e t)
+  sends : lines ≡ bytes_of (acts_of e (own e t))
   sends = bytes_by e.word e t lines is
 
-  pub ran_aside : Said lines a b → Ran e t a b lb
-  ran_aside said = said_by e.word e t lines is a b lb (subst (λ (l : List ℕ). Said l a b) sends said)
+  pub ran_aside : Said lines a b → Ran e (own e t) a b lb
+  ran_aside said = said_by e.word e t lines is (acts_of e (own e t)) (tables_of e (own e t)) a b lb (subst (λ (l : List ℕ). Said l a b) sends said)
 
-  pub cut_aside : Only a.holds a la → SaysFront lines a b la lb → LeavesOnly a b la lb (IsCutOfRun e t a)
+  pub cut_aside : Only a.holds a la → SaysFront lines a b la lb → LeavesOnly a b la lb (IsCutOfRun e (own e t) a)
   cut_aside only says =
-      leaves_weaker a b la lb (λ c out. la a.moment c a.sent × ((n : ℕ) × (out ≡ a.sent ++ take n lines))) (IsCutOfRun e t a) says.any_moment
-      (λ c out left. front_by e.word e t lines is a c out (only c left.0, (left.1.0, left.1.1 ∙ ap (λ (l : List ℕ). a.sent ++ take left.1.0 l) sends)))
+      leaves_weaker a b la lb (λ c out. la a.moment c a.sent × ((n : ℕ) × (out ≡ a.sent ++ take n lines))) (IsCutOfRun e (own e t) a) says.any_moment
+      (λ c out left. front_by e.word e t lines is (acts_of e (own e t)) (tables_of e (own e t)) (own e t) a c out (only c left.0, (left.1.0, left.1.1 ∙ ap (λ (l : List ℕ). a.sent ++ take left.1.0 l) sends)))
 
 -- after calls that changed nothing
 module _ (line : List ℕ) (a b d : State) (la lb ld : ℕ → List ℕ → List ℕ → Type 0) (rests : Rests a b la lb) where

@@ -19,19 +19,19 @@ use Rattle.abstract_monitor.specs.Trace.{history, tables_after, bytes_of, trace}
 use Rattle.laws_of_steps.specs.Applications.{IsApplication}
 use Rattle.laws_of_steps.specs.Keeping.{HasFacts, IsScriptOf}
 use Rattle.laws_of_steps.specs.Suits.{Suits}
+use Rattle.warm_start.specs.MeaningLaws.{kept_means}
 use Rattle.warm_start.specs.Stands.{StandsForTables, KeepsTables, identity_for}
 use Rattle.monitor_core.specs.CoreValue.{CoreValue}
 use Rattle.device_acts.specs.Acting.{acts_most, commits_nothing, content_after, AreCommittable, WithinActs, WritesUpTo, Sent}
+use Rattle.device_acts.specs.LinesLaws.{tables_same, kept_content, lines_within, lines_written}
 use Rattle.device_run.specs.Running.{commits_most, IsRunning, WithinSteps, StepsWrite, Ran as RanSteps}
 use Rattle.utm_cli.specs.declared.words.Word.{Word}
 use Rattle.utm_cli.specs.declared.words.Word.TheVariants.{Gen, Run}
 use Rattle.utm_cli.specs.Asking.{Errand, CanRun, app_of}
-use Rattle.utm_cli.specs.Doing.{identity_of, acts_by, acts_of}
+use Rattle.utm_cli.specs.Doing.{identity_of, own, acts_by, acts_of}
 use Rattle.utm_cli.specs.Report.{report}
 use Rattle.utm_cli.specs.Parts.{ErrandWrites}
 use Rattle.utm_cli.specs.Promise.{RanOver}
-use Rattle.utm_cli.proofs.Cuts.{tables_same, kept_content, lines_within}
-use Rattle.utm_cli.proofs.Writing.{lines_written}
 use Rattle.laws_of_tables.specs.EndsLaws.{durable_same}
 use Rattle.laws_of_steps.specs.TablesStayLaws.{started_tables}
 
@@ -40,11 +40,6 @@ pub on_ok_both : {X E : Type 0} (r : Result X E) (P Q R : Type 0) → (P → Q �
 on_ok_both (Ok x) P Q R f h k = f h k
 on_ok_both (Err e) P Q R f h k = h
 
--- what a store of this content has stands for the tables that it keeps
-keeps_means : (i : Identity) (store : Paged) (t : TableRows) → KeepsTables i store t → (bytes : List ℕ) → StandsFor store.identity store.content bytes → StandsForTables i t bytes
-keeps_means i store t keeps bytes stands =
-    record { tables = keeps.tables; content = subst (λ (x : Content). StandsFor i x bytes) keeps.content (subst (λ (j : Identity). StandsFor j store.content bytes) keeps.identity_is stands) }
-
 -- ---- the report
 
 -- lines ask nothing of a store
@@ -52,8 +47,8 @@ pub report_can : (g : Generated) (store : Paged) (acts : List Act) → acts ≡ 
 report_can g store acts made = subst (λ (l : List Act). AreCommittable store.identity store.content l) (sym made) tt
 
 module _ (e : Errand) (t : TableRows) (acts : List Act) (gen : e.word ≡ Gen) (made : acts ≡ report e.application.generation) where
-  pub report_is : acts ≡ acts_of e t
-  report_is = made ∙ sym (ap (λ (word : Word). acts_by word (app_of e) e.commands t) gen)
+  pub report_is : acts ≡ acts_of e (own e t)
+  report_is = made ∙ sym (ap (λ (word : Word). acts_by word e (own e t)) gen)
 
   report_lines : commits_nothing acts ≡ true
   report_lines = ap commits_nothing made
@@ -63,16 +58,16 @@ module _ (e : Errand) (t : TableRows) (acts : List Act) (gen : e.word ≡ Gen) (
       subst (λ (l : List Act). WritesUpTo (commits_most (identity_of e)) l a b) report_is (lines_written write_most store.identity store.content (commits_most (identity_of e)) acts a b report_lines (h told))
 
   module _ (store : Paged) (keeps : KeepsTables (identity_of e) store t) (a b : State) (la lb : ℕ → List ℕ → List ℕ → Type 0) where
-    pub report_within : WithinActs content_after (StandsFor store.identity) store.content acts a b la lb → WithinActs tables_after (StandsForTables (identity_of e)) t (acts_of e t) a b la lb
+    pub report_within : WithinActs content_after (StandsFor store.identity) store.content acts a b la lb → WithinActs tables_after (StandsForTables (identity_of e)) t (acts_of e (own e t)) a b la lb
     report_within h =
         subst (λ (l : List Act). WithinActs tables_after (StandsForTables (identity_of e)) t l a b la lb) report_is
-        (lines_within (StandsFor store.identity) store.content (StandsForTables (identity_of e)) t (keeps_means (identity_of e) store t keeps) acts report_lines a b la lb h)
+        (lines_within (StandsFor store.identity) store.content (StandsForTables (identity_of e)) t (kept_means (identity_of e) store t keeps) acts report_lines a b la lb h)
 
-    pub report_ran : (after : Paged) → after.identity ≡ store.identity → after.content ≡ content_after store.content acts → Sent (HasFile after) acts a b lb → IsTrue a.told → RanOver (identity_of e) (acts_of e) t a b lb
+    pub report_ran : (after : Paged) → after.identity ≡ store.identity → after.content ≡ content_after store.content acts → Sent (HasFile after) acts a b lb → IsTrue a.told → RanOver (identity_of e) (acts_of e (own e t)) t a b lb
     report_ran after identity content sent told =
         let file : StandsFor after.identity after.content b.holds = (after.second, after.layout, (sent.rest told).bytes) in
         let here : StandsFor store.identity store.content b.holds = subst (λ (x : Content). StandsFor store.identity x b.holds) (kept_content acts store.content after.content report_lines content) (subst (λ (j : Identity). StandsFor j after.content b.holds) identity file) in
-        let holds = subst (λ (u : TableRows). StandsForTables (identity_of e) u b.holds) (sym (tables_same acts t report_lines)) (keeps_means (identity_of e) store t keeps b.holds here) in
+        let holds = subst (λ (u : TableRows). StandsForTables (identity_of e) u b.holds) (sym (tables_same acts t report_lines)) (kept_means (identity_of e) store t keeps b.holds here) in
         record {
           sent = subst (λ (l : List Act). b.sent ≡ a.sent ++ bytes_of l) report_is (sent.sent told);
           holds = subst (λ (l : List Act). StandsForTables (identity_of e) (tables_after t l) b.holds) report_is holds;
@@ -107,14 +102,14 @@ module _ (e : Errand) (t : TableRows) (core : CoreValue) (application : core.app
   core_script can = subst (λ (app : Application). IsScriptOf app e.commands) (sym application) can.names
 
   module _ (run : e.word ≡ Run) (suits : Suits e.application.generation t) (a b : State) (la lb : ℕ → List ℕ → List ℕ → Type 0) where
-    script_is : acts_in (history (app_of e) (started (app_of e) t) e.commands) ≡ acts_of e t
+    script_is : acts_in (history (app_of e) (started (app_of e) t) e.commands) ≡ acts_of e (own e t)
     unfolding trace
-    script_is = sym (ap (λ (word : Word). acts_by word (app_of e) e.commands t) run)
+    script_is = sym (ap (λ (word : Word). acts_by word e (own e t)) run)
 
-    pub script_within : WithinSteps e.fingerprint core (history core.application core.state e.commands) a b la lb → WithinActs tables_after (StandsForTables (identity_of e)) t (acts_of e t) a b la lb
+    pub script_within : WithinSteps e.fingerprint core (history core.application core.state e.commands) a b la lb → WithinActs tables_after (StandsForTables (identity_of e)) t (acts_of e (own e t)) a b la lb
     script_within h =
         let here = subst (λ (c : CoreValue). WithinSteps e.fingerprint c (history c.application c.state e.commands) a b la lb) core_is h in
-        subst (λ (u : TableRows). WithinActs tables_after (StandsForTables (identity_of e)) u (acts_of e t) a b la lb) (durable_is suits)
+        subst (λ (u : TableRows). WithinActs tables_after (StandsForTables (identity_of e)) u (acts_of e (own e t)) a b la lb) (durable_is suits)
         (subst (λ (l : List Act). WithinActs tables_after (StandsForTables (identity_of e)) (durable e.application.generation (started (app_of e) t).tables) l a b la lb) script_is here)
 
     pub script_writes : StepsWrite e.fingerprint core (history core.application core.state e.commands) a b → ErrandWrites e t a b
@@ -122,12 +117,12 @@ module _ (e : Errand) (t : TableRows) (core : CoreValue) (application : core.app
         let here = subst (λ (c : CoreValue). StepsWrite e.fingerprint c (history c.application c.state e.commands) a b) core_is h in
         subst (λ (l : List Act). IsTrue a.told → WritesUpTo (commits_most (identity_of e)) l a b) script_is here
 
-    pub script_ran : RanSteps e.fingerprint core (history core.application core.state e.commands) a b lb → RanOver (identity_of e) (acts_of e) t a b lb
+    pub script_ran : RanSteps e.fingerprint core (history core.application core.state e.commands) a b lb → RanOver (identity_of e) (acts_of e (own e t)) t a b lb
     script_ran h =
         let here = subst (λ (c : CoreValue). RanSteps e.fingerprint c (history c.application c.state e.commands) a b lb) core_is h in
         record {
           sent = subst (λ (l : List Act). b.sent ≡ a.sent ++ bytes_of l) script_is here.sent;
-          holds = subst (λ (u : TableRows). StandsForTables (identity_of e) (tables_after u (acts_of e t)) b.holds) (durable_is suits)
+          holds = subst (λ (u : TableRows). StandsForTables (identity_of e) (tables_after u (acts_of e (own e t))) b.holds) (durable_is suits)
               (subst (λ (l : List Act). StandsForTables (identity_of e) (tables_after (durable e.application.generation (started (app_of e) t).tables) l) b.holds) script_is here.holds);
           at_rest = here.at_rest;
         }
@@ -151,9 +146,9 @@ module _ (e v : Errand) (same : e ≡ v) (t : TableRows) (core : CoreValue) (app
     run_too : v.word ≡ Run
     run_too = sym (ap (λ (x : Errand). x.word) same) ∙ run
 
-    pub parts_within : WithinSteps v.fingerprint core (history core.application core.state commands) a b la lb → WithinActs tables_after (StandsForTables (identity_of e)) t (acts_of e t) a b la lb
+    pub parts_within : WithinSteps v.fingerprint core (history core.application core.state commands) a b la lb → WithinActs tables_after (StandsForTables (identity_of e)) t (acts_of e (own e t)) a b la lb
     parts_within h =
-        subst (λ (x : Errand). WithinActs tables_after (StandsForTables (identity_of x)) t (acts_of x t) a b la lb) (sym same)
+        subst (λ (x : Errand). WithinActs tables_after (StandsForTables (identity_of x)) t (acts_of x (own x t)) a b la lb) (sym same)
         (script_within v t core application state steps run_too suits_too a b la lb (subst (λ (l : List Command). WithinSteps v.fingerprint core (history core.application core.state l) a b la lb) is h))
 
     pub parts_writes : StepsWrite v.fingerprint core (history core.application core.state commands) a b → ErrandWrites e t a b
@@ -161,7 +156,7 @@ module _ (e v : Errand) (same : e ≡ v) (t : TableRows) (core : CoreValue) (app
         subst (λ (x : Errand). ErrandWrites x t a b) (sym same)
         (script_writes v t core application state steps run_too suits_too a b la lb (subst (λ (l : List Command). StepsWrite v.fingerprint core (history core.application core.state l) a b) is h))
 
-    pub parts_ran : RanSteps v.fingerprint core (history core.application core.state commands) a b lb → RanOver (identity_of e) (acts_of e) t a b lb
+    pub parts_ran : RanSteps v.fingerprint core (history core.application core.state commands) a b lb → RanOver (identity_of e) (acts_of e (own e t)) t a b lb
     parts_ran h =
-        subst (λ (x : Errand). RanOver (identity_of x) (acts_of x) t a b lb) (sym same)
+        subst (λ (x : Errand). RanOver (identity_of x) (acts_of x (own x t)) t a b lb) (sym same)
         (script_ran v t core application state steps run_too suits_too a b la lb (subst (λ (l : List Command). RanSteps v.fingerprint core (history core.application core.state l) a b lb) is h))

@@ -8,11 +8,12 @@ use Rattle.kdcs_types.specs.declared.act.Act.{Act}
 use Rattle.abstract_monitor.specs.Trace.{bytes_of}
 use Rattle.laws_of_steps.specs.Cut.{SentBy}
 use Rattle.device_run.specs.Running.{IsCutSince}
+use Rattle.kdcfile_update.specs.Updating.{Stored}
 use Rattle.utm_cli.specs.declared.words.Word.{Word}
-use Rattle.utm_cli.specs.declared.words.Word.TheVariants.{Gen, Run, Show, Make}
+use Rattle.utm_cli.specs.declared.words.Word.TheVariants.{Gen, Run, Show, Update, Make}
 use Rattle.utm_cli.specs.Asking.{Errand}
-use Rattle.utm_cli.specs.Doing.{identity_of, acts_of}
-use Rattle.utm_cli.specs.Promise.{IsCutOver, IsCutBy, IsCutOfRun, EndsInCut}
+use Rattle.utm_cli.specs.Doing.{identity_of, tables_of, acts_of}
+use Rattle.utm_cli.specs.Promise.{IsCutOver, IsCutOfUpdate, IsCutBy, IsCutOfRun, EndsInCut}
 use Rattle.utm_cli.proofs.Cuts.{bytes_of_line}
 use Rattle.device_acts.specs.ActingLaws.{bytes_joined}
 
@@ -36,15 +37,20 @@ front_of_cut stands t all sent image out h =
     let front = front_of (bytes_of all) h.since rest.0 (ap bytes_of h.cut.whole ∙ rest.1) in
     (front.0, h.more ∙ ap (λ (l : List ℕ). sent ++ l) front.1)
 
-front_over : (i : Identity) (acts : TableRows → List Act) (t : TableRows) (a : State) (image out : List ℕ) → IsCutOver i acts t a image out → (n : ℕ) × (out ≡ a.sent ++ take n (bytes_of (acts t)))
-front_over i acts t a image out (inl cut) = front_of_cut _ t (acts t) a.sent image out cut
+front_over : (i : Identity) (acts : List Act) (t : TableRows) (a : State) (image out : List ℕ) → IsCutOver i acts t a image out → (n : ℕ) × (out ≡ a.sent ++ take n (bytes_of acts))
+front_over i acts t a image out (inl cut) = front_of_cut _ t acts a.sent image out cut
 front_over i acts t a image out (inr unmade) = (0, unmade.silent ∙ sym (append-nil a.sent))
 
-front_by : (word : Word) (i : Identity) (acts : TableRows → List Act) (t : TableRows) (a : State) (image out : List ℕ) → IsCutBy word i acts t a image out → (n : ℕ) × (out ≡ a.sent ++ take n (bytes_of (acts t)))
-front_by Gen i acts t a image out cut = front_over i acts t a image out cut
-front_by Run i acts t a image out cut = front_over i acts t a image out cut
-front_by Show i acts t a image out cut = cut.1
-front_by (Make n) i acts t a image out cut = cut.1
+front_updated : (i : Identity) (acts : List Act) (t : TableRows) (s : Stored) (a : State) (image out : List ℕ) → IsCutOfUpdate i acts t s a image out → (n : ℕ) × (out ≡ a.sent ++ take n (bytes_of acts))
+front_updated i acts t s a image out (inl old) = (0, old.silent ∙ sym (append-nil a.sent))
+front_updated i acts t s a image out (inr cut) = front_of_cut _ t acts a.sent image out cut
 
-pub ends : (e : Errand) (t : TableRows) (a d : State) → IsCutOfRun e t a d.holds d.sent → EndsInCut e t a d
-ends e t a d cut = record { cut = cut; front = front_by e.word (identity_of e) (acts_of e) t a d.holds d.sent cut }
+front_by : (word : Word) (i : Identity) (acts : List Act) (t : TableRows) (s : Stored) (a : State) (image out : List ℕ) → IsCutBy word i acts t s a image out → (n : ℕ) × (out ≡ a.sent ++ take n (bytes_of acts))
+front_by Gen i acts t s a image out cut = front_over i acts t a image out cut
+front_by Run i acts t s a image out cut = front_over i acts t a image out cut
+front_by Show i acts t s a image out cut = cut.1
+front_by Update i acts t s a image out cut = front_updated i acts t s a image out cut
+front_by (Make n) i acts t s a image out cut = cut.1
+
+pub ends : (e : Errand) (s : Stored) (a d : State) → IsCutOfRun e s a d.holds d.sent → EndsInCut e s a d
+ends e s a d cut = record { cut = cut; front = front_by e.word (identity_of e) (acts_of e s) (tables_of e s) s a d.holds d.sent cut }

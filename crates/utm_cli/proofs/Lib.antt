@@ -6,6 +6,8 @@ pub mod Started
 pub mod Opened
 pub mod Ran
 pub mod ByWord
+pub mod Updated
+pub mod Refused
 pub mod Writing
 pub mod Doing
 pub mod Ends

@@ -17,7 +17,7 @@ use Rattle.refusals.specs.declared.error.Refusal.{Refusal}
 use Rattle.refusals.specs.declared.error.TextError.{TextError}
 use Rattle.refusals.specs.declared.error.TextError.TheVariants as error
 use Rattle.utm_cli.specs.declared.words.Word.{Word}
-use Rattle.utm_cli.specs.declared.words.Word.TheVariants.{Gen, Run, Show, Make}
+use Rattle.utm_cli.specs.declared.words.Word.TheVariants.{Gen, Run, Show, Update, Make}
 use Rattle.utm_cli.specs.Asking.{Errand, Reading, AskFor}
 use Rattle.refusals.specs.Causes.{of_room}
 use Rattle.utm_cli.specs.Doing.{IsOverFile}
@@ -38,11 +38,12 @@ asked_word (Some v) operand base word h =
     let same_pair : first ≡ second = some_is first second h in
     ap (λ (p : Word × List ℕ). Some p.0) same_pair
 
-no_word : (a b c : Bool) (n : ℕ) → word_by a b c ≡ Some (Make n) → ⊥
-no_word true b c n h = let is : Gen ≡ Make n = some_is Gen (Make n) h in absurd cc
-no_word false true c n h = let is : Run ≡ Make n = some_is Run (Make n) h in absurd cc
-no_word false false true n h = let is : Show ≡ Make n = some_is Show (Make n) h in absurd cc
-no_word false false false n h = absurd cc
+no_word : (a b c d : Bool) (n : ℕ) → word_by a b c d ≡ Some (Make n) → ⊥
+no_word true b c d n h = let is : Gen ≡ Make n = some_is Gen (Make n) h in absurd cc
+no_word false true c d n h = let is : Run ≡ Make n = some_is Run (Make n) h in absurd cc
+no_word false false true d n h = let is : Show ≡ Make n = some_is Show (Make n) h in absurd cc
+no_word false false false true n h = let is : Update ≡ Make n = some_is Update (Make n) h in absurd cc
+no_word false false false false n h = absurd cc
 
 made_within : (k n : ℕ) (b : Bool) → is_input_count k ≡ b → made_by b k ≡ Some (Make n) → IsWithin 1 20000 n
 made_within k n false is h = absurd cc
@@ -61,7 +62,7 @@ word_within true word operand n h = number_within (decimal_of operand) n h
 word_within false word operand n h = by (is_base operand) h
   where
     by : (b : Bool) → over_base b word ≡ Some (Make n) → IsWithin 1 20000 n
-    by true h = absurd (no_word (same word (codes "gen")) (same word (codes "run")) (same word (codes "show")) n h)
+    by true h = absurd (no_word (same word (codes "gen")) (same word (codes "run")) (same word (codes "show")) (same word (codes "update")) n h)
     by false h = absurd cc
 
 pub request_within : (words : List (List ℕ)) (n : ℕ) (operand : List ℕ) → Request words (Make n) operand → IsWithin 1 20000 n

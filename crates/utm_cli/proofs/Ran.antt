@@ -4,6 +4,7 @@ use Rattle.std.proofs.lemmas.List.{append-nil}
 use Rattle.kd_device.specs.Device.{State, LeavesOnly, Only}
 use Rattle.kd_device.specs.TimeLaws.{leaves_weaker, leaves_then}
 use Rattle.kd_device.specs.Rest.{Rests}
+use Rattle.kdcs_types.specs.declared.act.Act.{Act}
 use Rattle.kdcs_types.specs.Tables.{TableRows, empty_tables}
 use Rattle.abstract_monitor.specs.Trace.{tables_after}
 use Rattle.warm_start.specs.Stands.{StandsForTables}
@@ -13,54 +14,54 @@ use Rattle.device_acts.specs.Said.{Said, SaidPart}
 use Rattle.device_acts.specs.Acting.{IsCutOf}
 use Rattle.device_run.specs.Running.{IsCutSince}
 use Rattle.utm_cli.specs.Asking.{Errand}
-use Rattle.utm_cli.specs.Doing.{Opens, identity_of, acts_of}
+use Rattle.utm_cli.specs.Doing.{Opens, identity_of, own, acts_of}
 use Rattle.utm_cli.specs.Promise.{IsCutOver}
 use Rattle.utm_cli.proofs.Cuts.{cut_none, cut_since}
 
 -- ---- what a stop leaves
 
-module _ (e : Errand) (t : TableRows) (a : State) (starts : Opens e a.holds t) where
-  pub as_it_was : (image out : List ℕ) → image ≡ a.holds → out ≡ a.sent → IsCutOver (identity_of e) (acts_of e) t a image out
+module _ (e : Errand) (acts : List Act) (t : TableRows) (a : State) (starts : Opens e a.holds t) where
+  pub as_it_was : (image out : List ℕ) → image ≡ a.holds → out ≡ a.sent → IsCutOver (identity_of e) acts t a image out
   as_it_was image out same silent = by starts
     where
-      by : Opens e a.holds t → IsCutOver (identity_of e) (acts_of e) t a image out
+      by : Opens e a.holds t → IsCutOver (identity_of e) acts t a image out
       by (inl (empty, is)) = inr (record { empty = empty; silent = silent; unmade = inl (same ∙ empty) })
       by (inr (stands, suits)) =
-          inl (subst (λ (o : List ℕ). IsCutSince (StandsForTables (identity_of e)) t (acts_of e t) a.sent image o) (sym silent)
-          (cut_none (StandsForTables (identity_of e)) t (acts_of e t) a.sent image (subst (λ (l : List ℕ). StandsForTables (identity_of e) t l) (sym same) stands)))
+          inl (subst (λ (o : List ℕ). IsCutSince (StandsForTables (identity_of e)) t acts a.sent image o) (sym silent)
+          (cut_none (StandsForTables (identity_of e)) t acts a.sent image (subst (λ (l : List ℕ). StandsForTables (identity_of e) t l) (sym same) stands)))
 
-  new_file : (image out : List ℕ) → a.holds ≡ [] → out ≡ a.sent → StandsForTables (identity_of e) empty_tables image → IsCutOver (identity_of e) (acts_of e) t a image out
+  new_file : (image out : List ℕ) → a.holds ≡ [] → out ≡ a.sent → StandsForTables (identity_of e) empty_tables image → IsCutOver (identity_of e) acts t a image out
   new_file image out none silent made = by starts
     where
-      by : Opens e a.holds t → IsCutOver (identity_of e) (acts_of e) t a image out
+      by : Opens e a.holds t → IsCutOver (identity_of e) acts t a image out
       by (inl (empty, is)) =
-          inl (subst (λ (o : List ℕ). IsCutSince (StandsForTables (identity_of e)) t (acts_of e t) a.sent image o) (sym silent)
-          (cut_none (StandsForTables (identity_of e)) t (acts_of e t) a.sent image (subst (λ (u : TableRows). StandsForTables (identity_of e) u image) (sym is) made)))
+          inl (subst (λ (o : List ℕ). IsCutSince (StandsForTables (identity_of e)) t acts a.sent image o) (sym silent)
+          (cut_none (StandsForTables (identity_of e)) t acts a.sent image (subst (λ (u : TableRows). StandsForTables (identity_of e) u image) (sym is) made)))
       by (inr (old, suits)) = absurd (nothing_stands (identity_of e) t (subst (λ (l : List ℕ). StandsForTables (identity_of e) t l) none old))
 
 module _ (e : Errand) (t : TableRows) (a : State) (la : ℕ → List ℕ → List ℕ → Type 0) (only : Only a.holds a la) (starts : Opens e a.holds t) where
-  in_opening : (image out : List ℕ) → IsOpening (identity_of e) a la image out → IsCutOver (identity_of e) (acts_of e) t a image out
-  in_opening image out o = ⊎_elim (λ left. as_it_was e t a starts image out (only image left) o.silent) (λ made. made_cut made) o.file
+  in_opening : (image out : List ℕ) → IsOpening (identity_of e) a la image out → IsCutOver (identity_of e) (acts_of e (own e t)) t a image out
+  in_opening image out o = ⊎_elim (λ left. as_it_was e (acts_of e (own e t)) t a starts image out (only image left) o.silent) (λ made. made_cut made) o.file
     where
-      made_cut : IsBeingMade (identity_of e) a image → IsCutOver (identity_of e) (acts_of e) t a image out
+      made_cut : IsBeingMade (identity_of e) a image → IsCutOver (identity_of e) (acts_of e (own e t)) t a image out
       made_cut made =
-          ⊎_elim (λ none. inr (record { empty = made.empty; silent = o.silent; unmade = inr none })) (λ stands. new_file e t a starts image out made.empty o.silent stands) made.image_is
+          ⊎_elim (λ none. inr (record { empty = made.empty; silent = o.silent; unmade = inr none })) (λ stands. new_file e (acts_of e (own e t)) t a starts image out made.empty o.silent stands) made.image_is
 
   -- the opening alone
-  pub opening_cut : (b : State) (lb : ℕ → List ℕ → List ℕ → Type 0) → LeavesOnly a b la lb (IsOpening (identity_of e) a la) → LeavesOnly a b la lb (IsCutOver (identity_of e) (acts_of e) t a)
-  opening_cut b lb h = leaves_weaker a b la lb (IsOpening (identity_of e) a la) (IsCutOver (identity_of e) (acts_of e) t a) h in_opening
+  pub opening_cut : (b : State) (lb : ℕ → List ℕ → List ℕ → Type 0) → LeavesOnly a b la lb (IsOpening (identity_of e) a la) → LeavesOnly a b la lb (IsCutOver (identity_of e) (acts_of e (own e t)) t a)
+  opening_cut b lb h = leaves_weaker a b la lb (IsOpening (identity_of e) a la) (IsCutOver (identity_of e) (acts_of e (own e t)) t a) h in_opening
 
   -- the opening, and the acts from the tables that it answers
   pub run_cut : (u : TableRows) (b d : State) (lb ld : ℕ → List ℕ → List ℕ → Type 0) → Opens e a.holds u → LeavesOnly a b la lb (IsOpening (identity_of e) a la) → b.sent ≡ a.sent
-      → LeavesOnly b d lb ld (IsCutOf tables_after (StandsForTables (identity_of e)) u (acts_of e u) b.sent) → LeavesOnly a d la ld (IsCutOver (identity_of e) (acts_of e) t a)
+      → LeavesOnly b d lb ld (IsCutOf tables_after (StandsForTables (identity_of e)) u (acts_of e (own e u)) b.sent) → LeavesOnly a d la ld (IsCutOver (identity_of e) (acts_of e (own e t)) t a)
   run_cut u b d lb ld from first silent h =
-      leaves_then a b la lb d ld (IsCutOver (identity_of e) (acts_of e) t a) (opening_cut b lb first)
-      (leaves_weaker b d lb ld (IsCutOf tables_after (StandsForTables (identity_of e)) u (acts_of e u) b.sent) (IsCutOver (identity_of e) (acts_of e) t a) h (λ c out cut. inl (here c out cut)))
+      leaves_then a b la lb d ld (IsCutOver (identity_of e) (acts_of e (own e t)) t a) (opening_cut b lb first)
+      (leaves_weaker b d lb ld (IsCutOf tables_after (StandsForTables (identity_of e)) u (acts_of e (own e u)) b.sent) (IsCutOver (identity_of e) (acts_of e (own e t)) t a) h (λ c out cut. inl (here c out cut)))
     where
-      here : (c out : List ℕ) → IsCutOf tables_after (StandsForTables (identity_of e)) u (acts_of e u) b.sent c out → IsCutSince (StandsForTables (identity_of e)) t (acts_of e t) a.sent c out
+      here : (c out : List ℕ) → IsCutOf tables_after (StandsForTables (identity_of e)) u (acts_of e (own e u)) b.sent c out → IsCutSince (StandsForTables (identity_of e)) t (acts_of e (own e t)) a.sent c out
       here c out cut =
-          subst (λ (v : TableRows). IsCutSince (StandsForTables (identity_of e)) v (acts_of e v) a.sent c out) ((answers_exclude_each_other e.application.generation e.fingerprint a.holds).started_once u t from starts)
-          (subst (λ (s : List ℕ). IsCutSince (StandsForTables (identity_of e)) u (acts_of e u) s c out) silent (cut_since (StandsForTables (identity_of e)) u (acts_of e u) b.sent c out cut))
+          subst (λ (v : TableRows). IsCutSince (StandsForTables (identity_of e)) v (acts_of e (own e v)) a.sent c out) ((answers_exclude_each_other e.application.generation e.fingerprint a.holds).started_once u t from starts)
+          (subst (λ (s : List ℕ). IsCutSince (StandsForTables (identity_of e)) u (acts_of e (own e u)) s c out) silent (cut_since (StandsForTables (identity_of e)) u (acts_of e (own e u)) b.sent c out cut))
 
 -- ---- what was said after calls that changed nothing
 

@@ -31,7 +31,7 @@ use Rattle.refusals.specs.declared.error.Refusal.TheVariants.{Application, Scrip
 use Rattle.refusals.specs.declared.error.TextError.{TextError}
 use Rattle.refusals.specs.declared.error.TextError.TheVariants as error
 use Rattle.utm_cli.specs.declared.words.Word.{Word}
-use Rattle.utm_cli.specs.declared.words.Word.TheVariants.{Gen, Run, Show, Make}
+use Rattle.utm_cli.specs.declared.words.Word.TheVariants.{Gen, Run, Show, Update, Make}
 use Rattle.refusals.specs.Causes.{of_room, of_application, of_fault}
 use Rattle.utm_cli.specs.Words.{definition_name, units_name, script_name}
 use Rattle.utm_cli.specs.Doing.{IsOverFile}
@@ -130,6 +130,7 @@ some_and (Some x) P h = (x, refl, h)
 pub script_there : (word : Word) (base : List ℕ) (r k : RoomState) (s : List ℕ) → k.texts ≡ r.texts → ScriptIs word base k s → ScriptIs word base r s
 script_there Gen base r k s same h = h
 script_there Show base r k s same h = h
+script_there Update base r k s same h = h
 script_there (Make n) base r k s same h = h
 script_there Run base r k s same h = subst (λ (texts : List (List ℕ × List ℕ)). text_of (script_name base) texts ≡ Some s) same h
 
@@ -137,6 +138,7 @@ one_script : (word : Word) (base : List ℕ) (r : RoomState) (s t : List ℕ) �
 one_script Gen base r s t h k = h ∙ sym k
 one_script Run base r s t h k = same_Some s t (sym h ∙ k)
 one_script Show base r s t h k = h ∙ sym k
+one_script Update base r s t h k = h ∙ sym k
 one_script (Make n) base r s t h k = h ∙ sym k
 
 -- the other texts of a word, in the room
@@ -144,12 +146,14 @@ text_is : (word : Word) → IsOverFile word → (r : RoomState) (name : List ℕ
 text_is Gen over r name made s h = h
 text_is Run over r name made s h = h
 text_is Show over r name made s h = h
+text_is Update over r name made s h = h
 text_is (Make n) over r name made s h = absurd over
 
 one_text : (word : Word) (r : RoomState) (name : List ℕ) (made : ℕ → List ℕ) (s t : List ℕ) → TextIs word r name made s → TextIs word r name made t → s ≡ t
 one_text Gen r name made s t h k = same_Some s t (sym h ∙ k)
 one_text Run r name made s t h k = same_Some s t (sym h ∙ k)
 one_text Show r name made s t h k = same_Some s t (sym h ∙ k)
+one_text Update r name made s t h k = same_Some s t (sym h ∙ k)
 one_text (Make n) r name made s t h k = h ∙ sym k
 
 -- three reads after one another: k is the room after the first, l the one after the second

@@ -1,69 +1,54 @@
 -- How many bytes a call writes.
-use Rattle.std.proofs.Common.{◌≡◌, ◌≤◌, ◌+◌, inl, inr, true, ℕ, List, [], ◌∷◌, refl, sym, ap, subst, ◌∙◌, arith}
+use Rattle.std.proofs.Common.{◌≡◌, ◌≤◌, ◌+◌, inl, inr, ℕ, List, [], ◌∷◌, refl, sym, subst, ◌∙◌, arith}
 use Rattle.kd_device.specs.Device.{State}
 use Rattle.kd_device.specs.Rest.{Rests}
-use Rattle.kd_records.specs.Identity.{Identity}
-use Rattle.kd_records.specs.declared.content.Content.{Content}
-use Rattle.kd_records.specs.declared.content.Patch.{Patch}
 use Rattle.kdcs_types.specs.declared.act.Act.{Act}
-use Rattle.kdcs_types.specs.declared.act.Act.TheVariants.{Commit, Emit}
 use Rattle.kdcs_types.specs.Tables.{TableRows, empty_tables}
 use Rattle.warm_start.specs.Opening.{opening_most}
-use Rattle.device_acts.specs.Acting.{acts_most, commits_nothing, WritesUpTo}
+use Rattle.device_acts.specs.Acting.{WritesUpTo}
 use Rattle.device_acts.specs.WritingLaws.{writes_after, writes_none}
 use Rattle.device_run.specs.Running.{commits_most}
+use Rattle.kdcfile_update.specs.Updating.{Stored}
 use Rattle.utm_cli.specs.declared.words.Word.{Word}
-use Rattle.utm_cli.specs.declared.words.Word.TheVariants.{Gen, Run, Show, Make}
+use Rattle.utm_cli.specs.declared.words.Word.TheVariants.{Gen, Run, Show, Update, Make}
 use Rattle.utm_cli.specs.Asking.{Errand}
-use Rattle.utm_cli.specs.Doing.{Opens, identity_of, acts_of}
+use Rattle.utm_cli.specs.Doing.{Opens, identity_of, own, acts_of}
 use Rattle.utm_cli.specs.Parts.{ErrandWrites, StoreWrites}
 use Rattle.utm_cli.specs.Promise.{MakesFile, WritesFor, making_most}
-use Rattle.utm_cli.proofs.ByWord.{starts, stored_over}
-use Rattle.utm_cli.proofs.Cuts.{front_lines}
-
--- ---- lines alone write nothing
-
-most_of_lines : (most : Identity → Content → Patch → ℕ) (i : Identity) (x : Content) (p : List Act) → commits_nothing p ≡ true → acts_most most i x p ≡ 0
-most_of_lines most i x [] lines = refl
-most_of_lines most i x (Commit c ∷ p) lines = absurd cc
-most_of_lines most i x (Emit line ∷ p) lines = most_of_lines most i x p lines
-
-pub lines_written : (most : Identity → Content → Patch → ℕ) (i : Identity) (x : Content) (other : List Act → ℕ) (acts : List Act) (a b : State) → commits_nothing acts ≡ true → WritesUpTo (acts_most most i x) acts a b → WritesUpTo other acts a b
-lines_written most i x other acts a b lines h =
-    let none = most_of_lines most i x h.done (front_lines h.done h.left (ap commits_nothing (sym h.whole) ∙ lines)) in
-    record { since = h.since; more = h.more; done = h.done; left = h.left; whole = h.whole; bytes = h.bytes; put = omega (arith, h.put, none) }
+use Rattle.utm_cli.proofs.ByWord.{starts, stored_opening}
 
 -- ---- over the store
 
 -- nothing was done
 pub none_written : (e : Errand) (t : TableRows) (a : State) → ErrandWrites e t a a
-none_written e t a = λ told. writes_none (commits_most (identity_of e)) (acts_of e t) a a refl (omega arith)
+none_written e t a = λ told. writes_none (commits_most (identity_of e)) (acts_of e (own e t)) a a refl (omega arith)
 
 -- the opening, and the acts from the tables that it answers
-pub store_written : (e : Errand) (t : TableRows) (a b d : State) → Opens e a.holds t → b.sent ≡ a.sent → b.put ≤ a.put + opening_most (identity_of e) a.holds → WritesUpTo (commits_most (identity_of e)) (acts_of e t) b d → StoreWrites e a d
-store_written e t a b d opens silent most h = inr (t, opens, writes_after (opening_most (identity_of e) a.holds) (commits_most (identity_of e)) (acts_of e t) a b d silent most h)
+pub store_written : (e : Errand) (t : TableRows) (a b d : State) → Opens e a.holds t → b.sent ≡ a.sent → b.put ≤ a.put + opening_most (identity_of e) a.holds → WritesUpTo (commits_most (identity_of e)) (acts_of e (own e t)) b d → StoreWrites e a d
+store_written e t a b d opens silent most h = inr (t, opens, writes_after (opening_most (identity_of e) a.holds) (commits_most (identity_of e)) (acts_of e (own e t)) a b d silent most h)
 
 -- the opening alone
 pub opening_written : (e : Errand) (a b : State) (la lb : ℕ → List ℕ → List ℕ → Type 0) → b.sent ≡ a.sent → b.put ≤ a.put + opening_most (identity_of e) a.holds → ((a.holds ≡ [] → ⊥) → Rests a b la lb) → StoreWrites e a b
 opening_written e a b la lb silent most still = by a.holds refl
   where
     by : (bytes : List ℕ) → a.holds ≡ bytes → StoreWrites e a b
-    by [] is = store_written e empty_tables a b b (inl (is, refl)) silent most (writes_none (commits_most (identity_of e)) (acts_of e empty_tables) b b refl (omega arith))
+    by [] is = store_written e empty_tables a b b (inl (is, refl)) silent most (writes_none (commits_most (identity_of e)) (acts_of e (own e empty_tables)) b b refl (omega arith))
     by (n ∷ ns) is = inl (still (λ none. cc (sym is ∙ none))).put
 
 -- ---- an errand
 
-making_by : (word : Word) → MakesFile word → (i : Identity) (bytes : List ℕ) → opening_most i bytes ≡ making_most word i bytes
-making_by Gen stored i bytes = refl
-making_by Run stored i bytes = refl
-making_by Show stored i bytes = absurd stored
-making_by (Make n) stored i bytes = absurd stored
+making_by : (word : Word) → MakesFile word → (e : Errand) (bytes : List ℕ) (s : Stored) → opening_most (identity_of e) bytes ≡ making_most word e bytes s
+making_by Gen stored e bytes s = refl
+making_by Run stored e bytes s = refl
+making_by Show stored e bytes s = absurd stored
+making_by Update stored e bytes s = absurd stored
+making_by (Make n) stored e bytes s = absurd stored
 
 pub run_written : (e : Errand) → MakesFile e.word → (a b : State) → StoreWrites e a b → WritesFor e a b
 run_written e stored a b (inl none) = inl none
 run_written e stored a b (inr (t, opens, h)) =
     inr (
-      t,
-      starts e a.holds (stored_over e stored) t opens,
-      subst (λ k. WritesUpTo (λ (acts : List Act). k + commits_most (identity_of e) acts) (acts_of e t) a b) (making_by e.word stored (identity_of e) a.holds) h,
+      own e t,
+      starts e a.holds (stored_opening e stored) t opens,
+      subst (λ k. WritesUpTo (λ (acts : List Act). k + commits_most (identity_of e) acts) (acts_of e (own e t)) a b) (making_by e.word stored e a.holds (own e t)) h,
     )

@@ -17,7 +17,7 @@ use Rattle.utm_cli.specs.MadeTexts.{definition_text as made_definition, units_te
 use Rattle.refusals.specs.declared.error.Refusal.{Refusal}
 use Rattle.refusals.specs.declared.error.Refusal.TheVariants.{Application, Script}
 use Rattle.utm_cli.specs.declared.words.Word.{Word}
-use Rattle.utm_cli.specs.declared.words.Word.TheVariants.{Gen, Run, Show, Make}
+use Rattle.utm_cli.specs.declared.words.Word.TheVariants.{Gen, Run, Show, Update, Make}
 use Rattle.utm_cli.specs.Words.{definition_name, units_name, script_name}
 
 -- what is to be done: the word, the application that the texts make with their fingerprint, and the commands of the script
@@ -43,13 +43,15 @@ abbrev pub TextIs : Word → RoomState → (name : List ℕ) → (made : ℕ →
 TextIs Gen room name made text = text_of name room.texts ≡ Some text
 TextIs Run room name made text = text_of name room.texts ≡ Some text
 TextIs Show room name made text = text_of name room.texts ≡ Some text
+TextIs Update room name made text = text_of name room.texts ≡ Some text
 TextIs (Make n) room name made text = text ≡ made n
 
--- the text of the script; `gen` and `show` read none
+-- the text of the script, which `run` alone reads
 abbrev pub ScriptIs : Word → List ℕ → RoomState → List ℕ → Type 0
 ScriptIs Gen base room text = text ≡ []
 ScriptIs Run base room text = text_of (script_name base) room.texts ≡ Some text
 ScriptIs Show base room text = text ≡ []
+ScriptIs Update base room text = text ≡ []
 ScriptIs (Make n) base room text = text ≡ made_script n
 
 -- the texts of a word are there: those of this BASE, or the made ones

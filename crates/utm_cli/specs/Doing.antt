@@ -4,15 +4,18 @@ use Rattle.kd_records.specs.Identity.{Identity}
 use Rattle.kdcs_types.specs.declared.act.Act.{Act}
 use Rattle.kdcs_types.specs.declared.act.Act.TheVariants.{Emit}
 use Rattle.kdcs_types.specs.Tables.{TableRows, empty_tables}
-use Rattle.abstract_monitor.specs.State.{Application}
-use Rattle.abstract_monitor.specs.declared.command.Command.{Command}
 use Rattle.abstract_monitor.specs.Listing.{listing}
 use Rattle.abstract_monitor.specs.Trace.{trace}
 use Rattle.warm_start.specs.Stands.{identity_for}
 use Rattle.warm_start.specs.Opening.{StartsFrom, IsRefused, IsOfOtherTexts}
+use Rattle.kd_update.specs.Carrying.{carried}
+use Rattle.kd_update.specs.declared.error.UpdateError.TheVariants as cause
+use Rattle.kdcfile_update.specs.Updating.{Stored, Takes, RefusesAs, report_of as update_report}
+use Rattle.refusals.specs.declared.error.FileRefusal.{FileRefusal}
+use Rattle.refusals.specs.declared.error.FileRefusal.TheVariants.{NotKdcfile, OtherGeneration, OtherBlksize, SmallerPool, TooManyGssbs, TooLarge}
 use Rattle.utm_cli.specs.MadeReport.{report_of}
 use Rattle.utm_cli.specs.declared.words.Word.{Word}
-use Rattle.utm_cli.specs.declared.words.Word.TheVariants.{Gen, Run, Show, Make}
+use Rattle.utm_cli.specs.declared.words.Word.TheVariants.{Gen, Run, Show, Update, Make}
 use Rattle.utm_cli.specs.Asking.{Errand, app_of}
 use Rattle.utm_cli.specs.Report.{report}
 
@@ -24,39 +27,87 @@ identity_of e = identity_for e.application.generation e.fingerprint
 abbrev pub Opens : Errand → (bytes : List ℕ) → TableRows → Type 0
 Opens e bytes t = StartsFrom e.application.generation e.fingerprint bytes t
 
--- an errand over the KDCFILE starts from the tables that it is opened with; `make` starts from the empty tables, whatever the file
-abbrev pub StartsBy : Word → Errand → (bytes : List ℕ) → TableRows → Type 0
-StartsBy Gen e bytes t = Opens e bytes t
-StartsBy Run e bytes t = Opens e bytes t
-StartsBy Show e bytes t = Opens e bytes t
-StartsBy (Make n) e bytes t = t ≡ empty_tables
+-- tables in a file that is made for this errand
+abbrev pub own : Errand → TableRows → Stored
+own e t = record { identity = identity_of e; tables = t }
 
--- the call starts from these tables, where the file has these bytes
-abbrev pub Starts : Errand → (bytes : List ℕ) → TableRows → Type 0
-Starts e bytes t = StartsBy e.word e bytes t
+-- the KDCFILE with these bytes is opened, and is or will be made for this errand
+pub record OpensWith (e : Errand) (bytes : List ℕ) (s : Stored) : Type 0 where
+  pub own_texts : s.identity ≡ identity_of e
+  pub opens : Opens e bytes s.tables
+
+-- the KDCFILE with these bytes keeps this, and may be carried, or is of these texts
+abbrev pub UpdateTakes : Errand → (bytes : List ℕ) → Stored → Type 0
+UpdateTakes e bytes s = Takes e.application.generation e.fingerprint bytes s
+
+-- an errand over the KDCFILE starts from the tables that it is opened with; `update` takes those of other texts too, where they may be carried; `make` starts from the empty tables, whatever the file
+abbrev pub StartsBy : Word → Errand → (bytes : List ℕ) → Stored → Type 0
+StartsBy Gen e bytes s = OpensWith e bytes s
+StartsBy Run e bytes s = OpensWith e bytes s
+StartsBy Show e bytes s = OpensWith e bytes s
+StartsBy Update e bytes s = UpdateTakes e bytes s
+StartsBy (Make n) e bytes s = s ≡ own e empty_tables
+
+-- the call starts from what this file keeps, where it has these bytes
+abbrev pub Starts : Errand → (bytes : List ℕ) → Stored → Type 0
+Starts e bytes s = StartsBy e.word e bytes s
+
+-- the tables from which the application goes on: those that are stored, or under `update` those carried
+abbrev pub tables_by : Word → Errand → Stored → TableRows
+tables_by Gen e s = s.tables
+tables_by Run e s = s.tables
+tables_by Show e s = s.tables
+tables_by Update e s = carried e.application.generation s.tables
+tables_by (Make n) e s = s.tables
+
+abbrev pub tables_of : Errand → Stored → TableRows
+tables_of e s = tables_by e.word e s
 
 -- the word looks into the KDCFILE of a BASE
 abbrev pub IsOverFile : Word → Type 0
 IsOverFile Gen = ⊤
 IsOverFile Run = ⊤
 IsOverFile Show = ⊤
+IsOverFile Update = ⊤
 IsOverFile (Make n) = ⊥
 
--- the call refuses these bytes
-abbrev pub Refuses : Errand → (bytes : List ℕ) → Type 0
-Refuses e bytes = IsOverFile e.word × IsRefused e.application.generation e.fingerprint bytes
+-- why bytes are not opened
+abbrev pub OpeningRefuses : Errand → (bytes : List ℕ) → FileRefusal → Type 0
+OpeningRefuses e bytes NotKdcfile = IsRefused e.application.generation e.fingerprint bytes
+OpeningRefuses e bytes (OtherGeneration stored) = IsOfOtherTexts stored e.fingerprint bytes
+OpeningRefuses e bytes (OtherBlksize n) = ⊥
+OpeningRefuses e bytes (SmallerPool n) = ⊥
+OpeningRefuses e bytes (TooManyGssbs n) = ⊥
+OpeningRefuses e bytes (TooLarge n) = ⊥
 
--- the bytes are a KDCFILE of other texts, which have this fingerprint
-abbrev pub IsOfOthers : (stored : List ℕ) → Errand → (bytes : List ℕ) → Type 0
-IsOfOthers stored e bytes = IsOverFile e.word × IsOfOtherTexts stored e.fingerprint bytes
+-- why what bytes stand for is not carried
+abbrev pub UpdateRefuses : Errand → (bytes : List ℕ) → FileRefusal → Type 0
+UpdateRefuses e bytes NotKdcfile = RefusesAs e.application.generation e.fingerprint bytes cause.NotKdcfile
+UpdateRefuses e bytes (OtherGeneration stored) = ⊥
+UpdateRefuses e bytes (OtherBlksize n) = RefusesAs e.application.generation e.fingerprint bytes (cause.OtherBlksize n)
+UpdateRefuses e bytes (SmallerPool n) = RefusesAs e.application.generation e.fingerprint bytes (cause.SmallerPool n)
+UpdateRefuses e bytes (TooManyGssbs n) = RefusesAs e.application.generation e.fingerprint bytes (cause.TooManyGssbs n)
+UpdateRefuses e bytes (TooLarge n) = RefusesAs e.application.generation e.fingerprint bytes (cause.TooLarge n)
 
--- the report of `gen`, the trace of the script's commands, the list of `show`, or the report of `make`
-abbrev pub acts_by : Word → Application → List Command → TableRows → List Act
-acts_by Gen app commands t = report app.generation
-acts_by Run app commands t = trace app t commands
-acts_by Show app commands t = Emit (listing t) ∷ []
-acts_by (Make n) app commands t = Emit (report_of n app commands) ∷ []
+abbrev pub RefusesBy : Word → Errand → (bytes : List ℕ) → FileRefusal → Type 0
+RefusesBy Gen e bytes why = OpeningRefuses e bytes why
+RefusesBy Run e bytes why = OpeningRefuses e bytes why
+RefusesBy Show e bytes why = OpeningRefuses e bytes why
+RefusesBy Update e bytes why = UpdateRefuses e bytes why
+RefusesBy (Make n) e bytes why = ⊥
 
--- the acts of an errand from these tables
-abbrev pub acts_of : Errand → TableRows → List Act
-acts_of e t = acts_by e.word (app_of e) e.commands t
+-- the call refuses a file with these bytes
+abbrev pub Refuses : Errand → (bytes : List ℕ) → FileRefusal → Type 0
+Refuses e bytes why = RefusesBy e.word e bytes why
+
+-- the report of `gen`, the trace of the script's commands, the list of `show`, the report of `update`, or that of `make`
+abbrev pub acts_by : Word → Errand → Stored → List Act
+acts_by Gen e s = report e.application.generation
+acts_by Run e s = trace (app_of e) s.tables e.commands
+acts_by Show e s = Emit (listing s.tables) ∷ []
+acts_by Update e s = update_report e.application.generation e.fingerprint s
+acts_by (Make n) e s = Emit (report_of n (app_of e) e.commands) ∷ []
+
+-- the acts of an errand from what is stored
+abbrev pub acts_of : Errand → Stored → List Act
+acts_of e s = acts_by e.word e s

@@ -1,6 +1,7 @@
 pub mod Words
 pub mod Report
 pub mod Asking
+pub mod Causes
 pub mod Doing
 pub mod Promise
 pub mod Parts

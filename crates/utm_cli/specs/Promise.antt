@@ -24,13 +24,15 @@ use Rattle.device_acts.specs.Acting.{commits_nothing, WritesUpTo}
 use Rattle.device_acts.specs.Said.{SameDisk, Said, SaidPart}
 use Rattle.device_run.specs.Running.{IsCutSince, commits_most}
 use Rattle.refusals.specs.declared.error.Refusal.{Refusal}
-use Rattle.refusals.specs.Lines.{refusal_line, other_generation_line}
+use Rattle.refusals.specs.declared.error.FileRefusal.{FileRefusal}
+use Rattle.refusals.specs.Lines.{refusal_line, file_line}
 use Rattle.refusals.specs.Statuses.{IsOneOf, status_of}
 use Rattle.utm_cli.specs.declared.words.Word.{Word}
-use Rattle.utm_cli.specs.declared.words.Word.TheVariants.{Gen, Run, Show, Make}
-use Rattle.utm_cli.specs.Words.{request_of, definition_name, units_name, script_name, file_name, not_a_kdcfile_line}
+use Rattle.utm_cli.specs.declared.words.Word.TheVariants.{Gen, Run, Show, Update, Make}
+use Rattle.utm_cli.specs.Words.{request_of, definition_name, units_name, script_name, file_name}
 use Rattle.utm_cli.specs.Asking.{Errand, Reading, ReadsFor}
-use Rattle.utm_cli.specs.Doing.{Starts, Refuses, IsOfOthers, identity_of, acts_of}
+use Rattle.kdcfile_update.specs.Updating.{Stored, update_most}
+use Rattle.utm_cli.specs.Doing.{Starts, Refuses, identity_of, tables_of, acts_of}
 
 -- the words are this word with this BASE
 abbrev pub Request : List (List ℕ) → Word → List ℕ → Type 0
@@ -52,6 +54,7 @@ abbrev pub Lacks : Word → List ℕ → RoomState → Type 0
 Lacks Gen base room = IsMissing (definition_name base) room ⊎ IsMissing (units_name base) room
 Lacks Run base room = IsMissing (definition_name base) room ⊎ IsMissing (units_name base) room ⊎ IsMissing (script_name base) room
 Lacks Show base room = IsMissing (definition_name base) room ⊎ IsMissing (units_name base) room
+Lacks Update base room = IsMissing (definition_name base) room ⊎ IsMissing (units_name base) room
 Lacks (Make n) base room = ⊥
 
 -- the words ask for something, and a text that it reads is not there
@@ -62,21 +65,22 @@ pub record Misses (words : List (List ℕ)) (room : RoomState) : Type 0 where
   pub not_there : Lacks word base room
 
 -- all acts were done over the store: their lines were sent, the file stands for the tables after them, and a stop leaves just it
-pub record RanOver (i : Identity) (acts : TableRows → List Act) (t : TableRows) (a b : State) (lb : ℕ → List ℕ → List ℕ → Type 0) : Type 0 where
-  pub sent : b.sent ≡ a.sent ++ bytes_of (acts t)
-  pub holds : StandsForTables i (tables_after t (acts t)) b.holds
+pub record RanOver (i : Identity) (acts : List Act) (t : TableRows) (a b : State) (lb : ℕ → List ℕ → List ℕ → Type 0) : Type 0 where
+  pub sent : b.sent ≡ a.sent ++ bytes_of acts
+  pub holds : StandsForTables i (tables_after t acts) b.holds
   pub at_rest : Only b.holds b lb
 
--- all acts were done: `gen` and `run` over the store, while `show` and `make` send their lines and leave the file as it was
-abbrev pub RanBy : Word → Identity → (TableRows → List Act) → TableRows → State → State → (ℕ → List ℕ → List ℕ → Type 0) → Type 0
+-- all acts were done: `gen`, `run` and `update` over the store, while `show` and `make` send their lines and leave the file as it was
+abbrev pub RanBy : Word → Identity → List Act → TableRows → State → State → (ℕ → List ℕ → List ℕ → Type 0) → Type 0
 RanBy Gen i acts t a b lb = RanOver i acts t a b lb
 RanBy Run i acts t a b lb = RanOver i acts t a b lb
-RanBy Show i acts t a b lb = Said (bytes_of (acts t)) a b
-RanBy (Make n) i acts t a b lb = Said (bytes_of (acts t)) a b
+RanBy Show i acts t a b lb = Said (bytes_of acts) a b
+RanBy Update i acts t a b lb = RanOver i acts t a b lb
+RanBy (Make n) i acts t a b lb = Said (bytes_of acts) a b
 
--- all that was asked for was done, from these tables
-abbrev pub Ran : Errand → TableRows → State → State → (ℕ → List ℕ → List ℕ → Type 0) → Type 0
-Ran e t a b lb = RanBy e.word (identity_of e) (acts_of e) t a b lb
+-- all that was asked for was done, from what is stored
+abbrev pub Ran : Errand → Stored → State → State → (ℕ → List ℕ → List ℕ → Type 0) → Type 0
+Ran e s a b lb = RanBy e.word (identity_of e) (acts_of e s) (tables_of e s) a b lb
 
 -- a file that a stop left unmade: it is empty, or stands for no content of any identity, and so for no tables
 abbrev pub IsUnmade : List ℕ → Type 0
@@ -89,27 +93,37 @@ pub record LeavesUnmade (a : State) (image out : List ℕ) : Type 0 where
   pub unmade : IsUnmade image
 
 -- what was sent and what a stop leaves are a cut of these acts over the store, from these tables
-abbrev pub IsCutOver : Identity → (TableRows → List Act) → TableRows → State → List ℕ → List ℕ → Type 0
-IsCutOver i acts t a image out = IsCutSince (StandsForTables i) t (acts t) a.sent image out ⊎ LeavesUnmade a image out
+abbrev pub IsCutOver : Identity → List Act → TableRows → State → List ℕ → List ℕ → Type 0
+IsCutOver i acts t a image out = IsCutSince (StandsForTables i) t acts a.sent image out ⊎ LeavesUnmade a image out
+
+-- nothing was sent, and the file stands for the tables that it kept, as they were made
+pub record IsOld (s : Stored) (a : State) (image out : List ℕ) : Type 0 where
+  pub silent : out ≡ a.sent
+  pub stands : StandsForTables s.identity s.tables image
+
+-- that, or what was sent and what a stop leaves are a cut of these acts over the new store, from the carried tables
+abbrev pub IsCutOfUpdate : Identity → List Act → TableRows → Stored → State → List ℕ → List ℕ → Type 0
+IsCutOfUpdate i acts t s a image out = IsOld s a image out ⊎ IsCutSince (StandsForTables i) t acts a.sent image out
 
 -- the file is as it was, and a front of these bytes was sent, perhaps none of them or all
 abbrev pub IsFront : List ℕ → State → List ℕ → List ℕ → Type 0
 IsFront bytes a image out = (image ≡ a.holds) × ((n : ℕ) × (out ≡ a.sent ++ take n bytes))
 
-abbrev pub IsCutBy : Word → Identity → (TableRows → List Act) → TableRows → State → List ℕ → List ℕ → Type 0
-IsCutBy Gen i acts t a image out = IsCutOver i acts t a image out
-IsCutBy Run i acts t a image out = IsCutOver i acts t a image out
-IsCutBy Show i acts t a image out = IsFront (bytes_of (acts t)) a image out
-IsCutBy (Make n) i acts t a image out = IsFront (bytes_of (acts t)) a image out
+abbrev pub IsCutBy : Word → Identity → List Act → TableRows → Stored → State → List ℕ → List ℕ → Type 0
+IsCutBy Gen i acts t s a image out = IsCutOver i acts t a image out
+IsCutBy Run i acts t s a image out = IsCutOver i acts t a image out
+IsCutBy Show i acts t s a image out = IsFront (bytes_of acts) a image out
+IsCutBy Update i acts t s a image out = IsCutOfUpdate i acts t s a image out
+IsCutBy (Make n) i acts t s a image out = IsFront (bytes_of acts) a image out
 
--- what was sent and what a stop leaves are a cut of what was asked for, from these tables
-abbrev pub IsCutOfRun : Errand → TableRows → State → List ℕ → List ℕ → Type 0
-IsCutOfRun e t a image out = IsCutBy e.word (identity_of e) (acts_of e) t a image out
+-- what was sent and what a stop leaves are a cut of what was asked for, from what is stored
+abbrev pub IsCutOfRun : Errand → Stored → State → List ℕ → List ℕ → Type 0
+IsCutOfRun e s a image out = IsCutBy e.word (identity_of e) (acts_of e s) (tables_of e s) s a image out
 
 -- what was sent and what the file has, as the call left them, are such a cut, and the lines a front of all lines
-pub record EndsInCut (e : Errand) (t : TableRows) (a b : State) : Type 0 where
-  pub cut : IsCutOfRun e t a b.holds b.sent
-  pub front : (n : ℕ) × (b.sent ≡ a.sent ++ take n (bytes_of (acts_of e t)))
+pub record EndsInCut (e : Errand) (s : Stored) (a b : State) : Type 0 where
+  pub cut : IsCutOfRun e s a b.holds b.sent
+  pub front : (n : ℕ) × (b.sent ≡ a.sent ++ take n (bytes_of (acts_of e s)))
 
 -- whatever became of it, a front of these bytes was sent, and the file and what a stop leaves of it stay
 pub record SaysFront (bytes : List ℕ) (a b : State) (la lb : ℕ → List ℕ → List ℕ → Type 0) : Type 0 where
@@ -121,22 +135,24 @@ abbrev pub MakesFile : Word → Type 0
 MakesFile Gen = ⊤
 MakesFile Run = ⊤
 MakesFile Show = ⊥
+MakesFile Update = ⊥
 MakesFile (Make n) = ⊥
 
--- how many bytes the word writes at most before its acts: those of a fresh file and one, where it makes the file
-abbrev pub making_most : Word → Identity → (bytes : List ℕ) → ℕ
-making_most Gen i bytes = opening_most i bytes
-making_most Run i bytes = opening_most i bytes
-making_most Show i bytes = 0
-making_most (Make n) i bytes = 0
+-- how many bytes the word writes at most before its acts: those of a fresh file and one, where it makes the file, and under `update` those of the new tables, where they are carried
+abbrev pub making_most : Word → Errand → (bytes : List ℕ) → Stored → ℕ
+making_most Gen e bytes s = opening_most (identity_of e) bytes
+making_most Run e bytes s = opening_most (identity_of e) bytes
+making_most Show e bytes s = 0
+making_most Update e bytes s = update_most e.application.generation e.fingerprint s
+making_most (Make n) e bytes s = 0
 
 -- how many bytes an errand over a file with these bytes has written at most when it has performed or begun these first acts
-abbrev pub errand_most : Errand → (bytes : List ℕ) → List Act → ℕ
-errand_most e bytes acts = making_most e.word (identity_of e) bytes + commits_most (identity_of e) acts
+abbrev pub errand_most : Errand → (bytes : List ℕ) → Stored → List Act → ℕ
+errand_most e bytes s acts = making_most e.word e bytes s + commits_most (identity_of e) acts
 
--- nothing was written, or the errand was begun, and the bytes written are at most those of the making of its file and of the commits that were performed or begun
+-- nothing was written, or the errand was begun, and the bytes written are at most those of the making of its file, or of its new tables, and of the commits that were performed or begun
 abbrev pub WritesFor : Errand → (a b : State) → Type 0
-WritesFor e a b = (b.put ≡ a.put) ⊎ ((t : TableRows) × Starts e a.holds t × WritesUpTo (errand_most e a.holds) (acts_of e t) a b)
+WritesFor e a b = (b.put ≡ a.put) ⊎ ((s : Stored) × Starts e a.holds s × WritesUpTo (errand_most e a.holds s) (acts_of e s) a b)
 
 -- every step of the script is lawful, begins only services that the rule of locks and keys allows, and jobs are kept from each of its states to each later one; wherever a stop cuts its acts, what is stored are tables from which all services go on, and a serial run of the commits that are done stores the same; and jobs are kept over runs of any scripts one after another
 pub record RunsLawfully (app : Application) (t : TableRows) (script : List Command) : Type 0 where
@@ -160,6 +176,7 @@ abbrev pub HandsOn : Word → List ℕ → State → State → Type 0
 HandsOn Gen name a b = b.names ≡ a.names ++ name ∷ []
 HandsOn Run name a b = b.names ≡ a.names ++ name ∷ []
 HandsOn Show name a b = b.names ≡ a.names ++ name ∷ []
+HandsOn Update name a b = b.names ≡ a.names ++ name ∷ []
 HandsOn (Make n) name a b = b.names ≡ a.names
 
 abbrev pub MayHandOn : Word → List ℕ → State → State → Type 0
@@ -192,22 +209,18 @@ ForErrand c P = IsTrue c.room.told → (e : Errand) → Reads c.words c.room (Ok
 abbrev pub ForRefusal : Call → (Refusal → Type 0) → Type 0
 ForRefusal c P = IsTrue c.room.told → (why : Refusal) → Reads c.words c.room (Err why) → P why
 
--- what holds where the file is refused for its bytes
-abbrev pub ForNoKdcfile : Call → Type 0 → Type 0
-ForNoKdcfile c P = IsTrue c.room.told → IsTrue c.device.told → (e : Errand) → Reads c.words c.room (Ok e) → Refuses e c.device.holds → P
+-- what holds of the reason for which the file is refused
+abbrev pub ForFile : Call → (FileRefusal → Type 0) → Type 0
+ForFile c P = IsTrue c.room.told → IsTrue c.device.told → (e : Errand) → Reads c.words c.room (Ok e) → (why : FileRefusal) → Refuses e c.device.holds why → P why
 
--- what holds of the fingerprint of the other texts that the file was made with
-abbrev pub ForOthers : Call → (List ℕ → Type 0) → Type 0
-ForOthers c P = IsTrue c.room.told → IsTrue c.device.told → (e : Errand) → Reads c.words c.room (Ok e) → (stored : List ℕ) → IsOfOthers stored e c.device.holds → P stored
-
--- what holds of the errand, and of the tables that it starts from, where the file is accepted
-abbrev pub ForStart : Call → (Errand → TableRows → Type 0) → Type 0
-ForStart c P = IsTrue c.room.told → IsTrue c.device.told → (e : Errand) (t : TableRows) → Reads c.words c.room (Ok e) → Starts e c.device.holds t → P e t
+-- what holds of the errand, and of what is stored where it starts, where the file is accepted
+abbrev pub ForStart : Call → (Errand → Stored → Type 0) → Type 0
+ForStart c P = IsTrue c.room.told → IsTrue c.device.told → (e : Errand) (s : Stored) → Reads c.words c.room (Ok e) → Starts e c.device.holds s → P e s
 
 -- the same, where a stop before the call leaves just the file
-abbrev pub ForStartAtRest : Call → (ℕ → List ℕ → List ℕ → Type 0) → (Errand → TableRows → Type 0) → Type 0
+abbrev pub ForStartAtRest : Call → (ℕ → List ℕ → List ℕ → Type 0) → (Errand → Stored → Type 0) → Type 0
 ForStartAtRest c la P =
-    IsTrue c.room.told → IsTrue c.device.told → Only c.device.holds c.device la → (e : Errand) (t : TableRows) → Reads c.words c.room (Ok e) → Starts e c.device.holds t → P e t
+    IsTrue c.room.told → IsTrue c.device.told → Only c.device.holds c.device la → (e : Errand) (s : Stored) → Reads c.words c.room (Ok e) → Starts e c.device.holds s → P e s
 
 -- ---- what became of it
 
@@ -224,18 +237,17 @@ abbrev pub SaysRefusal : Call → (code : ℕ) → State → Type 0
 SaysRefusal c code b =
     IsTrue c.room.told → (why : Refusal) × Reads c.words c.room (Err why) × (code ≡ status_of why) × (IsTrue c.device.told → Said (refusal_line why) c.device b)
 
--- the file is refused for its bytes or for its other texts, and the line that says which was sent
-abbrev pub SaysWhich : Errand → (a b : State) → Type 0
-SaysWhich e a b =
-    (Refuses e a.holds × Said not_a_kdcfile_line a b) ⊎ ((stored : List ℕ) × IsOfOthers stored e a.holds × Said (other_generation_line stored) a b)
+-- the file is refused, and the line that says why was sent
+abbrev pub SaysWhy : Errand → (a b : State) → Type 0
+SaysWhy e a b = (why : FileRefusal) × Refuses e a.holds why × Said (file_line why) a b
 
 abbrev pub SaysFile : Call → State → Type 0
-SaysFile c b = (e : Errand) × (IsTrue c.room.told → Reads c.words c.room (Ok e)) × (IsTrue c.device.told → SaysWhich e c.device b)
+SaysFile c b = (e : Errand) × (IsTrue c.room.told → Reads c.words c.room (Ok e)) × (IsTrue c.device.told → SaysWhy e c.device b)
 
 -- all was done that the words and the texts ask for
 abbrev pub HasDone : Call → State → (ℕ → List ℕ → List ℕ → Type 0) → Type 0
 HasDone c b lb =
-    IsTrue c.room.told → IsTrue c.device.told → (e : Errand) × Reads c.words c.room (Ok e) × (t : TableRows) × Starts e c.device.holds t × Ran e t c.device b lb
+    IsTrue c.room.told → IsTrue c.device.told → (e : Errand) × Reads c.words c.room (Ok e) × (s : Stored) × Starts e c.device.holds s × Ran e s c.device b lb
 
 -- nothing was written, or what the words and the texts ask for was begun, and the bytes written are at most those of the making of its file and of the commits that were performed or begun
 abbrev pub Writes : Call → State → Type 0
@@ -247,16 +259,24 @@ Completes code r s a b =
     (Rose a.disk_faults b.disk_faults → ⊥) → (Rose a.line_faults b.line_faults → ⊥) → (Rose r.faults s.faults → ⊥) ⊎ IsTrue r.sure → IsOneOf (0 ∷ 7 ∷ []) code
 
 -- what a stop since the call leaves is a cut of what was asked for
-abbrev pub LeavesCuts : Errand → TableRows → State → (ℕ → List ℕ → List ℕ → Type 0) → Type 0
-LeavesCuts e t a lb = (image out : List ℕ) → lb a.moment image out → IsCutOfRun e t a image out
+abbrev pub LeavesCuts : Errand → Stored → State → (ℕ → List ℕ → List ℕ → Type 0) → Type 0
+LeavesCuts e s a lb = (image out : List ℕ) → lb a.moment image out → IsCutOfRun e s a image out
 
 -- acts that commit nothing leave the file as it was
-abbrev pub LeavesLines : Errand → TableRows → (a b : State) → Type 0
-LeavesLines e t a b = commits_nothing (acts_of e t) ≡ true → SameDisk a b
+abbrev pub LeavesLines : Errand → Stored → (a b : State) → Type 0
+LeavesLines e s a b = commits_nothing (acts_of e s) ≡ true → SameDisk a b
 
--- an empty file too, where the word makes none
-abbrev pub LeavesFile : Errand → TableRows → (a b : State) → Type 0
-LeavesFile e t a b = (MakesFile e.word → a.holds ≡ [] → ⊥) → LeavesLines e t a b
+-- the word writes nothing before its acts: the file is there, or it makes none, and `update` finds it made for these texts
+abbrev pub WritesActsAlone : Word → Errand → Stored → State → Type 0
+WritesActsAlone Gen e s a = a.holds ≡ [] → ⊥
+WritesActsAlone Run e s a = a.holds ≡ [] → ⊥
+WritesActsAlone Show e s a = ⊤
+WritesActsAlone Update e s a = s.identity ≡ identity_of e
+WritesActsAlone (Make n) e s a = ⊤
+
+-- the file stays as it was where nothing is written, an empty one too
+abbrev pub LeavesFile : Errand → Stored → (a b : State) → Type 0
+LeavesFile e s a b = WritesActsAlone e.word e s a → LeavesLines e s a b
 
 -- the file of the BASE was handed to attach; for `make` none
 abbrev pub Attaches : List (List ℕ) → (a b : State) → Type 0

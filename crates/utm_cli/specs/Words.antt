@@ -1,20 +1,21 @@
--- What the words of a call ask for, and two lines of its refusals.
+-- What the words of a call ask for, and the line where they ask for nothing.
 use Rattle.std.specs.Prelude.{⊤, ℕ, Bool, true, false, ◌&&◌, nat_le, List, [], ◌∷◌, ◌++◌, length, codes, Option, Some, None}
 use Rattle.kd_base.specs.Text.{decimal_of}
 use Rattle.kdcdef_types.specs.Statements.{IsWithin}
 use Rattle.script_read.specs.Script.{same}
 use Rattle.utm_cli.specs.declared.words.Word.{Word}
-use Rattle.utm_cli.specs.declared.words.Word.TheVariants.{Gen, Run, Show, Make}
+use Rattle.utm_cli.specs.declared.words.Word.TheVariants.{Gen, Run, Show, Update, Make}
 
-abbrev pub word_by : (gen run show : Bool) → Option Word
-word_by true run show = Some Gen
-word_by false true show = Some Run
-word_by false false true = Some Show
-word_by false false false = None
+abbrev pub word_by : (gen run show update : Bool) → Option Word
+word_by true run show update = Some Gen
+word_by false true show update = Some Run
+word_by false false true update = Some Show
+word_by false false false true = Some Update
+word_by false false false false = None
 
 -- the word of a BASE that is spelled so
 abbrev pub word_of : List ℕ → Option Word
-word_of word = word_by (same word (codes "gen")) (same word (codes "run")) (same word (codes "show"))
+word_of word = word_by (same word (codes "gen")) (same word (codes "run")) (same word (codes "show")) (same word (codes "update"))
 
 -- a BASE has 1 to 200 bytes
 abbrev pub is_base : List ℕ → Bool
@@ -29,6 +30,7 @@ abbrev pub IsForm : Word → Type 0
 IsForm Gen = ⊤
 IsForm Run = ⊤
 IsForm Show = ⊤
+IsForm Update = ⊤
 IsForm (Make n) = IsWithin 1 20000 n
 
 abbrev pub made_by : Bool → ℕ → Option Word
@@ -53,7 +55,7 @@ abbrev pub asked : Option Word → List ℕ → Option (Word × List ℕ)
 asked None operand = None
 asked (Some word) operand = Some (word, operand)
 
--- the word and the operand of `gen BASE`, `run BASE`, `show BASE` and `make N`; no other words are a form
+-- the word and the operand of `gen BASE`, `run BASE`, `show BASE`, `update BASE` and `make N`; no other words are a form
 abbrev pub request_of : List (List ℕ) → Option (Word × List ℕ)
 request_of [] = None
 request_of (word ∷ []) = None
@@ -78,8 +80,4 @@ file_name base = base ++ codes ".KDCA"
 
 -- status 1
 abbrev pub usage_line : List ℕ
-usage_line = codes "USAGE: utm gen BASE, run BASE, show BASE, make N\n"
-
--- status 4: the file is no KDCFILE of this application
-abbrev pub not_a_kdcfile_line : List ℕ
-not_a_kdcfile_line = codes "KDCFILE NOT A KDCFILE\n"
+usage_line = codes "USAGE: utm gen BASE, run BASE, show BASE, update BASE, make N\n"

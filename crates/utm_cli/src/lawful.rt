@@ -1,10 +1,11 @@
 //! The laws that what a call asks for keeps.
 ghost use Rattle.std.specs.Prelude.{List, ℕ, Ok};
 ghost use Rattle.kd_device.specs.Room.{RoomState};
-ghost use Rattle.kdcs_types.specs.Tables.{TableRows};
-ghost use Rattle.utm_cli.specs.{Asking.{Errand, TextsCanRun, app_of}, Doing.{Starts}, Promise.{Reads, RunsLawfully}};
+ghost use Rattle.kdcfile_update.specs.Updating.{Stored};
+ghost use Rattle.utm_cli.specs.{Asking.{Errand, TextsCanRun, app_of}, Doing.{Starts, tables_of}, Promise.{Reads, RunsLawfully}};
 
 use application_read::generations_are_sound;
+use kdcfile_update::taken_tables_suit;
 use laws_of_access::{locks_make_the_rule, runs_keep_access};
 use laws_of_jobs::{
     cuts_are_serial, cuts_resume, jobs_are_done_once, runs_are_lawful, runs_keep_jobs,
@@ -20,13 +21,15 @@ pub(crate) fn texts_can_run()
     commands_are_said();
 }
 
-/// From the tables that a file stands for, each step of the script is lawful, begins only services that the rule of locks
-/// and keys allows, and keeps jobs; each cut of it can be gone on from and is stored by a serial run; and runs one after
-/// another keep jobs too. It does nothing.
+/// From the tables that a call goes on from, each step of the script is lawful, begins only services that the rule of
+/// locks and keys allows, and keeps jobs; each cut of it can be gone on from and is stored by a serial run; and runs
+/// one after another keep jobs too. It does nothing.
 pub(crate) fn scripts_run_lawfully()
-    ensures { (words : List (List ℕ)) (room : RoomState) (e : Errand) → Reads words room (Ok e) → (bytes : List ℕ) (t : TableRows) → Starts e bytes t → RunsLawfully (app_of e) t e.commands }
+    ensures { (words : List (List ℕ)) (room : RoomState) (e : Errand) → Reads words room (Ok e) → (bytes : List ℕ) (s : Stored) → Starts e bytes s → RunsLawfully (app_of e) (tables_of e s) e.commands }
 {
     texts_can_run();
+    generations_are_sound();
+    taken_tables_suit();
     facts_hold_along_every_script();
     runs_are_lawful();
     runs_keep_access();

@@ -14,7 +14,7 @@ use std::alloc::Global;
 use warm_start::{OpenError, open_tables, read_tables};
 
 /// Attaches the file of this name.
-fn attach<D: Device>(device: &mut D, name: &[u8]) -> Result<(), OpenError>
+pub(crate) fn attach<D: Device>(device: &mut D, name: &[u8]) -> Result<(), OpenError>
     ensures rests { IsTrue (D.state device.old).told → Rests (D.state device.old) (D.state device.new) (D.leaves device.old) (D.leaves device.new) }
     ensures names { IsTrue (D.state device.old).told → MayAttach name.now (D.state device.old) (D.state device.new) }
     ensures named { OnOk result (IsTrue (D.state device.old).told → (D.state device.new).names ≡ (D.state device.old).names ++ name.now ∷ []) }

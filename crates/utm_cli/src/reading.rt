@@ -27,7 +27,7 @@ pub(crate) struct Errand {
     pub application: Application,
     /// That of the definition and the units.
     pub fingerprint: [u8; 32],
-    /// The commands of the script; `gen` and `show` have none.
+    /// The commands of the script; `gen`, `show` and `update` have none.
     pub commands: Vec<Command>,
 }
 
@@ -47,7 +47,7 @@ struct Texts {
     script: Vec<u8>,
 }
 
-/// The text of the script, which `gen` and `show` do not read.
+/// The text of the script, which `run` alone reads.
 fn script_text<R: Room>(
     alloc: Global,
     room: &mut R,
@@ -64,7 +64,7 @@ fn script_text<R: Room>(
 {
     match word {
         Word::Run => text(alloc, room, base, b".script"),
-        Word::Gen | Word::Show | Word::Make(_) => Ok(Vec::new(alloc)),
+        Word::Gen | Word::Show | Word::Update | Word::Make(_) => Ok(Vec::new(alloc)),
     }
 }
 
@@ -128,7 +128,7 @@ fn texts_of<R: Room>(
     ensures made_there { (n : ℕ) → word ≡ Make n → IsErrOf result DeviceError.Failed → ⊥ }
 {
     match word {
-        Word::Gen | Word::Run | Word::Show => room_texts(alloc, room, word, base),
+        Word::Gen | Word::Run | Word::Show | Word::Update => room_texts(alloc, room, word, base),
         Word::Make(inputs) => match made_texts(alloc, inputs) {
             Ok(texts) => Ok(texts),
             Err(OutOfMemory) => Err(DeviceError::Memory),

@@ -6,15 +6,16 @@ ghost use Rattle.kdcs_types.specs.Tables.{TableRows};
 ghost use Rattle.laws_of_steps.specs.Suits.{Suits};
 ghost use Rattle.kdcdef_types.specs.Statements.{IsWithin};
 ghost use Rattle.abstract_monitor.specs.Listing.{listing};
-ghost use Rattle.warm_start.specs.{Opening.{IsRefused, IsOfOtherTexts}, Stands.{KeepsTables}};
-ghost use Rattle.utm_cli.specs.{Words.{IsForm, file_name, not_a_kdcfile_line}, declared.words.Word.TheVariants.{Gen, Run}, Asking.{CanRun, app_of}, Doing.{Opens, Starts, Refuses, IsOfOthers, identity_of}, Promise.{Ran, WritesFor, SaysFront, MakesFile, MayAttach, MayHandOn, HandsOn, AttachedBy, CallFailed, LeavesFile, LeavesLines, SaysWhich}, Parts.{WithinErrand, ErrandWrites, StoreWrites, RanActs, RanOpened, ShowsFront, StopsInCut, StopsOverStore}};
-ghost use Rattle.refusals.specs.{Lines.{other_generation_line}, Statuses.{IsOneOf}};
-ghost use Rattle.device_acts.specs.Said.{Said, SaidPart};
+ghost use Rattle.warm_start.specs.Stands.{KeepsTables};
+ghost use Rattle.kdcfile_update.specs.Updating.{Stored, UpdateWrites};
+ghost use Rattle.utm_cli.specs.{Words.{IsForm, file_name}, declared.words.Word.TheVariants.{Gen, Run}, Asking.{CanRun, app_of}, Doing.{IsOverFile, Opens, OpeningRefuses, UpdateTakes, UpdateRefuses, Starts, Refuses, identity_of, own}, Promise.{Ran, WritesFor, SaysFront, MakesFile, MayAttach, MayHandOn, HandsOn, AttachedBy, CallFailed, LeavesFile, LeavesLines, SaysWhy}, Parts.{WithinErrand, ErrandWrites, StoreWrites, RanActs, RanOpened, RanUpdate, ShowsFront, StopsInCut, StopsInUpdate, StopsOverStore}};
+ghost use Rattle.refusals.specs.{declared.error.FileRefusal.{FileRefusal}, Lines.{file_line}, Statuses.{IsOneOf}};
+ghost use Rattle.device_acts.specs.Said.{SameDisk, Said, SaidPart};
 ghost use Rattle.utm_cli.specs.MadeReport.{report_of};
-ghost use Rattle.utm_cli.specs.Doing.{IsOverFile};
 
+use crate::error::CallError;
 use crate::made_run::made_report;
-use crate::opening::{look, open};
+use crate::opening::{attach, look, open};
 use crate::reading::Errand;
 use crate::report::report;
 use crate::words::Word;
@@ -23,15 +24,13 @@ use device_acts::{do_acts, say};
 use device_run::run_script;
 use kd_device::{Device, DeviceError};
 use kdcfile_store::PagedStore;
+use kdcfile_update::update;
 use kdcs_types::Tables;
 use monitor_core::Core;
 use output_lines::table_lines;
-use refusals::{Status, named, refuse, refuse_other};
+use refusals::{Status, named, refuse_file};
 use std::alloc::Global;
 use warm_start::OpenError;
-
-/// What is sent where the file is no KDCFILE of this application.
-const NOT_A_KDCFILE: &[u8] = b"KDCFILE NOT A KDCFILE\n";
 
 /// The report of the generation, over an opened store.
 fn do_report<D: Device>(
@@ -90,7 +89,7 @@ fn do_errand<D: Device>(
     store: PagedStore,
     tables: Tables,
     asked: Errand,
-) -> Result<(), OpenError>
+) -> Result<(), CallError>
     requires stored { MakesFile asked.word }
     requires can { CanRun asked }
     requires tables { KeepsTables (identity_of asked) store tables }
@@ -99,10 +98,9 @@ fn do_errand<D: Device>(
     ensures any { WithinErrand asked tables (D.state device.old) (D.state device.new) (D.leaves device.old) (D.leaves device.new) }
     ensures put { ErrandWrites asked tables (D.state device.old) (D.state device.new) }
     ensures done { OnOk result (RanActs asked tables (D.state device.old) (D.state device.new) (D.leaves device.new)) }
-    ensures fine { (IsErrOf result OpenError.Failed → ⊥) → SameFaults (D.state device.old) (D.state device.new) }
-    ensures failed { IsErrOf result OpenError.Failed → CallFailed (D.state device.old) (D.state device.new) }
-    ensures refused { IsErrOf result OpenError.NotKdcfile → IsTrue (D.state device.old).told → ⊥ }
-    ensures other { (stored : List ℕ) → IsErrOf result (OpenError.OtherGeneration stored) → IsTrue (D.state device.old).told → ⊥ }
+    ensures fine { (IsErrOf result CallError.Failed → ⊥) → SameFaults (D.state device.old) (D.state device.new) }
+    ensures failed { IsErrOf result CallError.Failed → CallFailed (D.state device.old) (D.state device.new) }
+    ensures refused { (why : FileRefusal) → IsErrOf result (CallError.Refused why) → IsTrue (D.state device.old).told → ⊥ }
 {
     match asked.word {
         Word::Gen => Ok(do_report(alloc, device, store, &asked)?),
@@ -110,7 +108,7 @@ fn do_errand<D: Device>(
             do_script(alloc, device, store, tables, asked)?;
             Ok(())
         }
-        Word::Show | Word::Make(_) => unreachable!(),
+        Word::Show | Word::Update | Word::Make(_) => unreachable!(),
     }
 }
 
@@ -120,21 +118,20 @@ fn run_stored<D: Device>(
     device: &mut D,
     name: &[u8],
     asked: Errand,
-) -> Result<(), OpenError>
+) -> Result<(), CallError>
     requires stored { MakesFile asked.word }
     requires can { CanRun asked }
     ensures done { OnOk result (RanOpened asked (D.state device.old) (D.state device.new) (D.leaves device.new)) }
-    ensures refused { IsErrOf result OpenError.NotKdcfile → IsTrue (D.state device.old).told → IsRefused asked.application.generation asked.fingerprint (D.state device.old).holds }
-    ensures other { (stored : List ℕ) → IsErrOf result (OpenError.OtherGeneration stored) → IsTrue (D.state device.old).told → IsOfOtherTexts stored asked.fingerprint (D.state device.old).holds }
-    ensures fine { (IsErrOf result OpenError.Failed → ⊥) → SameFaults (D.state device.old) (D.state device.new) }
-    ensures failed { IsErrOf result OpenError.Failed → CallFailed (D.state device.old) (D.state device.new) }
+    ensures refused { (why : FileRefusal) → IsErrOf result (CallError.Refused why) → IsTrue (D.state device.old).told → OpeningRefuses asked (D.state device.old).holds why }
+    ensures fine { (IsErrOf result CallError.Failed → ⊥) → SameFaults (D.state device.old) (D.state device.new) }
+    ensures failed { IsErrOf result CallError.Failed → CallFailed (D.state device.old) (D.state device.new) }
 
     // A file that the call does not start from stays as it is.
     ensures still { IsTrue (D.state device.old).told → ((t : TableRows) → Opens asked (D.state device.old).holds t → ⊥) → Rests (D.state device.old) (D.state device.new) (D.leaves device.old) (D.leaves device.new) }
 
     ensures any_moment { StopsOverStore asked (D.state device.old) (D.state device.new) (D.leaves device.old) (D.leaves device.new) }
     ensures written { IsTrue (D.state device.old).told → StoreWrites asked (D.state device.old) (D.state device.new) }
-    ensures left { IsTrue (D.state device.old).told → (t : TableRows) → Opens asked (D.state device.old).holds t → ((D.state device.old).holds ≡ [] → ⊥) → LeavesLines asked t (D.state device.old) (D.state device.new) }
+    ensures left { IsTrue (D.state device.old).told → (t : TableRows) → Opens asked (D.state device.old).holds t → ((D.state device.old).holds ≡ [] → ⊥) → LeavesLines asked (own asked t) (D.state device.old) (D.state device.new) }
     ensures names { IsTrue (D.state device.old).told → MayAttach name.now (D.state device.old) (D.state device.new) }
     ensures named { OnOk result (IsTrue (D.state device.old).told → (D.state device.new).names ≡ (D.state device.old).names ++ name.now ∷ []) }
     ensures frame { Frame (D.state device.old) (D.state device.new) }
@@ -150,12 +147,11 @@ fn show_over<D: Device>(
     device: &mut D,
     name: &[u8],
     asked: &Errand,
-) -> Result<(), OpenError>
+) -> Result<(), CallError>
     ensures done { OnOk result (IsTrue (D.state device.old).told → (t : TableRows) × Opens asked.now (D.state device.old).holds t × Said (listing t) (D.state device.old) (D.state device.new)) }
-    ensures refused { IsErrOf result OpenError.NotKdcfile → IsTrue (D.state device.old).told → IsRefused asked.now.application.generation asked.now.fingerprint (D.state device.old).holds }
-    ensures other { (stored : List ℕ) → IsErrOf result (OpenError.OtherGeneration stored) → IsTrue (D.state device.old).told → IsOfOtherTexts stored asked.now.fingerprint (D.state device.old).holds }
-    ensures fine { (IsErrOf result OpenError.Failed → ⊥) → SameFaults (D.state device.old) (D.state device.new) }
-    ensures failed { IsErrOf result OpenError.Failed → CallFailed (D.state device.old) (D.state device.new) }
+    ensures refused { (why : FileRefusal) → IsErrOf result (CallError.Refused why) → IsTrue (D.state device.old).told → OpeningRefuses asked.now (D.state device.old).holds why }
+    ensures fine { (IsErrOf result CallError.Failed → ⊥) → SameFaults (D.state device.old) (D.state device.new) }
+    ensures failed { IsErrOf result CallError.Failed → CallFailed (D.state device.old) (D.state device.new) }
 
     // Nothing is said of a file that is not shown, and else a front of its list.
     ensures still { IsTrue (D.state device.old).told → ((t : TableRows) → Opens asked.now (D.state device.old).holds t → ⊥) → Rests (D.state device.old) (D.state device.new) (D.leaves device.old) (D.leaves device.new) }
@@ -178,14 +174,13 @@ fn make<D: Device>(
     device: &mut D,
     inputs: u32,
     asked: Errand,
-) -> Result<(), OpenError>
+) -> Result<(), CallError>
     requires inputs { IsWithin 1 20000 inputs }
     requires can { CanRun asked }
     ensures done { OnOk result (IsTrue (D.state device.old).told → Said (report_of inputs (app_of asked) asked.commands) (D.state device.old) (D.state device.new)) }
-    ensures refused { IsErrOf result OpenError.NotKdcfile → ⊥ }
-    ensures other { (stored : List ℕ) → IsErrOf result (OpenError.OtherGeneration stored) → ⊥ }
-    ensures fine { (IsErrOf result OpenError.Failed → ⊥) → SameFaults (D.state device.old) (D.state device.new) }
-    ensures failed { IsErrOf result OpenError.Failed → Rose (D.state device.old).line_faults (D.state device.new).line_faults }
+    ensures refused { (why : FileRefusal) → IsErrOf result (CallError.Refused why) → ⊥ }
+    ensures fine { (IsErrOf result CallError.Failed → ⊥) → SameFaults (D.state device.old) (D.state device.new) }
+    ensures failed { IsErrOf result CallError.Failed → Rose (D.state device.old).line_faults (D.state device.new).line_faults }
     ensures front { IsTrue (D.state device.old).told → SaysFront (report_of inputs (app_of asked) asked.commands) (D.state device.old) (D.state device.new) (D.leaves device.old) (D.leaves device.new) }
     ensures frame { Frame (D.state device.old) (D.state device.new) }
     ensures names { SameNames (D.state device.old) (D.state device.new) }
@@ -201,38 +196,64 @@ fn make<D: Device>(
     Ok(say(device, lines.as_slice())?)
 }
 
+/// The KDCFILE of this name is carried to the generation.
+fn update_over<D: Device>(
+    alloc: Global,
+    device: &mut D,
+    name: &[u8],
+    asked: &Errand,
+) -> Result<(), CallError>
+    ensures done { OnOk result (RanUpdate asked.now (D.state device.old) (D.state device.new) (D.leaves device.new)) }
+    ensures refused { (why : FileRefusal) → IsErrOf result (CallError.Refused why) → IsTrue (D.state device.old).told → UpdateRefuses asked.now (D.state device.old).holds why }
+    ensures fine { (IsErrOf result CallError.Failed → ⊥) → SameFaults (D.state device.old) (D.state device.new) }
+    ensures failed { IsErrOf result CallError.Failed → CallFailed (D.state device.old) (D.state device.new) }
+
+    // A file that is not taken stays as it is.
+    ensures still { IsTrue (D.state device.old).told → ((s : Stored) → UpdateTakes asked.now (D.state device.old).holds s → ⊥) → Rests (D.state device.old) (D.state device.new) (D.leaves device.old) (D.leaves device.new) }
+
+    ensures any_moment { StopsInUpdate asked.now (D.state device.old) (D.state device.new) (D.leaves device.old) (D.leaves device.new) }
+    ensures written { IsTrue (D.state device.old).told → UpdateWrites asked.now.application.generation asked.now.fingerprint (D.state device.old) (D.state device.new) }
+    ensures left { IsTrue (D.state device.old).told → (s : Stored) → UpdateTakes asked.now (D.state device.old).holds s → s.identity ≡ identity_of asked.now → SameDisk (D.state device.old) (D.state device.new) }
+    ensures names { IsTrue (D.state device.old).told → MayAttach name.now (D.state device.old) (D.state device.new) }
+    ensures named { OnOk result (IsTrue (D.state device.old).told → (D.state device.new).names ≡ (D.state device.old).names ++ name.now ∷ []) }
+    ensures frame { Frame (D.state device.old) (D.state device.new) }
+{
+    attach(device, name)?;
+    let generation = &asked.application.generation;
+    Ok(update(alloc, device, generation, &asked.fingerprint)?)
+}
+
 /// What is asked for: over the KDCFILE of this name, or aside of it.
 fn run_over<D: Device>(
     alloc: Global,
     device: &mut D,
     name: &[u8],
     asked: Errand,
-) -> Result<(), OpenError>
+) -> Result<(), CallError>
     requires form { IsForm asked.word }
     requires can { CanRun asked }
-    ensures done { OnOk result (IsTrue (D.state device.old).told → (t : TableRows) × Starts asked (D.state device.old).holds t × Ran asked t (D.state device.old) (D.state device.new) (D.leaves device.new)) }
-    ensures refused { IsErrOf result OpenError.NotKdcfile → IsTrue (D.state device.old).told → Refuses asked (D.state device.old).holds }
-    ensures other { (stored : List ℕ) → IsErrOf result (OpenError.OtherGeneration stored) → IsTrue (D.state device.old).told → IsOfOthers stored asked (D.state device.old).holds }
-    ensures fine { (IsErrOf result OpenError.Failed → ⊥) → SameFaults (D.state device.old) (D.state device.new) }
-    ensures failed { IsErrOf result OpenError.Failed → CallFailed (D.state device.old) (D.state device.new) }
+    ensures done { OnOk result (IsTrue (D.state device.old).told → (s : Stored) × Starts asked (D.state device.old).holds s × Ran asked s (D.state device.old) (D.state device.new) (D.leaves device.new)) }
+    ensures refused { (why : FileRefusal) → IsErrOf result (CallError.Refused why) → IsTrue (D.state device.old).told → Refuses asked (D.state device.old).holds why }
+    ensures fine { (IsErrOf result CallError.Failed → ⊥) → SameFaults (D.state device.old) (D.state device.new) }
+    ensures failed { IsErrOf result CallError.Failed → CallFailed (D.state device.old) (D.state device.new) }
 
     // A file that the call does not start from stays as it is.
-    ensures still { IsTrue (D.state device.old).told → ((t : TableRows) → Starts asked (D.state device.old).holds t → ⊥) → Rests (D.state device.old) (D.state device.new) (D.leaves device.old) (D.leaves device.new) }
+    ensures still { IsTrue (D.state device.old).told → ((s : Stored) → Starts asked (D.state device.old).holds s → ⊥) → Rests (D.state device.old) (D.state device.new) (D.leaves device.old) (D.leaves device.new) }
 
     ensures any_moment { StopsInCut asked (D.state device.old) (D.state device.new) (D.leaves device.old) (D.leaves device.new) }
     ensures written { IsTrue (D.state device.old).told → WritesFor asked (D.state device.old) (D.state device.new) }
-    ensures left { IsTrue (D.state device.old).told → (t : TableRows) → Starts asked (D.state device.old).holds t → LeavesFile asked t (D.state device.old) (D.state device.new) }
+    ensures left { IsTrue (D.state device.old).told → (s : Stored) → Starts asked (D.state device.old).holds s → LeavesFile asked s (D.state device.old) (D.state device.new) }
     ensures names { IsTrue (D.state device.old).told → MayHandOn asked.word name.now (D.state device.old) (D.state device.new) }
     ensures named { OnOk result (IsTrue (D.state device.old).told → HandsOn asked.word name.now (D.state device.old) (D.state device.new)) }
     ensures frame { Frame (D.state device.old) (D.state device.new) }
 
     // No other word refuses a file than one that looks into it.
-    ensures looks { IsErrOf result OpenError.NotKdcfile → IsOverFile asked.word }
-    ensures looks_at_other { (stored : List ℕ) → IsErrOf result (OpenError.OtherGeneration stored) → IsOverFile asked.word }
+    ensures looks { (why : FileRefusal) → IsErrOf result (CallError.Refused why) → IsOverFile asked.word }
 {
     match asked.word {
         Word::Gen | Word::Run => run_stored(alloc, device, name, asked),
         Word::Show => show_over(alloc, device, name, &asked),
+        Word::Update => update_over(alloc, device, name, &asked),
         Word::Make(inputs) => make(alloc, device, inputs, asked),
     }
 }
@@ -244,20 +265,18 @@ pub(crate) fn run<D: Device>(alloc: Global, device: &mut D, base: &[u8], asked: 
     ensures code { IsOneOf (0 ∷ 4 ∷ 5 ∷ 7 ∷ []) result.code }
 
     // A file that is refused.
-    ensures refused { IsTrue (D.state device.old).told → Refuses asked (D.state device.old).holds → IsOneOf (4 ∷ 5 ∷ 7 ∷ []) result.code }
-    ensures other { IsTrue (D.state device.old).told → (stored : List ℕ) → IsOfOthers stored asked (D.state device.old).holds → IsOneOf (4 ∷ 5 ∷ 7 ∷ []) result.code }
-    ensures refused_only { result.code ≡ 4 → IsTrue (D.state device.old).told → SaysWhich asked (D.state device.old) (D.state device.new) }
-    ensures refused_part { IsTrue (D.state device.old).told → Refuses asked (D.state device.old).holds → SaidPart not_a_kdcfile_line (D.state device.old) (D.state device.new) }
-    ensures other_part { IsTrue (D.state device.old).told → (stored : List ℕ) → IsOfOthers stored asked (D.state device.old).holds → SaidPart (other_generation_line stored) (D.state device.old) (D.state device.new) }
+    ensures refused { IsTrue (D.state device.old).told → (why : FileRefusal) → Refuses asked (D.state device.old).holds why → IsOneOf (4 ∷ 5 ∷ 7 ∷ []) result.code }
+    ensures refused_only { result.code ≡ 4 → IsTrue (D.state device.old).told → SaysWhy asked (D.state device.old) (D.state device.new) }
+    ensures refused_part { IsTrue (D.state device.old).told → (why : FileRefusal) → Refuses asked (D.state device.old).holds why → SaidPart (file_line why) (D.state device.old) (D.state device.new) }
 
     // A file that is accepted.
-    ensures accepted { IsTrue (D.state device.old).told → (t : TableRows) → Starts asked (D.state device.old).holds t → IsOneOf (0 ∷ 5 ∷ 7 ∷ []) result.code }
-    ensures done { result.code ≡ 0 → IsTrue (D.state device.old).told → (t : TableRows) × Starts asked (D.state device.old).holds t × Ran asked t (D.state device.old) (D.state device.new) (D.leaves device.new) }
+    ensures accepted { IsTrue (D.state device.old).told → (s : Stored) → Starts asked (D.state device.old).holds s → IsOneOf (0 ∷ 5 ∷ 7 ∷ []) result.code }
+    ensures done { result.code ≡ 0 → IsTrue (D.state device.old).told → (s : Stored) × Starts asked (D.state device.old).holds s × Ran asked s (D.state device.old) (D.state device.new) (D.leaves device.new) }
     ensures any_moment { StopsInCut asked (D.state device.old) (D.state device.new) (D.leaves device.old) (D.leaves device.new) }
     ensures written { IsTrue (D.state device.old).told → WritesFor asked (D.state device.old) (D.state device.new) }
 
-    // A file that is there stays as it is where nothing is committed, and under `show` and `make` any file does.
-    ensures left { IsTrue (D.state device.old).told → (t : TableRows) → Starts asked (D.state device.old).holds t → LeavesFile asked t (D.state device.old) (D.state device.new) }
+    // A file that is there stays as it is where nothing is written, and under `show` and `make` any file does.
+    ensures left { IsTrue (D.state device.old).told → (s : Stored) → Starts asked (D.state device.old).holds s → LeavesFile asked s (D.state device.old) (D.state device.new) }
 
     ensures names { IsTrue (D.state device.old).told → MayHandOn asked.word (file_name base.now) (D.state device.old) (D.state device.new) }
     ensures attached { result.code ≡ 0 → IsTrue (D.state device.old).told → AttachedBy asked.word base.now (D.state device.old) (D.state device.new) }
@@ -273,9 +292,8 @@ pub(crate) fn run<D: Device>(alloc: Global, device: &mut D, base: &[u8], asked: 
     };
     match run_over(alloc, device, &name, asked) {
         Ok(()) => Status::DONE,
-        Err(OpenError::Failed) => Status::DEVICE,
-        Err(OpenError::Memory) => Status::MEMORY,
-        Err(OpenError::NotKdcfile) => refuse(device, NOT_A_KDCFILE, Status::FILE),
-        Err(OpenError::OtherGeneration(stored)) => refuse_other(alloc, device, &stored),
+        Err(CallError::Failed) => Status::DEVICE,
+        Err(CallError::Memory) => Status::MEMORY,
+        Err(CallError::Refused(why)) => refuse_file(alloc, device, &why),
     }
 }

@@ -1,10 +1,10 @@
 //! The top call: what the words ask for is done, and answered as a status.
 ghost use Rattle.std.specs.{Prelude.{◌≡◌, ◌⊎◌, ◌∷◌, [], List, ℕ, IsTrue, map}, String.{string_bytes}};
 ghost use Rattle.kd_device.specs.{Device.{Rose, Frame, SameFaults, SameNames}, Room.{SameRoom}};
-ghost use Rattle.kdcs_types.specs.Tables.{TableRows};
-ghost use Rattle.utm_cli.specs.{Words.{usage_line, not_a_kdcfile_line}, Asking.{app_of}, Doing.{Starts}};
-ghost use Rattle.utm_cli.specs.Promise.{Misses, Request, EndsInCut, RunsLawfully, Attaches, AsksNothing, CallFailed, Completes, ForErrand, ForNoKdcfile, ForOthers, ForRefusal, ForStartAtRest, ForStart, HasDone, LeavesCuts, LeavesFile, SaysFile, SaysPart, SaysRefusal, Writes, call};
-ghost use Rattle.refusals.specs.{Lines.{refusal_line, other_generation_line}, Statuses.{IsOneOf, status_of}, Texts.{NoReadFailed}};
+ghost use Rattle.kdcfile_update.specs.Updating.{Stored};
+ghost use Rattle.utm_cli.specs.{Words.{usage_line}, Asking.{app_of}, Doing.{Starts, tables_of}};
+ghost use Rattle.utm_cli.specs.Promise.{Misses, Request, EndsInCut, RunsLawfully, Attaches, AsksNothing, CallFailed, Completes, ForErrand, ForFile, ForRefusal, ForStartAtRest, ForStart, HasDone, LeavesCuts, LeavesFile, SaysFile, SaysPart, SaysRefusal, Writes, call};
+ghost use Rattle.refusals.specs.{Lines.{refusal_line, file_line}, Statuses.{IsOneOf, status_of}, Texts.{NoReadFailed}};
 ghost use Rattle.device_acts.specs.Said.{Said, SaidPart};
 ghost use Rattle.utm_cli.specs.declared.words.Word.TheVariants.{Make};
 
@@ -17,17 +17,18 @@ use refusals::{Status, TextError, refuse, refuse_texts};
 use std::alloc::Global;
 
 /// What is sent where the words are none of the forms.
-const USAGE: &[u8] = b"USAGE: utm gen BASE, run BASE, show BASE, make N\n";
+const USAGE: &[u8] = b"USAGE: utm gen BASE, run BASE, show BASE, update BASE, make N\n";
 
 /// Does what the words after the program's name ask for. `gen BASE` reads BASE.def and BASE.units from the room and
-/// reports the generation; `run BASE` reads BASE.script too and does its commands, each of which is stored before
-/// its line is sent. Both make BASE.KDCA where it is empty, with BLKSIZE and PGPOOL of the generation, or open it. `show
-/// BASE` lists the tables of BASE.KDCA, which stays as it is; an empty one is listed as the empty tables. `make N` runs the
-/// made application with N inputs, from 1 to 20,000, on a device of its own, and reports of that run.
+/// reports the generation; `run BASE` reads BASE.script too and does its commands, each of which is stored before its
+/// line is sent. Both make BASE.KDCA where it is empty, with BLKSIZE and PGPOOL of the generation, or open it. `show
+/// BASE` lists the tables of BASE.KDCA, which stays as it is; an empty one is listed as the empty tables. `update BASE`
+/// carries BASE.KDCA to the generation, and reports how many rows went. `make N` runs the made application with N
+/// inputs, from 1 to 20,000, on a device of its own, and reports of that run.
 ///
 /// The status is 0 where all was done; 1 for words that are none of the forms; 2 for a definition or units that are
-/// refused; 3 for a script that is refused; 4 for a KDCFILE that is not one of this application; 5 where the disk or the
-/// line failed; 6 where a text could not be read; 7 for want of memory.
+/// refused; 3 for a script that is refused; 4 for a KDCFILE that is not one of this application, or that `update` does
+/// not carry; 5 where the disk or the line failed; 6 where a text could not be read; 7 for want of memory.
 pub fn utm<R: Room, D: Device>(
     alloc: Global,
     words: &Vec<String>,
@@ -49,12 +50,11 @@ pub fn utm<R: Room, D: Device>(
     ensures texts_part { ForRefusal (call (map string_bytes words.now.items) (R.room room.old) (D.state device.old)) (λ why. SaysPart (refusal_line why) (D.state device.old) (D.state device.new)) }
     ensures texts_names { ForRefusal (call (map string_bytes words.now.items) (R.room room.old) (D.state device.old)) (λ why. SameNames (D.state device.old) (D.state device.new)) }
 
-    // 4: the file is refused, for its bytes or for its other texts. Nothing is done but the line that says which.
-    ensures file { ForNoKdcfile (call (map string_bytes words.now.items) (R.room room.old) (D.state device.old)) (IsOneOf (4 ∷ 6 ∷ 5 ∷ 7 ∷ []) result.code) }
-    ensures other { ForOthers (call (map string_bytes words.now.items) (R.room room.old) (D.state device.old)) (λ stored. IsOneOf (4 ∷ 6 ∷ 5 ∷ 7 ∷ []) result.code) }
+    // 4: the file is refused, for its bytes, for its other texts, or under `update` for what these ask. Nothing is done
+    // but the line that says why.
+    ensures file { ForFile (call (map string_bytes words.now.items) (R.room room.old) (D.state device.old)) (λ why. IsOneOf (4 ∷ 6 ∷ 5 ∷ 7 ∷ []) result.code) }
     ensures file_only { result.code ≡ 4 → SaysFile (call (map string_bytes words.now.items) (R.room room.old) (D.state device.old)) (D.state device.new) }
-    ensures file_part { ForNoKdcfile (call (map string_bytes words.now.items) (R.room room.old) (D.state device.old)) (SaidPart not_a_kdcfile_line (D.state device.old) (D.state device.new)) }
-    ensures other_part { ForOthers (call (map string_bytes words.now.items) (R.room room.old) (D.state device.old)) (λ stored. SaidPart (other_generation_line stored) (D.state device.old) (D.state device.new)) }
+    ensures file_part { ForFile (call (map string_bytes words.now.items) (R.room room.old) (D.state device.old)) (λ why. SaidPart (file_line why) (D.state device.old) (D.state device.new)) }
 
     // 5: a call of the disk or the line failed. At any other status none did: at 7 it is memory alone that ran out.
     ensures device { result.code ≡ 5 → CallFailed (D.state device.old) (D.state device.new) }
@@ -71,29 +71,31 @@ pub fn utm<R: Room, D: Device>(
 
     // 0: all was done. The lines of all acts were sent, and the file stands for the tables after them, or is as it was.
     ensures done { result.code ≡ 0 → HasDone (call (map string_bytes words.now.items) (R.room room.old) (D.state device.old)) (D.state device.new) (D.leaves device.new) }
-    ensures accepted { ForStart (call (map string_bytes words.now.items) (R.room room.old) (D.state device.old)) (λ e t. IsOneOf (0 ∷ 6 ∷ 5 ∷ 7 ∷ []) result.code) }
+    ensures accepted { ForStart (call (map string_bytes words.now.items) (R.room room.old) (D.state device.old)) (λ e s. IsOneOf (0 ∷ 6 ∷ 5 ∷ 7 ∷ []) result.code) }
 
     // Where the words, the texts and the file are accepted and no count of faults rose, all was done or memory ran out.
-    ensures complete { ForStart (call (map string_bytes words.now.items) (R.room room.old) (D.state device.old)) (λ e t. Completes result.code (R.room room.old) (R.room room.new) (D.state device.old) (D.state device.new)) }
+    ensures complete { ForStart (call (map string_bytes words.now.items) (R.room room.old) (D.state device.old)) (λ e s. Completes result.code (R.room room.old) (R.room room.new) (D.state device.old) (D.state device.new)) }
 
-    // At a stop since the call, whatever its status, the bytes sent and the file are a cut of the acts.
-    ensures cut { ForStartAtRest (call (map string_bytes words.now.items) (R.room room.old) (D.state device.old)) (D.leaves device.old) (λ e t. LeavesCuts e t (D.state device.old) (D.leaves device.new)) }
+    // At a stop since the call, whatever its status, the bytes sent and the file are a cut of the acts. Under `update`
+    // they may be the old tables, as they were made, with nothing sent.
+    ensures cut { ForStartAtRest (call (map string_bytes words.now.items) (R.room room.old) (D.state device.old)) (D.leaves device.old) (λ e s. LeavesCuts e s (D.state device.old) (D.leaves device.new)) }
 
     // As the call left them, whatever its status, the bytes sent and the file are such a cut too. The lines are a front of
     // those of all acts, so those of `gen` are a front of its report.
-    ensures ended { ForStartAtRest (call (map string_bytes words.now.items) (R.room room.old) (D.state device.old)) (D.leaves device.old) (λ e t. EndsInCut e t (D.state device.old) (D.state device.new)) }
+    ensures ended { ForStartAtRest (call (map string_bytes words.now.items) (R.room room.old) (D.state device.old)) (D.leaves device.old) (λ e s. EndsInCut e s (D.state device.old) (D.state device.new)) }
 
-    // A file that is there keeps its bytes, whatever the status, where the acts commit nothing, as those of `gen`. Under
-    // `show` and `make` an empty one does too.
-    ensures left { ForStart (call (map string_bytes words.now.items) (R.room room.old) (D.state device.old)) (λ e t. LeavesFile e t (D.state device.old) (D.state device.new)) }
+    // A file that is there keeps its bytes, whatever the status, where the acts commit nothing, as those of `gen`; under
+    // `update` where it is of these texts. Under `show` and `make` an empty one does too.
+    ensures left { ForStart (call (map string_bytes words.now.items) (R.room room.old) (D.state device.old)) (λ e s. LeavesFile e s (D.state device.old) (D.state device.new)) }
 
-    // The bytes written, whatever the status: none, or at most those of the making of the file, where it was empty, and of
-    // the commits among some first acts whose lines were sent. `show` and `make` write none.
+    // The bytes written, whatever the status: none, or at most those of the making of the file, where it was empty,
+    // under `update` those of the new tables, and those of the commits among some first acts whose lines were sent.
+    // `show` and `make` write none.
     ensures written { Writes (call (map string_bytes words.now.items) (R.room room.old) (D.state device.old)) (D.state device.new) }
 
-    // Every commit of the script is lawful from tables that a file stands for, and every cut of it can be gone on from and
-    // is what a serial run of its first commits stores.
-    ensures laws { ForErrand (call (map string_bytes words.now.items) (R.room room.old) (D.state device.old)) (λ e. (bytes : List ℕ) (t : TableRows) → Starts e bytes t → RunsLawfully (app_of e) t e.commands) }
+    // Every commit of the script is lawful from the tables that a call goes on from, and every cut of it can be gone on
+    // from and is what a serial run of its first commits stores.
+    ensures laws { ForErrand (call (map string_bytes words.now.items) (R.room room.old) (D.state device.old)) (λ e. (bytes : List ℕ) (s : Stored) → Starts e bytes s → RunsLawfully (app_of e) (tables_of e s) e.commands) }
 
     // The file BASE.KDCA, and no other, was attached; none by `make`.
     ensures names { IsTrue (D.state device.old).told → SameNames (D.state device.old) (D.state device.new) ⊎ Attaches (map string_bytes words.now.items) (D.state device.old) (D.state device.new) }

@@ -21,6 +21,8 @@ pub(crate) enum Word {
     Run,
     /// The list of the tables.
     Show,
+    /// The tables are carried to the generation.
+    Update,
     /// The run of the made application with so many inputs, from 1 to 20,000.
     Make(u32),
 }
@@ -36,6 +38,8 @@ fn word_of(word: &[u8]) -> Option<Word>
         Some(Word::Run)
     } else if word == b"show".as_slice() {
         Some(Word::Show)
+    } else if word == b"update".as_slice() {
+        Some(Word::Update)
     } else {
         None
     }
@@ -71,7 +75,8 @@ fn word_with(word: &[u8], operand: &[u8]) -> Option<Word>
     }
 }
 
-/// The word and the operand of `gen BASE`, `run BASE`, `show BASE` and `make N`. All other words are no form.
+/// The word and the operand of `gen BASE`, `run BASE`, `show BASE`, `update BASE` and `make N`. All other words are no
+/// form.
 pub(crate) fn request_of(words: &[String]) -> Option<(Word, &[u8])>
     ensures value { MatchOption result (request (map string_bytes words.now) ≡ None) (λ r. request (map string_bytes words.now) ≡ Some (r.0, r.1.now)) }
     ensures form { IfSome result (λ r. IsForm r.0) }

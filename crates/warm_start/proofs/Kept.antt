@@ -16,10 +16,10 @@ use Rattle.laws_of_steps.specs.Suits.{Suits, SuitsFrom}
 use Rattle.record_codec.specs.Records.{content_of_tables, AreTablesOf}
 use Rattle.record_codec.specs.RowReadings.{IsProperRow}
 use Rattle.record_codec.specs.TableReadings.{AreProperTables}
-use Rattle.warm_start.specs.Stands.{AreTables, StandsForTables, KeepsTables, identity_for}
+use Rattle.warm_start.specs.Stands.{AreTables, StandsForNoTables, StandsForTables, KeepsTables, identity_for}
 use Rattle.warm_start.specs.Kept.{KeepsNoneFor, KeepsOthers}
 use Rattle.warm_start.specs.Opening.{HasNoTablesFor, IsOfOtherTexts}
-use Rattle.warm_start.specs.MeaningLaws.{one_table, kept_stands, content_fits}
+use Rattle.warm_start.specs.MeaningLaws.{one_table, kept_stands, none_for, content_fits}
 use Rattle.warm_start.specs.declared.error.OpenError.{OpenError}
 
 -- ---- tables that are read from what a store keeps
@@ -72,12 +72,18 @@ module _ (s : Paged) (bytes : List ℕ) (file : HasFile s bytes) where
     stands = (s.identity, others.keeps.0, kept_stands s.identity s others.keeps.0 bytes others.keeps.1 file, others.made_with);
   }
 
+  -- a content that no tables have
+  pub none_kept : ((t : TableRows) → AreProperTables t → AreTablesOf s.content t → ⊥) → StandsForNoTables bytes
+  none_kept none i t stands =
+      let k = keeps_meant i t stands in
+      none t k.tables.proper (record { sorted = k.tables.sorted; records = k.content })
+
 -- bytes that stand for no image stand for no tables
+pub none_there : (bytes : List ℕ) → IsNoImage bytes → StandsForNoTables bytes
+none_there bytes none i t stands = none i (content_of_tables t) stands.content
+
 pub no_tables : (g : Generated) (fingerprint bytes : List ℕ) → IsNoImage bytes → HasNoTablesFor g fingerprint bytes
-no_tables g fingerprint bytes none = record {
-  own_texts = λ i t stands. absurd (none i (content_of_tables t) stands.content);
-  unsuited = λ i t stands suits. none i (content_of_tables t) stands.content;
-}
+no_tables g fingerprint bytes none = none_for g fingerprint bytes (none_there bytes none)
 
 -- ---- the empty tables
 

@@ -7,15 +7,14 @@ use Rattle.kd_records.specs.declared.content.Content.{Content}
 use Rattle.kdcdef_types.specs.Generation.{Generated}
 use Rattle.kdcs_types.specs.Tables.{TableRows}
 use Rattle.kdcfile_read.specs.ReadFilesLaws.{one_meaning}
-use Rattle.kdcfile_layout.specs.Layout.{Stands}
+use Rattle.kdcfile_layout.specs.Layout.{StandsFor}
 use Rattle.kdcfile_store.specs.Paged.{Paged, HasFile}
-use Rattle.abstract_monitor.specs.Charges.{total_charge}
 use Rattle.laws_of_steps.specs.Suits.{Suits}
 use Rattle.record_codec.specs.Records.{content_of_tables}
 use Rattle.record_codec.specs.OneToOneLaws.{tables_are_one_to_one}
-use Rattle.table_fit.specs.LengthsLaws.{charges_are_those_of_the_bytes}
-use Rattle.warm_start.specs.Stands.{AreTables, StandsForTables, KeepsTables, OneMeaningOfTables, identity_for}
-use Rattle.warm_start.specs.Opening.{StartsFrom, IsRefused, IsOfOtherTexts, AnswersExcludeEachOther}
+use Rattle.warm_start.specs.ContentLaws.{content_charged}
+use Rattle.warm_start.specs.Stands.{AreTables, StandsForNoTables, StandsForTables, KeepsTables, OneMeaningOfTables, identity_for}
+use Rattle.warm_start.specs.Opening.{StartsFrom, HasNoTablesFor, IsRefused, IsOfOtherTexts, AnswersExcludeEachOther}
 
 pub one_table : (t u : TableRows) → AreTables t → AreTables u → content_of_tables t ≡ content_of_tables u → t ≡ u
 one_table t u h k same = tables_are_one_to_one t u h.proper k.proper h.sorted k.sorted same
@@ -29,12 +28,17 @@ one_meaning_of_tables i j t u bytes h k =
 pub nothing_stands : (i : Identity) (t : TableRows) → StandsForTables i t [] → ⊥
 nothing_stands i t stands = absurd (omega (arith, ap (λ (l : List ℕ). length l) stands.content.2.image.headed, length-take {A = ℕ} 13 []))
 
--- the bytes of a store that keeps tables stand for them
+-- where a store keeps tables, its content stands for them, and so do the bytes of its file
+pub kept_means : (i : Identity) (store : Paged) (t : TableRows) → KeepsTables i store t → (bytes : List ℕ) → StandsFor store.identity store.content bytes → StandsForTables i t bytes
+kept_means i store t keeps bytes stands =
+    record { tables = keeps.tables; content = subst (λ (x : Content). StandsFor i x bytes) keeps.content (subst (λ (j : Identity). StandsFor j store.content bytes) keeps.identity_is stands) }
+
 pub kept_stands : (i : Identity) (store : Paged) (t : TableRows) (bytes : List ℕ) → KeepsTables i store t → HasFile store bytes → StandsForTables i t bytes
-kept_stands i store t bytes keeps file = record {
-  tables = keeps.tables;
-  content = (store.second, store.layout, subst (λ (x : Content). Stands i store.second x store.layout bytes) keeps.content (subst (λ (j : Identity). Stands j store.second store.content store.layout bytes) keeps.identity_is file));
-}
+kept_stands i store t bytes keeps file = kept_means i store t keeps bytes (store.second, store.layout, file)
+
+-- bytes that stand for no tables have none for any texts
+pub none_for : (g : Generated) (fingerprint bytes : List ℕ) → StandsForNoTables bytes → HasNoTablesFor g fingerprint bytes
+none_for g fingerprint bytes none = record { own_texts = λ i t stands. absurd (none i t stands); unsuited = λ i t stands suits. none i t stands }
 
 -- ---- a file is answered in one way
 
@@ -76,6 +80,5 @@ answers_exclude_each_other g fingerprint bytes = record {
 
 pub content_fits : (g : Generated) (fingerprint : List ℕ) (s : Paged) (t : TableRows) → KeepsTables (identity_for g fingerprint) s t → Suits g t → records_charge s.identity.blksize s.content.items ≤ s.identity.pages
 content_fits g fingerprint s t k suits =
-    let charged : total_charge g.limits.blksize t ≡ records_charge g.limits.blksize (content_of_tables t).items = charges_are_those_of_the_bytes g.limits.blksize t k.tables.proper in
     subst (λ (i : Identity). records_charge i.blksize s.content.items ≤ i.pages) (sym k.identity_is)
-    (subst (λ (x : Content). records_charge g.limits.blksize x.items ≤ g.limits.pgpool) (sym k.content) (subst (λ (n : ℕ). n ≤ g.limits.pgpool) charged suits.charge))
+    (subst (λ (x : Content). records_charge g.limits.blksize x.items ≤ g.limits.pgpool) (sym k.content) (content_charged g t k.tables.proper suits))

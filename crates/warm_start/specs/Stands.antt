@@ -27,6 +27,10 @@ pub record StandsForTables (i : Identity) (t : TableRows) (bytes : List ℕ) : T
   pub tables : AreTables t
   pub content : StandsFor i (content_of_tables t) bytes
 
+-- the bytes stand for no tables
+abbrev pub StandsForNoTables : List ℕ → Type 0
+StandsForNoTables bytes = (i : Identity) (t : TableRows) → StandsForTables i t bytes → ⊥
+
 -- the store keeps these tables, in a file that was made with this
 pub record KeepsTables (i : Identity) (store : Paged) (t : TableRows) : Type 0 where
   pub identity_is : store.identity ≡ i

@@ -1,12 +1,13 @@
 //! The KDCFILE is made where it is empty, and else opened warm; or its tables are read, and it stays as it is.
 ghost use Rattle.std.specs.Prelude.{◌≡◌, ◌≤◌, ◌+◌, [], List, ℕ, IsTrue, length, IfOk, OnOk, IsErrOf};
 ghost use Rattle.kd_device.specs.{Device.{State, Rose, Frame, SameFaults, SameNames, Only}, Rest.{Rests}};
-ghost use Rattle.kd_records.specs.Charge.{total_charge};
+ghost use Rattle.kd_records.specs.{Charge.{total_charge}, Contents.{IsContent}, Identity.{IsIdentity}};
+ghost use Rattle.kdcdef_check.specs.Soundness.{AreLimits};
 ghost use Rattle.kdcdef_types.specs.Statements.{IsBlksize, IsWithin};
 ghost use Rattle.kdcs_types.specs.Tables.{empty_tables};
 ghost use Rattle.kdcfile_store.specs.{Kept.{IsKept}, Paged.{HasFile, LeavesMade, made_length}};
 ghost use Rattle.laws_of_steps.specs.Suits.{Suits};
-ghost use Rattle.warm_start.specs.{Stands.{AreTables, KeepsTables, StandsForTables, identity_for, limits_of}, Kept.{KeepsNoneFor, KeepsOthers}, Opening.{StartsFrom, HasNoTablesFor, IsRefused, IsOfOtherTexts, LeavesOpening, opening_most}};
+ghost use Rattle.warm_start.specs.{Stands.{AreTables, KeepsTables, StandsForNoTables, StandsForTables, identity_for, limits_of}, Kept.{KeepsNoneFor, KeepsOthers}, Opening.{StartsFrom, HasNoTablesFor, IsRefused, IsOfOtherTexts, LeavesOpening, opening_most}};
 
 use crate::error::OpenError;
 use kd_device::{Device, DeviceError};
@@ -33,8 +34,9 @@ fn size_at_rest<D: Device>(device: &mut D) -> Result<u64, DeviceError>
 }
 
 /// BLKSIZE and PGPOOL of the generation.
-fn limits_of(generation: &Generation) -> StoreLimits
+pub fn limits_of(generation: &Generation) -> StoreLimits
     ensures limits { result ≡ limits_of generation.now }
+    ensures sound { AreLimits generation.now.limits }
     ensures blksize { IsBlksize result.blksize }
     ensures pgpool { IsWithin 16 30000 result.pgpool }
 {
@@ -164,6 +166,29 @@ pub fn open_tables<D: Device>(
         make(alloc, device, generation, fingerprint)
     } else {
         warm(alloc, device, generation, fingerprint)
+    }
+}
+
+/// Opens the KDCFILE that the device has, whatever the texts that it was made with. Bytes that stand for no tables,
+/// empty ones too, are refused. The file stays as it is.
+pub fn open_any<D: Device>(alloc: Global, device: &mut D) -> Result<(PagedStore, Tables), OpenError>
+    ensures tables { IfOk result (λ o. KeepsTables o.0.identity o.0 o.1) }
+    ensures identity { IfOk result (λ o. IsIdentity o.0.identity) }
+    ensures content { IfOk result (λ o. IsContent o.0.content) }
+    ensures stands { IfOk result (λ o. IsTrue (D.state device.old).told → StandsForTables o.0.identity o.1 (D.state device.old).holds) }
+    ensures kept { IfOk result (λ o. IsTrue (D.state device.old).told → IsKept (HasFile o.0) (D.state device.new) (D.leaves device.new)) }
+    ensures refused { IsErrOf result OpenError.NotKdcfile → IsTrue (D.state device.old).told → StandsForNoTables (D.state device.old).holds }
+    ensures other { (stored : List ℕ) → IsErrOf result (OpenError.OtherGeneration stored) → ⊥ }
+    ensures rests { IsTrue (D.state device.old).told → Rests (D.state device.old) (D.state device.new) (D.leaves device.old) (D.leaves device.new) }
+    ensures failed { IsErrOf result OpenError.Failed → Rose (D.state device.old).disk_faults (D.state device.new).disk_faults }
+    ensures fine { (IsErrOf result OpenError.Failed → ⊥) → SameFaults (D.state device.old) (D.state device.new) }
+    ensures frame { Frame (D.state device.old) (D.state device.new) }
+    ensures names { SameNames (D.state device.old) (D.state device.new) }
+{
+    let store = PagedStore::load(alloc, device)?;
+    match tables_of(alloc, store.kept())? {
+        Some(tables) => Ok((store, tables)),
+        None => Err(OpenError::NotKdcfile),
     }
 }
 

@@ -1,4 +1,4 @@
-use Rattle.std.proofs.Common.{◌≡◌, ◌≤◌, ◌+◌, ◌∙◌, ◌++◌, ap, subst, inl, List, ℕ}
+use Rattle.std.proofs.Common.{◌≡◌, ◌≤◌, ◌+◌, ◌∙◌, ◌++◌, ap, subst, List, ℕ}
 use Rattle.std.specs.Prelude.{IsTrue, true}
 use Rattle.std.proofs.lemmas.Result.{on_ok_weaker}
 use Rattle.kd_device.specs.Device.{LeavesOnly}
@@ -6,10 +6,10 @@ use Rattle.kdcs_types.specs.Tables.{TableRows}
 use Rattle.abstract_monitor.specs.Trace.{bytes_of}
 use Rattle.warm_start.specs.Opening.{IsOpening, IsRefused, IsOfOtherTexts, opening_most}
 use Rattle.utm_cli.specs.Asking.{Errand}
-use Rattle.utm_cli.specs.Doing.{Opens, identity_of, acts_of}
+use Rattle.utm_cli.specs.Doing.{Opens, OpeningRefuses, identity_of, own, acts_of}
 use Rattle.device_acts.specs.Acting.{commits_nothing}
-use Rattle.kd_base.specs.ToolsLaws.{error_same}
-use Rattle.device_acts.specs.ErrorsLaws.{no_error, other_error}
+use Rattle.device_acts.specs.ErrorsLaws.{no_error}
+use Rattle.utm_cli.proofs.Refused.{open_refused}
 use Rattle.utm_cli.proofs.ByWord.{not_empty, opened_once}
 use Rattle.utm_cli.proofs.Ran.{opening_cut, run_cut}
 use Rattle.utm_cli.proofs.Writing.{opening_written, store_written}
@@ -18,15 +18,11 @@ use Rattle.utm_cli.proofs.run.run_stored.Goals as goal
 use Rattle.kd_device.specs.TimeLaws.{faults_then, rose_either, told_after}
 
 pub returns-in_err-store-clause-refused : goal.returns-in_err-store-clause-refused
-returns-in_err-store-clause-refused g c = λ is told.
-    subst (λ (e : Errand). IsRefused e.application.generation e.fingerprint (g.D.Device.state c.args.device.now).holds) c.asked.view_is (c.in_err-store.ensures.refused (error_same _ _ c.from_residual.result c.in_err-store.field-0.0 _ c.from_residual.ensures.1 is) told)
-
-pub returns-in_err-store-clause-other : goal.returns-in_err-store-clause-other
-returns-in_err-store-clause-other g c = λ stored is told.
-    subst (λ (e : Errand). IsOfOtherTexts stored e.fingerprint (g.D.Device.state c.args.device.now).holds) c.asked.view_is (c.in_err-store.ensures.other stored (error_same _ _ c.from_residual.result c.in_err-store.field-0.0 _ c.from_residual.ensures.1 is) told)
-
-pub returns-in_err-store-clause-failed : goal.returns-in_err-store-clause-failed
-returns-in_err-store-clause-failed g c = λ is. inl (c.in_err-store.ensures.failed (error_same _ _ c.from_residual.result c.in_err-store.field-0.0 _ c.from_residual.ensures.1 is))
+returns-in_err-store-clause-refused g c = λ r is told.
+    let holds = (g.D.Device.state c.args.device.now).holds in
+    open_refused _ _ c.from_residual.result c.in_err-store.field-0.0 r c.from_residual.ensures.1 is (OpeningRefuses c.args.asked holds)
+    (λ none. subst (λ (e : Errand). IsRefused e.application.generation e.fingerprint holds) c.asked.view_is (c.in_err-store.ensures.refused none told))
+    (λ stored other. subst (λ (e : Errand). IsOfOtherTexts stored e.fingerprint holds) c.asked.view_is (c.in_err-store.ensures.other stored other told))
 
 pub returns-in_err-store-clause-still : goal.returns-in_err-store-clause-still
 returns-in_err-store-clause-still g c = λ told none. c.open.ensures.still told (not_empty c.args.asked (g.D.Device.state c.args.device.now).holds none)
@@ -47,10 +43,10 @@ opens g c told = subst (λ (e : Errand). Opens e (g.D.Device.state c.args.device
 pub returns-clause-done : goal.returns-clause-done
 returns-clause-done g c = on_ok_weaker c.do_errand.result (λ ran told.
     let done = ran (told_after _ _ c.open.ensures.frame told) in
-    (_, opens g c told, record { sent = done.sent ∙ ap (λ (s : List ℕ). s ++ bytes_of (acts_of c.args.asked c.in_ok-store.tables)) (c.open.ensures.sent told); holds = done.holds; at_rest = done.at_rest })) c.do_errand.ensures.done
+    (_, opens g c told, record { sent = done.sent ∙ ap (λ (s : List ℕ). s ++ bytes_of (acts_of c.args.asked (own c.args.asked c.in_ok-store.tables))) (c.open.ensures.sent told); holds = done.holds; at_rest = done.at_rest })) c.do_errand.ensures.done
 
-pub returns-clause-other : goal.returns-clause-other
-returns-clause-other g c = λ stored is told. absurd (c.do_errand.ensures.other stored is (told_after _ _ c.open.ensures.frame told))
+pub returns-clause-refused : goal.returns-clause-refused
+returns-clause-refused g c = λ r is told. absurd (c.do_errand.ensures.refused r is (told_after _ _ c.open.ensures.frame told))
 
 pub returns-clause-still : goal.returns-clause-still
 returns-clause-still g c = λ told none. absurd (none c.in_ok-store.tables (opens g c told))
@@ -69,14 +65,11 @@ pub returns-clause-left : goal.returns-clause-left
 returns-clause-left g c = λ told t starts some lines.
     let same = opened_once c.args.asked _ t _ starts (opens g c told) in
     let rests = c.open.ensures.still told some in
-    let quiet = c.do_errand.ensures.any.quiet (told_after _ _ c.open.ensures.frame told) (subst (λ (v : TableRows). commits_nothing (acts_of c.args.asked v) ≡ true) same lines) in
+    let quiet = c.do_errand.ensures.any.quiet (told_after _ _ c.open.ensures.frame told) (subst (λ (v : TableRows). commits_nothing (acts_of c.args.asked (own c.args.asked v)) ≡ true) same lines) in
     record { holds = quiet.holds ∙ rests.holds; put = quiet.put ∙ rests.put }
 
 pub returns-clause-failed : goal.returns-clause-failed
 returns-clause-failed g c = λ is. rose_either (g.D.Device.state c.args.device.now) (g.D.Device.state c.open.new.device) (g.D.Device.state c.do_errand.new.device) c.open.ensures.frame (c.do_errand.ensures.failed is)
-
-pub returns-in_err-store-clause-fine : goal.returns-in_err-store-clause-fine
-returns-in_err-store-clause-fine g c = λ none. c.in_err-store.ensures.fine (other_error _ _ c.from_residual.result c.in_err-store.field-0.0 _ c.from_residual.ensures.1 none)
 
 pub returns-clause-fine : goal.returns-clause-fine
 returns-clause-fine g c = λ none. faults_then _ _ _ (c.in_ok-store.ensures.fine (no_error _ _)) (c.do_errand.ensures.fine none)

@@ -1,18 +1,17 @@
 use Rattle.std.proofs.Common.{◌≡◌, ◌∙◌, ⊎_elim, inl, inr, refl, sym, ap, subst, map, ℕ, List, [], ◌∷◌, Ok, Err}
-use Rattle.std.specs.Prelude.{IsTrue, true}
+use Rattle.std.specs.Prelude.{IsTrue}
 use Rattle.std.specs.String.{string_bytes}
 use Rattle.refusals.specs.declared.error.Refusal.{Refusal}
 use Rattle.refusals.specs.declared.error.TextError.{TextError}
 use Rattle.refusals.specs.Statuses.{status_of}
-use Rattle.refusals.specs.Lines.{refusal_line, other_generation_line}
-use Rattle.utm_cli.specs.Words.{request_of, not_a_kdcfile_line}
-use Rattle.device_acts.specs.Said.{SameDisk, Said, SaidPart}
+use Rattle.refusals.specs.Lines.{refusal_line, file_line}
+use Rattle.utm_cli.specs.Words.{request_of}
+use Rattle.device_acts.specs.Said.{Said, SaidPart}
 use Rattle.utm_cli.specs.Asking.{Reading, AreThere}
-use Rattle.utm_cli.specs.Doing.{Starts, Refuses, IsOfOthers, acts_of}
-use Rattle.device_acts.specs.Acting.{commits_nothing}
+use Rattle.utm_cli.specs.Doing.{Starts, Refuses}
 use Rattle.utm_cli.specs.declared.words.Word.{Word}
 use Rattle.refusals.specs.Statuses.{IsOneOf}
-use Rattle.utm_cli.specs.Promise.{Request, Reads, IsCutOfRun, MakesFile, AttachedBy}
+use Rattle.utm_cli.specs.Promise.{Request, Reads, IsCutOfRun, LeavesFile, AttachedBy}
 use Rattle.utm_cli.proofs.Asking.{reads_of, one_reading, not_missed, misses_of, ok_not, moved, err_not, err_same, cut_at_call, cut_since_call}
 use Rattle.utm_cli.proofs.Ends.{ends}
 use Rattle.utm_cli.proofs.Codes.{of_run, of_file, of_done, of_refused, not_refused, not_device}
@@ -52,35 +51,21 @@ pub returns-in-Ok-clause-texts_only : goal.returns-in-Ok-clause-texts_only
 returns-in-Ok-clause-texts_only g c = λ code. absurd (not_refused c.run.result.code c.run.ensures.code code)
 
 pub returns-in-Ok-clause-file : goal.returns-in-Ok-clause-file
-returns-in-Ok-clause-file g c = λ told told_device f said.
+returns-in-Ok-clause-file g c = λ told told_device f said why.
     let one = one_said g c told in
     let a = g.D.Device.state c.args.device.now in
-    let d = g.D.Device.state c.run.new.device in
-    moved _ _ _ one (λ x. Refuses x a.holds → IsOneOf (4 ∷ 6 ∷ 5 ∷ 7 ∷ []) c.run.result.code) f said (λ refused. of_file c.run.result.code (c.run.ensures.refused told_device refused))
+    moved _ _ _ one (λ x. Refuses x a.holds why → IsOneOf (4 ∷ 6 ∷ 5 ∷ 7 ∷ []) c.run.result.code) f said (λ refuses. of_file c.run.result.code (c.run.ensures.refused told_device why refuses))
 
 pub returns-in-Ok-clause-file_only : goal.returns-in-Ok-clause-file_only
 returns-in-Ok-clause-file_only g c = λ code.
     (c.in-Ok.asked, λ told. reads_of _ _ _ _ (asked_ok g c) (Ok c.in-Ok.asked) (c.in-Ok.ensures.found told), λ told_device. c.run.ensures.refused_only code told_device)
 
 pub returns-in-Ok-clause-file_part : goal.returns-in-Ok-clause-file_part
-returns-in-Ok-clause-file_part g c = λ told told_device f said.
+returns-in-Ok-clause-file_part g c = λ told told_device f said why.
     let one = one_said g c told in
     let a = g.D.Device.state c.args.device.now in
     let d = g.D.Device.state c.run.new.device in
-    moved _ _ _ one (λ x. Refuses x a.holds → SaidPart not_a_kdcfile_line a d) f said (λ refused. c.run.ensures.refused_part told_device refused)
-
-pub returns-in-Ok-clause-other : goal.returns-in-Ok-clause-other
-returns-in-Ok-clause-other g c = λ told told_device f said stored.
-    let one = one_said g c told in
-    let a = g.D.Device.state c.args.device.now in
-    moved _ _ _ one (λ x. IsOfOthers stored x a.holds → IsOneOf (4 ∷ 6 ∷ 5 ∷ 7 ∷ []) c.run.result.code) f said (λ other. of_file c.run.result.code (c.run.ensures.other told_device stored other))
-
-pub returns-in-Ok-clause-other_part : goal.returns-in-Ok-clause-other_part
-returns-in-Ok-clause-other_part g c = λ told told_device f said stored.
-    let one = one_said g c told in
-    let a = g.D.Device.state c.args.device.now in
-    let d = g.D.Device.state c.run.new.device in
-    moved _ _ _ one (λ x. IsOfOthers stored x a.holds → SaidPart (other_generation_line stored) a d) f said (λ other. c.run.ensures.other_part told_device stored other)
+    moved _ _ _ one (λ x. Refuses x a.holds why → SaidPart (file_line why) a d) f said (λ refuses. c.run.ensures.refused_part told_device why refuses)
 
 pub returns-in-Ok-clause-missing : goal.returns-in-Ok-clause-missing
 returns-in-Ok-clause-missing g c = λ told misses.
@@ -99,43 +84,43 @@ returns-in-Ok-clause-done g c = λ code told told_device.
     let ran = c.run.ensures.done code told_device in (c.in-Ok.asked, reads_of _ _ _ _ (asked_ok g c) (Ok c.in-Ok.asked) (c.in-Ok.ensures.found told), ran.0, ran.1, ran.2)
 
 pub returns-in-Ok-clause-accepted : goal.returns-in-Ok-clause-accepted
-returns-in-Ok-clause-accepted g c = λ told told_device f t said.
+returns-in-Ok-clause-accepted g c = λ told told_device f s said.
     let one = one_said g c told in
     let a = g.D.Device.state c.args.device.now in
     let d = g.D.Device.state c.run.new.device in
-    moved _ _ _ one (λ x. Starts x a.holds t → IsOneOf (0 ∷ 6 ∷ 5 ∷ 7 ∷ []) c.run.result.code) f said (λ starts. of_done c.run.result.code (c.run.ensures.accepted told_device t starts))
+    moved _ _ _ one (λ x. Starts x a.holds s → IsOneOf (0 ∷ 6 ∷ 5 ∷ 7 ∷ []) c.run.result.code) f said (λ starts. of_done c.run.result.code (c.run.ensures.accepted told_device s starts))
 
 pub returns-in-Ok-clause-complete : goal.returns-in-Ok-clause-complete
-returns-in-Ok-clause-complete g c = λ told told_device f t said starts disk line texts.
+returns-in-Ok-clause-complete g c = λ told told_device f s said starts disk line texts.
     let one = one_said g c told in
     let a = g.D.Device.state c.args.device.now in
     let d = g.D.Device.state c.run.new.device in
-    not_device c.run.result.code (moved _ _ _ one (λ x. Starts x a.holds t → IsOneOf (0 ∷ 5 ∷ 7 ∷ []) c.run.result.code) f said (λ from. c.run.ensures.accepted told_device t from) starts) (λ five. ⊎_elim (λ rose. disk rose) (λ rose. line rose) (c.run.ensures.failed five))
+    not_device c.run.result.code (moved _ _ _ one (λ x. Starts x a.holds s → IsOneOf (0 ∷ 5 ∷ 7 ∷ []) c.run.result.code) f said (λ from. c.run.ensures.accepted told_device s from) starts) (λ five. ⊎_elim (λ rose. disk rose) (λ rose. line rose) (c.run.ensures.failed five))
 
 pub returns-in-Ok-clause-cut : goal.returns-in-Ok-clause-cut
-returns-in-Ok-clause-cut g c = λ told told_device only f t said.
+returns-in-Ok-clause-cut g c = λ told told_device only f s said.
     let one = one_said g c told in
     let a = g.D.Device.state c.args.device.now in
     let d = g.D.Device.state c.run.new.device in
     let la = g.D.Device.leaves c.args.device.now in
     let ld = g.D.Device.leaves c.run.new.device in
-    moved _ _ _ one (λ x. Starts x a.holds t → (image out : List ℕ) → ld a.moment image out → IsCutOfRun x t a image out) f said
-    (λ starts image out left. cut_since_call c.in-Ok.asked t a d la ld only starts (λ m o past. g.met.D.Device.sent_now c.args.device.now m o told_device past) (c.run.ensures.any_moment told_device only t starts) image out left)
+    moved _ _ _ one (λ x. Starts x a.holds s → (image out : List ℕ) → ld a.moment image out → IsCutOfRun x s a image out) f said
+    (λ starts image out left. cut_since_call c.in-Ok.asked s a d la ld only starts (λ m o past. g.met.D.Device.sent_now c.args.device.now m o told_device past) (c.run.ensures.any_moment told_device only s starts) image out left)
 
 pub returns-in-Ok-clause-ended : goal.returns-in-Ok-clause-ended
-returns-in-Ok-clause-ended g c = λ told told_device only f t said starts.
+returns-in-Ok-clause-ended g c = λ told told_device only f s said starts.
     let a = g.D.Device.state c.args.device.now in
     let d = g.D.Device.state c.run.new.device in
     let told_d : IsTrue d.told = rw c.run.ensures.frame.told told_device in
     let left = g.met.D.Device.earlier c.run.new.device a.moment d.moment d.holds d.sent told_d c.run.ensures.frame.moment (g.met.D.Device.holds_now c.run.new.device told_d) in
-    ends f t a d (returns-in-Ok-clause-cut g c told told_device only f t said starts d.holds d.sent left)
+    ends f s a d (returns-in-Ok-clause-cut g c told told_device only f s said starts d.holds d.sent left)
 
 pub returns-in-Ok-clause-left : goal.returns-in-Ok-clause-left
-returns-in-Ok-clause-left g c = λ told told_device f t said.
+returns-in-Ok-clause-left g c = λ told told_device f s said.
     let one = one_said g c told in
     let a = g.D.Device.state c.args.device.now in
     let d = g.D.Device.state c.run.new.device in
-    moved _ _ _ one (λ x. Starts x a.holds t → (MakesFile x.word → a.holds ≡ [] → ⊥) → commits_nothing (acts_of x t) ≡ true → SameDisk a d) f said (λ starts some lines. c.run.ensures.left told_device t starts some lines)
+    moved _ _ _ one (λ x. Starts x a.holds s → LeavesFile x s a d) f said (λ starts. c.run.ensures.left told_device s starts)
 
 pub returns-in-Ok-clause-names : goal.returns-in-Ok-clause-names
 returns-in-Ok-clause-names g c = λ told_device.
@@ -186,12 +171,6 @@ returns-in-Err-Refused-clause-file g c = λ told told_device f said. absurd (err
 pub returns-in-Err-Refused-clause-file_part : goal.returns-in-Err-Refused-clause-file_part
 returns-in-Err-Refused-clause-file_part g c = λ told told_device f said. absurd (err_not _ _ _ (one_refused g c told) f said)
 
-pub returns-in-Err-Refused-clause-other : goal.returns-in-Err-Refused-clause-other
-returns-in-Err-Refused-clause-other g c = λ told told_device f said. absurd (err_not _ _ _ (one_refused g c told) f said)
-
-pub returns-in-Err-Refused-clause-other_part : goal.returns-in-Err-Refused-clause-other_part
-returns-in-Err-Refused-clause-other_part g c = λ told told_device f said. absurd (err_not _ _ _ (one_refused g c told) f said)
-
 pub returns-in-Err-Refused-clause-missing : goal.returns-in-Err-Refused-clause-missing
 returns-in-Err-Refused-clause-missing g c = λ told misses.
     let why = c.in-Err-Refused.why in
@@ -205,19 +184,19 @@ returns-in-Err-Refused-clause-missing_said g c = λ told told_device misses.
     absurd (not_missed _ _ _ _ (asked_refused g c) (Err why) (c.in-Err-Refused.ensures.refused why is told) misses)
 
 pub returns-in-Err-Refused-clause-accepted : goal.returns-in-Err-Refused-clause-accepted
-returns-in-Err-Refused-clause-accepted g c = λ told told_device f t said. absurd (err_not _ _ _ (one_refused g c told) f said)
+returns-in-Err-Refused-clause-accepted g c = λ told told_device f s said. absurd (err_not _ _ _ (one_refused g c told) f said)
 
 pub returns-in-Err-Refused-clause-complete : goal.returns-in-Err-Refused-clause-complete
-returns-in-Err-Refused-clause-complete g c = λ told told_device f t said. absurd (err_not _ _ _ (one_refused g c told) f said)
+returns-in-Err-Refused-clause-complete g c = λ told told_device f s said. absurd (err_not _ _ _ (one_refused g c told) f said)
 
 pub returns-in-Err-Refused-clause-cut : goal.returns-in-Err-Refused-clause-cut
-returns-in-Err-Refused-clause-cut g c = λ told told_device only f t said. absurd (err_not _ _ _ (one_refused g c told) f said)
+returns-in-Err-Refused-clause-cut g c = λ told told_device only f s said. absurd (err_not _ _ _ (one_refused g c told) f said)
 
 pub returns-in-Err-Refused-clause-ended : goal.returns-in-Err-Refused-clause-ended
-returns-in-Err-Refused-clause-ended g c = λ told told_device only f t said. absurd (err_not _ _ _ (one_refused g c told) f said)
+returns-in-Err-Refused-clause-ended g c = λ told told_device only f s said. absurd (err_not _ _ _ (one_refused g c told) f said)
 
 pub returns-in-Err-Refused-clause-left : goal.returns-in-Err-Refused-clause-left
-returns-in-Err-Refused-clause-left g c = λ told told_device f t said. absurd (err_not _ _ _ (one_refused g c told) f said)
+returns-in-Err-Refused-clause-left g c = λ told told_device f s said. absurd (err_not _ _ _ (one_refused g c told) f said)
 
 -- ---- a text is not there
 
@@ -238,30 +217,30 @@ returns-in-Err-Room-clause-room_sure g c = λ code sure.
     misses_of _ _ _ _ (asked_room g c) (missed g c sure)
 
 pub returns-in-Err-Room-clause-complete : goal.returns-in-Err-Room-clause-complete
-returns-in-Err-Room-clause-complete g c = λ told told_device f t said starts disk line texts.
+returns-in-Err-Room-clause-complete g c = λ told told_device f s said starts disk line texts.
     absurd (⊎_elim (λ none. none (c.in-Err-Room.ensures.room (ap (λ (e : TextError). Err e) c.in-Err-Room.field-0-is))) (λ sure. not_missed (map string_bytes c.args.words.now.items) (g.R.Room.room c.args.room.now) said.word said.base said.asked (Ok f) said.reads (misses_of _ _ _ _ (asked_room g c) (missed g c sure))) texts)
 
 pub returns-in-Err-Room-clause-cut : goal.returns-in-Err-Room-clause-cut
-returns-in-Err-Room-clause-cut g c = λ told told_device only f t said starts image out left.
+returns-in-Err-Room-clause-cut g c = λ told told_device only f s said starts image out left.
     let a = g.D.Device.state c.args.device.now in
     let la = g.D.Device.leaves c.args.device.now in
-    cut_at_call f t a a la la only starts (λ m o past. g.met.D.Device.sent_now c.args.device.now m o told_device past) image out left
+    cut_at_call f s a a la la only starts (λ m o past. g.met.D.Device.sent_now c.args.device.now m o told_device past) image out left
 
 pub returns-in-Err-Room-clause-ended : goal.returns-in-Err-Room-clause-ended
-returns-in-Err-Room-clause-ended g c = λ told told_device only f t said starts.
+returns-in-Err-Room-clause-ended g c = λ told told_device only f s said starts.
     let a = g.D.Device.state c.args.device.now in
-    ends f t a a (returns-in-Err-Room-clause-cut g c told told_device only f t said starts a.holds a.sent (g.met.D.Device.holds_now c.args.device.now told_device))
+    ends f s a a (returns-in-Err-Room-clause-cut g c told told_device only f s said starts a.holds a.sent (g.met.D.Device.holds_now c.args.device.now told_device))
 
 pub returns-in-Err-Memory-clause-cut : goal.returns-in-Err-Memory-clause-cut
-returns-in-Err-Memory-clause-cut g c = λ told told_device only f t said starts image out left.
+returns-in-Err-Memory-clause-cut g c = λ told told_device only f s said starts image out left.
     let a = g.D.Device.state c.args.device.now in
     let la = g.D.Device.leaves c.args.device.now in
-    cut_at_call f t a a la la only starts (λ m o past. g.met.D.Device.sent_now c.args.device.now m o told_device past) image out left
+    cut_at_call f s a a la la only starts (λ m o past. g.met.D.Device.sent_now c.args.device.now m o told_device past) image out left
 
 pub returns-in-Err-Memory-clause-ended : goal.returns-in-Err-Memory-clause-ended
-returns-in-Err-Memory-clause-ended g c = λ told told_device only f t said starts.
+returns-in-Err-Memory-clause-ended g c = λ told told_device only f s said starts.
     let a = g.D.Device.state c.args.device.now in
-    ends f t a a (returns-in-Err-Memory-clause-cut g c told told_device only f t said starts a.holds a.sent (g.met.D.Device.holds_now c.args.device.now told_device))
+    ends f s a a (returns-in-Err-Memory-clause-cut g c told told_device only f s said starts a.holds a.sent (g.met.D.Device.holds_now c.args.device.now told_device))
 
 pub returns-in-Err-Room-clause-room_told : goal.returns-in-Err-Room-clause-room_told
 returns-in-Err-Room-clause-room_told g c = λ none. absurd (none refl)

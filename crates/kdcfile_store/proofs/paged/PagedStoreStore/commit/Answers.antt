@@ -7,8 +7,13 @@ use Rattle.kdcfile_store.specs.declared.filed.Filed.{Filed}
 use Rattle.kdcfile_store.specs.Kept.{OldOrNew}
 use Rattle.kdcfile_store.specs.Next.{IsNext}
 use Rattle.kdcfile_store.specs.Paged.{Paged, HasFile}
-use Rattle.kdcfile_store.proofs.Committing.{apart, would_be, leaves_patched, new_stands}
+use Rattle.kdcfile_store.proofs.Committing.{are_pages, apart, would_be, leaves_patched, new_stands}
 use Rattle.kdcfile_store.proofs.paged.PagedStoreStore.commit.Goals as goal
+
+pub commit_image-requires-clause-pages : goal.commit_image-requires-clause-pages
+commit_image-requires-clause-pages g c =
+    let next = subst (λ (f : Filed). IsNext c.self.inside.image f.content (layout_in c.self.inside.image.root f.table) c.self.inside.pool c.args.patch.now c.in-Ok.next) c.replace-filed.ensures.value c.in-Ok.ensures.ok in
+    are_pages next c.as_slice.result.now c.as_slice.ensures.value
 
 pub commit_image-requires-clause-apart : goal.commit_image-requires-clause-apart
 commit_image-requires-clause-apart g c = λ told.

@@ -1,0 +1,5 @@
+mod Grows
+mod InUse
+mod Kept
+mod Replay
+mod Seen

@@ -1,0 +1,12 @@
+pub mod Apart
+pub mod ApartLaws
+pub mod Files
+pub mod HalfLaws
+pub mod History
+pub mod HistoryLaws
+pub mod Memory
+pub mod PairLaws
+pub mod Recording
+pub mod Stop
+pub mod Tally
+pub mod Twin

@@ -1,0 +1,84 @@
+//! Why a call did not do what is asked for.
+ghost use Rattle.std.specs.Prelude.{◌≡◌};
+ghost use Rattle.utm_cli.specs.Causes.{of_carry, of_device, of_open};
+ghost use Rattle.utm_cli.specs.declared.error.CallError.TheVariants as errors;
+
+use kd_base::OutOfMemory;
+use kd_device::DeviceError;
+use kd_update::UpdateError;
+use kdcfile_update::CarryError;
+use refusals::FileRefusal;
+use thiserror::Error;
+use warm_start::OpenError;
+
+/// Why a call did not do what is asked for, when its texts were read.
+#[derive(Clone, Copy, Debug, Error)]
+pub(crate) enum CallError {
+    #[error("the KDCFILE is refused")]
+    Refused(FileRefusal),
+    /// A call of the disk or the line failed.
+    #[error("the device failed")]
+    Failed,
+    #[error("out of memory")]
+    Memory,
+}
+
+impl From<OutOfMemory> for CallError {
+    ghost from_gives = { λ _ r. r ≡ errors.Memory };
+
+    fn from(_: OutOfMemory) -> Self {
+        CallError::Memory
+    }
+}
+
+impl From<DeviceError> for CallError {
+    ghost from_gives = { λ e r. r ≡ of_device e };
+
+    fn from(e: DeviceError) -> Self {
+        match e {
+            DeviceError::Failed => CallError::Failed,
+            DeviceError::Memory => CallError::Memory,
+        }
+    }
+}
+
+impl From<OpenError> for CallError {
+    ghost from_gives = { λ e r. r ≡ of_open e };
+
+    fn from(e: OpenError) -> Self {
+        match e {
+            OpenError::NotKdcfile => CallError::Refused(FileRefusal::NotKdcfile),
+            OpenError::OtherGeneration(stored) => {
+                CallError::Refused(FileRefusal::OtherGeneration(stored))
+            }
+            OpenError::Failed => CallError::Failed,
+            OpenError::Memory => CallError::Memory,
+        }
+    }
+}
+
+impl From<CarryError> for CallError {
+    ghost from_gives = { λ e r. r ≡ of_carry e };
+
+    fn from(e: CarryError) -> Self {
+        match e {
+            CarryError::Refused(UpdateError::NotKdcfile) => {
+                CallError::Refused(FileRefusal::NotKdcfile)
+            }
+            CarryError::Refused(UpdateError::OtherBlksize(n)) => {
+                CallError::Refused(FileRefusal::OtherBlksize(n))
+            }
+            CarryError::Refused(UpdateError::SmallerPool(n)) => {
+                CallError::Refused(FileRefusal::SmallerPool(n))
+            }
+            CarryError::Refused(UpdateError::TooManyGssbs(n)) => {
+                CallError::Refused(FileRefusal::TooManyGssbs(n))
+            }
+            CarryError::Refused(UpdateError::TooLarge(n)) => {
+                CallError::Refused(FileRefusal::TooLarge(n))
+            }
+            CarryError::Failed => CallError::Failed,
+            CarryError::Refused(UpdateError::Memory) | CarryError::Memory => CallError::Memory,
+        }
+    }
+}
