@@ -1,61 +1,19 @@
 -- The steps of each command.
-use Rattle.std.proofs.Common.{◌≡◌, ◌⊎◌, inl, inr, arith, ℕ, ◌+◌, List, [], ◌∷◌, refl, sym, ap, subst, ◌∙◌}
-use Rattle.std.specs.Prelude.{false}
+use Rattle.std.proofs.Common.{◌≡◌, arith, ℕ, ◌+◌, List, [], ◌∷◌, sym, ap, subst, ◌∙◌}
 use Rattle.kd_device.specs.Device.{State}
 use Rattle.kdcfile_store.specs.Paged.{Paged}
 use Rattle.abstract_monitor.specs.declared.command.Command.{Command}
-use Rattle.abstract_monitor.specs.declared.command.Command.TheVariants.{Input, Tick, Run, Turn, Drop, Print, PrintLast, Restart}
-use Rattle.abstract_monitor.specs.Commands.{ScriptStep, command_of, rotated, steps_of, turned_step}
+use Rattle.abstract_monitor.specs.declared.command.Command.TheVariants.{Run, Turn, Restart}
+use Rattle.abstract_monitor.specs.Commands.{ScriptStep, steps_of}
 use Rattle.abstract_monitor.specs.State.{Application, State as MonitorState}
-use Rattle.abstract_monitor.specs.Turns.{turn_of}
 use Rattle.monitor_core.specs.CoreValue.{CoreValue}
 use Rattle.monitor_core.specs.Commanding.{IsSingle}
 use Rattle.laws_of_steps.specs.Cut.{commits_in}
-use Rattle.device_run.specs.Running.{turns_of, IsRunning, WithinSteps, StepsWrite, DidSteps}
+use Rattle.laws_of_runs.specs.HistoryLaws.{steps_of_restart}
+use Rattle.device_run.specs.Running.{IsRunning, WithinSteps, StepsWrite, DidSteps}
 use Rattle.device_run.proofs.Counting.{commits_by, commits_of_one}
 use Rattle.device_run.proofs.Restarting.{acts_again}
 use Rattle.device_run.proofs.Stepping.{fingerprint_is}
-
-run_steps : (app : Application) (s : MonitorState) (turns : ℕ) → steps_of app s (Run turns) ≡ rotated app turns false s 1 0
-unfolding steps_of
-run_steps app s turns = refl
-
-turn_steps : (app : Application) (s : MonitorState) (task : ℕ) → steps_of app s (Turn task) ≡ turned_step (turn_of app s task) ∷ []
-unfolding steps_of command_of
-turn_steps app s task = refl
-
-restart_steps : (app : Application) (s : MonitorState) → steps_of app s Restart ≡ command_of app s Restart ∷ []
-unfolding steps_of
-restart_steps app s = refl
-
-pub steps_of_single : (app : Application) (s : MonitorState) (command : Command) → IsSingle command → steps_of app s command ≡ command_of app s command ∷ []
-unfolding steps_of
-steps_of_single app s (Input pterm text) single = refl
-steps_of_single app s (Tick ticks) single = refl
-steps_of_single app s (Run turns) single = absurd single
-steps_of_single app s (Turn task) single = absurd single
-steps_of_single app s (Drop pterm) single = refl
-steps_of_single app s (Print pterm) single = refl
-steps_of_single app s (PrintLast pterm) single = refl
-steps_of_single app s Restart single = absurd single
-
--- a command, and the steps that it is
-pub steps_of_run : (app : Application) (s : MonitorState) (command : Command) (turns : ℕ) → command ≡ Run turns → steps_of app s command ≡ rotated app turns false s 1 0
-steps_of_run app s command turns is = ap (steps_of app s) is ∙ run_steps app s turns
-
-pub steps_of_turn : (app : Application) (s : MonitorState) (command : Command) (task : ℕ) → command ≡ Turn task → steps_of app s command ≡ turned_step (turn_of app s task) ∷ []
-steps_of_turn app s command task is = ap (steps_of app s) is ∙ turn_steps app s task
-
-pub steps_of_restart : (app : Application) (s : MonitorState) (command : Command) → command ≡ Restart → steps_of app s command ≡ command_of app s Restart ∷ []
-steps_of_restart app s command is = ap (steps_of app s) is ∙ restart_steps app s
-
-pub single_of : (command : Command) → ((pterm : List ℕ) × (text : List ℕ) × (command ≡ Input pterm text)) ⊎ (((ticks : ℕ) × (command ≡ Tick ticks)) ⊎ (((pterm : List ℕ) × (command ≡ Drop pterm)) ⊎ (((pterm : List ℕ) × (command ≡ Print pterm)) ⊎ ((pterm : List ℕ) × (command ≡ PrintLast pterm)))))
-    → IsSingle command × (turns_of command ≡ 1)
-single_of command (inl (pterm, text, is)) = (subst IsSingle (sym is) tt, ap turns_of is)
-single_of command (inr (inl (ticks, is))) = (subst IsSingle (sym is) tt, ap turns_of is)
-single_of command (inr (inr (inl (pterm, is)))) = (subst IsSingle (sym is) tt, ap turns_of is)
-single_of command (inr (inr (inr (inl (pterm, is))))) = (subst IsSingle (sym is) tt, ap turns_of is)
-single_of command (inr (inr (inr (inr (pterm, is))))) = (subst IsSingle (sym is) tt, ap turns_of is)
 
 -- a command that is no RESTART
 pub run_no_restart : (command : Command) (turns : ℕ) → command ≡ Run turns → command ≡ Restart → ⊥

@@ -9,7 +9,7 @@ use Rattle.abstract_monitor.specs.declared.command.Command.TheVariants.{Input, T
 use Rattle.abstract_monitor.specs.Commands.{ScriptStep, acts_of, command_of, in_a_row, next_task, rotated, steps_of, turned_step}
 use Rattle.abstract_monitor.specs.Turns.{turn_of}
 use Rattle.laws_of_steps.specs.Cut.{commits_in}
-use Rattle.device_run.specs.Running.{turns_of}
+use Rattle.monitor_core.specs.CoreSteps.{turns_of}
 use Rattle.device_run.proofs.Stepping.{acts_both, acts_of_one}
 
 -- the commits of some steps

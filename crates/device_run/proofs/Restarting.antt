@@ -27,7 +27,8 @@ use Rattle.warm_start.specs.Opening.{StartsFrom, IsRefused, IsOfOtherTexts, Answ
 use Rattle.warm_start.specs.Stands.{AreTables, StandsForTables, KeepsTables, identity_for}
 use Rattle.monitor_core.specs.CoreValue.{CoreValue}
 use Rattle.device_acts.specs.Acting.{IsCutOf, WithinActs, WritesUpTo, Sent}
-use Rattle.device_run.specs.Running.{identity_of, durable_of, commits_most, IsAgain, IsRunning, WithinSteps, StepsWrite, DidSteps}
+use Rattle.monitor_core.specs.CoreSteps.{durable_of}
+use Rattle.device_run.specs.Running.{identity_of, commits_most, IsAgain, IsRunning, WithinSteps, StepsWrite, DidSteps}
 use Rattle.device_acts.specs.Said.{Said, SaidPart}
 use Rattle.device_acts.specs.ActingLaws.{no_bytes, cut_none, Running, running_within}
 use Rattle.device_acts.specs.ContentsLaws.{line_within, line_sent}

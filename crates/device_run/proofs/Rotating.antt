@@ -1,5 +1,5 @@
 -- Turns in rotation, one after another.
-use Rattle.std.proofs.Common.{◌≡◌, ℕ, suc, zero, ◌+◌, ◌-◌, ◌≤◌, ◌<◌, List, [], ◌∷◌, ◌++◌, refl, sym, ap, subst, ◌∙◌, arith, append_assoc}
+use Rattle.std.proofs.Common.{◌≡◌, ℕ, suc, ◌+◌, ◌-◌, ◌≤◌, ◌<◌, List, [], ◌∷◌, ◌++◌, refl, sym, ap, subst, ◌∙◌, arith, append_assoc}
 use Rattle.std.specs.Prelude.{IsTrue, Bool, true, false, ◌==◌, if◌then◌else◌}
 use Rattle.std.proofs.lemmas.Bool.{ne_eqb, eq-eqb}
 use Rattle.std.proofs.lemmas.List.{append-nil}
@@ -7,43 +7,15 @@ use Rattle.kd_device.specs.Device.{State}
 use Rattle.kdcdef_types.specs.Statements.{IsWithin}
 use Rattle.kdcfile_store.specs.Kept.{IsKept}
 use Rattle.kdcfile_store.specs.Paged.{Paged, HasFile}
-use Rattle.abstract_monitor.specs.State.{Application, State as MonitorState}
+use Rattle.abstract_monitor.specs.State.{Application}
 use Rattle.abstract_monitor.specs.Turns.{Turned, turn_of}
 use Rattle.abstract_monitor.specs.Commands.{ScriptStep, turned_step, rotated, next_task, in_a_row}
 use Rattle.monitor_core.specs.CoreValue.{CoreValue}
 use Rattle.laws_of_steps.specs.Cut.{commits_in}
+use Rattle.laws_of_runs.specs.HistoryLaws.{rotated_none, rotated_ended, rotated_more, next_within, row_within}
 use Rattle.device_run.specs.Running.{IsRunning, WithinSteps, StepsWrite, DidSteps}
 use Rattle.device_run.proofs.Counting.{commits_by, commits_both, commits_of_one}
 use Rattle.device_run.proofs.Stepping.{fingerprint_is, Stepping, stepping_start, stepping_within, stepping_writes, stepping_over, stepping_more}
-
--- no turns are left
-rotated_none : (app : Application) (s : MonitorState) (task unmoved : ℕ) → rotated app 0 false s task unmoved ≡ []
-unfolding rotated
-rotated_none app s task unmoved = refl
-
--- enough turns in a row moved nothing
-rotated_ended : (app : Application) (n : ℕ) (s : MonitorState) (task unmoved : ℕ) → rotated app n true s task unmoved ≡ []
-unfolding rotated
-rotated_ended app zero s task unmoved = refl
-rotated_ended app (suc n) s task unmoved = refl
-
--- one turn, and those after it
-rotated_more : (app : Application) (n : ℕ) (s : MonitorState) (task unmoved : ℕ)
-    → rotated app (suc n) false s task unmoved
-    ≡ (turned_step (turn_of app s task) ∷ []) ++ rotated app n (in_a_row (turn_of app s task).moved unmoved == app.generation.limits.tasks) (turn_of app s task).after (next_task app task) (in_a_row (turn_of app s task).moved unmoved)
-unfolding rotated
-rotated_more app n s task unmoved = refl
-
-next_within : (limit n : ℕ) → IsWithin 1 limit n → IsWithin 1 limit (if n == limit then 1 else n + 1)
-next_within limit n w = by (n == limit) refl
-  where
-    by : (b : Bool) → (n == limit) ≡ b → IsWithin 1 limit (if b then 1 else n + 1)
-    by true e = (omega arith, omega (arith, w.0, w.1))
-    by false e = let a : n ≤ limit = w.1 in (omega arith, grind arith)
-
-row_within : (moved : Bool) (unmoved limit : ℕ) → unmoved < limit → (in_a_row moved unmoved ≡ limit → ⊥) → in_a_row moved unmoved < limit
-row_within true unmoved limit few ne = omega (arith, few)
-row_within false unmoved limit few ne = omega (arith, few, ne)
 
 abbrev pub all_turns : CoreValue → ℕ → List ScriptStep
 all_turns c turns = rotated c.application turns false c.state 1 0

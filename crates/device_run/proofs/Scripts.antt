@@ -1,8 +1,7 @@
 -- A script up to one of its commands.
 use Rattle.std.proofs.Common.{◌≡◌, ◌⊎◌, inl, inr, arith, ℕ, ◌+◌, ◌<◌, ◌≤◌, subst, List, [], ◌∷◌, ◌++◌, length, take, drop, get_or, refl, sym, ap, ◌∙◌, append_assoc}
 use Rattle.std.specs.Prelude.{IsTrue, sum_by}
-use Rattle.std.proofs.lemmas.List.{append-nil, drop_more, take_all}
-use Rattle.std.proofs.lemmas.List.Sums.{sum_by-cons}
+use Rattle.std.proofs.lemmas.List.{append-nil, take_all}
 use Rattle.kd_device.specs.Device.{Rose, State as Device}
 use Rattle.kdcfile_store.specs.Kept.{IsKept}
 use Rattle.kdcfile_store.specs.Paged.{Paged, HasFile}
@@ -13,9 +12,12 @@ use Rattle.kdcs_types.specs.declared.act.Act.{Act}
 use Rattle.abstract_monitor.specs.Bytes.{Bytes}
 use Rattle.warm_start.specs.Stands.{StandsForTables}
 use Rattle.monitor_core.specs.CoreValue.{CoreValue}
-use Rattle.device_run.specs.Running.{turns_of, identity_of, durable_of, WithinSteps, StepsWrite, DidSteps, SaysNothing, SendsPart, StoppedIn}
+use Rattle.monitor_core.specs.CommandingLaws.{script_turns}
+use Rattle.monitor_core.specs.CoreSteps.{durable_of, turns_of}
+use Rattle.device_run.specs.Running.{identity_of, WithinSteps, StepsWrite, DidSteps, SaysNothing, SendsPart, StoppedIn}
 use Rattle.device_run.proofs.Counting.{commits_by, commits_both, command_commits}
 use Rattle.device_run.proofs.Stepping.{Stepping, stepping_within, stepping_writes, stepping_over, stepping_more}
+use Rattle.laws_of_runs.specs.HistoryLaws.{history_next}
 use Rattle.laws_of_runs.specs.ListsLaws.{after_both}
 use Rattle.abstract_monitor.specs.declared.command.Command.{Command}
 use Rattle.abstract_monitor.specs.declared.command.Command.TheVariants.{Restart}
@@ -40,10 +42,6 @@ module _ (app : Application) where
   unfolding history
   history_one s c = append-nil (steps_of app s c)
 
-  history_next : (s : State) (c : Command) (cs : List Command) → history app s (c ∷ cs) ≡ steps_of app s c ++ history app (state_after s (steps_of app s c)) cs
-  unfolding history
-  history_next s c cs = refl
-
   -- the script around its command at i, which is c
   module _ (s now : State) (cs : List Command) (i : ℕ) (c : Command) (is : c ≡ get_or cs i c) (lt : i < length cs) (reached : now ≡ state_after s (history app s (take i cs))) where
     pub history_around : history app s cs ≡ history app s (take i cs) ++ (steps_of app now c ++ history app (state_after now (steps_of app now c)) (drop (i + 1) cs))
@@ -51,7 +49,7 @@ module _ (app : Application) where
         ap (λ l. history app s l) (around cs i c c is lt)
         ∙ history_both s (take i cs) (c ∷ drop (i + 1) cs)
         ∙ ap (λ (u : State). history app s (take i cs) ++ history app u (c ∷ drop (i + 1) cs)) (sym reached)
-        ∙ ap (λ (l : List ScriptStep). history app s (take i cs) ++ l) (history_next now c (drop (i + 1) cs))
+        ∙ ap (λ (l : List ScriptStep). history app s (take i cs) ++ l) (history_next app now c (drop (i + 1) cs))
 
     pub history_more : history app s (take (i + 1) cs) ≡ history app s (take i cs) ++ steps_of app now c
     history_more =
@@ -93,9 +91,6 @@ module _ (fingerprint : List ℕ) (c d : CoreValue) (store : Paged) (cs : List C
     pub script_names : IsScriptOf c.application cs → IsCommandOf d.application.generation command
     script_names names = subst (λ (x : Command). IsCommandOf d.application.generation x) (sym is) (subst (λ (app : Application). IsCommandOf app.generation (get_or cs i command)) (sym run.did.application) (names i command lt))
 
-    pub script_turns : sum_by turns_of (drop i cs) ≡ turns_of command + sum_by turns_of (drop (i + 1) cs)
-    script_turns = ap (sum_by turns_of) (drop_more cs i command lt) ∙ sum_by-cons turns_of (get_or cs i command) (drop (i + 1) cs) ∙ ap (λ (x : Command). turns_of x + sum_by turns_of (drop (i + 1) cs)) (sym is)
-
     same_steps : steps_of c.application d.state command ≡ steps_of d.application d.state command
     same_steps = ap (λ (app : Application). steps_of app d.state command) (sym run.did.application)
 
@@ -110,11 +105,11 @@ module _ (fingerprint : List ℕ) (c d : CoreValue) (store : Paged) (cs : List C
     -- its commits are counted after those before it
     module _ (commits : ℕ) where
       pub script_bounded : TurnsCommitOnce → CommandsCommitOnce → (most : ℕ) → commits + sum_by turns_of (drop i cs) ≤ most → commits + commits_by (steps_of d.application d.state command) ≤ most
-      script_bounded turns commands most bounded = omega (arith, bounded, script_turns, command_commits turns commands d.application d.state command)
+      script_bounded turns commands most bounded = omega (arith, bounded, script_turns cs i command is lt, command_commits turns commands d.application d.state command)
 
       module _ (commits' : ℕ) (counted : commits' ≡ commits + commits_by (steps_of d.application d.state command)) where
         pub script_bounded_more : TurnsCommitOnce → CommandsCommitOnce → (most : ℕ) → commits + sum_by turns_of (drop i cs) ≤ most → commits' + sum_by turns_of (drop (i + 1) cs) ≤ most
-        script_bounded_more turns commands most bounded = omega (arith, bounded, counted, script_turns, command_commits turns commands d.application d.state command)
+        script_bounded_more turns commands most bounded = omega (arith, bounded, counted, script_turns cs i command is lt, command_commits turns commands d.application d.state command)
 
         pub script_counted : IsTrue a.told → commits ≡ commits_by (history c.application c.state (take i cs)) → commits' ≡ commits_by (history c.application c.state (take (i + 1) cs))
         script_counted told before =

@@ -14,6 +14,7 @@ use Rattle.kdcs_types.specs.Tables.{TableRows, IsSortedTables}
 use Rattle.laws_of_steps.specs.Applications.{IsApplication}
 use Rattle.laws_of_steps.specs.Keeping.{HasFacts}
 use Rattle.laws_of_steps.specs.Steps.{CommitsOnce, StepsMakeTheirTables}
+use Rattle.laws_of_runs.specs.HistoryLaws.{after_none, after_one, no_history}
 use Rattle.laws_of_runs.specs.ListsLaws.{after_both, tables_both}
 use Rattle.kdcdef_check.specs.Soundness.{AreLimits}
 use Rattle.abstract_monitor.specs.State.{Application, State as MonitorState}
@@ -26,7 +27,8 @@ use Rattle.warm_start.specs.Stands.{AreTables, StandsForTables, identity_for}
 use Rattle.monitor_core.specs.CoreValue.{CoreValue}
 use Rattle.record_commits.specs.Storing.{AreStorable}
 use Rattle.device_acts.specs.Acting.{WithinActs, WritesUpTo, Sent, acts_most, content_after, AreCommittable}
-use Rattle.device_run.specs.Running.{identity_of, durable_of, commits_most, IsRunning, WithinSteps, StepsWrite, DidSteps, Ran}
+use Rattle.monitor_core.specs.CoreSteps.{durable_of}
+use Rattle.device_run.specs.Running.{identity_of, commits_most, IsRunning, WithinSteps, StepsWrite, DidSteps, Ran}
 use Rattle.device_acts.specs.ActingLaws.{Running, running_start, running_within, running_more}
 use Rattle.device_acts.specs.WritingLaws.{writes_all, writes_none, writes_within, put_then}
 use Rattle.device_run.proofs.Tables.{tables_go, tables_stay, contents_are, committable, tables_within, nothing_after, most_of, commits_add, commits_written}
@@ -36,14 +38,6 @@ acts_both xs ys = flat_map-append (λ (d : ScriptStep). d.acts) xs ys
 
 pub acts_of_one : (d : ScriptStep) → acts_of (d ∷ []) ≡ d.acts
 acts_of_one d = append-nil d.acts
-
-after_one : (s : MonitorState) (d : ScriptStep) → state_after s (d ∷ []) ≡ d.after
-unfolding state_after
-after_one s d = refl
-
-after_none : (s : MonitorState) → state_after s [] ≡ s
-unfolding state_after
-after_none s = refl
 
 -- the fingerprint that a running core's file was made with
 pub fingerprint_is : (fingerprint : List ℕ) (c : CoreValue) (store : Paged) → IsRunning fingerprint c store → store.identity.fingerprint ≡ fingerprint
@@ -202,10 +196,6 @@ steps_ran fingerprint c d store steps a b lb did told =
       holds = subst (λ (t : TableRows). StandsForTables (identity_of fingerprint c) t b.holds) (did.tables told) (subst (λ (i : Identity). StandsForTables i (durable_of d) b.holds) same stands);
       at_rest = kept.at_rest;
     }
-
-no_history : (app : Application) (s : MonitorState) → history app s [] ≡ []
-unfolding history
-no_history app s = refl
 
 -- nothing of a script is done yet
 pub history_start : (fingerprint : List ℕ) (c : CoreValue) (store : Paged) (cs : List Command) (a : State) (la : ℕ → List ℕ → List ℕ → Type 0) → IsRunning fingerprint c store → (IsTrue a.told → IsKept (HasFile store) a la) → Stepping fingerprint c c store (history c.application c.state cs) (history c.application c.state []) a a la la

@@ -12,16 +12,15 @@ use Rattle.kdcs_types.specs.Tables.{TableRows}
 use Rattle.kdcdef_check.specs.Soundness.{AreLimits}
 use Rattle.abstract_monitor.specs.Bytes.{Bytes}
 use Rattle.abstract_monitor.specs.declared.command.Command.{Command}
-use Rattle.abstract_monitor.specs.declared.command.Command.TheVariants.{Input, Tick, Run, Turn, Drop, Print, PrintLast, Restart}
-use Rattle.abstract_monitor.specs.Commands.{ScriptStep, acts_of, command_of, started, state_after, steps_of, turned_step}
-use Rattle.abstract_monitor.specs.Endings.{durable}
+use Rattle.abstract_monitor.specs.declared.command.Command.TheVariants.{Restart}
+use Rattle.abstract_monitor.specs.Commands.{ScriptStep, acts_of, started, state_after, steps_of}
 use Rattle.abstract_monitor.specs.Trace.{history, tables_after, bytes_of}
-use Rattle.abstract_monitor.specs.Turns.{turn_of}
 use Rattle.laws_of_steps.specs.Applications.{IsApplication}
 use Rattle.laws_of_steps.specs.Cut.{IsCut, SentBy}
 use Rattle.laws_of_steps.specs.Keeping.{HasFacts}
 use Rattle.record_codec.specs.Records.{patch_of}
 use Rattle.warm_start.specs.Stands.{StandsForTables, KeepsTables, identity_for}
+use Rattle.monitor_core.specs.CoreSteps.{durable_of}
 use Rattle.monitor_core.specs.CoreValue.{CoreValue}
 use Rattle.device_acts.specs.Acting.{WithinActs, WritesUpTo, Sent}
 
@@ -29,23 +28,12 @@ use Rattle.device_acts.specs.Acting.{WithinActs, WritesUpTo, Sent}
 abbrev pub identity_of : (fingerprint : List ℕ) → CoreValue → Identity
 identity_of fingerprint c = identity_for c.application.generation fingerprint
 
--- the tables that the core's store keeps: what a stop leaves of its tables
-abbrev pub durable_of : CoreValue → TableRows
-durable_of c = durable c.application.generation c.state.tables
-
 -- the state has its facts, under an application within its ranges, and the store keeps its durable tables
 pub record IsRunning (fingerprint : List ℕ) (c : CoreValue) (store : Paged) : Type 0 where
   pub application : IsApplication c.application
   pub limits : AreLimits c.application.generation.limits
   pub facts : HasFacts c.application c.state
   pub keeps : KeepsTables (identity_of fingerprint c) store (durable_of c)
-
--- one turn of a task, and one command, as steps
-abbrev pub turn_steps : CoreValue → (task : ℕ) → List ScriptStep
-turn_steps c task = turned_step (turn_of c.application c.state task) ∷ []
-
-abbrev pub command_steps : CoreValue → Command → List ScriptStep
-command_steps c command = command_of c.application c.state command ∷ []
 
 -- whatever became of some steps of the core: at each moment, what was sent and what a stop leaves are a cut of their acts
 abbrev pub WithinSteps : (fingerprint : List ℕ) → CoreValue → List ScriptStep → (a b : State) → (la lb : ℕ → List ℕ → List ℕ → Type 0) → Type 0
@@ -82,17 +70,6 @@ pub record IsAgain (fingerprint : List ℕ) (c d : CoreValue) (store : Paged) (a
   pub tables : IsTrue a.told → durable_of d ≡ durable_of c
   pub kept : IsTrue a.told → IsKept (HasFile store) b lb
   pub faults : SameFaults a b
-
--- how many turns and commands a command makes at most
-abbrev pub turns_of : Command → ℕ
-turns_of (Run turns) = turns
-turns_of (Input pterm text) = 1
-turns_of (Tick ticks) = 1
-turns_of (Turn task) = 1
-turns_of (Drop pterm) = 1
-turns_of (Print pterm) = 1
-turns_of (PrintLast pterm) = 1
-turns_of Restart = 1
 
 -- some first acts of all were done, the image stands for the durable tables after them, and these bytes were sent beyond those before
 pub record IsCutSince (stands : TableRows → Bytes → Type 0) (start : TableRows) (all : List Act) (sent image out : Bytes) : Type 0 where

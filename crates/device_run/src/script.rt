@@ -5,7 +5,8 @@ ghost use Rattle.kdcfile_store.specs.{Kept.{IsKept}, Paged.{HasFile}};
 ghost use Rattle.laws_of_steps.specs.Keeping.{IsScriptOf};
 ghost use Rattle.abstract_monitor.specs.{Commands.{acts_of}, Trace.{history}};
 ghost use Rattle.laws_of_steps.specs.Cut.{commits_in};
-ghost use Rattle.device_run.specs.Running.{turns_of, Ran, IsRunning, StepsWrite, WithinSteps, StoppedIn};
+ghost use Rattle.monitor_core.specs.CoreSteps.{turns_of};
+ghost use Rattle.device_run.specs.Running.{Ran, IsRunning, StepsWrite, WithinSteps, StoppedIn};
 
 use crate::steps::do_command;
 use abstract_monitor::Command;

@@ -5,10 +5,10 @@ ghost use Rattle.kdcfile_store.specs.{Kept.{IsKept}, Paged.{HasFile}};
 ghost use Rattle.kdcdef_types.specs.Statements.{IsWithin};
 ghost use Rattle.abstract_monitor.specs.{CommandsOf.{IsCommandOf}, Commands.{acts_of, command_of, in_a_row, rotated, steps_of}, Turns.{turn_of}, declared.command.Command.TheVariants.{Restart}};
 ghost use Rattle.laws_of_steps.specs.Suits.{Suits};
-ghost use Rattle.monitor_core.specs.Commanding.{IsSingle};
+ghost use Rattle.monitor_core.specs.{Commanding.{IsSingle}, CoreSteps.{command_steps, turn_steps, turns_of}};
 ghost use Rattle.warm_start.specs.{Opening.{StartsFrom, IsRefused, IsOfOtherTexts}, Stands.{KeepsTables, identity_for}};
 ghost use Rattle.laws_of_steps.specs.Cut.{commits_in};
-ghost use Rattle.device_run.specs.Running.{command_steps, turn_steps, turns_of, DidSteps, IsAgain, IsRunning, StepsWrite, WithinSteps, SaysNothing};
+ghost use Rattle.device_run.specs.Running.{DidSteps, IsAgain, IsRunning, StepsWrite, WithinSteps, SaysNothing};
 
 use crate::commits::count_commits;
 use abstract_monitor::Command;

@@ -25,8 +25,16 @@ pub record Apart (half : Half) (old new : Both) (past since : ℕ → List ℕ �
   pub keeps : IsTrue old.told → (d : List ℕ) (t : ℕ) (c out : List ℕ) → t ≤ old.moment → slice half d past t c out → slice half d since t c out
   pub others : IsTrue old.told → (d c out : List ℕ) → slice half d since old.moment c out → half_leaves (other half) past old.moment d old.sent
 
--- a half is in use since an origin: it is that half of that twin, and the other half is as it was there
-pub record IsSince (half0 half : Half) (place0 place : ℕ) (b0 b : Both) (l0 l : ℕ → List ℕ → List ℕ → List ℕ → Type 0) : Type 0 where
-  pub same_half : half ≡ half0
+-- a half is in use since an origin: it is the same twin, and the other half is as it was there
+pub record IsSince (half : Half) (place0 place : ℕ) (b0 b : Both) (l0 l : ℕ → List ℕ → List ℕ → List ℕ → Type 0) : Type 0 where
   pub same_place : place ≡ place0
   pub apart : Apart half b0 b l0 l
+  pub sent_then : IsTrue b0.told → SentNow half b0 l0
+  pub earlier_then : IsTrue b0.told → Earlier half l0
+
+-- this twin is the origin
+pub record IsHere (place0 place : ℕ) (b0 b : Both) (l0 l : ℕ → List ℕ → List ℕ → List ℕ → Type 0) : Type 0 where
+  pub same_place : place ≡ place0
+  pub same_both : b ≡ b0
+  pub to : (t : ℕ) (c d out : List ℕ) → l t c d out → l0 t c d out
+  pub from : (t : ℕ) (c d out : List ℕ) → l0 t c d out → l t c d out

@@ -56,11 +56,6 @@ slice Second d leaves t c out = leaves t d c out
 abbrev pub half_leaves : Half → (ℕ → List ℕ → List ℕ → List ℕ → Type 0) → ℕ → List ℕ → List ℕ → Type 0
 half_leaves half leaves t c out = (d : List ℕ) × slice half d leaves t c out
 
--- a twin and the half of it that is used
-pub record Halved (T : Type 0) : Type 0 where
-  pub twin : T
-  pub half : Half
-
 abbrev pub no_disk : Disk
 no_disk = record { holds = []; put = 0; names = []; disk_faults = 0 }
 

@@ -37,8 +37,8 @@ impl Origin for Brand {
     ghost leaves = { λ t c d out. Unit {0} };
 }
 
-/// A half of a twin as a device: the disk of that half, and the line. Whatever is done with it, the other half is as it
-/// was at the origin.
+/// A half of a twin as a device: the disk of that half, and the line. Contracts see the twin. Whatever is done with it,
+/// the other half is as it was at the origin.
 #[derive(Drop)]
 pub struct HalfDevice<T: Twin, O: Origin> {
     twin: T,
@@ -47,21 +47,22 @@ pub struct HalfDevice<T: Twin, O: Origin> {
 }
 
 impl<T: Twin, O: Origin> Model for HalfDevice<T, O> {
-    ghost use Rattle.kd_twin.specs.{Twin.{Halved}, Apart.{IsSince}};
+    ghost use Rattle.std.specs.Prelude.{◌≡◌};
+    ghost use Rattle.kd_twin.specs.Apart.{IsSince};
 
-    ghost Value = { Halved T };
+    ghost Value = { T };
 
-    ghost view = { λ h. record { twin = h.twin; half = h.half } };
+    ghost view = { λ h. h.twin };
 
-    ghost invariant = { λ h. IsSince O.half h.half O.place (T.place h.twin) O.both (T.both h.twin) O.leaves (T.leaves h.twin) };
+    ghost invariant = { λ h. (h.half ≡ O.half) × IsSince O.half O.place (T.place h.twin) O.both (T.both h.twin) O.leaves (T.leaves h.twin) };
 }
 
 impl<T: Twin, O: Origin> HalfDevice<T, O> {
     /// This half. It takes no memory.
     pub fn new(twin: T, half: Half) -> HalfDevice<T, O>
-        requires { IsSince O.half half O.place (T.place twin) O.both (T.both twin) O.leaves (T.leaves twin) }
-        ensures twin { result.twin ≡ twin }
-        ensures half { result.half ≡ half }
+        requires half { half ≡ O.half }
+        requires since { IsSince O.half O.place (T.place twin) O.both (T.both twin) O.leaves (T.leaves twin) }
+        ensures { result ≡ twin }
     {
         HalfDevice {
             twin,
@@ -72,8 +73,8 @@ impl<T: Twin, O: Origin> HalfDevice<T, O> {
 
     /// The twin again, whose other half is as it was at the origin.
     pub fn into_twin(self) -> T
-        ensures twin { result ≡ self.twin }
-        ensures since { IsSince O.half self.half O.place (T.place self.twin) O.both (T.both self.twin) O.leaves (T.leaves self.twin) }
+        ensures twin { result ≡ self }
+        ensures since { IsSince O.half O.place (T.place self) O.both (T.both self) O.leaves (T.leaves self) }
     {
         let HalfDevice { twin, .. } = self;
         twin
@@ -81,9 +82,9 @@ impl<T: Twin, O: Origin> HalfDevice<T, O> {
 }
 
 impl<T: Twin, O: Origin> Device for HalfDevice<T, O> {
-    ghost state = { λ h. half_state h.half (T.both h.twin) };
+    ghost state = { λ h. half_state O.half (T.both h) };
 
-    ghost leaves = { λ h. half_leaves h.half (T.leaves h.twin) };
+    ghost leaves = { λ h. half_leaves O.half (T.leaves h) };
 
     fn attach(&mut self, name: &[u8]) -> Result<(), Failed> {
         self.twin.attach(self.half, name)
@@ -113,9 +114,9 @@ impl<T: Twin, O: Origin> Device for HalfDevice<T, O> {
         self.twin.emit(piece)
     }
 
-    ghost holds_now = { λ h told. holds_half h.half (T.both h.twin) (T.leaves h.twin) (T.holds_now h.twin told) };
+    ghost holds_now = { λ h told. holds_half O.half (T.both h) (T.leaves h) (T.holds_now h told) };
 
-    ghost sent_now = { λ h c out told left. sent_half h.half (T.both h.twin) (T.leaves h.twin) (λ c d out. T.sent_now h.twin c d out told) left.0 c out left.1 };
+    ghost sent_now = { λ h c out told left. sent_half O.half (T.both h) (T.leaves h) (λ c d out. T.sent_now h c d out told) left.0 c out left.1 };
 
-    ghost earlier = { λ h t u c out told le left. (left.0, earlier_half h.half (T.leaves h.twin) (λ t u c d out. T.earlier h.twin t u c d out told) left.0 t u c out le left.1) };
+    ghost earlier = { λ h t u c out told le left. (left.0, earlier_half O.half (T.leaves h) (λ t u c d out. T.earlier h t u c d out told) left.0 t u c out le left.1) };
 }

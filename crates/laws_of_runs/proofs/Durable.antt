@@ -29,6 +29,7 @@ use Rattle.laws_of_steps.specs.DurableKeys.{key_is_durable}
 use Rattle.laws_of_steps.specs.DurableLaws.{durable_sorted, durable_again, durable_changed, kept_at}
 use Rattle.laws_of_steps.specs.OwnRowLaws.{row_there_fits}
 use Rattle.laws_of_steps.specs.Replay.{with_began}
+use Rattle.laws_of_runs.specs.OwnRowsLaws.{own_key}
 use Rattle.laws_of_runs.specs.Replays.{HasSameJob}
 use Rattle.laws_of_runs.proofs.Frames.{service_content}
 use Rattle.laws_of_tables.specs.PointsLaws.{point_row_fits}
@@ -42,10 +43,6 @@ module _ (g : Generated) (t : TableRows) (sorted : IsSortedTables t) (inputs : L
   -- the tables before a commit, as its record takes them
   abbrev pub base : ServiceId → Option Service → TableRows
   base id began = with_began g (durable g t) (record_of id began)
-
-  own_key : (id : ServiceId) (began : Option Service) → change_key (service_change id began) ≡ ServiceKey id
-  own_key id None = refl
-  own_key id (Some row) = refl
 
   pub base_sorted : (id : ServiceId) (began : Option Service) → service_of t id ≡ began → IsSortedTables (base id began)
   base_sorted id began e = by (is_durable g id)

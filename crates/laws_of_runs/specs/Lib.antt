@@ -1,6 +1,8 @@
+pub mod HistoryLaws
 pub mod ListsLaws
-pub mod RunLaws
+pub mod OwnRowsLaws
 pub mod Replays
 pub mod ReplaysLaws
-pub mod SerialRuns
+pub mod RunLaws
 pub mod SerialLaws
+pub mod SerialRuns

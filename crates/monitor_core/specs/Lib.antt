@@ -7,6 +7,8 @@ pub mod SteppingLaws
 pub mod StatedLaws
 pub mod WholeLaws
 pub mod Commanding
+pub mod CoreSteps
+pub mod CommandingLaws
 pub mod Showing
 pub mod Counted
 pub mod CountedLaws

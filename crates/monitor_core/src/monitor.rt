@@ -6,7 +6,7 @@ ghost use Rattle.kdcs_types.specs.Tables.{IsSortedTables};
 ghost use Rattle.unit_check.specs.Fitted.{IsFit};
 ghost use Rattle.laws_of_applications.specs.Applied.{applied};
 ghost use Rattle.laws_of_steps.specs.{Applications.{IsApplication}, Keeping.{HasFacts}, Replay.{SettlesAs}, Suits.{Suits}};
-ghost use Rattle.abstract_monitor.specs.{CommandsOf.{IsCommandOf, is_pterm}, Commands.{command_of, started, turned_step, use_now}, Endings.{durable}, Turns.{turn_of}};
+ghost use Rattle.abstract_monitor.specs.{CommandsOf.{IsCommandOf, is_pterm}, Commands.{command_of, lterm_at, started, turned_step, use_now}, Endings.{durable}, Turns.{turn_of}};
 ghost use Rattle.laws_of_jobs.specs.QueueLaws.{KeepsQueues};
 ghost use Rattle.laws_of_runs.specs.{Replays.{AllReplay}, SerialLaws.{IsSerialStep}};
 ghost use Rattle.service_ends.specs.Ending.{turned_to};
@@ -26,6 +26,7 @@ use laws_of_applications::fitted_units_make_an_application;
 use laws_of_jobs::commits_keep_queues;
 use laws_of_runs::{commits_are_serial, replays_hold_along_every_script, turns_end_serially};
 use service_ends::Turned;
+use session_table::lterm_of;
 use std::alloc::Global;
 use std::marker::Model;
 use unit_check::Units;
@@ -133,6 +134,14 @@ impl Core {
         ensures suits { Suits self.now.application.generation (durable self.now.application.generation self.now.state.tables) }
     {
         &self.parts.tables
+    }
+
+    /// The LTERM of this PTERM of the generation. It takes no memory.
+    pub fn lterm_at(&self, pterm: &Name) -> Name
+        requires pterm { IsTrue (is_pterm self.now.application.generation pterm.now) }
+        ensures { result ≡ lterm_at self.now.application pterm.now }
+    {
+        lterm_of(&self.parts.generation, *pterm)
     }
 
     /// What an input at this PTERM of the generation means, as the monitor is now.

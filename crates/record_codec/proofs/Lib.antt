@@ -5,4 +5,3 @@ mod Neighbours
 mod ShortItems
 mod SetsSoFar
 mod Short
-mod SoMany

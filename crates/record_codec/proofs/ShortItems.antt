@@ -1,19 +1,16 @@
 -- What is short where all that was written of it is short.
-use Rattle.std.specs.Prelude.{ℕ, ◌+◌, ◌-◌, ◌^◌, ◌<◌, ◌≤◌, List, [], ◌∷◌, length, flat_map, replicate, All, get_or}
+use Rattle.std.specs.Prelude.{ℕ, ◌+◌, ◌-◌, ◌^◌, ◌<◌, ◌≤◌, List, length, replicate, All, get_or}
 use Rattle.std.proofs.Common.{arith, length-append}
 use Rattle.std.proofs.lemmas.List.{length-replicate}
 use Rattle.std.proofs.lemmas.List.Folds.{length-flat_map-take}
 use Rattle.kd_base.specs.Field.{list}
 use Rattle.kd_base.specs.Text.{padded}
+use Rattle.record_codec.specs.ItemsLaws.{count_within}
 use Rattle.record_codec.specs.Values.{counted, lssb_bytes}
 
 module _ {A : Type 0} (bytes_of : A → List ℕ) where
-  count_within : ((x : A) → 1 ≤ length (bytes_of x)) → (xs : List A) → length xs ≤ length (flat_map bytes_of xs)
-  count_within some [] = omega arith
-  count_within some (x ∷ xs) = omega (arith, length-append (bytes_of x) (flat_map bytes_of xs), some x, count_within some xs)
-
   pub few : ((x : A) → 1 ≤ length (bytes_of x)) → (xs : List A) → length (counted bytes_of xs) < 2 ^ 32 → length xs < 2 ^ 32
-  few some xs h = omega (arith, count_within some xs, h)
+  few some xs h = omega (arith, count_within bytes_of some xs, h)
 
   -- each item's bytes are fewer
   item_within : (xs : List A) (i : ℕ) (d : A) → i < length xs → length (counted bytes_of xs) < 2 ^ 32 → length (bytes_of (get_or xs i d)) < 2 ^ 32

@@ -151,7 +151,7 @@ both_are_read {A} {B} one two of_one of_two F G h k = record {
 }
 
 module _ {A : Type 0} (one : List ℕ → Option (A × List ℕ)) (of_one : A → List ℕ) (F : A → Type 0) (h : IsReading one of_one F) where
-  items_back : (xs : List A) (rest : List ℕ) → Each F xs → items one (length xs) (flat_map of_one xs ++ rest) ≡ Some (xs, rest)
+  pub items_back : (xs : List A) (rest : List ℕ) → Each F xs → items one (length xs) (flat_map of_one xs ++ rest) ≡ Some (xs, rest)
   unfolding items
   items_back [] rest fits = refl
   items_back (x ∷ xs) rest fits =
@@ -160,12 +160,12 @@ module _ {A : Type 0} (one : List ℕ → Option (A × List ℕ)) (of_one : A �
       ∙ ap (option_map (λ q. (x ∷ q.0, q.1))) (items_back xs rest fits.1)
 
   -- what so many items are read from
-  record AreItems (n : ℕ) (bytes : List ℕ) (xs : List A) (rest : List ℕ) : Type 0 where
-    many : length xs ≡ n
-    whole : bytes ≡ flat_map of_one xs ++ rest
-    fits : Each F xs
+  pub record AreItems (n : ℕ) (bytes : List ℕ) (xs : List A) (rest : List ℕ) : Type 0 where
+    pub many : length xs ≡ n
+    pub whole : bytes ≡ flat_map of_one xs ++ rest
+    pub fits : Each F xs
 
-  items_there : (n : ℕ) (xs : List A) (bytes rest : List ℕ) → AreBytes bytes → items one n bytes ≡ Some (xs, rest) → AreItems n bytes xs rest
+  pub items_there : (n : ℕ) (xs : List A) (bytes rest : List ℕ) → AreBytes bytes → items one n bytes ≡ Some (xs, rest) → AreItems n bytes xs rest
   unfolding items
   items_there zero xs bytes rest are e =
       let same : ([], bytes) ≡ (xs, rest) = some_is ([], bytes) (xs, rest) e in

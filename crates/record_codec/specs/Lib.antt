@@ -6,6 +6,7 @@ pub mod Patches
 pub mod PatchesLaws
 pub mod Fields
 pub mod FieldsLaws
+pub mod ItemsLaws
 pub mod Reads
 pub mod Readings
 pub mod ReadingsLaws

@@ -56,7 +56,7 @@ pub fn tables_of(alloc: Global, content: &Content) -> Result<Option<Tables>, Out
     }
     match sets_in(alloc, records) {
         Ok(items) => Ok(Some(tables_with(alloc, content.clock, content.next_job, items)?)),
-        Err(Unread::NoRow) => Ok(None),
+        Err(Unread::NotThere) => Ok(None),
         Err(Unread::Memory) => Err(OutOfMemory),
     }
 }

@@ -48,7 +48,7 @@ fn filled_key(key: &Key) -> [u8; 24]
 }
 
 /// The key of the record of a row with this key. It takes no memory.
-pub(crate) fn record_key(key: &Key) -> RecordKey
+pub fn record_key(key: &Key) -> RecordKey
     ensures { result ≡ record_key key.now }
 {
     RecordKey {

@@ -6,11 +6,11 @@ use kd_base::{Bytes, Name, OutOfMemory, Reader, Sequence};
 use kdcs_types::{JobValue, Service, ServiceId, Target};
 use std::alloc::Global;
 
-/// Why no row was read.
+/// Why a row, or another value, was not read.
 #[derive(Drop)]
-pub(crate) enum Unread {
-    /// The bytes are no row's.
-    NoRow,
+pub enum Unread {
+    /// The bytes are not those of one.
+    NotThere,
     Memory,
 }
 
@@ -27,31 +27,34 @@ impl From<OutOfMemory> for Unread {
 pub(crate) fn name_in(reader: &mut Reader) -> Result<Name, Unread>
     ensures { Reads result reader.new (name_field reader.old) }
 {
-    reader.name_at().ok_or(Unread::NoRow)
+    reader.name_at().ok_or(Unread::NotThere)
 }
 
-pub(crate) fn u8_in(reader: &mut Reader) -> Result<u8, Unread>
+/// One byte.
+pub fn u8_in(reader: &mut Reader) -> Result<u8, Unread>
     ensures { Reads result reader.new (number_field w8 reader.old) }
 {
-    reader.u8_at().ok_or(Unread::NoRow)
+    reader.u8_at().ok_or(Unread::NotThere)
 }
 
 fn u32_in(reader: &mut Reader) -> Result<u32, Unread>
     ensures { Reads result reader.new (number_field w32 reader.old) }
 {
-    reader.u32_at().ok_or(Unread::NoRow)
+    reader.u32_at().ok_or(Unread::NotThere)
 }
 
-pub(crate) fn u64_in(reader: &mut Reader) -> Result<u64, Unread>
+/// Eight bytes as a number.
+pub fn u64_in(reader: &mut Reader) -> Result<u64, Unread>
     ensures { Reads result reader.new (number_field w64 reader.old) }
 {
-    reader.u64_at().ok_or(Unread::NoRow)
+    reader.u64_at().ok_or(Unread::NotThere)
 }
 
-fn list_in(alloc: Global, reader: &mut Reader) -> Result<Bytes, Unread>
+/// A length of four bytes and so many bytes.
+pub fn list_in(alloc: Global, reader: &mut Reader) -> Result<Bytes, Unread>
     ensures { Reads result reader.new (list_field reader.old) }
 {
-    reader.list_at(alloc)?.ok_or(Unread::NoRow)
+    reader.list_at(alloc)?.ok_or(Unread::NotThere)
 }
 
 fn flag_in(reader: &mut Reader) -> Result<bool, Unread>
@@ -60,17 +63,18 @@ fn flag_in(reader: &mut Reader) -> Result<bool, Unread>
     match u8_in(reader)? {
         0 => Ok(false),
         1 => Ok(true),
-        _ => Err(Unread::NoRow),
+        _ => Err(Unread::NotThere),
     }
 }
 
-fn last_in(alloc: Global, reader: &mut Reader) -> Result<Option<Bytes>, Unread>
+/// 0, or 1 and a list.
+pub fn last_in(alloc: Global, reader: &mut Reader) -> Result<Option<Bytes>, Unread>
     ensures { Reads result reader.new (last_reading reader.old) }
 {
     match u8_in(reader)? {
         0 => Ok(None),
         1 => Ok(Some(list_in(alloc, reader)?)),
-        _ => Err(Unread::NoRow),
+        _ => Err(Unread::NotThere),
     }
 }
 
@@ -82,7 +86,7 @@ fn target_in(reader: &mut Reader) -> Result<Target, Unread>
     match kind {
         b'T' => Ok(Target::Tac(name)),
         b'L' => Ok(Target::Lterm(name)),
-        _ => Err(Unread::NoRow),
+        _ => Err(Unread::NotThere),
     }
 }
 
@@ -97,7 +101,7 @@ fn lterm_in(id: &ServiceId, reader: &mut Reader) -> Result<Option<Name>, Unread>
             if u64_in(reader)? == EIGHT_SPACES {
                 Ok(None)
             } else {
-                Err(Unread::NoRow)
+                Err(Unread::NotThere)
             }
         }
         ServiceId::Asynchronous(_) => Ok(Some(name_in(reader)?)),

@@ -17,7 +17,7 @@ fn id_in(reader: &mut Reader) -> Result<ServiceId, Unread>
     match u8_in(reader)? {
         b'D' => Ok(ServiceId::Dialogue(name_in(reader)?)),
         b'A' => Ok(ServiceId::Asynchronous(u64_in(reader)?)),
-        _ => Err(Unread::NoRow),
+        _ => Err(Unread::NotThere),
     }
 }
 
@@ -45,7 +45,7 @@ fn key_of_kind(kind: u8, reader: &mut Reader) -> Result<Key, Unread>
         4 => Ok(Key::Service(id_in(reader)?)),
         5 => Ok(Key::Job(u64_in(reader)?)),
         6 => Ok(Key::Shown(name_in(reader)?)),
-        _ => Err(Unread::NoRow),
+        _ => Err(Unread::NotThere),
     }
 }
 
@@ -57,7 +57,8 @@ fn reader_of(bytes: &[u8]) -> Reader<'_>
     Reader::new(bytes)
 }
 
-fn key_in(key: &RecordKey) -> Result<Key, Unread>
+/// The key of a row whose record has this key. It takes no memory.
+pub fn key_in(key: &RecordKey) -> Result<Key, Unread>
     ensures read { ReadsWhole result (key_read key.now) }
     ensures bytes { AreBytes key.now.bytes }
 {
@@ -66,7 +67,7 @@ fn key_in(key: &RecordKey) -> Result<Key, Unread>
     if record_key(&read).compared(key).is_eq() {
         Ok(read)
     } else {
-        Err(Unread::NoRow)
+        Err(Unread::NotThere)
     }
 }
 
@@ -77,7 +78,7 @@ fn ended<T: Drop>(reader: &Reader, read: T) -> Result<T, Unread>
     if reader.rest() == 0 {
         Ok(read)
     } else {
-        Err(Unread::NoRow)
+        Err(Unread::NotThere)
     }
 }
 
@@ -135,7 +136,8 @@ fn row_fits(row: &Row) -> bool
     }
 }
 
-pub(crate) fn row_in(alloc: Global, key: &RecordKey, value: &[u8]) -> Result<Row, Unread>
+/// The row that has this record, as `row_of` answers it.
+pub fn row_in(alloc: Global, key: &RecordKey, value: &[u8]) -> Result<Row, Unread>
     ensures row { ReadsWhole result (row_read (key.now, value.now)) }
     ensures key { AreBytes key.now.bytes }
     ensures value { AreBytes value.now }
@@ -145,7 +147,7 @@ pub(crate) fn row_in(alloc: Global, key: &RecordKey, value: &[u8]) -> Result<Row
     if row_fits(&row) {
         Ok(row)
     } else {
-        Err(Unread::NoRow)
+        Err(Unread::NotThere)
     }
 }
 
@@ -156,7 +158,7 @@ pub fn row_of(alloc: Global, key: &RecordKey, value: &[u8]) -> Result<Option<Row
 {
     match row_in(alloc, key, value) {
         Ok(row) => Ok(Some(row)),
-        Err(Unread::NoRow) => Ok(None),
+        Err(Unread::NotThere) => Ok(None),
         Err(Unread::Memory) => Err(OutOfMemory),
     }
 }

@@ -60,7 +60,8 @@ fn put_lterm(lterm: &Option<Name>, w: &mut Bytes) -> Result<(), OutOfMemory>
     }
 }
 
-fn put_last(last: &Option<Bytes>, w: &mut Bytes) -> Result<(), OutOfMemory>
+/// Puts 0, or 1 and a message as a list.
+pub fn put_last(last: &Option<Bytes>, w: &mut Bytes) -> Result<(), OutOfMemory>
     requires { length (last_bytes last.now) < 2 ^ 32 }
     ensures { OnOk result (w.new ≡ w.old ++ last_bytes last.now) }
 {
@@ -113,7 +114,7 @@ fn put_lssbs(lssbs: &[(Name, Bytes)], w: &mut Bytes) -> Result<(), OutOfMemory>
 }
 
 /// The value of a service's record.
-pub(crate) fn service_value(alloc: Global, s: &Service) -> Result<Bytes, OutOfMemory>
+pub fn service_value(alloc: Global, s: &Service) -> Result<Bytes, OutOfMemory>
     requires { length (service_bytes s.now) < 2 ^ 32 }
     ensures { IfOk result (λ bytes. bytes ≡ service_bytes s.now) }
 {

@@ -21,19 +21,18 @@ use Rattle.abstract_monitor.specs.Locks.{Locks, told_now}
 use Rattle.abstract_monitor.specs.State.{Application, OpenTransaction as Transaction}
 use Rattle.abstract_monitor.specs.Statements.{area_of_call, by_call, by_outcome}
 use Rattle.laws_of_tables.specs.OpenLaws.{CallKeeps, CalledFits, StandsIn}
-use Rattle.laws_of_tables.specs.PointLaws.{AreSound}
 use Rattle.laws_of_tables.specs.ReadyLaws.{runs_are_ready}
 use Rattle.laws_of_tables.specs.StatedLaws.{calls_keep}
-use Rattle.laws_of_tables.specs.StatesLaws.{told_fits}
 use Rattle.abstract_monitor.specs.Bytes.{Bytes}
 use Rattle.open_transaction.specs.Transactions.{followed_with}
-use Rattle.service_statement.proofs.Reading.{can_read}
+use Rattle.service_statement.specs.Stating.{ContentsFit}
+use Rattle.service_statement.proofs.Reading.{can_read, told_short}
 
 -- ---- what the answer finds
 
-module _ (app : Application) (t : TableRows) (l : Locks) (id : ServiceId) (x : Transaction) (unit : UnitText) (call : Call) (stands : StandsIn app id x unit) (sound : AreSound app.generation t) where
+module _ (app : Application) (t : TableRows) (l : Locks) (id : ServiceId) (x : Transaction) (unit : UnitText) (call : Call) (stands : StandsIn app id x unit) (fits : ContentsFit t) where
   pub reads : CanRead t x
-  reads = can_read app.generation t id x (omega (arith, stands.application.nb)) sound stands.can
+  reads = can_read app.generation t id x (omega (arith, stands.application.nb)) fits stands.can
 
   abbrev performed : Transaction × Called
   performed = performed_now app.generation t l id x call
@@ -42,7 +41,7 @@ module _ (app : Application) (t : TableRows) (l : Locks) (id : ServiceId) (x : T
     kept : CallKeeps app.generation id x unit (y, c)
     kept =
         subst (CallKeeps app.generation id x unit) (sym exact)
-        (calls_keep app id x unit (told_now l app.generation.limits.reswait t id (area_of_call x call)) call stands (told_fits app.generation t l app.generation.limits.reswait id (area_of_call x call) sound) asks)
+        (calls_keep app id x unit (told_now l app.generation.limits.reswait t id (area_of_call x call)) call stands (told_short l app.generation.limits.reswait t id (area_of_call x call) fits) asks)
 
     pub ready_then : IsReady unit y.run
     ready_then = subst (IsReady unit) (sym kept.same_run) (runs_are_ready app id x unit stands)

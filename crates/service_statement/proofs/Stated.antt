@@ -21,10 +21,10 @@ use Rattle.abstract_monitor.specs.Endings.{is_asynchronous}
 use Rattle.abstract_monitor.specs.Locks.{Locks, told_now}
 use Rattle.abstract_monitor.specs.State.{Application, OpenTransaction as Transaction, unit_of}
 use Rattle.abstract_monitor.specs.Statements.{Stated, area_in_unit, area_of, area_of_call, area_of_step, by_performed, by_step, in_unit, statement}
-use Rattle.laws_of_tables.specs.OpenLaws.{StandsIn}
 use Rattle.open_transaction.specs.declared.open.OpenTransaction.{OpenTransaction}
 use Rattle.open_transaction.specs.Transactions.{transaction_of}
 use Rattle.service_statement.specs.Stating.{StepLeaves, wait_ended, waits_after, waits_by}
+use Rattle.service_statement.specs.StatingLaws.{left, means}
 
 module _ (app : Application) (t : TableRows) (l : Locks) (id : ServiceId) (x : Transaction) where
   abbrev told_by : Option Area → Told
@@ -51,41 +51,32 @@ module _ (app : Application) (t : TableRows) (l : Locks) (x y : OpenTransaction)
   abbrev now : Stated
   now = statement_now app t l x.id (transaction_of x)
 
-  left : (r : Stepped) → s ≡ r → StepLeaves x y r
-  left r is = subst (StepLeaves x y) is leaves
-
-  means : (r : Stepped) → s ≡ r → meaning_of r y.run ≡ step unit x.run
-  means r is = subst (λ (k : Stepped). meaning_of k y.run ≡ step unit x.run) is meaning
-
   module _ (is : s ≡ stepped.Plain) where
     pub plain_exact : (transaction_of y, Went) ≡ now
     plain_exact =
-        ap (λ (w : OpenTransaction). (transaction_of w, Went)) (left stepped.Plain is)
-        ∙ stated app t l x.id (transaction_of x) unit (Plain y.run) found (means stepped.Plain is)
+        ap (λ (w : OpenTransaction). (transaction_of w, Went)) (left x y s leaves stepped.Plain is)
+        ∙ stated app t l x.id (transaction_of x) unit (Plain y.run) found (means x y unit s meaning stepped.Plain is)
 
     pub plain_holders : HoldsJust l x.id (transaction_of x) → HoldersMatch l l x.id (transaction_of y)
-    plain_holders holds = quiet_matches l x.id (transaction_of x) holds (transaction_of y) (ap (λ (w : OpenTransaction). w.touched) (left stepped.Plain is))
+    plain_holders holds = quiet_matches l x.id (transaction_of x) holds (transaction_of y) (ap (λ (w : OpenTransaction). w.touched) (left x y s leaves stepped.Plain is))
 
   module _ (cause : Cause) (is : s ≡ stepped.Ends cause) where
     pub ends_exact : (transaction_of y, Breaks (Broken cause)) ≡ now
     ends_exact =
-        ap (λ (w : OpenTransaction). (transaction_of w, Breaks (Broken cause))) (left (stepped.Ends cause) is)
-        ∙ stated app t l x.id (transaction_of x) unit (Ends cause) found (means (stepped.Ends cause) is)
+        ap (λ (w : OpenTransaction). (transaction_of w, Breaks (Broken cause))) (left x y s leaves (stepped.Ends cause) is)
+        ∙ stated app t l x.id (transaction_of x) unit (Ends cause) found (means x y unit s meaning (stepped.Ends cause) is)
 
     pub ends_holders : HoldsJust l x.id (transaction_of x) → HoldersMatch l l x.id (transaction_of y)
-    ends_holders holds = quiet_matches l x.id (transaction_of x) holds (transaction_of y) (ap (λ (w : OpenTransaction). w.touched) (left (stepped.Ends cause) is))
+    ends_holders holds = quiet_matches l x.id (transaction_of x) holds (transaction_of y) (ap (λ (w : OpenTransaction). w.touched) (left x y s leaves (stepped.Ends cause) is))
 
   module _ (call : Call) (is : s ≡ stepped.Asks call) where
-    pub asks_stands : StandsIn app x.id (transaction_of x) unit → StandsIn app y.id (transaction_of y) unit
-    asks_stands stands = subst (λ (w : OpenTransaction). StandsIn app w.id (transaction_of w) unit) (sym (left (stepped.Asks call) is)) stands
-
     pub asks_exact : {E : Type 0} (z : Transaction) (r : Result Happened E)
         → IfOk r (λ (h : Happened). (z, h) ≡ by_performed app (is_asynchronous y.id) unit (performed_now app.generation t l y.id (transaction_of y) call))
         → IfOk r (λ (h : Happened). (z, h) ≡ now)
     asks_exact z (Ok h) e =
         e
-        ∙ ap (λ (w : OpenTransaction). by_performed app (is_asynchronous w.id) unit (performed_now app.generation t l w.id (transaction_of w) call)) (left (stepped.Asks call) is)
-        ∙ stated app t l x.id (transaction_of x) unit (Asks call) found (means (stepped.Asks call) is)
+        ∙ ap (λ (w : OpenTransaction). by_performed app (is_asynchronous w.id) unit (performed_now app.generation t l w.id (transaction_of w) call)) (left x y s leaves (stepped.Asks call) is)
+        ∙ stated app t l x.id (transaction_of x) unit (Asks call) found (means x y unit s meaning (stepped.Asks call) is)
     asks_exact z (Err e) is_none = tt
 
     pub asks_waits : {E : Type 0} (m : Locks) (r : Result Happened E)
@@ -93,8 +84,8 @@ module _ (app : Application) (t : TableRows) (l : Locks) (x y : OpenTransaction)
         → IfOk r (λ (h : Happened). (wait_ended m x.id h).waits ≡ waits_after app t l x.id (transaction_of x) h)
     asks_waits m (Ok h) e =
         subst (λ (area : Option Area). (wait_ended m x.id h).waits ≡ waits_by l x.id t.clock area h)
-        (area_stated app t l x.id (transaction_of x) unit (Asks call) found (means (stepped.Asks call) is))
-        (subst (λ (w : OpenTransaction). (wait_ended m w.id h).waits ≡ waits_by l w.id t.clock (area_of_call (transaction_of w) call) h) (left (stepped.Asks call) is) e)
+        (area_stated app t l x.id (transaction_of x) unit (Asks call) found (means x y unit s meaning (stepped.Asks call) is))
+        (subst (λ (w : OpenTransaction). (wait_ended m w.id h).waits ≡ waits_by l w.id t.clock (area_of_call (transaction_of w) call) h) (left x y s leaves (stepped.Asks call) is) e)
     asks_waits m (Err e) is_none = tt
 
 -- the end of a wait moves no area

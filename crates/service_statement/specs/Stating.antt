@@ -1,8 +1,8 @@
 -- What one statement of a service does to its transaction and to the requests that wait.
-use Rattle.std.specs.Prelude.{◌≡◌, ℕ, ◌+◌, List, Option}
+use Rattle.std.specs.Prelude.{◌≡◌, ℕ, ◌+◌, IsTrue, List, Option}
 use Rattle.kdcs_types.specs.declared.key.Area.{Area}
 use Rattle.kdcs_types.specs.declared.key.ServiceId.{ServiceId}
-use Rattle.kdcs_types.specs.Tables.{TableRows}
+use Rattle.kdcs_types.specs.Tables.{TableRows, content_of}
 use Rattle.open_transaction.specs.declared.open.OpenTransaction.{OpenTransaction}
 use Rattle.unit_step.specs.declared.stepped.Stepped.{Stepped}
 use Rattle.unit_step.specs.declared.stepped.Stepped.TheVariants as stepped
@@ -20,6 +20,7 @@ use Rattle.abstract_monitor.specs.Endings.{is_asynchronous}
 use Rattle.abstract_monitor.specs.Locks.{Locks, Waiting, told_now}
 use Rattle.abstract_monitor.specs.Statements.{Stated, area_of, by_call, by_outcome, by_performed, statement}
 use Rattle.abstract_monitor.specs.State.{Application, OpenTransaction as Transaction}
+use Rattle.laws_of_steps.specs.Transactions.{fits_if_there}
 
 -- a plain statement gives another unit run and is counted; a call, and an end, change nothing yet
 abbrev pub StepLeaves : (before after : OpenTransaction) → Stepped → Type 0
@@ -50,6 +51,10 @@ wait_ended l id _ = l
 -- the waits, once that of their service is ended where its statement ends it
 abbrev pub WaitsAfter : Application → TableRows → (before after : Locks) → OpenTransaction → Happened → Type 0
 WaitsAfter app t l m w h = (wait_ended m w.id h).waits ≡ waits_after app t l w.id (transaction_of w) h
+
+-- no content of an area is longer than a content may be
+abbrev pub ContentsFit : TableRows → Type 0
+ContentsFit t = (area : Area) → IsTrue (fits_if_there (content_of t area))
 
 -- ---- the next statement of a transaction, told what the locks and the tables say now
 

@@ -2,11 +2,11 @@
 ghost use Rattle.std.specs.Prelude.{◌≡◌, ◌+◌, ◌≤◌, ◌<◌, ◌^◌, IfOk, OnOk};
 ghost use Rattle.kdcs_calls.specs.Calling.{HoldersMatch, HoldsJust};
 ghost use Rattle.abstract_monitor.specs.{Endings.{is_asynchronous}, Statements.{area_of_call}};
-ghost use Rattle.laws_of_tables.specs.{OpenLaws.{CalledFits, StandsIn}, PointLaws.{AreSound}};
+ghost use Rattle.laws_of_tables.specs.OpenLaws.{CalledFits, StandsIn};
 ghost use Rattle.open_transaction.specs.Transactions.{transaction_of};
 ghost use Rattle.unit_semantics.specs.{Ready.{IsReady}, Statement.{Asks, step}};
 ghost use Rattle.laws_of_applications.specs.Applied.{applied};
-ghost use Rattle.service_statement.specs.Stating.{answered_now, call_now, wait_ended, waits_by};
+ghost use Rattle.service_statement.specs.Stating.{ContentsFit, answered_now, call_now, wait_ended, waits_by};
 
 use crate::outside::Outside;
 use crate::pend::pend;
@@ -44,8 +44,10 @@ fn after_call(
     }
 }
 
-/// Performs the call that a statement asks for, and what its answer does.
-pub(crate) fn perform_call(
+/// Performs the call that a statement asks for, and what its answer does. `locks` gives the service exactly the areas that
+/// its transaction holds, and no content of an area is longer than 32,767 bytes. When memory runs out, the transaction and
+/// the locks are of no use any more.
+pub fn perform_call(
     outside: &Outside,
     unit: &Unit,
     locks: &mut LockTable,
@@ -53,7 +55,7 @@ pub(crate) fn perform_call(
     call: &Call,
 ) -> Result<Happened, OutOfMemory>
     requires stands { StandsIn (applied outside.now.generation.now outside.now.units.now) transaction.old.id (transaction_of transaction.old) unit.now }
-    requires sound { AreSound outside.now.generation.now outside.now.tables.now }
+    requires contents { ContentsFit outside.now.tables.now }
     requires asks { step unit.now transaction.old.run ≡ Asks call.now }
     requires holds { HoldsJust locks.old transaction.old.id (transaction_of transaction.old) }
     requires nb { transaction.old.messages.nb ≡ outside.now.generation.now.limits.nb }

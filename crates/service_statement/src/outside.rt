@@ -7,9 +7,9 @@ use unit_check::Units;
 
 /// What a statement looks at, and does not change.
 #[derive(Clone, Copy)]
-pub(crate) struct Outside<'a> {
-    pub(crate) alloc: Global,
-    pub(crate) generation: &'a Generation,
-    pub(crate) units: &'a Units,
-    pub(crate) tables: &'a Tables,
+pub struct Outside<'a> {
+    pub alloc: Global,
+    pub generation: &'a Generation,
+    pub units: &'a Units,
+    pub tables: &'a Tables,
 }

@@ -24,8 +24,8 @@ use unit_check::Units;
 use unit_step::{Stepped, step};
 use unit_types::Unit;
 
-// A plain statement is done and counted; else nothing changes.
-fn step_unit(
+/// A plain statement is done and counted; else nothing changes. Fewer than 2^64 - 1 statements were done.
+pub fn step_unit(
     alloc: Global,
     unit: &Unit,
     transaction: &mut OpenTransaction,

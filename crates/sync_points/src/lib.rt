@@ -18,7 +18,7 @@ ghost use Rattle.sync_points.specs.Laws.{PointsChangeWhatWasWritten, EndsChangeT
 
 pub use ends::broken;
 pub use points::{SettleAnswer, settle};
-pub use real::is_real;
+pub use real::{is_real, same_service, same_value};
 
 /// What a synchronisation point or an abnormal end changes in the durable tables is what the transaction wrote, where
 /// that is another row than stood there.

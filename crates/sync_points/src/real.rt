@@ -6,7 +6,8 @@ ghost use Rattle.sync_points.specs.PointChanges.{is_real};
 use kd_base::Bytes;
 use kdcs_types::{Area, Change, JobValue, Key, Row, Service, Tables};
 
-fn same_service(a: &Service, b: &Service) -> bool
+/// Whether both rows say the same.
+pub fn same_service(a: &Service, b: &Service) -> bool
     ensures { result ≡ service_eq a.now b.now }
 {
     a.id == b.id
@@ -21,7 +22,8 @@ fn same_service(a: &Service, b: &Service) -> bool
         && a.lssbs.as_slice() == b.lssbs.as_slice()
 }
 
-fn same_value(a: &JobValue, b: &JobValue) -> bool
+/// Whether both jobs are the same, beside their numbers.
+pub fn same_value(a: &JobValue, b: &JobValue) -> bool
     ensures { result ≡ job_value_eq a.now b.now }
 {
     a.to == b.to

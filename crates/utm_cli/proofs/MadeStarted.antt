@@ -16,7 +16,8 @@ use Rattle.abstract_monitor.specs.Bytes.{Bytes}
 use Rattle.abstract_monitor.specs.State.{Application}
 use Rattle.abstract_monitor.specs.Trace.{history, trace, tables_after, bytes_of}
 use Rattle.monitor_core.specs.CoreValue.{CoreValue}
-use Rattle.device_run.specs.Running.{durable_of, IsRunning}
+use Rattle.monitor_core.specs.CoreSteps.{durable_of}
+use Rattle.device_run.specs.Running.{IsRunning}
 use Rattle.warm_start.specs.Stands.{KeepsTables, identity_for}
 use Rattle.utm_cli.specs.MadeReport.{report_with, report_by, report_of}
 use Rattle.laws_of_tables.specs.EndsLaws.{durable_same}

@@ -14,7 +14,7 @@ use Rattle.script_read.specs.declared.fault.ScriptFault.{ScriptFault}
 use Rattle.script_read.specs.Script.{Line, Nothing, Says, IsBad, IsOutOfRange, begins_with_space, is_passed, line_by, line_then, script_from, script_by, command_lines, is_too_long}
 use Rattle.script_read.specs.Commands.{begins_with_in, command_by, line_in, script_in}
 use Rattle.script_read.specs.Spelling.{IsSpelled, CommandsOnly}
-use Rattle.device_run.specs.Running.{turns_of}
+use Rattle.monitor_core.specs.CoreSteps.{turns_of}
 use Rattle.script_read.proofs.Fitting.{of_spelled}
 
 -- ---- the turns

@@ -12,7 +12,7 @@ use Rattle.laws_of_steps.specs.Applications.{IsApplication}
 use Rattle.laws_of_steps.specs.Keeping.{IsScriptOf}
 use Rattle.script_read.specs.Commands.{script_in}
 use Rattle.warm_start.specs.Fingerprints.{fingerprint as print_of}
-use Rattle.device_run.specs.Running.{turns_of}
+use Rattle.monitor_core.specs.CoreSteps.{turns_of}
 use Rattle.utm_cli.specs.MadeTexts.{definition_text as made_definition, units_text as made_units, script_text as made_script}
 use Rattle.refusals.specs.declared.error.Refusal.{Refusal}
 use Rattle.refusals.specs.declared.error.Refusal.TheVariants.{Application, Script}

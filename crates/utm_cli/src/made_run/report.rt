@@ -8,7 +8,8 @@ ghost use Rattle.laws_of_applications.specs.Applied.{applied};
 ghost use Rattle.laws_of_steps.specs.{Keeping.{IsScriptOf}, Suits.{Suits}};
 ghost use Rattle.abstract_monitor.specs.{Commands.{acts_of}, Trace.{history}};
 ghost use Rattle.warm_start.specs.declared.error.OpenError.TheVariants as errors;
-ghost use Rattle.device_run.specs.Running.{turns_of, durable_of, IsRunning};
+ghost use Rattle.monitor_core.specs.CoreSteps.{durable_of, turns_of};
+ghost use Rattle.device_run.specs.Running.{IsRunning};
 ghost use Rattle.warm_start.specs.Stands.{KeepsTables, identity_for};
 ghost use Rattle.utm_cli.specs.MadeReport.{report_by, report_of};
 

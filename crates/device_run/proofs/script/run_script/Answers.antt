@@ -2,7 +2,8 @@ use Rattle.std.proofs.Common.{inl, inr, ⊎_elim, ◌^◌, arith, sym, subst}
 use Rattle.std.specs.Prelude.{IsTrue}
 use Rattle.abstract_monitor.specs.Trace.{history}
 use Rattle.kd_base.specs.ToolsLaws.{error_same}
-use Rattle.device_run.proofs.Scripts.{script_kept, script_over, script_names, script_turns, script_within, script_writes, script_written, script_more, script_bounded, script_bounded_more, script_counted, script_counted_over, script_stopped, nothing_counted}
+use Rattle.monitor_core.specs.CommandingLaws.{script_turns}
+use Rattle.device_run.proofs.Scripts.{script_kept, script_over, script_names, script_within, script_writes, script_written, script_more, script_bounded, script_bounded_more, script_counted, script_counted_over, script_stopped, nothing_counted}
 use Rattle.device_run.proofs.Stepping.{history_start, steps_ran}
 use Rattle.device_run.proofs.Errors.{on_err}
 use Rattle.device_run.proofs.script.run_script.Goals as goal
@@ -24,7 +25,7 @@ pub do_command-requires-clause-names : goal.do_command-requires-clause-names
 do_command-requires-clause-names g c = script_names c.args.fingerprint.now c.args.core c.loop-command.core c.loop-command.store c.args.commands.now c.loop-command.command-index (g.D.Device.state c.args.device.now) (g.D.Device.state c.loop-command.device) (g.D.Device.leaves c.args.device.now) (g.D.Device.leaves c.loop-command.device) c.loop-command.invariant.run c.command-item.result c.command-item.is c.loop-command-test.true c.requires.names
 
 pub do_command-requires-clause-steps : goal.do_command-requires-clause-steps
-do_command-requires-clause-steps g c = omega (arith, script_turns c.args.fingerprint.now c.args.core c.loop-command.core c.loop-command.store c.args.commands.now c.loop-command.command-index (g.D.Device.state c.args.device.now) (g.D.Device.state c.loop-command.device) (g.D.Device.leaves c.args.device.now) (g.D.Device.leaves c.loop-command.device) c.loop-command.invariant.run c.command-item.result c.command-item.is c.loop-command-test.true, c.loop-command.invariant.steps)
+do_command-requires-clause-steps g c = omega (arith, script_turns c.args.commands.now c.loop-command.command-index c.command-item.result c.command-item.is c.loop-command-test.true, c.loop-command.invariant.steps)
 
 pub do_command-requires-clause-bounded : goal.do_command-requires-clause-bounded
 do_command-requires-clause-bounded g c =
@@ -39,7 +40,7 @@ returns-in_err-core-clause-any g c = script_within c.args.fingerprint.now c.args
 
 pub loop-command-preserved : goal.loop-command-preserved
 loop-command-preserved g c = record {
-  steps = omega (arith, script_turns c.args.fingerprint.now c.args.core c.loop-command.core c.loop-command.store c.args.commands.now c.loop-command.command-index (g.D.Device.state c.args.device.now) (g.D.Device.state c.loop-command.device) (g.D.Device.leaves c.args.device.now) (g.D.Device.leaves c.loop-command.device) c.loop-command.invariant.run c.command-item.result c.command-item.is c.loop-command-test.true, c.loop-command.invariant.steps, c.in_ok-core.ensures.steps);
+  steps = omega (arith, script_turns c.args.commands.now c.loop-command.command-index c.command-item.result c.command-item.is c.loop-command-test.true, c.loop-command.invariant.steps, c.in_ok-core.ensures.steps);
   bounded =
       script_bounded_more c.args.fingerprint.now c.args.core c.loop-command.core c.loop-command.store c.args.commands.now c.loop-command.command-index (g.D.Device.state c.args.device.now) (g.D.Device.state c.loop-command.device) (g.D.Device.leaves c.args.device.now) (g.D.Device.leaves c.loop-command.device) c.loop-command.invariant.run c.command-item.result c.command-item.is c.loop-command-test.true
       c.loop-command.commits c.do_command.new.commits c.in_ok-core.ensures.counted c.steps_commit_once.ensures.turns c.steps_commit_once.ensures.commands (10 ^ 18) c.loop-command.invariant.bounded;

@@ -1,7 +1,7 @@
 use Rattle.std.proofs.Common.{◌≡◌, ◌≤◌, ◌+◌, ◌^◌, take, drop}
 use Rattle.std.specs.Prelude.{IsTrue, sum_by}
 use Rattle.abstract_monitor.specs.Trace.{history}
-use Rattle.device_run.specs.Running.{turns_of}
+use Rattle.monitor_core.specs.CoreSteps.{turns_of}
 use Rattle.device_run.proofs.Counting.{commits_by}
 use Rattle.device_run.proofs.Stepping.{Stepping}
 use Rattle.device_run.proofs.script.run_script.Given as goal

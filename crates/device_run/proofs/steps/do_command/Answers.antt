@@ -5,9 +5,12 @@ use Rattle.abstract_monitor.specs.Commands.{ScriptStep, command_of, rotated, tur
 use Rattle.abstract_monitor.specs.Turns.{turn_of}
 use Rattle.abstract_monitor.specs.declared.command.Command.{Command}
 use Rattle.abstract_monitor.specs.CommandsOf.{IsCommandOf}
-use Rattle.device_run.specs.Running.{turns_of, StepsWrite, WithinSteps, DidSteps}
+use Rattle.laws_of_runs.specs.HistoryLaws.{steps_of_run, steps_of_turn, steps_of_restart}
+use Rattle.monitor_core.specs.CommandingLaws.{single_of, steps_of_single}
+use Rattle.monitor_core.specs.CoreSteps.{turns_of}
+use Rattle.device_run.specs.Running.{StepsWrite, WithinSteps, DidSteps}
 use Rattle.device_run.proofs.Counting.{commits_by}
-use Rattle.device_run.proofs.Commanding.{own_running, steps_of_run, steps_of_turn, steps_of_restart, steps_of_single, single_of, command_within, command_writes, did_command, one_counts, restart_counts, run_no_restart, turn_no_restart, single_no_restart}
+use Rattle.device_run.proofs.Commanding.{own_running, command_within, command_writes, did_command, one_counts, restart_counts, run_no_restart, turn_no_restart, single_no_restart}
 use Rattle.kd_base.specs.ToolsLaws.{error_same}
 use Rattle.device_run.proofs.Errors.{err_is_no_value, on_err, on_err_weaker}
 use Rattle.device_acts.specs.ErrorsLaws.{no_error, other_error}

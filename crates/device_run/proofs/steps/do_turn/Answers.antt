@@ -6,7 +6,8 @@ use Rattle.abstract_monitor.specs.Commands.{acts_of, turned_step}
 use Rattle.warm_start.specs.Stands.{StandsForTables}
 use Rattle.device_run.specs.HandedOnLaws.{act_failed, act_not_failed, act_refuses_nothing, act_knows_no_other}
 use Rattle.laws_of_steps.specs.Cut.{commits_in}
-use Rattle.device_run.specs.Running.{identity_of, durable_of}
+use Rattle.monitor_core.specs.CoreSteps.{durable_of}
+use Rattle.device_run.specs.Running.{identity_of}
 use Rattle.device_acts.specs.ActingLaws.{none_within}
 use Rattle.device_run.proofs.Stepping.{can_act, step_within, step_writes, none_written, did_step}
 use Rattle.device_run.proofs.Storables.{turn_can}

@@ -29,9 +29,9 @@ returns-in_ok-tables_with-in-Ok-clause-found c =
     (subst (All AreRecordBytes) c.as_slice-records.ensures c.in-Ok.ensures.bytes) rises
     (subst (λ (xs : List Record). sets_read xs ≡ Some c.in-Ok.items) c.as_slice-records.ensures c.in-Ok.ensures.read))
 
-pub returns-in-Err-NoRow-clause-none : goal.returns-in-Err-NoRow-clause-none
-returns-in-Err-NoRow-clause-none c =
-    let none : sets_read c.as_slice-records.result.now ≡ None = not_read c.in-Err-NoRow.field-0 _ c.in-Err-NoRow.field-0-is c.in-Err-NoRow.ensures.read in
+pub returns-in-Err-NotThere-clause-none : goal.returns-in-Err-NotThere-clause-none
+returns-in-Err-NotThere-clause-none c =
+    let none : sets_read c.as_slice-records.result.now ≡ None = not_read c.in-Err-NotThere.field-0 _ c.in-Err-NotThere.field-0-is c.in-Err-NotThere.ensures.read in
     λ _ t h are. no_tables_unread c.args.content.now (subst (λ (xs : List Record). sets_read xs ≡ None) c.as_slice-records.ensures none) t h are
 
 pub returns-in_ok-tables_with-in-Ok-clause-proper : goal.returns-in_ok-tables_with-in-Ok-clause-proper
@@ -46,9 +46,9 @@ returns-then-not-ascend-clause-back c =
     let falls : is_sorted key_cmp c.args.content.now.items ≡ false = search rules in
     λ t h are. absurd (no_tables_unsorted c.args.content.now falls t h are)
 
-pub returns-in-Err-NoRow-clause-back : goal.returns-in-Err-NoRow-clause-back
-returns-in-Err-NoRow-clause-back c =
-    let none : sets_read c.as_slice-records.result.now ≡ None = not_read c.in-Err-NoRow.field-0 _ c.in-Err-NoRow.field-0-is c.in-Err-NoRow.ensures.read in
+pub returns-in-Err-NotThere-clause-back : goal.returns-in-Err-NotThere-clause-back
+returns-in-Err-NotThere-clause-back c =
+    let none : sets_read c.as_slice-records.result.now ≡ None = not_read c.in-Err-NotThere.field-0 _ c.in-Err-NotThere.field-0-is c.in-Err-NotThere.ensures.read in
     λ t h are. absurd (no_tables_unread c.args.content.now (subst (λ (xs : List Record). sets_read xs ≡ None) c.as_slice-records.ensures none) t h are)
 
 pub returns-in_ok-tables_with-in-Ok-clause-back : goal.returns-in_ok-tables_with-in-Ok-clause-back

@@ -2,7 +2,7 @@ use Rattle.std.proofs.Common.{◌≡◌, sym, subst, arith}
 use Rattle.std.specs.Prelude.{◌+◌, ◌-◌}
 use Rattle.kd_base.specs.Tools.{onto_first}
 use Rattle.record_codec.specs.Fields.{items}
-use Rattle.record_codec.proofs.SoMany.{one_more, all_read, fails_as}
+use Rattle.record_codec.specs.ItemsLaws.{one_more, all_read, fails_as}
 use Rattle.record_codec.proofs.reading.items_in.Goals as goal
 
 pub returns-in_err-read : goal.returns-in_err-read

@@ -7,18 +7,18 @@ use Rattle.service_statement.proofs.call.perform_call.Goals as goal
 pub perform-requires-clause-short : goal.perform-requires-clause-short
 perform-requires-clause-short c =
     let o = c.args.outside.now in
-    reads (applied o.generation.now o.units.now) o.tables.now c.args.locks.now c.args.transaction.now.id (transaction_of c.args.transaction.now) c.args.unit.now c.args.call.now c.requires.stands c.requires.sound
+    reads (applied o.generation.now o.units.now) o.tables.now c.args.locks.now c.args.transaction.now.id (transaction_of c.args.transaction.now) c.args.unit.now c.args.call.now c.requires.stands c.requires.contents
 
 pub after_call-requires-clause-ready : goal.after_call-requires-clause-ready
 after_call-requires-clause-ready c =
     let o = c.args.outside.now in
-    ready_then (applied o.generation.now o.units.now) o.tables.now c.args.locks.now c.args.transaction.now.id (transaction_of c.args.transaction.now) c.args.unit.now c.args.call.now c.requires.stands c.requires.sound
+    ready_then (applied o.generation.now o.units.now) o.tables.now c.args.locks.now c.args.transaction.now.id (transaction_of c.args.transaction.now) c.args.unit.now c.args.call.now c.requires.stands c.requires.contents
     c.requires.asks (transaction_of c.perform.new.open_work) c.in_ok-called.called c.in_ok-called.ensures.exact
 
 pub after_call-requires-clause-fits : goal.after_call-requires-clause-fits
 after_call-requires-clause-fits c =
     let o = c.args.outside.now in
-    fits_then (applied o.generation.now o.units.now) o.tables.now c.args.locks.now c.args.transaction.now.id (transaction_of c.args.transaction.now) c.args.unit.now c.args.call.now c.requires.stands c.requires.sound
+    fits_then (applied o.generation.now o.units.now) o.tables.now c.args.locks.now c.args.transaction.now.id (transaction_of c.args.transaction.now) c.args.unit.now c.args.call.now c.requires.stands c.requires.contents
     c.requires.asks (transaction_of c.perform.new.open_work) c.in_ok-called.called c.in_ok-called.ensures.exact c.perform.new.open_work.id c.perform.ensures.id
 
 pub returns-clause-holders : goal.returns-clause-holders

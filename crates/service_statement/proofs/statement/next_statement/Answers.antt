@@ -4,7 +4,8 @@ use Rattle.open_transaction.specs.Transactions.{transaction_of}
 use Rattle.laws_of_applications.specs.Applied.{applied}
 use Rattle.laws_of_applications.specs.AppliedLaws.{unit_found}
 use Rattle.laws_of_tables.specs.ReadyLaws.{opens_have_units}
-use Rattle.service_statement.proofs.Stated.{asks_exact, asks_stands, asks_waits, ends_exact, ends_holders, plain_exact, plain_holders}
+use Rattle.service_statement.specs.StatingLaws.{asks_stands, contents_fit}
+use Rattle.service_statement.proofs.Stated.{asks_exact, asks_waits, ends_exact, ends_holders, plain_exact, plain_holders}
 use Rattle.service_statement.proofs.statement.next_statement.Goals as goal
 
 pub unreachable-requires : goal.unreachable-requires
@@ -16,9 +17,11 @@ unreachable-requires c =
 pub perform_call-requires-clause-stands : goal.perform_call-requires-clause-stands
 perform_call-requires-clause-stands c =
     let o = c.args.outside.now in
-    asks_stands (applied o.generation.now o.units.now) o.tables.now c.args.locks.now c.args.transaction.now c.step_unit.new.transaction c.in-Some.unit.now (c.in-Some.ensures.unit ∙ unit_found o.generation.now o.units.now c.args.transaction.now.current c.requires.fit) c.in_ok-step_unit.field-0
-    c.in_ok-step_unit.ensures.meaning c.in_ok-step_unit.ensures.leaves c.in-Asks.call c.in-Asks.is
+    asks_stands c.args.transaction.now c.step_unit.new.transaction c.in_ok-step_unit.field-0 c.in_ok-step_unit.ensures.leaves (applied o.generation.now o.units.now) c.in-Some.unit.now c.in-Asks.call c.in-Asks.is
     (record { application = c.requires.application; can = c.requires.can; in_unit = sym (c.in-Some.ensures.unit ∙ unit_found o.generation.now o.units.now c.args.transaction.now.current c.requires.fit) })
+
+pub perform_call-requires-clause-contents : goal.perform_call-requires-clause-contents
+perform_call-requires-clause-contents c = contents_fit c.args.outside.now.generation.now c.args.outside.now.tables.now c.args.transaction.now.id c.requires.sound
 
 pub returns-in-Plain-clause-exact : goal.returns-in-Plain-clause-exact
 returns-in-Plain-clause-exact c =

@@ -1,7 +1,8 @@
 use Rattle.std.proofs.Common.{◌∙◌, ◌++◌, refl, ap, List, ℕ}
 use Rattle.abstract_monitor.specs.Commands.{acts_of}
 use Rattle.abstract_monitor.specs.Trace.{history, tables_after, bytes_of}
-use Rattle.device_run.specs.Running.{durable_of, identity_of}
+use Rattle.monitor_core.specs.CoreSteps.{durable_of}
+use Rattle.device_run.specs.Running.{identity_of}
 use Rattle.utm_cli.proofs.MadeStarted.{reported}
 use Rattle.utm_cli.proofs.made_run.report.ran.Goals as goal
 

@@ -1,0 +1,4 @@
+mod Examples
+mod Faults
+mod Steps
+mod Words

@@ -1,0 +1,10 @@
+pub mod Answers
+pub mod Audit
+pub mod Notes
+pub mod Asking
+pub mod Replaying
+pub mod Opening
+pub mod Same
+pub mod Ending
+pub mod Expecting
+pub mod Due
