@@ -563,7 +563,9 @@ def item_end(code, at):
     while at < len(code):
         plain = LITERAL.sub("", code[at])
         depth += sum(plain.count(it) for it in "{([") - sum(plain.count(it) for it in "})]")
-        if depth == 0 and plain.rstrip().endswith(("}", ";")) and not plain.startswith("    "):
+        ends = plain.rstrip()
+        # A clause stands on a line of its own, behind blanks.
+        if depth == 0 and (ends.endswith(";") or ends.endswith("}") and not plain.startswith("    ")):
             return at
         at += 1
     return len(code) - 1

@@ -234,13 +234,14 @@ def choice_of(*choices, refused=()):
 
 
 def file_said(form, value):
+    """Whether the KDCFILE is double."""
     if form == "list":
         if len(value) != 2 or not all(it and it[0] == "word" for it in value):
             raise Wrong("BadChoice")
-        return choice_of(b"SINGLE", refused=(b"DOUBLE",))(*value[1])
+        return choice_of(b"SINGLE", b"DOUBLE")(*value[1]) == b"DOUBLE"
     if form != "word":
         raise Wrong("BadChoice")
-    return value
+    return False
 
 
 def password(form, value):
@@ -361,6 +362,7 @@ def statements_said(statements):
 
 TOGETHER = (
     "NameTwice NoProgram NoLterm LtermTwice NoMax ClassOfWrongKind PoolTooSmall NoUser TooMany NoKset"
+    " PoolForDouble"
 ).split()
 LIMITS = {b"TASKS": 1, b"GSSBS": 32, b"LSSBS": 8, b"KB": 512, b"SPAB": 512, b"NB": 2048, b"PGPOOL": 100}
 
@@ -375,6 +377,8 @@ class Generation:
         self.max = dict(LIMITS)
         for it in self.of(b"MAX"):
             self.max.update(it.values)
+        # The line of the MAX that says DOUBLE.
+        self.double = next((it.line for it in self.of(b"MAX") if it.get(b"KDCFILE")), None)
         self.blksize = SIZES[self.max.get(b"BLKSIZE", b"4K")]
         self.programs = {it.get(None): it.line for it in self.of(b"PROGRAM")}
         self.tacs = {it.get(None): it for it in self.of(b"TAC")}
@@ -405,6 +409,8 @@ class Generation:
             yield end, "PoolTooSmall"
         if not self.of(b"USER"):
             yield end, "NoUser"
+        if self.double and self.max[b"PGPOOL"] == 30000:
+            yield end, "PoolForDouble"
 
     def faults_of_names(self):
         seen = set()

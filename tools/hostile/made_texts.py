@@ -131,6 +131,8 @@ class Try:
         try:
             generation = generation_made(texts["def"])
             fit(units_read(texts["units"]), generation)
+            if generation.double:
+                raise Fault("DEF", generation.double, "NotInProfile")
             self.generation = generation
             read_script(texts["script"], generation)
         except Fault as fault:

@@ -79,6 +79,7 @@ made_generation = record {
   classes = [];
   ksets = [];
   counts = record { users = 4; pterms = 4; lterms = 4; tacs = 2; programs = 2; passed_statements = 0; passed_operands = 0 };
+  double = None;
 }
 
 -- a field of 8 bytes in SPAB

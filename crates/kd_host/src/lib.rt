@@ -1,7 +1,8 @@
-//! The outside itself: a real file and the standard output as a device, and the files of the current folder as a room.
+//! The outside itself: a real file and the standard output as a device, two real files and the standard output as a
+//! twin, and the files of the current folder as a room.
 //!
-//! It stands on kd_base and kd_device. It is the trusted edge: no contract can say what a file, a power cut or a line
-//! really does, so its device and its room tell nothing of their content. What is proved of them is that each call
+//! It stands on kd_base, kd_device and kd_twin. It is the trusted edge: no contract can say what a file, a power cut or
+//! a line really does, so its device, its twin and its room tell nothing of their content. What is proved of them is that each call
 //! that fails raises its count of faults, and that no other call does. That a write reaches the file, that a sync
 //! makes it last, that an emit is sent, that the file is locked, that a fault is said on standard error, and that a
 //! descriptor which was closed is not given to a file of the user, rests on this crate's few lines, the library and
@@ -10,9 +11,14 @@
 
 mod count;
 mod device;
+mod disk;
+mod line;
 mod room;
+mod spare;
 mod standard;
+mod twin;
 
 pub use device::FileDevice;
 pub use room::FolderRoom;
 pub use standard::StandardDescriptors;
+pub use twin::FileTwin;

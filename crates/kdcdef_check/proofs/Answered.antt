@@ -6,7 +6,7 @@ use Rattle.kd_base.specs.ToolsLaws.{ok_of, err_of}
 use Rattle.kdcdef_types.specs.declared.statement.Statement.{Statement}
 use Rattle.kdcdef_types.specs.Generation.{Generated}
 use Rattle.kdcdef_check.specs.declared.fault.CheckFault.{CheckFault}
-use Rattle.kdcdef_check.specs.declared.fault.CheckFault.TheVariants.{NameTwice, NoProgram, NoLterm, LtermTwice, NoMax, ClassOfWrongKind, PoolTooSmall, NoUser, TooMany, NoKset, Memory}
+use Rattle.kdcdef_check.specs.declared.fault.CheckFault.TheVariants.{NameTwice, NoProgram, NoLterm, LtermTwice, NoMax, ClassOfWrongKind, PoolTooSmall, NoUser, TooMany, NoKset, PoolForDouble, Memory}
 use Rattle.kdcdef_types.specs.declared.statement.MaxOperands.{MaxOperands}
 use Rattle.kdcdef_types.specs.declared.limits.Limits.{Limits}
 use Rattle.kdcdef_types.specs.declared.limits.Counts.{Counts}
@@ -14,7 +14,7 @@ use Rattle.kdcdef_types.specs.Statements.{AreRead, EndsOnce, passed_count}
 use Rattle.kdcdef_check.specs.declared.tables.Tables.{Tables}
 use Rattle.kdcdef_check.specs.declared.tally.Tally.{Tally}
 use Rattle.kdcdef_check.specs.Soundness.{IsSound}
-use Rattle.kdcdef_check.specs.Generating.{generated, max_given, with_defaults, counts_of}
+use Rattle.kdcdef_check.specs.Generating.{generated, max_given, with_defaults, double_said, counts_of}
 use Rattle.kdcdef_check.specs.Faults.{line_of, number_of, AreFaultless, IsFirstFault, Gives}
 use Rattle.kdcdef_check.specs.Steps.{AreFilled, AllNamed, IsTallyOf, counts_in, made_of}
 use Rattle.kdcdef_check.proofs.Counting.{program_count, tac_count, user_count, pterm_count, lterm_count, passed_statements}
@@ -35,6 +35,7 @@ same_fault (PoolTooSmall n) (PoolTooSmall m) l k = cc l
 same_fault (NoUser n) (NoUser m) l k = cc l
 same_fault (TooMany n) (TooMany m) l k = cc l
 same_fault (NoKset n) (NoKset m) l k = cc l
+same_fault (PoolForDouble n) (PoolForDouble m) l k = cc l
 same_fault Memory Memory l k = refl
 same_fault _ _ l k = absurd (omega (arith, k))
 
@@ -84,10 +85,10 @@ counted ss t passed tally is = λ j. record {
   passed_operands = is j;
 }
 
-pub all_made : (ss : List Statement) (tables : Tables) (t : Tally) (m : MaxOperands) (passed : ℕ) (limits : Limits) (counts : Counts) → AreFilled tables ss → IsTallyOf t ss → m ≡ max_given ss → passed ≡ passed_count ss → limits ≡ with_defaults m → counts ≡ counts_in t passed → AreFaultless ss → made_of tables limits counts ≡ generated ss
-all_made ss tables t m passed limits counts filled tally max is_passed is_limits is_counts free =
-    ap (λ (l : Limits). made_of tables l counts) (is_limits ∙ ap with_defaults max)
-    ∙ made_exactly tables ss counts filled free (is_counts ∙ counted ss t passed tally is_passed)
+pub all_made : (ss : List Statement) (tables : Tables) (t : Tally) (m : MaxOperands) (passed : ℕ) (limits : Limits) (counts : Counts) (double : Option ℕ) → AreFilled tables ss → IsTallyOf t ss → m ≡ max_given ss → passed ≡ passed_count ss → limits ≡ with_defaults m → counts ≡ counts_in t passed → double ≡ double_said ss → AreFaultless ss → made_of tables limits counts double ≡ generated ss
+all_made ss tables t m passed limits counts double filled tally max is_passed is_limits is_counts is_double free =
+    ap (λ (l : Limits). made_of tables l counts double) (is_limits ∙ ap with_defaults max)
+    ∙ made_exactly tables ss counts double filled free (is_counts ∙ counted ss t passed tally is_passed) is_double
 
 pub all_sound : (ss : List Statement) (g : Generated) → g ≡ generated ss → AreRead ss → AllNamed ss → AreFaultless ss → IsSound g
 all_sound ss g is read named free = rw is (sound ss read named free)

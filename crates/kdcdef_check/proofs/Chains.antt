@@ -5,7 +5,7 @@ use Rattle.kd_base.specs.FirstFaults.{IsTested}
 use Rattle.kd_base.specs.FirstFaultsLaws.{chain_first, first_of_both}
 use Rattle.kdcdef_types.specs.declared.statement.Statement.{Statement}
 use Rattle.kdcdef_check.specs.declared.fault.CheckFault.{CheckFault}
-use Rattle.kdcdef_check.specs.declared.fault.CheckFault.TheVariants.{NameTwice, NoProgram, NoLterm, LtermTwice, NoMax, ClassOfWrongKind, PoolTooSmall, NoUser, TooMany, NoKset, Memory}
+use Rattle.kdcdef_check.specs.declared.fault.CheckFault.TheVariants.{NameTwice, NoProgram, NoLterm, LtermTwice, NoMax, ClassOfWrongKind, PoolTooSmall, NoUser, TooMany, NoKset, PoolForDouble, Memory}
 use Rattle.kdcdef_check.specs.Generating.{generated}
 use Rattle.kdcdef_check.specs.Faults.{kind_count, kind_of, line_of, number_of, HasFault, Stands}
 use Rattle.kdcdef_check.specs.Steps.{earlier, IsFirstOf, AmongFirst, own_tests, own_fault, outer_tests, outer_fault, OwnFault, OuterFault}
@@ -24,7 +24,7 @@ pub own_has : (all : List Statement) (i : ℕ) (s : Statement) (e : CheckFault) 
 own_has all i s e h = tested_is (HasFault all (take i all) s) (own_tests (generated (take i all)) (kind_count (kind_of s.said) (take i all)) s) (λ t. (refl, t), (λ t. (refl, t), (λ t. (refl, t), (λ t. (refl, t), tt)))) e h
 
 pub outer_has : (all : List Statement) (i : ℕ) (s : Statement) (e : CheckFault) → OuterFault all i s e → HasFault all (take i all) s e
-outer_has all i s e h = tested_is (HasFault all (take i all) s) (outer_tests all s) (λ t. (refl, t), (λ t. (refl, t), (λ t. (refl, t), (λ t. (refl, t), (λ t. (refl, t), (λ t. (refl, t), tt)))))) e h
+outer_has all i s e h = tested_is (HasFault all (take i all) s) (outer_tests all s) (λ t. (refl, t), (λ t. (refl, t), (λ t. (refl, t), (λ t. (refl, t), (λ t. (refl, t), (λ t. (refl, t), (λ t. (refl, t), tt))))))) e h
 
 pub fault_tested : (all : List Statement) (i : ℕ) (s : Statement) (e : CheckFault) → HasFault all (take i all) s e → OwnFault all i s e ⊎ OuterFault all i s e
 fault_tested all i s (NameTwice n) h = inl (inl (h.1, cc h.0))
@@ -37,6 +37,7 @@ fault_tested all i s (NoMax n) h = inr (inr (inr (inl (h.1, cc h.0))))
 fault_tested all i s (PoolTooSmall n) h = inr (inr (inr (inr (inl (h.1, cc h.0)))))
 fault_tested all i s (NoUser n) h = inr (inr (inr (inr (inr (inl (h.1, cc h.0))))))
 fault_tested all i s (NoKset n) h = inr (inr (inr (inr (inr (inr (inl (h.1, cc h.0)))))))
+fault_tested all i s (PoolForDouble n) h = inr (inr (inr (inr (inr (inr (inr (inl (h.1, cc h.0))))))))
 fault_tested all i s Memory h = absurd (cc h.1)
 
 -- the first of a statement's own faults is that
@@ -49,7 +50,7 @@ own_first all i s =
 pub outer_first : (all : List Statement) (i : ℕ) (s : Statement) → IsFirstOf (OuterFault all i s) (outer_fault all s)
 outer_first all i s =
     chain_first line_of number_of s.line 0 (outer_tests all s)
-    (refl, omega arith, (refl, omega arith, (refl, omega arith, (refl, omega arith, (refl, omega arith, (refl, omega arith, tt))))))
+    (refl, omega arith, (refl, omega arith, (refl, omega arith, (refl, omega arith, (refl, omega arith, (refl, omega arith, (refl, omega arith, tt)))))))
 
 -- the first of both passes is the first of all
 pub both_passes : (ss : List Statement) (a b : Option CheckFault) → IsFirstOf (AmongFirst ss (OwnFault ss) (length ss)) a → IsFirstOf (AmongFirst ss (OuterFault ss) (length ss)) b → IsFirstOf (Stands ss) (earlier a b)

@@ -18,7 +18,7 @@ use Rattle.kdcdef_types.specs.declared.statement.Said.TheVariants.{Program, Tac,
 use Rattle.kdcdef_types.specs.declared.statement.Statement.{Statement}
 use Rattle.kdcdef_types.specs.Generation.{Generated, entry_of, tac_of, user_of, pterm_of, lterm_of, has_tls, has_uls, class_limit}
 use Rattle.kdcdef_check.specs.declared.tables.Tables.{Tables}
-use Rattle.kdcdef_check.specs.Generating.{as_program, as_tac, as_user, as_pterm, as_lterm, as_tls, as_uls, as_class, as_kset, max_given, with_defaults, counts_of, generated}
+use Rattle.kdcdef_check.specs.Generating.{as_program, as_tac, as_user, as_pterm, as_lterm, as_tls, as_uls, as_class, as_kset, max_given, with_defaults, double_said, counts_of, generated}
 use Rattle.kdcdef_check.specs.Faults.{is_taken, AreFaultless}
 use Rattle.kdcdef_check.specs.Steps.{put, put_key, filled_by, table_of, keys_table, AreFilled, made_of}
 use Rattle.kdcdef_check.proofs.Passing.{next_taken}
@@ -95,9 +95,9 @@ fresh_entries g line (TacClass class tasks) h = (tt, tt, tt, tt, tt, tt, tt, h, 
 fresh_entries g line (Kset name set) h = (tt, tt, tt, tt, tt, tt, tt, tt, h)
 fresh_entries g line _ h = (tt, tt, tt, tt, tt, tt, tt, tt, tt)
 
--- the tables that the statements filled, with the limits and counts, are what they generate
-pub made_exactly : (t : Tables) (ss : List Statement) (counts : Counts) → AreFilled t ss → AreFaultless ss → counts ≡ counts_of ss → made_of t (with_defaults (max_given ss)) counts ≡ generated ss
-made_exactly t ss counts filled free counted = λ j. record {
+-- the tables that the statements filled, with the limits, the counts and the line of DOUBLE, are what they generate
+pub made_exactly : (t : Tables) (ss : List Statement) (counts : Counts) (double : Option ℕ) → AreFilled t ss → AreFaultless ss → counts ≡ counts_of ss → double ≡ double_said ss → made_of t (with_defaults (max_given ss)) counts double ≡ generated ss
+made_exactly t ss counts double filled free counted is_double = λ j. record {
   limits = with_defaults (max_given ss);
   programs = (filled.programs ∙ exact_table bytes_eq (λ (s : Statement). as_program s.line s.said) ss (λ i s at. (fresh_entries (generated (take i ss)) s.line s.said (not_taken ss free i s at)).0)) j;
   tacs = (filled.tacs ∙ exact_table bytes_eq (λ (s : Statement). as_tac s.said) ss (λ i s at. (fresh_entries (generated (take i ss)) s.line s.said (not_taken ss free i s at)).1)) j;
@@ -109,4 +109,5 @@ made_exactly t ss counts filled free counted = λ j. record {
   classes = (filled.classes ∙ exact_table nat_eq (λ (s : Statement). as_class s.said) ss (λ i s at. (fresh_entries (generated (take i ss)) s.line s.said (not_taken ss free i s at)).7)) j;
   ksets = (filled.ksets ∙ exact_table bytes_eq (λ (s : Statement). as_kset s.said) ss (λ i s at. (fresh_entries (generated (take i ss)) s.line s.said (not_taken ss free i s at)).8)) j;
   counts = counted j;
+  double = is_double j;
 }

@@ -10,9 +10,9 @@ use Rattle.kdcdef_types.specs.declared.statement.Said.TheVariants.{End}
 use Rattle.kdcdef_types.specs.declared.statement.Statement.{Statement}
 use Rattle.kdcdef_types.specs.Statements.{EndsOnce}
 use Rattle.kdcdef_check.specs.declared.fault.CheckFault.{CheckFault}
-use Rattle.kdcdef_check.specs.declared.fault.CheckFault.TheVariants.{NameTwice, TooMany, NoMax, NoUser, PoolTooSmall}
+use Rattle.kdcdef_check.specs.declared.fault.CheckFault.TheVariants.{NameTwice, TooMany, NoMax, NoUser, PoolTooSmall, PoolForDouble}
 use Rattle.kdcdef_check.specs.Generating.{generated, max_given}
-use Rattle.kdcdef_check.specs.Faults.{is_taken, is_end, kind_of, kind_count, has_small_pool, lacks_user, line_of, shows, AreFaultless}
+use Rattle.kdcdef_check.specs.Faults.{is_taken, is_end, kind_of, kind_count, has_small_pool, lacks_user, has_full_pool, line_of, shows, AreFaultless}
 
 pub not_shown : (ss : List Statement) → AreFaultless ss → (i : ℕ) (s : Statement) → slice_get ss i ≡ Some s → (e : CheckFault) → line_of e ≡ s.line → shows ss (take i ss) s.said e ≡ false
 not_shown ss free i s at e on = go (shows ss (take i ss) s.said e) refl
@@ -70,6 +70,9 @@ some_user_said ss free ends = let found = end_at ss ends in at_end found.1.said 
 
 pub pool_said : (ss : List Statement) → AreFaultless ss → EndsOnce ss → has_small_pool (generated ss) ≡ false
 pool_said ss free ends = let found = end_at ss ends in at_end found.1.said (has_small_pool (generated ss)) found.3 (not_shown ss free found.0 found.1 found.2 (PoolTooSmall found.1.line) refl)
+
+pub full_pool_said : (ss : List Statement) → AreFaultless ss → EndsOnce ss → has_full_pool (generated ss) ≡ false
+full_pool_said ss free ends = let found = end_at ss ends in at_end found.1.said (has_full_pool (generated ss)) found.3 (not_shown ss free found.0 found.1 found.2 (PoolForDouble found.1.line) refl)
 
 pub appliname_said : (ss : List Statement) → AreFaultless ss → EndsOnce ss → is_none (max_given ss).appliname ≡ false
 appliname_said ss free ends = let found = end_at ss ends in at_end found.1.said (is_none (max_given ss).appliname) found.3 (not_shown ss free found.0 found.1 found.2 (NoMax found.1.line) refl)

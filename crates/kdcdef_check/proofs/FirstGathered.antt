@@ -18,7 +18,7 @@ use Rattle.kdcdef_check.specs.declared.fault.CheckFault.{CheckFault}
 use Rattle.kdcdef_check.specs.declared.gathered.Gathered.{Gathered}
 use Rattle.kdcdef_check.specs.declared.tables.Tables.{Tables}
 use Rattle.kdcdef_check.specs.declared.whole.Whole.{Whole}
-use Rattle.kdcdef_check.specs.Generating.{generated, max_given, with_defaults}
+use Rattle.kdcdef_check.specs.Generating.{generated, max_given, with_defaults, double_said}
 use Rattle.kdcdef_check.specs.Faults.{is_end, line_of, number_of, HasFault, Stands, comes_first, AreFaultless, IsFirstFault}
 use Rattle.kdcdef_check.specs.Steps.{earlier, IsFirstOf, AmongFirst, OwnFault, OuterFault, HaveNamed, IsWhole, counts_in, made_of}
 use Rattle.kdcdef_check.specs.Gathering.{IsBehind, WereGathered}
@@ -168,7 +168,7 @@ looked_over g w b t xs is_t is_xs looked = rw (is_t, is_xs) at looked
 
 -- ---- the generation
 
-pub made_of_gathered : (g : Gathered) (ss : List Statement) (m : MaxOperands) (passed : ℕ) (limits : Limits) (counts : Counts) → WereGathered g ss → IsFree g ss → m ≡ max_given g.kept.items → passed ≡ passed_count g.kept.items
-    → limits ≡ with_defaults m → counts ≡ counts_in g.tally passed → made_of g.tables.value limits counts ≡ generated g.kept.items
-made_of_gathered g ss m passed limits counts was is max is_passed is_limits is_counts =
-    all_made g.kept.items g.tables.value g.tally m passed limits counts (was.filled is.none) was.tally max is_passed is_limits is_counts is.free
+pub made_of_gathered : (g : Gathered) (ss : List Statement) (m : MaxOperands) (passed : ℕ) (limits : Limits) (counts : Counts) (double : Option ℕ) → WereGathered g ss → IsFree g ss → m ≡ max_given g.kept.items → passed ≡ passed_count g.kept.items
+    → limits ≡ with_defaults m → counts ≡ counts_in g.tally passed → double ≡ double_said g.kept.items → made_of g.tables.value limits counts double ≡ generated g.kept.items
+made_of_gathered g ss m passed limits counts double was is max is_passed is_limits is_counts is_double =
+    all_made g.kept.items g.tables.value g.tally m passed limits counts double (was.filled is.none) was.tally max is_passed is_limits is_counts is_double is.free

@@ -20,6 +20,7 @@ both_nothing m = λ i. record {
   reswait = or_none m.reswait i;
   blksize = or_none m.blksize i;
   redelivery = or_none m.redelivery i;
+  double = or_none m.double i;
 }
 
 both_both : (a b c : MaxOperands) → both_given (both_given a b) c ≡ both_given a (both_given b c)
@@ -36,6 +37,7 @@ both_both a b c = λ i. record {
   reswait = or_or a.reswait b.reswait c.reswait i;
   blksize = or_or a.blksize b.blksize c.blksize i;
   redelivery = or_or a.redelivery b.redelivery c.redelivery i;
+  double = or_or a.double b.double c.double i;
 }
 
 -- one more statement

@@ -1,5 +1,5 @@
 -- What the statements generate keeps its ranges, where they have no fault.
-use Rattle.std.proofs.Common.{◌≡◌, ℕ, suc, ◌≤◌, ◌==◌, refl, sym, inl, inr, arith, true, false, nat_lt, List, [], ◌∷◌, length, Option, Some, None, is_some, is_none, filter_map, IsTrue, unwrap_or}
+use Rattle.std.proofs.Common.{◌≡◌, ℕ, suc, ◌<◌, ◌≤◌, ◌==◌, ◌&&◌, refl, sym, inl, inr, arith, true, false, nat_lt, List, [], ◌∷◌, length, Option, Some, None, is_some, is_none, filter_map, IsTrue, unwrap_or}
 use Rattle.std.specs.Prelude.{IfSome}
 use Rattle.std.specs.List.{All, cons_option}
 use Rattle.std.specs.Map.{values_of}
@@ -20,11 +20,11 @@ use Rattle.kdcdef_types.specs.Statements.{IsWithin, IsBlksize, IsMaxInRange, IsT
 use Rattle.kdcdef_types.specs.Generation.{Generated, entry_of, lterm_of}
 use Rattle.kdcdef_check.specs.declared.fault.CheckFault.TheVariants.{NoProgram, NoLterm, ClassOfWrongKind, NoKset}
 use Rattle.kdcdef_check.specs.Soundness.{AreLimits, IsSound, AreNamed, AreCounted, HasKeys, fits_kind}
-use Rattle.kdcdef_check.specs.Generating.{as_tac, as_user, as_pterm, as_lterm, as_class, as_kset, said_as, programs_said, nothing_given, operands_said, both_given, max_given, with_defaults, generated}
+use Rattle.kdcdef_check.specs.Generating.{as_tac, as_user, as_pterm, as_lterm, as_class, as_kset, said_as, programs_said, nothing_given, operands_said, both_given, max_given, with_defaults, double_said, generated}
 use Rattle.kdcdef_check.specs.Faults.{lacks_program, lacks_lterm, lacks_keys, lacks_kset, has_other_class, AreFaultless}
 use Rattle.kdcdef_check.specs.Steps.{IsNamed, AllNamed}
 use Rattle.kdcdef_check.proofs.Counting.{program_count, tac_count, user_count, pterm_count, lterm_count, passed_statements}
-use Rattle.kdcdef_check.proofs.Faultless.{not_shown, all_at, few, some_user_said, pool_said}
+use Rattle.kdcdef_check.proofs.Faultless.{not_shown, all_at, few, some_user_said, pool_said, full_pool_said}
 use Rattle.kdcdef_check.proofs.Apart.{names_apart}
 use Rattle.std.proofs.lemmas.Bool.{not-false}
 
@@ -192,6 +192,10 @@ one_or_more n h = grind (arith, nat_tests, h)
 not_less : (m n : ℕ) → nat_lt m n ≡ false → n ≤ m
 not_less m n h = grind (arith, nat_tests, h)
 
+not_full : (double : Option ℕ) (pgpool : ℕ) → pgpool ≤ 30000 → (is_some double && (pgpool == 30000)) ≡ false → IfSome double (λ (line : ℕ). pgpool < 30000)
+not_full None pgpool within h = tt
+not_full (Some line) pgpool within h = grind (arith, nat_tests, within, h)
+
 pub sound : (ss : List Statement) → AreRead ss → AllNamed ss → AreFaultless ss → IsSound (generated ss)
 sound ss read named free = record {
   limits = limits_in_range (max_given ss) (max_in_range ss read.ranges);
@@ -209,4 +213,5 @@ sound ss read named free = record {
   counts = counted ss read free;
   some_user = one_or_more (length (said_as as_user ss)) (some_user_said ss free read.ends);
   pool = not_less _ _ (pool_said ss free read.ends);
+  double = not_full (double_said ss) (with_defaults (max_given ss)).pgpool (limits_in_range (max_given ss) (max_in_range ss read.ranges)).pgpool.1 (full_pool_said ss free read.ends);
 }

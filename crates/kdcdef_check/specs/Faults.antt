@@ -8,7 +8,7 @@ use Rattle.kdcdef_types.specs.declared.statement.Said.TheVariants.{Max, Program,
 use Rattle.kdcdef_types.specs.declared.statement.Statement.{Statement}
 use Rattle.kdcdef_types.specs.Generation.{Generated, entry_of, tac_of, user_of, pterm_of, lterm_of, has_tls, has_uls, class_limit}
 use Rattle.kdcdef_check.specs.declared.fault.CheckFault.{CheckFault}
-use Rattle.kdcdef_check.specs.declared.fault.CheckFault.TheVariants.{NameTwice, NoProgram, NoLterm, LtermTwice, NoMax, ClassOfWrongKind, PoolTooSmall, NoUser, TooMany, NoKset, Memory}
+use Rattle.kdcdef_check.specs.declared.fault.CheckFault.TheVariants.{NameTwice, NoProgram, NoLterm, LtermTwice, NoMax, ClassOfWrongKind, PoolTooSmall, NoUser, TooMany, NoKset, PoolForDouble, Memory}
 use Rattle.kdcdef_check.specs.Soundness.{fits_kind, restart_count}
 use Rattle.kdcdef_check.specs.Generating.{generated, max_given}
 
@@ -89,6 +89,10 @@ has_small_pool g = nat_lt g.limits.pgpool (restart_count g.users + length g.lter
 abbrev pub lacks_user : Generated → Bool
 lacks_user g = length g.users == 0
 
+-- there are two copies of the KDCFILE, and PGPOOL is so great that none of them has room for one page more
+abbrev pub has_full_pool : Generated → Bool
+has_full_pool g = is_some g.double && (g.limits.pgpool == 30000)
+
 -- ---- faults
 
 -- what the statement says, of all statements and after those before it, shows the fault
@@ -103,6 +107,7 @@ shows all before said (PoolTooSmall n) = is_end said && has_small_pool (generate
 shows all before said (NoUser n) = is_end said && lacks_user (generated all)
 shows all before said (TooMany n) = kind_count (kind_of said) before == 20000
 shows all before said (NoKset n) = lacks_kset (generated all) said
+shows all before said (PoolForDouble n) = is_end said && has_full_pool (generated all)
 shows all before said Memory = false
 
 -- its line, its number among the faults of one line, and the name by which it is printed
@@ -117,6 +122,7 @@ row_of (PoolTooSmall n) = (n, 7, codes "PoolTooSmall")
 row_of (NoUser n) = (n, 8, codes "NoUser")
 row_of (TooMany n) = (n, 9, codes "TooMany")
 row_of (NoKset n) = (n, 11, codes "NoKset")
+row_of (PoolForDouble n) = (n, 12, codes "PoolForDouble")
 row_of Memory = (0, 0, codes "Memory")
 
 abbrev pub line_of : CheckFault → ℕ

@@ -1,5 +1,5 @@
 -- What a list of statements generates: each table by a filter, in the order of the statements.
-use Rattle.std.specs.Prelude.{ℕ, List, [], ◌∷◌, length, Option, Some, None, unwrap_or}
+use Rattle.std.specs.Prelude.{ℕ, Bool, false, List, [], ◌∷◌, length, Option, Some, None, unwrap_or, if◌then◌else◌}
 use Rattle.std.specs.List.{filter_map}
 use Rattle.std.specs.Option.{option_or}
 use Rattle.kdcdef_types.specs.declared.entry.TacEntry.{TacEntry}
@@ -68,7 +68,7 @@ programs_said ss = filter_map (λ (s : Statement). as_program s.line s.said) ss
 -- ---- the limits
 
 abbrev pub nothing_given : MaxOperands
-nothing_given = record { appliname = None; tasks = None; asyntasks = None; gssbs = None; lssbs = None; kb = None; spab = None; nb = None; pgpool = None; reswait = None; blksize = None; redelivery = None }
+nothing_given = record { appliname = None; tasks = None; asyntasks = None; gssbs = None; lssbs = None; kb = None; spab = None; nb = None; pgpool = None; reswait = None; blksize = None; redelivery = None; double = None }
 
 -- the operands that a statement gives
 abbrev pub operands_said : Said → MaxOperands
@@ -90,6 +90,7 @@ both_given a b = record {
   reswait = option_or a.reswait b.reswait;
   blksize = option_or a.blksize b.blksize;
   redelivery = option_or a.redelivery b.redelivery;
+  double = option_or a.double b.double;
 }
 
 -- the operands of all MAX statements together
@@ -113,6 +114,17 @@ with_defaults m = record {
   blksize = unwrap_or m.blksize 4096;
   redelivery = unwrap_or m.redelivery 0;
 }
+
+-- ---- the copies of the KDCFILE
+
+-- whether a statement says DOUBLE
+abbrev pub says_double : Said → Bool
+says_double said = unwrap_or (operands_said said).double false
+
+-- the line of the statement that says it, if one does
+abbrev pub double_said : List Statement → Option ℕ
+double_said [] = None
+double_said (s ∷ ss) = if says_double s.said then Some s.line else double_said ss
 
 -- ---- the generation
 
@@ -140,4 +152,5 @@ generated ss = record {
   classes = said_as as_class ss;
   ksets = said_as as_kset ss;
   counts = counts_of ss;
+  double = double_said ss;
 }

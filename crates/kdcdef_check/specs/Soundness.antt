@@ -1,5 +1,5 @@
 -- What every generation keeps.
-use Rattle.std.specs.Prelude.{◌≡◌, ℕ, ◌+◌, ◌≤◌, Bool, false, ◌||◌, ◌==◌, List, length, Option, IfSome, IsTrue, is_some, count_by, if◌then◌else◌, nat_le}
+use Rattle.std.specs.Prelude.{◌≡◌, ℕ, ◌+◌, ◌<◌, ◌≤◌, Bool, false, ◌||◌, ◌==◌, List, length, Option, IfSome, IsTrue, is_some, count_by, if◌then◌else◌, nat_le}
 use Rattle.std.specs.List.{All}
 use Rattle.std.specs.Map.{keys_of, values_of}
 use Rattle.kd_base.specs.Text.{IsName}
@@ -85,3 +85,5 @@ pub record IsSound (g : Generated) : Type 0 where
   -- there is a user, and the pool has a page for each service and each shown message
   pub some_user : 1 ≤ length g.users
   pub pool : restart_count g.users + length g.lterms ≤ g.limits.pgpool
+  -- each copy of a double KDCFILE has room for one page more than PGPOOL
+  pub double : IfSome g.double (λ (line : ℕ). g.limits.pgpool < 30000)

@@ -13,10 +13,10 @@ use Rattle.kdcdef_types.specs.declared.statement.Said.{Said}
 use Rattle.kdcdef_types.specs.declared.statement.Said.TheVariants.{Tac, User, Pterm, Lterm}
 use Rattle.kdcdef_types.specs.declared.statement.Statement.{Statement}
 use Rattle.kdcdef_types.specs.Generation.{Generated, entry_of, tac_of, user_of, pterm_of, lterm_of, has_tls, has_uls, class_limit}
-use Rattle.kdcdef_check.specs.Generating.{as_program, as_tac, as_user, as_pterm, as_lterm, as_tls, as_uls, as_class, as_kset, said_as, max_given, generated}
-use Rattle.kdcdef_check.specs.Faults.{kind_of, kind_count, is_taken, shares_lterm, has_other_class, lacks_program, lacks_lterm, lacks_kset, is_end, has_small_pool, lacks_user, line_of, number_of}
+use Rattle.kdcdef_check.specs.Generating.{as_program, as_tac, as_user, as_pterm, as_lterm, as_tls, as_uls, as_class, as_kset, said_as, max_given, double_said, generated}
+use Rattle.kdcdef_check.specs.Faults.{kind_of, kind_count, is_taken, shares_lterm, has_other_class, lacks_program, lacks_lterm, lacks_kset, is_end, has_small_pool, lacks_user, has_full_pool, line_of, number_of}
 use Rattle.kdcdef_check.specs.declared.fault.CheckFault.{CheckFault}
-use Rattle.kdcdef_check.specs.declared.fault.CheckFault.TheVariants.{NameTwice, NoProgram, NoLterm, LtermTwice, NoMax, ClassOfWrongKind, PoolTooSmall, NoUser, TooMany, NoKset}
+use Rattle.kdcdef_check.specs.declared.fault.CheckFault.TheVariants.{NameTwice, NoProgram, NoLterm, LtermTwice, NoMax, ClassOfWrongKind, PoolTooSmall, NoUser, TooMany, NoKset, PoolForDouble}
 use Rattle.kdcdef_check.specs.declared.tally.Tally.{Tally}
 use Rattle.kdcdef_check.specs.declared.tables.Tables.{Tables}
 use Rattle.kdcdef_check.specs.declared.whole.Whole.{Whole}
@@ -58,6 +58,7 @@ outer_tests all s =
     ∷ (is_end s.said && has_small_pool (generated all), PoolTooSmall s.line)
     ∷ (is_end s.said && lacks_user (generated all), NoUser s.line)
     ∷ (lacks_kset (generated all) s.said, NoKset s.line)
+    ∷ (is_end s.said && has_full_pool (generated all), PoolForDouble s.line)
     ∷ []
 
 -- the first of them
@@ -175,9 +176,9 @@ AreFew t = (kind : ℕ) → kind < 12 → slice_index t.counts kind ≤ 20000
 abbrev pub counts_in : Tally → ℕ → Counts
 counts_in t passed = record { users = slice_index t.counts 3; pterms = slice_index t.counts 4; lterms = slice_index t.counts 5; tacs = slice_index t.counts 2; programs = slice_index t.counts 1; passed_statements = slice_index t.counts 10; passed_operands = passed }
 
--- the generation that filled tables, limits and counts are
-abbrev pub made_of : Tables → Limits → Counts → Generated
-made_of t limits counts = record { limits = limits; programs = t.programs.entries; tacs = t.tacs.entries; users = t.users.entries; pterms = t.pterms.entries; lterms = t.lterms.entries; tls = t.tls.keys; uls = t.uls.keys; classes = t.classes.entries; ksets = t.ksets.entries; counts = counts }
+-- the generation that filled tables, limits, counts and the line of DOUBLE are
+abbrev pub made_of : Tables → Limits → Counts → Option ℕ → Generated
+made_of t limits counts double = record { limits = limits; programs = t.programs.entries; tacs = t.tacs.entries; users = t.users.entries; pterms = t.pterms.entries; lterms = t.lterms.entries; tls = t.tls.keys; uls = t.uls.keys; classes = t.classes.entries; ksets = t.ksets.entries; counts = counts; double = double }
 
 -- a USER statement with RESTART=YES
 abbrev pub is_restart : Said → Bool
@@ -190,3 +191,4 @@ pub record IsWhole (w : Whole) (ss : List Statement) : Type 0 where
   pub users : w.users ≡ length (said_as as_user ss)
   pub restarts : w.restarts ≡ restart_count (said_as as_user ss)
   pub lterms : w.lterms ≡ length (said_as as_lterm ss)
+  pub double : w.double ≡ double_said ss

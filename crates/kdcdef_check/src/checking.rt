@@ -47,6 +47,7 @@ pub fn check(alloc: Global, gathered: Gathered) -> Result<Generation, CheckFault
         Box::into_inner(gathered.tables),
         limits_of(&whole.max),
         counts,
+        whole.double,
     )?;
     Ok(generation)
 }

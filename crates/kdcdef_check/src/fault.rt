@@ -31,6 +31,8 @@ pub enum CheckFault {
     TooMany(u32),
     /// A USER or an LTERM that names no KSET statement.
     NoKset(u32),
+    /// DOUBLE with a PGPOOL of 30,000, where each copy would need one page more; the line of END.
+    PoolForDouble(u32),
     /// Memory ran out, which may be answered in place of anything else.
     Memory,
 }
@@ -51,6 +53,7 @@ impl CheckFault {
             CheckFault::NoUser(line) => (line, 8, "NoUser"),
             CheckFault::TooMany(line) => (line, 9, "TooMany"),
             CheckFault::NoKset(line) => (line, 11, "NoKset"),
+            CheckFault::PoolForDouble(line) => (line, 12, "PoolForDouble"),
             CheckFault::Memory => (0, 0, "Memory"),
         }
     }
@@ -68,6 +71,7 @@ impl CheckFault {
             CheckFault::NoUser(_) => "no USER statement",
             CheckFault::TooMany(_) => "more than 20000 statements of a kind",
             CheckFault::NoKset(_) => "no KSET statement has this name",
+            CheckFault::PoolForDouble(_) => "PGPOOL is too great for two copies of the KDCFILE",
             CheckFault::Memory => "out of memory",
         }
     }

@@ -26,10 +26,12 @@ pub(crate) struct GenerationParts {
     classes: IndexMap<u8, u16, NameHashing>,
     ksets: IndexMap<Name, KeySet, NameHashing>,
     counts: Counts,
+    double: Option<u32>,
 }
 
 /// What the statements of a KDCDEF text generate. Contracts see its limits, its tables in the order of their statements,
-/// and its counts. No call of it takes memory. It is handed from owner to owner, so its parts are in a box.
+/// its counts, and the line of DOUBLE. No call of it takes memory. It is handed from owner to owner, so its parts are in a
+/// box.
 #[derive(Drop)]
 pub struct Generation {
     parts: Box<GenerationParts, Global>,
@@ -52,9 +54,10 @@ impl Generation {
         tables: Tables,
         limits: Limits,
         counts: Counts,
+        double: Option<u32>,
     ) -> Result<Generation, OutOfMemory>
-        requires { IsSound (made_of tables limits counts) }
-        ensures { IfOk result (λ generation. generation ≡ made_of tables limits counts) }
+        requires { IsSound (made_of tables limits counts double) }
+        ensures { IfOk result (λ generation. generation ≡ made_of tables limits counts double) }
     {
         let parts = GenerationParts {
             limits,
@@ -68,6 +71,7 @@ impl Generation {
             classes: tables.classes,
             ksets: tables.ksets,
             counts,
+            double,
         };
         Ok(Generation {
             parts: Box::new(alloc, parts)?,
@@ -194,5 +198,12 @@ impl Generation {
         ensures { result ≡ self.now.counts }
     {
         self.parts.counts
+    }
+
+    /// The line of the MAX statement that says DOUBLE, where the KDCFILE has two copies. It takes no memory.
+    pub fn double(&self) -> Option<u32>
+        ensures { result ≡ self.now.double }
+    {
+        self.parts.double
     }
 }

@@ -1,6 +1,6 @@
 //! The limits, which the MAX statements give together.
 ghost use Rattle.std.specs.Prelude.{◌≡◌, IsSome};
-ghost use Rattle.kdcdef_check.specs.Generating.{operands_said, both_given, max_given, with_defaults};
+ghost use Rattle.kdcdef_check.specs.Generating.{operands_said, both_given, max_given, says_double, double_said, with_defaults};
 
 use kdcdef_types::{Limits, MaxOperands, Said, Statement};
 
@@ -17,6 +17,7 @@ const NOTHING_GIVEN: MaxOperands = MaxOperands {
     reswait: None,
     blksize: None,
     redelivery: None,
+    double: None,
 };
 
 // The operands that a statement gives.
@@ -46,6 +47,7 @@ fn both_given(first: &MaxOperands, second: &MaxOperands) -> MaxOperands
         reswait: first.reswait.or(second.reswait),
         blksize: first.blksize.or(second.blksize),
         redelivery: first.redelivery.or(second.redelivery),
+        double: first.double.or(second.double),
     }
 }
 
@@ -58,6 +60,24 @@ pub(crate) fn max_given(statements: &[Statement]) -> MaxOperands
         given = both_given(&given, &operands_said(&statement.said));
     }
     given
+}
+
+fn says_double(said: &Said) -> bool
+    ensures { result ≡ says_double said.now }
+{
+    operands_said(said).double.unwrap_or(false)
+}
+
+/// The line of the statement that says DOUBLE, if one does.
+pub(crate) fn double_said(statements: &[Statement]) -> Option<u32>
+    ensures { result ≡ double_said statements.now }
+{
+    for statement in statements {
+        if says_double(&statement.said) {
+            return Some(statement.line);
+        }
+    }
+    None
 }
 
 /// The limits, their defaults filled in.

@@ -1,10 +1,10 @@
 //! What the statements say together, and the faults that show against it.
-ghost use Rattle.std.specs.Prelude.{◌≡◌, ◌+◌, ◌≤◌, List, length, nat_lt, unwrap_or, true};
+ghost use Rattle.std.specs.Prelude.{◌≡◌, ◌+◌, ◌≤◌, ◌&&◌, ◌==◌, List, length, nat_lt, is_some, unwrap_or, true};
 ghost use Rattle.kdcdef_types.specs.declared.statement.Statement.{Statement};
 ghost use Rattle.kdcdef_check.specs.{Soundness.{restart_count}, Generating.{as_user, said_as, generated}, Faults.{is_end}, Steps.{HaveNamed, IsTallyOf, IsWhole, is_restart, outer_fault}};
 
 use crate::fault::CheckFault;
-use crate::limits::max_given;
+use crate::limits::{double_said, max_given};
 use crate::tables::Tables;
 use crate::tally::Tally;
 use kdcdef_types::{MaxOperands, Said, Statement};
@@ -17,6 +17,8 @@ pub(crate) struct Whole {
     /// Users with RESTART=YES.
     pub(crate) restarts: usize,
     pub(crate) lterms: usize,
+    /// The line of the statement that says DOUBLE.
+    pub(crate) double: Option<u32>,
 }
 
 fn is_restart(said: &Said) -> bool
@@ -58,6 +60,7 @@ impl Whole {
             users: tally.users(),
             restarts: restart_count(statements),
             lterms: tally.lterms(),
+            double: double_said(statements),
         }
     }
 
@@ -67,6 +70,13 @@ impl Whole {
     {
         let needed = self.restarts.saturating_add(self.lterms);
         (self.max.pgpool.unwrap_or(100) as usize) < needed
+    }
+
+    // Whether there are two copies of the KDCFILE, and PGPOOL leaves no room for one page more.
+    fn has_full_pool(&self) -> bool
+        ensures { result ≡ (is_some self.now.double && (unwrap_or self.now.max.pgpool 100 == 30000)) }
+    {
+        self.double.is_some() && self.max.pgpool.unwrap_or(100) == 30_000
     }
 
     /// The first of a statement's faults against all statements.
@@ -86,6 +96,8 @@ impl Whole {
             Some(CheckFault::NoUser(statement.line))
         } else if tables.lacks_kset(said) {
             Some(CheckFault::NoKset(statement.line))
+        } else if is_end(said) && self.has_full_pool() {
+            Some(CheckFault::PoolForDouble(statement.line))
         } else {
             None
         }

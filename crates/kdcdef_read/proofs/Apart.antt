@@ -25,7 +25,7 @@ use Rattle.kdcdef_read.specs.Words.{form_of}
 use Rattle.kdcdef_read.specs.Table.{row_of}
 use Rattle.kdcdef_read.specs.KeySets.{key_set_of}
 use Rattle.kdcdef_read.specs.Operands.{same_key, operand_key, row_says, key_says, said_from, said, row_cause, key_cause, operand_cause, cause_from, first_cause, answer_of, default_in}
-use Rattle.kdcdef_read.specs.Said.{name_at, number_at, redelivery_at, max_said, pterm_of}
+use Rattle.kdcdef_read.specs.Said.{name_at, number_at, redelivery_at, flag_at, max_said, pterm_of}
 use Rattle.kdcdef_read.specs.Meaning.{statement, shared, form_says, Say, StandFor}
 use Rattle.kdcdef_read.proofs.Keys.{same_key_is}
 use Rattle.kdcdef_read.proofs.Filled.{both_none, some_or_first, said_more_max, said_append_max}
@@ -118,6 +118,7 @@ max_apart os before later behind fine = record {
   reswait = apart_at number_at keys.Reswait os before later refl behind fine;
   blksize = apart_at number_at keys.Blksize os before later refl behind fine;
   redelivery = apart_at redelivery_at keys.Redelivery os before later refl behind fine;
+  double = apart_at flag_at keys.KdcFile os before later refl behind fine;
 }
 
 -- ---- which statements say MAX

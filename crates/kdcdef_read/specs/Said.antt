@@ -68,6 +68,7 @@ max_said at = Max (record {
   reswait = number_at (at keys.Reswait);
   blksize = number_at (at keys.Blksize);
   redelivery = redelivery_at (at keys.Redelivery);
+  double = flag_at (at keys.KdcFile);
 })
 
 -- PROGRAM, TLS and ULS

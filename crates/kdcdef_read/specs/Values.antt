@@ -81,15 +81,19 @@ password_in (raw.Listed is) = Err BadChoice
 abbrev pub first_of : List ℕ → List ℕ → List ℕ → Result Value Cause
 first_of kept other word = if is word kept then Ok values.Accepted else (if is word other then Err NotInProfile else Err BadChoice)
 
+-- how many copies a word says
+abbrev pub copies_in : List ℕ → Result Value Cause
+copies_in word = or_cause (λ (value : Value). value) BadChoice (flag_of (codes "SINGLE") (codes "DOUBLE") word)
+
 -- the second of two words
 abbrev pub second_word : List (Option RawItem) → Option (List ℕ)
 second_word (Some (items.Word first) ∷ Some (items.Word word) ∷ []) = Some word
 second_word _ = None
 
--- a base, or a list of a base and a word
+-- whether there are two copies: a base alone, or a list of a base and a word
 abbrev pub file_in : RawValue → Result Value Cause
-file_in (raw.Word base) = Ok values.Accepted
-file_in (raw.Listed (Some (items.Word base) ∷ Some (items.Word word) ∷ [])) = first_of (codes "SINGLE") (codes "DOUBLE") word
+file_in (raw.Word base) = Ok (values.Flag false)
+file_in (raw.Listed (Some (items.Word base) ∷ Some (items.Word word) ∷ [])) = copies_in word
 file_in value = Err BadChoice
 
 abbrev pub mode_in : RawValue → Result Value Cause

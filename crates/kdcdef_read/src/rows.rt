@@ -40,7 +40,7 @@ pub enum Kind {
     OneOf(Choice),
     /// A word or a quoted value of 1 to 16 bytes.
     Password,
-    /// A base, or a list of a base and SINGLE; DOUBLE is not in this profile.
+    /// A base, or a list of a base and SINGLE or DOUBLE.
     File,
     /// SECURE; FAST is not in this profile.
     Mode,

@@ -143,6 +143,7 @@ fn max_said(given: &Given) -> Said
         reswait: ticks_at(answer(Keyword::Max, given, Key::Reswait)),
         blksize: wide_at(answer(Keyword::Max, given, Key::Blksize)),
         redelivery: redelivery_at(answer(Keyword::Max, given, Key::Redelivery)),
+        double: flag_at(answer(Keyword::Max, given, Key::KdcFile)),
     })
 }
 

@@ -1,7 +1,7 @@
 //! The value of an operand, by the kind of its row.
 ghost use Rattle.std.specs.Prelude.{◌≡◌};
 ghost use Rattle.kdcdef_read.specs.Numbers.{first_word, number_text, number_between};
-ghost use Rattle.kdcdef_read.specs.Values.{number_in, class_in, redelivery_in, time_in, flag_of, call_of, blksize_of, choice_of, one_of, written_name, password_in, first_of, second_word, file_in, mode_in, value_of};
+ghost use Rattle.kdcdef_read.specs.Values.{number_in, class_in, redelivery_in, time_in, flag_of, call_of, blksize_of, choice_of, one_of, written_name, password_in, first_of, copies_in, second_word, file_in, mode_in, value_of};
 
 use crate::fault::Cause;
 use crate::key_set::keys_in;
@@ -25,7 +25,7 @@ pub enum Value {
     /// The statements that a unit run may have.
     Time(u32),
     Call(CallUse),
-    /// TYPE=A, STATUS=ON, RESTART=YES, USAGE=O.
+    /// TYPE=A, STATUS=ON, RESTART=YES, USAGE=O; a KDCFILE that is DOUBLE.
     Flag(bool),
     Password(Password),
     /// A value that is read and not kept.
@@ -225,14 +225,24 @@ fn second_word<'a>(items: &Items<'a>) -> Option<Word<'a>>
     Some(word)
 }
 
+// How many copies of the file a word says.
+fn copies_in(word: &[u8]) -> Result<Value, Cause>
+    ensures { result ≡ copies_in word.now }
+{
+    match flag_of("SINGLE", "DOUBLE", word) {
+        Some(value) => Ok(value),
+        None => Err(Cause::BadChoice),
+    }
+}
+
 fn file_in(raw: &RawValue) -> Result<Value, Cause>
     ensures { result ≡ file_in raw.now }
 {
     match raw {
-        RawValue::Word(_) => Ok(Value::Accepted),
+        RawValue::Word(_) => Ok(Value::Flag(false)),
         RawValue::Quoted(_) => Err(Cause::BadChoice),
         RawValue::Listed(items) => match second_word(items) {
-            Some(word) => first_of("SINGLE", "DOUBLE", word.as_slice()),
+            Some(word) => copies_in(word.as_slice()),
             None => Err(Cause::BadChoice),
         },
     }

@@ -27,6 +27,8 @@ pub record Generated : Type 0 where
   -- key sets, with the codes that they have
   pub ksets : List (List ℕ × KeySet)
   pub counts : Counts
+  -- the line of the statement that says DOUBLE, where the KDCFILE has two copies
+  pub double : Option ℕ
 
 -- the entry of a name
 abbrev pub entry_of : {A : Type 0} → List (List ℕ × A) → List ℕ → Option A

@@ -87,6 +87,7 @@ pub record AreApart (m n : MaxOperands) : Type 0 where
   pub reswait : NotBoth m.reswait n.reswait
   pub blksize : NotBoth m.blksize n.blksize
   pub redelivery : NotBoth m.redelivery n.redelivery
+  pub double : NotBoth m.double n.double
 
 -- what two statements say gives no operand of MAX twice
 abbrev pub SayApart : Said → Said → Type 0

@@ -18,6 +18,8 @@ pub struct MaxOperands {
     pub reswait: Option<u64>,
     pub blksize: Option<u32>,
     pub redelivery: Option<u8>,
+    /// KDCFILE: whether there are two copies of the file, DOUBLE.
+    pub double: Option<bool>,
 }
 
 /// What a statement says.

@@ -8,6 +8,8 @@ use Rattle.application_read.specs.declared.fault.ApplicationFault.{ApplicationFa
 use Rattle.application_read.specs.declared.fault.ApplicationFault.TheVariants as application
 use Rattle.script_read.specs.declared.fault.ScriptFault.{ScriptFault}
 use Rattle.script_read.specs.declared.fault.ScriptFault.TheVariants as fault
+use Rattle.audit_trail.specs.declared.fault.TrailFault.{TrailFault}
+use Rattle.audit_trail.specs.declared.fault.TrailFault.TheVariants as trail
 
 abbrev pub of_room : DeviceError → TextError
 of_room room.Failed = text.Room
@@ -25,3 +27,10 @@ of_fault (fault.BadLine line) = text.Refused (refusal.Script (fault.BadLine line
 of_fault (fault.OutOfRange line) = text.Refused (refusal.Script (fault.OutOfRange line))
 of_fault fault.TooLong = text.Refused (refusal.Script fault.TooLong)
 of_fault fault.Memory = text.Memory
+
+abbrev pub of_trail : TrailFault → TextError
+of_trail (trail.BadLine line) = text.Refused (refusal.Trail (trail.BadLine line))
+of_trail trail.TooLong = text.Refused (refusal.Trail trail.TooLong)
+of_trail (trail.OtherGeneration line) = text.Refused (refusal.Trail (trail.OtherGeneration line))
+of_trail (trail.NotSuited line) = text.Refused (refusal.Trail (trail.NotSuited line))
+of_trail trail.Memory = text.Memory

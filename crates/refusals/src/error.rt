@@ -1,6 +1,7 @@
 //! Why texts ask for nothing.
 
 use application_read::ApplicationFault;
+use audit_trail::TrailFault;
 use kd_device::DeviceError;
 use script_read::ScriptFault;
 use thiserror::Error;
@@ -10,11 +11,15 @@ use thiserror::Error;
 pub enum Refusal {
     /// The definition and the units make no application.
     Application(ApplicationFault),
+    /// They make one whose KDCFILE has two copies, by the MAX statement at this line, and the call runs over one file.
+    Double(u32),
     /// The script has no commands.
     Script(ScriptFault),
+    /// The trail is none of these texts, or begins with tables that do not suit them.
+    Trail(TrailFault),
 }
 
-/// Why a call does nothing with its KDCFILE.
+/// Why a call does nothing with its KDCFILE, or finds that its trail does not hold.
 #[derive(Debug, Clone, Copy)]
 pub enum FileRefusal {
     /// It stands for no tables, or for some of these texts that do not suit the generation.
@@ -29,6 +34,8 @@ pub enum FileRefusal {
     TooManyGssbs(u32),
     /// The rows that would be carried are charged so many pages, and PGPOOL is less.
     TooLarge(u64),
+    /// An entry of the trail does not hold: the first such one has this number, from 1.
+    Differs(u64),
 }
 
 /// Why the texts of a call ask for nothing.
@@ -81,6 +88,20 @@ impl From<ScriptFault> for TextError {
         match e {
             ScriptFault::Memory => TextError::Memory,
             fault => TextError::Refused(Refusal::Script(fault)),
+        }
+    }
+}
+
+impl From<TrailFault> for TextError {
+    ghost use Rattle.std.specs.Prelude.{◌≡◌};
+    ghost use Rattle.refusals.specs.Causes.{of_trail};
+
+    ghost from_gives = { λ e r. r ≡ of_trail e };
+
+    fn from(e: TrailFault) -> Self {
+        match e {
+            TrailFault::Memory => TextError::Memory,
+            fault => TextError::Refused(Refusal::Trail(fault)),
         }
     }
 }

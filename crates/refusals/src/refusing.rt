@@ -2,11 +2,12 @@
 ghost use Rattle.std.specs.{Prelude.{◌≡◌, ◌∷◌, [], List, ℕ, IsTrue, IfOk}, String.{string_bytes}};
 ghost use Rattle.kd_device.specs.Device.{Rose, Frame, SameFaults, SameNames};
 ghost use Rattle.device_acts.specs.Said.{Said, SaidPart};
-ghost use Rattle.refusals.specs.{Statuses.{IsOneOf, status_of}, Lines.{fault_line, application_line, file_line, refusal_line, other_generation_line}, declared.error.FileRefusal.TheVariants.{OtherGeneration}};
+ghost use Rattle.refusals.specs.{Statuses.{IsOneOf, status_of, status_of_file}, Lines.{fault_line, trail_line, application_line, double_line, file_line, refusal_line, other_generation_line}, declared.error.FileRefusal.TheVariants.{OtherGeneration}};
 
 use crate::error::{FileRefusal, Refusal};
 use crate::status::Status;
 use application_read::ApplicationFault;
+use audit_trail::TrailFault;
 use device_acts::say;
 use kd_device::{Device, DeviceError};
 use script_read::ScriptFault;
@@ -14,7 +15,7 @@ use std::alloc::{AllocError, Global};
 
 /// Sends the line of a refusal with this status.
 pub fn refuse<D: Device>(device: &mut D, line: &[u8], status: Status) -> Status
-    requires { IsOneOf (1 ∷ 2 ∷ 3 ∷ 4 ∷ []) status.code }
+    requires { IsOneOf (1 ∷ 2 ∷ 3 ∷ 4 ∷ 8 ∷ []) status.code }
     ensures code { IsOneOf (status.code ∷ 5 ∷ 7 ∷ []) result.code }
     ensures said { result.code ≡ status.code → IsTrue (D.state device.old).told → Said line.now (D.state device.old) (D.state device.new) }
     ensures part { IsTrue (D.state device.old).told → SaidPart line.now (D.state device.old) (D.state device.new) }
@@ -42,6 +43,19 @@ fn script_line(alloc: Global, fault: ScriptFault) -> Result<String, AllocError>
     }
 }
 
+/// The line of a trail's fault.
+fn trail_line(alloc: Global, fault: TrailFault) -> Result<String, AllocError>
+    ensures { IfOk result (λ line. string_bytes line ≡ trail_line fault) }
+{
+    match fault {
+        TrailFault::BadLine(line) => format!(in alloc; "TRAIL {line} BadLine\n"),
+        TrailFault::TooLong => String::from_str(alloc, "TRAIL 0 TooLong\n"),
+        TrailFault::OtherGeneration(line) => format!(in alloc; "TRAIL {line} OtherGeneration\n"),
+        TrailFault::NotSuited(line) => format!(in alloc; "TRAIL {line} NotSuited\n"),
+        TrailFault::Memory => Ok(String::new(alloc)),
+    }
+}
+
 /// The line of a fault of the definition or the units.
 fn application_line(alloc: Global, fault: ApplicationFault) -> Result<Vec<u8>, AllocError>
     ensures { IfOk result (λ line. line.items ≡ application_line fault) }
@@ -55,12 +69,21 @@ fn application_line(alloc: Global, fault: ApplicationFault) -> Result<Vec<u8>, A
     Ok(text)
 }
 
+/// The line of a definition that says DOUBLE, in the MAX statement at this line.
+fn double_line(alloc: Global, line: u32) -> Result<String, AllocError>
+    ensures { IfOk result (λ text. string_bytes text ≡ double_line line) }
+{
+    format!(in alloc; "DEF {line} NotInProfile\n")
+}
+
 fn refusal_line(alloc: Global, why: Refusal) -> Result<Vec<u8>, AllocError>
     ensures { IfOk result (λ line. line.items ≡ refusal_line why) }
 {
     match why {
         Refusal::Application(fault) => application_line(alloc, fault),
+        Refusal::Double(line) => Ok(double_line(alloc, line)?.into_bytes()),
         Refusal::Script(fault) => Ok(script_line(alloc, fault)?.into_bytes()),
+        Refusal::Trail(fault) => Ok(trail_line(alloc, fault)?.into_bytes()),
     }
 }
 
@@ -69,8 +92,8 @@ fn status_of(why: Refusal) -> Status
     ensures texts { IsOneOf (2 ∷ 3 ∷ []) result.code }
 {
     match why {
-        Refusal::Application(_) => Status::APPLICATION,
-        Refusal::Script(_) => Status::SCRIPT,
+        Refusal::Application(_) | Refusal::Double(_) => Status::APPLICATION,
+        Refusal::Script(_) | Refusal::Trail(_) => Status::SCRIPT,
     }
 }
 
@@ -112,6 +135,7 @@ fn limit_line(alloc: Global, why: &FileRefusal) -> Result<String, AllocError>
         FileRefusal::SmallerPool(n) => format!(in alloc; "KDCFILE SMALLER POOL {n}\n"),
         FileRefusal::TooManyGssbs(n) => format!(in alloc; "KDCFILE TOO MANY GSSBS {n}\n"),
         FileRefusal::TooLarge(n) => format!(in alloc; "KDCFILE TABLES TOO LARGE {n}\n"),
+        FileRefusal::Differs(n) => format!(in alloc; "AUDIT {n}\n"),
     }
 }
 
@@ -124,14 +148,30 @@ fn file_line(alloc: Global, why: &FileRefusal) -> Result<Vec<u8>, AllocError>
         | FileRefusal::OtherBlksize(_)
         | FileRefusal::SmallerPool(_)
         | FileRefusal::TooManyGssbs(_)
-        | FileRefusal::TooLarge(_) => Ok(limit_line(alloc, why)?.into_bytes()),
+        | FileRefusal::TooLarge(_)
+        | FileRefusal::Differs(_) => Ok(limit_line(alloc, why)?.into_bytes()),
     }
 }
 
-/// Refuses a KDCFILE.
+fn status_of_file(why: &FileRefusal) -> Status
+    ensures status { result.code ≡ status_of_file why.now }
+    ensures file { IsOneOf (4 ∷ 8 ∷ []) result.code }
+{
+    match why {
+        FileRefusal::NotKdcfile
+        | FileRefusal::OtherGeneration(_)
+        | FileRefusal::OtherBlksize(_)
+        | FileRefusal::SmallerPool(_)
+        | FileRefusal::TooManyGssbs(_)
+        | FileRefusal::TooLarge(_) => Status::FILE,
+        FileRefusal::Differs(_) => Status::AUDIT,
+    }
+}
+
+/// Refuses a KDCFILE, or says which entry of a trail does not hold.
 pub fn refuse_file<D: Device>(alloc: Global, device: &mut D, why: &FileRefusal) -> Status
-    ensures code { IsOneOf (4 ∷ 5 ∷ 7 ∷ []) result.code }
-    ensures said { result.code ≡ 4 → IsTrue (D.state device.old).told → Said (file_line why.now) (D.state device.old) (D.state device.new) }
+    ensures code { IsOneOf (status_of_file why.now ∷ 5 ∷ 7 ∷ []) result.code }
+    ensures said { IsOneOf (4 ∷ 8 ∷ []) result.code → (result.code ≡ status_of_file why.now) × (IsTrue (D.state device.old).told → Said (file_line why.now) (D.state device.old) (D.state device.new)) }
     ensures part { IsTrue (D.state device.old).told → SaidPart (file_line why.now) (D.state device.old) (D.state device.new) }
     ensures failed { result.code ≡ 5 → Rose (D.state device.old).line_faults (D.state device.new).line_faults }
     ensures fine { (result.code ≡ 5 → ⊥) → SameFaults (D.state device.old) (D.state device.new) }
@@ -141,5 +181,5 @@ pub fn refuse_file<D: Device>(alloc: Global, device: &mut D, why: &FileRefusal) 
     let Ok(line) = file_line(alloc, why) else {
         return Status::MEMORY;
     };
-    refuse(device, &line, Status::FILE)
+    refuse(device, &line, status_of_file(why))
 }

@@ -6,9 +6,9 @@ use Rattle.kd_device.specs.Room.{RoomState, text_of}
 use Rattle.kdcfile_update.specs.Updating.{Stored}
 use Rattle.refusals.specs.declared.error.Refusal.{Refusal}
 use Rattle.utm_cli.specs.declared.words.Word.{Word}
-use Rattle.utm_cli.specs.declared.words.Word.TheVariants.{Gen, Run, Show, Update, Make}
+use Rattle.utm_cli.specs.declared.words.Word.TheVariants.{Gen, Run, Show, Update, Trail, Audit, Make}
 use Rattle.utm_cli.specs.MadeTexts.{definition_text as made_definition, units_text as made_units, script_text as made_script}
-use Rattle.utm_cli.specs.Words.{definition_name, units_name, script_name}
+use Rattle.utm_cli.specs.Words.{definition_name, units_name, script_name, trail_name}
 use Rattle.utm_cli.specs.Asking.{Errand, Reading, AreThere, ReadsFor}
 use Rattle.utm_cli.specs.Doing.{Starts}
 use Rattle.utm_cli.specs.Promise.{Request, Reads, IsMissing, Lacks, Misses, IsCutOfRun}
@@ -39,6 +39,12 @@ module _ (words : List (List ℕ)) (room : RoomState) (word : Word) (base : List
   lacked Run d u s there (inl none) = let differ = sym there.definition_is ∙ none in cc
   lacked Run d u s there (inr (inl none)) = let differ = sym there.units_is ∙ none in cc
   lacked Run d u s there (inr (inr none)) = let differ = sym there.script_is ∙ none in cc
+  lacked Trail d u s there (inl none) = let differ = sym there.definition_is ∙ none in cc
+  lacked Trail d u s there (inr (inl none)) = let differ = sym there.units_is ∙ none in cc
+  lacked Trail d u s there (inr (inr none)) = let differ = sym there.script_is ∙ none in cc
+  lacked Audit d u s there (inl none) = let differ = sym there.definition_is ∙ none in cc
+  lacked Audit d u s there (inr (inl none)) = let differ = sym there.units_is ∙ none in cc
+  lacked Audit d u s there (inr (inr none)) = let differ = sym there.script_is ∙ none in cc
 
   pub not_missed : (said : Reading) → ReadsFor word base room said → Misses words room → ⊥
   not_missed said h k =
@@ -54,14 +60,18 @@ module _ (words : List (List ℕ)) (room : RoomState) (word : Word) (base : List
   two_texts no_definition no_units both =
       ⊎_elim no_definition (λ d. ⊎_elim no_units (λ u. both d.0 u.0 d.1 u.1) (found (units_name base))) (found (definition_name base))
 
+  -- one of three texts is not there
+  three_texts : (third : List ℕ) → ((d u s : List ℕ) → text_of (definition_name base) room.texts ≡ Some d → text_of (units_name base) room.texts ≡ Some u → text_of third room.texts ≡ Some s → ⊥) → IsMissing (definition_name base) room ⊎ IsMissing (units_name base) room ⊎ IsMissing third room
+  three_texts third all = two_texts inl (λ none. inr (inl none)) (λ d u d_is u_is. ⊎_elim (λ none. inr (inr none)) (λ s. absurd (all d u s.0 d_is u_is s.1)) (found third))
+
   lacks : (w : Word) → ((d u s : List ℕ) → AreThere w base room d u s → ⊥) → Lacks w base room
   lacks Gen none_there = two_texts inl inr (λ d u d_is u_is. absurd (none_there d u [] (record { definition_is = d_is; units_is = u_is; script_is = refl })))
   lacks Show none_there = two_texts inl inr (λ d u d_is u_is. absurd (none_there d u [] (record { definition_is = d_is; units_is = u_is; script_is = refl })))
   lacks Update none_there = two_texts inl inr (λ d u d_is u_is. absurd (none_there d u [] (record { definition_is = d_is; units_is = u_is; script_is = refl })))
   lacks (Make n) none_there = none_there made_definition made_units (made_script n) (record { definition_is = refl; units_is = refl; script_is = refl })
-  lacks Run none_there =
-      two_texts inl (λ none. inr (inl none))
-      (λ d u d_is u_is. ⊎_elim (λ none. inr (inr none)) (λ s. absurd (none_there d u s.0 (record { definition_is = d_is; units_is = u_is; script_is = s.1 }))) (found (script_name base)))
+  lacks Run none_there = three_texts (script_name base) (λ d u s d_is u_is s_is. none_there d u s (record { definition_is = d_is; units_is = u_is; script_is = s_is }))
+  lacks Trail none_there = three_texts (script_name base) (λ d u s d_is u_is s_is. none_there d u s (record { definition_is = d_is; units_is = u_is; script_is = s_is }))
+  lacks Audit none_there = three_texts (trail_name base) (λ d u s d_is u_is s_is. none_there d u s (record { definition_is = d_is; units_is = u_is; script_is = s_is }))
 
   pub misses_of : ((d u s : List ℕ) → AreThere word base room d u s → ⊥) → Misses words room
   misses_of none_there = record { word = word; base = base; asked = asked; not_there = lacks word none_there }

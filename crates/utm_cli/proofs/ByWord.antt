@@ -1,4 +1,4 @@
--- What holds of each word: of those over the store, and of `show` and `make`.
+-- What holds of each word: of those over the store, and of those that send their lines aside of it.
 use Rattle.std.proofs.Common.{◌≡◌, ◌⊎◌, inl, inr, ℕ, List, [], ◌∷◌, ◌++◌, take, refl, sym, ap, subst, ◌∙◌}
 use Rattle.std.specs.Prelude.{⊤}
 use Rattle.std.proofs.lemmas.List.{append-nil}
@@ -18,11 +18,14 @@ use Rattle.device_acts.specs.Said.{Said, SaidPart}
 use Rattle.refusals.specs.declared.error.FileRefusal.{FileRefusal}
 use Rattle.utm_cli.specs.MadeReport.{report_of}
 use Rattle.utm_cli.specs.declared.words.Word.{Word}
-use Rattle.utm_cli.specs.declared.words.Word.TheVariants.{Gen, Run, Show, Update, Make}
+use Rattle.utm_cli.specs.declared.words.Word.TheVariants.{Gen, Run, Show, Update, Trail, Audit, Make}
 use Rattle.utm_cli.specs.Asking.{Errand, app_of}
-use Rattle.utm_cli.specs.Doing.{IsOverFile, Opens, OpensWith, OpeningRefuses, StartsBy, Starts, RefusesBy, Refuses, identity_of, own, tables_by, tables_of, acts_by, acts_of}
+use Rattle.utm_cli.specs.Doing.{IsOverFile, Opens, OpensWith, OpeningRefuses, StartsBy, Starts, RefusesBy, Refuses, identity_of, own, tables_by, tables_of, acts_by, acts_of, trail_of, entry_count}
+use Rattle.utm_cli.specs.Words.{IsOfBase}
+use Rattle.trail_words.specs.Auditing.{verdict_line}
+use Rattle.trail_words.specs.declared.verdict.Verdict.TheVariants.{Holds}
 use Rattle.utm_cli.specs.Promise.{RanOver, RanBy, Ran, IsCutOver, IsCutBy, IsCutOfRun, IsFront, SaysFront, MakesFile, MayAttach, MayHandOn, HandsOn, WritesActsAlone}
-use Rattle.utm_cli.proofs.Ran.{as_it_was, part_then}
+use Rattle.utm_cli.proofs.Ran.{as_it_was, part_then, nothing_said}
 
 -- ---- what a call starts from
 
@@ -32,6 +35,8 @@ OpensFile Gen = ⊤
 OpensFile Run = ⊤
 OpensFile Show = ⊤
 OpensFile Update = ⊥
+OpensFile Trail = ⊤
+OpensFile Audit = ⊥
 OpensFile (Make n) = ⊥
 
 opens_by : (word : Word) → OpensFile word → (e : Errand) (bytes : List ℕ) (s : Stored) → StartsBy word e bytes s → OpensWith e bytes s
@@ -39,6 +44,8 @@ opens_by Gen opening e bytes s starts = starts
 opens_by Run opening e bytes s starts = starts
 opens_by Show opening e bytes s starts = starts
 opens_by Update opening e bytes s starts = absurd opening
+opens_by Trail opening e bytes s starts = starts
+opens_by Audit opening e bytes s starts = absurd opening
 opens_by (Make n) opening e bytes s starts = absurd opening
 
 starts_by : (word : Word) → OpensFile word → (e : Errand) (bytes : List ℕ) (t : TableRows) → Opens e bytes t → StartsBy word e bytes (own e t)
@@ -46,6 +53,8 @@ starts_by Gen opening e bytes t opens = record { own_texts = refl; opens = opens
 starts_by Run opening e bytes t opens = record { own_texts = refl; opens = opens }
 starts_by Show opening e bytes t opens = record { own_texts = refl; opens = opens }
 starts_by Update opening e bytes t opens = absurd opening
+starts_by Trail opening e bytes t opens = record { own_texts = refl; opens = opens }
+starts_by Audit opening e bytes t opens = absurd opening
 starts_by (Make n) opening e bytes t opens = absurd opening
 
 refuses_by : (word : Word) → OpensFile word → (e : Errand) (bytes : List ℕ) (why : FileRefusal) → OpeningRefuses e bytes why → RefusesBy word e bytes why
@@ -53,6 +62,8 @@ refuses_by Gen opening e bytes why refuses = refuses
 refuses_by Run opening e bytes why refuses = refuses
 refuses_by Show opening e bytes why refuses = refuses
 refuses_by Update opening e bytes why refuses = absurd opening
+refuses_by Trail opening e bytes why refuses = refuses
+refuses_by Audit opening e bytes why refuses = absurd opening
 refuses_by (Make n) opening e bytes why refuses = absurd opening
 
 module _ (e : Errand) (bytes : List ℕ) where
@@ -84,6 +95,8 @@ unchanged_by Gen e acts s a from image out same silent = as_it_was e acts s.tabl
 unchanged_by Run e acts s a from image out same silent = as_it_was e acts s.tables a from.opens image out same silent
 unchanged_by Show e acts s a from image out same silent = (same, (0, silent ∙ sym (append-nil a.sent)))
 unchanged_by Update e acts s a from image out same silent = inl (record { silent = silent; stands = subst (λ (l : List ℕ). StandsForTables s.identity s.tables l) (sym same) from.stands })
+unchanged_by Trail e acts s a from image out same silent = (same, (0, silent ∙ sym (append-nil a.sent)))
+unchanged_by Audit e acts s a from image out same silent = (same, (0, silent ∙ sym (append-nil a.sent)))
 unchanged_by (Make n) e acts s a from image out same silent = (same, (0, silent ∙ sym (append-nil a.sent)))
 
 pub unchanged_cut : (e : Errand) (s : Stored) (a : State) → Starts e a.holds s → (image out : List ℕ) → image ≡ a.holds → out ≡ a.sent → IsCutOfRun e s a image out
@@ -96,6 +109,8 @@ opening_word Gen stored = tt
 opening_word Run stored = tt
 opening_word Show stored = absurd stored
 opening_word Update stored = absurd stored
+opening_word Trail stored = absurd stored
+opening_word Audit stored = absurd stored
 opening_word (Make n) stored = absurd stored
 
 over_file : (word : Word) → OpensFile word → IsOverFile word
@@ -103,6 +118,8 @@ over_file Gen opening = tt
 over_file Run opening = tt
 over_file Show opening = tt
 over_file Update opening = absurd opening
+over_file Trail opening = tt
+over_file Audit opening = absurd opening
 over_file (Make n) opening = absurd opening
 
 ran_by : (word : Word) → MakesFile word → (e : Errand) (acts : List Act) (s : Stored) (a b : State) (lb : ℕ → List ℕ → List ℕ → Type 0) → RanOver (identity_of e) acts s.tables a b lb → RanBy word (identity_of e) acts (tables_by word e s) a b lb
@@ -110,6 +127,8 @@ ran_by Gen stored e acts s a b lb ran = ran
 ran_by Run stored e acts s a b lb ran = ran
 ran_by Show stored e acts s a b lb ran = absurd stored
 ran_by Update stored e acts s a b lb ran = absurd stored
+ran_by Trail stored e acts s a b lb ran = absurd stored
+ran_by Audit stored e acts s a b lb ran = absurd stored
 ran_by (Make n) stored e acts s a b lb ran = absurd stored
 
 cut_by : (word : Word) → MakesFile word → (e : Errand) (acts : List Act) (s : Stored) (a : State) (image out : List ℕ) → IsCutOver (identity_of e) acts s.tables a image out → IsCutBy word (identity_of e) acts (tables_by word e s) s a image out
@@ -117,6 +136,8 @@ cut_by Gen stored e acts s a image out cut = cut
 cut_by Run stored e acts s a image out cut = cut
 cut_by Show stored e acts s a image out cut = absurd stored
 cut_by Update stored e acts s a image out cut = absurd stored
+cut_by Trail stored e acts s a image out cut = absurd stored
+cut_by Audit stored e acts s a image out cut = absurd stored
 cut_by (Make n) stored e acts s a image out cut = absurd stored
 
 alone_by : (word : Word) → MakesFile word → (e : Errand) (s : Stored) (a : State) → WritesActsAlone word e s a → a.holds ≡ [] → ⊥
@@ -124,6 +145,8 @@ alone_by Gen stored e s a alone = alone
 alone_by Run stored e s a alone = alone
 alone_by Show stored e s a alone = absurd stored
 alone_by Update stored e s a alone = absurd stored
+alone_by Trail stored e s a alone = absurd stored
+alone_by Audit stored e s a alone = absurd stored
 alone_by (Make n) stored e s a alone = absurd stored
 
 hands_by : (word : Word) → IsOverFile word → (name : List ℕ) (a b : State) → b.names ≡ a.names ++ name ∷ [] → HandsOn word name a b
@@ -131,6 +154,8 @@ hands_by Gen over name a b is = is
 hands_by Run over name a b is = is
 hands_by Show over name a b is = is
 hands_by Update over name a b is = is
+hands_by Trail over name a b is = is
+hands_by Audit over name a b is = absurd over
 hands_by (Make n) over name a b is = absurd over
 
 module _ (e : Errand) (stored : MakesFile e.word) where
@@ -158,12 +183,27 @@ hands_same_by Gen name a b d h same = same ∙ h
 hands_same_by Run name a b d h same = same ∙ h
 hands_same_by Show name a b d h same = same ∙ h
 hands_same_by Update name a b d h same = same ∙ h
+hands_same_by Trail name a b d h same = same ∙ h
+hands_same_by Audit name a b d h same = same ∙ h
 hands_same_by (Make n) name a b d h same = same ∙ h
 
 -- after a call that handed on nothing
 pub may_then : (word : Word) (name : List ℕ) (a b d : State) → MayHandOn word name a b → d.names ≡ b.names → MayHandOn word name a d
 may_then word name a b d (inl none) same = inl (same ∙ none)
 may_then word name a b d (inr named) same = inr (hands_same_by word name a b d named same)
+
+-- a word over the file has a BASE
+of_base_by : (word : Word) → IsOverFile word → IsOfBase word
+of_base_by Gen over = tt
+of_base_by Run over = tt
+of_base_by Show over = tt
+of_base_by Update over = tt
+of_base_by Trail over = tt
+of_base_by Audit over = absurd over
+of_base_by (Make n) over = absurd over
+
+pub over_of_base : (e : Errand) → IsOverFile e.word → IsOfBase e.word
+over_of_base e over = of_base_by e.word over
 
 pub may_hand_on : (e : Errand) → IsOverFile e.word → (name : List ℕ) (a b : State) → MayAttach name a b → MayHandOn e.word name a b
 may_hand_on e over name a b (inl none) = inl none
@@ -175,12 +215,14 @@ stored_word word (inr is) = subst MakesFile (sym is) tt
 
 -- ---- words that send their lines and leave the file
 
--- the lines of `show` and of `make`
+-- the lines of `show`, `trail`, `audit` and `make`
 abbrev pub SendsAside : Word → Errand → TableRows → List ℕ → Type 0
 SendsAside Gen e t lines = ⊥
 SendsAside Run e t lines = ⊥
 SendsAside Show e t lines = lines ≡ listing t
 SendsAside Update e t lines = ⊥
+SendsAside Trail e t lines = lines ≡ trail_of e t
+SendsAside Audit e t lines = lines ≡ verdict_line (Holds (entry_count e.trail))
 SendsAside (Make n) e t lines = lines ≡ report_of n (app_of e) e.commands
 
 one_line : (line : List ℕ) → line ≡ bytes_of (Emit line ∷ [])
@@ -192,6 +234,8 @@ bytes_by Gen e t lines is = absurd is
 bytes_by Run e t lines is = absurd is
 bytes_by Show e t lines is = is ∙ one_line (listing t)
 bytes_by Update e t lines is = absurd is
+bytes_by Trail e t lines is = is ∙ one_line (trail_of e t)
+bytes_by Audit e t lines is = is ∙ one_line (verdict_line (Holds (entry_count e.trail)))
 bytes_by (Make n) e t lines is = is ∙ one_line (report_of n (app_of e) e.commands)
 
 said_by : (word : Word) (e : Errand) (t : TableRows) (lines : List ℕ) → SendsAside word e t lines → (acts : List Act) (u : TableRows) (a b : State) (lb : ℕ → List ℕ → List ℕ → Type 0) → Said (bytes_of acts) a b → RanBy word (identity_of e) acts u a b lb
@@ -199,6 +243,8 @@ said_by Gen e t lines is acts u a b lb said = absurd is
 said_by Run e t lines is acts u a b lb said = absurd is
 said_by Show e t lines is acts u a b lb said = said
 said_by Update e t lines is acts u a b lb said = absurd is
+said_by Trail e t lines is acts u a b lb said = said
+said_by Audit e t lines is acts u a b lb said = said
 said_by (Make n) e t lines is acts u a b lb said = said
 
 front_by : (word : Word) (e : Errand) (t : TableRows) (lines : List ℕ) → SendsAside word e t lines → (acts : List Act) (u : TableRows) (s : Stored) (a : State) (image out : List ℕ) → IsFront (bytes_of acts) a image out → IsCutBy word (identity_of e) acts u s a image out
@@ -206,6 +252,8 @@ front_by Gen e t lines is acts u s a image out front = absurd is
 front_by Run e t lines is acts u s a image out front = absurd is
 front_by Show e t lines is acts u s a image out front = front
 front_by Update e t lines is acts u s a image out front = absurd is
+front_by Trail e t lines is acts u s a image out front = front
+front_by Audit e t lines is acts u s a image out front = front
 front_by (Make n) e t lines is acts u s a image out front = front
 
 module _ (e : Errand) (t : TableRows) (lines : List ℕ) (is : SendsAside e.word e t lines) (a b : State) (la lb : ℕ → List ℕ → List ℕ → Type 0) where
@@ -232,14 +280,21 @@ module _ (line : List ℕ) (a b d : State) (la lb ld : ℕ → List ℕ → List
         (leaves_weaker b d lb ld (Front b lb) (Front a la) h (λ c out front. (rests.stop c front.0, (front.1.0, front.1.1 ∙ ap (λ (s : List ℕ). s ++ take front.1.0 line) rests.sent))));
   }
 
+-- nothing was said
+pub none_front : (line : List ℕ) (a b : State) (la lb : ℕ → List ℕ → List ℕ → Type 0) → Rests a b la lb → SaysFront line a b la lb
+none_front line a b la lb rests = record {
+  part = nothing_said line a b la lb rests;
+  any_moment = leaves_weaker a b la lb (Before a la) (λ c out. la a.moment c a.sent × ((n : ℕ) × (out ≡ a.sent ++ take n line))) rests.leaves (λ c out now. (now.1, (0, now.0 ∙ sym (append-nil a.sent))));
+}
+
 -- the report of `make`, of an errand by its parts
 pub made_front : (n : ℕ) (v e : Errand) → v ≡ e → (commands : List Command) → commands ≡ v.commands → (line : List ℕ) → line ≡ report_of n (app_of v) commands
     → (a d : State) (la ld : ℕ → List ℕ → List ℕ → Type 0) → SaysFront line a d la ld → SaysFront (report_of n (app_of e) e.commands) a d la ld
 made_front n v e same commands is line made a d la ld front =
     subst (λ (l : List ℕ). SaysFront l a d la ld) (made ∙ ap (report_of n (app_of v)) is ∙ ap (λ (x : Errand). report_of n (app_of x) x.commands) same) front
 
--- the list of the tables that a file stands for, which was looked at
-pub shown_front : (v e : Errand) → v ≡ e → (tables t : TableRows) (line : List ℕ) → line ≡ listing tables → (a b d : State) (la lb ld : ℕ → List ℕ → List ℕ → Type 0) (rests : Rests a b la lb) → Opens v a.holds tables → Opens e a.holds t → SaidPart line b d → LeavesOnly b d lb ld (Front line a b d la lb ld rests b lb) → SaysFront (listing t) a d la ld
-shown_front v e same tables t line is a b d la lb ld rests from opens part h =
+-- what is said of the tables that a file stands for, which was looked at
+pub looked_front : (says : Errand → TableRows → List ℕ) (v e : Errand) → v ≡ e → (tables t : TableRows) (line : List ℕ) → line ≡ says v tables → (a b d : State) (la lb ld : ℕ → List ℕ → List ℕ → Type 0) (rests : Rests a b la lb) → Opens v a.holds tables → Opens e a.holds t → SaidPart line b d → LeavesOnly b d lb ld (Front line a b d la lb ld rests b lb) → SaysFront (says e t) a d la ld
+looked_front says v e same tables t line is a b d la lb ld rests from opens part h =
     let once = opened_once e a.holds tables t (subst (λ (x : Errand). Opens x a.holds tables) same from) opens in
-    subst (λ (l : List ℕ). SaysFront l a d la ld) (is ∙ ap listing once) (front_then line a b d la lb ld rests part h)
+    subst (λ (l : List ℕ). SaysFront l a d la ld) (is ∙ (λ i. says (same i) (once i))) (front_then line a b d la lb ld rests part h)

@@ -1,17 +1,66 @@
--- What texts ask for can run.
+-- What texts ask for can run, and a trail can be audited.
+use Rattle.std.proofs.Common.{◌≡◌, Bool, true, false, List, ℕ, [], Some, None, refl, sym, subst, arith}
+use Rattle.std.specs.Prelude.{◌≤◌, ◌^◌, sum_by, All}
+use Rattle.std.proofs.lemmas.List.Elements.{All-nil}
 use Rattle.application_read.specs.Laws.{GenerationsAreSound, UnitsFit}
+use Rattle.application_read.specs.declared.application.Application.{Application as Made}
+use Rattle.abstract_monitor.specs.CommandsOf.{IsCommandOf}
+use Rattle.abstract_monitor.specs.declared.command.Command.{Command}
+use Rattle.audit_trail.specs.Facts.{IsTrail}
+use Rattle.audit_trail.specs.Laws.{ReadTrailsAreTrails}
+use Rattle.audit_trail.specs.declared.entry.Trail.{Trail as Kept}
+use Rattle.kdcdef_types.specs.Generation.{Generated}
+use Rattle.laws_of_steps.specs.Suits.{Suits}
+use Rattle.monitor_core.specs.CoreSteps.{turns_of}
 use Rattle.script_read.specs.Spelling.{CommandsOnly}
-use Rattle.utm_cli.specs.Asking.{TextsCanRun}
+use Rattle.utm_cli.specs.Asking.{Errand, ThirdAsks, CanBeAudited, TextsCanRun}
+use Rattle.utm_cli.specs.Words.{audits}
+use Rattle.utm_cli.specs.declared.words.Word.{Word}
 use Rattle.laws_of_applications.proofs.Made.{application_made}
 use Rattle.utm_cli.proofs.Scripts.{few_turns, script_names}
 
-pub texts_run : GenerationsAreSound → UnitsFit → CommandsOnly → TextsCanRun
-texts_run sound units only word d u s e h =
+-- ---- the third text
+
+-- no commands have all names, and take no turns
+pub no_names : (g : Generated) (commands : List Command) → commands ≡ [] → All (IsCommandOf g) commands
+no_names g commands none = subst (λ (l : List Command). All (IsCommandOf g) l) (sym none) (All-nil (IsCommandOf g))
+
+pub no_turns : (commands : List Command) → commands ≡ [] → sum_by turns_of commands ≤ 10 ^ 18
+no_turns commands none = subst (λ (l : List Command). sum_by turns_of l ≤ 10 ^ 18) (sym none) (omega arith)
+
+module _ (only : CommandsOnly) (read : ReadTrailsAreTrails) (e : Errand) (text : List ℕ) where
+  third_names : (audit : Bool) → ThirdAsks audit e.application e.fingerprint text e.commands e.trail → All (IsCommandOf e.application.generation) e.commands
+  third_names false asks = script_names e.application.generation only text e.commands asks.0
+  third_names true asks = no_names e.application.generation e.commands asks.0
+
+  third_turns : (audit : Bool) → ThirdAsks audit e.application e.fingerprint text e.commands e.trail → sum_by turns_of e.commands ≤ 10 ^ 18
+  third_turns false asks = few_turns e.application.generation only text e.commands asks.0
+  third_turns true asks = no_turns e.commands asks.0
+
+  third_trail : (audit : Bool) → ThirdAsks audit e.application e.fingerprint text e.commands e.trail → CanBeAudited audit e.application e.trail
+  third_trail false asks = asks.1
+  third_trail true asks = let t = asks.1 in subst (CanBeAudited true e.application) (sym t.1) (read text t.0 t.2.says, t.2.suits)
+
+pub no_trail : (word : Word) → audits word ≡ false → (a : Made) → CanBeAudited (audits word) a None
+no_trail word runs a = subst (λ (audit : Bool). CanBeAudited audit a None) (sym runs) refl
+
+pub own_trail : (word : Word) → audits word ≡ true → (a : Made) (t : Kept) → IsTrail t → Suits a.generation t.start → CanBeAudited (audits word) a (Some t)
+own_trail word audit a t is suits = subst (λ (b : Bool). CanBeAudited b a (Some t)) (sym audit) (is, suits)
+
+-- the trail of a word is that of its errand
+pub trail_of_word : (e : Errand) (word : Word) → e.word ≡ word → CanBeAudited (audits word) e.application e.trail → CanBeAudited (audits e.word) e.application e.trail
+trail_of_word e word is can = subst (λ (w : Word). CanBeAudited (audits w) e.application e.trail) (sym is) can
+
+pub texts_run : GenerationsAreSound → UnitsFit → CommandsOnly → ReadTrailsAreTrails → TextsCanRun
+texts_run sound units only read word d u s e h =
     let g = e.application.generation in
     let fit = units d u e.application h.1 in
+    let keeps = sound d g h.1.0 in
     record {
       fit = fit.0;
-      applies = application_made g e.application.units fit.0 fit.1 (sound d g h.1.0);
-      names = script_names g only s e.commands h.3;
-      turns = few_turns g only s e.commands h.3;
+      named = keeps.names;
+      applies = application_made g e.application.units fit.0 fit.1 keeps;
+      names = third_names only read e s (audits word) h.4;
+      turns = third_turns only read e s (audits word) h.4;
+      trail = trail_of_word e word h.0 (third_trail only read e s (audits word) h.4);
     }

@@ -10,7 +10,7 @@ use Rattle.laws_of_steps.specs.Cut.{SentBy}
 use Rattle.device_run.specs.Running.{IsCutSince}
 use Rattle.kdcfile_update.specs.Updating.{Stored}
 use Rattle.utm_cli.specs.declared.words.Word.{Word}
-use Rattle.utm_cli.specs.declared.words.Word.TheVariants.{Gen, Run, Show, Update, Make}
+use Rattle.utm_cli.specs.declared.words.Word.TheVariants.{Gen, Run, Show, Update, Trail, Audit, Make}
 use Rattle.utm_cli.specs.Asking.{Errand}
 use Rattle.utm_cli.specs.Doing.{identity_of, tables_of, acts_of}
 use Rattle.utm_cli.specs.Promise.{IsCutOver, IsCutOfUpdate, IsCutBy, IsCutOfRun, EndsInCut}
@@ -50,6 +50,8 @@ front_by Gen i acts t s a image out cut = front_over i acts t a image out cut
 front_by Run i acts t s a image out cut = front_over i acts t a image out cut
 front_by Show i acts t s a image out cut = cut.1
 front_by Update i acts t s a image out cut = front_updated i acts t s a image out cut
+front_by Trail i acts t s a image out cut = cut.1
+front_by Audit i acts t s a image out cut = cut.1
 front_by (Make n) i acts t s a image out cut = cut.1
 
 pub ends : (e : Errand) (s : Stored) (a d : State) → IsCutOfRun e s a d.holds d.sent → EndsInCut e s a d

@@ -12,6 +12,8 @@ pub mod Writing
 pub mod Doing
 pub mod Ends
 pub mod Asking
+pub mod Audited
+pub mod Trailed
 pub mod Codes
 pub mod MadeTexts
 pub mod MadeExamples

@@ -21,7 +21,7 @@ use Rattle.kdcdef_check.specs.declared.fault.CheckFault.{CheckFault}
 use Rattle.kdcdef_check.specs.declared.fault.CheckFault.TheVariants as faults
 use Rattle.kdcdef_check.specs.Generating.{generated, max_given}
 use Rattle.kdcdef_check.specs.EndsLaws.{end_is}
-use Rattle.kdcdef_check.specs.Faults.{AreFaultless, shows, is_taken, shares_lterm, kind_of, kind_count, lacks_program, lacks_lterm, has_other_class, is_end, has_small_pool, lacks_user, lacks_kset}
+use Rattle.kdcdef_check.specs.Faults.{AreFaultless, shows, is_taken, shares_lterm, kind_of, kind_count, lacks_program, lacks_lterm, has_other_class, is_end, has_small_pool, lacks_user, lacks_kset, has_full_pool}
 use Rattle.unit_types.specs.declared.action.UnitStatement.{UnitStatement}
 use Rattle.unit_types.specs.UnitText.{UnitText, IsWhole, jump_of, label_place}
 use Rattle.unit_read.specs.Reading.{read_text as read_units}
@@ -107,6 +107,7 @@ typed =
       reswait = None;
       blksize = Some 2048;
       redelivery = None;
+      double = None;
     }))
     ∷ stated 2 (says.Program (codes "ADD"))
     ∷ stated 3 (says.Program (codes "TALLY"))
@@ -160,7 +161,8 @@ shows_none all before said =
     && (not (has_other_class said)
     && (not (is_end said && has_small_pool (generated all))
     && (not (is_end said && lacks_user (generated all))
-    && (not (kind_count (kind_of said) before == 20000) && not (lacks_kset (generated all) said)))))))))
+    && (not (kind_count (kind_of said) before == 20000)
+    && (not (lacks_kset (generated all) said) && not (is_end said && has_full_pool (generated all)))))))))))
 
 abbrev is_clear : List Statement → List Statement → List Statement → Bool
 is_clear all before [] = true
@@ -182,22 +184,24 @@ module _ (all before : List Statement) (said : Said) (clear : shows_none all bef
       let g = both_true _ _ f.1 in
       let h = both_true _ _ g.1 in
       let i = both_true _ _ h.1 in
-      by a.0 b.0 c.0 d.0 e.0 f.0 g.0 h.0 i.0 i.1 fault is
+      let j = both_true _ _ i.1 in
+      by a.0 b.0 c.0 d.0 e.0 f.0 g.0 h.0 i.0 j.0 j.1 fault is
     where
       by : not (is_taken (generated before) said) ≡ true → not (lacks_program (generated all) said) ≡ true → not (lacks_lterm (generated all) said) ≡ true → not (shares_lterm (generated before) said) ≡ true
           → not (is_end said && is_none (max_given all).appliname) ≡ true → not (has_other_class said) ≡ true → not (is_end said && has_small_pool (generated all)) ≡ true → not (is_end said && lacks_user (generated all)) ≡ true
-          → not (kind_count (kind_of said) before == 20000) ≡ true → not (lacks_kset (generated all) said) ≡ true → (fault : CheckFault) → IsTrue (shows all before said fault) → ⊥
-      by a b c d e f g h i j (faults.NameTwice n) is = neither _ a is
-      by a b c d e f g h i j (faults.NoProgram n) is = neither _ b is
-      by a b c d e f g h i j (faults.NoLterm n) is = neither _ c is
-      by a b c d e f g h i j (faults.LtermTwice n) is = neither _ d is
-      by a b c d e f g h i j (faults.NoMax n) is = neither _ e is
-      by a b c d e f g h i j (faults.ClassOfWrongKind n) is = neither _ f is
-      by a b c d e f g h i j (faults.PoolTooSmall n) is = neither _ g is
-      by a b c d e f g h i j (faults.NoUser n) is = neither _ h is
-      by a b c d e f g h i j (faults.TooMany n) is = neither _ i is
-      by a b c d e f g h i j (faults.NoKset n) is = neither _ j is
-      by a b c d e f g h i j faults.Memory is = true≢false (sym is)
+          → not (kind_count (kind_of said) before == 20000) ≡ true → not (lacks_kset (generated all) said) ≡ true → not (is_end said && has_full_pool (generated all)) ≡ true → (fault : CheckFault) → IsTrue (shows all before said fault) → ⊥
+      by a b c d e f g h i j k (faults.NameTwice n) is = neither _ a is
+      by a b c d e f g h i j k (faults.NoProgram n) is = neither _ b is
+      by a b c d e f g h i j k (faults.NoLterm n) is = neither _ c is
+      by a b c d e f g h i j k (faults.LtermTwice n) is = neither _ d is
+      by a b c d e f g h i j k (faults.NoMax n) is = neither _ e is
+      by a b c d e f g h i j k (faults.ClassOfWrongKind n) is = neither _ f is
+      by a b c d e f g h i j k (faults.PoolTooSmall n) is = neither _ g is
+      by a b c d e f g h i j k (faults.NoUser n) is = neither _ h is
+      by a b c d e f g h i j k (faults.TooMany n) is = neither _ i is
+      by a b c d e f g h i j k (faults.NoKset n) is = neither _ j is
+      by a b c d e f g h i j k (faults.PoolForDouble n) is = neither _ k is
+      by a b c d e f g h i j k faults.Memory is = true≢false (sym is)
 
 clear_at : (all before ss : List Statement) (i : ℕ) (s : Statement) → is_clear all before ss ≡ true → slice_get ss i ≡ Some s → shows_none all (before ++ take i ss) s.said ≡ true
 clear_at all before [] i s clear at = absurd cc

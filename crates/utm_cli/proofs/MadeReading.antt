@@ -1,8 +1,7 @@
 -- The made texts ask for the made application and its script, so they are not refused.
-use Rattle.std.proofs.Common.{◌≡◌, ℕ, Bool, true, false, List, [], ◌∷◌, Option, Some, None, Result, Ok, Err, refl, sym, ap, subst, ◌∙◌, arith}
+use Rattle.std.proofs.Common.{◌≡◌, ℕ, Bool, true, false, List, [], ◌∷◌, Option, Some, None, Result, Ok, Err, refl, sym, ap, subst, ◌∙◌}
 use Rattle.std.specs.Prelude.{nat_le, codes, IsErrAnd, IsErrOf}
 use Rattle.std.proofs.lemmas.Bool.{leb-true}
-use Rattle.std.proofs.lemmas.Bool.Decides.{nat_tests}
 use Rattle.kd_base.specs.Text.{decimal_of}
 use Rattle.kd_base.specs.ToolsLaws.{both_true, some_is}
 use Rattle.kd_device.specs.declared.error.DeviceError.{DeviceError}
@@ -17,16 +16,14 @@ use Rattle.refusals.specs.declared.error.Refusal.{Refusal}
 use Rattle.refusals.specs.declared.error.TextError.{TextError}
 use Rattle.refusals.specs.declared.error.TextError.TheVariants as error
 use Rattle.utm_cli.specs.declared.words.Word.{Word}
-use Rattle.utm_cli.specs.declared.words.Word.TheVariants.{Gen, Run, Show, Update, Make}
-use Rattle.utm_cli.specs.Asking.{Errand, Reading, AskFor}
+use Rattle.utm_cli.specs.declared.words.Word.TheVariants.{Gen, Run, Show, Update, Trail, Audit, Make}
+use Rattle.utm_cli.specs.Asking.{Errand, Reading, ThirdAsks, AskFor}
 use Rattle.refusals.specs.Causes.{of_room}
-use Rattle.utm_cli.specs.Doing.{IsOverFile}
 use Rattle.utm_cli.specs.MadeApplication.{generated_application, AreMade, MadeTextsAreTaken}
 use Rattle.utm_cli.specs.MadeReading.{MakeIsRead}
 use Rattle.utm_cli.specs.MadeTexts.{definition_text, units_text, script_text}
-use Rattle.refusals.specs.Statuses.{IsOneOf}
 use Rattle.utm_cli.specs.Promise.{Request}
-use Rattle.utm_cli.specs.Words.{is_input_count, is_base, word_by, made_by, made_input, over_base, word_with, asked}
+use Rattle.utm_cli.specs.Words.{IsOfBase, audits, is_input_count, is_base, word_by, made_by, made_input, over_base, word_with, asked}
 
 -- ---- how many inputs
 
@@ -38,12 +35,14 @@ asked_word (Some v) operand base word h =
     let same_pair : first ≡ second = some_is first second h in
     ap (λ (p : Word × List ℕ). Some p.0) same_pair
 
-no_word : (a b c d : Bool) (n : ℕ) → word_by a b c d ≡ Some (Make n) → ⊥
-no_word true b c d n h = let is : Gen ≡ Make n = some_is Gen (Make n) h in absurd cc
-no_word false true c d n h = let is : Run ≡ Make n = some_is Run (Make n) h in absurd cc
-no_word false false true d n h = let is : Show ≡ Make n = some_is Show (Make n) h in absurd cc
-no_word false false false true n h = let is : Update ≡ Make n = some_is Update (Make n) h in absurd cc
-no_word false false false false n h = absurd cc
+no_word : (a b c d e f : Bool) (n : ℕ) → word_by a b c d e f ≡ Some (Make n) → ⊥
+no_word true b c d e f n h = let is : Gen ≡ Make n = some_is Gen (Make n) h in absurd cc
+no_word false true c d e f n h = let is : Run ≡ Make n = some_is Run (Make n) h in absurd cc
+no_word false false true d e f n h = let is : Show ≡ Make n = some_is Show (Make n) h in absurd cc
+no_word false false false true e f n h = let is : Update ≡ Make n = some_is Update (Make n) h in absurd cc
+no_word false false false false true f n h = let is : Trail ≡ Make n = some_is Trail (Make n) h in absurd cc
+no_word false false false false false true n h = let is : Audit ≡ Make n = some_is Audit (Make n) h in absurd cc
+no_word false false false false false false n h = absurd cc
 
 made_within : (k n : ℕ) (b : Bool) → is_input_count k ≡ b → made_by b k ≡ Some (Make n) → IsWithin 1 20000 n
 made_within k n false is h = absurd cc
@@ -62,7 +61,7 @@ word_within true word operand n h = number_within (decimal_of operand) n h
 word_within false word operand n h = by (is_base operand) h
   where
     by : (b : Bool) → over_base b word ≡ Some (Make n) → IsWithin 1 20000 n
-    by true h = absurd (no_word (same word (codes "gen")) (same word (codes "run")) (same word (codes "show")) (same word (codes "update")) n h)
+    by true h = absurd (no_word (same word (codes "gen")) (same word (codes "run")) (same word (codes "show")) (same word (codes "update")) (same word (codes "trail")) (same word (codes "audit")) n h)
     by false h = absurd cc
 
 pub request_within : (words : List (List ℕ)) (n : ℕ) (operand : List ℕ) → Request words (Make n) operand → IsWithin 1 20000 n
@@ -84,19 +83,19 @@ module _ (taken : MadeTextsAreTaken) where
       units = units_text;
       text = script_text n;
       there = record { definition_is = refl; units_is = refl; script_is = refl };
-      says = (refl, taken.application, refl, taken.script n (request_within words n operand requested));
+      says = (refl, taken.application, refl, refl, (taken.script n (request_within words n operand requested), refl));
     };
   }
 
-  module _ (word : Word) (n : ℕ) (within : IsWithin 1 20000 n) (d u s : List ℕ) (made : AreMade n d u s) where
+  module _ (word : Word) (runs : audits word ≡ false) (n : ℕ) (within : IsWithin 1 20000 n) (d u s : List ℕ) (made : AreMade n d u s) where
     abbrev errand : Errand
-    errand = record { word = word; application = generated_application; fingerprint = print_of d u; commands = made_script n }
+    errand = record { word = word; application = generated_application; fingerprint = print_of d u; commands = made_script n; trail = None }
 
     generated : TextsGenerate d u generated_application
     generated = subst (λ (x : List ℕ). TextsGenerate x u generated_application) (sym made.definition_is) (subst (λ (x : List ℕ). TextsGenerate definition_text x generated_application) (sym made.units_are) taken.application)
 
     says : AskFor word d u s (Ok errand)
-    says = (refl, generated, refl, ap (script_in generated_application.generation) made.script_is ∙ taken.script n within)
+    says = (refl, generated, refl, refl, subst (λ (audit : Bool). ThirdAsks audit generated_application (print_of d u) s (made_script n) None) (sym runs) (ap (script_in generated_application.generation) made.script_is ∙ taken.script n within, refl))
 
     -- they are not refused where they say one thing alone
     pub not_refused : (why : Refusal) → ((said : Reading) → AskFor word d u s said → said ≡ Err why) → ⊥
@@ -110,11 +109,8 @@ room_not_refused T (Err x) room.Memory why gives is = absurd (let no : error.Mem
 
 -- ---- its status
 
-pub looks_not : (word : Word) (n : ℕ) → word ≡ Make n → IsOverFile word → ⊥
-looks_not word n is looks = subst (λ (w : Word). IsOverFile w) is looks
-
-pub not_of_file : (code : ℕ) → IsOneOf (0 ∷ 4 ∷ 5 ∷ 7 ∷ []) code → (code ≡ 4 → ⊥) → IsOneOf (0 ∷ 5 ∷ 7 ∷ []) code
-not_of_file code h not_four = grind (arith, nat_tests)
+pub looks_not : (word : Word) (n : ℕ) → word ≡ Make n → IsOfBase word → ⊥
+looks_not word n is looks = subst (λ (w : Word). IsOfBase w) is looks
 
 pub asked_make : (words : List (List ℕ)) (word : Word) (base : List ℕ) (n : ℕ) (operand : List ℕ) → Request words word base → Request words (Make n) operand → word ≡ Make n
 asked_make words word base n operand h k =

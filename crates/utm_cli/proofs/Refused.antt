@@ -1,6 +1,7 @@
 -- A file is accepted, or refused for one reason; and how a reason is handed on.
-use Rattle.std.proofs.Common.{◌≡◌, ◌⊎◌, inl, inr, ⊎_elim, ℕ, List, refl, sym, ap, subst, ◌∙◌}
+use Rattle.std.proofs.Common.{◌≡◌, ◌⊎◌, inl, inr, ⊎_elim, ℕ, List, length, refl, sym, ap, subst, ◌∙◌}
 use Rattle.std.specs.Prelude.{Result, Err, IsErrAnd, IsErrOf}
+use Rattle.std.proofs.lemmas.Option.{same_Some}
 use Rattle.kd_base.specs.ToolsLaws.{err_is, error_same}
 use Rattle.kd_update.specs.declared.error.UpdateError.{UpdateError}
 use Rattle.kd_update.specs.declared.error.UpdateError.TheVariants as cause
@@ -17,10 +18,15 @@ use Rattle.refusals.specs.declared.error.FileRefusal.TheVariants as why
 use Rattle.utm_cli.specs.declared.error.CallError.{CallError}
 use Rattle.utm_cli.specs.declared.error.CallError.TheVariants.{Refused}
 use Rattle.utm_cli.specs.declared.words.Word.{Word}
-use Rattle.utm_cli.specs.declared.words.Word.TheVariants.{Gen, Run, Show, Update, Make}
-use Rattle.utm_cli.specs.Asking.{Errand}
+use Rattle.utm_cli.specs.declared.words.Word.TheVariants.{Gen, Run, Show, Update, Trail, Audit, Make}
+use Rattle.audit_trail.specs.declared.entry.Trail.{Trail as Kept}
+use Rattle.trail_words.specs.Auditing.{IsJudged, TrailsAreJudgedOnce}
+use Rattle.trail_words.specs.declared.verdict.Verdict.{Verdict}
+use Rattle.trail_words.specs.declared.verdict.Verdict.TheVariants.{Holds, Differs}
+use Rattle.utm_cli.specs.Asking.{Errand, app_of}
+use Rattle.utm_cli.specs.Parts.{Finds}
 use Rattle.utm_cli.specs.Causes.{of_open, of_carry}
-use Rattle.utm_cli.specs.Doing.{OpensWith, OpeningRefuses, UpdateTakes, UpdateRefuses, StartsBy, Starts, RefusesBy, Refuses}
+use Rattle.utm_cli.specs.Doing.{OpensWith, OpeningRefuses, UpdateTakes, UpdateRefuses, HoldsAll, AuditRefuses, StartsBy, Starts, RefusesBy, Refuses}
 
 -- ---- a file is answered in one way
 
@@ -32,6 +38,7 @@ cause_of (why.OtherBlksize n) = cause.OtherBlksize n
 cause_of (why.SmallerPool n) = cause.SmallerPool n
 cause_of (why.TooManyGssbs n) = cause.TooManyGssbs n
 cause_of (why.TooLarge n) = cause.TooLarge n
+cause_of (why.Differs n) = cause.Memory
 
 abbrev reason_of : UpdateError → FileRefusal
 reason_of cause.NotKdcfile = why.NotKdcfile
@@ -41,7 +48,7 @@ reason_of (cause.TooManyGssbs n) = why.TooManyGssbs n
 reason_of (cause.TooLarge n) = why.TooLarge n
 reason_of cause.Memory = why.NotKdcfile
 
-module _ (e : Errand) (bytes : List ℕ) where
+module _ (once : TrailsAreJudgedOnce) (e : Errand) (bytes : List ℕ) where
   answer : HasOneAnswer e.application.generation e.fingerprint bytes
   answer = answers_exclude_each_other e.application.generation e.fingerprint bytes
 
@@ -59,6 +66,7 @@ module _ (e : Errand) (bytes : List ℕ) where
   either (why.SmallerPool n) h = absurd h
   either (why.TooManyGssbs n) h = absurd h
   either (why.TooLarge n) h = absurd h
+  either (why.Differs n) h = absurd h
 
   opened_or_refused : (s : Stored) (r : FileRefusal) → OpensWith e bytes s → OpeningRefuses e bytes r → ⊥
   opened_or_refused s r opens refuses =
@@ -81,6 +89,7 @@ module _ (e : Errand) (bytes : List ℕ) where
   judged (why.SmallerPool n) h = (h, refl)
   judged (why.TooManyGssbs n) h = (h, refl)
   judged (why.TooLarge n) h = (h, refl)
+  judged (why.Differs n) h = absurd h
 
   taken_or_refused : (s : Stored) (r : FileRefusal) → UpdateTakes e bytes s → UpdateRefuses e bytes r → ⊥
   taken_or_refused s r takes refuses = judgement.taken_or_refused s (cause_of r) takes (judged r refuses).0
@@ -91,11 +100,42 @@ module _ (e : Errand) (bytes : List ℕ) where
       let second = judged q k in
       sym first.1 ∙ ap reason_of (judgement.refused_once (cause_of r) (cause_of q) first.0 second.0) ∙ second.1
 
+  found_once : (one other : Verdict) → Finds e one → Finds e other → one ≡ other
+  found_once one other h k =
+      let same : h.0 ≡ k.0 = same_Some h.0 k.0 (sym h.1 ∙ k.1) in
+      once (app_of e) k.0 one other (subst (λ (t : Kept). IsJudged (app_of e) t one) same h.2) k.2
+
+  -- the number of an entry that differs, and back
+  differing : (r : FileRefusal) → AuditRefuses e r → (n : ℕ) × Finds e (Differs n) × (why.Differs n ≡ r)
+  differing why.NotKdcfile h = absurd h
+  differing (why.OtherGeneration stored) h = absurd h
+  differing (why.OtherBlksize n) h = absurd h
+  differing (why.SmallerPool n) h = absurd h
+  differing (why.TooManyGssbs n) h = absurd h
+  differing (why.TooLarge n) h = absurd h
+  differing (why.Differs n) h = (n, h, refl)
+
+  pub holds_or_differs : (s : Stored) (r : FileRefusal) → HoldsAll e s → AuditRefuses e r → ⊥
+  holds_or_differs s r h refuses =
+      let d = differing r refuses in
+      let no : Holds (length h.trail.entries) ≡ Differs d.0 = found_once (Holds (length h.trail.entries)) (Differs d.0) (h.trail, h.is, (h.holds, refl)) d.1 in
+      cc
+
+  differs_once : (r q : FileRefusal) → AuditRefuses e r → AuditRefuses e q → r ≡ q
+  differs_once r q h k =
+      let first = differing r h in
+      let second = differing q k in
+      let one : Differs first.0 ≡ Differs second.0 = found_once (Differs first.0) (Differs second.0) first.1 second.1 in
+      let number : first.0 ≡ second.0 = cc in
+      sym first.2 ∙ ap (λ (n : ℕ). why.Differs n) number ∙ second.2
+
   not_both_by : (word : Word) (s : Stored) (r : FileRefusal) → StartsBy word e bytes s → RefusesBy word e bytes r → ⊥
   not_both_by Gen s r starts refuses = opened_or_refused s r starts refuses
   not_both_by Run s r starts refuses = opened_or_refused s r starts refuses
   not_both_by Show s r starts refuses = opened_or_refused s r starts refuses
   not_both_by Update s r starts refuses = taken_or_refused s r starts refuses
+  not_both_by Trail s r starts refuses = opened_or_refused s r starts refuses
+  not_both_by Audit s r starts refuses = holds_or_differs s r starts refuses
   not_both_by (Make n) s r starts refuses = refuses
 
   one_reason_by : (word : Word) (r q : FileRefusal) → RefusesBy word e bytes r → RefusesBy word e bytes q → r ≡ q
@@ -103,6 +143,8 @@ module _ (e : Errand) (bytes : List ℕ) where
   one_reason_by Run r q h k = refused_once r q h k
   one_reason_by Show r q h k = refused_once r q h k
   one_reason_by Update r q h k = judged_once r q h k
+  one_reason_by Trail r q h k = refused_once r q h k
+  one_reason_by Audit r q h k = differs_once r q h k
   one_reason_by (Make n) r q h k = absurd h
 
   pub not_both : (s : Stored) (r : FileRefusal) → Starts e bytes s → Refuses e bytes r → ⊥

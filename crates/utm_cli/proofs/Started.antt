@@ -1,5 +1,5 @@
 -- Tables that a call starts from, and the laws of its script.
-use Rattle.std.proofs.Common.{inl, inr, List, [], refl, sym, ap, subst}
+use Rattle.std.proofs.Common.{◌≡◌, inl, inr, true, List, [], refl, sym, ap, subst}
 use Rattle.std.specs.Prelude.{ℕ}
 use Rattle.kdcs_types.specs.RowLaws.{empty_sorted}
 use Rattle.kdcs_types.specs.Tables.{TableRows, IsSortedTables}
@@ -16,10 +16,12 @@ use Rattle.laws_of_jobs.specs.SerialCuts.{CutsAreSerial}
 use Rattle.kdcdef_check.specs.Soundness.{AreLimits}
 use Rattle.kdcfile_update.specs.Laws.{TakenTablesSuit}
 use Rattle.kdcfile_update.specs.Updating.{Stored}
-use Rattle.utm_cli.specs.Asking.{Errand, CanRun, app_of}
+use Rattle.audit_trail.specs.Facts.{IsTrail}
+use Rattle.utm_cli.specs.Asking.{Errand, CanBeAudited, CanRun, app_of}
+use Rattle.utm_cli.specs.Words.{audits}
 use Rattle.utm_cli.specs.Doing.{Opens, StartsBy, Starts, tables_by, tables_of}
 use Rattle.utm_cli.specs.declared.words.Word.{Word}
-use Rattle.utm_cli.specs.declared.words.Word.TheVariants.{Gen, Run, Show, Update, Make}
+use Rattle.utm_cli.specs.declared.words.Word.TheVariants.{Gen, Run, Show, Update, Trail, Audit, Make}
 use Rattle.utm_cli.specs.Promise.{RunsLawfully}
 use Rattle.laws_of_tables.specs.EndsLaws.{durable_same}
 
@@ -27,18 +29,23 @@ opened : (e : Errand) (bytes : List ℕ) (t : TableRows) → Opens e bytes t →
 opened e bytes t (inl (empty, is)) = (subst IsSortedTables (sym is) empty_sorted, subst (Suits e.application.generation) (sym is) (empty_suit e.application.generation))
 opened e bytes t (inr (stands, suits)) = (stands.tables.sorted, suits)
 
-suited_by : (word : Word) (e : Errand) → TakenTablesSuit → AreLimits e.application.generation.limits → (bytes : List ℕ) (s : Stored) → StartsBy word e bytes s → IsSortedTables (tables_by word e s) × Suits e.application.generation (tables_by word e s)
-suited_by Gen e taken limits bytes s starts = opened e bytes s.tables starts.opens
-suited_by Run e taken limits bytes s starts = opened e bytes s.tables starts.opens
-suited_by Show e taken limits bytes s starts = opened e bytes s.tables starts.opens
-suited_by Update e taken limits bytes s takes = let on = taken e.application.generation e.fingerprint bytes s limits takes in (on.tables.sorted, on.suits)
-suited_by (Make n) e taken limits bytes s is = opened e [] s.tables (inl (refl, ap (λ (x : Stored). x.tables) is))
+suited_by : (word : Word) (e : Errand) → CanBeAudited (audits word) e.application e.trail → TakenTablesSuit → AreLimits e.application.generation.limits → (bytes : List ℕ) (s : Stored) → StartsBy word e bytes s → IsSortedTables (tables_by word e s) × Suits e.application.generation (tables_by word e s)
+suited_by Gen e trail taken limits bytes s starts = opened e bytes s.tables starts.opens
+suited_by Run e trail taken limits bytes s starts = opened e bytes s.tables starts.opens
+suited_by Show e trail taken limits bytes s starts = opened e bytes s.tables starts.opens
+suited_by Update e trail taken limits bytes s takes = let on = taken e.application.generation e.fingerprint bytes s limits takes in (on.tables.sorted, on.suits)
+suited_by Trail e trail taken limits bytes s starts = opened e bytes s.tables starts.opens
+suited_by Audit e trail taken limits bytes s holds =
+    let there : IsTrail holds.trail × Suits e.application.generation holds.trail.start = subst (CanBeAudited true e.application) holds.is trail in
+    let is : s.tables ≡ holds.trail.start = ap (λ (x : Stored). x.tables) holds.start in
+    (subst IsSortedTables (sym is) there.0.sorted, subst (Suits e.application.generation) (sym is) there.1)
+suited_by (Make n) e trail taken limits bytes s is = opened e [] s.tables (inl (refl, ap (λ (x : Stored). x.tables) is))
 
 pub runs_lawfully : (e : Errand) → CanRun e → AreLimits e.application.generation.limits → TakenTablesSuit → StartsHaveFacts → RunsAreLawful → RunsKeepAccess → LocksMakeTheRule → JobsAreDoneOnce → CutsResume → CutsAreSerial → AllRunsKeepJobs
     → (bytes : List ℕ) (s : Stored) → Starts e bytes s → RunsLawfully (app_of e) (tables_of e s) e.commands
 runs_lawfully e can limits taken facts lawful access ruleless once resume serial runs bytes s starts =
     let t = tables_of e s in
-    let there = suited_by e.word e taken limits bytes s starts in
+    let there = suited_by e.word e can.trail taken limits bytes s starts in
     record {
       lasting = durable_same e.application.generation t there.1;
       steps = lawful (app_of e) t e.commands can.applies can.names there.0 there.1;

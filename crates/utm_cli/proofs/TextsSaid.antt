@@ -1,9 +1,10 @@
 -- What the texts of a call say, where one longer than the limit is cut off.
-use Rattle.std.proofs.Common.{◌≡◌, ◌≢◌, ◌⊎◌, inl, inr, ⊎_elim, ℕ, ◌<◌, ◌≤◌, true, List, length, Option, Some, None, Result, Ok, Err, refl, sym, ap, subst, ◌∙◌, arith}
-use Rattle.std.specs.Prelude.{nat_lt, IsSomeAnd, IsErrOf, IsErrAnd, IfOk}
+use Rattle.std.proofs.Common.{◌≡◌, ◌≢◌, ◌⊎◌, inl, inr, ⊎_elim, ℕ, ◌<◌, ◌≤◌, Bool, true, false, List, [], length, Option, Some, None, Result, Ok, Err, refl, sym, ap, subst, ◌∙◌, arith}
+use Rattle.std.specs.Prelude.{nat_lt, IsSomeAnd, IsErrOf, IsErrAnd, IfOk, IfErr}
 use Rattle.std.proofs.lemmas.List.{take_all, length-take}
 use Rattle.std.proofs.lemmas.Bool.Decides.{nat_tests}
-use Rattle.kd_base.specs.ToolsLaws.{err_is}
+use Rattle.kd_base.specs.ToolsLaws.{err_is, ok_is}
+use Rattle.laws_of_steps.specs.Suits.{Suits}
 use Rattle.kd_device.specs.Room.{RoomState, text_of}
 use Rattle.kd_device.specs.declared.error.DeviceError.{DeviceError}
 use Rattle.kd_device.specs.declared.error.DeviceError.TheVariants as room
@@ -26,17 +27,21 @@ use Rattle.warm_start.specs.Fingerprints.{fingerprint as print_of}
 use Rattle.script_read.specs.declared.fault.ScriptFault.{ScriptFault}
 use Rattle.script_read.specs.declared.fault.ScriptFault.TheVariants as fault
 use Rattle.script_read.specs.Commands.{script_in}
+use Rattle.audit_trail.specs.declared.entry.Trail.{Trail as Kept}
+use Rattle.audit_trail.specs.declared.fault.TrailFault.{TrailFault}
+use Rattle.audit_trail.specs.declared.fault.TrailFault.TheVariants as trail
+use Rattle.audit_trail.specs.Laws.{NoOtherFaults}
+use Rattle.audit_trail.specs.Places.{trail_in}
 use Rattle.refusals.specs.declared.error.Refusal.{Refusal}
-use Rattle.refusals.specs.declared.error.Refusal.TheVariants.{Application, Script}
+use Rattle.refusals.specs.declared.error.Refusal.TheVariants.{Application, Double, Script, Trail as TrailRefused}
 use Rattle.refusals.specs.declared.error.TextError.{TextError}
 use Rattle.refusals.specs.declared.error.TextError.TheVariants as error
 use Rattle.utm_cli.specs.declared.words.Word.{Word}
-use Rattle.utm_cli.specs.declared.words.Word.TheVariants.{Gen, Run, Show, Update, Make}
-use Rattle.refusals.specs.Causes.{of_room, of_application, of_fault}
-use Rattle.utm_cli.specs.Words.{definition_name, units_name, script_name}
-use Rattle.utm_cli.specs.Doing.{IsOverFile}
+use Rattle.utm_cli.specs.declared.words.Word.TheVariants.{Gen, Run, Show, Update, Trail, Audit, Make}
+use Rattle.refusals.specs.Causes.{of_room, of_application, of_fault, of_trail}
+use Rattle.utm_cli.specs.Words.{IsOfBase, audits, definition_name, units_name, script_name, trail_name}
 use Rattle.refusals.specs.Texts.{shown_of}
-use Rattle.utm_cli.specs.Asking.{IsLong, AreAlike, Reading, AskFor, TextIs, ScriptIs, WereRead, ReadsFor}
+use Rattle.utm_cli.specs.Asking.{Errand, IsLong, AreAlike, Reading, SaysTrail, IsOfOthers, StartsElsewhere, HasTrailFault, ThirdAsks, ThirdRefuses, AskFor, TextIs, ScriptIs, WereRead, ReadsFor}
 use Rattle.std.proofs.lemmas.Option.{same_Some}
 
 -- ---- texts longer than the limit
@@ -63,6 +68,33 @@ long_script g text h = let e : nat_lt 16777216 (length text) ≡ true = too_long
 alike_script : (g : Generated) (s t : List ℕ) → AreAlike s t → script_in g s ≡ script_in g t
 alike_script g s t (inl same) = ap (script_in g) same
 alike_script g s t (inr long) = long_script g s long.0 ∙ sym (long_script g t long.1)
+
+long_trail : (text : List ℕ) → IsLong text → trail_in text ≡ Err trail.TooLong
+long_trail text h = let e : nat_lt 16777216 (length text) ≡ true = too_long (length text) h in rw e refl
+
+alike_trail : (s t : List ℕ) → AreAlike s t → trail_in t ≡ trail_in s
+alike_trail s t (inl same) = ap trail_in (sym same)
+alike_trail s t (inr long) = long_trail t long.1 ∙ sym (long_trail s long.0)
+
+module _ (s t : List ℕ) (alike : AreAlike s t) where
+  alike_asks : (audit : Bool) (a : Made) (p : List ℕ) (commands : List Command) (kept : Option Kept) → ThirdAsks audit a p s commands kept → ThirdAsks audit a p t commands kept
+  alike_asks false a p commands kept asks = (sym (alike_script a.generation s t alike) ∙ asks.0, asks.1)
+  alike_asks true a p commands kept asks = let there = asks.1 in (asks.0, (there.0, there.1, record { says = alike_trail s t alike ∙ there.2.says; own_texts = there.2.own_texts; suits = there.2.suits }))
+
+  alike_trail_fault : (a : Made) (p q : List ℕ) → p ≡ q → (f : TrailFault) → HasTrailFault a p s f → HasTrailFault a q t f
+  alike_trail_fault a p q same (trail.BadLine n) h = alike_trail s t alike ∙ h
+  alike_trail_fault a p q same trail.TooLong h = alike_trail s t alike ∙ h
+  alike_trail_fault a p q same (trail.OtherGeneration n) h = let others = h.1 in (h.0, (others.0, alike_trail s t alike ∙ others.1, λ is. others.2 (is ∙ sym same)))
+  alike_trail_fault a p q same (trail.NotSuited n) h = let start = h.1 in (h.0, (start.0, alike_trail s t alike ∙ start.1, start.2 ∙ same, start.3))
+  alike_trail_fault a p q same trail.Memory h = absurd h
+
+  alike_refuses : (audit : Bool) (a : Made) (p q : List ℕ) → p ≡ q → (why : Refusal) → ThirdRefuses audit a p s why → ThirdRefuses audit a q t why
+  alike_refuses audit a p q same (Application f) h = absurd h
+  alike_refuses audit a p q same (Double line) h = absurd h
+  alike_refuses false a p q same (Script f) h = sym (alike_script a.generation s t alike) ∙ h
+  alike_refuses true a p q same (Script f) h = absurd h
+  alike_refuses false a p q same (TrailRefused f) h = absurd h
+  alike_refuses true a p q same (TrailRefused f) h = alike_trail_fault a p q same f h
 
 long_generates : (text : List ℕ) (g : Generated) → IsLong text → Generates text g → ⊥
 long_generates text g long h = absurd (omega (arith, long, h.1.1.0))
@@ -116,9 +148,11 @@ module _ (d e u v : List ℕ) (alike : AreAlike d e) (alike_too : AreAlike u v) 
 
   ask_alike : (word : Word) (s t : List ℕ) → AreAlike s t → (said : Reading) → AskFor word d u s said → AskFor word e v t said
   ask_alike word s t same (Ok errand) h =
-      (h.0, alike_made errand.application h.1, h.2 ∙ sym (alike_print errand.application h.1), sym (alike_script errand.application.generation s t same) ∙ h.3)
+      (h.0, alike_made errand.application h.1, h.2, h.3 ∙ sym (alike_print errand.application h.1), alike_asks s t same (audits word) errand.application errand.fingerprint errand.commands errand.trail h.4)
   ask_alike word s t same (Err (Application f)) h = alike_refused f h
-  ask_alike word s t same (Err (Script f)) h = (h.0, alike_made h.0 h.1, sym (alike_script h.0.generation s t same) ∙ h.2)
+  ask_alike word s t same (Err (Double line)) h = (h.0, alike_made h.0 h.1, h.2)
+  ask_alike word s t same (Err (Script f)) h = (h.0, alike_made h.0 h.1, h.2, alike_refuses s t same (audits word) h.0 (print_of d u) (print_of e v) (sym (alike_print h.0 h.1)) (Script f) h.3)
+  ask_alike word s t same (Err (TrailRefused f)) h = (h.0, alike_made h.0 h.1, h.2, alike_refuses s t same (audits word) h.0 (print_of d u) (print_of e v) (sym (alike_print h.0 h.1)) (TrailRefused f) h.3)
 
 -- ---- texts in a room
 
@@ -133,20 +167,31 @@ script_there Show base r k s same h = h
 script_there Update base r k s same h = h
 script_there (Make n) base r k s same h = h
 script_there Run base r k s same h = subst (λ (texts : List (List ℕ × List ℕ)). text_of (script_name base) texts ≡ Some s) same h
+script_there Trail base r k s same h = subst (λ (texts : List (List ℕ × List ℕ)). text_of (script_name base) texts ≡ Some s) same h
+script_there Audit base r k s same h = subst (λ (texts : List (List ℕ × List ℕ)). text_of (trail_name base) texts ≡ Some s) same h
+
+-- a word that has a script
+pub script_of : (word : Word) → (word ≡ Run) ⊎ (word ≡ Trail) → (base : List ℕ) (r : RoomState) (s : List ℕ) → text_of (script_name base) r.texts ≡ Some s → ScriptIs word base r s
+script_of word (inl is) base r s h = subst (λ (w : Word). ScriptIs w base r s) (sym is) h
+script_of word (inr is) base r s h = subst (λ (w : Word). ScriptIs w base r s) (sym is) h
 
 one_script : (word : Word) (base : List ℕ) (r : RoomState) (s t : List ℕ) → ScriptIs word base r s → ScriptIs word base r t → s ≡ t
 one_script Gen base r s t h k = h ∙ sym k
 one_script Run base r s t h k = same_Some s t (sym h ∙ k)
 one_script Show base r s t h k = h ∙ sym k
 one_script Update base r s t h k = h ∙ sym k
+one_script Trail base r s t h k = same_Some s t (sym h ∙ k)
+one_script Audit base r s t h k = same_Some s t (sym h ∙ k)
 one_script (Make n) base r s t h k = h ∙ sym k
 
 -- the other texts of a word, in the room
-text_is : (word : Word) → IsOverFile word → (r : RoomState) (name : List ℕ) (made : ℕ → List ℕ) (s : List ℕ) → text_of name r.texts ≡ Some s → TextIs word r name made s
+text_is : (word : Word) → IsOfBase word → (r : RoomState) (name : List ℕ) (made : ℕ → List ℕ) (s : List ℕ) → text_of name r.texts ≡ Some s → TextIs word r name made s
 text_is Gen over r name made s h = h
 text_is Run over r name made s h = h
 text_is Show over r name made s h = h
 text_is Update over r name made s h = h
+text_is Trail over r name made s h = h
+text_is Audit over r name made s h = h
 text_is (Make n) over r name made s h = absurd over
 
 one_text : (word : Word) (r : RoomState) (name : List ℕ) (made : ℕ → List ℕ) (s t : List ℕ) → TextIs word r name made s → TextIs word r name made t → s ≡ t
@@ -154,10 +199,12 @@ one_text Gen r name made s t h k = same_Some s t (sym h ∙ k)
 one_text Run r name made s t h k = same_Some s t (sym h ∙ k)
 one_text Show r name made s t h k = same_Some s t (sym h ∙ k)
 one_text Update r name made s t h k = same_Some s t (sym h ∙ k)
+one_text Trail r name made s t h k = same_Some s t (sym h ∙ k)
+one_text Audit r name made s t h k = same_Some s t (sym h ∙ k)
 one_text (Make n) r name made s t h k = h ∙ sym k
 
 -- three reads after one another: k is the room after the first, l the one after the second
-pub were_read : (word : Word) → IsOverFile word → (base : List ℕ) (r k l : RoomState) (d u s : List ℕ) → k.texts ≡ r.texts → l.texts ≡ k.texts → IsSomeAnd (text_of (definition_name base) r.texts) (λ whole. d ≡ shown_of whole) → IsSomeAnd (text_of (units_name base) k.texts) (λ whole. u ≡ shown_of whole)
+pub were_read : (word : Word) → IsOfBase word → (base : List ℕ) (r k l : RoomState) (d u s : List ℕ) → k.texts ≡ r.texts → l.texts ≡ k.texts → IsSomeAnd (text_of (definition_name base) r.texts) (λ whole. d ≡ shown_of whole) → IsSomeAnd (text_of (units_name base) k.texts) (λ whole. u ≡ shown_of whole)
     → (whole : List ℕ) × ScriptIs word base l whole × (s ≡ shown_of whole) → WereRead word base r d u s
 were_read word over base r k l d u s same same_too definition units text =
     let whole = some_and (text_of (definition_name base) r.texts) (λ whole. d ≡ shown_of whole) definition in
@@ -220,6 +267,9 @@ application_is T (Err x) (application.Units f) why gives is = (λ e. cc, cc)
 application_is T (Err x) (application.Fit f) why gives is = (λ e. cc, cc)
 application_is T (Err x) application.Memory why gives is = absurd (let h : error.Memory ≡ error.Refused why = cc in cc)
 
+pub double_is : (T : Type 0) (line : ℕ) (why : Refusal) → IsErrOf {T = T} (Err (error.Refused (Double line))) (error.Refused why) → Double line ≡ why
+double_is T line why is = cc
+
 pub script_is : (T : Type 0) (r : Result T TextError) (e : ScriptFault) (why : Refusal) → IsErrAnd r (λ x. x ≡ of_fault e) → IsErrOf r (error.Refused why) → (e ≢ fault.Memory) × (Script e ≡ why)
 script_is T (Ok v) e why gives is = absurd gives
 script_is T (Err x) (fault.BadLine n) why gives is = (λ e. cc, cc)
@@ -233,6 +283,22 @@ script_never_room T (Err x) (fault.BadLine n) gives is = cc
 script_never_room T (Err x) (fault.OutOfRange n) gives is = cc
 script_never_room T (Err x) fault.TooLong gives is = cc
 script_never_room T (Err x) fault.Memory gives is = cc
+
+pub trail_is : (T : Type 0) (r : Result T TextError) (e : TrailFault) (why : Refusal) → IsErrAnd r (λ x. x ≡ of_trail e) → IsErrOf r (error.Refused why) → (e ≢ trail.Memory) × (TrailRefused e ≡ why)
+trail_is T (Ok v) e why gives is = absurd gives
+trail_is T (Err x) (trail.BadLine n) why gives is = (λ e. cc, cc)
+trail_is T (Err x) trail.TooLong why gives is = (λ e. cc, cc)
+trail_is T (Err x) (trail.OtherGeneration n) why gives is = (λ e. cc, cc)
+trail_is T (Err x) (trail.NotSuited n) why gives is = (λ e. cc, cc)
+trail_is T (Err x) trail.Memory why gives is = absurd (let h : error.Memory ≡ error.Refused why = cc in cc)
+
+pub trail_never_room : (T : Type 0) (r : Result T TextError) (e : TrailFault) → IsErrAnd r (λ x. x ≡ of_trail e) → IsErrOf r error.Room → ⊥
+trail_never_room T (Ok v) e gives is = absurd gives
+trail_never_room T (Err x) (trail.BadLine n) gives is = cc
+trail_never_room T (Err x) trail.TooLong gives is = cc
+trail_never_room T (Err x) (trail.OtherGeneration n) gives is = cc
+trail_never_room T (Err x) (trail.NotSuited n) gives is = cc
+trail_never_room T (Err x) trail.Memory gives is = cc
 
 -- a fault that is not want of memory is the answer
 refused_as : (e : ApplicationFault) → e ≢ application.Memory → (wanted : Result Made ApplicationFault) → Gives (Err e) wanted → wanted ≡ Err e
@@ -255,7 +321,9 @@ module _ (word : Word) (d u s : List ℕ) (e : ApplicationFault) (some : e ≢ a
   application_one (Err (Application f)) h =
       let is : f ≡ e = err_is Made f e (refused_as e some (Err f) (refused f h)) in
       ap (λ (k : ApplicationFault). said_refused (Application k)) is
+  application_one (Err (Double line)) h = absurd (not_generated h.0 h.1)
   application_one (Err (Script f)) h = absurd (not_generated h.0 h.1)
+  application_one (Err (TrailRefused f)) h = absurd (not_generated h.0 h.1)
 
 -- ---- they make an application
 
@@ -263,37 +331,162 @@ module _ (word : Word) (d u s : List ℕ) (e : ApplicationFault) (some : e ≢ a
 pub made_fit : (d u : List ℕ) (a : Made) → TextsGenerate d u a → IsFit a.generation a.units
 made_fit d u a h = record { limits = h.1.2.limits; tacs = h.1.2.tacs }
 
-pub script_refused : (word : Word) (d u s : List ℕ) (made : Made) → TextsGenerate d u made → (e : ScriptFault) (why : Refusal) → Script e ≡ why → script_in made.generation s ≡ Err e → AskFor word d u s (Err why)
-script_refused word d u s made generates e why same is = subst (λ (w : Refusal). AskFor word d u s (Err w)) same (made, generates, is)
+-- a trail is refused as a text, or for its fingerprint, or for its tables at the start
+abbrev IsOneFault : Made → (fingerprint text : List ℕ) → TrailFault → Type 0
+IsOneFault a fingerprint text f = (trail_in text ≡ Err f) ⊎ (IsOfOthers fingerprint text × (trail.OtherGeneration 1 ≡ f)) ⊎ (StartsElsewhere a fingerprint text × (trail.NotSuited 2 ≡ f))
+
+module _ (a : Made) (print s : List ℕ) where
+  one_fault : (f : TrailFault) → HasTrailFault a print s f → IsOneFault a print s f
+  one_fault (trail.BadLine n) h = inl h
+  one_fault trail.TooLong h = inl h
+  one_fault (trail.OtherGeneration n) h = inr (inl (h.1, ap (λ (k : ℕ). trail.OtherGeneration k) (sym h.0)))
+  one_fault (trail.NotSuited n) h = inr (inr (h.1, ap (λ (k : ℕ). trail.NotSuited k) (sym h.0)))
+  one_fault trail.Memory h = absurd h
+
+  same_trail : (t v : Kept) → trail_in s ≡ Ok t → trail_in s ≡ Ok v → t ≡ v
+  same_trail t v h k = ok_is TrailFault t v (sym h ∙ k)
+
+  no_trail : (f : TrailFault) (t : Kept) → trail_in s ≡ Err f → trail_in s ≡ Ok t → ⊥
+  no_trail f t h k = let no = sym h ∙ k in cc
+
+  others_or_own : (o : IsOfOthers print s) (t : Kept) → trail_in s ≡ Ok t → t.fingerprint ≡ print → ⊥
+  others_or_own o t says own = o.2 (ap (λ (k : Kept). k.fingerprint) (same_trail o.0 t o.1 says) ∙ own)
+
+  faults_once : (f g : TrailFault) → IsOneFault a print s f → IsOneFault a print s g → f ≡ g
+  faults_once f g (inl h) (inl k) = err_is Kept f g (sym h ∙ k)
+  faults_once f g (inl h) (inr (inl k)) = absurd (no_trail f k.0.0 h k.0.1)
+  faults_once f g (inl h) (inr (inr k)) = absurd (no_trail f k.0.0 h k.0.1)
+  faults_once f g (inr (inl h)) (inl k) = absurd (no_trail g h.0.0 k h.0.1)
+  faults_once f g (inr (inl h)) (inr (inl k)) = sym h.1 ∙ k.1
+  faults_once f g (inr (inl h)) (inr (inr k)) = absurd (others_or_own h.0 k.0.0 k.0.1 k.0.2)
+  faults_once f g (inr (inr h)) (inl k) = absurd (no_trail g h.0.0 k h.0.1)
+  faults_once f g (inr (inr h)) (inr (inl k)) = absurd (others_or_own k.0 h.0.0 h.0.1 h.0.2)
+  faults_once f g (inr (inr h)) (inr (inr k)) = sym h.1 ∙ k.1
+
+  says_or_fault : (t : Kept) (f : TrailFault) → SaysTrail a print s t → IsOneFault a print s f → ⊥
+  says_or_fault t f h (inl k) = no_trail f t k h.says
+  says_or_fault t f h (inr (inl k)) = others_or_own k.0 t h.says h.own_texts
+  says_or_fault t f h (inr (inr k)) = k.0.3 (subst (λ (v : Kept). Suits a.generation v.start) (same_trail t k.0.0 h.says k.0.1) h.suits)
+
+  -- the third text says one thing
+  refuses_once : (audit : Bool) (r q : Refusal) → ThirdRefuses audit a print s r → ThirdRefuses audit a print s q → r ≡ q
+  refuses_once audit (Application f) q h k = absurd h
+  refuses_once audit r (Application g) h k = absurd k
+  refuses_once audit (Double line) q h k = absurd h
+  refuses_once audit r (Double line) h k = absurd k
+  refuses_once false (Script f) (Script g) h k = ap (λ (x : ScriptFault). Script x) (err_is (List Command) f g (sym h ∙ k))
+  refuses_once true (Script f) q h k = absurd h
+  refuses_once true r (Script g) h k = absurd k
+  refuses_once false (TrailRefused f) q h k = absurd h
+  refuses_once false r (TrailRefused g) h k = absurd k
+  refuses_once true (TrailRefused f) (TrailRefused g) h k = ap (λ (x : TrailFault). TrailRefused x) (faults_once f g (one_fault f h) (one_fault g k))
+
+  asks_or_refuses : (audit : Bool) (commands : List Command) (kept : Option Kept) (r : Refusal) → ThirdAsks audit a print s commands kept → ThirdRefuses audit a print s r → ⊥
+  asks_or_refuses audit commands kept (Application f) h k = k
+  asks_or_refuses audit commands kept (Double line) h k = k
+  asks_or_refuses false commands kept (Script f) h k = let no = sym k ∙ h.0 in cc
+  asks_or_refuses true commands kept (Script f) h k = k
+  asks_or_refuses false commands kept (TrailRefused f) h k = k
+  asks_or_refuses true commands kept (TrailRefused f) h k = let there = h.1 in says_or_fault there.0 f there.2 (one_fault f k)
+
+  asks_once : (audit : Bool) (c d : List Command) (t v : Option Kept) → ThirdAsks audit a print s c t → ThirdAsks audit a print s d v → (c ≡ d) × (t ≡ v)
+  asks_once false c d t v h k = (ok_is ScriptFault c d (sym h.0 ∙ k.0), h.1 ∙ sym k.1)
+  asks_once true c d t v h k =
+      let first = h.1 in
+      let second = k.1 in
+      let same : first.0 ≡ second.0 = same_trail first.0 second.0 first.2.says second.2.says in
+      (h.0 ∙ sym k.0, first.1 ∙ ap (λ (x : Kept). Some x) same ∙ sym second.1)
 
 module _ (word : Word) (d u s : List ℕ) (made : Made) (only : (a : Made) → TextsGenerate d u a → Gives (Ok made) (Ok a)) (refused : (f : ApplicationFault) → TextsHaveFault d u f → Gives (Ok made) (Err f)) where
   not_refused : (f : ApplicationFault) → TextsHaveFault d u f → ⊥
   not_refused f h = let no = refused f h in cc
 
-  -- what a script says in the one application
-  said_here : (a : Made) → TextsGenerate d u a → (said : Result (List Command) ScriptFault) → script_in a.generation s ≡ said → script_in made.generation s ≡ said
-  said_here a h said is = let same = only a h in let a_is : a ≡ made = cc in subst (λ (b : Made). script_in b.generation s ≡ said) a_is is
+  made_is : (a : Made) → TextsGenerate d u a → a ≡ made
+  made_is a h = let same = only a h in cc
 
-  pub script_one : (e : ScriptFault) → script_in made.generation s ≡ Err e → (said : Reading) → AskFor word d u s said → said ≡ Err (Script e)
-  script_one e is (Ok errand) h = absurd (let no = sym is ∙ said_here errand.application h.1 (Ok errand.commands) h.3 in cc)
-  script_one e is (Err (Application f)) h = absurd (not_refused f h)
-  script_one e is (Err (Script f)) h =
-      let same = sym (said_here h.0 h.1 (Err f) h.2) ∙ is in
-      let here : f ≡ e = cc in
-      ap (λ (k : ScriptFault). said_refused (Script k)) here
+  -- what the one application says of copies
+  copies_here : (a : Made) → TextsGenerate d u a → made.generation.double ≡ a.generation.double
+  copies_here a h = ap (λ (b : Made). b.generation.double) (sym (made_is a h))
 
-  pub asked_one : (print : List ℕ) → print ≡ print_of d u → (commands : List Command) → script_in made.generation s ≡ Ok commands → (said : Reading) → AskFor word d u s said → said ≡ Ok (record { word = word; application = made; fingerprint = print; commands = commands })
-  asked_one print told commands is (Ok errand) h =
-      let first = only errand.application h.1 in
-      let second = sym (said_here errand.application h.1 (Ok errand.commands) h.3) ∙ is in
-      let a_is : errand.application ≡ made = cc in
-      let c_is : errand.commands ≡ commands = cc in
-      let p_is : errand.fingerprint ≡ print = h.2 ∙ sym told in
-      λ i. Ok (record { word = h.0 i; application = a_is i; fingerprint = p_is i; commands = c_is i })
-  asked_one print told commands is (Err (Application f)) h = absurd (not_refused f h)
-  asked_one print told commands is (Err (Script f)) h = absurd (let no = sym (said_here h.0 h.1 (Err f) h.2) ∙ is in cc)
+  -- the KDCFILE is to be double
+  pub double_refused : TextsGenerate d u made → (line : ℕ) → made.generation.double ≡ Some line → AskFor word d u s (Err (Double line))
+  double_refused generates line is = (made, generates, is)
+
+  pub double_one : (line : ℕ) → made.generation.double ≡ Some line → (said : Reading) → AskFor word d u s said → said ≡ Err (Double line)
+  double_one line is (Ok e) h = absurd (let no = sym is ∙ copies_here e.application h.1 ∙ h.2 in cc)
+  double_one line is (Err (Application f)) h = absurd (not_refused f h)
+  double_one line is (Err (Double other)) h = ap (λ (k : ℕ). said_refused (Double k)) (same_Some other line (sym h.2 ∙ sym (copies_here h.0 h.1) ∙ is))
+  double_one line is (Err (Script f)) h = absurd (let no = sym is ∙ copies_here h.0 h.1 ∙ h.2 in cc)
+  double_one line is (Err (TrailRefused f)) h = absurd (let no = sym is ∙ copies_here h.0 h.1 ∙ h.2 in cc)
+
+  module _ (single : made.generation.double ≡ None) where
+    not_double : (a : Made) → TextsGenerate d u a → (line : ℕ) → a.generation.double ≡ Some line → ⊥
+    not_double a h line is = let no = sym single ∙ copies_here a h ∙ is in cc
+
+    -- what the third text says, in the one application
+    here : (a : Made) → TextsGenerate d u a → (r : Refusal) → ThirdRefuses (audits word) a (print_of d u) s r → ThirdRefuses (audits word) made (print_of d u) s r
+    here a h r refuses = subst (λ (b : Made). ThirdRefuses (audits word) b (print_of d u) s r) (made_is a h) refuses
+
+    asked_here : (e : Errand) → TextsGenerate d u e.application → e.fingerprint ≡ print_of d u → ThirdAsks (audits word) e.application e.fingerprint s e.commands e.trail → ThirdAsks (audits word) made (print_of d u) s e.commands e.trail
+    asked_here e h print asks =
+        subst (λ (b : Made). ThirdAsks (audits word) b (print_of d u) s e.commands e.trail) (made_is e.application h) (subst (λ (p : List ℕ). ThirdAsks (audits word) e.application p s e.commands e.trail) print asks)
+
+    -- it is refused
+    pub third_refused : TextsGenerate d u made → (r : Refusal) → ThirdRefuses (audits word) made (print_of d u) s r → AskFor word d u s (Err r)
+    third_refused generates (Application f) h = absurd h
+    third_refused generates (Double line) h = absurd h
+    third_refused generates (Script f) h = (made, generates, single, h)
+    third_refused generates (TrailRefused f) h = (made, generates, single, h)
+
+    pub refused_one : (r : Refusal) → ThirdRefuses (audits word) made (print_of d u) s r → (said : Reading) → AskFor word d u s said → said ≡ Err r
+    refused_one r is (Ok e) h = absurd (asks_or_refuses made (print_of d u) s (audits word) e.commands e.trail r (asked_here e h.1 h.3 h.4) is)
+    refused_one r is (Err (Application f)) h = absurd (not_refused f h)
+    refused_one r is (Err (Double line)) h = absurd (not_double h.0 h.1 line h.2)
+    refused_one r is (Err (Script f)) h = ap said_refused (refuses_once made (print_of d u) s (audits word) (Script f) r (here h.0 h.1 (Script f) h.3) is)
+    refused_one r is (Err (TrailRefused f)) h = ap said_refused (refuses_once made (print_of d u) s (audits word) (TrailRefused f) r (here h.0 h.1 (TrailRefused f) h.3) is)
+
+    -- it asks for something
+    pub asked_one : (print : List ℕ) → print ≡ print_of d u → (commands : List Command) (kept : Option Kept) → ThirdAsks (audits word) made print s commands kept
+        → (said : Reading) → AskFor word d u s said → said ≡ Ok (record { word = word; application = made; fingerprint = print; commands = commands; trail = kept })
+    asked_one print told commands kept asks (Ok e) h =
+        let same = asks_once made (print_of d u) s (audits word) e.commands commands e.trail kept (asked_here e h.1 h.3 h.4) (subst (λ (p : List ℕ). ThirdAsks (audits word) made p s commands kept) told asks) in
+        let print_is : e.fingerprint ≡ print = h.3 ∙ sym told in
+        let made_too = made_is e.application h.1 in
+        λ i. Ok (record { word = h.0 i; application = made_too i; fingerprint = print_is i; commands = same.0 i; trail = same.1 i })
+    asked_one print told commands kept asks (Err (Application f)) h = absurd (not_refused f h)
+    asked_one print told commands kept asks (Err (Double line)) h = absurd (not_double h.0 h.1 line h.2)
+    asked_one print told commands kept asks (Err (Script f)) h =
+        absurd (asks_or_refuses made (print_of d u) s (audits word) commands kept (Script f) (subst (λ (p : List ℕ). ThirdAsks (audits word) made p s commands kept) told asks) (here h.0 h.1 (Script f) h.3))
+    asked_one print told commands kept asks (Err (TrailRefused f)) h =
+        absurd (asks_or_refuses made (print_of d u) s (audits word) commands kept (TrailRefused f) (subst (λ (p : List ℕ). ThirdAsks (audits word) made p s commands kept) told asks) (here h.0 h.1 (TrailRefused f) h.3))
+
+-- a third text of a word that has a script, or that audits
+pub script_asks : (word : Word) → audits word ≡ false → (a : Made) (print s : List ℕ) (commands : List Command) → script_in a.generation s ≡ Ok commands → ThirdAsks (audits word) a print s commands None
+script_asks word runs a print s commands is = subst (λ (audit : Bool). ThirdAsks audit a print s commands None) (sym runs) (is, refl)
+
+pub script_refuses : (word : Word) → audits word ≡ false → (a : Made) (print s : List ℕ) (f : ScriptFault) → script_in a.generation s ≡ Err f → ThirdRefuses (audits word) a print s (Script f)
+script_refuses word runs a print s f is = subst (λ (audit : Bool). ThirdRefuses audit a print s (Script f)) (sym runs) is
+
+pub trail_asks : (word : Word) → audits word ≡ true → (a : Made) (print s : List ℕ) (commands : List Command) → commands ≡ [] → (t : Kept) → SaysTrail a print s t → ThirdAsks (audits word) a print s commands (Some t)
+trail_asks word audit a print s commands none t says = subst (λ (is : Bool). ThirdAsks is a print s commands (Some t)) (sym audit) (none, (t, refl, says))
+
+pub trail_refuses : (word : Word) → audits word ≡ true → (a : Made) (print s : List ℕ) (f : TrailFault) → HasTrailFault a print s f → ThirdRefuses (audits word) a print s (TrailRefused f)
+trail_refuses word audit a print s f h = subst (λ (is : Bool). ThirdRefuses is a print s (TrailRefused f)) (sym audit) h
+
+-- a text that is read as no trail has that fault
+pub read_fault : NoOtherFaults → (a : Made) (print s : List ℕ) (f : TrailFault) → f ≢ trail.Memory → trail_in s ≡ Err f → HasTrailFault a print s f
+read_fault others a print s (trail.BadLine n) some h = h
+read_fault others a print s trail.TooLong some h = h
+read_fault others a print s (trail.OtherGeneration n) some h = absurd ((others s).0 n h)
+read_fault others a print s (trail.NotSuited n) some h = absurd ((others s).1 n h)
+read_fault others a print s trail.Memory some h = absurd (some refl)
 
 -- ---- results
+
+-- what an error that was handed on has
+pub handed_err : {T E : Type 0} (r : Result T E) (e : E) (P : E → Type 0) → IsErrAnd r (λ x. x ≡ e) → P e → IfErr r P
+handed_err (Ok x) e P gives p = absurd gives
+handed_err (Err x) e P gives p = subst P (sym gives) p
 
 -- a value has what follows from what it has
 pub ok_weaker : {X E : Type 0} (r : Result X E) (P Q : X → Type 0) → ((x : X) → P x → Q x) → IfOk r P → IfOk r Q

@@ -10,7 +10,7 @@ use Rattle.device_acts.specs.WritingLaws.{writes_after, writes_none}
 use Rattle.device_run.specs.Running.{commits_most}
 use Rattle.kdcfile_update.specs.Updating.{Stored}
 use Rattle.utm_cli.specs.declared.words.Word.{Word}
-use Rattle.utm_cli.specs.declared.words.Word.TheVariants.{Gen, Run, Show, Update, Make}
+use Rattle.utm_cli.specs.declared.words.Word.TheVariants.{Gen, Run, Show, Update, Trail, Audit, Make}
 use Rattle.utm_cli.specs.Asking.{Errand}
 use Rattle.utm_cli.specs.Doing.{Opens, identity_of, own, acts_of}
 use Rattle.utm_cli.specs.Parts.{ErrandWrites, StoreWrites}
@@ -42,6 +42,8 @@ making_by Gen stored e bytes s = refl
 making_by Run stored e bytes s = refl
 making_by Show stored e bytes s = absurd stored
 making_by Update stored e bytes s = absurd stored
+making_by Trail stored e bytes s = absurd stored
+making_by Audit stored e bytes s = absurd stored
 making_by (Make n) stored e bytes s = absurd stored
 
 pub run_written : (e : Errand) → MakesFile e.word → (a b : State) → StoreWrites e a b → WritesFor e a b

@@ -1,8 +1,9 @@
 -- What the texts of a call ask for.
-use Rattle.std.specs.Prelude.{◌≡◌, ◌⊎◌, ◌≤◌, ◌<◌, ◌^◌, ℕ, List, [], length, sum_by, Some, Result, Ok, Err}
+use Rattle.std.specs.Prelude.{◌≡◌, ◌≢◌, ◌⊎◌, ◌≤◌, ◌<◌, ◌^◌, ℕ, Bool, true, false, List, [], length, sum_by, Option, Some, None, Result, Ok, Err}
 use Rattle.kd_base.specs.Limits.{longest_text}
 use Rattle.kd_device.specs.Room.{RoomState, text_of}
 use Rattle.unit_check.specs.Fitted.{IsFit}
+use Rattle.kdcdef_check.specs.Soundness.{AreNamed}
 use Rattle.application_read.specs.declared.application.Application.{Application as Made}
 use Rattle.application_read.specs.Texts.{TextsGenerate, TextsHaveFault}
 use Rattle.laws_of_applications.specs.Applied.{applied}
@@ -10,33 +11,84 @@ use Rattle.abstract_monitor.specs.State.{Application as Monitored}
 use Rattle.abstract_monitor.specs.declared.command.Command.{Command}
 use Rattle.laws_of_steps.specs.Applications.{IsApplication}
 use Rattle.laws_of_steps.specs.Keeping.{IsScriptOf}
+use Rattle.laws_of_steps.specs.Suits.{Suits}
 use Rattle.script_read.specs.Commands.{script_in}
 use Rattle.warm_start.specs.Fingerprints.{fingerprint as print_of}
 use Rattle.monitor_core.specs.CoreSteps.{turns_of}
+use Rattle.audit_trail.specs.declared.entry.Trail.{Trail as Kept}
+use Rattle.audit_trail.specs.declared.fault.TrailFault.{TrailFault}
+use Rattle.audit_trail.specs.declared.fault.TrailFault.TheVariants as faults
+use Rattle.audit_trail.specs.Facts.{IsTrail}
+use Rattle.audit_trail.specs.Places.{trail_in}
 use Rattle.utm_cli.specs.MadeTexts.{definition_text as made_definition, units_text as made_units, script_text as made_script}
 use Rattle.refusals.specs.declared.error.Refusal.{Refusal}
-use Rattle.refusals.specs.declared.error.Refusal.TheVariants.{Application, Script}
+use Rattle.refusals.specs.declared.error.Refusal.TheVariants.{Application, Double, Script, Trail as TrailRefused}
 use Rattle.utm_cli.specs.declared.words.Word.{Word}
-use Rattle.utm_cli.specs.declared.words.Word.TheVariants.{Gen, Run, Show, Update, Make}
-use Rattle.utm_cli.specs.Words.{definition_name, units_name, script_name}
+use Rattle.utm_cli.specs.declared.words.Word.TheVariants.{Gen, Run, Show, Update, Trail, Audit, Make}
+use Rattle.utm_cli.specs.Words.{audits, definition_name, units_name, script_name, trail_name}
 
--- what is to be done: the word, the application that the texts make with their fingerprint, and the commands of the script
+-- what is to be done: the word, the application that the texts make with their fingerprint, the commands of the script, and the trail that is audited
 pub record Errand : Type 0 where
   pub word : Word
   pub application : Made
   pub fingerprint : List ℕ
   pub commands : List Command
+  pub trail : Option Kept
 
 -- an errand, or why there is none
 abbrev pub Reading : Type 0
 Reading = Result Errand Refusal
 
--- what the texts of a word say: the faults of the definition and the units come before those of the script, whose terminals and tasks are those of the definition
+-- ---- the third text
+
+-- the text says this trail, which is of the texts with this fingerprint, and whose tables at the start suit what they generate
+pub record SaysTrail (a : Made) (fingerprint text : List ℕ) (t : Kept) : Type 0 where
+  pub says : trail_in text ≡ Ok t
+  pub own_texts : t.fingerprint ≡ fingerprint
+  pub suits : Suits a.generation t.start
+
+-- the text says a trail of other texts
+abbrev pub IsOfOthers : (fingerprint text : List ℕ) → Type 0
+IsOfOthers fingerprint text = (t : Kept) × (trail_in text ≡ Ok t) × (t.fingerprint ≢ fingerprint)
+
+-- the text says a trail of these texts, whose tables at the start do not suit what they generate
+abbrev pub StartsElsewhere : Made → (fingerprint text : List ℕ) → Type 0
+StartsElsewhere a fingerprint text = (t : Kept) × (trail_in text ≡ Ok t) × (t.fingerprint ≡ fingerprint) × (Suits a.generation t.start → ⊥)
+
+-- the text has this fault: it says no trail; or else its fingerprint, which stands in line 1, is not that of the texts; or else its tables at the start, which begin in line 2, do not suit
+abbrev pub HasTrailFault : Made → (fingerprint text : List ℕ) → TrailFault → Type 0
+HasTrailFault a fingerprint text (faults.BadLine line) = trail_in text ≡ Err (faults.BadLine line)
+HasTrailFault a fingerprint text faults.TooLong = trail_in text ≡ Err faults.TooLong
+HasTrailFault a fingerprint text (faults.OtherGeneration line) = (line ≡ 1) × IsOfOthers fingerprint text
+HasTrailFault a fingerprint text (faults.NotSuited line) = (line ≡ 2) × StartsElsewhere a fingerprint text
+HasTrailFault a fingerprint text faults.Memory = ⊥
+
+-- the third text asks for these commands of a script, or under `audit` for this trail
+abbrev pub ThirdAsks : (audit : Bool) → Made → (fingerprint text : List ℕ) → List Command → Option Kept → Type 0
+ThirdAsks false a fingerprint text commands trail = (script_in a.generation text ≡ Ok commands) × (trail ≡ None)
+ThirdAsks true a fingerprint text commands trail = (commands ≡ []) × ((t : Kept) × (trail ≡ Some t) × SaysTrail a fingerprint text t)
+
+-- the third text is refused for this fault
+abbrev pub ThirdRefuses : (audit : Bool) → Made → (fingerprint text : List ℕ) → Refusal → Type 0
+ThirdRefuses audit a fingerprint text (Application fault) = ⊥
+ThirdRefuses audit a fingerprint text (Double line) = ⊥
+ThirdRefuses false a fingerprint text (Script fault) = script_in a.generation text ≡ Err fault
+ThirdRefuses true a fingerprint text (Script fault) = ⊥
+ThirdRefuses false a fingerprint text (TrailRefused fault) = ⊥
+ThirdRefuses true a fingerprint text (TrailRefused fault) = HasTrailFault a fingerprint text fault
+
+-- ---- all texts
+
+-- what the texts of a word say: the faults of the definition and the units come first, then a KDCFILE of two copies, which no word runs over, and then the faults of the third text, whose names are those of the definition
 abbrev pub AskFor : Word → (definition units text : List ℕ) → Reading → Type 0
 AskFor word definition units text (Ok e) =
-    (e.word ≡ word) × TextsGenerate definition units e.application × (e.fingerprint ≡ print_of definition units) × (script_in e.application.generation text ≡ Ok e.commands)
+    (e.word ≡ word) × TextsGenerate definition units e.application × (e.application.generation.double ≡ None) × (e.fingerprint ≡ print_of definition units) × ThirdAsks (audits word) e.application e.fingerprint text e.commands e.trail
 AskFor word definition units text (Err (Application fault)) = TextsHaveFault definition units fault
-AskFor word definition units text (Err (Script fault)) = (a : Made) × TextsGenerate definition units a × (script_in a.generation text ≡ Err fault)
+AskFor word definition units text (Err (Double line)) = (a : Made) × TextsGenerate definition units a × (a.generation.double ≡ Some line)
+AskFor word definition units text (Err (Script fault)) =
+    (a : Made) × TextsGenerate definition units a × (a.generation.double ≡ None) × ThirdRefuses (audits word) a (print_of definition units) text (Script fault)
+AskFor word definition units text (Err (TrailRefused fault)) =
+    (a : Made) × TextsGenerate definition units a × (a.generation.double ≡ None) × ThirdRefuses (audits word) a (print_of definition units) text (TrailRefused fault)
 
 -- a text of a word: the room's of this name, or for `make` the made one
 abbrev pub TextIs : Word → RoomState → (name : List ℕ) → (made : ℕ → List ℕ) → List ℕ → Type 0
@@ -44,14 +96,18 @@ TextIs Gen room name made text = text_of name room.texts ≡ Some text
 TextIs Run room name made text = text_of name room.texts ≡ Some text
 TextIs Show room name made text = text_of name room.texts ≡ Some text
 TextIs Update room name made text = text_of name room.texts ≡ Some text
+TextIs Trail room name made text = text_of name room.texts ≡ Some text
+TextIs Audit room name made text = text_of name room.texts ≡ Some text
 TextIs (Make n) room name made text = text ≡ made n
 
--- the text of the script, which `run` alone reads
+-- the third text: the script, which `run` and `trail` read, or the trail, which `audit` reads
 abbrev pub ScriptIs : Word → List ℕ → RoomState → List ℕ → Type 0
 ScriptIs Gen base room text = text ≡ []
 ScriptIs Run base room text = text_of (script_name base) room.texts ≡ Some text
 ScriptIs Show base room text = text ≡ []
 ScriptIs Update base room text = text ≡ []
+ScriptIs Trail base room text = text_of (script_name base) room.texts ≡ Some text
+ScriptIs Audit base room text = text_of (trail_name base) room.texts ≡ Some text
 ScriptIs (Make n) base room text = text ≡ made_script n
 
 -- the texts of a word are there: those of this BASE, or the made ones
@@ -92,13 +148,21 @@ pub record WereRead (word : Word) (base : List ℕ) (room : RoomState) (definiti
 abbrev pub app_of : Errand → Monitored
 app_of e = applied e.application.generation e.application.units
 
--- what a monitor asks of its application and its script
+-- what an audit asks of its trail; no other word has one
+abbrev pub CanBeAudited : (audit : Bool) → Made → Option Kept → Type 0
+CanBeAudited false a trail = trail ≡ None
+CanBeAudited true a None = ⊥
+CanBeAudited true a (Some t) = IsTrail t × Suits a.generation t.start
+
+-- what a monitor asks of its application and its script, and an audit of its trail
 pub record CanRun (e : Errand) : Type 0 where
   pub fit : IsFit e.application.generation e.application.units
+  pub named : AreNamed e.application.generation
   pub applies : IsApplication (app_of e)
   pub names : IsScriptOf (app_of e) e.commands
   -- no more turns and commands than a monitor counts
   pub turns : sum_by turns_of e.commands ≤ 10 ^ 18
+  pub trail : CanBeAudited (audits e.word) e.application e.trail
 
 -- what texts ask for can run
 abbrev pub TextsCanRun : Type 0

@@ -1,5 +1,5 @@
 -- What a call does, once its texts are read, over its KDCFILE.
-use Rattle.std.specs.Prelude.{◌≡◌, ⊤, ℕ, List, [], ◌∷◌}
+use Rattle.std.specs.Prelude.{◌≡◌, ⊤, ℕ, List, [], ◌∷◌, length, Option, Some, None}
 use Rattle.kd_records.specs.Identity.{Identity}
 use Rattle.kdcs_types.specs.declared.act.Act.{Act}
 use Rattle.kdcs_types.specs.declared.act.Act.TheVariants.{Emit}
@@ -12,10 +12,15 @@ use Rattle.kd_update.specs.Carrying.{carried}
 use Rattle.kd_update.specs.declared.error.UpdateError.TheVariants as cause
 use Rattle.kdcfile_update.specs.Updating.{Stored, Takes, RefusesAs, report_of as update_report}
 use Rattle.refusals.specs.declared.error.FileRefusal.{FileRefusal}
-use Rattle.refusals.specs.declared.error.FileRefusal.TheVariants.{NotKdcfile, OtherGeneration, OtherBlksize, SmallerPool, TooManyGssbs, TooLarge}
+use Rattle.refusals.specs.declared.error.FileRefusal.TheVariants.{NotKdcfile, OtherGeneration, OtherBlksize, SmallerPool, TooManyGssbs, TooLarge, Differs}
+use Rattle.audit_trail.specs.declared.entry.Trail.{Trail as Kept}
+use Rattle.laws_of_trails.specs.InTurn.{AllHold}
+use Rattle.trail_words.specs.Auditing.{IsFirstToDiffer, verdict_line}
+use Rattle.trail_words.specs.Trailing.{text_of}
+use Rattle.trail_words.specs.declared.verdict.Verdict.TheVariants.{Holds}
 use Rattle.utm_cli.specs.MadeReport.{report_of}
 use Rattle.utm_cli.specs.declared.words.Word.{Word}
-use Rattle.utm_cli.specs.declared.words.Word.TheVariants.{Gen, Run, Show, Update, Make}
+use Rattle.utm_cli.specs.declared.words.Word.TheVariants.{Gen, Run, Show, Update, Trail, Audit, Make}
 use Rattle.utm_cli.specs.Asking.{Errand, app_of}
 use Rattle.utm_cli.specs.Report.{report}
 
@@ -40,12 +45,21 @@ pub record OpensWith (e : Errand) (bytes : List ℕ) (s : Stored) : Type 0 where
 abbrev pub UpdateTakes : Errand → (bytes : List ℕ) → Stored → Type 0
 UpdateTakes e bytes s = Takes e.application.generation e.fingerprint bytes s
 
--- an errand over the KDCFILE starts from the tables that it is opened with; `update` takes those of other texts too, where they may be carried; `make` starts from the empty tables, whatever the file
+-- all entries of the trail hold, one after another from its tables at the start, and this has these tables
+pub record HoldsAll (e : Errand) (s : Stored) : Type 0 where
+  pub trail : Kept
+  pub is : e.trail ≡ Some trail
+  pub start : s ≡ own e trail.start
+  pub holds : AllHold (app_of e) trail.start trail.entries
+
+-- an errand over the KDCFILE starts from the tables that it is opened with; `update` takes those of other texts too, where they may be carried; `audit` starts from those of a trail that holds, and `make` from the empty tables, whatever the file
 abbrev pub StartsBy : Word → Errand → (bytes : List ℕ) → Stored → Type 0
 StartsBy Gen e bytes s = OpensWith e bytes s
 StartsBy Run e bytes s = OpensWith e bytes s
 StartsBy Show e bytes s = OpensWith e bytes s
 StartsBy Update e bytes s = UpdateTakes e bytes s
+StartsBy Trail e bytes s = OpensWith e bytes s
+StartsBy Audit e bytes s = HoldsAll e s
 StartsBy (Make n) e bytes s = s ≡ own e empty_tables
 
 -- the call starts from what this file keeps, where it has these bytes
@@ -58,6 +72,8 @@ tables_by Gen e s = s.tables
 tables_by Run e s = s.tables
 tables_by Show e s = s.tables
 tables_by Update e s = carried e.application.generation s.tables
+tables_by Trail e s = s.tables
+tables_by Audit e s = s.tables
 tables_by (Make n) e s = s.tables
 
 abbrev pub tables_of : Errand → Stored → TableRows
@@ -69,6 +85,8 @@ IsOverFile Gen = ⊤
 IsOverFile Run = ⊤
 IsOverFile Show = ⊤
 IsOverFile Update = ⊤
+IsOverFile Trail = ⊤
+IsOverFile Audit = ⊥
 IsOverFile (Make n) = ⊥
 
 -- why bytes are not opened
@@ -79,6 +97,7 @@ OpeningRefuses e bytes (OtherBlksize n) = ⊥
 OpeningRefuses e bytes (SmallerPool n) = ⊥
 OpeningRefuses e bytes (TooManyGssbs n) = ⊥
 OpeningRefuses e bytes (TooLarge n) = ⊥
+OpeningRefuses e bytes (Differs n) = ⊥
 
 -- why what bytes stand for is not carried
 abbrev pub UpdateRefuses : Errand → (bytes : List ℕ) → FileRefusal → Type 0
@@ -88,24 +107,52 @@ UpdateRefuses e bytes (OtherBlksize n) = RefusesAs e.application.generation e.fi
 UpdateRefuses e bytes (SmallerPool n) = RefusesAs e.application.generation e.fingerprint bytes (cause.SmallerPool n)
 UpdateRefuses e bytes (TooManyGssbs n) = RefusesAs e.application.generation e.fingerprint bytes (cause.TooManyGssbs n)
 UpdateRefuses e bytes (TooLarge n) = RefusesAs e.application.generation e.fingerprint bytes (cause.TooLarge n)
+UpdateRefuses e bytes (Differs n) = ⊥
+
+-- the entry with this number is the first one of the trail that does not hold
+abbrev pub DiffersAt : Errand → ℕ → Type 0
+DiffersAt e number = (t : Kept) × (e.trail ≡ Some t) × IsFirstToDiffer (app_of e) t.start t.entries number
+
+-- why a trail does not hold
+abbrev pub AuditRefuses : Errand → FileRefusal → Type 0
+AuditRefuses e NotKdcfile = ⊥
+AuditRefuses e (OtherGeneration stored) = ⊥
+AuditRefuses e (OtherBlksize n) = ⊥
+AuditRefuses e (SmallerPool n) = ⊥
+AuditRefuses e (TooManyGssbs n) = ⊥
+AuditRefuses e (TooLarge n) = ⊥
+AuditRefuses e (Differs n) = DiffersAt e n
 
 abbrev pub RefusesBy : Word → Errand → (bytes : List ℕ) → FileRefusal → Type 0
 RefusesBy Gen e bytes why = OpeningRefuses e bytes why
 RefusesBy Run e bytes why = OpeningRefuses e bytes why
 RefusesBy Show e bytes why = OpeningRefuses e bytes why
 RefusesBy Update e bytes why = UpdateRefuses e bytes why
+RefusesBy Trail e bytes why = OpeningRefuses e bytes why
+RefusesBy Audit e bytes why = AuditRefuses e why
 RefusesBy (Make n) e bytes why = ⊥
 
--- the call refuses a file with these bytes
+-- the call refuses a file with these bytes, or its trail does not hold
 abbrev pub Refuses : Errand → (bytes : List ℕ) → FileRefusal → Type 0
 Refuses e bytes why = RefusesBy e.word e bytes why
 
--- the report of `gen`, the trace of the script's commands, the list of `show`, the report of `update`, or that of `make`
+-- the trail of the script's run from these tables, as a text
+unfoldable pub trail_of : Errand → TableRows → List ℕ
+trail_of e t = text_of (app_of e) e.fingerprint t e.commands
+
+-- how many entries a trail has
+abbrev pub entry_count : Option Kept → ℕ
+entry_count None = 0
+entry_count (Some t) = length t.entries
+
+-- the report of `gen`, the trace of the script's commands, the list of `show`, the report of `update`, the text of `trail`, the line of a trail that holds, or the report of `make`
 abbrev pub acts_by : Word → Errand → Stored → List Act
 acts_by Gen e s = report e.application.generation
 acts_by Run e s = trace (app_of e) s.tables e.commands
 acts_by Show e s = Emit (listing s.tables) ∷ []
 acts_by Update e s = update_report e.application.generation e.fingerprint s
+acts_by Trail e s = Emit (trail_of e s.tables) ∷ []
+acts_by Audit e s = Emit (verdict_line (Holds (entry_count e.trail))) ∷ []
 acts_by (Make n) e s = Emit (report_of n (app_of e) e.commands) ∷ []
 
 -- the acts of an errand from what is stored

@@ -1,5 +1,5 @@
 -- What `make N` asks for, and what it reports.
-use Rattle.std.specs.Prelude.{◌≡◌, ◌++◌, ℕ, List, Ok}
+use Rattle.std.specs.Prelude.{◌≡◌, ◌++◌, ℕ, List, None, Ok}
 use Rattle.kd_device.specs.Room.{RoomState}
 use Rattle.kdcs_types.specs.declared.act.Act.{Act}
 use Rattle.kdcs_types.specs.Tables.{empty_tables}
@@ -15,7 +15,7 @@ use Rattle.utm_cli.specs.Promise.{Request, Reads}
 
 -- the made application with its script for n inputs
 abbrev pub made_errand : ℕ → Errand
-made_errand n = record { word = Make n; application = generated_application; fingerprint = print_of definition_text units_text; commands = made_script n }
+made_errand n = record { word = Make n; application = generated_application; fingerprint = print_of definition_text units_text; commands = made_script n; trail = None }
 
 -- it is asked for whatever the room
 abbrev pub MakeIsRead : Type 0

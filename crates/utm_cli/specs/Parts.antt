@@ -1,5 +1,5 @@
 -- The words in which the parts of a call promise.
-use Rattle.std.specs.Prelude.{◌≡◌, ◌⊎◌, ℕ, ◌+◌, IsTrue, List}
+use Rattle.std.specs.Prelude.{◌≡◌, ◌⊎◌, ℕ, ◌+◌, IsTrue, List, Some}
 use Rattle.kd_device.specs.Device.{State, LeavesOnly, Only}
 use Rattle.kd_records.specs.Identity.{Identity}
 use Rattle.kdcs_types.specs.Tables.{TableRows}
@@ -10,9 +10,14 @@ use Rattle.warm_start.specs.Opening.{IsOpening, opening_most}
 use Rattle.warm_start.specs.Stands.{StandsForTables}
 use Rattle.device_acts.specs.Acting.{WithinActs, WritesUpTo}
 use Rattle.device_run.specs.Running.{commits_most}
-use Rattle.utm_cli.specs.Asking.{Errand}
+use Rattle.audit_trail.specs.declared.entry.Trail.{Trail as Kept}
+use Rattle.trail_words.specs.Auditing.{IsJudged}
+use Rattle.trail_words.specs.Trailing.{HasBytes}
+use Rattle.trail_words.specs.declared.verdict.Verdict.{Verdict}
+use Rattle.utm_cli.specs.declared.words.Word.TheVariants.{Trail}
+use Rattle.utm_cli.specs.Asking.{Errand, app_of}
 use Rattle.kdcfile_update.specs.Updating.{Stored, IsUpdated, IsUpdateCut}
-use Rattle.utm_cli.specs.Doing.{Opens, UpdateTakes, Starts, identity_of, own, acts_of}
+use Rattle.utm_cli.specs.Doing.{Opens, UpdateTakes, Starts, identity_of, own, trail_of, acts_of}
 use Rattle.utm_cli.specs.Promise.{RanOver, IsCutOver, IsCutOfRun, SaysFront}
 
 -- a stop within the opening of a file leaves what it may leave there
@@ -43,6 +48,18 @@ RanOpened e a b lb = IsTrue a.told → (t : TableRows) × Opens e a.holds t × R
 -- a front of the list of the tables was sent that the file is opened with
 abbrev pub ShowsFront : Errand → (a b : State) → (la lb : ℕ → List ℕ → List ℕ → Type 0) → Type 0
 ShowsFront e a b la lb = IsTrue a.told → (t : TableRows) → Opens e a.holds t → SaysFront (listing t) a b la lb
+
+-- a front of the trail was sent, from the tables that the file is opened with
+abbrev pub TrailsFront : Errand → (a b : State) → (la lb : ℕ → List ℕ → List ℕ → Type 0) → Type 0
+TrailsFront e a b la lb = IsTrue a.told → (t : TableRows) → Opens e a.holds t → SaysFront (trail_of e t) a b la lb
+
+-- what is written of the trail are bytes
+abbrev pub HasTrailBytes : Errand → Stored → Type 0
+HasTrailBytes e s = e.word ≡ Trail → HasBytes (app_of e) e.fingerprint s.tables e.commands
+
+-- an audit of the errand's trail finds this
+abbrev pub Finds : Errand → Verdict → Type 0
+Finds e verdict = (t : Kept) × (e.trail ≡ Some t) × IsJudged (app_of e) t verdict
 
 -- the file was taken and carried, or was of these texts already, and the report was sent
 abbrev pub RanUpdate : Errand → (a b : State) → (ℕ → List ℕ → List ℕ → Type 0) → Type 0

@@ -23,14 +23,19 @@ use Rattle.warm_start.specs.Stands.{StandsForTables}
 use Rattle.device_acts.specs.Acting.{commits_nothing, WritesUpTo}
 use Rattle.device_acts.specs.Said.{SameDisk, Said, SaidPart}
 use Rattle.device_run.specs.Running.{IsCutSince, commits_most}
+use Rattle.application_read.specs.declared.application.Application.{Application as Made}
+use Rattle.application_read.specs.Texts.{TextsGenerate}
+use Rattle.laws_of_applications.specs.Applied.{applied}
+use Rattle.warm_start.specs.Fingerprints.{fingerprint as print_of}
+use Rattle.trail_words.specs.OwnAudits.{IsOwnTrail}
 use Rattle.refusals.specs.declared.error.Refusal.{Refusal}
 use Rattle.refusals.specs.declared.error.FileRefusal.{FileRefusal}
 use Rattle.refusals.specs.Lines.{refusal_line, file_line}
-use Rattle.refusals.specs.Statuses.{IsOneOf, status_of}
+use Rattle.refusals.specs.Statuses.{IsOneOf, status_of, status_of_file}
 use Rattle.utm_cli.specs.declared.words.Word.{Word}
-use Rattle.utm_cli.specs.declared.words.Word.TheVariants.{Gen, Run, Show, Update, Make}
-use Rattle.utm_cli.specs.Words.{request_of, definition_name, units_name, script_name, file_name}
-use Rattle.utm_cli.specs.Asking.{Errand, Reading, ReadsFor}
+use Rattle.utm_cli.specs.declared.words.Word.TheVariants.{Gen, Run, Show, Update, Trail, Audit, Make}
+use Rattle.utm_cli.specs.Words.{request_of, definition_name, units_name, script_name, trail_name, file_name}
+use Rattle.utm_cli.specs.Asking.{Errand, Reading, ReadsFor, AreThere}
 use Rattle.kdcfile_update.specs.Updating.{Stored, update_most}
 use Rattle.utm_cli.specs.Doing.{Starts, Refuses, identity_of, tables_of, acts_of}
 
@@ -55,6 +60,8 @@ Lacks Gen base room = IsMissing (definition_name base) room ⊎ IsMissing (units
 Lacks Run base room = IsMissing (definition_name base) room ⊎ IsMissing (units_name base) room ⊎ IsMissing (script_name base) room
 Lacks Show base room = IsMissing (definition_name base) room ⊎ IsMissing (units_name base) room
 Lacks Update base room = IsMissing (definition_name base) room ⊎ IsMissing (units_name base) room
+Lacks Trail base room = IsMissing (definition_name base) room ⊎ IsMissing (units_name base) room ⊎ IsMissing (script_name base) room
+Lacks Audit base room = IsMissing (definition_name base) room ⊎ IsMissing (units_name base) room ⊎ IsMissing (trail_name base) room
 Lacks (Make n) base room = ⊥
 
 -- the words ask for something, and a text that it reads is not there
@@ -70,12 +77,14 @@ pub record RanOver (i : Identity) (acts : List Act) (t : TableRows) (a b : State
   pub holds : StandsForTables i (tables_after t acts) b.holds
   pub at_rest : Only b.holds b lb
 
--- all acts were done: `gen`, `run` and `update` over the store, while `show` and `make` send their lines and leave the file as it was
+-- all acts were done: `gen`, `run` and `update` over the store, while the other words send their lines and leave the file as it was
 abbrev pub RanBy : Word → Identity → List Act → TableRows → State → State → (ℕ → List ℕ → List ℕ → Type 0) → Type 0
 RanBy Gen i acts t a b lb = RanOver i acts t a b lb
 RanBy Run i acts t a b lb = RanOver i acts t a b lb
 RanBy Show i acts t a b lb = Said (bytes_of acts) a b
 RanBy Update i acts t a b lb = RanOver i acts t a b lb
+RanBy Trail i acts t a b lb = Said (bytes_of acts) a b
+RanBy Audit i acts t a b lb = Said (bytes_of acts) a b
 RanBy (Make n) i acts t a b lb = Said (bytes_of acts) a b
 
 -- all that was asked for was done, from what is stored
@@ -114,6 +123,8 @@ IsCutBy Gen i acts t s a image out = IsCutOver i acts t a image out
 IsCutBy Run i acts t s a image out = IsCutOver i acts t a image out
 IsCutBy Show i acts t s a image out = IsFront (bytes_of acts) a image out
 IsCutBy Update i acts t s a image out = IsCutOfUpdate i acts t s a image out
+IsCutBy Trail i acts t s a image out = IsFront (bytes_of acts) a image out
+IsCutBy Audit i acts t s a image out = IsFront (bytes_of acts) a image out
 IsCutBy (Make n) i acts t s a image out = IsFront (bytes_of acts) a image out
 
 -- what was sent and what a stop leaves are a cut of what was asked for, from what is stored
@@ -136,6 +147,8 @@ MakesFile Gen = ⊤
 MakesFile Run = ⊤
 MakesFile Show = ⊥
 MakesFile Update = ⊥
+MakesFile Trail = ⊥
+MakesFile Audit = ⊥
 MakesFile (Make n) = ⊥
 
 -- how many bytes the word writes at most before its acts: those of a fresh file and one, where it makes the file, and under `update` those of the new tables, where they are carried
@@ -144,6 +157,8 @@ making_most Gen e bytes s = opening_most (identity_of e) bytes
 making_most Run e bytes s = opening_most (identity_of e) bytes
 making_most Show e bytes s = 0
 making_most Update e bytes s = update_most e.application.generation e.fingerprint s
+making_most Trail e bytes s = 0
+making_most Audit e bytes s = 0
 making_most (Make n) e bytes s = 0
 
 -- how many bytes an errand over a file with these bytes has written at most when it has performed or begun these first acts
@@ -171,18 +186,20 @@ pub record RunsLawfully (app : Application) (t : TableRows) (script : List Comma
 abbrev pub MayAttach : List ℕ → State → State → Type 0
 MayAttach name a b = (b.names ≡ a.names) ⊎ (b.names ≡ a.names ++ name ∷ [])
 
--- this name was handed to attach; `make` hands on none
+-- this name was handed to attach; `audit` and `make` hand on none
 abbrev pub HandsOn : Word → List ℕ → State → State → Type 0
 HandsOn Gen name a b = b.names ≡ a.names ++ name ∷ []
 HandsOn Run name a b = b.names ≡ a.names ++ name ∷ []
 HandsOn Show name a b = b.names ≡ a.names ++ name ∷ []
 HandsOn Update name a b = b.names ≡ a.names ++ name ∷ []
+HandsOn Trail name a b = b.names ≡ a.names ++ name ∷ []
+HandsOn Audit name a b = b.names ≡ a.names
 HandsOn (Make n) name a b = b.names ≡ a.names
 
 abbrev pub MayHandOn : Word → List ℕ → State → State → Type 0
 MayHandOn word name a b = (b.names ≡ a.names) ⊎ HandsOn word name a b
 
--- what was handed to attach where all is done: the file of the BASE, and for `make` none
+-- what was handed to attach where all is done: the file of the BASE, and for `audit` and `make` none
 abbrev pub AttachedBy : Word → List ℕ → State → State → Type 0
 AttachedBy word base a b = HandsOn word (file_name base) a b
 
@@ -209,7 +226,7 @@ ForErrand c P = IsTrue c.room.told → (e : Errand) → Reads c.words c.room (Ok
 abbrev pub ForRefusal : Call → (Refusal → Type 0) → Type 0
 ForRefusal c P = IsTrue c.room.told → (why : Refusal) → Reads c.words c.room (Err why) → P why
 
--- what holds of the reason for which the file is refused
+-- what holds of the reason for which the file is refused, or the trail does not hold
 abbrev pub ForFile : Call → (FileRefusal → Type 0) → Type 0
 ForFile c P = IsTrue c.room.told → IsTrue c.device.told → (e : Errand) → Reads c.words c.room (Ok e) → (why : FileRefusal) → Refuses e c.device.holds why → P why
 
@@ -221,6 +238,30 @@ ForStart c P = IsTrue c.room.told → IsTrue c.device.told → (e : Errand) (s :
 abbrev pub ForStartAtRest : Call → (ℕ → List ℕ → List ℕ → Type 0) → (Errand → Stored → Type 0) → Type 0
 ForStartAtRest c la P =
     IsTrue c.room.told → IsTrue c.device.told → Only c.device.holds c.device la → (e : Errand) (s : Stored) → Reads c.words c.room (Ok e) → Starts e c.device.holds s → P e s
+
+-- what holds of a call of `trail` whose file is accepted, with the tables from which the trail begins
+abbrev pub ForTrail : Call → (Errand → TableRows → Type 0) → Type 0
+ForTrail c P = IsTrue c.room.told → IsTrue c.device.told → (e : Errand) (s : Stored) → Reads c.words c.room (Ok e) → Starts e c.device.holds s → e.word ≡ Trail → P e s.tables
+
+-- the texts of a call of `audit` are there: two that generate an application, and the trail of a run of it
+pub record AuditsOwn (words : List (List ℕ)) (room : RoomState) : Type 0 where
+  pub base : List ℕ
+  pub asked : Request words Audit base
+  pub definition : List ℕ
+  pub units : List ℕ
+  pub text : List ℕ
+  pub there : AreThere Audit base room definition units text
+  pub application : Made
+  pub generate : TextsGenerate definition units application
+  pub single : application.generation.double ≡ None
+  -- the tables from which the run began, and its script
+  pub start : TableRows
+  pub script : List Command
+  pub own : IsOwnTrail (applied application.generation application.units) (print_of definition units) start script text
+
+-- what holds of a call that audits the trail of a run
+abbrev pub ForOwnTrail : Call → Type 0 → Type 0
+ForOwnTrail c P = IsTrue c.room.told → AuditsOwn c.words c.room → P
 
 -- ---- what became of it
 
@@ -237,12 +278,12 @@ abbrev pub SaysRefusal : Call → (code : ℕ) → State → Type 0
 SaysRefusal c code b =
     IsTrue c.room.told → (why : Refusal) × Reads c.words c.room (Err why) × (code ≡ status_of why) × (IsTrue c.device.told → Said (refusal_line why) c.device b)
 
--- the file is refused, and the line that says why was sent
-abbrev pub SaysWhy : Errand → (a b : State) → Type 0
-SaysWhy e a b = (why : FileRefusal) × Refuses e a.holds why × Said (file_line why) a b
+-- the file is refused, or the trail does not hold, and this is the status; the line that says why was sent
+abbrev pub SaysWhy : Errand → (code : ℕ) → (a b : State) → Type 0
+SaysWhy e code a b = (why : FileRefusal) × Refuses e a.holds why × (code ≡ status_of_file why) × Said (file_line why) a b
 
-abbrev pub SaysFile : Call → State → Type 0
-SaysFile c b = (e : Errand) × (IsTrue c.room.told → Reads c.words c.room (Ok e)) × (IsTrue c.device.told → SaysWhy e c.device b)
+abbrev pub SaysFile : Call → (code : ℕ) → State → Type 0
+SaysFile c code b = (e : Errand) × (IsTrue c.room.told → Reads c.words c.room (Ok e)) × (IsTrue c.device.told → SaysWhy e code c.device b)
 
 -- all was done that the words and the texts ask for
 abbrev pub HasDone : Call → State → (ℕ → List ℕ → List ℕ → Type 0) → Type 0
@@ -272,12 +313,14 @@ WritesActsAlone Gen e s a = a.holds ≡ [] → ⊥
 WritesActsAlone Run e s a = a.holds ≡ [] → ⊥
 WritesActsAlone Show e s a = ⊤
 WritesActsAlone Update e s a = s.identity ≡ identity_of e
+WritesActsAlone Trail e s a = ⊤
+WritesActsAlone Audit e s a = ⊤
 WritesActsAlone (Make n) e s a = ⊤
 
 -- the file stays as it was where nothing is written, an empty one too
 abbrev pub LeavesFile : Errand → Stored → (a b : State) → Type 0
 LeavesFile e s a b = WritesActsAlone e.word e s a → LeavesLines e s a b
 
--- the file of the BASE was handed to attach; for `make` none
+-- the file of the BASE was handed to attach; for `audit` and `make` none
 abbrev pub Attaches : List (List ℕ) → (a b : State) → Type 0
 Attaches words a b = (word : Word) × ((base : List ℕ) × Request words word base × AttachedBy word base a b)

@@ -4,22 +4,44 @@ use Rattle.kd_base.specs.Text.{decimal_of}
 use Rattle.kdcdef_types.specs.Statements.{IsWithin}
 use Rattle.script_read.specs.Script.{same}
 use Rattle.utm_cli.specs.declared.words.Word.{Word}
-use Rattle.utm_cli.specs.declared.words.Word.TheVariants.{Gen, Run, Show, Update, Make}
+use Rattle.utm_cli.specs.declared.words.Word.TheVariants.{Gen, Run, Show, Update, Trail, Audit, Make}
 
-abbrev pub word_by : (gen run show update : Bool) → Option Word
-word_by true run show update = Some Gen
-word_by false true show update = Some Run
-word_by false false true update = Some Show
-word_by false false false true = Some Update
-word_by false false false false = None
+abbrev pub word_by : (gen run show update trail audit : Bool) → Option Word
+word_by true run show update trail audit = Some Gen
+word_by false true show update trail audit = Some Run
+word_by false false true update trail audit = Some Show
+word_by false false false true trail audit = Some Update
+word_by false false false false true audit = Some Trail
+word_by false false false false false true = Some Audit
+word_by false false false false false false = None
 
 -- the word of a BASE that is spelled so
 abbrev pub word_of : List ℕ → Option Word
-word_of word = word_by (same word (codes "gen")) (same word (codes "run")) (same word (codes "show")) (same word (codes "update"))
+word_of word = word_by (same word (codes "gen")) (same word (codes "run")) (same word (codes "show")) (same word (codes "update")) (same word (codes "trail")) (same word (codes "audit"))
 
 -- a BASE has 1 to 200 bytes
 abbrev pub is_base : List ℕ → Bool
 is_base base = nat_le 1 (length base) && nat_le (length base) 200
+
+-- the word has a BASE, whose texts it reads
+abbrev pub IsOfBase : Word → Type 0
+IsOfBase Gen = ⊤
+IsOfBase Run = ⊤
+IsOfBase Show = ⊤
+IsOfBase Update = ⊤
+IsOfBase Trail = ⊤
+IsOfBase Audit = ⊤
+IsOfBase (Make n) = ⊥
+
+-- the third text of the word is a trail; that of each other word is a script, which has no commands where the word runs none
+abbrev pub audits : Word → Bool
+audits Gen = false
+audits Run = false
+audits Show = false
+audits Update = false
+audits Trail = false
+audits Audit = true
+audits (Make n) = false
 
 -- how many inputs `make` can make
 abbrev pub is_input_count : ℕ → Bool
@@ -31,6 +53,8 @@ IsForm Gen = ⊤
 IsForm Run = ⊤
 IsForm Show = ⊤
 IsForm Update = ⊤
+IsForm Trail = ⊤
+IsForm Audit = ⊤
 IsForm (Make n) = IsWithin 1 20000 n
 
 abbrev pub made_by : Bool → ℕ → Option Word
@@ -55,7 +79,7 @@ abbrev pub asked : Option Word → List ℕ → Option (Word × List ℕ)
 asked None operand = None
 asked (Some word) operand = Some (word, operand)
 
--- the word and the operand of `gen BASE`, `run BASE`, `show BASE`, `update BASE` and `make N`; no other words are a form
+-- the word and the operand of `gen BASE`, `run BASE`, `show BASE`, `update BASE`, `trail BASE`, `audit BASE` and `make N`; no other words are a form
 abbrev pub request_of : List (List ℕ) → Option (Word × List ℕ)
 request_of [] = None
 request_of (word ∷ []) = None
@@ -74,10 +98,14 @@ units_name base = base ++ codes ".units"
 abbrev pub script_name : List ℕ → List ℕ
 script_name base = base ++ codes ".script"
 
+-- the name of the trail's text
+abbrev pub trail_name : List ℕ → List ℕ
+trail_name base = base ++ codes ".trail"
+
 -- the name of the KDCFILE
 abbrev pub file_name : List ℕ → List ℕ
 file_name base = base ++ codes ".KDCA"
 
 -- status 1
 abbrev pub usage_line : List ℕ
-usage_line = codes "USAGE: utm gen BASE, run BASE, show BASE, update BASE, make N\n"
+usage_line = codes "USAGE: utm gen BASE, run BASE, show BASE, update BASE, trail BASE, audit BASE, make N\n"

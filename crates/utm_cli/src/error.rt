@@ -14,7 +14,7 @@ use warm_start::OpenError;
 /// Why a call did not do what is asked for, when its texts were read.
 #[derive(Clone, Copy, Debug, Error)]
 pub(crate) enum CallError {
-    #[error("the KDCFILE is refused")]
+    #[error("the KDCFILE is refused, or the trail does not hold")]
     Refused(FileRefusal),
     /// A call of the disk or the line failed.
     #[error("the device failed")]

@@ -5,6 +5,7 @@ ghost use Rattle.kdcfile_update.specs.Updating.{Stored};
 ghost use Rattle.utm_cli.specs.{Asking.{Errand, TextsCanRun, app_of}, Doing.{Starts, tables_of}, Promise.{Reads, RunsLawfully}};
 
 use application_read::generations_are_sound;
+use audit_trail::says_what_its_lines_say;
 use kdcfile_update::taken_tables_suit;
 use laws_of_access::{locks_make_the_rule, runs_keep_access};
 use laws_of_jobs::{
@@ -13,12 +14,14 @@ use laws_of_jobs::{
 use laws_of_runs::facts_hold_along_every_script;
 use script_read::commands_are_said;
 
-/// Texts that ask for something make an application, with a script of its names. It does nothing.
+/// Texts that ask for something make an application, with a script of its names or a trail that can be audited. It does
+/// nothing.
 pub(crate) fn texts_can_run()
     ensures { TextsCanRun }
 {
     generations_are_sound();
     commands_are_said();
+    says_what_its_lines_say();
 }
 
 /// From the tables that a call goes on from, each step of the script is lawful, begins only services that the rule of

@@ -3,7 +3,7 @@ ghost use Rattle.std.specs.Prelude.{◌≡◌, ◌≤◌, ◌+◌, ◌++◌, ◌
 ghost use Rattle.kd_device.specs.{Device.{Rose, Frame, SameFaults}, Rest.{Rests}};
 ghost use Rattle.kdcfile_store.specs.{Kept.{IsKept}, Paged.{HasFile}};
 ghost use Rattle.laws_of_steps.specs.Suits.{Suits};
-ghost use Rattle.warm_start.specs.{Stands.{KeepsTables, identity_for}, Opening.{StartsFrom, IsRefused, IsOfOtherTexts, opening_most}};
+ghost use Rattle.warm_start.specs.{Stands.{AreTables, KeepsTables, identity_for}, Opening.{StartsFrom, IsRefused, IsOfOtherTexts, opening_most}};
 ghost use Rattle.utm_cli.specs.{Promise.{MayAttach}, Parts.{LeavesOpening}};
 
 use kd_device::Device;
@@ -68,6 +68,8 @@ pub(crate) fn look<D: Device>(
     generation: &Generation,
     fingerprint: &[u8; 32],
 ) -> Result<Tables, OpenError>
+    ensures tables { IfOk result (λ t. AreTables t) }
+    ensures suits { IfOk result (λ t. Suits generation.now t) }
     ensures starts { IfOk result (λ t. IsTrue (D.state device.old).told → StartsFrom generation.now fingerprint.now (D.state device.old).holds t) }
     ensures refused { IsErrOf result OpenError.NotKdcfile → IsTrue (D.state device.old).told → IsRefused generation.now fingerprint.now (D.state device.old).holds }
     ensures other { (stored : List ℕ) → IsErrOf result (OpenError.OtherGeneration stored) → IsTrue (D.state device.old).told → IsOfOtherTexts stored fingerprint.now (D.state device.old).holds }

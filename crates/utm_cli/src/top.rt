@@ -3,9 +3,10 @@ ghost use Rattle.std.specs.{Prelude.{◌≡◌, ◌⊎◌, ◌∷◌, [], List, 
 ghost use Rattle.kd_device.specs.{Device.{Rose, Frame, SameFaults, SameNames}, Room.{SameRoom}};
 ghost use Rattle.kdcfile_update.specs.Updating.{Stored};
 ghost use Rattle.utm_cli.specs.{Words.{usage_line}, Asking.{app_of}, Doing.{Starts, tables_of}};
-ghost use Rattle.utm_cli.specs.Promise.{Misses, Request, EndsInCut, RunsLawfully, Attaches, AsksNothing, CallFailed, Completes, ForErrand, ForFile, ForRefusal, ForStartAtRest, ForStart, HasDone, LeavesCuts, LeavesFile, SaysFile, SaysPart, SaysRefusal, Writes, call};
-ghost use Rattle.refusals.specs.{Lines.{refusal_line, file_line}, Statuses.{IsOneOf, status_of}, Texts.{NoReadFailed}};
+ghost use Rattle.utm_cli.specs.Promise.{Misses, Request, EndsInCut, RunsLawfully, Attaches, AsksNothing, CallFailed, Completes, ForErrand, ForFile, ForRefusal, ForStartAtRest, ForStart, ForTrail, ForOwnTrail, HasDone, LeavesCuts, LeavesFile, SaysFile, SaysPart, SaysRefusal, Writes, call};
+ghost use Rattle.refusals.specs.{Lines.{refusal_line, file_line}, Statuses.{IsOneOf, status_of, status_of_file}, Texts.{NoReadFailed}};
 ghost use Rattle.device_acts.specs.Said.{Said, SaidPart};
+ghost use Rattle.trail_words.specs.Trailing.{HasBytes};
 ghost use Rattle.utm_cli.specs.declared.words.Word.TheVariants.{Make};
 
 use crate::lawful::scripts_run_lawfully;
@@ -15,27 +16,32 @@ use crate::words::request_of;
 use kd_device::{Device, Room};
 use refusals::{Status, TextError, refuse, refuse_texts};
 use std::alloc::Global;
+use trail_words::{own_trails_hold, verdicts_exclude_each_other};
 
 /// What is sent where the words are none of the forms.
-const USAGE: &[u8] = b"USAGE: utm gen BASE, run BASE, show BASE, update BASE, make N\n";
+const USAGE: &[u8] =
+    b"USAGE: utm gen BASE, run BASE, show BASE, update BASE, trail BASE, audit BASE, make N\n";
 
 /// Does what the words after the program's name ask for. `gen BASE` reads BASE.def and BASE.units from the room and
 /// reports the generation; `run BASE` reads BASE.script too and does its commands, each of which is stored before its
 /// line is sent. Both make BASE.KDCA where it is empty, with BLKSIZE and PGPOOL of the generation, or open it. `show
 /// BASE` lists the tables of BASE.KDCA, which stays as it is; an empty one is listed as the empty tables. `update BASE`
-/// carries BASE.KDCA to the generation, and reports how many rows went. `make N` runs the made application with N
-/// inputs, from 1 to 20,000, on a device of its own, and reports of that run.
+/// carries BASE.KDCA to the generation, and reports how many rows went. `trail BASE` sends the trail of the run of
+/// BASE.script from the tables of BASE.KDCA, which stays as it is. `audit BASE` reads the trail BASE.trail in place of a
+/// script and replays its entries, one after another, from the tables at its start; it looks into no KDCFILE. `make N`
+/// runs the made application with N inputs, from 1 to 20,000, on a device of its own, and reports of that run.
 ///
-/// The status is 0 where all was done; 1 for words that are none of the forms; 2 for a definition or units that are
-/// refused; 3 for a script that is refused; 4 for a KDCFILE that is not one of this application, or that `update` does
-/// not carry; 5 where the disk or the line failed; 6 where a text could not be read; 7 for want of memory.
+/// The status is 0 where all was done, and under `audit` all entries hold; 1 for words that are none of the forms; 2 for a
+/// definition or units that are refused; 3 for a script or a trail that is refused; 4 for a KDCFILE that is not one of this
+/// application, or that `update` does not carry; 5 where the disk or the line failed; 6 where a text could not be read; 7
+/// for want of memory; 8 for a trail with an entry that does not hold.
 pub fn utm<R: Room, D: Device>(
     alloc: Global,
     words: &Vec<String>,
     room: &mut R,
     device: &mut D,
 ) -> Status
-    ensures code { IsOneOf (0 ∷ 1 ∷ 2 ∷ 3 ∷ 4 ∷ 5 ∷ 6 ∷ 7 ∷ []) result.code }
+    ensures code { IsOneOf (0 ∷ 1 ∷ 2 ∷ 3 ∷ 4 ∷ 5 ∷ 6 ∷ 7 ∷ 8 ∷ []) result.code }
 
     // 1: the words are none of the forms. Nothing is done but the usage line.
     ensures usage { AsksNothing (map string_bytes words.now.items) → IsOneOf (1 ∷ 5 ∷ 7 ∷ []) result.code }
@@ -44,16 +50,17 @@ pub fn utm<R: Room, D: Device>(
     ensures usage_part { AsksNothing (map string_bytes words.now.items) → SaysPart usage_line (D.state device.old) (D.state device.new) }
     ensures usage_names { AsksNothing (map string_bytes words.now.items) → SameNames (D.state device.old) (D.state device.new) }
 
-    // 2 and 3: the definition and the units, or else the script, are refused. Nothing is done but the line of the first fault.
+    // 2 and 3: the definition and the units, or else the script or the trail, are refused. Nothing is done but the line of
+    // the first fault.
     ensures texts { ForRefusal (call (map string_bytes words.now.items) (R.room room.old) (D.state device.old)) (λ why. IsOneOf (status_of why ∷ 6 ∷ 5 ∷ 7 ∷ []) result.code) }
     ensures texts_only { IsOneOf (2 ∷ 3 ∷ []) result.code → SaysRefusal (call (map string_bytes words.now.items) (R.room room.old) (D.state device.old)) result.code (D.state device.new) }
     ensures texts_part { ForRefusal (call (map string_bytes words.now.items) (R.room room.old) (D.state device.old)) (λ why. SaysPart (refusal_line why) (D.state device.old) (D.state device.new)) }
     ensures texts_names { ForRefusal (call (map string_bytes words.now.items) (R.room room.old) (D.state device.old)) (λ why. SameNames (D.state device.old) (D.state device.new)) }
 
-    // 4: the file is refused, for its bytes, for its other texts, or under `update` for what these ask. Nothing is done
-    // but the line that says why.
-    ensures file { ForFile (call (map string_bytes words.now.items) (R.room room.old) (D.state device.old)) (λ why. IsOneOf (4 ∷ 6 ∷ 5 ∷ 7 ∷ []) result.code) }
-    ensures file_only { result.code ≡ 4 → SaysFile (call (map string_bytes words.now.items) (R.room room.old) (D.state device.old)) (D.state device.new) }
+    // 4 and 8: the file is refused, for its bytes, for its other texts, or under `update` for what these ask; or under
+    // `audit` an entry of the trail does not hold. Nothing is done but the line that says why, or which entry is the first.
+    ensures file { ForFile (call (map string_bytes words.now.items) (R.room room.old) (D.state device.old)) (λ why. IsOneOf (status_of_file why ∷ 6 ∷ 5 ∷ 7 ∷ []) result.code) }
+    ensures file_only { IsOneOf (4 ∷ 8 ∷ []) result.code → SaysFile (call (map string_bytes words.now.items) (R.room room.old) (D.state device.old)) result.code (D.state device.new) }
     ensures file_part { ForFile (call (map string_bytes words.now.items) (R.room room.old) (D.state device.old)) (λ why. SaidPart (file_line why) (D.state device.old) (D.state device.new)) }
 
     // 5: a call of the disk or the line failed. At any other status none did: at 7 it is memory alone that ran out.
@@ -85,19 +92,25 @@ pub fn utm<R: Room, D: Device>(
     ensures ended { ForStartAtRest (call (map string_bytes words.now.items) (R.room room.old) (D.state device.old)) (D.leaves device.old) (λ e s. EndsInCut e s (D.state device.old) (D.state device.new)) }
 
     // A file that is there keeps its bytes, whatever the status, where the acts commit nothing, as those of `gen`; under
-    // `update` where it is of these texts. Under `show` and `make` an empty one does too.
+    // `update` where it is of these texts. Under `show`, `trail`, `audit` and `make` an empty one does too.
     ensures left { ForStart (call (map string_bytes words.now.items) (R.room room.old) (D.state device.old)) (λ e s. LeavesFile e s (D.state device.old) (D.state device.new)) }
 
     // The bytes written, whatever the status: none, or at most those of the making of the file, where it was empty,
     // under `update` those of the new tables, and those of the commits among some first acts whose lines were sent.
-    // `show` and `make` write none.
+    // `show`, `trail`, `audit` and `make` write none.
     ensures written { Writes (call (map string_bytes words.now.items) (R.room room.old) (D.state device.old)) (D.state device.new) }
 
     // Every commit of the script is lawful from the tables that a call goes on from, and every cut of it can be gone on
     // from and is what a serial run of its first commits stores.
     ensures laws { ForErrand (call (map string_bytes words.now.items) (R.room room.old) (D.state device.old)) (λ e. (bytes : List ℕ) (s : Stored) → Starts e bytes s → RunsLawfully (app_of e) (tables_of e s) e.commands) }
 
-    // The file BASE.KDCA, and no other, was attached; none by `make`.
+    // The text that `trail` has sent is written of bytes alone, as that of a run's own trail is.
+    ensures trailed { ForTrail (call (map string_bytes words.now.items) (R.room room.old) (D.state device.old)) (λ e t. result.code ≡ 0 → HasBytes (app_of e) e.fingerprint t e.commands) }
+
+    // The trail of a run is never refused, and all its entries hold.
+    ensures own_trails { ForOwnTrail (call (map string_bytes words.now.items) (R.room room.old) (D.state device.old)) (IsOneOf (0 ∷ 5 ∷ 6 ∷ 7 ∷ []) result.code) }
+
+    // The file BASE.KDCA, and no other, was attached; none by `audit` and `make`.
     ensures names { IsTrue (D.state device.old).told → SameNames (D.state device.old) (D.state device.new) ⊎ Attaches (map string_bytes words.now.items) (D.state device.old) (D.state device.new) }
     ensures attached { result.code ≡ 0 → IsTrue (D.state device.old).told → Attaches (map string_bytes words.now.items) (D.state device.old) (D.state device.new) }
 
@@ -108,6 +121,8 @@ pub fn utm<R: Room, D: Device>(
     ensures make_accepted { (n : ℕ) (operand : List ℕ) → Request (map string_bytes words.now.items) (Make n) operand → IsOneOf (0 ∷ 5 ∷ 7 ∷ []) result.code }
 {
     scripts_run_lawfully();
+    own_trails_hold();
+    verdicts_exclude_each_other();
     let Some((word, base)) = request_of(words) else {
         return refuse(device, USAGE, Status::USAGE);
     };

@@ -23,6 +23,10 @@ pub(crate) enum Word {
     Show,
     /// The tables are carried to the generation.
     Update,
+    /// The trail of the script's run.
+    Trail,
+    /// The audit of a trail.
+    Audit,
     /// The run of the made application with so many inputs, from 1 to 20,000.
     Make(u32),
 }
@@ -40,6 +44,10 @@ fn word_of(word: &[u8]) -> Option<Word>
         Some(Word::Show)
     } else if word == b"update".as_slice() {
         Some(Word::Update)
+    } else if word == b"trail".as_slice() {
+        Some(Word::Trail)
+    } else if word == b"audit".as_slice() {
+        Some(Word::Audit)
     } else {
         None
     }
@@ -75,8 +83,8 @@ fn word_with(word: &[u8], operand: &[u8]) -> Option<Word>
     }
 }
 
-/// The word and the operand of `gen BASE`, `run BASE`, `show BASE`, `update BASE` and `make N`. All other words are no
-/// form.
+/// The word and the operand of `gen BASE`, `run BASE`, `show BASE`, `update BASE`, `trail BASE`, `audit BASE` and
+/// `make N`. All other words are no form.
 pub(crate) fn request_of(words: &[String]) -> Option<(Word, &[u8])>
     ensures value { MatchOption result (request (map string_bytes words.now) ≡ None) (λ r. request (map string_bytes words.now) ≡ Some (r.0, r.1.now)) }
     ensures form { IfSome result (λ r. IsForm r.0) }

@@ -40,7 +40,7 @@ of-requires c =
     let whole = subst (IsWhole c.of-whole.result) c.as_slice-statements.ensures.value c.of-whole.ensures in
     let is = gathered_free c.args.gathered c.of-whole.result c.first_outer_fault-outer.result c.earlier.result c.requires.0 looked whole c.earlier.ensures c.in_default.is c.requires.1 c.requires.2 in
     let passed = rw c.as_slice-statements.ensures.value at c.passed_operands.ensures in
-    let made = made_of_gathered c.args.gathered c.requires.0 c.of-whole.result.max c.passed_operands.result c.limits_of.result c.counts-counts.result c.requires.1 is whole.max passed c.limits_of.ensures c.counts-counts.ensures in
+    let made = made_of_gathered c.args.gathered c.requires.0 c.of-whole.result.max c.passed_operands.result c.limits_of.result c.counts-counts.result c.of-whole.result.double c.requires.1 is whole.max passed c.limits_of.ensures c.counts-counts.ensures whole.double in
     rw c.into_inner.ensures (all_sound c.args.gathered.kept.items _ made is.read c.requires.1.named is.free)
 
 pub returns-clause-found : goal.returns-clause-found
@@ -49,7 +49,7 @@ returns-clause-found c = λ ss was read.
     let whole = subst (IsWhole c.of-whole.result) c.as_slice-statements.ensures.value c.of-whole.ensures in
     let is = gathered_free c.args.gathered c.of-whole.result c.first_outer_fault-outer.result c.earlier.result ss looked whole c.earlier.ensures c.in_default.is was read in
     let passed = rw c.as_slice-statements.ensures.value at c.passed_operands.ensures in
-    let made = c.in_ok-generation.ensures ∙ rw c.into_inner.ensures (made_of_gathered c.args.gathered ss c.of-whole.result.max c.passed_operands.result c.limits_of.result c.counts-counts.result was is whole.max passed c.limits_of.ensures c.counts-counts.ensures) in
+    let made = c.in_ok-generation.ensures ∙ rw c.into_inner.ensures (made_of_gathered c.args.gathered ss c.of-whole.result.max c.passed_operands.result c.limits_of.result c.counts-counts.result c.of-whole.result.double was is whole.max passed c.limits_of.ensures c.counts-counts.ensures whole.double) in
     subst (λ (xs : List Statement). (c.in_ok-generation.generation ≡ generated xs) × AreFaultless xs) (sym is.all) (made, is.free)
 
 pub returns-clause-only : goal.returns-clause-only

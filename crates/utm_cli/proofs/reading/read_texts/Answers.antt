@@ -48,5 +48,5 @@ returns-in_err-texts-clause-made_there g c = λ n word is. c.in_err-texts.ensure
 pub returns-clause-made : goal.returns-clause-made
 returns-clause-made g c = λ n word why is.
     let made = c.in_ok-texts.ensures.made n word in
-    c.asked_of.ensures.made n (subst (λ (w : Word). IsForm w) word c.requires)
+    c.asked_of.ensures.made n word (subst (λ (w : Word). IsForm w) word c.requires)
     (record { definition_is = c.deref.ensures.value ∙ made.definition_is; units_are = c.deref-2.ensures.value ∙ made.units_are; script_is = c.deref-3.ensures.value ∙ made.script_is }) why is

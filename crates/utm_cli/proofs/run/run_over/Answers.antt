@@ -1,4 +1,4 @@
-use Rattle.std.proofs.Common.{◌≡◌, ◌∙◌, inl, sym, ap, subst, refl}
+use Rattle.std.proofs.Common.{◌≡◌, ◌∙◌, inl, List, ℕ, sym, ap, subst, refl}
 use Rattle.std.proofs.lemmas.Result.{on_ok_weaker}
 use Rattle.kd_device.specs.Device.{LeavesOnly}
 use Rattle.kdcs_types.specs.Tables.{TableRows, empty_tables}
@@ -6,11 +6,15 @@ use Rattle.abstract_monitor.specs.Listing.{listing}
 use Rattle.kdcfile_update.specs.Updating.{Stored}
 use Rattle.utm_cli.specs.MadeReport.{report_of}
 use Rattle.utm_cli.specs.declared.words.Word.{Word}
-use Rattle.utm_cli.specs.declared.words.Word.TheVariants.{Show, Make}
+use Rattle.utm_cli.specs.declared.words.Word.TheVariants.{Show, Trail, Audit, Make}
 use Rattle.utm_cli.specs.Asking.{Errand, app_of}
-use Rattle.utm_cli.specs.Doing.{IsOverFile, StartsBy, Starts, own}
-use Rattle.utm_cli.specs.Promise.{IsCutOfRun, LeavesLines, MakesFile}
-use Rattle.utm_cli.proofs.ByWord.{OpensFile, starts, refuses_opening, for_opened, is_there, opening_over, stored_word, stored_opening, ran_stored, cut_stored, hands_on, may_hand_on, SendsAside, ran_aside, cut_aside}
+use Rattle.utm_cli.specs.Doing.{IsOverFile, HoldsAll, StartsBy, Starts, RefusesBy, own, trail_of, entry_count}
+use Rattle.utm_cli.specs.Words.{IsOfBase}
+use Rattle.trail_words.specs.Auditing.{verdict_line}
+use Rattle.trail_words.specs.Trailing.{HasBytes}
+use Rattle.trail_words.specs.declared.verdict.Verdict.TheVariants.{Holds}
+use Rattle.utm_cli.specs.Promise.{Ran, IsCutOfRun, LeavesLines, MakesFile}
+use Rattle.utm_cli.proofs.ByWord.{OpensFile, starts, refuses_opening, for_opened, is_there, opened_once, opening_over, stored_word, stored_opening, ran_stored, cut_stored, hands_on, may_hand_on, over_of_base, SendsAside, ran_aside, cut_aside}
 use Rattle.utm_cli.proofs.Updated.{update_over, update_starts, update_takes, update_refuses, update_own, update_ran, update_cut, update_written}
 use Rattle.utm_cli.proofs.Writing.{run_written}
 use Rattle.utm_cli.proofs.run.run_over.Given.{Over}
@@ -36,7 +40,7 @@ pub returns-in-Gen-clause-refused : goal.returns-in-Gen-clause-refused
 returns-in-Gen-clause-refused g c = λ why is told. refuses_opening c.args.asked _ (opening g c) why (c.run_stored.ensures.refused why is told)
 
 pub returns-in-Gen-clause-looks : goal.returns-in-Gen-clause-looks
-returns-in-Gen-clause-looks g c = λ why is. over g c
+returns-in-Gen-clause-looks g c = λ why is. over_of_base c.args.asked (over g c)
 
 pub returns-in-Gen-clause-still : goal.returns-in-Gen-clause-still
 returns-in-Gen-clause-still g c = λ told none. c.run_stored.ensures.still told (λ t from. none (own c.args.asked t) (starts c.args.asked _ (opening g c) t from))
@@ -83,7 +87,7 @@ pub returns-in-Show-clause-refused : goal.returns-in-Show-clause-refused
 returns-in-Show-clause-refused g c = λ why is told. refuses_opening c.args.asked _ (shows_file _ c.args.asked c.asked.view_is c.in-Show.is) why (c.show_over.ensures.refused why is told)
 
 pub returns-in-Show-clause-looks : goal.returns-in-Show-clause-looks
-returns-in-Show-clause-looks g c = λ why is. opening_over c.args.asked (shows_file _ c.args.asked c.asked.view_is c.in-Show.is)
+returns-in-Show-clause-looks g c = λ why is. over_of_base c.args.asked (opening_over c.args.asked (shows_file _ c.args.asked c.asked.view_is c.in-Show.is))
 
 pub returns-in-Show-clause-still : goal.returns-in-Show-clause-still
 returns-in-Show-clause-still g c = λ told none. c.show_over.ensures.still told (λ t from. none (own c.args.asked t) (starts c.args.asked _ (shows_file _ c.args.asked c.asked.view_is c.in-Show.is) t from))
@@ -120,7 +124,7 @@ pub returns-in-Update-clause-refused : goal.returns-in-Update-clause-refused
 returns-in-Update-clause-refused g c = λ why is told. update_refuses _ c.args.asked c.asked.view_is c.in-Update.is _ why (c.update_over.ensures.refused why is told)
 
 pub returns-in-Update-clause-looks : goal.returns-in-Update-clause-looks
-returns-in-Update-clause-looks g c = λ why is. update_over _ c.args.asked c.asked.view_is c.in-Update.is
+returns-in-Update-clause-looks g c = λ why is. over_of_base c.args.asked (update_over _ c.args.asked c.asked.view_is c.in-Update.is)
 
 pub returns-in-Update-clause-still : goal.returns-in-Update-clause-still
 returns-in-Update-clause-still g c = λ told none. c.update_over.ensures.still told (λ s takes. none s (update_starts _ c.args.asked c.asked.view_is c.in-Update.is _ s takes))
@@ -141,6 +145,111 @@ returns-in-Update-clause-named g c = on_ok_weaker c.update_over.result (λ h tol
 
 pub returns-in-Update-clause-written : goal.returns-in-Update-clause-written
 returns-in-Update-clause-written g c = λ told. update_written _ c.args.asked c.asked.view_is c.in-Update.is _ _ (c.update_over.ensures.written told)
+
+-- ---- trail
+
+trails : (v e : Errand) → v ≡ e → v.word ≡ Trail → e.word ≡ Trail
+trails v e same is = sym (ap (λ (x : Errand). x.word) same) ∙ is
+
+trails_file : (v e : Errand) → v ≡ e → v.word ≡ Trail → OpensFile e.word
+trails_file v e same is = subst OpensFile (sym (trails v e same is)) tt
+
+tells : (v e : Errand) → v ≡ e → v.word ≡ Trail → (t : TableRows) → SendsAside e.word e t (trail_of e t)
+tells v e same is t = subst (λ (word : Word). SendsAside word e t (trail_of e t)) (sym (trails v e same is)) refl
+
+pub returns-in-Trail-clause-done : goal.returns-in-Trail-clause-done
+returns-in-Trail-clause-done g c =
+    on_ok_weaker c.trail_over.result
+    (λ h told. let did = h told in (own c.args.asked did.0, starts c.args.asked _ (trails_file _ c.args.asked c.asked.view_is c.in-Trail.is) did.0 did.1, ran_aside c.args.asked did.0 (trail_of c.args.asked did.0) (tells _ c.args.asked c.asked.view_is c.in-Trail.is did.0) _ _ (g.D.Device.leaves c.args.device.now) _ did.2)) c.trail_over.ensures.done
+
+pub returns-in-Trail-clause-refused : goal.returns-in-Trail-clause-refused
+returns-in-Trail-clause-refused g c = λ why is told. refuses_opening c.args.asked _ (trails_file _ c.args.asked c.asked.view_is c.in-Trail.is) why (c.trail_over.ensures.refused why is told)
+
+pub returns-in-Trail-clause-looks : goal.returns-in-Trail-clause-looks
+returns-in-Trail-clause-looks g c = λ why is. over_of_base c.args.asked (opening_over c.args.asked (trails_file _ c.args.asked c.asked.view_is c.in-Trail.is))
+
+pub returns-in-Trail-clause-still : goal.returns-in-Trail-clause-still
+returns-in-Trail-clause-still g c = λ told none. c.trail_over.ensures.still told (λ t from. none (own c.args.asked t) (starts c.args.asked _ (trails_file _ c.args.asked c.asked.view_is c.in-Trail.is) t from))
+
+pub returns-in-Trail-clause-any_moment : goal.returns-in-Trail-clause-any_moment
+returns-in-Trail-clause-any_moment g c = λ told only s from.
+    let a = g.D.Device.state c.args.device.now in
+    let b = g.D.Device.state c.trail_over.new.device in
+    for_opened c.args.asked _ (trails_file _ c.args.asked c.asked.view_is c.in-Trail.is) (λ (u : Stored). LeavesOnly a b (g.D.Device.leaves c.args.device.now) (g.D.Device.leaves c.trail_over.new.device) (IsCutOfRun c.args.asked u a))
+    (λ t opens. cut_aside c.args.asked t (trail_of c.args.asked t) (tells _ c.args.asked c.asked.view_is c.in-Trail.is t) _ _ _ _ only (c.trail_over.ensures.front told t opens)) s from
+
+pub returns-in-Trail-clause-left : goal.returns-in-Trail-clause-left
+returns-in-Trail-clause-left g c = λ told s from alone.
+    for_opened c.args.asked _ (trails_file _ c.args.asked c.asked.view_is c.in-Trail.is) (λ (u : Stored). LeavesLines c.args.asked u (g.D.Device.state c.args.device.now) (g.D.Device.state c.trail_over.new.device))
+    (λ t opens lines. (c.trail_over.ensures.front told t opens).part.disk) s from
+
+pub returns-in-Trail-clause-names : goal.returns-in-Trail-clause-names
+returns-in-Trail-clause-names g c = λ told. may_hand_on c.args.asked (opening_over c.args.asked (trails_file _ c.args.asked c.asked.view_is c.in-Trail.is)) _ _ _ (c.trail_over.ensures.names told)
+
+pub returns-in-Trail-clause-named : goal.returns-in-Trail-clause-named
+returns-in-Trail-clause-named g c = on_ok_weaker c.trail_over.result (λ h told. hands_on c.args.asked (opening_over c.args.asked (trails_file _ c.args.asked c.asked.view_is c.in-Trail.is)) _ _ _ (h told)) c.trail_over.ensures.named
+
+pub returns-in-Trail-clause-written : goal.returns-in-Trail-clause-written
+returns-in-Trail-clause-written g c = λ told. inl (c.trail_over.ensures.unwritten told)
+
+pub returns-in-Trail-clause-bytes : goal.returns-in-Trail-clause-bytes
+returns-in-Trail-clause-bytes g c =
+    on_ok_weaker c.trail_over.result
+    (λ h told s from word.
+    let e = c.args.asked in
+    let did = h told in
+    for_opened e _ (trails_file _ e c.asked.view_is c.in-Trail.is) (λ (u : Stored). HasBytes (app_of e) e.fingerprint u.tables e.commands)
+    (λ t opens. subst (λ (v : TableRows). HasBytes (app_of e) e.fingerprint v e.commands) (opened_once e _ did.0 t did.1 opens) did.3) s from) c.trail_over.ensures.done
+
+-- ---- audit
+
+audits : (v e : Errand) → v ≡ e → v.word ≡ Audit → e.word ≡ Audit
+audits v e same is = sym (ap (λ (x : Errand). x.word) same) ∙ is
+
+audits_base : (v e : Errand) → v ≡ e → v.word ≡ Audit → IsOfBase e.word
+audits_base v e same is = subst IsOfBase (sym (audits v e same is)) tt
+
+audits_starts : (v e : Errand) → v ≡ e → v.word ≡ Audit → (bytes : List ℕ) (s : Stored) → HoldsAll e s → Starts e bytes s
+audits_starts v e same is bytes s holds = subst (λ (word : Word). StartsBy word e bytes s) (sym (audits v e same is)) holds
+
+audits_holds : (v e : Errand) → v ≡ e → v.word ≡ Audit → (bytes : List ℕ) (s : Stored) → Starts e bytes s → HoldsAll e s
+audits_holds v e same is bytes s from = subst (λ (word : Word). StartsBy word e bytes s) (audits v e same is) from
+
+judges : (v e : Errand) → v ≡ e → v.word ≡ Audit → (t : TableRows) → SendsAside e.word e t (verdict_line (Holds (entry_count e.trail)))
+judges v e same is t = subst (λ (word : Word). SendsAside word e t (verdict_line (Holds (entry_count e.trail)))) (sym (audits v e same is)) refl
+
+-- what is stored is the errand's own, with the tables at the start
+own_start : (e : Errand) (s : Stored) → HoldsAll e s → s ≡ own e s.tables
+own_start e s holds = holds.start ∙ ap (λ (x : Stored). own e x.tables) (sym holds.start)
+
+pub returns-in-Audit-clause-done : goal.returns-in-Audit-clause-done
+returns-in-Audit-clause-done g c =
+    on_ok_weaker c.audit.result
+    (λ h told.
+    let e = c.args.asked in
+    let s = h.0 in
+    (s, audits_starts _ e c.asked.view_is c.in-Audit.is _ s h.1, subst (λ (u : Stored). Ran e u _ _ _) (sym (own_start e s h.1)) (ran_aside e s.tables _ (judges _ e c.asked.view_is c.in-Audit.is s.tables) _ _ (g.D.Device.leaves c.args.device.now) _ (h.2 told)))) c.audit.ensures.done
+
+pub returns-in-Audit-clause-refused : goal.returns-in-Audit-clause-refused
+returns-in-Audit-clause-refused g c = λ why is told. subst (λ (word : Word). RefusesBy word c.args.asked (g.D.Device.state c.args.device.now).holds why) (sym (audits _ c.args.asked c.asked.view_is c.in-Audit.is)) (c.audit.ensures.refused why is)
+
+pub returns-in-Audit-clause-looks : goal.returns-in-Audit-clause-looks
+returns-in-Audit-clause-looks g c = λ why is. audits_base _ c.args.asked c.asked.view_is c.in-Audit.is
+
+pub returns-in-Audit-clause-still : goal.returns-in-Audit-clause-still
+returns-in-Audit-clause-still g c = λ told none. c.audit.ensures.still told (λ s holds. none s (audits_starts _ c.args.asked c.asked.view_is c.in-Audit.is _ s holds))
+
+pub returns-in-Audit-clause-any_moment : goal.returns-in-Audit-clause-any_moment
+returns-in-Audit-clause-any_moment g c = λ told only s from.
+    let e = c.args.asked in
+    let a = g.D.Device.state c.args.device.now in
+    let b = g.D.Device.state c.audit.new.device in
+    let holds = audits_holds _ e c.asked.view_is c.in-Audit.is a.holds s from in
+    subst (λ (u : Stored). LeavesOnly a b (g.D.Device.leaves c.args.device.now) (g.D.Device.leaves c.audit.new.device) (IsCutOfRun e u a)) (sym (own_start e s holds))
+    (cut_aside e s.tables _ (judges _ e c.asked.view_is c.in-Audit.is s.tables) _ _ _ _ only (c.audit.ensures.front told))
+
+pub returns-in-Audit-clause-written : goal.returns-in-Audit-clause-written
+returns-in-Audit-clause-written g c = λ told. inl (c.audit.ensures.front told).part.disk.put
 
 -- ---- make
 

@@ -3,19 +3,23 @@ use Rattle.std.specs.Prelude.{IsTrue}
 use Rattle.std.specs.String.{string_bytes}
 use Rattle.refusals.specs.declared.error.Refusal.{Refusal}
 use Rattle.refusals.specs.declared.error.TextError.{TextError}
-use Rattle.refusals.specs.Statuses.{status_of}
+use Rattle.refusals.specs.Statuses.{status_of, status_of_file}
 use Rattle.refusals.specs.Lines.{refusal_line, file_line}
 use Rattle.utm_cli.specs.Words.{request_of}
 use Rattle.device_acts.specs.Said.{Said, SaidPart}
 use Rattle.utm_cli.specs.Asking.{Reading, AreThere}
-use Rattle.utm_cli.specs.Doing.{Starts, Refuses}
+use Rattle.refusals.specs.declared.error.FileRefusal.{FileRefusal}
+use Rattle.utm_cli.specs.Doing.{AuditRefuses, Starts, Refuses}
+use Rattle.utm_cli.specs.Parts.{HasTrailBytes}
+use Rattle.utm_cli.specs.declared.words.Word.TheVariants.{Audit}
+use Rattle.utm_cli.proofs.Audited.{own_errand, own_reading, own_not_refused}
 use Rattle.utm_cli.specs.declared.words.Word.{Word}
 use Rattle.refusals.specs.Statuses.{IsOneOf}
 use Rattle.utm_cli.specs.Promise.{Request, Reads, IsCutOfRun, LeavesFile, AttachedBy}
 use Rattle.utm_cli.proofs.Asking.{reads_of, one_reading, not_missed, misses_of, ok_not, moved, err_not, err_same, cut_at_call, cut_since_call}
 use Rattle.utm_cli.proofs.Ends.{ends}
-use Rattle.utm_cli.proofs.Codes.{of_run, of_file, of_done, of_refused, not_refused, not_device}
-use Rattle.utm_cli.proofs.MadeReading.{asked_make, looks_not, not_of_file}
+use Rattle.utm_cli.proofs.Codes.{of_run, of_done, of_refused, not_refused, not_device, none_refused, with_room}
+use Rattle.utm_cli.proofs.MadeReading.{asked_make, looks_not}
 use Rattle.utm_cli.proofs.top.utm.Given.{Over}
 use Rattle.utm_cli.proofs.top.utm.Goals as goal
 
@@ -54,7 +58,7 @@ pub returns-in-Ok-clause-file : goal.returns-in-Ok-clause-file
 returns-in-Ok-clause-file g c = λ told told_device f said why.
     let one = one_said g c told in
     let a = g.D.Device.state c.args.device.now in
-    moved _ _ _ one (λ x. Refuses x a.holds why → IsOneOf (4 ∷ 6 ∷ 5 ∷ 7 ∷ []) c.run.result.code) f said (λ refuses. of_file c.run.result.code (c.run.ensures.refused told_device why refuses))
+    moved _ _ _ one (λ x. Refuses x a.holds why → IsOneOf (status_of_file why ∷ 6 ∷ 5 ∷ 7 ∷ []) c.run.result.code) f said (λ refuses. of_refused (status_of_file why) c.run.result.code (c.run.ensures.refused told_device why refuses))
 
 pub returns-in-Ok-clause-file_only : goal.returns-in-Ok-clause-file_only
 returns-in-Ok-clause-file_only g c = λ code.
@@ -135,9 +139,30 @@ returns-in-Ok-clause-attached g c = λ code told_device.
 pub returns-in-Ok-clause-make_accepted : goal.returns-in-Ok-clause-make_accepted
 returns-in-Ok-clause-make_accepted g c = λ n operand requested.
     let word = asked_make (map string_bytes c.args.words.now.items) c.in-Some.word c.in-Some.base.now n operand (asked_ok g c) requested in
-    not_of_file c.run.result.code c.run.ensures.code (λ four. looks_not c.in-Ok.asked.word n (c.in-Ok.ensures.word ∙ word) (c.run.ensures.looks four))
+    none_refused c.run.result.code c.run.ensures.code (λ code. looks_not c.in-Ok.asked.word n (c.in-Ok.ensures.word ∙ word) (c.run.ensures.looks code))
+
+pub returns-in-Ok-clause-trailed : goal.returns-in-Ok-clause-trailed
+returns-in-Ok-clause-trailed g c = λ told told_device f s said starts trail code.
+    let one = one_said g c told in
+    let a = g.D.Device.state c.args.device.now in
+    moved _ _ _ one (λ x. Starts x a.holds s → HasTrailBytes x s) f said (λ from. c.run.ensures.bytes code told_device s from) starts trail
+
+pub returns-in-Ok-clause-own_trails : goal.returns-in-Ok-clause-own_trails
+returns-in-Ok-clause-own_trails g c = λ told own.
+    let one = one_said g c told in
+    let e = own_errand c.own_trails_hold.ensures _ _ own in
+    with_room c.run.result.code (none_refused c.run.result.code c.run.ensures.code (λ code.
+    let refused = moved _ _ _ one (λ x. x.word ≡ Audit → (why : FileRefusal) × AuditRefuses x why) e (own_reading c.own_trails_hold.ensures _ _ own) (λ word. c.run.ensures.judged code word) refl in
+    own_not_refused c.own_trails_hold.ensures _ _ own c.verdicts_exclude_each_other.ensures refused.0 refused.1))
 
 -- ---- they are refused
+
+pub returns-in-Err-Refused-clause-trailed : goal.returns-in-Err-Refused-clause-trailed
+returns-in-Err-Refused-clause-trailed g c = λ told told_device f s said. absurd (err_not _ _ _ (one_refused g c told) f said)
+
+pub returns-in-Err-Refused-clause-own_trails : goal.returns-in-Err-Refused-clause-own_trails
+returns-in-Err-Refused-clause-own_trails g c = λ told own.
+    absurd (err_not _ _ _ (one_refused g c told) (own_errand c.own_trails_hold.ensures _ _ own) (own_reading c.own_trails_hold.ensures _ _ own))
 
 pub returns-in-Err-Refused-clause-make_accepted : goal.returns-in-Err-Refused-clause-make_accepted
 returns-in-Err-Refused-clause-make_accepted g c = λ n operand requested.

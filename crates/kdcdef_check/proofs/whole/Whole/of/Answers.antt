@@ -10,4 +10,5 @@ returns c =
       users = c.users.ensures ∙ c.requires.counts 3 (omega arith) ∙ user_count ss;
       restarts = c.restart_count.ensures.count;
       lterms = c.lterms.ensures ∙ c.requires.counts 5 (omega arith) ∙ lterm_count ss;
+      double = c.double_said.ensures;
     }

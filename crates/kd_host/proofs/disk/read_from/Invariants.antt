@@ -1,5 +1,5 @@
 use Rattle.std.proofs.Common.{◌≤◌, ◌-◌, length}
-use Rattle.kd_host.proofs.device.read_from.Given as goal
+use Rattle.kd_host.proofs.disk.read_from.Given as goal
 
 abbrev pub invariant-loop-count : goal.invariant-loop-count
 invariant-loop-count g l = l.count ≤ length l.into

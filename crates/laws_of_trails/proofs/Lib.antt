@@ -1,0 +1,13 @@
+pub mod HoldsStatements
+pub mod HoldsJobs
+pub mod HoldsTurns
+pub mod HoldsCommands
+pub mod HoldsEntries
+pub mod HoldsAlong
+pub mod WrittenCalls
+pub mod WrittenTables
+pub mod WrittenRows
+pub mod WrittenSteps
+pub mod WrittenEntries
+pub mod WrittenMakers
+pub mod WrittenTrails

@@ -1,0 +1,4 @@
+pub mod HoldsFacts
+pub mod InTurn
+pub mod OwnTrails
+pub mod WrittenNames
