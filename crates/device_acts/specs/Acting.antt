@@ -43,11 +43,30 @@ pub record WithinActs {X : Type 0} (after : X → List Act → X) (stands : X �
   pub any_moment : IsTrue a.told → LeavesOnly a b la lb (IsCutOf after stands start acts a.sent)
   pub quiet : IsTrue a.told → commits_nothing acts ≡ true → SameDisk a b
 
--- all their lines were sent, a stop leaves just the bytes of the store, and no call failed
+-- all their lines were sent, a stop leaves just the bytes of the store's one file, and no call failed
 pub record Sent (file : List ℕ → Type 0) (acts : List Act) (a b : State) (lb : ℕ → List ℕ → List ℕ → Type 0) : Type 0 where
   pub rest : IsTrue a.told → IsKept file b lb
   pub sent : IsTrue a.told → b.sent ≡ a.sent ++ bytes_of acts
   pub faults : SameFaults a b
+
+-- a stop now leaves no image but those of the files
+abbrev pub IsKeptBy : (file : List ℕ → Type 0) → State → (ℕ → List ℕ → List ℕ → Type 0) → Type 0
+IsKeptBy file s leaves = (c : List ℕ) → leaves s.moment c s.sent → file c
+
+-- what holds where no call failed goes on from one part to the next
+pub record GoesOn (fine : State → State → Type 0) : Type 0 where
+  pub none : (a : State) → fine a a
+  pub after : (a b d : State) → fine a b → fine b d → fine a d
+
+-- all their lines were sent, a stop leaves no image but those of the files, and the calls were fine
+pub record Performed (fine : State → State → Type 0) (file : List ℕ → Type 0) (acts : List Act) (a b : State) (lb : ℕ → List ℕ → List ℕ → Type 0) : Type 0 where
+  pub rest : IsTrue a.told → IsKeptBy file b lb
+  pub sent : IsTrue a.told → b.sent ≡ a.sent ++ bytes_of acts
+  pub calls : fine a b
+
+-- the bytes of a single file, as reads give them
+abbrev pub OwnFile : (file : List ℕ → Type 0) → State → List ℕ → Type 0
+OwnFile file s c = file c × (c ≡ s.holds)
 
 -- the lines of some first acts were sent beyond the bytes before, and perhaps a part of the line that is next, and the bytes that were written since are at most those that these acts write
 pub record WritesUpTo (most : List Act → ℕ) (acts : List Act) (a b : State) : Type 0 where

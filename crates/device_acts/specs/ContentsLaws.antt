@@ -2,19 +2,19 @@
 use Rattle.std.proofs.Common.{◌≡◌, inl, inr, ℕ, ◌+◌, ◌<◌, List, [], ◌∷◌, ◌++◌, length, take, drop, get_or, refl, sym, ap, subst, ◌∙◌}
 use Rattle.std.specs.Prelude.{IsTrue, true}
 use Rattle.std.proofs.lemmas.List.{append-nil, drop_more}
-use Rattle.kd_device.specs.Device.{State, Frame, SameFaults, SameNames, LeavesOnly}
+use Rattle.kd_device.specs.Device.{State, Frame, SameNames, LeavesOnly}
 use Rattle.kd_device.specs.TimeLaws.{leaves_weaker}
 use Rattle.kd_records.specs.Contents.{patched}
 use Rattle.kd_records.specs.Identity.{Identity}
 use Rattle.kd_records.specs.declared.content.Content.{Content}
 use Rattle.kd_records.specs.declared.content.Patch.{Patch}
-use Rattle.kdcfile_store.specs.Kept.{IsKept, OldOrNew}
+use Rattle.kdcfile_store.specs.Kept.{OldOrNew}
 use Rattle.kdcs_types.specs.declared.act.Act.{Act}
 use Rattle.kdcs_types.specs.declared.act.Act.TheVariants.{Commit, Emit}
 use Rattle.kdcs_types.specs.declared.act.Changes.{Changes}
 use Rattle.abstract_monitor.specs.Trace.{bytes_of}
 use Rattle.record_codec.specs.Records.{patch_of}
-use Rattle.device_acts.specs.Acting.{commits_nothing, IsCutOf, WithinActs, Sent, content_after, AreCommittable}
+use Rattle.device_acts.specs.Acting.{commits_nothing, IsCutOf, IsKeptBy, Performed, WithinActs, content_after, AreCommittable}
 use Rattle.device_acts.specs.Said.{Said, SaidPart}
 use Rattle.device_acts.specs.ActingLaws.{Goes, one_more, cut_none, cut_after, cut_within_line}
 
@@ -78,11 +78,11 @@ module _ (stands : Content → List ℕ → Type 0) (x : Content) (act : Act) (a
     quiet = λ told lines. absurd (not_lines c act is lines);
   }
 
-  pub commit_sent : (file : List ℕ → Type 0) (c : Changes) → act ≡ Commit c → (IsTrue a.told → IsKept file b lb) → (IsTrue a.told → b.sent ≡ a.sent) → SameFaults a b → Sent file (act ∷ []) a b lb
-  commit_sent file c is kept sent faults = record {
+  pub commit_sent : (fine : State → State → Type 0) (file : List ℕ → Type 0) (c : Changes) → act ≡ Commit c → (IsTrue a.told → IsKeptBy file b lb) → (IsTrue a.told → b.sent ≡ a.sent) → fine a b → Performed fine file (act ∷ []) a b lb
+  commit_sent fine file c is kept sent went = record {
     rest = kept;
     sent = λ told. sent told ∙ sym (ap (λ (l : List ℕ). a.sent ++ l) (ap (λ (y : Act). bytes_of (y ∷ [])) is ∙ bytes_of_commit c) ∙ append-nil a.sent);
-    faults = faults;
+    calls = went;
   }
 
 -- ---- a line
@@ -91,9 +91,9 @@ bytes_of_line : (line : List ℕ) → bytes_of (Emit line ∷ []) ≡ line
 unfolding bytes_of
 bytes_of_line line = append-nil line
 
--- what a store has at rest, a stop before a line leaves
-pub rest_stands : (file stands : List ℕ → Type 0) (a : State) (la : ℕ → List ℕ → List ℕ → Type 0) → ((bytes : List ℕ) → file bytes → stands bytes) → IsKept file a la → (c : List ℕ) → la a.moment c a.sent → stands c
-rest_stands file stands a la means kept c left = subst stands (sym (kept.at_rest c left)) (means a.holds kept.bytes)
+-- what a keeper has at rest, a stop before a line leaves
+pub rest_stands : (file stands : List ℕ → Type 0) (a : State) (la : ℕ → List ℕ → List ℕ → Type 0) → ((c : List ℕ) → file c → stands c) → IsKeptBy file a la → (c : List ℕ) → la a.moment c a.sent → stands c
+rest_stands file stands a la means kept c left = means c (kept c left)
 
 -- a line that was sent, or a front of it
 module _ {X : Type 0} (after : X → List Act → X) (goes : Goes after) (stands : X → List ℕ → Type 0) (x : X) (a b : State) (la lb : ℕ → List ℕ → List ℕ → Type 0) (act : Act) (line : List ℕ) (is : act ≡ Emit line) where
@@ -111,9 +111,9 @@ module _ {X : Type 0} (after : X → List Act → X) (goes : Goes after) (stands
   }
 
 -- a line that was sent
-pub line_sent : (file : List ℕ → Type 0) (a b : State) (la lb : ℕ → List ℕ → List ℕ → Type 0) (act : Act) (line : List ℕ) → act ≡ Emit line → (IsTrue a.told → IsKept file a la) → (IsTrue a.told → (c : List ℕ) → lb b.moment c b.sent → la a.moment c a.sent) → (IsTrue a.told → Said line a b) → SameFaults a b → Sent file (act ∷ []) a b lb
-line_sent file a b la lb act line is kept stop said faults = record {
-  rest = λ told. record { bytes = subst file (sym (said told).disk.holds) (kept told).bytes; at_rest = λ c left. (kept told).at_rest c (stop told c left) ∙ sym (said told).disk.holds };
+pub line_sent : (fine : State → State → Type 0) (file : List ℕ → Type 0) (a b : State) (lb : ℕ → List ℕ → List ℕ → Type 0) (act : Act) (line : List ℕ) → act ≡ Emit line → (IsTrue a.told → IsKeptBy file b lb) → (IsTrue a.told → Said line a b) → fine a b → Performed fine file (act ∷ []) a b lb
+line_sent fine file a b lb act line is kept said went = record {
+  rest = kept;
   sent = λ told. (said told).sent ∙ ap (λ (l : List ℕ). a.sent ++ l) (sym (ap (λ (y : Act). bytes_of (y ∷ [])) is ∙ bytes_of_line line));
-  faults = faults;
+  calls = went;
 }

@@ -5,3 +5,4 @@ pub mod ContentsLaws
 pub mod WritingLaws
 pub mod ErrorsLaws
 pub mod LinesLaws
+pub mod SingleLaws

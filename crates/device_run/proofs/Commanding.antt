@@ -1,7 +1,9 @@
 -- The steps of each command.
 use Rattle.std.proofs.Common.{◌≡◌, arith, ℕ, ◌+◌, List, [], ◌∷◌, sym, ap, subst, ◌∙◌}
 use Rattle.kd_device.specs.Device.{State}
-use Rattle.kdcfile_store.specs.Paged.{Paged}
+use Rattle.kd_records.specs.Identity.{Identity}
+use Rattle.kd_records.specs.declared.content.Content.{Content}
+use Rattle.kd_records.specs.declared.content.Patch.{Patch}
 use Rattle.abstract_monitor.specs.declared.command.Command.{Command}
 use Rattle.abstract_monitor.specs.declared.command.Command.TheVariants.{Run, Turn, Restart}
 use Rattle.abstract_monitor.specs.Commands.{ScriptStep, steps_of}
@@ -10,7 +12,7 @@ use Rattle.monitor_core.specs.CoreValue.{CoreValue}
 use Rattle.monitor_core.specs.Commanding.{IsSingle}
 use Rattle.laws_of_steps.specs.Cut.{commits_in}
 use Rattle.laws_of_runs.specs.HistoryLaws.{steps_of_restart}
-use Rattle.device_run.specs.Running.{IsRunning, WithinSteps, StepsWrite, DidSteps}
+use Rattle.device_run.specs.Keeping.{DidSteps, IsRunningWith, StepsWriteWith, WithinStepsWith}
 use Rattle.device_run.proofs.Counting.{commits_by, commits_of_one}
 use Rattle.device_run.proofs.Restarting.{acts_again}
 use Rattle.device_run.proofs.Stepping.{fingerprint_is}
@@ -25,18 +27,18 @@ turn_no_restart command task is restart = cc (sym is ∙ restart)
 pub single_no_restart : (command : Command) → IsSingle command → command ≡ Restart → ⊥
 single_no_restart command single restart = subst IsSingle restart single
 
-pub own_running : (fingerprint : List ℕ) (c : CoreValue) (store : Paged) → IsRunning fingerprint c store → IsRunning store.identity.fingerprint c store
-own_running fingerprint c store h = subst (λ f. IsRunning f c store) (sym (fingerprint_is fingerprint c store h)) h
+pub own_running : (fingerprint : List ℕ) (c : CoreValue) (j : Identity) (x : Content) → IsRunningWith fingerprint c j x → IsRunningWith j.fingerprint c j x
+own_running fingerprint c j x h = subst (λ f. IsRunningWith f c j x) (sym (fingerprint_is fingerprint c j x h)) h
 
-module _ (fingerprint : List ℕ) (c : CoreValue) (store : Paged) (running : IsRunning fingerprint c store) (command : Command) (steps : List ScriptStep) (is : steps_of c.application c.state command ≡ steps) where
-  pub command_within : (a b : State) (la lb : ℕ → List ℕ → List ℕ → Type 0) → WithinSteps store.identity.fingerprint c steps a b la lb → WithinSteps fingerprint c (steps_of c.application c.state command) a b la lb
-  command_within a b la lb h = subst (λ f. WithinSteps f c (steps_of c.application c.state command) a b la lb) (fingerprint_is fingerprint c store running) (subst (λ (l : List ScriptStep). WithinSteps store.identity.fingerprint c l a b la lb) (sym is) h)
+module _ (fingerprint : List ℕ) (c : CoreValue) (j : Identity) (x : Content) (running : IsRunningWith fingerprint c j x) (command : Command) (steps : List ScriptStep) (is : steps_of c.application c.state command ≡ steps) where
+  pub command_within : (stands : Identity → Content → List ℕ → Type 0) (a b : State) (la lb : ℕ → List ℕ → List ℕ → Type 0) → WithinStepsWith stands j.fingerprint c steps a b la lb → WithinStepsWith stands fingerprint c (steps_of c.application c.state command) a b la lb
+  command_within stands a b la lb h = subst (λ f. WithinStepsWith stands f c (steps_of c.application c.state command) a b la lb) (fingerprint_is fingerprint c j x running) (subst (λ (l : List ScriptStep). WithinStepsWith stands j.fingerprint c l a b la lb) (sym is) h)
 
-  pub command_writes : (a b : State) → StepsWrite store.identity.fingerprint c steps a b → StepsWrite fingerprint c (steps_of c.application c.state command) a b
-  command_writes a b h = subst (λ f. StepsWrite f c (steps_of c.application c.state command) a b) (fingerprint_is fingerprint c store running) (subst (λ (l : List ScriptStep). StepsWrite store.identity.fingerprint c l a b) (sym is) h)
+  pub command_writes : (most : Identity → Patch → ℕ) (a b : State) → StepsWriteWith most j.fingerprint c steps a b → StepsWriteWith most fingerprint c (steps_of c.application c.state command) a b
+  command_writes most a b h = subst (λ f. StepsWriteWith most f c (steps_of c.application c.state command) a b) (fingerprint_is fingerprint c j x running) (subst (λ (l : List ScriptStep). StepsWriteWith most j.fingerprint c l a b) (sym is) h)
 
-  pub did_command : (a b : State) (lb : ℕ → List ℕ → List ℕ → Type 0) (d : CoreValue) (store' : Paged) → DidSteps store.identity.fingerprint c steps d store' a b lb → DidSteps fingerprint c (steps_of c.application c.state command) d store' a b lb
-  did_command a b lb d store' h = subst (λ f. DidSteps f c (steps_of c.application c.state command) d store' a b lb) (fingerprint_is fingerprint c store running) (subst (λ (l : List ScriptStep). DidSteps store.identity.fingerprint c l d store' a b lb) (sym is) h)
+  pub did_command : (fine : State → State → Type 0) (a b : State) (lb : ℕ → List ℕ → List ℕ → Type 0) (d : CoreValue) (k : Identity) (y : Content) (file : List ℕ → Type 0) → DidSteps fine j.fingerprint c steps d k y file a b lb → DidSteps fine fingerprint c (steps_of c.application c.state command) d k y file a b lb
+  did_command fine a b lb d k y file h = subst (λ f. DidSteps fine f c (steps_of c.application c.state command) d k y file a b lb) (fingerprint_is fingerprint c j x running) (subst (λ (l : List ScriptStep). DidSteps fine j.fingerprint c l d k y file a b lb) (sym is) h)
 
 -- ---- its commits
 

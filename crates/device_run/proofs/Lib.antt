@@ -7,3 +7,4 @@ pub mod Scripts
 pub mod Storables
 pub mod Restarting
 pub mod Commanding
+pub mod Single

@@ -3,18 +3,19 @@ use Rattle.std.proofs.Common.{◌≡◌, ◌⊎◌, inl, inr, arith, ℕ, ◌+�
 use Rattle.std.specs.Prelude.{IsTrue, sum_by}
 use Rattle.std.proofs.lemmas.List.{append-nil, take_all}
 use Rattle.kd_device.specs.Device.{Rose, State as Device}
-use Rattle.kdcfile_store.specs.Kept.{IsKept}
-use Rattle.kdcfile_store.specs.Paged.{Paged, HasFile}
+use Rattle.kd_records.specs.Identity.{Identity}
+use Rattle.kd_records.specs.declared.content.Content.{Content}
+use Rattle.kd_records.specs.declared.content.Patch.{Patch}
 use Rattle.abstract_monitor.specs.CommandsOf.{IsCommandOf}
 use Rattle.laws_of_steps.specs.Keeping.{IsScriptOf}
 use Rattle.laws_of_steps.specs.Steps.{TurnsCommitOnce, CommandsCommitOnce}
 use Rattle.kdcs_types.specs.declared.act.Act.{Act}
 use Rattle.abstract_monitor.specs.Bytes.{Bytes}
-use Rattle.warm_start.specs.Stands.{StandsForTables}
 use Rattle.monitor_core.specs.CoreValue.{CoreValue}
 use Rattle.monitor_core.specs.CommandingLaws.{script_turns}
 use Rattle.monitor_core.specs.CoreSteps.{durable_of, turns_of}
-use Rattle.device_run.specs.Running.{identity_of, WithinSteps, StepsWrite, DidSteps, SaysNothing, SendsPart, StoppedIn}
+use Rattle.device_run.specs.Running.{identity_of, SaysNothing, SendsPart, StoppedIn}
+use Rattle.device_run.specs.Keeping.{DidSteps, StandsForRows, StepsWriteWith, WithinStepsWith}
 use Rattle.device_run.proofs.Counting.{commits_by, commits_both, command_commits}
 use Rattle.device_run.proofs.Stepping.{Stepping, stepping_within, stepping_writes, stepping_over, stepping_more}
 use Rattle.laws_of_runs.specs.HistoryLaws.{history_next}
@@ -25,7 +26,7 @@ use Rattle.abstract_monitor.specs.Commands.{ScriptStep, acts_of, steps_of, state
 use Rattle.abstract_monitor.specs.State.{Application, State}
 use Rattle.abstract_monitor.specs.Trace.{history, bytes_of, tables_after}
 use Rattle.device_acts.specs.ActingLaws.{around, no_bytes, one_more}
-use Rattle.device_acts.specs.Acting.{IsCutOf}
+use Rattle.device_acts.specs.Acting.{GoesOn, IsCutOf, IsKeptBy}
 
 module _ (app : Application) where
   history_both : (s : State) (cs ds : List Command) → history app s (cs ++ ds) ≡ history app s cs ++ history app (state_after s (history app s cs)) ds
@@ -70,18 +71,18 @@ sends_part after stands start acts sent image out (inr h) = record { since = h.s
 
 -- ---- the commands so far
 
-module _ (fingerprint : List ℕ) (c d : CoreValue) (store : Paged) (cs : List Command) (i : ℕ) (a b : Device) (la lb : ℕ → List ℕ → List ℕ → Type 0) (run : Stepping fingerprint c d store (history c.application c.state cs) (history c.application c.state (take i cs)) a b la lb) where
-  pub script_kept : IsTrue b.told → IsKept (HasFile store) b lb
+module _ (stands : Identity → Content → List ℕ → Type 0) (most : Identity → Patch → ℕ) (fine : Device → Device → Type 0) (on : GoesOn fine) (fingerprint : List ℕ) (c d : CoreValue) (j : Identity) (x : Content) (file : List ℕ → Type 0) (cs : List Command) (i : ℕ) (a b : Device) (la lb : ℕ → List ℕ → List ℕ → Type 0) (run : Stepping stands most fine fingerprint c d j x file (history c.application c.state cs) (history c.application c.state (take i cs)) a b la lb) where
+  pub script_kept : IsTrue b.told → IsKeptBy file b lb
   script_kept told = run.did.acts.rest (subst IsTrue run.within.frame.told told)
 
   -- all commands are done
-  pub script_over : length cs ≤ i → DidSteps fingerprint c (history c.application c.state cs) d store a b lb
-  script_over over = subst (λ (l : List Command). DidSteps fingerprint c (history c.application c.state l) d store a b lb) (take_all i cs over) run.did
+  pub script_over : length cs ≤ i → DidSteps fine fingerprint c (history c.application c.state cs) d j x file a b lb
+  script_over over = subst (λ (l : List Command). DidSteps fine fingerprint c (history c.application c.state l) d j x file a b lb) (take_all i cs over) run.did
 
   -- and what they write is known
-  pub script_written : length cs ≤ i → StepsWrite fingerprint c (history c.application c.state cs) a b
+  pub script_written : length cs ≤ i → StepsWriteWith most fingerprint c (history c.application c.state cs) a b
   script_written over =
-      stepping_over fingerprint c d store (history c.application c.state cs) (history c.application c.state (take i cs)) a b la lb run (ap (history c.application c.state) (sym (take_all i cs over)))
+      stepping_over stands most fine on fingerprint c d j x file (history c.application c.state cs) (history c.application c.state (take i cs)) a b la lb run (ap (history c.application c.state) (sym (take_all i cs over)))
 
   -- and all their commits counted
   pub script_counted_over : length cs ≤ i → (commits : ℕ) → commits ≡ commits_by (history c.application c.state (take i cs)) → commits ≡ commits_by (history c.application c.state cs)
@@ -89,7 +90,7 @@ module _ (fingerprint : List ℕ) (c d : CoreValue) (store : Paged) (cs : List C
 
   module _ (command : Command) (is : command ≡ get_or cs i command) (lt : i < length cs) where
     pub script_names : IsScriptOf c.application cs → IsCommandOf d.application.generation command
-    script_names names = subst (λ (x : Command). IsCommandOf d.application.generation x) (sym is) (subst (λ (app : Application). IsCommandOf app.generation (get_or cs i command)) (sym run.did.application) (names i command lt))
+    script_names names = subst (λ (z : Command). IsCommandOf d.application.generation z) (sym is) (subst (λ (app : Application). IsCommandOf app.generation (get_or cs i command)) (sym run.did.application) (names i command lt))
 
     same_steps : steps_of c.application d.state command ≡ steps_of d.application d.state command
     same_steps = ap (λ (app : Application). steps_of app d.state command) (sym run.did.application)
@@ -118,26 +119,26 @@ module _ (fingerprint : List ℕ) (c d : CoreValue) (store : Paged) (cs : List C
             ∙ sym (commits_both (history c.application c.state (take i cs)) (steps_of d.application d.state command))
             ∙ ap commits_by (sym (more told))
 
-    module _ (e : Device) (le : ℕ → List ℕ → List ℕ → Type 0) (step : WithinSteps fingerprint d (steps_of d.application d.state command) b e lb le) (writes : StepsWrite fingerprint d (steps_of d.application d.state command) b e) where
-      pub script_within : WithinSteps fingerprint c (history c.application c.state cs) a e la le
+    module _ (e : Device) (le : ℕ → List ℕ → List ℕ → Type 0) (step : WithinStepsWith stands fingerprint d (steps_of d.application d.state command) b e lb le) (writes : StepsWriteWith most fingerprint d (steps_of d.application d.state command) b e) where
+      pub script_within : WithinStepsWith stands fingerprint c (history c.application c.state cs) a e la le
       script_within =
-          stepping_within fingerprint c d store (history c.application c.state cs) (history c.application c.state (take i cs)) (steps_of d.application d.state command) (history c.application (state_after d.state (steps_of c.application d.state command)) (drop (i + 1) cs)) a b e la lb le run split step writes
+          stepping_within stands most fine on fingerprint c d j x file (history c.application c.state cs) (history c.application c.state (take i cs)) (steps_of d.application d.state command) (history c.application (state_after d.state (steps_of c.application d.state command)) (drop (i + 1) cs)) a b e la lb le run split step writes
 
-      pub script_writes : StepsWrite fingerprint c (history c.application c.state cs) a e
+      pub script_writes : StepsWriteWith most fingerprint c (history c.application c.state cs) a e
       script_writes =
-          stepping_writes fingerprint c d store (history c.application c.state cs) (history c.application c.state (take i cs)) (steps_of d.application d.state command) (history c.application (state_after d.state (steps_of c.application d.state command)) (drop (i + 1) cs)) a b e la lb le run split step writes
+          stepping_writes stands most fine on fingerprint c d j x file (history c.application c.state cs) (history c.application c.state (take i cs)) (steps_of d.application d.state command) (history c.application (state_after d.state (steps_of c.application d.state command)) (drop (i + 1) cs)) a b e la lb le run split step writes
 
-      pub script_more : (next : CoreValue) (store' : Paged) → DidSteps fingerprint d (steps_of d.application d.state command) next store' b e le → Stepping fingerprint c next store' (history c.application c.state cs) (history c.application c.state (take (i + 1) cs)) a e la le
-      script_more next store' did =
-          stepping_more fingerprint c d store (history c.application c.state cs) (history c.application c.state (take i cs)) (steps_of d.application d.state command) (history c.application (state_after d.state (steps_of c.application d.state command)) (drop (i + 1) cs)) a b e la lb le run split step writes next store'
+      pub script_more : (next : CoreValue) (k : Identity) (y : Content) (file' : List ℕ → Type 0) → DidSteps fine fingerprint d (steps_of d.application d.state command) next k y file' b e le → Stepping stands most fine fingerprint c next k y file' (history c.application c.state cs) (history c.application c.state (take (i + 1) cs)) a e la le
+      script_more next k y file' did =
+          stepping_more stands most fine on fingerprint c d j x file (history c.application c.state cs) (history c.application c.state (take i cs)) (steps_of d.application d.state command) (history c.application (state_after d.state (steps_of c.application d.state command)) (drop (i + 1) cs)) a b e la lb le run split step writes next k y file'
           (history c.application c.state (take (i + 1) cs)) more did
 
       -- the script stopped within this command
-      pub script_stopped : IsTrue a.told → (e.sent ≡ b.sent) ⊎ IsCutOf tables_after (StandsForTables (identity_of fingerprint d)) (durable_of d) (acts_of (steps_of d.application d.state command)) b.sent e.holds e.sent → (command ≡ Restart → SaysNothing b e) → StoppedIn c cs a e
-      script_stopped told cut unsaid =
+      pub script_stopped : IsTrue a.told → (image : List ℕ) → (e.sent ≡ b.sent) ⊎ IsCutOf tables_after (StandsForRows stands (identity_of fingerprint d)) (durable_of d) (acts_of (steps_of d.application d.state command)) b.sent image e.sent → (command ≡ Restart → SaysNothing b e) → StoppedIn c cs a e
+      script_stopped told image cut unsaid =
           let sent : b.sent ≡ a.sent ++ bytes_of (acts_of (history c.application c.state (take i cs))) = run.did.acts.sent told in
-          let steps : steps_of d.application d.state command ≡ steps_of c.application (state_after c.state (history c.application c.state (take i cs))) command = λ k. steps_of (run.did.application k) (run.did.state told k) command in
-          let part : SendsPart (acts_of (steps_of d.application d.state command)) b.sent e.sent = sends_part tables_after (StandsForTables (identity_of fingerprint d)) (durable_of d) (acts_of (steps_of d.application d.state command)) b.sent e.holds e.sent cut in
+          let steps : steps_of d.application d.state command ≡ steps_of c.application (state_after c.state (history c.application c.state (take i cs))) command = λ n. steps_of (run.did.application n) (run.did.state told n) command in
+          let part : SendsPart (acts_of (steps_of d.application d.state command)) b.sent e.sent = sends_part tables_after (StandsForRows stands (identity_of fingerprint d)) (durable_of d) (acts_of (steps_of d.application d.state command)) b.sent image e.sent cut in
           record {
             before = take i cs;
             command = command;

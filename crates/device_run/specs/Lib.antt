@@ -1,2 +1,4 @@
 pub mod Running
+pub mod Keeping
 pub mod HandedOnLaws
+pub mod SingleLaws

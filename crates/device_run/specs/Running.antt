@@ -1,19 +1,18 @@
--- A core and its store, between two steps of a script.
+-- A core and its store of one file, between two steps of a script.
 use Rattle.std.specs.Prelude.{◌≡◌, ◌⊎◌, ℕ, ◌+◌, IsTrue, List, [], ◌∷◌, ◌++◌}
-use Rattle.kd_device.specs.Device.{State, Only, Rose, SameFaults}
+use Rattle.kd_device.specs.Device.{State, Only, Rose}
 use Rattle.kd_records.specs.Identity.{Identity}
-use Rattle.kdcfile_store.specs.Kept.{IsKept}
+use Rattle.kd_records.specs.declared.content.Patch.{Patch}
 use Rattle.kdcfile_layout.specs.Bound.{write_bound}
-use Rattle.kdcfile_store.specs.Paged.{Paged, HasFile}
+use Rattle.kdcfile_store.specs.Paged.{Paged}
 use Rattle.kdcs_types.specs.declared.act.Act.{Act}
 use Rattle.kdcs_types.specs.declared.act.Act.TheVariants.{Commit, Emit}
-use Rattle.kdcs_types.specs.declared.act.Changes.{Changes}
 use Rattle.kdcs_types.specs.Tables.{TableRows}
 use Rattle.kdcdef_check.specs.Soundness.{AreLimits}
 use Rattle.abstract_monitor.specs.Bytes.{Bytes}
 use Rattle.abstract_monitor.specs.declared.command.Command.{Command}
 use Rattle.abstract_monitor.specs.declared.command.Command.TheVariants.{Restart}
-use Rattle.abstract_monitor.specs.Commands.{ScriptStep, acts_of, started, state_after, steps_of}
+use Rattle.abstract_monitor.specs.Commands.{ScriptStep, acts_of, state_after, steps_of}
 use Rattle.abstract_monitor.specs.Trace.{history, tables_after, bytes_of}
 use Rattle.laws_of_steps.specs.Applications.{IsApplication}
 use Rattle.laws_of_steps.specs.Cut.{IsCut, SentBy}
@@ -22,7 +21,7 @@ use Rattle.record_codec.specs.Records.{patch_of}
 use Rattle.warm_start.specs.Stands.{StandsForTables, KeepsTables, identity_for}
 use Rattle.monitor_core.specs.CoreSteps.{durable_of}
 use Rattle.monitor_core.specs.CoreValue.{CoreValue}
-use Rattle.device_acts.specs.Acting.{WithinActs, WritesUpTo, Sent}
+use Rattle.device_acts.specs.Acting.{WithinActs, WritesUpTo}
 
 -- what the file of this core was made with, from texts with this fingerprint
 abbrev pub identity_of : (fingerprint : List ℕ) → CoreValue → Identity
@@ -39,37 +38,19 @@ pub record IsRunning (fingerprint : List ℕ) (c : CoreValue) (store : Paged) : 
 abbrev pub WithinSteps : (fingerprint : List ℕ) → CoreValue → List ScriptStep → (a b : State) → (la lb : ℕ → List ℕ → List ℕ → Type 0) → Type 0
 WithinSteps fingerprint c steps a b la lb = WithinActs tables_after (StandsForTables (identity_of fingerprint c)) (durable_of c) (acts_of steps) a b la lb
 
--- how many bytes the commit of some changes writes at most, in a file that was made with this
-abbrev pub changes_most : Identity → Changes → ℕ
-changes_most i c = write_bound i (patch_of c)
+-- how many bytes the commits of some acts write at most, by the bound of a patch in files that were made with this; a line writes none
+abbrev pub commits_most_with : (Identity → Patch → ℕ) → Identity → List Act → ℕ
+commits_most_with most i [] = 0
+commits_most_with most i (Commit c ∷ acts) = most i (patch_of c) + commits_most_with most i acts
+commits_most_with most i (Emit line ∷ acts) = commits_most_with most i acts
 
--- and all commits of some acts; a line writes none
+-- and where they are kept in one file
 abbrev pub commits_most : Identity → List Act → ℕ
-commits_most i [] = 0
-commits_most i (Commit c ∷ acts) = changes_most i c + commits_most i acts
-commits_most i (Emit line ∷ acts) = commits_most i acts
+commits_most i acts = commits_most_with write_bound i acts
 
 -- whatever became of some steps of the core: the bytes written are at most those of the commits among some first acts, whose lines were sent
 abbrev pub StepsWrite : (fingerprint : List ℕ) → CoreValue → List ScriptStep → (a b : State) → Type 0
 StepsWrite fingerprint c steps a b = IsTrue a.told → WritesUpTo (commits_most (identity_of fingerprint c)) (acts_of steps) a b
-
--- the core came to the state after some steps, and all their acts are done
-pub record DidSteps (fingerprint : List ℕ) (c : CoreValue) (steps : List ScriptStep) (d : CoreValue) (store : Paged) (a b : State) (lb : ℕ → List ℕ → List ℕ → Type 0) : Type 0 where
-  pub application : d.application ≡ c.application
-  pub running : IsRunning fingerprint d store
-  pub state : IsTrue a.told → d.state ≡ state_after c.state steps
-  pub tables : IsTrue a.told → durable_of d ≡ tables_after (durable_of c) (acts_of steps)
-  pub acts : Sent (HasFile store) (acts_of steps) a b lb
-
--- the core is one that starts from the durable tables, which the store keeps, a stop leaves just its bytes, and no call failed
-pub record IsAgain (fingerprint : List ℕ) (c d : CoreValue) (store : Paged) (a b : State) (lb : ℕ → List ℕ → List ℕ → Type 0) : Type 0 where
-  pub application : d.application ≡ c.application
-  pub running : IsRunning fingerprint d store
-  pub steps : d.steps ≡ 0
-  pub state : IsTrue a.told → d.state ≡ started c.application (durable_of c)
-  pub tables : IsTrue a.told → durable_of d ≡ durable_of c
-  pub kept : IsTrue a.told → IsKept (HasFile store) b lb
-  pub faults : SameFaults a b
 
 -- some first acts of all were done, the image stands for the durable tables after them, and these bytes were sent beyond those before
 pub record IsCutSince (stands : TableRows → Bytes → Type 0) (start : TableRows) (all : List Act) (sent image out : Bytes) : Type 0 where

@@ -6,16 +6,54 @@ ghost use Rattle.laws_of_steps.specs.Keeping.{IsScriptOf};
 ghost use Rattle.abstract_monitor.specs.{Commands.{acts_of}, Trace.{history}};
 ghost use Rattle.laws_of_steps.specs.Cut.{commits_in};
 ghost use Rattle.monitor_core.specs.CoreSteps.{turns_of};
-ghost use Rattle.device_run.specs.Running.{Ran, IsRunning, StepsWrite, WithinSteps, StoppedIn};
+ghost use Rattle.device_acts.specs.Acting.{IsKeptBy};
+ghost use Rattle.device_run.specs.{Running.{Ran, IsRunning, StepsWrite, WithinSteps, StoppedIn}, Keeping.{IsRunningWith, RanWith, StepsWriteWith, WithinStepsWith}};
 
+use crate::reopens::Reopens;
 use crate::steps::do_command;
 use abstract_monitor::Command;
+use device_acts::SingleFile;
 use kd_device::Device;
 use kdcfile_store::PagedStore;
 use laws_of_steps::steps_commit_once;
 use monitor_core::Core;
 use std::alloc::Global;
 use warm_start::OpenError;
+
+/// The commands of a script in their order, from a core whose durable tables the keeper has; its files were made with this
+/// fingerprint. Each act is done before the next turn or command. What is open at the end of the script is given up, and
+/// commits nothing. The answer is how many commits were made.
+pub fn run_with<K: Reopens>(
+    alloc: Global,
+    keeper: &mut K,
+    mut core: Core,
+    fingerprint: &[u8; 32],
+    commands: &[Command],
+) -> Result<u64, OpenError>
+    requires running { IsRunningWith fingerprint.now core (K.identity keeper.old) (K.kept keeper.old) }
+    requires names { IsScriptOf core.application commands.now }
+    requires steps { core.steps + sum_by turns_of commands.now ≤ 10 ^ 18 }
+    requires kept { IsTrue (K.state keeper.old).told → IsKeptBy (K.file keeper.old) (K.state keeper.old) (K.leaves keeper.old) }
+    ensures any { WithinStepsWith K.stands fingerprint.now core (history core.application core.state commands.now) (K.state keeper.old) (K.state keeper.new) (K.leaves keeper.old) (K.leaves keeper.new) }
+    ensures put { StepsWriteWith K.commit_most fingerprint.now core (history core.application core.state commands.now) (K.state keeper.old) (K.state keeper.new) }
+    ensures done { OnOk result (IsTrue (K.state keeper.old).told → RanWith fingerprint.now core (history core.application core.state commands.now) (K.identity keeper.new) (K.kept keeper.new) (K.file keeper.new) (K.state keeper.old) (K.state keeper.new) (K.leaves keeper.new)) }
+    ensures counted { IfOk result (λ n. IsTrue (K.state keeper.old).told → n ≡ commits_in (acts_of (history core.application core.state commands.now))) }
+    // Of a RESTART nothing is said before the files are opened again.
+    ensures stopped { OnErr result (IsTrue (K.state keeper.old).told → StoppedIn core commands.now (K.state keeper.old) (K.state keeper.new)) }
+    ensures fine { (IsErrOf result OpenError.Failed → ⊥) → K.fine (K.state keeper.old) (K.state keeper.new) }
+    ensures failed { IsErrOf result OpenError.Failed → Rose (K.state keeper.old).disk_faults (K.state keeper.new).disk_faults ⊎ Rose (K.state keeper.old).line_faults (K.state keeper.new).line_faults }
+    ensures refused { IsErrOf result OpenError.NotKdcfile → IsTrue (K.state keeper.old).told → ⊥ }
+    ensures other { (stored : List ℕ) → IsErrOf result (OpenError.OtherGeneration stored) → IsTrue (K.state keeper.old).told → ⊥ }
+    ensures place { K.place keeper.new ≡ K.place keeper.old }
+{
+    steps_commit_once();
+    // Counted along, since the acts of a step are given up before the next.
+    let mut commits = 0;
+    for command in commands {
+        core = do_command(alloc, keeper, core, fingerprint, command, &mut commits)?;
+    }
+    Ok(commits)
+}
 
 /// The commands of a script in their order, from a core whose durable tables the store keeps; its file was made with this
 /// fingerprint. Each act is done before the next turn or command. What is open at the end of the script is given up, and
@@ -24,7 +62,7 @@ pub fn run_script<D: Device>(
     alloc: Global,
     device: &mut D,
     mut store: PagedStore,
-    mut core: Core,
+    core: Core,
     fingerprint: &[u8; 32],
     commands: &[Command],
 ) -> Result<u64, OpenError>
@@ -43,19 +81,9 @@ pub fn run_script<D: Device>(
     ensures refused { IsErrOf result OpenError.NotKdcfile → IsTrue (D.state device.old).told → ⊥ }
     ensures other { (stored : List ℕ) → IsErrOf result (OpenError.OtherGeneration stored) → IsTrue (D.state device.old).told → ⊥ }
 {
-    steps_commit_once();
-    // Counted along, since the acts of a step are given up before the next.
-    let mut commits = 0;
-    for command in commands {
-        core = do_command(
-            alloc,
-            device,
-            &mut store,
-            core,
-            fingerprint,
-            command,
-            &mut commits,
-        )?;
-    }
-    Ok(commits)
+    let mut keeper = SingleFile {
+        device,
+        store: &mut store,
+    };
+    run_with(alloc, &mut keeper, core, fingerprint, commands)
 }

@@ -1,0 +1,18 @@
+-- A content that is kept in one file of a device, as any that is kept.
+use Rattle.std.proofs.Common.{ℕ, List, sym, subst, refl}
+use Rattle.kd_device.specs.Device.{State, SameFaults}
+use Rattle.kd_device.specs.TimeLaws.{faults_then}
+use Rattle.kdcfile_store.specs.Kept.{IsKept}
+use Rattle.device_acts.specs.Acting.{GoesOn, IsKeptBy, OwnFile}
+
+pub faults_go : GoesOn SameFaults
+faults_go = record { none = λ a. record { disk = refl; line = refl }; after = faults_then }
+
+module _ (file : List ℕ → Type 0) (s : State) (leaves : ℕ → List ℕ → List ℕ → Type 0) where
+  -- a stop leaves just the bytes of its file
+  pub kept_single : IsKept file s leaves → IsKeptBy (OwnFile file s) s leaves
+  kept_single kept c left = let same = kept.at_rest c left in (subst file (sym same) kept.bytes, same)
+
+  -- and what it leaves is what reads give
+  pub single_kept : leaves s.moment s.holds s.sent → IsKeptBy (OwnFile file s) s leaves → IsKept file s leaves
+  single_kept now kept = record { bytes = (kept s.holds now).0; at_rest = λ c left. (kept c left).1 }

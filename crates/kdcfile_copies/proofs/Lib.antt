@@ -1,0 +1,4 @@
+pub mod Sought
+pub mod Told
+pub mod NextCopies
+pub mod FirstCopies

@@ -1,0 +1,116 @@
+use Rattle.std.proofs.Common.{sym, subst}
+use Rattle.std.specs.Prelude.{IsTrue}
+use Rattle.kd_twin.specs.declared.half.Half.TheVariants.{First, Second}
+use Rattle.kdcfile_double.specs.declared.error.TwinOpenError.TheVariants as to
+use Rattle.kdcfile_double.specs.CommitLaws.{other_kept_at}
+use Rattle.kdcfile_double.specs.MakingLaws.{first_rests_both, second_rests_both, rests_then, frame_then, first_frame, second_frame}
+use Rattle.kdcfile_double.specs.OpenedLaws.{handed_on}
+use Rattle.kdcfile_double.proofs.opening.reload_both.Goals as goal
+
+pub reload-requires-2-clause-kept : goal.reload-requires-2-clause-kept
+reload-requires-2-clause-kept g c = λ told_b.
+    let a = g.T.Twin.both c.args.twin.now in
+    let b = g.T.Twin.both c.reload.new.twin in
+    let told : IsTrue a.told = subst IsTrue c.reload.ensures.frame.told told_b in
+    other_kept_at First c.args.second a b (g.T.Twin.leaves c.args.twin.now) (g.T.Twin.leaves c.reload.new.twin) c.reload.ensures.other_half (c.reload.ensures.other_stays told) (c.requires.second_kept told)
+
+pub returns-in_err-first-clause-rests : goal.returns-in_err-first-clause-rests
+returns-in_err-first-clause-rests g c = λ told.
+    let tw = c.args.twin.now in
+    first_rests_both (g.T.Twin.both tw) (g.T.Twin.both c.reload.new.twin) (g.T.Twin.leaves tw) (g.T.Twin.leaves c.reload.new.twin) (λ x y out left. g.met.T.Twin.sent_now tw x y out told left) (c.reload.ensures.rests told)
+    (c.reload.ensures.any_moment told) c.reload.ensures.other_half (c.reload.ensures.other_stays told)
+
+pub returns-in_err-first-clause-refused : goal.returns-in_err-first-clause-refused
+returns-in_err-first-clause-refused g c = λ is told. c.in_err-first.ensures.refused (handed_on _ _ c.from_residual.result c.in_err-first.field-0.0 to.NotKdcfile c.from_residual.ensures.1 is) told
+
+pub returns-in_err-first-clause-told : goal.returns-in_err-first-clause-told
+returns-in_err-first-clause-told g c = (
+  λ stored is. c.in_err-first.ensures.told.0 stored (handed_on _ _ c.from_residual.result c.in_err-first.field-0.0 (to.OtherGeneration stored) c.from_residual.ensures.1 is),
+  λ n is. c.in_err-first.ensures.told.1 n (handed_on _ _ c.from_residual.result c.in_err-first.field-0.0 (to.Spent n) c.from_residual.ensures.1 is),
+)
+
+pub returns-in_err-first-clause-failed : goal.returns-in_err-first-clause-failed
+returns-in_err-first-clause-failed g c = λ is. c.in_err-first.ensures.failed (handed_on _ _ c.from_residual.result c.in_err-first.field-0.0 to.Failed c.from_residual.ensures.1 is)
+
+pub returns-in_err-first-clause-frame : goal.returns-in_err-first-clause-frame
+returns-in_err-first-clause-frame g c =
+    first_frame (g.T.Twin.both c.args.twin.now) (g.T.Twin.both c.reload.new.twin) c.reload.ensures.frame c.reload.ensures.names c.reload.ensures.other_half (λ told. (c.reload.ensures.rests told).sent)
+
+pub returns-in_err-second-clause-rests : goal.returns-in_err-second-clause-rests
+returns-in_err-second-clause-rests g c = λ told.
+    let tw = c.args.twin.now in
+    let a = g.T.Twin.both tw in
+    let b = g.T.Twin.both c.reload.new.twin in
+    let e = g.T.Twin.both c.reload-2.new.twin in
+    let la = g.T.Twin.leaves tw in
+    let lb = g.T.Twin.leaves c.reload.new.twin in
+    let le = g.T.Twin.leaves c.reload-2.new.twin in
+    let told_b : IsTrue b.told = subst IsTrue (sym c.reload.ensures.frame.told) told in
+    rests_then a b la lb
+    (first_rests_both a b la lb (λ x y out left. g.met.T.Twin.sent_now tw x y out told left) (c.reload.ensures.rests told) (c.reload.ensures.any_moment told) c.reload.ensures.other_half (c.reload.ensures.other_stays told)) e le
+    (second_rests_both b e lb le (λ x y out left. g.met.T.Twin.sent_now c.reload.new.twin x y out told_b left) (c.reload-2.ensures.rests told_b) (c.reload-2.ensures.any_moment told_b) c.reload-2.ensures.other_half
+    (c.reload-2.ensures.other_stays told_b))
+
+pub returns-in_err-second-clause-refused : goal.returns-in_err-second-clause-refused
+returns-in_err-second-clause-refused g c = λ is told.
+    c.in_err-second.ensures.refused (handed_on _ _ c.from_residual-in_err-second.result c.in_err-second.field-0.0 to.NotKdcfile c.from_residual-in_err-second.ensures.1 is) (subst IsTrue (sym c.reload.ensures.frame.told) told)
+
+pub returns-in_err-second-clause-told : goal.returns-in_err-second-clause-told
+returns-in_err-second-clause-told g c = (
+  λ stored is. c.in_err-second.ensures.told.0 stored (handed_on _ _ c.from_residual-in_err-second.result c.in_err-second.field-0.0 (to.OtherGeneration stored) c.from_residual-in_err-second.ensures.1 is),
+  λ n is. c.in_err-second.ensures.told.1 n (handed_on _ _ c.from_residual-in_err-second.result c.in_err-second.field-0.0 (to.Spent n) c.from_residual-in_err-second.ensures.1 is),
+)
+
+pub returns-in_err-second-clause-failed : goal.returns-in_err-second-clause-failed
+returns-in_err-second-clause-failed g c = λ is. c.in_err-second.ensures.failed (handed_on _ _ c.from_residual-in_err-second.result c.in_err-second.field-0.0 to.Failed c.from_residual-in_err-second.ensures.1 is)
+
+pub returns-in_err-second-clause-frame : goal.returns-in_err-second-clause-frame
+returns-in_err-second-clause-frame g c =
+    let a = g.T.Twin.both c.args.twin.now in
+    let b = g.T.Twin.both c.reload.new.twin in
+    let e = g.T.Twin.both c.reload-2.new.twin in
+    frame_then a b e (first_frame a b c.reload.ensures.frame c.reload.ensures.names c.reload.ensures.other_half (λ told. (c.reload.ensures.rests told).sent))
+    (second_frame b e c.reload-2.ensures.frame c.reload-2.ensures.names c.reload-2.ensures.other_half (λ told. (c.reload-2.ensures.rests told).sent))
+
+pub returns-clause-again : goal.returns-clause-again
+returns-clause-again g c = record {
+  between = c.reload.new.lost;
+  middle = g.T.Twin.both c.reload.new.twin;
+  first_same = c.in_ok-first.ensures.same;
+  second_same = c.in_ok-second.ensures.same;
+  first_so = c.in_ok-first.ensures.lost;
+  second_so = c.in_ok-second.ensures.lost;
+  first_disk = c.reload.ensures.other_half;
+  second_disk = c.reload-2.ensures.other_half;
+}
+
+pub returns-clause-first_kept : goal.returns-clause-first_kept
+returns-clause-first_kept g c = λ told.
+    other_kept_at Second c.in_ok-first.first (g.T.Twin.both c.reload.new.twin) (g.T.Twin.both c.reload-2.new.twin) (g.T.Twin.leaves c.reload.new.twin) (g.T.Twin.leaves c.reload-2.new.twin) c.reload-2.ensures.other_half
+    (c.reload-2.ensures.other_stays (subst IsTrue (sym c.reload.ensures.frame.told) told)) (c.in_ok-first.ensures.kept told)
+
+pub returns-clause-second_kept : goal.returns-clause-second_kept
+returns-clause-second_kept g c = λ told. c.in_ok-second.ensures.kept (subst IsTrue (sym c.reload.ensures.frame.told) told)
+
+pub returns-clause-rests : goal.returns-clause-rests
+returns-clause-rests g c = λ told.
+    let tw = c.args.twin.now in
+    let a = g.T.Twin.both tw in
+    let b = g.T.Twin.both c.reload.new.twin in
+    let e = g.T.Twin.both c.reload-2.new.twin in
+    let la = g.T.Twin.leaves tw in
+    let lb = g.T.Twin.leaves c.reload.new.twin in
+    let le = g.T.Twin.leaves c.reload-2.new.twin in
+    let told_b : IsTrue b.told = subst IsTrue (sym c.reload.ensures.frame.told) told in
+    rests_then a b la lb
+    (first_rests_both a b la lb (λ x y out left. g.met.T.Twin.sent_now tw x y out told left) (c.reload.ensures.rests told) (c.reload.ensures.any_moment told) c.reload.ensures.other_half (c.reload.ensures.other_stays told)) e le
+    (second_rests_both b e lb le (λ x y out left. g.met.T.Twin.sent_now c.reload.new.twin x y out told_b left) (c.reload-2.ensures.rests told_b) (c.reload-2.ensures.any_moment told_b) c.reload-2.ensures.other_half
+    (c.reload-2.ensures.other_stays told_b))
+
+pub returns-clause-frame : goal.returns-clause-frame
+returns-clause-frame g c =
+    let a = g.T.Twin.both c.args.twin.now in
+    let b = g.T.Twin.both c.reload.new.twin in
+    let e = g.T.Twin.both c.reload-2.new.twin in
+    frame_then a b e (first_frame a b c.reload.ensures.frame c.reload.ensures.names c.reload.ensures.other_half (λ told. (c.reload.ensures.rests told).sent))
+    (second_frame b e c.reload-2.ensures.frame c.reload-2.ensures.names c.reload-2.ensures.other_half (λ told. (c.reload-2.ensures.rests told).sent))

@@ -1,0 +1,16 @@
+pub mod Causes
+pub mod Twice
+pub mod Opening
+pub mod Mended
+pub mod ChosenLaws
+pub mod Choice
+pub mod ChoiceLaws
+pub mod Committing
+pub mod CommitLaws
+pub mod OpeningLaws
+pub mod MakingLaws
+pub mod ReopenLaws
+pub mod SingleLaws
+pub mod CommitTwoLaws
+pub mod OpenedLaws
+pub mod MendLaws

@@ -1,0 +1,128 @@
+//! Which of two copies counts, and which tables it keeps.
+ghost use Rattle.std.specs.Prelude.{◌≡◌, ◌↔◌, ℕ, List, IsTrue, IfOk, IfSome, IfNone, IsErrOf, None};
+ghost use Rattle.kd_records.specs.Identity.{Identity};
+ghost use Rattle.laws_of_steps.specs.Suits.{Suits};
+ghost use Rattle.kdcfile_double.specs.{Twice.{AreSame, IsTwice, IsOpen, with_copies, identity_of}, Opening.{KeepsTablesTwice, identity_twice}, Choice.{IsChoice, IsCounted, IsLoadedIf, IsOfTwo, SuitsTwice, KeepsNoneTwice, KeepsOthersTwice, copy_in}};
+
+use crate::alike::are_alike;
+use crate::error::TwinOpenError;
+use crate::store::TwinStore;
+use kdcdef_check::Generation;
+use kdcfile_copies::{Found, LoadedCopy, bare_content};
+use kdcfile_store::StoreLimits;
+use kdcs_types::Tables;
+use record_codec::tables_of;
+use std::alloc::Global;
+use table_fit::suits;
+use warm_start::limits_of;
+
+/// The copy that was found, if one was.
+pub(crate) fn copy_in(found: Found) -> Option<LoadedCopy>
+    ensures { result ≡ copy_in found }
+{
+    match found {
+        Found::Copy(copy) => Some(copy),
+        Found::Empty => None,
+        Found::NoCopy => None,
+    }
+}
+
+/// These copies are in use, which are alike.
+pub(crate) fn in_use(first: Option<LoadedCopy>, second: Option<LoadedCopy>) -> TwinStore
+    requires { IsTwice (with_copies first second) }
+    ensures { result ≡ with_copies first second }
+{
+    TwinStore {
+        first,
+        second,
+        mended: None,
+        lost: None,
+    }
+}
+
+fn of_two(first: LoadedCopy, second: LoadedCopy) -> TwinStore
+    requires first { IsLoadedIf (Some first) }
+    requires second { IsLoadedIf (Some second) }
+    ensures { IsOfTwo first second result }
+{
+    if first.sequence < second.sequence {
+        return in_use(None, Some(second));
+    }
+    if are_alike(&first, &second) {
+        in_use(Some(first), Some(second))
+    } else {
+        in_use(Some(first), None)
+    }
+}
+
+/// The store of what was found in two files, where one is a copy.
+pub(crate) fn chosen(first: Option<LoadedCopy>, second: Option<LoadedCopy>) -> Option<TwinStore>
+    requires first { IsLoadedIf first }
+    requires second { IsLoadedIf second }
+    ensures some { IfSome result (λ s. IsChoice first second s) }
+    ensures none { result ≡ None → (first ≡ None) × (second ≡ None) }
+{
+    match first {
+        Some(copy) => match second {
+            Some(other) => Some(of_two(copy, other)),
+            None => Some(in_use(Some(copy), None)),
+        },
+        None => match second {
+            Some(other) => Some(in_use(None, Some(other))),
+            None => None,
+        },
+    }
+}
+
+// Whether tables from files with these limits suit the generation.
+fn suits_twice(generation: &Generation, tables: &Tables, limits: StoreLimits) -> bool
+    ensures { IsTrue result ↔ SuitsTwice generation.now limits tables.now }
+{
+    let own = limits_of(generation);
+    limits.pgpool == own.pgpool + 1 && suits(generation, tables, limits.blksize, own.pgpool)
+}
+
+impl TwinStore {
+    /// The copy that counts.
+    pub(crate) fn counted(&self) -> Option<&LoadedCopy>
+        ensures some { IfSome result (λ p. IsCounted p.now self.now) }
+        ensures none { result ≡ None → IsOpen self.now → ⊥ }
+    {
+        match &self.first {
+            Some(copy) => Some(copy),
+            None => self.second.as_ref(),
+        }
+    }
+
+    /// The tables that are kept, where they are of the texts with this fingerprint and suit the generation.
+    pub(crate) fn tables_for(
+        &self,
+        alloc: Global,
+        generation: &Generation,
+        fingerprint: &[u8; 32],
+    ) -> Result<Tables, TwinOpenError>
+        requires { IsOpen self.now }
+        ensures tables { IfOk result (λ t. KeepsTablesTwice (identity_twice generation.now fingerprint.now) self.now t) }
+        ensures suits { IfOk result (λ t. Suits generation.now t) }
+        ensures refused { IsErrOf result TwinOpenError.NotKdcfile → KeepsNoneTwice generation.now fingerprint.now self.now }
+        ensures other { (stored : List ℕ) → IsErrOf result (TwinOpenError.OtherGeneration stored) → KeepsOthersTwice stored fingerprint.now self.now }
+        ensures failed { IsErrOf result TwinOpenError.Failed → ⊥ }
+        ensures spent { (n : ℕ) → IsErrOf result (TwinOpenError.Spent n) → ⊥ }
+    {
+        let Some(copy) = self.counted() else {
+            return Err(TwinOpenError::NotKdcfile);
+        };
+        let content = bare_content(alloc, &copy.store)?;
+        let Some(tables) = tables_of(alloc, &content)? else {
+            return Err(TwinOpenError::NotKdcfile);
+        };
+        let stored = *copy.store.fingerprint();
+        if stored != *fingerprint {
+            return Err(TwinOpenError::OtherGeneration(stored));
+        }
+        if !suits_twice(generation, &tables, copy.store.limits()) {
+            return Err(TwinOpenError::NotKdcfile);
+        }
+        Ok(tables)
+    }
+}

@@ -1,0 +1,20 @@
+//! A KDCFILE on two disks: two copies that are kept alike, and a run that goes on with one of them.
+//!
+//! It stands on kdcfile_halves, which reads, makes and commits a copy on one half of a twin, on kdcfile_mending, which
+//! writes one half anew from the other one, and on record_codec, table_fit and warm_start for the tables. To the call
+//! above, its contract says which copy counts and why two files are refused, that at every stop the copy that counts has
+//! the content with the patch or without it, as has each half on which no call failed, and that a half is lost only where
+//! a call on it failed.
+#![tactic(auto)]
+
+mod alike;
+mod choosing;
+mod commit;
+mod error;
+mod mend;
+mod opening;
+mod single;
+mod store;
+
+pub use error::TwinOpenError;
+pub use store::TwinStore;

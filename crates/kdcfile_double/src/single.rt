@@ -1,0 +1,108 @@
+//! A commit, or a reading, on one half.
+ghost use Rattle.std.specs.Prelude.{◌≡◌, ◌⊎◌, ◌≤◌, ◌+◌, ℕ, List, IsTrue, IfOk, OnErr, IsErrOf};
+ghost use Rattle.kd_device.specs.{Device.{Frame, SameNames}, Rest.{Rests}};
+ghost use Rattle.kd_records.specs.Contents.{IsPatch};
+ghost use Rattle.kd_twin.specs.Twin.{half_state, half_leaves, other};
+ghost use Rattle.kdcfile_copies.specs.Copies.{HasNoSequence};
+ghost use Rattle.kdcfile_halves.specs.Beside.{SameDisk, LeavesBeside, NoMore, OtherStays};
+ghost use Rattle.kdcfile_double.specs.{Twice.{SameFaultsAt}, Committing.{CanTakeIf, IsKeptAt, IsNextIf, IsSameIf, WithinOne, IsLostSo, lost_with}, SingleLaws.{KeepsSome}};
+
+use crate::alike::are_alike;
+use crate::error::TwinOpenError;
+use kd_base::OutOfMemory;
+use kd_device::DeviceError;
+use kd_records::Patch;
+use kd_twin::{Half, Twin};
+use kdcfile_copies::{Found, LoadedCopy};
+use kdcfile_halves::{commit_half, load_half};
+use std::alloc::Global;
+
+// A call failed on this half: it is the one that is lost, where none was.
+fn mark_lost(lost: &mut Option<Half>, half: Half)
+    ensures { lost.new ≡ lost_with lost.old half }
+{
+    if lost.is_none() {
+        *lost = Some(half);
+    }
+}
+
+/// A commit on a half, where it is in use. Where a call fails there it is not in use any more, and lost.
+pub(crate) fn commit_one<T: Twin>(
+    alloc: Global,
+    twin: &mut T,
+    half: Half,
+    copy: Option<LoadedCopy>,
+    patch: &Patch,
+    next: &Patch,
+    lost: &mut Option<Half>,
+) -> Result<Option<LoadedCopy>, OutOfMemory>
+    requires can { CanTakeIf copy patch.now next.now }
+    requires kept { IsTrue (T.both twin.old).told → IsKeptAt half copy (T.both twin.old) (T.leaves twin.old) }
+    requires patch { IsPatch patch.now }
+    requires plain { HasNoSequence patch.now }
+    ensures next { IfOk result (λ q. IsNextIf copy patch.now q) }
+    ensures kept { IfOk result (λ q. IsTrue (T.both twin.old).told → IsKeptAt half q (T.both twin.new) (T.leaves twin.new)) }
+    ensures sent { IsTrue (T.both twin.old).told → (T.both twin.new).sent ≡ (T.both twin.old).sent }
+    ensures any_moment { IsTrue (T.both twin.old).told → LeavesBeside half (T.both twin.old) (T.both twin.new) (T.leaves twin.old) (T.leaves twin.new) (WithinOne copy patch.now (T.both twin.old).sent) }
+    ensures other_half { SameDisk (other half) (T.both twin.old) (T.both twin.new) }
+    ensures other_stays { IsTrue (T.both twin.old).told → OtherStays half (T.both twin.old) (T.both twin.new) (T.leaves twin.old) (T.leaves twin.new) }
+    ensures lost { IfOk result (λ q. IsLostSo half copy q lost.old lost.new (T.both twin.old) (T.both twin.new)) }
+    ensures memory { OnErr result ((lost.new ≡ lost.old) × SameFaultsAt half (T.both twin.old) (T.both twin.new)) }
+    ensures frame { Frame (half_state half (T.both twin.old)) (half_state half (T.both twin.new)) }
+    ensures names { SameNames (half_state half (T.both twin.old)) (half_state half (T.both twin.new)) }
+{
+    let Some(mut kept) = copy else {
+        return Ok(None);
+    };
+    match commit_half(alloc, twin, half, &mut kept, patch, next) {
+        Ok(()) => Ok(Some(kept)),
+        Err(DeviceError::Failed) => {
+            mark_lost(lost, half);
+            Ok(None)
+        }
+        Err(DeviceError::Memory) => Err(OutOfMemory),
+    }
+}
+
+/// Reads the copy of a half again, where it is in use. Where a call fails there it is not in use any more, and lost.
+pub(crate) fn reload<T: Twin>(
+    alloc: Global,
+    twin: &mut T,
+    half: Half,
+    copy: Option<LoadedCopy>,
+    lost: &mut Option<Half>,
+) -> Result<Option<LoadedCopy>, TwinOpenError>
+    requires keeps { KeepsSome copy }
+    requires kept { IsTrue (T.both twin.old).told → IsKeptAt half copy (T.both twin.old) (T.leaves twin.old) }
+    ensures same { IfOk result (λ q. IsSameIf copy q) }
+    ensures kept { IfOk result (λ q. IsTrue (T.both twin.old).told → IsKeptAt half q (T.both twin.new) (T.leaves twin.new)) }
+    ensures any_moment { IsTrue (T.both twin.old).told → LeavesBeside half (T.both twin.old) (T.both twin.new) (T.leaves twin.old) (T.leaves twin.new) NoMore }
+    ensures other_half { SameDisk (other half) (T.both twin.old) (T.both twin.new) }
+    ensures other_stays { IsTrue (T.both twin.old).told → OtherStays half (T.both twin.old) (T.both twin.new) (T.leaves twin.old) (T.leaves twin.new) }
+    ensures lost { IfOk result (λ q. IsLostSo half copy q lost.old lost.new (T.both twin.old) (T.both twin.new)) }
+    ensures rests { IsTrue (T.both twin.old).told → Rests (half_state half (T.both twin.old)) (half_state half (T.both twin.new)) (half_leaves half (T.leaves twin.old)) (half_leaves half (T.leaves twin.new)) }
+    ensures refused { IsErrOf result TwinOpenError.NotKdcfile → IsTrue (T.both twin.old).told → ⊥ }
+    ensures told { ((stored : List ℕ) → IsErrOf result (TwinOpenError.OtherGeneration stored) → ⊥) × ((n : ℕ) → IsErrOf result (TwinOpenError.Spent n) → ⊥) }
+    ensures failed { IsErrOf result TwinOpenError.Failed → ⊥ }
+    ensures frame { Frame (half_state half (T.both twin.old)) (half_state half (T.both twin.new)) }
+    ensures names { SameNames (half_state half (T.both twin.old)) (half_state half (T.both twin.new)) }
+{
+    let Some(kept) = copy else {
+        return Ok(None);
+    };
+    match load_half(alloc, twin, half) {
+        Ok(Found::Copy(again)) => {
+            if !are_alike(&kept, &again) {
+                return Err(TwinOpenError::NotKdcfile);
+            }
+            Ok(Some(again))
+        }
+        Ok(Found::Empty) => Err(TwinOpenError::NotKdcfile),
+        Ok(Found::NoCopy) => Err(TwinOpenError::NotKdcfile),
+        Err(DeviceError::Failed) => {
+            mark_lost(lost, half);
+            Ok(None)
+        }
+        Err(DeviceError::Memory) => Err(TwinOpenError::Memory),
+    }
+}

@@ -1,0 +1,2 @@
+mod HalfUsed
+mod LineSent
