@@ -140,9 +140,9 @@ module _ (p q : LoadedCopy) (a b : List ℕ) (is : IsLoaded p) (too : IsLoaded q
   two_fit s (inr (inl only)) =
       subst (λ (u : Twice). AreOfFiles u a b) (sym only.2)
       (first_alone p a b is has (copy_at_most q.store.identity q.sequence p.sequence (bare q.store.content) b (copy_of q b too holds) only.0)
-       (λ copy.
-        let one = one_meaning_of_copies p.store.identity q.store.identity p.sequence q.sequence (bare p.store.content) (bare q.store.content) b copy (copy_of q b too holds) in
-        only.1 (same_of_copies p q is too one.0 one.1 one.2)))
+      (λ copy.
+      let one = one_meaning_of_copies p.store.identity q.store.identity p.sequence q.sequence (bare p.store.content) (bare q.store.content) b copy (copy_of q b too holds) in
+      only.1 (same_of_copies p q is too one.0 one.1 one.2)))
   two_fit s (inr (inr both)) = subst (λ (u : Twice). AreOfFiles u a b) (sym both.1) (both_in_use p q a b is too has holds both.0)
 
 -- what is chosen of two files are their copies

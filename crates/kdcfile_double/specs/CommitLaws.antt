@@ -37,11 +37,12 @@ by_halves P Second here there Second = here
 
 module _ (i : Identity) (n : ℕ) (x : Content) (patch : Patch) where
   pub within_one : (half : Half) (p : Option LoadedCopy) → KeepsIf i n x p → (sent c out : List ℕ) → WithinOne p patch sent c out → (out ≡ sent) × SideWithin half i n x (patched x patch) p c
-  within_one half (Some p) keeps sent c out w =
-      (w.0,
-       subst (λ (j : Identity). IsOldOrNew j n x (patched x patch) c) keeps.0
-       (subst (λ (m : ℕ). IsOldOrNew p.store.identity m x (patched x patch) c) keeps.1
-        (subst (λ (z : Content). IsOldOrNew p.store.identity p.sequence z (patched z patch) c) (kept_bare p.store n x keeps.2) w.1)))
+  within_one half (Some p) keeps sent c out w = (
+    w.0,
+    subst (λ (j : Identity). IsOldOrNew j n x (patched x patch) c) keeps.0
+        (subst (λ (m : ℕ). IsOldOrNew p.store.identity m x (patched x patch) c) keeps.1
+        (subst (λ (z : Content). IsOldOrNew p.store.identity p.sequence z (patched z patch) c) (kept_bare p.store n x keeps.2) w.1)),
+  )
   within_one half None keeps sent c out w = absurd w
 
 -- ---- before a commit
@@ -63,7 +64,7 @@ kept_within s y b leaves alike kept Second d left = rests_within Second (identit
 
 -- one call on a half, within a commit
 module _ (s : Twice) (y : Content) (half : Half) (a b : Both) (la lb : ℕ → List ℕ → List ℕ → List ℕ → Type 0) (P : List ℕ → List ℕ → Type 0) (before : AreWithin s y a la)
-         (this : (c out : List ℕ) → P c out → (out ≡ a.sent) × SideWithin half (identity_of s) (sequence_of s) (content_of s) y (copy_at half s) c) (beside : LeavesBeside half a b la lb P) where
+    (this : (c out : List ℕ) → P c out → (out ≡ a.sent) × SideWithin half (identity_of s) (sequence_of s) (content_of s) y (copy_at half s) c) (beside : LeavesBeside half a b la lb P) where
   pub step_within : ((h : Half) (c out : List ℕ) → half_leaves h la a.moment c out → out ≡ a.sent) → LeavesBoth a b la lb (IsWithin s y a.sent)
   step_within sent_now = pairs_weaker a b la lb (IsBeside half a la P) (IsWithin s y a.sent) (beside_pairs a b la lb half P beside) turn
     where
@@ -72,16 +73,16 @@ module _ (s : Twice) (y : Content) (half : Half) (a b : Both) (la lb : ℕ → L
           let there : SideWithin (other half) (identity_of s) (sequence_of s) (content_of s) y (copy_at (other half) s) (file_of (other half) c d) = before (other half) (file_of (other half) c d) h.0 in
           ⊎_elim
           (λ was.
-           let silent : out ≡ a.sent = sent_now half (file_of half c d) out was in
-           record {
-             silent = silent;
-             sides =
-                 by_halves (λ (k : Half). SideWithin k (identity_of s) (sequence_of s) (content_of s) y (copy_at k s) (file_of k c d)) half
-                 (before half (file_of half c d) (subst (λ (o : List ℕ). half_leaves half la a.moment (file_of half c d) o) silent was)) there;
-           })
+          let silent : out ≡ a.sent = sent_now half (file_of half c d) out was in
+          record {
+            silent = silent;
+            sides =
+                by_halves (λ (k : Half). SideWithin k (identity_of s) (sequence_of s) (content_of s) y (copy_at k s) (file_of k c d)) half
+                (before half (file_of half c d) (subst (λ (o : List ℕ). half_leaves half la a.moment (file_of half c d) o) silent was)) there;
+          })
           (λ p.
-           let new = this (file_of half c d) out p in
-           record { silent = new.0; sides = by_halves (λ (k : Half). SideWithin k (identity_of s) (sequence_of s) (content_of s) y (copy_at k s) (file_of k c d)) half new.1 there })
+          let new = this (file_of half c d) out p in
+          record { silent = new.0; sides = by_halves (λ (k : Half). SideWithin k (identity_of s) (sequence_of s) (content_of s) y (copy_at k s) (file_of k c d)) half new.1 there })
           h.1
 
   pub still_within : b.sent ≡ a.sent → Earlier half lb → OtherStays half a b la lb → AreWithin s y b lb
@@ -110,9 +111,11 @@ within_is_committing s y old new c d out open_now w = record {
 
 module _ (i : Identity) (n : ℕ) (x : Content) (patch : Patch) where
   pub next_keeps : (p q : Option LoadedCopy) → KeepsIf i n x p → IsNextIf p patch q → KeepsIf i (n + 1) (patched x patch) q
-  next_keeps (Some p) (Some q) keeps next =
-      (next.identity ∙ keeps.0, next.sequence ∙ ap (λ (m : ℕ). m + 1) keeps.1,
-       subst (λ (m : ℕ). CopyKeeps q.store (m + 1) (patched x patch)) keeps.1 (subst (λ (z : Content). CopyKeeps q.store (p.sequence + 1) (patched z patch)) (kept_bare p.store n x keeps.2) next.keeps))
+  next_keeps (Some p) (Some q) keeps next = (
+    next.identity ∙ keeps.0,
+    next.sequence ∙ ap (λ (m : ℕ). m + 1) keeps.1,
+    subst (λ (m : ℕ). CopyKeeps q.store (m + 1) (patched x patch)) keeps.1 (subst (λ (z : Content). CopyKeeps q.store (p.sequence + 1) (patched z patch)) (kept_bare p.store n x keeps.2) next.keeps),
+  )
   next_keeps (Some p) None keeps next = tt
   next_keeps None (Some q) keeps next = absurd next
   next_keeps None None keeps next = tt

@@ -108,7 +108,7 @@ module _ (a b : Both) (la lb : ℕ → List ℕ → List ℕ → List ℕ → Ty
         pairs_then a b la lb e le (λ c d out. Unchanged a la c d out ⊎ IsMakingTwo i a.sent c d out)
         (pairs_weaker a b la lb (Unchanged a la) (λ c d out. Unchanged a la c d out ⊎ IsMakingTwo i a.sent c d out) first.leaves (λ c d out u. inl u))
         (pairs_weaker b e lb le (λ c d out. Unchanged b lb c d out ⊎ IsMakingTwo i b.sent c d out) (λ c d out. Unchanged a la c d out ⊎ IsMakingTwo i a.sent c d out) h
-         (λ c d out p. ⊎_elim (λ u. inl (unchanged_since c d out u)) (λ m. inr (record { silent = m.silent ∙ first.sent; files = m.files })) p))
+        (λ c d out p. ⊎_elim (λ u. inl (unchanged_since c d out u)) (λ m. inr (record { silent = m.silent ∙ first.sent; files = m.files })) p))
 
 -- a stop leaves of both halves what they hold
 pub both_rest : (b : Both) (lb : ℕ → List ℕ → List ℕ → List ℕ → Type 0) (P Q : List ℕ → Type 0) → IsKept P (half_state First b) (half_leaves First lb) → IsKept Q (half_state Second b) (half_leaves Second lb) → BothRest b lb
@@ -236,8 +236,8 @@ module _ (i : Identity) (a b : Both) (la lb : ℕ → List ℕ → List ℕ → 
         turn c d out h =
             ⊎_elim
             (λ was.
-             let silent : out ≡ b.sent = sent_b was.0 d out was.1 in
-             inr (record { silent = silent ∙ same_sent; files = counts c d h.0 (nothing_more d (second_nothing d (stays d (was.0, subst (λ (o : List ℕ). lb b.moment was.0 d o) silent was.1)))) }))
+            let silent : out ≡ b.sent = sent_b was.0 d out was.1 in
+            inr (record { silent = silent ∙ same_sent; files = counts c d h.0 (nothing_more d (second_nothing d (stays d (was.0, subst (λ (o : List ℕ). lb b.moment was.0 d o) silent was.1)))) }))
             (λ new. inr (record { silent = new.0 ∙ same_sent; files = counts c d h.0 (⊎_elim (λ no. nothing_more d no) (λ copy. copy_at_most i 0 0 fresh d copy (omega arith)) new.1) }))
             h.1
 

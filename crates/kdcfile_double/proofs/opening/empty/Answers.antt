@@ -68,7 +68,7 @@ pub returns-in_err-second-clause-failed : goal.returns-in_err-second-clause-fail
 returns-in_err-second-clause-failed g c = λ is.
     inr
     (second_rose (g.T.Twin.both c.args.twin.now) (g.T.Twin.both c.make_half.new.twin) (g.T.Twin.both c.make_half-2.new.twin) c.make_half.ensures.other_half
-     (c.in_err-second.ensures.failed (failed_of _ _ c.from_residual-in_err-second.result c.in_err-second.field-0.0 c.from_residual-in_err-second.ensures.1 is)))
+    (c.in_err-second.ensures.failed (failed_of _ _ c.from_residual-in_err-second.result c.in_err-second.field-0.0 c.from_residual-in_err-second.ensures.1 is)))
 
 pub in_use-requires-2 : goal.in_use-requires-2
 in_use-requires-2 g c =
@@ -82,7 +82,7 @@ returns-clause-keeps g c = λ open_now.
     let q = c.in_ok-second.second in
     subst (λ (s : Twice). KeepsTablesTwice i s c.empty-2.result) (sym c.in_use-2.ensures)
     (subst (λ (t : TableRows). KeepsTablesTwice i (with_copies (Some p) (Some q)) t) (sym c.empty-2.ensures)
-     (made_keep p q i (c.in_ok-first.ensures.identity ∙ c.limits_twice-limits.ensures.made c.args.fingerprint.now) c.in_ok-first.ensures.keeps))
+    (made_keep p q i (c.in_ok-first.ensures.identity ∙ c.limits_twice-limits.ensures.made c.args.fingerprint.now) c.in_ok-first.ensures.keeps))
 
 pub returns-clause-kept : goal.returns-clause-kept
 returns-clause-kept g c = λ open_now told.
@@ -93,8 +93,8 @@ returns-clause-kept g c = λ open_now told.
     let told_b : IsTrue b.told = subst IsTrue (sym c.make_half.ensures.frame.told) told in
     subst (λ (s : Twice). IsKeptTwice s e le) (sym c.in_use-2.ensures)
     (made_kept c.in_ok-first.first c.in_ok-second.second e le
-     (other_kept Second b e lb le (HasFile c.in_ok-first.first.store) c.make_half-2.ensures.other_half (c.make_half-2.ensures.other_stays told_b) (c.in_ok-first.ensures.kept told))
-     (c.in_ok-second.ensures.kept told_b))
+    (other_kept Second b e lb le (HasFile c.in_ok-first.first.store) c.make_half-2.ensures.other_half (c.make_half-2.ensures.other_stays told_b) (c.in_ok-first.ensures.kept told))
+    (c.in_ok-second.ensures.kept told_b))
 
 pub returns-clause-at_rest : goal.returns-clause-at_rest
 returns-clause-at_rest g c = λ told.

@@ -27,7 +27,7 @@ returns-in_err-second-clause-rests g c = λ told.
     (first_rests_both a b la lb (λ x y out left. g.met.T.Twin.sent_now tw x y out told left) (c.load_half.ensures.rests told) (c.load_half.ensures.any_moment told) c.load_half.ensures.other_half (c.load_half.ensures.other_stays told))
     e le
     (second_rests_both b e lb le (λ x y out left. g.met.T.Twin.sent_now c.load_half.new.twin x y out told_b left) (c.load_half-2.ensures.rests told_b) (c.load_half-2.ensures.any_moment told_b) c.load_half-2.ensures.other_half
-     (c.load_half-2.ensures.other_stays told_b))
+    (c.load_half-2.ensures.other_stays told_b))
 
 pub returns-clause-rests : goal.returns-clause-rests
 returns-clause-rests g c = λ told.
@@ -43,7 +43,7 @@ returns-clause-rests g c = λ told.
     (first_rests_both a b la lb (λ x y out left. g.met.T.Twin.sent_now tw x y out told left) (c.load_half.ensures.rests told) (c.load_half.ensures.any_moment told) c.load_half.ensures.other_half (c.load_half.ensures.other_stays told))
     e le
     (second_rests_both b e lb le (λ x y out left. g.met.T.Twin.sent_now c.load_half.new.twin x y out told_b left) (c.load_half-2.ensures.rests told_b) (c.load_half-2.ensures.any_moment told_b) c.load_half-2.ensures.other_half
-     (c.load_half-2.ensures.other_stays told_b))
+    (c.load_half-2.ensures.other_stays told_b))
 
 pub returns-in_err-second-clause-told : goal.returns-in_err-second-clause-told
 returns-in_err-second-clause-told g c = told_of _ c.from_residual-in_err-second.result c.in_err-second.field-0.0 c.from_residual-in_err-second.ensures.1
@@ -52,7 +52,7 @@ pub returns-in_err-second-clause-failed : goal.returns-in_err-second-clause-fail
 returns-in_err-second-clause-failed g c = λ is.
     inr
     (second_rose (g.T.Twin.both c.args.twin.now) (g.T.Twin.both c.load_half.new.twin) (g.T.Twin.both c.load_half-2.new.twin) c.load_half.ensures.other_half
-     (c.in_err-second.ensures.failed (failed_of _ _ c.from_residual-in_err-second.result c.in_err-second.field-0.0 c.from_residual-in_err-second.ensures.1 is)))
+    (c.in_err-second.ensures.failed (failed_of _ _ c.from_residual-in_err-second.result c.in_err-second.field-0.0 c.from_residual-in_err-second.ensures.1 is)))
 
 pub returns-clause-second_answer : goal.returns-clause-second_answer
 returns-clause-second_answer g c = λ told.
