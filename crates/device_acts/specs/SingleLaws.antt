@@ -12,7 +12,3 @@ module _ (file : List ℕ → Type 0) (s : State) (leaves : ℕ → List ℕ →
   -- a stop leaves just the bytes of its file
   pub kept_single : IsKept file s leaves → IsKeptBy (OwnFile file s) s leaves
   kept_single kept c left = let same = kept.at_rest c left in (subst file (sym same) kept.bytes, same)
-
-  -- and what it leaves is what reads give
-  pub single_kept : leaves s.moment s.holds s.sent → IsKeptBy (OwnFile file s) s leaves → IsKept file s leaves
-  single_kept now kept = record { bytes = (kept s.holds now).0; at_rest = λ c left. (kept c left).1 }

@@ -7,7 +7,6 @@ use Rattle.kd_records.specs.declared.content.Content.{Content}
 use Rattle.kdcdef_types.specs.Generation.{Generated}
 use Rattle.kdcs_types.specs.Tables.{TableRows}
 use Rattle.kd_twin.specs.declared.half.Half.{Half}
-use Rattle.laws_of_steps.specs.Suits.{Suits}
 use Rattle.kdcfile_store.specs.Paged.{HasFile}
 use Rattle.kdcfile_store.specs.declared.store.StoreLimits.{StoreLimits}
 use Rattle.kdcfile_copies.specs.declared.answer.LoadedCopy.{LoadedCopy}
@@ -19,7 +18,6 @@ use Rattle.kdcfile_copies.specs.Finding.{IsAnswer, IsFound, IsLoaded}
 use Rattle.kdcfile_copies.specs.Keeping.{CopyKeeps}
 use Rattle.record_codec.specs.Records.{content_of_tables, AreTablesOf}
 use Rattle.record_codec.specs.TableReadings.{AreProperTables}
-use Rattle.warm_start.specs.MeaningLaws.{one_table}
 use Rattle.warm_start.specs.Stands.{AreTables}
 use Rattle.kdcfile_double.specs.Twice.{Twice, AreSame, IsTwice, KeepsIf, IsOpen, with_copies, identity_of, sequence_of, content_of}
 use Rattle.kdcfile_double.specs.Opening.{HasNoTablesInTwo, IsChosenTables, IsTwoOfOtherTexts, KeepsTablesTwice, identity_twice}
@@ -51,14 +49,8 @@ some_none e = absurd cc
 own : (p : LoadedCopy) → IsLoaded p → KeepsIf p.store.identity p.sequence (bare p.store.content) (Some p)
 own p is = (refl, refl, is.keeps)
 
-pub none_is_twice : IsTwice (with_copies None None)
-none_is_twice = record { alike = record { first_keeps = tt; second_keeps = tt }; lost_is_unused = λ h e. absurd (lost_none e) }
-
 pub one_is_twice : (p : LoadedCopy) → IsLoaded p → IsTwice (with_copies (Some p) None)
 one_is_twice p is = record { alike = record { first_keeps = own p is; second_keeps = tt }; lost_is_unused = λ h e. absurd (lost_none e) }
-
-pub other_is_twice : (q : LoadedCopy) → IsLoaded q → IsTwice (with_copies None (Some q))
-other_is_twice q is = record { alike = record { first_keeps = tt; second_keeps = own q is }; lost_is_unused = λ h e. absurd (lost_none e) }
 
 same_keeps : (p q : LoadedCopy) → IsLoaded q → AreSame p q → KeepsIf p.store.identity p.sequence (bare p.store.content) (Some q)
 same_keeps p q is same =
@@ -163,26 +155,9 @@ module _ (s : Twice) (p : LoadedCopy) (x : Content) (counted : IsCounted p s) (c
   kept_content : content_of s ≡ x
   kept_content = sym counted.content ∙ sym content
 
-  -- a content that no tables have
-  pub none_kept : (g : Generated) (fingerprint : List ℕ) → ((t : TableRows) → AreProperTables t → AreTablesOf x t → ⊥) → KeepsNoneTwice g fingerprint s
-  none_kept g fingerprint none = record {
-    own_texts = λ i t h. absurd (none t h.tables.proper (record { sorted = h.tables.sorted; records = sym kept_content ∙ h.content }));
-    unsuited = λ i t h size pages suits. none t h.tables.proper (record { sorted = h.tables.sorted; records = sym kept_content ∙ h.content });
-  }
-
   module _ (t : TableRows) (are : AreTablesOf x t) (proper : AreProperTables t) where
     these : AreTables t
     these = record { sorted = are.sorted; proper = proper }
-
-    keeps_these : KeepsTablesTwice (identity_of s) s t
-    keeps_these = record { identity_is = refl; tables = these; content = kept_content ∙ are.records }
-
-    pub keeps_others : (stored fingerprint : List ℕ) → stored ≡ p.store.identity.fingerprint → (stored ≡ fingerprint → ⊥) → KeepsOthersTwice stored fingerprint s
-    keeps_others stored fingerprint print differs = record {
-      differs = differs;
-      keeps = (t, keeps_these);
-      made_with = ap (λ (i : Identity). i.fingerprint) (sym counted.identity) ∙ sym print;
-    }
 
     module _ (g : Generated) (fingerprint stored : List ℕ) (limits : StoreLimits) (print : stored ≡ p.store.identity.fingerprint) (own_print : stored ≡ fingerprint) (size : limits.blksize ≡ p.store.identity.blksize) (pages : limits.pgpool ≡ p.store.identity.pages) where
       made_for : identity_of s ≡ p.store.identity
@@ -197,18 +172,6 @@ module _ (s : Twice) (p : LoadedCopy) (x : Content) (counted : IsCounted p s) (c
             identity_made g fingerprint (identity_of s) (ap (λ (i : Identity). i.blksize) made_for ∙ sym size ∙ suits.pages) (ap (λ (i : Identity). i.pages) made_for ∙ sym pages ∙ suits.pool) printed;
         tables = these;
         content = kept_content ∙ are.records;
-      }
-
-      pub none_suited : (SuitsTwice g limits t → ⊥) → KeepsNoneTwice g fingerprint s
-      none_suited unsuited = record {
-        own_texts = λ i u h. ap (λ (j : Identity). j.fingerprint) (sym h.identity_is) ∙ printed;
-        unsuited = λ i u h blksize pgpool suits.
-            unsuited
-            (record {
-              pages = size ∙ ap (λ (j : Identity). j.blksize) (counted.identity ∙ h.identity_is) ∙ blksize;
-              pool = pages ∙ ap (λ (j : Identity). j.pages) (counted.identity ∙ h.identity_is) ∙ pgpool;
-              tables = subst (λ (v : TableRows). Suits g v) (one_table u t h.tables these (sym h.content ∙ kept_content ∙ are.records)) suits;
-            });
       }
 
 -- ---- which tables two files stand for

@@ -83,10 +83,3 @@ kept_copy i n x p image keeps file = subst (λ (j : Identity). IsCopyOf j n x im
 pub rests_within : (half : Half) (i : Identity) (n : ℕ) (x y : Content) (p : Option LoadedCopy) (holds image : List ℕ) → KeepsIf i n x p → SideRests half i n x p holds image → SideWithin half i n x y p image
 rests_within half i n x y (Some p) holds image keeps rests = inl (kept_copy i n x p image keeps rests.1)
 rests_within half i n x y None holds image keeps behind = behind
-
--- at rest the copies in use count
-pub rests_chosen : (i : Identity) (n : ℕ) (x : Content) (p q : Option LoadedCopy) (b e c d : List ℕ) → IsSomeOf p q → KeepsIf i n x p → KeepsIf i n x q → SideRests First i n x p b c → SideRests Second i n x q e d → IsChosen i n x c d
-rests_chosen i n x (Some p) (Some q) b e c d some keeps too rests still = both_chosen i n x c d (kept_copy i n x p c keeps rests.1) (kept_copy i n x q d too still.1)
-rests_chosen i n x (Some p) None b e c d some keeps too rests most = inl (kept_copy i n x p c keeps rests.1, most)
-rests_chosen i n x None (Some q) b e c d some keeps too behind still = second_chosen i n x c d (kept_copy i n x q d too still.1) behind
-rests_chosen i n x None None b e c d some keeps too behind most = absurd some

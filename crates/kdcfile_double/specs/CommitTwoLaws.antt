@@ -122,18 +122,6 @@ one_frame Second a b f names same sent = record {
   sent = sent;
 }
 
-pub frame_then : (a b e : Both) → FrameBoth a b → FrameBoth b e → FrameBoth a e
-frame_then a b e f g = record {
-  told = g.told ∙ f.told;
-  first_faults = omega (arith, f.first_faults, g.first_faults);
-  second_faults = omega (arith, f.second_faults, g.second_faults);
-  line_faults = omega (arith, f.line_faults, g.line_faults);
-  moment = omega (arith, f.moment, g.moment);
-  first_names = λ told. g.first_names (subst IsTrue (sym f.told) told) ∙ f.first_names told;
-  second_names = λ told. g.second_names (subst IsTrue (sym f.told) told) ∙ f.second_names told;
-  sent = λ told. g.sent (subst IsTrue (sym f.told) told) ∙ f.sent told;
-}
-
 -- ---- which half is lost
 
 pub faults_later : (half : Half) (a b e : Both) → SameDisk half b e → SameFaultsAt half a b → SameFaultsAt half a e

@@ -17,10 +17,10 @@ use Rattle.kdcfile_store.specs.Kept.{IsKept}
 use Rattle.kdcfile_store.specs.Paged.{HasFile}
 use Rattle.kdcfile_copies.specs.declared.answer.LoadedCopy.{LoadedCopy}
 use Rattle.kdcfile_copies.specs.declared.answer.Found.{Found}
-use Rattle.kdcfile_copies.specs.declared.answer.Found.TheVariants.{Empty, NoCopy, Copy}
+use Rattle.kdcfile_copies.specs.declared.answer.Found.TheVariants.{Empty}
 use Rattle.kdcfile_copies.specs.Copies.{AtMost, IsChosen, IsCopyOf, IsNoCopy, bare}
 use Rattle.kdcfile_copies.specs.CopiesLaws.{kept_bare, store_is_copy}
-use Rattle.kdcfile_copies.specs.Finding.{IsAnswer, IsFound, IsLoaded}
+use Rattle.kdcfile_copies.specs.Finding.{IsAnswer, IsLoaded}
 use Rattle.kdcfile_copies.specs.Keeping.{BeingMade, CopyKeeps}
 use Rattle.kdcfile_halves.specs.Beside.{IsBeside, LeavesBeside, NoMore, OtherStays, SameDisk}
 use Rattle.kdcfile_halves.specs.BesideLaws.{beside_pairs, pairs_then, pairs_weaker}
@@ -173,13 +173,6 @@ pub one_rose_then : (a b e : Both) → NoneRose a b → RoseAt First b e ⊎ Ros
 one_rose_then a b e none rose = ⊎_elim (λ r. inl (rose_then First a b e none r)) (λ r. inr (rose_then Second a b e none r)) rose
 
 -- ---- what was found
-
--- only the empty file is found empty
-pub found_empty : (f : Found) (bytes : List ℕ) → IsFound f → IsAnswer f bytes → bytes ≡ [] → f ≡ Empty
-found_empty Empty bytes is answer none = refl
-found_empty NoCopy bytes is answer none = absurd (answer.0 none)
-found_empty (Copy p) bytes is answer none =
-    absurd (nothing_is_no_copy p.store.identity p.sequence (bare p.store.content) (subst (λ (l : List ℕ). IsCopyOf p.store.identity p.sequence (bare p.store.content) l) none (store_is_copy p.store p.sequence (bare p.store.content) bytes is.keeps answer)))
 
 pub empty_answer : (f : Found) (bytes : List ℕ) → f ≡ Empty → IsAnswer f bytes → bytes ≡ []
 empty_answer f bytes is answer = subst (λ (g : Found). IsAnswer g bytes) is answer

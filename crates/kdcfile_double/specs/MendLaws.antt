@@ -25,7 +25,6 @@ use Rattle.kdcfile_double.specs.Twice.{Twice, AreAlike, AreSame, FrameBoth, IsIn
 use Rattle.kdcfile_double.specs.ChosenLaws.{IsSomeOf, below_at_most, copy_at_most, kept_copy, none_is_below, second_chosen}
 use Rattle.kdcfile_double.specs.CommitLaws.{content_kept, identity_kept, sequence_kept}
 use Rattle.kdcfile_double.specs.Choice.{copy_in}
-use Rattle.kdcfile_double.specs.MakingLaws.{first_frame, second_frame}
 use Rattle.kdcfile_double.specs.Mended.{BothRest, IsBehind, IsMendingOne, IsSameCopy, IsTaken, TakesAfter, lost_at}
 use Rattle.kdcfile_double.specs.ReopenLaws.{same_keeps_if}
 
@@ -306,10 +305,6 @@ on_ok (Err e) P p = tt
 pub on_ok_then : {A E : Type 0} (r : Result A E) (P Q : Type 0) → (P → Q) → OnOk r P → OnOk r Q
 on_ok_then (Ok x) P Q f p = f p
 on_ok_then (Err e) P Q f p = tt
-
-pub frame_on : (half : Half) (a b : Both) → Frame (half_state half a) (half_state half b) → SameNames (half_state half a) (half_state half b) → SameDisk (other half) a b → (IsTrue a.told → b.sent ≡ a.sent) → FrameBoth a b
-frame_on First a b frame names same sent = first_frame a b frame names same sent
-frame_on Second a b frame names same sent = second_frame a b frame names same sent
 
 pub frame_of_halves : (a b : Both) → ((half : Half) → Frame (half_state half a) (half_state half b)) → ((half : Half) → SameNames (half_state half a) (half_state half b)) → (IsTrue a.told → b.sent ≡ a.sent) → FrameBoth a b
 frame_of_halves a b frame names sent = record {

@@ -14,10 +14,10 @@ use Rattle.kdcfile_copies.specs.declared.answer.LoadedCopy.{LoadedCopy}
 use Rattle.kdcfile_copies.specs.Copies.{AtMost, Below}
 use Rattle.warm_start.specs.ContentLaws.{content_charged}
 use Rattle.kdcfile_double.specs.Twice.{Twice, IsKeptTwice, SideRests, identity_of, sequence_of, content_of}
-use Rattle.kdcfile_double.specs.Opening.{AreEmpty, IsRefusedTwo, IsSpent, KeepsTablesTwice, StartsFromTwo, identity_twice, last_sequence}
+use Rattle.kdcfile_double.specs.Opening.{IsSpent, KeepsTablesTwice, StartsFromTwo, identity_twice, last_sequence}
 use Rattle.kdcfile_double.specs.Mended.{BothRest}
-use Rattle.kdcfile_double.specs.Choice.{AreOfFiles, KeepsNoneTwice}
-use Rattle.kdcfile_double.specs.ChoiceLaws.{chosen_tables, none_in_two}
+use Rattle.kdcfile_double.specs.Choice.{AreOfFiles}
+use Rattle.kdcfile_double.specs.ChoiceLaws.{chosen_tables}
 
 none_some : {A : Type 0} {x : A} → None ≡ Some x → ⊥
 none_some e = absurd cc
@@ -50,6 +50,3 @@ module _ (g : Generated) (fingerprint : List ℕ) (s : Twice) (a b : List ℕ) (
 
   pub is_spent : (t : TableRows) → KeepsTablesTwice (identity_twice g fingerprint) s t → Suits g t → last_sequence < sequence_of s → IsSpent g fingerprint (sequence_of s) a b
   is_spent t keeps suits great = record { great = great; goes_on = (t, (chosen_tables s a b fits (identity_twice g fingerprint) t keeps, suits)) }
-
-  pub refused_two : (AreEmpty a b → ⊥) → KeepsNoneTwice g fingerprint s → IsRefusedTwo g fingerprint a b
-  refused_two filled none = (filled, none_in_two s a b fits g fingerprint none)

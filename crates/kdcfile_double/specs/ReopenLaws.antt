@@ -102,9 +102,6 @@ first_second e = absurd cc
 second_first : {A : Type 0} → Second ≡ First → A
 second_first e = absurd cc
 
-some_none : {A : Type 0} {x : LoadedCopy} → Some x ≡ None → A
-some_none e = absurd cc
-
 none_some : {A : Type 0} {x : LoadedCopy} → None ≡ Some x → A
 none_some e = absurd cc
 

@@ -1,11 +1,9 @@
 -- Laws: what a stop leaves of both files after several calls.
 use Rattle.std.specs.Prelude.{◌⊎◌, ℕ, List}
 use Rattle.std.proofs.Common.{inl, inr, ⊎_elim, ◌∙◌, ap, arith, subst, sym}
-use Rattle.kd_device.specs.Device.{LeavesOnly}
-use Rattle.kd_device.specs.TimeLaws.{leaves_weaker}
 use Rattle.kd_twin.specs.declared.half.Half.{Half}
 use Rattle.kd_twin.specs.declared.half.Half.TheVariants.{First, Second}
-use Rattle.kd_twin.specs.Twin.{Disk, Both, other, half_state, slice, half_leaves}
+use Rattle.kd_twin.specs.Twin.{Disk, Both, other, half_state, half_leaves}
 use Rattle.kd_twin.specs.Apart.{Earlier}
 use Rattle.kdcfile_store.specs.Kept.{IsKept}
 use Rattle.kdcfile_halves.specs.Beside.{SameDisk, LeavesBeside, OtherStays, LeavesPairs, LeavesSamePairs, IsBeside}
@@ -22,29 +20,10 @@ module _ (a b : Both) (la lb : ℕ → List ℕ → List ℕ → List ℕ → Ty
     only = λ t c d out at left. ⊎_elim (h.only t c d out at) (λ p. inr p) (k.only t c d out (omega (arith, at, h.later)) left);
   }
 
-  pub beside_weaker : (half : Half) (P Q : List ℕ → List ℕ → Type 0) → LeavesBeside half a b la lb P → ((c out : List ℕ) → P c out → Q c out) → LeavesBeside half a b la lb Q
-  beside_weaker half P Q h f d =
-      leaves_weaker (half_state half a) (half_state half b) (slice half d la) (slice half d lb)
-      (λ c out. half_leaves (other half) la a.moment d a.sent × (half_leaves half la a.moment c out ⊎ P c out))
-      (λ c out. half_leaves (other half) la a.moment d a.sent × (half_leaves half la a.moment c out ⊎ Q c out))
-      (h d)
-      (λ c out p. (p.0, ⊎_elim (λ l. inl l) (λ q. inr (f c out q)) p.1))
-
   -- what a call on one half leaves, of the first file and the second
   pub beside_pairs : (half : Half) (P : List ℕ → List ℕ → Type 0) → LeavesBeside half a b la lb P → LeavesPairs a b la lb (IsBeside half a la P)
   beside_pairs First P h = record { later = (h a.sent).later; only = λ t c d out at left. (h d).only t c out at left }
   beside_pairs Second P h = record { later = (h a.sent).later; only = λ t c d out at left. (h c).only t d out at left }
-
-  -- and of that half alone
-  pub beside_half : (half : Half) (P : List ℕ → List ℕ → Type 0) → Earlier half la → LeavesBeside half a b la lb P → LeavesOnly (half_state half a) (half_state half b) (half_leaves half la) (half_leaves half lb) P
-  beside_half half P earlier h = record {
-    later = (h a.sent).later;
-    only = λ t c out at left.
-        ⊎_elim
-        (λ l. inl (left.0, l))
-        (λ n. ⊎_elim (λ was. inl (was.0, earlier was.0 t a.moment c out at was.1)) (λ p. inr p) n.1)
-        ((h left.0).only t c out at left.1);
-  }
 
   -- what a stop at its end leaves of that half
   pub left_after : (half : Half) (P : List ℕ → List ℕ → Type 0) → Earlier half lb → LeavesBeside half a b la lb P → (c : List ℕ) → half_leaves half lb b.moment c b.sent → half_leaves half la a.moment c b.sent ⊎ P c b.sent
@@ -67,10 +46,3 @@ other_kept half a b la lb file same stays kept = record {
 pub said_stays : (half : Half) (a b : Both) (la lb : ℕ → List ℕ → List ℕ → List ℕ → Type 0) → LeavesSamePairs a b la lb → (c : List ℕ) → half_leaves half lb b.moment c b.sent → half_leaves half la a.moment c a.sent
 said_stays First a b la lb same c left = (left.0, same c left.0 left.1)
 said_stays Second a b la lb same c left = (left.0, same left.0 c left.1)
-
-pub said_kept : (half : Half) (a b : Both) (la lb : ℕ → List ℕ → List ℕ → List ℕ → Type 0) (file : List ℕ → Type 0) → SameDisk half a b → LeavesSamePairs a b la lb
-    → IsKept file (half_state half a) (half_leaves half la) → IsKept file (half_state half b) (half_leaves half lb)
-said_kept half a b la lb file same stays kept = record {
-  bytes = subst (λ (x : Disk). file x.holds) (sym same) kept.bytes;
-  at_rest = λ c left. kept.at_rest c (said_stays half a b la lb stays c left) ∙ sym (ap (λ (x : Disk). x.holds) same);
-}

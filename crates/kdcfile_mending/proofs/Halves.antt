@@ -33,10 +33,6 @@ goes_on target a b frame line names same = record {
   source_faults = omega (arith, ap (λ d. d.disk_faults) same);
 }
 
-pub goes_beside : (target : Half) (a b : Both) → Goes (other target) a b → Goes target a b
-goes_beside First a b h = record { told = h.told; moment = h.moment; line = h.line; names = h.source_names; source_names = h.names; faults = h.source_faults; source_faults = h.faults }
-goes_beside Second a b h = record { told = h.told; moment = h.moment; line = h.line; names = h.source_names; source_names = h.names; faults = h.source_faults; source_faults = h.faults }
-
 pub frame_of : (target : Half) (a b : Both) → Goes target a b → (half : Half) → Frame (half_state half a) (half_state half b)
 frame_of First a b h First = record { told = h.told; disk_faults = h.faults; line_faults = omega (arith, h.line); moment = h.moment }
 frame_of First a b h Second = record { told = h.told; disk_faults = h.source_faults; line_faults = omega (arith, h.line); moment = h.moment }

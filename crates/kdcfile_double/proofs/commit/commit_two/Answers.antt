@@ -3,7 +3,8 @@ use Rattle.std.specs.Prelude.{IsTrue}
 use Rattle.kd_twin.specs.declared.half.Half.TheVariants.{First, Second}
 use Rattle.kdcfile_double.specs.Twice.{with_copies}
 use Rattle.kdcfile_double.specs.CommitLaws.{other_kept_at}
-use Rattle.kdcfile_double.specs.CommitTwoLaws.{both_moments, both_within, faults_before, first_is_kept, first_moment, first_newly, first_stays, first_within, frame_then, on_err, one_fine, one_frame, second_is_kept, second_newly, second_stays, second_unused, two_lost, two_unused}
+use Rattle.kdcfile_double.specs.CommitTwoLaws.{both_moments, both_within, faults_before, first_is_kept, first_moment, first_newly, first_stays, first_within, on_err, one_fine, one_frame, second_is_kept, second_newly, second_stays, second_unused, two_lost, two_unused}
+use Rattle.kdcfile_double.specs.MakingLaws.{frame_then}
 use Rattle.kdcfile_double.proofs.commit.commit_two.Goals as goal
 
 pub commit_one-requires-clause-kept : goal.commit_one-requires-clause-kept

@@ -2,7 +2,8 @@ use Rattle.std.proofs.Common.{sym, ◌∙◌, inl}
 use Rattle.kd_twin.specs.Twin.{disk_of}
 use Rattle.kdcfile_copies.specs.CopiesLaws.{some_none}
 use Rattle.kdcfile_double.specs.Twice.{identity_of, sequence_of, content_of}
-use Rattle.kdcfile_double.specs.MendLaws.{found_copy, found_file, frame_on, nothing_found, rest_again, rest_pairs, taken_again, taken_file, unused_lost}
+use Rattle.kdcfile_double.specs.CommitTwoLaws.{one_frame}
+use Rattle.kdcfile_double.specs.MendLaws.{found_copy, found_file, nothing_found, rest_again, rest_pairs, taken_again, taken_file, unused_lost}
 use Rattle.kdcfile_double.proofs.store.TwinStore.take_mended.Goals as goal
 
 pub returns-in-Some-clause-found : goal.returns-in-Some-clause-found
@@ -20,7 +21,7 @@ pub returns-in-Some-clause-any_moment : goal.returns-in-Some-clause-any_moment
 returns-in-Some-clause-any_moment g c = λ told. rest_pairs c.args.half (g.T.Twin.both c.args.twin.now) (g.T.Twin.both c.load_half.new.twin) (g.T.Twin.leaves c.args.twin.now) (g.T.Twin.leaves c.load_half.new.twin) (c.requires.rest told) (λ x d out left. g.met.T.Twin.sent_now c.args.twin.now x d out told left) (c.load_half.ensures.any_moment told)
 
 pub returns-in-Some-clause-frame : goal.returns-in-Some-clause-frame
-returns-in-Some-clause-frame g c = frame_on c.args.half (g.T.Twin.both c.args.twin.now) (g.T.Twin.both c.load_half.new.twin) c.load_half.ensures.frame c.load_half.ensures.names c.load_half.ensures.other_half (λ told. (c.load_half.ensures.rests told).sent)
+returns-in-Some-clause-frame g c = one_frame c.args.half (g.T.Twin.both c.args.twin.now) (g.T.Twin.both c.load_half.new.twin) c.load_half.ensures.frame c.load_half.ensures.names c.load_half.ensures.other_half (λ told. (c.load_half.ensures.rests told).sent)
 
 pub returns-in_default-clause-found : goal.returns-in_default-clause-found
 returns-in_default-clause-found g c = λ told is. absurd (nothing_found c.in-Ok.found (identity_of c.args.self.now) (sequence_of c.args.self.now) (content_of c.args.self.now) (disk_of c.args.half (g.T.Twin.both c.args.twin.now)).holds (sym c.copy_in.ensures ∙ c.in_default.is) (c.in-Ok.ensures.answer told) is)
