@@ -12,7 +12,7 @@ Looked at are README.md and docs/*.md:
 - a name after a crate's, as kdcfile_images `load`, is a word of that crate; one after a file of definitions, as
   `Turns.antt`, `turn_of`, a word of that file;
 - the clauses of docs/PROVED.md: the crate of the section has the call, and the call's contract the clause; those at its
-  beginning, and those in brackets in README.md, are clauses of `utm`. So it is in its tables of answers.
+  beginning, and those in brackets in README.md, are clauses of `utm` or `utm_twin`. So it is in its tables of answers.
 """
 
 import re
@@ -62,6 +62,11 @@ def contracts(name, crate, file=None):
             for head in re.finditer(rf"\bfn {re.escape(name)}\b.*?(?:;\n|\n *\{{)", text, re.S):
                 found.append(re.findall(r"\bensures (\w*) *\{", head.group()))
     return found
+
+
+def top_contracts():
+    """The clauses of the two top calls, over one disk and over two."""
+    return contracts("utm", "utm_cli") + contracts("utm_twin", "utm_twin")
 
 
 def has_word(crate, word):
@@ -172,9 +177,9 @@ def clause_faults(where, call, clauses, found):
 
 def proved_faults(text):
     head, *sections = re.split(r"(?m)^\*\*([\w, ]+)\*\*$", text[: text.index("## What is only tested")])
-    found = contracts("utm", "utm_cli")
+    found = top_contracts()
     for line in re.findall(r"(?m)^- (`\w+`(?:, `\w+`)*):", head.replace(",\n  ", ", ")):
-        yield from clause_faults("the whole program", "utm", QUOTED.findall(line), found)
+        yield from clause_faults("the whole program", "the top call", QUOTED.findall(line), found)
     for name, section in zip(sections[::2], sections[1::2]):
         crate = name.split(",")[0] if name.split(",")[0] in CRATES else None
         if crate is None:
@@ -191,7 +196,7 @@ def answer_faults(text):
     for cells in [[it.strip() for it in line.split("|")] for line in re.findall(r"(?m)^\|(.*)\|$", section)]:
         if cells[-1] == "Clauses" or set(cells[0]) <= set("-"):
             continue
-        calls = [("utm_cli", "`utm`")] if cells[0].isdigit() else re.findall(r"(\w+) ((?:`[\w:]+`(?:, )?)+)", cells[0])
+        calls = [("utm_cli", "`utm`"), ("utm_twin", "`utm_twin`")] if cells[0].isdigit() else re.findall(r"(\w+) ((?:`[\w:]+`(?:, )?)+)", cells[0])
         found = []
         for crate, names in calls:
             for name in QUOTED.findall(names):
@@ -203,7 +208,7 @@ def answer_faults(text):
 def readme_faults(text):
     section = text[text.index("## What is promised") : text.index("## What is not proved")]
     for brackets in re.findall(r"\((`\w+`(?:,\s+`\w+`)*)\)", section):
-        yield from clause_faults("the promises", "utm", QUOTED.findall(brackets), contracts("utm", "utm_cli"))
+        yield from clause_faults("the promises", "the top call", QUOTED.findall(brackets), top_contracts())
 
 
 def crates_of(name):

@@ -1,10 +1,10 @@
 #!/usr/bin/env python3
-"""Lists what a reader has to read to know what the call `utm` promises, in docs/TRUSTED.md.
+"""Lists what a reader has to read to know what the call `utm_twin` promises, in docs/TRUSTED.md.
 
     python3 tools/trusted.py            writes the page
     python3 tools/trusted.py --check    says where the page is another one; the status is 1 then
 
-It begins with the clauses of `utm` in crates/utm_cli/src/top.rt, and follows each word to its definition, and the words
+It begins with the clauses of `utm_twin` in crates/utm_twin/src/top.rt, and follows each word to its definition, and the words
 of that one to theirs, down to the words of the kit.
 """
 
@@ -18,19 +18,19 @@ sys.dont_write_bytecode = True
 from antt_text import TOP, Item, Page, Reader, antt_paths, free_words, head_of, is_kit, module_of, rust_pages, tokens_of
 
 PAGE = TOP / "docs" / "TRUSTED.md"
-START = ("utm_cli", ["top"], "utm")
+START = ("utm_twin", ["top"], "utm_twin")
 LANGUAGE = ("⊥", "⊤", "Unit", "tt", "absurd")
 
 INTRODUCTION = """# What has to be read
 
 `tools/trusted.py` makes this page, and `.ci/program` checks that it is up to date.
 
-What `utm`, the one call of the program, promises is what its clauses say. They are in utm_cli/src/top.rt, in words
-that are defined elsewhere. This page lists each definition that they reach: the words of the clauses, the words of
-their definitions, and so on, down to the words of the kit. Whoever has read these definitions knows what is promised.
-The rest of `specs/` and all of `proofs/` are lemmas with their proofs, and definitions that only lemmas and the
-contracts of inner calls name. The prover checks them: what does not follow is refused. So they need not be read, and
-need not be trusted.
+What `utm_twin`, the one call of the program, promises is what its clauses say. They are in utm_twin/src/top.rt, in
+words that are defined elsewhere; those of `utm` are among them, as the fields of `AsUtm`. This page lists each
+definition that they reach: the words of the clauses, the words of their definitions, and so on, down to the words of
+the kit. Whoever has read these definitions knows what is promised. The rest of `specs/` and all of `proofs/` are lemmas
+with their proofs, and definitions that only lemmas and the contracts of inner calls name. The prover checks them: what
+does not follow is refused. So they need not be read, and need not be trusted.
 
 In `specs/` a file has definitions alone, as `Stored.antt`, or its name ends in `Laws`, as `AlongLaws.antt`. What has to
 be read is in files without lemmas, but for the lemmas that are named below; `tools/laws_apart.py` tries this.
@@ -39,7 +39,7 @@ be read is in files without lemmas, but for the lemmas that are named below; `to
 
 What counts:
 
-- Of `utm`, its comment, its signature and its clauses. Its body does not.
+- Of `utm_twin`, its comment, its signature and its clauses. Its body does not.
 - A definition, a record or a data type, with its clauses, helpers and fields, and with the comment right above it. All
   that it names is reached. What comes after `unfolding` is not, for it says only how a body is checked.
 - A Rust type, and its `impl Model` where it has one, which says what value stands for it. A constant, where a
@@ -47,8 +47,9 @@ What counts:
 {lemmas}
 - Empty lines and imports do not count.
 
-`main` in utm/src/main.rt, which hands the words to `utm` and ends with its status, is no part of the list, and neither
-are the device and the room of kd_host, which it hands on. [PROVED.md](PROVED.md) says in words what the clauses say.
+`main` in utm/src/main.rt, which hands the words to `utm_twin` and ends with its status, is no part of the list, and
+neither are the twin and the room of kd_host, which it hands on. [PROVED.md](PROVED.md) says in words what the clauses
+say.
 
 The number after a name is that of its lines. The highest crate comes first, and each before those that it uses. A row
 without a file goes on with the file above it.

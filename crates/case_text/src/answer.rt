@@ -1,20 +1,23 @@
 //! What a call answered, sent and left.
 
 use crate::escapes::unescaped;
+use crate::files::Files;
 use crate::line::Line;
 use kd_base::{Bytes, OutOfMemory};
+use kd_twin::{Half, MemTwin};
 use std::alloc::Global;
 use std::collections::VecDeque;
 
-/// What a call answered, the lines sent that no line of the case has named yet, and the KDCFILE that was left.
+/// What a call answered, the lines sent that no line of the case has named yet, and the files that were left.
 #[derive(Drop)]
 pub struct Answer {
     /// The try of the call, where it had several.
     at: String,
     status: u8,
     lines: VecDeque<Bytes>,
-    file: Vec<u8>,
-    same: bool,
+    files: Files,
+    first_same: bool,
+    second_same: bool,
 }
 
 /// The lines of these bytes. One that has no end says so.
@@ -45,27 +48,27 @@ fn complaint(alloc: Global, text: &str) -> Result<Option<String>, OutOfMemory> {
 }
 
 impl Answer {
-    /// What a call over the file `before` answered, sent and left, at this try.
+    /// What a call over the files `before` answered, sent and left, at this try.
     pub fn new(
         alloc: Global,
         at: String,
         status: u8,
-        before: &[u8],
-        sent: &[u8],
-        left: &[u8],
+        before: &Files,
+        twin: &MemTwin,
     ) -> Result<Answer, OutOfMemory> {
         Ok(Answer {
             at,
             status,
-            lines: lines_of(alloc, sent)?,
-            file: left.to_vec(alloc)?,
-            same: before == left,
+            lines: lines_of(alloc, twin.sent())?,
+            files: Files::of(alloc, twin)?,
+            first_same: before.file(Half::First).as_slice() == twin.holds(Half::First),
+            second_same: before.file(Half::Second).as_slice() == twin.holds(Half::Second),
         })
     }
 
-    /// The KDCFILE that was left.
-    pub fn file(&self) -> &Vec<u8> {
-        &self.file
+    /// The files that were left.
+    pub fn files(&self) -> &Files {
+        &self.files
     }
 
     /// The try of the call, where it had several.
@@ -86,18 +89,43 @@ impl Answer {
         }
     }
 
+    fn judge_length(
+        &self,
+        alloc: Global,
+        half: Half,
+        wanted: u64,
+    ) -> Result<Option<String>, OutOfMemory> {
+        let length = self.files.file(half).len() as u64;
+        if length == wanted {
+            return Ok(None);
+        }
+        Ok(Some(format!(in alloc; "{length}")?))
+    }
+
     fn judge_bytes(
         &self,
         alloc: Global,
+        half: Half,
         at: u64,
         wanted: &str,
     ) -> Result<Option<String>, OutOfMemory> {
-        let there = self.file.get(at as usize..).unwrap_or(&[]);
+        let there = self.files.file(half).get(at as usize..).unwrap_or(&[]);
         match unescaped(alloc, wanted, 0)? {
             Some(bytes) if there.starts_with(bytes.as_slice()) => Ok(None),
             Some(_) => complaint(alloc, "other bytes"),
             None => complaint(alloc, "no such bytes"),
         }
+    }
+
+    fn judge_same(&self, alloc: Global, half: Half) -> Result<Option<String>, OutOfMemory> {
+        let same = match half {
+            Half::First => self.first_same,
+            Half::Second => self.second_same,
+        };
+        if same {
+            return Ok(None);
+        }
+        complaint(alloc, "the KDCFILE has changed")
     }
 
     /// What the call did otherwise than this line says. A line that was sent is then done with.
@@ -106,11 +134,9 @@ impl Answer {
             Line::Status(wanted) if wanted == self.status => Ok(None),
             Line::Status(_) => Ok(Some(format!(in alloc; "{}", self.status)?)),
             Line::Sent(wanted) => self.judge_sent(alloc, wanted),
-            Line::Length(wanted) if wanted == self.file.len() as u64 => Ok(None),
-            Line::Length(_) => Ok(Some(format!(in alloc; "{}", self.file.len())?)),
-            Line::Holds(at, wanted) => self.judge_bytes(alloc, at, wanted),
-            Line::Same if self.same => Ok(None),
-            Line::Same => complaint(alloc, "the KDCFILE has changed"),
+            Line::Length(half, wanted) => self.judge_length(alloc, half, wanted),
+            Line::Holds(half, at, wanted) => self.judge_bytes(alloc, half, at, wanted),
+            Line::Same(half) => self.judge_same(alloc, half),
             _ => complaint(alloc, "no line about an answer"),
         }
     }

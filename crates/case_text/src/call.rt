@@ -1,21 +1,21 @@
 //! A call of the program, and the tries of it.
 
 use crate::answer::Answer;
+use crate::files::Files;
 use crate::line::Failing;
 use crate::program::Program;
 use crate::texts::{NamedTexts, copied};
-use kd_base::{Bytes, OutOfMemory};
-use kd_device::{CallKind, Device, MemDevice, MemRoom, SureDevice};
+use kd_base::OutOfMemory;
+use kd_device::{CallKind, MemRoom};
+use kd_twin::{Half, MemTwin};
 use std::alloc::Global;
 
 /// How the next call is tried.
 #[derive(Clone, Copy)]
 pub enum Tries {
-    /// Once, over the KDCFILE as it is.
+    /// Once, over the files as they are.
     Plain,
-    /// The same over a device of which no call fails.
-    Sure,
-    /// Over the KDCFILE as it is, with each of these numbers failing.
+    /// Over the files as they are, with each of these numbers failing.
     Fails(Failing, u64, u64),
     /// Over what a stop after so many calls, with this choice, leaves of the last plain call.
     Stop(u64, u64),
@@ -30,7 +30,7 @@ pub enum Tries {
 pub struct Call {
     pub words: Vec<String>,
     pub texts: NamedTexts,
-    pub failing: Vec<(CallKind, u64)>,
+    pub failing: Vec<(Half, CallKind, u64)>,
     pub failing_texts: Vec<u64>,
 }
 
@@ -44,69 +44,62 @@ impl Call {
         Ok(failing)
     }
 
-    /// The calls of the device that fail.
-    fn failing(&self, also: Option<(Failing, u64)>) -> Result<Vec<(CallKind, u64)>, OutOfMemory> {
+    /// The calls of the twin that fail.
+    fn failing(
+        &self,
+        also: Option<(Failing, u64)>,
+    ) -> Result<Vec<(Half, CallKind, u64)>, OutOfMemory> {
         let mut failing = self.failing.clone()?;
-        if let Some((Failing::Device(kind), number)) = also {
-            failing.push((kind, number))?;
+        if let Some((Failing::Twin(half, kind), number)) = also {
+            failing.push((half, kind, number))?;
         }
         Ok(failing)
     }
 
-    /// A device with this file, of which the call of the kind and number `also` fails too.
-    pub fn device(
+    /// A twin with these files, of which the call of the kind and number `also` fails too.
+    pub fn twin(
         &self,
         alloc: Global,
-        file: &[u8],
+        files: &Files,
         also: Option<(Failing, u64)>,
-    ) -> Result<MemDevice, OutOfMemory> {
-        let failing = self.failing(also)?;
-        MemDevice::new(alloc, Bytes::from_slice(alloc, file)?, failing)
+    ) -> Result<MemTwin, OutOfMemory> {
+        files.twin(alloc, self.failing(also)?)
     }
 
-    /// The status of the call over a device.
-    fn status<P: Program, D: Device>(
-        &self,
-        alloc: Global,
-        also: Option<(Failing, u64)>,
-        device: &mut D,
-    ) -> Result<u8, OutOfMemory> {
-        let texts = copied(alloc, &self.texts)?;
-        let mut room = MemRoom::new(alloc, texts, self.failing_texts(also)?)?;
-        Ok(P::call(alloc, &self.words, &mut room, device))
-    }
-
-    /// The call over a device with this file, where the read of the number `also` fails too.
+    /// The call over a twin with these files, where the read of the number `also` fails too.
     pub fn over<P: Program>(
         &self,
         alloc: Global,
-        device: &mut MemDevice,
-        file: &[u8],
+        twin: &mut MemTwin,
+        files: &Files,
         also: Option<(Failing, u64)>,
         at: String,
     ) -> Result<Answer, OutOfMemory> {
-        let status = self.status::<P, MemDevice>(alloc, also, device)?;
-        Answer::new(alloc, at, status, file, device.sent(), device.holds())
+        let texts = copied(alloc, &self.texts)?;
+        let mut room = MemRoom::new(alloc, texts, self.failing_texts(also)?)?;
+        let status = P::call(alloc, &self.words, &mut room, twin);
+        Answer::new(alloc, at, status, files, twin)
     }
+}
 
-    /// The call over a device with this file, of which no call fails.
-    pub fn over_sure<P: Program>(&self, alloc: Global, file: &[u8]) -> Result<Answer, OutOfMemory> {
-        let mut device = SureDevice::new(alloc, Bytes::from_slice(alloc, file)?)?;
-        let status = self.status::<P, SureDevice>(alloc, None, &mut device)?;
-        let at = String::new(alloc);
-        Answer::new(alloc, at, status, file, device.sent(), device.holds())
+fn kind_name(kind: CallKind) -> &'static str {
+    match kind {
+        CallKind::Attach => "attach",
+        CallKind::Size => "size",
+        CallKind::Read => "read",
+        CallKind::Write => "write",
+        CallKind::Sync => "sync",
+        CallKind::Emit => "emit",
     }
 }
 
 /// How a failing call is named.
-pub fn failing_name(failing: Failing) -> &'static str {
-    match failing {
-        Failing::Text => "text",
-        Failing::Device(CallKind::Attach) => "attach",
-        Failing::Device(CallKind::Size) => "size",
-        Failing::Device(CallKind::Read) => "read",
-        Failing::Device(CallKind::Write) => "write",
-        Failing::Device(CallKind::Sync) => "sync",
-        Failing::Device(CallKind::Emit) => "emit",
-    }
+pub fn failing_name(alloc: Global, failing: Failing, number: u64) -> Result<String, OutOfMemory> {
+    Ok(match failing {
+        Failing::Text => format!(in alloc; "text {number}")?,
+        Failing::Twin(Half::First, kind) => format!(in alloc; "{} {number}", kind_name(kind))?,
+        Failing::Twin(Half::Second, kind) => {
+            format!(in alloc; "second {} {number}", kind_name(kind))?
+        }
+    })
 }

@@ -1,22 +1,23 @@
 //! The lines of a text of cases.
 
 use kd_device::CallKind;
+use kd_twin::Half;
 
-/// What can be told to fail: a read of a text, or a call of the device.
+/// What can be told to fail: a read of a text, or a call of the twin. The half beside an emit is the first.
 #[derive(Clone, Copy)]
 pub enum Failing {
     Text,
-    Device(CallKind),
+    Twin(Half, CallKind),
 }
 
-/// A line. Its first word says its kind.
+/// A line. Its first word says its kind, or its second one behind the word `second`.
 #[derive(Clone, Copy)]
 pub enum Line<'a> {
     /// Nothing, or a comment.
     Empty,
     /// From here on, the lines of a text that later cases may use by this name.
     Shared(&'a str),
-    /// A case of this title begins, with no texts and an empty KDCFILE.
+    /// A case of this title begins, with no texts and empty files.
     Case(&'a str),
     /// From here on, the lines of the text of this name.
     File(&'a str),
@@ -30,37 +31,34 @@ pub enum Line<'a> {
     Fill(u64, &'a str),
     /// This line of the text is another one.
     SetLine(u64, &'a str),
-    /// The KDCFILE is empty again.
-    NoFile,
-    /// These bytes take the place of those that are there in the KDCFILE.
-    Put(u64, &'a str),
-    /// The KDCFILE ends here.
-    Cut(u64),
+    /// The file is empty again.
+    NoFile(Half),
+    /// These bytes take the place of those that are there in the file.
+    Put(Half, u64, &'a str),
+    /// The file ends here.
+    Cut(Half, u64),
     /// The call or read of this kind and number fails.
     Fail(Failing, u64),
     /// The next call is tried with each of these numbers failing.
     Fails(Failing, u64, u64),
-    /// The next call is made over what a stop after so many calls of the device, with this choice, leaves of the last
-    /// one.
+    /// The next call is made over what a stop after so many calls of the twin, with this choice, leaves of the last one.
     Stop(u64, u64),
     /// The next call is tried over what stops after each of these counts leave.
     Stops(u64, u64),
     /// The next call is tried over what each try of the last one left.
     Again,
-    /// The next call is made over a device of which no call fails.
-    Sure,
     /// A call with these words.
     Call(&'a str),
     /// The last call answered this status.
     Status(u8),
     /// The next line that it sent.
     Sent(&'a str),
-    /// The length of the KDCFILE that it left.
-    Length(u64),
-    /// The KDCFILE that it left has these bytes there.
-    Holds(u64, &'a str),
-    /// It left the KDCFILE as it was.
-    Same,
+    /// The length of the file that it left.
+    Length(Half, u64),
+    /// The file that it left has these bytes there.
+    Holds(Half, u64, &'a str),
+    /// It left the file as it was.
+    Same(Half),
 }
 
 fn number(word: &str) -> Option<u64> {
@@ -77,15 +75,15 @@ fn numbers(rest: &str) -> Option<(u64, u64)> {
     Some((first, number(second)?))
 }
 
-fn failing_of(word: &str) -> Option<Failing> {
+fn failing_of(half: Half, word: &str) -> Option<Failing> {
     match word {
-        "text" => Some(Failing::Text),
-        "attach" => Some(Failing::Device(CallKind::Attach)),
-        "size" => Some(Failing::Device(CallKind::Size)),
-        "read" => Some(Failing::Device(CallKind::Read)),
-        "write" => Some(Failing::Device(CallKind::Write)),
-        "sync" => Some(Failing::Device(CallKind::Sync)),
-        "emit" => Some(Failing::Device(CallKind::Emit)),
+        "text" if half == Half::First => Some(Failing::Text),
+        "emit" if half == Half::First => Some(Failing::Twin(half, CallKind::Emit)),
+        "attach" => Some(Failing::Twin(half, CallKind::Attach)),
+        "size" => Some(Failing::Twin(half, CallKind::Size)),
+        "read" => Some(Failing::Twin(half, CallKind::Read)),
+        "write" => Some(Failing::Twin(half, CallKind::Write)),
+        "sync" => Some(Failing::Twin(half, CallKind::Sync)),
         _ => None,
     }
 }
@@ -116,28 +114,40 @@ fn of_texts<'a>(word: &str, rest: &'a str) -> Option<Line<'a>> {
     }
 }
 
-/// A line about the KDCFILE before a call, if the word is one of theirs.
-fn of_the_file<'a>(word: &str, rest: &'a str) -> Option<Line<'a>> {
-    match word {
-        "empty" if rest.is_empty() => Some(Line::NoFile),
-        "put" => {
-            let (at, bytes) = number_and_text(rest)?;
-            Some(Line::Put(at, bytes))
-        }
-        "cut" => Some(Line::Cut(number(rest)?)),
-        _ => None,
-    }
-}
-
-fn fail_of(rest: &str) -> Option<Line<'_>> {
+fn fail_of(half: Half, rest: &str) -> Option<Line<'_>> {
     let (kind, number_of) = rest.split_once(' ')?;
-    Some(Line::Fail(failing_of(kind)?, number(number_of)?))
+    Some(Line::Fail(failing_of(half, kind)?, number(number_of)?))
 }
 
-fn fails_of(rest: &str) -> Option<Line<'_>> {
+fn fails_of(half: Half, rest: &str) -> Option<Line<'_>> {
     let (kind, range) = rest.split_once(' ')?;
     let (from, to) = numbers(range)?;
-    Some(Line::Fails(failing_of(kind)?, from, to))
+    Some(Line::Fails(failing_of(half, kind)?, from, to))
+}
+
+fn put_of(half: Half, rest: &str) -> Option<Line<'_>> {
+    let (at, bytes) = number_and_text(rest)?;
+    Some(Line::Put(half, at, bytes))
+}
+
+fn holds_of(half: Half, rest: &str) -> Option<Line<'_>> {
+    let (at, bytes) = number_and_text(rest)?;
+    Some(Line::Holds(half, at, bytes))
+}
+
+/// A line about the file of this half, or about its calls, if the word is one of theirs.
+fn of_a_half<'a>(half: Half, word: &str, rest: &'a str) -> Option<Line<'a>> {
+    match word {
+        "empty" if rest.is_empty() => Some(Line::NoFile(half)),
+        "put" => put_of(half, rest),
+        "cut" => Some(Line::Cut(half, number(rest)?)),
+        "fail" => fail_of(half, rest),
+        "fails" => fails_of(half, rest),
+        "length" => Some(Line::Length(half, number(rest)?)),
+        "holds" => holds_of(half, rest),
+        "same" if rest.is_empty() => Some(Line::Same(half)),
+        _ => None,
+    }
 }
 
 fn stop_of(rest: &str) -> Option<Line<'_>> {
@@ -153,12 +163,9 @@ fn stops_of(rest: &str) -> Option<Line<'_>> {
 /// A line about a call, if the word is one of theirs.
 fn of_a_call<'a>(word: &str, rest: &'a str) -> Option<Line<'a>> {
     match word {
-        "fail" => fail_of(rest),
-        "fails" => fails_of(rest),
         "stop" => stop_of(rest),
         "stops" => stops_of(rest),
         "again" if rest.is_empty() => Some(Line::Again),
-        "sure" if rest.is_empty() => Some(Line::Sure),
         "call" => Some(Line::Call(rest)),
         _ => None,
     }
@@ -169,25 +176,31 @@ fn of_an_answer<'a>(word: &str, rest: &'a str) -> Option<Line<'a>> {
     match word {
         "=" => Some(Line::Status(rest.parse::<u8>().ok()?)),
         ">" => Some(Line::Sent(rest)),
-        "length" => Some(Line::Length(number(rest)?)),
-        "holds" => {
-            let (at, bytes) = number_and_text(rest)?;
-            Some(Line::Holds(at, bytes))
-        }
-        "same" if rest.is_empty() => Some(Line::Same),
         _ => None,
     }
+}
+
+/// The first word of a text, and what comes behind the blank after it.
+fn split(text: &str) -> (&str, &str) {
+    text.split_once(' ').unwrap_or((text, ""))
+}
+
+/// A line behind the word `second`.
+fn of_the_second(text: &str) -> Option<Line<'_>> {
+    let (word, rest) = split(text);
+    of_a_half(Half::Second, word, rest)
 }
 
 impl<'a> Line<'a> {
     /// The line of this text, if it is one.
     pub fn of(text: &'a str) -> Option<Line<'a>> {
-        let (word, rest) = text.split_once(' ').unwrap_or((text, ""));
+        let (word, rest) = split(text);
         match word {
             "" | "*" => Some(Line::Empty),
             "case" => Some(Line::Case(rest)),
+            "second" => of_the_second(rest),
             _ => of_texts(word, rest)
-                .or(of_the_file(word, rest))
+                .or(of_a_half(Half::First, word, rest))
                 .or(of_a_call(word, rest))
                 .or(of_an_answer(word, rest)),
         }

@@ -3,11 +3,13 @@
 use crate::answer::Answer;
 use crate::call::{Call, Tries, failing_name};
 use crate::escapes::unescaped;
+use crate::files::Files;
 use crate::line::{Failing, Line};
 use crate::program::Program;
 use crate::texts::{Texts, copied, words_of};
 use kd_base::OutOfMemory;
-use kd_device::{CallKind, MemDevice};
+use kd_device::CallKind;
+use kd_twin::{Half, MemTwin};
 use std::alloc::Global;
 use std::mem;
 
@@ -18,23 +20,23 @@ type Judged = Result<Option<String>, OutOfMemory>;
 /// mixtures.
 const CHOICES: [u64; 7] = [0, 1, 2, 3, 5, 6, 7];
 
-/// The texts, the KDCFILE and the failing calls of a case, and what its last call did.
+/// The texts, the files and the failing calls of a case, and what its last call did.
 #[derive(Drop)]
 pub struct Stage {
     texts: Texts,
-    failing: Vec<(CallKind, u64)>,
+    failing: Vec<(Half, CallKind, u64)>,
     failing_texts: Vec<u64>,
     tries: Tries,
-    /// The KDCFILE of the case.
-    file: Vec<u8>,
+    /// The files of the case.
+    files: Files,
     /// What the last call did, at each of its tries.
     answers: Vec<Answer>,
     /// What the call before it did.
     left: Vec<Answer>,
     /// Whether the status of the last call is still to be said.
     unsaid: bool,
-    /// The device of the last plain call.
-    device: Option<MemDevice>,
+    /// The twin of the last plain call.
+    twin: Option<MemTwin>,
     cases: u64,
     calls: u64,
 }
@@ -70,11 +72,11 @@ impl Stage {
             failing: Vec::new(alloc),
             failing_texts: Vec::new(alloc),
             tries: Tries::Plain,
-            file: Vec::new(alloc),
+            files: Files::empty(alloc),
             answers: Vec::new(alloc),
             left: Vec::new(alloc),
             unsaid: false,
-            device: None,
+            twin: None,
             cases: 0,
             calls: 0,
         }
@@ -101,13 +103,12 @@ impl Stage {
             Line::Stop(call, choice) => self.try_with(alloc, Tries::Stop(call, choice)),
             Line::Stops(from, to) => self.try_with(alloc, Tries::Stops(from, to)),
             Line::Again => self.try_with(alloc, Tries::Again),
-            Line::Sure => self.try_with(alloc, Tries::Sure),
-            Line::NoFile => {
-                self.file.clear();
+            Line::NoFile(half) => {
+                self.files.file_mut(half).clear();
                 Ok(None)
             }
-            Line::Put(at, bytes) => self.put(alloc, at, bytes),
-            Line::Cut(length) => self.cut(alloc, length),
+            Line::Put(half, at, bytes) => self.put(alloc, half, at, bytes),
+            Line::Cut(half, length) => self.cut(alloc, half, length),
             Line::Shared(_)
             | Line::File(_)
             | Line::Uses(_, _)
@@ -147,8 +148,8 @@ impl Stage {
         self.failing.clear();
         self.failing_texts.clear();
         self.tries = Tries::Plain;
-        self.file.clear();
-        self.device = None;
+        self.files.clear();
+        self.twin = None;
         Ok(found)
     }
 
@@ -166,7 +167,7 @@ impl Stage {
     fn fail(&mut self, kind: Failing, number: u64) -> Judged {
         match kind {
             Failing::Text => self.failing_texts.push(number)?,
-            Failing::Device(kind) => self.failing.push((kind, number))?,
+            Failing::Twin(half, kind) => self.failing.push((half, kind, number))?,
         }
         Ok(None)
     }
@@ -177,13 +178,14 @@ impl Stage {
         unless(alloc, first, "the next call is tried otherwise already")
     }
 
-    fn put(&mut self, alloc: Global, at: u64, text: &str) -> Judged {
+    fn put(&mut self, alloc: Global, half: Half, at: u64, text: &str) -> Judged {
         let Some(bytes) = unescaped(alloc, text, 0)? else {
             return complaint(alloc, "no such bytes");
         };
+        let file = self.files.file_mut(half);
         let mut place = at as usize;
         for byte in bytes.as_slice() {
-            let Some(there) = self.file.get_mut(place) else {
+            let Some(there) = file.get_mut(place) else {
                 return complaint(alloc, "past the end of the KDCFILE");
             };
             *there = *byte;
@@ -192,9 +194,10 @@ impl Stage {
         Ok(None)
     }
 
-    fn cut(&mut self, alloc: Global, length: u64) -> Judged {
-        let fits = length <= self.file.len() as u64;
-        self.file.truncate(length as usize);
+    fn cut(&mut self, alloc: Global, half: Half, length: u64) -> Judged {
+        let file = self.files.file_mut(half);
+        let fits = length <= file.len() as u64;
+        file.truncate(length as usize);
         unless(alloc, fits, "past the end of the KDCFILE")
     }
 
@@ -225,7 +228,6 @@ impl Stage {
         self.unsaid = true;
         match tries {
             Tries::Plain => self.call_once::<P>(alloc, call),
-            Tries::Sure => self.call_surely::<P>(alloc, call),
             Tries::Fails(kind, from, to) => self.call_failing::<P>(alloc, call, kind, from, to),
             Tries::Stop(stop, choice) => self.call_after_one::<P>(alloc, call, stop, choice),
             Tries::Stops(from, to) => self.call_after_each::<P>(alloc, call, from, to),
@@ -241,24 +243,16 @@ impl Stage {
     }
 
     fn call_once<P: Program>(&mut self, alloc: Global, call: &Call) -> Judged {
-        let mut device = call.device(alloc, &self.file, None)?;
+        let mut twin = call.twin(alloc, &self.files, None)?;
         let at = String::new(alloc);
-        let answer = call.over::<P>(alloc, &mut device, &self.file, None, at)?;
-        self.device = Some(device);
-        self.file = answer.file().clone()?;
+        let answer = call.over::<P>(alloc, &mut twin, &self.files, None, at)?;
+        self.twin = Some(twin);
+        self.files = answer.files().copied()?;
         self.keep(answer)?;
         Ok(None)
     }
 
-    fn call_surely<P: Program>(&mut self, alloc: Global, call: &Call) -> Judged {
-        let answer = call.over_sure::<P>(alloc, &self.file)?;
-        self.file = answer.file().clone()?;
-        self.device = None;
-        self.keep(answer)?;
-        Ok(None)
-    }
-
-    /// The call with this number failing. The KDCFILE stays.
+    /// The call with this number failing. The files stay.
     fn call_with<P: Program>(
         &mut self,
         alloc: Global,
@@ -267,9 +261,9 @@ impl Stage {
         number: u64,
     ) -> Result<(), OutOfMemory> {
         let also = Some((kind, number));
-        let mut device = call.device(alloc, &self.file, also)?;
-        let at = format!(in alloc; "{} {number}", failing_name(kind))?;
-        let answer = call.over::<P>(alloc, &mut device, &self.file, also, at)?;
+        let mut twin = call.twin(alloc, &self.files, also)?;
+        let at = failing_name(alloc, kind, number)?;
+        let answer = call.over::<P>(alloc, &mut twin, &self.files, also, at)?;
         self.keep(answer)
     }
 
@@ -295,13 +289,13 @@ impl Stage {
         call: &Call,
         before: &Answer,
     ) -> Result<(), OutOfMemory> {
-        let mut device = call.device(alloc, before.file(), None)?;
+        let mut twin = call.twin(alloc, before.files(), None)?;
         let at = String::from_str(alloc, before.at())?;
-        let answer = call.over::<P>(alloc, &mut device, before.file(), None, at)?;
+        let answer = call.over::<P>(alloc, &mut twin, before.files(), None, at)?;
         self.keep(answer)
     }
 
-    /// The call over what each try of the last one left. The KDCFILE stays.
+    /// The call over what each try of the last one left. The files stay.
     fn call_again<P: Program>(&mut self, alloc: Global, call: &Call) -> Judged {
         let left = mem::replace(&mut self.left, Vec::new(alloc));
         for before in &left {
@@ -317,18 +311,18 @@ impl Stage {
         call: &Call,
         stop: u64,
         choice: u64,
-    ) -> Result<Option<Vec<u8>>, OutOfMemory> {
-        let Some(device) = &self.device else {
+    ) -> Result<Option<Files>, OutOfMemory> {
+        let Some(twin) = &self.twin else {
             return Ok(None);
         };
-        if stop > device.calls() {
+        if stop > twin.calls() {
             return Ok(None);
         }
-        let stopped = device.after_stop(alloc, stop, choice)?;
-        let mut device = call.device(alloc, stopped.holds(), None)?;
+        let stopped = Files::of(alloc, &twin.after_stop(alloc, stop, choice)?)?;
+        let mut twin = call.twin(alloc, &stopped, None)?;
         let at = format!(in alloc; "stop {stop} {choice}")?;
-        let answer = call.over::<P>(alloc, &mut device, stopped.holds(), None, at)?;
-        let left = answer.file().clone()?;
+        let answer = call.over::<P>(alloc, &mut twin, &stopped, None, at)?;
+        let left = answer.files().copied()?;
         self.keep(answer)?;
         Ok(Some(left))
     }
@@ -342,14 +336,14 @@ impl Stage {
     ) -> Judged {
         match self.call_after_stop::<P>(alloc, call, stop, choice)? {
             Some(left) => {
-                self.file = left;
+                self.files = left;
                 Ok(None)
             }
             None => complaint(alloc, "there is no such stop"),
         }
     }
 
-    /// The call over what each of these stops leaves. The KDCFILE stays.
+    /// The call over what each of these stops leaves. The files stay.
     fn call_after_each<P: Program>(
         &mut self,
         alloc: Global,

@@ -29,7 +29,7 @@ use Rattle.warm_start.specs.Stands.{AreTables}
 use Rattle.kdcfile_double.specs.declared.error.TwinOpenError.{TwinOpenError}
 use Rattle.kdcfile_double.specs.declared.error.TwinOpenError.TheVariants as to
 use Rattle.kdcfile_double.specs.Causes.{of_device}
-use Rattle.kdcfile_double.specs.Twice.{Twice, FrameBoth, IsKeptTwice, IsTwice, LeavesBoth, NoneRose, RoseAt, with_copies}
+use Rattle.kdcfile_double.specs.Twice.{Twice, FrameBoth, IsInUse, IsKeptTwice, IsTwice, LeavesBoth, NoneRose, RoseAt, with_copies}
 use Rattle.kdcfile_double.specs.Opening.{AreEmpty, IsMakingTwo, KeepsTablesTwice, SameFiles, Unchanged}
 use Rattle.kdcfile_double.specs.Mended.{BothRest}
 use Rattle.kdcfile_double.specs.Choice.{IsChoice}
@@ -247,6 +247,10 @@ module _ (p q : LoadedCopy) (i : Identity) (is : IsIdentity i) (made : p.store.i
   made_are_twice =
       two_are_twice p q (made_loaded p i made is numbered keeps) (made_loaded q i too is alike holds)
       (record { sequence = numbered ∙ sym alike; identity = made ∙ sym too; content = keeps.content ∙ sym holds.content })
+
+pub made_are_used : (p q : LoadedCopy) (s : Twice) → s ≡ with_copies (Some p) (Some q) → (half : Half) → IsInUse half s
+made_are_used p q s is First = (p, ap (λ (u : Twice). u.first) is)
+made_are_used p q s is Second = (q, ap (λ (u : Twice). u.second) is)
 
 -- the empty tables are kept in them
 pub empty_are_tables : AreTables empty_tables

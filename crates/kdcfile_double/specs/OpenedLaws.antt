@@ -1,22 +1,26 @@
 -- Laws: what is answered where two files were read.
-use Rattle.std.specs.Prelude.{◌≡◌, ◌⊎◌, ◌≤◌, ◌+◌, ◌^◌, ℕ, Bool, List, IsTrue, IfOk, IsErrAnd, IsErrOf, Option, None}
-use Rattle.std.proofs.Common.{inl, ⊎_elim, arith, sym, ap, subst, ◌∙◌, Result, Ok, Err}
+use Rattle.std.specs.Prelude.{◌≡◌, ◌⊎◌, ◌≤◌, ◌+◌, ◌^◌, ℕ, Bool, List, [], IsTrue, IfOk, IsErrAnd, IsErrOf, Option, None}
+use Rattle.std.proofs.Common.{inl, ⊎_elim, arith, refl, sym, ap, subst, ◌∙◌, Result, Ok, Err}
 use Rattle.kd_records.specs.Charge.{total_charge}
 use Rattle.kd_twin.specs.Twin.{Both}
+use Rattle.kd_twin.specs.declared.half.Half.{Half}
 use Rattle.kdcdef_types.specs.Generation.{Generated}
 use Rattle.kdcs_types.specs.Tables.{TableRows, empty_tables}
 use Rattle.laws_of_steps.specs.EmptyTablesLaws.{empty_suit}
 use Rattle.laws_of_steps.specs.Suits.{Suits}
 use Rattle.kdcfile_copies.specs.declared.answer.LoadedCopy.{LoadedCopy}
 use Rattle.kdcfile_copies.specs.declared.answer.Found.{Found}
+use Rattle.kdcfile_copies.specs.declared.answer.Found.TheVariants.{Empty, NoCopy, Copy}
+use Rattle.kdcfile_copies.specs.Copies.{IsCopyOf, bare}
+use Rattle.kdcfile_copies.specs.CopiesLaws.{store_is_copy}
 use Rattle.kdcfile_copies.specs.Finding.{IsAnswer, IsFound}
 use Rattle.warm_start.specs.Stands.{AreTables}
 use Rattle.kdcfile_double.specs.declared.error.TwinOpenError.{TwinOpenError}
-use Rattle.kdcfile_double.specs.Twice.{Twice, IsKeptTwice, IsOpen, content_of, identity_of, sequence_of}
+use Rattle.kdcfile_double.specs.Twice.{Twice, IsInUse, IsKeptTwice, IsOpen, content_of, identity_of, sequence_of}
 use Rattle.kdcfile_double.specs.Opening.{AreEmpty, AreInUseSo, HasNoTablesInTwo, KeepsTablesTwice, SameFiles, StartsFromTwo, identity_twice}
 use Rattle.kdcfile_double.specs.Mended.{BothRest}
 use Rattle.kdcfile_double.specs.Choice.{AreOfFiles, HasCopy, IsChoice, copy_in}
-use Rattle.kdcfile_double.specs.ChoiceLaws.{choice_fits, found_has, found_loaded, nothing_in_two}
+use Rattle.kdcfile_double.specs.ChoiceLaws.{choice_fits, found_has, found_loaded, nothing_in_two, nothing_is_no_copy}
 use Rattle.kdcfile_double.specs.OpeningLaws.{fits_twice, kept_of_files, starts_two}
 use Rattle.kdcfile_double.specs.MakingLaws.{empty_are_tables}
 
@@ -60,6 +64,11 @@ pub empty_is_open : (a b : List ℕ) (told : Type 0) (make : Bool) (r : Result (
 empty_is_open a b told make (Ok o) empty is = λ asked. ⊎_elim (λ m. is m) (λ filled. absurd (filled.1 (empty filled.0))) asked
 empty_is_open a b told make (Err x) empty is = tt
 
+pub empty_made : (a b : List ℕ) (told : Type 0) (make : Bool) (r : Result (Twice × TableRows) TwinOpenError) → IfOk r (λ o. IsTrue make → (half : Half) → IsInUse half o.0)
+    → IfOk r (λ o. IsTrue make → told → AreEmpty a b → (half : Half) → IsInUse half o.0)
+empty_made a b told make (Ok o) is = λ asked now empty. is asked
+empty_made a b told make (Err x) is = tt
+
 pub kept_lifted : (told since : Type 0) (K : Twice → Type 0) (r : Result (Twice × TableRows) TwinOpenError) → (told → since) → IfOk r (λ o. IsOpen o.0 → since → K o.0) → IfOk r (λ o. IsOpen o.0 → told → K o.0)
 kept_lifted told since K (Ok o) lift is = λ open_now now. is open_now (lift now)
 kept_lifted told since K (Err x) lift is = tt
@@ -92,6 +101,21 @@ module _ (f h : Found) (a b : List ℕ) (told : Type 0) (first : told → IsAnsw
   pub opened_in_use : (r : Result (Twice × TableRows) TwinOpenError) → IfOk r (λ o. OpenedOf f h o.0) → IfOk r (λ o. IsOpen o.0 → told → (AreEmpty a b → ⊥) → AreInUseSo o.0 a b)
   opened_in_use (Ok o) fits = λ open_now now filled. (fits a b (first now) (second now)).in_use
   opened_in_use (Err x) fits = tt
+
+-- nothing but that is found in an empty file
+only_empty : (f : Found) (bytes : List ℕ) → IsFound f → IsAnswer f bytes → bytes ≡ [] → f ≡ Empty
+only_empty Empty bytes is answer empty = refl
+only_empty NoCopy bytes is answer empty = absurd (answer.0 empty)
+only_empty (Copy p) bytes is answer empty =
+    absurd
+    (nothing_is_no_copy p.store.identity p.sequence (bare p.store.content)
+    (subst (λ (l : List ℕ). IsCopyOf p.store.identity p.sequence (bare p.store.content) l) empty (store_is_copy p.store p.sequence (bare p.store.content) bytes is.keeps answer)))
+
+-- files in which something was found are not both empty
+pub opened_made : (f h : Found) (a b : List ℕ) (told : Type 0) (make : Bool) → IsFound f → IsFound h → (told → IsAnswer f a) → (told → IsAnswer h b) → ((f ≡ Empty) × (h ≡ Empty) → ⊥) → (r : Result (Twice × TableRows) TwinOpenError)
+    → IfOk r (λ o. IsTrue make → told → AreEmpty a b → (half : Half) → IsInUse half o.0)
+opened_made f h a b told make is too first second some (Ok o) = λ asked now empty. absurd (some (only_empty f a is (first now) empty.0, only_empty h b too (second now) empty.1))
+opened_made f h a b told make is too first second some (Err x) = tt
 
 -- a stop leaves of both what they hold
 pub opened_kept : (f h : Found) (old new : Both) (leaves : ℕ → List ℕ → List ℕ → List ℕ → Type 0) (told : Type 0) → (told → IsAnswer f old.first.holds) → (told → IsAnswer h old.second.holds) → (told → SameFiles old new) → (told → BothRest new leaves)

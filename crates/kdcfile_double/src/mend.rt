@@ -3,7 +3,7 @@ ghost use Rattle.std.specs.Prelude.{◌≡◌, ◌⊎◌, IsTrue, IfSome, OnOk, 
 ghost use Rattle.kd_twin.specs.{Twin.{disk_of, other}, declared.half.Half.{Half as Side}};
 ghost use Rattle.kdcfile_store.specs.Paged.{HasFile};
 ghost use Rattle.kdcfile_copies.specs.{Copies.{IsCopyOf}, Finding.{IsLoaded}};
-ghost use Rattle.kdcfile_double.specs.{Twice.{IsTwice, IsOpen, IsInUse, IsKeptTwice, FrameBoth, RoseAt, SameFaultsAt, LosesBy, LeavesBoth, copy_at, content_of, identity_of, sequence_of}, Mended.{BothRest, IsBehind, IsMendingOne, IsTaken, TakesAfter, lost_at}};
+ghost use Rattle.kdcfile_double.specs.{Twice.{IsOpen, IsInUse, IsKeptTwice, FrameBoth, RoseAt, SameFaultsAt, LosesBy, LeavesBoth, copy_at, content_of, identity_of, sequence_of}, Mended.{BothRest, IsBehind, IsMendingOne, IsTaken, TakesAfter, lost_at}};
 
 use crate::alike::are_alike;
 use crate::choosing::copy_in;
@@ -55,13 +55,6 @@ impl TwinStore {
             Half::First => self.first.as_ref(),
             Half::Second => self.second.as_ref(),
         }
-    }
-
-    // The copies in use keep the same, and none of them is lost.
-    fn note_twice(&self)
-        ensures { IsTwice self.now }
-    {
-        let _ = &self.first;
     }
 
     // A call failed on a half that is not in use: it is lost.
@@ -152,7 +145,7 @@ impl TwinStore {
         ensures fine { OnOk result ((half : Side) → IsInUse half self.new → SameFaultsAt half (T.both twin.old) (T.both twin.new)) }
         ensures frame { FrameBoth (T.both twin.old) (T.both twin.new) }
     {
-        self.note_twice();
+        self.copies_are_alike();
         let Some(source) = self.only_half() else {
             return Ok(());
         };

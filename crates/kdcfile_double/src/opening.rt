@@ -68,6 +68,7 @@ fn empty<T: Twin>(
     ensures keeps { IfOk result (λ o. IsOpen o.0 → KeepsTablesTwice (identity_twice generation.now fingerprint.now) o.0 o.1) }
     ensures sequence { IfOk result (λ o. sequence_of o.0 ≡ 0) }
     ensures is_open { IfOk result (λ o. IsTrue make → IsOpen o.0) }
+    ensures made { IfOk result (λ o. IsTrue make → (half : Side) → IsInUse half o.0) }
     ensures new { IfOk result (λ o. (o.0.mended ≡ None) × (o.0.lost ≡ None)) }
     ensures kept { IfOk result (λ o. IsOpen o.0 → IsTrue (T.both twin.old).told → IsKeptTwice o.0 (T.both twin.new) (T.leaves twin.new)) }
     ensures at_rest { OnOk result (IsTrue (T.both twin.old).told → BothRest (T.both twin.new) (T.leaves twin.new)) }
@@ -221,6 +222,9 @@ impl TwinStore {
         ensures new { IfOk result (λ o. (o.0.mended ≡ None) × (o.0.lost ≡ None)) }
         ensures kept { IfOk result (λ o. IsOpen o.0 → IsTrue (T.both twin.old).told → IsKeptTwice o.0 (T.both twin.new) (T.leaves twin.new)) }
         ensures at_rest { OnOk result (IsTrue (T.both twin.old).told → BothRest (T.both twin.new) (T.leaves twin.new)) }
+
+        // Of two empty files that are made both are in use.
+        ensures made { IfOk result (λ o. IsTrue make → IsTrue (T.both twin.old).told → AreEmpty (T.both twin.old).first.holds (T.both twin.old).second.holds → (half : Side) → IsInUse half o.0) }
 
         // A half is behind just where it is no copy beside one, or the one of two that does not count.
         ensures in_use { IfOk result (λ o. IsOpen o.0 → IsTrue (T.both twin.old).told → (AreEmpty (T.both twin.old).first.holds (T.both twin.old).second.holds → ⊥) → AreInUseSo o.0 (T.both twin.old).first.holds (T.both twin.old).second.holds) }

@@ -1,5 +1,6 @@
 //! The two copies of a KDCFILE, as far as they are in use.
 ghost use Rattle.std.specs.Prelude.{◌≡◌};
+ghost use Rattle.kdcfile_double.specs.Twice.{IsTwice};
 
 use kd_twin::Half;
 use kdcfile_copies::LoadedCopy;
@@ -26,6 +27,14 @@ impl Model for TwinStore {
 }
 
 impl TwinStore {
+    /// A law: the copies in use keep the same with the same sequence, and the half that is lost is not in use. It does
+    /// nothing.
+    pub fn copies_are_alike(&self)
+        ensures { IsTwice self.now }
+    {
+        let _ = &self.first;
+    }
+
     /// The half that was written anew from the other one. It takes no memory.
     pub fn mended(&self) -> Option<Half>
         ensures { result ≡ self.now.mended }

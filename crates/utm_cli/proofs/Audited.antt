@@ -1,29 +1,16 @@
 -- What an audit finds; the trail of a run is read, and all its entries hold.
-use Rattle.std.proofs.Common.{◌≡◌, ◌∙◌, ℕ, List, [], Some, Ok, refl, sym, ap}
+use Rattle.std.proofs.Common.{List, [], ℕ, Some, Ok, refl}
 use Rattle.kd_device.specs.Room.{RoomState}
 use Rattle.warm_start.specs.Fingerprints.{fingerprint as print_of}
 use Rattle.laws_of_applications.specs.Applied.{applied}
-use Rattle.kdcfile_update.specs.Updating.{Stored}
 use Rattle.refusals.specs.declared.error.FileRefusal.{FileRefusal}
 use Rattle.trail_words.specs.Auditing.{TrailsAreJudgedOnce}
-use Rattle.trail_words.specs.declared.verdict.Verdict.{Verdict}
-use Rattle.trail_words.specs.declared.verdict.Verdict.TheVariants.{Holds, Differs}
 use Rattle.trail_words.specs.OwnAudits.{OwnTrailsHold, own_trail}
 use Rattle.utm_cli.specs.declared.words.Word.TheVariants.{Audit}
 use Rattle.utm_cli.specs.Asking.{Errand}
-use Rattle.utm_cli.specs.Doing.{HoldsAll, AuditRefuses, own, entry_count}
-use Rattle.utm_cli.specs.Parts.{Finds}
+use Rattle.utm_cli.specs.Doing.{HoldsAll, AuditRefuses, own}
 use Rattle.utm_cli.specs.Promise.{Reads, AuditsOwn}
-use Rattle.utm_cli.proofs.Refused.{holds_or_differs}
-
--- what was found, where it is no entry that differs
-pub holds_of : (e : Errand) (v : Verdict) → Finds e v → ((n : ℕ) → v ≡ Differs n → ⊥) → (s : Stored) × HoldsAll e s × (v ≡ Holds (entry_count e.trail))
-holds_of e (Holds k) found none = (
-  own e found.0.start,
-  record { trail = found.0; is = found.1; start = refl; holds = found.2.0 },
-  ap (λ (n : ℕ). Holds n) (found.2.1 ∙ sym (ap entry_count found.1)),
-)
-holds_of e (Differs n) found none = absurd (none n refl)
+use Rattle.utm_cli.specs.AuditLaws.{holds_or_differs}
 
 module _ (hold : OwnTrailsHold) (words : List (List ℕ)) (room : RoomState) (o : AuditsOwn words room) where
   -- what such a call asks for
@@ -57,4 +44,4 @@ module _ (hold : OwnTrailsHold) (words : List (List ℕ)) (room : RoomState) (o 
       let holds = hold (applied o.application.generation o.application.units) (print_of o.definition o.units) o.start o.script o.text o.own in
       let trail = own_trail (applied o.application.generation o.application.units) (print_of o.definition o.units) o.start o.script in
       let all : HoldsAll own_errand (own own_errand trail.start) = record { trail = trail; is = refl; start = refl; holds = holds.1.0 } in
-      holds_or_differs once own_errand [] (own own_errand trail.start) why all refuses
+      holds_or_differs once own_errand (own own_errand trail.start) why all refuses

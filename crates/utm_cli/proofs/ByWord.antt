@@ -12,7 +12,6 @@ use Rattle.abstract_monitor.specs.declared.command.Command.{Command}
 use Rattle.abstract_monitor.specs.Listing.{listing}
 use Rattle.abstract_monitor.specs.Trace.{bytes_of}
 use Rattle.warm_start.specs.MeaningLaws.{answers_exclude_each_other}
-use Rattle.warm_start.specs.Stands.{StandsForTables}
 use Rattle.kdcfile_update.specs.Updating.{Stored}
 use Rattle.device_acts.specs.Said.{Said, SaidPart}
 use Rattle.refusals.specs.declared.error.FileRefusal.{FileRefusal}
@@ -25,7 +24,7 @@ use Rattle.utm_cli.specs.Words.{IsOfBase}
 use Rattle.trail_words.specs.Auditing.{verdict_line}
 use Rattle.trail_words.specs.declared.verdict.Verdict.TheVariants.{Holds}
 use Rattle.utm_cli.specs.Promise.{RanOver, RanBy, Ran, IsCutOver, IsCutBy, IsCutOfRun, IsFront, SaysFront, MakesFile, MayAttach, MayHandOn, HandsOn, WritesActsAlone}
-use Rattle.utm_cli.proofs.Ran.{as_it_was, part_then, nothing_said}
+use Rattle.utm_cli.proofs.Ran.{part_then, nothing_said}
 
 -- ---- what a call starts from
 
@@ -86,21 +85,6 @@ module _ (e : Errand) (bytes : List ℕ) where
   -- a file that is not opened is not empty
   pub not_empty : ((t : TableRows) → Opens e bytes t → ⊥) → bytes ≡ [] → ⊥
   not_empty none empty = none empty_tables (inl (empty, refl))
-
--- ---- what a stop leaves
-
--- nothing was done
-unchanged_by : (word : Word) (e : Errand) (acts : List Act) (s : Stored) (a : State) → StartsBy word e a.holds s → (image out : List ℕ) → image ≡ a.holds → out ≡ a.sent → IsCutBy word (identity_of e) acts (tables_by word e s) s a image out
-unchanged_by Gen e acts s a from image out same silent = as_it_was e acts s.tables a from.opens image out same silent
-unchanged_by Run e acts s a from image out same silent = as_it_was e acts s.tables a from.opens image out same silent
-unchanged_by Show e acts s a from image out same silent = (same, (0, silent ∙ sym (append-nil a.sent)))
-unchanged_by Update e acts s a from image out same silent = inl (record { silent = silent; stands = subst (λ (l : List ℕ). StandsForTables s.identity s.tables l) (sym same) from.stands })
-unchanged_by Trail e acts s a from image out same silent = (same, (0, silent ∙ sym (append-nil a.sent)))
-unchanged_by Audit e acts s a from image out same silent = (same, (0, silent ∙ sym (append-nil a.sent)))
-unchanged_by (Make n) e acts s a from image out same silent = (same, (0, silent ∙ sym (append-nil a.sent)))
-
-pub unchanged_cut : (e : Errand) (s : Stored) (a : State) → Starts e a.holds s → (image out : List ℕ) → image ≡ a.holds → out ≡ a.sent → IsCutOfRun e s a image out
-unchanged_cut e s a from image out same silent = unchanged_by e.word e (acts_of e s) s a from image out same silent
 
 -- ---- words over the store
 

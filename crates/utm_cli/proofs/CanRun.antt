@@ -1,19 +1,16 @@
 -- What texts ask for can run, and a trail can be audited.
-use Rattle.std.proofs.Common.{◌≡◌, Bool, true, false, List, ℕ, [], Some, None, refl, sym, subst, arith}
+use Rattle.std.proofs.Common.{◌≡◌, Bool, true, false, List, ℕ, [], sym, subst, arith}
 use Rattle.std.specs.Prelude.{◌≤◌, ◌^◌, sum_by, All}
 use Rattle.std.proofs.lemmas.List.Elements.{All-nil}
 use Rattle.application_read.specs.Laws.{GenerationsAreSound, UnitsFit}
-use Rattle.application_read.specs.declared.application.Application.{Application as Made}
+use Rattle.application_read.specs.Texts.{TextsGenerate}
 use Rattle.abstract_monitor.specs.CommandsOf.{IsCommandOf}
 use Rattle.abstract_monitor.specs.declared.command.Command.{Command}
-use Rattle.audit_trail.specs.Facts.{IsTrail}
 use Rattle.audit_trail.specs.Laws.{ReadTrailsAreTrails}
-use Rattle.audit_trail.specs.declared.entry.Trail.{Trail as Kept}
 use Rattle.kdcdef_types.specs.Generation.{Generated}
-use Rattle.laws_of_steps.specs.Suits.{Suits}
 use Rattle.monitor_core.specs.CoreSteps.{turns_of}
 use Rattle.script_read.specs.Spelling.{CommandsOnly}
-use Rattle.utm_cli.specs.Asking.{Errand, ThirdAsks, CanBeAudited, TextsCanRun}
+use Rattle.utm_cli.specs.Asking.{Errand, ThirdAsks, CanBeAudited, CanRun, TextsCanRun, TextsOfTwoCanRun}
 use Rattle.utm_cli.specs.Words.{audits}
 use Rattle.utm_cli.specs.declared.words.Word.{Word}
 use Rattle.laws_of_applications.proofs.Made.{application_made}
@@ -22,10 +19,10 @@ use Rattle.utm_cli.proofs.Scripts.{few_turns, script_names}
 -- ---- the third text
 
 -- no commands have all names, and take no turns
-pub no_names : (g : Generated) (commands : List Command) → commands ≡ [] → All (IsCommandOf g) commands
+no_names : (g : Generated) (commands : List Command) → commands ≡ [] → All (IsCommandOf g) commands
 no_names g commands none = subst (λ (l : List Command). All (IsCommandOf g) l) (sym none) (All-nil (IsCommandOf g))
 
-pub no_turns : (commands : List Command) → commands ≡ [] → sum_by turns_of commands ≤ 10 ^ 18
+no_turns : (commands : List Command) → commands ≡ [] → sum_by turns_of commands ≤ 10 ^ 18
 no_turns commands none = subst (λ (l : List Command). sum_by turns_of l ≤ 10 ^ 18) (sym none) (omega arith)
 
 module _ (only : CommandsOnly) (read : ReadTrailsAreTrails) (e : Errand) (text : List ℕ) where
@@ -41,26 +38,27 @@ module _ (only : CommandsOnly) (read : ReadTrailsAreTrails) (e : Errand) (text :
   third_trail false asks = asks.1
   third_trail true asks = let t = asks.1 in subst (CanBeAudited true e.application) (sym t.1) (read text t.0 t.2.says, t.2.suits)
 
-pub no_trail : (word : Word) → audits word ≡ false → (a : Made) → CanBeAudited (audits word) a None
-no_trail word runs a = subst (λ (audit : Bool). CanBeAudited audit a None) (sym runs) refl
-
-pub own_trail : (word : Word) → audits word ≡ true → (a : Made) (t : Kept) → IsTrail t → Suits a.generation t.start → CanBeAudited (audits word) a (Some t)
-own_trail word audit a t is suits = subst (λ (b : Bool). CanBeAudited b a (Some t)) (sym audit) (is, suits)
-
 -- the trail of a word is that of its errand
-pub trail_of_word : (e : Errand) (word : Word) → e.word ≡ word → CanBeAudited (audits word) e.application e.trail → CanBeAudited (audits e.word) e.application e.trail
+trail_of_word : (e : Errand) (word : Word) → e.word ≡ word → CanBeAudited (audits word) e.application e.trail → CanBeAudited (audits e.word) e.application e.trail
 trail_of_word e word is can = subst (λ (w : Word). CanBeAudited (audits w) e.application e.trail) (sym is) can
 
-pub texts_run : GenerationsAreSound → UnitsFit → CommandsOnly → ReadTrailsAreTrails → TextsCanRun
-texts_run sound units only read word d u s e h =
+-- an errand whose application the texts make, and for which the third text asks
+pub errand_runs : GenerationsAreSound → UnitsFit → CommandsOnly → ReadTrailsAreTrails → (word : Word) (d u s : List ℕ) (e : Errand) → e.word ≡ word → TextsGenerate d u e.application → ThirdAsks (audits word) e.application e.fingerprint s e.commands e.trail → CanRun e
+errand_runs sound units only read word d u s e is generates asks =
     let g = e.application.generation in
-    let fit = units d u e.application h.1 in
-    let keeps = sound d g h.1.0 in
+    let fit = units d u e.application generates in
+    let keeps = sound d g generates.0 in
     record {
       fit = fit.0;
       named = keeps.names;
       applies = application_made g e.application.units fit.0 fit.1 keeps;
-      names = third_names only read e s (audits word) h.4;
-      turns = third_turns only read e s (audits word) h.4;
-      trail = trail_of_word e word h.0 (third_trail only read e s (audits word) h.4);
+      names = third_names only read e s (audits word) asks;
+      turns = third_turns only read e s (audits word) asks;
+      trail = trail_of_word e word is (third_trail only read e s (audits word) asks);
     }
+
+pub texts_run : GenerationsAreSound → UnitsFit → CommandsOnly → ReadTrailsAreTrails → TextsCanRun
+texts_run sound units only read word d u s e h = errand_runs sound units only read word d u s e h.0 h.1 h.4
+
+pub texts_of_two_run : GenerationsAreSound → UnitsFit → CommandsOnly → ReadTrailsAreTrails → TextsOfTwoCanRun
+texts_of_two_run sound units only read word d u s e h = errand_runs sound units only read word d u s e h.0 h.1 h.4

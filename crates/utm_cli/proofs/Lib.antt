@@ -1,7 +1,7 @@
-pub mod Cuts
 pub mod Scripts
 pub mod CanRun
 pub mod TextsSaid
+pub mod ErrandSaid
 pub mod Started
 pub mod Opened
 pub mod Ran
@@ -10,8 +10,6 @@ pub mod Updated
 pub mod Refused
 pub mod Writing
 pub mod Doing
-pub mod Ends
-pub mod Asking
 pub mod Audited
 pub mod Trailed
 pub mod Codes

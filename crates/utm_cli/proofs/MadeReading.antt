@@ -70,6 +70,10 @@ request_within (word ∷ []) n operand h = absurd cc
 request_within (word ∷ base ∷ []) n operand h = word_within (same word (codes "make")) word base n (asked_word (word_with (same word (codes "make")) word base) base operand (Make n) h)
 request_within (word ∷ base ∷ more ∷ rest) n operand h = absurd cc
 
+-- its third text is a script
+pub runs_make : (word : Word) (n : ℕ) → word ≡ Make n → audits word ≡ false
+runs_make word n is = ap audits is
+
 -- ---- what is asked for
 
 module _ (taken : MadeTextsAreTaken) where

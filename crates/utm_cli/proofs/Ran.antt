@@ -16,20 +16,11 @@ use Rattle.device_run.specs.Running.{IsCutSince}
 use Rattle.utm_cli.specs.Asking.{Errand}
 use Rattle.utm_cli.specs.Doing.{Opens, identity_of, own, acts_of}
 use Rattle.utm_cli.specs.Promise.{IsCutOver}
-use Rattle.utm_cli.proofs.Cuts.{cut_none, cut_since}
+use Rattle.utm_cli.specs.CutsLaws.{as_it_was, cut_none, cut_since}
 
 -- ---- what a stop leaves
 
 module _ (e : Errand) (acts : List Act) (t : TableRows) (a : State) (starts : Opens e a.holds t) where
-  pub as_it_was : (image out : List ℕ) → image ≡ a.holds → out ≡ a.sent → IsCutOver (identity_of e) acts t a image out
-  as_it_was image out same silent = by starts
-    where
-      by : Opens e a.holds t → IsCutOver (identity_of e) acts t a image out
-      by (inl (empty, is)) = inr (record { empty = empty; silent = silent; unmade = inl (same ∙ empty) })
-      by (inr (stands, suits)) =
-          inl (subst (λ (o : List ℕ). IsCutSince (StandsForTables (identity_of e)) t acts a.sent image o) (sym silent)
-          (cut_none (StandsForTables (identity_of e)) t acts a.sent image (subst (λ (l : List ℕ). StandsForTables (identity_of e) t l) (sym same) stands)))
-
   new_file : (image out : List ℕ) → a.holds ≡ [] → out ≡ a.sent → StandsForTables (identity_of e) empty_tables image → IsCutOver (identity_of e) acts t a image out
   new_file image out none silent made = by starts
     where

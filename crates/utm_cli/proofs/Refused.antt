@@ -1,7 +1,6 @@
 -- A file is accepted, or refused for one reason; and how a reason is handed on.
-use Rattle.std.proofs.Common.{◌≡◌, ◌⊎◌, inl, inr, ⊎_elim, ℕ, List, length, refl, sym, ap, subst, ◌∙◌}
+use Rattle.std.proofs.Common.{◌≡◌, ◌⊎◌, inl, inr, ⊎_elim, ℕ, List, refl, sym, ap, subst, ◌∙◌}
 use Rattle.std.specs.Prelude.{Result, Err, IsErrAnd, IsErrOf}
-use Rattle.std.proofs.lemmas.Option.{same_Some}
 use Rattle.kd_base.specs.ToolsLaws.{err_is, error_same}
 use Rattle.kd_update.specs.declared.error.UpdateError.{UpdateError}
 use Rattle.kd_update.specs.declared.error.UpdateError.TheVariants as cause
@@ -19,14 +18,11 @@ use Rattle.utm_cli.specs.declared.error.CallError.{CallError}
 use Rattle.utm_cli.specs.declared.error.CallError.TheVariants.{Refused}
 use Rattle.utm_cli.specs.declared.words.Word.{Word}
 use Rattle.utm_cli.specs.declared.words.Word.TheVariants.{Gen, Run, Show, Update, Trail, Audit, Make}
-use Rattle.audit_trail.specs.declared.entry.Trail.{Trail as Kept}
-use Rattle.trail_words.specs.Auditing.{IsJudged, TrailsAreJudgedOnce}
-use Rattle.trail_words.specs.declared.verdict.Verdict.{Verdict}
-use Rattle.trail_words.specs.declared.verdict.Verdict.TheVariants.{Holds, Differs}
-use Rattle.utm_cli.specs.Asking.{Errand, app_of}
-use Rattle.utm_cli.specs.Parts.{Finds}
+use Rattle.trail_words.specs.Auditing.{TrailsAreJudgedOnce}
+use Rattle.utm_cli.specs.Asking.{Errand}
+use Rattle.utm_cli.specs.AuditLaws.{holds_or_differs, differs_once}
 use Rattle.utm_cli.specs.Causes.{of_open, of_carry}
-use Rattle.utm_cli.specs.Doing.{OpensWith, OpeningRefuses, UpdateTakes, UpdateRefuses, HoldsAll, AuditRefuses, StartsBy, Starts, RefusesBy, Refuses}
+use Rattle.utm_cli.specs.Doing.{OpensWith, OpeningRefuses, UpdateTakes, UpdateRefuses, StartsBy, Starts, RefusesBy, Refuses}
 
 -- ---- a file is answered in one way
 
@@ -100,42 +96,13 @@ module _ (once : TrailsAreJudgedOnce) (e : Errand) (bytes : List ℕ) where
       let second = judged q k in
       sym first.1 ∙ ap reason_of (judgement.refused_once (cause_of r) (cause_of q) first.0 second.0) ∙ second.1
 
-  found_once : (one other : Verdict) → Finds e one → Finds e other → one ≡ other
-  found_once one other h k =
-      let same : h.0 ≡ k.0 = same_Some h.0 k.0 (sym h.1 ∙ k.1) in
-      once (app_of e) k.0 one other (subst (λ (t : Kept). IsJudged (app_of e) t one) same h.2) k.2
-
-  -- the number of an entry that differs, and back
-  differing : (r : FileRefusal) → AuditRefuses e r → (n : ℕ) × Finds e (Differs n) × (why.Differs n ≡ r)
-  differing why.NotKdcfile h = absurd h
-  differing (why.OtherGeneration stored) h = absurd h
-  differing (why.OtherBlksize n) h = absurd h
-  differing (why.SmallerPool n) h = absurd h
-  differing (why.TooManyGssbs n) h = absurd h
-  differing (why.TooLarge n) h = absurd h
-  differing (why.Differs n) h = (n, h, refl)
-
-  pub holds_or_differs : (s : Stored) (r : FileRefusal) → HoldsAll e s → AuditRefuses e r → ⊥
-  holds_or_differs s r h refuses =
-      let d = differing r refuses in
-      let no : Holds (length h.trail.entries) ≡ Differs d.0 = found_once (Holds (length h.trail.entries)) (Differs d.0) (h.trail, h.is, (h.holds, refl)) d.1 in
-      cc
-
-  differs_once : (r q : FileRefusal) → AuditRefuses e r → AuditRefuses e q → r ≡ q
-  differs_once r q h k =
-      let first = differing r h in
-      let second = differing q k in
-      let one : Differs first.0 ≡ Differs second.0 = found_once (Differs first.0) (Differs second.0) first.1 second.1 in
-      let number : first.0 ≡ second.0 = cc in
-      sym first.2 ∙ ap (λ (n : ℕ). why.Differs n) number ∙ second.2
-
   not_both_by : (word : Word) (s : Stored) (r : FileRefusal) → StartsBy word e bytes s → RefusesBy word e bytes r → ⊥
   not_both_by Gen s r starts refuses = opened_or_refused s r starts refuses
   not_both_by Run s r starts refuses = opened_or_refused s r starts refuses
   not_both_by Show s r starts refuses = opened_or_refused s r starts refuses
   not_both_by Update s r starts refuses = taken_or_refused s r starts refuses
   not_both_by Trail s r starts refuses = opened_or_refused s r starts refuses
-  not_both_by Audit s r starts refuses = holds_or_differs s r starts refuses
+  not_both_by Audit s r starts refuses = holds_or_differs once e s r starts refuses
   not_both_by (Make n) s r starts refuses = refuses
 
   one_reason_by : (word : Word) (r q : FileRefusal) → RefusesBy word e bytes r → RefusesBy word e bytes q → r ≡ q
@@ -144,7 +111,7 @@ module _ (once : TrailsAreJudgedOnce) (e : Errand) (bytes : List ℕ) where
   one_reason_by Show r q h k = refused_once r q h k
   one_reason_by Update r q h k = judged_once r q h k
   one_reason_by Trail r q h k = refused_once r q h k
-  one_reason_by Audit r q h k = differs_once r q h k
+  one_reason_by Audit r q h k = differs_once once e r q h k
   one_reason_by (Make n) r q h k = absurd h
 
   pub not_both : (s : Stored) (r : FileRefusal) → Starts e bytes s → Refuses e bytes r → ⊥

@@ -41,18 +41,22 @@ suited_by Audit e trail taken limits bytes s holds =
     (subst IsSortedTables (sym is) there.0.sorted, subst (Suits e.application.generation) (sym is) there.1)
 suited_by (Make n) e trail taken limits bytes s is = opened e [] s.tables (inl (refl, ap (λ (x : Stored). x.tables) is))
 
-pub runs_lawfully : (e : Errand) → CanRun e → AreLimits e.application.generation.limits → TakenTablesSuit → StartsHaveFacts → RunsAreLawful → RunsKeepAccess → LocksMakeTheRule → JobsAreDoneOnce → CutsResume → CutsAreSerial → AllRunsKeepJobs
-    → (bytes : List ℕ) (s : Stored) → Starts e bytes s → RunsLawfully (app_of e) (tables_of e s) e.commands
-runs_lawfully e can limits taken facts lawful access ruleless once resume serial runs bytes s starts =
-    let t = tables_of e s in
-    let there = suited_by e.word e can.trail taken limits bytes s starts in
+-- from tables that suit, whatever they are kept in
+pub suited_lawfully : (e : Errand) → CanRun e → StartsHaveFacts → RunsAreLawful → RunsKeepAccess → LocksMakeTheRule → JobsAreDoneOnce → CutsResume → CutsAreSerial → AllRunsKeepJobs
+    → (t : TableRows) → IsSortedTables t → Suits e.application.generation t → RunsLawfully (app_of e) t e.commands
+suited_lawfully e can facts lawful access ruleless once resume serial runs t sorted suits =
     record {
-      lasting = durable_same e.application.generation t there.1;
-      steps = lawful (app_of e) t e.commands can.applies can.names there.0 there.1;
-      access = access (app_of e) t e.commands can.applies can.names there.0 there.1;
+      lasting = durable_same e.application.generation t suits;
+      steps = lawful (app_of e) t e.commands can.applies can.names sorted suits;
+      access = access (app_of e) t e.commands can.applies can.names sorted suits;
       ruleless = ruleless e.application.generation;
-      jobs = λ first more rest whole. once (app_of e) (started (app_of e) t) e.commands can.applies can.names (facts (app_of e) t can.applies there.0 there.1) first more rest whole;
-      resumes = λ done left whole. resume (app_of e) t e.commands can.applies can.names there.0 there.1 done left whole;
-      serial = λ done left whole. serial (app_of e) t e.commands can.applies can.names there.0 there.1 done left whole;
-      runs = λ many are. runs (app_of e) t many can.applies there.0 there.1 are;
+      jobs = λ first more rest whole. once (app_of e) (started (app_of e) t) e.commands can.applies can.names (facts (app_of e) t can.applies sorted suits) first more rest whole;
+      resumes = λ done left whole. resume (app_of e) t e.commands can.applies can.names sorted suits done left whole;
+      serial = λ done left whole. serial (app_of e) t e.commands can.applies can.names sorted suits done left whole;
+      runs = λ many are. runs (app_of e) t many can.applies sorted suits are;
     }
+
+pub runs_lawfully : (e : Errand) → CanRun e → AreLimits e.application.generation.limits → TakenTablesSuit → ((t : TableRows) → IsSortedTables t → Suits e.application.generation t → RunsLawfully (app_of e) t e.commands)
+    → (bytes : List ℕ) (s : Stored) → Starts e bytes s → RunsLawfully (app_of e) (tables_of e s) e.commands
+runs_lawfully e can limits taken suited bytes s starts =
+    let there = suited_by e.word e can.trail taken limits bytes s starts in suited (tables_of e s) there.0 there.1

@@ -1,5 +1,5 @@
 -- What the texts of a call say, where one longer than the limit is cut off.
-use Rattle.std.proofs.Common.{◌≡◌, ◌≢◌, ◌⊎◌, inl, inr, ⊎_elim, ℕ, ◌<◌, ◌≤◌, Bool, true, false, List, [], length, Option, Some, None, Result, Ok, Err, refl, sym, ap, subst, ◌∙◌, arith}
+use Rattle.std.proofs.Common.{◌≡◌, ◌≢◌, ◌⊎◌, inl, inr, ⊎_elim, ℕ, ◌<◌, ◌≤◌, Bool, true, false, List, length, Option, Some, None, Result, Ok, Err, refl, sym, ap, subst, ◌∙◌, arith}
 use Rattle.std.specs.Prelude.{nat_lt, IsSomeAnd, IsErrOf, IsErrAnd, IfOk, IfErr}
 use Rattle.std.proofs.lemmas.List.{take_all, length-take}
 use Rattle.std.proofs.lemmas.Bool.Decides.{nat_tests}
@@ -22,7 +22,6 @@ use Rattle.application_read.specs.declared.application.Application.{Application 
 use Rattle.application_read.specs.declared.fault.ApplicationFault.{ApplicationFault}
 use Rattle.application_read.specs.declared.fault.ApplicationFault.TheVariants as application
 use Rattle.application_read.specs.Texts.{TextsGenerate, TextsHaveFault, Gives}
-use Rattle.unit_check.specs.Fitted.{IsFit}
 use Rattle.warm_start.specs.Fingerprints.{fingerprint as print_of}
 use Rattle.script_read.specs.declared.fault.ScriptFault.{ScriptFault}
 use Rattle.script_read.specs.declared.fault.ScriptFault.TheVariants as fault
@@ -38,10 +37,10 @@ use Rattle.refusals.specs.declared.error.TextError.{TextError}
 use Rattle.refusals.specs.declared.error.TextError.TheVariants as error
 use Rattle.utm_cli.specs.declared.words.Word.{Word}
 use Rattle.utm_cli.specs.declared.words.Word.TheVariants.{Gen, Run, Show, Update, Trail, Audit, Make}
-use Rattle.refusals.specs.Causes.{of_room, of_application, of_fault, of_trail}
+use Rattle.refusals.specs.Causes.{of_room, of_application}
 use Rattle.utm_cli.specs.Words.{IsOfBase, audits, definition_name, units_name, script_name, trail_name}
 use Rattle.refusals.specs.Texts.{shown_of}
-use Rattle.utm_cli.specs.Asking.{Errand, IsLong, AreAlike, Reading, SaysTrail, IsOfOthers, StartsElsewhere, HasTrailFault, ThirdAsks, ThirdRefuses, AskFor, TextIs, ScriptIs, WereRead, ReadsFor}
+use Rattle.utm_cli.specs.Asking.{IsLong, AreAlike, Reading, SaysTrail, IsOfOthers, StartsElsewhere, HasTrailFault, ThirdAsks, ThirdRefuses, AskFor, AskForTwo, AreThere, TextIs, ScriptIs, WereRead, ReadsFor, ReadsForTwo}
 use Rattle.std.proofs.lemmas.Option.{same_Some}
 
 -- ---- texts longer than the limit
@@ -154,6 +153,11 @@ module _ (d e u v : List ℕ) (alike : AreAlike d e) (alike_too : AreAlike u v) 
   ask_alike word s t same (Err (Script f)) h = (h.0, alike_made h.0 h.1, h.2, alike_refuses s t same (audits word) h.0 (print_of d u) (print_of e v) (sym (alike_print h.0 h.1)) (Script f) h.3)
   ask_alike word s t same (Err (TrailRefused f)) h = (h.0, alike_made h.0 h.1, h.2, alike_refuses s t same (audits word) h.0 (print_of d u) (print_of e v) (sym (alike_print h.0 h.1)) (TrailRefused f) h.3)
 
+  two_alike : (word : Word) (s t : List ℕ) → AreAlike s t → (said : Reading) → AskForTwo word d u s said → AskForTwo word e v t said
+  two_alike word s t same (Ok errand) h =
+      (h.0, alike_made errand.application h.1, h.2, h.3 ∙ sym (alike_print errand.application h.1), alike_asks s t same (audits word) errand.application errand.fingerprint errand.commands errand.trail h.4)
+  two_alike word s t same (Err why) h = (h.0, alike_made h.0 h.1, h.2, alike_refuses s t same (audits word) h.0 (print_of d u) (print_of e v) (sym (alike_print h.0 h.1)) why h.3)
+
 -- ---- texts in a room
 
 pub some_and : {X : Type 0} (o : Option X) (P : X → Type 0) → IsSomeAnd o P → (x : X) × (o ≡ Some x) × P x
@@ -249,13 +253,32 @@ module _ (word : Word) (base : List ℕ) (r : RoomState) (d u s : List ℕ) (rea
     says = ask_alike d read.definition u read.units read.definition_is read.units_are word s read.text read.text_is said h;
   }
 
+  -- what is said of the texts that are there is said of those that were read
+  asked_there : (P : (d u s : List ℕ) → Type 0) → ((d e u v s t : List ℕ) → AreAlike d e → AreAlike u v → AreAlike s t → P d u s → P e v t) → (e v t : List ℕ) → AreThere word base r e v t → P e v t → P d u s
+  asked_there P alike e v t there h =
+      let definition = one_text word r (definition_name base) _ e read.definition there.definition_is read.there.definition_is in
+      let units = one_text word r (units_name base) _ v read.units there.units_is read.there.units_is in
+      let text = one_script word base r t read.text there.script_is read.there.script_is in
+      alike e d v u t s (alike_back d e (subst (AreAlike d) (sym definition) read.definition_is)) (alike_back u v (subst (AreAlike u) (sym units) read.units_are)) (alike_back s t (subst (AreAlike s) (sym text) read.text_is)) h
+
   pub asked_for : (said : Reading) → ReadsFor word base r said → AskFor word d u s said
   asked_for said h =
-      let definition = one_text word r (definition_name base) _ h.definition read.definition h.there.definition_is read.there.definition_is in
-      let units = one_text word r (units_name base) _ h.units read.units h.there.units_is read.there.units_is in
-      let text = one_script word base r h.text read.text h.there.script_is read.there.script_is in
-      ask_alike h.definition d h.units u (alike_back d h.definition (subst (AreAlike d) (sym definition) read.definition_is)) (alike_back u h.units (subst (AreAlike u) (sym units) read.units_are)) word h.text s
-      (alike_back s h.text (subst (AreAlike s) (sym text) read.text_is)) said h.says
+      asked_there (λ d u s. AskFor word d u s said) (λ d e u v s t definition units text. ask_alike d e u v definition units word s t text said) h.definition h.units h.text h.there h.says
+
+  -- the same over two copies
+  pub reads_for_two : IsOfBase word → (said : Reading) → AskForTwo word d u s said → ReadsForTwo word base r said
+  reads_for_two over said h = record {
+    of_base = over;
+    definition = read.definition;
+    units = read.units;
+    text = read.text;
+    there = read.there;
+    says = two_alike d read.definition u read.units read.definition_is read.units_are word s read.text read.text_is said h;
+  }
+
+  pub asked_for_two : (said : Reading) → ReadsForTwo word base r said → AskForTwo word d u s said
+  asked_for_two said h =
+      asked_there (λ d u s. AskForTwo word d u s said) (λ d e u v s t definition units text. two_alike d e u v definition units word s t text said) h.definition h.units h.text h.there h.says
 
 -- ---- what was handed on
 
@@ -269,36 +292,6 @@ application_is T (Err x) application.Memory why gives is = absurd (let h : error
 
 pub double_is : (T : Type 0) (line : ℕ) (why : Refusal) → IsErrOf {T = T} (Err (error.Refused (Double line))) (error.Refused why) → Double line ≡ why
 double_is T line why is = cc
-
-pub script_is : (T : Type 0) (r : Result T TextError) (e : ScriptFault) (why : Refusal) → IsErrAnd r (λ x. x ≡ of_fault e) → IsErrOf r (error.Refused why) → (e ≢ fault.Memory) × (Script e ≡ why)
-script_is T (Ok v) e why gives is = absurd gives
-script_is T (Err x) (fault.BadLine n) why gives is = (λ e. cc, cc)
-script_is T (Err x) (fault.OutOfRange n) why gives is = (λ e. cc, cc)
-script_is T (Err x) fault.TooLong why gives is = (λ e. cc, cc)
-script_is T (Err x) fault.Memory why gives is = absurd (let h : error.Memory ≡ error.Refused why = cc in cc)
-
-pub script_never_room : (T : Type 0) (r : Result T TextError) (e : ScriptFault) → IsErrAnd r (λ x. x ≡ of_fault e) → IsErrOf r error.Room → ⊥
-script_never_room T (Ok v) e gives is = absurd gives
-script_never_room T (Err x) (fault.BadLine n) gives is = cc
-script_never_room T (Err x) (fault.OutOfRange n) gives is = cc
-script_never_room T (Err x) fault.TooLong gives is = cc
-script_never_room T (Err x) fault.Memory gives is = cc
-
-pub trail_is : (T : Type 0) (r : Result T TextError) (e : TrailFault) (why : Refusal) → IsErrAnd r (λ x. x ≡ of_trail e) → IsErrOf r (error.Refused why) → (e ≢ trail.Memory) × (TrailRefused e ≡ why)
-trail_is T (Ok v) e why gives is = absurd gives
-trail_is T (Err x) (trail.BadLine n) why gives is = (λ e. cc, cc)
-trail_is T (Err x) trail.TooLong why gives is = (λ e. cc, cc)
-trail_is T (Err x) (trail.OtherGeneration n) why gives is = (λ e. cc, cc)
-trail_is T (Err x) (trail.NotSuited n) why gives is = (λ e. cc, cc)
-trail_is T (Err x) trail.Memory why gives is = absurd (let h : error.Memory ≡ error.Refused why = cc in cc)
-
-pub trail_never_room : (T : Type 0) (r : Result T TextError) (e : TrailFault) → IsErrAnd r (λ x. x ≡ of_trail e) → IsErrOf r error.Room → ⊥
-trail_never_room T (Ok v) e gives is = absurd gives
-trail_never_room T (Err x) (trail.BadLine n) gives is = cc
-trail_never_room T (Err x) trail.TooLong gives is = cc
-trail_never_room T (Err x) (trail.OtherGeneration n) gives is = cc
-trail_never_room T (Err x) (trail.NotSuited n) gives is = cc
-trail_never_room T (Err x) trail.Memory gives is = cc
 
 -- a fault that is not want of memory is the answer
 refused_as : (e : ApplicationFault) → e ≢ application.Memory → (wanted : Result Made ApplicationFault) → Gives (Err e) wanted → wanted ≡ Err e
@@ -326,10 +319,6 @@ module _ (word : Word) (d u s : List ℕ) (e : ApplicationFault) (some : e ≢ a
   application_one (Err (TrailRefused f)) h = absurd (not_generated h.0 h.1)
 
 -- ---- they make an application
-
--- and its units were fitted to its generation
-pub made_fit : (d u : List ℕ) (a : Made) → TextsGenerate d u a → IsFit a.generation a.units
-made_fit d u a h = record { limits = h.1.2.limits; tacs = h.1.2.tacs }
 
 -- a trail is refused as a text, or for its fingerprint, or for its tables at the start
 abbrev IsOneFault : Made → (fingerprint text : List ℕ) → TrailFault → Type 0
@@ -369,7 +358,7 @@ module _ (a : Made) (print s : List ℕ) where
   says_or_fault t f h (inr (inr k)) = k.0.3 (subst (λ (v : Kept). Suits a.generation v.start) (same_trail t k.0.0 h.says k.0.1) h.suits)
 
   -- the third text says one thing
-  refuses_once : (audit : Bool) (r q : Refusal) → ThirdRefuses audit a print s r → ThirdRefuses audit a print s q → r ≡ q
+  pub refuses_once : (audit : Bool) (r q : Refusal) → ThirdRefuses audit a print s r → ThirdRefuses audit a print s q → r ≡ q
   refuses_once audit (Application f) q h k = absurd h
   refuses_once audit r (Application g) h k = absurd k
   refuses_once audit (Double line) q h k = absurd h
@@ -381,7 +370,7 @@ module _ (a : Made) (print s : List ℕ) where
   refuses_once false r (TrailRefused g) h k = absurd k
   refuses_once true (TrailRefused f) (TrailRefused g) h k = ap (λ (x : TrailFault). TrailRefused x) (faults_once f g (one_fault f h) (one_fault g k))
 
-  asks_or_refuses : (audit : Bool) (commands : List Command) (kept : Option Kept) (r : Refusal) → ThirdAsks audit a print s commands kept → ThirdRefuses audit a print s r → ⊥
+  pub asks_or_refuses : (audit : Bool) (commands : List Command) (kept : Option Kept) (r : Refusal) → ThirdAsks audit a print s commands kept → ThirdRefuses audit a print s r → ⊥
   asks_or_refuses audit commands kept (Application f) h k = k
   asks_or_refuses audit commands kept (Double line) h k = k
   asks_or_refuses false commands kept (Script f) h k = let no = sym k ∙ h.0 in cc
@@ -389,7 +378,7 @@ module _ (a : Made) (print s : List ℕ) where
   asks_or_refuses false commands kept (TrailRefused f) h k = k
   asks_or_refuses true commands kept (TrailRefused f) h k = let there = h.1 in says_or_fault there.0 f there.2 (one_fault f k)
 
-  asks_once : (audit : Bool) (c d : List Command) (t v : Option Kept) → ThirdAsks audit a print s c t → ThirdAsks audit a print s d v → (c ≡ d) × (t ≡ v)
+  pub asks_once : (audit : Bool) (c d : List Command) (t v : Option Kept) → ThirdAsks audit a print s c t → ThirdAsks audit a print s d v → (c ≡ d) × (t ≡ v)
   asks_once false c d t v h k = (ok_is ScriptFault c d (sym h.0 ∙ k.0), h.1 ∙ sym k.1)
   asks_once true c d t v h k =
       let first = h.1 in
@@ -398,10 +387,10 @@ module _ (a : Made) (print s : List ℕ) where
       (h.0 ∙ sym k.0, first.1 ∙ ap (λ (x : Kept). Some x) same ∙ sym second.1)
 
 module _ (word : Word) (d u s : List ℕ) (made : Made) (only : (a : Made) → TextsGenerate d u a → Gives (Ok made) (Ok a)) (refused : (f : ApplicationFault) → TextsHaveFault d u f → Gives (Ok made) (Err f)) where
-  not_refused : (f : ApplicationFault) → TextsHaveFault d u f → ⊥
+  pub not_refused : (f : ApplicationFault) → TextsHaveFault d u f → ⊥
   not_refused f h = let no = refused f h in cc
 
-  made_is : (a : Made) → TextsGenerate d u a → a ≡ made
+  pub made_is : (a : Made) → TextsGenerate d u a → a ≡ made
   made_is a h = let same = only a h in cc
 
   -- what the one application says of copies
@@ -418,60 +407,6 @@ module _ (word : Word) (d u s : List ℕ) (made : Made) (only : (a : Made) → T
   double_one line is (Err (Double other)) h = ap (λ (k : ℕ). said_refused (Double k)) (same_Some other line (sym h.2 ∙ sym (copies_here h.0 h.1) ∙ is))
   double_one line is (Err (Script f)) h = absurd (let no = sym is ∙ copies_here h.0 h.1 ∙ h.2 in cc)
   double_one line is (Err (TrailRefused f)) h = absurd (let no = sym is ∙ copies_here h.0 h.1 ∙ h.2 in cc)
-
-  module _ (single : made.generation.double ≡ None) where
-    not_double : (a : Made) → TextsGenerate d u a → (line : ℕ) → a.generation.double ≡ Some line → ⊥
-    not_double a h line is = let no = sym single ∙ copies_here a h ∙ is in cc
-
-    -- what the third text says, in the one application
-    here : (a : Made) → TextsGenerate d u a → (r : Refusal) → ThirdRefuses (audits word) a (print_of d u) s r → ThirdRefuses (audits word) made (print_of d u) s r
-    here a h r refuses = subst (λ (b : Made). ThirdRefuses (audits word) b (print_of d u) s r) (made_is a h) refuses
-
-    asked_here : (e : Errand) → TextsGenerate d u e.application → e.fingerprint ≡ print_of d u → ThirdAsks (audits word) e.application e.fingerprint s e.commands e.trail → ThirdAsks (audits word) made (print_of d u) s e.commands e.trail
-    asked_here e h print asks =
-        subst (λ (b : Made). ThirdAsks (audits word) b (print_of d u) s e.commands e.trail) (made_is e.application h) (subst (λ (p : List ℕ). ThirdAsks (audits word) e.application p s e.commands e.trail) print asks)
-
-    -- it is refused
-    pub third_refused : TextsGenerate d u made → (r : Refusal) → ThirdRefuses (audits word) made (print_of d u) s r → AskFor word d u s (Err r)
-    third_refused generates (Application f) h = absurd h
-    third_refused generates (Double line) h = absurd h
-    third_refused generates (Script f) h = (made, generates, single, h)
-    third_refused generates (TrailRefused f) h = (made, generates, single, h)
-
-    pub refused_one : (r : Refusal) → ThirdRefuses (audits word) made (print_of d u) s r → (said : Reading) → AskFor word d u s said → said ≡ Err r
-    refused_one r is (Ok e) h = absurd (asks_or_refuses made (print_of d u) s (audits word) e.commands e.trail r (asked_here e h.1 h.3 h.4) is)
-    refused_one r is (Err (Application f)) h = absurd (not_refused f h)
-    refused_one r is (Err (Double line)) h = absurd (not_double h.0 h.1 line h.2)
-    refused_one r is (Err (Script f)) h = ap said_refused (refuses_once made (print_of d u) s (audits word) (Script f) r (here h.0 h.1 (Script f) h.3) is)
-    refused_one r is (Err (TrailRefused f)) h = ap said_refused (refuses_once made (print_of d u) s (audits word) (TrailRefused f) r (here h.0 h.1 (TrailRefused f) h.3) is)
-
-    -- it asks for something
-    pub asked_one : (print : List ℕ) → print ≡ print_of d u → (commands : List Command) (kept : Option Kept) → ThirdAsks (audits word) made print s commands kept
-        → (said : Reading) → AskFor word d u s said → said ≡ Ok (record { word = word; application = made; fingerprint = print; commands = commands; trail = kept })
-    asked_one print told commands kept asks (Ok e) h =
-        let same = asks_once made (print_of d u) s (audits word) e.commands commands e.trail kept (asked_here e h.1 h.3 h.4) (subst (λ (p : List ℕ). ThirdAsks (audits word) made p s commands kept) told asks) in
-        let print_is : e.fingerprint ≡ print = h.3 ∙ sym told in
-        let made_too = made_is e.application h.1 in
-        λ i. Ok (record { word = h.0 i; application = made_too i; fingerprint = print_is i; commands = same.0 i; trail = same.1 i })
-    asked_one print told commands kept asks (Err (Application f)) h = absurd (not_refused f h)
-    asked_one print told commands kept asks (Err (Double line)) h = absurd (not_double h.0 h.1 line h.2)
-    asked_one print told commands kept asks (Err (Script f)) h =
-        absurd (asks_or_refuses made (print_of d u) s (audits word) commands kept (Script f) (subst (λ (p : List ℕ). ThirdAsks (audits word) made p s commands kept) told asks) (here h.0 h.1 (Script f) h.3))
-    asked_one print told commands kept asks (Err (TrailRefused f)) h =
-        absurd (asks_or_refuses made (print_of d u) s (audits word) commands kept (TrailRefused f) (subst (λ (p : List ℕ). ThirdAsks (audits word) made p s commands kept) told asks) (here h.0 h.1 (TrailRefused f) h.3))
-
--- a third text of a word that has a script, or that audits
-pub script_asks : (word : Word) → audits word ≡ false → (a : Made) (print s : List ℕ) (commands : List Command) → script_in a.generation s ≡ Ok commands → ThirdAsks (audits word) a print s commands None
-script_asks word runs a print s commands is = subst (λ (audit : Bool). ThirdAsks audit a print s commands None) (sym runs) (is, refl)
-
-pub script_refuses : (word : Word) → audits word ≡ false → (a : Made) (print s : List ℕ) (f : ScriptFault) → script_in a.generation s ≡ Err f → ThirdRefuses (audits word) a print s (Script f)
-script_refuses word runs a print s f is = subst (λ (audit : Bool). ThirdRefuses audit a print s (Script f)) (sym runs) is
-
-pub trail_asks : (word : Word) → audits word ≡ true → (a : Made) (print s : List ℕ) (commands : List Command) → commands ≡ [] → (t : Kept) → SaysTrail a print s t → ThirdAsks (audits word) a print s commands (Some t)
-trail_asks word audit a print s commands none t says = subst (λ (is : Bool). ThirdAsks is a print s commands (Some t)) (sym audit) (none, (t, refl, says))
-
-pub trail_refuses : (word : Word) → audits word ≡ true → (a : Made) (print s : List ℕ) (f : TrailFault) → HasTrailFault a print s f → ThirdRefuses (audits word) a print s (TrailRefused f)
-trail_refuses word audit a print s f h = subst (λ (is : Bool). ThirdRefuses is a print s (TrailRefused f)) (sym audit) h
 
 -- a text that is read as no trail has that fault
 pub read_fault : NoOtherFaults → (a : Made) (print s : List ℕ) (f : TrailFault) → f ≢ trail.Memory → trail_in s ≡ Err f → HasTrailFault a print s f

@@ -22,7 +22,7 @@ use Rattle.utm_cli.specs.declared.words.Word.TheVariants.{Update}
 use Rattle.utm_cli.specs.Asking.{Errand}
 use Rattle.utm_cli.specs.Doing.{IsOverFile, StartsBy, Starts, UpdateTakes, UpdateRefuses, RefusesBy, Refuses, identity_of, tables_by, acts_by}
 use Rattle.utm_cli.specs.Promise.{RanBy, Ran, IsCutBy, IsCutOfRun, WritesActsAlone, WritesFor, making_most}
-use Rattle.utm_cli.proofs.Cuts.{cut_since}
+use Rattle.utm_cli.specs.CutsLaws.{cut_since}
 
 -- ---- a file that is taken
 

@@ -1,5 +1,5 @@
 -- What the texts of a call ask for.
-use Rattle.std.specs.Prelude.{◌≡◌, ◌≢◌, ◌⊎◌, ◌≤◌, ◌<◌, ◌^◌, ℕ, Bool, true, false, List, [], length, sum_by, Option, Some, None, Result, Ok, Err}
+use Rattle.std.specs.Prelude.{◌≡◌, ◌≢◌, ◌⊎◌, ◌≤◌, ◌<◌, ◌^◌, ℕ, Bool, true, false, List, [], length, sum_by, Option, Some, None, IsSome, Result, Ok, Err}
 use Rattle.kd_base.specs.Limits.{longest_text}
 use Rattle.kd_device.specs.Room.{RoomState, text_of}
 use Rattle.unit_check.specs.Fitted.{IsFit}
@@ -25,7 +25,7 @@ use Rattle.refusals.specs.declared.error.Refusal.{Refusal}
 use Rattle.refusals.specs.declared.error.Refusal.TheVariants.{Application, Double, Script, Trail as TrailRefused}
 use Rattle.utm_cli.specs.declared.words.Word.{Word}
 use Rattle.utm_cli.specs.declared.words.Word.TheVariants.{Gen, Run, Show, Update, Trail, Audit, Make}
-use Rattle.utm_cli.specs.Words.{audits, definition_name, units_name, script_name, trail_name}
+use Rattle.utm_cli.specs.Words.{IsOfBase, audits, definition_name, units_name, script_name, trail_name}
 
 -- what is to be done: the word, the application that the texts make with their fingerprint, the commands of the script, and the trail that is audited
 pub record Errand : Type 0 where
@@ -90,6 +90,20 @@ AskFor word definition units text (Err (Script fault)) =
 AskFor word definition units text (Err (TrailRefused fault)) =
     (a : Made) × TextsGenerate definition units a × (a.generation.double ≡ None) × ThirdRefuses (audits word) a (print_of definition units) text (TrailRefused fault)
 
+-- what the texts of a word say where the definition asks for two copies of its KDCFILE: what the third text asks for, or why it is refused
+abbrev pub AskForTwo : Word → (definition units text : List ℕ) → Reading → Type 0
+AskForTwo word definition units text (Ok e) =
+    (e.word ≡ word) × TextsGenerate definition units e.application × IsSome e.application.generation.double × (e.fingerprint ≡ print_of definition units) × ThirdAsks (audits word) e.application e.fingerprint text e.commands e.trail
+AskForTwo word definition units text (Err why) =
+    (a : Made) × TextsGenerate definition units a × IsSome a.generation.double × ThirdRefuses (audits word) a (print_of definition units) text why
+
+-- an errand of the word over this application of the two texts, for which the third text asks
+pub record IsErrandOf (word : Word) (a : Made) (definition units text : List ℕ) (e : Errand) : Type 0 where
+  pub word_is : e.word ≡ word
+  pub application_is : e.application ≡ a
+  pub fingerprint_is : e.fingerprint ≡ print_of definition units
+  pub asks : ThirdAsks (audits word) a e.fingerprint text e.commands e.trail
+
 -- a text of a word: the room's of this name, or for `make` the made one
 abbrev pub TextIs : Word → RoomState → (name : List ℕ) → (made : ℕ → List ℕ) → List ℕ → Type 0
 TextIs Gen room name made text = text_of name room.texts ≡ Some text
@@ -123,6 +137,15 @@ pub record ReadsFor (word : Word) (base : List ℕ) (room : RoomState) (said : R
   pub text : List ℕ
   pub there : AreThere word base room definition units text
   pub says : AskFor word definition units text said
+
+-- the word has a BASE, whose texts are there and ask for two copies of their KDCFILE, and this is what they say
+pub record ReadsForTwo (word : Word) (base : List ℕ) (room : RoomState) (said : Reading) : Type 0 where
+  pub of_base : IsOfBase word
+  pub definition : List ℕ
+  pub units : List ℕ
+  pub text : List ℕ
+  pub there : AreThere word base room definition units text
+  pub says : AskForTwo word definition units text said
 
 -- longer than a text may be
 abbrev pub IsLong : List ℕ → Type 0
@@ -167,3 +190,7 @@ pub record CanRun (e : Errand) : Type 0 where
 -- what texts ask for can run
 abbrev pub TextsCanRun : Type 0
 TextsCanRun = (word : Word) (definition units text : List ℕ) (e : Errand) → AskFor word definition units text (Ok e) → CanRun e
+
+-- and so can what texts of two copies ask for
+abbrev pub TextsOfTwoCanRun : Type 0
+TextsOfTwoCanRun = (word : Word) (definition units text : List ℕ) (e : Errand) → AskForTwo word definition units text (Ok e) → CanRun e

@@ -11,3 +11,7 @@ pub mod MadeExamples
 pub mod MadeApplication
 pub mod EmittedLines
 pub mod MadeReading
+pub mod AuditLaws
+pub mod AskingLaws
+pub mod CutsLaws
+pub mod EndsLaws

@@ -2,7 +2,9 @@
 ghost use Rattle.std.specs.Prelude.{List, ℕ, Ok};
 ghost use Rattle.kd_device.specs.Room.{RoomState};
 ghost use Rattle.kdcfile_update.specs.Updating.{Stored};
-ghost use Rattle.utm_cli.specs.{Asking.{Errand, TextsCanRun, app_of}, Doing.{Starts, tables_of}, Promise.{Reads, RunsLawfully}};
+ghost use Rattle.kdcs_types.specs.Tables.{TableRows, IsSortedTables};
+ghost use Rattle.laws_of_steps.specs.Suits.{Suits};
+ghost use Rattle.utm_cli.specs.{Asking.{CanRun, Errand, TextsCanRun, TextsOfTwoCanRun, app_of}, Doing.{Starts, tables_of}, Promise.{Reads, RunsLawfully}};
 
 use application_read::generations_are_sound;
 use audit_trail::says_what_its_lines_say;
@@ -24,15 +26,21 @@ pub(crate) fn texts_can_run()
     says_what_its_lines_say();
 }
 
-/// From the tables that a call goes on from, each step of the script is lawful, begins only services that the rule of
-/// locks and keys allows, and keeps jobs; each cut of it can be gone on from and is stored by a serial run; and runs
-/// one after another keep jobs too. It does nothing.
-pub(crate) fn scripts_run_lawfully()
-    ensures { (words : List (List ℕ)) (room : RoomState) (e : Errand) → Reads words room (Ok e) → (bytes : List ℕ) (s : Stored) → Starts e bytes s → RunsLawfully (app_of e) (tables_of e s) e.commands }
+/// Texts of two copies that ask for something do so too. It does nothing.
+pub fn texts_of_two_can_run()
+    ensures { TextsOfTwoCanRun }
 {
-    texts_can_run();
     generations_are_sound();
-    taken_tables_suit();
+    commands_are_said();
+    says_what_its_lines_say();
+}
+
+/// From tables that suit what texts generate, each step of the script is lawful, begins only services that the rule of
+/// locks and keys allows, and keeps jobs; each cut of it can be gone on from and is stored by a serial run; and runs
+/// one after another keep jobs too, whatever the tables are kept in. It does nothing.
+pub fn suited_scripts_run_lawfully()
+    ensures { (e : Errand) → CanRun e → (t : TableRows) → IsSortedTables t → Suits e.application.generation t → RunsLawfully (app_of e) t e.commands }
+{
     facts_hold_along_every_script();
     runs_are_lawful();
     runs_keep_access();
@@ -41,4 +49,14 @@ pub(crate) fn scripts_run_lawfully()
     cuts_resume();
     cuts_are_serial();
     runs_keep_jobs();
+}
+
+/// The same from the tables that a call goes on from. It does nothing.
+pub fn scripts_run_lawfully()
+    ensures { (words : List (List ℕ)) (room : RoomState) (e : Errand) → Reads words room (Ok e) → (bytes : List ℕ) (s : Stored) → Starts e bytes s → RunsLawfully (app_of e) (tables_of e s) e.commands }
+{
+    texts_can_run();
+    generations_are_sound();
+    taken_tables_suit();
+    suited_scripts_run_lawfully();
 }

@@ -1,9 +1,11 @@
-//! The texts of a call, read from the room, and what they say.
-ghost use Rattle.std.specs.Prelude.{◌≡◌, List, ℕ, true, false, IsTrue, IfOk, OnOk, IfErr, IsErrOf, Ok, Err, ◌≢◌};
+//! The texts of a call, read from the room, and what they say over one KDCFILE, or over two copies.
+ghost use Rattle.std.specs.Prelude.{◌≡◌, List, ℕ, IsTrue, IfOk, OnOk, IfErr, IsErrOf, IfNone, IfSome, IsSome, None, Ok, Err, ◌≢◌};
 ghost use Rattle.audit_trail.specs.Facts.{IsTrail};
 ghost use Rattle.kd_device.specs.{Device.{Rose}, Room.{SameRoom}};
-ghost use Rattle.utm_cli.specs.{Asking.{Reading, AskFor, CanRun, ScriptIs, ReadsFor, SaysTrail, HasTrailFault, AreThere, WereRead}, Words.{IsForm, IsOfBase, audits}};
-ghost use Rattle.refusals.specs.{Texts.{NoReadFailed, shown_of}, declared.error.Refusal.{Refusal}};
+ghost use Rattle.utm_cli.specs.{Asking.{Reading, AskFor, AskForTwo, CanRun, IsErrandOf, ScriptIs, ReadsFor, ReadsForTwo, SaysTrail, HasTrailFault, ThirdAsks, ThirdRefuses, AreThere, WereRead}, Words.{IsForm, IsOfBase, audits}};
+ghost use Rattle.refusals.specs.{Statuses.{status_of}, Texts.{NoReadFailed, shown_of}, declared.error.Refusal.{Refusal}};
+ghost use Rattle.application_read.specs.{Texts.{TextsGenerate}, declared.application.Application.{Application as Made}};
+ghost use Rattle.warm_start.specs.Fingerprints.{fingerprint as print_of};
 ghost use Rattle.utm_cli.specs.MadeTexts.{definition_text as made_definition, units_text as made_units, script_text as made_script};
 ghost use Rattle.utm_cli.specs.{MadeApplication.{AreMade}, declared.words.Word.TheVariants.{Make}};
 ghost use Rattle.kdcdef_types.specs.Statements.{IsWithin};
@@ -11,11 +13,10 @@ ghost use Rattle.kdcdef_types.specs.Statements.{IsWithin};
 use crate::made_run::{made, made_texts_are_taken};
 use crate::words::Word;
 use abstract_monitor::Command;
-use application_read::{Application, generations_are_sound, read_application};
-use audit_trail::{Trail, TrailFault, faults_are_first, read_trail};
+use application_read::{Application, ApplicationFault, generations_are_sound, read_application};
+use audit_trail::{Trail, TrailFault, faults_are_first, read_trail, says_what_its_lines_say};
 use kd_base::OutOfMemory;
 use kd_device::{DeviceError, Room};
-use laws_of_applications::fitted_units_make_an_application;
 use refusals::{Refusal, TextError, text};
 use script_read::{commands_are_said, read_script};
 use std::alloc::Global;
@@ -25,10 +26,11 @@ use warm_start::fingerprint_of;
 
 /// What a call asks for.
 #[derive(Drop)]
-pub(crate) struct Errand {
+pub struct Errand {
     pub word: Word,
+    /// What the definition and the units make.
     pub application: Application,
-    /// That of the definition and the units.
+    /// That of the definition and the units, in 32 bytes.
     pub fingerprint: [u8; 32],
     /// The commands of the script; `gen`, `show`, `update` and `audit` have none.
     pub commands: Vec<Command>,
@@ -170,75 +172,56 @@ fn trail_for(
     }
 }
 
-/// What a definition, its units and a script say, or the first fault.
-fn run_of(
+/// The commands of a script, or the trail of `audit`, that a third text says; or its fault.
+fn third_of(
     alloc: Global,
     word: Word,
-    definition: &[u8],
-    units: &[u8],
-    script: &[u8],
-) -> Result<Errand, TextError>
-    requires { audits word ≡ false }
-    ensures word { IfOk result (λ e. e.word ≡ word) }
-    ensures found { IfOk result (λ e. AskFor word definition.now units.now script.now (Ok e)) }
-    ensures can { IfOk result CanRun }
-    ensures found_one { IfOk result (λ e. (said : Reading) → AskFor word definition.now units.now script.now said → said ≡ Ok e) }
-    ensures refused { (why : Refusal) → IsErrOf result (TextError.Refused why) → AskFor word definition.now units.now script.now (Err why) }
-    ensures refused_one { (why : Refusal) → IsErrOf result (TextError.Refused why) → (said : Reading) → AskFor word definition.now units.now script.now said → said ≡ Err why }
+    application: &Application,
+    fingerprint: &[u8; 32],
+    third: &[u8],
+) -> Result<(Vec<Command>, Option<Trail>), TextError>
+    ensures asks { IfOk result (λ o. ThirdAsks (audits word) application.now fingerprint.now third.now o.0.items o.1) }
+    ensures refused { (why : Refusal) → IsErrOf result (TextError.Refused why) → ThirdRefuses (audits word) application.now fingerprint.now third.now why }
     ensures never { IsErrOf result TextError.Room → ⊥ }
-
-    // The made texts are not refused.
-    ensures made { (n : ℕ) → IsWithin 1 20000 n → AreMade n definition.now units.now script.now → (why : Refusal) → IsErrOf result (TextError.Refused why) → ⊥ }
 {
-    made_texts_are_taken();
-    generations_are_sound();
-    let application = read_application(alloc, definition, units)?;
-    if let Some(line) = application.generation.double() {
-        return Err(TextError::Refused(Refusal::Double(line)));
+    match word {
+        Word::Gen | Word::Run | Word::Show | Word::Update | Word::Trail | Word::Make(_) => {
+            let commands = read_script(alloc, &application.generation, third)?;
+            Ok((commands, None))
+        }
+        Word::Audit => {
+            let trail = trail_for(alloc, application, fingerprint, third)?;
+            Ok((Vec::new(alloc), Some(trail)))
+        }
     }
-    let commands = read_script(alloc, &application.generation, script)?;
-    fitted_units_make_an_application(&application.generation, &application.units);
-    commands_are_said();
-    Ok(Errand {
-        word,
-        application,
-        fingerprint: fingerprint_of(definition, units),
-        commands,
-        trail: None,
-    })
 }
 
-/// What a definition, its units and a trail say, or the first fault.
-fn audit_of(
+/// What a word asks for over the application that the definition and the units make, or the fault of the third text.
+fn errand_of(
     alloc: Global,
     word: Word,
+    application: Application,
     definition: &[u8],
     units: &[u8],
-    trail: &[u8],
+    third: &[u8],
 ) -> Result<Errand, TextError>
-    requires { audits word ≡ true }
-    ensures word { IfOk result (λ e. e.word ≡ word) }
-    ensures found { IfOk result (λ e. AskFor word definition.now units.now trail.now (Ok e)) }
+    requires { TextsGenerate definition.now units.now application }
+    ensures asks { IfOk result (IsErrandOf word application definition.now units.now third.now) }
     ensures can { IfOk result CanRun }
-    ensures found_one { IfOk result (λ e. (said : Reading) → AskFor word definition.now units.now trail.now said → said ≡ Ok e) }
-    ensures refused { (why : Refusal) → IsErrOf result (TextError.Refused why) → AskFor word definition.now units.now trail.now (Err why) }
-    ensures refused_one { (why : Refusal) → IsErrOf result (TextError.Refused why) → (said : Reading) → AskFor word definition.now units.now trail.now said → said ≡ Err why }
+    ensures refused { (why : Refusal) → IsErrOf result (TextError.Refused why) → ThirdRefuses (audits word) application (print_of definition.now units.now) third.now why }
     ensures never { IsErrOf result TextError.Room → ⊥ }
 {
     generations_are_sound();
-    let application = read_application(alloc, definition, units)?;
-    if let Some(line) = application.generation.double() {
-        return Err(TextError::Refused(Refusal::Double(line)));
-    }
+    commands_are_said();
+    says_what_its_lines_say();
     let fingerprint = fingerprint_of(definition, units);
-    let trail = trail_for(alloc, &application, &fingerprint, trail)?;
-    fitted_units_make_an_application(&application.generation, &application.units);
+    let (commands, trail) = third_of(alloc, word, &application, &fingerprint, third)?;
     Ok(Errand {
         word,
         application,
         fingerprint,
-        commands: Vec::new(alloc),
-        trail: Some(trail),
+        commands,
+        trail,
     })
 }
 
@@ -261,12 +244,62 @@ fn asked_of(
     // The made texts are not refused.
     ensures made { (n : ℕ) → word ≡ Make n → IsWithin 1 20000 n → AreMade n definition.now units.now third.now → (why : Refusal) → IsErrOf result (TextError.Refused why) → ⊥ }
 {
-    match word {
-        Word::Gen | Word::Run | Word::Show | Word::Update | Word::Trail | Word::Make(_) => {
-            run_of(alloc, word, definition, units, third)
-        }
-        Word::Audit => audit_of(alloc, word, definition, units, third),
+    made_texts_are_taken();
+    let application = read_application(alloc, definition, units)?;
+    if let Some(line) = application.generation.double() {
+        return Err(TextError::Refused(Refusal::Double(line)));
     }
+    errand_of(alloc, word, application, definition, units, third)
+}
+
+/// The application of two copies that a definition and its units make. There is none where they make one of a single
+/// copy, or are refused.
+fn double_application(
+    alloc: Global,
+    definition: &[u8],
+    units: &[u8],
+) -> Result<Option<Application>, OutOfMemory>
+    ensures found { IfOk result (λ o. IfSome o (TextsGenerate definition.now units.now)) }
+    ensures double { IfOk result (λ o. IfSome o (λ a. IsSome a.generation.double)) }
+    ensures found_one { IfOk result (λ o. IfSome o (λ a. (other : Made) → TextsGenerate definition.now units.now other → other ≡ a)) }
+    ensures none { IfOk result (λ o. IfNone o ((a : Made) → TextsGenerate definition.now units.now a → a.generation.double ≡ None)) }
+{
+    match read_application(alloc, definition, units) {
+        Ok(application) => match application.generation.double() {
+            Some(_) => Ok(Some(application)),
+            None => Ok(None),
+        },
+        Err(fault) => match fault {
+            ApplicationFault::Memory => Err(OutOfMemory),
+            _ => Ok(None),
+        },
+    }
+}
+
+/// What the texts of a word say where the definition asks for two copies, or the fault of the third.
+fn double_of(
+    alloc: Global,
+    word: Word,
+    definition: &[u8],
+    units: &[u8],
+    third: &[u8],
+) -> Result<Option<Errand>, TextError>
+    ensures word { IfOk result (λ o. IfSome o (λ e. e.word ≡ word)) }
+    ensures found { IfOk result (λ o. IfSome o (λ e. AskForTwo word definition.now units.now third.now (Ok e))) }
+    ensures can { IfOk result (λ o. IfSome o CanRun) }
+    ensures found_one { IfOk result (λ o. IfSome o (λ e. (said : Reading) → AskForTwo word definition.now units.now third.now said → said ≡ Ok e)) }
+    ensures none { IfOk result (λ o. IfNone o ((said : Reading) → AskForTwo word definition.now units.now third.now said → ⊥)) }
+    ensures refused { (why : Refusal) → IsErrOf result (TextError.Refused why) → AskForTwo word definition.now units.now third.now (Err why) }
+    ensures refused_one { (why : Refusal) → IsErrOf result (TextError.Refused why) → (said : Reading) → AskForTwo word definition.now units.now third.now said → said ≡ Err why }
+    ensures never { IsErrOf result TextError.Room → ⊥ }
+{
+    let application = match double_application(alloc, definition, units) {
+        Ok(Some(application)) => application,
+        Ok(None) => return Ok(None),
+        Err(OutOfMemory) => return Err(TextError::Memory),
+    };
+    let errand = errand_of(alloc, word, application, definition, units, third)?;
+    Ok(Some(errand))
 }
 
 /// What the texts of a word say. All of them are read before the first is looked into.
@@ -296,4 +329,43 @@ pub(crate) fn read_texts<R: Room>(
 {
     let texts = texts_of(alloc, room, word, base)?;
     asked_of(alloc, word, &texts.definition, &texts.units, &texts.third)
+}
+
+/// What the texts of a word say where the definition asks for two copies of its KDCFILE, with `MAX KDCFILE=(base,DOUBLE)`:
+/// what is asked for, or the fault of the script or the trail. It is none where the definition asks for one file, or where
+/// the definition or the units are refused, and for `make`, which has no BASE.
+///
+/// All texts are read before the first is looked into. Then `Room` says that one is not there or was not read.
+pub fn read_double<R: Room>(
+    alloc: Global,
+    room: &mut R,
+    word: Word,
+    base: &[u8],
+) -> Result<Option<Errand>, TextError>
+    requires { IsForm word }
+    ensures word { IfOk result (λ o. IfSome o (λ e. e.word ≡ word)) }
+    ensures of_base { IfOk result (λ o. IfSome o (λ e. IsOfBase word)) }
+    ensures double { IfOk result (λ o. IfSome o (λ e. IsSome e.application.generation.double)) }
+    ensures found { IfOk result (λ o. IfSome o (λ e. IsTrue (R.room room.old).told → ReadsForTwo word base.now (R.room room.old) (Ok e))) }
+    ensures can { IfOk result (λ o. IfSome o CanRun) }
+    ensures found_one { IfOk result (λ o. IfSome o (λ e. IsTrue (R.room room.old).told → (said : Reading) → ReadsForTwo word base.now (R.room room.old) said → said ≡ Ok e)) }
+    ensures none { IfOk result (λ o. IfNone o (IsTrue (R.room room.old).told → (said : Reading) → ReadsForTwo word base.now (R.room room.old) said → ⊥)) }
+    ensures refused { (why : Refusal) → IsErrOf result (TextError.Refused why) → IsTrue (R.room room.old).told → ReadsForTwo word base.now (R.room room.old) (Err why) }
+    ensures refused_one { (why : Refusal) → IsErrOf result (TextError.Refused why) → IsTrue (R.room room.old).told → (said : Reading) → ReadsForTwo word base.now (R.room room.old) said → said ≡ Err why }
+    ensures refused_three { (why : Refusal) → IsErrOf result (TextError.Refused why) → status_of why ≡ 3 }
+    ensures room { IsErrOf result TextError.Room → Rose (R.room room.old).faults (R.room room.new).faults }
+    ensures sure { IsTrue (R.room room.old).sure → (definition units text : List ℕ) → AreThere word base.now (R.room room.old) definition units text → IsErrOf result TextError.Room → ⊥ }
+    ensures fine { OnOk result (NoReadFailed (R.room room.old) (R.room room.new)) }
+    ensures memory { IsErrOf result TextError.Memory → NoReadFailed (R.room room.old) (R.room room.new) }
+    ensures refused_fine { (why : Refusal) → IsErrOf result (TextError.Refused why) → NoReadFailed (R.room room.old) (R.room room.new) }
+    ensures same { SameRoom (R.room room.old) (R.room room.new) }
+
+    // `make` reads nothing.
+    ensures made { (n : ℕ) → word ≡ Make n → result ≡ Ok None }
+{
+    if let Word::Make(_) = word {
+        return Ok(None);
+    }
+    let texts = room_texts(alloc, room, word, base)?;
+    double_of(alloc, word, &texts.definition, &texts.units, &texts.third)
 }

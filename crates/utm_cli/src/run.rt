@@ -15,10 +15,10 @@ ghost use Rattle.device_acts.specs.Said.{SameDisk, Said, SaidPart};
 ghost use Rattle.utm_cli.specs.MadeReport.{report_of};
 
 use crate::error::CallError;
+use crate::generation_report::report;
 use crate::made_run::made_report;
 use crate::opening::{attach, look, open};
 use crate::reading::Errand;
-use crate::report::report;
 use crate::words::Word;
 use application_read::Application;
 use device_acts::{do_acts, say};
@@ -209,7 +209,7 @@ fn trail_over<D: Device>(
 }
 
 /// What an audit of the trail finds.
-fn verdict_of(alloc: Global, asked: Errand) -> Result<Verdict, OutOfMemory>
+pub fn verdict_of(alloc: Global, asked: Errand) -> Result<Verdict, OutOfMemory>
     requires can { CanRun asked }
     requires word { asked.word ≡ Audit }
     ensures { IfOk result (Finds asked) }

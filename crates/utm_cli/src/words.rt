@@ -12,9 +12,9 @@ const LONGEST_BASE: usize = 200;
 /// The greatest number of made inputs.
 const MOST_INPUTS: u64 = 20_000;
 
-/// What a call may ask for.
+/// What a call may ask for: the first word after the program's name.
 #[derive(Clone, Copy, PartialEq, Eq)]
-pub(crate) enum Word {
+pub enum Word {
     /// The report of the generation.
     Gen,
     /// The run of the script.
@@ -84,8 +84,8 @@ fn word_with(word: &[u8], operand: &[u8]) -> Option<Word>
 }
 
 /// The word and the operand of `gen BASE`, `run BASE`, `show BASE`, `update BASE`, `trail BASE`, `audit BASE` and
-/// `make N`. All other words are no form.
-pub(crate) fn request_of(words: &[String]) -> Option<(Word, &[u8])>
+/// `make N`. All other words are no form. A BASE has 1 to 200 bytes, and N has 1 to 18 digits.
+pub fn request_of(words: &[String]) -> Option<(Word, &[u8])>
     ensures value { MatchOption result (request (map string_bytes words.now) ≡ None) (λ r. request (map string_bytes words.now) ≡ Some (r.0, r.1.now)) }
     ensures form { IfSome result (λ r. IsForm r.0) }
 {

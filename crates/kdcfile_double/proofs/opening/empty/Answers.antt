@@ -10,7 +10,7 @@ use Rattle.kdcfile_halves.specs.Beside.{LeavesBeside}
 use Rattle.kdcfile_halves.specs.BesideLaws.{other_kept}
 use Rattle.kdcfile_double.specs.Twice.{Twice, IsKeptTwice, with_copies}
 use Rattle.kdcfile_double.specs.Opening.{KeepsTablesTwice, identity_twice}
-use Rattle.kdcfile_double.specs.MakingLaws.{making_first, making_second, made_are_twice, made_keep, made_kept, both_rest, frame_then, first_frame, second_frame, none_rose_then, first_none_rose, second_none_rose, told_of, failed_of, second_rose}
+use Rattle.kdcfile_double.specs.MakingLaws.{making_first, making_second, made_are_twice, made_are_used, made_keep, made_kept, both_rest, frame_then, first_frame, second_frame, none_rose_then, first_none_rose, second_none_rose, told_of, failed_of, second_rose}
 use Rattle.kdcfile_double.proofs.opening.empty.Goals as goal
 
 pub returns-in_err-first-clause-any_moment : goal.returns-in_err-first-clause-any_moment
@@ -121,3 +121,6 @@ returns-clause-frame g c =
     let e = g.T.Twin.both c.make_half-2.new.twin in
     frame_then a b e (first_frame a b c.make_half.ensures.frame c.make_half.ensures.names c.make_half.ensures.other_half c.make_half.ensures.sent)
     (second_frame b e c.make_half-2.ensures.frame c.make_half-2.ensures.names c.make_half-2.ensures.other_half c.make_half-2.ensures.sent)
+
+pub returns-clause-made : goal.returns-clause-made
+returns-clause-made g c = λ make. made_are_used c.in_ok-first.first c.in_ok-second.second _ c.in_use-2.ensures

@@ -16,8 +16,9 @@ use Rattle.utm_cli.proofs.Audited.{own_errand, own_reading, own_not_refused}
 use Rattle.utm_cli.specs.declared.words.Word.{Word}
 use Rattle.refusals.specs.Statuses.{IsOneOf}
 use Rattle.utm_cli.specs.Promise.{Request, Reads, IsCutOfRun, LeavesFile, AttachedBy}
-use Rattle.utm_cli.proofs.Asking.{reads_of, one_reading, not_missed, misses_of, ok_not, moved, err_not, err_same, cut_at_call, cut_since_call}
-use Rattle.utm_cli.proofs.Ends.{ends}
+use Rattle.utm_cli.specs.AskingLaws.{reads_of, one_reading, not_missed, misses_of, ok_not, moved, err_not, err_same}
+use Rattle.utm_cli.specs.CutsLaws.{cut_at_call, cut_since_call}
+use Rattle.utm_cli.specs.EndsLaws.{ends}
 use Rattle.utm_cli.proofs.Codes.{of_run, of_done, of_refused, not_refused, not_device, none_refused, with_room}
 use Rattle.utm_cli.proofs.MadeReading.{asked_make, looks_not}
 use Rattle.utm_cli.proofs.top.utm.Given.{Over}

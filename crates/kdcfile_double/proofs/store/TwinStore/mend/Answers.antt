@@ -11,12 +11,12 @@ use Rattle.kdcfile_double.specs.MendLaws.{after_mended, both_rest, copy_open, co
 use Rattle.kdcfile_double.proofs.store.TwinStore.mend.Goals as goal
 
 pub returns-in_default-clause-lost : goal.returns-in_default-clause-lost
-returns-in_default-clause-lost g c = record { stays = λ half is. is; newly = λ half is. inl is; unused = c.note_twice.ensures.lost_is_unused }
+returns-in_default-clause-lost g c = record { stays = λ half is. is; newly = λ half is. inl is; unused = c.copies_are_alike.ensures.lost_is_unused }
 
 pub copy_over-requires-clause-open : goal.copy_over-requires-clause-open
 copy_over-requires-clause-open g c = λ told.
     copy_open (identity_of c.args.self.now) (sequence_of c.args.self.now) (content_of c.args.self.now) (disk_of c.in-Some.source (g.T.Twin.both c.args.twin.now)).holds
-    (holds_copy c.in-Some.source c.args.self.now (g.T.Twin.both c.args.twin.now) (g.T.Twin.leaves c.args.twin.now) c.note_twice.ensures.alike (c.requires.kept told) (g.met.T.Twin.holds_now c.args.twin.now told) c.in-Some.ensures.some.0.0 c.in-Some.ensures.some.0.1)
+    (holds_copy c.in-Some.source c.args.self.now (g.T.Twin.both c.args.twin.now) (g.T.Twin.leaves c.args.twin.now) c.copies_are_alike.ensures.alike (c.requires.kept told) (g.met.T.Twin.holds_now c.args.twin.now told) c.in-Some.ensures.some.0.0 c.in-Some.ensures.some.0.1)
 
 pub take_mended-requires-clause-rest : goal.take_mended-requires-clause-rest
 take_mended-requires-clause-rest g c = λ told. both_rest (g.T.Twin.both c.copy_over.new.twin) (g.T.Twin.leaves c.copy_over.new.twin) (c.in-Ok.ensures.rest (subst IsTrue (c.copy_over.ensures.frame First).told told))
@@ -27,7 +27,7 @@ returns-in-Ok-clause-kept g c =
     (λ told.
     let told_then = (subst IsTrue (sym (c.copy_over.ensures.frame First).told) told) in
     let kept = c.take_mended.ensures.kept told_then in
-    kept_mended c.in-Some.source c.args.self.now c.in-Some.ensures.some.0 c.in-Some.ensures.some.1 (g.T.Twin.both c.args.twin.now) (g.T.Twin.both c.copy_over.new.twin) (g.T.Twin.leaves c.args.twin.now) (g.T.Twin.leaves c.copy_over.new.twin) c.note_twice.ensures.alike (c.requires.kept told) (g.met.T.Twin.holds_now c.args.twin.now told) (c.copy_over.ensures.sent told) (c.copy_over.ensures.source told).holds (c.copy_over.ensures.any_moment told) (c.in-Ok.ensures.copied told) (g.T.Twin.both c.take_mended.new.twin) (g.T.Twin.leaves c.take_mended.new.twin) c.take_mended.new.self c.take_mended.result
+    kept_mended c.in-Some.source c.args.self.now c.in-Some.ensures.some.0 c.in-Some.ensures.some.1 (g.T.Twin.both c.args.twin.now) (g.T.Twin.both c.copy_over.new.twin) (g.T.Twin.leaves c.args.twin.now) (g.T.Twin.leaves c.copy_over.new.twin) c.copies_are_alike.ensures.alike (c.requires.kept told) (g.met.T.Twin.holds_now c.args.twin.now told) (c.copy_over.ensures.sent told) (c.copy_over.ensures.source told).holds (c.copy_over.ensures.any_moment told) (c.in-Ok.ensures.copied told) (g.T.Twin.both c.take_mended.new.twin) (g.T.Twin.leaves c.take_mended.new.twin) c.take_mended.new.self c.take_mended.result
     (subst (λ (h : Half). TakesAfter h c.args.self.now c.take_mended.new.self (g.T.Twin.both c.copy_over.new.twin) (g.T.Twin.both c.take_mended.new.twin) c.take_mended.result) c.other.ensures c.take_mended.ensures.takes) kept.1
     (subst (λ (h : Half). disk_of (other h) (g.T.Twin.both c.take_mended.new.twin) ≡ disk_of (other h) (g.T.Twin.both c.copy_over.new.twin)) c.other.ensures c.take_mended.ensures.other_half)
     (subst (λ (h : Half). (disk_of h (g.T.Twin.both c.take_mended.new.twin)).holds ≡ (disk_of h (g.T.Twin.both c.copy_over.new.twin)).holds) c.other.ensures (c.take_mended.ensures.same_bytes told_then))
@@ -37,34 +37,34 @@ pub returns-in-Ok-clause-mended : goal.returns-in-Ok-clause-mended
 returns-in-Ok-clause-mended g c =
     on_ok_then c.take_mended.result _ _
     (λ found told.
-    let is = target_is c.in-Some.source c.args.self.now c.in-Some.ensures.some.0 c.in-Some.ensures.some.1 (g.T.Twin.both c.args.twin.now) (g.T.Twin.both c.copy_over.new.twin) (g.T.Twin.leaves c.args.twin.now) (g.T.Twin.leaves c.copy_over.new.twin) c.note_twice.ensures.alike (c.requires.kept told) (g.met.T.Twin.holds_now c.args.twin.now told) (c.copy_over.ensures.sent told) (c.copy_over.ensures.source told).holds (c.copy_over.ensures.any_moment told) (c.in-Ok.ensures.copied told) in
+    let is = target_is c.in-Some.source c.args.self.now c.in-Some.ensures.some.0 c.in-Some.ensures.some.1 (g.T.Twin.both c.args.twin.now) (g.T.Twin.both c.copy_over.new.twin) (g.T.Twin.leaves c.args.twin.now) (g.T.Twin.leaves c.copy_over.new.twin) c.copies_are_alike.ensures.alike (c.requires.kept told) (g.met.T.Twin.holds_now c.args.twin.now told) (c.copy_over.ensures.sent told) (c.copy_over.ensures.source told).holds (c.copy_over.ensures.any_moment told) (c.in-Ok.ensures.copied told) in
     after_mended c.in-Some.source c.args.self.now c.in-Some.ensures.some.0 c.in-Some.ensures.some.1 c.take_mended.new.self (g.T.Twin.both c.args.twin.now) (g.T.Twin.both c.copy_over.new.twin) (g.T.Twin.both c.take_mended.new.twin) c.take_mended.result (subst (λ (h : Half). TakesAfter h c.args.self.now c.take_mended.new.self (g.T.Twin.both c.copy_over.new.twin) (g.T.Twin.both c.take_mended.new.twin) c.take_mended.result) c.other.ensures c.take_mended.ensures.takes)
     (subst (λ (h : Half). (c.take_mended.new.self.mended ≡ Some h) × IsInUse h c.take_mended.new.self ⊎ (c.take_mended.new.self.lost ≡ Some h)) c.other.ensures
     (found (subst IsTrue (sym (c.copy_over.ensures.frame First).told) told) (subst (λ (h : Half). IsCopyOf (identity_of c.args.self.now) (sequence_of c.args.self.now) (content_of c.args.self.now) (disk_of h (g.T.Twin.both c.copy_over.new.twin)).holds) (sym c.other.ensures) is))))
     c.take_mended.ensures.found
 
 pub returns-in-Ok-clause-any_moment : goal.returns-in-Ok-clause-any_moment
-returns-in-Ok-clause-any_moment g c = λ told. mended_pairs c.in-Some.source c.args.self.now c.in-Some.ensures.some.0 c.in-Some.ensures.some.1 (g.T.Twin.both c.args.twin.now) (g.T.Twin.both c.copy_over.new.twin) (g.T.Twin.leaves c.args.twin.now) (g.T.Twin.leaves c.copy_over.new.twin) c.note_twice.ensures.alike (c.requires.kept told) (g.met.T.Twin.holds_now c.args.twin.now told) (c.copy_over.ensures.sent told) (c.copy_over.ensures.source told).holds (c.copy_over.ensures.any_moment told) (c.in-Ok.ensures.copied told) (g.T.Twin.both c.take_mended.new.twin) (g.T.Twin.leaves c.take_mended.new.twin) (c.take_mended.ensures.any_moment (subst IsTrue (sym (c.copy_over.ensures.frame First).told) told))
+returns-in-Ok-clause-any_moment g c = λ told. mended_pairs c.in-Some.source c.args.self.now c.in-Some.ensures.some.0 c.in-Some.ensures.some.1 (g.T.Twin.both c.args.twin.now) (g.T.Twin.both c.copy_over.new.twin) (g.T.Twin.leaves c.args.twin.now) (g.T.Twin.leaves c.copy_over.new.twin) c.copies_are_alike.ensures.alike (c.requires.kept told) (g.met.T.Twin.holds_now c.args.twin.now told) (c.copy_over.ensures.sent told) (c.copy_over.ensures.source told).holds (c.copy_over.ensures.any_moment told) (c.in-Ok.ensures.copied told) (g.T.Twin.both c.take_mended.new.twin) (g.T.Twin.leaves c.take_mended.new.twin) (c.take_mended.ensures.any_moment (subst IsTrue (sym (c.copy_over.ensures.frame First).told) told))
 
 pub returns-in-Err-Target-clause-kept : goal.returns-in-Err-Target-clause-kept
 returns-in-Err-Target-clause-kept g c = λ told.
     subst (λ (s : Twice). IsKeptTwice s (g.T.Twin.both c.copy_over.new.twin) (g.T.Twin.leaves c.copy_over.new.twin)) (sym c.lose.ensures.lost)
-    (kept_lost c.in-Some.source c.args.self.now c.in-Some.ensures.some.0 c.in-Some.ensures.some.1 (g.T.Twin.both c.args.twin.now) (g.T.Twin.both c.copy_over.new.twin) (g.T.Twin.leaves c.args.twin.now) (g.T.Twin.leaves c.copy_over.new.twin) c.note_twice.ensures.alike (c.requires.kept told) (g.met.T.Twin.holds_now c.args.twin.now told) (c.copy_over.ensures.sent told) (c.copy_over.ensures.source told).holds (c.copy_over.ensures.any_moment told) (each_rests (g.T.Twin.both c.args.twin.now) (g.T.Twin.leaves c.args.twin.now) (c.requires.at_rest told)) (λ t u x d out le left. g.met.T.Twin.earlier c.copy_over.new.twin t u x d out (subst IsTrue (sym (c.copy_over.ensures.frame First).told) told) le left) (c.copy_over.ensures.source_rests told) (Some c.other-in-Err-Target.result))
+    (kept_lost c.in-Some.source c.args.self.now c.in-Some.ensures.some.0 c.in-Some.ensures.some.1 (g.T.Twin.both c.args.twin.now) (g.T.Twin.both c.copy_over.new.twin) (g.T.Twin.leaves c.args.twin.now) (g.T.Twin.leaves c.copy_over.new.twin) c.copies_are_alike.ensures.alike (c.requires.kept told) (g.met.T.Twin.holds_now c.args.twin.now told) (c.copy_over.ensures.sent told) (c.copy_over.ensures.source told).holds (c.copy_over.ensures.any_moment told) (each_rests (g.T.Twin.both c.args.twin.now) (g.T.Twin.leaves c.args.twin.now) (c.requires.at_rest told)) (λ t u x d out le left. g.met.T.Twin.earlier c.copy_over.new.twin t u x d out (subst IsTrue (sym (c.copy_over.ensures.frame First).told) told) le left) (c.copy_over.ensures.source_rests told) (Some c.other-in-Err-Target.result))
 
 pub returns-in-Err-Target-clause-any_moment : goal.returns-in-Err-Target-clause-any_moment
-returns-in-Err-Target-clause-any_moment g c = λ told. copying_pairs c.in-Some.source c.args.self.now c.in-Some.ensures.some.0 c.in-Some.ensures.some.1 (g.T.Twin.both c.args.twin.now) (g.T.Twin.both c.copy_over.new.twin) (g.T.Twin.leaves c.args.twin.now) (g.T.Twin.leaves c.copy_over.new.twin) c.note_twice.ensures.alike (c.requires.kept told) (g.met.T.Twin.holds_now c.args.twin.now told) (c.copy_over.ensures.sent told) (c.copy_over.ensures.source told).holds (c.copy_over.ensures.any_moment told)
+returns-in-Err-Target-clause-any_moment g c = λ told. copying_pairs c.in-Some.source c.args.self.now c.in-Some.ensures.some.0 c.in-Some.ensures.some.1 (g.T.Twin.both c.args.twin.now) (g.T.Twin.both c.copy_over.new.twin) (g.T.Twin.leaves c.args.twin.now) (g.T.Twin.leaves c.copy_over.new.twin) c.copies_are_alike.ensures.alike (c.requires.kept told) (g.met.T.Twin.holds_now c.args.twin.now told) (c.copy_over.ensures.sent told) (c.copy_over.ensures.source told).holds (c.copy_over.ensures.any_moment told)
 
 pub returns-in-Err-Target-clause-frame : goal.returns-in-Err-Target-clause-frame
 returns-in-Err-Target-clause-frame g c = frame_of_halves (g.T.Twin.both c.args.twin.now) (g.T.Twin.both c.copy_over.new.twin) c.copy_over.ensures.frame c.copy_over.ensures.names c.copy_over.ensures.sent
 
 pub returns-in-Err-Source-clause-any_moment : goal.returns-in-Err-Source-clause-any_moment
-returns-in-Err-Source-clause-any_moment g c = λ told. copying_pairs c.in-Some.source c.args.self.now c.in-Some.ensures.some.0 c.in-Some.ensures.some.1 (g.T.Twin.both c.args.twin.now) (g.T.Twin.both c.copy_over.new.twin) (g.T.Twin.leaves c.args.twin.now) (g.T.Twin.leaves c.copy_over.new.twin) c.note_twice.ensures.alike (c.requires.kept told) (g.met.T.Twin.holds_now c.args.twin.now told) (c.copy_over.ensures.sent told) (c.copy_over.ensures.source told).holds (c.copy_over.ensures.any_moment told)
+returns-in-Err-Source-clause-any_moment g c = λ told. copying_pairs c.in-Some.source c.args.self.now c.in-Some.ensures.some.0 c.in-Some.ensures.some.1 (g.T.Twin.both c.args.twin.now) (g.T.Twin.both c.copy_over.new.twin) (g.T.Twin.leaves c.args.twin.now) (g.T.Twin.leaves c.copy_over.new.twin) c.copies_are_alike.ensures.alike (c.requires.kept told) (g.met.T.Twin.holds_now c.args.twin.now told) (c.copy_over.ensures.sent told) (c.copy_over.ensures.source told).holds (c.copy_over.ensures.any_moment told)
 
 pub returns-in-Err-Source-clause-frame : goal.returns-in-Err-Source-clause-frame
 returns-in-Err-Source-clause-frame g c = frame_of_halves (g.T.Twin.both c.args.twin.now) (g.T.Twin.both c.copy_over.new.twin) c.copy_over.ensures.frame c.copy_over.ensures.names c.copy_over.ensures.sent
 
 pub returns-in-Err-Memory-clause-any_moment : goal.returns-in-Err-Memory-clause-any_moment
-returns-in-Err-Memory-clause-any_moment g c = λ told. copying_pairs c.in-Some.source c.args.self.now c.in-Some.ensures.some.0 c.in-Some.ensures.some.1 (g.T.Twin.both c.args.twin.now) (g.T.Twin.both c.copy_over.new.twin) (g.T.Twin.leaves c.args.twin.now) (g.T.Twin.leaves c.copy_over.new.twin) c.note_twice.ensures.alike (c.requires.kept told) (g.met.T.Twin.holds_now c.args.twin.now told) (c.copy_over.ensures.sent told) (c.copy_over.ensures.source told).holds (c.copy_over.ensures.any_moment told)
+returns-in-Err-Memory-clause-any_moment g c = λ told. copying_pairs c.in-Some.source c.args.self.now c.in-Some.ensures.some.0 c.in-Some.ensures.some.1 (g.T.Twin.both c.args.twin.now) (g.T.Twin.both c.copy_over.new.twin) (g.T.Twin.leaves c.args.twin.now) (g.T.Twin.leaves c.copy_over.new.twin) c.copies_are_alike.ensures.alike (c.requires.kept told) (g.met.T.Twin.holds_now c.args.twin.now told) (c.copy_over.ensures.sent told) (c.copy_over.ensures.source told).holds (c.copy_over.ensures.any_moment told)
 
 pub returns-in-Err-Memory-clause-frame : goal.returns-in-Err-Memory-clause-frame
 returns-in-Err-Memory-clause-frame g c = frame_of_halves (g.T.Twin.both c.args.twin.now) (g.T.Twin.both c.copy_over.new.twin) c.copy_over.ensures.frame c.copy_over.ensures.names c.copy_over.ensures.sent

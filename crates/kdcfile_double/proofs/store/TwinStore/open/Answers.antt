@@ -1,8 +1,8 @@
 use Rattle.std.proofs.Common.{◌⊎◌, sym, subst, inl, ⊎_elim, ◌∙◌}
-use Rattle.std.specs.Prelude.{IsTrue}
+use Rattle.std.specs.Prelude.{IsTrue, false}
 use Rattle.kdcfile_double.specs.Twice.{IsKeptTwice, LeavesBoth}
 use Rattle.kdcfile_double.specs.Opening.{AreEmpty, IsMakingTwo, SameFiles, Unchanged, identity_twice}
-use Rattle.kdcfile_double.specs.OpenedLaws.{empty_suits, empty_tables_are, empty_sequence, pages_fit, empty_starts, empty_is_open, kept_lifted, empty_in_use, opened_pages, opened_tables, opened_starts, opened_in_use, opened_kept}
+use Rattle.kdcfile_double.specs.OpenedLaws.{empty_suits, empty_tables_are, empty_sequence, pages_fit, empty_starts, empty_is_open, empty_made, kept_lifted, empty_in_use, opened_pages, opened_tables, opened_starts, opened_in_use, opened_kept, opened_made}
 use Rattle.kdcfile_double.specs.MakingLaws.{empty_answer, rests_making, frame_then, none_rose_then, one_rose_then}
 use Rattle.kdcfile_halves.specs.BesideLaws.{pairs_weaker}
 use Rattle.kdcfile_double.proofs.store.TwinStore.open.Goals as goal
@@ -143,3 +143,14 @@ pub returns-clause-spent : goal.returns-clause-spent
 returns-clause-spent g c = λ n is told.
     let a = g.T.Twin.both c.args.twin.now in
     c.opened.ensures.spent n is a.first.holds a.second.holds (c.in_ok-found.ensures.first_answer told) (c.in_ok-found.ensures.second_answer told)
+
+pub returns-then-are_empty-clause-made : goal.returns-then-are_empty-clause-made
+returns-then-are_empty-clause-made g c =
+    let a = g.T.Twin.both c.args.twin.now in
+    empty_made a.first.holds a.second.holds (IsTrue a.told) c.args.make c.empty.result c.empty.ensures.made
+
+pub returns-clause-made : goal.returns-clause-made
+returns-clause-made g c =
+    let a = g.T.Twin.both c.args.twin.now in
+    opened_made c.in_ok-found.found.0 c.in_ok-found.found.1 a.first.holds a.second.holds (IsTrue a.told) c.args.make c.in_ok-found.ensures.first c.in_ok-found.ensures.second c.in_ok-found.ensures.first_answer c.in_ok-found.ensures.second_answer
+    (λ both. let is : IsTrue false = subst IsTrue c.if-are_empty.false (c.are_empty.ensures.1 both) in absurd cc) c.opened.result

@@ -1,0 +1,67 @@
+//! The files that a call is made over.
+
+use kd_base::{Bytes, OutOfMemory};
+use kd_device::CallKind;
+use kd_twin::{Half, MemTwin};
+use std::alloc::Global;
+
+/// The KDCFILE, and the second copy that a definition may ask for.
+#[derive(Drop)]
+pub struct Files {
+    first: Vec<u8>,
+    second: Vec<u8>,
+}
+
+impl Files {
+    pub fn empty(alloc: Global) -> Files {
+        Files {
+            first: Vec::new(alloc),
+            second: Vec::new(alloc),
+        }
+    }
+
+    /// Those that a twin has.
+    pub fn of(alloc: Global, twin: &MemTwin) -> Result<Files, OutOfMemory> {
+        Ok(Files {
+            first: twin.holds(Half::First).to_vec(alloc)?,
+            second: twin.holds(Half::Second).to_vec(alloc)?,
+        })
+    }
+
+    pub fn copied(&self) -> Result<Files, OutOfMemory> {
+        Ok(Files {
+            first: self.first.clone()?,
+            second: self.second.clone()?,
+        })
+    }
+
+    /// A twin with these files, of which these calls fail.
+    pub fn twin(
+        &self,
+        alloc: Global,
+        failing: Vec<(Half, CallKind, u64)>,
+    ) -> Result<MemTwin, OutOfMemory> {
+        let first = Bytes::from_slice(alloc, &self.first)?;
+        let second = Bytes::from_slice(alloc, &self.second)?;
+        MemTwin::new(alloc, first, second, failing)
+    }
+
+    pub fn file(&self, half: Half) -> &Vec<u8> {
+        match half {
+            Half::First => &self.first,
+            Half::Second => &self.second,
+        }
+    }
+
+    pub fn file_mut(&mut self, half: Half) -> &mut Vec<u8> {
+        match half {
+            Half::First => &mut self.first,
+            Half::Second => &mut self.second,
+        }
+    }
+
+    pub fn clear(&mut self) {
+        self.first.clear();
+        self.second.clear();
+    }
+}

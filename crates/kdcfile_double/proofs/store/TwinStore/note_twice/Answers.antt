@@ -1,6 +1,0 @@
-use Rattle.std.proofs.Common.{subst}
-use Rattle.kdcfile_double.specs.Twice.{IsTwice}
-use Rattle.kdcfile_double.proofs.store.TwinStore.note_twice.Goals as goal
-
-pub returns : goal.returns
-returns c = subst IsTwice c.self.view_is c.self.invariant

@@ -1,0 +1,10 @@
+mod Saying
+mod Resting
+mod Parting
+mod Decoding
+mod Handing
+mod Keepers
+mod Lent
+mod Ending
+mod KeepingCalls
+mod KeepingValues

@@ -1,0 +1,47 @@
+use Rattle.kd_base.specs.ToolsLaws.{error_same}
+use Rattle.std.proofs.Common.{◌∙◌}
+use Rattle.kdcfile_store.specs.Paged.{identity_with}
+use Rattle.twin_run.proofs.KeepingValues.{commit_then, failed_then, frame_then, keeper_was, kept_some, kept_was, since_none, since_some}
+use Rattle.twin_run.proofs.keeper.TwinKeeperKeeper.commit.Goals as goal
+
+pub commit-requires-clause-kept : goal.commit-requires-clause-kept
+commit-requires-clause-kept g c =
+    let was = keeper_was g.T.Twin.both g.S.Start.store g.S.Start.both c.self.view_is c.self.invariant c.take.ensures.value c.in-Some.is in
+    kept_was g.T.Twin.leaves was c.requires.kept
+
+pub invariant_of-self-in_err-commit : goal.invariant_of-self-in_err-commit
+invariant_of-self-in_err-commit g c =
+    let was = keeper_was g.T.Twin.both g.S.Start.store g.S.Start.both c.self.view_is c.self.invariant c.take.ensures.value c.in-Some.is in
+    since_none g.T.Twin.leaves was c.commit.ensures.frame (identity_with c.self.inside.limits c.self.inside.fingerprint) c.take.ensures.after
+
+pub returns-in_err-commit-clause-any_moment : goal.returns-in_err-commit-clause-any_moment
+returns-in_err-commit-clause-any_moment g c =
+    let was = keeper_was g.T.Twin.both g.S.Start.store g.S.Start.both c.self.view_is c.self.invariant c.take.ensures.value c.in-Some.is in
+    commit_then g.T.Twin.leaves was c.commit.ensures.frame (g.T.Twin.leaves c.commit.new.twin) c.args.patch.now c.commit.ensures.any_moment
+
+pub returns-in_err-commit-clause-failed : goal.returns-in_err-commit-clause-failed
+returns-in_err-commit-clause-failed g c = λ is.
+    let was = keeper_was g.T.Twin.both g.S.Start.store g.S.Start.both c.self.view_is c.self.invariant c.take.ensures.value c.in-Some.is in
+    failed_then g.T.Twin.leaves was c.commit.ensures.frame (c.in_err-commit.ensures.failed (error_same _ _ c.from_residual.result c.in_err-commit.field-0.0 _ c.from_residual.ensures.1 is))
+
+pub returns-in_err-commit-clause-frame : goal.returns-in_err-commit-clause-frame
+returns-in_err-commit-clause-frame g c =
+    let was = keeper_was g.T.Twin.both g.S.Start.store g.S.Start.both c.self.view_is c.self.invariant c.take.ensures.value c.in-Some.is in
+    frame_then g.T.Twin.leaves was c.commit.ensures.frame
+
+pub invariant_of-self-2 : goal.invariant_of-self-2
+invariant_of-self-2 g c =
+    let was = keeper_was g.T.Twin.both g.S.Start.store g.S.Start.both c.self.view_is c.self.invariant c.take.ensures.value c.in-Some.is in
+    let done = c.in_ok-commit.ensures in
+    since_some g.T.Twin.leaves was c.commit.ensures.frame c.copies_are_alike.ensures (identity_with c.self.inside.limits c.self.inside.fingerprint) done.is_open (done.identity ∙ was.since.copies.identity) c.commit.ensures.mended c.commit.ensures.lost done.stays c.commit.ensures.no_other done.fine
+
+pub returns-clause-kept : goal.returns-clause-kept
+returns-clause-kept g c =
+    let was = keeper_was g.T.Twin.both g.S.Start.store g.S.Start.both c.self.view_is c.self.invariant c.take.ensures.value c.in-Some.is in
+    let done = c.in_ok-commit.ensures in
+    kept_some g.T.Twin.leaves was c.commit.ensures.frame c.copies_are_alike.ensures (identity_with c.self.inside.limits c.self.inside.fingerprint) done.is_open (done.identity ∙ was.since.copies.identity) c.commit.ensures.mended c.commit.ensures.lost done.stays c.commit.ensures.no_other done.fine (g.T.Twin.leaves c.commit.new.twin) c.copies_are_alike-2.ensures done.kept
+
+pub returns-clause-any_moment : goal.returns-clause-any_moment
+returns-clause-any_moment g c =
+    let was = keeper_was g.T.Twin.both g.S.Start.store g.S.Start.both c.self.view_is c.self.invariant c.take.ensures.value c.in-Some.is in
+    commit_then g.T.Twin.leaves was c.commit.ensures.frame (g.T.Twin.leaves c.commit.new.twin) c.args.patch.now c.commit.ensures.any_moment

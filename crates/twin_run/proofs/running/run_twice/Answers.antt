@@ -1,0 +1,68 @@
+use Rattle.std.proofs.Common.{inl}
+use Rattle.kd_base.specs.ToolsLaws.{error_same}
+use Rattle.kdcfile_double.specs.Twice.{identity_of}
+use Rattle.abstract_monitor.specs.{Commands.{acts_of}, Trace.{history}}
+use Rattle.monitor_core.specs.CoreSteps.{durable_of}
+use Rattle.device_run.specs.HandedOnLaws.{act_failed, act_knows_no_other, act_refuses_nothing}
+use Rattle.twin_run.specs.Running.{lines_for, mended_line}
+use Rattle.twin_run.proofs.Ending.{begins_run, fails_second, fails_third, kept_still, ran_twice, told_still, within_first, within_second, within_third}
+use Rattle.twin_run.proofs.running.run_twice.Goals as goal
+
+pub returns-in_err-say_mended-clause-any : goal.returns-in_err-say_mended-clause-any
+returns-in_err-say_mended-clause-any g c =
+    within_first (identity_of c.args.store) c.args.store (durable_of c.args.core) (acts_of (history c.args.core.application c.args.core.state c.args.commands.now)) (g.T.Twin.both c.args.twin.now) (g.T.Twin.both c.say_mended.new.twin) (g.T.Twin.leaves c.args.twin.now) (g.T.Twin.leaves c.say_mended.new.twin) (begins_run c.args.fingerprint.now c.args.core c.args.store (g.T.Twin.both c.args.twin.now) (g.T.Twin.leaves c.args.twin.now) c.copies_are_alike.ensures c.requires.is_open c.requires.running c.requires.kept) c.mended.result c.mended.ensures c.say_mended.ensures.says
+
+pub returns-in_err-lost-clause-any : goal.returns-in_err-lost-clause-any
+returns-in_err-lost-clause-any g c =
+    within_second (identity_of c.args.store) c.args.store (durable_of c.args.core) (acts_of (history c.args.core.application c.args.core.state c.args.commands.now)) (g.T.Twin.both c.args.twin.now) (g.T.Twin.both c.say_mended.new.twin) (g.T.Twin.leaves c.args.twin.now) (g.T.Twin.leaves c.say_mended.new.twin) (begins_run c.args.fingerprint.now c.args.core c.args.store (g.T.Twin.both c.args.twin.now) (g.T.Twin.leaves c.args.twin.now) c.copies_are_alike.ensures c.requires.is_open c.requires.running c.requires.kept) c.mended.result c.mended.ensures c.say_mended.ensures.says c.in_ok-say_mended.ensures.sent (g.T.Twin.both c.run_between.new.twin) (g.T.Twin.leaves c.run_between.new.twin) c.run_between.ensures.any
+
+pub returns-in_err-say_lost-clause-any : goal.returns-in_err-say_lost-clause-any
+returns-in_err-say_lost-clause-any g c =
+    within_third (identity_of c.args.store) c.args.store (durable_of c.args.core) (acts_of (history c.args.core.application c.args.core.state c.args.commands.now)) (g.T.Twin.both c.args.twin.now) (g.T.Twin.both c.say_mended.new.twin) (g.T.Twin.leaves c.args.twin.now) (g.T.Twin.leaves c.say_mended.new.twin) (begins_run c.args.fingerprint.now c.args.core c.args.store (g.T.Twin.both c.args.twin.now) (g.T.Twin.leaves c.args.twin.now) c.copies_are_alike.ensures c.requires.is_open c.requires.running c.requires.kept) c.mended.result c.mended.ensures c.say_mended.ensures.says c.in_ok-say_mended.ensures.sent (g.T.Twin.both c.run_between.new.twin) (g.T.Twin.leaves c.run_between.new.twin) c.run_between.ensures.any c.in_ok-lost.lost c.in_ok-lost.ensures.done (g.T.Twin.both c.say_lost.new.twin) (g.T.Twin.leaves c.say_lost.new.twin) c.say_lost.ensures.says
+
+pub returns-clause-any : goal.returns-clause-any
+returns-clause-any g c =
+    within_third (identity_of c.args.store) c.args.store (durable_of c.args.core) (acts_of (history c.args.core.application c.args.core.state c.args.commands.now)) (g.T.Twin.both c.args.twin.now) (g.T.Twin.both c.say_mended.new.twin) (g.T.Twin.leaves c.args.twin.now) (g.T.Twin.leaves c.say_mended.new.twin) (begins_run c.args.fingerprint.now c.args.core c.args.store (g.T.Twin.both c.args.twin.now) (g.T.Twin.leaves c.args.twin.now) c.copies_are_alike.ensures c.requires.is_open c.requires.running c.requires.kept) c.mended.result c.mended.ensures c.say_mended.ensures.says c.in_ok-say_mended.ensures.sent (g.T.Twin.both c.run_between.new.twin) (g.T.Twin.leaves c.run_between.new.twin) c.run_between.ensures.any c.in_ok-lost.lost c.in_ok-lost.ensures.done (g.T.Twin.both c.say_lost.new.twin) (g.T.Twin.leaves c.say_lost.new.twin) c.say_lost.ensures.says
+
+pub returns-clause-done : goal.returns-clause-done
+returns-clause-done g c =
+    λ told. ran_twice (identity_of c.args.store) c.args.store (durable_of c.args.core) (acts_of (history c.args.core.application c.args.core.state c.args.commands.now)) (g.T.Twin.both c.args.twin.now) (g.T.Twin.both c.say_mended.new.twin) (g.T.Twin.leaves c.args.twin.now) (g.T.Twin.leaves c.say_mended.new.twin) (begins_run c.args.fingerprint.now c.args.core c.args.store (g.T.Twin.both c.args.twin.now) (g.T.Twin.leaves c.args.twin.now) c.copies_are_alike.ensures c.requires.is_open c.requires.running c.requires.kept) c.mended.result c.mended.ensures c.say_mended.ensures.says c.in_ok-say_mended.ensures.sent (g.T.Twin.both c.run_between.new.twin) (g.T.Twin.leaves c.run_between.new.twin) c.run_between.ensures.any c.in_ok-lost.lost c.in_ok-lost.ensures.done (g.T.Twin.both c.say_lost.new.twin) (g.T.Twin.leaves c.say_lost.new.twin) c.say_lost.ensures.says told (g.met.T.Twin.holds_now c.say_lost.new.twin) c.in_ok-say_lost.ensures.sent
+
+pub returns-in_err-say_mended-clause-failed : goal.returns-in_err-say_mended-clause-failed
+returns-in_err-say_mended-clause-failed g c =
+    λ is. inl (c.in_err-say_mended.ensures.failed (act_failed _ _ c.from_residual.result c.in_err-say_mended.field-0.0 c.from_residual.ensures.1 is))
+
+pub returns-in_err-lost-clause-failed : goal.returns-in_err-lost-clause-failed
+returns-in_err-lost-clause-failed g c =
+    λ is. fails_second c.args.store (lines_for mended_line c.mended.result) (g.T.Twin.both c.args.twin.now) (g.T.Twin.both c.say_mended.new.twin) (g.T.Twin.both c.run_between.new.twin) (g.T.Twin.leaves c.args.twin.now) (g.T.Twin.leaves c.say_mended.new.twin) c.say_mended.ensures.says (c.in_err-lost.ensures.failed (error_same _ _ c.from_residual-in_err-lost.result c.in_err-lost.field-0.0 _ c.from_residual-in_err-lost.ensures.1 is))
+
+pub returns-in_err-say_lost-clause-failed : goal.returns-in_err-say_lost-clause-failed
+returns-in_err-say_lost-clause-failed g c =
+    λ is. fails_third c.args.store (lines_for mended_line c.mended.result) (g.T.Twin.both c.args.twin.now) (g.T.Twin.both c.say_mended.new.twin) (g.T.Twin.both c.run_between.new.twin) (g.T.Twin.both c.say_lost.new.twin) (g.T.Twin.leaves c.args.twin.now) (g.T.Twin.leaves c.say_mended.new.twin) c.say_mended.ensures.says c.run_between.ensures.any.frame (c.in_err-say_lost.ensures.failed (act_failed _ _ c.from_residual-in_err-say_lost.result c.in_err-say_lost.field-0.0 c.from_residual-in_err-say_lost.ensures.1 is))
+
+pub returns-in_err-say_mended-clause-refused : goal.returns-in_err-say_mended-clause-refused
+returns-in_err-say_mended-clause-refused g c =
+    λ is told. act_refuses_nothing _ c.from_residual.result c.in_err-say_mended.field-0.0 c.from_residual.ensures.1 is
+
+pub returns-in_err-say_mended-clause-other : goal.returns-in_err-say_mended-clause-other
+returns-in_err-say_mended-clause-other g c =
+    λ stored is told. act_knows_no_other _ c.from_residual.result c.in_err-say_mended.field-0.0 stored c.from_residual.ensures.1 is
+
+pub returns-in_err-say_lost-clause-refused : goal.returns-in_err-say_lost-clause-refused
+returns-in_err-say_lost-clause-refused g c =
+    λ is told. act_refuses_nothing _ c.from_residual-in_err-say_lost.result c.in_err-say_lost.field-0.0 c.from_residual-in_err-say_lost.ensures.1 is
+
+pub returns-in_err-say_lost-clause-other : goal.returns-in_err-say_lost-clause-other
+returns-in_err-say_lost-clause-other g c =
+    λ stored is told. act_knows_no_other _ c.from_residual-in_err-say_lost.result c.in_err-say_lost.field-0.0 stored c.from_residual-in_err-say_lost.ensures.1 is
+
+pub returns-in_err-lost-clause-refused : goal.returns-in_err-lost-clause-refused
+returns-in_err-lost-clause-refused g c =
+    λ is told. c.in_err-lost.ensures.refused (error_same _ _ c.from_residual-in_err-lost.result c.in_err-lost.field-0.0 _ c.from_residual-in_err-lost.ensures.1 is) (told_still (lines_for mended_line c.mended.result) (g.T.Twin.both c.args.twin.now) (g.T.Twin.both c.say_mended.new.twin) (g.T.Twin.leaves c.args.twin.now) (g.T.Twin.leaves c.say_mended.new.twin) c.say_mended.ensures.says told)
+
+pub returns-in_err-lost-clause-other : goal.returns-in_err-lost-clause-other
+returns-in_err-lost-clause-other g c =
+    λ stored is told. c.in_err-lost.ensures.other stored (error_same _ _ c.from_residual-in_err-lost.result c.in_err-lost.field-0.0 _ c.from_residual-in_err-lost.ensures.1 is) (told_still (lines_for mended_line c.mended.result) (g.T.Twin.both c.args.twin.now) (g.T.Twin.both c.say_mended.new.twin) (g.T.Twin.leaves c.args.twin.now) (g.T.Twin.leaves c.say_mended.new.twin) c.say_mended.ensures.says told)
+
+pub run_between-requires-clause-kept : goal.run_between-requires-clause-kept
+run_between-requires-clause-kept g c = kept_still c.args.store (lines_for mended_line c.mended.result) (g.T.Twin.both c.args.twin.now) (g.T.Twin.both c.say_mended.new.twin) (g.T.Twin.leaves c.args.twin.now) (g.T.Twin.leaves c.say_mended.new.twin) c.say_mended.ensures.says c.requires.kept

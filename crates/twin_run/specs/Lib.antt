@@ -1,0 +1,5 @@
+pub mod Images
+pub mod Keeping
+pub mod KeepingLaws
+pub mod Parts
+pub mod Running

@@ -1,0 +1,43 @@
+-- The status of a call over two copies.
+use Rattle.std.proofs.Common.{◌≡◌, inl, inr, ⊎_elim, ℕ, List, [], ◌∷◌, ◌++◌, take, refl, ap, ◌∙◌, arith}
+use Rattle.std.proofs.lemmas.Bool.Decides.{nat_tests}
+use Rattle.kd_twin.specs.Twin.{Both, disk_of}
+use Rattle.kd_twin.specs.declared.half.Half.{Half}
+use Rattle.kdcfile_double.specs.Opening.{SameFiles}
+use Rattle.refusals.specs.Statuses.{IsOneOf}
+use Rattle.utm_twin.specs.Promise.{FrameTwin, MayAttachTwo, SaidTwo, SaysPartTwo}
+
+-- ---- statuses
+
+pub device_of : (k : ℕ) → IsOneOf (k ∷ 5 ∷ 7 ∷ []) 5
+device_of k = grind (arith, nat_tests)
+
+pub memory_of : (k : ℕ) → IsOneOf (k ∷ 5 ∷ 7 ∷ []) 7
+memory_of k = grind (arith, nat_tests)
+
+-- ---- a line after files that stay
+
+module _ (a m b : Both) where
+  pub files_then : SameFiles a m → SameFiles m b → SameFiles a b
+  files_then h k = record {
+    first_holds = k.first_holds ∙ h.first_holds;
+    second_holds = k.second_holds ∙ h.second_holds;
+    first_put = k.first_put ∙ h.first_put;
+    second_put = k.second_put ∙ h.second_put;
+  }
+
+  pub said_then : (line : List ℕ) → SameFiles a m → m.sent ≡ a.sent → SaidTwo line m b → SaidTwo line a b
+  said_then line files sent said = record { files = files_then files said.files; sent = said.sent ∙ ap (λ (s : List ℕ). s ++ line) sent }
+
+  pub part_then : (line : List ℕ) → SameFiles a m → m.sent ≡ a.sent → SaysPartTwo line m b → SaysPartTwo line a b
+  part_then line files sent part = record { files = files_then files part.files; front = (part.front.0, part.front.1 ∙ ap (λ (s : List ℕ). s ++ take part.front.0 line) sent) }
+
+  pub names_then : (base : List ℕ) → MayAttachTwo base a m → ((half : Half) → (disk_of half b).names ≡ (disk_of half m).names) → MayAttachTwo base a b
+  names_then base may same half =
+      ⊎_elim (λ is. inl (same half ∙ is)) (λ is. inr (same half ∙ is)) (may half)
+
+pub same_names : (base : List ℕ) (a : Both) → MayAttachTwo base a a
+same_names base a half = inl refl
+
+pub same_frame : (a : Both) → FrameTwin a a
+same_frame a = record { told = refl; first_faults = omega arith; second_faults = omega arith; line_faults = omega arith; moment = omega arith }

@@ -1,0 +1,10 @@
+mod Answered
+mod Stays
+mod Keeps
+mod ByWord
+mod Does
+mod Scripts
+mod Aside
+mod Refused
+mod Calls
+mod Lawful

@@ -1,0 +1,10 @@
+pub mod Causes
+pub mod Doing
+pub mod Promise
+pub mod Opening
+pub mod Single
+pub mod SingleLaws
+pub mod Kept
+pub mod Parts
+pub mod AnswersLaws
+pub mod BehindLaws
