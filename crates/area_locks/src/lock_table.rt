@@ -1,6 +1,6 @@
 //! The lock table.
-ghost use Rattle.std.specs.{Prelude.{◌≡◌, ◌↔◌, false, IsTrue, IfOk, IfNone, IfSome, OnOk, OnErr, None, Some, ◌&&◌, if◌then◌else◌, ◌+◌, nat_le}, FinMap.{is_sorted}};
-ghost use Rattle.kdcs_types.specs.{declared.key.Area.{Area}, declared.key.ServiceId.{ServiceId}, Keys.{area_cmp, area_eq, id_eq}};
+ghost use Rattle.std.specs.{Prelude.{◌≡◌, ◌↔◌, false, IsTrue, IfOk, IfNone, IfSome, OnOk, OnErr, None, Some, ◌&&◌, if◌then◌else◌, ◌+◌, nat_le, length, option_copied}, FinMap.{find, is_sorted}};
+ghost use Rattle.kdcs_types.specs.{declared.key.Area.{Area}, declared.key.ServiceId.{ServiceId}, Keys.{area_cmp, area_eq, id_cmp, id_eq}};
 ghost use Rattle.abstract_monitor.specs.declared.answer.LockAnswer.TheVariants as lock_answer;
 ghost use Rattle.abstract_monitor.specs.Locks.{holder, waits_for, since, is_deadlocked, answer_of, refused_by, IsDeadlocked};
 ghost use Rattle.area_locks.specs.{Asked.{no_locks, asked, locks_after, holder_after, holds_area, unlocked, with_holder, without_wait, freed, other_than}, Index.{IsOpenTo}};
@@ -55,6 +55,20 @@ impl LockTable {
         ensures once { IsTrue (is_sorted area_cmp self.now.holders) }
     {
         self.holders.get(area).copied()
+    }
+
+    /// The area that a service waits for, and the clock of the first request of this wait, in ticks. It takes no memory.
+    pub fn wait_of(&self, who: ServiceId) -> Option<&(Area, u64)>
+        ensures { option_copied result ≡ find id_cmp who self.now.waits }
+    {
+        self.waits.get(&who)
+    }
+
+    /// How many services wait.
+    pub fn waiting(&self) -> usize
+        ensures { result ≡ length self.now.waits }
+    {
+        self.waits.len()
     }
 
     /// Answers the request of a service for an area, at this clock, in ticks, where a wait lasts at most `reswait`

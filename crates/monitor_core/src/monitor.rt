@@ -11,7 +11,7 @@ ghost use Rattle.laws_of_jobs.specs.QueueLaws.{KeepsQueues};
 ghost use Rattle.laws_of_runs.specs.{Replays.{AllReplay}, SerialLaws.{IsSerialStep}};
 ghost use Rattle.service_ends.specs.Ending.{turned_to};
 ghost use Rattle.monitor_core.specs.Commanding.{Comes, IsSingle};
-ghost use Rattle.monitor_core.specs.{CoreValue.{OneStep}, Steps.{came_to}};
+ghost use Rattle.monitor_core.specs.{CoreValue.{OneStep, core_value}, Steps.{came_to}};
 
 use crate::applying::apply;
 use crate::input::use_of;
@@ -134,6 +134,13 @@ impl Core {
         ensures suits { Suits self.now.application.generation (durable self.now.application.generation self.now.state.tables) }
     {
         &self.parts.tables
+    }
+
+    /// All parts of the monitor, to look at: they stand for its application and its state. It takes no memory.
+    pub fn parts(&self) -> &MonitorParts
+        ensures { core_value result.now ≡ self.now }
+    {
+        &self.parts
     }
 
     /// The LTERM of this PTERM of the generation. It takes no memory.
