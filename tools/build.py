@@ -1,5 +1,8 @@
 #!/usr/bin/env python3
-"""Proves the crates that the program utm stands on, builds it, and runs it with the words of this call.
+"""Proves the crates that a program stands on, builds it, and runs it with the words of this call.
+
+The first word is the program's launcher, utm or lab; the others are the program's own. What both programs stand on is
+proved once.
 
 Each crate is proved by the kit's prover, `rattle build`, from its sources and over the libraries of the crates below it,
 side by side with others. A library has the statements of its crate and not the proofs, as in the gate, so that those
@@ -21,7 +24,10 @@ from pathlib import Path
 
 TOP = Path(__file__).resolve().parent.parent
 CRATES = TOP / "crates"
-PROGRAM = "utm"
+# By its launcher, the crate of a program, and words that it ends with status 6, by which it is tried before it is kept.
+PROGRAMS = {"utm": ("utm", ["run", "nothing"]), "lab": ("kdcs_lab", ["trace", "nothing"])}
+LAUNCHER = sys.argv[1] if len(sys.argv) > 1 and sys.argv[1] in PROGRAMS else "utm"
+PROGRAM, FIRST_WORDS = PROGRAMS[LAUNCHER]
 OUT = CRATES / PROGRAM / "out"
 # There during a build; after a failure its logs stay.
 WORKSHOP = OUT / "build"
@@ -34,8 +40,6 @@ PARTS = ("src", "specs", "proofs")
 
 NO_ANSWER = 9
 TARGET = "x86_64-unknown-linux-gnu"
-# The program is tried before it is kept: with these words, which it ends with this status.
-FIRST_WORDS = ["run", "nothing"]
 FIRST_STATUS = 6
 MOST_JOBS = 4
 GIGABYTE = 10**9
@@ -65,7 +69,7 @@ def say(text):
     """Tells the user something on standard error, where there is one: standard output is the program's own."""
     if sys.stderr is not None:
         with contextlib.suppress(OSError):
-            print(f"utm: {text}", file=sys.stderr, flush=True)
+            print(f"{LAUNCHER}: {text}", file=sys.stderr, flush=True)
 
 
 def count_of(number, word):
@@ -89,7 +93,7 @@ class Crate:
         self.libraries = re.findall(r"[^\s,]+", libraries)
         # What is made of it: the program, or a library. Beside it lies the digest of what it was made from.
         self.made = OUT / PROGRAM if self.is_program() else CRATES / self.name / "out" / "proved" / f"{self.name}.rlib"
-        self.mark_file = self.made.parent / ("utm.digest" if self.is_program() else "digest")
+        self.mark_file = self.made.parent / (f"{PROGRAM}.digest" if self.is_program() else "digest")
         # The libraries of the kit that it stands on, and the crates of the repository: by its line, and in all.
         self.of_kit, self.uses, self.below = [], [], set()
         # Its lines of code, and the digest of all that it is made from.
@@ -518,8 +522,8 @@ def main(words):
     # Python ignores these two, and the program would inherit that.
     for it in (signal.SIGPIPE, signal.SIGXFSZ):
         signal.signal(it, signal.SIG_DFL)
-    return os.execv(OUT / PROGRAM, [PROGRAM, *words])
+    return os.execv(OUT / PROGRAM, [LAUNCHER, *words])
 
 
 if __name__ == "__main__":
-    sys.exit(main(sys.argv[1:]))
+    sys.exit(main(sys.argv[2:]))

@@ -1,0 +1,85 @@
+//! Why a script is refused: every line by itself.
+ghost use Rattle.std.specs.Prelude.{OnOk};
+ghost use Rattle.lab_check.specs.Verdicts.{AddsOfScript};
+
+use kd_base::OutOfMemory;
+use kdcdef_check::Generation;
+use lab_findings::{Refusals, TextName};
+use script_read::{ScriptFault, read_script};
+use std::alloc::Global;
+use texts::next_line;
+
+// The name of the fault that a text has, if it has one.
+fn fault_of(
+    alloc: Global,
+    generation: &Generation,
+    text: &[u8],
+) -> Result<Option<&'static str>, OutOfMemory> {
+    match read_script(alloc, generation, text) {
+        Ok(_) => Ok(None),
+        Err(ScriptFault::Memory) => Err(OutOfMemory),
+        Err(ScriptFault::BadLine(_)) => Ok(Some("BadLine")),
+        Err(ScriptFault::OutOfRange(_)) => Ok(Some("OutOfRange")),
+        Err(ScriptFault::TooLong) => Ok(Some("TooLong")),
+    }
+}
+
+// Tells why a line, which has this number, is refused.
+#[tactic(auto, using(crate::proofs::Later::later_script))]
+fn line_refusal(
+    alloc: Global,
+    generation: &Generation,
+    line: &[u8],
+    number: u32,
+    refused: &mut Refusals,
+) -> Result<(), OutOfMemory>
+    ensures { OnOk result (AddsOfScript refused.old.items.items refused.new.items.items) }
+{
+    if let Some(name) = fault_of(alloc, generation, line)? {
+        refused.refuse(TextName::Script, number, name)?;
+    }
+    Ok(())
+}
+
+// Tells why the lines of a script are refused.
+fn line_refusals(
+    alloc: Global,
+    generation: &Generation,
+    text: &[u8],
+    refused: &mut Refusals,
+) -> Result<(), OutOfMemory>
+    ensures { OnOk result (AddsOfScript refused.old.items.items refused.new.items.items) }
+{
+    let mut number: u32 = 1;
+    let mut rest = text;
+    while !rest.is_empty() {
+        let (line, after) = next_line(rest);
+        line_refusal(alloc, generation, line, number, refused)?;
+        number = number.saturating_add(1);
+        rest = after;
+    }
+    Ok(())
+}
+
+/// Tells why a script is refused, if there is one.
+#[tactic(auto, using(crate::proofs::Later::later_script))]
+pub(crate) fn script_refusals(
+    alloc: Global,
+    generation: &Generation,
+    script: Option<&[u8]>,
+    refused: &mut Refusals,
+) -> Result<(), OutOfMemory>
+    ensures { OnOk result (AddsOfScript refused.old.items.items refused.new.items.items) }
+{
+    let Some(text) = script else {
+        return Ok(());
+    };
+    match fault_of(alloc, generation, text)? {
+        None => Ok(()),
+        Some("TooLong") => {
+            refused.refuse(TextName::Script, 0, "TooLong")?;
+            Ok(())
+        }
+        Some(_) => line_refusals(alloc, generation, text, refused),
+    }
+}

@@ -1,0 +1,225 @@
+//! Why units are refused: their first fault, then that of the text mended for it, and so on.
+
+use crate::definition::{MOST_FAULTS, Mended};
+use crate::draft::Draft;
+use crate::parts::joined;
+use kd_base::{Bytes, OutOfMemory, ProgName};
+use kdcdef_check::Generation;
+use lab_findings::{Refusals, TextName};
+use lab_texts::{LineKind, first_word, kind_of};
+use std::alloc::Global;
+use unit_check::{FitFault, Units, fit};
+use unit_read::{UnitFault, read_units};
+use unit_types::Unit;
+
+// Puts a UNIT line in place of this one, with a name that no other has.
+fn rename(alloc: Global, draft: &mut Draft, line: u32) -> Result<(), OutOfMemory> {
+    let text = format!(in alloc; "UNIT $UNIT${line}$")?;
+    draft.replace(alloc, line, text.as_bytes())
+}
+
+// The name in a FIELD line.
+fn field_name(line: &[u8]) -> &[u8] {
+    match kind_of(line) {
+        LineKind::Field(rest) => {
+            let (name, _) = first_word(rest);
+            name
+        }
+        _ => b"",
+    }
+}
+
+// A FIELD line of the name in this one, for the first byte of the area.
+fn field_text<'a>(alloc: Global, line: &'a [u8], area: &'a [u8]) -> Result<Bytes, OutOfMemory> {
+    joined(alloc, &[b"FIELD ", field_name(line), area, b" 0 1"])
+}
+
+// A FIELD line of this name that fits, in place of this one; none where it is that already.
+fn field_of_one(
+    alloc: Global,
+    draft: &mut Draft,
+    line: u32,
+    area: &[u8],
+) -> Result<(), OutOfMemory> {
+    let text = field_text(alloc, draft.content(line), area)?;
+    if draft.content(line) == text.as_slice() {
+        return draft.replace(alloc, line, b"");
+    }
+    draft.replace(alloc, line, text.as_slice())
+}
+
+// Mends a line that is no piece, or not one that may be there.
+fn mend_piece(alloc: Global, draft: &mut Draft, line: u32) -> Result<(), OutOfMemory> {
+    match kind_of(draft.content(line)) {
+        LineKind::Unit(_) => rename(alloc, draft, line),
+        LineKind::Field(_) => field_of_one(alloc, draft, line, b" SPAB"),
+        _ => draft.replace(alloc, line, b""),
+    }
+}
+
+// Mends the text for a fault; false where it cannot be read on.
+fn mend(alloc: Global, draft: &mut Draft, fault: UnitFault) -> Result<bool, OutOfMemory> {
+    match fault {
+        UnitFault::Memory | UnitFault::TooLong(_) => return Ok(false),
+        UnitFault::BadStatement(line) => mend_piece(alloc, draft, line)?,
+        UnitFault::BadField(line) | UnitFault::LabelTwice(line) => {
+            draft.replace(alloc, line, b"")?;
+        }
+        UnitFault::NoEnd(line) => draft.put_before(alloc, line, b"END")?,
+        UnitFault::UnitTwice(line) => rename(alloc, draft, line)?,
+    }
+    Ok(true)
+}
+
+// Why the text spells no units, if it spells none.
+fn read_fault(alloc: Global, draft: &Draft) -> Result<Option<UnitFault>, OutOfMemory> {
+    match read_units(alloc, draft.text(alloc)?.as_slice()) {
+        Ok(_) => Ok(None),
+        Err(UnitFault::Memory) => Err(OutOfMemory),
+        Err(fault) => Ok(Some(fault)),
+    }
+}
+
+// Tells why the text spells no units, and mends it; the units, or none where it cannot be read on.
+fn read_refusals(
+    alloc: Global,
+    draft: &mut Draft,
+    refused: &mut Refusals,
+) -> Result<bool, OutOfMemory> {
+    for _ in 0..MOST_FAULTS {
+        let Some(fault) = read_fault(alloc, draft)? else {
+            return Ok(true);
+        };
+        let line = fault.line();
+        if !draft.is_made(line) {
+            refused.refuse(TextName::Units, draft.number_of(line), fault.name())?;
+        }
+        if !mend(alloc, draft, fault)? {
+            return Ok(false);
+        }
+    }
+    Ok(false)
+}
+
+// The program of the statement at this line.
+fn program_at(generation: &Generation, line: u32) -> Option<ProgName> {
+    let programs = generation.programs();
+    for i in 0..programs.len() {
+        let (name, at) = programs.get_index(i)?;
+        if *at == line {
+            return Some(*name);
+        }
+    }
+    None
+}
+
+// Puts a unit for the program of the statement at this line of the definition at the end.
+fn put_unit(
+    alloc: Global,
+    draft: &mut Draft,
+    generation: &Generation,
+    line: u32,
+) -> Result<bool, OutOfMemory> {
+    let Some(name) = program_at(generation, line) else {
+        return Ok(false);
+    };
+    let text = joined(alloc, &[b"UNIT ", name.as_slice()])?;
+    draft.put_before(alloc, u32::MAX, text.as_slice())?;
+    draft.put_before(alloc, u32::MAX, b"END")?;
+    Ok(true)
+}
+
+// Mends the text for a fault of its fit; false where it cannot be fitted on.
+fn mend_fit(
+    alloc: Global,
+    draft: &mut Draft,
+    generation: &Generation,
+    fault: FitFault,
+) -> Result<bool, OutOfMemory> {
+    match fault {
+        FitFault::Memory => return Ok(false),
+        FitFault::NoUnit(line) => return put_unit(alloc, draft, generation, line),
+        FitFault::NoLabel(line) | FitFault::LiteralFollowUp(line) => {
+            draft.replace(alloc, line, b"")?;
+        }
+        FitFault::FieldPastArea(line) => {
+            let limits = generation.max();
+            if limits.spab == 0 && limits.kb == 0 {
+                return Ok(false);
+            }
+            let area: &[u8] = if limits.spab > 0 { b" SPAB" } else { b" KB" };
+            field_of_one(alloc, draft, line, area)?;
+        }
+    }
+    Ok(true)
+}
+
+// The fault of a text of units that has none by itself, or none.
+fn fit_fault(
+    alloc: Global,
+    draft: &Draft,
+    generation: &Generation,
+) -> Result<Option<FitFault>, OutOfMemory> {
+    let Ok(units) = read_units(alloc, draft.text(alloc)?.as_slice()) else {
+        return Err(OutOfMemory);
+    };
+    match fit(alloc, units, generation) {
+        Ok(_) => Ok(None),
+        Err(FitFault::Memory) => Err(OutOfMemory),
+        Err(fault) => Ok(Some(fault)),
+    }
+}
+
+// Tells why units do not fit, where it is no matter of what mending put in.
+fn tell_fit(
+    draft: &Draft,
+    mended: &Mended,
+    fault: FitFault,
+    refused: &mut Refusals,
+) -> Result<(), OutOfMemory> {
+    let line = fault.line();
+    if let FitFault::NoUnit(_) = fault {
+        if mended.draft.is_made(line) {
+            return Ok(());
+        }
+        let number = mended.draft.number_of(line);
+        return refused.refuse(TextName::Definition, number, fault.name());
+    }
+    refused.refuse(TextName::Units, draft.number_of(line), fault.name())
+}
+
+// Tells why units that were read do not fit.
+fn fit_refusals(
+    alloc: Global,
+    draft: &mut Draft,
+    mended: &Mended,
+    refused: &mut Refusals,
+) -> Result<(), OutOfMemory> {
+    for _ in 0..MOST_FAULTS {
+        let Some(fault) = fit_fault(alloc, draft, &mended.generation)? else {
+            return Ok(());
+        };
+        tell_fit(draft, mended, fault, refused)?;
+        if !mend_fit(alloc, draft, &mended.generation, fault)? {
+            return Ok(());
+        }
+    }
+    Ok(())
+}
+
+/// Tells why units are refused, and why those that can be read do not fit what the definition generates, mended too.
+pub(crate) fn units_refusals(
+    alloc: Global,
+    text: &[u8],
+    mended: &Option<Mended>,
+    refused: &mut Refusals,
+) -> Result<(), OutOfMemory> {
+    let mut draft = Draft::of(alloc, text)?;
+    if !read_refusals(alloc, &mut draft, refused)? {
+        return Ok(());
+    }
+    match mended {
+        Some(mended) => fit_refusals(alloc, &mut draft, mended, refused),
+        None => Ok(()),
+    }
+}

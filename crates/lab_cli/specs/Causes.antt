@@ -1,0 +1,16 @@
+-- What becomes of an error.
+use Rattle.kd_device.specs.declared.error.DeviceError.{DeviceError}
+use Rattle.kd_device.specs.declared.error.DeviceError.TheVariants as device
+use Rattle.lab_turns.specs.declared.error.LabError.{LabError}
+use Rattle.lab_turns.specs.declared.error.LabError.TheVariants as errors
+use Rattle.lab_cli.specs.declared.stop.Stop.{Stop}
+use Rattle.lab_cli.specs.declared.stop.Stop.TheVariants as stops
+
+abbrev pub of_device : DeviceError → Stop
+of_device device.Failed = stops.Room
+of_device device.Memory = stops.Memory
+
+abbrev pub of_lab : LabError → Stop
+of_lab errors.Memory = stops.Memory
+of_lab errors.Output = stops.Output
+of_lab errors.Spent = stops.Output

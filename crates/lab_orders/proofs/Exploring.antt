@@ -1,0 +1,191 @@
+-- All orders, one after another.
+use Rattle.std.proofs.Common.{◌≡◌, inl, inr, ℕ, List, [], ◌∷◌, ◌++◌, zero, suc, ◌+◌, ◌<◌, ◌≤◌, length, get_or, slice_set, refl, sym, ap, subst, ◌∙◌, arith}
+use Rattle.std.specs.Prelude.{◌⊎◌, All, Option, Some, None}
+use Rattle.std.proofs.lemmas.List.Sums.{sum_by-cons}
+use Rattle.kdcs_types.specs.Tables.{TableRows}
+use Rattle.abstract_monitor.specs.declared.command.Command.{Command}
+use Rattle.abstract_monitor.specs.Commands.{started}
+use Rattle.abstract_monitor.specs.State.{Application}
+use Rattle.lab_orders.specs.declared.explored.Outcome.{Outcome}
+use Rattle.lab_orders.specs.declared.search.Found.{Found}
+use Rattle.lab_orders.specs.Beyond.{IsBeyond}
+use Rattle.lab_orders.specs.Exploring.{AreAll, AreDistinct, AreOutcomes, AreSame, IsAdded, IsCounted, IsFirst, IsOther, IsOutcome, IsShown, IsTally, IsThatOf, IsThere, orders_of}
+use Rattle.lab_orders.specs.Finding.{IsFound, LeastBeyond, LeastPast}
+use Rattle.lab_orders.specs.Orders.{HasOutcome, IsOrder}
+
+-- each order is shown, or is the next one or beyond it
+abbrev pub Ahead : Application → TableRows → List Command → List Outcome → Option Found → Type 0
+Ahead app t cs outcomes None = AreAll app t cs outcomes
+Ahead app t cs outcomes (Some found) =
+    IsFound app t cs found × ((o : List ℕ) → IsOrder app cs (started app t) o → IsShown app t cs outcomes o ⊎ ((o ≡ found.turns) ⊎ IsBeyond found.turns o))
+
+-- one outcome more is among them
+pub record Added (app : Application) (t : TableRows) (cs : List Command) (old new : List Outcome) (turns : List ℕ) : Type 0 where
+  pub each : AreOutcomes app t cs new
+  pub kept : (o : List ℕ) → IsShown app t cs old o → IsShown app t cs new o
+  pub there : IsShown app t cs new turns
+
+module _ (app : Application) (t : TableRows) (cs : List Command) where
+  pub ahead_start : (outcomes : List Outcome) → outcomes ≡ [] → (next : Option Found) → LeastPast app t cs [] next → Ahead app t cs outcomes next
+  ahead_start outcomes is None none = absurd (none.0 refl)
+  ahead_start outcomes is (Some found) least = (least.0, λ o w. inr (least.1 o w tt))
+
+  pub ahead_more : (old new : List Outcome) (found : Found) (next : Option Found) → Ahead app t cs old (Some found) → Added app t cs old new found.turns → LeastBeyond app t cs found.turns next → Ahead app t cs new next
+  ahead_more old new found None ahead added none = λ o w. by o w (ahead.1 o w)
+    where
+      by : (o : List ℕ) → IsOrder app cs (started app t) o → IsShown app t cs old o ⊎ ((o ≡ found.turns) ⊎ IsBeyond found.turns o) → IsShown app t cs new o
+      by o w (inl shown) = added.kept o shown
+      by o w (inr (inl same)) = subst (IsShown app t cs new) (sym same) added.there
+      by o w (inr (inr beyond)) = absurd (none o w beyond)
+  ahead_more old new found (Some next) ahead added least = (least.0, λ o w. by o w (ahead.1 o w))
+    where
+      by : (o : List ℕ) → IsOrder app cs (started app t) o → IsShown app t cs old o ⊎ ((o ≡ found.turns) ⊎ IsBeyond found.turns o) → IsShown app t cs new o ⊎ ((o ≡ next.turns) ⊎ IsBeyond next.turns o)
+      by o w (inl shown) = inl (added.kept o shown)
+      by o w (inr (inl same)) = inl (subst (IsShown app t cs new) (sym same) added.there)
+      by o w (inr (inr beyond)) = inr (least.1 o w beyond)
+
+-- ---- one outcome more
+
+same_outcome : (app : Application) (t : TableRows) (cs : List Command) (o : List ℕ) (x y : Outcome) → y.sent ≡ x.sent → y.tables ≡ x.tables → HasOutcome app cs (started app t) o x.sent x.tables → HasOutcome app cs (started app t) o y.sent y.tables
+same_outcome app t cs o x y sent tables h = record { sent_is = sent ∙ h.sent_is; tables_are = tables ∙ h.tables_are }
+
+module _ (app : Application) (t : TableRows) (cs : List Command) (found : Found) (is : IsFound app t cs found) where
+  of_found : (y : Outcome) → IsThatOf y found → HasOutcome app cs (started app t) found.turns y.sent y.tables
+  of_found y same = record { sent_is = same.sent ∙ is.outcome.sent_is; tables_are = same.tables ∙ is.outcome.tables_are }
+
+  outcome_found : (y : Outcome) → IsThatOf y found → y.turns ≡ found.turns → IsOutcome app t cs y
+  outcome_found y same turns = record {
+    order = subst (IsOrder app cs (started app t)) (sym turns) is.order;
+    outcome_is = subst (λ (o : List ℕ). HasOutcome app cs (started app t) o y.sent y.tables) (sym turns) (of_found y same);
+  }
+
+  counted : (x y : Outcome) → IsCounted x y found → IsThatOf y found → IsOutcome app t cs x → IsOutcome app t cs y
+  counted x y c same h = by c.turns
+    where
+      by : (y.turns ≡ x.turns) ⊎ ((y.turns ≡ found.turns) × IsThatOf x found) → IsOutcome app t cs y
+      by (inl turns) = record {
+        order = subst (IsOrder app cs (started app t)) (sym turns) h.order;
+        outcome_is = subst (λ (o : List ℕ). HasOutcome app cs (started app t) o y.sent y.tables) (sym turns) (same_outcome app t cs x.turns x y c.sent c.tables h.outcome_is);
+      }
+      by (inr turns) = outcome_found y same turns.0
+
+  added_more : (x y : Outcome) (xs ys : List Outcome) → y ≡ x → IsOutcome app t cs x → Added app t cs xs ys found.turns → Added app t cs (x ∷ xs) (y ∷ ys) found.turns
+  added_more x y xs ys same here rest = record {
+    each = (subst (IsOutcome app t cs) (sym same) here, rest.each);
+    kept = λ o shown. by o shown;
+    there = inr rest.there;
+  }
+    where
+      by : (o : List ℕ) → IsShown app t cs (x ∷ xs) o → IsShown app t cs (y ∷ ys) o
+      by o (inl here) = inl (subst (λ (z : Outcome). HasOutcome app cs (started app t) o z.sent z.tables) (sym same) here)
+      by o (inr later) = inr (rest.kept o later)
+
+  pub added : (old new : List Outcome) → IsAdded old new found → AreOutcomes app t cs old → Added app t cs old new found.turns
+  added [] [] h each = absurd h
+  added [] (y ∷ []) h each = record { each = (outcome_found y h.same h.turns, tt); kept = λ o shown. absurd shown; there = inl (of_found y h.same) }
+  added [] (y ∷ z ∷ zs) h each = absurd h
+  added (x ∷ xs) [] h each = absurd h
+  added (x ∷ xs) (y ∷ ys) (inl h) each = record {
+    each = (counted x y h.0 h.1 each.0, subst (AreOutcomes app t cs) (sym h.2) each.1);
+    kept = λ o shown. by o shown;
+    there = inl (of_found y h.1);
+  }
+    where
+      by : (o : List ℕ) → IsShown app t cs (x ∷ xs) o → IsShown app t cs (y ∷ ys) o
+      by o (inl here) = inl (same_outcome app t cs o x y h.0.sent h.0.tables here)
+      by o (inr later) = inr (subst (λ (l : List Outcome). IsShown app t cs l o) (sym h.2) later)
+  added (x ∷ xs) (y ∷ ys) (inr h) each = added_more x y xs ys h.0 each.0 (added xs ys h.2 each.1)
+
+-- ---- distinct outcomes
+
+other_first : (x y : Outcome) (found : Found) → IsThatOf y found → (IsThatOf x found → ⊥) → AreSame x y → ⊥
+other_first x y found is not same = not (record { sent = same.sent ∙ is.sent; tables = same.tables ∙ is.tables })
+
+other_added : (found : Found) (x : Outcome) (xs ys : List Outcome) → IsAdded xs ys found → (IsThatOf x found → ⊥) → IsOther x xs → IsOther x ys
+other_added found x [] [] h not other = absurd h
+other_added found x [] (y ∷ []) h not other = (other_first x y found h.same not, tt)
+other_added found x [] (y ∷ z ∷ zs) h not other = absurd h
+other_added found x (z ∷ zs) [] h not other = absurd h
+other_added found x (z ∷ zs) (y ∷ ys) (inl h) not other = (other_first x y found h.1 not, subst (IsOther x) (sym h.2) other.1)
+other_added found x (z ∷ zs) (y ∷ ys) (inr h) not other = (subst (λ (o : Outcome). AreSame x o → ⊥) (sym h.0) other.0, other_added found x zs ys h.2 not other.1)
+
+other_counted : (x y : Outcome) → y.sent ≡ x.sent → y.tables ≡ x.tables → (zs : List Outcome) → IsOther x zs → IsOther y zs
+other_counted x y sent tables [] other = tt
+other_counted x y sent tables (z ∷ zs) other = (differs, other_counted x y sent tables zs other.1)
+  where
+    differs : AreSame y z → ⊥
+    differs same = other.0 (record { sent = sym sent ∙ same.sent; tables = sym tables ∙ same.tables })
+
+distinct_added : (found : Found) (old new : List Outcome) → IsAdded old new found → AreDistinct old → AreDistinct new
+distinct_added found [] [] h distinct = absurd h
+distinct_added found [] (y ∷ []) h distinct = (tt, tt)
+distinct_added found [] (y ∷ z ∷ zs) h distinct = absurd h
+distinct_added found (x ∷ xs) [] h distinct = absurd h
+distinct_added found (x ∷ xs) (y ∷ ys) (inl h) distinct = (subst (IsOther y) (sym h.2) (other_counted x y h.0.sent h.0.tables xs distinct.0), subst AreDistinct (sym h.2) distinct.1)
+distinct_added found (x ∷ xs) (y ∷ ys) (inr h) distinct = (subst (λ (o : Outcome). IsOther o ys) (sym h.0) (other_added found x xs ys h.2 h.1 distinct.0), distinct_added found xs ys h.2 distinct.1)
+
+-- ---- each order is counted
+
+orders_more : (x : Outcome) (xs : List Outcome) → orders_of (x ∷ xs) ≡ x.orders + orders_of xs
+orders_more x xs = sum_by-cons (λ (o : Outcome). o.orders) x xs
+
+counted_added : (found : Found) (old new : List Outcome) → IsAdded old new found → orders_of new ≡ orders_of old + 1
+counted_added found [] [] h = absurd h
+counted_added found [] (y ∷ []) h = omega (arith, orders_more y [], h.orders)
+counted_added found [] (y ∷ z ∷ zs) h = absurd h
+counted_added found (x ∷ xs) [] h = absurd h
+counted_added found (x ∷ xs) (y ∷ ys) (inl h) = omega (arith, orders_more y ys, orders_more x xs, h.0.orders, ap orders_of h.2)
+counted_added found (x ∷ xs) (y ∷ ys) (inr h) = omega (arith, orders_more y ys, orders_more x xs, ap (λ (o : Outcome). o.orders) h.0, counted_added found xs ys h.2)
+
+-- the orders of one outcome are among all
+pub there_orders : (old : List Outcome) (found : Found) (at : ℕ) → IsThere old found at → (x : Outcome) → x ≡ get_or old at x → x.orders ≤ orders_of old
+there_orders [] found at h x e = absurd h
+there_orders (o ∷ os) found zero h x e = omega (arith, orders_more o os, ap (λ (o : Outcome). o.orders) e)
+there_orders (o ∷ os) found (suc at) h x e = omega (arith, orders_more o os, there_orders os found at h.1 x e)
+
+-- ---- a tally
+
+module _ (app : Application) (t : TableRows) (cs : List Command) where
+  pub tally_start : (none : List Outcome) → none ≡ [] → IsTally app t cs 0 none
+  tally_start none is = subst (IsTally app t cs 0) (sym is) (record { each = tt; distinct = tt; counted = refl })
+
+  pub tally_more : (orders : ℕ) (old new : List Outcome) (found : Found) → IsTally app t cs orders old → IsFound app t cs found → IsAdded old new found → IsTally app t cs (orders + 1) new
+  tally_more orders old new found tally is h = record {
+    each = (added app t cs found is old new h tally.each).each;
+    distinct = distinct_added found old new h tally.distinct;
+    counted = omega (arith, counted_added found old new h, tally.counted);
+  }
+
+-- ---- its place
+
+-- found at its place, it is counted there
+pub counted_there : (old : List Outcome) (found : Found) (at : ℕ) → IsThere old found at → (y d : Outcome) → ((x : Outcome) → x ≡ get_or old at d → IsThatOf x found → IsCounted x y found × IsThatOf y found) → IsAdded old (slice_set old at y) found
+counted_there [] found at h y d counts = absurd h
+counted_there (x ∷ xs) found zero h y d counts = let c = counts x refl h in inl (c.0, c.1, refl)
+counted_there (x ∷ xs) found (suc at) h y d counts = inr (refl, h.0, counted_there xs found at h.1 y d counts)
+
+pub counted_so : (x here y : Outcome) (found : Found) → x ≡ here → IsThatOf x found → y.sent ≡ here.sent → y.tables ≡ here.tables → (y.turns ≡ here.turns) ⊎ (y.turns ≡ found.turns) → y.orders ≡ here.orders + 1 → IsCounted x y found × IsThatOf y found
+counted_so x here y found is same sent tables turns orders = (
+  record {
+    sent = sent ∙ ap (λ (o : Outcome). o.sent) (sym is);
+    tables = tables ∙ ap (λ (o : Outcome). o.tables) (sym is);
+    turns = elim turns [ inl kept ↦ inl (kept ∙ ap (λ (o : Outcome). o.turns) (sym is)) | inr new ↦ inr (new, same) ];
+    orders = orders ∙ ap (λ (o : Outcome). o.orders + 1) (sym is);
+  },
+  record { sent = sent ∙ ap (λ (o : Outcome). o.sent) (sym is) ∙ same.sent; tables = tables ∙ ap (λ (o : Outcome). o.tables) (sym is) ∙ same.tables },
+)
+
+-- not there, it is behind the others
+pub added_behind : (old : List Outcome) (found : Found) (y : Outcome) → All (λ (o : Outcome). IsThatOf o found → ⊥) old → IsFirst y found → IsAdded old (old ++ y ∷ []) found
+added_behind [] found y others first = first
+added_behind (x ∷ xs) found y others first = inr (refl, others 0 x (omega arith), added_behind xs found y (λ k d lt. others (suc k) d (omega (arith, lt))) first)
+
+pub is_there : (old : List Outcome) (found : Found) (at : ℕ) (x : Outcome) → ((k : ℕ) (d : Outcome) → k < at → IsThatOf (get_or old k d) found → ⊥) → at < length old → x ≡ get_or old at x → IsThatOf x found → IsThere old found at
+is_there [] found at x before lt is same = absurd (omega (arith, lt))
+is_there (y ∷ ys) found zero x before lt is same = subst (λ (z : Outcome). IsThatOf z found) is same
+is_there (y ∷ ys) found (suc at) x before lt is same = (before 0 x (omega arith), is_there ys found at x (λ k d less. before (suc k) d (omega (arith, less))) (omega (arith, lt)) is same)
+
+pub there_within : (old : List Outcome) (found : Found) (at : ℕ) → IsThere old found at → at < length old
+there_within [] found at there = absurd there
+there_within (x ∷ xs) found zero there = omega arith
+there_within (x ∷ xs) found (suc at) there = let behind : at < length xs = there_within xs found at there.1 in omega (arith, behind)

@@ -1,0 +1,9 @@
+pub mod Along
+pub mod Choosing
+pub mod Drawing
+pub mod Effects
+pub mod Exploring
+pub mod Finding
+pub mod Moves
+pub mod Scripts
+pub mod Walking

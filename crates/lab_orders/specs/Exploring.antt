@@ -1,0 +1,101 @@
+-- What an exploration promises.
+use Rattle.std.specs.Prelude.{◌≡◌, ◌⊎◌, ◌+◌, ◌≤◌, ℕ, zero, suc, true, false, List, [], ◌∷◌, sum_by}
+use Rattle.kdcs_types.specs.Tables.{TableRows}
+use Rattle.abstract_monitor.specs.declared.command.Command.{Command}
+use Rattle.abstract_monitor.specs.Commands.{started}
+use Rattle.abstract_monitor.specs.State.{Application}
+use Rattle.lab_orders.specs.declared.explored.Explored.{Explored}
+use Rattle.lab_orders.specs.declared.explored.Outcome.{Outcome}
+use Rattle.lab_orders.specs.declared.search.Found.{Found}
+use Rattle.lab_orders.specs.Orders.{HasOutcome, IsOrder}
+
+-- the outcome of an order, which it shows
+pub record IsOutcome (app : Application) (t : TableRows) (commands : List Command) (outcome : Outcome) : Type 0 where
+  pub order : IsOrder app commands (started app t) outcome.turns
+  pub outcome_is : HasOutcome app commands (started app t) outcome.turns outcome.sent outcome.tables
+
+-- each is one
+abbrev pub AreOutcomes : Application → TableRows → List Command → List Outcome → Type 0
+AreOutcomes app t commands [] = Unit {0}
+AreOutcomes app t commands (x ∷ xs) = IsOutcome app t commands x × AreOutcomes app t commands xs
+
+-- what comes out of an order is among the outcomes
+abbrev pub IsShown : Application → TableRows → List Command → List Outcome → (order : List ℕ) → Type 0
+IsShown app t commands [] order = ⊥
+IsShown app t commands (x ∷ xs) order = HasOutcome app commands (started app t) order x.sent x.tables ⊎ IsShown app t commands xs order
+
+-- each order's is
+abbrev pub AreAll : Application → TableRows → List Command → List Outcome → Type 0
+AreAll app t commands outcomes = (order : List ℕ) → IsOrder app commands (started app t) order → IsShown app t commands outcomes order
+
+-- the same is sent, and the same tables are left
+pub record AreSame (x y : Outcome) : Type 0 where
+  pub sent : x.sent ≡ y.sent
+  pub tables : x.tables ≡ y.tables
+
+-- none of these is the same
+abbrev pub IsOther : Outcome → List Outcome → Type 0
+IsOther x [] = Unit {0}
+IsOther x (y ∷ ys) = (AreSame x y → ⊥) × IsOther x ys
+
+-- no two of them are the same
+abbrev pub AreDistinct : List Outcome → Type 0
+AreDistinct [] = Unit {0}
+AreDistinct (x ∷ xs) = IsOther x xs × AreDistinct xs
+
+-- how many orders come to these outcomes
+abbrev pub orders_of : List Outcome → ℕ
+orders_of outcomes = sum_by (λ (o : Outcome). o.orders) outcomes
+
+-- distinct outcomes, and each of so many orders is counted for one
+pub record IsTally (app : Application) (t : TableRows) (commands : List Command) (orders : ℕ) (outcomes : List Outcome) : Type 0 where
+  pub each : AreOutcomes app t commands outcomes
+  pub distinct : AreDistinct outcomes
+  pub counted : orders_of outcomes ≡ orders
+
+-- of all orders, which are at most so many
+pub record IsWhole (app : Application) (t : TableRows) (commands : List Command) (most : ℕ) (e : Explored) : Type 0 where
+  pub tally : IsTally app t commands e.orders e.outcomes
+  pub each_order : AreAll app t commands e.outcomes
+  pub all : e.all ≡ true
+  pub most_orders : e.orders ≤ most
+
+-- of just so many orders
+pub record IsDrawn (app : Application) (t : TableRows) (commands : List Command) (most : ℕ) (e : Explored) : Type 0 where
+  pub tally : IsTally app t commands e.orders e.outcomes
+  pub all : e.all ≡ false
+  pub orders : e.orders ≡ most
+
+-- ---- one order more
+
+-- the same lines and tables
+pub record IsThatOf (outcome : Outcome) (found : Found) : Type 0 where
+  pub sent : outcome.sent ≡ found.sent
+  pub tables : outcome.tables ≡ found.tables
+
+-- the first such outcome is at this place
+abbrev pub IsThere : List Outcome → Found → ℕ → Type 0
+IsThere [] found at = ⊥
+IsThere (x ∷ xs) found zero = IsThatOf x found
+IsThere (x ∷ xs) found (suc at) = (IsThatOf x found → ⊥) × IsThere xs found at
+
+-- one order more, and it shows as before, or the turns of the order that was found and comes to the same
+pub record IsCounted (old new : Outcome) (found : Found) : Type 0 where
+  pub sent : new.sent ≡ old.sent
+  pub tables : new.tables ≡ old.tables
+  pub turns : (new.turns ≡ old.turns) ⊎ ((new.turns ≡ found.turns) × IsThatOf old found)
+  pub orders : new.orders ≡ old.orders + 1
+
+-- what was found is a new outcome
+pub record IsFirst (new : Outcome) (found : Found) : Type 0 where
+  pub same : IsThatOf new found
+  pub turns : new.turns ≡ found.turns
+  pub orders : new.orders ≡ 1
+
+-- what was found is one outcome more, or counts for the first that is the same
+abbrev pub IsAdded : (old new : List Outcome) → Found → Type 0
+IsAdded [] [] found = ⊥
+IsAdded [] (y ∷ []) found = IsFirst y found
+IsAdded [] (y ∷ z ∷ zs) found = ⊥
+IsAdded (x ∷ xs) [] found = ⊥
+IsAdded (x ∷ xs) (y ∷ ys) found = (IsCounted x y found × IsThatOf y found × (ys ≡ xs)) ⊎ ((y ≡ x) × (IsThatOf x found → ⊥) × IsAdded xs ys found)

@@ -1,0 +1,99 @@
+-- The orders in which the tasks of a script can work, and what comes out of each.
+use Rattle.std.specs.Prelude.{◌≡◌, ℕ, zero, suc, ◌-◌, Bool, true, false, ◌&&◌, ◌||◌, not, ◌==◌, List, [], ◌∷◌, slice_get, Option, Some, None}
+use Rattle.std.specs.FinMap.{find}
+use Rattle.kdcdef_types.specs.Statements.{IsWithin}
+use Rattle.kdcs_types.specs.declared.key.ServiceId.{ServiceId}
+use Rattle.kdcs_types.specs.Keys.{area_eq, id_cmp}
+use Rattle.abstract_monitor.specs.declared.command.Command.{Command}
+use Rattle.abstract_monitor.specs.declared.command.Command.TheVariants.{Input, Tick, Run, Turn, Drop, Print, PrintLast, Restart}
+use Rattle.abstract_monitor.specs.Bytes.{Bytes}
+use Rattle.abstract_monitor.specs.Commands.{ScriptStep, acts_of, command_of, state_after}
+use Rattle.abstract_monitor.specs.Listing.{listing}
+use Rattle.abstract_monitor.specs.Locks.{Waiting}
+use Rattle.abstract_monitor.specs.State.{Application, State}
+use Rattle.abstract_monitor.specs.Trace.{bytes_of, history}
+use Rattle.abstract_monitor.specs.Turns.{turn_of}
+
+-- ---- the effect of a turn
+
+-- the request that waits of the service in a task, if it has one
+abbrev pub wait_by : State → Option (Option ServiceId) → Option Waiting
+wait_by s None = None
+wait_by s (Some None) = None
+wait_by s (Some (Some id)) = find id_cmp id s.waits
+
+abbrev pub wait_in : State → (task : ℕ) → Option Waiting
+wait_in s task = wait_by s (slice_get s.tasks (task - 1))
+
+-- the same request, since the same clock
+abbrev pub same_wait : Option Waiting → Option Waiting → Bool
+same_wait None None = true
+same_wait None (Some w) = false
+same_wait (Some v) None = false
+same_wait (Some v) (Some w) = area_eq v.0 w.0 && v.1 == w.1
+
+-- a turn has an effect where it moves something, or where its request begins to wait
+unfoldable pub has_effect : Application → State → (task : ℕ) → Bool
+has_effect app s task = (turn_of app s task).moved || not (same_wait (wait_in s task) (wait_in (turn_of app s task).after task))
+
+-- the turn of one of the tasks that has an effect
+pub record IsTurn (app : Application) (s : State) (task : ℕ) : Type 0 where
+  pub within : IsWithin 1 app.generation.limits.tasks task
+  pub effect : has_effect app s task ≡ true
+
+-- no task's turn has an effect
+abbrev pub IsAtRest : Application → State → Type 0
+IsAtRest app s = (task : ℕ) → IsTurn app s task → ⊥
+
+-- ---- orders
+
+-- a RUN of at most so many turns makes these, and what follows it takes those behind them; 0 ends a RUN before its last turn, where no task's turn has an effect any more
+unfoldable pub RunsSo : Application → (turns : ℕ) → (State → List ℕ → Type 0) → State → List ℕ → Type 0
+RunsSo app zero Follows s order = Follows s order
+RunsSo app (suc n) Follows s [] = ⊥
+RunsSo app (suc n) Follows s (zero ∷ order) = IsAtRest app s × Follows s order
+RunsSo app (suc n) Follows s (suc t ∷ order) = IsTurn app s (suc t) × RunsSo app n Follows (turn_of app s (suc t)).after order
+
+-- the turns of all RUNs of a script, one after another: any task's, each with an effect, until the RUN has made all its turns or no task's turn has an effect
+unfoldable pub IsOrder : Application → List Command → State → List ℕ → Type 0
+IsOrder app [] s order = order ≡ []
+IsOrder app (Run turns ∷ cs) s order = RunsSo app turns (IsOrder app cs) s order
+IsOrder app (Input pterm text ∷ cs) s order = IsOrder app cs (command_of app s (Input pterm text)).after order
+IsOrder app (Tick ticks ∷ cs) s order = IsOrder app cs (command_of app s (Tick ticks)).after order
+IsOrder app (Turn task ∷ cs) s order = IsOrder app cs (command_of app s (Turn task)).after order
+IsOrder app (Drop pterm ∷ cs) s order = IsOrder app cs (command_of app s (Drop pterm)).after order
+IsOrder app (Print pterm ∷ cs) s order = IsOrder app cs (command_of app s (Print pterm)).after order
+IsOrder app (PrintLast pterm ∷ cs) s order = IsOrder app cs (command_of app s (PrintLast pterm)).after order
+IsOrder app (Restart ∷ cs) s order = IsOrder app cs (command_of app s Restart).after order
+
+-- ---- the script with TURN commands in place of RUNs
+
+-- the TURN commands of a RUN, and then what follows
+unfoldable pub turned_run : (turns : ℕ) → (List ℕ → List Command) → List ℕ → List Command
+turned_run zero follows order = follows order
+turned_run (suc n) follows [] = follows []
+turned_run (suc n) follows (zero ∷ order) = follows order
+turned_run (suc n) follows (suc t ∷ order) = Turn (suc t) ∷ turned_run n follows order
+
+-- the script that an order stands for: TURN commands, and no RUN
+unfoldable pub turned_script : List Command → List ℕ → List Command
+turned_script [] order = []
+turned_script (Run turns ∷ cs) order = turned_run turns (turned_script cs) order
+turned_script (Input pterm text ∷ cs) order = Input pterm text ∷ turned_script cs order
+turned_script (Tick ticks ∷ cs) order = Tick ticks ∷ turned_script cs order
+turned_script (Turn task ∷ cs) order = Turn task ∷ turned_script cs order
+turned_script (Drop pterm ∷ cs) order = Drop pterm ∷ turned_script cs order
+turned_script (Print pterm ∷ cs) order = Print pterm ∷ turned_script cs order
+turned_script (PrintLast pterm ∷ cs) order = PrintLast pterm ∷ turned_script cs order
+turned_script (Restart ∷ cs) order = Restart ∷ turned_script cs order
+
+-- its steps
+abbrev pub order_steps : Application → List Command → State → List ℕ → List ScriptStep
+order_steps app cs s order = history app s (turned_script cs order)
+
+-- ---- outcomes
+
+-- these bytes are sent, and these are the lines of the tables at the end
+pub record HasOutcome (app : Application) (cs : List Command) (s : State) (order : List ℕ) (sent tables : Bytes) : Type 0 where
+  pub sent_is : sent ≡ bytes_of (acts_of (order_steps app cs s order))
+  pub tables_are : tables ≡ listing (state_after s (order_steps app cs s order)).tables

@@ -1,0 +1,220 @@
+//! All orders of a script, and the distinct outcomes.
+ghost use Rattle.std.specs.Prelude.{◌≡◌, ◌⊎◌, ◌↔◌, ◌+◌, ◌<◌, ◌≤◌, ◌^◌, true, false, All, IsTrue, IfOk, IfSome, MatchOption, OnOk, sum_by};
+ghost use Rattle.laws_of_applications.specs.Applied.{applied};
+ghost use Rattle.lab_orders.specs.{Exploring.{AreAll, AreDistinct, AreOutcomes, IsAdded, IsDrawn, IsThatOf, IsThere, IsWhole}, Finding.{CanStart}};
+
+use crate::draw::drawn_order;
+use crate::path::{Signs, Turns};
+use crate::search::{Found, order_after, order_past};
+use abstract_monitor::Command;
+use kd_base::{Bytes, OutOfMemory, Sequence};
+use kdcdef_check::Generation;
+use kdcs_types::Tables;
+use rand_core::SeedableRng;
+use rand_xoshiro::SplitMix64;
+use std::alloc::Global;
+use unit_check::Units;
+
+/// What comes out of some orders: the lines that are sent, and the tables at the end.
+#[derive(Drop)]
+pub struct Outcome {
+    /// All lines, each with its end.
+    pub sent: Bytes,
+    /// The lines of the tables at the end, as `show` prints them.
+    pub tables: Bytes,
+    /// How many of the orders that were tried come to it.
+    pub orders: u64,
+    /// The shortest of these orders.
+    pub turns: Turns,
+    /// What was seen in one of them at least.
+    pub signs: Signs,
+}
+
+/// The distinct outcomes of a script's orders.
+#[derive(Drop)]
+pub struct Explored {
+    pub outcomes: Sequence<Outcome>,
+    /// How many orders were tried.
+    pub orders: u64,
+    /// These are all orders, each once.
+    pub all: bool,
+}
+
+impl Explored {
+    // The outcomes of all orders.
+    fn all(outcomes: Vec<Outcome>, orders: u64) -> Explored
+        ensures outcomes { result.outcomes ≡ outcomes.items }
+        ensures orders { result.orders ≡ orders }
+        ensures all { result.all ≡ true }
+    {
+        Explored {
+            outcomes: Sequence::from_vec(outcomes),
+            orders,
+            all: true,
+        }
+    }
+}
+
+// How many turns an order has.
+fn turns_of(turns: &[u16]) -> usize {
+    turns.iter().filter(|task| **task > 0).count()
+}
+
+impl Outcome {
+    fn from_found(found: Found) -> Outcome
+        ensures sent { result.sent ≡ found.sent }
+        ensures tables { result.tables ≡ found.tables }
+        ensures turns { result.turns ≡ found.turns }
+        ensures orders { result.orders ≡ 1 }
+    {
+        Outcome {
+            sent: found.sent,
+            tables: found.tables,
+            orders: 1,
+            turns: found.turns,
+            signs: found.signs,
+        }
+    }
+
+    fn is_that_of(&self, found: &Found) -> bool
+        ensures { IsTrue result ↔ IsThatOf self.now found.now }
+    {
+        self.sent.as_slice() == found.sent.as_slice()
+            && self.tables.as_slice() == found.tables.as_slice()
+    }
+
+    // One order more comes to it.
+    fn count(&mut self, found: Found)
+        requires { self.old.orders + 1 < 2 ^ 64 }
+        ensures sent { self.new.sent ≡ self.old.sent }
+        ensures tables { self.new.tables ≡ self.old.tables }
+        ensures turns { (self.new.turns ≡ self.old.turns) ⊎ (self.new.turns ≡ found.turns) }
+        ensures orders { self.new.orders ≡ self.old.orders + 1 }
+    {
+        self.orders += 1;
+        self.signs = self.signs.with(found.signs);
+        if turns_of(found.turns.as_slice()) < turns_of(self.turns.as_slice()) {
+            self.turns = found.turns;
+        }
+    }
+}
+
+// The first place of an outcome with the same lines and tables.
+fn place_of(outcomes: &[Outcome], found: &Found) -> Option<usize>
+    ensures { MatchOption result (All (λ o. IsThatOf o found.now → ⊥) outcomes.now) (λ at. IsThere outcomes.now found.now at) }
+{
+    for (at, outcome) in outcomes.iter().enumerate() {
+        if outcome.is_that_of(found) {
+            return Some(at);
+        }
+    }
+    None
+}
+
+// What comes out of an order is among the outcomes.
+fn add(outcomes: &mut Vec<Outcome>, found: Found) -> Result<(), OutOfMemory>
+    requires { sum_by (λ o. o.orders) outcomes.old.items + 1 < 2 ^ 64 }
+    ensures { OnOk result (IsAdded outcomes.old.items outcomes.new.items found) }
+{
+    let Some(at) = place_of(outcomes.as_slice(), &found) else {
+        return Ok(outcomes.push(Outcome::from_found(found))?);
+    };
+    outcomes[at].count(found);
+    Ok(())
+}
+
+/// A generation and its units, and all outcomes, if they are known.
+type Tried = (Generation, Units, Option<Explored>);
+
+// All orders, one after another, if they are at most so many.
+fn all_orders(
+    alloc: Global,
+    generation: Generation,
+    units: Units,
+    tables: &Tables,
+    commands: &[Command],
+    most: u64,
+) -> Result<Tried, OutOfMemory>
+    requires { CanStart (applied generation units) tables.now commands.now generation units }
+    ensures again { IfOk result (λ n. CanStart (applied generation units) tables.now commands.now n.0 n.1) }
+    ensures whole { IfOk result (λ n. IfSome n.2 (λ e. IsWhole (applied generation units) tables.now commands.now most e)) }
+{
+    let mut outcomes = Vec::new(alloc);
+    let (mut generation, mut units, mut next) = order_past(
+        alloc,
+        generation,
+        units,
+        tables,
+        commands,
+        &[],
+    )?;
+    for tried in 0..most {
+        let Some(found) = next else {
+            return Ok((generation, units, Some(Explored::all(outcomes, tried))));
+        };
+        let last = found.turns.as_slice();
+        let (g, u, after) = order_after(alloc, generation, units, tables, commands, last)?;
+        generation = g;
+        units = u;
+        next = after;
+        add(&mut outcomes, found)?;
+    }
+    match next {
+        Some(_) => Ok((generation, units, None)),
+        None => Ok((generation, units, Some(Explored::all(outcomes, most)))),
+    }
+}
+
+// So many orders that are drawn.
+fn drawn_orders(
+    alloc: Global,
+    mut generation: Generation,
+    mut units: Units,
+    tables: &Tables,
+    commands: &[Command],
+    most: u64,
+    number: u64,
+) -> Result<Explored, OutOfMemory>
+    requires { CanStart (applied generation units) tables.now commands.now generation units }
+    ensures { IfOk result (λ e. IsDrawn (applied generation units) tables.now commands.now most e) }
+{
+    let mut numbers = SplitMix64::seed_from_u64(number);
+    let mut outcomes = Vec::new(alloc);
+    for _drawn in 0..most {
+        let (g, u, found) = drawn_order(alloc, generation, units, tables, commands, &mut numbers)?;
+        generation = g;
+        units = u;
+        add(&mut outcomes, found)?;
+    }
+    Ok(Explored {
+        outcomes: Sequence::from_vec(outcomes),
+        orders: most,
+        all: false,
+    })
+}
+
+/// Tries orders of a script, from these tables, and keeps their distinct outcomes: all orders, where these are at most so
+/// many, else so many that are drawn, each turn of a RUN by pseudo-random numbers that follow from this one.
+pub fn explore(
+    alloc: Global,
+    generation: Generation,
+    units: Units,
+    tables: &Tables,
+    commands: &[Command],
+    most: u64,
+    number: u64,
+) -> Result<Explored, OutOfMemory>
+    requires { CanStart (applied generation units) tables.now commands.now generation units }
+    ensures outcomes { IfOk result (λ e. AreOutcomes (applied generation units) tables.now commands.now e.outcomes) }
+    ensures all { IfOk result (λ e. e.all ≡ true → AreAll (applied generation units) tables.now commands.now e.outcomes) }
+    ensures distinct { IfOk result (λ e. AreDistinct e.outcomes) }
+    ensures counted { IfOk result (λ e. sum_by (λ o. o.orders) e.outcomes ≡ e.orders) }
+    ensures most { IfOk result (λ e. e.orders ≤ most) }
+    ensures drawn { IfOk result (λ e. e.all ≡ false → e.orders ≡ most) }
+{
+    let (generation, units, whole) = all_orders(alloc, generation, units, tables, commands, most)?;
+    match whole {
+        Some(explored) => Ok(explored),
+        None => drawn_orders(alloc, generation, units, tables, commands, most, number),
+    }
+}

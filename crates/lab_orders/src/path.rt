@@ -1,0 +1,142 @@
+//! What is kept of an order as it is followed.
+ghost use Rattle.std.specs.Prelude.{◌≡◌, ◌++◌, ◌∷◌, [], OnOk};
+ghost use Rattle.abstract_monitor.specs.Trace.{bytes_of, tables_after};
+ghost use Rattle.lab_orders.specs.Keeping.{AreKept};
+
+use crate::choice::Choice;
+use kd_base::{Bytes, OutOfMemory, Sequence};
+use kdcs_types::{Act, Acts, Code, Ending, Note, Settled, Tables};
+use monitor_core::Core;
+use std::alloc::Global;
+
+/// The turns of all RUNs of a script, one after another, each the number of its task. 0 ends a RUN before its last turn,
+/// where no task's turn has an effect any more.
+pub type Turns = Sequence<u16>;
+
+/// What is worth a look in an order.
+#[derive(Clone, Copy, Debug, PartialEq, Eq)]
+pub struct Signs {
+    /// A request was refused with K04.
+    pub k04: bool,
+    /// A request was refused with K05.
+    pub k05: bool,
+    /// A transaction ended with a dump.
+    pub dump: bool,
+    /// A service waits at the end.
+    pub standstill: bool,
+}
+
+impl Signs {
+    /// Nothing.
+    pub(crate) fn none() -> Signs {
+        Signs {
+            k04: false,
+            k05: false,
+            dump: false,
+            standstill: false,
+        }
+    }
+
+    /// What was seen in one of both.
+    pub(crate) fn with(self, other: Signs) -> Signs {
+        Signs {
+            k04: self.k04 || other.k04,
+            k05: self.k05 || other.k05,
+            dump: self.dump || other.dump,
+            standstill: self.standstill || other.standstill,
+        }
+    }
+
+    fn see_notes(&mut self, notes: &[Note]) {
+        for note in notes {
+            match note {
+                Note::Refused(_, Code::K04) => self.k04 = true,
+                Note::Refused(_, Code::K05) => self.k05 = true,
+                Note::Refused(_, _) | Note::Released(_, _) => {}
+            }
+        }
+    }
+
+    // The codes and the ending of a transaction.
+    fn see_settled(&mut self, settled: &Option<Settled>) {
+        let Some(kept) = settled else {
+            return;
+        };
+        self.see_notes(kept.notes.as_slice());
+        if let Ending::Broken(_) = kept.ending {
+            self.dump = true;
+        }
+    }
+
+    /// The codes of open transactions, and whether a service waits.
+    pub(crate) fn see_end(&mut self, core: &Core) {
+        let parts = core.parts();
+        for (_, transaction) in parts.active.iter() {
+            self.see_notes(transaction.notes.as_slice());
+        }
+        self.standstill = parts.locks.waiting() > 0;
+    }
+}
+
+/// An order so far: its turns, what was sent, and what is worth a look.
+#[derive(Drop)]
+pub(crate) struct Path {
+    pub(crate) turns: Turns,
+    pub(crate) sent: Bytes,
+    /// The durable tables.
+    pub(crate) durable: Tables,
+    pub(crate) signs: Signs,
+}
+
+// Lines are sent, and commits change the durable tables.
+fn perform(sent: &mut Bytes, durable: &mut Tables, acts: Acts) -> Result<(), OutOfMemory>
+    requires { AreKept acts }
+    ensures sent { OnOk result (sent.new ≡ sent.old ++ bytes_of acts) }
+    ensures durable { OnOk result (durable.new ≡ tables_after durable.old acts) }
+{
+    for act in acts.into_vec() {
+        match act {
+            Act::Commit(changes) => durable.change(&changes)?,
+            Act::Emit(line) => sent.append(line.as_slice())?,
+        }
+    }
+    Ok(())
+}
+
+impl Path {
+    /// Nothing is done.
+    pub(crate) fn start(alloc: Global, durable: Tables) -> Path
+        ensures turns { result.turns ≡ [] }
+        ensures sent { result.sent ≡ [] }
+        ensures durable { result.durable ≡ durable }
+    {
+        Path {
+            turns: Turns::new(alloc),
+            sent: Bytes::new(alloc),
+            durable,
+            signs: Signs::none(),
+        }
+    }
+
+    /// Acts were done, of a transaction that settled or of none.
+    pub(crate) fn keep(&mut self, acts: Acts, settled: &Option<Settled>) -> Result<(), OutOfMemory>
+        requires { AreKept acts }
+        ensures turns { OnOk result (self.new.turns ≡ self.old.turns) }
+        ensures sent { OnOk result (self.new.sent ≡ self.old.sent ++ bytes_of acts) }
+        ensures durable { OnOk result (self.new.durable ≡ tables_after self.old.durable acts) }
+    {
+        self.signs.see_settled(settled);
+        perform(&mut self.sent, &mut self.durable, acts)
+    }
+
+    /// A turn of a RUN was done, or 0 ended it.
+    pub(crate) fn take(&mut self, choice: Choice) -> Result<(), OutOfMemory>
+        requires { AreKept choice.acts }
+        ensures turns { OnOk result (self.new.turns ≡ self.old.turns ++ choice.task ∷ []) }
+        ensures sent { OnOk result (self.new.sent ≡ self.old.sent ++ bytes_of choice.acts) }
+        ensures durable { OnOk result (self.new.durable ≡ tables_after self.old.durable choice.acts) }
+    {
+        self.turns.push(choice.task)?;
+        self.keep(choice.acts, &choice.settled)
+    }
+}

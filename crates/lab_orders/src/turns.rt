@@ -1,0 +1,54 @@
+//! One turn of a task, and whether it has an effect.
+ghost use Rattle.std.specs.Prelude.{◌≡◌, ◌+◌, ◌<◌, ◌^◌, IfOk};
+ghost use Rattle.kdcdef_types.specs.Statements.{IsWithin};
+ghost use Rattle.laws_of_steps.specs.Keeping.{HasFacts};
+ghost use Rattle.lab_orders.specs.{Orders.{same_wait, wait_in}, Trying.{Tried}};
+
+use kd_base::OutOfMemory;
+use kdcs_types::Area;
+use monitor_core::{Core, Turned};
+use std::alloc::Global;
+
+// The request that waits of the service in a task.
+fn wait_in(core: &Core, task: u16) -> Option<(Area, u64)>
+    requires facts { HasFacts core.now.application core.now.state }
+    requires task { IsWithin 1 core.now.application.generation.limits.tasks task }
+    ensures { result ≡ wait_in core.now.state task }
+{
+    let parts = core.parts();
+    let id = parts.scheduler.held_by(task)?;
+    parts.locks.wait_of(id).copied()
+}
+
+// The same request, since the same clock.
+fn same_wait(one: Option<(Area, u64)>, other: Option<(Area, u64)>) -> bool
+    ensures { result ≡ same_wait one other }
+{
+    match (one, other) {
+        (None, None) => true,
+        (Some(one), Some(other)) => one.0 == other.0 && one.1 == other.1,
+        (None, Some(_)) | (Some(_), None) => false,
+    }
+}
+
+/// A turn of a task, from 1 to TASKS, and what it did where it has an effect. Without one the monitor is as it was.
+pub(crate) fn try_turn(
+    alloc: Global,
+    core: Core,
+    task: u16,
+) -> Result<(Core, Option<Turned>), OutOfMemory>
+    requires facts { HasFacts core.application core.state }
+    requires task { IsWithin 1 core.application.generation.limits.tasks task }
+    requires steps { core.steps < 10 ^ 18 }
+    ensures tried { IfOk result (λ next. Tried core task next.0 next.1) }
+    ensures steps { IfOk result (λ next. next.0.steps ≡ core.steps + 1) }
+{
+    let before = wait_in(&core, task);
+    let (next, did) = core.turn(alloc, task)?;
+    let after = wait_in(&next, task);
+    if did.moved || !same_wait(before, after) {
+        Ok((next, Some(did)))
+    } else {
+        Ok((next, None))
+    }
+}

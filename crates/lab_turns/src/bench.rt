@@ -1,0 +1,101 @@
+//! A monitor that performs commands, with its durable tables beside it.
+ghost use Rattle.std.specs.Prelude.{◌≡◌, IfOk, OnOk};
+ghost use Rattle.unit_check.specs.Fitted.{IsFit};
+ghost use Rattle.laws_of_applications.specs.Applied.{applied};
+ghost use Rattle.laws_of_steps.specs.{Keeping.{HasFacts, IsScriptOf}, Suits.{Suits}};
+ghost use Rattle.abstract_monitor.specs.{CommandsOf.{IsCommandOf}, Commands.{started, steps_of}, Trace.{history}};
+ghost use Rattle.lab_turns.specs.{Heard.{heard_in}, Running.{DidSteps}};
+
+use crate::commands::do_command;
+use crate::durable::copy_of;
+use crate::error::LabError;
+use crate::listener::Listener;
+use abstract_monitor::Command;
+use kd_base::OutOfMemory;
+use kdcdef_check::Generation;
+use kdcs_types::Tables;
+use monitor_core::Core;
+use std::alloc::Global;
+use std::marker::Model;
+use unit_check::Units;
+
+/// A monitor that performs commands. Contracts see its core. It is gone where an error is answered.
+#[derive(Drop)]
+pub struct Bench {
+    pub(crate) core: Core,
+    /// The tables that a stop would leave.
+    pub(crate) durable: Tables,
+}
+
+impl Model for Bench {
+    ghost use Rattle.monitor_core.specs.CoreValue.{CoreValue};
+    ghost use Rattle.lab_turns.specs.Running.{IsBeside};
+
+    ghost Value = { CoreValue };
+
+    ghost view = { λ b. b.core };
+
+    ghost invariant = { λ b. IsBeside b.core b.durable };
+}
+
+impl Bench {
+    /// A monitor that starts from tables that suit the generation.
+    pub fn start(
+        alloc: Global,
+        generation: Generation,
+        units: Units,
+        tables: Tables,
+    ) -> Result<Bench, OutOfMemory>
+        requires fit { IsFit generation units }
+        requires suits { Suits generation tables }
+        ensures application { IfOk result (λ bench. bench.application ≡ applied generation units) }
+        ensures state { IfOk result (λ bench. bench.state ≡ started bench.application tables) }
+    {
+        let durable = copy_of(alloc, &generation, &tables)?;
+        let core = Core::start(alloc, generation, units, tables)?;
+        Ok(Bench { core, durable })
+    }
+
+    /// The core, to look at. It takes no memory.
+    pub fn core(&self) -> &Core
+        ensures value { result.now ≡ self.now }
+        ensures facts { HasFacts self.now.application self.now.state }
+    {
+        &self.core
+    }
+
+    /// Performs a command that names what the generation has. The listener hears of each of its steps.
+    pub fn perform<L: Listener>(
+        self,
+        alloc: Global,
+        listener: &mut L,
+        command: &Command,
+    ) -> Result<Bench, LabError>
+        requires names { IsCommandOf self.application.generation command.now }
+        ensures done { IfOk result (λ next. DidSteps self (steps_of self.application self.state command.now) next) }
+        ensures heard { OnOk result (L.hears listener.old (heard_in (steps_of self.application self.state command.now)) listener.new) }
+    {
+        let Bench { core, mut durable } = self;
+        listener.command(&core, command)?;
+        let core = do_command(alloc, core, &mut durable, listener, command)?;
+        Ok(Bench { core, durable })
+    }
+
+    /// Performs the commands of a script in their order. The listener hears of each step of its history.
+    pub fn perform_all<L: Listener>(
+        self,
+        alloc: Global,
+        listener: &mut L,
+        commands: &[Command],
+    ) -> Result<Bench, LabError>
+        requires names { IsScriptOf self.application commands.now }
+        ensures done { IfOk result (λ next. DidSteps self (history self.application self.state commands.now) next) }
+        ensures heard { OnOk result (L.hears listener.old (heard_in (history self.application self.state commands.now)) listener.new) }
+    {
+        let mut bench = self;
+        for command in commands {
+            bench = bench.perform(alloc, listener, command)?;
+        }
+        Ok(bench)
+    }
+}

@@ -1,0 +1,20 @@
+//! A monitor that performs commands step by step, and tells a listener what each step did.
+//!
+//! It stands on monitor_core, whose core says what each turn and each command does, and on kd_update, by which tables are
+//! copied. To the layer above, which prints, its contract says that a command brings the monitor to the state after the
+//! abstract monitor's steps of it, that a script brings it to the state after its history, and that the listener hears of
+//! just these steps, in their order, each with the state after it and its acts. It knows no file and no device.
+#![tactic(auto)]
+
+mod bench;
+mod commands;
+mod durable;
+mod error;
+mod listener;
+mod turns;
+mod view;
+
+pub use bench::Bench;
+pub use error::LabError;
+pub use listener::{Listener, RunEnd};
+pub use view::{At, TurnView, held_by};
