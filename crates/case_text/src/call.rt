@@ -62,7 +62,7 @@ impl Call {
         alloc: Global,
         files: &Files,
         also: Option<(Failing, u64)>,
-    ) -> Result<MemTwin, OutOfMemory> {
+    ) -> Result<Box<MemTwin>, OutOfMemory> {
         files.twin(alloc, self.failing(also)?)
     }
 
@@ -79,6 +79,18 @@ impl Call {
         let mut room = MemRoom::new(alloc, texts, self.failing_texts(also)?)?;
         let status = P::call(alloc, &self.words, &mut room, twin);
         Answer::new(alloc, at, status, files, twin)
+    }
+
+    /// The call over a new twin with these files, of which the call or the read `also` fails too.
+    pub fn tried<P: Program>(
+        &self,
+        alloc: Global,
+        files: &Files,
+        also: Option<(Failing, u64)>,
+        at: String,
+    ) -> Result<Answer, OutOfMemory> {
+        let mut twin = self.twin(alloc, files, also)?;
+        self.over::<P>(alloc, &mut twin, files, also, at)
     }
 }
 

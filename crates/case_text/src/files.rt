@@ -1,4 +1,5 @@
 //! The files that a call is made over.
+ghost use Rattle.std.specs.Prelude.{length, ◌≤◌};
 
 use kd_base::{Bytes, OutOfMemory};
 use kd_device::CallKind;
@@ -28,6 +29,19 @@ impl Files {
         })
     }
 
+    /// Those that a stop of the twin after so many calls, with this choice, leaves.
+    pub fn after_stop(
+        alloc: Global,
+        twin: &MemTwin,
+        stop: u64,
+        choice: u64,
+    ) -> Result<Files, OutOfMemory>
+        requires { stop ≤ length twin.now.recording.events }
+    {
+        let stopped = twin.after_stop(alloc, stop, choice)?;
+        Files::of(alloc, &stopped)
+    }
+
     pub fn copied(&self) -> Result<Files, OutOfMemory> {
         Ok(Files {
             first: self.first.clone()?,
@@ -40,10 +54,11 @@ impl Files {
         &self,
         alloc: Global,
         failing: Vec<(Half, CallKind, u64)>,
-    ) -> Result<MemTwin, OutOfMemory> {
+    ) -> Result<Box<MemTwin>, OutOfMemory> {
         let first = Bytes::from_slice(alloc, &self.first)?;
         let second = Bytes::from_slice(alloc, &self.second)?;
-        MemTwin::new(alloc, first, second, failing)
+        let twin = MemTwin::new(alloc, first, second, failing)?;
+        Ok(Box::new(alloc, twin)?)
     }
 
     pub fn file(&self, half: Half) -> &Vec<u8> {

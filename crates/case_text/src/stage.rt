@@ -36,7 +36,7 @@ pub struct Stage {
     /// Whether the status of the last call is still to be said.
     unsaid: bool,
     /// The twin of the last plain call.
-    twin: Option<MemTwin>,
+    twin: Option<Box<MemTwin>>,
     cases: u64,
     calls: u64,
 }
@@ -260,10 +260,8 @@ impl Stage {
         kind: Failing,
         number: u64,
     ) -> Result<(), OutOfMemory> {
-        let also = Some((kind, number));
-        let mut twin = call.twin(alloc, &self.files, also)?;
         let at = failing_name(alloc, kind, number)?;
-        let answer = call.over::<P>(alloc, &mut twin, &self.files, also, at)?;
+        let answer = call.tried::<P>(alloc, &self.files, Some((kind, number)), at)?;
         self.keep(answer)
     }
 
@@ -289,9 +287,8 @@ impl Stage {
         call: &Call,
         before: &Answer,
     ) -> Result<(), OutOfMemory> {
-        let mut twin = call.twin(alloc, before.files(), None)?;
         let at = String::from_str(alloc, before.at())?;
-        let answer = call.over::<P>(alloc, &mut twin, before.files(), None, at)?;
+        let answer = call.tried::<P>(alloc, before.files(), None, at)?;
         self.keep(answer)
     }
 
@@ -304,6 +301,17 @@ impl Stage {
         unless(alloc, !left.is_empty(), "no call before")
     }
 
+    /// What a stop of the last plain call leaves, or nothing where there is no such stop.
+    fn stopped(&self, alloc: Global, stop: u64, choice: u64) -> Result<Option<Files>, OutOfMemory> {
+        let Some(twin) = &self.twin else {
+            return Ok(None);
+        };
+        if stop > twin.calls() {
+            return Ok(None);
+        }
+        Ok(Some(Files::after_stop(alloc, twin, stop, choice)?))
+    }
+
     /// The call over what a stop of the last plain call leaves; what this leaves, or nothing where there is no such stop.
     fn call_after_stop<P: Program>(
         &mut self,
@@ -312,16 +320,11 @@ impl Stage {
         stop: u64,
         choice: u64,
     ) -> Result<Option<Files>, OutOfMemory> {
-        let Some(twin) = &self.twin else {
+        let Some(stopped) = self.stopped(alloc, stop, choice)? else {
             return Ok(None);
         };
-        if stop > twin.calls() {
-            return Ok(None);
-        }
-        let stopped = Files::of(alloc, &twin.after_stop(alloc, stop, choice)?)?;
-        let mut twin = call.twin(alloc, &stopped, None)?;
         let at = format!(in alloc; "stop {stop} {choice}")?;
-        let answer = call.over::<P>(alloc, &mut twin, &stopped, None, at)?;
+        let answer = call.tried::<P>(alloc, &stopped, None, at)?;
         let left = answer.files().copied()?;
         self.keep(answer)?;
         Ok(Some(left))

@@ -2,7 +2,7 @@
 ghost use Rattle.std.specs.Prelude.{◌≡◌, ◌≤◌, length, IfOk, OnErr, OnOk};
 ghost use Rattle.kd_device.specs.Device.{Rose};
 
-use crate::count::counted;
+use crate::count::{UTM, counted};
 use kd_device::Failed;
 use std::alloc::Global;
 use std::fs::{File, OpenOptions, TryLockError};
@@ -139,7 +139,7 @@ impl DiskFile {
         // Where memory is short, faults are said without the name.
         let _ = self.name.push_str(str::from_utf8(name).unwrap_or_default());
         let file = open(rt, name);
-        self.file = Some(counted(rt, &self.name, "open", file, &mut self.faults)?);
+        self.file = Some(counted(rt, UTM, &self.name, "open", file, &mut self.faults)?);
         Ok(())
     }
 
@@ -153,7 +153,7 @@ impl DiskFile {
             Some(attached) => attached.file.metadata().map(|metadata| metadata.len()),
             None => Err(not_attached()),
         };
-        counted(rt, &self.name, "size", size, &mut self.faults)
+        counted(rt, UTM, &self.name, "size", size, &mut self.faults)
     }
 
     /// Fills the buffer from this place, as far as the file goes, and answers how many bytes that are.
@@ -172,7 +172,7 @@ impl DiskFile {
             Some(attached) => read_from(&mut attached.file, at, into),
             None => Err(not_attached()),
         };
-        counted(rt, &self.name, "read", count, &mut self.faults)
+        counted(rt, UTM, &self.name, "read", count, &mut self.faults)
     }
 
     /// Writes over what is there and past the end.
@@ -190,7 +190,7 @@ impl DiskFile {
             Some(attached) => write_to(attached, at, bytes),
             None => Err(not_attached()),
         };
-        counted(rt, &self.name, "write", written, &mut self.faults)
+        counted(rt, UTM, &self.name, "write", written, &mut self.faults)
     }
 
     /// Content and length are durable after it.
@@ -203,6 +203,6 @@ impl DiskFile {
             Some(attached) => attached.file.sync_all(),
             None => Err(not_attached()),
         };
-        counted(rt, &self.name, "sync", synced, &mut self.faults)
+        counted(rt, UTM, &self.name, "sync", synced, &mut self.faults)
     }
 }

@@ -2,7 +2,7 @@
 ghost use Rattle.std.specs.Prelude.{◌≡◌, ◌≤◌, OnErr, OnOk};
 ghost use Rattle.kd_device.specs.Device.{Rose};
 
-use crate::count::counted;
+use crate::count::{UTM, counted};
 use kd_device::Failed;
 
 /// Sends a piece. Where it fails, the count of the line's faults rises.
@@ -12,5 +12,5 @@ pub(crate) fn send<R: Print + Eprint>(rt: &R, piece: &[u8], faults: &mut u64) ->
     ensures later { faults.old ≤ faults.new }
 {
     let sent = rt.write_all(piece);
-    counted(rt, "standard output", "write", sent, faults)
+    counted(rt, UTM, "standard output", "write", sent, faults)
 }

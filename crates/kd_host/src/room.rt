@@ -15,6 +15,8 @@ use std::{fs, io};
 #[derive(Drop)]
 pub struct FolderRoom<'a, R: Files + Eprint> {
     rt: &'a R,
+    /// The name of the program, which stands before what is said of a fault.
+    program: &'static str,
     faults: u64,
 }
 
@@ -27,12 +29,17 @@ impl<'a, R: Files + Eprint> Model for FolderRoom<'a, R> {
 }
 
 impl<'a, R: Files + Eprint> FolderRoom<'a, R> {
-    pub fn new(rt: &'a R) -> FolderRoom<'a, R>
+    /// The files of the current folder, for a program of this name, with which a line about a fault begins.
+    pub fn new(rt: &'a R, program: &'static str) -> FolderRoom<'a, R>
         ensures faults { (room_of result).faults ≡ 0 }
         ensures told { (room_of result).told ≡ false }
         ensures sure { (room_of result).sure ≡ false }
     {
-        FolderRoom { rt, faults: 0 }
+        FolderRoom {
+            rt,
+            program,
+            faults: 0,
+        }
     }
 }
 
@@ -83,7 +90,7 @@ impl<'a, R: Files + Eprint> Room for FolderRoom<'a, R> {
     fn read(&mut self, alloc: Global, name: &Vec<u8>, limit: u64) -> Result<Vec<u8>, DeviceError> {
         let text = read_file(self.rt, alloc, name, limit.saturating_add(1))?;
         let file = str::from_utf8(name).unwrap_or_default();
-        match counted(self.rt, file, "read", text, &mut self.faults) {
+        match counted(self.rt, self.program, file, "read", text, &mut self.faults) {
             Ok(text) => Ok(text),
             Err(Failed) => Err(DeviceError::Failed),
         }

@@ -28,7 +28,7 @@ impl<'a, R: Files + Eprint> LabRoom<'a, R> {
     pub(crate) fn new(rt: &'a R) -> LabRoom<'a, R> {
         LabRoom {
             rt,
-            files: FolderRoom::new(rt),
+            files: FolderRoom::new(rt, "lab"),
         }
     }
 

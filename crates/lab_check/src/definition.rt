@@ -7,8 +7,7 @@ use kd_base::{Bytes, OutOfMemory};
 use kdcdef_check::{CheckFault, Generation};
 use kdcdef_lex::LexFault;
 use kdcdef_read::ReadFault;
-use lab_findings::{Refusals, TextName, Warning, Warnings, nearest};
-use lab_texts::{first_word, without_blanks};
+use lab_findings::{Refusals, TextName, Warning, Warnings, first_word, nearest, without_blanks};
 use std::alloc::Global;
 
 /// How many faults of a text are told.

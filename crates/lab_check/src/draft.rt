@@ -1,7 +1,7 @@
 //! A text that is mended line by line, so that it can be read on behind a fault.
 
 use kd_base::{Bytes, OutOfMemory};
-use lab_texts::up_to_last;
+use lab_findings::up_to_last;
 use std::alloc::Global;
 use texts::len_before;
 

@@ -1,7 +1,7 @@
 //! All that is wrong in the texts of an application, and what is accepted and likely wrong.
 //!
-//! It stands on the readers of the three texts, whose faults it tells by their own names, on lab_texts, and on lab_findings
-//! and lab_warnings. To a program for who writes units its contract says what the definition and the units are taken for, as
+//! It stands on the readers of the three texts, whose faults it tells by their own names, and on lab_findings and
+//! lab_warnings. To a program for who writes units its contract says what the definition and the units are taken for, as
 //! `read_application` does; that where they have a fault, that is the first refusal, with its text, line and name; and that
 //! where they have none, none is told but of the script. The other refusals, which come from reading texts again that were
 //! mended line by line, and the warnings are tested and not proved.

@@ -2,7 +2,7 @@
 //! need not be one that is accepted.
 
 use kd_base::{Bytes, OutOfMemory};
-use lab_texts::{first_word, without_blanks};
+use lab_findings::{first_word, without_blanks};
 use std::alloc::Global;
 use texts::len_before;
 

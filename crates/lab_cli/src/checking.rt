@@ -50,7 +50,18 @@ fn tell<C: Console>(alloc: Global, console: &mut C, checked: &Checked) -> Result
     for warned in &checked.warnings {
         console.put(&ended(warned.printed(alloc)?)?)?;
     }
+    if checked.refusals.is_empty() && checked.warnings.is_empty() {
+        console.put(b"OK\n")?;
+    }
     Ok(())
+}
+
+// What is found in the texts of this BASE.
+fn checked_texts<R: Room>(alloc: Global, room: &mut R, base: &[u8]) -> Result<Checked, Stop> {
+    let definition = text(alloc, room, base, b".def")?;
+    let units = text(alloc, room, base, b".units")?;
+    let script = script_of(alloc, room, base)?;
+    Ok(findings(alloc, &definition, &units, script.as_deref())?)
 }
 
 /// Prints all that is found in the texts of this BASE, a line each, or `OK`. The script need not be there.
@@ -62,13 +73,7 @@ pub(crate) fn check<R: Room, C: Console>(
 ) -> Result<Status, Stop>
     ensures { IfOk result (λ status. IsOneOf (0 ∷ 1 ∷ 2 ∷ 3 ∷ []) status.code) }
 {
-    let definition = text(alloc, room, base, b".def")?;
-    let units = text(alloc, room, base, b".units")?;
-    let script = script_of(alloc, room, base)?;
-    let checked = findings(alloc, &definition, &units, script.as_deref())?;
+    let checked = checked_texts(alloc, room, base)?;
     tell(alloc, console, &checked)?;
-    if checked.refusals.is_empty() && checked.warnings.is_empty() {
-        console.put(b"OK\n")?;
-    }
     Ok(status_of(checked.refusals.as_slice()))
 }

@@ -186,16 +186,21 @@ pub fn place_of<R: Room>(
 ) -> Result<Place, Stop>
     ensures { IfOk result CanStart }
 {
-    let texts = texts_of(alloc, room, base, with_script)?;
-    let application = application_of(alloc, &texts.definition, &texts.units).map_err(of_texts)?;
-    let commands = commands_of(alloc, &application, &texts.script).map_err(of_texts)?;
-    let fingerprint = fingerprint_of(&texts.definition, &texts.units);
+    let Texts {
+        definition,
+        units,
+        script,
+    } = texts_of(alloc, room, base, with_script)?;
+    let application = application_of(alloc, &definition, &units).map_err(of_texts)?;
+    let commands = commands_of(alloc, &application, &script).map_err(of_texts)?;
+    let fingerprint = fingerprint_of(&definition, &units);
+    let units = Source::of(alloc, units)?;
     let tables = tables_of(alloc, room, base, &application.generation, &fingerprint)?;
     Ok(Place {
         application,
         tables,
-        units: Source::of(alloc, texts.units)?,
-        script: texts.script,
+        units,
+        script,
         commands,
     })
 }

@@ -248,6 +248,22 @@ fn put_difference(
     out.push(b'\n')
 }
 
+// The line of a test whose lines are all met.
+fn met_line(alloc: Global, lines: u64) -> Result<Bytes, OutOfMemory> {
+    let mut out = Bytes::from_slice(alloc, b"OK ")?;
+    put_number(alloc, &mut out, lines)?;
+    out.push(b'\n')?;
+    Ok(out)
+}
+
+// The lines of a difference.
+fn difference_lines(alloc: Global, found: &Difference) -> Result<Bytes, OutOfMemory> {
+    let mut out = Bytes::new(alloc);
+    put_difference(alloc, &mut out, found.line, b" EXPECTED ", &found.expected)?;
+    put_difference(alloc, &mut out, found.line, b" SENT ", &found.sent)?;
+    Ok(out)
+}
+
 /// Tests the script, and says whether all lines are met.
 pub(crate) fn test<C: Console>(
     alloc: Global,
@@ -258,20 +274,14 @@ pub(crate) fn test<C: Console>(
 ) -> Result<bool, LabError>
     requires { IsScriptOf bench.application commands.now }
 {
-    let mut out = Bytes::new(alloc);
-    let met = match trial_of(alloc, console, bench, commands, script)? {
+    match trial_of(alloc, console, bench, commands, script)? {
         Ok(lines) => {
-            out.append(b"OK ")?;
-            put_number(alloc, &mut out, lines)?;
-            out.push(b'\n')?;
-            true
+            console.put(met_line(alloc, lines)?.as_slice())?;
+            Ok(true)
         }
         Err(found) => {
-            put_difference(alloc, &mut out, found.line, b" EXPECTED ", &found.expected)?;
-            put_difference(alloc, &mut out, found.line, b" SENT ", &found.sent)?;
-            false
+            console.put(difference_lines(alloc, &found)?.as_slice())?;
+            Ok(false)
         }
-    };
-    console.put(out.as_slice())?;
-    Ok(met)
+    }
 }

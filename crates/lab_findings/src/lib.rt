@@ -1,17 +1,23 @@
 //! What is found in the texts of an application: refusals and warnings, each with its text and line, and how it is
-//! printed.
+//! printed; and what a line of a units text is.
 //!
-//! It stands on kd_base. To the crates that look for findings it gives the lists of both, and which of some words is nearly
-//! the same as another; its contracts say that a list of refusals grows by the one that is added or not at all, and which
-//! line a refusal prints. How a warning is printed is tested and not proved.
+//! It stands on kd_base and texts. To the crates that look for findings it gives the lists of both, which of some words is
+//! nearly the same as another, and the lines of labels; its contracts say that a list of refusals grows by the one that is
+//! added or not at all, and which line a refusal prints. A line of a units text is told by its first word alone, so that a
+//! text which is refused can be gone over too. How a warning is printed, and what a line is taken for, is tested and not
+//! proved.
 #![tactic(auto)]
 
+mod labels;
+mod line_kind;
 mod near;
 mod refusal;
 mod text_name;
 mod warned;
 mod warning;
 
+pub use labels::{Label, labels_of};
+pub use line_kind::{LineKind, first_word, kind_of, up_to_last, without_blanks};
 pub use near::nearest;
 pub use refusal::{Refusal, Refusals};
 pub use text_name::TextName;

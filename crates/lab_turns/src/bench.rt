@@ -24,7 +24,7 @@ use unit_check::Units;
 pub struct Bench {
     pub(crate) core: Core,
     /// The tables that a stop would leave.
-    pub(crate) durable: Tables,
+    pub(crate) durable: Box<Tables>,
 }
 
 impl Model for Bench {
@@ -35,7 +35,7 @@ impl Model for Bench {
 
     ghost view = { λ b. b.core };
 
-    ghost invariant = { λ b. IsBeside b.core b.durable };
+    ghost invariant = { λ b. IsBeside b.core b.durable.value };
 }
 
 impl Bench {
@@ -51,7 +51,7 @@ impl Bench {
         ensures application { IfOk result (λ bench. bench.application ≡ applied generation units) }
         ensures state { IfOk result (λ bench. bench.state ≡ started bench.application tables) }
     {
-        let durable = copy_of(alloc, &generation, &tables)?;
+        let durable = Box::new(alloc, copy_of(alloc, &generation, &tables)?)?;
         let core = Core::start(alloc, generation, units, tables)?;
         Ok(Bench { core, durable })
     }

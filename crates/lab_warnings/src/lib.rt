@@ -2,7 +2,7 @@
 //!
 //! It stands on the readers of a definition and of units, and on lab_findings, to whose list it adds warnings of an accepted
 //! definition and of the units of an accepted application. Its contracts say that it ends and reads nothing that is not
-//! there; the warnings are tested in the crate above and not proved.
+//! there; the warnings are tested with the built program and not proved.
 #![tactic(auto)]
 
 mod flow;

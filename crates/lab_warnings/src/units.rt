@@ -5,8 +5,7 @@ use crate::held::held_warnings;
 use crate::targets::{Names, add_fields, add_label, message_of, takes_jobs, target_of, undeclared};
 use kd_base::OutOfMemory;
 use kdcdef_check::Generation;
-use lab_findings::{TextName, Warning, Warnings};
-use lab_texts::{UnitLines, UnitPlaces};
+use lab_findings::{Label, TextName, Warning, Warnings, labels_of};
 use std::alloc::Global;
 use std::collections::BTreeSet;
 use unit_check::Units;
@@ -52,12 +51,12 @@ fn field_warnings(alloc: Global, unit: &Unit, warned: &mut Warnings) -> Result<(
 fn label_warnings(
     alloc: Global,
     unit: &Unit,
-    places: &UnitPlaces,
+    labels: &[Label],
     warned: &mut Warnings,
 ) -> Result<(), OutOfMemory> {
     let names = named_labels(alloc, unit)?;
-    for label in places.labels() {
-        if !names.contains(&label.name) {
+    for label in labels {
+        if label.unit == *unit.name() && !names.contains(&label.name) {
             warned.warn(
                 alloc,
                 TextName::Units,
@@ -204,14 +203,12 @@ fn warnings_of(
     alloc: Global,
     generation: &Generation,
     unit: &Unit,
-    lines: &UnitLines,
+    labels: &[Label],
     warned: &mut Warnings,
 ) -> Result<(), OutOfMemory> {
     use_warning(alloc, generation, unit, warned)?;
     field_warnings(alloc, unit, warned)?;
-    if let Some(places) = lines.unit(unit.name()) {
-        label_warnings(alloc, unit, places, warned)?;
-    }
+    label_warnings(alloc, unit, labels, warned)?;
     for statement in unit.statements() {
         name_warnings(alloc, generation, statement.line, &statement.action, warned)?;
     }
@@ -226,9 +223,9 @@ pub fn unit_warnings(
     text: &[u8],
     warned: &mut Warnings,
 ) -> Result<(), OutOfMemory> {
-    let lines = UnitLines::of(alloc, text)?;
+    let labels = labels_of(alloc, text)?;
     for unit in units.all() {
-        warnings_of(alloc, generation, unit, &lines, warned)?;
+        warnings_of(alloc, generation, unit, &labels, warned)?;
     }
     Ok(())
 }

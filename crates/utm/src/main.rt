@@ -27,7 +27,7 @@ fn main(rt: HostRuntime) -> ExitCode {
     let Some(words) = words(&rt) else {
         return ExitCode::from(NO_ANSWER);
     };
-    let mut room = FolderRoom::new(&rt);
+    let mut room = FolderRoom::new(&rt, "utm");
     let mut twin = FileTwin::new(&rt);
     let status = utm_twin(rt.alloc(), &words, &mut room, &mut twin);
     drop(standard);

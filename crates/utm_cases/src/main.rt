@@ -21,21 +21,33 @@ impl Program for Utm {
     }
 }
 
-fn main(rt: HostRuntime) -> anyhow::Result<()> {
+// Tries the lines of a text, and prints what is wrong in it.
+fn try_text(rt: &HostRuntime, cases: &mut Cases, name: &str) -> anyhow::Result<()> {
     let alloc = rt.alloc();
-    let mut cases = Cases::new(alloc);
-    for name in env::args(&rt)?.skip(1) {
-        let text = fs::read_to_string(&rt, name.as_str())?;
-        for line in text.as_str().lines() {
-            if let Some(said) = cases.line::<Utm>(alloc, line)? {
-                println!(rt; "{name}, {said}")?;
-            }
-        }
-        if let Some(said) = cases.end(alloc)? {
+    let text = fs::read_to_string(rt, name)?;
+    for line in text.as_str().lines() {
+        if let Some(said) = cases.line::<Utm>(alloc, line)? {
             println!(rt; "{name}, {said}")?;
         }
-        println!(rt; "{name}: {} wrong", cases.take_wrong())?;
+    }
+    if let Some(said) = cases.end(alloc)? {
+        println!(rt; "{name}, {said}")?;
+    }
+    println!(rt; "{name}: {} wrong", cases.take_wrong())?;
+    Ok(())
+}
+
+// Tries all texts that the words name.
+fn try_texts(rt: &HostRuntime, cases: &mut Cases) -> anyhow::Result<()> {
+    for name in env::args(rt)?.skip(1) {
+        try_text(rt, cases, name.as_str())?;
     }
     eprintln!(rt; "{} cases, {} calls", cases.cases(), cases.calls())?;
     Ok(())
+}
+
+// The cases are lent, so that one function alone drops them.
+fn main(rt: HostRuntime) -> anyhow::Result<()> {
+    let mut cases = Cases::new(rt.alloc());
+    try_texts(&rt, &mut cases)
 }

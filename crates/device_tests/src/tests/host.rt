@@ -56,9 +56,13 @@ fn a_file_has_one_device(rt: HostRuntime) -> Result<(), Fail> {
 fn a_folder_gives_its_texts(rt: HostRuntime) -> Result<(), Fail> {
     let name = Vec::from_slice(rt.alloc(), b"low_tests_room.tmp")?;
     fs::write(&rt, "low_tests_room.tmp", b"abcdef")?;
-    let text = FolderRoom::new(&rt).read(rt.alloc(), &name, 3)?;
+    let text = FolderRoom::new(&rt, "utm").read(rt.alloc(), &name, 3)?;
     assert!(rt; text.as_slice() == b"abcd".as_slice());
     fs::remove_file(&rt, "low_tests_room.tmp")?;
-    assert!(rt; FolderRoom::new(&rt).read(rt.alloc(), &name, 3).is_err());
+    assert!(rt;
+        FolderRoom::new(&rt, "utm")
+            .read(rt.alloc(), &name, 3)
+            .is_err()
+    );
     Ok(())
 }

@@ -1,5 +1,5 @@
 use Rattle.std.proofs.Common.{◌≤◌, length}
-use Rattle.lab_texts.proofs.kind.up_to_last.Given as goal
+use Rattle.lab_findings.proofs.line_kind.up_to_last.Given as goal
 
 abbrev pub invariant-loop-n : goal.invariant-loop-n
 invariant-loop-n l = l.n ≤ length l.line
