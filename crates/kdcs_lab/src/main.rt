@@ -5,13 +5,14 @@
 //! file.
 #![tactic(auto)]
 
+mod colour;
 mod folder;
 mod standard;
 
 use folder::LabRoom;
 use kd_host::StandardDescriptors;
 use lab_cli::lab;
-use standard::StandardConsole;
+use standard::{StandardConsole, Terminal};
 use std::env;
 use std::io::{BufReader, IsTerminal};
 use std::process::ExitCode;
@@ -28,6 +29,15 @@ fn words(rt: &(impl env::Env + AllocGlobal)) -> Option<Vec<String>> {
     Some(words)
 }
 
+/// What the standard input and output are. There are no styles where the environment has NO_COLOR.
+fn terminal(rt: &HostRuntime) -> Terminal {
+    let is_read = rt.stdout().is_terminal();
+    Terminal {
+        is_prompted: rt.stdin().is_terminal() && is_read,
+        is_coloured: is_read && env::var(rt, "NO_COLOR").is_err(),
+    }
+}
+
 fn main(rt: HostRuntime) -> ExitCode {
     let Ok(standard) = StandardDescriptors::take(&rt) else {
         return ExitCode::from(NO_ANSWER);
@@ -39,8 +49,7 @@ fn main(rt: HostRuntime) -> ExitCode {
     let Ok(input) = BufReader::new(rt.alloc(), rt.reader()) else {
         return ExitCode::from(NO_ANSWER);
     };
-    let is_prompted = rt.stdin().is_terminal() && rt.stdout().is_terminal();
-    let console = StandardConsole::new(&rt, input, is_prompted);
+    let console = StandardConsole::new(&rt, input, terminal(&rt));
     let (status, _) = lab(rt.alloc(), &words, &mut room, console);
     drop(standard);
     ExitCode::from(status.code)
