@@ -97,6 +97,24 @@ def by_word(imports):
 CRATES = {it.name for it in (TOP / "crates").iterdir()}
 
 
+def public_modules(crate):
+    """The modules that a crate hands on whole. NAME is in src/NAME.rt, and in src/NAME/ and proofs/NAME/ where it has
+    more files."""
+    library = TOP / "crates" / crate / "src" / "lib.rt"
+    return re.findall(r"(?m)^pub mod (\w+);", library.read_text(encoding="utf-8")) if library.is_file() else []
+
+
+# What the documents name in front of a call: a crate, or a public module, with the crate that it is in.
+HOMES = {name: crate for crate in sorted(CRATES) for name in (crate, *public_modules(crate))}
+
+
+def home_of(relative):
+    """The home of a file, whose place below crates/ this is: the public module that it is of, else its crate."""
+    names = str(relative).split("/")
+    module = Path(names[2]).stem if len(names) > 2 and names[1] in ("src", "proofs") else ""
+    return module if HOMES.get(module) == names[0] else names[0]
+
+
 def is_kit(path):
     """Whether the name is none of the repository's crates."""
     names = path.split(".")
@@ -162,6 +180,7 @@ class Page:
         self.path = path
         self.relative = str(path.relative_to(TOP / "crates"))
         self.crate = self.relative.split("/")[0]
+        self.home = home_of(self.relative)
         self.module = module_of(path)
         self.imports = []
         self.definitions = []
@@ -521,6 +540,7 @@ class RustPage:
         self.relative = str(path.relative_to(TOP / "crates"))
         names = self.relative[: -len(".rt")].split("/")
         self.crate = names[0]
+        self.home = home_of(self.relative)
         self.module = [] if names[2:] == ["lib"] else names[2:]
         self.raw = path.read_text(encoding="utf-8").split("\n")
         self.code = without_comments("\n".join(self.raw), "//")

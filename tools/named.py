@@ -7,12 +7,16 @@ Looked at are README.md and docs/*.md:
 - a path is that of a file, from the top, from crates/, from a crate or from docs/; a file that is named without its
   folder is there under this name, in docs/MODEL.md among the definitions of abstract_monitor;
 - a name of several words, as `first_due` or `Core::turn`, is a crate, a file, an edit, or a word of the sources;
+- the list of crates in docs/ARCHITECTURE.md: the entry of each crate names its public modules, and no others;
 - `WORD in FILE` of docs/RULES.md: the file has the word. `CLAUSE of CALL` in a lower table: the contract of the call
   has the clause, in the file of the code of that rule;
-- a name after a crate's, as kdcfile_images `load`, is a word of that crate; one after a file of definitions, as
-  `Turns.antt`, `turn_of`, a word of that file;
-- the clauses of docs/PROVED.md: the crate of the section has the call, and the call's contract the clause; those at its
-  beginning, and those in brackets in README.md, are clauses of `utm` or `utm_twin`. So it is in its tables of answers.
+- a name after that of a crate or of a public module, as kdcfile_images `create`, is a word of this one; one after a file
+  of definitions, as `Turns.antt`, `turn_of`, a word of that file;
+- the clauses of docs/PROVED.md: the crate or the module of the section has the call, and the call's contract the clause;
+  those at its beginning, and those in brackets in README.md, are clauses of `utm` or `utm_twin`. So it is in its tables
+  of answers.
+
+What is a word of a public module is none of the crate that the module is in.
 """
 
 import re
@@ -21,7 +25,7 @@ from pathlib import Path
 
 sys.dont_write_bytecode = True
 
-from antt_text import CRATES, TOP
+from antt_text import CRATES, HOMES, TOP, home_of
 
 
 def texts_of(pattern):
@@ -30,6 +34,7 @@ def texts_of(pattern):
 
 
 CODE = texts_of("*/src/**/*.rt")
+HOME = {path: home_of(path) for path in CODE}
 SPECS = texts_of("*/specs/*.antt")
 OTHER_FILES = [it for pattern in ("*", "tools/*", "docs/*", "crates/*/data/*") for it in TOP.glob(pattern)]
 FILES = {it.name for it in (*OTHER_FILES, *CODE, *SPECS)}
@@ -54,11 +59,11 @@ def prose_of(text):
 # ---- what the sources have
 
 
-def contracts(name, crate, file=None):
+def contracts(name, home, file=None):
     """The names of the clauses of each function of this name; a clause without a name is the empty one."""
     found = []
     for path, text in CODE.items():
-        if path.parts[0] == crate and file in (None, str(path)):
+        if HOME[path] == home and file in (None, str(path)):
             for head in re.finditer(rf"\bfn {re.escape(name)}\b.*?(?:;\n|\n *\{{)", text, re.S):
                 found.append(re.findall(r"\bensures (\w*) *\{", head.group()))
     return found
@@ -69,8 +74,8 @@ def top_contracts():
     return contracts("utm", "utm_cli") + contracts("utm_twin", "utm_twin")
 
 
-def has_word(crate, word):
-    return any(path.parts[0] == crate and re.search(rf"\b{re.escape(word)}\b", text) for path, text in CODE.items())
+def has_word(home, word):
+    return any(HOME[path] == home and re.search(rf"\b{re.escape(word)}\b", text) for path, text in CODE.items())
 
 
 def is_path(path):
@@ -79,11 +84,11 @@ def is_path(path):
 
 
 def is_name(word):
-    """Whether the word of several words is one of the sources, or names a crate or a file."""
+    """Whether the word of several words is one of the sources, or names a crate, a module or a file."""
     parts = word.split("::")
-    if parts[0] in CRATES and len(parts) == 2:
+    if parts[0] in HOMES and len(parts) == 2:
         return has_word(parts[0], parts[1]) or parts[1] in EDITS
-    return all(it in WORDS or it in CRATES or it in FILES or it in EDITS or it in KIT for it in parts)
+    return all(it in WORDS or it in HOMES or it in FILES or it in EDITS or it in KIT for it in parts)
 
 
 # ---- what the documents name
@@ -105,9 +110,9 @@ def page_faults(page):
     for word in sorted(names_of(text)):
         if not is_name(word):
             yield f"no name {word}"
-    for crate, word in re.findall(r"\b([a-z_]+)\s+`([\w:]+)`", text):
-        if crate in CRATES and not is_name(f"{crate}::{word.split('::')[-1]}"):
-            yield f"no {word} in {crate}"
+    for home, word in re.findall(r"\b([a-z_]+)\s+`([\w:]+)`", text):
+        if home in HOMES and not is_name(f"{home}::{word.split('::')[-1]}"):
+            yield f"no {word} in {home}"
     for file, word in re.findall(r"`(\w+\.antt)`,\s+`(\w+)`", text):
         if not re.search(rf"\b{word}\b", SPECS.get(Path(f"abstract_monitor/specs/{file}"), "")):
             yield f"no {word} in {file}"
@@ -149,12 +154,12 @@ def rule_faults(text):
             files = [file for _, file in pairs_of(" ".join(above + below)) if file.endswith(".rt")] or named
             for clauses, call in clauses_of_rule(below[1]):
                 found = contracts_in(call, files) or contracts_in(call, named)
-                found = found or [it for file in files for it in contracts(call, file.split("/")[0])]
+                found = found or [it for file in files for it in contracts(call, home_of(file))]
                 yield from clause_faults(below[0], call, clauses, found)
 
 
 def contracts_in(call, files):
-    return [it for file in files for it in contracts(call, file.split("/")[0], file)]
+    return [it for file in files for it in contracts(call, home_of(file), file)]
 
 
 def clauses_of_rule(cell):
@@ -175,33 +180,42 @@ def clause_faults(where, call, clauses, found):
             yield f"{where}: {call} has no clause {clause}"
 
 
+def architecture_faults(text):
+    """The list of crates: each entry has the public modules of its crate."""
+    section = text[text.index("## The crates") : text.index("## The path of the data")]
+    entries = re.split(r"(?m)^- \*\*(\w+)\*\* \(uses", section)[1:]
+    for crate, entry in zip(entries[::2], entries[1::2]):
+        modules = {it for it in HOMES if HOMES[it] == crate and it != crate}
+        for name in sorted(modules ^ set(re.findall(r"(?m)^  - \*\*(\w+)\*\*:", entry))):
+            yield f"{crate}: the module {name} {'has no entry' if name in modules else 'is none of it'}"
+
+
 def proved_faults(text):
     head, *sections = re.split(r"(?m)^\*\*([\w, ]+)\*\*$", text[: text.index("## What is only tested")])
     found = top_contracts()
     for line in re.findall(r"(?m)^- (`\w+`(?:, `\w+`)*):", head.replace(",\n  ", ", ")):
         yield from clause_faults("the whole program", "the top call", QUOTED.findall(line), found)
     for name, section in zip(sections[::2], sections[1::2]):
-        crate = name.split(",")[0] if name.split(",")[0] in CRATES else None
-        if crate is None:
-            yield f"no crate {name}"
+        if name.split(",")[0] not in HOMES:
+            yield f"no crate and no module {name}"
             continue
         for part in re.findall(r"\*Clauses:\*(.*?)(?:\n-|\Z|\n\n)", section.replace("\n  ", " "), re.S):
             for piece in part.split(";"):
-                yield from piece_faults(crates_of(name), piece)
+                yield from piece_faults(homes_of(name), piece)
 
 
 def answer_faults(text):
-    """The tables of answers: each call is one of its crate, and each clause one of these calls."""
+    """The tables of answers: each call is one of its crate or module, and each clause one of these calls."""
     section = text[text.index("## Answers and their causes") : text.index("## What is only tested")]
     for cells in [[it.strip() for it in line.split("|")] for line in re.findall(r"(?m)^\|(.*)\|$", section)]:
         if cells[-1] == "Clauses" or set(cells[0]) <= set("-"):
             continue
         calls = [("utm_cli", "`utm`"), ("utm_twin", "`utm_twin`")] if cells[0].isdigit() else re.findall(r"(\w+) ((?:`[\w:]+`(?:, )?)+)", cells[0])
         found = []
-        for crate, names in calls:
+        for home, names in calls:
             for name in QUOTED.findall(names):
-                found += contracts(name.split("::")[-1], crate)
-                yield from clause_faults(f"{cells[0]} in {crate}", name, [], contracts(name.split("::")[-1], crate))
+                found += contracts(name.split("::")[-1], home)
+                yield from clause_faults(f"{cells[0]} in {home}", name, [], contracts(name.split("::")[-1], home))
         yield from clause_faults("the answers", cells[0], QUOTED.findall(cells[-1]), found)
 
 
@@ -211,28 +225,30 @@ def readme_faults(text):
         yield from clause_faults("the promises", "the top call", QUOTED.findall(brackets), top_contracts())
 
 
-def crates_of(name):
-    return [it.strip() for it in name.split(",") if it.strip() in CRATES]
+def homes_of(name):
+    return [it.strip() for it in name.split(",") if it.strip() in HOMES]
 
 
-def piece_faults(crates, piece):
+def piece_faults(homes, piece):
     calls, _, clauses = piece.partition(": ")
     for call in [it.split("::")[-1] for it in QUOTED.findall(calls)]:
-        if not any(has_word(it, call) for it in crates):
-            yield f"{crates[0]}: no call {call}"
+        if not any(has_word(it, call) for it in homes):
+            yield f"{homes[0]}: no call {call}"
     names = [it.split("::")[-1] for it in QUOTED.findall(calls)]
-    found = [one for crate in crates for name in names for one in contracts(name, crate)]
+    found = [one for home in homes for name in names for one in contracts(name, home)]
     for clause in QUOTED.findall(clauses):
         if found and not any(clause in it for it in found):
-            yield f"{crates[0]}: {', '.join(names)} has no clause {clause}"
-        elif not any(has_word(it, clause) for it in (CRATES if "the traits" in calls else crates)):
-            yield f"{crates[0]}: no clause {clause}"
+            yield f"{homes[0]}: {', '.join(names)} has no clause {clause}"
+        elif not any(has_word(it, clause) for it in (HOMES if "the traits" in calls else homes)):
+            yield f"{homes[0]}: no clause {clause}"
 
 
 def main():
     faults = [f"{page.relative_to(TOP)}: {it}" for page in pages() for it in page_faults(page)]
     faults += [f"README.md: {it}" for it in readme_faults((TOP / "README.md").read_text(encoding="utf-8"))]
     docs = TOP / "docs"
+    architecture = (docs / "ARCHITECTURE.md").read_text(encoding="utf-8")
+    faults += [f"docs/ARCHITECTURE.md: {it}" for it in architecture_faults(architecture)]
     faults += [f"docs/RULES.md: {it}" for it in rule_faults((docs / "RULES.md").read_text(encoding="utf-8"))]
     proved = (docs / "PROVED.md").read_text(encoding="utf-8")
     faults += [f"docs/PROVED.md: {it}" for it in [*proved_faults(proved), *answer_faults(proved)]]

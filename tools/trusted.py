@@ -23,7 +23,7 @@ LANGUAGE = ("⊥", "⊤", "Unit", "tt", "absurd")
 
 INTRODUCTION = """# What has to be read
 
-`tools/trusted.py` makes this page, and `.ci/program` checks that it is up to date.
+`tools/trusted.py` makes this page, and `./test` checks that it is up to date.
 
 What `utm_twin`, the one call of the program, promises is what its clauses say. They are in utm_twin/src/top.rt, in
 words that are defined elsewhere; those of `utm` are among them, as the fields of `AsUtm`. This page lists each
@@ -120,7 +120,7 @@ class Finder:
     def take_model(self, item):
         """The impl that says which value stands for the type."""
         for page in self.rust.values():
-            if page.crate == item.page.crate:
+            if page.home == item.page.home:
                 for it in page.items:
                     if it.kind == "impl" and re.search(rf"\bModel for {item.name}\b", it.name):
                         self.take_item(it)
@@ -209,8 +209,13 @@ class Finder:
                 return
             for one in target.uses:
                 if one.word == names[end] and one.path != ".".join(names):
-                    self.follow_use(target, ["crate"] + one.path.split("."))
+                    self.follow_use(target, self.from_crate(target, one.path.split(".")))
                     return
+
+    def from_crate(self, page, names):
+        """The path that a module hands on, from its crate: it may begin with a module within this one."""
+        within = (page.crate, (*page.module, names[0])) in self.rust
+        return ["crate", *page.module, *names] if within else names
 
     def run(self):
         start = self.rust[(START[0], tuple(START[1]))]

@@ -134,7 +134,7 @@ def answers_the_kit(page, definition):
     if any(token.startswith("goal.") for token in definition.signature[:2]):
         return True
     parts = page.relative.split("/")
-    return definition.public and parts[1] == "proofs" and len(parts) > 3
+    return definition.public and parts[1] == "proofs" and len(parts) > (3 if page.home == page.crate else 4)
 
 
 def uncited_definitions(pages, rust):

@@ -2,9 +2,10 @@
 use Rattle.std.specs.Prelude.{◌≡◌, IsTrue, List, [], ◌∷◌, ◌++◌, Bool, true, false, map, replicate, Option, Some, None, codes, option_map}
 use Rattle.kd_base.specs.declared.words.Mode.TheVariants.{Relative, Absolute}
 use Rattle.kd_base.specs.declared.words.Variant.TheVariants.{Pr, Re, Sp, Fi, Fr}
-use Rattle.unit_types.specs.declared.action.Action.TheVariants.{Move, Join, Add, Init, Mget, Mput, Fget, Fput, Dput, SgetGb, SputGb, SrelGb, SgetKp, SgetRl, SputMs, SgetUs, UnlkGb, Pend}
-use Rattle.unit_types.specs.declared.action.HeaderName.TheVariants.{Crccc, Rlm}
-use Rattle.unit_types.specs.declared.action.Operand.TheVariants.{Field as FieldOf, Literal, Digits, Header}
+use Rattle.application_types.specs.declared.unit_types.action.Action.TheVariants.{Move, Join, Add, Init, Mget, Mput, Fget, Fput, Dput, SgetGb, SputGb, SrelGb, SgetKp, SgetRl, SputMs, SgetUs, UnlkGb}
+use Rattle.application_types.specs.declared.unit_types.action.Action.TheVariants.{Pend}
+use Rattle.application_types.specs.declared.unit_types.action.HeaderName.TheVariants.{Crccc, Rlm}
+use Rattle.application_types.specs.declared.unit_types.action.Operand.TheVariants.{Field as FieldOf, Literal, Digits, Header}
 use Rattle.kdcs_types.specs.declared.call.Code.TheVariants.{K01}
 use Rattle.kdcs_types.specs.declared.key.Area.TheVariants.{Gssb}
 use Rattle.kdcs_types.specs.declared.service.Note.{Note}
@@ -19,8 +20,8 @@ use Rattle.abstract_monitor.specs.Commands.{ScriptStep, Maker, ByTick, ByShow, B
 use Rattle.abstract_monitor.specs.Trace.{history}
 use Rattle.abstract_monitor.specs.Listing.{listing}
 use Rattle.abstract_monitor.specs.Made.{made_lines, made_application, made_script}
-use Rattle.laws_of_steps.specs.Commits.{is_serial}
-use Rattle.laws_of_steps.specs.Replay.{noted_area}
+use Rattle.laws_of_states.specs.Commits.{is_serial}
+use Rattle.laws_of_states.specs.Replay.{noted_area}
 use Rattle.abstract_examples.specs.Sample.{shop, hello_as, classed, locked, redelivering, with_dead_letters}
 use Rattle.abstract_examples.specs.SampleUnits.{field, at}
 use Rattle.abstract_examples.specs.Words.{prints, prints_from, stores, stores_from, lists, p1, p2, s1, s2, signed_1, signed_both}

@@ -1,14 +1,14 @@
 -- The sample application SHOP: two terminals with users, a printer, and 32 TACs, each with a program of its name.
 use Rattle.std.specs.Prelude.{ℕ, Bool, true, false, List, [], ◌∷◌, Option, Some, None, codes}
-use Rattle.kdcdef_types.specs.declared.entry.CallUse.{CallUse}
-use Rattle.kdcdef_types.specs.declared.entry.CallUse.TheVariants.{Both, First, Next as NextOnly}
-use Rattle.kdcdef_types.specs.declared.entry.KeySet.TheVariants.{Codes}
-use Rattle.kdcdef_types.specs.declared.entry.TacEntry.{TacEntry}
-use Rattle.kdcdef_types.specs.Generation.{Generated}
+use Rattle.application_types.specs.declared.kdcdef_types.entry.CallUse.{CallUse}
+use Rattle.application_types.specs.declared.kdcdef_types.entry.CallUse.TheVariants.{Both, First, Next as NextOnly}
+use Rattle.application_types.specs.declared.kdcdef_types.entry.KeySet.TheVariants.{Codes}
+use Rattle.application_types.specs.declared.kdcdef_types.entry.TacEntry.{TacEntry}
+use Rattle.application_types.specs.Generation.{Generated}
 use Rattle.kd_base.specs.declared.words.Variant.TheVariants.{Er}
-use Rattle.unit_types.specs.declared.action.Action.TheVariants.{Init, Pend}
-use Rattle.unit_types.specs.declared.action.UnitStatement.{UnitStatement}
-use Rattle.unit_types.specs.declared.unit.Field.{Field}
+use Rattle.application_types.specs.declared.unit_types.action.Action.TheVariants.{Init, Pend}
+use Rattle.application_types.specs.declared.unit_types.action.UnitStatement.{UnitStatement}
+use Rattle.application_types.specs.declared.unit_types.unit.Field.{Field}
 use Rattle.abstract_monitor.specs.Made.{made_generation}
 use Rattle.abstract_monitor.specs.State.{Application}
 use Rattle.abstract_examples.specs.SampleUnits.{unit, at, hello_unit, other_units}

@@ -2,14 +2,15 @@
 use Rattle.std.specs.Prelude.{ℕ, Bool, true, false, List, [], ◌∷◌, Some, None, codes}
 use Rattle.kd_base.specs.declared.words.Mode.TheVariants.{Relative}
 use Rattle.kd_base.specs.declared.words.Variant.TheVariants.{Kp, Pa, Re, Sp, Fi, Fc, Er, Rs}
-use Rattle.unit_types.specs.declared.action.Action.{Action}
-use Rattle.unit_types.specs.declared.action.Action.TheVariants.{Move, Join, Add, If, Jump, Init, Mget, Mput, Fget, Fput, Dput, SgetGb, SputGb, SgetKp, SputMs, SputUs, Gtda, Ptda, UnlkGb, Pend}
-use Rattle.unit_types.specs.declared.action.HeaderName.TheVariants.{Crccc}
-use Rattle.unit_types.specs.declared.action.Operand.TheVariants.{Field as FieldOf, Literal, Digits, Header, Trim}
-use Rattle.unit_types.specs.declared.action.Relation.TheVariants.{Ne}
-use Rattle.unit_types.specs.declared.action.UnitStatement.{UnitStatement}
-use Rattle.unit_types.specs.declared.unit.Field.{Field}
-use Rattle.unit_types.specs.UnitText.{UnitText}
+use Rattle.application_types.specs.declared.unit_types.action.Action.{Action}
+use Rattle.application_types.specs.declared.unit_types.action.Action.TheVariants.{Move, Join, Add, If, Jump, Init, Mget, Mput, Fget, Fput, Dput, SgetGb, SputGb, SgetKp, SputMs, SputUs, Gtda, Ptda}
+use Rattle.application_types.specs.declared.unit_types.action.Action.TheVariants.{UnlkGb, Pend}
+use Rattle.application_types.specs.declared.unit_types.action.HeaderName.TheVariants.{Crccc}
+use Rattle.application_types.specs.declared.unit_types.action.Operand.TheVariants.{Field as FieldOf, Literal, Digits, Header, Trim}
+use Rattle.application_types.specs.declared.unit_types.action.Relation.TheVariants.{Ne}
+use Rattle.application_types.specs.declared.unit_types.action.UnitStatement.{UnitStatement}
+use Rattle.application_types.specs.declared.unit_types.unit.Field.{Field}
+use Rattle.application_types.specs.UnitText.{UnitText}
 use Rattle.abstract_monitor.specs.Made.{from_line}
 
 abbrev pub unit : List ℕ → ℕ → List Field → List (List ℕ × ℕ) → List UnitStatement → UnitText

@@ -1,7 +1,7 @@
 -- Who may start what: a TAC with a lock is for those who have its code, the user and the LTERM of the terminal both.
 use Rattle.std.specs.Prelude.{ℕ, Bool, true, false, Option, Some, None}
-use Rattle.kdcdef_types.specs.declared.entry.KeySet.{KeySet}
-use Rattle.kdcdef_types.specs.Generation.{Generated, keys_have, lock_of, user_keys, lterm_keys}
+use Rattle.application_types.specs.declared.kdcdef_types.entry.KeySet.{KeySet}
+use Rattle.application_types.specs.Generation.{Generated, keys_have, lock_of, user_keys, lterm_keys}
 use Rattle.abstract_monitor.specs.declared.access.Denial.{Denial}
 use Rattle.abstract_monitor.specs.declared.access.Denial.TheVariants.{User, Lterm}
 use Rattle.abstract_monitor.specs.Bytes.{Bytes}

@@ -11,7 +11,7 @@ use Rattle.kdcs_types.specs.declared.service.Service.{Service}
 use Rattle.kdcs_types.specs.Keys.{area_key}
 use Rattle.kdcs_types.specs.RowLaws.{sorted_with_change}
 use Rattle.kdcs_types.specs.Tables.{TableRows, IsSortedTables, change_fits, change_key, with_change}
-use Rattle.kdcdef_types.specs.Generation.{Generated}
+use Rattle.application_types.specs.Generation.{Generated}
 use Rattle.abstract_monitor.specs.Bytes.{Bytes}
 use Rattle.abstract_monitor.specs.Endings.{area_change, with_areas, without_own_job, job_change, with_own_fate}
 

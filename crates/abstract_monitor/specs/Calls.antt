@@ -1,5 +1,6 @@
 -- What each KDCS call answers, and how it changes the open transaction. A call is told of the outside in one value, by the running system or by a replay.
-use Rattle.std.specs.Prelude.{ℕ, ◌+◌, ◌*◌, Bool, true, false, ◌&&◌, not, List, [], ◌∷◌, ◌++◌, length, sum_by, filter, Option, Some, None, Result, Ok, Err, nat_lt, nat_le, is_some, bytes_eq, if◌then◌else◌}
+use Rattle.std.specs.Prelude.{ℕ, ◌+◌, ◌*◌, Bool, true, false, ◌&&◌, not, List, [], ◌∷◌, ◌++◌, length, sum_by, filter, Option, Some, None, Result, Ok, Err, nat_lt, nat_le, is_some, bytes_eq}
+use Rattle.std.specs.Prelude.{if◌then◌else◌}
 use Rattle.std.specs.List.{list_any}
 use Rattle.std.specs.FinMap.{find, put}
 use Rattle.std.specs.FinMap.Entries.{where_key}
@@ -9,7 +10,8 @@ use Rattle.kd_base.specs.declared.words.Variant.TheVariants.{Fc}
 use Rattle.kd_base.specs.declared.words.Mode.{Mode}
 use Rattle.kd_base.specs.declared.words.Mode.TheVariants.{Relative, Absolute}
 use Rattle.kdcs_types.specs.declared.call.Call.{Call}
-use Rattle.kdcs_types.specs.declared.call.Call.TheVariants.{Init, Mget, Mput, Fget, Fput, Dput, SgetGb, SputGb, SrelGb, SgetKp, SgetRl, SputMs, SrelLb, SgetUs, SputUs, Gtda, Ptda, UnlkGb, UnlkUs, UnlkDa, Pend}
+use Rattle.kdcs_types.specs.declared.call.Call.TheVariants.{Init, Mget, Mput, Fget, Fput, Dput, SgetGb, SputGb, SrelGb, SgetKp, SgetRl, SputMs, SrelLb, SgetUs, SputUs, Gtda, Ptda, UnlkGb, UnlkUs}
+use Rattle.kdcs_types.specs.declared.call.Call.TheVariants.{UnlkDa, Pend}
 use Rattle.kdcs_types.specs.declared.call.Cause.{Cause}
 use Rattle.kdcs_types.specs.declared.call.Cause.TheVariants.{E01, E02, E12}
 use Rattle.kdcs_types.specs.declared.call.Code.{Code}
@@ -20,9 +22,9 @@ use Rattle.kdcs_types.specs.declared.key.Area.TheVariants.{Gssb, Tls, Uls}
 use Rattle.kdcs_types.specs.declared.key.Target.{Target}
 use Rattle.kdcs_types.specs.declared.key.Target.TheVariants.{Tac, Lterm}
 use Rattle.kdcs_types.specs.declared.service.Note.TheVariants.{Released, Refused}
-use Rattle.kdcdef_types.specs.declared.entry.TacEntry.{TacEntry}
-use Rattle.kdcdef_types.specs.declared.entry.LtermEntry.{LtermEntry}
-use Rattle.kdcdef_types.specs.Generation.{Generated, tac_of, lterm_of, has_tls, has_uls}
+use Rattle.application_types.specs.declared.kdcdef_types.entry.TacEntry.{TacEntry}
+use Rattle.application_types.specs.declared.kdcdef_types.entry.LtermEntry.{LtermEntry}
+use Rattle.application_types.specs.Generation.{Generated, tac_of, lterm_of, has_tls, has_uls}
 use Rattle.abstract_monitor.specs.declared.access.Denial.{Denial}
 use Rattle.abstract_monitor.specs.declared.answer.LockAnswer.{LockAnswer}
 use Rattle.abstract_monitor.specs.declared.answer.LockAnswer.TheVariants.{Granted, Wait, Busy, Deadlock}
@@ -35,7 +37,7 @@ use Rattle.abstract_monitor.specs.Bytes.{Bytes, bytes_cmp}
 use Rattle.abstract_monitor.specs.Access.{Rule, denial_of}
 use Rattle.kdcs_types.specs.Keys.{area_cmp, area_eq}
 use Rattle.kd_base.specs.Text.{trim_end}
-use Rattle.unit_semantics.specs.Contents.{number_of}
+use Rattle.abstract_monitor.specs.Contents.{number_of}
 use Rattle.abstract_monitor.specs.State.{OpenTransaction}
 use Rattle.abstract_monitor.specs.Outcomes.{goes_first, pend_outcome}
 

@@ -1,5 +1,6 @@
 -- What each script command does.
-use Rattle.std.specs.Prelude.{ℕ, zero, suc, ◌+◌, Bool, true, false, not, List, [], ◌∷◌, ◌++◌, map, replicate, filter, flat_map, codes, decimal, bytes_eq, Option, Some, None, nat_le, ◌==◌, if◌then◌else◌}
+use Rattle.std.specs.Prelude.{ℕ, zero, suc, ◌+◌, Bool, true, false, not, List, [], ◌∷◌, ◌++◌, map, replicate, filter, flat_map, codes, decimal, bytes_eq, Option, Some, None, nat_le, ◌==◌}
+use Rattle.std.specs.Prelude.{if◌then◌else◌}
 use Rattle.std.specs.FinMap.{find, put}
 use Rattle.std.specs.FinMap.Entries.{where_key}
 use Rattle.kdcs_types.specs.declared.act.Act.{Act}
@@ -14,7 +15,7 @@ use Rattle.kdcs_types.specs.declared.service.Job.{Job}
 use Rattle.kdcs_types.specs.declared.service.JobValue.{JobValue}
 use Rattle.kdcs_types.specs.declared.service.Service.{Service}
 use Rattle.kdcs_types.specs.declared.service.Settled.{Settled}
-use Rattle.kdcdef_types.specs.Generation.{pterm_of}
+use Rattle.application_types.specs.Generation.{pterm_of}
 use Rattle.kd_base.specs.Limits.{last_clock}
 use Rattle.kdcs_types.specs.Tables.{TableRows, service_of, shown_of, with_change}
 use Rattle.kdcs_types.specs.Keys.{id_cmp, id_eq}

@@ -1,7 +1,7 @@
 -- Which commands a generation allows.
 use Rattle.std.specs.Prelude.{Bool, IsTrue, is_some}
-use Rattle.kdcdef_types.specs.Generation.{Generated, pterm_of}
-use Rattle.kdcdef_types.specs.Statements.{IsWithin}
+use Rattle.application_types.specs.Generation.{Generated, pterm_of}
+use Rattle.application_types.specs.Statements.{IsWithin}
 use Rattle.abstract_monitor.specs.declared.command.Command.{Command}
 use Rattle.abstract_monitor.specs.declared.command.Command.TheVariants.{Input, Tick, Run, Turn, Drop, Print, PrintLast, Restart}
 use Rattle.abstract_monitor.specs.Bytes.{Bytes}

@@ -5,19 +5,19 @@ use Rattle.kdcs_types.specs.declared.act.Act.{Act}
 use Rattle.kdcs_types.specs.declared.act.Act.TheVariants.{Commit, Emit}
 use Rattle.kdcs_types.specs.declared.key.Area.TheVariants.{Gssb}
 use Rattle.kdcs_types.specs.Tables.{TableRows, empty_tables, content_of}
-use Rattle.kdcdef_types.specs.declared.entry.CallUse.TheVariants.{Both}
-use Rattle.kdcdef_types.specs.declared.entry.TacEntry.{TacEntry}
-use Rattle.kdcdef_types.specs.declared.entry.UserEntry.{UserEntry}
-use Rattle.kdcdef_types.specs.declared.entry.PtermEntry.{PtermEntry}
-use Rattle.kdcdef_types.specs.declared.entry.LtermEntry.{LtermEntry}
-use Rattle.kdcdef_types.specs.Generation.{Generated}
-use Rattle.unit_types.specs.declared.action.Action.{Action}
-use Rattle.unit_types.specs.declared.action.Action.TheVariants.{Add, Init, Mget, Mput, Fget, Fput, SgetGb, SputGb, Pend}
-use Rattle.unit_types.specs.declared.action.Operand.{Operand}
-use Rattle.unit_types.specs.declared.action.Operand.TheVariants.{Field as FieldOf, Literal, Digits}
-use Rattle.unit_types.specs.declared.action.UnitStatement.{UnitStatement}
-use Rattle.unit_types.specs.declared.unit.Field.{Field}
-use Rattle.unit_types.specs.UnitText.{UnitText}
+use Rattle.application_types.specs.declared.kdcdef_types.entry.CallUse.TheVariants.{Both}
+use Rattle.application_types.specs.declared.kdcdef_types.entry.TacEntry.{TacEntry}
+use Rattle.application_types.specs.declared.kdcdef_types.entry.UserEntry.{UserEntry}
+use Rattle.application_types.specs.declared.kdcdef_types.entry.PtermEntry.{PtermEntry}
+use Rattle.application_types.specs.declared.kdcdef_types.entry.LtermEntry.{LtermEntry}
+use Rattle.application_types.specs.Generation.{Generated}
+use Rattle.application_types.specs.declared.unit_types.action.Action.{Action}
+use Rattle.application_types.specs.declared.unit_types.action.Action.TheVariants.{Add, Init, Mget, Mput, Fget, Fput, SgetGb, SputGb, Pend}
+use Rattle.application_types.specs.declared.unit_types.action.Operand.{Operand}
+use Rattle.application_types.specs.declared.unit_types.action.Operand.TheVariants.{Field as FieldOf, Literal, Digits}
+use Rattle.application_types.specs.declared.unit_types.action.UnitStatement.{UnitStatement}
+use Rattle.application_types.specs.declared.unit_types.unit.Field.{Field}
+use Rattle.application_types.specs.UnitText.{UnitText}
 use Rattle.abstract_monitor.specs.Bytes.{Bytes}
 use Rattle.abstract_monitor.specs.State.{Application}
 use Rattle.abstract_monitor.specs.Calls.{or_empty}

@@ -4,9 +4,9 @@ use Rattle.kd_base.specs.declared.words.Variant.{Variant}
 use Rattle.kd_base.specs.declared.words.Variant.TheVariants.{Kp, Pr, Pa, Re, Sp, Fi, Fc, Fr, Er, Rs}
 use Rattle.kdcs_types.specs.declared.call.Cause.{Cause}
 use Rattle.kdcs_types.specs.declared.call.Cause.TheVariants.{E03, E04, E05}
-use Rattle.kdcdef_types.specs.declared.entry.CallUse.{CallUse}
-use Rattle.kdcdef_types.specs.declared.entry.CallUse.TheVariants.{Both, First, Next}
-use Rattle.kdcdef_types.specs.declared.entry.TacEntry.{TacEntry}
+use Rattle.application_types.specs.declared.kdcdef_types.entry.CallUse.{CallUse}
+use Rattle.application_types.specs.declared.kdcdef_types.entry.CallUse.TheVariants.{Both, First, Next}
+use Rattle.application_types.specs.declared.kdcdef_types.entry.TacEntry.{TacEntry}
 use Rattle.abstract_monitor.specs.declared.outcome.Outcome.{Outcome}
 use Rattle.abstract_monitor.specs.declared.outcome.Outcome.TheVariants.{Stay, Queue, Hold, Wait, Point, Finish, Follow, Break, Back}
 use Rattle.abstract_monitor.specs.Bytes.{Bytes}

@@ -6,8 +6,8 @@ use Rattle.kdcs_types.specs.declared.key.ServiceId.TheVariants.{Asynchronous}
 use Rattle.kdcs_types.specs.declared.key.Target.{Target}
 use Rattle.kdcs_types.specs.declared.key.Target.TheVariants.{Tac, Lterm}
 use Rattle.kdcs_types.specs.declared.service.Job.{Job}
-use Rattle.kdcdef_types.specs.declared.entry.TacEntry.{TacEntry}
-use Rattle.kdcdef_types.specs.Generation.{Generated, tac_of, class_limit}
+use Rattle.application_types.specs.declared.kdcdef_types.entry.TacEntry.{TacEntry}
+use Rattle.application_types.specs.Generation.{Generated, tac_of, class_limit}
 use Rattle.abstract_monitor.specs.declared.work.Work.{Work}
 use Rattle.abstract_monitor.specs.declared.work.Work.TheVariants as work
 use Rattle.abstract_monitor.specs.Bytes.{Bytes}

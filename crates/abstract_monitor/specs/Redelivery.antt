@@ -2,7 +2,7 @@
 use Rattle.std.specs.Prelude.{ℕ, ◌+◌, Bool, true, false, ◌||◌, min, Option, Some, None, nat_lt, is_some, codes, ◌==◌}
 use Rattle.kdcs_types.specs.declared.key.Target.TheVariants.{Lterm}
 use Rattle.kdcs_types.specs.declared.service.JobValue.{JobValue}
-use Rattle.kdcdef_types.specs.Generation.{Generated, lterm_of}
+use Rattle.application_types.specs.Generation.{Generated, lterm_of}
 use Rattle.abstract_monitor.specs.Bytes.{Bytes}
 
 -- MAX REDELIVERY=255 sets no limit

@@ -5,9 +5,9 @@ use Rattle.kdcs_types.specs.declared.key.ServiceId.{ServiceId}
 use Rattle.kdcs_types.specs.declared.service.Service.{Service}
 use Rattle.kdcs_types.specs.declared.service.Note.{Note}
 use Rattle.kdcs_types.specs.declared.run_state.RunState.{RunState}
-use Rattle.kdcdef_types.specs.declared.entry.TacEntry.{TacEntry}
-use Rattle.kdcdef_types.specs.Generation.{Generated, tac_of}
-use Rattle.unit_types.specs.UnitText.{UnitText}
+use Rattle.application_types.specs.declared.kdcdef_types.entry.TacEntry.{TacEntry}
+use Rattle.application_types.specs.Generation.{Generated, tac_of}
+use Rattle.application_types.specs.UnitText.{UnitText}
 use Rattle.abstract_monitor.specs.declared.draft.Draft.{Draft}
 use Rattle.abstract_monitor.specs.Bytes.{Bytes}
 use Rattle.kdcs_types.specs.Tables.{TableRows}

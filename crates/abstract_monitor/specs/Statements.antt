@@ -14,7 +14,7 @@ use Rattle.kdcs_types.specs.declared.service.Ending.TheVariants.{Broken, BrokenF
 use Rattle.kdcs_types.specs.declared.service.Note.{Note}
 use Rattle.kdcs_types.specs.declared.service.Service.{Service}
 use Rattle.kdcs_types.specs.declared.service.Settled.{Settled}
-use Rattle.unit_types.specs.UnitText.{UnitText}
+use Rattle.application_types.specs.UnitText.{UnitText}
 use Rattle.abstract_monitor.specs.declared.answer.Called.{Called}
 use Rattle.abstract_monitor.specs.declared.answer.Called.TheVariants.{Replied, Waits, Abnormal, Pends}
 use Rattle.abstract_monitor.specs.declared.answer.Happened.{Happened}
@@ -22,7 +22,7 @@ use Rattle.abstract_monitor.specs.declared.answer.Happened.TheVariants.{Went, Qu
 use Rattle.abstract_monitor.specs.declared.outcome.Outcome.{Outcome}
 use Rattle.abstract_monitor.specs.declared.outcome.Outcome.TheVariants.{Hold, Stay, Queue, Wait, Point, Follow, Finish, Break, Back}
 use Rattle.abstract_monitor.specs.Bytes.{Bytes}
-use Rattle.unit_semantics.specs.Statement.{Meaning, Plain, Asks, Ends, step, answered}
+use Rattle.abstract_monitor.specs.Statement.{Meaning, Plain, Asks, Ends, step, answered}
 use Rattle.abstract_monitor.specs.State.{Application, OpenTransaction, unit_of}
 use Rattle.abstract_monitor.specs.Calls.{Told, Performed, name_in_operand, call_outcome}
 use Rattle.abstract_monitor.specs.Endings.{followed}

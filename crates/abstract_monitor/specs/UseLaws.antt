@@ -4,9 +4,9 @@ use Rattle.std.specs.FinMap.{find}
 use Rattle.std.specs.List.{list_any}
 use Rattle.kd_base.specs.Text.{name_of}
 use Rattle.kdcs_types.specs.declared.key.ServiceId.TheVariants.{Dialogue}
-use Rattle.kdcdef_types.specs.declared.entry.TacEntry.{TacEntry}
-use Rattle.kdcdef_types.specs.declared.entry.UserEntry.{UserEntry}
-use Rattle.kdcdef_types.specs.Generation.{Generated, user_of}
+use Rattle.application_types.specs.declared.kdcdef_types.entry.TacEntry.{TacEntry}
+use Rattle.application_types.specs.declared.kdcdef_types.entry.UserEntry.{UserEntry}
+use Rattle.application_types.specs.Generation.{Generated, user_of}
 use Rattle.abstract_monitor.specs.declared.access.Denial.{Denial}
 use Rattle.abstract_monitor.specs.declared.input_use.ServiceState.{ServiceState}
 use Rattle.abstract_monitor.specs.declared.input_use.ServiceState.TheVariants.{NoService, Awaits, Running}
@@ -16,7 +16,8 @@ use Rattle.abstract_monitor.specs.Bytes.{Bytes, bytes_cmp}
 use Rattle.abstract_monitor.specs.Access.{denial_of}
 use Rattle.abstract_monitor.specs.Commands.{lterm_at, user_by, use_now}
 use Rattle.abstract_monitor.specs.Outcomes.{goes_first}
-use Rattle.abstract_monitor.specs.Sessions.{Split, split_at, first_word, after_word, is_running, is_awaiting, service_state_by, service_state, same_password, has_user, sign_by, sign_user, sign_name, sign_on_use, use_unsigned, admitted, start_by, tac_named, use_of_text, off_use, use_signed, use_by, use_under, use_of}
+use Rattle.abstract_monitor.specs.Sessions.{Split, split_at, first_word, after_word, is_running, is_awaiting, service_state_by, service_state, same_password, has_user, sign_by, sign_user, sign_name}
+use Rattle.abstract_monitor.specs.Sessions.{sign_on_use, use_unsigned, admitted, start_by, tac_named, use_of_text, off_use, use_signed, use_by, use_under, use_of}
 use Rattle.abstract_monitor.specs.State.{Application, Session, State}
 
 -- the user is signed on at the terminal, and its service is neither ready nor in a task

@@ -1,5 +1,6 @@
 //! The abstract monitor: what KDCS calls, PENDs, turns of tasks, terminal inputs and script commands do, as definitions
-//! over lists and whole tables that compute; and the data types that they need beside those below.
+//! over lists and whole tables that compute; what a plain statement of a unit means (`unit_semantics`); and the data types that
+//! they need beside those below.
 //!
 //! It stands on the data types, the generation and the units. A crate above proves each of its calls against one
 //! definition: `denial_of`, `call_outcome`, `pend_outcome`, `synchronised`, `broken`, `due_job`, `pick`, `use_of`,
@@ -12,6 +13,7 @@ mod command;
 mod draft;
 mod input_use;
 mod outcome;
+pub mod unit_semantics;
 mod work;
 
 pub use access::Denial;

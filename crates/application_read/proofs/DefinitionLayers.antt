@@ -2,21 +2,21 @@
 use Rattle.std.proofs.Common.{◌≡◌, ◌≢◌, ℕ, List, Result, Ok, Err, refl, sym, ap, subst, ◌∙◌}
 use Rattle.kd_base.specs.ToolsLaws.{ok_is}
 use Rattle.kd_base.specs.FirstFaultsLaws.{holds_unless}
-use Rattle.kdcdef_lex.specs.declared.fault.LexFault.{LexFault}
-use Rattle.kdcdef_lex.specs.Reading.{is_memory as is_lex_memory, Gives as LexGives}
-use Rattle.kdcdef_lex.specs.Faults.{HasTextFault}
-use Rattle.kdcdef_lex.specs.Spelling.{SpellsStatements}
-use Rattle.kdcdef_lex.specs.declared.statement.RawStatement.{RawStatement}
-use Rattle.kdcdef_types.specs.declared.statement.Statement.{Statement}
-use Rattle.kdcdef_types.specs.Generation.{Generated}
+use Rattle.texts.specs.declared.kdcdef_lex.fault.LexFault.{LexFault}
+use Rattle.texts.specs.Reading.{is_memory as is_lex_memory, Gives as LexGives}
+use Rattle.texts.specs.Faults.{HasTextFault}
+use Rattle.texts.specs.Spelling.{SpellsStatements}
+use Rattle.texts.specs.declared.kdcdef_lex.statement.RawStatement.{RawStatement}
+use Rattle.application_types.specs.declared.kdcdef_types.statement.Statement.{Statement}
+use Rattle.application_types.specs.Generation.{Generated}
 use Rattle.kdcdef_read.specs.declared.fault.ReadFault.{ReadFault}
 use Rattle.kdcdef_read.specs.declared.fault.ReadFault.TheVariants.{Memory as ReadMemory}
 use Rattle.kdcdef_read.specs.Faults.{is_memory as is_read_memory}
 use Rattle.kdcdef_read.specs.Steps.{Gives as ReadGives}
 use Rattle.kdcdef_read.specs.Meaning.{StandFor, HasFault as HasReadFault}
-use Rattle.kdcdef_check.specs.declared.fault.CheckFault.{CheckFault}
-use Rattle.kdcdef_check.specs.Faults.{is_memory as is_check_memory, Gives as CheckGives, AreFaultless, IsFirstFault}
-use Rattle.kdcdef_check.specs.Generating.{generated}
+use Rattle.application_check.specs.declared.kdcdef_check.fault.CheckFault.{CheckFault}
+use Rattle.application_check.specs.Faults.{is_memory as is_check_memory, Gives as CheckGives, AreFaultless, IsFirstFault}
+use Rattle.application_check.specs.Generating.{generated}
 use Rattle.application_read.specs.declared.definition_fault.DefinitionFault.{DefinitionFault}
 use Rattle.application_read.specs.declared.definition_fault.DefinitionFault.TheVariants.{Lex, Read, Check, Memory}
 use Rattle.application_read.specs.Causes.{of_lex, of_read, of_check}

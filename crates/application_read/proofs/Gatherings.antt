@@ -2,13 +2,13 @@
 use Rattle.std.proofs.Common.{◌≡◌, ◌+◌, ◌<◌, ◌≤◌, List, [], ◌∷◌, ◌++◌, Some, None, Result, Ok, Err, refl, sym, ap, ◌∙◌, arith, append_assoc, append-nil}
 use Rattle.std.specs.List.{All}
 use Rattle.std.proofs.lemmas.List.Elements.{All-append, All-cons, All-nil}
-use Rattle.kdcdef_types.specs.declared.statement.Statement.{Statement}
+use Rattle.application_types.specs.declared.kdcdef_types.statement.Statement.{Statement}
 use Rattle.kdcdef_read.specs.declared.fault.ReadFault.{ReadFault}
 use Rattle.kdcdef_read.specs.Left.{Left}
 use Rattle.kdcdef_read.specs.Reading.{followed}
 use Rattle.kdcdef_read.specs.Steps.{with_front}
-use Rattle.kdcdef_check.specs.declared.gathered.Gathered.{Gathered}
-use Rattle.kdcdef_check.specs.Gathering.{IsBehind, WereGathered, OfGathered}
+use Rattle.application_check.specs.declared.kdcdef_check.gathered.Gathered.{Gathered}
+use Rattle.application_check.specs.Gathering.{IsBehind, WereGathered, OfGathered}
 
 -- the statements that were gathered are those before what is left to read
 pub record AreBefore (read : Result (List Statement) ReadFault) (left : Left) (g : Gathered) : Type 0 where

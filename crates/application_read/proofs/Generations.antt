@@ -1,14 +1,14 @@
 -- What texts generate is sound, and its units fit it.
 use Rattle.std.proofs.Common.{ℕ, List, [], sym, subst}
-use Rattle.kdcdef_types.specs.declared.entry.TacEntry.{TacEntry}
-use Rattle.kdcdef_types.specs.declared.limits.Limits.{Limits}
-use Rattle.kdcdef_types.specs.Generation.{Generated}
-use Rattle.kdcdef_lex.proofs.Bounds.{are_within_bounds}
+use Rattle.application_types.specs.declared.kdcdef_types.entry.TacEntry.{TacEntry}
+use Rattle.application_types.specs.declared.kdcdef_types.limits.Limits.{Limits}
+use Rattle.application_types.specs.Generation.{Generated}
+use Rattle.texts.proofs.kdcdef_lex.Bounds.{are_within_bounds}
 use Rattle.kdcdef_read.proofs.Apart.{are_read}
-use Rattle.kdcdef_check.specs.Soundness.{IsSound}
-use Rattle.kdcdef_check.proofs.Sound.{sound}
-use Rattle.unit_types.specs.UnitText.{UnitText}
-use Rattle.unit_check.specs.Fitted.{IsFit, AreFit}
+use Rattle.application_check.specs.Soundness.{IsSound}
+use Rattle.application_check.proofs.kdcdef_check.Sound.{sound}
+use Rattle.application_types.specs.UnitText.{UnitText}
+use Rattle.application_check.specs.Fitted.{IsFit, AreFit}
 use Rattle.application_read.specs.Definition.{Generates}
 use Rattle.application_read.specs.Texts.{TextsGenerate}
 use Rattle.application_read.specs.declared.application.Application.{Application}

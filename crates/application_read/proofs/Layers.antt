@@ -2,22 +2,22 @@
 use Rattle.std.proofs.Common.{◌≡◌, ◌≢◌, ℕ, Bool, true, List, Result, Ok, Err, refl, ap, subst, ◌∙◌}
 use Rattle.std.specs.Prelude.{IsErrAnd, IfErr}
 use Rattle.kd_base.specs.ToolsLaws.{ok_of, ok_is}
-use Rattle.kdcdef_types.specs.Generation.{Generated}
+use Rattle.application_types.specs.Generation.{Generated}
 use Rattle.application_read.specs.declared.definition_fault.DefinitionFault.{DefinitionFault}
 use Rattle.application_read.specs.declared.definition_fault.DefinitionFault.TheVariants as faults
 use Rattle.application_read.specs.Definition.{Generates, HasFault, is_memory as is_definition_memory, Gives as DefinitionGives}
 use Rattle.application_read.specs.Handed.{handed_in}
 use Rattle.application_read.specs.HandedLaws.{HandedOn, handed_on, stands, made_of, stands_in}
-use Rattle.unit_types.specs.UnitText.{UnitText}
+use Rattle.application_types.specs.UnitText.{UnitText}
 use Rattle.unit_read.specs.declared.fault.UnitFault.{UnitFault}
 use Rattle.unit_read.specs.declared.fault.UnitFault.TheVariants as unit_faults
 use Rattle.unit_read.specs.Spelling.{SpellsUnits}
 use Rattle.unit_read.specs.Faults.{HasTextFault}
 use Rattle.unit_read.specs.Answers.{is_memory as is_units_memory, Gives as UnitsGive}
-use Rattle.unit_check.specs.declared.fault.FitFault.{FitFault}
-use Rattle.unit_check.specs.declared.fault.FitFault.TheVariants as fit_faults
-use Rattle.unit_check.specs.Fitted.{FittedUnits, AreFittedTo}
-use Rattle.unit_check.specs.Faults.{IsFirstFault, is_memory as is_fit_memory, Gives as FitGives}
+use Rattle.application_check.specs.declared.unit_check.fault.FitFault.{FitFault}
+use Rattle.application_check.specs.declared.unit_check.fault.FitFault.TheVariants as fit_faults
+use Rattle.application_check.specs.Fitted.{FittedUnits, AreFittedTo}
+use Rattle.application_check.specs.FitFaults.{IsFirstFault, is_memory as is_fit_memory, Gives as FitGives}
 use Rattle.application_read.specs.declared.application.Application.{Application}
 use Rattle.application_read.specs.declared.fault.ApplicationFault.{ApplicationFault}
 use Rattle.application_read.specs.declared.fault.ApplicationFault.TheVariants.{Definition, Units, Fit, Memory}

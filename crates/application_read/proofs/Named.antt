@@ -7,15 +7,15 @@ use Rattle.std.proofs.lemmas.Bool.{cases_Bool, leb-true}
 use Rattle.std.proofs.lemmas.List.Elements.{All-nil, All-cons}
 use Rattle.kd_base.specs.Text.{is_name_byte, IsName}
 use Rattle.kd_base.specs.ToolsLaws.{both_true, some_is, map_some, and_some, bind_ok, ok_is}
-use Rattle.kdcdef_lex.specs.declared.statement.RawOperand.{RawOperand}
-use Rattle.kdcdef_lex.specs.declared.statement.RawStatement.{RawStatement}
-use Rattle.kdcdef_lex.specs.declared.statement.RawValue.{RawValue}
-use Rattle.kdcdef_lex.specs.declared.statement.RawValue.TheVariants as raw
-use Rattle.kdcdef_types.specs.declared.entry.KeySet.{KeySet}
-use Rattle.kdcdef_types.specs.declared.entry.TacEntry.{TacEntry}
-use Rattle.kdcdef_types.specs.declared.statement.Said.{Said}
-use Rattle.kdcdef_types.specs.declared.statement.Said.TheVariants.{Program, Tac, User, Lterm, Tls, Uls, TacClass, Kset, Passed, End}
-use Rattle.kdcdef_types.specs.declared.statement.Statement.{Statement}
+use Rattle.texts.specs.declared.kdcdef_lex.statement.RawOperand.{RawOperand}
+use Rattle.texts.specs.declared.kdcdef_lex.statement.RawStatement.{RawStatement}
+use Rattle.texts.specs.declared.kdcdef_lex.statement.RawValue.{RawValue}
+use Rattle.texts.specs.declared.kdcdef_lex.statement.RawValue.TheVariants as raw
+use Rattle.application_types.specs.declared.kdcdef_types.entry.KeySet.{KeySet}
+use Rattle.application_types.specs.declared.kdcdef_types.entry.TacEntry.{TacEntry}
+use Rattle.application_types.specs.declared.kdcdef_types.statement.Said.{Said}
+use Rattle.application_types.specs.declared.kdcdef_types.statement.Said.TheVariants.{Program, Tac, User, Lterm, Tls, Uls, TacClass, Kset, Passed, End}
+use Rattle.application_types.specs.declared.kdcdef_types.statement.Statement.{Statement}
 use Rattle.kdcdef_read.specs.declared.fault.ReadFault.{ReadFault}
 use Rattle.kdcdef_read.specs.declared.rows.Kind.TheVariants as kinds
 use Rattle.kdcdef_read.specs.declared.value.Value.{Value}
@@ -35,7 +35,7 @@ use Rattle.kdcdef_read.specs.Said.{name_at, prog_name_at, number_at, class_at, f
 use Rattle.kdcdef_read.specs.Meaning.{statement, shared, form_says, Say}
 use Rattle.kdcdef_read.proofs.Fitting.{row_with, answer_keeps}
 use Rattle.kdcdef_read.proofs.Ranges.{kept_is}
-use Rattle.kdcdef_check.specs.Steps.{IsNamed, AllNamed}
+use Rattle.application_check.specs.Steps.{IsNamed, AllNamed}
 
 -- ---- values
 

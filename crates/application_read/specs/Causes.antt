@@ -1,10 +1,10 @@
 -- The fault of a definition for a fault of one reader.
-use Rattle.kdcdef_lex.specs.declared.fault.LexFault.{LexFault}
-use Rattle.kdcdef_lex.specs.Reading.{is_memory as is_lex_memory}
+use Rattle.texts.specs.declared.kdcdef_lex.fault.LexFault.{LexFault}
+use Rattle.texts.specs.Reading.{is_memory as is_lex_memory}
 use Rattle.kdcdef_read.specs.declared.fault.ReadFault.{ReadFault}
 use Rattle.kdcdef_read.specs.Faults.{is_memory as is_read_memory}
-use Rattle.kdcdef_check.specs.declared.fault.CheckFault.{CheckFault}
-use Rattle.kdcdef_check.specs.Faults.{is_memory as is_check_memory}
+use Rattle.application_check.specs.declared.kdcdef_check.fault.CheckFault.{CheckFault}
+use Rattle.application_check.specs.Faults.{is_memory as is_check_memory}
 use Rattle.application_read.specs.declared.definition_fault.DefinitionFault.{DefinitionFault}
 use Rattle.application_read.specs.declared.definition_fault.DefinitionFault.TheVariants.{Lex, Read, Check, Memory}
 use Rattle.application_read.specs.Handed.{handed_in}

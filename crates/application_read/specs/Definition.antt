@@ -1,14 +1,14 @@
 -- What the text of a definition generates, and its first fault.
 use Rattle.std.specs.Prelude.{◌≡◌, ℕ, Bool, true, false, List, Result}
 use Rattle.kd_base.specs.FirstFaults.{GivesUnless}
-use Rattle.kdcdef_lex.specs.declared.statement.RawStatement.{RawStatement}
-use Rattle.kdcdef_lex.specs.Spelling.{SpellsStatements}
-use Rattle.kdcdef_lex.specs.Faults.{HasTextFault}
-use Rattle.kdcdef_types.specs.declared.statement.Statement.{Statement}
-use Rattle.kdcdef_types.specs.Generation.{Generated}
+use Rattle.texts.specs.declared.kdcdef_lex.statement.RawStatement.{RawStatement}
+use Rattle.texts.specs.Spelling.{SpellsStatements}
+use Rattle.texts.specs.Faults.{HasTextFault}
+use Rattle.application_types.specs.declared.kdcdef_types.statement.Statement.{Statement}
+use Rattle.application_types.specs.Generation.{Generated}
 use Rattle.kdcdef_read.specs.Meaning.{StandFor, HasFault as HasReadFault}
-use Rattle.kdcdef_check.specs.Generating.{generated}
-use Rattle.kdcdef_check.specs.Faults.{AreFaultless, IsFirstFault}
+use Rattle.application_check.specs.Generating.{generated}
+use Rattle.application_check.specs.Faults.{AreFaultless, IsFirstFault}
 use Rattle.application_read.specs.declared.definition_fault.DefinitionFault.{DefinitionFault}
 use Rattle.application_read.specs.declared.definition_fault.DefinitionFault.TheVariants.{Lex, Read, Check, Memory}
 

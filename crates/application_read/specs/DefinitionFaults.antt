@@ -1,8 +1,8 @@
 -- The line of a fault, and the name by which it is printed.
 use Rattle.std.specs.Prelude.{ℕ, List, codes}
-use Rattle.kdcdef_lex.specs.Faults.{line_of as line_of_lex, name_of as name_of_lex}
+use Rattle.texts.specs.Faults.{line_of as line_of_lex, name_of as name_of_lex}
 use Rattle.kdcdef_read.specs.Faults.{line_of as line_of_read, name_of as name_of_read}
-use Rattle.kdcdef_check.specs.Faults.{line_of as line_of_check, name_of as name_of_check}
+use Rattle.application_check.specs.Faults.{line_of as line_of_check, name_of as name_of_check}
 use Rattle.application_read.specs.declared.definition_fault.DefinitionFault.{DefinitionFault}
 use Rattle.application_read.specs.declared.definition_fault.DefinitionFault.TheVariants.{Lex, Read, Check, Memory}
 

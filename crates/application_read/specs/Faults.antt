@@ -2,9 +2,9 @@
 use Rattle.std.specs.Prelude.{ℕ, List, codes}
 use Rattle.application_read.specs.DefinitionFaults.{line_of as line_of_definition, name_of as name_of_definition}
 use Rattle.unit_read.specs.Faults.{line_of as line_of_units, name_of as name_of_units}
-use Rattle.unit_check.specs.declared.fault.FitFault.{FitFault}
-use Rattle.unit_check.specs.declared.fault.FitFault.TheVariants as fit
-use Rattle.unit_check.specs.Faults.{line_of as line_of_fit, name_of as name_of_fit}
+use Rattle.application_check.specs.declared.unit_check.fault.FitFault.{FitFault}
+use Rattle.application_check.specs.declared.unit_check.fault.FitFault.TheVariants as fit
+use Rattle.application_check.specs.FitFaults.{line_of as line_of_fit, name_of as name_of_fit}
 use Rattle.application_read.specs.declared.fault.ApplicationFault.{ApplicationFault}
 use Rattle.application_read.specs.declared.fault.ApplicationFault.TheVariants.{Definition, Units, Fit, Memory}
 

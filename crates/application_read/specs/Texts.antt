@@ -1,13 +1,13 @@
 -- What a definition and its units generate, and their first fault.
 use Rattle.std.specs.Prelude.{ℕ, Bool, true, false, List, Result}
 use Rattle.kd_base.specs.FirstFaults.{GivesUnless}
-use Rattle.kdcdef_types.specs.Generation.{Generated}
+use Rattle.application_types.specs.Generation.{Generated}
 use Rattle.application_read.specs.Definition.{Generates, HasFault}
-use Rattle.unit_types.specs.UnitText.{UnitText}
+use Rattle.application_types.specs.UnitText.{UnitText}
 use Rattle.unit_read.specs.Spelling.{SpellsUnits}
 use Rattle.unit_read.specs.Faults.{HasTextFault}
-use Rattle.unit_check.specs.Fitted.{FittedUnits, AreFittedTo}
-use Rattle.unit_check.specs.Faults.{IsFirstFault}
+use Rattle.application_check.specs.Fitted.{FittedUnits, AreFittedTo}
+use Rattle.application_check.specs.FitFaults.{IsFirstFault}
 use Rattle.application_read.specs.declared.application.Application.{Application}
 use Rattle.application_read.specs.declared.fault.ApplicationFault.{ApplicationFault}
 use Rattle.application_read.specs.declared.fault.ApplicationFault.TheVariants.{Definition, Units, Fit, Memory}

@@ -1,13 +1,14 @@
 //! From the texts to the application.
 ghost use Rattle.std.specs.Prelude.{◌≢◌, Ok, Err, IfOk, IfErr};
-ghost use Rattle.unit_check.specs.Fitted.{IsFit};
-ghost use Rattle.application_read.specs.{Texts.{TextsGenerate, TextsHaveFault, Gives}, declared.fault.ApplicationFault.{ApplicationFault as Fault}, declared.fault.ApplicationFault.TheVariants.{Memory}, declared.application.Application.{Application as Generated}};
+ghost use Rattle.application_check.specs.Fitted.{IsFit};
+ghost use Rattle.application_read.specs.{Texts.{TextsGenerate, TextsHaveFault, Gives}, declared.fault.ApplicationFault.{ApplicationFault as Fault}};
+ghost use Rattle.application_read.specs.{declared.fault.ApplicationFault.TheVariants.{Memory}, declared.application.Application.{Application as Generated}};
 
 use crate::definition_text::generate;
 use crate::fault::ApplicationFault;
-use kdcdef_check::Generation;
+use application_check::kdcdef_check::Generation;
+use application_check::unit_check::{Units, fit};
 use std::alloc::Global;
-use unit_check::{Units, fit};
 use unit_read::read_units;
 
 /// The generation of a definition, with the program units that fit it.

@@ -2,10 +2,10 @@
 ghost use Rattle.std.specs.Prelude.{◌≡◌};
 ghost use Rattle.application_read.specs.{DefinitionFaults.{line_of, name_of}, Causes.{of_lex, of_read, of_check}};
 
-use kdcdef_check::CheckFault;
-use kdcdef_lex::LexFault;
+use application_check::kdcdef_check::CheckFault;
 use kdcdef_read::ReadFault;
 use std::fmt::{self, Debug, Display, Formatter, Write};
+use texts::kdcdef_lex::LexFault;
 use thiserror::Error;
 
 /// The first fault of a definition.

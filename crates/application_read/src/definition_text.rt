@@ -1,15 +1,16 @@
 //! From the text to the generation.
 ghost use Rattle.std.specs.Prelude.{◌≡◌, ◌≢◌, List, Ok, Err, IfOk, IfErr};
-ghost use Rattle.kdcdef_types.specs.{Generation.{Generated}, declared.statement.Statement.{Statement}};
+ghost use Rattle.application_types.specs.{Generation.{Generated}, declared.kdcdef_types.statement.Statement.{Statement}};
 ghost use Rattle.kdcdef_read.specs.declared.fault.ReadFault.TheVariants.{Memory as ReadMemory};
-ghost use Rattle.kdcdef_check.specs.Gathering.{WereGathered};
-ghost use Rattle.application_read.specs.{Definition.{Generates, HasFault, Gives}, declared.definition_fault.DefinitionFault.{DefinitionFault}, declared.definition_fault.DefinitionFault.TheVariants.{Memory}};
+ghost use Rattle.application_check.specs.Gathering.{WereGathered};
+ghost use Rattle.application_read.specs.{Definition.{Generates, HasFault, Gives}, declared.definition_fault.DefinitionFault.{DefinitionFault}};
+ghost use Rattle.application_read.specs.declared.definition_fault.DefinitionFault.TheVariants.{Memory};
 
 use crate::definition_fault::DefinitionFault;
-use kdcdef_check::{Gathered, Generation, check};
-use kdcdef_lex::lines;
+use application_check::kdcdef_check::{Gathered, Generation, check};
 use kdcdef_read::{ReadFault, Reader, read};
 use std::alloc::Global;
+use texts::kdcdef_lex::lines;
 
 // The statements that are left to read, gathered.
 fn gather(alloc: Global, mut reader: Reader<'_>, key: &[u8]) -> Result<Gathered, ReadFault>

@@ -2,13 +2,13 @@
 ghost use Rattle.std.specs.Prelude.{◌≡◌};
 ghost use Rattle.application_read.specs.{Definition.{is_memory as is_definition_memory}, Handed.{handed_in}};
 ghost use Rattle.unit_read.specs.Answers.{is_memory as is_units_memory};
-ghost use Rattle.unit_check.specs.Faults.{is_memory as is_fit_memory};
+ghost use Rattle.application_check.specs.FitFaults.{is_memory as is_fit_memory};
 ghost use Rattle.application_read.specs.{declared.fault.ApplicationFault.TheVariants.{Definition, Units, Fit, Memory}, Faults.{line_of, name_of, text_of}};
 
 use crate::definition_fault::DefinitionFault;
+use application_check::unit_check::FitFault;
 use std::fmt::{self, Debug, Display, Formatter, Write};
 use thiserror::Error;
-use unit_check::FitFault;
 use unit_read::UnitFault;
 
 /// The first fault of a definition and its units.

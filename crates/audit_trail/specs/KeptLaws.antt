@@ -1,5 +1,6 @@
 -- Laws: what a transaction kept is read as it was written.
-use Rattle.std.specs.Prelude.{◌≡◌, refl, ℕ, zero, suc, ◌+◌, ◌^◌, ◌<◌, ◌≤◌, ⊤, true, IsTrue, List, [], ◌∷◌, ◌++◌, length, flat_map, replicate, take, ◌-◌, Option, Some, None, option_and_then, ◌==◌, nat_le}
+use Rattle.std.specs.Prelude.{◌≡◌, refl, ℕ, zero, suc, ◌+◌, ◌^◌, ◌<◌, ◌≤◌, ⊤, true, IsTrue, List, [], ◌∷◌, ◌++◌, length, flat_map, replicate, take, ◌-◌, Option, Some, None, option_and_then, ◌==◌}
+use Rattle.std.specs.Prelude.{nat_le}
 use Rattle.std.proofs.Common.{sym, ap, subst, ◌∙◌, inl, inr, arith, append_assoc, length-append}
 use Rattle.std.proofs.lemmas.Bool.{eqb-true}
 use Rattle.std.proofs.lemmas.Bool.Decides.{nat_tests}
@@ -35,7 +36,8 @@ use Rattle.kdcs_types.specs.Tables.{row_key, row_fits}
 use Rattle.record_codec.specs.Values.{filled, key_bytes, record_key, service_bytes, value_bytes, last_bytes}
 use Rattle.record_codec.specs.Order.{IsProperKey}
 use Rattle.record_codec.specs.Fields.{AreBytes, IsShort, number_field, list_field, both, items, either}
-use Rattle.record_codec.specs.FieldsLaws.{IsReading, bytes_front, bytes_behind, either_there, by_byte, by_which, one_byte, u8s_are_read, u64s_are_read, lists_are_read, both_are_read, items_back, items_there}
+use Rattle.record_codec.specs.FieldsLaws.{IsReading, bytes_front, bytes_behind, either_there, by_byte, by_which, one_byte, u8s_are_read, u64s_are_read, lists_are_read, both_are_read, items_back}
+use Rattle.record_codec.specs.FieldsLaws.{items_there}
 use Rattle.record_codec.specs.ItemsLaws.{count_within}
 use Rattle.record_codec.specs.Readings.{always, turned, last_reading, LastFits}
 use Rattle.record_codec.specs.ReadingsLaws.{turned_there, turned_back, lasts_are_read}
@@ -44,7 +46,9 @@ use Rattle.record_codec.specs.RowReadings.{IsProperRow, key_read, row_read}
 use Rattle.record_codec.specs.RowReadingsLaws.{key_back, key_there, key_proper, row_back, row_there}
 use Rattle.audit_trail.specs.declared.kept.TheConstants.{ENDINGS}
 use Rattle.audit_trail.specs.Kept.{many, service_key_bytes, began_bytes, area_bytes, code_byte, note_bytes, ending_byte, kept_bytes}
-use Rattle.audit_trail.specs.KeptReadings.{picked, many_items, key_field, key_of_kind, service_at, area_at, service_field, area_field, service_of_row, service_with, no_row, some_row, began_reading, released, refused, code_reading, note_reading, last_statement, few_statements, statements_reading, ending_at, ending_reading, EndPart, KeptPart, kept_part, settled_of, kept_reading, kept_read}
+use Rattle.audit_trail.specs.KeptReadings.{picked, many_items, key_field, key_of_kind, service_at, area_at, service_field, area_field, service_of_row, service_with, no_row, some_row, began_reading}
+use Rattle.audit_trail.specs.KeptReadings.{released, refused, code_reading, note_reading, last_statement, few_statements, statements_reading, ending_at, ending_reading, EndPart, KeptPart, kept_part}
+use Rattle.audit_trail.specs.KeptReadings.{settled_of, kept_reading, kept_read}
 use Rattle.audit_trail.specs.Facts.{IsRowOf, IsRefusal, IsNote, IsKept}
 use Rattle.audit_trail.specs.Written.{HasShortRow, HasShortNote, HasShortParts}
 

@@ -24,7 +24,8 @@ use Rattle.audit_trail.specs.Facts.{IsKept}
 use Rattle.audit_trail.specs.Kept.{kept_bytes}
 use Rattle.audit_trail.specs.KeptLaws.{cells, cells_fit, key_bytes_are, kept_back}
 use Rattle.audit_trail.specs.KeptReadings.{kept_read}
-use Rattle.audit_trail.specs.Lines.{so_many_bytes, value_of, two_numbers, kind_by, kind_of, with_bytes, record_key_of, begun, started, committed, ticked, shown, settled, set, removed, said_by, line_in}
+use Rattle.audit_trail.specs.Lines.{so_many_bytes, value_of, two_numbers, kind_by, kind_of, with_bytes, record_key_of, begun, started, committed, ticked, shown, settled, set, removed, said_by}
+use Rattle.audit_trail.specs.Lines.{line_in}
 use Rattle.audit_trail.specs.Printed.{value_word}
 use Rattle.audit_trail.specs.RoundTrip.{HasFewDigits}
 use Rattle.audit_trail.specs.WordsLaws.{AreBlack, AreWords, bare, words_of_line, decimal_black, decimal_back, name_word, encoded_black, bytes_back, so_many_back, value_back, value_black}

@@ -33,10 +33,12 @@ use Rattle.audit_trail.specs.declared.place.Place.{Place}
 use Rattle.audit_trail.specs.declared.place.Place.TheVariants.{First, Second, Rows, Made, Changing, Ended}
 use Rattle.audit_trail.specs.KeptReadings.{kept_read}
 use Rattle.audit_trail.specs.KeptLaws.{kept_there}
-use Rattle.audit_trail.specs.Lines.{words, one, two, three, bytes_of, so_many_bytes, value_of, two_numbers, kept_of, kind_of, with_bytes, record_key_of, key_of, row_of, end_of, begun, started, committed, ticked, shown, settled, set, removed, said, keyword_of, said_by, line_in}
+use Rattle.audit_trail.specs.Lines.{words, one, two, three, bytes_of, so_many_bytes, value_of, two_numbers, kept_of, kind_of, with_bytes, record_key_of, key_of, row_of, end_of, begun, started}
+use Rattle.audit_trail.specs.Lines.{committed, ticked, shown, settled, set, removed, said, keyword_of, said_by, line_in}
 use Rattle.audit_trail.specs.WordsLaws.{are_bytes, so_many_are_bytes, value_is_bytes}
 use Rattle.audit_trail.specs.Facts.{IsMaker, IsKept, IsProperChange, AreProperChanges, IsEntry, IsTrail, IsOrdered}
-use Rattle.audit_trail.specs.Places.{trail_of, entry_of, with_entry, with_next, with_fingerprint, with_start, with_commit, with_row_at_start, changing, with_change, so_far, made, ended, step, after_line}
+use Rattle.audit_trail.specs.Places.{trail_of, entry_of, with_entry, with_next, with_fingerprint, with_start, with_commit, with_row_at_start, changing, with_change, so_far, made, ended, step}
+use Rattle.audit_trail.specs.Places.{after_line}
 
 -- ---- what a line says
 

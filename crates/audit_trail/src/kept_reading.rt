@@ -1,7 +1,9 @@
 //! What a transaction kept, read from its bytes.
 ghost use Rattle.std.specs.Prelude.{◌≡◌, find, ◌==◌};
 ghost use Rattle.record_codec.specs.{Fields.{items, list_field}, Reads.{Reads, ReadsWhole}};
-ghost use Rattle.audit_trail.specs.{Kept.{ending_byte}, KeptReadings.{key_field, key_of_kind, service_at, service_field, area_at, area_field, service_with, began_reading, code_reading, note_reading, many_items, statements_reading, ending_reading, kept_reading, kept_read}};
+ghost use Rattle.audit_trail.specs.Kept.{ending_byte};
+ghost use Rattle.audit_trail.specs.KeptReadings.{key_field, key_of_kind, service_at, service_field, area_at, area_field, service_with, began_reading, code_reading, note_reading, many_items};
+ghost use Rattle.audit_trail.specs.KeptReadings.{statements_reading, ending_reading, kept_reading, kept_read};
 
 use crate::kept::{ENDINGS, ending_byte};
 use kd_base::{OutOfMemory, Reader};

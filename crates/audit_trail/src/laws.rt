@@ -1,5 +1,6 @@
 //! What holds of every trail, as contracts of functions that do nothing.
-ghost use Rattle.audit_trail.specs.{Laws.{FaultsAreFirst, LongTextsAreTooLong, NoOtherFaults, SaysWhatItsLinesSay, ReadTrailsAreTrails}, RoundTrip.{TrailsComeBack}, Examples.{TrailRows, LineRows, KeptRows}};
+ghost use Rattle.audit_trail.specs.{Laws.{FaultsAreFirst, LongTextsAreTooLong, NoOtherFaults, SaysWhatItsLinesSay, ReadTrailsAreTrails}, RoundTrip.{TrailsComeBack}};
+ghost use Rattle.audit_trail.specs.Examples.{TrailRows, LineRows, KeptRows};
 
 /// A text that is refused for a line is so for the first one that may not stand in its place; one that is too long is so for
 /// its bytes alone; and none is refused for anything else.

@@ -1,7 +1,8 @@
 //! Reading a trail.
 ghost use Rattle.std.specs.Prelude.{◌≡◌, ◌≢◌, ◌<◌, ◌^◌, length, Ok, Err, IfOk, IfErr};
 ghost use Rattle.std.specs.Str.Lines.{lines};
-ghost use Rattle.audit_trail.specs.{declared.fault.TrailFault.TheVariants.{Memory}, declared.place.Place.TheVariants.{First}, Facts.{IsOrdered, IsTrail}, Places.{after_line, trail_from, trail_in}, Reading.{Gives, at_line}};
+ghost use Rattle.audit_trail.specs.{declared.fault.TrailFault.TheVariants.{Memory}, declared.place.Place.TheVariants.{First}, Facts.{IsOrdered, IsTrail}, Places.{after_line, trail_from, trail_in}};
+ghost use Rattle.audit_trail.specs.Reading.{Gives, at_line};
 ghost use Rattle.record_codec.specs.Reads.{ReadsWhole};
 
 use crate::entry::Trail;

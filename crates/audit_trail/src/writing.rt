@@ -2,7 +2,8 @@
 ghost use Rattle.std.specs.Prelude.{◌≡◌, ◌++◌, ◌∷◌, [], decimal, flat_map, Some, None, All, OnOk, IfOk};
 ghost use Rattle.hex.specs.Hex.{encode_lower};
 ghost use Rattle.record_codec.specs.{Fields.{AreBytes}, Records.{content_of_tables, patch_of, HasShortValues}, TableReadings.{AreRecordBytes}, Values.{HasShortChange}};
-ghost use Rattle.audit_trail.specs.{Printed.{line, change_line, set_line, changes_lines, by_line, entry_lines, head_lines, end_line}, Written.{HasShortEntry, HasShortMaker, AreChangeBytes, AreEntryBytes, AreMakerBytes}};
+ghost use Rattle.audit_trail.specs.Printed.{line, change_line, set_line, changes_lines, by_line, entry_lines, head_lines, end_line};
+ghost use Rattle.audit_trail.specs.Written.{HasShortEntry, HasShortMaker, AreChangeBytes, AreEntryBytes, AreMakerBytes};
 
 use crate::entry::{By, TrailEntry};
 use crate::hexadecimal::{put_hex, put_value};

@@ -4,12 +4,11 @@ use crate::escapes::unescaped;
 use crate::files::Files;
 use crate::line::Line;
 use kd_base::{Bytes, OutOfMemory};
-use kd_twin::{Half, MemTwin};
+use kd_device::{Half, MemTwin};
 use std::alloc::Global;
 use std::collections::VecDeque;
 
 /// What a call answered, the lines sent that no line of the case has named yet, and the files that were left.
-#[derive(Drop)]
 pub struct Answer {
     /// The try of the call, where it had several.
     at: String,
@@ -18,6 +17,25 @@ pub struct Answer {
     files: Files,
     first_same: bool,
     second_same: bool,
+}
+
+impl Drop for Answer {
+    fn drop(self) {
+        let Answer {
+            at,
+            status,
+            lines,
+            files,
+            first_same,
+            second_same,
+        } = self;
+        let _ = at;
+        let _ = status;
+        let _ = lines;
+        let _ = files;
+        let _ = first_same;
+        let _ = second_same;
+    }
 }
 
 /// The lines of these bytes. One that has no end says so.

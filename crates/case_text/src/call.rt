@@ -6,8 +6,7 @@ use crate::line::Failing;
 use crate::program::Program;
 use crate::texts::{NamedTexts, copied};
 use kd_base::OutOfMemory;
-use kd_device::{CallKind, MemRoom};
-use kd_twin::{Half, MemTwin};
+use kd_device::{CallKind, Half, MemRoom, MemTwin};
 use std::alloc::Global;
 
 /// How the next call is tried.
@@ -26,12 +25,26 @@ pub enum Tries {
 }
 
 /// The words and texts of a call, and what fails in it.
-#[derive(Drop)]
 pub struct Call {
     pub words: Vec<String>,
     pub texts: NamedTexts,
     pub failing: Vec<(Half, CallKind, u64)>,
     pub failing_texts: Vec<u64>,
+}
+
+impl Drop for Call {
+    fn drop(self) {
+        let Call {
+            words,
+            texts,
+            failing,
+            failing_texts,
+        } = self;
+        let _ = words;
+        let _ = texts;
+        let _ = failing;
+        let _ = failing_texts;
+    }
 }
 
 impl Call {

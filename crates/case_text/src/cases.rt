@@ -7,7 +7,6 @@ use kd_base::OutOfMemory;
 use std::alloc::Global;
 
 /// The reading of texts of cases: what their lines have said so far, and how many of them were wrong.
-#[derive(Drop)]
 pub struct Cases {
     stage: Stage,
     /// The title of the case.
@@ -16,6 +15,21 @@ pub struct Cases {
     number: u64,
     /// How many lines of the text were wrong.
     wrong: u64,
+}
+
+impl Drop for Cases {
+    fn drop(self) {
+        let Cases {
+            stage,
+            title,
+            number,
+            wrong,
+        } = self;
+        let _ = stage;
+        let _ = title;
+        let _ = number;
+        let _ = wrong;
+    }
 }
 
 impl Cases {

@@ -2,8 +2,7 @@
 ghost use Rattle.std.specs.Prelude.{length, ◌≤◌};
 
 use kd_base::{Bytes, OutOfMemory};
-use kd_device::CallKind;
-use kd_twin::{Half, MemTwin};
+use kd_device::{CallKind, Half, MemTwin};
 use std::alloc::Global;
 
 /// The KDCFILE, and the second copy that a definition may ask for.

@@ -1,7 +1,6 @@
 //! The lines of a text of cases.
 
-use kd_device::CallKind;
-use kd_twin::Half;
+use kd_device::{CallKind, Half};
 
 /// What can be told to fail: a read of a text, or a call of the twin. The half beside an emit is the first.
 #[derive(Clone, Copy)]

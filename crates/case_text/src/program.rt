@@ -1,7 +1,6 @@
 //! The program that cases call.
 
-use kd_device::MemRoom;
-use kd_twin::MemTwin;
+use kd_device::{MemRoom, MemTwin};
 use std::alloc::Global;
 
 /// A program that is called with words, and answers a status.

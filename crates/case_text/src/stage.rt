@@ -8,8 +8,7 @@ use crate::line::{Failing, Line};
 use crate::program::Program;
 use crate::texts::{Texts, copied, words_of};
 use kd_base::OutOfMemory;
-use kd_device::CallKind;
-use kd_twin::{Half, MemTwin};
+use kd_device::{CallKind, Half, MemTwin};
 use std::alloc::Global;
 use std::mem;
 
@@ -21,7 +20,6 @@ type Judged = Result<Option<String>, OutOfMemory>;
 const CHOICES: [u64; 7] = [0, 1, 2, 3, 5, 6, 7];
 
 /// The texts, the files and the failing calls of a case, and what its last call did.
-#[derive(Drop)]
 pub struct Stage {
     texts: Texts,
     failing: Vec<(Half, CallKind, u64)>,
@@ -39,6 +37,35 @@ pub struct Stage {
     twin: Option<Box<MemTwin>>,
     cases: u64,
     calls: u64,
+}
+
+impl Drop for Stage {
+    fn drop(self) {
+        let Stage {
+            texts,
+            failing,
+            failing_texts,
+            tries,
+            files,
+            answers,
+            left,
+            unsaid,
+            twin,
+            cases,
+            calls,
+        } = self;
+        let _ = texts;
+        let _ = failing;
+        let _ = failing_texts;
+        let _ = tries;
+        let _ = files;
+        let _ = answers;
+        let _ = left;
+        let _ = unsaid;
+        let _ = twin;
+        let _ = cases;
+        let _ = calls;
+    }
 }
 
 fn complaint(alloc: Global, text: &str) -> Judged {

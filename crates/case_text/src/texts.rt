@@ -46,12 +46,24 @@ fn forget(texts: &mut NamedTexts, name: &str) {
 }
 
 /// The texts of the case, and those that all later cases may use.
-#[derive(Drop)]
 pub struct Texts {
     shared: NamedTexts,
     own: NamedTexts,
     /// Whether the last text that was begun is a shared one.
     sharing: bool,
+}
+
+impl Drop for Texts {
+    fn drop(self) {
+        let Texts {
+            shared,
+            own,
+            sharing,
+        } = self;
+        let _ = shared;
+        let _ = own;
+        let _ = sharing;
+    }
 }
 
 impl Texts {

@@ -10,7 +10,7 @@ use Rattle.kdcs_types.specs.declared.act.Act.{Act}
 use Rattle.kdcs_types.specs.declared.act.Act.TheVariants.{Commit, Emit}
 use Rattle.abstract_monitor.specs.Bytes.{Bytes}
 use Rattle.abstract_monitor.specs.Trace.{bytes_of}
-use Rattle.laws_of_steps.specs.Cut.{SentBy}
+use Rattle.laws_of_states.specs.Cut.{SentBy}
 use Rattle.device_acts.specs.Acting.{is_line, commits_nothing, GoesOn, IsCutOf, IsKeptBy, Performed, WithinActs}
 
 pub bytes_joined : (p q : List Act) → bytes_of (p ++ q) ≡ bytes_of p ++ bytes_of q

@@ -11,7 +11,7 @@ use Rattle.kdcs_types.specs.declared.act.Act.TheVariants.{Commit, Emit}
 use Rattle.kdcs_types.specs.declared.act.Changes.{Changes}
 use Rattle.abstract_monitor.specs.Bytes.{Bytes}
 use Rattle.abstract_monitor.specs.Trace.{bytes_of}
-use Rattle.laws_of_steps.specs.Cut.{SentBy}
+use Rattle.laws_of_states.specs.Cut.{SentBy}
 use Rattle.record_codec.specs.Records.{patch_of}
 use Rattle.device_acts.specs.Acting.{WritesUpTo, acts_most, content_after}
 use Rattle.device_acts.specs.ActingLaws.{around, bytes_joined, no_bytes, one_more}

@@ -1,10 +1,6 @@
-pub mod Errors
-pub mod Tables
-pub mod Stepping
 pub mod Counting
-pub mod Rotating
-pub mod Scripts
 pub mod Storables
 pub mod Restarting
-pub mod Commanding
 pub mod Single
+pub mod Acting
+pub mod Stopping

@@ -7,7 +7,7 @@ use Rattle.kd_device.specs.TimeLaws.{leaves_weaker, told_after}
 use Rattle.kd_records.specs.Identity.{Identity}
 use Rattle.kd_records.specs.declared.content.Content.{Content}
 use Rattle.kd_records.specs.declared.content.Patch.{Patch}
-use Rattle.kdcdef_types.specs.Generation.{Generated}
+use Rattle.application_types.specs.Generation.{Generated}
 use Rattle.kdcs_types.specs.declared.act.Act.{Act}
 use Rattle.kdcs_types.specs.declared.act.Act.TheVariants.{Emit}
 use Rattle.kdcs_types.specs.Tables.{TableRows}
@@ -15,13 +15,13 @@ use Rattle.abstract_monitor.specs.Commands.{ScriptStep, acts_of, command_of, sta
 use Rattle.abstract_monitor.specs.declared.command.Command.TheVariants.{Restart}
 use Rattle.abstract_monitor.specs.Endings.{durable}
 use Rattle.abstract_monitor.specs.Lines.{restart_line}
-use Rattle.kdcdef_check.specs.Soundness.{AreLimits}
+use Rattle.application_check.specs.Soundness.{AreLimits}
 use Rattle.abstract_monitor.specs.State.{Application}
 use Rattle.abstract_monitor.specs.Trace.{tables_after, bytes_of}
-use Rattle.laws_of_steps.specs.Applications.{IsApplication}
-use Rattle.laws_of_steps.specs.Keeping.{HasFacts}
+use Rattle.laws_of_states.specs.Applications.{IsApplication}
+use Rattle.laws_of_states.specs.Keeping.{HasFacts}
 use Rattle.record_codec.specs.Records.{content_of_tables}
-use Rattle.warm_start.specs.Stands.{AreTables, identity_for}
+use Rattle.device_acts.specs.Stands.{AreTables, identity_for}
 use Rattle.monitor_core.specs.CoreValue.{CoreValue}
 use Rattle.device_acts.specs.Acting.{GoesOn, IsCutOf, IsKeptBy, Performed, WithinActs, WritesUpTo}
 use Rattle.monitor_core.specs.CoreSteps.{durable_of}
@@ -31,9 +31,9 @@ use Rattle.device_acts.specs.Said.{Said, SaidPart}
 use Rattle.device_acts.specs.ActingLaws.{no_bytes, cut_none, Running, running_within}
 use Rattle.device_acts.specs.ContentsLaws.{line_within, line_sent}
 use Rattle.device_acts.specs.WritingLaws.{writes_line, writes_none}
-use Rattle.device_run.proofs.Tables.{tables_go}
-use Rattle.laws_of_tables.specs.EndsLaws.{durable_same}
-use Rattle.laws_of_steps.specs.TablesStayLaws.{started_tables}
+use Rattle.device_run.specs.TablesLaws.{tables_go}
+use Rattle.laws_of_states.specs.EndsLaws.{durable_same}
+use Rattle.laws_of_states.specs.TablesStayLaws.{started_tables}
 
 abbrev pub again : CoreValue → ScriptStep
 again c = command_of c.application c.state Restart

@@ -6,17 +6,17 @@ use Rattle.kd_device.specs.Device.{State}
 use Rattle.kd_device.specs.Rest.{Rests, Before}
 use Rattle.kd_device.specs.TimeLaws.{leaves_weaker}
 use Rattle.kd_records.specs.Identity.{Identity}
-use Rattle.kdcdef_types.specs.Generation.{Generated}
+use Rattle.application_types.specs.Generation.{Generated}
 use Rattle.kdcfile_layout.specs.Layout.{StandsFor}
 use Rattle.kdcfile_store.specs.Paged.{Paged, HasFile}
 use Rattle.kdcs_types.specs.Tables.{TableRows}
 use Rattle.abstract_monitor.specs.Commands.{ScriptStep, acts_of}
 use Rattle.abstract_monitor.specs.Trace.{tables_after}
 use Rattle.kdcs_types.specs.declared.act.Act.{Act}
-use Rattle.laws_of_steps.specs.Suits.{Suits}
-use Rattle.warm_start.specs.MeaningLaws.{kept_stands, nothing_stands}
-use Rattle.warm_start.specs.Opening.{StartsFrom, IsRefused, IsOfOtherTexts, AnswersExcludeEachOther}
-use Rattle.warm_start.specs.Stands.{StandsForTables, KeepsTables, identity_for}
+use Rattle.laws_of_states.specs.Suits.{Suits}
+use Rattle.device_acts.specs.MeaningLaws.{kept_stands, nothing_stands}
+use Rattle.device_acts.specs.Opening.{StartsFrom, IsRefused, IsOfOtherTexts, AnswersExcludeEachOther}
+use Rattle.device_acts.specs.Stands.{StandsForTables, KeepsTables, identity_for}
 use Rattle.monitor_core.specs.CoreSteps.{durable_of}
 use Rattle.monitor_core.specs.CoreValue.{CoreValue}
 use Rattle.device_acts.specs.Acting.{IsCutOf, IsKeptBy, OwnFile}

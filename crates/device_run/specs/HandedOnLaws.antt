@@ -3,9 +3,9 @@ use Rattle.std.proofs.Common.{◌≡◌, ◌⊎◌, inl, inr, ℕ, List, refl, a
 use Rattle.std.specs.Prelude.{Result, Ok, Err, IsErrAnd, IsErrOf}
 use Rattle.kd_device.specs.declared.error.DeviceError.{DeviceError}
 use Rattle.kd_device.specs.declared.error.DeviceError.TheVariants as device
-use Rattle.warm_start.specs.declared.error.OpenError.{OpenError}
-use Rattle.warm_start.specs.declared.error.OpenError.TheVariants as opening
-use Rattle.warm_start.specs.Causes.{of_device}
+use Rattle.device_acts.specs.declared.warm_start.error.OpenError.{OpenError}
+use Rattle.device_acts.specs.declared.warm_start.error.OpenError.TheVariants as opening
+use Rattle.device_acts.specs.Causes.{of_device}
 
 pub act_failed : (T U : Type 0) (r : Result T OpenError) (e : DeviceError) → IsErrAnd r (λ x. x ≡ of_device e) → IsErrOf r opening.Failed → IsErrOf {T = U} (Err e) device.Failed
 act_failed T U r device.Failed gives is = refl

@@ -5,15 +5,15 @@ use Rattle.kd_records.specs.Identity.{Identity}
 use Rattle.kd_records.specs.declared.content.Content.{Content}
 use Rattle.kd_records.specs.declared.content.Patch.{Patch}
 use Rattle.kdcs_types.specs.Tables.{TableRows}
-use Rattle.kdcdef_check.specs.Soundness.{AreLimits}
-use Rattle.kdcdef_types.specs.Generation.{Generated}
+use Rattle.application_check.specs.Soundness.{AreLimits}
+use Rattle.application_types.specs.Generation.{Generated}
 use Rattle.abstract_monitor.specs.Commands.{ScriptStep, acts_of, started, state_after}
 use Rattle.abstract_monitor.specs.Trace.{tables_after, bytes_of}
-use Rattle.laws_of_steps.specs.Applications.{IsApplication}
-use Rattle.laws_of_steps.specs.Keeping.{HasFacts}
-use Rattle.laws_of_steps.specs.Suits.{Suits}
+use Rattle.laws_of_states.specs.Applications.{IsApplication}
+use Rattle.laws_of_states.specs.Keeping.{HasFacts}
+use Rattle.laws_of_states.specs.Suits.{Suits}
 use Rattle.record_codec.specs.Records.{content_of_tables}
-use Rattle.warm_start.specs.Stands.{AreTables, identity_for}
+use Rattle.device_acts.specs.Stands.{AreTables, identity_for}
 use Rattle.monitor_core.specs.CoreSteps.{durable_of}
 use Rattle.monitor_core.specs.CoreValue.{CoreValue}
 use Rattle.device_acts.specs.Acting.{IsKeptBy, Performed, WithinActs, WritesUpTo}

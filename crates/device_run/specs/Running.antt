@@ -8,17 +8,17 @@ use Rattle.kdcfile_store.specs.Paged.{Paged}
 use Rattle.kdcs_types.specs.declared.act.Act.{Act}
 use Rattle.kdcs_types.specs.declared.act.Act.TheVariants.{Commit, Emit}
 use Rattle.kdcs_types.specs.Tables.{TableRows}
-use Rattle.kdcdef_check.specs.Soundness.{AreLimits}
+use Rattle.application_check.specs.Soundness.{AreLimits}
 use Rattle.abstract_monitor.specs.Bytes.{Bytes}
 use Rattle.abstract_monitor.specs.declared.command.Command.{Command}
 use Rattle.abstract_monitor.specs.declared.command.Command.TheVariants.{Restart}
 use Rattle.abstract_monitor.specs.Commands.{ScriptStep, acts_of, state_after, steps_of}
 use Rattle.abstract_monitor.specs.Trace.{history, tables_after, bytes_of}
-use Rattle.laws_of_steps.specs.Applications.{IsApplication}
-use Rattle.laws_of_steps.specs.Cut.{IsCut, SentBy}
-use Rattle.laws_of_steps.specs.Keeping.{HasFacts}
+use Rattle.laws_of_states.specs.Applications.{IsApplication}
+use Rattle.laws_of_states.specs.Cut.{IsCut, SentBy}
+use Rattle.laws_of_states.specs.Keeping.{HasFacts}
 use Rattle.record_codec.specs.Records.{patch_of}
-use Rattle.warm_start.specs.Stands.{StandsForTables, KeepsTables, identity_for}
+use Rattle.device_acts.specs.Stands.{StandsForTables, KeepsTables, identity_for}
 use Rattle.monitor_core.specs.CoreSteps.{durable_of}
 use Rattle.monitor_core.specs.CoreValue.{CoreValue}
 use Rattle.device_acts.specs.Acting.{WithinActs, WritesUpTo}

@@ -11,7 +11,7 @@
 mod commits;
 mod reopens;
 mod script;
-mod steps;
+mod storing;
 
 pub use reopens::Reopens;
 pub use script::{run_script, run_with};

@@ -7,13 +7,13 @@ ghost use Rattle.kdcs_types.specs.Tables.{TableRows};
 ghost use Rattle.device_acts.specs.Acting.{IsKeptBy};
 ghost use Rattle.device_run.specs.{Keeping.{KeepsSuited, Reopening}, SingleLaws.{single_bound}};
 
+use application_check::kdcdef_check::Generation;
+use device_acts::warm_start::{OpenError, answers_exclude_each_other, open_tables};
 use device_acts::{Keeper, SingleFile};
 use kd_device::Device;
-use kdcdef_check::Generation;
 use kdcfile_store::PagedStore;
 use kdcs_types::Tables;
 use std::alloc::Global;
-use warm_start::{OpenError, answers_exclude_each_other, open_tables};
 
 /// A keeper whose files can be opened again.
 pub trait Reopens: Keeper {

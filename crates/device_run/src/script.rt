@@ -2,23 +2,24 @@
 ghost use Rattle.std.specs.Prelude.{◌≡◌, ◌⊎◌, ◌≤◌, ◌+◌, ◌^◌, ℕ, List, IsTrue, IfOk, OnOk, OnErr, IsErrOf, sum_by};
 ghost use Rattle.kd_device.specs.Device.{Rose, SameFaults};
 ghost use Rattle.kdcfile_store.specs.{Kept.{IsKept}, Paged.{HasFile}};
-ghost use Rattle.laws_of_steps.specs.Keeping.{IsScriptOf};
+ghost use Rattle.laws_of_states.specs.Keeping.{IsScriptOf};
 ghost use Rattle.abstract_monitor.specs.{Commands.{acts_of}, Trace.{history}};
-ghost use Rattle.laws_of_steps.specs.Cut.{commits_in};
+ghost use Rattle.laws_of_states.specs.Cut.{commits_in};
 ghost use Rattle.monitor_core.specs.CoreSteps.{turns_of};
 ghost use Rattle.device_acts.specs.Acting.{IsKeptBy};
 ghost use Rattle.device_run.specs.{Running.{Ran, IsRunning, StepsWrite, WithinSteps, StoppedIn}, Keeping.{IsRunningWith, RanWith, StepsWriteWith, WithinStepsWith}};
 
 use crate::reopens::Reopens;
-use crate::steps::do_command;
+use crate::storing::Storing;
 use abstract_monitor::Command;
 use device_acts::SingleFile;
+use device_acts::warm_start::OpenError;
 use kd_device::Device;
 use kdcfile_store::PagedStore;
-use laws_of_steps::steps_commit_once;
+use laws_of_states::laws_of_steps::steps_commit_once;
 use monitor_core::Core;
+use script_run::run_script as run_steps;
 use std::alloc::Global;
-use warm_start::OpenError;
 
 /// The commands of a script in their order, from a core whose durable tables the keeper has; its files were made with this
 /// fingerprint. Each act is done before the next turn or command. What is open at the end of the script is given up, and
@@ -26,7 +27,7 @@ use warm_start::OpenError;
 pub fn run_with<K: Reopens>(
     alloc: Global,
     keeper: &mut K,
-    mut core: Core,
+    core: Core,
     fingerprint: &[u8; 32],
     commands: &[Command],
 ) -> Result<u64, OpenError>
@@ -47,12 +48,13 @@ pub fn run_with<K: Reopens>(
     ensures place { K.place keeper.new ≡ K.place keeper.old }
 {
     steps_commit_once();
-    // Counted along, since the acts of a step are given up before the next.
-    let mut commits = 0;
-    for command in commands {
-        core = do_command(alloc, keeper, core, fingerprint, command, &mut commits)?;
-    }
-    Ok(commits)
+    let mut storing = Storing {
+        keeper,
+        fingerprint,
+        commits: 0,
+    };
+    let _last = run_steps(alloc, &mut storing, core, commands)?;
+    Ok(storing.commits)
 }
 
 /// The commands of a script in their order, from a core whose durable tables the store keeps; its file was made with this

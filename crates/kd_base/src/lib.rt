@@ -1,5 +1,5 @@
 //! The pieces that every crate uses: names, decimal numbers, the printed form of bytes, lists of bytes and of items,
-//! big-endian fields, and want of memory.
+//! big-endian fields, want of memory, and pairs in the order of their keys (`sorted_pairs`).
 //!
 //! It stands on no other crate. To all layers above, its contract says which bytes are a name or a number, that names
 //! compare as their bytes do, that a field reader answers exactly the field that the bytes begin with, or `None` and
@@ -15,6 +15,7 @@ mod memory;
 mod name;
 mod reader;
 mod sequence;
+pub mod sorted_pairs;
 mod text;
 mod words;
 mod writer;

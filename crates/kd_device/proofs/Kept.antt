@@ -1,82 +1,230 @@
--- One call more.
-use Rattle.std.proofs.Common.{◌≡◌, ℕ, ◌≤◌, List, [], ◌∷◌, ◌++◌, length, take, drop, Bool, refl, sym, ap, ◌∙◌, arith, length-append}
-use Rattle.std.proofs.lemmas.List.{take-append-le, drop-append-le, take_all, drop_at, length-drop, append-nil}
-use Rattle.kd_device.specs.declared.step.Span.{Span}
-use Rattle.kd_device.specs.declared.step.Step.{Step}
-use Rattle.kd_device.specs.declared.step.Step.TheVariants.{Write, Sync, Emit}
-use Rattle.kd_device.specs.History.{Event, Wrote, Synced, Emitted, Disk, fresh, step, after}
-use Rattle.kd_device.specs.Tape.{Recording, piece, pieces, event, events, Fits, AllFit, IsInside, AllInside, IsBehind, IsKept}
+-- One call more of what is kept.
+use Rattle.std.proofs.Common.{◌≡◌, ◌≢◌, ℕ, ◌+◌, ◌≤◌, ◌<◌, List, [], ◌∷◌, ◌++◌, length, take, drop, map, get_or, set, Bool, true, false, cond, refl, sym, ap, ◌∙◌, arith, length-append, inl, inr, suc, subst}
+use Rattle.std.specs.Prelude.{nat_eq}
+use Rattle.std.proofs.lemmas.List.{take-append-le, drop-append-le, take_all, drop_at, length-drop, get_or-map, get_or-set_same, get_or-set_other, length-set, length-map, map-set}
+use Rattle.std.proofs.lemmas.Bool.{eqb-true, eqb-false, cases_Bool}
+use Rattle.std.proofs.Math.Seq.{map-set_same}
+use Rattle.kd_device.specs.Device.{written}
+use Rattle.kd_device.specs.declared.call.Span.{Span}
+use Rattle.kd_device.specs.declared.call.Call.{Call}
+use Rattle.kd_device.specs.declared.call.Call.TheVariants.{Write, Sync, Emit}
+use Rattle.kd_device.specs.History.{Event, Wrote, Synced, Emitted, Disk, Moment, at_first, moved, step, after}
+use Rattle.kd_device.specs.Recording.{FileNow, Recording, piece, event, events, kept_name, kept_names, Fits, IsInside, AllInside, AllFit, IsBehind, starts_of, bytes_of, ends_of, AreAsMade, IsKept, HaveRoom, SameFiles}
+use Rattle.kd_device.proofs.Grows.{after_push}
 
-pub spare_same : (a b : Recording) → a ≡ b → (a.spare_calls ≡ b.spare_calls) × (a.spare_bytes ≡ b.spare_bytes)
-spare_same a b same = (ap (λ (r : Recording). r.spare_calls) same, ap (λ (r : Recording). r.spare_bytes) same)
-
-pub after_push : (s : Disk) (es : List Event) (e : Event) → after s (es ++ e ∷ []) ≡ step (after s es) e
-after_push s [] e = refl
-after_push s (x ∷ es) e = after_push (step s x) es e
+pub spare_same : (a b : Recording) → a ≡ b → (a.spare_calls ≡ b.spare_calls) × (a.spare_bytes ≡ b.spare_bytes) × (a.spare_end ≡ b.spare_end)
+spare_same a b same = (ap (λ (r : Recording). r.spare_calls) same, ap (λ (r : Recording). r.spare_bytes) same, ap (λ (r : Recording). r.spare_end) same)
 
 piece_same : (kept more : List ℕ) (span : Span) → Fits (length kept) span → piece (kept ++ more) span ≡ piece kept span
 piece_same kept more span le =
     ap (λ (l : List ℕ). take span.len l) (drop-append-le span.from kept more (omega arith)) ∙ take-append-le span.len (drop span.from kept) more (omega (arith, length-drop span.from kept))
 
-event_same : (kept more : List ℕ) (x : Step) → IsInside (length kept) x → event (kept ++ more) x ≡ event kept x
-event_same kept more (Write at span done) h = ap (λ (l : List ℕ). Wrote at l done) (piece_same kept more span h)
-event_same kept more (Sync done) h = refl
+event_same : (kept more : List ℕ) (x : Call) → IsInside (length kept) x → event (kept ++ more) x ≡ event kept x
+event_same kept more (Write disk at span done) h = ap (λ (l : List ℕ). Wrote disk at l done) (piece_same kept more span h)
+event_same kept more (Sync disk done) h = refl
 event_same kept more (Emit span done) h = ap (λ (l : List ℕ). Emitted l done) (piece_same kept more span h)
 
-pub events_push : (kept more : List ℕ) (steps : List Step) (x : Step) → AllInside (length kept) steps → events (kept ++ more) (steps ++ x ∷ []) ≡ events kept steps ++ event (kept ++ more) x ∷ []
-events_push kept more [] x h = refl
-events_push kept more (y ∷ steps) x h = rw (event_same kept more y h.0, events_push kept more steps x h.1)
+-- what is kept, with more bytes behind it
+pub events_same : (kept more : List ℕ) (calls : List Call) → AllInside (length kept) calls → events (kept ++ more) calls ≡ events kept calls
+events_same kept more [] h = refl
+events_same kept more (x ∷ calls) h = rw (event_same kept more x h.0, events_same kept more calls h.1) refl
 
-inside_wider : (n m : ℕ) (x : Step) → n ≤ m → IsInside n x → IsInside m x
-inside_wider n m (Write at span done) le h = omega arith
-inside_wider n m (Sync done) le h = tt
+pub names_same : (kept more : List ℕ) (spans : List (ℕ × Span)) → AllFit (length kept) spans → kept_names (kept ++ more) spans ≡ kept_names kept spans
+names_same kept more [] h = refl
+names_same kept more (x ∷ spans) h = rw (piece_same kept more x.1 h.0, names_same kept more spans h.1) refl
+
+inside_wider : (n m : ℕ) (x : Call) → n ≤ m → IsInside n x → IsInside m x
+inside_wider n m (Write disk at span done) le h = omega arith
+inside_wider n m (Sync disk done) le h = tt
 inside_wider n m (Emit span done) le h = omega arith
 
-inside_push : (n m : ℕ) (steps : List Step) (x : Step) → n ≤ m → AllInside n steps → IsInside m x → AllInside m (steps ++ x ∷ [])
-inside_push n m [] x le h i = (i, tt)
-inside_push n m (y ∷ steps) x le h i = (inside_wider n m y le h.0, inside_push n m steps x le h.1 i)
+pub all_inside : (n m : ℕ) (calls : List Call) → n ≤ m → AllInside n calls → AllInside m calls
+all_inside n m [] le h = tt
+all_inside n m (x ∷ calls) le h = (inside_wider n m x le h.0, all_inside n m calls le h.1)
+
+pub all_fit : (n m : ℕ) (spans : List (ℕ × Span)) → n ≤ m → AllFit n spans → AllFit m spans
+all_fit n m [] le h = tt
+all_fit n m (x ∷ spans) le h = (omega arith, all_fit n m spans le h.1)
+
+inside_push : (n : ℕ) (calls : List Call) (x : Call) → AllInside n calls → IsInside n x → AllInside n (calls ++ x ∷ [])
+inside_push n [] x h i = (i, tt)
+inside_push n (y ∷ calls) x h i = (h.0, inside_push n calls x h.1 i)
+
+fit_push : (n : ℕ) (spans : List (ℕ × Span)) (x : ℕ × Span) → AllFit n spans → Fits n x.1 → AllFit n (spans ++ x ∷ [])
+fit_push n [] x h i = (i, tt)
+fit_push n (y ∷ spans) x h i = (h.0, fit_push n spans x h.1 i)
+
+map_push : {A B : Type 0} (f : A → B) (xs : List A) (x : A) → map f (xs ++ x ∷ []) ≡ map f xs ++ f x ∷ []
+map_push f [] x = refl
+map_push f (y ∷ xs) x = rw (map_push f xs x) refl
 
 -- the bytes after those that were kept
-last_part : (kept more : List ℕ) → take (length more) (drop (length kept) (kept ++ more)) ≡ more
-last_part kept more = ap (λ (l : List ℕ). take (length more) l) (drop_at kept more (length kept) refl) ∙ take_all (length more) more (omega arith)
-
 pub last_piece : (kept more : List ℕ) (span : Span) → IsBehind kept more span → piece (kept ++ more) span ≡ more
-last_piece kept more span behind = rw (behind.from, behind.len) (last_part kept more)
+last_piece kept more span behind = rw (behind.from, behind.len) (ap (λ (l : List ℕ). take (length more) l) (drop_at kept more (length kept) refl) ∙ take_all (length more) more (omega arith))
 
 pub behind_fits : (kept more : List ℕ) (span : Span) → IsBehind kept more span → Fits (length (kept ++ more)) span
 behind_fits kept more span behind = omega (arith, behind.from, behind.len, length-append kept more)
 
-module _ (kept more : List ℕ) (steps : List Step) (x : Step) (e : Event) (kept' : List ℕ) (steps' : List Step) (keeps : kept' ≡ kept ++ more) (adds : steps' ≡ steps ++ x ∷ []) (is : event (kept ++ more) x ≡ e) where
-  pub events_are : AllInside (length kept) steps → events kept' steps' ≡ events kept steps ++ e ∷ []
-  events_are inside = rw (keeps, adds, events_push kept more steps x inside, is)
+-- one call more
+module _ (kept more : List ℕ) (calls : List Call) (spans : List (ℕ × Span)) (kept' : List ℕ) (keeps : kept' ≡ kept ++ more) (inside : AllInside (length kept) calls) (fit : AllFit (length kept) spans) where
+  pub names_stay : kept_names kept' spans ≡ kept_names kept spans
+  names_stay = rw keeps (names_same kept more spans fit)
 
-  pub kept_push : (start bytes sent bytes' sent' : List ℕ) → IsKept start bytes sent kept steps → IsInside (length (kept ++ more)) x
-      → bytes' ≡ (step (after (fresh start) (events kept steps)) e).bytes → sent' ≡ (step (after (fresh start) (events kept steps)) e).sent → IsKept start bytes' sent' kept' steps'
-  kept_push start bytes sent bytes' sent' h inside b s =
-      let same : after (fresh start) (events kept' steps') ≡ step (after (fresh start) (events kept steps)) e =
-      ap (λ (es : List Event). after (fresh start) es) (events_are h.inside) ∙ after_push (fresh start) (events kept steps) e in
+  pub events_stay : events kept' calls ≡ events kept calls
+  events_stay = rw keeps (events_same kept more calls inside)
+
+  wider : length kept ≤ length kept'
+  wider = rw keeps (omega (arith, length-append kept more))
+
+  pub fit_still : AllFit (length kept') spans
+  fit_still = all_fit (length kept) (length kept') spans wider fit
+
+  pub inside_still : AllInside (length kept') calls
+  inside_still = all_inside (length kept) (length kept') calls wider inside
+
+  module _ (x : Call) (e : Event) (calls' : List Call) (adds : calls' ≡ calls ++ x ∷ []) (is : event (kept ++ more) x ≡ e) where
+    pub events_are : events kept' calls' ≡ events kept calls ++ e ∷ []
+    events_are = rw (adds) (map_push (event kept') calls x ∙ ap (λ (es : List Event). es ++ event kept' x ∷ []) events_stay ∙ ap (λ (y : Event). events kept calls ++ y ∷ []) (ap (λ (l : List ℕ). event l x) keeps ∙ is))
+
+    pub kept_push : (files files' : List FileNow) (sent sent' : List ℕ) → starts_of files' ≡ starts_of files → IsInside (length kept') x
+        → AreAsMade files' sent' (step (after (at_first (starts_of files)) (events kept calls)) e) → IsKept files' sent' kept' calls' spans
+    kept_push files files' sent sent' starts i made = record {
+      made = rw (starts, events_are, after_push (at_first (starts_of files)) (events kept calls) e) made;
+      inside = rw adds (inside_push (length kept') calls x inside_still i);
+      fit = fit_still;
+    }
+
+  module _ (disk : ℕ) (span : Span) (spans' : List (ℕ × Span)) (adds : spans' ≡ spans ++ (disk, span) ∷ []) (behind : IsBehind kept more span) where
+    pub names_are : kept_names kept' spans' ≡ kept_names kept spans ++ (disk, more) ∷ []
+    names_are = rw adds (map_push (kept_name kept') spans (disk, span) ∙ ap (λ (ns : List (ℕ × List ℕ)). ns ++ kept_name kept' (disk, span) ∷ []) names_stay ∙ ap (λ (l : List ℕ). kept_names kept spans ++ (disk, l) ∷ []) (ap (λ (l : List ℕ). piece l span) keeps ∙ last_piece kept more span behind))
+
+    pub named_push : (files : List FileNow) (sent : List ℕ) → AreAsMade files sent (after (at_first (starts_of files)) (events kept calls)) → IsKept files sent kept' calls spans'
+    named_push files sent made = record {
+      made = rw events_stay made;
+      inside = inside_still;
+      fit = rw (adds) (fit_push (length kept') spans (disk, span) fit_still (rw keeps (behind_fits kept more span behind)));
+    }
+
+-- after a write, or a sync, or an emit, that the files follow
+pub made_sent : (files : List FileNow) (sent sent' : List ℕ) (s : Moment) (piece : List ℕ) (done : Bool) → AreAsMade files sent s → sent' ≡ cond done (sent ++ piece) sent → AreAsMade files sent' (step s (Emitted piece done))
+made_sent files sent sent' s piece done h is = record { bytes_are = h.bytes_are; sent_is = is ∙ ap (λ (l : List ℕ). cond done (l ++ piece) l) h.sent_is }
+
+synced_bytes : (b : Bool) (disk : ℕ) (done : Bool) (d : Disk) → (cond b (moved (Synced disk done) d) d).bytes ≡ d.bytes
+synced_bytes true disk done d = refl
+synced_bytes false disk done d = refl
+
+pub made_synced : (files : List FileNow) (sent : List ℕ) (s : Moment) (disk : ℕ) (done : Bool) → AreAsMade files sent s → AreAsMade files sent (step s (Synced disk done))
+made_synced files sent s disk done h = record { bytes_are = λ i lt. h.bytes_are i lt ∙ sym (synced_bytes (nat_eq i disk) disk done (s.disk i)); sent_is = h.sent_is }
+
+-- a file of which the bytes were changed
+module _ (files : List FileNow) (disk : ℕ) (f f' : FileNow) (files' : List FileNow) (is : files' ≡ set files disk f') (was : get_or files disk f ≡ f) (lt : disk < length files) (start : f'.start ≡ f.start) (end : f'.end ≡ f.end) where
+  pub starts_stay : starts_of files' ≡ starts_of files
+  starts_stay = rw is (map-set_same (λ (x : FileNow). x.start) files disk f' f (start ∙ sym (ap (λ (x : FileNow). x.start) was)))
+
+  pub ends_stay : ends_of files' ≡ ends_of files
+  ends_stay = rw is (map-set_same (λ (x : FileNow). x.end) files disk f' f (end ∙ sym (ap (λ (x : FileNow). x.end) was)))
+
+  pub lengths_stay : length files' ≡ length files
+  lengths_stay = rw is (length-set files disk f')
+
+  bytes_set : bytes_of files' ≡ set (bytes_of files) disk f'.bytes
+  bytes_set = rw is (map-set (λ (x : FileNow). x.bytes) files disk f')
+
+  old_bytes : get_or (bytes_of files) disk [] ≡ f.bytes
+  old_bytes = get_or-map (λ (x : FileNow). x.bytes) files disk f [] lt ∙ ap (λ (x : FileNow). x.bytes) was
+
+  pub room_stays : (upto : ℕ) → HaveRoom upto files → HaveRoom upto files'
+  room_stays upto h = λ i less. rw ends_stay (h i (omega (arith, less, lengths_stay)))
+
+  pub made_wrote : (sent : List ℕ) (s : Moment) (at : ℕ) (bytes : List ℕ) (done : Bool) → AreAsMade files sent s → f'.bytes ≡ cond done (written f.bytes at bytes) f.bytes → AreAsMade files' sent (step s (Wrote disk at bytes done))
+  made_wrote sent s at bytes done h now =
+      let e = Wrote disk at bytes done in
       record {
-        bytes_are = b ∙ ap (λ (d : Disk). d.bytes) (sym same);
-        sent_is = s ∙ ap (λ (d : Disk). d.sent) (sym same);
-        inside = rw (keeps, adds) (inside_push (length kept) (length (kept ++ more)) steps x (omega (arith, length-append kept more)) h.inside inside);
+        bytes_are = λ i less.
+            elim (cases_Bool (nat_eq i disk)) [
+              | inl on ↦
+                  let at_disk : i ≡ disk = eqb-true i disk on in
+                  ap (λ (l : List (List ℕ)). get_or l i []) bytes_set
+                  ∙ rw at_disk (get_or-set_same (bytes_of files) disk f'.bytes [] (omega (arith, lt, length-map files (λ (x : FileNow). x.bytes))))
+                  ∙ now ∙ ap (λ (b : List ℕ). cond done (written b at bytes) b) (sym old_bytes ∙ h.bytes_are disk lt)
+                  ∙ sym (ap (λ (b : Bool). (cond b (moved e (s.disk i)) (s.disk i)).bytes) on ∙ ap (λ (j : ℕ). (moved e (s.disk j)).bytes) at_disk)
+              | inr off ↦
+                  ap (λ (l : List (List ℕ)). get_or l i []) bytes_set
+                  ∙ get_or-set_other (bytes_of files) disk i f'.bytes [] (λ same. eqb-false i disk off same)
+                  ∙ h.bytes_are i (omega (arith, less, lengths_stay))
+                  ∙ sym (ap (λ (b : Bool). (cond b (moved e (s.disk i)) (s.disk i)).bytes) off)
+            ];
+        sent_is = h.sent_is;
       }
 
-pub kept_push_same : (kept : List ℕ) (steps : List Step) (done : Bool) (steps' : List Step) → steps' ≡ steps ++ Sync done ∷ [] → (start bytes sent : List ℕ) → IsKept start bytes sent kept steps → IsKept start bytes sent kept steps'
-kept_push_same kept steps done steps' adds start bytes sent h =
-    kept_push kept [] steps (Sync done) (Synced done) kept steps' (sym (append-nil kept)) adds refl start bytes sent bytes sent h tt h.bytes_are h.sent_is
+-- the bytes of a file
+pub bytes_at : (files : List FileNow) (sent : List ℕ) (s : Moment) (disk : ℕ) (f : FileNow) → AreAsMade files sent s → disk < length files → get_or files disk f ≡ f → f.bytes ≡ (s.disk disk).bytes
+bytes_at files sent s disk f h lt was = sym (get_or-map (λ (x : FileNow). x.bytes) files disk f [] lt ∙ ap (λ (x : FileNow). x.bytes) was) ∙ h.bytes_are disk lt
 
-pieces_push : (kept more : List ℕ) (spans : List Span) (x : Span) → AllFit (length kept) spans → pieces (kept ++ more) (spans ++ x ∷ []) ≡ pieces kept spans ++ piece (kept ++ more) x ∷ []
-pieces_push kept more [] x h = refl
-pieces_push kept more (y ∷ spans) x h = rw (piece_same kept more y h.0, pieces_push kept more spans x h.1)
+pub start_at : (files : List FileNow) (disk : ℕ) (f : FileNow) → disk < length files → get_or files disk f ≡ f → get_or (starts_of files) disk [] ≡ f.start
+start_at files disk f lt was = get_or-map (λ (x : FileNow). x.start) files disk f [] lt ∙ ap (λ (x : FileNow). x.start) was
 
-fit_push : (n m : ℕ) (spans : List Span) (x : Span) → n ≤ m → AllFit n spans → Fits m x → AllFit m (spans ++ x ∷ [])
-fit_push n m [] x le h i = (i, tt)
-fit_push n m (y ∷ spans) x le h i = (omega arith, fit_push n m spans x le h.1 i)
+pub end_at : (files : List FileNow) (disk : ℕ) (f : FileNow) → disk < length files → get_or files disk f ≡ f → get_or (ends_of files) disk 0 ≡ f.end
+end_at files disk f lt was = get_or-map (λ (x : FileNow). x.end) files disk f 0 lt ∙ ap (λ (x : FileNow). x.end) was
 
--- one span more, of the bytes after those that were kept
-module _ (kept more : List ℕ) (spans : List Span) (x : Span) (kept' : List ℕ) (spans' : List Span) (keeps : kept' ≡ kept ++ more) (adds : spans' ≡ spans ++ x ∷ []) (behind : IsBehind kept more x) (fit : AllFit (length kept) spans) where
-  pub pieces_are : pieces kept' spans' ≡ pieces kept spans ++ more ∷ []
-  pieces_are = rw (keeps, adds, pieces_push kept more spans x fit, last_piece kept more x behind)
+pub same_made : (old new : List FileNow) (sent : List ℕ) (s : Moment) → SameFiles old new → AreAsMade old sent s → AreAsMade new sent s
+same_made old new sent s same h = record { bytes_are = λ i less. rw same.bytes (h.bytes_are i (omega (arith, less, same.count))); sent_is = h.sent_is }
 
-  pub fits_push : AllFit (length kept') spans'
-  fits_push = rw (keeps, adds) (fit_push (length kept) (length (kept ++ more)) spans x (omega (arith, length-append kept more)) fit (behind_fits kept more x behind))
+-- after more capacity was reserved
+pub same_kept : (old new : List FileNow) (sent kept : List ℕ) (calls : List Call) (spans : List (ℕ × Span)) → SameFiles old new → IsKept old sent kept calls spans → IsKept new sent kept calls spans
+same_kept old new sent kept calls spans same h = record { made = rw same.starts (same_made old new sent (after (at_first (starts_of old)) (events kept calls)) same h.made); inside = h.inside; fit = h.fit }
+
+pub same_room : (upto : ℕ) (old new : List FileNow) → SameFiles old new → HaveRoom upto old → HaveRoom upto new
+same_room upto old new same h = λ i less. omega (arith, h i (omega (arith, less, same.count)), same.ends i)
+
+-- one file after another
+module _ (old files files' : List FileNow) (i : ℕ) (f f' : FileNow) (same : SameFiles old files) (is : files' ≡ set files i f') (was : get_or files i f ≡ f) (lt : i < length files) (start : f'.start ≡ f.start) (bytes : f'.bytes ≡ f.bytes) (grows : f.end ≤ f'.end) where
+  ends_set : ends_of files' ≡ set (ends_of files) i f'.end
+  ends_set = rw is (map-set (λ (x : FileNow). x.end) files i f')
+
+  end_same : get_or (ends_of files') i 0 ≡ f'.end
+  end_same = ap (λ (l : List ℕ). get_or l i 0) ends_set ∙ get_or-set_same (ends_of files) i f'.end 0 (omega (arith, lt, length-map files (λ (x : FileNow). x.end)))
+
+  end_other : (k : ℕ) → k ≢ i → get_or (ends_of files') k 0 ≡ get_or (ends_of files) k 0
+  end_other k ne = ap (λ (l : List ℕ). get_or l k 0) ends_set ∙ get_or-set_other (ends_of files) i k f'.end 0 ne
+
+  by_place : (P : ℕ → Type 0) (k : ℕ) → P i → (k ≢ i → P k) → P k
+  by_place P k here there =
+      elim (cases_Bool (nat_eq k i)) [
+        | inl on ↦ subst P (sym (eqb-true k i on)) here
+        | inr off ↦ there (λ e. eqb-false k i off e)
+      ]
+
+  pub reserved_one : SameFiles old files'
+  reserved_one = record {
+    count = rw is (length-set files i f') ∙ same.count;
+    starts = rw is (map-set_same (λ (x : FileNow). x.start) files i f' f (start ∙ sym (ap (λ (x : FileNow). x.start) was))) ∙ same.starts;
+    bytes = rw is (map-set_same (λ (x : FileNow). x.bytes) files i f' f (bytes ∙ sym (ap (λ (x : FileNow). x.bytes) was))) ∙ same.bytes;
+    ends = λ k. by_place (λ j. get_or (ends_of old) j 0 ≤ get_or (ends_of files') j 0) k
+        (omega (arith, same.ends i, end_at files i f lt was, grows, end_same))
+        (λ ne. omega (arith, same.ends k, end_other k ne));
+  }
+
+  pub room_one : (end : ℕ) → end ≤ f'.end → ((k : ℕ) → k < i → end ≤ get_or (ends_of files) k 0) → (k : ℕ) → k < i + 1 → end ≤ get_or (ends_of files') k 0
+  room_one end reach h k less = by_place (λ j. j < i + 1 → end ≤ get_or (ends_of files') j 0) k (λ _. omega (arith, reach, end_same)) (λ ne less. omega (arith, h k (omega (arith, less, ne)), end_other k ne)) less
+
+pointwise : (xs ys : List (List ℕ)) → length xs ≡ length ys → ((i : ℕ) → i < length xs → get_or xs i [] ≡ get_or ys i []) → xs ≡ ys
+pointwise [] [] len h = refl
+pointwise [] (y ∷ ys) len h = absurd (omega (arith, len))
+pointwise (x ∷ xs) [] len h = absurd (omega (arith, len))
+pointwise (x ∷ xs) (y ∷ ys) len h = rw (h 0 (omega arith), pointwise xs ys (omega (arith, len)) (λ i lt. h (suc i) (omega (arith, lt)))) refl
+
+-- one disk more, before the first call
+pub added : (files : List FileNow) (f : FileNow) (files' : List FileNow) (sent kept : List ℕ) (calls : List Call) (spans : List (ℕ × Span)) → files' ≡ files ++ f ∷ [] → events kept calls ≡ [] → f.bytes ≡ f.start
+    → IsKept files sent kept calls spans → IsKept files' sent kept calls spans
+added files f files' sent kept calls spans is none first k =
+    let made : AreAsMade files sent (at_first (starts_of files)) = subst (λ (es : List Event). AreAsMade files sent (after (at_first (starts_of files)) es)) none k.made in
+    let all : bytes_of files ≡ starts_of files =
+    pointwise (bytes_of files) (starts_of files) (omega (arith, length-map files (λ (x : FileNow). x.bytes), length-map files (λ (x : FileNow). x.start))) (λ i lt. made.bytes_are i (omega (arith, lt, length-map files (λ (x : FileNow). x.bytes)))) in
+    let now : bytes_of files' ≡ starts_of files' =
+    rw is (map_push (λ (x : FileNow). x.bytes) files f ∙ ap (λ (l : List (List ℕ)). l ++ f.bytes ∷ []) all ∙ ap (λ (b : List ℕ). starts_of files ++ b ∷ []) first ∙ sym (map_push (λ (x : FileNow). x.start) files f)) in
+    record {
+      made = rw none (record { bytes_are = λ i less. ap (λ (l : List (List ℕ)). get_or l i []) now; sent_is = made.sent_is });
+      inside = k.inside;
+      fit = k.fit;
+    }

@@ -1,5 +1,6 @@
-pub mod Counted
 pub mod Grows
+pub mod InUse
 pub mod Kept
 pub mod Named
 pub mod Replay
+pub mod Seen

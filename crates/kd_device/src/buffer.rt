@@ -1,8 +1,8 @@
 //! Reads of a file in memory, and writes to buffers that have the capacity.
 ghost use Rattle.std.specs.{Prelude.{◌≡◌, ◌≤◌, ◌<◌, ◌+◌, ◌-◌, ◌++◌, ◌∷◌, [], length, take, drop, min, if◌then◌else◌}, Vec.{vec_len, vec_capacity}};
-ghost use Rattle.kd_device.specs.{Device.{written}, Tape.{IsBehind}};
+ghost use Rattle.kd_device.specs.{Device.{written}, Recording.{IsBehind}};
 
-use crate::step::Span;
+use crate::call::Span;
 
 /// Puts these bytes after those that are kept, and answers where they are.
 pub fn keep(kept: &mut Vec<u8>, bytes: &[u8]) -> Span

@@ -1,5 +1,5 @@
 //! One disk file and one output line, under one clock: what a power cut leaves of both is told by one relation.
-ghost use Rattle.std.specs.Prelude.{◌≡◌, ◌≤◌, ◌+◌, ◌-◌, ◌++◌, ◌∷◌, [], List, ℕ, IsTrue, length, take, drop, min, IfOk, OnOk, OnErr};
+ghost use Rattle.std.specs.Prelude.{◌≡◌, ◌≤◌, ◌+◌, ◌-◌, ◌++◌, ◌∷◌, [], List, ℕ, IsTrue, length, take, drop, min, IfOk, OnOk, OnErr, is_ok, not};
 ghost use Rattle.kd_device.specs.Device.{State, Rose, Frame, SameDiskFaults, SameLineFaults, SameNames, SameSpare, UsesSpare, HasSpare, Reserved, Quiet, Writes, Emits, Only};
 
 use kd_base::OutOfMemory;
@@ -9,6 +9,13 @@ use thiserror::Error;
 #[derive(Clone, Copy, Debug, PartialEq, Eq, Error)]
 #[error("the device failed")]
 pub struct Failed;
+
+// What a call answers that fails, or does not.
+pub(crate) fn answer(fails: bool) -> Result<(), Failed>
+    ensures { is_ok result ≡ not fails }
+{
+    if fails { Err(Failed) } else { Ok(()) }
+}
 
 /// A disk file and an output line. Whoever implements it keeps the disk rules that its clauses state; where a device
 /// cannot tell its content, as one over a real file, those clauses say nothing and only the counts are kept. A count of

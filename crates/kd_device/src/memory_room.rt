@@ -10,12 +10,26 @@ use std::alloc::Global;
 use std::marker::Model;
 
 /// Texts by name. Contracts see them, the reads that fail, and how many reads and faults there were.
-#[derive(Drop)]
 pub struct MemRoom {
     texts: Vec<(Bytes, Bytes)>,
     failing: Vec<u64>,
     made: u64,
     faults: u64,
+}
+
+impl Drop for MemRoom {
+    fn drop(self) {
+        let MemRoom {
+            texts,
+            failing,
+            made,
+            faults,
+        } = self;
+        let _ = texts;
+        let _ = failing;
+        let _ = made;
+        let _ = faults;
+    }
 }
 
 impl Model for MemRoom {

@@ -1,9 +1,9 @@
-//! What a stop leaves of a device in memory.
-ghost use Rattle.std.specs.Prelude.{◌≡◌, ◌≤◌, ◌+◌, ◌<◌, length, IfOk, OnOk, if◌then◌else◌};
-ghost use Rattle.kd_device.specs.{Device.{written, Torn}, History.{Disk, Torns, IsDone, AllDone, step, after, fresh}, Tape.{event, events, IsInside, AllInside}};
+//! What a stop leaves of a disk in memory.
+ghost use Rattle.std.specs.Prelude.{◌≡◌, ◌≤◌, ◌+◌, ◌<◌, List, ℕ, length, IfOk, OnOk, if◌then◌else◌};
+ghost use Rattle.kd_device.specs.{Device.{written, Torn}, History.{Disk, Moment, Stands, IsDone, AllDone, is_on, moved, step_on, after, fresh}, Recording.{event, events, IsInside, AllInside}};
 
 use crate::buffer::overwrite;
-use crate::step::Step;
+use crate::call::Call;
 use std::alloc::{AllocError, Global};
 
 /// How much of a write that was not synced a stop leaves.
@@ -67,36 +67,68 @@ fn tear(
     }
 }
 
-/// One call, as reads see it and as a stop may leave it.
+/// One call on this disk, as reads see it and as a stop may leave it.
 fn advance(
     bytes: &mut Vec<u8>,
     image: &mut Vec<u8>,
-    call: &Step,
+    call: &Call,
     kept: &[u8],
     part: Part,
 ) -> Result<(), AllocError>
     requires { IsInside (length kept.now) call.now }
-    ensures bytes { OnOk result ((s : Disk) → bytes.old.items ≡ s.bytes → bytes.new.items ≡ (step s (event kept.now call.now)).bytes) }
-    ensures old { OnOk result ((s : Disk) → part ≡ Part.Nothing → bytes.old.items ≡ s.bytes → image.old.items ≡ s.base → image.new.items ≡ (step s (event kept.now call.now)).base) }
+    ensures bytes { OnOk result ((d : Disk) → bytes.old.items ≡ d.bytes → bytes.new.items ≡ (moved (event kept.now call.now) d).bytes) }
+    ensures old { OnOk result ((d : Disk) → part ≡ Part.Nothing → bytes.old.items ≡ d.bytes → image.old.items ≡ d.base → image.new.items ≡ (moved (event kept.now call.now) d).base) }
     ensures new { OnOk result (part ≡ Part.All → IsDone (event kept.now call.now) → image.old.items ≡ bytes.old.items → image.new.items ≡ bytes.new.items) }
-    ensures image { OnOk result ((s : Disk) → bytes.old.items ≡ s.bytes → Torns s.pending s.base image.old.items → Torns (step s (event kept.now call.now)).pending (step s (event kept.now call.now)).base image.new.items) }
+    ensures image { OnOk result ((d : Disk) → bytes.old.items ≡ d.bytes → Stands d image.old.items → Stands (moved (event kept.now call.now) d) image.new.items) }
 {
     match call {
-        Step::Write { at, span, done } => {
+        Call::Write { at, span, done, .. } => {
             let new = &kept[span.from..span.from + span.len];
             let first = (*at).min(bytes.len());
             tear(image, first, *at, new, part)?;
             write_if(bytes, *at, new, *done)?;
             Ok(())
         }
-        Step::Sync { done } => {
+        Call::Sync { done, .. } => {
             if *done {
                 image.clear();
                 image.extend_from_slice(bytes)?;
             }
             Ok(())
         }
-        Step::Emit { .. } => Ok(()),
+        Call::Emit { .. } => Ok(()),
+    }
+}
+
+fn is_call_on(disk: usize, call: &Call) -> bool
+    ensures { (kept : List ℕ) → result ≡ is_on disk (event kept call.now) }
+{
+    match call {
+        Call::Write { disk: of, .. } => disk == *of,
+        Call::Sync { disk: of, .. } => disk == *of,
+        Call::Emit { .. } => false,
+    }
+}
+
+/// One call.
+fn advance_if(
+    disk: usize,
+    bytes: &mut Vec<u8>,
+    image: &mut Vec<u8>,
+    call: &Call,
+    kept: &[u8],
+    part: Part,
+) -> Result<(), AllocError>
+    requires { IsInside (length kept.now) call.now }
+    ensures bytes { OnOk result ((d : Disk) → bytes.old.items ≡ d.bytes → bytes.new.items ≡ (step_on disk (event kept.now call.now) d).bytes) }
+    ensures old { OnOk result ((d : Disk) → part ≡ Part.Nothing → bytes.old.items ≡ d.bytes → image.old.items ≡ d.base → image.new.items ≡ (step_on disk (event kept.now call.now) d).base) }
+    ensures new { OnOk result (part ≡ Part.All → IsDone (event kept.now call.now) → image.old.items ≡ bytes.old.items → image.new.items ≡ bytes.new.items) }
+    ensures image { OnOk result ((d : Disk) → bytes.old.items ≡ d.bytes → Stands d image.old.items → Stands (step_on disk (event kept.now call.now) d) image.new.items) }
+{
+    if is_call_on(disk, call) {
+        advance(bytes, image, call, kept, part)
+    } else {
+        Ok(())
     }
 }
 
@@ -119,26 +151,27 @@ fn next_digits(choice: u64, digits: u64) -> u64
     if digits < 3 { choice } else { digits / 3 }
 }
 
-/// An image that a stop after these calls may leave. The digits of the choice to base 3, from the last one on and over
-/// again, say how much of a write that was not synced is left: 0 nothing, 1 all, 2 the first half.
+/// An image that a stop after these calls may leave of a disk. The digits of the choice to base 3, from the last one on
+/// and over again, say how much of a write that was not synced is left: 0 nothing, 1 all, 2 the first half.
 pub fn image_after(
     alloc: Global,
     start: &[u8],
-    calls: &[Step],
+    disk: usize,
+    calls: &[Call],
     kept: &[u8],
     choice: u64,
 ) -> Result<Vec<u8>, AllocError>
     requires { AllInside (length kept.now) calls.now }
-    ensures old { choice ≡ 0 → IfOk result (λ image. image.items ≡ (after (fresh start.now) (events kept.now calls.now)).base) }
-    ensures new { choice ≡ 1 → AllDone (events kept.now calls.now) → IfOk result (λ image. image.items ≡ (after (fresh start.now) (events kept.now calls.now)).bytes) }
-    ensures image { IfOk result (λ image. Torns (after (fresh start.now) (events kept.now calls.now)).pending (after (fresh start.now) (events kept.now calls.now)).base image.items) }
+    ensures old { choice ≡ 0 → IfOk result (λ image. (s : Moment) → s.disk disk ≡ fresh start.now → image.items ≡ ((after s (events kept.now calls.now)).disk disk).base) }
+    ensures new { choice ≡ 1 → AllDone (events kept.now calls.now) → IfOk result (λ image. (s : Moment) → s.disk disk ≡ fresh start.now → image.items ≡ ((after s (events kept.now calls.now)).disk disk).bytes) }
+    ensures image { IfOk result (λ image. (s : Moment) → s.disk disk ≡ fresh start.now → Stands ((after s (events kept.now calls.now)).disk disk) image.items) }
 {
     let mut bytes = start.to_vec(alloc)?;
     let mut image = start.to_vec(alloc)?;
     let mut digits = choice;
     for call in calls {
         let part = part_of(digits);
-        advance(&mut bytes, &mut image, call, kept, part)?;
+        advance_if(disk, &mut bytes, &mut image, call, kept, part)?;
         digits = next_digits(choice, digits);
     }
     Ok(image)

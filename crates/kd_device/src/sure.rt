@@ -1,6 +1,6 @@
 //! A device in memory of which no call fails.
-ghost use Rattle.std.specs.Prelude.{◌≡◌, [], IsTrue, length, IfOk};
-ghost use Rattle.kd_device.specs.{Device.{Only}, History.{fresh}, Tape.{blank}, Sure.{sure_state, sure_leaves}, Laws.{bytes_now, sent_is, since_less}};
+ghost use Rattle.std.specs.Prelude.{◌≡◌, [], ◌∷◌, IsTrue, length, IfOk, refl};
+ghost use Rattle.kd_device.specs.{Device.{Only}, History.{at_first}, Recording.{blank, disk_of, moment_of}, Memory.{OfOne}, Sure.{sure_state, sure_leaves}, HistoryLaws.{now_to, has_bytes, sent_is, since_less}};
 
 use crate::buffer::read_part;
 use crate::device::{Device, Failed};
@@ -9,39 +9,43 @@ use kd_base::{Bytes, OutOfMemory};
 use std::alloc::Global;
 use std::marker::Model;
 
-/// A disk file and an output line in memory, whose counts of faults are 0: so no call answers that it failed.
+/// A disk file and an output line in memory, a tape of one disk, whose counts of faults are 0: so no call answers that it
+/// failed.
 #[derive(Drop)]
 pub struct SureDevice {
     tape: Tape,
 }
 
 impl Model for SureDevice {
-    ghost use Rattle.kd_device.specs.Tape.{Recording};
+    ghost use Rattle.std.specs.Prelude.{◌≡◌, length};
+    ghost use Rattle.kd_device.specs.Recording.{Recording};
 
     ghost Value = { Recording };
 
     ghost view = { λ m. m.tape };
+
+    ghost invariant = { λ m. length m.tape.starts ≡ 1 };
 }
 
 impl SureDevice {
     /// A device with this file, all of it on the disk.
     pub fn new(alloc: Global, start: Bytes) -> Result<SureDevice, OutOfMemory>
-        ensures value { IfOk result (λ m. m ≡ blank start) }
+        ensures value { IfOk result (λ m. m ≡ blank (start ∷ [])) }
         ensures told { IfOk result (λ m. IsTrue (sure_state m).told) }
         ensures holds { IfOk result (λ m. (sure_state m).holds ≡ start) }
         ensures sent { IfOk result (λ m. (sure_state m).sent ≡ []) }
         ensures only { IfOk result (λ m. Only start (sure_state m) (sure_leaves m)) }
     {
-        Ok(SureDevice {
-            tape: Tape::new(alloc, start)?,
-        })
+        let mut tape = Tape::new(alloc);
+        tape.add(alloc, start)?;
+        Ok(SureDevice { tape })
     }
 
     /// The bytes of the disk, as reads give them.
     pub fn holds(&self) -> &[u8]
         ensures { result.now ≡ (sure_state self.now).holds }
     {
-        self.tape.holds()
+        self.tape.holds(0)
     }
 
     /// All that was emitted.
@@ -65,7 +69,7 @@ impl Device for SureDevice {
     ghost leaves = { sure_leaves };
 
     fn attach(&mut self, name: &[u8]) -> Result<(), Failed> {
-        self.tape.named(name);
+        self.tape.named(0, name);
         Ok(())
     }
 
@@ -82,12 +86,12 @@ impl Device for SureDevice {
     }
 
     fn write_at(&mut self, at: u64, bytes: &[u8]) -> Result<(), Failed> {
-        self.tape.wrote(at as usize, bytes, true);
+        self.tape.wrote(0, at as usize, bytes, true);
         Ok(())
     }
 
     fn sync(&mut self) -> Result<(), Failed> {
-        self.tape.synced(true);
+        self.tape.synced(0, true);
         Ok(())
     }
 
@@ -96,9 +100,9 @@ impl Device for SureDevice {
         Ok(())
     }
 
-    ghost holds_now = { λ m told. bytes_now m.start m.events };
+    ghost holds_now = { λ m told. now_to (OfOne (disk_of 0 m).bytes) (at_first m.starts) m.events (moment_of m).sent (has_bytes 0 m.starts m.events, refl) };
 
-    ghost sent_now = { λ m c out told left. sent_is m.start m.events c out left };
+    ghost sent_now = { λ m c out told left. sent_is (OfOne c) m.starts m.events out left };
 
-    ghost earlier = { λ m t u c out told le left. since_less t u (fresh m.start) m.events c out le left };
+    ghost earlier = { λ m t u c out told le left. since_less (OfOne c) t u (at_first m.starts) m.events out le left };
 }

@@ -2,7 +2,7 @@
 use Rattle.std.specs.Prelude.{ℕ, false, []}
 use Rattle.kd_device.specs.Device.{State}
 use Rattle.kd_device.specs.Room.{RoomState}
-use Rattle.kd_twin.specs.Twin.{Both, no_disk, untold}
+use Rattle.kd_device.specs.Twin.{Both, no_disk, untold}
 
 pub record Counts : Type 0 where
   pub disk_faults : ℕ

@@ -1,7 +1,7 @@
 //! The outside itself: a real file and the standard output as a device, two real files and the standard output as a
 //! twin, and the files of the current folder as a room.
 //!
-//! It stands on kd_base, kd_device and kd_twin. It is the trusted edge: no contract can say what a file, a power cut or
+//! It stands on kd_base and kd_device. It is the trusted edge: no contract can say what a file, a power cut or
 //! a line really does, so its device, its twin and its room tell nothing of their content. What is proved of them is that each call
 //! that fails raises its count of faults, and that no other call does. That a write reaches the file, that a sync
 //! makes it last, that an emit is sent, that the file is locked, that a fault is said on standard error, and that a

@@ -3,11 +3,19 @@ ghost use Rattle.std.specs.Prelude.{◌≡◌, ◌≤◌, ◌+◌};
 
 /// So many calls of so many bytes together, with no write past `end`, take no memory. No call of this crate takes any, so
 /// the numbers are only kept.
-#[derive(Drop)]
 pub(crate) struct Spare {
     pub(crate) calls: u64,
     pub(crate) bytes: u64,
     pub(crate) end: u64,
+}
+
+impl Drop for Spare {
+    fn drop(self) {
+        let Spare { calls, bytes, end } = self;
+        let _ = calls;
+        let _ = bytes;
+        let _ = end;
+    }
 }
 
 impl Spare {

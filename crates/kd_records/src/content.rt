@@ -110,9 +110,21 @@ pub type PatchItems = Sequence<(RecordKey, Option<Bytes>)>;
 
 /// What one commit changes: the new clock and next job number, and records that are set or removed, in ascending
 /// order of their keys without repeats.
-#[derive(Drop)]
 pub struct Patch {
     pub clock: u64,
     pub next_job: u64,
     pub items: PatchItems,
+}
+
+impl Drop for Patch {
+    fn drop(self) {
+        let Patch {
+            clock,
+            next_job,
+            items,
+        } = self;
+        let _ = clock;
+        let _ = next_job;
+        let _ = items;
+    }
 }

@@ -1,12 +1,12 @@
 //! A patch that is made of a content where it stands, and that can be taken back.
 ghost use Rattle.std.specs.{Prelude.{◌≡◌, ◌<◌, ◌≤◌, ◌+◌, length, IsTrue, Some, None, IfOk, IfErr, OnOk, vec_len, vec_capacity}, FinMap.{find, is_sorted}};
 ghost use Rattle.kd_records.specs.{Keys.{key_cmp}, Contents.{changed, changed_all, patched}};
-ghost use Rattle.sorted_pairs.specs.Places.{IsPlace};
+ghost use Rattle.kd_base.specs.Places.{IsPlace};
 
 use crate::content::{Content, Patch, Records};
 use crate::key::RecordKey;
+use kd_base::sorted_pairs::place_of;
 use kd_base::{Bytes, OutOfMemory};
-use sorted_pairs::place_of;
 use std::alloc::Global;
 use std::marker::Model;
 use std::mem;

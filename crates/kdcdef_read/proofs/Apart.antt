@@ -5,14 +5,14 @@ use Rattle.std.specs.List.{All}
 use Rattle.std.proofs.lemmas.List.Elements.{All-nil, All-cons}
 use Rattle.std.specs.Option.{option_or}
 use Rattle.kd_base.specs.ToolsLaws.{some_is, ok_is, or_none}
-use Rattle.kdcdef_lex.specs.declared.statement.RawOperand.{RawOperand}
-use Rattle.kdcdef_lex.specs.declared.statement.RawStatement.{RawStatement}
-use Rattle.kdcdef_lex.specs.Bounds.{AreWithinBounds}
-use Rattle.kdcdef_types.specs.declared.statement.MaxOperands.{MaxOperands}
-use Rattle.kdcdef_types.specs.declared.statement.Said.{Said}
-use Rattle.kdcdef_types.specs.declared.statement.Said.TheVariants.{Max, Passed, End}
-use Rattle.kdcdef_types.specs.declared.statement.Statement.{Statement}
-use Rattle.kdcdef_types.specs.Statements.{NotBoth, AreApart, SayApart, NoMaxTwice, AreRead}
+use Rattle.texts.specs.declared.kdcdef_lex.statement.RawOperand.{RawOperand}
+use Rattle.texts.specs.declared.kdcdef_lex.statement.RawStatement.{RawStatement}
+use Rattle.texts.specs.Bounds.{AreWithinBounds}
+use Rattle.application_types.specs.declared.kdcdef_types.statement.MaxOperands.{MaxOperands}
+use Rattle.application_types.specs.declared.kdcdef_types.statement.Said.{Said}
+use Rattle.application_types.specs.declared.kdcdef_types.statement.Said.TheVariants.{Max, Passed, End}
+use Rattle.application_types.specs.declared.kdcdef_types.statement.Statement.{Statement}
+use Rattle.application_types.specs.Statements.{NotBoth, AreApart, SayApart, NoMaxTwice, AreRead}
 use Rattle.kdcdef_read.specs.declared.fault.ReadFault.{ReadFault}
 use Rattle.kdcdef_read.specs.declared.rows.Row.{Row}
 use Rattle.kdcdef_read.specs.declared.value.Value.{Value}

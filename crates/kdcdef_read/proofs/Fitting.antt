@@ -6,10 +6,10 @@ use Rattle.std.proofs.lemmas.Bool.{cases_Bool, leb-true}
 use Rattle.std.specs.Option.{option_or}
 use Rattle.kd_base.specs.Text.{decimal_of}
 use Rattle.kd_base.specs.ToolsLaws.{chosen, both_true, some_is, bind_ok, ok_is, ok_of}
-use Rattle.kdcdef_lex.specs.declared.statement.RawOperand.{RawOperand}
-use Rattle.kdcdef_lex.specs.declared.statement.RawValue.{RawValue}
-use Rattle.kdcdef_lex.specs.declared.statement.RawValue.TheVariants as raw
-use Rattle.kdcdef_types.specs.Statements.{IsWithin, IsBlksize}
+use Rattle.texts.specs.declared.kdcdef_lex.statement.RawOperand.{RawOperand}
+use Rattle.texts.specs.declared.kdcdef_lex.statement.RawValue.{RawValue}
+use Rattle.texts.specs.declared.kdcdef_lex.statement.RawValue.TheVariants as raw
+use Rattle.application_types.specs.Statements.{IsWithin, IsBlksize}
 use Rattle.kdcdef_read.specs.declared.fault.Cause.{Cause}
 use Rattle.kdcdef_read.specs.declared.fault.Cause.TheVariants.{BadChoice, OutOfRange}
 use Rattle.kdcdef_read.specs.declared.rows.Choice.TheVariants as choices

@@ -8,13 +8,13 @@ use Rattle.std.proofs.lemmas.List.Elements.{All-nil, All-cons}
 use Rattle.kd_base.specs.Text.{decimal_of}
 use Rattle.kd_base.specs.ToolsLaws.{chosen, both_true, some_is, some_of, ok_of, err_of, ok_is, bind_ok}
 use Rattle.texts.specs.Firsts.{first_of}
-use Rattle.kdcdef_lex.specs.declared.statement.RawItem.{RawItem}
-use Rattle.kdcdef_lex.specs.declared.statement.RawOperand.{RawOperand}
-use Rattle.kdcdef_lex.specs.declared.statement.RawValue.{RawValue}
-use Rattle.kdcdef_lex.specs.declared.statement.RawValue.TheVariants as raw
-use Rattle.kdcdef_types.specs.declared.entry.KeySet.{KeySet}
-use Rattle.kdcdef_types.specs.declared.entry.KeySet.TheVariants.{Master, Codes}
-use Rattle.kdcdef_types.specs.Statements.{IsWithin, IsKeySetInRange}
+use Rattle.texts.specs.declared.kdcdef_lex.statement.RawItem.{RawItem}
+use Rattle.texts.specs.declared.kdcdef_lex.statement.RawOperand.{RawOperand}
+use Rattle.texts.specs.declared.kdcdef_lex.statement.RawValue.{RawValue}
+use Rattle.texts.specs.declared.kdcdef_lex.statement.RawValue.TheVariants as raw
+use Rattle.application_types.specs.declared.kdcdef_types.entry.KeySet.{KeySet}
+use Rattle.application_types.specs.declared.kdcdef_types.entry.KeySet.TheVariants.{Master, Codes}
+use Rattle.application_types.specs.Statements.{IsWithin, IsKeySetInRange}
 use Rattle.kdcdef_read.specs.declared.fault.Cause.{Cause}
 use Rattle.kdcdef_read.specs.declared.fault.Cause.TheVariants.{BadNumber, OutOfRange}
 use Rattle.kdcdef_read.specs.declared.value.Value.{Value}

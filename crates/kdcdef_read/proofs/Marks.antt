@@ -4,10 +4,10 @@ use Rattle.std.proofs.Math.Path.{fun_ext}
 use Rattle.std.specs.Prelude.{is_some}
 use Rattle.std.specs.Option.{option_or}
 use Rattle.kd_base.specs.ToolsLaws.{bind_ok, bind_err, ok_is, err_is, ok_of, err_of}
-use Rattle.kdcdef_lex.specs.declared.statement.RawOperand.{RawOperand}
-use Rattle.kdcdef_lex.specs.declared.statement.RawStatement.{RawStatement}
-use Rattle.kdcdef_types.specs.declared.statement.Said.TheVariants as says
-use Rattle.kdcdef_types.specs.declared.statement.Statement.{Statement}
+use Rattle.texts.specs.declared.kdcdef_lex.statement.RawOperand.{RawOperand}
+use Rattle.texts.specs.declared.kdcdef_lex.statement.RawStatement.{RawStatement}
+use Rattle.application_types.specs.declared.kdcdef_types.statement.Said.TheVariants as says
+use Rattle.application_types.specs.declared.kdcdef_types.statement.Statement.{Statement}
 use Rattle.kdcdef_read.specs.declared.fault.Cause.{Cause}
 use Rattle.kdcdef_read.specs.declared.fault.ReadFault.{ReadFault}
 use Rattle.kdcdef_read.specs.declared.operands.Given.{Given}

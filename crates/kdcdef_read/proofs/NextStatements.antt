@@ -5,12 +5,12 @@ use Rattle.std.proofs.lemmas.Option.{slice_get_within, get_or_from_slice_get}
 use Rattle.kd_base.specs.FirstFaults.{Unless}
 use Rattle.kd_base.specs.Tools.{◌>>=◌}
 use Rattle.kd_base.specs.ToolsLaws.{ok_is, bind_ok, chosen}
-use Rattle.kdcdef_lex.specs.declared.statement.RawOperand.{RawOperand}
-use Rattle.kdcdef_lex.specs.declared.statement.RawStatement.{RawStatement}
-use Rattle.kdcdef_lex.specs.Bounds.{LinesUpTo, LinesFrom, operand_count}
-use Rattle.kdcdef_types.specs.declared.statement.Said.{Said}
-use Rattle.kdcdef_types.specs.declared.statement.Said.TheVariants as says
-use Rattle.kdcdef_types.specs.declared.statement.Statement.{Statement}
+use Rattle.texts.specs.declared.kdcdef_lex.statement.RawOperand.{RawOperand}
+use Rattle.texts.specs.declared.kdcdef_lex.statement.RawStatement.{RawStatement}
+use Rattle.texts.specs.Bounds.{LinesUpTo, LinesFrom, operand_count}
+use Rattle.application_types.specs.declared.kdcdef_types.statement.Said.{Said}
+use Rattle.application_types.specs.declared.kdcdef_types.statement.Said.TheVariants as says
+use Rattle.application_types.specs.declared.kdcdef_types.statement.Statement.{Statement}
 use Rattle.kdcdef_read.specs.declared.fault.Cause.{Cause}
 use Rattle.kdcdef_read.specs.declared.fault.ReadFault.{ReadFault}
 use Rattle.kdcdef_read.specs.declared.fault.ReadFault.TheVariants.{AfterEnd, Memory}

@@ -5,16 +5,16 @@ use Rattle.std.specs.Option.{option_map}
 use Rattle.std.specs.List.{All}
 use Rattle.std.proofs.lemmas.List.Elements.{All-nil, All-cons}
 use Rattle.kd_base.specs.ToolsLaws.{some_is, some_of, map_some, and_some, ok_is}
-use Rattle.kdcdef_lex.specs.declared.statement.RawOperand.{RawOperand}
-use Rattle.kdcdef_lex.specs.declared.statement.RawStatement.{RawStatement}
-use Rattle.kdcdef_lex.specs.Bounds.{LinesUpTo, operand_count}
-use Rattle.kdcdef_types.specs.declared.entry.CallUse.{CallUse}
-use Rattle.kdcdef_types.specs.declared.entry.KeySet.{KeySet}
-use Rattle.kdcdef_types.specs.declared.entry.TacEntry.{TacEntry}
-use Rattle.kdcdef_types.specs.declared.statement.Said.{Said}
-use Rattle.kdcdef_types.specs.declared.statement.Said.TheVariants.{Program, Tac, User, Lterm, Tls, Uls, TacClass, Kset, Passed, End}
-use Rattle.kdcdef_types.specs.declared.statement.Statement.{Statement}
-use Rattle.kdcdef_types.specs.Statements.{IsWithin, IsTacInRange, IsInRange, passed_count}
+use Rattle.texts.specs.declared.kdcdef_lex.statement.RawOperand.{RawOperand}
+use Rattle.texts.specs.declared.kdcdef_lex.statement.RawStatement.{RawStatement}
+use Rattle.texts.specs.Bounds.{LinesUpTo, operand_count}
+use Rattle.application_types.specs.declared.kdcdef_types.entry.CallUse.{CallUse}
+use Rattle.application_types.specs.declared.kdcdef_types.entry.KeySet.{KeySet}
+use Rattle.application_types.specs.declared.kdcdef_types.entry.TacEntry.{TacEntry}
+use Rattle.application_types.specs.declared.kdcdef_types.statement.Said.{Said}
+use Rattle.application_types.specs.declared.kdcdef_types.statement.Said.TheVariants.{Program, Tac, User, Lterm, Tls, Uls, TacClass, Kset, Passed, End}
+use Rattle.application_types.specs.declared.kdcdef_types.statement.Statement.{Statement}
+use Rattle.application_types.specs.Statements.{IsWithin, IsTacInRange, IsInRange, passed_count}
 use Rattle.kdcdef_read.specs.declared.fault.Cause.{Cause}
 use Rattle.kdcdef_read.specs.declared.fault.ReadFault.{ReadFault}
 use Rattle.kdcdef_read.specs.declared.value.Value.{Value}
@@ -28,7 +28,8 @@ use Rattle.kdcdef_read.specs.declared.words.Key.TheVariants as keys
 use Rattle.kdcdef_read.specs.Words.{form_of}
 use Rattle.kdcdef_read.specs.KeySets.{key_set_of}
 use Rattle.kdcdef_read.specs.Operands.{operand_key, is_kept, passed_from, passed_in, first_cause, answer_of}
-use Rattle.kdcdef_read.specs.Said.{name_at, prog_name_at, number_at, class_at, time_at, call_at, flag_at, password_at, max_said, program_said, class_of, tac_entry, tac_said, user_said, pterm_of, pterm_said, lterm_said, tls_said, uls_said, class_said, kset_said, said_of}
+use Rattle.kdcdef_read.specs.Said.{name_at, prog_name_at, number_at, class_at, time_at, call_at, flag_at, password_at, max_said, program_said, class_of, tac_entry, tac_said, user_said, pterm_of}
+use Rattle.kdcdef_read.specs.Said.{pterm_said, lterm_said, tls_said, uls_said, class_said, kset_said, said_of}
 use Rattle.kdcdef_read.specs.Meaning.{statement, shared, or_missing, unless, form_says, Say}
 use Rattle.kdcdef_read.proofs.Fitting.{number_within, blksize_is, class_within, redelivery_within, time_within, password_within}
 use Rattle.kdcdef_read.proofs.KeySets.{set_in_range}

@@ -3,12 +3,12 @@ use Rattle.std.proofs.Common.{◌≡◌, ℕ, ◌+◌, Bool, true, false, List, 
 use Rattle.std.proofs.lemmas.Bool.{cases_Bool}
 use Rattle.kd_base.specs.Tools.{◌>>=◌}
 use Rattle.kd_base.specs.ToolsLaws.{bind_ok, bind_err, ok_is, err_is, err_of}
-use Rattle.kdcdef_lex.specs.declared.statement.RawOperand.{RawOperand}
-use Rattle.kdcdef_lex.specs.declared.statement.RawStatement.{RawStatement}
-use Rattle.kdcdef_types.specs.declared.statement.Said.{Said}
-use Rattle.kdcdef_types.specs.declared.statement.Said.TheVariants as says
-use Rattle.kdcdef_types.specs.declared.statement.Statement.{Statement}
-use Rattle.kdcdef_types.specs.Statements.{EndsOnce}
+use Rattle.texts.specs.declared.kdcdef_lex.statement.RawOperand.{RawOperand}
+use Rattle.texts.specs.declared.kdcdef_lex.statement.RawStatement.{RawStatement}
+use Rattle.application_types.specs.declared.kdcdef_types.statement.Said.{Said}
+use Rattle.application_types.specs.declared.kdcdef_types.statement.Said.TheVariants as says
+use Rattle.application_types.specs.declared.kdcdef_types.statement.Statement.{Statement}
+use Rattle.application_types.specs.Statements.{EndsOnce}
 use Rattle.kdcdef_read.specs.declared.fault.ReadFault.{ReadFault}
 use Rattle.kdcdef_read.specs.declared.fault.ReadFault.TheVariants.{AfterEnd, NoEnd}
 use Rattle.kdcdef_read.specs.declared.statement.Progress.{Progress}

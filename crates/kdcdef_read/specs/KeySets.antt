@@ -4,13 +4,13 @@ use Rattle.std.specs.List.{list_all}
 use Rattle.std.specs.Result.{result_ok}
 use Rattle.kd_base.specs.Text.{decimal_of}
 use Rattle.kd_base.specs.Tools.{onto, ◌>>=◌}
-use Rattle.kdcdef_lex.specs.declared.statement.RawItem.{RawItem}
-use Rattle.kdcdef_lex.specs.declared.statement.RawItem.TheVariants as items
-use Rattle.kdcdef_lex.specs.declared.statement.RawOperand.{RawOperand}
-use Rattle.kdcdef_lex.specs.declared.statement.RawValue.{RawValue}
-use Rattle.kdcdef_lex.specs.declared.statement.RawValue.TheVariants as raw
-use Rattle.kdcdef_types.specs.declared.entry.KeySet.{KeySet}
-use Rattle.kdcdef_types.specs.declared.entry.KeySet.TheVariants.{Master, Codes}
+use Rattle.texts.specs.declared.kdcdef_lex.statement.RawItem.{RawItem}
+use Rattle.texts.specs.declared.kdcdef_lex.statement.RawItem.TheVariants as items
+use Rattle.texts.specs.declared.kdcdef_lex.statement.RawOperand.{RawOperand}
+use Rattle.texts.specs.declared.kdcdef_lex.statement.RawValue.{RawValue}
+use Rattle.texts.specs.declared.kdcdef_lex.statement.RawValue.TheVariants as raw
+use Rattle.application_types.specs.declared.kdcdef_types.entry.KeySet.{KeySet}
+use Rattle.application_types.specs.declared.kdcdef_types.entry.KeySet.TheVariants.{Master, Codes}
 use Rattle.kdcdef_read.specs.declared.fault.Cause.{Cause}
 use Rattle.kdcdef_read.specs.declared.fault.Cause.TheVariants.{BadNumber, OutOfRange}
 use Rattle.kdcdef_read.specs.declared.value.Value.{Value}

@@ -1,6 +1,6 @@
 -- What is left to read.
 use Rattle.std.specs.Prelude.{ℕ, List, Result}
-use Rattle.kdcdef_types.specs.declared.statement.Statement.{Statement}
+use Rattle.application_types.specs.declared.kdcdef_types.statement.Statement.{Statement}
 use Rattle.kdcdef_read.specs.declared.fault.ReadFault.{ReadFault}
 
 pub record Left : Type 0 where

@@ -1,11 +1,11 @@
 -- What raw statements stand for, and their first fault.
 use Rattle.std.specs.Prelude.{◌≡◌, ◌⊎◌, ℕ, ◌+◌, List, [], ◌∷◌, ◌++◌, length, Option, Some, None, Result, Ok, Err}
-use Rattle.kdcdef_lex.specs.declared.statement.RawOperand.{RawOperand}
-use Rattle.kdcdef_lex.specs.declared.statement.RawStatement.{RawStatement}
-use Rattle.kdcdef_types.specs.declared.statement.Said.{Said}
-use Rattle.kdcdef_types.specs.declared.statement.Said.TheVariants.{Passed, End}
-use Rattle.kdcdef_types.specs.declared.statement.Statement.{Statement}
-use Rattle.kdcdef_types.specs.Statements.{EndsOnce}
+use Rattle.texts.specs.declared.kdcdef_lex.statement.RawOperand.{RawOperand}
+use Rattle.texts.specs.declared.kdcdef_lex.statement.RawStatement.{RawStatement}
+use Rattle.application_types.specs.declared.kdcdef_types.statement.Said.{Said}
+use Rattle.application_types.specs.declared.kdcdef_types.statement.Said.TheVariants.{Passed, End}
+use Rattle.application_types.specs.declared.kdcdef_types.statement.Statement.{Statement}
+use Rattle.application_types.specs.Statements.{EndsOnce}
 use Rattle.kdcdef_read.specs.declared.fault.Cause.{Cause}
 use Rattle.kdcdef_read.specs.declared.fault.ReadFault.{ReadFault}
 use Rattle.kdcdef_read.specs.declared.fault.ReadFault.TheVariants.{UnknownStatement, OperandMissing, AfterEnd, NoEnd}

@@ -1,10 +1,10 @@
 -- Numbers that operands have as their values.
 use Rattle.std.specs.Prelude.{ℕ, ◌&&◌, nat_le, List, [], ◌∷◌, Option, Some, None, Result, Ok, Err, if◌then◌else◌}
 use Rattle.kd_base.specs.Text.{decimal_of}
-use Rattle.kdcdef_lex.specs.declared.statement.RawItem.{RawItem}
-use Rattle.kdcdef_lex.specs.declared.statement.RawItem.TheVariants as items
-use Rattle.kdcdef_lex.specs.declared.statement.RawValue.{RawValue}
-use Rattle.kdcdef_lex.specs.declared.statement.RawValue.TheVariants as raw
+use Rattle.texts.specs.declared.kdcdef_lex.statement.RawItem.{RawItem}
+use Rattle.texts.specs.declared.kdcdef_lex.statement.RawItem.TheVariants as items
+use Rattle.texts.specs.declared.kdcdef_lex.statement.RawValue.{RawValue}
+use Rattle.texts.specs.declared.kdcdef_lex.statement.RawValue.TheVariants as raw
 use Rattle.kdcdef_read.specs.declared.fault.Cause.{Cause}
 use Rattle.kdcdef_read.specs.declared.fault.Cause.TheVariants.{BadNumber, OutOfRange}
 

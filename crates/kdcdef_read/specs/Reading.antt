@@ -1,9 +1,9 @@
 -- What is left to read of raw statements, from a place on.
 use Rattle.std.specs.Prelude.{ℕ, ◌≤◌, List, [], ◌∷◌, length, drop, Option, Some, None, Result, Ok}
 use Rattle.kd_base.specs.Limits.{longest_text}
-use Rattle.kdcdef_lex.specs.declared.statement.RawStatement.{RawStatement}
-use Rattle.kdcdef_lex.specs.Bounds.{LinesUpTo, LinesFrom, operand_count}
-use Rattle.kdcdef_types.specs.declared.statement.Statement.{Statement}
+use Rattle.texts.specs.declared.kdcdef_lex.statement.RawStatement.{RawStatement}
+use Rattle.texts.specs.Bounds.{LinesUpTo, LinesFrom, operand_count}
+use Rattle.application_types.specs.declared.kdcdef_types.statement.Statement.{Statement}
 use Rattle.kdcdef_read.specs.declared.fault.ReadFault.{ReadFault}
 use Rattle.kdcdef_read.specs.declared.statement.Progress.{Progress}
 use Rattle.kdcdef_read.specs.Left.{Left}

@@ -1,11 +1,11 @@
 -- What a statement says, by what its operands say.
 use Rattle.std.specs.Prelude.{ℕ, Bool, true, false, List, Option, Some, None, option_and_then}
 use Rattle.std.specs.Option.{option_map}
-use Rattle.kdcdef_types.specs.declared.entry.CallUse.{CallUse}
-use Rattle.kdcdef_types.specs.declared.entry.KeySet.{KeySet}
-use Rattle.kdcdef_types.specs.declared.entry.TacEntry.{TacEntry}
-use Rattle.kdcdef_types.specs.declared.statement.Said.{Said}
-use Rattle.kdcdef_types.specs.declared.statement.Said.TheVariants.{Max, Program, Tac, User, Pterm, Lterm, Tls, Uls, TacClass, Kset, Passed}
+use Rattle.application_types.specs.declared.kdcdef_types.entry.CallUse.{CallUse}
+use Rattle.application_types.specs.declared.kdcdef_types.entry.KeySet.{KeySet}
+use Rattle.application_types.specs.declared.kdcdef_types.entry.TacEntry.{TacEntry}
+use Rattle.application_types.specs.declared.kdcdef_types.statement.Said.{Said}
+use Rattle.application_types.specs.declared.kdcdef_types.statement.Said.TheVariants.{Max, Program, Tac, User, Pterm, Lterm, Tls, Uls, TacClass, Kset, Passed}
 use Rattle.kdcdef_read.specs.declared.words.Keyword.{Keyword}
 use Rattle.kdcdef_read.specs.declared.words.Keyword.TheVariants as keywords
 use Rattle.kdcdef_read.specs.declared.words.Key.{Key}

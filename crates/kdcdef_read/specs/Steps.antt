@@ -2,11 +2,11 @@
 use Rattle.std.specs.Prelude.{ℕ, ◌+◌, Bool, true, false, List, [], ◌∷◌, ◌++◌, length, Option, Some, None, Result, Ok, Err, if◌then◌else◌, replicate}
 use Rattle.kd_base.specs.FirstFaults.{GivesUnless}
 use Rattle.kd_base.specs.Tools.{◌>>=◌}
-use Rattle.kdcdef_lex.specs.declared.statement.RawOperand.{RawOperand}
-use Rattle.kdcdef_lex.specs.declared.statement.RawStatement.{RawStatement}
-use Rattle.kdcdef_types.specs.declared.statement.Said.{Said}
-use Rattle.kdcdef_types.specs.declared.statement.Said.TheVariants as says
-use Rattle.kdcdef_types.specs.declared.statement.Statement.{Statement}
+use Rattle.texts.specs.declared.kdcdef_lex.statement.RawOperand.{RawOperand}
+use Rattle.texts.specs.declared.kdcdef_lex.statement.RawStatement.{RawStatement}
+use Rattle.application_types.specs.declared.kdcdef_types.statement.Said.{Said}
+use Rattle.application_types.specs.declared.kdcdef_types.statement.Said.TheVariants as says
+use Rattle.application_types.specs.declared.kdcdef_types.statement.Statement.{Statement}
 use Rattle.kdcdef_read.specs.declared.fault.Cause.{Cause}
 use Rattle.kdcdef_read.specs.declared.fault.ReadFault.{ReadFault}
 use Rattle.kdcdef_read.specs.declared.fault.ReadFault.TheVariants.{UnknownStatement, AfterEnd, NoEnd}

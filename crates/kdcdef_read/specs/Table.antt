@@ -1,7 +1,7 @@
 -- The table of operands: for a statement and a key, the values of the operand and its default. Where there is no
 -- row the operand is passed over.
 use Rattle.std.specs.Prelude.{true, false, Option, Some, None}
-use Rattle.kdcdef_types.specs.declared.entry.CallUse.TheVariants as calls
+use Rattle.application_types.specs.declared.kdcdef_types.entry.CallUse.TheVariants as calls
 use Rattle.kdcdef_read.specs.declared.words.Keyword.{Keyword}
 use Rattle.kdcdef_read.specs.declared.words.Keyword.TheVariants as keywords
 use Rattle.kdcdef_read.specs.declared.words.Key.{Key}

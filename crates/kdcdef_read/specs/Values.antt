@@ -3,11 +3,11 @@ use Rattle.std.specs.Prelude.{ℕ, ◌==◌, true, false, List, [], ◌∷◌, O
 use Rattle.kd_base.specs.FirstFaults.{first_true}
 use Rattle.kd_base.specs.Text.{name_up_to}
 use Rattle.kd_base.specs.Tools.{◌>>=◌}
-use Rattle.kdcdef_types.specs.declared.entry.CallUse.TheVariants as calls
-use Rattle.kdcdef_lex.specs.declared.statement.RawItem.{RawItem}
-use Rattle.kdcdef_lex.specs.declared.statement.RawItem.TheVariants as items
-use Rattle.kdcdef_lex.specs.declared.statement.RawValue.{RawValue}
-use Rattle.kdcdef_lex.specs.declared.statement.RawValue.TheVariants as raw
+use Rattle.application_types.specs.declared.kdcdef_types.entry.CallUse.TheVariants as calls
+use Rattle.texts.specs.declared.kdcdef_lex.statement.RawItem.{RawItem}
+use Rattle.texts.specs.declared.kdcdef_lex.statement.RawItem.TheVariants as items
+use Rattle.texts.specs.declared.kdcdef_lex.statement.RawValue.{RawValue}
+use Rattle.texts.specs.declared.kdcdef_lex.statement.RawValue.TheVariants as raw
 use Rattle.kdcdef_read.specs.declared.fault.Cause.{Cause}
 use Rattle.kdcdef_read.specs.declared.fault.Cause.TheVariants.{BadName, OutOfRange, BadChoice, NotInProfile}
 use Rattle.kdcdef_read.specs.declared.rows.Choice.{Choice}

@@ -5,10 +5,10 @@ ghost use Rattle.kdcdef_read.specs.KeySets.{item_number, is_number, code_of, is_
 use crate::fault::Cause;
 use crate::value::{Value, number_between};
 use crate::words::is;
+use application_types::kdcdef_types::{Codes, KeySet};
 use kd_base::{OutOfMemory, decimal_of};
-use kdcdef_lex::{Items, Operands, RawItem, RawOperand, RawValue};
-use kdcdef_types::{Codes, KeySet};
 use std::alloc::Global;
+use texts::kdcdef_lex::{Items, Operands, RawItem, RawOperand, RawValue};
 
 fn item_number(item: &Option<RawItem>) -> Option<u64>
     ensures { result ≡ item_number item.now }

@@ -6,7 +6,7 @@ use crate::fault::Cause;
 use crate::rows::{Row, row_of};
 use crate::value::{Value, value_of};
 use crate::words::{KEYS, Key, Keyword, key_of, place_of};
-use kdcdef_lex::{Operands, RawOperand};
+use texts::kdcdef_lex::{Operands, RawOperand};
 
 /// For each key, whether an operand with it was given.
 pub(crate) type Taken = [bool; KEYS];

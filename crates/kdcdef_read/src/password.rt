@@ -2,8 +2,8 @@
 ghost use Rattle.std.specs.Prelude.{◌≡◌};
 ghost use Rattle.kdcdef_read.specs.Passwords.{password_of};
 
-use kdcdef_lex::QuotedBytes;
 use std::marker::Model;
+use texts::kdcdef_lex::QuotedBytes;
 
 /// A password: 1 to 16 bytes. Contracts see the list of them.
 #[derive(Clone, Copy)]

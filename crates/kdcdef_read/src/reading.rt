@@ -1,16 +1,16 @@
 //! The statements of a text, one after another.
 ghost use Rattle.std.specs.Prelude.{◌≡◌, ◌≢◌, ◌+◌, ◌≤◌, ◌<◌, List, Ok, Err, IfOk, IfErr, IfSome};
-ghost use Rattle.kdcdef_lex.specs.Bounds.{AreWithinBounds};
-ghost use Rattle.kdcdef_types.specs.{Statements.{AreRead}, declared.statement.Statement.{Statement}};
+ghost use Rattle.texts.specs.Bounds.{AreWithinBounds};
+ghost use Rattle.application_types.specs.{Statements.{AreRead}, declared.kdcdef_types.statement.Statement.{Statement}};
 ghost use Rattle.kdcdef_read.specs.{Meaning.{StandFor, HasFault}, Reading.{followed}, declared.fault.ReadFault.{ReadFault}, declared.fault.ReadFault.TheVariants.{Memory}};
 
 use crate::fault::ReadFault;
 use crate::statement::{Progress, step};
 use crate::words::KEYS;
-use kdcdef_lex::Statements;
-use kdcdef_types::Statement;
+use application_types::kdcdef_types::Statement;
 use std::alloc::Global;
 use std::marker::Model;
+use texts::kdcdef_lex::Statements;
 
 /// Reads raw statements as typed ones. Contracts see what is read of those that are left, how many they are, and the
 /// least line that the next one may have.

@@ -5,7 +5,7 @@ ghost use Rattle.kdcdef_read.specs.Table.{of_kind, of_kind_or, max_row, first_ro
 
 use crate::value::Value;
 use crate::words::{Key, Keyword};
-use kdcdef_types::CallUse;
+use application_types::kdcdef_types::CallUse;
 
 /// Operands whose value is one of a few words.
 #[derive(Clone, Copy)]

@@ -1,6 +1,8 @@
 //! What a statement says, from what its operands say.
 ghost use Rattle.std.specs.Prelude.{◌≡◌, IfOk};
-ghost use Rattle.kdcdef_read.specs.{Said.{name_at, prog_name_at, number_at, class_at, redelivery_at, time_at, call_at, flag_at, password_at, max_said, program_said, class_of, tac_entry, tac_said, user_said, pterm_said, lterm_said, tls_said, uls_said, class_said, kset_said, said_of}, Filling.{answer, answers}, Operands.{default_in}, Table.{row_of}, KeySets.{key_set_of}};
+ghost use Rattle.kdcdef_read.specs.Said.{name_at, prog_name_at, number_at, class_at, redelivery_at, time_at, call_at, flag_at, password_at, max_said, program_said, class_of, tac_entry, tac_said};
+ghost use Rattle.kdcdef_read.specs.Said.{user_said, pterm_said, lterm_said, tls_said, uls_said, class_said, kset_said, said_of};
+ghost use Rattle.kdcdef_read.specs.{Filling.{answer, answers}, Operands.{default_in}, Table.{row_of}, KeySets.{key_set_of}};
 ghost use Rattle.kdcdef_read.specs.declared.words.Keyword.TheVariants as keywords;
 ghost use Rattle.kdcdef_read.specs.declared.words.Key.TheVariants as keys;
 
@@ -9,10 +11,12 @@ use crate::operands::Given;
 use crate::rows::row_of;
 use crate::value::Value;
 use crate::words::{Key, Keyword, place_of};
+use application_types::kdcdef_types::{
+    CallUse, LtermEntry, MaxOperands, PtermEntry, Said, TacEntry, UserEntry,
+};
 use kd_base::{Bytes, Name, OutOfMemory, ProgName};
-use kdcdef_lex::Operands;
-use kdcdef_types::{CallUse, LtermEntry, MaxOperands, PtermEntry, Said, TacEntry, UserEntry};
 use std::alloc::Global;
+use texts::kdcdef_lex::Operands;
 
 // What it is where no operand has this key.
 fn default_of(keyword: Keyword, key: Key) -> Option<Value>

@@ -6,9 +6,9 @@ use crate::fault::{ReadFault, at_line};
 use crate::operands::{Given, Taken, read_operands};
 use crate::said::said_of;
 use crate::words::{Form, KEYS, Keyword, form_of};
-use kdcdef_lex::RawStatement;
-use kdcdef_types::{Said, Statement};
+use application_types::kdcdef_types::{Said, Statement};
 use std::alloc::Global;
+use texts::kdcdef_lex::RawStatement;
 
 /// Where the reading is.
 #[derive(Clone, Copy)]

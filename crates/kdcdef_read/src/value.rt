@@ -1,16 +1,17 @@
 //! The value of an operand, by the kind of its row.
 ghost use Rattle.std.specs.Prelude.{◌≡◌};
 ghost use Rattle.kdcdef_read.specs.Numbers.{first_word, number_text, number_between};
-ghost use Rattle.kdcdef_read.specs.Values.{number_in, class_in, redelivery_in, time_in, flag_of, call_of, blksize_of, choice_of, one_of, written_name, password_in, first_of, copies_in, second_word, file_in, mode_in, value_of};
+ghost use Rattle.kdcdef_read.specs.Values.{number_in, class_in, redelivery_in, time_in, flag_of, call_of, blksize_of, choice_of, one_of, written_name, password_in, first_of, copies_in, second_word};
+ghost use Rattle.kdcdef_read.specs.Values.{file_in, mode_in, value_of};
 
 use crate::fault::Cause;
 use crate::key_set::keys_in;
 use crate::password::Password;
 use crate::rows::{Choice, Kind};
 use crate::words::is;
+use application_types::kdcdef_types::CallUse;
 use kd_base::{Name, NameOf, ProgName, decimal_of};
-use kdcdef_lex::{Items, RawItem, RawValue, Word};
-use kdcdef_types::CallUse;
+use texts::kdcdef_lex::{Items, RawItem, RawValue, Word};
 
 /// What an operand says.
 #[derive(Clone, Copy)]

@@ -3,8 +3,8 @@ use Rattle.std.proofs.Common.{◌≡◌, ℕ, ◌<◌, ◌^◌, List, length, ge
 use Rattle.std.specs.Prelude.{IsTrue, IfSome, IfNone}
 use Rattle.std.specs.FinMap.{find, is_sorted}
 use Rattle.kd_base.specs.ToolsLaws.{some_is, some_of}
-use Rattle.sorted_pairs.specs.Places.{IsPlace}
-use Rattle.sorted_pairs.specs.PlacesLaws.{found_entry, none_found}
+use Rattle.kd_base.specs.Places.{IsPlace}
+use Rattle.kd_base.specs.PlacesLaws.{found_entry, none_found}
 use Rattle.kd_records.specs.declared.content.Content.{Content}
 use Rattle.kd_records.specs.declared.key.RecordKey.{RecordKey}
 use Rattle.kd_records.specs.Contents.{Record}

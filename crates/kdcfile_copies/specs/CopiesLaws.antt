@@ -16,8 +16,8 @@ use Rattle.std.proofs.lemmas.List.Sums.{sum_by-cons}
 use Rattle.std.proofs.lemmas.Nat.{from_be_bytes-to_be_bytes_8}
 use Rattle.kd_base.specs.OrderLaws.{holds, is_true}
 use Rattle.kd_base.specs.ToolsLaws.{some_is}
-use Rattle.sorted_pairs.specs.Places.{without as others}
-use Rattle.sorted_pairs.specs.PlacesLaws.{find_without, left_sorted}
+use Rattle.kd_base.specs.Places.{without as others}
+use Rattle.kd_base.specs.PlacesLaws.{find_without, left_sorted}
 use Rattle.kd_records.specs.declared.content.Content.{Content}
 use Rattle.kd_records.specs.declared.content.Patch.{Patch}
 use Rattle.kd_records.specs.declared.key.RecordKey.{RecordKey}
@@ -30,11 +30,12 @@ use Rattle.kd_records.specs.Keys.{key_cmp}
 use Rattle.kdcfile_layout.specs.Fields.{AreBytes, number}
 use Rattle.kdcfile_layout.specs.FieldsLaws.{read_8}
 use Rattle.kdcfile_layout.specs.Layout.{StandsFor, fresh}
-use Rattle.kdcfile_read.specs.ReadFilesLaws.{one_meaning}
+use Rattle.kdcfile_layout.specs.ReadFilesLaws.{one_meaning}
 use Rattle.kdcfile_store.specs.Paged.{Paged, HasFile}
 use Rattle.kdcfile_copies.specs.Copies.{IsBare, HasSequence, IsCopyOf, IsNoCopy, sequence_key, sequence_value, with_sequence, bare, next_patch, sequence_alone}
 use Rattle.kdcfile_copies.specs.Keeping.{CopyKeeps}
-use Rattle.kdcfile_copies.specs.Statements.{OneMeaningOfCopies, OneIsChosen, NoRivalIsChosen, NoImageIsNoCopy, ImagesAreCopies, OthersAreNoCopies, NextPatchMakesNext, PatchKeepsBare, SequenceIsOnePage}
+use Rattle.kdcfile_copies.specs.Statements.{OneMeaningOfCopies, OneIsChosen, NoRivalIsChosen, NoImageIsNoCopy, ImagesAreCopies, OthersAreNoCopies, NextPatchMakesNext, PatchKeepsBare}
+use Rattle.kdcfile_copies.specs.Statements.{SequenceIsOnePage}
 
 pub some_none : {A : Type 0} {x : A} → Some x ≡ None → ⊥
 some_none e = absurd cc

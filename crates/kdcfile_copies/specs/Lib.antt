@@ -1,5 +1,9 @@
+pub mod Beside
+pub mod BesideLaws
 pub mod Copies
-pub mod Keeping
-pub mod Finding
-pub mod Statements
 pub mod CopiesLaws
+pub mod Finding
+pub mod Keeping
+pub mod Mending
+pub mod MendingLaws
+pub mod Statements

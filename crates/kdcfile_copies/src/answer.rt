@@ -3,10 +3,17 @@
 use kdcfile_store::PagedStore;
 
 /// A copy that was loaded or made: its file, and the sequence of its last commit.
-#[derive(Drop)]
 pub struct LoadedCopy {
     pub store: PagedStore,
     pub sequence: u64,
+}
+
+impl Drop for LoadedCopy {
+    fn drop(self) {
+        let LoadedCopy { store, sequence } = self;
+        let _ = store;
+        let _ = sequence;
+    }
 }
 
 /// What a file is.

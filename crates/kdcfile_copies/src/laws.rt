@@ -1,5 +1,6 @@
 //! Laws on the definitions, which all crates above may cite. The functions do nothing.
-ghost use Rattle.kdcfile_copies.specs.Statements.{OneMeaningOfCopies, OneIsChosen, NoRivalIsChosen, NoImageIsNoCopy, ImagesAreCopies, OthersAreNoCopies, NextPatchMakesNext, PatchKeepsBare, SequenceIsOnePage};
+ghost use Rattle.kdcfile_copies.specs.Statements.{OneMeaningOfCopies, OneIsChosen, NoRivalIsChosen, NoImageIsNoCopy, ImagesAreCopies, OthersAreNoCopies, NextPatchMakesNext, PatchKeepsBare};
+ghost use Rattle.kdcfile_copies.specs.Statements.{SequenceIsOnePage};
 
 /// Given bytes are one copy at most.
 pub fn copies_have_one_meaning()

@@ -7,11 +7,11 @@ ghost use Rattle.kdcfile_copies.specs.{Copies.{HasSequence, sequence_value}, Fin
 
 use crate::answer::{Found, LoadedCopy};
 use crate::patching::sequence_key;
+use kd_base::sorted_pairs::place_of;
 use kd_device::{Device, DeviceError};
 use kd_records::Content;
 use kdcfile_layout::u64_in;
 use kdcfile_store::{LoadError, PagedStore};
-use sorted_pairs::place_of;
 use std::alloc::Global;
 
 // The number that eight bytes spell, or none.
@@ -43,6 +43,7 @@ fn sequence_of(content: &Content) -> Option<u64>
 fn found_in(store: PagedStore) -> Found
     ensures { IsFoundIn store result }
 {
+    store.is_in_order();
     match sequence_of(store.kept()) {
         Some(sequence) => Found::Copy(LoadedCopy { store, sequence }),
         None => Found::NoCopy,

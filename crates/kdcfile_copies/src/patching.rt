@@ -3,10 +3,10 @@ ghost use Rattle.std.specs.{Prelude.{◌≡◌, IsTrue, IfOk}, FinMap.{is_sorted
 ghost use Rattle.kd_records.specs.Keys.{key_cmp};
 ghost use Rattle.kdcfile_copies.specs.Copies.{sequence_key, sequence_value, bare, next_patch};
 
+use kd_base::sorted_pairs::SortedPairs;
 use kd_base::{Bytes, OutOfMemory};
 use kd_records::{Content, Patch, PatchItems, RecordKey};
 use kdcfile_store::PagedStore;
-use sorted_pairs::SortedPairs;
 use std::alloc::Global;
 
 #[tactic(auto, unfolding(crate::specs::Copies::sequence_key))]

@@ -4,9 +4,9 @@ use Rattle.std.proofs.Common.{inl, inr, arith, refl, sym, ap, subst, ◌∙◌}
 use Rattle.std.proofs.lemmas.List.{length-take}
 use Rattle.kd_records.specs.Identity.{Identity}
 use Rattle.kd_records.specs.declared.content.Content.{Content}
-use Rattle.kdcdef_types.specs.Generation.{Generated}
+use Rattle.application_types.specs.Generation.{Generated}
 use Rattle.kdcs_types.specs.Tables.{TableRows}
-use Rattle.kd_twin.specs.declared.half.Half.{Half}
+use Rattle.kd_device.specs.declared.half.Half.{Half}
 use Rattle.kdcfile_store.specs.Paged.{HasFile}
 use Rattle.kdcfile_store.specs.declared.store.StoreLimits.{StoreLimits}
 use Rattle.kdcfile_copies.specs.declared.answer.LoadedCopy.{LoadedCopy}
@@ -18,7 +18,7 @@ use Rattle.kdcfile_copies.specs.Finding.{IsAnswer, IsFound, IsLoaded}
 use Rattle.kdcfile_copies.specs.Keeping.{CopyKeeps}
 use Rattle.record_codec.specs.Records.{content_of_tables, AreTablesOf}
 use Rattle.record_codec.specs.TableReadings.{AreProperTables}
-use Rattle.warm_start.specs.Stands.{AreTables}
+use Rattle.device_acts.specs.Stands.{AreTables}
 use Rattle.kdcfile_double.specs.Twice.{Twice, AreSame, IsTwice, KeepsIf, IsOpen, with_copies, identity_of, sequence_of, content_of}
 use Rattle.kdcfile_double.specs.Opening.{HasNoTablesInTwo, IsChosenTables, IsTwoOfOtherTexts, KeepsTablesTwice, identity_twice}
 use Rattle.kdcfile_double.specs.Choice.{copy_in, HasCopy, IsLoadedIf, IsOfTwo, IsChoice, AreOfFiles, IsCounted, SuitsTwice, KeepsNoneTwice, KeepsOthersTwice}

@@ -5,17 +5,18 @@ use Rattle.kd_records.specs.Contents.{patched}
 use Rattle.kd_records.specs.Identity.{Identity}
 use Rattle.kd_records.specs.declared.content.Content.{Content}
 use Rattle.kd_records.specs.declared.content.Patch.{Patch}
-use Rattle.kd_twin.specs.Apart.{Earlier}
-use Rattle.kd_twin.specs.Twin.{Both, Disk, other, disk_of, half_leaves}
-use Rattle.kd_twin.specs.declared.half.Half.{Half}
-use Rattle.kd_twin.specs.declared.half.Half.TheVariants.{First, Second}
+use Rattle.kd_device.specs.Apart.{Earlier}
+use Rattle.kd_device.specs.Twin.{Both, Disk, other, disk_of, half_leaves}
+use Rattle.kd_device.specs.declared.half.Half.{Half}
+use Rattle.kd_device.specs.declared.half.Half.TheVariants.{First, Second}
 use Rattle.kdcfile_store.specs.Paged.{HasFile}
 use Rattle.kdcfile_copies.specs.declared.answer.LoadedCopy.{LoadedCopy}
 use Rattle.kdcfile_copies.specs.CopiesLaws.{kept_bare}
 use Rattle.kdcfile_copies.specs.Keeping.{CopyKeeps}
-use Rattle.kdcfile_halves.specs.Beside.{LeavesBeside, OtherStays, SameDisk, IsBeside, file_of}
-use Rattle.kdcfile_halves.specs.BesideLaws.{beside_pairs, left_after, pairs_weaker}
-use Rattle.kdcfile_double.specs.Twice.{Twice, AreAlike, KeepsIf, IsOpen, IsKeptTwice, IsCommitting, LeavesBoth, SideRests, SideWithin, IsOldOrNew, copy_at, identity_by, sequence_by, content_by, identity_of, sequence_of, content_of}
+use Rattle.kdcfile_copies.specs.Beside.{LeavesBeside, OtherStays, SameDisk, IsBeside, file_of}
+use Rattle.kdcfile_copies.specs.BesideLaws.{beside_pairs, left_after, pairs_weaker}
+use Rattle.kdcfile_double.specs.Twice.{Twice, AreAlike, KeepsIf, IsOpen, IsKeptTwice, IsCommitting, LeavesBoth, SideRests, SideWithin, IsOldOrNew, copy_at, identity_by, sequence_by, content_by}
+use Rattle.kdcfile_double.specs.Twice.{identity_of, sequence_of, content_of}
 use Rattle.kdcfile_double.specs.Committing.{AreWithin, IsKeptAt, IsNextIf, IsWithin, WithinOne}
 use Rattle.kdcfile_double.specs.ChosenLaws.{IsSomeOf, rests_within, within_behind, within_chosen}
 
@@ -151,7 +152,7 @@ other_kept_at half (Some p) a b la lb same stays kept = record {
 other_kept_at half None a b la lb same stays kept = tt
 
 module _ (i j : Identity) (n m : ℕ) (x z : Content) (made : j ≡ i) (numbered : m ≡ n) (kept : z ≡ x) where
-  rests_as : (half : Half) (p : Option LoadedCopy) (holds image : List ℕ) → SideRests half i n x p holds image → SideRests half j m z p holds image
+  pub rests_as : (half : Half) (p : Option LoadedCopy) (holds image : List ℕ) → SideRests half i n x p holds image → SideRests half j m z p holds image
   rests_as half p holds image rests =
       subst (λ (k : Identity). SideRests half k m z p holds image) (sym made)
       (subst (λ (k : ℕ). SideRests half i k z p holds image) (sym numbered) (subst (λ (k : Content). SideRests half i n k p holds image) (sym kept) rests))
@@ -159,6 +160,20 @@ module _ (i j : Identity) (n m : ℕ) (x z : Content) (made : j ≡ i) (numbered
   keeps_as : (p : Option LoadedCopy) → KeepsIf i n x p → KeepsIf j m z p
   keeps_as p keeps =
       subst (λ (k : Identity). KeepsIf k m z p) (sym made) (subst (λ (k : ℕ). KeepsIf i k z p) (sym numbered) (subst (λ (k : Content). KeepsIf i n k p) (sym kept) keeps))
+
+-- copies that keep the same are alike
+pub alike_by : (i : Identity) (n : ℕ) (x : Content) (p q : Option LoadedCopy) (m l : Option Half) → KeepsIf i n x p → KeepsIf i n x q → AreAlike (record { first = p; second = q; mended = m; lost = l })
+alike_by i n x p q m l keeps too = by p q keeps too
+  where
+    kept : (o w : Option LoadedCopy) → IsSomeOf o w → KeepsIf i n x o → KeepsIf i n x w → AreAlike (record { first = o; second = w; mended = m; lost = l })
+    kept o w some keeps too =
+        let kept_as = keeps_as i (identity_by o w) n (sequence_by o w) x (content_by o w) (identity_kept i n x o w some keeps too) (sequence_kept i n x o w some keeps too) (content_kept i n x o w some keeps too) in
+        record { first_keeps = kept_as o keeps; second_keeps = kept_as w too }
+
+    by : (o w : Option LoadedCopy) → KeepsIf i n x o → KeepsIf i n x w → AreAlike (record { first = o; second = w; mended = m; lost = l })
+    by (Some o) w keeps too = kept (Some o) w tt keeps too
+    by None (Some w) keeps too = kept None (Some w) tt keeps too
+    by None None keeps too = record { first_keeps = tt; second_keeps = tt }
 
 module _ (s : Twice) (patch : Patch) (p q : Option LoadedCopy) (alike : AreAlike s) (first_next : IsNextIf s.first patch p) (second_next : IsNextIf s.second patch q) (some : IsSomeOf p q) where
   first_new : KeepsIf (identity_of s) (sequence_of s + 1) (patched (content_of s) patch) p
@@ -189,7 +204,4 @@ module _ (s : Twice) (patch : Patch) (p q : Option LoadedCopy) (alike : AreAlike
   }
 
   pub alike_after : (m l : Option Half) → AreAlike (record { first = p; second = q; mended = m; lost = l })
-  alike_after m l = record {
-    first_keeps = keeps_as (identity_of s) (identity_by p q) (sequence_of s + 1) (sequence_by p q) (patched (content_of s) patch) (content_by p q) identity_after sequence_after content_after p first_new;
-    second_keeps = keeps_as (identity_of s) (identity_by p q) (sequence_of s + 1) (sequence_by p q) (patched (content_of s) patch) (content_by p q) identity_after sequence_after content_after q second_new;
-  }
+  alike_after m l = alike_by (identity_of s) (sequence_of s + 1) (patched (content_of s) patch) p q m l first_new second_new

@@ -7,20 +7,22 @@ use Rattle.kd_records.specs.Contents.{patched}
 use Rattle.kd_records.specs.Identity.{Identity}
 use Rattle.kd_records.specs.declared.content.Content.{Content}
 use Rattle.kd_records.specs.declared.content.Patch.{Patch}
-use Rattle.kd_twin.specs.HalfLaws.{earlier_half}
-use Rattle.kd_twin.specs.Twin.{Both, Disk, other, disk_of, half_state, half_leaves}
-use Rattle.kd_twin.specs.declared.half.Half.{Half}
-use Rattle.kd_twin.specs.declared.half.Half.TheVariants.{First, Second}
+use Rattle.kd_device.specs.HalfLaws.{earlier_half}
+use Rattle.kd_device.specs.Twin.{Both, Disk, other, disk_of, half_state, half_leaves}
+use Rattle.kd_device.specs.declared.half.Half.{Half}
+use Rattle.kd_device.specs.declared.half.Half.TheVariants.{First, Second}
 use Rattle.kdcfile_copies.specs.declared.answer.LoadedCopy.{LoadedCopy}
 use Rattle.kdcfile_copies.specs.Copies.{bare, next_patch}
 use Rattle.kdcfile_copies.specs.CopiesLaws.{kept_bare}
 use Rattle.kdcfile_copies.specs.Keeping.{CopyKeeps}
-use Rattle.kdcfile_halves.specs.Beside.{file_of, LeavesBeside, OtherStays, SameDisk}
-use Rattle.kdcfile_halves.specs.BesideLaws.{pairs_then, pairs_weaker}
-use Rattle.kdcfile_double.specs.Twice.{Twice, AreAlike, KeepsIf, IsCommitting, IsInUse, IsOpen, IsKeptTwice, IsTwice, FrameBoth, LeavesBoth, LeavesCommitted, LosesBy, LostIsUnused, RoseAt, SameFaultsAt, SideWithin, content_of, copy_at, identity_of, sequence_of, with_copies}
+use Rattle.kdcfile_copies.specs.Beside.{file_of, LeavesBeside, OtherStays, SameDisk}
+use Rattle.kdcfile_copies.specs.BesideLaws.{pairs_then, pairs_weaker}
+use Rattle.kdcfile_double.specs.Twice.{Twice, AreAlike, KeepsIf, IsCommitting, IsInUse, IsOpen, IsKeptTwice, IsTwice, FrameBoth, LeavesBoth, LeavesCommitted, LosesBy, LostIsUnused, RoseAt}
+use Rattle.kdcfile_double.specs.Twice.{SameFaultsAt, SideWithin, content_of, copy_at, identity_of, sequence_of, with_copies}
 use Rattle.kdcfile_double.specs.Committing.{CanTakeIf, AreLostSo, AreWithin, IsKeptAt, IsLostSo, IsNextIf, IsWithin, WithinOne, lost_with}
 use Rattle.kdcfile_double.specs.ChosenLaws.{IsSomeOf}
-use Rattle.kdcfile_double.specs.CommitLaws.{alike_after, content_after, first_kept_at, identity_after, kept_after, sequence_after, second_kept_at, kept_within, still_within, step_within, within_is_committing, within_one}
+use Rattle.kdcfile_double.specs.CommitLaws.{alike_after, content_after, first_kept_at, identity_after, kept_after, sequence_after, second_kept_at, kept_within, still_within, step_within}
+use Rattle.kdcfile_double.specs.CommitLaws.{within_is_committing, within_one}
 
 -- ---- the laws of a twin at one moment
 
@@ -133,7 +135,7 @@ faults_before half a b e same faults = faults ∙ ap (λ (d : Disk). d.disk_faul
 pub rose_later : (half : Half) (a b e : Both) → SameDisk half b e → RoseAt half a b → RoseAt half a e
 rose_later half a b e same rose = subst (λ (d : Disk). Rose (disk_of half a).disk_faults d.disk_faults) (sym same) rose
 
-rose_before : (half : Half) (a b e : Both) → SameDisk half a b → RoseAt half b e → RoseAt half a e
+pub rose_before : (half : Half) (a b e : Both) → SameDisk half a b → RoseAt half b e → RoseAt half a e
 rose_before half a b e same rose = subst (λ (d : Disk). Rose d.disk_faults (disk_of half e).disk_faults) same rose
 
 pub lost_later : (half : Half) (p q : Option LoadedCopy) (l m : Option Half) (a b e : Both) → SameDisk half b e → IsLostSo half p q l m a b → IsLostSo half p q l m a e
@@ -160,7 +162,7 @@ used_fine half (Some p) None l m a b x is so = absurd cc
 used_fine half None q l m a b x is so = so.1
 
 -- one call on a half keeps which half is lost, or it is this one
-record OneLost (half : Half) (q : Option LoadedCopy) (l m : Option Half) (a b : Both) : Type 0 where
+pub record OneLost (half : Half) (q : Option LoadedCopy) (l m : Option Half) (a b : Both) : Type 0 where
   pub stays : (h : Half) → l ≡ Some h → m ≡ Some h
   pub newly : (h : Half) → m ≡ Some h → (l ≡ Some h) ⊎ ((half ≡ h) × (q ≡ None) × RoseAt half a b)
 
@@ -177,7 +179,7 @@ half_is e = ap (λ (o : Option Half). get o) e
 same_lost : (half : Half) (q : Option LoadedCopy) (l m : Option Half) (a b : Both) → m ≡ l → OneLost half q l m a b
 same_lost half q l m a b same = record { stays = λ h is. same ∙ is; newly = λ h is. inl (sym same ∙ is) }
 
-one_lost : (half : Half) (p q : Option LoadedCopy) (l m : Option Half) (a b : Both) → IsLostSo half p q l m a b → OneLost half q l m a b
+pub one_lost : (half : Half) (p q : Option LoadedCopy) (l m : Option Half) (a b : Both) → IsLostSo half p q l m a b → OneLost half q l m a b
 one_lost half (Some p) (Some q) l m a b so = same_lost half (Some q) l m a b so.0
 one_lost half (Some p) None (Some o) m a b so = same_lost half None (Some o) m a b so.0
 one_lost half (Some p) None None m a b so = record { stays = λ h is. absurd cc; newly = λ h is. inr (half_is (sym so.0 ∙ is), refl, so.1) }
@@ -451,10 +453,27 @@ module _ (s : Twice) (patch : Patch) (a b : Both) (la lb : ℕ → List ℕ → 
 
 -- ---- what the code knows of the ends
 
-pub twice_is : (f g p q : Option LoadedCopy) (m l : Option Half) (s : Twice) → f ≡ p → g ≡ q → record { first = p; second = q; mended = m; lost = l } ≡ s → record { first = f; second = g; mended = m; lost = l } ≡ s
-twice_is f g p q m l s is_p is_q is =
-    subst (λ (o : Option LoadedCopy). record { first = o; second = g; mended = m; lost = l } ≡ s) (sym is_p)
-    (subst (λ (o : Option LoadedCopy). record { first = p; second = o; mended = m; lost = l } ≡ s) (sym is_q) is)
+-- the store before the call, by the copies that were taken out of it
+pub record IsTaken (u s : Twice) : Type 0 where
+  pub same : u ≡ s
+  pub twice : IsTwice s
+  pub known : IsTwice u
+  pub opened : IsOpen u
+
+pub taken : (f g p q : Option LoadedCopy) (m l : Option Half) (s : Twice) → f ≡ p → g ≡ q → record { first = p; second = q; mended = m; lost = l } ≡ s → IsTwice (record { first = p; second = q; mended = m; lost = l }) → IsOpen s
+    → IsTaken (record { first = f; second = g; mended = m; lost = l }) s
+taken f g p q m l s is_p is_q is twice is_open =
+    let there : record { first = f; second = g; mended = m; lost = l } ≡ s = (λ i. record { first = is_p i; second = is_q i; mended = m; lost = l }) ∙ is in
+    let here : IsTwice s = subst IsTwice is twice in
+    record { same = there; twice = here; known = subst IsTwice (sym there) here; opened = subst IsOpen (sym there) is_open }
+
+-- where no copy is put back, it is broken
+pub broken_so : (u s : Twice) → u ≡ s → (patch : Patch) (a b : Both) (la lb : ℕ → List ℕ → List ℕ → List ℕ → Type 0) (m : Option Half) (f g : Option LoadedCopy) → f ≡ None → g ≡ None
+    → IsBroken u patch a b la lb (record { first = None; second = None; mended = u.mended; lost = m }) → IsBroken s patch a b la lb (record { first = f; second = g; mended = u.mended; lost = m })
+broken_so u s is patch a b la lb m f g none too broken =
+    subst (λ (z : Twice). IsBroken z patch a b la lb (record { first = f; second = g; mended = u.mended; lost = m })) is
+    (subst (λ (o : Option LoadedCopy). IsBroken u patch a b la lb (record { first = o; second = g; mended = u.mended; lost = m })) (sym none)
+    (subst (λ (o : Option LoadedCopy). IsBroken u patch a b la lb (record { first = None; second = o; mended = u.mended; lost = m })) (sym too) broken))
 
 false_true : false ≡ true → ⊥
 false_true e = absurd cc
@@ -474,10 +493,3 @@ module _ (s : Twice) (patch next : Patch) (alike : AreAlike s) (is_next : next �
 
   pub second_takes : CanTakeIf s.second patch next
   second_takes = can_take (identity_of s) (sequence_of s) (content_of s) s.second patch next alike.second_keeps is_next small before later
-
-module _ (u s : Twice) (is : u ≡ s) where
-  pub twice_there : IsTwice s → IsTwice u
-  twice_there twice = subst IsTwice (sym is) twice
-
-  pub open_there : IsOpen s → IsOpen u
-  open_there is_open = subst IsOpen (sym is) is_open

@@ -4,15 +4,15 @@ use Rattle.kd_records.specs.Charge.{total_charge}
 use Rattle.kd_records.specs.Contents.{patched}
 use Rattle.kd_records.specs.declared.content.Content.{Content}
 use Rattle.kd_records.specs.declared.content.Patch.{Patch}
-use Rattle.kd_twin.specs.Twin.{Both, half_state, half_leaves}
-use Rattle.kd_twin.specs.declared.half.Half.{Half}
-use Rattle.kd_twin.specs.declared.half.Half.TheVariants.{First, Second}
+use Rattle.kd_device.specs.Twin.{Both, half_state, half_leaves}
+use Rattle.kd_device.specs.declared.half.Half.{Half}
+use Rattle.kd_device.specs.declared.half.Half.TheVariants.{First, Second}
 use Rattle.kdcfile_store.specs.Kept.{IsKept}
 use Rattle.kdcfile_store.specs.Paged.{HasFile}
 use Rattle.kdcfile_copies.specs.declared.answer.LoadedCopy.{LoadedCopy}
 use Rattle.kdcfile_copies.specs.Copies.{bare, next_patch}
 use Rattle.kdcfile_copies.specs.Keeping.{CopyKeeps, OldOrNextCopy}
-use Rattle.kdcfile_halves.specs.Beside.{file_of}
+use Rattle.kdcfile_copies.specs.Beside.{file_of}
 use Rattle.kdcfile_double.specs.Twice.{Twice, AreSame, RoseAt, SameFaultsAt, SideWithin, content_of, copy_at, identity_of, sequence_of}
 
 -- a commit of this patch may be done on the copy

@@ -8,9 +8,9 @@ use Rattle.kd_device.specs.declared.error.DeviceError.{DeviceError}
 use Rattle.kd_device.specs.declared.error.DeviceError.TheVariants as device
 use Rattle.kd_records.specs.Identity.{Identity, IsIdentity}
 use Rattle.kd_records.specs.declared.content.Content.{Content}
-use Rattle.kd_twin.specs.Twin.{Both, Disk, half_state, half_leaves}
-use Rattle.kd_twin.specs.declared.half.Half.{Half}
-use Rattle.kd_twin.specs.declared.half.Half.TheVariants.{First, Second}
+use Rattle.kd_device.specs.Twin.{Both, Disk, half_state, half_leaves}
+use Rattle.kd_device.specs.declared.half.Half.{Half}
+use Rattle.kd_device.specs.declared.half.Half.TheVariants.{First, Second}
 use Rattle.kdcs_types.specs.Tables.{empty_tables}
 use Rattle.kdcfile_layout.specs.Layout.{fresh}
 use Rattle.kdcfile_store.specs.Kept.{IsKept}
@@ -22,10 +22,10 @@ use Rattle.kdcfile_copies.specs.Copies.{AtMost, IsChosen, IsCopyOf, IsNoCopy, ba
 use Rattle.kdcfile_copies.specs.CopiesLaws.{kept_bare, store_is_copy}
 use Rattle.kdcfile_copies.specs.Finding.{IsAnswer, IsLoaded}
 use Rattle.kdcfile_copies.specs.Keeping.{BeingMade, CopyKeeps}
-use Rattle.kdcfile_halves.specs.Beside.{IsBeside, LeavesBeside, NoMore, OtherStays, SameDisk}
-use Rattle.kdcfile_halves.specs.BesideLaws.{beside_pairs, pairs_then, pairs_weaker}
+use Rattle.kdcfile_copies.specs.Beside.{IsBeside, LeavesBeside, NoMore, OtherStays, SameDisk}
+use Rattle.kdcfile_copies.specs.BesideLaws.{beside_pairs, other_kept, pairs_then, pairs_weaker}
 use Rattle.record_codec.specs.RowReadings.{IsProperRow}
-use Rattle.warm_start.specs.Stands.{AreTables}
+use Rattle.device_acts.specs.Stands.{AreTables}
 use Rattle.kdcfile_double.specs.declared.error.TwinOpenError.{TwinOpenError}
 use Rattle.kdcfile_double.specs.declared.error.TwinOpenError.TheVariants as to
 use Rattle.kdcfile_double.specs.Causes.{of_device}
@@ -35,6 +35,7 @@ use Rattle.kdcfile_double.specs.Mended.{BothRest}
 use Rattle.kdcfile_double.specs.Choice.{IsChoice}
 use Rattle.kdcfile_double.specs.ChosenLaws.{below_at_most, copy_at_most, none_is_below}
 use Rattle.kdcfile_double.specs.ChoiceLaws.{nothing_is_no_copy, two_are_twice}
+use Rattle.kdcfile_double.specs.CommitTwoLaws.{one_frame, rose_before}
 
 -- ---- calls that change nothing
 
@@ -111,37 +112,13 @@ module _ (a b : Both) (la lb : ℕ → List ℕ → List ℕ → List ℕ → Ty
         (λ c d out p. ⊎_elim (λ u. inl (unchanged_since c d out u)) (λ m. inr (record { silent = m.silent ∙ first.sent; files = m.files })) p))
 
 -- a stop leaves of both halves what they hold
-pub both_rest : (b : Both) (lb : ℕ → List ℕ → List ℕ → List ℕ → Type 0) (P Q : List ℕ → Type 0) → IsKept P (half_state First b) (half_leaves First lb) → IsKept Q (half_state Second b) (half_leaves Second lb) → BothRest b lb
+both_rest : (b : Both) (lb : ℕ → List ℕ → List ℕ → List ℕ → Type 0) (P Q : List ℕ → Type 0) → IsKept P (half_state First b) (half_leaves First lb) → IsKept Q (half_state Second b) (half_leaves Second lb) → BothRest b lb
 both_rest b lb P Q first second = record {
   first_rests = λ c d left. first.at_rest c (d, left);
   second_rests = λ c d left. second.at_rest d (c, left);
 }
 
 -- ---- counts of failed calls, and what no call changes
-
-pub first_frame : (a b : Both) → Frame (half_state First a) (half_state First b) → SameNames (half_state First a) (half_state First b) → SameDisk Second a b → (IsTrue a.told → b.sent ≡ a.sent) → FrameBoth a b
-first_frame a b frame names same sent = record {
-  told = frame.told;
-  first_faults = frame.disk_faults;
-  second_faults = let e : b.second.disk_faults ≡ a.second.disk_faults = ap (λ (x : Disk). x.disk_faults) same in omega (arith, e);
-  line_faults = frame.line_faults;
-  moment = frame.moment;
-  first_names = λ told. names;
-  second_names = λ told. ap (λ (x : Disk). x.names) same;
-  sent = sent;
-}
-
-pub second_frame : (a b : Both) → Frame (half_state Second a) (half_state Second b) → SameNames (half_state Second a) (half_state Second b) → SameDisk First a b → (IsTrue a.told → b.sent ≡ a.sent) → FrameBoth a b
-second_frame a b frame names same sent = record {
-  told = frame.told;
-  first_faults = let e : b.first.disk_faults ≡ a.first.disk_faults = ap (λ (x : Disk). x.disk_faults) same in omega (arith, e);
-  second_faults = frame.disk_faults;
-  line_faults = frame.line_faults;
-  moment = frame.moment;
-  first_names = λ told. ap (λ (x : Disk). x.names) same;
-  second_names = λ told. names;
-  sent = sent;
-}
 
 pub frame_then : (a b e : Both) → FrameBoth a b → FrameBoth b e → FrameBoth a e
 frame_then a b e h k = record {
@@ -155,14 +132,27 @@ frame_then a b e h k = record {
   sent = λ told. k.sent (subst IsTrue (sym h.told) told) ∙ h.sent told;
 }
 
-pub first_none_rose : (a b : Both) → SameFaults (half_state First a) (half_state First b) → SameDisk Second a b → NoneRose a b
-first_none_rose a b fine same = record { first_same = fine.disk; second_same = ap (λ (x : Disk). x.disk_faults) same }
-
-pub second_none_rose : (a b : Both) → SameFaults (half_state Second a) (half_state Second b) → SameDisk First a b → NoneRose a b
-second_none_rose a b fine same = record { first_same = ap (λ (x : Disk). x.disk_faults) same; second_same = fine.disk }
-
 pub none_rose_then : (a b e : Both) → NoneRose a b → NoneRose b e → NoneRose a e
 none_rose_then a b e h k = record { first_same = k.first_same ∙ h.first_same; second_same = k.second_same ∙ h.second_same }
+
+-- a call on the first half, and then one on the second
+module _ (a b e : Both) (second_stands : SameDisk Second a b) (first_stands : SameDisk First b e) where
+  pub two_frames : Frame (half_state First a) (half_state First b) → SameNames (half_state First a) (half_state First b) → (IsTrue a.told → b.sent ≡ a.sent) → Frame (half_state Second b) (half_state Second e)
+      → SameNames (half_state Second b) (half_state Second e) → (IsTrue b.told → e.sent ≡ b.sent) → FrameBoth a e
+  two_frames frame names sent later_frame later_names later_sent = frame_then a b e (one_frame First a b frame names second_stands sent) (one_frame Second b e later_frame later_names first_stands later_sent)
+
+  pub two_fine : SameFaults (half_state First a) (half_state First b) → SameFaults (half_state Second b) (half_state Second e) → NoneRose a e
+  two_fine fine later_fine =
+      none_rose_then a b e (record { first_same = fine.disk; second_same = ap (λ (x : Disk). x.disk_faults) second_stands }) (record { first_same = ap (λ (x : Disk). x.disk_faults) first_stands; second_same = later_fine.disk })
+
+  module _ (lb le : ℕ → List ℕ → List ℕ → List ℕ → Type 0) (stays : OtherStays Second b e lb le) where
+    pub two_rests : (la : ℕ → List ℕ → List ℕ → List ℕ → Type 0) → SentNowBoth a la → SentNowBoth b lb → Rests (half_state First a) (half_state First b) (half_leaves First la) (half_leaves First lb) → LeavesBeside First a b la lb NoMore → OtherStays First a b la lb
+        → Rests (half_state Second b) (half_state Second e) (half_leaves Second lb) (half_leaves Second le) → LeavesBeside Second b e lb le NoMore → RestsBoth a e la le
+    two_rests la sent_a sent_b rests beside other later_rests later_beside =
+        rests_then a b la lb (first_rests_both a b la lb sent_a rests beside second_stands other) e le (second_rests_both b e lb le sent_b later_rests later_beside first_stands stays)
+
+    pub two_at_rest : (P Q : List ℕ → Type 0) → IsKept P (half_state First b) (half_leaves First lb) → IsKept Q (half_state Second e) (half_leaves Second le) → BothRest e le
+    two_at_rest P Q first second = both_rest e le P Q (other_kept Second b e lb le P first_stands stays first) second
 
 -- where none rose before, one rose since
 pub rose_then : (half : Half) (a b e : Both) → NoneRose a b → RoseAt half b e → RoseAt half a e
@@ -277,10 +267,11 @@ told_of T (Ok x) e gives = absurd gives
 told_of T (Err x) device.Failed gives = (λ is. absurd cc, λ stored is. absurd cc, λ n is. absurd cc)
 told_of T (Err x) device.Memory gives = (λ is. absurd cc, λ stored is. absurd cc, λ n is. absurd cc)
 
-pub failed_of : (T U : Type 0) (r : Result T TwinOpenError) (e : DeviceError) → IsErrAnd r (λ x. x ≡ of_device e) → IsErrOf r to.Failed → IsErrOf {T = U} (Err e) device.Failed
+failed_of : (T U : Type 0) (r : Result T TwinOpenError) (e : DeviceError) → IsErrAnd r (λ x. x ≡ of_device e) → IsErrOf r to.Failed → IsErrOf {T = U} (Err e) device.Failed
 failed_of T U (Ok x) e gives is = absurd gives
 failed_of T U (Err x) device.Failed gives is = refl
 failed_of T U (Err x) device.Memory gives is = absurd cc
 
-pub second_rose : (a b e : Both) → SameDisk Second a b → RoseAt Second b e → RoseAt Second a e
-second_rose a b e same rose = subst (λ (x : Disk). Rose x.disk_faults e.second.disk_faults) same rose
+-- where a call on the second half failed, after one on the first
+pub second_failed : (T U : Type 0) (r : Result T TwinOpenError) (x : DeviceError) (a b e : Both) → SameDisk Second a b → IsErrAnd r (λ y. y ≡ of_device x) → (IsErrOf {T = U} (Err x) device.Failed → RoseAt Second b e) → IsErrOf r to.Failed → RoseAt First a e ⊎ RoseAt Second a e
+second_failed T U r x a b e same gives rose is = inr (rose_before Second a b e same (rose (failed_of T U r x gives is)))

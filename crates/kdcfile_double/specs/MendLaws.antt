@@ -7,9 +7,9 @@ use Rattle.kd_device.specs.Rest.{Rests}
 use Rattle.kd_device.specs.declared.error.DeviceError.{DeviceError}
 use Rattle.kd_records.specs.Identity.{Identity}
 use Rattle.kd_records.specs.declared.content.Content.{Content}
-use Rattle.kd_twin.specs.Twin.{Both, Disk, other, disk_of, half_leaves, half_state}
-use Rattle.kd_twin.specs.declared.half.Half.{Half}
-use Rattle.kd_twin.specs.declared.half.Half.TheVariants.{First, Second}
+use Rattle.kd_device.specs.Twin.{Both, Disk, other, disk_of, half_leaves, half_state}
+use Rattle.kd_device.specs.declared.half.Half.{Half}
+use Rattle.kd_device.specs.declared.half.Half.TheVariants.{First, Second}
 use Rattle.kdcfile_store.specs.Paged.{HasFile}
 use Rattle.kdcfile_copies.specs.declared.answer.LoadedCopy.{LoadedCopy}
 use Rattle.kdcfile_copies.specs.declared.answer.Found.{Found}
@@ -17,10 +17,10 @@ use Rattle.kdcfile_copies.specs.declared.answer.Found.TheVariants.{Empty, NoCopy
 use Rattle.kdcfile_copies.specs.Copies.{IsCopyOf, IsNoCopy, bare, with_sequence}
 use Rattle.kdcfile_copies.specs.CopiesLaws.{no_image_is_no_copy, one_meaning_of_copies, some_none, store_is_copy}
 use Rattle.kdcfile_copies.specs.Finding.{IsAnswer, IsFound, IsLoaded}
-use Rattle.kdcfile_halves.specs.Beside.{IsBeside, LeavesBeside, NoMore, OtherStays, SameDisk, file_of}
-use Rattle.kdcfile_halves.specs.BesideLaws.{beside_pairs, pairs_then, pairs_weaker}
-use Rattle.kdcfile_mending.specs.Mending.{BeginsWith, HalfRests, IsMending, LeavesHalf, BothRest as EachRests}
-use Rattle.kdcfile_mending.specs.MendingLaws.{copy_stands_for, gate_open, shut_means_nothing}
+use Rattle.kdcfile_copies.specs.Beside.{IsBeside, LeavesBeside, NoMore, OtherStays, SameDisk, file_of}
+use Rattle.kdcfile_copies.specs.BesideLaws.{beside_pairs, pairs_then, pairs_weaker}
+use Rattle.kdcfile_copies.specs.Mending.{BeginsWith, HalfRests, IsMending, LeavesHalf, BothRest as EachRests}
+use Rattle.kdcfile_copies.specs.MendingLaws.{copy_stands_for, gate_open, shut_means_nothing}
 use Rattle.kdcfile_double.specs.Twice.{Twice, AreAlike, AreSame, FrameBoth, IsInUse, IsKeptTwice, KeepsIf, LeavesBoth, SideRests, StaysBehind, copy_at, identity_of, sequence_of, content_of}
 use Rattle.kdcfile_double.specs.ChosenLaws.{IsSomeOf, below_at_most, copy_at_most, kept_copy, none_is_below, second_chosen}
 use Rattle.kdcfile_double.specs.CommitLaws.{content_kept, identity_kept, sequence_kept}

@@ -1,9 +1,9 @@
 -- Which half is mended, and what a stop within that leaves.
 use Rattle.std.specs.Prelude.{◌≡◌, ◌⊎◌, ℕ, List, Some, None, Result}
 use Rattle.kd_device.specs.declared.error.DeviceError.{DeviceError}
-use Rattle.kd_twin.specs.Twin.{Both, other}
-use Rattle.kd_twin.specs.declared.half.Half.{Half}
-use Rattle.kd_twin.specs.declared.half.Half.TheVariants.{First, Second}
+use Rattle.kd_device.specs.Twin.{Both, other}
+use Rattle.kd_device.specs.declared.half.Half.{Half}
+use Rattle.kd_device.specs.declared.half.Half.TheVariants.{First, Second}
 use Rattle.kdcfile_copies.specs.Copies.{IsChosen, IsCopyOf, bare}
 use Rattle.kdcfile_copies.specs.declared.answer.LoadedCopy.{LoadedCopy}
 use Rattle.kdcfile_double.specs.Twice.{Twice, IsInUse, RoseAt, SameFaultsAt, copy_at, identity_of, sequence_of, content_of}

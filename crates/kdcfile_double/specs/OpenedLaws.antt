@@ -2,19 +2,19 @@
 use Rattle.std.specs.Prelude.{◌≡◌, ◌⊎◌, ◌≤◌, ◌+◌, ◌^◌, ℕ, Bool, List, [], IsTrue, IfOk, IsErrAnd, IsErrOf, Option, None}
 use Rattle.std.proofs.Common.{inl, ⊎_elim, arith, refl, sym, ap, subst, ◌∙◌, Result, Ok, Err}
 use Rattle.kd_records.specs.Charge.{total_charge}
-use Rattle.kd_twin.specs.Twin.{Both}
-use Rattle.kd_twin.specs.declared.half.Half.{Half}
-use Rattle.kdcdef_types.specs.Generation.{Generated}
+use Rattle.kd_device.specs.Twin.{Both}
+use Rattle.kd_device.specs.declared.half.Half.{Half}
+use Rattle.application_types.specs.Generation.{Generated}
 use Rattle.kdcs_types.specs.Tables.{TableRows, empty_tables}
-use Rattle.laws_of_steps.specs.EmptyTablesLaws.{empty_suit}
-use Rattle.laws_of_steps.specs.Suits.{Suits}
+use Rattle.laws_of_states.specs.EmptyTablesLaws.{empty_suit}
+use Rattle.laws_of_states.specs.Suits.{Suits}
 use Rattle.kdcfile_copies.specs.declared.answer.LoadedCopy.{LoadedCopy}
 use Rattle.kdcfile_copies.specs.declared.answer.Found.{Found}
 use Rattle.kdcfile_copies.specs.declared.answer.Found.TheVariants.{Empty, NoCopy, Copy}
 use Rattle.kdcfile_copies.specs.Copies.{IsCopyOf, bare}
 use Rattle.kdcfile_copies.specs.CopiesLaws.{store_is_copy}
 use Rattle.kdcfile_copies.specs.Finding.{IsAnswer, IsFound}
-use Rattle.warm_start.specs.Stands.{AreTables}
+use Rattle.device_acts.specs.Stands.{AreTables}
 use Rattle.kdcfile_double.specs.declared.error.TwinOpenError.{TwinOpenError}
 use Rattle.kdcfile_double.specs.Twice.{Twice, IsInUse, IsKeptTwice, IsOpen, content_of, identity_of, sequence_of}
 use Rattle.kdcfile_double.specs.Opening.{AreEmpty, AreInUseSo, HasNoTablesInTwo, KeepsTablesTwice, SameFiles, StartsFromTwo, identity_twice}

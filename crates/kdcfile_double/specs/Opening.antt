@@ -1,14 +1,14 @@
 -- What the opening of two copies answers, and what a stop within it leaves.
 use Rattle.std.specs.Prelude.{◌≡◌, ◌⊎◌, ◌≤◌, ◌<◌, ℕ, ◌+◌, ◌^◌, List, []}
 use Rattle.kd_records.specs.Identity.{Identity}
-use Rattle.kd_twin.specs.Twin.{Both, half_leaves}
-use Rattle.kd_twin.specs.declared.half.Half.TheVariants.{First, Second}
-use Rattle.kdcdef_types.specs.Generation.{Generated}
+use Rattle.kd_device.specs.Twin.{Both, half_leaves}
+use Rattle.kd_device.specs.declared.half.Half.TheVariants.{First, Second}
+use Rattle.application_types.specs.Generation.{Generated}
 use Rattle.kdcfile_layout.specs.Layout.{fresh}
 use Rattle.kdcs_types.specs.Tables.{TableRows, empty_tables}
-use Rattle.laws_of_steps.specs.Suits.{Suits}
+use Rattle.laws_of_states.specs.Suits.{Suits}
 use Rattle.record_codec.specs.Records.{content_of_tables}
-use Rattle.warm_start.specs.Stands.{AreTables}
+use Rattle.device_acts.specs.Stands.{AreTables}
 use Rattle.kdcfile_copies.specs.Copies.{AtMost, Below, IsChosen, IsCopyOf, IsNoCopy}
 use Rattle.kdcfile_double.specs.Twice.{IsInUse, Twice, identity_of, content_of, sequence_of}
 

@@ -4,15 +4,15 @@ use Rattle.std.proofs.Common.{inl, inr, arith, refl, sym, subst, ◌∙◌}
 use Rattle.kd_records.specs.Charge.{total_charge}
 use Rattle.kd_records.specs.Identity.{Identity}
 use Rattle.kd_records.specs.declared.content.Content.{Content}
-use Rattle.kd_twin.specs.Twin.{Both}
-use Rattle.kd_twin.specs.declared.half.Half.TheVariants.{First, Second}
-use Rattle.kdcdef_types.specs.Generation.{Generated}
+use Rattle.kd_device.specs.Twin.{Both}
+use Rattle.kd_device.specs.declared.half.Half.TheVariants.{First, Second}
+use Rattle.application_types.specs.Generation.{Generated}
 use Rattle.kdcs_types.specs.Tables.{TableRows}
-use Rattle.laws_of_steps.specs.Suits.{Suits}
+use Rattle.laws_of_states.specs.Suits.{Suits}
 use Rattle.kdcfile_store.specs.Paged.{HasFile}
 use Rattle.kdcfile_copies.specs.declared.answer.LoadedCopy.{LoadedCopy}
 use Rattle.kdcfile_copies.specs.Copies.{AtMost, Below}
-use Rattle.warm_start.specs.ContentLaws.{content_charged}
+use Rattle.device_acts.specs.ContentLaws.{content_charged}
 use Rattle.kdcfile_double.specs.Twice.{Twice, IsKeptTwice, SideRests, identity_of, sequence_of, content_of}
 use Rattle.kdcfile_double.specs.Opening.{IsSpent, KeepsTablesTwice, StartsFromTwo, identity_twice, last_sequence}
 use Rattle.kdcfile_double.specs.Mended.{BothRest}

@@ -5,15 +5,15 @@ use Rattle.kd_records.specs.Contents.{patched}
 use Rattle.kd_records.specs.Identity.{Identity}
 use Rattle.kd_records.specs.declared.content.Content.{Content}
 use Rattle.kd_records.specs.declared.content.Patch.{Patch}
-use Rattle.kd_twin.specs.Twin.{Both, disk_of}
-use Rattle.kd_twin.specs.declared.half.Half.{Half}
-use Rattle.kd_twin.specs.declared.half.Half.TheVariants.{First, Second}
+use Rattle.kd_device.specs.Twin.{Both, disk_of}
+use Rattle.kd_device.specs.declared.half.Half.{Half}
+use Rattle.kd_device.specs.declared.half.Half.TheVariants.{First, Second}
 use Rattle.kdcfile_layout.specs.Layout.{fresh}
 use Rattle.kdcfile_store.specs.Paged.{HasFile}
 use Rattle.kdcfile_copies.specs.declared.answer.LoadedCopy.{LoadedCopy}
 use Rattle.kdcfile_copies.specs.Copies.{AtMost, Below, IsChosen, IsCopyOf, bare}
 use Rattle.kdcfile_copies.specs.Keeping.{CopyKeeps}
-use Rattle.kdcfile_halves.specs.Beside.{LeavesPairs}
+use Rattle.kdcfile_copies.specs.Beside.{LeavesPairs}
 
 -- the copies that are in use, which half was mended, and which is lost
 pub record Twice : Type 0 where

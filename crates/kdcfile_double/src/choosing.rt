@@ -1,20 +1,21 @@
 //! Which of two copies counts, and which tables it keeps.
 ghost use Rattle.std.specs.Prelude.{◌≡◌, ◌↔◌, ℕ, List, IsTrue, IfOk, IfSome, IfNone, IsErrOf, None};
 ghost use Rattle.kd_records.specs.Identity.{Identity};
-ghost use Rattle.laws_of_steps.specs.Suits.{Suits};
-ghost use Rattle.kdcfile_double.specs.{Twice.{AreSame, IsTwice, IsOpen, with_copies, identity_of}, Opening.{KeepsTablesTwice, identity_twice}, Choice.{IsChoice, IsCounted, IsLoadedIf, IsOfTwo, SuitsTwice, KeepsNoneTwice, KeepsOthersTwice, copy_in}};
+ghost use Rattle.laws_of_states.specs.Suits.{Suits};
+ghost use Rattle.kdcfile_double.specs.{Twice.{AreSame, IsTwice, IsOpen, with_copies, identity_of}, Opening.{KeepsTablesTwice, identity_twice}};
+ghost use Rattle.kdcfile_double.specs.Choice.{IsChoice, IsCounted, IsLoadedIf, IsOfTwo, SuitsTwice, KeepsNoneTwice, KeepsOthersTwice, copy_in};
 
 use crate::alike::are_alike;
 use crate::error::TwinOpenError;
 use crate::store::TwinStore;
-use kdcdef_check::Generation;
+use application_check::kdcdef_check::Generation;
+use device_acts::warm_start::limits_of;
 use kdcfile_copies::{Found, LoadedCopy, bare_content};
 use kdcfile_store::StoreLimits;
 use kdcs_types::Tables;
 use record_codec::tables_of;
 use std::alloc::Global;
 use table_fit::suits;
-use warm_start::limits_of;
 
 /// The copy that was found, if one was.
 pub(crate) fn copy_in(found: Found) -> Option<LoadedCopy>

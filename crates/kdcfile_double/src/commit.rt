@@ -1,16 +1,17 @@
 //! A commit, on the first half and then on the second.
 ghost use Rattle.std.specs.Prelude.{◌≡◌, ◌⊎◌, ◌≤◌, ◌<◌, ◌+◌, ◌^◌, IsTrue, IfOk, IfSome, OnOk, OnErr, IsErrOf, Some, None};
 ghost use Rattle.kd_records.specs.{Contents.{IsPatch, patched}, Charge.{total_charge}};
-ghost use Rattle.kd_twin.specs.{declared.half.Half.{Half as Side}, declared.half.Half.TheVariants.{First, Second}};
+ghost use Rattle.kd_device.specs.{declared.half.Half.{Half as Side}, declared.half.Half.TheVariants.{First, Second}};
 ghost use Rattle.kdcfile_copies.specs.Copies.{HasNoSequence, next_patch};
-ghost use Rattle.kdcfile_double.specs.{Twice.{AreAlike, IsOpen, IsInUse, IsKeptTwice, FrameBoth, RoseAt, SameFaultsAt, LosesBy, LeavesBoth, LeavesCommitted, content_of, copy_at, identity_of, sequence_of, with_copies}, Committing.{AreLostSo, AreWithin, CanTakeIf, IsKeptAt, IsNextIf, IsWithin}};
+ghost use Rattle.kdcfile_double.specs.Twice.{AreAlike, IsOpen, IsInUse, IsKeptTwice, FrameBoth, RoseAt, SameFaultsAt, LosesBy, LeavesBoth, LeavesCommitted, content_of, copy_at, identity_of};
+ghost use Rattle.kdcfile_double.specs.Twice.{sequence_of, with_copies};
+ghost use Rattle.kdcfile_double.specs.Committing.{AreLostSo, AreWithin, CanTakeIf, IsKeptAt, IsNextIf, IsWithin};
 
 use crate::single::commit_one;
 use crate::store::TwinStore;
 use kd_base::OutOfMemory;
-use kd_device::DeviceError;
+use kd_device::{DeviceError, Half, Twin};
 use kd_records::Patch;
-use kd_twin::{Half, Twin};
 use kdcfile_copies::{LoadedCopy, sequenced};
 use std::alloc::Global;
 

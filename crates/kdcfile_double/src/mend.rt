@@ -1,18 +1,18 @@
 //! A half that is behind is written anew from the other one.
 ghost use Rattle.std.specs.Prelude.{◌≡◌, ◌⊎◌, IsTrue, IfSome, OnOk, IsErrOf, Some, None};
-ghost use Rattle.kd_twin.specs.{Twin.{disk_of, other}, declared.half.Half.{Half as Side}};
+ghost use Rattle.kd_device.specs.{Twin.{disk_of, other}, declared.half.Half.{Half as Side}};
 ghost use Rattle.kdcfile_store.specs.Paged.{HasFile};
 ghost use Rattle.kdcfile_copies.specs.{Copies.{IsCopyOf}, Finding.{IsLoaded}};
-ghost use Rattle.kdcfile_double.specs.{Twice.{IsOpen, IsInUse, IsKeptTwice, FrameBoth, RoseAt, SameFaultsAt, LosesBy, LeavesBoth, copy_at, content_of, identity_of, sequence_of}, Mended.{BothRest, IsBehind, IsMendingOne, IsTaken, TakesAfter, lost_at}};
+ghost use Rattle.kdcfile_double.specs.Twice.{IsOpen, IsInUse, IsKeptTwice, FrameBoth, RoseAt, SameFaultsAt, LosesBy, LeavesBoth, copy_at, content_of, identity_of, sequence_of};
+ghost use Rattle.kdcfile_double.specs.Mended.{BothRest, IsBehind, IsMendingOne, IsTaken, TakesAfter, lost_at};
 
 use crate::alike::are_alike;
 use crate::choosing::copy_in;
 use crate::store::TwinStore;
-use kd_device::DeviceError;
-use kd_twin::{Half, Twin};
+use kd_device::{DeviceError, Half, Twin};
 use kdcfile_copies::LoadedCopy;
-use kdcfile_halves::load_half;
-use kdcfile_mending::{CopyError, copy_over};
+use kdcfile_copies::kdcfile_halves::load_half;
+use kdcfile_copies::kdcfile_mending::{CopyError, copy_over};
 use std::alloc::Global;
 
 // The other half.

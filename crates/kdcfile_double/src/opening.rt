@@ -1,22 +1,25 @@
 //! Which of two files counts, and what it is opened to.
 ghost use Rattle.std.specs.Prelude.{◌≡◌, ◌⊎◌, ◌≤◌, ◌+◌, ◌^◌, ◌↔◌, length, IsSome, IsTrue, IfOk, OnOk, OnErr, IsErrOf, List, ℕ, Some, None, false};
 ghost use Rattle.kd_records.specs.{Charge.{total_charge}, Identity.{IsIdentity}};
-ghost use Rattle.kd_twin.specs.{declared.half.Half.{Half as Side}, declared.half.Half.TheVariants.{First, Second}};
+ghost use Rattle.kd_device.specs.{declared.half.Half.{Half as Side}, declared.half.Half.TheVariants.{First, Second}};
 ghost use Rattle.kdcs_types.specs.Tables.{TableRows, empty_tables};
 ghost use Rattle.kdcfile_copies.specs.Finding.{IsAnswer, IsFound};
 ghost use Rattle.kdcfile_store.specs.Paged.{identity_with};
-ghost use Rattle.laws_of_steps.specs.Suits.{Suits};
-ghost use Rattle.warm_start.specs.Stands.{AreTables};
-ghost use Rattle.kdcfile_double.specs.{Twice.{IsOpen, IsInUse, IsKeptTwice, IsTwice, FrameBoth, RoseAt, NoneRose, SameFaultsAt, LosesBy, LeavesBoth, content_of, identity_of, sequence_of}, Opening.{AreEmpty, AreInUseSo, HasNoTablesInTwo, IsMakingTwo, IsRefusedTwo, IsSpent, IsTwoOfOtherTexts, KeepsTablesTwice, SameFiles, StartsFromTwo, Unchanged, identity_twice}, Choice.{AreOfFiles}, Mended.{BothRest}, MakingLaws.{RestsBoth}, Committing.{IsKeptAt}, SingleLaws.{KeepsSome}, ReopenLaws.{AreAgain}};
+ghost use Rattle.laws_of_states.specs.Suits.{Suits};
+ghost use Rattle.device_acts.specs.Stands.{AreTables};
+ghost use Rattle.kdcfile_double.specs.Twice.{IsOpen, IsInUse, IsKeptTwice, IsTwice, FrameBoth, RoseAt, NoneRose, SameFaultsAt, LosesBy, LeavesBoth, content_of, identity_of, sequence_of};
+ghost use Rattle.kdcfile_double.specs.Opening.{AreEmpty, AreInUseSo, HasNoTablesInTwo, IsMakingTwo, IsRefusedTwo, IsSpent, IsTwoOfOtherTexts, KeepsTablesTwice, SameFiles, StartsFromTwo, Unchanged};
+ghost use Rattle.kdcfile_double.specs.Opening.{identity_twice};
+ghost use Rattle.kdcfile_double.specs.{Choice.{AreOfFiles}, Mended.{BothRest}, MakingLaws.{RestsBoth}, Committing.{IsKeptAt}, SingleLaws.{KeepsSome}, ReopenLaws.{AreAgain}};
 
 use crate::choosing::{chosen, copy_in, in_use};
 use crate::error::TwinOpenError;
 use crate::single::reload;
 use crate::store::TwinStore;
-use kd_twin::{Half, Twin};
-use kdcdef_check::Generation;
+use application_check::kdcdef_check::Generation;
+use kd_device::{Half, Twin};
+use kdcfile_copies::kdcfile_halves::{load_half, make_half};
 use kdcfile_copies::{Found, LoadedCopy};
-use kdcfile_halves::{load_half, make_half};
 use kdcfile_store::StoreLimits;
 use kdcs_types::Tables;
 use std::alloc::Global;

@@ -2,19 +2,18 @@
 ghost use Rattle.std.specs.Prelude.{◌≡◌, ◌⊎◌, ◌≤◌, ◌+◌, ℕ, List, IsTrue, IfOk, OnErr, IsErrOf};
 ghost use Rattle.kd_device.specs.{Device.{Frame, SameNames}, Rest.{Rests}};
 ghost use Rattle.kd_records.specs.Contents.{IsPatch};
-ghost use Rattle.kd_twin.specs.Twin.{half_state, half_leaves, other};
+ghost use Rattle.kd_device.specs.Twin.{half_state, half_leaves, other};
 ghost use Rattle.kdcfile_copies.specs.Copies.{HasNoSequence};
-ghost use Rattle.kdcfile_halves.specs.Beside.{SameDisk, LeavesBeside, NoMore, OtherStays};
+ghost use Rattle.kdcfile_copies.specs.Beside.{SameDisk, LeavesBeside, NoMore, OtherStays};
 ghost use Rattle.kdcfile_double.specs.{Twice.{SameFaultsAt}, Committing.{CanTakeIf, IsKeptAt, IsNextIf, IsSameIf, WithinOne, IsLostSo, lost_with}, SingleLaws.{KeepsSome}};
 
 use crate::alike::are_alike;
 use crate::error::TwinOpenError;
 use kd_base::OutOfMemory;
-use kd_device::DeviceError;
+use kd_device::{DeviceError, Half, Twin};
 use kd_records::Patch;
-use kd_twin::{Half, Twin};
+use kdcfile_copies::kdcfile_halves::{commit_half, load_half};
 use kdcfile_copies::{Found, LoadedCopy};
-use kdcfile_halves::{commit_half, load_half};
 use std::alloc::Global;
 
 // A call failed on this half: it is the one that is lost, where none was.

@@ -2,7 +2,7 @@
 ghost use Rattle.std.specs.Prelude.{◌≡◌};
 ghost use Rattle.kdcfile_double.specs.Twice.{IsTwice};
 
-use kd_twin::Half;
+use kd_device::Half;
 use kdcfile_copies::LoadedCopy;
 use std::marker::Model;
 

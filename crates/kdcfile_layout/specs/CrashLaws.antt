@@ -1,5 +1,6 @@
 -- What a stop within a commit of pages leaves: the old image or the new one.
-use Rattle.std.proofs.Common.{[], ◌≡◌, ◌⊎◌, inl, inr, ⊎_elim, ℕ, ◌+◌, ◌-◌, ◌*◌, ◌/◌, ◌%◌, ◌<◌, ◌≤◌, min, Bool, true, false, not, List, ◌∷◌, ◌++◌, length, take, drop, get_or, refl, ap, sym, subst, ◌∙◌, arith, length-append}
+use Rattle.std.proofs.Common.{[], ◌≡◌, ◌⊎◌, inl, inr, ⊎_elim, ℕ, ◌+◌, ◌-◌, ◌*◌, ◌/◌, ◌%◌, ◌<◌, ◌≤◌, min, Bool, true, false, not, List, ◌∷◌, ◌++◌, length, take, drop, get_or, refl, ap, sym, subst, ◌∙◌}
+use Rattle.std.proofs.Common.{arith, length-append}
 use Rattle.std.specs.Prelude.{codes}
 use Rattle.std.specs.List.{flat_map}
 use Rattle.std.specs.Int.{w32, w64, to_be_bytes}
@@ -11,7 +12,8 @@ use Rattle.kd_device.specs.TornLaws.{length_written, torn_done}
 use Rattle.kd_records.specs.declared.content.Content.{Content}
 use Rattle.kd_records.specs.Identity.{Identity}
 use Rattle.kd_records.specs.Charge.{IsBlockSize}
-use Rattle.kdcfile_layout.specs.Layout.{StandsAt, selector, Layout, Part, PartStands, Name, InRoot, InChain, Names, IsImage, Stands, StandsFor, root_place, page_place, slots_in_page, head, root, directory_text}
+use Rattle.kdcfile_layout.specs.Layout.{StandsAt, selector, Layout, Part, PartStands, Name, InRoot, InChain, Names, IsImage, Stands, StandsFor, root_place, page_place, slots_in_page, head, root}
+use Rattle.kdcfile_layout.specs.Layout.{directory_text}
 use Rattle.kdcfile_layout.specs.PartsLaws.{within_file, stands_below, stands_above, one_of_two}
 use Rattle.kdcfile_layout.specs.WrittenLaws.{written_stands, below_write, above_write}
 use Rattle.kdcfile_layout.specs.declared.page.PageWrite.{PageWrite}

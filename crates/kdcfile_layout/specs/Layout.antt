@@ -9,7 +9,7 @@ use Rattle.kd_records.specs.Keys.{key_cmp}
 use Rattle.kd_records.specs.Contents.{Record, IsContent}
 use Rattle.kd_records.specs.Charge.{charge_of}
 use Rattle.kd_records.specs.Identity.{Identity, IsIdentity}
-use Rattle.page_pool.specs.Places.{At}
+use Rattle.kdcfile_layout.specs.Places.{At}
 use Rattle.kdcfile_layout.specs.declared.chain.Chain.{Chain}
 
 -- a list is at a place of the file

@@ -13,8 +13,8 @@ use Rattle.kdcfile_layout.specs.Layout.{first_of_pages, chain_parts, chain_head,
 use Rattle.kdcfile_layout.specs.WrittenLaws.{written_stands, below_write, above_write}
 use Rattle.kdcfile_layout.specs.declared.page.PageWrite.{PageWrite}
 use Rattle.kdcfile_layout.specs.Writes.{written_all, total}
-use Rattle.page_pool.specs.Places.{At, IsDistinct}
-use Rattle.page_pool.specs.PlacesLaws.{distinct_tail, distinct_head}
+use Rattle.kdcfile_layout.specs.Places.{At, IsDistinct}
+use Rattle.kdcfile_layout.specs.PlacesLaws.{distinct_tail, distinct_head}
 use Rattle.kdcfile_layout.specs.Pages.{padded, page_write, page_writes, Fits, pages_of}
 use Rattle.kd_device.specs.TornLaws.{length_written}
 

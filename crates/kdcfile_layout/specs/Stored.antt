@@ -4,8 +4,8 @@ use Rattle.kd_records.specs.declared.content.Content.{Content}
 use Rattle.kd_records.specs.Contents.{IsContent}
 use Rattle.kd_records.specs.Charge.{total_charge}
 use Rattle.kd_records.specs.Identity.{Identity, IsIdentity}
-use Rattle.page_pool.specs.Places.{At}
-use Rattle.page_pool.specs.Pools.{free_count}
+use Rattle.kdcfile_layout.specs.Places.{At}
+use Rattle.kdcfile_layout.specs.Pools.{free_count}
 use Rattle.kdcfile_layout.specs.Layout.{Layout, IsLayout, Name, Names, chain_pages, directory_pages, page_count}
 
 -- the layout is one of this content, as many pages are free as are not named, and each named page is used

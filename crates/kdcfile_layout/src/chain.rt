@@ -1,9 +1,9 @@
 //! Where a record is.
 ghost use Rattle.std.specs.Prelude.{◌≡◌};
 
+use crate::page_pool::Pages;
 use kd_base::Sequence;
 use kd_records::RecordKey;
-use page_pool::Pages;
 
 /// The key of a record, and its pages in the order of its parts.
 #[derive(Drop)]

@@ -1,18 +1,22 @@
 //! What the bytes of a KDCFILE stand for: pages of records, a directory of slots, two roots and a selector; and the
-//! bytes of each of these parts.
+//! bytes of each of these parts. Which pages are used is said by `page_pool`, and how the bytes are read by
+//! `kdcfile_read`; `kdcfile_images` makes a file, and commits an image.
 //!
-//! It stands on kd_device, kd_records and page_pool. To the crates above, its definitions say which content bytes stand
-//! for and where its parts are; its contract says which bytes a part is written as, and what a stop leaves where pages
-//! that the selected image does not name are written and then selected, or where a file is made.
+//! It stands on kd_device and kd_records. To the crates above, its definitions say which content bytes stand for and
+//! where its parts are; its contract says which bytes a part is written as, and what a stop leaves where pages that the
+//! selected image does not name are written and then selected, or where a file is made.
 #![tactic(auto)]
 
 mod chain;
 mod commit;
 mod fields;
 mod joining;
+pub mod kdcfile_images;
+pub mod kdcfile_read;
 mod laws;
 mod making;
 mod page;
+pub mod page_pool;
 mod part;
 mod series;
 mod sizes;

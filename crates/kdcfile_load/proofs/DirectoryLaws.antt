@@ -1,21 +1,22 @@
 -- The slots of a directory that stands are read, and what is read are the slots of each of its pages.
-use Rattle.std.proofs.Common.{◌≡◌, ℕ, zero, suc, ◌+◌, ◌*◌, ◌<◌, ◌≤◌, ltb, List, [], ◌∷◌, ◌++◌, length, take, drop, Option, Some, None, refl, ap, sym, subst, ◌∙◌, arith, append_assoc, append-nil, length-append}
+use Rattle.std.proofs.Common.{◌≡◌, ℕ, zero, suc, ◌+◌, ◌*◌, ◌<◌, ◌≤◌, ltb, List, [], ◌∷◌, ◌++◌, length, take, drop, Option, Some, None, refl, ap, sym, subst, ◌∙◌, arith, append_assoc, append-nil}
+use Rattle.std.proofs.Common.{length-append}
 use Rattle.std.specs.Prelude.{map}
 use Rattle.std.specs.Option.{option_map, option_and_then}
 use Rattle.std.proofs.lemmas.Bool.{lt-ltb, cond-true}
 use Rattle.std.proofs.lemmas.Option.{same_Some}
 use Rattle.std.proofs.lemmas.List.{take-take, take-append-drop, drop-take, take_all, take-map, drop-map, take_at, drop_at}
 use Rattle.kd_base.specs.ToolsLaws.{map_some, and_some}
-use Rattle.page_pool.specs.Places.{At}
-use Rattle.page_pool.specs.PlacesLaws.{no_item}
+use Rattle.kdcfile_layout.specs.Places.{At}
+use Rattle.kdcfile_layout.specs.PlacesLaws.{no_item}
 use Rattle.kdcfile_layout.specs.Fields.{AreBytes}
 use Rattle.kdcfile_layout.specs.TestsLaws.{when}
 use Rattle.kdcfile_layout.specs.declared.chain.Chain.{Chain}
 use Rattle.kdcfile_layout.specs.Layout.{slots_in_page}
-use Rattle.kdcfile_read.specs.declared.slot.First.{First}
-use Rattle.kdcfile_read.specs.Slots.{first_in, slots_of}
-use Rattle.kdcfile_read.specs.Chains.{page_at}
-use Rattle.kdcfile_read.specs.Reads.{page_slots}
+use Rattle.kdcfile_layout.specs.declared.kdcfile_read.slot.First.{First}
+use Rattle.kdcfile_layout.specs.Slots.{first_in, slots_of}
+use Rattle.kdcfile_layout.specs.Chains.{page_at}
+use Rattle.kdcfile_layout.specs.Reads.{page_slots}
 use Rattle.kdcfile_load.specs.Reads.{steps, slots_at, after_page, directory_from}
 use Rattle.kdcfile_load.proofs.FirstsLaws.{firsts_of}
 use Rattle.kdcfile_load.proofs.StepsLaws.{steps_none, steps_more}

@@ -1,5 +1,6 @@
 -- Slots that were read have keys that records can have.
-use Rattle.std.proofs.Common.{◌≡◌, ⊎_elim, ℕ, zero, suc, ◌+◌, ◌*◌, ◌≤◌, cond, eqb, ltb, List, [], ◌∷◌, ◌++◌, length, take, drop, get_or, Option, Some, None, refl, subst, arith, length-append, length-drop}
+use Rattle.std.proofs.Common.{◌≡◌, ⊎_elim, ℕ, zero, suc, ◌+◌, ◌*◌, ◌≤◌, cond, eqb, ltb, List, [], ◌∷◌, ◌++◌, length, take, drop, get_or, Option, Some, None, refl, subst, arith, length-append}
+use Rattle.std.proofs.Common.{length-drop}
 use Rattle.std.specs.Option.{option_map}
 use Rattle.std.specs.Int.{w32}
 use Rattle.std.specs.Str.{bytes_eq}
@@ -12,8 +13,8 @@ use Rattle.kdcfile_layout.specs.Fields.{AreBytes, number, key_at}
 use Rattle.kdcfile_layout.specs.FieldsLaws.{AreBytes_drop}
 use Rattle.kdcfile_layout.specs.TestsLaws.{unless, when}
 use Rattle.kdcfile_layout.specs.Layout.{zeros}
-use Rattle.kdcfile_read.specs.declared.slot.First.{First}
-use Rattle.kdcfile_read.specs.Slots.{free_slot_of, used_slot_of, slot_of, slots_of}
+use Rattle.kdcfile_layout.specs.declared.kdcfile_read.slot.First.{First}
+use Rattle.kdcfile_layout.specs.Slots.{free_slot_of, used_slot_of, slot_of, slots_of}
 use Rattle.kdcfile_load.specs.Reads.{IsFirst, AreFirsts}
 
 used_first : (bytes : List ℕ) (o : Option First) → AreBytes bytes → 32 ≤ length bytes → (get_or bytes 0 0 ≡ 0 → ⊥) → used_slot_of bytes ≡ Some o → IsFirst o

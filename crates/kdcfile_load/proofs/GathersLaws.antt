@@ -15,8 +15,8 @@ use Rattle.kd_records.specs.Contents.{Record, IsRecord}
 use Rattle.kd_records.specs.Keys.{key_cmp}
 use Rattle.kd_records.specs.KeyLaws.{key_total, same_key}
 use Rattle.kd_records.specs.Charge.{charge_of, total_charge}
-use Rattle.page_pool.specs.Places.{At}
-use Rattle.page_pool.specs.PlacesLaws.{no_item, all_at}
+use Rattle.kdcfile_layout.specs.Places.{At}
+use Rattle.kdcfile_layout.specs.PlacesLaws.{no_item, all_at}
 use Rattle.kdcfile_layout.specs.declared.chain.Chain.{Chain}
 use Rattle.kdcfile_layout.specs.Layout.{used, chain_pages, if_used, IsTable}
 use Rattle.kdcfile_load.proofs.PutsLaws.{sum_put, all_put}

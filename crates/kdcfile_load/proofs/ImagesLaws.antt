@@ -12,21 +12,21 @@ use Rattle.kd_records.specs.Keys.{key_cmp}
 use Rattle.kd_records.specs.Charge.{charge_of, total_charge}
 use Rattle.kd_records.specs.ChargeLaws.{charge_from_one}
 use Rattle.kd_records.specs.Identity.{Identity}
-use Rattle.page_pool.specs.Places.{At}
-use Rattle.page_pool.specs.Pools.{flagged}
-use Rattle.page_pool.specs.PoolsLaws.{length_flagged}
+use Rattle.kdcfile_layout.specs.Places.{At}
+use Rattle.kdcfile_layout.specs.Pools.{flagged}
+use Rattle.kdcfile_layout.specs.PoolsLaws.{length_flagged}
 use Rattle.kdcfile_layout.specs.declared.chain.Chain.{Chain}
 use Rattle.kdcfile_layout.specs.Layout.{Layout, Stands, IsNoImage, InRoot, InChain, slots_in_page, directory_pages, page_count, first_of_pages, chain_pages}
 use Rattle.kdcfile_layout.specs.Stored.{IsStored}
-use Rattle.kdcfile_images.specs.Opened.{identity_of}
-use Rattle.kdcfile_read.specs.declared.head.Head.{Head}
-use Rattle.kdcfile_read.specs.declared.root.RootFields.{RootFields}
-use Rattle.kdcfile_read.specs.declared.slot.First.{First}
-use Rattle.kdcfile_read.specs.Slots.{first_in, slots_of}
-use Rattle.kdcfile_read.specs.Chains.{page_at}
-use Rattle.kdcfile_read.specs.Reads.{fields_in, page_slots, ReadsChain, ReadsAs, AreBytesRead}
-use Rattle.kdcfile_read.specs.ReadsLaws.{files_are_read}
-use Rattle.kdcfile_read.specs.ReadFilesLaws.{read_files_stand}
+use Rattle.kdcfile_layout.specs.Opened.{identity_of}
+use Rattle.kdcfile_layout.specs.declared.kdcfile_read.head.Head.{Head}
+use Rattle.kdcfile_layout.specs.declared.kdcfile_read.root.RootFields.{RootFields}
+use Rattle.kdcfile_layout.specs.declared.kdcfile_read.slot.First.{First}
+use Rattle.kdcfile_layout.specs.Slots.{first_in, slots_of}
+use Rattle.kdcfile_layout.specs.Chains.{page_at}
+use Rattle.kdcfile_layout.specs.Reads.{fields_in, page_slots, ReadsChain, ReadsAs, AreBytesRead}
+use Rattle.kdcfile_layout.specs.ReadsLaws.{files_are_read}
+use Rattle.kdcfile_layout.specs.ReadFilesLaws.{read_files_stand}
 use Rattle.kdcfile_load.specs.Gathers.{gathered, AreKept}
 use Rattle.kdcfile_load.specs.Marks.{pages_in, named_pages, AreClear, all_free}
 use Rattle.kdcfile_load.specs.Openings.{directory_length, pages_of_file, IsOpening, Opens}

@@ -1,5 +1,6 @@
 -- Pages that become used, each once: what is known of a layout whose pages are, and of one whose pages are not.
-use Rattle.std.proofs.Common.{◌≡◌, ◌⊎◌, inl, inr, ⊎_elim, ℕ, zero, suc, ◌+◌, ◌<◌, Bool, true, false, not, cond, List, [], ◌∷◌, ◌++◌, length, take, drop, get_or, drop-cons, Option, Some, None, refl, ap, sym, subst, ◌∙◌, arith, length-append, append-nil}
+use Rattle.std.proofs.Common.{◌≡◌, ◌⊎◌, inl, inr, ⊎_elim, ℕ, zero, suc, ◌+◌, ◌<◌, Bool, true, false, not, cond, List, [], ◌∷◌, ◌++◌, length, take, drop, get_or, drop-cons, Option, Some, None, refl}
+use Rattle.std.proofs.Common.{ap, sym, subst, ◌∙◌, arith, length-append, append-nil}
 use Rattle.std.specs.Prelude.{set}
 use Rattle.std.proofs.lemmas.List.{length-replicate, take_more, take-append-drop}
 use Rattle.std.proofs.lemmas.Grind.{flat_map-append}
@@ -7,10 +8,10 @@ use Rattle.std.proofs.lemmas.List.Concat.{flat_map-cons}
 use Rattle.std.proofs.lemmas.List.Sums.{sum_by-cons}
 use Rattle.std.proofs.lemmas.List.Folds.{sum_by-replicate}
 use Rattle.std.proofs.lemmas.Option.{same_Some}
-use Rattle.page_pool.specs.Places.{At, IsDistinct}
-use Rattle.page_pool.specs.PlacesLaws.{at_within, at_one, at_front, no_item, at_set, at_set_other, at_set_same, distinct_tail, distinct_head}
-use Rattle.page_pool.specs.Pools.{free_count, flagged}
-use Rattle.page_pool.specs.PoolsLaws.{flag_stays, count_used}
+use Rattle.kdcfile_layout.specs.Places.{At, IsDistinct}
+use Rattle.kdcfile_layout.specs.PlacesLaws.{at_within, at_one, at_front, no_item, at_set, at_set_other, at_set_same, distinct_tail, distinct_head}
+use Rattle.kdcfile_layout.specs.Pools.{free_count, flagged}
+use Rattle.kdcfile_layout.specs.PoolsLaws.{flag_stays, count_used}
 use Rattle.kdcfile_layout.specs.declared.chain.Chain.{Chain}
 use Rattle.kdcfile_layout.specs.Layout.{Layout, Name, InRoot, InChain, Names, if_used, chain_pages}
 use Rattle.kdcfile_load.specs.Marks.{pages_of, pages_in, named_pages, AreClear, all_free}

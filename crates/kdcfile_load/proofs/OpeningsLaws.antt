@@ -6,12 +6,12 @@ use Rattle.kd_records.specs.declared.content.Content.{Content}
 use Rattle.kd_records.specs.Identity.{Identity}
 use Rattle.kdcfile_layout.specs.Fields.{AreBytes}
 use Rattle.kdcfile_layout.specs.Layout.{Layout, IsNoImage, directory_pages}
-use Rattle.kdcfile_read.specs.declared.head.Head.{Head}
-use Rattle.kdcfile_read.specs.declared.root.RootFields.{RootFields}
-use Rattle.kdcfile_read.specs.Reading.{head_of, root_of, numbers_of}
-use Rattle.kdcfile_read.specs.Reads.{front_in, root_in, numbers_in, fields_in, ReadsAs}
-use Rattle.kdcfile_read.specs.ReadsLaws.{files_are_read}
-use Rattle.kdcfile_read.specs.ReadRootsLaws.{numbers_read}
+use Rattle.kdcfile_layout.specs.declared.kdcfile_read.head.Head.{Head}
+use Rattle.kdcfile_layout.specs.declared.kdcfile_read.root.RootFields.{RootFields}
+use Rattle.kdcfile_layout.specs.Reading.{head_of, root_of, numbers_of}
+use Rattle.kdcfile_layout.specs.Reads.{front_in, root_in, numbers_in, fields_in, ReadsAs}
+use Rattle.kdcfile_layout.specs.ReadsLaws.{files_are_read}
+use Rattle.kdcfile_layout.specs.ReadRootsLaws.{numbers_read}
 use Rattle.kdcfile_load.specs.Openings.{Opens}
 use Rattle.kdcfile_load.specs.declared.opening.Opening.{Opening}
 

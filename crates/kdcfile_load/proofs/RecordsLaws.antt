@@ -3,8 +3,8 @@ use Rattle.std.proofs.Common.{ℕ, ◌+◌, List, [], ◌∷◌, ◌++◌, Optio
 use Rattle.std.proofs.lemmas.List.Elements.{All-nil, All-cons, All-append}
 use Rattle.kd_records.specs.Contents.{Record, IsRecord}
 use Rattle.kdcfile_layout.specs.declared.chain.Chain.{Chain}
-use Rattle.kdcfile_read.specs.declared.slot.First.{First}
-use Rattle.kdcfile_read.specs.Chains.{Chained}
+use Rattle.kdcfile_layout.specs.declared.kdcfile_read.slot.First.{First}
+use Rattle.kdcfile_layout.specs.Chains.{Chained}
 use Rattle.kdcfile_load.specs.Gathers.{AreKept}
 use Rattle.kdcfile_load.specs.Reads.{with_free, with_record, IsCharged, IsFirst, Follows, IsGathering}
 use Rattle.kdcfile_load.specs.declared.records.Gathering.{Gathering}

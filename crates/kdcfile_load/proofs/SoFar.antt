@@ -4,8 +4,8 @@ use Rattle.std.specs.Option.{option_map}
 use Rattle.std.specs.Prelude.{IsTrue}
 use Rattle.kd_device.specs.Device.{State}
 use Rattle.kd_records.specs.declared.key.RecordKey.{RecordKey}
-use Rattle.kdcfile_read.specs.Chains.{Chained, chain_of}
-use Rattle.kdcfile_read.specs.ReadChains.{Holds}
+use Rattle.kdcfile_layout.specs.Chains.{Chained, chain_of}
+use Rattle.kdcfile_layout.specs.ReadChains.{Holds}
 use Rattle.kdcfile_load.proofs.Rested.{Rested}
 
 -- what was read before, in front of what follows

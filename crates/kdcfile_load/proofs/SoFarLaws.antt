@@ -1,15 +1,16 @@
 -- A chain that is read so far.
-use Rattle.std.proofs.Common.{◌≡◌, ℕ, zero, suc, ◌+◌, ◌-◌, ◌*◌, ◌<◌, ◌≤◌, ◌^◌, List, [], ◌∷◌, ◌++◌, length, take, Option, Some, None, refl, ap, sym, subst, ◌∙◌, arith, append_assoc, eqb, length-append}
+use Rattle.std.proofs.Common.{◌≡◌, ℕ, zero, suc, ◌+◌, ◌-◌, ◌*◌, ◌<◌, ◌≤◌, ◌^◌, List, [], ◌∷◌, ◌++◌, length, take, Option, Some, None, refl, ap, sym, subst, ◌∙◌, arith, append_assoc, eqb}
+use Rattle.std.proofs.Common.{length-append}
 use Rattle.std.specs.Option.{option_map, option_and_then}
 use Rattle.kd_device.specs.Device.{State, Frame, SameFaults, SameNames}
 use Rattle.std.specs.Prelude.{IsTrue}
 use Rattle.kd_device.specs.Rest.{Rests}
 use Rattle.kd_records.specs.declared.key.RecordKey.{RecordKey}
-use Rattle.kdcfile_read.specs.Chains.{Held, part_at, Chained, last_with, chain_of}
+use Rattle.kdcfile_layout.specs.Chains.{Held, part_at, Chained, last_with, chain_of}
 use Rattle.std.proofs.lemmas.List.{length-take-le}
 use Rattle.std.proofs.lemmas.Bool.{cond-true, cond-false, eq-eqb, ne_eqb}
-use Rattle.kdcfile_read.specs.ReadChains.{Holds}
-use Rattle.kdcfile_read.specs.ReadChainsLaws.{holds_rest}
+use Rattle.kdcfile_layout.specs.ReadChains.{Holds}
+use Rattle.kdcfile_layout.specs.ReadChainsLaws.{holds_rest}
 use Rattle.kdcfile_load.proofs.RestedLaws.{rested_then}
 use Rattle.kdcfile_load.proofs.SoFar.{onto, Reading}
 

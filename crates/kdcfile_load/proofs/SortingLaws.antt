@@ -12,10 +12,10 @@ use Rattle.kd_records.specs.declared.key.RecordKey.{RecordKey}
 use Rattle.kd_records.specs.Contents.{Record}
 use Rattle.kd_records.specs.Keys.{key_cmp}
 use Rattle.kd_records.specs.KeyLaws.{key_total, same_key}
-use Rattle.page_pool.specs.Places.{At}
-use Rattle.page_pool.specs.PlacesLaws.{at_within}
-use Rattle.sorted_pairs.specs.Places.{times}
-use Rattle.sorted_pairs.specs.TimesLaws.{times_first, once_of, found_pair, pair_found}
+use Rattle.kdcfile_layout.specs.Places.{At}
+use Rattle.kdcfile_layout.specs.PlacesLaws.{at_within}
+use Rattle.kd_base.specs.Places.{times}
+use Rattle.kd_base.specs.TimesLaws.{times_first, once_of, found_pair, pair_found}
 use Rattle.kdcfile_load.specs.Gathers.{gathered, AreNew}
 use Rattle.kdcfile_load.proofs.GathersLaws.{ties, still_found, put_found, none_put, gathered_sorted, gathered_has, gathered_only}
 

@@ -2,8 +2,8 @@
 use Rattle.std.proofs.Common.{◌≡◌, ◌⊎◌, inl, inr, ⊎_elim, ℕ, suc, ◌+◌, ◌<◌, ◌≤◌, List, [], ◌∷◌, ◌++◌, length, take, drop, get_or, Option, Some, None, refl, ap, subst, sym, ◌∙◌, arith, drop-cons}
 use Rattle.std.specs.Option.{option_and_then}
 use Rattle.std.proofs.lemmas.List.{take_more, drop_all}
-use Rattle.page_pool.specs.Places.{At}
-use Rattle.page_pool.specs.PlacesLaws.{at_push}
+use Rattle.kdcfile_layout.specs.Places.{At}
+use Rattle.kdcfile_layout.specs.PlacesLaws.{at_push}
 use Rattle.kdcfile_load.specs.Reads.{steps}
 
 module _ {S X : Type 0} (step : S → X → Option S) (s : S) where

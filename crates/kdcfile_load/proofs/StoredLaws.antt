@@ -1,5 +1,6 @@
 -- Chains that are read slot by slot, and chains that stand in a file.
-use Rattle.std.proofs.Common.{◌≡◌, ℕ, zero, suc, ◌+◌, ◌<◌, ◌≤◌, min, Bool, ltb, leb, cond, ⊎_elim, List, [], ◌∷◌, ◌++◌, length, take, drop, Option, Some, None, refl, ap, sym, subst, ◌∙◌, arith, append_assoc, append-nil, length-take}
+use Rattle.std.proofs.Common.{◌≡◌, ℕ, zero, suc, ◌+◌, ◌<◌, ◌≤◌, min, Bool, ltb, leb, cond, ⊎_elim, List, [], ◌∷◌, ◌++◌, length, take, drop, Option, Some, None, refl, ap, sym, subst, ◌∙◌, arith}
+use Rattle.std.proofs.Common.{append_assoc, append-nil, length-take}
 use Rattle.std.specs.Prelude.{map, All}
 use Rattle.std.specs.Int.{w32, from_be_bytes}
 use Rattle.std.specs.Option.{option_map, option_and_then}
@@ -12,19 +13,19 @@ use Rattle.kd_base.specs.ToolsLaws.{map_some, and_some}
 use Rattle.kd_records.specs.Contents.{Record}
 use Rattle.kd_records.specs.Charge.{IsBlockSize, charge_of}
 use Rattle.kd_records.specs.ChargeLaws.{block_from}
-use Rattle.page_pool.specs.Places.{At}
-use Rattle.page_pool.specs.PlacesLaws.{no_item}
+use Rattle.kdcfile_layout.specs.Places.{At}
+use Rattle.kdcfile_layout.specs.PlacesLaws.{no_item}
 use Rattle.kdcfile_layout.specs.TestsLaws.{when}
 use Rattle.kdcfile_layout.specs.Fields.{number}
 use Rattle.kdcfile_layout.specs.declared.chain.Chain.{Chain}
 use Rattle.kdcfile_layout.specs.Layout.{page_place, first_of_pages, if_used, chain_pages}
-use Rattle.kdcfile_read.specs.declared.slot.First.{First}
-use Rattle.kdcfile_read.specs.Slots.{first_in}
-use Rattle.kdcfile_read.specs.Reading.{whole_of}
-use Rattle.kdcfile_read.specs.Chains.{page_at, Chained, chain_of}
-use Rattle.kdcfile_read.specs.Reads.{ReadsChain}
-use Rattle.kdcfile_read.specs.ReadChainsLaws.{read_chains_stand}
-use Rattle.kdcfile_read.specs.SizesLaws.{charge_holds}
+use Rattle.kdcfile_layout.specs.declared.kdcfile_read.slot.First.{First}
+use Rattle.kdcfile_layout.specs.Slots.{first_in}
+use Rattle.kdcfile_layout.specs.Reading.{whole_of}
+use Rattle.kdcfile_layout.specs.Chains.{page_at, Chained, chain_of}
+use Rattle.kdcfile_layout.specs.Reads.{ReadsChain}
+use Rattle.kdcfile_layout.specs.ReadChainsLaws.{read_chains_stand}
+use Rattle.kdcfile_layout.specs.SizesLaws.{charge_holds}
 use Rattle.kdcfile_load.specs.Reads.{steps, chain_within, record_at, with_free, with_record, after_slot, records_from, IsFirst}
 use Rattle.kdcfile_load.specs.declared.records.Gathering.{Gathering}
 use Rattle.kdcfile_load.proofs.StepsLaws.{steps_none, steps_more}

@@ -1,9 +1,9 @@
 -- The image that a file's beginning and its slots make.
 use Rattle.std.specs.Prelude.{◌≡◌, true, [], ◌++◌, length}
-use Rattle.page_pool.specs.Pools.{flagged}
+use Rattle.kdcfile_layout.specs.Pools.{flagged}
 use Rattle.kd_records.specs.declared.content.Content.{Content}
-use Rattle.kdcfile_images.specs.declared.image.Root.{Root}
-use Rattle.kdcfile_images.specs.Opened.{Opened}
+use Rattle.kdcfile_layout.specs.declared.kdcfile_images.image.Root.{Root}
+use Rattle.kdcfile_layout.specs.Opened.{Opened}
 use Rattle.kdcfile_load.specs.Gathers.{gathered, AreNew}
 use Rattle.kdcfile_load.specs.Marks.{AreClear, pages_in, all_free}
 use Rattle.kdcfile_load.specs.Openings.{pages_of_file}

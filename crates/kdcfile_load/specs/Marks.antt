@@ -1,7 +1,7 @@
 -- Pages that become used, each once.
 use Rattle.std.specs.Prelude.{ℕ, Bool, true, false, List, [], ◌∷◌, ◌++◌, Option, Some, None, replicate, set}
 use Rattle.std.specs.List.{flat_map}
-use Rattle.page_pool.specs.Places.{At}
+use Rattle.kdcfile_layout.specs.Places.{At}
 use Rattle.kdcfile_layout.specs.declared.chain.Chain.{Chain}
 use Rattle.kdcfile_layout.specs.Layout.{Layout}
 

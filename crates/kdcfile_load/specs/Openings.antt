@@ -3,9 +3,9 @@ use Rattle.std.specs.Prelude.{◌≡◌, ◌≤◌, ◌<◌, ◌^◌, ℕ, List,
 use Rattle.kd_records.specs.Charge.{IsBlockSize}
 use Rattle.kdcfile_layout.specs.Fields.{AreBytes}
 use Rattle.kdcfile_layout.specs.Layout.{directory_pages, page_count}
-use Rattle.kdcfile_read.specs.declared.root.RootFields.{RootFields}
-use Rattle.kdcfile_read.specs.Reading.{head_of, root_of, numbers_of}
-use Rattle.kdcfile_read.specs.Reads.{front_in, root_in, numbers_in}
+use Rattle.kdcfile_layout.specs.declared.kdcfile_read.root.RootFields.{RootFields}
+use Rattle.kdcfile_layout.specs.Reading.{head_of, root_of, numbers_of}
+use Rattle.kdcfile_layout.specs.Reads.{front_in, root_in, numbers_in}
 use Rattle.kdcfile_load.specs.declared.opening.Opening.{Opening}
 
 -- numbers that a root can have

@@ -5,10 +5,10 @@ use Rattle.kd_records.specs.declared.key.RecordKey.{RecordKey}
 use Rattle.kd_records.specs.Contents.{IsKey, IsRecord}
 use Rattle.kd_records.specs.Charge.{charge_of}
 use Rattle.kdcfile_layout.specs.Layout.{page_place, slots_in_page}
-use Rattle.kdcfile_read.specs.declared.slot.First.{First}
-use Rattle.kdcfile_read.specs.Slots.{slots_of}
-use Rattle.kdcfile_read.specs.Reading.{whole_of}
-use Rattle.kdcfile_read.specs.Chains.{page_at, Chained, chain_of}
+use Rattle.kdcfile_layout.specs.declared.kdcfile_read.slot.First.{First}
+use Rattle.kdcfile_layout.specs.Slots.{slots_of}
+use Rattle.kdcfile_layout.specs.Reading.{whole_of}
+use Rattle.kdcfile_layout.specs.Chains.{page_at, Chained, chain_of}
 use Rattle.kdcfile_load.specs.Gathers.{AreKept}
 use Rattle.kdcfile_load.specs.declared.records.Gathering.{Gathering}
 

@@ -1,10 +1,10 @@
 -- The slots that are read of a file that begins so.
 use Rattle.std.specs.Prelude.{◌≡◌, ◌*◌, ℕ, List, [], length, Option, Some}
-use Rattle.page_pool.specs.Places.{At}
+use Rattle.kdcfile_layout.specs.Places.{At}
 use Rattle.kdcfile_layout.specs.Fields.{AreBytes}
 use Rattle.kdcfile_layout.specs.Layout.{slots_in_page}
-use Rattle.kdcfile_read.specs.declared.slot.First.{First}
-use Rattle.kdcfile_read.specs.Chains.{page_at}
+use Rattle.kdcfile_layout.specs.declared.kdcfile_read.slot.First.{First}
+use Rattle.kdcfile_layout.specs.Chains.{page_at}
 use Rattle.kdcfile_load.specs.Openings.{pages_of_file}
 use Rattle.kdcfile_load.specs.Reads.{AreFirsts, directory_from, records_from, none_yet}
 use Rattle.kdcfile_load.specs.declared.opening.Opening.{Opening}

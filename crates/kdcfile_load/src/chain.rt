@@ -1,14 +1,14 @@
 //! A chain of pages, read from the file.
 ghost use Rattle.std.specs.{Prelude.{◌≡◌, ◌≤◌, List, ℕ, IsTrue, length, IfOk, IfSome, IsErrOf}, Option.{option_map}};
 ghost use Rattle.kd_device.specs.{Device.{Rose, Frame, SameFaults, SameNames}, Rest.{Rests}};
-ghost use Rattle.kdcfile_read.specs.{Chains.{chain_of}, ReadChains.{Holds}};
+ghost use Rattle.kdcfile_layout.specs.{Chains.{chain_of}, ReadChains.{Holds}};
 
 use crate::part::part_at;
 use kd_base::Bytes;
 use kd_device::{Device, DeviceError};
 use kd_records::RecordKey;
 use kdcfile_layout::NO_PAGE;
-use page_pool::Pages;
+use kdcfile_layout::page_pool::Pages;
 use std::alloc::Global;
 
 /// What was found: the pages of a chain, and the value on them.

@@ -1,7 +1,7 @@
 //! What was read of a file is an image, or it is not one.
 ghost use Rattle.std.specs.Prelude.{◌≡◌, ◌*◌, [], List, ℕ, length, IfOk, IfSome, IfNone};
 ghost use Rattle.kdcfile_layout.specs.{Layout.{slots_in_page}, Stored.{IsStored}};
-ghost use Rattle.kdcfile_images.specs.Opened.{identity_of, layout_in};
+ghost use Rattle.kdcfile_layout.specs.Opened.{identity_of, layout_in};
 ghost use Rattle.kdcfile_load.specs.{Openings.{IsOpening, directory_length}, Reads.{IsGathering}, Loads.{IsSound, image_with, loaded_with}};
 
 use crate::loading::Loaded;
@@ -11,7 +11,7 @@ use crate::records::Gathering;
 use crate::sorting::gather;
 use kd_base::OutOfMemory;
 use kd_records::Content;
-use kdcfile_images::{Image, Root};
+use kdcfile_layout::kdcfile_images::{Image, Root};
 use kdcfile_layout::page_count;
 use std::alloc::Global;
 

@@ -2,15 +2,15 @@
 ghost use Rattle.std.specs.{Prelude.{◌≡◌, ◌≤◌, ◌*◌, ◌++◌, List, ℕ, [], IsTrue, length, IfOk, IfSome, OnOk, IsErrOf}};
 ghost use Rattle.kd_device.specs.{Device.{Rose, Frame, SameFaults, SameNames}, Rest.{Rests}};
 ghost use Rattle.kd_records.specs.Charge.{IsBlockSize};
-ghost use Rattle.page_pool.specs.Places.{At};
+ghost use Rattle.kdcfile_layout.specs.Places.{At};
 ghost use Rattle.kdcfile_layout.specs.{Fields.{AreBytes}, Layout.{slots_in_page}};
-ghost use Rattle.kdcfile_read.specs.Chains.{page_at};
+ghost use Rattle.kdcfile_layout.specs.Chains.{page_at};
 ghost use Rattle.kdcfile_load.specs.Reads.{slots_at, directory_from, AreFirsts};
 
 use kd_base::OutOfMemory;
 use kd_device::{Device, DeviceError};
+use kdcfile_layout::kdcfile_read::{First, FirstSlots, slots_of};
 use kdcfile_layout::{page_place, read_part};
-use kdcfile_read::{First, FirstSlots, slots_of};
 use std::alloc::Global;
 
 // The slots of a page, if it is there and has just slots.

@@ -2,7 +2,7 @@
 ghost use Rattle.std.specs.Prelude.{◌≡◌, ◌≤◌, List, ℕ, IsTrue, IfOk, IfSome, IfNone, OnOk, IsErrOf};
 ghost use Rattle.kd_device.specs.{Device.{Rose, Frame, SameFaults, SameNames, Only}, Rest.{Rests}};
 ghost use Rattle.kdcfile_layout.specs.{Layout.{Stands, IsNoImage}, Stored.{IsStored}};
-ghost use Rattle.kdcfile_images.specs.Opened.{identity_of, layout_in};
+ghost use Rattle.kdcfile_layout.specs.Opened.{identity_of, layout_in};
 
 use crate::checking::check_image;
 use crate::fault::LoadError;
@@ -10,9 +10,9 @@ use crate::opening::read_opening;
 use crate::slots::read_slots;
 use kd_device::{Device, DeviceError};
 use kd_records::Content;
-use kdcfile_images::Image;
+use kdcfile_layout::kdcfile_images::Image;
+use kdcfile_layout::page_pool::Pool;
 use kdcfile_layout::{Slots, bring_to_rest};
-use page_pool::Pool;
 use std::alloc::Global;
 
 /// What a load gives: the selected image, the slots of its directory, its content, and the pool with the pages that it

@@ -1,11 +1,11 @@
 //! Pages that become used.
 ghost use Rattle.std.specs.Prelude.{◌≡◌, ◌<◌, ◌^◌, ◌++◌, List, ℕ, true, false, length, set, IsTrue, IfOk, IfSome, IfNone};
-ghost use Rattle.page_pool.specs.{Places.{At}, Pools.{flagged}};
+ghost use Rattle.kdcfile_layout.specs.{Places.{At}, Pools.{flagged}};
 ghost use Rattle.kdcfile_load.specs.Marks.{AreClear, pages_of, pages_in, all_free};
 
 use kd_base::OutOfMemory;
 use kdcfile_layout::Chain;
-use page_pool::Pool;
+use kdcfile_layout::page_pool::Pool;
 use std::alloc::Global;
 
 // Makes a page used; false where it is not there, or is used already.

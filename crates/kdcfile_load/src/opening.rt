@@ -3,13 +3,15 @@ ghost use Rattle.std.specs.Prelude.{◌≡◌, ◌≤◌, List, ℕ, IsTrue, len
 ghost use Rattle.kd_device.specs.{Device.{Rose, Frame, SameFaults, SameNames}, Rest.{Rests}};
 ghost use Rattle.kd_records.specs.Charge.{IsBlockSize};
 ghost use Rattle.kdcfile_layout.specs.{Fields.{AreBytes}, Layout.{IsNoImage, page_count}};
-ghost use Rattle.kdcfile_read.specs.{Reading.{head_of, root_of, numbers_of}, Reads.{front_in, root_in, numbers_in}};
+ghost use Rattle.kdcfile_layout.specs.{Reading.{head_of, root_of, numbers_of}, Reads.{front_in, root_in, numbers_in}};
 ghost use Rattle.kdcfile_load.specs.Openings.{IsRoot, IsOpening, Opens};
 
 use kd_device::{Device, DeviceError};
+use kdcfile_layout::kdcfile_read::{
+    FRONT_LEN, Head, ROOT_LEN, RootFields, head_of, numbers_of, root_of,
+};
+use kdcfile_layout::page_pool::Pages;
 use kdcfile_layout::{directory_pages, read_part};
-use kdcfile_read::{FRONT_LEN, Head, ROOT_LEN, RootFields, head_of, numbers_of, root_of};
-use page_pool::Pages;
 use std::alloc::Global;
 
 /// What the beginning of a file says: its head, the root of the selected image, and the numbers of the directory's

@@ -1,12 +1,12 @@
 //! A page of a record, read from the file.
 ghost use Rattle.std.specs.{Prelude.{◌≡◌, ◌≤◌, ◌+◌, List, ℕ, IsTrue, length, IfOk, IfSome, IsErrOf}, Option.{option_map}};
 ghost use Rattle.kd_device.specs.{Device.{Rose, Frame, SameFaults, SameNames}, Rest.{Rests}};
-ghost use Rattle.kdcfile_read.specs.Chains.{part_at};
+ghost use Rattle.kdcfile_layout.specs.Chains.{part_at};
 
 use kd_device::{Device, DeviceError};
 use kd_records::RecordKey;
+use kdcfile_layout::kdcfile_read::{Part, part_of};
 use kdcfile_layout::{page_place, read_part};
-use kdcfile_read::{Part, part_of};
 use std::alloc::Global;
 
 /// The part of a value on a page of the file, if there is such a page and it is this part of this record.

@@ -7,8 +7,8 @@ ghost use Rattle.kdcfile_load.specs.Reads.{record_at, after_slot, records_from, 
 use crate::chain::{Found, read_chain};
 use kd_device::{Device, DeviceError};
 use kd_records::{RecordKey, Records, charge};
+use kdcfile_layout::kdcfile_read::{First, whole_of};
 use kdcfile_layout::{Chain, Slots, page_place, read_part};
-use kdcfile_read::{First, whole_of};
 use std::alloc::Global;
 
 /// What was read so far: how many pages are left for chains, the slots, and the records of the used ones in their order.

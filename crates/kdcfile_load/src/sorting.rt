@@ -2,8 +2,8 @@
 ghost use Rattle.std.specs.Prelude.{◌≡◌, List, [], IfSome, IfNone};
 ghost use Rattle.kdcfile_load.specs.Gathers.{gathered, AreNew};
 
+use kd_base::sorted_pairs::SortedPairs;
 use kd_records::Records;
-use sorted_pairs::SortedPairs;
 
 /// The records in the order of their keys, unless a key is there twice. It takes no memory.
 pub fn gather(records: Records) -> Option<Records>

@@ -7,9 +7,9 @@ use Rattle.kd_records.specs.Contents.{patched}
 use Rattle.kd_records.specs.Identity.{Identity}
 use Rattle.kdcfile_layout.specs.declared.page.PageWrite.{PageWrite}
 use Rattle.kdcfile_layout.specs.Layout.{Layout, Stands, StandsFor}
-use Rattle.kdcfile_images.specs.declared.image.Root.{Root}
-use Rattle.kdcfile_images.specs.Commit.{ArePages, IsApartFrom, WouldBe, Either, LeavesEither}
-use Rattle.kdcfile_images.specs.Opened.{Opened, identity_of, renewed, layout_in}
+use Rattle.kdcfile_layout.specs.declared.kdcfile_images.image.Root.{Root}
+use Rattle.kdcfile_layout.specs.Commit.{ArePages, IsApartFrom, WouldBe, Either, LeavesEither}
+use Rattle.kdcfile_layout.specs.Opened.{Opened, identity_of, renewed, layout_in}
 use Rattle.kdcfile_store.specs.declared.next.Next.{Next}
 use Rattle.kdcfile_store.specs.Kept.{OldOrNew}
 use Rattle.kdcfile_store.specs.Next.{IsNext}

@@ -1,9 +1,9 @@
 -- The pool of a file that is made.
 use Rattle.std.proofs.Common.{◌≡◌, ℕ, suc, ◌+◌, Bool, true, List, [], ◌∷◌, ◌++◌, length, refl, ap, sym, subst, ◌∙◌, arith}
 use Rattle.std.specs.Prelude.{set}
-use Rattle.page_pool.specs.Pools.{flagged}
-use Rattle.page_pool.specs.PoolsLaws.{length_flagged}
-use Rattle.kdcfile_images.specs.Fresh.{numbers}
+use Rattle.kdcfile_layout.specs.Pools.{flagged}
+use Rattle.kdcfile_layout.specs.PoolsLaws.{length_flagged}
+use Rattle.kdcfile_layout.specs.Fresh.{numbers}
 
 flagged_joined : (flag : Bool) (pages : List ℕ) (used : List Bool) (p : ℕ) → flagged flag used (pages ++ p ∷ []) ≡ set (flagged flag used pages) p flag
 flagged_joined flag [] used p = refl

@@ -5,9 +5,9 @@ use Rattle.kd_records.specs.Identity.{Identity, IsIdentity}
 use Rattle.kdcfile_layout.specs.declared.chain.Chain.{Chain}
 use Rattle.kdcfile_layout.specs.Layout.{Stands, directory_pages, slots_in_page, free_slot, fresh}
 use Rattle.kdcfile_layout.specs.Stored.{IsStored}
-use Rattle.kdcfile_images.specs.Fresh.{fresh_root, fresh_layout}
-use Rattle.kdcfile_images.specs.FreshLaws.{fresh_is_stored}
-use Rattle.kdcfile_images.specs.Opened.{Opened, identity_of, layout_in}
+use Rattle.kdcfile_layout.specs.Fresh.{fresh_root, fresh_layout}
+use Rattle.kdcfile_layout.specs.FreshLaws.{fresh_is_stored}
+use Rattle.kdcfile_layout.specs.Opened.{Opened, identity_of, layout_in}
 use Rattle.kdcfile_store.specs.FreshPool.{fresh_used}
 
 module _ (i : Identity) (o : Opened) (items : List Record) (slots : List (Option Chain)) (o_is : o ≡ record { blksize = i.blksize; root = fresh_root i; second = false }) (items_are : items ≡ []) (slots_are : slots ≡ replicate (directory_pages i.blksize i.pages * slots_in_page i.blksize) free_slot) where

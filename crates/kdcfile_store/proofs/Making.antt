@@ -7,10 +7,10 @@ use Rattle.kd_records.specs.InPlace.{Patching}
 use Rattle.kd_records.specs.Charge.{total_charge}
 use Rattle.kd_records.specs.ChargeLaws.{length_within}
 use Rattle.kd_records.specs.ContentLaws.{patch_keeps_content}
-use Rattle.page_pool.specs.Pools.{ArePlanned}
+use Rattle.kdcfile_layout.specs.Pools.{ArePlanned}
 use Rattle.kdcfile_layout.specs.declared.chain.Chain.{Chain}
 use Rattle.kdcfile_layout.specs.Stored.{IsStored}
-use Rattle.kdcfile_images.specs.Opened.{Opened, identity_of, layout_in}
+use Rattle.kdcfile_layout.specs.Opened.{Opened, identity_of, layout_in}
 use Rattle.page_drafts.specs.CommitsLaws.{whole_pages, count_pages, bytes_most, pages_free, taken_planned, freed_once, freed_used, stored_after, would_be}
 use Rattle.page_drafts.specs.Drafting.{Drafting}
 use Rattle.page_drafts.specs.Prepared.{Prepared}

@@ -10,14 +10,14 @@ use Rattle.kd_records.specs.declared.content.Patch.{Patch}
 use Rattle.kd_records.specs.Contents.{Change, patched, IsKey, IsPatch}
 use Rattle.kd_records.specs.Charge.{charge_of, total_charge}
 use Rattle.kd_records.specs.ChargeLaws.{block_from, block_upto, charge_covers}
-use Rattle.page_pool.specs.Places.{At}
-use Rattle.page_pool.specs.PlacesLaws.{at_within}
-use Rattle.page_pool.specs.Pools.{ArePlanned, free_count}
+use Rattle.kdcfile_layout.specs.Places.{At}
+use Rattle.kdcfile_layout.specs.PlacesLaws.{at_within}
+use Rattle.kdcfile_layout.specs.Pools.{ArePlanned, free_count}
 use Rattle.kdcfile_layout.specs.declared.chain.Chain.{Chain}
 use Rattle.kdcfile_layout.specs.Bound.{charge_put, put_charge}
 use Rattle.kdcfile_layout.specs.CrashLaws.{per_root}
 use Rattle.kdcfile_layout.specs.Stored.{IsStored}
-use Rattle.kdcfile_images.specs.Opened.{Opened, identity_of, layout_in}
+use Rattle.kdcfile_layout.specs.Opened.{Opened, identity_of, layout_in}
 use Rattle.page_drafts.specs.ChargedLaws.{put_charged}
 use Rattle.page_drafts.specs.CommitsLaws.{plan_fits, can_prepare}
 use Rattle.kdcfile_store.specs.Next.{CanDraft, needed_pages}

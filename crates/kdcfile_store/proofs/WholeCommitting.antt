@@ -6,9 +6,9 @@ use Rattle.kd_records.specs.Identity.{Identity}
 use Rattle.kdcfile_layout.specs.declared.page.PageWrite.{PageWrite}
 use Rattle.kdcfile_layout.specs.Layout.{Layout, IsImage, Stands}
 use Rattle.kdcfile_layout.specs.Crash.{AllFree}
-use Rattle.kdcfile_images.specs.declared.image.Root.{Root}
-use Rattle.kdcfile_images.specs.Commit.{ArePages, IsApartFrom, WouldBe, Either, LeavesEither, staged}
-use Rattle.kdcfile_images.specs.Opened.{Opened, identity_of, renewed, layout_in}
+use Rattle.kdcfile_layout.specs.declared.kdcfile_images.image.Root.{Root}
+use Rattle.kdcfile_layout.specs.Commit.{ArePages, IsApartFrom, WouldBe, Either, LeavesEither, staged}
+use Rattle.kdcfile_layout.specs.Opened.{Opened, identity_of, renewed, layout_in}
 use Rattle.kdcfile_store.specs.declared.carrying.Whole.{Whole}
 use Rattle.kdcfile_store.specs.Whole.{AreUsed, IsWhole}
 

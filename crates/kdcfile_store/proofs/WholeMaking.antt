@@ -9,23 +9,23 @@ use Rattle.kd_records.specs.Contents.{Record, IsContent}
 use Rattle.kd_records.specs.Charge.{total_charge}
 use Rattle.kd_records.specs.ChargeLaws.{length_within}
 use Rattle.kd_records.specs.Identity.{Identity, IsIdentity}
-use Rattle.page_pool.specs.Places.{At}
-use Rattle.page_pool.specs.PlacesLaws.{at_one, at_within, at_front}
-use Rattle.page_pool.specs.Pools.{ArePlanned, free_count}
-use Rattle.page_pool.specs.PoolsLaws.{length_flagged, flag_set, count_used}
+use Rattle.kdcfile_layout.specs.Places.{At}
+use Rattle.kdcfile_layout.specs.PlacesLaws.{at_one, at_within, at_front}
+use Rattle.kdcfile_layout.specs.Pools.{ArePlanned, free_count}
+use Rattle.kdcfile_layout.specs.PoolsLaws.{length_flagged, flag_set, count_used}
 use Rattle.kdcfile_layout.specs.declared.chain.Chain.{Chain}
 use Rattle.kdcfile_layout.specs.Layout.{Layout, InRoot, InChain, IsLayout, directory_pages, page_count, slots_in_page, free_slot}
 use Rattle.kdcfile_layout.specs.CrashLaws.{some_slots, per_root}
 use Rattle.kdcfile_layout.specs.Stored.{IsStored}
 use Rattle.kdcfile_layout.specs.Writes.{total}
-use Rattle.kdcfile_images.specs.Fresh.{free_layout}
-use Rattle.kdcfile_images.specs.FreshLaws.{free_is_layout}
-use Rattle.kdcfile_images.specs.Opened.{root_for}
+use Rattle.kdcfile_layout.specs.Fresh.{free_layout}
+use Rattle.kdcfile_layout.specs.FreshLaws.{free_is_layout}
+use Rattle.kdcfile_layout.specs.Opened.{root_for}
 use Rattle.page_drafts.specs.CommitsLaws.{slots_cover}
 use Rattle.page_drafts.specs.Drafting.{Drafting}
 use Rattle.page_drafts.specs.Drafts.{IsPlan, IsUnnamed}
 use Rattle.page_drafts.specs.OnPlanLaws.{pages_there}
-use Rattle.page_drafts.specs.Whole.{unwritten, CanPrepareWhole}
+use Rattle.page_drafts.specs.WholeDrafts.{unwritten, CanPrepareWhole}
 use Rattle.page_drafts.specs.WholeCommitsLaws.{whole_count, whole_most, whole_free, whole_stored, whole_would_be}
 use Rattle.kdcfile_store.specs.declared.carrying.Whole.{Whole}
 use Rattle.kdcfile_store.specs.Whole.{widened, whole_pages, used_by, AreUsed, CanDraftWhole, IsWholeDraft, IsWhole}

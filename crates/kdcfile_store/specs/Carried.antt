@@ -5,7 +5,7 @@ use Rattle.kd_records.specs.declared.content.Content.{Content}
 use Rattle.kd_records.specs.Charge.{total_charge}
 use Rattle.kd_records.specs.Identity.{Identity}
 use Rattle.kdcfile_layout.specs.Layout.{directory_pages}
-use Rattle.kdcfile_images.specs.Commit.{Either}
+use Rattle.kdcfile_layout.specs.Commit.{Either}
 
 -- how many bytes are written at most: a page for each page of the content and of its directory, 64 bytes of the root with
 -- the numbers of the directory's pages, and 1 of the selector

@@ -1,8 +1,8 @@
 -- Which pages of a file that is made are used.
 use Rattle.std.specs.Prelude.{ℕ, Bool, true, false, List, replicate}
-use Rattle.page_pool.specs.Pools.{flagged}
+use Rattle.kdcfile_layout.specs.Pools.{flagged}
 use Rattle.kdcfile_layout.specs.Layout.{directory_pages, page_count}
-use Rattle.kdcfile_images.specs.Fresh.{numbers}
+use Rattle.kdcfile_layout.specs.Fresh.{numbers}
 
 -- those of the directory, which are the first ones
 abbrev pub fresh_used : (size pool : ℕ) → List Bool

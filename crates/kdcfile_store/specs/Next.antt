@@ -4,16 +4,16 @@ use Rattle.kd_records.specs.declared.content.Content.{Content}
 use Rattle.kd_records.specs.declared.content.Patch.{Patch}
 use Rattle.kd_records.specs.Contents.{Record, Change, patched}
 use Rattle.kd_records.specs.InPlace.{Patching}
-use Rattle.page_pool.specs.Places.{At, IsDistinct}
-use Rattle.page_pool.specs.Pools.{ArePlanned, flagged}
+use Rattle.kdcfile_layout.specs.Places.{At, IsDistinct}
+use Rattle.kdcfile_layout.specs.Pools.{ArePlanned, flagged}
 use Rattle.kdcfile_layout.specs.declared.chain.Chain.{Chain}
 use Rattle.kdcfile_layout.specs.Bound.{put_charge}
 use Rattle.kdcfile_layout.specs.Crash.{AllFree}
 use Rattle.kdcfile_layout.specs.Layout.{Layout, Stands}
 use Rattle.kdcfile_layout.specs.Stored.{IsStored}
 use Rattle.kdcfile_layout.specs.Writes.{total}
-use Rattle.kdcfile_images.specs.Commit.{ArePages, WouldBe}
-use Rattle.kdcfile_images.specs.Opened.{Opened, identity_of, layout_in, root_for}
+use Rattle.kdcfile_layout.specs.Commit.{ArePages, WouldBe}
+use Rattle.kdcfile_layout.specs.Opened.{Opened, identity_of, layout_in, root_for}
 use Rattle.page_drafts.specs.Drafting.{Drafting}
 use Rattle.page_drafts.specs.DraftRuns.{AreWide}
 use Rattle.page_drafts.specs.Prepared.{CanPrepare}

@@ -5,7 +5,7 @@ use Rattle.kd_records.specs.Identity.{Identity}
 use Rattle.kd_records.specs.declared.content.Content.{Content}
 use Rattle.kdcfile_layout.specs.Layout.{Layout, Stands, StandsFor, IsNoImage, fresh}
 use Rattle.kdcfile_layout.specs.Stored.{IsStored}
-use Rattle.kdcfile_images.specs.Fresh.{fresh_length}
+use Rattle.kdcfile_layout.specs.Fresh.{fresh_length}
 use Rattle.kdcfile_store.specs.declared.store.StoreLimits.{StoreLimits}
 
 pub record Paged : Type 0 where

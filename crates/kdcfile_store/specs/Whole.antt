@@ -7,17 +7,17 @@ use Rattle.kd_records.specs.Contents.{Record, IsRecord}
 use Rattle.kd_records.specs.Charge.{IsBlockSize, total_charge}
 use Rattle.kd_records.specs.Identity.{Identity}
 use Rattle.kd_records.specs.Keys.{key_cmp}
-use Rattle.page_pool.specs.Places.{At}
-use Rattle.page_pool.specs.Pools.{flagged}
+use Rattle.kdcfile_layout.specs.Places.{At}
+use Rattle.kdcfile_layout.specs.Pools.{flagged}
 use Rattle.kdcfile_layout.specs.Crash.{AllFree}
 use Rattle.kdcfile_layout.specs.Layout.{Layout, Name, Names, IsImage, Stands, directory_pages, page_count, root_place}
 use Rattle.kdcfile_layout.specs.Stored.{IsStored}
 use Rattle.kdcfile_layout.specs.Writes.{total, written_all}
-use Rattle.kdcfile_images.specs.Commit.{ArePages, spelled_root}
-use Rattle.kdcfile_images.specs.Opened.{layout_in, root_for}
+use Rattle.kdcfile_layout.specs.Commit.{ArePages, spelled_root}
+use Rattle.kdcfile_layout.specs.Opened.{layout_in, root_for}
 use Rattle.page_drafts.specs.Drafting.{Drafting}
 use Rattle.page_drafts.specs.Drafts.{IsPlan}
-use Rattle.page_drafts.specs.Whole.{CanPrepareWhole, PreparedWhole}
+use Rattle.page_drafts.specs.WholeDrafts.{CanPrepareWhole, PreparedWhole}
 use Rattle.kdcfile_store.specs.declared.carrying.Whole.{Whole}
 
 -- which pages are used in the file with this page pool, of whose pages the new ones are free

@@ -1,9 +1,9 @@
 //! What is made in memory of a whole content that is to be kept, before anything is written.
 ghost use Rattle.std.specs.Prelude.{◌≡◌, ◌≤◌, ◌<◌, ◌^◌, length, IfOk};
 ghost use Rattle.kd_records.specs.{Contents.{IsContent}, Charge.{IsBlockSize, total_charge}, Identity.{IsIdentity}};
-ghost use Rattle.page_pool.specs.Pools.{ArePlanned, free_count};
+ghost use Rattle.kdcfile_layout.specs.Pools.{ArePlanned, free_count};
 ghost use Rattle.kdcfile_layout.specs.Layout.{page_count as page_count_of};
-ghost use Rattle.kdcfile_images.specs.Opened.{root_for};
+ghost use Rattle.kdcfile_layout.specs.Opened.{root_for};
 ghost use Rattle.page_drafts.specs.Drafts.{IsPlan};
 ghost use Rattle.kdcfile_store.specs.{Paged.{identity_with}, Whole.{CanDraftWhole, IsWhole, IsWholeDraft, used_by, whole_pages, widened}};
 
@@ -12,10 +12,10 @@ use crate::fresh::fresh_table;
 use crate::store::StoreLimits;
 use kd_base::{Bytes, OutOfMemory};
 use kd_records::{Content, RecordKey, charge};
-use kdcfile_images::Root;
+use kdcfile_layout::kdcfile_images::Root;
+use kdcfile_layout::page_pool::{Pages, Pool};
 use kdcfile_layout::{PageWrite, directory_pages, page_count};
 use page_drafts::Draft;
-use page_pool::{Pages, Pool};
 use std::alloc::Global;
 
 /// A content with its table and its root, the pages that are written for it, and the pool once they alone are used.

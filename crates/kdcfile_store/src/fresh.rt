@@ -1,15 +1,15 @@
 //! The pool and the table of a file that is made.
 ghost use Rattle.std.specs.Prelude.{◌≡◌, ◌≤◌, ◌<◌, ◌*◌, ◌^◌, replicate, true, length, IfOk};
 ghost use Rattle.kd_records.specs.Charge.{IsBlockSize};
-ghost use Rattle.page_pool.specs.Pools.{flagged};
+ghost use Rattle.kdcfile_layout.specs.Pools.{flagged};
 ghost use Rattle.kdcfile_layout.specs.Layout.{directory_pages, slots_in_page, free_slot};
-ghost use Rattle.kdcfile_images.specs.Fresh.{numbers};
+ghost use Rattle.kdcfile_layout.specs.Fresh.{numbers};
 ghost use Rattle.kdcfile_store.specs.FreshPool.{fresh_used};
 
 use kd_base::OutOfMemory;
+use kdcfile_layout::page_pool::Pool;
 use kdcfile_layout::{directory_pages, page_count};
 use page_drafts::Table;
-use page_pool::Pool;
 use std::alloc::Global;
 
 // The first pages become used.

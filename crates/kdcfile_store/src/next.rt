@@ -2,17 +2,17 @@
 ghost use Rattle.std.specs.Prelude.{◌≡◌, ◌≤◌, ◌<◌, ◌^◌, take, length, IfOk, IfErr};
 ghost use Rattle.kd_records.specs.{Contents.{IsPatch, patched}, Charge.{total_charge}};
 ghost use Rattle.kdcfile_layout.specs.Stored.{IsStored};
-ghost use Rattle.kdcfile_images.specs.Opened.{identity_of, layout_in, root_for};
+ghost use Rattle.kdcfile_layout.specs.Opened.{identity_of, layout_in, root_for};
 ghost use Rattle.page_drafts.specs.Prepared.{Prepared};
 ghost use Rattle.kdcfile_store.specs.Next.{CanDraft, IsDrafted, IsNext};
 
 use crate::filed::{Filed, Filing};
 use crate::plan::next_plan;
 use kd_records::{Patch, PatchedContent};
-use kdcfile_images::{Image, Root};
 use kdcfile_layout::PageWrite;
+use kdcfile_layout::kdcfile_images::{Image, Root};
+use kdcfile_layout::page_pool::{Pages, Plan, Pool};
 use page_drafts::{Draft, Table};
-use page_pool::{Pages, Plan, Pool};
 use std::alloc::Global;
 
 /// What is kept next, which can be taken back, with its root, the pages that are written for it, and which pages become

@@ -5,7 +5,7 @@ ghost use Rattle.kd_device.specs.{Device.{Rose, Frame, SameFaults, SameNames, On
 ghost use Rattle.kd_records.specs.Identity.{IsIdentity};
 ghost use Rattle.kdcfile_layout.specs.Layout.{StandsFor, IsNoImage, fresh};
 ghost use Rattle.kd_records.specs.{Charge.{total_charge}, Contents.{IsContent}};
-ghost use Rattle.kdcfile_store.specs.{Carried.{LeavesCarried, carry_most}, Kept.{IsKept, write_most}, Paged.{HasFile, LeavesMade, identity_with, made_length}};
+ghost use Rattle.kdcfile_store.specs.{Carried.{LeavesCarried, carry_most}, Kept.{IsKept, write_most}, Paged.{HasFile, IsPaged, LeavesMade, identity_with, made_length}};
 
 use crate::carrying::{Whole, make_whole};
 use crate::filed::Filed;
@@ -14,25 +14,33 @@ use crate::next::{Next, make_next};
 use crate::store::{Store, StoreLimits};
 use kd_device::{Device, DeviceError};
 use kd_records::{Content, Patch, Records};
-use kdcfile_images::{Image, commit_image, create};
+use kdcfile_layout::kdcfile_images::{Image, commit_image, create};
+use kdcfile_layout::page_pool::Pool;
 use kdcfile_load::{LoadError, load};
 use page_drafts::Table;
-use page_pool::Pool;
 use std::alloc::Global;
 use std::marker::Model;
 use std::mem;
 
 /// A content in a file of pages: the selected image, the slots of its directory with their index, the pages that it
-/// uses, and the content.
-#[derive(Drop)]
+/// uses, and the content. The drop is written: a derived one is proved field by field wherever a store is owned.
 pub struct PagedStore {
     image: Image,
     filed: Filed,
     pool: Pool,
 }
 
+impl Drop for PagedStore {
+    fn drop(self) {
+        let PagedStore { image, filed, pool } = self;
+        let _ = image;
+        let _ = filed;
+        let _ = pool;
+    }
+}
+
 impl Model for PagedStore {
-    ghost use Rattle.kdcfile_images.specs.Opened.{identity_of, layout_in};
+    ghost use Rattle.kdcfile_layout.specs.Opened.{identity_of, layout_in};
     ghost use Rattle.kdcfile_store.specs.Paged.{Paged, IsPaged};
 
     ghost Value = { Paged };
@@ -151,6 +159,13 @@ impl PagedStore {
         self.filed = filed;
         self.pool = pool;
         Ok(())
+    }
+
+    /// A law: the store is in order. It does nothing.
+    pub fn is_in_order(&self)
+        ensures { IsPaged self.now }
+    {
+        let _ = &self.filed;
     }
 
     /// What is kept.

@@ -1,14 +1,14 @@
 //! How many pages a commit needs, and which.
 ghost use Rattle.std.specs.Prelude.{◌≡◌, ◌≤◌, ◌<◌, ◌+◌, ◌^◌, length, IfOk};
 ghost use Rattle.kd_records.specs.Charge.{IsBlockSize};
-ghost use Rattle.page_pool.specs.Pools.{ArePlanned, free_count};
+ghost use Rattle.kdcfile_layout.specs.Pools.{ArePlanned, free_count};
 ghost use Rattle.kdcfile_layout.specs.Bound.{charge_put, put_charge};
 ghost use Rattle.kdcfile_store.specs.Next.{needed_pages};
 
 use kd_base::{Bytes, OutOfMemory};
 use kd_records::{Patch, RecordKey, charge};
-use kdcfile_images::Image;
-use page_pool::{Plan, Pool};
+use kdcfile_layout::kdcfile_images::Image;
+use kdcfile_layout::page_pool::{Plan, Pool};
 use std::alloc::Global;
 
 // The pages of a new value, if there is one.

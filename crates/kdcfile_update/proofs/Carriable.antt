@@ -8,8 +8,8 @@ use Rattle.kd_records.specs.declared.content.Content.{Content}
 use Rattle.kdcfile_store.specs.Paged.{Paged}
 use Rattle.kdcs_types.specs.declared.act.Row.{Row}
 use Rattle.kdcs_types.specs.Tables.{TableRows}
-use Rattle.kdcdef_check.specs.Soundness.{AreLimits}
-use Rattle.kdcdef_types.specs.Generation.{Generated}
+use Rattle.application_check.specs.Soundness.{AreLimits}
+use Rattle.application_types.specs.Generation.{Generated}
 use Rattle.record_codec.specs.PatchesLaws.{each_row, each_unmapped}
 use Rattle.record_codec.specs.Records.{content_of_tables, rows_of}
 use Rattle.record_codec.specs.TableReadings.{AreProperTables}
@@ -18,11 +18,11 @@ use Rattle.table_fit.specs.Charging.{AreShort}
 use Rattle.table_fit.specs.Lengths.{value_length}
 use Rattle.table_fit.specs.LengthsLaws.{charges_are_those_of_the_bytes, lengths_are_those_of_the_bytes}
 use Rattle.table_fit.specs.ShortLaws.{suiting_tables_are_short}
-use Rattle.warm_start.specs.ContentLaws.{content_charged, content_there}
-use Rattle.warm_start.specs.Stands.{KeepsTables}
-use Rattle.kd_update.specs.Carrying.{carried}
-use Rattle.kd_update.specs.Judging.{judged}
-use Rattle.kd_update.specs.SuitingLaws.{carried_tables_suit, passed_all}
+use Rattle.device_acts.specs.ContentLaws.{content_charged, content_there}
+use Rattle.device_acts.specs.Stands.{KeepsTables}
+use Rattle.kdcfile_update.specs.Carrying.{carried}
+use Rattle.kdcfile_update.specs.Judging.{judged}
+use Rattle.kdcfile_update.specs.SuitingLaws.{carried_tables_suit, passed_all}
 use Rattle.record_codec.specs.Records.{HasShortValues}
 use Rattle.kdcfile_update.specs.Parts.{CanCarry, stored_in}
 use Rattle.kdcfile_update.specs.Updating.{judgement}

@@ -9,19 +9,19 @@ use Rattle.kd_device.specs.TimeLaws.{leaves_weaker, leaves_then, told_after}
 use Rattle.kd_records.specs.Identity.{Identity}
 use Rattle.kd_records.specs.declared.content.Content.{Content}
 use Rattle.kdcfile_layout.specs.Layout.{StandsFor}
-use Rattle.kdcfile_images.specs.Commit.{Either}
+use Rattle.kdcfile_layout.specs.Commit.{Either}
 use Rattle.kdcfile_store.specs.Carried.{LeavesCarried, carry_most}
 use Rattle.kdcfile_store.specs.Paged.{Paged, identity_with}
 use Rattle.kdcfile_store.specs.declared.store.StoreLimits.{StoreLimits}
 use Rattle.kdcs_types.specs.declared.act.Act.{Act}
 use Rattle.kdcs_types.specs.Tables.{TableRows}
-use Rattle.kdcdef_check.specs.Soundness.{AreLimits}
-use Rattle.kdcdef_types.specs.Generation.{Generated}
+use Rattle.application_check.specs.Soundness.{AreLimits}
+use Rattle.application_types.specs.Generation.{Generated}
 use Rattle.abstract_monitor.specs.Trace.{tables_after, bytes_of}
 use Rattle.record_codec.specs.Records.{content_of_tables}
-use Rattle.warm_start.specs.MeaningLaws.{kept_means}
-use Rattle.warm_start.specs.Stands.{KeepsTables, StandsForTables, identity_for, limits_of}
-use Rattle.kd_update.specs.Carrying.{carried}
+use Rattle.device_acts.specs.MeaningLaws.{kept_means}
+use Rattle.device_acts.specs.Stands.{KeepsTables, StandsForTables, identity_for, limits_of}
+use Rattle.kdcfile_update.specs.Carrying.{carried}
 use Rattle.device_acts.specs.Acting.{IsCutOf, WithinActs, WritesUpTo}
 use Rattle.device_acts.specs.WritingLaws.{writes_after, writes_none}
 use Rattle.kdcfile_update.specs.Parts.{WithinUpdate, IsReported, stored_in}

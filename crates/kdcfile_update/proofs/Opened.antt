@@ -7,18 +7,25 @@ use Rattle.kd_device.specs.RestLaws.{rests_then}
 use Rattle.kd_device.specs.TimeLaws.{leaves_weaker, leaves_then}
 use Rattle.kd_records.specs.Identity.{Identity}
 use Rattle.kdcs_types.specs.Tables.{TableRows}
-use Rattle.kdcdef_types.specs.Generation.{Generated}
+use Rattle.application_types.specs.Generation.{Generated}
 use Rattle.abstract_monitor.specs.Trace.{bytes_of}
-use Rattle.laws_of_steps.specs.Suits.{SuitsFrom}
-use Rattle.warm_start.specs.MeaningLaws.{one_meaning_of_tables}
-use Rattle.warm_start.specs.Opening.{HasNoTablesFor}
-use Rattle.warm_start.specs.Stands.{StandsForTables}
-use Rattle.kd_update.specs.declared.error.UpdateError.{UpdateError}
+use Rattle.laws_of_states.specs.Suits.{SuitsFrom}
+use Rattle.device_acts.specs.MeaningLaws.{one_meaning_of_tables}
+use Rattle.device_acts.specs.Opening.{HasNoTablesFor}
+use Rattle.device_acts.specs.Stands.{StandsForTables}
+use Rattle.kdcfile_update.specs.declared.kd_update.error.UpdateError.{UpdateError}
 use Rattle.device_acts.specs.Acting.{WritesUpTo}
 use Rattle.device_acts.specs.Said.{SameDisk}
 use Rattle.kdcfile_update.specs.Parts.{IsRefusedAs, IsUnsuited, WithinUpdate}
 use Rattle.kdcfile_update.specs.Updating.{Stored, IsTaken, IsUpToDate, IsUpdateCut, IsUpdated, RefusesAs, Takes, UpdateWrites, report_of, update_most}
 use Rattle.kdcfile_update.specs.UpdatingLaws.{stored_once}
+
+-- what the update did to the device that the file was opened from
+pub record IsUpdateOf (g : Generated) (fingerprint : List ℕ) (a d : State) (la ld : ℕ → List ℕ → List ℕ → Type 0) : Type 0 where
+  pub still : ((u : Stored) → Takes g fingerprint a.holds u → ⊥) → Rests a d la ld
+  pub any_moment : Only a.holds a la → (u : Stored) → Takes g fingerprint a.holds u → LeavesOnly a d la ld (IsUpdateCut g fingerprint u a.sent)
+  pub written : UpdateWrites g fingerprint a d
+  pub left : (u : Stored) → Takes g fingerprint a.holds u → IsUpToDate g fingerprint u → SameDisk a d
 
 module _ (g : Generated) (fingerprint : List ℕ) where
   -- ---- a refusal
@@ -61,10 +68,10 @@ module _ (g : Generated) (fingerprint : List ℕ) where
       )
 
       module _ (h : WithinUpdate g fingerprint s b d lb ld) (told : IsTrue b.told) where
-        pub then_still : ((u : Stored) → Takes g fingerprint a.holds u → ⊥) → Rests a d la ld
+        then_still : ((u : Stored) → Takes g fingerprint a.holds u → ⊥) → Rests a d la ld
         then_still none = rests_then a b la lb d ld rests (h.still told (λ how. none s (takes how)))
 
-        pub then_cut : Only a.holds a la → (u : Stored) → Takes g fingerprint a.holds u → LeavesOnly a d la ld (IsUpdateCut g fingerprint u a.sent)
+        then_cut : Only a.holds a la → (u : Stored) → Takes g fingerprint a.holds u → LeavesOnly a d la ld (IsUpdateCut g fingerprint u a.sent)
         then_cut only u taken =
             subst (λ (v : Stored). LeavesOnly a d la ld (IsUpdateCut g fingerprint v a.sent)) (same_stored u taken)
             (leaves_then a b la lb d ld (IsUpdateCut g fingerprint s a.sent) (rests_cut only s stands)
@@ -80,10 +87,13 @@ module _ (g : Generated) (fingerprint : List ℕ) where
               record { since = w.since; more = w.more ∙ ap (λ (z : List ℕ). z ++ w.since) rests.sent; done = w.done; left = w.left; whole = w.whole; bytes = w.bytes; put = omega (arith, w.put, put) },
             )
 
-        pub then_writes : UpdateWrites g fingerprint a d
+        then_writes : UpdateWrites g fingerprint a d
         then_writes = writes_by (h.written told)
 
-        pub then_left : (u : Stored) → Takes g fingerprint a.holds u → IsUpToDate g fingerprint u → SameDisk a d
+        then_left : (u : Stored) → Takes g fingerprint a.holds u → IsUpToDate g fingerprint u → SameDisk a d
         then_left u taken up =
             let same = h.left told (subst (IsUpToDate g fingerprint) (sym (same_stored u taken)) up) in
             record { holds = same.holds ∙ rests.holds; put = same.put ∙ rests.put }
+
+        pub then_is : IsUpdateOf g fingerprint a d la ld
+        then_is = record { still = then_still; any_moment = then_cut; written = then_writes; left = then_left }

@@ -8,10 +8,10 @@ use Rattle.kd_records.specs.Identity.{Identity}
 use Rattle.kdcfile_store.specs.Paged.{Paged}
 use Rattle.kdcs_types.specs.declared.act.Act.{Act}
 use Rattle.kdcs_types.specs.Tables.{TableRows}
-use Rattle.kdcdef_types.specs.Generation.{Generated}
+use Rattle.application_types.specs.Generation.{Generated}
 use Rattle.abstract_monitor.specs.Trace.{tables_after, bytes_of}
-use Rattle.laws_of_steps.specs.Suits.{SuitsFrom}
-use Rattle.warm_start.specs.Stands.{StandsForTables}
+use Rattle.laws_of_states.specs.Suits.{SuitsFrom}
+use Rattle.device_acts.specs.Stands.{StandsForTables}
 use Rattle.device_acts.specs.Acting.{IsCutOf, WithinActs, commits_nothing}
 use Rattle.device_acts.specs.Said.{SameDisk}
 use Rattle.kdcfile_update.specs.Parts.{WithinUpdate, IsReported, stored_in}

@@ -1,8 +1,8 @@
 -- What holds of files that are taken.
 use Rattle.std.specs.Prelude.{List, ℕ}
-use Rattle.kdcdef_types.specs.Generation.{Generated}
-use Rattle.kdcdef_check.specs.Soundness.{AreLimits}
-use Rattle.kd_update.specs.Carrying.{carried}
+use Rattle.application_types.specs.Generation.{Generated}
+use Rattle.application_check.specs.Soundness.{AreLimits}
+use Rattle.kdcfile_update.specs.Carrying.{carried}
 use Rattle.kdcfile_update.specs.Updating.{Stored, Takes, GoesOn}
 
 -- the tables that a file keeps after its update suit the generation

@@ -5,9 +5,9 @@ use Rattle.std.specs.Fmt.{decimal}
 use Rattle.kdcs_types.specs.declared.act.Act.{Act}
 use Rattle.kdcs_types.specs.declared.act.Act.TheVariants.{Emit}
 use Rattle.kdcs_types.specs.Tables.{TableRows}
-use Rattle.kdcdef_types.specs.Generation.{Generated}
-use Rattle.kd_update.specs.Carrying.{carried, dropped}
-use Rattle.kd_update.specs.declared.carrying.Dropped.{Dropped}
+use Rattle.application_types.specs.Generation.{Generated}
+use Rattle.kdcfile_update.specs.Carrying.{carried, dropped}
+use Rattle.kdcfile_update.specs.declared.kd_update.carrying.Dropped.{Dropped}
 
 -- APPLINAME
 abbrev pub update_line : List ℕ → List ℕ

@@ -4,17 +4,17 @@ use Rattle.kd_device.specs.Device.{State, Only}
 use Rattle.kd_records.specs.Identity.{Identity}
 use Rattle.kdcs_types.specs.declared.act.Act.{Act}
 use Rattle.kdcs_types.specs.Tables.{TableRows}
-use Rattle.kdcdef_types.specs.Generation.{Generated}
+use Rattle.application_types.specs.Generation.{Generated}
 use Rattle.abstract_monitor.specs.Trace.{tables_after, bytes_of}
-use Rattle.laws_of_steps.specs.Suits.{Suits}
+use Rattle.laws_of_states.specs.Suits.{Suits}
 use Rattle.record_codec.specs.Records.{content_of_tables}
 use Rattle.kdcfile_store.specs.Carried.{carry_most}
-use Rattle.warm_start.specs.Opening.{HasNoTablesFor}
-use Rattle.warm_start.specs.Stands.{AreTables, StandsForTables, identity_for}
-use Rattle.kd_update.specs.Carrying.{carried}
-use Rattle.kd_update.specs.Judging.{judged}
-use Rattle.kd_update.specs.declared.error.UpdateError.{UpdateError}
-use Rattle.kd_update.specs.declared.error.UpdateError.TheVariants.{NotKdcfile}
+use Rattle.device_acts.specs.Opening.{HasNoTablesFor}
+use Rattle.device_acts.specs.Stands.{AreTables, StandsForTables, identity_for}
+use Rattle.kdcfile_update.specs.Carrying.{carried}
+use Rattle.kdcfile_update.specs.Judging.{judged}
+use Rattle.kdcfile_update.specs.declared.kd_update.error.UpdateError.{UpdateError}
+use Rattle.kdcfile_update.specs.declared.kd_update.error.UpdateError.TheVariants.{NotKdcfile}
 use Rattle.device_acts.specs.Acting.{IsCutOf, WritesUpTo}
 use Rattle.kdcfile_update.specs.Report.{is_same_print, report_by}
 

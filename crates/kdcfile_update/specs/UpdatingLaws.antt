@@ -2,17 +2,17 @@
 use Rattle.std.proofs.Common.{◌≡◌, inl, inr, ℕ, List, Err, sym, ap, subst, ◌∙◌}
 use Rattle.kd_records.specs.Identity.{Identity}
 use Rattle.kdcs_types.specs.Tables.{TableRows}
-use Rattle.kdcdef_check.specs.Soundness.{AreLimits}
-use Rattle.kdcdef_types.specs.Generation.{Generated}
-use Rattle.laws_of_steps.specs.Suits.{Suits, SuitsFrom}
-use Rattle.warm_start.specs.MeaningLaws.{one_meaning_of_tables}
-use Rattle.warm_start.specs.Opening.{HasNoTablesFor}
-use Rattle.warm_start.specs.Stands.{AreTables, StandsForTables}
-use Rattle.kd_update.specs.Carrying.{carried}
-use Rattle.kd_update.specs.CarryingLaws.{carried_sorted}
-use Rattle.kd_update.specs.ProperLaws.{carried_proper}
-use Rattle.kd_update.specs.SuitingLaws.{carried_tables_suit, what_suits_stays}
-use Rattle.kd_update.specs.declared.error.UpdateError.{UpdateError}
+use Rattle.application_check.specs.Soundness.{AreLimits}
+use Rattle.application_types.specs.Generation.{Generated}
+use Rattle.laws_of_states.specs.Suits.{Suits, SuitsFrom}
+use Rattle.device_acts.specs.MeaningLaws.{one_meaning_of_tables}
+use Rattle.device_acts.specs.Opening.{HasNoTablesFor}
+use Rattle.device_acts.specs.Stands.{AreTables, StandsForTables}
+use Rattle.kdcfile_update.specs.Carrying.{carried}
+use Rattle.kdcfile_update.specs.CarryingLaws.{carried_sorted}
+use Rattle.kdcfile_update.specs.ProperLaws.{carried_proper}
+use Rattle.kdcfile_update.specs.SuitingLaws.{carried_tables_suit, what_suits_stays}
+use Rattle.kdcfile_update.specs.declared.kd_update.error.UpdateError.{UpdateError}
 use Rattle.kdcfile_update.specs.Laws.{TakenTablesSuit}
 use Rattle.kdcfile_update.specs.Updating.{Stored, IsUpToDate, IsTaken, Takes, IsJudgedSo, RefusesAs, UpdateAnswersExcludeEachOther, judgement}
 

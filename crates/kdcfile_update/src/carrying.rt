@@ -2,25 +2,25 @@
 ghost use Rattle.std.specs.Prelude.{◌≡◌, ◌⊎◌, IsTrue, Ok, Err, IfOk, OnOk, IsErrOf};
 ghost use Rattle.kd_device.specs.Device.{Rose, SameFaults};
 ghost use Rattle.kdcfile_store.specs.{Kept.{IsKept}, Paged.{HasFile}};
-ghost use Rattle.kdcdef_check.specs.Soundness.{AreLimits};
+ghost use Rattle.application_check.specs.Soundness.{AreLimits};
 ghost use Rattle.record_codec.specs.Records.{content_of_tables};
-ghost use Rattle.kd_update.specs.Carrying.{carried, dropped};
-ghost use Rattle.kd_update.specs.declared.error.UpdateError.{UpdateError as Cause};
-ghost use Rattle.kd_update.specs.declared.error.UpdateError.TheVariants as cause;
+ghost use Rattle.kdcfile_update.specs.Carrying.{carried, dropped};
+ghost use Rattle.kdcfile_update.specs.declared.kd_update.error.UpdateError.{UpdateError as Cause};
+ghost use Rattle.kdcfile_update.specs.declared.kd_update.error.UpdateError.TheVariants as cause;
 ghost use Rattle.kdcfile_update.specs.{Updating.{IsUpdated, MayCarry, judgement}, Parts.{CanCarry, IsOfOthers, IsOpened, WithinUpdate, stored_in}};
 
 use crate::error::CarryError;
+use crate::kd_update::{Dropped, carried, judge};
 use crate::report::carried_report;
 use crate::sending::send;
+use application_check::kdcdef_check::Generation;
+use device_acts::warm_start::limits_of;
 use kd_device::Device;
 use kd_records::Content;
-use kd_update::{Dropped, carried, judge};
-use kdcdef_check::Generation;
 use kdcfile_store::PagedStore;
 use kdcs_types::Tables;
 use record_codec::records;
 use std::alloc::Global;
-use warm_start::limits_of;
 
 /// The content of the carried tables, where these may be carried, and how many rows of each kind went.
 fn new_content(

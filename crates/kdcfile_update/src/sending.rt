@@ -5,7 +5,7 @@ ghost use Rattle.kd_records.specs.Identity.{Identity};
 ghost use Rattle.kdcfile_store.specs.{Kept.{IsKept}, Paged.{HasFile}};
 ghost use Rattle.kdcs_types.specs.Tables.{TableRows};
 ghost use Rattle.abstract_monitor.specs.Trace.{tables_after};
-ghost use Rattle.warm_start.specs.Stands.{KeepsTables, StandsForTables};
+ghost use Rattle.device_acts.specs.Stands.{KeepsTables, StandsForTables};
 ghost use Rattle.device_acts.specs.Acting.{WithinActs, WritesUpTo, commits_nothing};
 ghost use Rattle.kdcfile_update.specs.Parts.{IsReported};
 

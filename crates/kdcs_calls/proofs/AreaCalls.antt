@@ -9,8 +9,8 @@ use Rattle.kdcs_types.specs.declared.call.Code.{Code}
 use Rattle.kdcs_types.specs.declared.call.Code.TheVariants.{K03, K08, K11}
 use Rattle.kdcs_types.specs.declared.key.ServiceId.{ServiceId}
 use Rattle.kdcs_types.specs.Tables.{TableRows}
-use Rattle.kdcdef_types.specs.Generation.{Generated}
-use Rattle.area_locks.specs.Asked.{asked, unlocked as unlocked_locks}
+use Rattle.application_types.specs.Generation.{Generated}
+use Rattle.monitor_parts.specs.Asked.{asked, unlocked as unlocked_locks}
 use Rattle.abstract_monitor.specs.declared.answer.Called.{Called}
 use Rattle.abstract_monitor.specs.declared.answer.Called.TheVariants.{Replied, Waits, Abnormal, Pends}
 use Rattle.abstract_monitor.specs.Bytes.{Bytes}

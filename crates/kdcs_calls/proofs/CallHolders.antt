@@ -12,16 +12,17 @@ use Rattle.kdcs_types.specs.declared.key.Area.{Area}
 use Rattle.kdcs_types.specs.declared.key.ServiceId.{ServiceId}
 use Rattle.kdcs_types.specs.declared.key.Target.{Target}
 use Rattle.kdcs_types.specs.Tables.{TableRows}
-use Rattle.kdcdef_types.specs.Generation.{Generated}
+use Rattle.application_types.specs.Generation.{Generated}
 use Rattle.abstract_monitor.specs.declared.answer.Called.{Called}
 use Rattle.abstract_monitor.specs.declared.draft.Due.{Due}
 use Rattle.abstract_monitor.specs.declared.draft.Due.TheVariants.{After}
 use Rattle.abstract_monitor.specs.declared.outcome.Outcome.{Outcome}
 use Rattle.abstract_monitor.specs.Bytes.{Bytes, bytes_cmp}
 use Rattle.abstract_monitor.specs.Access.{denial_of}
-use Rattle.abstract_monitor.specs.Calls.{Performed, called, delete_local, delete_local_by, drafted, first_call, fits_one_more, follow_up_entry, for_kind, got, got_by, has_message, job_target, moment_by, name_by, name_in_operand, pended, put_job, put_part, read_away, read_away_by, read_or, replied, with_name, within_length, write_local}
+use Rattle.abstract_monitor.specs.Calls.{Performed, called, delete_local, delete_local_by, drafted, first_call, fits_one_more, follow_up_entry, for_kind, got, got_by, has_message, job_target}
+use Rattle.abstract_monitor.specs.Calls.{moment_by, name_by, name_in_operand, pended, put_job, put_part, read_away, read_away_by, read_or, replied, with_name, within_length, write_local}
 use Rattle.abstract_monitor.specs.Outcomes.{pend_outcome}
-use Rattle.unit_semantics.specs.Contents.{number_of}
+use Rattle.abstract_monitor.specs.Contents.{number_of}
 use Rattle.abstract_monitor.specs.Endings.{is_asynchronous}
 use Rattle.abstract_monitor.specs.Locks.{Locks}
 use Rattle.abstract_monitor.specs.State.{OpenTransaction as Transaction}

@@ -8,8 +8,8 @@ use Rattle.kdcs_types.specs.declared.key.Area.{Area}
 use Rattle.kdcs_types.specs.declared.key.ServiceId.{ServiceId}
 use Rattle.kdcs_types.specs.Keys.{area_cmp, id_eq}
 use Rattle.kdcs_types.specs.Tables.{TableRows}
-use Rattle.kdcdef_types.specs.Generation.{Generated}
-use Rattle.area_locks.specs.Asked.{asked, given_back, holds_area, locks_after, without_wait, unlocked as unlocked_locks}
+use Rattle.application_types.specs.Generation.{Generated}
+use Rattle.monitor_parts.specs.Asked.{asked, given_back, holds_area, locks_after, without_wait, unlocked as unlocked_locks}
 use Rattle.abstract_monitor.specs.declared.answer.Called.{Called}
 use Rattle.abstract_monitor.specs.declared.answer.Called.TheVariants.{Replied, Waits, Abnormal, Pends}
 use Rattle.abstract_monitor.specs.declared.answer.LockAnswer.{LockAnswer}

@@ -13,8 +13,8 @@ use Rattle.kdcs_types.specs.declared.key.ServiceId.{ServiceId}
 use Rattle.kdcs_types.specs.KeyLaws.{area_total, same_area, area_eq_same, area_eq_sym}
 use Rattle.kdcs_types.specs.Keys.{area_cmp, area_eq}
 use Rattle.kdcs_types.specs.Tables.{TableRows}
-use Rattle.kdcdef_types.specs.Generation.{Generated}
-use Rattle.area_locks.specs.Asked.{asked, given_back, holds_area, is_holder, locks_after, other_than, with_holder, without_holder, without_wait, unlocked as unlocked_locks}
+use Rattle.application_types.specs.Generation.{Generated}
+use Rattle.monitor_parts.specs.Asked.{asked, given_back, holds_area, is_holder, locks_after, other_than, with_holder, without_holder, without_wait, unlocked as unlocked_locks}
 use Rattle.abstract_monitor.specs.declared.answer.LockAnswer.{LockAnswer}
 use Rattle.abstract_monitor.specs.declared.answer.LockAnswer.TheVariants.{Granted, Wait, Busy, Deadlock}
 use Rattle.abstract_monitor.specs.Calls.{Told, Performed, locked, noted, on_answer, touches, touching, unlocked, unlocked_by}

@@ -4,9 +4,9 @@ use Rattle.std.proofs.Common.{ap, sym, ◌∙◌, true≢false}
 use Rattle.kdcs_types.specs.declared.key.Area.{Area}
 use Rattle.kdcs_types.specs.declared.key.ServiceId.{ServiceId}
 use Rattle.kdcs_types.specs.Tables.{TableRows}
-use Rattle.kdcdef_types.specs.Generation.{Generated}
-use Rattle.kdcdef_types.specs.declared.limits.Limits.{Limits}
-use Rattle.area_locks.specs.Asked.{holds_area, is_holder}
+use Rattle.application_types.specs.Generation.{Generated}
+use Rattle.application_types.specs.declared.kdcdef_types.limits.Limits.{Limits}
+use Rattle.monitor_parts.specs.Asked.{holds_area, is_holder}
 use Rattle.abstract_monitor.specs.declared.answer.LockAnswer.{LockAnswer}
 use Rattle.abstract_monitor.specs.declared.answer.LockAnswer.TheVariants.{Granted}
 use Rattle.abstract_monitor.specs.Calls.{answer_by, touches}

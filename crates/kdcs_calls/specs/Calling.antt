@@ -8,8 +8,8 @@ use Rattle.kdcs_types.specs.declared.key.Area.TheVariants.{Gssb, Tls, Uls}
 use Rattle.kdcs_types.specs.declared.key.ServiceId.{ServiceId}
 use Rattle.kdcs_types.specs.Keys.{area_cmp}
 use Rattle.kdcs_types.specs.Tables.{TableRows, content_of}
-use Rattle.kdcdef_types.specs.Generation.{Generated, has_tls, has_uls}
-use Rattle.area_locks.specs.Asked.{asked, holds_area, other_than, unlocked, with_wait, without_wait}
+use Rattle.application_types.specs.Generation.{Generated, has_tls, has_uls}
+use Rattle.monitor_parts.specs.Asked.{asked, holds_area, other_than, unlocked, with_wait, without_wait}
 use Rattle.abstract_monitor.specs.declared.answer.Called.{Called}
 use Rattle.abstract_monitor.specs.declared.answer.Called.TheVariants.{Replied, Waits, Abnormal, Pends}
 use Rattle.abstract_monitor.specs.Bytes.{Bytes, bytes_cmp}

@@ -6,7 +6,7 @@ use Rattle.kdcs_types.specs.declared.key.Area.{Area}
 use Rattle.kdcs_types.specs.declared.key.ServiceId.{ServiceId}
 use Rattle.kdcs_types.specs.KeyLaws.{id_eq_itself, id_eq_same}
 use Rattle.kdcs_types.specs.Keys.{area_eq, id_eq}
-use Rattle.area_locks.specs.Asked.{is_holder, other_than}
+use Rattle.monitor_parts.specs.Asked.{is_holder, other_than}
 use Rattle.abstract_monitor.specs.Calls.{touches}
 use Rattle.abstract_monitor.specs.Locks.{Locks, holder}
 use Rattle.abstract_monitor.specs.State.{OpenTransaction as Transaction}

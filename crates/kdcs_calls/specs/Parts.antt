@@ -10,11 +10,12 @@ use Rattle.kdcs_types.specs.declared.key.ServiceId.{ServiceId}
 use Rattle.kdcs_types.specs.Keys.{area_cmp}
 use Rattle.kdcs_types.specs.Tables.{TableRows, content_of}
 use Rattle.std.specs.FinMap.{find}
-use Rattle.kdcdef_types.specs.Generation.{Generated}
-use Rattle.area_locks.specs.Asked.{asked, unlocked}
+use Rattle.application_types.specs.Generation.{Generated}
+use Rattle.monitor_parts.specs.Asked.{asked, unlocked}
 use Rattle.abstract_monitor.specs.declared.answer.Called.{Called}
 use Rattle.abstract_monitor.specs.Bytes.{Bytes, bytes_cmp}
-use Rattle.abstract_monitor.specs.Calls.{Told, Performed, declared, for_kind, name_in_operand, put_part, replied, locked, or_empty, read_answer, read_away, read_or, shown_by, delete_local, deleted, with_name, write_local, wrote}
+use Rattle.abstract_monitor.specs.Calls.{Told, Performed, declared, for_kind, name_in_operand, put_part, replied, locked, or_empty, read_answer, read_away, read_or, shown_by, delete_local, deleted}
+use Rattle.abstract_monitor.specs.Calls.{with_name, write_local, wrote}
 use Rattle.abstract_monitor.specs.Calls as calls
 use Rattle.abstract_monitor.specs.Locks.{Locks, answer_of, told_now}
 use Rattle.abstract_monitor.specs.State.{OpenTransaction as Transaction}

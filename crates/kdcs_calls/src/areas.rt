@@ -3,16 +3,17 @@ ghost use Rattle.std.specs.{Prelude.{◌≡◌, IfOk, IfSome, OnOk, Some, option
 ghost use Rattle.kdcs_types.specs.{declared.key.Area.{Area as AnArea}, Keys.{area_cmp}, Tables.{content_of}};
 ghost use Rattle.abstract_monitor.specs.Calls.{deleted, name_in_operand, or_empty, shown_by, wrote};
 ghost use Rattle.open_transaction.specs.Transactions.{transaction_of};
-ghost use Rattle.kdcs_calls.specs.{Calling.{HoldsJust, IsShort, after_release, after_request}, Parts.{accessed_by, accessed_in, asked_in, held, named_by, released_in, seen_of, unlocked_by, unlocked_in}};
+ghost use Rattle.kdcs_calls.specs.Calling.{HoldsJust, IsShort, after_release, after_request};
+ghost use Rattle.kdcs_calls.specs.Parts.{accessed_by, accessed_in, asked_in, held, named_by, released_in, seen_of, unlocked_by, unlocked_in};
 
 use crate::answer::{read_or, read_reply, replied};
 use crate::lock::{lock, touches};
 use crate::operand::{Owner, area_in};
 use crate::outside::Outside;
 use abstract_monitor::Called;
-use area_locks::LockTable;
 use kd_base::{Bytes, OutOfMemory};
 use kdcs_types::{Area, Code, Note, Tables};
+use monitor_parts::area_locks::LockTable;
 use open_transaction::{OpenTransaction, release};
 use std::alloc::Global;
 

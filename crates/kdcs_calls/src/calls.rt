@@ -13,10 +13,10 @@ use crate::operand::Owner;
 use crate::outside::Outside;
 use crate::pend::pend;
 use abstract_monitor::{Called, Due};
-use area_locks::LockTable;
+use application_check::kdcdef_check::Generation;
 use kd_base::OutOfMemory;
-use kdcdef_check::Generation;
 use kdcs_types::{Call, Cause, Code, ServiceId, Tables};
+use monitor_parts::area_locks::LockTable;
 use open_transaction::OpenTransaction;
 use std::alloc::Global;
 

@@ -1,21 +1,21 @@
 //! FPUT and DPUT.
 ghost use Rattle.std.specs.Prelude.{◌≡◌, ◌≤◌, IfOk, IfSome};
-ghost use Rattle.kdcdef_types.specs.Generation.{lterm_of, tac_of};
+ghost use Rattle.application_types.specs.Generation.{lterm_of, tac_of};
 ghost use Rattle.abstract_monitor.specs.Calls.{drafted, job_target, moment_by, put_job, target_by};
-ghost use Rattle.unit_semantics.specs.Contents.{number_of};
+ghost use Rattle.abstract_monitor.specs.Contents.{number_of};
 ghost use Rattle.open_transaction.specs.Transactions.{transaction_of};
-ghost use Rattle.async_queue.specs.Drafts.{IsInTicks};
+ghost use Rattle.open_transaction.specs.Drafts.{IsInTicks};
 
 use crate::answer::replied;
 use crate::operand::name_in;
 use abstract_monitor::{Called, Due};
+use application_check::kdcdef_check::Generation;
+use application_types::kdcdef_types::{CallUse, TacEntry};
 use kd_base::{Bytes, Mode, Name, OutOfMemory};
-use kdcdef_check::Generation;
-use kdcdef_types::{CallUse, TacEntry};
 use kdcs_types::{Cause, Code, Target};
 use open_transaction::OpenTransaction;
-use timer_queue::moment;
-use unit_step::number_of;
+use service_parts::timer_queue::moment;
+use service_parts::unit_step::number_of;
 
 // An asynchronous TAC with CALL other than NEXT and STATUS=ON.
 fn tac_target(name: Name, entry: &TacEntry) -> Option<Target>

@@ -1,4 +1,5 @@
-//! The KDCS calls of an open transaction, but for what becomes of it at the end of a unit run.
+//! The KDCS calls of an open transaction, but for what becomes of it at the end of a unit run; and one statement of a
+//! service, which joins them with the step of a unit (`service_statement`).
 //!
 //! It stands on the open transaction, the locks, and the crates of messages, areas, jobs and PEND. To the layers above its
 //! contract says that a call answers, and changes the transaction, exactly as the abstract monitor defines it for what
@@ -15,5 +16,6 @@ mod messages;
 mod operand;
 mod outside;
 mod pend;
+pub mod service_statement;
 
 pub use calls::perform;

@@ -7,8 +7,8 @@ ghost use Rattle.kdcs_calls.specs.{Calling.{IsShort}, Parts.{local_by}};
 use crate::answer::{read_or, read_reply, replied};
 use crate::operand::name_in;
 use abstract_monitor::Called;
+use application_check::kdcdef_check::Generation;
 use kd_base::{Bytes, Name, OutOfMemory};
-use kdcdef_check::Generation;
 use kdcs_types::Code;
 use open_transaction::OpenTransaction;
 

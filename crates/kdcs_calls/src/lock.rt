@@ -1,6 +1,6 @@
 //! The request for the lock of an area.
 ghost use Rattle.std.specs.Prelude.{◌≡◌, IfOk, OnOk};
-ghost use Rattle.area_locks.specs.Asked.{asked};
+ghost use Rattle.monitor_parts.specs.Asked.{asked};
 ghost use Rattle.abstract_monitor.specs.{Calls.{Performed, on_answer, touches}, State.{OpenTransaction as Transaction}};
 ghost use Rattle.open_transaction.specs.Transactions.{transaction_of};
 ghost use Rattle.kdcs_calls.specs.{Calling.{HoldsJust}, Parts.{AnswersLock, after_lock}};
@@ -8,9 +8,9 @@ ghost use Rattle.kdcs_calls.specs.{Calling.{HoldsJust}, Parts.{AnswersLock, afte
 use crate::answer::replied;
 use crate::outside::Outside;
 use abstract_monitor::{Called, LockAnswer};
-use area_locks::LockTable;
 use kd_base::OutOfMemory;
 use kdcs_types::{Area, Code, Note};
+use monitor_parts::area_locks::LockTable;
 use open_transaction::OpenTransaction;
 
 /// Whether the transaction holds the area, as the locks tell. It takes no memory.

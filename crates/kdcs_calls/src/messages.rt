@@ -8,8 +8,8 @@ use crate::answer::{read_reply, replied};
 use abstract_monitor::Called;
 use kd_base::{Bytes, OutOfMemory};
 use kdcs_types::{Cause, Code};
-use message_area::PutError;
 use open_transaction::OpenTransaction;
+use service_parts::message_area::PutError;
 
 /// The next part of the message, where the call is for this kind of service.
 pub(crate) fn get(transaction: &mut OpenTransaction, allowed: bool, capacity: u32) -> Called

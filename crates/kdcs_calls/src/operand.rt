@@ -3,8 +3,8 @@ ghost use Rattle.std.specs.Prelude.{◌≡◌};
 ghost use Rattle.abstract_monitor.specs.Calls.{name_in_operand, name_by};
 ghost use Rattle.kdcs_calls.specs.{Calling.{is_declared}, Parts.{area_by, named_by}};
 
+use application_check::kdcdef_check::Generation;
 use kd_base::{Bytes, Name, trim_end};
-use kdcdef_check::Generation;
 use kdcs_types::{Area, Code};
 
 /// The name in an operand: the bytes without the spaces at the end, where they are one.

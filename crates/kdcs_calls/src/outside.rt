@@ -1,6 +1,6 @@
 //! What a call looks at beside the locks and its transaction.
 
-use kdcdef_check::Generation;
+use application_check::kdcdef_check::Generation;
 use kdcs_types::Tables;
 use std::alloc::Global;
 

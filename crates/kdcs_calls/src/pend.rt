@@ -5,12 +5,12 @@ ghost use Rattle.open_transaction.specs.Transactions.{transaction_of};
 
 use crate::operand::name_if_given;
 use abstract_monitor::{Called, Denial};
-use access_rules::decide;
+use application_check::kdcdef_check::Generation;
+use application_types::kdcdef_types::TacEntry;
 use kd_base::{Bytes, Name, Variant};
-use kdcdef_check::Generation;
-use kdcdef_types::TacEntry;
+use monitor_parts::access_rules::decide;
 use open_transaction::OpenTransaction;
-use pend_rules::outcome;
+use service_parts::pend_rules::outcome;
 
 // Why a follow-up is denied: PEND FC begins a service, and no other variant does.
 fn follow_up_denial(

@@ -16,7 +16,8 @@ use Rattle.kdcs_types.specs.Keys.{key_eq}
 use Rattle.kdcs_types.specs.Keyed.{ascends, item_at}
 use Rattle.kdcs_types.specs.KeyLaws.{key_eq_same, id_eq_itself}
 use Rattle.kdcs_types.specs.KeyedLaws.{item_at_with, ascends_with, all_with, found_key, found_passes, found_among, same_items}
-use Rattle.kdcs_types.specs.Tables.{TableRows, gssb_key, tls_key, uls_key, service_key, job_key, shown_key, gssb_row, tls_row, uls_row, service_row, job_row, shown_row, row_key, row_at, changed, is_filled, service_fits, row_fits, change_fits, change_key, change_at, AreChanges, IsSortedTables}
+use Rattle.kdcs_types.specs.Tables.{TableRows, gssb_key, tls_key, uls_key, service_key, job_key, shown_key, gssb_row, tls_row, uls_row, service_row, job_row, shown_row, row_key, row_at, changed}
+use Rattle.kdcs_types.specs.Tables.{is_filled, service_fits, row_fits, change_fits, change_key, change_at, AreChanges, IsSortedTables}
 use Rattle.kdcs_types.specs.Same.{row_same}
 use Rattle.kdcs_types.specs.SameLaws.{row_same_only, row_same_itself}
 use Rattle.kdcs_types.specs.Difference.{keys_of, change_to, noted_unless, differing, difference}

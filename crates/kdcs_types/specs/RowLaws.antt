@@ -21,7 +21,9 @@ use Rattle.kdcs_types.specs.Keys.{key_cmp, key_eq, id_eq}
 use Rattle.kdcs_types.specs.Keyed.{keyed, ascends, item_at, with_item, without_item}
 use Rattle.kdcs_types.specs.KeyLaws.{id_eq_same, key_eq_same}
 use Rattle.kdcs_types.specs.KeyedLaws.{item_at_with, item_at_without, ascends_with, ascends_without, all_with, all_without, found_key, not_above, not_among, same_items}
-use Rattle.kdcs_types.specs.Tables.{TableRows, empty_tables, gssb_key, tls_key, uls_key, service_key, job_key, shown_key, gssb_row, tls_row, uls_row, service_row, job_row, shown_row, row_key, row_at, service_of, with_row, without_row, with_change, with_changes, changed, is_filled, service_fits, row_fits, change_fits, change_key, change_at, AreChanges, IsSortedTables}
+use Rattle.kdcs_types.specs.Tables.{TableRows, empty_tables, gssb_key, tls_key, uls_key, service_key, job_key, shown_key, gssb_row, tls_row, uls_row, service_row, job_row, shown_row, row_key, row_at}
+use Rattle.kdcs_types.specs.Tables.{service_of, with_row, without_row, with_change, with_changes, changed, is_filled, service_fits, row_fits, change_fits, change_key, change_at, AreChanges}
+use Rattle.kdcs_types.specs.Tables.{IsSortedTables}
 use Rattle.kdcs_types.specs.TableLaws.{row_after}
 
 -- ---- one change

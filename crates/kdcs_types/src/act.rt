@@ -90,13 +90,25 @@ impl Clone for Change {
 }
 
 /// What one commit changes: the durable tables before it become those after it.
-#[derive(Drop)]
 pub struct Changes {
     /// The new clock.
     pub clock: u64,
     /// The new next job number.
     pub next_job: u64,
     pub items: RowChanges,
+}
+
+impl Drop for Changes {
+    fn drop(self) {
+        let Changes {
+            clock,
+            next_job,
+            items,
+        } = self;
+        let _ = clock;
+        let _ = next_job;
+        let _ = items;
+    }
 }
 
 /// A commit to the KDCFILE, or a line that is sent.

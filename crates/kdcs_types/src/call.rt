@@ -92,11 +92,23 @@ pub enum Call {
 }
 
 /// What a call answers.
-#[derive(Drop)]
 pub struct Reply {
     pub code: Code,
     /// The true length of what was read, from 0 to 99,999: KCRLM.
     pub length: u32,
     /// What goes into the target field.
     pub content: Option<Bytes>,
+}
+
+impl Drop for Reply {
+    fn drop(self) {
+        let Reply {
+            code,
+            length,
+            content,
+        } = self;
+        let _ = code;
+        let _ = length;
+        let _ = content;
+    }
 }

@@ -1,5 +1,6 @@
 //! Laws on the definitions, which all crates above may cite. The functions do nothing.
-ghost use Rattle.kdcs_types.specs.TableLaws.{RowsAreChanged, NumbersAreChanged, ChangedAreSorted, TablesAreTheirRows, DifferenceIsExact, DifferencesAreChanges, DifferenceMakesNew, DifferenceIsTheChanges};
+ghost use Rattle.kdcs_types.specs.TableLaws.{RowsAreChanged, NumbersAreChanged, ChangedAreSorted, TablesAreTheirRows, DifferenceIsExact, DifferencesAreChanges, DifferenceMakesNew};
+ghost use Rattle.kdcs_types.specs.TableLaws.{DifferenceIsTheChanges};
 
 /// Changed tables have, at each key, the row that the changes give it, and else the row that they had.
 pub fn changes_set_and_remove()

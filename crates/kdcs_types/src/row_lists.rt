@@ -9,10 +9,9 @@ use crate::places::{
 };
 use crate::service::{Job, JobValue, Service};
 use kd_base::{Bytes, Name, OutOfMemory};
-use std::alloc::Global;
+use std::alloc::{AllocError, Global};
 
 /// The rows of the tables, each list in ascending order of its keys without repeats.
-#[derive(Drop)]
 pub(crate) struct RowLists {
     pub(crate) gssbs: Vec<(Name, Bytes)>,
     pub(crate) tlss: Vec<(Name, Name, Bytes)>,
@@ -20,6 +19,40 @@ pub(crate) struct RowLists {
     pub(crate) services: Vec<Service>,
     pub(crate) jobs: Vec<Job>,
     pub(crate) shown: Vec<(Name, JobValue)>,
+}
+
+impl Drop for RowLists {
+    fn drop(self) {
+        let RowLists {
+            gssbs,
+            tlss,
+            ulss,
+            services,
+            jobs,
+            shown,
+        } = self;
+        let _ = gssbs;
+        let _ = tlss;
+        let _ = ulss;
+        let _ = services;
+        let _ = jobs;
+        let _ = shown;
+    }
+}
+
+impl Clone for RowLists {
+    ghost is_clone = { λ rows copy. HasSameRows copy rows };
+
+    fn clone(&self) -> Result<RowLists, AllocError> {
+        Ok(RowLists {
+            gssbs: self.gssbs.clone()?,
+            tlss: self.tlss.clone()?,
+            ulss: self.ulss.clone()?,
+            services: self.services.clone()?,
+            jobs: self.jobs.clone()?,
+            shown: self.shown.clone()?,
+        })
+    }
 }
 
 impl RowLists {

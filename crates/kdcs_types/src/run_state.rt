@@ -17,7 +17,6 @@ pub struct Header {
 }
 
 /// A program unit run between two statements.
-#[derive(Drop)]
 pub struct RunState {
     /// The number of the next statement, from 1.
     pub place: u32,
@@ -34,4 +33,27 @@ pub struct RunState {
     /// KCRLM of the last call, from 0 to 99,999.
     pub length: u32,
     pub header: Header,
+}
+
+impl Drop for RunState {
+    fn drop(self) {
+        let RunState {
+            place,
+            count,
+            budget,
+            kb,
+            spab,
+            code,
+            length,
+            header,
+        } = self;
+        let _ = place;
+        let _ = count;
+        let _ = budget;
+        let _ = kb;
+        let _ = spab;
+        let _ = code;
+        let _ = length;
+        let _ = header;
+    }
 }

@@ -9,7 +9,6 @@ use kd_base::{Bytes, Name};
 use std::alloc::AllocError;
 
 /// A service at its last synchronisation point.
-#[derive(Drop)]
 pub struct Service {
     pub id: ServiceId,
     /// The TAC that started it: KCTACVG.
@@ -31,8 +30,64 @@ pub struct Service {
     pub lssbs: Areas,
 }
 
+impl Drop for Service {
+    fn drop(self) {
+        let Service {
+            id,
+            first,
+            next,
+            awaits,
+            user,
+            lterm,
+            kb,
+            handed,
+            last,
+            lssbs,
+        } = self;
+        let _ = id;
+        let _ = first;
+        let _ = next;
+        let _ = awaits;
+        let _ = user;
+        let _ = lterm;
+        let _ = kb;
+        let _ = handed;
+        let _ = last;
+        let _ = lssbs;
+    }
+}
+
+impl Service {
+    /// The last dialogue message. All else goes.
+    pub fn into_last(self) -> Option<Bytes>
+        ensures { result ≡ self.last }
+    {
+        let Service {
+            id,
+            first,
+            next,
+            awaits,
+            user,
+            lterm,
+            kb,
+            handed,
+            last,
+            lssbs,
+        } = self;
+        let _ = id;
+        let _ = first;
+        let _ = next;
+        let _ = awaits;
+        let _ = user;
+        let _ = lterm;
+        let _ = kb;
+        let _ = handed;
+        let _ = lssbs;
+        last
+    }
+}
+
 /// What a job is, beside its number.
-#[derive(Drop)]
 pub struct JobValue {
     pub to: Target,
     /// The clock from which on it may be taken.
@@ -44,6 +99,25 @@ pub struct JobValue {
     /// The LTERM of the service that made it.
     pub lterm: Name,
     pub message: Bytes,
+}
+
+impl Drop for JobValue {
+    fn drop(self) {
+        let JobValue {
+            to,
+            due,
+            redelivered,
+            user,
+            lterm,
+            message,
+        } = self;
+        let _ = to;
+        let _ = due;
+        let _ = redelivered;
+        let _ = user;
+        let _ = lterm;
+        let _ = message;
+    }
 }
 
 /// A job: an asynchronous message by its number, from 1 on.
@@ -74,7 +148,6 @@ pub enum Ending {
 }
 
 /// What a transaction keeps for its replay.
-#[derive(Drop)]
 pub struct Settled {
     pub service: ServiceId,
     /// The service's row as the transaction began, or none for a service without a row.
@@ -85,6 +158,25 @@ pub struct Settled {
     /// How many statements were done.
     pub statements: u64,
     pub ending: Ending,
+}
+
+impl Drop for Settled {
+    fn drop(self) {
+        let Settled {
+            service,
+            began,
+            inputs,
+            notes,
+            statements,
+            ending,
+        } = self;
+        let _ = service;
+        let _ = began;
+        let _ = inputs;
+        let _ = notes;
+        let _ = statements;
+        let _ = ending;
+    }
 }
 
 impl Clone for Service {

@@ -10,16 +10,30 @@ use crate::places::{
 use crate::row_lists::RowLists;
 use crate::service::{Job, JobValue, Service};
 use kd_base::{Bytes, Name, OutOfMemory};
-use std::alloc::Global;
+use std::alloc::{AllocError, Global};
 use std::marker::Model;
 
 /// The durable tables. Contracts see the two numbers and the lists, each in ascending order of its keys without repeats.
-#[derive(Drop)]
 pub struct Tables {
     clock: u64,
     next_job: u64,
     rows: RowLists,
     alloc: Global,
+}
+
+impl Drop for Tables {
+    fn drop(self) {
+        let Tables {
+            clock,
+            next_job,
+            rows,
+            alloc,
+        } = self;
+        let _ = clock;
+        let _ = next_job;
+        let _ = rows;
+        let _ = alloc;
+    }
 }
 
 impl Model for Tables {
@@ -30,6 +44,19 @@ impl Model for Tables {
     ghost view = { λ t. tables_in t.clock t.next_job t.rows };
 
     ghost invariant = { λ t. IsSortedTables (tables_in t.clock t.next_job t.rows) };
+}
+
+impl Clone for Tables {
+    ghost is_clone = { λ tables copy. copy ≡ tables };
+
+    fn clone(&self) -> Result<Tables, AllocError> {
+        Ok(Tables {
+            clock: self.clock,
+            next_job: self.next_job,
+            rows: self.rows.clone()?,
+            alloc: self.alloc,
+        })
+    }
 }
 
 impl Tables {

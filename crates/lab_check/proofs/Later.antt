@@ -2,10 +2,10 @@
 use Rattle.std.specs.Prelude.{ℕ, List, []}
 use Rattle.std.specs.List.{All}
 use Rattle.std.proofs.lemmas.List.Elements.{All-nil}
-use Rattle.lab_findings.specs.Refusals.{Refuses}
-use Rattle.lab_findings.specs.RefusalsLaws.{all_refused}
-use Rattle.lab_findings.specs.declared.refusal.Refusal.{Refusal}
-use Rattle.lab_findings.specs.declared.text_name.TextName.TheVariants as text
+use Rattle.lab_check.specs.Refusals.{Refuses}
+use Rattle.lab_check.specs.RefusalsLaws.{all_refused}
+use Rattle.lab_check.specs.declared.lab_findings.refusal.Refusal.{Refusal}
+use Rattle.lab_check.specs.declared.lab_findings.text_name.TextName.TheVariants as text
 use Rattle.lab_check.specs.Verdicts.{AddsOfScript, IsOfScript}
 
 pub later_script : (before after : List Refusal) (line : ℕ) (name : List ℕ) → Refuses before after text.Script line name → AddsOfScript before after

@@ -1,1 +1,4 @@
+pub mod Lines
+pub mod Refusals
+pub mod RefusalsLaws
 pub mod Verdicts

@@ -1,13 +1,13 @@
 -- What texts are taken for, and what is told of it.
 use Rattle.std.specs.Prelude.{ℕ, List, ◌∷◌, ◌≡◌, false}
 use Rattle.std.specs.List.{All}
-use Rattle.unit_check.specs.Fitted.{IsFit}
+use Rattle.application_check.specs.Fitted.{IsFit}
 use Rattle.application_read.specs.declared.fault.ApplicationFault.{ApplicationFault}
 use Rattle.application_read.specs.Faults.{text_of, line_of, name_of}
 use Rattle.application_read.specs.Texts.{TextsGenerate, TextsHaveFault, is_memory}
-use Rattle.lab_findings.specs.Lines.{word_of}
-use Rattle.lab_findings.specs.declared.refusal.Refusal.{Refusal}
-use Rattle.lab_findings.specs.declared.text_name.TextName.TheVariants as text
+use Rattle.lab_check.specs.Lines.{word_of}
+use Rattle.lab_check.specs.declared.lab_findings.refusal.Refusal.{Refusal}
+use Rattle.lab_check.specs.declared.lab_findings.text_name.TextName.TheVariants as text
 use Rattle.lab_check.specs.declared.whole.Verdict.{Verdict}
 use Rattle.lab_check.specs.declared.whole.Verdict.TheVariants.{Accepted, Refused}
 

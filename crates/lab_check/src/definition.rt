@@ -1,14 +1,16 @@
 //! Why a definition is refused: its first fault, then that of the text mended for it, and so on.
 
 use crate::draft::Draft;
+use crate::lab_findings::{
+    Refusals, TextName, Warning, Warnings, first_word, nearest, without_blanks,
+};
 use crate::parts::{Parts, joined};
+use application_check::kdcdef_check::{CheckFault, Generation};
 use application_read::{DefinitionFault, generate};
 use kd_base::{Bytes, OutOfMemory};
-use kdcdef_check::{CheckFault, Generation};
-use kdcdef_lex::LexFault;
 use kdcdef_read::ReadFault;
-use lab_findings::{Refusals, TextName, Warning, Warnings, first_word, nearest, without_blanks};
 use std::alloc::Global;
+use texts::kdcdef_lex::LexFault;
 
 /// How many faults of a text are told.
 pub(crate) const MOST_FAULTS: u32 = 1_000;

@@ -1,12 +1,11 @@
 //! A text that is mended line by line, so that it can be read on behind a fault.
 
+use crate::lab_findings::up_to_last;
 use kd_base::{Bytes, OutOfMemory};
-use lab_findings::up_to_last;
 use std::alloc::Global;
 use texts::len_before;
 
 /// A line of a mended text.
-#[derive(Drop)]
 struct DraftLine {
     /// The number that the line, or the one that it was put before, has in the text as it was.
     number: u32,
@@ -14,6 +13,19 @@ struct DraftLine {
     is_made: bool,
     /// With its end.
     bytes: Bytes,
+}
+
+impl Drop for DraftLine {
+    fn drop(self) {
+        let DraftLine {
+            number,
+            is_made,
+            bytes,
+        } = self;
+        let _ = number;
+        let _ = is_made;
+        let _ = bytes;
+    }
 }
 
 /// A text that is mended line by line. Lines are named by their numbers in the mended text, from 1.

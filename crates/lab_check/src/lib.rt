@@ -1,4 +1,5 @@
-//! All that is wrong in the texts of an application, and what is accepted and likely wrong.
+//! All that is wrong in the texts of an application, and what is accepted and likely wrong: how findings are told
+//! (`lab_findings`), and the warnings (`lab_warnings`).
 //!
 //! It stands on the readers of the three texts, whose faults it tells by their own names, and on lab_findings and
 //! lab_warnings. To a program for who writes units its contract says what the definition and the units are taken for, as
@@ -9,6 +10,8 @@
 
 mod definition;
 mod draft;
+pub mod lab_findings;
+pub mod lab_warnings;
 mod parts;
 mod script;
 mod units;

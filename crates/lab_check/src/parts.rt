@@ -1,8 +1,8 @@
 //! A statement of a definition as its keyword and its operands, which commas part outside quotes and parentheses. It
 //! need not be one that is accepted.
 
+use crate::lab_findings::{first_word, without_blanks};
 use kd_base::{Bytes, OutOfMemory};
-use lab_findings::{first_word, without_blanks};
 use std::alloc::Global;
 use texts::len_before;
 

@@ -2,9 +2,9 @@
 ghost use Rattle.std.specs.Prelude.{OnOk};
 ghost use Rattle.lab_check.specs.Verdicts.{AddsOfScript};
 
+use crate::lab_findings::{Refusals, TextName};
+use application_check::kdcdef_check::Generation;
 use kd_base::OutOfMemory;
-use kdcdef_check::Generation;
-use lab_findings::{Refusals, TextName};
 use script_read::{ScriptFault, read_script};
 use std::alloc::Global;
 use texts::next_line;

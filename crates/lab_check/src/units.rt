@@ -2,14 +2,14 @@
 
 use crate::definition::{MOST_FAULTS, Mended};
 use crate::draft::Draft;
+use crate::lab_findings::{LineKind, Refusals, TextName, first_word, kind_of};
 use crate::parts::joined;
+use application_check::kdcdef_check::Generation;
+use application_check::unit_check::{FitFault, Units, fit};
+use application_types::unit_types::Unit;
 use kd_base::{Bytes, OutOfMemory, ProgName};
-use kdcdef_check::Generation;
-use lab_findings::{LineKind, Refusals, TextName, first_word, kind_of};
 use std::alloc::Global;
-use unit_check::{FitFault, Units, fit};
 use unit_read::{UnitFault, read_units};
-use unit_types::Unit;
 
 // Puts a UNIT line in place of this one, with a name that no other has.
 fn rename(alloc: Global, draft: &mut Draft, line: u32) -> Result<(), OutOfMemory> {

@@ -1,19 +1,19 @@
 //! All that is found in the texts of an application.
 ghost use Rattle.std.specs.{Prelude.{◌≡◌, false, IfOk}, List.{All}};
 ghost use Rattle.lab_check.specs.Verdicts.{IsVerdict, IsNoMemory, IsOfScript, IsToldFirst, AreToldFor};
-ghost use Rattle.lab_findings.specs.Lines.{word_of};
+ghost use Rattle.lab_check.specs.Lines.{word_of};
 ghost use Rattle.application_read.specs.{Faults.{text_of}, Texts.{is_memory}};
 
 use crate::definition::definition_refusals;
+use crate::lab_findings::{Refusal, Refusals, TextName, Warned, Warnings};
+use crate::lab_warnings::{definition_warnings, unit_warnings};
 use crate::script::script_refusals;
 use crate::units::units_refusals;
+use application_check::kdcdef_check::Generation;
+use application_check::unit_check::FitFault;
 use application_read::{Application, ApplicationFault, read_application};
 use kd_base::OutOfMemory;
-use kdcdef_check::Generation;
-use lab_findings::{Refusal, Refusals, TextName, Warned, Warnings};
-use lab_warnings::{definition_warnings, unit_warnings};
 use std::alloc::Global;
-use unit_check::FitFault;
 
 /// What the definition and the units are taken for.
 #[derive(Drop)]
@@ -25,7 +25,6 @@ pub enum Verdict {
 }
 
 /// What was found in the texts.
-#[derive(Drop)]
 pub struct Checked {
     /// What the definition and the units are taken for.
     pub verdict: Verdict,
@@ -34,6 +33,19 @@ pub struct Checked {
     pub refusals: Vec<Refusal>,
     /// What is accepted and likely wrong, in the order of text and line.
     pub warnings: Vec<Warned>,
+}
+
+impl Drop for Checked {
+    fn drop(self) {
+        let Checked {
+            verdict,
+            refusals,
+            warnings,
+        } = self;
+        let _ = verdict;
+        let _ = refusals;
+        let _ = warnings;
+    }
 }
 
 /// The three texts of a call.

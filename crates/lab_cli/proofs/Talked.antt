@@ -3,14 +3,14 @@ use Rattle.std.proofs.Common.{◌≡◌, List, [], ◌∷◌, ◌++◌, refl, sy
 use Rattle.std.specs.Prelude.{ℕ, Bool, true, false, ◌&&◌, Option, None, Result, Ok, Err}
 use Rattle.std.specs.List.{All, list_any}
 use Rattle.std.proofs.lemmas.List.Elements.{All-nil, All-append, All-cons}
-use Rattle.kdcdef_types.specs.Generation.{Generated}
+use Rattle.application_types.specs.Generation.{Generated}
 use Rattle.abstract_monitor.specs.CommandsOf.{IsCommandOf}
 use Rattle.abstract_monitor.specs.declared.command.Command.{Command}
 use Rattle.abstract_monitor.specs.declared.command.Command.TheVariants.{Run}
 use Rattle.abstract_monitor.specs.Commands.{ScriptStep, state_after, steps_of}
 use Rattle.abstract_monitor.specs.State.{Application, State}
 use Rattle.abstract_monitor.specs.Trace.{history}
-use Rattle.laws_of_steps.specs.Keeping.{IsScriptOf}
+use Rattle.laws_of_states.specs.Keeping.{IsScriptOf}
 use Rattle.laws_of_runs.specs.HistoryLaws.{after_none, history_next, no_history}
 use Rattle.laws_of_runs.specs.ListsLaws.{after_both}
 use Rattle.script_read.specs.Commands.{script_in}

@@ -4,7 +4,7 @@ use Rattle.std.specs.List.{list_any}
 use Rattle.abstract_monitor.specs.declared.command.Command.{Command}
 use Rattle.abstract_monitor.specs.declared.command.Command.TheVariants.{Input, Tick, Run, Turn, Drop, Print, PrintLast, Restart}
 use Rattle.abstract_monitor.specs.Trace.{history}
-use Rattle.laws_of_steps.specs.Keeping.{IsScriptOf}
+use Rattle.laws_of_states.specs.Keeping.{IsScriptOf}
 use Rattle.script_read.specs.declared.fault.ScriptFault.{ScriptFault}
 use Rattle.monitor_core.specs.CoreValue.{CoreValue}
 use Rattle.lab_turns.specs.Heard.{Heard, heard_in}

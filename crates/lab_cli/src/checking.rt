@@ -5,9 +5,9 @@ ghost use Rattle.refusals.specs.Statuses.{IsOneOf};
 use crate::stop::Stop;
 use kd_base::OutOfMemory;
 use kd_device::{DeviceError, Room};
+use lab_check::lab_findings::{Refusal, TextName};
 use lab_check::{Checked, findings};
-use lab_findings::{Refusal, TextName};
-use lab_printing::Console;
+use lab_turns::lab_printing::Console;
 use refusals::{Status, text};
 use std::alloc::Global;
 

@@ -1,8 +1,8 @@
 //! `explore`: the distinct outcomes of the orders of the tasks.
 ghost use Rattle.std.specs.{Prelude.{◌≡◌, ◌≤◌, ◌^◌, true, false, cond, IfOk, IfSome, IsTrue, sum_by}, List.{list_any}};
-ghost use Rattle.unit_check.specs.Fitted.{IsFit};
-ghost use Rattle.laws_of_applications.specs.Applied.{applied};
-ghost use Rattle.laws_of_steps.specs.{Keeping.{IsScriptOf}, Suits.{Suits}};
+ghost use Rattle.application_check.specs.Fitted.{IsFit};
+ghost use Rattle.laws_of_runs.specs.Applied.{applied};
+ghost use Rattle.laws_of_states.specs.{Keeping.{IsScriptOf}, Suits.{Suits}};
 ghost use Rattle.lab_orders.specs.{Exploring.{AreAll, AreDistinct, AreOutcomes}, Walking.{tries_of}};
 ghost use Rattle.lab_cli.specs.{Exploring.{do_differ, stands_still}, Places.{CanStart}};
 
@@ -13,7 +13,7 @@ use application_read::Application;
 use kd_base::{Bytes, OutOfMemory};
 use kdcs_types::Tables;
 use lab_orders::{Explored, Outcome, Signs, explore, turned};
-use lab_printing::{Console, put_command, put_number};
+use lab_turns::lab_printing::{Console, put_command, put_number};
 use refusals::Status;
 use std::alloc::Global;
 

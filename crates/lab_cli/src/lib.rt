@@ -22,8 +22,8 @@ mod top;
 mod words;
 
 pub use exploring::explore_orders;
-pub use lab_printing::{Console, Printer, Source};
 pub use lab_turns::LabError;
+pub use lab_turns::lab_printing::{Console, Printer, Source};
 pub use reading::{Place, place_of};
 pub use refusals::Status;
 pub use stop::Stop;

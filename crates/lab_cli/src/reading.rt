@@ -1,24 +1,23 @@
 //! What a call starts from: an application, the tables of its KDCFILE, and its script.
 ghost use Rattle.std.specs.Prelude.{IfOk, All, IsSome};
 ghost use Rattle.abstract_monitor.specs.CommandsOf.{IsCommandOf};
-ghost use Rattle.laws_of_steps.specs.Suits.{Suits};
+ghost use Rattle.laws_of_states.specs.Suits.{Suits};
 ghost use Rattle.lab_cli.specs.Places.{CanStart};
-ghost use Rattle.unit_check.specs.Fitted.{IsFit};
+ghost use Rattle.application_check.specs.Fitted.{IsFit};
 
 use crate::stop::Stop;
 use abstract_monitor::Command;
+use application_check::kdcdef_check::Generation;
 use application_read::{Application, read_application};
+use device_acts::warm_start::{OpenError, fingerprint_of, read_tables};
 use kd_base::Bytes;
-use kd_device::{Room, SureDevice};
-use kd_twin::{MemTwin, Twin};
-use kdcdef_check::Generation;
+use kd_device::{MemTwin, Room, SureDevice, Twin};
 use kdcfile_double::{TwinOpenError, TwinStore};
 use kdcs_types::Tables;
-use lab_printing::Source;
+use lab_turns::lab_printing::Source;
 use refusals::{TextError, named, text};
 use script_read::read_script;
 use std::alloc::Global;
-use warm_start::{OpenError, fingerprint_of, read_tables};
 
 /// The most bytes of a KDCFILE: 30,000 pages of 32,768 bytes and some.
 const LONGEST_FILE: u64 = 1 << 31;

@@ -1,15 +1,15 @@
 //! Commands that are typed.
 ghost use Rattle.std.specs.{Prelude.{◌≡◌, ◌&&◌, ◌++◌, [], IfOk, OnOk}, List.{list_any}};
-ghost use Rattle.laws_of_steps.specs.Keeping.{HasFacts};
+ghost use Rattle.laws_of_states.specs.Keeping.{HasFacts};
 ghost use Rattle.script_read.specs.Commands.{script_in};
 ghost use Rattle.lab_cli.specs.Talking.{HasTalked, Performs, heard_of_line, is_input, run_behind, with_turns};
 
 use abstract_monitor::Command;
 use kd_base::{Bytes, OutOfMemory};
-use lab_printing::{Console, Printer, job_lines, lock_lines, task_lines};
+use lab_turns::lab_printing::{Console, Printer, job_lines, lock_lines, task_lines};
 use lab_turns::{Bench, LabError, Listener};
 use monitor_core::Core;
-use output_lines::table_lines;
+use monitor_parts::output_lines::table_lines;
 use script_read::{ScriptFault, read_script};
 use std::alloc::Global;
 

@@ -1,13 +1,13 @@
 //! The script, against the lines that it expects.
 ghost use Rattle.std.specs.Prelude.{◌≡◌, IfOk};
 ghost use Rattle.abstract_monitor.specs.{CommandsOf.{IsCommandOf}, Commands.{acts_of, steps_of}, Trace.{bytes_of}};
-ghost use Rattle.laws_of_steps.specs.Keeping.{IsScriptOf};
+ghost use Rattle.laws_of_states.specs.Keeping.{IsScriptOf};
 ghost use Rattle.lab_turns.specs.Running.{DidSteps};
 
 use crate::recorder::Recorder;
 use abstract_monitor::Command;
 use kd_base::{Bytes, OutOfMemory};
-use lab_printing::{Console, put_number};
+use lab_turns::lab_printing::{Console, put_number};
 use lab_turns::{Bench, LabError};
 use std::alloc::Global;
 use texts::next_line;
@@ -16,12 +16,24 @@ use texts::next_line;
 const LINES_BETWEEN: u32 = 10_000;
 
 /// A line that is expected and was not sent, or that was sent and is not expected.
-#[derive(Drop)]
 struct Difference {
     /// The line of the script: that of the expected line, or of the command.
     line: u32,
     expected: Option<Bytes>,
     sent: Option<Bytes>,
+}
+
+impl Drop for Difference {
+    fn drop(self) {
+        let Difference {
+            line,
+            expected,
+            sent,
+        } = self;
+        let _ = line;
+        let _ = expected;
+        let _ = sent;
+    }
 }
 
 /// A test of a script up to one of its lines.

@@ -1,6 +1,6 @@
 //! The top call.
 ghost use Rattle.std.specs.{Prelude.{◌≡◌, ◌∷◌, [], IfOk, None, map}, String.{string_bytes}};
-ghost use Rattle.laws_of_steps.specs.Keeping.{IsScriptOf};
+ghost use Rattle.laws_of_states.specs.Keeping.{IsScriptOf};
 ghost use Rattle.refusals.specs.Statuses.{IsOneOf};
 ghost use Rattle.lab_cli.specs.{Places.{CanStart}, Words.{request_of as request}};
 
@@ -15,8 +15,8 @@ use abstract_monitor::Command;
 use application_read::Application;
 use kd_base::{Bytes, OutOfMemory};
 use kd_device::{Room, SureDevice};
-use lab_printing::{Console, Printer};
 use lab_turns::Bench;
+use lab_turns::lab_printing::{Console, Printer};
 use refusals::{FileRefusal, Status, refuse, refuse_file, refuse_texts};
 use std::alloc::Global;
 

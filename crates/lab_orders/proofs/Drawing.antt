@@ -7,7 +7,7 @@ use Rattle.abstract_monitor.specs.declared.command.Command.{Command}
 use Rattle.abstract_monitor.specs.declared.command.Command.TheVariants.{Run}
 use Rattle.abstract_monitor.specs.CommandsOf.{IsCommandOf}
 use Rattle.abstract_monitor.specs.Trace.{bytes_of}
-use Rattle.laws_of_steps.specs.Keeping.{IsScriptOf}
+use Rattle.laws_of_states.specs.Keeping.{IsScriptOf}
 use Rattle.monitor_core.specs.CoreSteps.{durable_of}
 use Rattle.monitor_core.specs.CoreValue.{CoreValue}
 use Rattle.lab_orders.specs.declared.choice.Choice.{Choice}

@@ -26,7 +26,8 @@ use Rattle.abstract_monitor.specs.State.{Application, OpenTransaction, State}
 use Rattle.abstract_monitor.specs.Statements.{area_of}
 use Rattle.abstract_monitor.specs.Picks.{pick}
 use Rattle.abstract_monitor.specs.Endings.{durable, refusal, synchronised}
-use Rattle.abstract_monitor.specs.Turns.{Turned, abnormal, back, back_by, happens, last_again, served, settled, settled_by, statement_now, took, took_job, took_job_for, turn_by, turn_of, waiting_for, without_transaction}
+use Rattle.abstract_monitor.specs.Turns.{Turned, abnormal, back, back_by, happens, last_again, served, settled, settled_by, statement_now, took, took_job, took_job_for, turn_by, turn_of, waiting_for}
+use Rattle.abstract_monitor.specs.Turns.{without_transaction}
 use Rattle.monitor_core.specs.LockingLaws.{put_same}
 use Rattle.lab_orders.specs.Orders.{has_effect, same_wait, wait_by, wait_in}
 

@@ -2,19 +2,19 @@
 use Rattle.std.proofs.Common.{◌≡◌, ℕ, List, [], ◌∷◌, length, refl, sym, ap, subst, ◌∙◌, arith}
 use Rattle.std.specs.Prelude.{◌⊎◌, true, false, Option, Some, None}
 use Rattle.std.proofs.lemmas.List.{append-nil}
-use Rattle.kdcdef_types.specs.Generation.{Generated}
+use Rattle.application_types.specs.Generation.{Generated}
 use Rattle.kdcs_types.specs.Tables.{TableRows}
-use Rattle.unit_check.specs.Fitted.{FittedUnits}
+use Rattle.application_check.specs.Fitted.{FittedUnits}
 use Rattle.abstract_monitor.specs.declared.command.Command.{Command}
 use Rattle.abstract_monitor.specs.Commands.{started}
 use Rattle.abstract_monitor.specs.Listing.{listing}
 use Rattle.abstract_monitor.specs.State.{Application, State}
 use Rattle.abstract_monitor.specs.Endings.{durable}
-use Rattle.laws_of_applications.specs.Applied.{applied}
-use Rattle.laws_of_steps.specs.Keeping.{HasFacts}
-use Rattle.laws_of_steps.specs.Suits.{Suits}
-use Rattle.laws_of_steps.specs.TablesStayLaws.{started_tables}
-use Rattle.laws_of_tables.specs.EndsLaws.{durable_same}
+use Rattle.laws_of_runs.specs.Applied.{applied}
+use Rattle.laws_of_states.specs.Keeping.{HasFacts}
+use Rattle.laws_of_states.specs.Suits.{Suits}
+use Rattle.laws_of_states.specs.TablesStayLaws.{started_tables}
+use Rattle.laws_of_states.specs.EndsLaws.{durable_same}
 use Rattle.monitor_core.specs.CoreValue.{CoreValue}
 use Rattle.lab_orders.specs.declared.path.Path.{Path}
 use Rattle.lab_orders.specs.declared.search.Found.{Found}

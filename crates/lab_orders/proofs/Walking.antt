@@ -1,12 +1,10 @@
 -- Commands and RUNs of a search.
-use Rattle.std.proofs.Common.{◌≡◌, inl, inr, ℕ, suc, ◌+◌, ◌-◌, ◌*◌, ◌<◌, ◌≤◌, ◌^◌, zero, List, [], ◌∷◌, ◌++◌, refl, sym, ap, subst, ◌∙◌, arith, get_or, drop, length}
+use Rattle.std.proofs.Common.{◌≡◌, ℕ, suc, ◌+◌, ◌-◌, ◌*◌, ◌<◌, ◌≤◌, ◌^◌, zero, List, [], ◌∷◌, ◌++◌, refl, sym, ap, subst, ◌∙◌, arith, get_or, drop, length}
 use Rattle.std.specs.Prelude.{true, false, Option, Some, None, sum_by}
 use Rattle.std.proofs.lemmas.List.Sums.{sum_by-cons}
 use Rattle.std.proofs.lemmas.List.{drop_all, drop_more}
 use Rattle.kdcs_types.specs.declared.act.Act.{Act}
-use Rattle.kdcs_types.specs.declared.act.Act.TheVariants.{Commit, Emit}
-use Rattle.kdcs_types.specs.DifferenceLaws.{difference_changes}
-use Rattle.kdcs_types.specs.Tables.{IsSortedTables, TableRows}
+use Rattle.kdcs_types.specs.Tables.{TableRows}
 use Rattle.abstract_monitor.specs.CommandsOf.{IsCommandOf}
 use Rattle.abstract_monitor.specs.declared.command.Command.{Command}
 use Rattle.abstract_monitor.specs.declared.command.Command.TheVariants.{Input, Tick, Run, Turn, Drop, Print, PrintLast, Restart}
@@ -15,20 +13,21 @@ use Rattle.abstract_monitor.specs.Endings.{durable}
 use Rattle.abstract_monitor.specs.State.{Application, State}
 use Rattle.abstract_monitor.specs.Trace.{bytes_of, tables_after}
 use Rattle.abstract_monitor.specs.Turns.{Turned, turn_of}
-use Rattle.laws_of_steps.specs.DurableLaws.{durable_again, durable_sorted}
-use Rattle.laws_of_steps.specs.Keeping.{HasFacts, IsScriptOf}
-use Rattle.laws_of_steps.specs.Steps.{AreLines, CommitsOnce, StepsMakeTheirTables, TurnsCommitOnce}
-use Rattle.laws_of_steps.specs.TablesStayLaws.{started_tables}
+use Rattle.laws_of_states.specs.DurableLaws.{durable_again}
+use Rattle.laws_of_states.specs.Keeping.{HasFacts, IsScriptOf}
+use Rattle.laws_of_states.specs.Steps.{CommitsOnce, StepsMakeTheirTables, TurnsCommitOnce}
+use Rattle.laws_of_states.specs.TablesStayLaws.{started_tables}
 use Rattle.monitor_core.specs.Commanding.{Comes}
 use Rattle.monitor_core.specs.CoreSteps.{durable_of}
 use Rattle.monitor_core.specs.CoreValue.{CoreValue}
+use Rattle.script_run.specs.Keeping.{AreKept}
+use Rattle.script_run.specs.KeepingLaws.{acts_are_kept as kept_acts, durable_after as changed_tables}
 use Rattle.service_ends.specs.declared.turned.Turned.{Turned as Did}
 use Rattle.service_ends.specs.Ending.{turned_to}
 use Rattle.lab_orders.specs.declared.choice.Choice.{Choice}
 use Rattle.lab_orders.specs.declared.path.Path.{Path}
 use Rattle.lab_orders.specs.Beyond.{guide_behind, least_past}
 use Rattle.lab_orders.specs.Choosing.{CanBe, acts_of_choice, state_of_choice}
-use Rattle.lab_orders.specs.Keeping.{AreKept}
 use Rattle.lab_orders.specs.Reaching.{AtCommands, InRun, Search}
 use Rattle.lab_orders.specs.Trying.{Chose, Took}
 use Rattle.lab_orders.specs.Walking.{DidCommand, DidRun, IsBeside, IsNoRun, RanOrNot, Walked, WentOn, tries_of}
@@ -36,30 +35,13 @@ use Rattle.lab_orders.proofs.Moves.{reached_command, reached_none, reached_rest,
 
 -- ---- the durable tables
 
-lines_are_kept : (acts : List Act) → AreLines acts → AreKept acts
-lines_are_kept [] h = tt
-lines_are_kept (Emit line ∷ acts) h = lines_are_kept acts h
-lines_are_kept (Commit changes ∷ acts) h = absurd h
-
-pub step_is_kept : (app : Application) (s : State) (d : ScriptStep) → IsSortedTables d.after.tables → CommitsOnce app s d → AreKept d.acts
-step_is_kept app s d sorted (inl none) = lines_are_kept d.acts none.lines
-step_is_kept app s d sorted (inr one) =
-    subst AreKept (sym one.acts) (difference_changes (durable app.generation s.tables) (durable app.generation d.after.tables) (durable_sorted app.generation d.after.tables sorted), lines_are_kept one.rest one.lines)
-
 -- a step with its durable tables
 module _ (make : StepsMakeTheirTables) (c d : CoreValue) (step : ScriptStep) (facts : HasFacts c.application c.state) (later : HasFacts d.application d.state) (same : d.application ≡ c.application) (state : d.state ≡ step.after) (once : CommitsOnce c.application c.state step) where
-  sorted_after : IsSortedTables step.after.tables
-  sorted_after = subst (λ (u : State). IsSortedTables u.tables) state later.1.order
-
   pub acts_are_kept : (acts : List Act) → acts ≡ step.acts → AreKept acts
-  acts_are_kept acts e = subst AreKept (sym e) (step_is_kept c.application c.state step sorted_after once)
+  acts_are_kept acts are = kept_acts make c d step facts.1.order later.1.order same state once acts are
 
   pub durable_after : (before after : TableRows) (acts : List Act) → before ≡ durable_of c → acts ≡ step.acts → after ≡ tables_after before acts → after ≡ durable_of d
-  durable_after before after acts b a e =
-      e
-      ∙ (λ i. tables_after (b i) (a i))
-      ∙ make c.application c.state step facts.1.order sorted_after once
-      ∙ (λ i. durable (sym same i).generation (sym state i).tables)
+  durable_after before after acts beside are is = changed_tables make c d step facts.1.order later.1.order same state once acts are before after beside is
 
 -- ---- one command
 

@@ -1,14 +1,14 @@
 -- What the code of a search finds.
 use Rattle.std.specs.Prelude.{◌≡◌, ◌⊎◌, ◌≤◌, ◌^◌, ℕ, List, Option, Some, None, sum_by}
-use Rattle.kdcdef_types.specs.Generation.{Generated}
+use Rattle.application_types.specs.Generation.{Generated}
 use Rattle.kdcs_types.specs.Tables.{TableRows}
-use Rattle.unit_check.specs.Fitted.{FittedUnits, IsFit}
+use Rattle.application_check.specs.Fitted.{FittedUnits, IsFit}
 use Rattle.abstract_monitor.specs.declared.command.Command.{Command}
 use Rattle.abstract_monitor.specs.Commands.{started}
 use Rattle.abstract_monitor.specs.State.{Application}
-use Rattle.laws_of_applications.specs.Applied.{applied}
-use Rattle.laws_of_steps.specs.Keeping.{IsScriptOf}
-use Rattle.laws_of_steps.specs.Suits.{Suits}
+use Rattle.laws_of_runs.specs.Applied.{applied}
+use Rattle.laws_of_states.specs.Keeping.{IsScriptOf}
+use Rattle.laws_of_states.specs.Suits.{Suits}
 use Rattle.lab_orders.specs.declared.search.Found.{Found}
 use Rattle.lab_orders.specs.Beyond.{IsBeyond, IsPast}
 use Rattle.lab_orders.specs.Orders.{HasOutcome, IsOrder}

@@ -3,7 +3,6 @@ pub mod Beyond
 pub mod Choosing
 pub mod Trying
 pub mod Reaching
-pub mod Keeping
 pub mod Walking
 pub mod Finding
 pub mod Exploring

@@ -1,7 +1,7 @@
 -- The orders in which the tasks of a script can work, and what comes out of each.
 use Rattle.std.specs.Prelude.{◌≡◌, ℕ, zero, suc, ◌-◌, Bool, true, false, ◌&&◌, ◌||◌, not, ◌==◌, List, [], ◌∷◌, slice_get, Option, Some, None}
 use Rattle.std.specs.FinMap.{find}
-use Rattle.kdcdef_types.specs.Statements.{IsWithin}
+use Rattle.application_types.specs.Statements.{IsWithin}
 use Rattle.kdcs_types.specs.declared.key.ServiceId.{ServiceId}
 use Rattle.kdcs_types.specs.Keys.{area_eq, id_cmp}
 use Rattle.abstract_monitor.specs.declared.command.Command.{Command}

@@ -1,7 +1,7 @@
 -- What the code of a search comes to at one turn.
 use Rattle.std.specs.Prelude.{◌≡◌, ◌≤◌, ℕ, true, false, [], Option, Some, None}
 use Rattle.abstract_monitor.specs.Turns.{turn_of}
-use Rattle.laws_of_steps.specs.Keeping.{HasFacts}
+use Rattle.laws_of_states.specs.Keeping.{HasFacts}
 use Rattle.monitor_core.specs.CoreValue.{CoreValue}
 use Rattle.service_ends.specs.Ending.{turned_to}
 use Rattle.service_ends.specs.declared.turned.Turned.{Turned as Did}

@@ -6,7 +6,7 @@ use Rattle.abstract_monitor.specs.declared.command.Command.TheVariants.{Input, T
 use Rattle.abstract_monitor.specs.Commands.{command_of, started}
 use Rattle.abstract_monitor.specs.State.{Application}
 use Rattle.abstract_monitor.specs.Trace.{bytes_of}
-use Rattle.laws_of_steps.specs.Keeping.{HasFacts}
+use Rattle.laws_of_states.specs.Keeping.{HasFacts}
 use Rattle.monitor_core.specs.CoreSteps.{durable_of}
 use Rattle.monitor_core.specs.CoreValue.{CoreValue}
 use Rattle.lab_orders.specs.declared.path.Path.{Path}

@@ -1,6 +1,6 @@
 //! What a RUN does next.
 ghost use Rattle.std.specs.Prelude.{◌≡◌, ◌+◌, ◌≤◌, ◌^◌, IfOk};
-ghost use Rattle.laws_of_steps.specs.Keeping.{HasFacts};
+ghost use Rattle.laws_of_states.specs.Keeping.{HasFacts};
 ghost use Rattle.lab_orders.specs.Trying.{Chose, IsRestChoice};
 
 use crate::turns::try_turn;

@@ -1,8 +1,8 @@
 //! An order that is drawn at random.
 ghost use Rattle.std.specs.Prelude.{◌≡◌, ◌+◌, ◌*◌, ◌≤◌, ◌^◌, ◌∷◌, [], IfOk, sum_by};
 ghost use Rattle.abstract_monitor.specs.{CommandsOf.{IsCommandOf}, declared.command.Command.TheVariants.{Run}};
-ghost use Rattle.laws_of_applications.specs.Applied.{applied};
-ghost use Rattle.laws_of_steps.specs.Keeping.{HasFacts, IsScriptOf};
+ghost use Rattle.laws_of_runs.specs.Applied.{applied};
+ghost use Rattle.laws_of_states.specs.Keeping.{HasFacts, IsScriptOf};
 ghost use Rattle.lab_orders.specs.{Finding.{CanStart, IsFound}, Trying.{Took}, Walking.{Drew, IsBeside, tries_of}};
 
 use crate::choice::{Choice, choose};
@@ -11,15 +11,15 @@ use crate::search::{Found, outcome_of};
 use crate::start::begin;
 use crate::walk::do_command;
 use abstract_monitor::Command;
+use application_check::kdcdef_check::Generation;
+use application_check::unit_check::Units;
 use kd_base::OutOfMemory;
-use kdcdef_check::Generation;
 use kdcs_types::Tables;
-use laws_of_steps::steps_commit_once;
+use laws_of_states::laws_of_steps::steps_commit_once;
 use monitor_core::Core;
 use rand_core::Rng;
 use rand_xoshiro::SplitMix64;
 use std::alloc::Global;
-use unit_check::Units;
 
 // A task from 1 to so many.
 fn drawn_task(numbers: &mut SplitMix64, tasks: u16) -> u32 {

@@ -1,22 +1,21 @@
 //! All orders of a script, and the distinct outcomes.
 ghost use Rattle.std.specs.Prelude.{◌≡◌, ◌⊎◌, ◌↔◌, ◌+◌, ◌<◌, ◌≤◌, ◌^◌, true, false, All, IsTrue, IfOk, IfSome, MatchOption, OnOk, sum_by};
-ghost use Rattle.laws_of_applications.specs.Applied.{applied};
+ghost use Rattle.laws_of_runs.specs.Applied.{applied};
 ghost use Rattle.lab_orders.specs.{Exploring.{AreAll, AreDistinct, AreOutcomes, IsAdded, IsDrawn, IsThatOf, IsThere, IsWhole}, Finding.{CanStart}};
 
 use crate::draw::drawn_order;
 use crate::path::{Signs, Turns};
 use crate::search::{Found, order_after, order_past};
 use abstract_monitor::Command;
+use application_check::kdcdef_check::Generation;
+use application_check::unit_check::Units;
 use kd_base::{Bytes, OutOfMemory, Sequence};
-use kdcdef_check::Generation;
 use kdcs_types::Tables;
 use rand_core::SeedableRng;
 use rand_xoshiro::SplitMix64;
 use std::alloc::Global;
-use unit_check::Units;
 
 /// What comes out of some orders: the lines that are sent, and the tables at the end.
-#[derive(Drop)]
 pub struct Outcome {
     /// All lines, each with its end.
     pub sent: Bytes,
@@ -30,14 +29,43 @@ pub struct Outcome {
     pub signs: Signs,
 }
 
+impl Drop for Outcome {
+    fn drop(self) {
+        let Outcome {
+            sent,
+            tables,
+            orders,
+            turns,
+            signs,
+        } = self;
+        let _ = sent;
+        let _ = tables;
+        let _ = orders;
+        let _ = turns;
+        let _ = signs;
+    }
+}
+
 /// The distinct outcomes of a script's orders.
-#[derive(Drop)]
 pub struct Explored {
     pub outcomes: Sequence<Outcome>,
     /// How many orders were tried.
     pub orders: u64,
     /// These are all orders, each once.
     pub all: bool,
+}
+
+impl Drop for Explored {
+    fn drop(self) {
+        let Explored {
+            outcomes,
+            orders,
+            all,
+        } = self;
+        let _ = outcomes;
+        let _ = orders;
+        let _ = all;
+    }
 }
 
 impl Explored {

@@ -1,12 +1,13 @@
 //! What is kept of an order as it is followed.
 ghost use Rattle.std.specs.Prelude.{◌≡◌, ◌++◌, ◌∷◌, [], OnOk};
 ghost use Rattle.abstract_monitor.specs.Trace.{bytes_of, tables_after};
-ghost use Rattle.lab_orders.specs.Keeping.{AreKept};
+ghost use Rattle.script_run.specs.Keeping.{AreKept};
 
 use crate::choice::Choice;
 use kd_base::{Bytes, OutOfMemory, Sequence};
 use kdcs_types::{Act, Acts, Code, Ending, Note, Settled, Tables};
 use monitor_core::Core;
+use script_run::keep_commits;
 use std::alloc::Global;
 
 /// The turns of all RUNs of a script, one after another, each the number of its task. 0 ends a RUN before its last turn,
@@ -88,15 +89,13 @@ pub(crate) struct Path {
     pub(crate) signs: Signs,
 }
 
-// Lines are sent, and commits change the durable tables.
-fn perform(sent: &mut Bytes, durable: &mut Tables, acts: Acts) -> Result<(), OutOfMemory>
-    requires { AreKept acts }
-    ensures sent { OnOk result (sent.new ≡ sent.old ++ bytes_of acts) }
-    ensures durable { OnOk result (durable.new ≡ tables_after durable.old acts) }
+// The lines among these acts are sent.
+fn send(sent: &mut Bytes, acts: &[Act]) -> Result<(), OutOfMemory>
+    ensures { OnOk result (sent.new ≡ sent.old ++ bytes_of acts.now) }
 {
-    for act in acts.into_vec() {
+    for act in acts {
         match act {
-            Act::Commit(changes) => durable.change(&changes)?,
+            Act::Commit(_) => {}
             Act::Emit(line) => sent.append(line.as_slice())?,
         }
     }
@@ -126,7 +125,8 @@ impl Path {
         ensures durable { OnOk result (self.new.durable ≡ tables_after self.old.durable acts) }
     {
         self.signs.see_settled(settled);
-        perform(&mut self.sent, &mut self.durable, acts)
+        keep_commits(&mut self.durable, acts.as_slice())?;
+        send(&mut self.sent, acts.as_slice())
     }
 
     /// A turn of a RUN was done, or 0 ended it.

@@ -1,6 +1,6 @@
 //! The orders of a script, one after another.
 ghost use Rattle.std.specs.Prelude.{◌≡◌, IfOk};
-ghost use Rattle.laws_of_applications.specs.Applied.{applied};
+ghost use Rattle.laws_of_runs.specs.Applied.{applied};
 ghost use Rattle.abstract_monitor.specs.Listing.{listing};
 ghost use Rattle.lab_orders.specs.Finding.{CanStart, LeastBeyond, LeastPast};
 
@@ -8,13 +8,13 @@ use crate::path::{Path, Signs, Turns};
 use crate::start::begin;
 use crate::walk::walk;
 use abstract_monitor::Command;
+use application_check::kdcdef_check::Generation;
+use application_check::unit_check::Units;
 use kd_base::{Bytes, OutOfMemory};
-use kdcdef_check::Generation;
 use kdcs_types::Tables;
 use monitor_core::Core;
-use output_lines::table_lines;
+use monitor_parts::output_lines::table_lines;
 use std::alloc::Global;
-use unit_check::Units;
 
 /// An order, and what came out of it.
 #[derive(Drop)]

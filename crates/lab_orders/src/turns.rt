@@ -1,7 +1,7 @@
 //! One turn of a task, and whether it has an effect.
 ghost use Rattle.std.specs.Prelude.{◌≡◌, ◌+◌, ◌<◌, ◌^◌, IfOk};
-ghost use Rattle.kdcdef_types.specs.Statements.{IsWithin};
-ghost use Rattle.laws_of_steps.specs.Keeping.{HasFacts};
+ghost use Rattle.application_types.specs.Statements.{IsWithin};
+ghost use Rattle.laws_of_states.specs.Keeping.{HasFacts};
 ghost use Rattle.lab_orders.specs.{Orders.{same_wait, wait_in}, Trying.{Tried}};
 
 use kd_base::OutOfMemory;

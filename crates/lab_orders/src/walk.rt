@@ -1,8 +1,8 @@
 //! One order of a script: the least one past a guide.
 ghost use Rattle.std.specs.{Prelude.{◌≡◌, ◌+◌, ◌≤◌, ◌<◌, ◌*◌, ◌^◌, IfOk, option_map, sum_by}};
-ghost use Rattle.kdcdef_types.specs.Statements.{IsWithin};
+ghost use Rattle.application_types.specs.Statements.{IsWithin};
 ghost use Rattle.abstract_monitor.specs.{CommandsOf.{IsCommandOf}, declared.command.Command.TheVariants.{Restart, Turn}};
-ghost use Rattle.laws_of_steps.specs.Keeping.{IsScriptOf};
+ghost use Rattle.laws_of_states.specs.Keeping.{IsScriptOf};
 ghost use Rattle.monitor_core.specs.Commanding.{IsSingle};
 ghost use Rattle.lab_orders.specs.Walking.{DidCommand, DidRun, IsBeside, IsNoRun, Walked, WentOn, tries_of};
 
@@ -12,7 +12,7 @@ use crate::path::Path;
 use crate::start::start;
 use abstract_monitor::Command;
 use kd_base::OutOfMemory;
-use laws_of_steps::steps_commit_once;
+use laws_of_states::laws_of_steps::steps_commit_once;
 use monitor_core::{Core, Turned};
 use std::alloc::Global;
 

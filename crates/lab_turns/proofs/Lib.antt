@@ -1,5 +1,1 @@
-pub mod Steps
-pub mod Parts
-pub mod Rotating
-pub mod Scripts
 pub mod Restarting

@@ -1,14 +1,12 @@
 -- A monitor between two steps of a script.
-use Rattle.std.specs.Prelude.{◌≡◌, List, [], ◌∷◌, Option, Some, None}
-use Rattle.kdcs_types.specs.declared.act.Act.{Act}
-use Rattle.kdcs_types.specs.declared.act.Act.TheVariants.{Commit, Emit}
-use Rattle.kdcs_types.specs.declared.act.Changes.{Changes}
-use Rattle.kdcs_types.specs.Tables.{TableRows, changed}
+use Rattle.std.specs.Prelude.{◌≡◌, ℕ, List}
+use Rattle.kdcs_types.specs.Tables.{TableRows}
 use Rattle.abstract_monitor.specs.Commands.{ScriptStep, state_after}
-use Rattle.laws_of_steps.specs.Applications.{IsApplication}
-use Rattle.laws_of_steps.specs.Keeping.{HasFacts}
+use Rattle.laws_of_states.specs.Applications.{IsApplication}
+use Rattle.laws_of_states.specs.Keeping.{HasFacts}
 use Rattle.monitor_core.specs.CoreSteps.{durable_of}
 use Rattle.monitor_core.specs.CoreValue.{CoreValue}
+use Rattle.lab_turns.specs.Heard.{Heard, heard_in}
 
 -- the state has its facts, and the tables beside a core are its durable ones
 pub record IsBeside (c : CoreValue) (t : TableRows) : Type 0 where
@@ -21,13 +19,13 @@ pub record DidSteps (c : CoreValue) (steps : List ScriptStep) (d : CoreValue) : 
   pub application : d.application ≡ c.application
   pub state : d.state ≡ state_after c.state steps
 
--- the changes of the first commit among some acts
-abbrev pub changes_among : List Act → Option Changes
-changes_among [] = None
-changes_among (Commit changes ∷ acts) = Some changes
-changes_among (Emit line ∷ acts) = changes_among acts
+-- the monitor came to the state after some steps, and all of them were heard of
+pub record Told {L : Type 0} (hears : L → List Heard → L → Type 0) (c : CoreValue) (steps : List ScriptStep) (before after : L) (d : CoreValue) : Type 0 where
+  pub did : DidSteps c steps d
+  pub heard : hears before (heard_in steps) after
 
--- what a commit makes of tables
-abbrev pub changed_by : Option Changes → TableRows → TableRows
-changed_by None t = t
-changed_by (Some c) t = changed t c
+-- and the tables beside it are its durable ones; what is borrowed is the same
+pub record Watched {L : Type 0} (hears : L → List Heard → L → Type 0) (c : CoreValue) (steps : List ScriptStep) (before after : L) (d : CoreValue) (t : TableRows) (place place' : List ℕ) : Type 0 where
+  pub told : Told hears c steps before after d
+  pub beside : IsBeside d t
+  pub same_place : place' ≡ place

@@ -1,30 +1,64 @@
 //! A monitor that performs commands, with its durable tables beside it.
-ghost use Rattle.std.specs.Prelude.{◌≡◌, IfOk, OnOk};
-ghost use Rattle.unit_check.specs.Fitted.{IsFit};
-ghost use Rattle.laws_of_applications.specs.Applied.{applied};
-ghost use Rattle.laws_of_steps.specs.{Keeping.{HasFacts, IsScriptOf}, Suits.{Suits}};
+ghost use Rattle.std.specs.Prelude.{◌≡◌, ◌≤◌, ◌+◌, ◌^◌, ◌↔◌, IfOk, IsTrue, OnOk};
+ghost use Rattle.application_check.specs.Fitted.{IsFit};
+ghost use Rattle.laws_of_runs.specs.Applied.{applied};
+ghost use Rattle.laws_of_states.specs.{Keeping.{HasFacts, IsScriptOf}, Suits.{Suits}};
 ghost use Rattle.abstract_monitor.specs.{CommandsOf.{IsCommandOf}, Commands.{started, steps_of}, Trace.{history}};
+ghost use Rattle.monitor_core.specs.CoreSteps.{turns_of};
 ghost use Rattle.lab_turns.specs.{Heard.{heard_in}, Running.{DidSteps}};
 
-use crate::commands::do_command;
-use crate::durable::copy_of;
 use crate::error::LabError;
 use crate::listener::Listener;
+use crate::watching::watch_command;
 use abstract_monitor::Command;
+use application_check::kdcdef_check::Generation;
+use application_check::unit_check::Units;
 use kd_base::OutOfMemory;
-use kdcdef_check::Generation;
 use kdcs_types::Tables;
 use monitor_core::Core;
 use std::alloc::Global;
 use std::marker::Model;
-use unit_check::Units;
+
+/// How many turns and commands a monitor does at most.
+const LAST_STEP: u64 = 1_000_000_000_000_000_000;
+
+// How many turns and commands a command makes at most.
+fn turns_of(command: &Command) -> u64
+    ensures { result ≡ turns_of command.now }
+{
+    match command {
+        Command::Run(turns) => *turns,
+        Command::Input(_, _)
+        | Command::Tick(_)
+        | Command::Turn(_)
+        | Command::Drop(_)
+        | Command::Print(_)
+        | Command::PrintLast(_)
+        | Command::Restart => 1,
+    }
+}
+
+// Whether so many more turns and commands may be done.
+fn may_do(core: &Core, turns: u64) -> bool
+    ensures { IsTrue result ↔ (core.now.steps + turns ≤ 10 ^ 18) }
+{
+    let steps = core.parts().steps;
+    steps <= LAST_STEP && turns <= LAST_STEP - steps
+}
 
 /// A monitor that performs commands. Contracts see its core. It is gone where an error is answered.
-#[derive(Drop)]
 pub struct Bench {
     pub(crate) core: Core,
     /// The tables that a stop would leave.
     pub(crate) durable: Box<Tables>,
+}
+
+impl Drop for Bench {
+    fn drop(self) {
+        let Bench { core, durable } = self;
+        let _ = core;
+        let _ = durable;
+    }
 }
 
 impl Model for Bench {
@@ -51,7 +85,7 @@ impl Bench {
         ensures application { IfOk result (λ bench. bench.application ≡ applied generation units) }
         ensures state { IfOk result (λ bench. bench.state ≡ started bench.application tables) }
     {
-        let durable = Box::new(alloc, copy_of(alloc, &generation, &tables)?)?;
+        let durable = Box::new(alloc, tables.clone()?)?;
         let core = Core::start(alloc, generation, units, tables)?;
         Ok(Bench { core, durable })
     }
@@ -77,7 +111,10 @@ impl Bench {
     {
         let Bench { core, mut durable } = self;
         listener.command(&core, command)?;
-        let core = do_command(alloc, core, &mut durable, listener, command)?;
+        if !may_do(&core, turns_of(command)) {
+            return Err(LabError::Spent);
+        }
+        let core = watch_command(alloc, core, &mut durable, listener, command)?;
         Ok(Bench { core, durable })
     }
 

@@ -1,18 +1,19 @@
-//! A monitor that performs commands step by step, and tells a listener what each step did.
+//! A monitor that performs commands step by step, and tells a listener what each step did; and what is printed of it
+//! (`lab_printing`).
 //!
-//! It stands on monitor_core, whose core says what each turn and each command does, and on kd_update, by which tables are
-//! copied. To the layer above, which prints, its contract says that a command brings the monitor to the state after the
-//! abstract monitor's steps of it, that a script brings it to the state after its history, and that the listener hears of
-//! just these steps, in their order, each with the state after it and its acts. It knows no file and no device.
+//! It stands on monitor_core, whose core says what each turn and each command does, and on script_run, whose loop goes
+//! through the turns of a command. To the layer above, which prints, its contract says that a command brings the monitor to
+//! the state after the abstract monitor's steps of it, that a script brings it to the state after its history, and that the
+//! listener hears of just these steps, in their order, each with the state after it and its acts. It knows no file and no
+//! device.
 #![tactic(auto)]
 
 mod bench;
-mod commands;
-mod durable;
 mod error;
+pub mod lab_printing;
 mod listener;
-mod turns;
 mod view;
+mod watching;
 
 pub use bench::Bench;
 pub use error::LabError;

@@ -1,7 +1,7 @@
 //! What is seen of a turn: the task before and after it.
 ghost use Rattle.std.specs.Prelude.{◌≡◌, IfOk};
-ghost use Rattle.kdcdef_types.specs.Statements.{IsWithin};
-ghost use Rattle.laws_of_steps.specs.Keeping.{HasFacts};
+ghost use Rattle.application_types.specs.Statements.{IsWithin};
+ghost use Rattle.laws_of_states.specs.Keeping.{HasFacts};
 
 use kd_base::{Name, OutOfMemory};
 use kdcs_types::{Area, Code, Ending, ServiceId};
@@ -17,7 +17,6 @@ pub struct At {
 }
 
 /// What is seen of a turn.
-#[derive(Drop)]
 pub struct TurnView {
     pub task: u16,
     /// The service that the task held before the turn.
@@ -42,13 +41,56 @@ pub struct TurnView {
     pub waits: Option<(Area, Option<ServiceId>)>,
 }
 
+impl Drop for TurnView {
+    fn drop(self) {
+        let TurnView {
+            task,
+            before,
+            after,
+            at,
+            next,
+            moved,
+            code,
+            ending,
+            locked,
+            freed,
+            waits,
+        } = self;
+        let _ = task;
+        let _ = before;
+        let _ = after;
+        let _ = at;
+        let _ = next;
+        let _ = moved;
+        let _ = code;
+        let _ = ending;
+        let _ = locked;
+        let _ = freed;
+        let _ = waits;
+    }
+}
+
 /// A task before its turn.
-#[derive(Drop)]
 pub(crate) struct Before {
     task: u16,
     service: Option<ServiceId>,
     at: Option<At>,
     held: Vec<Area>,
+}
+
+impl Drop for Before {
+    fn drop(self) {
+        let Before {
+            task,
+            service,
+            at,
+            held,
+        } = self;
+        let _ = task;
+        let _ = service;
+        let _ = at;
+        let _ = held;
+    }
 }
 
 /// The service that a task holds, if it holds one. It takes no memory.

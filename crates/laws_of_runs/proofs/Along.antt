@@ -6,8 +6,8 @@ use Rattle.kdcs_types.specs.declared.key.ServiceId.{ServiceId}
 use Rattle.kdcs_types.specs.Tables.{TableRows}
 use Rattle.abstract_monitor.specs.State.{Application, OpenTransaction}
 use Rattle.abstract_monitor.specs.Statements.{Kept, kept_so_far}
-use Rattle.laws_of_steps.specs.Keeping.{Leads, HasFacts}
-use Rattle.laws_of_steps.specs.Replay.{replay, IsReplayed}
+use Rattle.laws_of_states.specs.Keeping.{Leads, HasFacts}
+use Rattle.laws_of_states.specs.Replay.{replay, IsReplayed}
 use Rattle.laws_of_runs.specs.Replays.{kept_and, LookAlike, ReplaysToItself}
 use Rattle.laws_of_runs.specs.ReplaysLaws.{alike_itself}
 use Rattle.laws_of_runs.specs.SerialLaws.{StepsKeepReplays, ReplaysAreRecords}

@@ -18,7 +18,8 @@ use Rattle.abstract_monitor.specs.Bytes.{Bytes, bytes_cmp}
 use Rattle.abstract_monitor.specs.Calls.{nothing_told}
 use Rattle.abstract_monitor.specs.declared.command.Command.{Command}
 use Rattle.abstract_monitor.specs.declared.command.Command.TheVariants.{Input, Tick, Run, Turn, Drop, Print, PrintLast, Restart}
-use Rattle.abstract_monitor.specs.Commands.{user_by, opened_row, started, lterm_at, user_at, with_session, without_session, resumed_by, signed_on_by, withdrawn, rolled_tables, signed_off, due_for, shown_tables, show_by, show_next, last_by, follow_up_of, held_tac, next_by, next_input, used, use_now, tick_by, drop_by, command_of}
+use Rattle.abstract_monitor.specs.Commands.{user_by, opened_row, started, lterm_at, user_at, with_session, without_session, resumed_by, signed_on_by, withdrawn, rolled_tables, signed_off, due_for}
+use Rattle.abstract_monitor.specs.Commands.{shown_tables, show_by, show_next, last_by, follow_up_of, held_tac, next_by, next_input, used, use_now, tick_by, drop_by, command_of}
 use Rattle.abstract_monitor.specs.Endings.{is_asynchronous, durable, restarts, opened_by_start, opened_by_input, opened_by_row, lterm_of_row, with_service, followed_by_input}
 use Rattle.abstract_monitor.specs.Picks.{free_jobs, is_free}
 use Rattle.abstract_monitor.specs.Sessions.{awaits_by, is_running, is_awaiting}
@@ -26,10 +27,10 @@ use Rattle.abstract_monitor.specs.State.{Application, OpenTransaction, Session, 
 use Rattle.abstract_monitor.specs.Statements.{Stated}
 use Rattle.abstract_monitor.specs.Turns.{queued}
 use Rattle.abstract_monitor.specs.UseLaws.{IsFor, use_fits}
-use Rattle.laws_of_steps.specs.Keeping.{HasFacts}
-use Rattle.laws_of_steps.specs.TablesStayLaws.{again_stays, display_stays}
-use Rattle.laws_of_places.specs.EntriesLaws.{found_put, found_without, other_put, other_without}
-use Rattle.laws_of_places.specs.RowsLaws.{least_passes, all_filtered, filtered_pass}
+use Rattle.laws_of_states.specs.Keeping.{HasFacts}
+use Rattle.laws_of_states.specs.TablesStayLaws.{again_stays, display_stays}
+use Rattle.laws_of_states.specs.EntriesLaws.{found_put, found_without, other_put, other_without}
+use Rattle.laws_of_states.specs.RowsLaws.{least_passes, all_filtered, filtered_pass}
 use Rattle.laws_of_runs.specs.Replays.{HasSameJob, SeesTheSame, ReplaysToItself, AllReplay}
 use Rattle.laws_of_runs.proofs.Frames.{still_replays, service_content, job_kept}
 use Rattle.laws_of_runs.proofs.Openings.{start_replays, awaited_replays, asynchronous_row_replays}

@@ -20,27 +20,28 @@ use Rattle.abstract_monitor.specs.declared.outcome.Outcome.{Outcome}
 use Rattle.abstract_monitor.specs.Bytes.{Bytes, bytes_cmp}
 use Rattle.abstract_monitor.specs.Calls.{Told}
 use Rattle.abstract_monitor.specs.declared.command.Command.TheVariants.{Input, Tick, Run, Turn, Drop, Print, PrintLast, Restart}
-use Rattle.abstract_monitor.specs.Commands.{ScriptStep, maker_of, state_after, lterm_at, user_at, signed_on_by, show_by, show_next, show_again_by, due_for, display, last_by, used, use_now, tick_by, drop_by, command_of, Maker, ByTick, ByShow, ByTransaction, is_for, shown_tables, started, turned_step}
+use Rattle.abstract_monitor.specs.Commands.{ScriptStep, maker_of, state_after, lterm_at, user_at, signed_on_by, show_by, show_next, show_again_by, due_for, display, last_by, used, use_now, tick_by}
+use Rattle.abstract_monitor.specs.Commands.{drop_by, command_of, Maker, ByTick, ByShow, ByTransaction, is_for, shown_tables, started, turned_step}
 use Rattle.abstract_monitor.specs.Endings.{synchronised, broken, durable, refusal}
 use Rattle.abstract_monitor.specs.State.{Application, OpenTransaction, Session, State}
 use Rattle.abstract_monitor.specs.Statements.{kept_record}
 use Rattle.abstract_monitor.specs.Trace.{history}
 use Rattle.abstract_monitor.specs.Turns.{told_here, statement_now, turn_of}
-use Rattle.laws_of_steps.specs.Commits.{IsAtomicCommit}
-use Rattle.laws_of_steps.specs.Replay.{settled_as, IsReplayed}
-use Rattle.laws_of_places.specs.Along.{MeetsAlong}
-use Rattle.laws_of_places.specs.AlongLaws.{meets_along}
-use Rattle.laws_of_steps.specs.EachStep.{EachStep}
-use Rattle.laws_of_steps.specs.EachStepLaws.{each_split}
+use Rattle.laws_of_states.specs.Commits.{IsAtomicCommit}
+use Rattle.laws_of_states.specs.Replay.{settled_as, IsReplayed}
+use Rattle.laws_of_states.specs.Along.{MeetsAlong}
+use Rattle.laws_of_states.specs.AlongLaws.{meets_along}
+use Rattle.laws_of_states.specs.EachStep.{EachStep}
+use Rattle.laws_of_states.specs.EachStepLaws.{each_split}
 use Rattle.laws_of_runs.specs.RunLaws.{HistoriesCommitOnce}
-use Rattle.laws_of_steps.specs.Steps.{CommitsOnce, MakesNoCommit, MakesOneCommit}
-use Rattle.laws_of_tables.specs.ItemsLaws.{contains}
-use Rattle.laws_of_tables.specs.EndsLaws.{due_job_found, for_lterm}
-use Rattle.laws_of_places.specs.RowsLaws.{least_passes, filtered_pass}
+use Rattle.laws_of_states.specs.Steps.{CommitsOnce, MakesNoCommit, MakesOneCommit}
+use Rattle.laws_of_states.specs.ItemsLaws.{contains}
+use Rattle.laws_of_states.specs.EndsLaws.{due_job_found, for_lterm}
+use Rattle.laws_of_states.specs.RowsLaws.{least_passes, filtered_pass}
 use Rattle.abstract_monitor.specs.Picks.{free_jobs}
 use Rattle.kd_base.specs.ToolsLaws.{both_true}
 use Rattle.std.proofs.lemmas.Bool.{leb-true}
-use Rattle.laws_of_steps.specs.Transactions.{HasOwnJob, IsRooted}
+use Rattle.laws_of_states.specs.Transactions.{HasOwnJob, IsRooted}
 use Rattle.laws_of_runs.specs.Replays.{HasSameJob, LookAlike}
 use Rattle.laws_of_runs.specs.SerialRuns.{Shows, MakeInTurn, makers_of, Makes, MakesItsCommit, TurnsMakeTheirCommits, CommandsMakeTheirCommits, ScriptsAreSerialRuns, StopsLeaveSerialRuns}
 use Rattle.laws_of_runs.specs.SerialLaws.{HasReplays, StepsKeepReplays, IsSerialBy, IsSerialStep, TurnsCommitSerially, CommandsCommitSerially, HistoriesAreSerial}

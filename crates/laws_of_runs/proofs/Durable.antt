@@ -17,22 +17,23 @@ use Rattle.kdcs_types.specs.Keys.{id_eq}
 use Rattle.kdcs_types.specs.KeyLaws.{id_eq_itself}
 use Rattle.kdcs_types.specs.RowLaws.{own_id, sorted_with_change}
 use Rattle.kdcs_types.specs.Tables.{TableRows, IsSortedTables, service_key, content_of, job_of, service_of, with_change, change_fits, change_key}
-use Rattle.kdcdef_types.specs.Generation.{Generated}
+use Rattle.application_types.specs.Generation.{Generated}
 use Rattle.abstract_monitor.specs.declared.outcome.Outcome.{Outcome}
 use Rattle.abstract_monitor.specs.AreaLaws.{area_changes, areas_sorted, own_job_sorted, job_change_fits, own_fate_sorted}
 use Rattle.abstract_monitor.specs.Redelivery.{fate}
 use Rattle.abstract_monitor.specs.Bytes.{Bytes, bytes_cmp}
-use Rattle.abstract_monitor.specs.Endings.{is_durable, durable, area_change, with_areas, service_change, with_service, without_own_job, job_change, with_own_fate, with_drafts, row_after, synchronised, broken}
+use Rattle.abstract_monitor.specs.Endings.{is_durable, durable, area_change, with_areas, service_change, with_service, without_own_job, job_change, with_own_fate, with_drafts, row_after, synchronised}
+use Rattle.abstract_monitor.specs.Endings.{broken}
 use Rattle.abstract_monitor.specs.State.{OpenTransaction}
 use Rattle.abstract_monitor.specs.Statements.{Kept}
-use Rattle.laws_of_steps.specs.DurableKeys.{key_is_durable}
-use Rattle.laws_of_steps.specs.DurableLaws.{durable_sorted, durable_again, durable_changed, kept_at}
-use Rattle.laws_of_steps.specs.OwnRowLaws.{row_there_fits}
-use Rattle.laws_of_steps.specs.Replay.{with_began}
+use Rattle.laws_of_states.specs.DurableKeys.{key_is_durable}
+use Rattle.laws_of_states.specs.DurableLaws.{durable_sorted, durable_again, durable_changed, kept_at}
+use Rattle.laws_of_states.specs.OwnRowLaws.{row_there_fits}
+use Rattle.laws_of_states.specs.Replay.{with_began}
 use Rattle.laws_of_runs.specs.OwnRowsLaws.{own_key}
 use Rattle.laws_of_runs.specs.Replays.{HasSameJob}
 use Rattle.laws_of_runs.proofs.Frames.{service_content}
-use Rattle.laws_of_tables.specs.PointsLaws.{point_row_fits}
+use Rattle.laws_of_states.specs.PointsLaws.{point_row_fits}
 
 -- ---- the durable tables with the row at the beginning
 

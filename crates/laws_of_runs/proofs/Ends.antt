@@ -9,7 +9,7 @@ use Rattle.kdcs_types.specs.declared.service.Ending.{Ending}
 use Rattle.kdcs_types.specs.declared.service.JobValue.{JobValue}
 use Rattle.kdcs_types.specs.declared.service.Service.{Service}
 use Rattle.kdcs_types.specs.Tables.{TableRows, job_of}
-use Rattle.unit_types.specs.UnitText.{UnitText}
+use Rattle.application_types.specs.UnitText.{UnitText}
 use Rattle.abstract_monitor.specs.declared.answer.Called.{Called}
 use Rattle.abstract_monitor.specs.declared.answer.Called.TheVariants.{Replied, Waits, Abnormal, Pends}
 use Rattle.abstract_monitor.specs.declared.answer.Happened.{Happened}
@@ -22,10 +22,11 @@ use Rattle.abstract_monitor.specs.State.{Application, OpenTransaction}
 use Rattle.abstract_monitor.specs.Calls.{Told, Performed, touches, touching, answer_by, on_answer}
 use Rattle.abstract_monitor.specs.Endings.{is_asynchronous, opened, durable, broken, synchronised, refusal, followed_by_input}
 use Rattle.abstract_monitor.specs.Statements.{Kept, Stated, area_of, kept_so_far, kept_record, by_call, by_performed, statement}
-use Rattle.laws_of_steps.specs.Replay.{dialogue_from, job_from, opened_from, went_on, replay_told, replay_statement, replay_step, replay, Ended, settled_as, ended_by, atomic, GoesOn, IsReplayed, IsAtomic}
-use Rattle.laws_of_steps.specs.Transactions.{IsRooted}
+use Rattle.laws_of_states.specs.Replay.{dialogue_from, job_from, opened_from, went_on, replay_told, replay_statement, replay_step, replay, Ended, settled_as, ended_by, atomic, GoesOn, IsReplayed}
+use Rattle.laws_of_states.specs.Replay.{IsAtomic}
+use Rattle.laws_of_states.specs.Transactions.{IsRooted}
 use Rattle.laws_of_runs.specs.Replays.{GoesOnAtOnce}
-use Rattle.laws_of_places.specs.ShapesLaws.{IsAnswered, AnsweredBy, StatementLeaves, StatementLooks, StatementAlone, StatementLocks, StatementUnlocks, statement_looks}
+use Rattle.laws_of_states.specs.ShapesLaws.{IsAnswered, AnsweredBy, StatementLeaves, StatementLooks, StatementAlone, StatementLocks, StatementUnlocks, statement_looks}
 
 -- ---- an end looks at nothing
 

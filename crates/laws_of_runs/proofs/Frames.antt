@@ -16,17 +16,17 @@ use Rattle.kdcs_types.specs.KeyedLaws.{item_at_with, item_at_without}
 use Rattle.kdcs_types.specs.Keys.{area_eq, id_eq, key_eq}
 use Rattle.kdcs_types.specs.KeyLaws.{area_eq_same, other_number}
 use Rattle.kdcs_types.specs.Tables.{TableRows, gssb_key, tls_key, uls_key, job_key, content_of, with_change}
-use Rattle.kdcdef_types.specs.Generation.{Generated}
+use Rattle.application_types.specs.Generation.{Generated}
 use Rattle.abstract_monitor.specs.declared.answer.LockAnswer.TheVariants.{Granted}
 use Rattle.abstract_monitor.specs.declared.outcome.Outcome.{Outcome}
 use Rattle.abstract_monitor.specs.Bytes.{Bytes}
 use Rattle.abstract_monitor.specs.State.{Application, OpenTransaction}
 use Rattle.abstract_monitor.specs.Calls.{Told, touches}
 use Rattle.abstract_monitor.specs.Endings.{area_change, with_areas, with_service, without_own_job, job_change, with_own_fate, with_drafts, row_after, synchronised, broken}
-use Rattle.laws_of_steps.specs.JobLaw.{jobs_left, new_jobs}
-use Rattle.laws_of_steps.specs.JobLaws.{points_number, ends_draw_none, others_at_end}
-use Rattle.laws_of_steps.specs.Transactions.{HasOwnJob}
-use Rattle.laws_of_places.specs.RowsLaws.{has_job, job_there}
+use Rattle.laws_of_states.specs.JobLaw.{jobs_left, new_jobs}
+use Rattle.laws_of_states.specs.JobLaws.{points_number, ends_draw_none, others_at_end}
+use Rattle.laws_of_states.specs.Transactions.{HasOwnJob}
+use Rattle.laws_of_states.specs.RowsLaws.{has_job, job_there}
 use Rattle.laws_of_runs.specs.Replays.{SeesTheSame, HasSameJob, ReplaysToItself}
 
 then_same : (t u w : TableRows) (id : ServiceId) (began : Option Service) → HasSameJob t u id began → HasSameJob u w id began → HasSameJob t w id began

@@ -10,10 +10,10 @@ use Rattle.abstract_monitor.specs.declared.command.Command.{Command}
 use Rattle.abstract_monitor.specs.declared.command.Command.TheVariants.{Input, Tick, Run, Turn, Drop, Print, PrintLast, Restart}
 use Rattle.abstract_monitor.specs.Commands.{ScriptStep, rotated, next_task, in_a_row, steps_of, state_after, acts_of}
 use Rattle.abstract_monitor.specs.Trace.{history, tables_after}
-use Rattle.laws_of_steps.specs.Keeping.{HasFacts}
-use Rattle.laws_of_steps.specs.Steps.{CommitsOnce, MakesItsTables, TurnsCommitOnce, CommandsCommitOnce, StepsMakeTheirTables}
-use Rattle.laws_of_steps.specs.EachStep.{EachStep}
-use Rattle.laws_of_steps.specs.EachStepLaws.{each_both}
+use Rattle.laws_of_states.specs.Keeping.{HasFacts}
+use Rattle.laws_of_states.specs.Steps.{CommitsOnce, MakesItsTables, TurnsCommitOnce, CommandsCommitOnce, StepsMakeTheirTables}
+use Rattle.laws_of_states.specs.EachStep.{EachStep}
+use Rattle.laws_of_states.specs.EachStepLaws.{each_both}
 use Rattle.laws_of_runs.specs.ListsLaws.{tables_both}
 
 module _ (turns : TurnsCommitOnce) (commands : CommandsCommitOnce) (app : Application) where

@@ -11,7 +11,7 @@ use Rattle.kdcs_types.specs.declared.service.JobValue.{JobValue}
 use Rattle.kdcs_types.specs.declared.service.Note.{Note}
 use Rattle.kdcs_types.specs.declared.service.Service.{Service}
 use Rattle.kdcs_types.specs.Tables.{TableRows, job_of, service_of}
-use Rattle.unit_types.specs.UnitText.{UnitText}
+use Rattle.application_types.specs.UnitText.{UnitText}
 use Rattle.abstract_monitor.specs.declared.answer.Called.{Called}
 use Rattle.abstract_monitor.specs.declared.answer.Called.TheVariants.{Replied}
 use Rattle.abstract_monitor.specs.declared.answer.Happened.{Happened}
@@ -22,9 +22,9 @@ use Rattle.abstract_monitor.specs.State.{Application, OpenTransaction}
 use Rattle.abstract_monitor.specs.Calls.{Told, Performed, touches, touching, answer_by, on_answer}
 use Rattle.abstract_monitor.specs.Endings.{is_asynchronous, opened, with_service, followed_by_input}
 use Rattle.abstract_monitor.specs.Statements.{Kept, Stated, area_of, by_call, by_performed, statement}
-use Rattle.laws_of_steps.specs.Replay.{is_made, dialogue_from, job_from, opened_from, went_on, replay_told, replay}
+use Rattle.laws_of_states.specs.Replay.{is_made, dialogue_from, job_from, opened_from, went_on, replay_told, replay}
 use Rattle.laws_of_runs.specs.SerialLaws.{CommitsBeginWithTheirRow, RecordsHaveMadeNotes}
-use Rattle.laws_of_places.specs.ShapesLaws.{IsAnswered, AnsweredBy, StatementLeaves, StatementLooks, StatementAlone, StatementLocks, StatementUnlocks, statement_looks}
+use Rattle.laws_of_states.specs.ShapesLaws.{IsAnswered, AnsweredBy, StatementLeaves, StatementLooks, StatementAlone, StatementLocks, StatementUnlocks, statement_looks}
 
 -- the row at the beginning is that of the durable tables
 pub commits_begin : CommitsBeginWithTheirRow

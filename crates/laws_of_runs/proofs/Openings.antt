@@ -8,7 +8,7 @@ use Rattle.kdcs_types.specs.Tables.{TableRows, job_of}
 use Rattle.abstract_monitor.specs.Bytes.{Bytes}
 use Rattle.abstract_monitor.specs.State.{Application}
 use Rattle.abstract_monitor.specs.Endings.{opened, opened_by_start, opened_by_input, opened_by_row, opened_by_job, lterm_of_row}
-use Rattle.laws_of_steps.specs.Replay.{replay, dialogue_from, job_from}
+use Rattle.laws_of_states.specs.Replay.{replay, dialogue_from, job_from}
 use Rattle.laws_of_runs.specs.Replays.{kept_and, ReplaysToItself}
 
 module _ (app : Application) (t : TableRows) where

@@ -26,11 +26,12 @@ use Rattle.abstract_monitor.specs.Endings.{synchronised, broken, durable, refusa
 use Rattle.abstract_monitor.specs.Picks.{pick}
 use Rattle.abstract_monitor.specs.State.{Application, OpenTransaction, State}
 use Rattle.abstract_monitor.specs.Statements.{kept_record}
-use Rattle.abstract_monitor.specs.Turns.{without_transaction, abnormal, after_point, settled_by, settled, last_again, back_by, back, happens, told_here, statement_now, served, took_job_for, took_job, took, turn_by, turn_of}
-use Rattle.laws_of_steps.specs.Facts.{IsConsistent}
-use Rattle.laws_of_steps.specs.Replay.{settled_as, IsAtomic, IsReplayable, SettlesAs}
+use Rattle.abstract_monitor.specs.Turns.{without_transaction, abnormal, after_point, settled_by, settled, last_again, back_by, back, happens, told_here, statement_now, served, took_job_for, took_job}
+use Rattle.abstract_monitor.specs.Turns.{took, turn_by, turn_of}
+use Rattle.laws_of_states.specs.Facts.{IsConsistent}
+use Rattle.laws_of_states.specs.Replay.{settled_as, IsAtomic, IsReplayable, SettlesAs}
 use Rattle.laws_of_runs.proofs.Ends.{breaks_atomic, settles_atomic}
-use Rattle.laws_of_steps.specs.TablesStayLaws.{sent_tables}
+use Rattle.laws_of_states.specs.TablesStayLaws.{sent_tables}
 
 -- it holds of the tables and the record of a turn that ends a transaction
 abbrev pub IfSettled : (TableRows → Settled → Type 0) → TableRows → Option Settled → Type 0

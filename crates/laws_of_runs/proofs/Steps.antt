@@ -12,7 +12,7 @@ use Rattle.kdcs_types.specs.declared.service.Note.TheVariants.{Released, Refused
 use Rattle.kdcs_types.specs.Keys.{area_eq}
 use Rattle.kdcs_types.specs.KeyLaws.{area_eq_same, area_eq_itself}
 use Rattle.kdcs_types.specs.Tables.{TableRows, content_of}
-use Rattle.unit_types.specs.UnitText.{UnitText}
+use Rattle.application_types.specs.UnitText.{UnitText}
 use Rattle.abstract_monitor.specs.declared.answer.Called.{Called}
 use Rattle.abstract_monitor.specs.declared.answer.Called.TheVariants.{Replied, Waits, Abnormal, Pends}
 use Rattle.abstract_monitor.specs.declared.answer.Happened.{Happened}
@@ -24,9 +24,9 @@ use Rattle.abstract_monitor.specs.State.{Application, OpenTransaction}
 use Rattle.abstract_monitor.specs.Calls.{Told, Performed, touches, touching, noted, answer_by, on_answer, locked, replied, unlocked_by, or_empty}
 use Rattle.abstract_monitor.specs.Endings.{is_asynchronous, followed_by_input}
 use Rattle.abstract_monitor.specs.Statements.{Kept, Stated, area_of, by_call, by_performed, statement}
-use Rattle.laws_of_steps.specs.Replay.{noted_area, notes_on, answer_by_note, content_by_note, went_on, replay_step, replay}
-use Rattle.laws_of_tables.specs.ListsLaws.{any_last, any_append, any_filter}
-use Rattle.laws_of_places.specs.ShapesLaws.{Becomes, IsCounted, IsAnswered, AnsweredBy, StatementLeaves, StatementLooks, StatementAlone, StatementLocks, StatementUnlocks, statement_looks}
+use Rattle.laws_of_states.specs.Replay.{noted_area, notes_on, answer_by_note, content_by_note, went_on, replay_step, replay}
+use Rattle.laws_of_states.specs.ListsLaws.{any_last, any_append, any_filter}
+use Rattle.laws_of_states.specs.ShapesLaws.{Becomes, IsCounted, IsAnswered, AnsweredBy, StatementLeaves, StatementLooks, StatementAlone, StatementLocks, StatementUnlocks, statement_looks}
 use Rattle.laws_of_runs.specs.Replays.{GoesOnAtOnce, kept_and, told_by, HasSameJob, LookAlike, ReplaysToItself}
 use Rattle.laws_of_runs.specs.ReplaysLaws.{told_of, told_rest, replay_next, replays_counted}
 

@@ -30,12 +30,13 @@ use Rattle.abstract_monitor.specs.Locks.{told_now, locks_of, touched_by}
 use Rattle.abstract_monitor.specs.Picks.{pick}
 use Rattle.abstract_monitor.specs.State.{Application, OpenTransaction, Session, State}
 use Rattle.abstract_monitor.specs.Statements.{Stated, area_of}
-use Rattle.abstract_monitor.specs.Turns.{pterm_of_user, noted_last, last_told, message_sent, with_open, without_wait, with_task, queued, without_transaction, abnormal, goes_on, after_point, settled, back_by, back, waiting_for, happens, told_here, statement_now, served, took_job_for, took_job, took, turn_by, turn_of}
-use Rattle.laws_of_steps.specs.EachTurnLaws.{of_point}
-use Rattle.laws_of_steps.specs.Keeping.{HasFacts}
-use Rattle.laws_of_steps.specs.Replay.{opened_from}
-use Rattle.laws_of_steps.specs.TablesStayLaws.{last_again_stays}
-use Rattle.laws_of_places.specs.EntriesLaws.{found_put, found_without, other_put, other_without}
+use Rattle.abstract_monitor.specs.Turns.{pterm_of_user, noted_last, last_told, message_sent, with_open, without_wait, with_task, queued, without_transaction, abnormal, goes_on, after_point, settled}
+use Rattle.abstract_monitor.specs.Turns.{back_by, back, waiting_for, happens, told_here, statement_now, served, took_job_for, took_job, took, turn_by, turn_of}
+use Rattle.laws_of_states.specs.EachTurnLaws.{of_point}
+use Rattle.laws_of_states.specs.Keeping.{HasFacts}
+use Rattle.laws_of_states.specs.Replay.{opened_from}
+use Rattle.laws_of_states.specs.TablesStayLaws.{last_again_stays}
+use Rattle.laws_of_states.specs.EntriesLaws.{found_put, found_without, other_put, other_without}
 use Rattle.laws_of_runs.specs.ReplaysLaws.{alike_itself, same_job}
 use Rattle.laws_of_runs.specs.Replays.{kept_and, GoesOnAtOnce, SeesTheSame, ReplaysToItself, AllReplay}
 use Rattle.laws_of_runs.proofs.Ends.{replay_lterm}

@@ -1,7 +1,7 @@
 -- What the steps of a turn in rotation, of a command and of a script are.
 use Rattle.std.specs.Prelude.{◌≡◌, refl, ℕ, zero, suc, ◌+◌, ◌≤◌, ◌<◌, Bool, true, false, List, [], ◌∷◌, ◌++◌, ◌==◌, if◌then◌else◌}
 use Rattle.std.proofs.Common.{ap, ◌∙◌, arith}
-use Rattle.kdcdef_types.specs.Statements.{IsWithin}
+use Rattle.application_types.specs.Statements.{IsWithin}
 use Rattle.abstract_monitor.specs.declared.command.Command.{Command}
 use Rattle.abstract_monitor.specs.declared.command.Command.TheVariants.{Run, Turn, Restart}
 use Rattle.abstract_monitor.specs.Commands.{ScriptStep, command_of, in_a_row, next_task, rotated, state_after, steps_of, turned_step}

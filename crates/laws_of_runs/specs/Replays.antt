@@ -15,7 +15,7 @@ use Rattle.abstract_monitor.specs.Bytes.{Bytes}
 use Rattle.abstract_monitor.specs.State.{Application, OpenTransaction, State}
 use Rattle.abstract_monitor.specs.Calls.{Told, touches}
 use Rattle.abstract_monitor.specs.Statements.{Kept}
-use Rattle.laws_of_steps.specs.Replay.{notes_on, answer_by_note, content_by_note, replay}
+use Rattle.laws_of_states.specs.Replay.{notes_on, answer_by_note, content_by_note, replay}
 
 -- ---- what a record may gain
 

@@ -12,7 +12,7 @@ use Rattle.abstract_monitor.specs.Bytes.{Bytes}
 use Rattle.abstract_monitor.specs.State.{Application, OpenTransaction}
 use Rattle.abstract_monitor.specs.Calls.{Told, nothing_told}
 use Rattle.abstract_monitor.specs.Statements.{Kept}
-use Rattle.laws_of_steps.specs.Replay.{noted_area, answer_by_note, content_by_note, replay_told, replay_step, replay}
+use Rattle.laws_of_states.specs.Replay.{noted_area, answer_by_note, content_by_note, replay_told, replay_step, replay}
 use Rattle.laws_of_runs.specs.Replays.{kept_and, told_by, HasSameJob, LookAlike, ReplaysToItself}
 
 -- ---- what a record may gain

@@ -6,11 +6,11 @@ use Rattle.abstract_monitor.specs.Endings.{durable}
 use Rattle.abstract_monitor.specs.declared.command.Command.{Command}
 use Rattle.abstract_monitor.specs.Commands.{started, state_after}
 use Rattle.abstract_monitor.specs.Trace.{history, trace, tables_after}
-use Rattle.laws_of_steps.specs.Applications.{IsApplication}
-use Rattle.laws_of_steps.specs.EachStep.{EachStep}
-use Rattle.laws_of_steps.specs.Keeping.{HasFacts, HoldsAlong, IsScriptOf}
-use Rattle.laws_of_steps.specs.Steps.{CommitsOnce, MakesItsTables}
-use Rattle.laws_of_steps.specs.Suits.{Suits}
+use Rattle.laws_of_states.specs.Applications.{IsApplication}
+use Rattle.laws_of_states.specs.EachStep.{EachStep}
+use Rattle.laws_of_states.specs.Keeping.{HasFacts, HoldsAlong, IsScriptOf}
+use Rattle.laws_of_states.specs.Steps.{CommitsOnce, MakesItsTables}
+use Rattle.laws_of_states.specs.Suits.{Suits}
 
 -- a start from tables that suit has the facts
 abbrev pub StartsHaveFacts : Type 0

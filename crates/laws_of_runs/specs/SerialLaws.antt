@@ -18,13 +18,13 @@ use Rattle.abstract_monitor.specs.Trace.{history}
 use Rattle.abstract_monitor.specs.Endings.{is_asynchronous, is_durable, durable, opened_by_start, opened_by_input, opened_by_row, opened_by_job, lterm_of_row, followed_by_input}
 use Rattle.abstract_monitor.specs.Statements.{Kept, area_of, statement}
 use Rattle.abstract_monitor.specs.Turns.{turn_of}
-use Rattle.laws_of_steps.specs.Facts.{IsConsistent}
-use Rattle.laws_of_steps.specs.Keeping.{Fact, Leads, HasFacts, HoldsAlong, IsScriptOf}
-use Rattle.laws_of_steps.specs.Applications.{IsApplication}
-use Rattle.laws_of_steps.specs.Commits.{IsAtomicCommit, AtomicLaw}
-use Rattle.laws_of_steps.specs.Suits.{Suits}
-use Rattle.laws_of_steps.specs.EachStep.{EachStep}
-use Rattle.laws_of_steps.specs.Replay.{is_made, IsDetermined, IsReplayable, SettlesAs}
+use Rattle.laws_of_states.specs.Facts.{IsConsistent}
+use Rattle.laws_of_states.specs.Keeping.{Fact, Leads, HasFacts, HoldsAlong, IsScriptOf}
+use Rattle.laws_of_states.specs.Applications.{IsApplication}
+use Rattle.laws_of_states.specs.Commits.{IsAtomicCommit, AtomicLaw}
+use Rattle.laws_of_states.specs.Suits.{Suits}
+use Rattle.laws_of_states.specs.EachStep.{EachStep}
+use Rattle.laws_of_states.specs.Replay.{is_made, IsDetermined, IsReplayable, SettlesAs}
 use Rattle.laws_of_runs.specs.Replays.{GoesOnAtOnce, SeesTheSame, ReplaysToItself, AllReplay}
 
 -- each way to open a transaction gives one that replays to itself

@@ -9,10 +9,10 @@ use Rattle.abstract_monitor.specs.Endings.{durable}
 use Rattle.abstract_monitor.specs.State.{Application, State}
 use Rattle.abstract_monitor.specs.Trace.{history}
 use Rattle.abstract_monitor.specs.Turns.{turn_of}
-use Rattle.laws_of_steps.specs.Applications.{IsApplication}
-use Rattle.laws_of_steps.specs.Commits.{IsAtomicCommit}
-use Rattle.laws_of_steps.specs.Keeping.{IsScriptOf}
-use Rattle.laws_of_steps.specs.Suits.{Suits}
+use Rattle.laws_of_states.specs.Applications.{IsApplication}
+use Rattle.laws_of_states.specs.Commits.{IsAtomicCommit}
+use Rattle.laws_of_states.specs.Keeping.{IsScriptOf}
+use Rattle.laws_of_states.specs.Suits.{Suits}
 use Rattle.laws_of_runs.specs.SerialLaws.{HasReplays}
 
 -- KDCOUT and PRINT show a due job of the LTERM

@@ -1,5 +1,7 @@
 //! What holds of every run of the abstract monitor: each state that it reaches has the facts of a state, its commits
-//! make, one after another, the durable tables of the state that it comes to, and they are those of a serial run.
+//! make, one after another, the durable tables of the state that it comes to, and they are those of a serial run. Beside it
+//! stand the laws on jobs (`laws_of_jobs`), on access (`laws_of_access`), and on what an application is
+//! (`laws_of_applications`).
 //!
 //! It stands on the laws of single steps: what they keep of places and sessions, of tables and transactions, and that
 //! each commits once at most. The functions do nothing: their contracts are laws on the definitions, which the monitor
@@ -9,11 +11,14 @@
 //! transaction that ends does so as its record, run in one go.
 #![tactic(auto)]
 
-ghost use Rattle.laws_of_runs.specs.{RunLaws.{StartsHaveFacts, ScriptsKeepFacts, HistoriesCommitOnce, HistoriesMakeTables, CommitsMakeTables}, SerialLaws.{AllOpeningsReplay, StatementsReplay, InputsReplay, OtherTablesReplay, StepsKeepReplays, ScriptsKeepReplays, ReplaysAreRecords, TurnsEndSerially, CommitsBeginWithTheirRow, RecordsHaveMadeNotes, TurnsCommitSerially, CommandsCommitSerially, HistoriesAreSerial, RunsAreSerial}, SerialRuns.{TurnsMakeTheirCommits, CommandsMakeTheirCommits, ScriptsAreSerialRuns, StopsLeaveSerialRuns}};
+ghost use Rattle.laws_of_runs.specs.RunLaws.{StartsHaveFacts, ScriptsKeepFacts, HistoriesCommitOnce, HistoriesMakeTables, CommitsMakeTables};
+ghost use Rattle.laws_of_runs.specs.SerialLaws.{AllOpeningsReplay, StatementsReplay, InputsReplay, OtherTablesReplay, StepsKeepReplays, ScriptsKeepReplays, ReplaysAreRecords, TurnsEndSerially};
+ghost use Rattle.laws_of_runs.specs.SerialLaws.{CommitsBeginWithTheirRow, RecordsHaveMadeNotes, TurnsCommitSerially, CommandsCommitSerially, HistoriesAreSerial, RunsAreSerial};
+ghost use Rattle.laws_of_runs.specs.SerialRuns.{TurnsMakeTheirCommits, CommandsMakeTheirCommits, ScriptsAreSerialRuns, StopsLeaveSerialRuns};
 
-use laws_of_places::{facts_hold_along, states_stay_consistent};
-use laws_of_steps::steps_commit_once;
-use laws_of_tables::states_stay_sound;
+use laws_of_states::laws_of_places::{facts_hold_along, states_stay_consistent};
+use laws_of_states::laws_of_steps::steps_commit_once;
+use laws_of_states::laws_of_tables::states_stay_sound;
 
 /// A start from tables that suit the generation has all facts of a state, and so has each state that a script of the
 /// generation's names comes to.
@@ -93,3 +98,7 @@ pub fn scripts_are_serial_runs()
     replays_hold_along_every_script();
     commits_make_the_tables();
 }
+
+pub mod laws_of_access;
+pub mod laws_of_applications;
+pub mod laws_of_jobs;

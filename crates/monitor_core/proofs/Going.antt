@@ -1,22 +1,22 @@
 -- The parts of a monitor that goes on stay sound, and its turns and commands meet the laws.
 use Rattle.std.specs.Prelude.{◌≡◌, ℕ, List}
 use Rattle.std.proofs.Common.{sym, subst, ap, ◌∙◌}
-use Rattle.kdcdef_types.specs.Statements.{IsWithin}
+use Rattle.application_types.specs.Statements.{IsWithin}
 use Rattle.kdcs_types.specs.declared.act.Act.{Act}
 use Rattle.abstract_monitor.specs.State.{Application, State}
 use Rattle.abstract_monitor.specs.declared.command.Command.{Command}
 use Rattle.abstract_monitor.specs.Commands.{command_of, turned_step}
 use Rattle.abstract_monitor.specs.Turns.{Turned, turn_of}
 use Rattle.monitor_core.specs.Commanding.{Comes}
-use Rattle.laws_of_steps.specs.Applications.{IsApplication}
+use Rattle.laws_of_states.specs.Applications.{IsApplication}
 use Rattle.abstract_monitor.specs.CommandsOf.{IsCommandOf}
-use Rattle.laws_of_steps.specs.Replay.{SettlesAs}
-use Rattle.laws_of_jobs.specs.QueueLaws.{KeepsQueues, TurnsKeepQueues, CommandsKeepQueues}
+use Rattle.laws_of_states.specs.Replay.{SettlesAs}
+use Rattle.laws_of_runs.specs.QueueLaws.{KeepsQueues, TurnsKeepQueues, CommandsKeepQueues}
 use Rattle.laws_of_runs.specs.Replays.{AllReplay}
 use Rattle.laws_of_runs.specs.SerialLaws.{HasReplays, IsSerialStep, StepsKeepReplays, ReplaysAreRecords, TurnsEndSerially, TurnsCommitSerially, CommandsCommitSerially}
-use Rattle.core_state.specs.declared.parts.MonitorParts.{MonitorParts}
-use Rattle.core_state.specs.Standing.{state_of}
-use Rattle.core_state.specs.Whole.{IsWhole, app_of}
+use Rattle.service_ends.specs.declared.core_state.parts.MonitorParts.{MonitorParts}
+use Rattle.service_ends.specs.Standing.{state_of}
+use Rattle.service_ends.specs.Whole.{IsWhole, app_of}
 use Rattle.monitor_core.specs.CoreValue.{CoreValue, core_value}
 use Rattle.monitor_core.specs.Sound.{IsSound}
 use Rattle.monitor_core.specs.Steps.{came_to}

@@ -6,20 +6,20 @@ use Rattle.kdcs_types.specs.declared.key.ServiceId.{ServiceId}
 use Rattle.kdcs_types.specs.declared.service.Job.{Job}
 use Rattle.kdcs_types.specs.declared.service.Service.{Service}
 use Rattle.kdcs_types.specs.Tables.{TableRows, IsSortedTables}
-use Rattle.kdcdef_types.specs.Generation.{Generated}
-use Rattle.area_locks.specs.Asked.{no_locks}
-use Rattle.async_queue.specs.MarksLaws.{untaken_of}
-use Rattle.async_queue.specs.Queue.{untaken}
+use Rattle.application_types.specs.Generation.{Generated}
+use Rattle.monitor_parts.specs.Asked.{no_locks}
+use Rattle.open_transaction.specs.MarksLaws.{untaken_of}
+use Rattle.open_transaction.specs.Queue.{untaken}
 use Rattle.step_scheduler.specs.Schedule.{all_free, service_in}
 use Rattle.abstract_monitor.specs.Charges.{total_charge}
 use Rattle.abstract_monitor.specs.Commands.{asynchronous_rows, started}
 use Rattle.abstract_monitor.specs.Endings.{durable}
 use Rattle.abstract_monitor.specs.Picks.{is_free}
 use Rattle.abstract_monitor.specs.State.{Application, State}
-use Rattle.core_state.specs.declared.parts.MonitorParts.{MonitorParts}
-use Rattle.core_state.specs.Standing.{Each, IsIndexed, PlaceHasClass, SameApplication, state_of}
-use Rattle.core_state.specs.Whole.{app_of}
-use Rattle.core_state.specs.WholeLaws.{same_app}
+use Rattle.service_ends.specs.declared.core_state.parts.MonitorParts.{MonitorParts}
+use Rattle.service_ends.specs.Standing.{Each, IsIndexed, PlaceHasClass, SameApplication, state_of}
+use Rattle.service_ends.specs.Whole.{app_of}
+use Rattle.service_ends.specs.WholeLaws.{same_app}
 use Rattle.monitor_core.specs.Starting.{AreFresh, all_opened, idle, opened_then}
 use Rattle.monitor_core.specs.StartingLaws.{fresh_of, fresh_then, started_so}
 

@@ -15,22 +15,22 @@ use Rattle.kdcs_types.specs.declared.service.Job.{Job}
 use Rattle.kdcs_types.specs.declared.service.JobValue.{JobValue}
 use Rattle.kdcs_types.specs.Same.{job_value_eq, target_eq}
 use Rattle.kdcs_types.specs.Tables.{TableRows, IsSortedTables, changed, shown_of}
-use Rattle.async_queue.specs.declared.queue.QueuedJob.{QueuedJob}
-use Rattle.async_queue.specs.Queue.{first_due, untaken}
+use Rattle.open_transaction.specs.declared.async_queue.queue.QueuedJob.{QueuedJob}
+use Rattle.open_transaction.specs.Queue.{first_due, untaken}
 use Rattle.abstract_monitor.specs.Bytes.{Bytes}
 use Rattle.abstract_monitor.specs.Commands.{due_for, is_for, show_by, show_next, shown_tables}
 use Rattle.abstract_monitor.specs.Picks.{due_job, free_jobs}
 use Rattle.abstract_monitor.specs.State.{State}
-use Rattle.laws_of_commits.specs.CommitLaws.{ShownMade, shown_changes, shown_set}
-use Rattle.laws_of_commits.specs.ShowsLaws.{due_stands, shown_made}
-use Rattle.laws_of_tables.specs.EndsLaws.{shows_stay_sound}
-use Rattle.laws_of_tables.specs.PointLaws.{AreSound}
-use Rattle.row_charges.specs.Pages.{FitPool}
+use Rattle.laws_of_states.specs.CommitLaws.{ShownMade, shown_changes, shown_set}
+use Rattle.laws_of_states.specs.ShowsLaws.{due_stands, shown_made}
+use Rattle.laws_of_states.specs.EndsLaws.{shows_stay_sound}
+use Rattle.laws_of_states.specs.PointLaws.{AreSound}
+use Rattle.table_fit.specs.Pages.{FitPool}
 use Rattle.sync_points.specs.PointChanges.{is_real}
 use Rattle.sync_points.specs.RowsLaws.{same_shown}
-use Rattle.core_state.specs.declared.parts.MonitorParts.{MonitorParts}
-use Rattle.core_state.specs.Standing.{IsIndexed, active_of, state_of}
-use Rattle.core_state.specs.Whole.{app_of}
+use Rattle.service_ends.specs.declared.core_state.parts.MonitorParts.{MonitorParts}
+use Rattle.service_ends.specs.Standing.{IsIndexed, active_of, state_of}
+use Rattle.service_ends.specs.Whole.{app_of}
 use Rattle.monitor_core.specs.Commanding.{Comes}
 use Rattle.monitor_core.specs.PickingLaws.{first_same}
 use Rattle.monitor_core.specs.Showing.{job_with}

@@ -7,7 +7,7 @@ use Rattle.kdcs_types.specs.declared.key.ServiceId.{ServiceId}
 use Rattle.kdcs_types.specs.declared.key.ServiceId.TheVariants.{Dialogue}
 use Rattle.kdcs_types.specs.Keys.{id_cmp, id_eq}
 use Rattle.kdcs_types.specs.Tables.{TableRows, service_of}
-use Rattle.kdcdef_types.specs.Generation.{Generated}
+use Rattle.application_types.specs.Generation.{Generated}
 use Rattle.abstract_monitor.specs.declared.input_use.ServiceState.{ServiceState}
 use Rattle.abstract_monitor.specs.Bytes.{Bytes, bytes_cmp}
 use Rattle.abstract_monitor.specs.Commands.{lterm_at, no_place, rolled_tables, signed_off, use_now, user_at, user_by, withdrawn, without_session}
@@ -17,15 +17,15 @@ use Rattle.abstract_monitor.specs.Access.{denial_of}
 use Rattle.abstract_monitor.specs.Sessions.{awaits_by, in_place, is_awaiting, is_running, service_state, use_by, use_under, use_of}
 use Rattle.abstract_monitor.specs.State.{Application, Session, State}
 use Rattle.abstract_monitor.specs.Turns.{without_open}
-use Rattle.laws_of_tables.specs.EndsLaws.{sign_offs_stay_sound}
-use Rattle.laws_of_tables.specs.PointLaws.{AreSound}
-use Rattle.row_charges.specs.Pages.{FitPool}
+use Rattle.laws_of_states.specs.EndsLaws.{sign_offs_stay_sound}
+use Rattle.laws_of_states.specs.PointLaws.{AreSound}
+use Rattle.table_fit.specs.Pages.{FitPool}
 use Rattle.step_scheduler.specs.Schedule as schedule
 use Rattle.step_scheduler.specs.Schedule.{holds, service_in}
-use Rattle.core_state.specs.declared.parts.MonitorParts.{MonitorParts}
-use Rattle.core_state.specs.KeptLaws.{found_open}
-use Rattle.core_state.specs.Whole.{app_of}
-use Rattle.core_state.specs.Standing.{id_of, state_of}
+use Rattle.service_ends.specs.declared.core_state.parts.MonitorParts.{MonitorParts}
+use Rattle.service_ends.specs.KeptLaws.{found_open}
+use Rattle.service_ends.specs.Whole.{app_of}
+use Rattle.service_ends.specs.Standing.{id_of, state_of}
 
 -- ---- the service is ready or in a task
 

@@ -1,17 +1,17 @@
 -- The parts of a monitor that starts are sound.
 use Rattle.std.specs.Prelude.{◌≡◌}
 use Rattle.std.proofs.Common.{sym, subst}
-use Rattle.kdcdef_types.specs.Generation.{Generated}
+use Rattle.application_types.specs.Generation.{Generated}
 use Rattle.kdcs_types.specs.Tables.{TableRows, IsSortedTables}
-use Rattle.unit_check.specs.Fitted.{FittedUnits, IsFit}
-use Rattle.laws_of_applications.specs.Applied.{applied}
+use Rattle.application_check.specs.Fitted.{FittedUnits, IsFit}
+use Rattle.laws_of_runs.specs.Applied.{applied}
 use Rattle.abstract_monitor.specs.Commands.{started}
-use Rattle.laws_of_steps.specs.Applications.{IsApplication}
-use Rattle.laws_of_steps.specs.Suits.{Suits}
+use Rattle.laws_of_states.specs.Applications.{IsApplication}
+use Rattle.laws_of_states.specs.Suits.{Suits}
 use Rattle.laws_of_runs.specs.SerialLaws.{HasReplays, StepsKeepReplays}
-use Rattle.core_state.specs.declared.parts.MonitorParts.{MonitorParts}
-use Rattle.core_state.specs.Standing.{IsIndexed, state_of}
-use Rattle.core_state.specs.Whole.{app_of}
+use Rattle.service_ends.specs.declared.core_state.parts.MonitorParts.{MonitorParts}
+use Rattle.service_ends.specs.Standing.{IsIndexed, state_of}
+use Rattle.service_ends.specs.Whole.{app_of}
 use Rattle.monitor_core.specs.Sound.{IsSound}
 
 -- parts of the same generation and units are of the same application

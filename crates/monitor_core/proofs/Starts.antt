@@ -13,10 +13,10 @@ use Rattle.kdcs_types.specs.declared.service.Service.{Service}
 use Rattle.kdcs_types.specs.Keys.{area_eq, id_cmp, id_eq}
 use Rattle.kdcs_types.specs.KeyLaws.{id_eq_same}
 use Rattle.kdcs_types.specs.Tables.{service_of}
-use Rattle.kdcdef_types.specs.Generation.{Generated}
-use Rattle.sorted_pairs.specs.MappedLaws.{put_mapped}
-use Rattle.area_locks.specs.Asked.{is_holder, other_than}
-use Rattle.async_queue.specs.Marks.{queue_of}
+use Rattle.application_types.specs.Generation.{Generated}
+use Rattle.kd_base.specs.MappedLaws.{put_mapped}
+use Rattle.monitor_parts.specs.Asked.{is_holder, other_than}
+use Rattle.open_transaction.specs.Marks.{queue_of}
 use Rattle.kdcs_calls.specs.Calling.{HoldersMatch, HoldsJust}
 use Rattle.step_scheduler.specs.Schedule.{service_in}
 use Rattle.open_transaction.specs.Transactions.{Boxed, boxed_transaction}
@@ -33,20 +33,20 @@ use Rattle.abstract_monitor.specs.Sessions.{awaits_by, in_place, is_awaiting, is
 use Rattle.abstract_monitor.specs.State.{Application, OpenTransaction, State}
 use Rattle.abstract_monitor.specs.Statements.{Stated, statement}
 use Rattle.abstract_monitor.specs.Turns.{queued, with_open}
-use Rattle.laws_of_steps.specs.Facts.{IsConsistent, StandsAtKeep}
-use Rattle.laws_of_steps.specs.Transactions.{CanGoOn}
-use Rattle.laws_of_places.specs.EntriesLaws.{found_put, other_put}
-use Rattle.service_statement.specs.Stating.{waits_after}
-use Rattle.core_state.specs.declared.parts.MonitorParts.{MonitorParts}
-use Rattle.core_state.specs.ChangesLaws.{SameHolds, each_found, each_put, places_stay, put_others, ready_stay, neither}
-use Rattle.core_state.specs.KeptLaws.{found_open, found_owned, found_transaction, opened_state}
-use Rattle.core_state.specs.Kept.{with_active}
-use Rattle.core_state.specs.QueueLaws.{kept_queue}
-use Rattle.core_state.specs.Standing.{Each, HasClass, IsIndexed, IsOwned, PlaceHasClass, active_of, id_of, state_of}
-use Rattle.core_state.specs.Whole.{IsWhole, app_of}
+use Rattle.laws_of_states.specs.Facts.{IsConsistent, StandsAtKeep}
+use Rattle.laws_of_states.specs.Transactions.{CanGoOn}
+use Rattle.laws_of_states.specs.EntriesLaws.{found_put, other_put}
+use Rattle.kdcs_calls.specs.Stating.{waits_after}
+use Rattle.service_ends.specs.declared.core_state.parts.MonitorParts.{MonitorParts}
+use Rattle.service_ends.specs.ChangesLaws.{SameHolds, each_found, each_put, places_stay, put_others, ready_stay, neither}
+use Rattle.service_ends.specs.KeptLaws.{found_open, found_owned, found_transaction, opened_state}
+use Rattle.service_ends.specs.Kept.{with_active}
+use Rattle.service_ends.specs.QueueLaws.{kept_queue}
+use Rattle.service_ends.specs.Standing.{Each, HasClass, IsIndexed, IsOwned, PlaceHasClass, active_of, id_of, state_of}
+use Rattle.service_ends.specs.Whole.{IsWhole, app_of}
 use Rattle.monitor_core.specs.Commanding.{Rests}
 use Rattle.monitor_core.specs.Counted.{DidFewer, IsAhead}
-use Rattle.laws_of_tables.specs.CommandedLaws.{awaits_not_running}
+use Rattle.laws_of_states.specs.CommandedLaws.{awaits_not_running}
 
 -- ---- a service that awaits an input
 

@@ -11,14 +11,14 @@ use Rattle.abstract_monitor.specs.Bytes.{Bytes}
 use Rattle.abstract_monitor.specs.Commands.{tick_by, ticked}
 use Rattle.abstract_monitor.specs.Lines.{tick_line}
 use Rattle.abstract_monitor.specs.State.{State}
-use Rattle.laws_of_commits.specs.CommitLaws.{tick_changes}
-use Rattle.laws_of_commits.specs.ShowsLaws.{tick_made}
-use Rattle.laws_of_tables.specs.EndsLaws.{ticks_stay_sound}
-use Rattle.laws_of_tables.specs.PointLaws.{AreSound}
-use Rattle.row_charges.specs.Pages.{FitPool}
-use Rattle.core_state.specs.declared.parts.MonitorParts.{MonitorParts}
-use Rattle.core_state.specs.Standing.{state_of}
-use Rattle.core_state.specs.Whole.{app_of}
+use Rattle.laws_of_states.specs.CommitLaws.{tick_changes}
+use Rattle.laws_of_states.specs.ShowsLaws.{tick_made}
+use Rattle.laws_of_states.specs.EndsLaws.{ticks_stay_sound}
+use Rattle.laws_of_states.specs.PointLaws.{AreSound}
+use Rattle.table_fit.specs.Pages.{FitPool}
+use Rattle.service_ends.specs.declared.core_state.parts.MonitorParts.{MonitorParts}
+use Rattle.service_ends.specs.Standing.{state_of}
+use Rattle.service_ends.specs.Whole.{app_of}
 use Rattle.monitor_core.specs.Commanding.{Comes}
 
 -- another clock leaves the pages as they are

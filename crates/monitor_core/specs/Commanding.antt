@@ -18,7 +18,7 @@ use Rattle.abstract_monitor.specs.Lines.{asy_line, prt_line, sys_line}
 use Rattle.abstract_monitor.specs.Sessions.{is_running, service_state}
 use Rattle.abstract_monitor.specs.State.{Application, OpenTransaction, State}
 use Rattle.abstract_monitor.specs.Turns.{queued}
-use Rattle.session_table.specs.Signed.{CanSignOn}
+use Rattle.monitor_parts.specs.Signed.{CanSignOn}
 use Rattle.monitor_core.specs.declared.showing.Shown.{Shown}
 use Rattle.monitor_core.specs.declared.showing.Shown.TheVariants.{Terminal, Printer}
 

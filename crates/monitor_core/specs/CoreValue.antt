@@ -1,9 +1,9 @@
 -- A monitor as contracts see it.
 use Rattle.std.specs.Prelude.{◌≡◌, ◌+◌, ℕ}
 use Rattle.abstract_monitor.specs.State.{Application, State}
-use Rattle.core_state.specs.declared.parts.MonitorParts.{MonitorParts}
-use Rattle.core_state.specs.Standing.{state_of}
-use Rattle.core_state.specs.Whole.{app_of}
+use Rattle.service_ends.specs.declared.core_state.parts.MonitorParts.{MonitorParts}
+use Rattle.service_ends.specs.Standing.{state_of}
+use Rattle.service_ends.specs.Whole.{app_of}
 
 -- its application, the abstract monitor's state, and how many turns and commands it has done
 pub record CoreValue : Type 0 where

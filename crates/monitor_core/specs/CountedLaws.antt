@@ -2,11 +2,11 @@
 use Rattle.std.specs.Prelude.{ℕ, ◌+◌, ◌≤◌, List, [], ◌∷◌}
 use Rattle.std.proofs.Common.{arith}
 use Rattle.kdcs_types.specs.declared.key.ServiceId.{ServiceId}
-use Rattle.kdcdef_types.specs.Generation.{Generated}
+use Rattle.application_types.specs.Generation.{Generated}
 use Rattle.open_transaction.specs.Transactions.{Boxed}
-use Rattle.core_state.specs.declared.parts.MonitorParts.{MonitorParts}
-use Rattle.core_state.specs.Standing.{Each, IsIndexed, IsOwned}
-use Rattle.core_state.specs.Whole.{IsWhole}
+use Rattle.service_ends.specs.declared.core_state.parts.MonitorParts.{MonitorParts}
+use Rattle.service_ends.specs.Standing.{Each, IsIndexed, IsOwned}
+use Rattle.service_ends.specs.Whole.{IsWhole}
 use Rattle.monitor_core.specs.Counted.{DidFewer, IsAhead}
 use Rattle.monitor_core.specs.SteppingLaws.{one_more}
 

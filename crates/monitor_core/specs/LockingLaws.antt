@@ -12,15 +12,15 @@ use Rattle.kdcs_types.specs.declared.key.ServiceId.{ServiceId}
 use Rattle.kdcs_types.specs.Keys.{id_cmp, id_eq}
 use Rattle.kdcs_types.specs.KeyLaws.{id_total, id_eq_itself, id_eq_same}
 use Rattle.kdcs_types.specs.Tables.{TableRows, content_of}
-use Rattle.area_locks.specs.Asked.{holds_area, is_holder, other_than}
-use Rattle.area_locks.specs.SameLocksLaws.{HaveSameLocks, same_answer}
+use Rattle.monitor_parts.specs.Asked.{holds_area, is_holder, other_than}
+use Rattle.monitor_parts.specs.SameLocksLaws.{HaveSameLocks, same_answer}
 use Rattle.abstract_monitor.specs.declared.answer.LockAnswer.{LockAnswer}
 use Rattle.abstract_monitor.specs.Calls.{touches}
 use Rattle.abstract_monitor.specs.Locks.{Active, IsExclusive, Locks, holder, holds, told_now, touched_by}
 use Rattle.abstract_monitor.specs.State.{OpenTransaction}
-use Rattle.laws_of_places.specs.AreasLaws.{free_held, holder_holds, holder_in}
-use Rattle.laws_of_places.specs.EntriesLaws.{found_put, none_before, other_put}
-use Rattle.core_state.specs.ChangesLaws.{SameHolds, apart, turned}
+use Rattle.laws_of_states.specs.AreasLaws.{free_held, holder_holds, holder_in}
+use Rattle.laws_of_states.specs.EntriesLaws.{found_put, none_before, other_put}
+use Rattle.service_ends.specs.ChangesLaws.{SameHolds, apart, turned}
 
 -- an area has the holder that the open transactions give it
 pub same_holder : (l : Locks) (active : Active) → SameHolds l active → IsTrue (is_sorted id_cmp active) → IsExclusive active → (area : Area) → holder l area ≡ holder_in active area

@@ -1,5 +1,6 @@
 -- What a free task takes by the parts is what it takes in their state.
-use Rattle.std.specs.Prelude.{◌≡◌, refl, ◌-◌, ℕ, Bool, true, false, cond, not, ◌&&◌, IsTrue, List, [], ◌∷◌, map, filter, find as find_first, IfSome, Option, Some, None, is_some, nat_le, option_map, if◌then◌else◌}
+use Rattle.std.specs.Prelude.{◌≡◌, refl, ◌-◌, ℕ, Bool, true, false, cond, not, ◌&&◌, IsTrue, List, [], ◌∷◌, map, filter, find as find_first, IfSome, Option, Some, None, is_some, nat_le, option_map}
+use Rattle.std.specs.Prelude.{if◌then◌else◌}
 use Rattle.std.proofs.Common.{ap, sym, subst, ◌∙◌, true≢false}
 use Rattle.std.specs.Cmp.{eq_by_cmp_equiv}
 use Rattle.std.specs.FinMap.Entries.{below_all}
@@ -7,7 +8,7 @@ use Rattle.std.specs.Ordering.{is_eq, is_lt}
 use Rattle.std.specs.declared.cmp.Ordering.{Ordering}
 use Rattle.std.specs.declared.cmp.Ordering.TheVariants.{Less, Equal, Greater}
 use Rattle.kd_base.specs.ToolsLaws.{both_true, some_is}
-use Rattle.kdcdef_types.specs.Generation.{Generated}
+use Rattle.application_types.specs.Generation.{Generated}
 use Rattle.kdcs_types.specs.declared.key.ServiceId.{ServiceId}
 use Rattle.kdcs_types.specs.declared.key.Target.{Target}
 use Rattle.kdcs_types.specs.declared.key.Target.TheVariants.{Tac, Lterm}
@@ -16,20 +17,21 @@ use Rattle.kdcs_types.specs.Keyed.{ascends, item_at, keyed}
 use Rattle.kdcs_types.specs.Keys.{id_eq, key_cmp, key_eq}
 use Rattle.kdcs_types.specs.KeyLaws.{key_eq_itself, key_total}
 use Rattle.kdcs_types.specs.Tables.{job_key, job_of}
-use Rattle.async_queue.specs.MarksLaws.{first_due_of}
-use Rattle.async_queue.specs.Queue.{first_due, untaken}
+use Rattle.open_transaction.specs.MarksLaws.{first_due_of}
+use Rattle.open_transaction.specs.Queue.{first_due, untaken}
 use Rattle.abstract_monitor.specs.declared.work.Work.{Work}
 use Rattle.abstract_monitor.specs.declared.work.Work.TheVariants as work
 use Rattle.abstract_monitor.specs.Bytes.{Bytes}
-use Rattle.abstract_monitor.specs.Picks.{Classed, classed, due_job, earlier_of, free_jobs, is_earlier, is_free, least_job, pick, pick_by as state_pick_by, pick_work, service_is_allowed, target_is_allowed}
+use Rattle.abstract_monitor.specs.Picks.{Classed, classed, due_job, earlier_of, free_jobs, is_earlier, is_free, least_job, pick, pick_by as state_pick_by, pick_work, service_is_allowed}
+use Rattle.abstract_monitor.specs.Picks.{target_is_allowed}
 use Rattle.abstract_monitor.specs.State.{Application, State}
 use Rattle.abstract_monitor.specs.Turns.{with_task}
 use Rattle.step_scheduler.specs.Schedule.{Schedule, pick_by, pick_queued, picked, picked_by, service_in, took_job, took_service}
-use Rattle.core_state.specs.declared.parts.MonitorParts.{MonitorParts}
-use Rattle.core_state.specs.ChangesLaws.{each_set, each_where, map_set, ready_without}
-use Rattle.core_state.specs.KeptLaws.{scheduled, with_schedule}
-use Rattle.core_state.specs.Standing.{Each, HasClass, IsIndexed, PlaceHasClass, active_of, id_of, state_of}
-use Rattle.core_state.specs.Whole.{app_of}
+use Rattle.service_ends.specs.declared.core_state.parts.MonitorParts.{MonitorParts}
+use Rattle.service_ends.specs.ChangesLaws.{each_set, each_where, map_set, ready_without}
+use Rattle.service_ends.specs.KeptLaws.{scheduled, with_schedule}
+use Rattle.service_ends.specs.Standing.{Each, HasClass, IsIndexed, PlaceHasClass, active_of, id_of, state_of}
+use Rattle.service_ends.specs.Whole.{app_of}
 
 -- ---- the lists with classes
 

@@ -5,13 +5,13 @@ use Rattle.kdcs_types.specs.declared.key.ServiceId.{ServiceId}
 use Rattle.kdcs_types.specs.declared.service.Service.{Service}
 use Rattle.kdcs_types.specs.Keys.{id_cmp, id_eq}
 use Rattle.kdcs_types.specs.Tables.{TableRows}
-use Rattle.kdcdef_types.specs.Generation.{Generated}
+use Rattle.application_types.specs.Generation.{Generated}
 use Rattle.open_transaction.specs.Transactions.{HasOrder}
 use Rattle.abstract_monitor.specs.Endings.{lterm_of_row, opened_by_row}
 use Rattle.abstract_monitor.specs.Sessions.{is_running}
 use Rattle.abstract_monitor.specs.State.{Application, State}
 use Rattle.abstract_monitor.specs.Turns.{queued}
-use Rattle.core_state.specs.Standing.{Each}
+use Rattle.service_ends.specs.Standing.{Each}
 
 -- nobody is signed on, all tasks are free, and no service is open
 abbrev pub idle : Generated → TableRows → State

@@ -16,16 +16,16 @@ use Rattle.kdcs_types.specs.Keyed.{ascends, keyed}
 use Rattle.kdcs_types.specs.Keys.{id_cmp, id_eq, key_cmp}
 use Rattle.kdcs_types.specs.KeyLaws.{id_total}
 use Rattle.kdcs_types.specs.Tables.{TableRows, IsSortedTables, lterm_fits, service_fits, service_key}
-use Rattle.kdcdef_types.specs.Generation.{Generated}
+use Rattle.application_types.specs.Generation.{Generated}
 use Rattle.abstract_monitor.specs.Bytes.{bytes_cmp}
 use Rattle.abstract_monitor.specs.Commands.{asynchronous_rows, opened_row, started}
 use Rattle.abstract_monitor.specs.Endings.{is_asynchronous, lterm_of_row, opened_by_row}
 use Rattle.abstract_monitor.specs.Locks.{Active}
 use Rattle.abstract_monitor.specs.Sessions.{in_place}
 use Rattle.abstract_monitor.specs.State.{Application, OpenTransaction, State}
-use Rattle.laws_of_places.specs.EntriesLaws.{other_put}
-use Rattle.core_state.specs.ChangesLaws.{each_push, each_where}
-use Rattle.core_state.specs.Standing.{Each}
+use Rattle.laws_of_states.specs.EntriesLaws.{other_put}
+use Rattle.service_ends.specs.ChangesLaws.{each_push, each_where}
+use Rattle.service_ends.specs.Standing.{Each}
 use Rattle.monitor_core.specs.Starting.{idle, opened_then, all_opened, IsFresh, IsApart, AreFresh}
 use Rattle.kd_base.specs.OrderLaws.{is_less}
 

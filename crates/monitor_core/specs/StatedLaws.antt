@@ -7,7 +7,7 @@ use Rattle.kdcs_types.specs.declared.key.Area.{Area}
 use Rattle.kdcs_types.specs.declared.key.ServiceId.{ServiceId}
 use Rattle.kdcs_types.specs.Keys.{id_cmp}
 use Rattle.kdcs_calls.specs.Calling.{HoldersMatch, HoldsJust}
-use Rattle.sorted_pairs.specs.MappedLaws.{find_mapped}
+use Rattle.kd_base.specs.MappedLaws.{find_mapped}
 use Rattle.open_transaction.specs.Transactions.{Boxed, boxed_transaction}
 use Rattle.step_scheduler.specs.Schedule.{Schedule}
 use Rattle.abstract_monitor.specs.declared.answer.Happened.{Happened}
@@ -19,15 +19,15 @@ use Rattle.abstract_monitor.specs.Picks.{class_of}
 use Rattle.abstract_monitor.specs.State.{OpenTransaction}
 use Rattle.abstract_monitor.specs.Statements.{Stated, area_of, statement}
 use Rattle.abstract_monitor.specs.Turns.{statement_now, told_here, with_open}
-use Rattle.laws_of_steps.specs.Keeping.{HasFacts}
-use Rattle.laws_of_steps.specs.Transactions.{CanGoOn}
-use Rattle.laws_of_tables.specs.PointLaws.{AreSound}
-use Rattle.service_statement.specs.Stating.{waits_after}
-use Rattle.core_state.specs.declared.parts.MonitorParts.{MonitorParts}
-use Rattle.core_state.specs.ChangesLaws.{each_found}
-use Rattle.core_state.specs.KeptLaws.{with_schedule}
-use Rattle.core_state.specs.Standing.{IsIndexed, IsOwned, active_of, state_of}
-use Rattle.core_state.specs.Whole.{app_of}
+use Rattle.laws_of_states.specs.Keeping.{HasFacts}
+use Rattle.laws_of_states.specs.Transactions.{CanGoOn}
+use Rattle.laws_of_states.specs.PointLaws.{AreSound}
+use Rattle.kdcs_calls.specs.Stating.{waits_after}
+use Rattle.service_ends.specs.declared.core_state.parts.MonitorParts.{MonitorParts}
+use Rattle.service_ends.specs.ChangesLaws.{each_found}
+use Rattle.service_ends.specs.KeptLaws.{with_schedule}
+use Rattle.service_ends.specs.Standing.{IsIndexed, IsOwned, active_of, state_of}
+use Rattle.service_ends.specs.Whole.{app_of}
 use Rattle.monitor_core.specs.LockingLaws.{same_holder, same_told}
 use Rattle.monitor_core.specs.SteppingLaws.{ChangesNone, changes_none, stepped, stepped_indexed, stepped_state, unchanged_active}
 use Rattle.monitor_core.specs.Turning.{IsHeldBy, state_then}

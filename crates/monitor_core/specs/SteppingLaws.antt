@@ -5,11 +5,11 @@ use Rattle.std.proofs.Common.{ap, sym, subst, ◌∙◌, true≢false, arith}
 use Rattle.std.proofs.lemmas.Option.{slice_get-map}
 use Rattle.std.specs.FinMap.{find, put}
 use Rattle.kd_base.specs.ToolsLaws.{some_is}
-use Rattle.kdcdef_types.specs.Generation.{Generated}
+use Rattle.application_types.specs.Generation.{Generated}
 use Rattle.kdcs_types.specs.declared.key.Area.{Area}
 use Rattle.kdcs_types.specs.declared.key.ServiceId.{ServiceId}
 use Rattle.kdcs_types.specs.Keys.{id_cmp, id_eq}
-use Rattle.sorted_pairs.specs.MappedLaws.{put_mapped}
+use Rattle.kd_base.specs.MappedLaws.{put_mapped}
 use Rattle.open_transaction.specs.Transactions.{Boxed, boxed_transaction}
 use Rattle.step_scheduler.specs.Schedule.{place_by, place_of, service_in, with_class, with_place}
 use Rattle.abstract_monitor.specs.declared.answer.Happened.{Happened}
@@ -26,19 +26,19 @@ use Rattle.abstract_monitor.specs.Sessions.{in_place}
 use Rattle.abstract_monitor.specs.State.{Application, OpenTransaction}
 use Rattle.abstract_monitor.specs.Statements.{Stated, area_of, by_call, by_performed, statement}
 use Rattle.abstract_monitor.specs.Turns.{statement_now, told_here, with_open}
-use Rattle.laws_of_steps.specs.Facts.{IsConsistent}
-use Rattle.laws_of_places.specs.AfterLaws.{IsInTask, in_task}
-use Rattle.laws_of_places.specs.AreasLaws.{exclusive_after, statement_holds}
-use Rattle.laws_of_places.specs.CountsLaws.{counted_none}
-use Rattle.laws_of_places.specs.EntriesLaws.{found_put, other_put}
-use Rattle.laws_of_places.specs.KeptLaws.{statement_keeps}
-use Rattle.laws_of_places.specs.PlacesLaws.{placed_of}
-use Rattle.laws_of_places.specs.ShapesLaws.{AnsweredBy, IsAnswered, StatementAlone, StatementLeaves, StatementLocks, StatementLooks, StatementUnlocks, statement_looks}
-use Rattle.core_state.specs.declared.parts.MonitorParts.{MonitorParts}
-use Rattle.core_state.specs.ChangesLaws.{SameHolds, each_put, each_set, map_set, places_stay, put_others, ready_stay}
-use Rattle.core_state.specs.QueueLaws.{kept_queue}
-use Rattle.core_state.specs.Standing.{Each, HasClass, IsIndexed, IsOwned, PlaceHasClass, active_of, id_of, state_of}
-use Rattle.core_state.specs.Whole.{app_of}
+use Rattle.laws_of_states.specs.Facts.{IsConsistent}
+use Rattle.laws_of_states.specs.AfterLaws.{IsInTask, in_task}
+use Rattle.laws_of_states.specs.AreasLaws.{exclusive_after, statement_holds}
+use Rattle.laws_of_states.specs.CountsLaws.{counted_none}
+use Rattle.laws_of_states.specs.EntriesLaws.{found_put, other_put}
+use Rattle.laws_of_states.specs.KeptLaws.{statement_keeps}
+use Rattle.laws_of_states.specs.PlacesLaws.{placed_of}
+use Rattle.laws_of_states.specs.ShapesLaws.{AnsweredBy, IsAnswered, StatementAlone, StatementLeaves, StatementLocks, StatementLooks, StatementUnlocks, statement_looks}
+use Rattle.service_ends.specs.declared.core_state.parts.MonitorParts.{MonitorParts}
+use Rattle.service_ends.specs.ChangesLaws.{SameHolds, each_put, each_set, map_set, places_stay, put_others, ready_stay}
+use Rattle.service_ends.specs.QueueLaws.{kept_queue}
+use Rattle.service_ends.specs.Standing.{Each, HasClass, IsIndexed, IsOwned, PlaceHasClass, active_of, id_of, state_of}
+use Rattle.service_ends.specs.Whole.{app_of}
 use Rattle.monitor_core.specs.LockingLaws.{AreasMatch, put_same, stated_holds}
 
 -- ---- a statement that is not done leaves its transaction as it was
@@ -66,13 +66,13 @@ module _ (app : Application) (asy : Bool) (v : Told) (x : OpenTransaction) where
   abbrev NoneIn : Stated → Type 0
   NoneIn r = ChangesNone x r.0 r.1
 
-  answered_none : (unit : Rattle.unit_types.specs.UnitText.UnitText) (y z : OpenTransaction) (c : Called) → AnsweredBy y z c → NoneIn (by_call app asy unit z c)
+  answered_none : (unit : Rattle.application_types.specs.UnitText.UnitText) (y z : OpenTransaction) (c : Called) → AnsweredBy y z c → NoneIn (by_call app asy unit z c)
   answered_none unit y z (Replied reply) h = tt
   answered_none unit y z Waits h = absurd h
   answered_none unit y z (Abnormal cause) h = absurd h
   answered_none unit y z (Pends variant o) h = absurd h
 
-  locks_none : (unit : Rattle.unit_types.specs.UnitText.UnitText) (area : Area) (go : OpenTransaction → Performed) → ((y : OpenTransaction) → IsAnswered y (go y)) → (answer : LockAnswer)
+  locks_none : (unit : Rattle.application_types.specs.UnitText.UnitText) (area : Area) (go : OpenTransaction → Performed) → ((y : OpenTransaction) → IsAnswered y (go y)) → (answer : LockAnswer)
       → NoneIn (by_performed app asy unit (on_answer x area answer go))
   locks_none unit area go all Granted = answered_none unit _ (go _).0 (go _).1 (all _)
   locks_none unit area go all Wait = refl
@@ -154,7 +154,7 @@ module _ (p : MonitorParts) (task : ℕ) (id : ServiceId) (x : OpenTransaction) 
         let keeps = statement_keeps (app_of p) (told_here (app_of p) (state_of p) id x) (is_asynchronous id) x in
         exclusive_after (active_of p.active) after id (λ i apart. other_put i id (boxed_transaction transaction) (active_of p.active) apart)
         (statement_holds (state_of p) p.generation.limits.reswait after id x (boxed_transaction transaction) (area_of (app_of p) x) c.active is (found_put id (boxed_transaction transaction) (active_of p.active))
-        (subst (λ (y : OpenTransaction). Rattle.laws_of_places.specs.KeptLaws.HoldsNoMore (told_here (app_of p) (state_of p) id x) (area_of (app_of p) x) x y) (ap (λ (r : Stated). r.0) does) keeps.touched))
+        (subst (λ (y : OpenTransaction). Rattle.laws_of_states.specs.KeptLaws.HoldsNoMore (told_here (app_of p) (state_of p) id x) (area_of (app_of p) x) x y) (ap (λ (r : Stated). r.0) does) keeps.touched))
         c.exclusive
 
     class_now : (class : ℕ) → class ≡ class_of p.generation transaction.value.current → HasClass p.generation after (id, class)
@@ -178,7 +178,7 @@ module _ (p : MonitorParts) (task : ℕ) (id : ServiceId) (x : OpenTransaction) 
           ready = subst (λ a. Each (HasClass p.generation a) p.scheduler.ready) there (ready_stay p.generation (active_of p.active) after id (put_others id (boxed_transaction transaction) (active_of p.active)) p.scheduler.ready not_ready h.ready);
           places = subst (λ a. Each (PlaceHasClass p.generation a) (slice_set p.scheduler.places (task - 1) (with_class class (place_of task p.scheduler)))) there (places_after class e);
           locks = subst (λ a. SameHolds locks a) there (stated_holds p.locks locks (active_of p.active) id (boxed_transaction transaction) matching h.locks exclusive);
-          jobs = h.jobs ∙ kept_queue id (boxed_transaction transaction) (active_of p.active) p.tables.jobs (ap is_some is) ∙ ap (λ a. Rattle.async_queue.specs.Marks.queue_of a p.tables.jobs) there;
+          jobs = h.jobs ∙ kept_queue id (boxed_transaction transaction) (active_of p.active) p.tables.jobs (ap is_some is) ∙ ap (λ a. Rattle.open_transaction.specs.Marks.queue_of a p.tables.jobs) there;
           charge = h.charge;
         }
 

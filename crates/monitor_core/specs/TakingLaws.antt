@@ -2,15 +2,15 @@
 use Rattle.std.specs.Prelude.{◌≡◌, refl, ◌-◌, ◌≤◌, ℕ, true, not, List, [], ◌∷◌, Option, Some, None, is_some}
 use Rattle.std.proofs.Common.{ap, sym, subst, ◌∙◌, true≢false, arith}
 use Rattle.std.specs.FinMap.{find, put}
-use Rattle.kdcdef_types.specs.Generation.{Generated}
+use Rattle.application_types.specs.Generation.{Generated}
 use Rattle.kdcs_types.specs.declared.key.ServiceId.{ServiceId}
 use Rattle.kdcs_types.specs.declared.key.ServiceId.TheVariants.{Asynchronous}
 use Rattle.kdcs_types.specs.declared.service.Job.{Job}
 use Rattle.kdcs_types.specs.declared.service.JobValue.{JobValue}
 use Rattle.kdcs_types.specs.Keys.{id_cmp}
 use Rattle.kdcs_types.specs.Tables.{IsSortedTables, job_of}
-use Rattle.laws_of_commits.specs.NumbersLaws.{free_not_placed}
-use Rattle.async_queue.specs.Queue.{untaken, with_mark}
+use Rattle.laws_of_states.specs.NumbersLaws.{free_not_placed}
+use Rattle.open_transaction.specs.Queue.{untaken, with_mark}
 use Rattle.open_transaction.specs.Transactions.{Boxed, boxed_transaction}
 use Rattle.step_scheduler.specs.Schedule.{Schedule, class_of_target, pick_queued, picked, service_in, took_job}
 use Rattle.abstract_monitor.specs.declared.work.Work.{Work}
@@ -20,14 +20,14 @@ use Rattle.abstract_monitor.specs.Endings.{opened, opened_by_job}
 use Rattle.abstract_monitor.specs.Picks.{class_of, current_by, pick}
 use Rattle.abstract_monitor.specs.State.{OpenTransaction, State}
 use Rattle.abstract_monitor.specs.Turns.{Turned, moved_to, took, took_job as state_took, took_job_for, unmoved, with_open, with_task}
-use Rattle.laws_of_steps.specs.Facts.{IsConsistent}
-use Rattle.laws_of_places.specs.EntriesLaws.{found_put}
-use Rattle.core_state.specs.declared.parts.MonitorParts.{MonitorParts}
-use Rattle.core_state.specs.ChangesLaws.{each_set, map_set, opened_fresh}
-use Rattle.core_state.specs.KeptLaws.{opened_indexed, opened_state, scheduled, with_schedule}
-use Rattle.core_state.specs.Kept.{with_active}
-use Rattle.core_state.specs.Standing.{HasClass, IsIndexed, PlaceHasClass, active_of, state_of}
-use Rattle.core_state.specs.Whole.{app_of}
+use Rattle.laws_of_states.specs.Facts.{IsConsistent}
+use Rattle.laws_of_states.specs.EntriesLaws.{found_put}
+use Rattle.service_ends.specs.declared.core_state.parts.MonitorParts.{MonitorParts}
+use Rattle.service_ends.specs.ChangesLaws.{each_set, map_set, opened_fresh}
+use Rattle.service_ends.specs.KeptLaws.{opened_indexed, opened_state, scheduled, with_schedule}
+use Rattle.service_ends.specs.Kept.{with_active}
+use Rattle.service_ends.specs.Standing.{HasClass, IsIndexed, PlaceHasClass, active_of, state_of}
+use Rattle.service_ends.specs.Whole.{app_of}
 use Rattle.monitor_core.specs.PickingLaws.{IsTakeable, Picked, pick_of, picked_so, picks, took_indexed, took_state}
 use Rattle.monitor_core.specs.Turning.{Begun, BegunBy, BegunFor}
 
@@ -106,7 +106,7 @@ module _ (p : MonitorParts) (task : ℕ) (schedule : Schedule) (j : Job) (h : Is
   job_class transaction exact =
       ap (class_of_target p.generation) t.to
       ∙ sym (ap (λ (o : Option OpenTransaction). class_of p.generation (current_by o))
-      (ap (find id_cmp id) (sym (Rattle.sorted_pairs.specs.MappedLaws.put_mapped id_cmp boxed_transaction id transaction p.active)) ∙ found_put id (boxed_transaction transaction) (active_of p.active) ∙ ap (λ (x : OpenTransaction). Some x) exact)
+      (ap (find id_cmp id) (sym (Rattle.kd_base.specs.MappedLaws.put_mapped id_cmp boxed_transaction id transaction p.active)) ∙ found_put id (boxed_transaction transaction) (active_of p.active) ∙ ap (λ (x : OpenTransaction). Some x) exact)
       ∙ ap (class_of p.generation) (current_opened p.generation j.value t.tac))
 
   job_indexed : (q : MonitorParts) → IsBegun q → IsIndexed q

@@ -7,7 +7,7 @@ use Rattle.kdcs_types.specs.declared.key.Target.{Target}
 use Rattle.kdcs_types.specs.declared.key.Target.TheVariants.{Tac, Lterm}
 use Rattle.kdcs_types.specs.declared.service.JobValue.{JobValue}
 use Rattle.kdcs_types.specs.Keys.{id_cmp}
-use Rattle.async_queue.specs.Queue.{with_mark}
+use Rattle.open_transaction.specs.Queue.{with_mark}
 use Rattle.abstract_monitor.specs.declared.answer.Happened.{Happened}
 use Rattle.abstract_monitor.specs.declared.answer.Happened.TheVariants.{Went, Queued, Waited, Held, Settles, Breaks, Returns}
 use Rattle.abstract_monitor.specs.Bytes.{Bytes}
@@ -16,8 +16,8 @@ use Rattle.abstract_monitor.specs.State.{Application, OpenTransaction, State}
 use Rattle.abstract_monitor.specs.Statements.{area_of}
 use Rattle.abstract_monitor.specs.Turns.{statement_now, waiting_for, with_open, without_wait}
 use Rattle.open_transaction.specs.Transactions.{Boxed, boxed_transaction}
-use Rattle.core_state.specs.declared.parts.MonitorParts.{MonitorParts}
-use Rattle.core_state.specs.Kept.{with_active}
+use Rattle.service_ends.specs.declared.core_state.parts.MonitorParts.{MonitorParts}
+use Rattle.service_ends.specs.Kept.{with_active}
 
 -- the task holds the service
 abbrev pub IsHeldBy : State → (task : ℕ) → ServiceId → Type 0

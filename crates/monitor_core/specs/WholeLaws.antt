@@ -3,14 +3,14 @@ use Rattle.std.specs.Prelude.{◌≡◌, refl, ◌+◌, ◌-◌, ◌≤◌, ◌<
 use Rattle.std.proofs.Common.{ap, sym, subst, ◌∙◌, true≢false, arith}
 use Rattle.std.proofs.lemmas.List.{length-map}
 use Rattle.std.specs.FinMap.{find}
-use Rattle.kdcdef_types.specs.Generation.{Generated}
-use Rattle.kdcdef_types.specs.Statements.{IsWithin}
+use Rattle.application_types.specs.Generation.{Generated}
+use Rattle.application_types.specs.Statements.{IsWithin}
 use Rattle.kdcs_types.specs.declared.key.Area.{Area}
 use Rattle.kdcs_types.specs.declared.key.ServiceId.{ServiceId}
 use Rattle.kdcs_types.specs.declared.key.ServiceId.TheVariants.{Dialogue, Asynchronous}
 use Rattle.kdcs_types.specs.declared.service.Ending.{Ending}
 use Rattle.kdcs_types.specs.Keys.{id_cmp}
-use Rattle.unit_check.specs.Fitted.{FittedUnits, IsFit}
+use Rattle.application_check.specs.Fitted.{FittedUnits, IsFit}
 use Rattle.step_scheduler.specs.Schedule.{IsTask, place_by, place_of, service_in}
 use Rattle.abstract_monitor.specs.declared.answer.Happened.{Happened}
 use Rattle.abstract_monitor.specs.declared.answer.Happened.TheVariants.{Went, Queued, Waited, Held, Settles, Breaks, Returns}
@@ -19,20 +19,21 @@ use Rattle.abstract_monitor.specs.Bytes.{Bytes}
 use Rattle.abstract_monitor.specs.Picks.{Classed, pick}
 use Rattle.abstract_monitor.specs.State.{Application, OpenTransaction, State}
 use Rattle.abstract_monitor.specs.Statements.{area_of}
-use Rattle.abstract_monitor.specs.Turns.{Turned, abnormal, back, happens, message_acts, message_sent, moved_to, settled, statement_now, took, turn_by, turn_of, unmoved, waiting_for, with_task, without_wait, without_transaction, served}
-use Rattle.laws_of_steps.specs.Applications.{IsApplication}
-use Rattle.laws_of_steps.specs.Facts.{IsConsistent}
-use Rattle.laws_of_steps.specs.Keeping.{HasFacts}
-use Rattle.laws_of_places.specs.AfterLaws.{in_task}
-use Rattle.laws_of_places.specs.EntriesLaws.{found_put}
-use Rattle.laws_of_places.specs.Laws.{TurnsStayConsistent}
-use Rattle.laws_of_places.specs.PlacesLaws.{placed_of}
-use Rattle.laws_of_tables.specs.PointLaws.{Stands}
-use Rattle.laws_of_tables.specs.StateLaws.{StatesStaySound}
-use Rattle.core_state.specs.declared.parts.MonitorParts.{MonitorParts}
-use Rattle.core_state.specs.Standing.{IsIndexed, state_of}
-use Rattle.core_state.specs.Whole.{IsWhole, app_of}
-use Rattle.core_state.specs.WholeLaws.{same_app}
+use Rattle.abstract_monitor.specs.Turns.{Turned, abnormal, back, happens, message_acts, message_sent, moved_to, settled, statement_now, took, turn_by, turn_of, unmoved, waiting_for, with_task}
+use Rattle.abstract_monitor.specs.Turns.{without_wait, without_transaction, served}
+use Rattle.laws_of_states.specs.Applications.{IsApplication}
+use Rattle.laws_of_states.specs.Facts.{IsConsistent}
+use Rattle.laws_of_states.specs.Keeping.{HasFacts}
+use Rattle.laws_of_states.specs.AfterLaws.{in_task}
+use Rattle.laws_of_states.specs.EntriesLaws.{found_put}
+use Rattle.laws_of_states.specs.Laws.{TurnsStayConsistent}
+use Rattle.laws_of_states.specs.PlacesLaws.{placed_of}
+use Rattle.laws_of_states.specs.PointLaws.{Stands}
+use Rattle.laws_of_states.specs.StateLaws.{StatesStaySound}
+use Rattle.service_ends.specs.declared.core_state.parts.MonitorParts.{MonitorParts}
+use Rattle.service_ends.specs.Standing.{IsIndexed, state_of}
+use Rattle.service_ends.specs.Whole.{IsWhole, app_of}
+use Rattle.service_ends.specs.WholeLaws.{same_app}
 use Rattle.service_ends.specs.declared.turned.Turned.{Turned as Did}
 use Rattle.service_ends.specs.Ending.{Serves, turned_to}
 use Rattle.monitor_core.specs.AloneLaws.{alone_of}

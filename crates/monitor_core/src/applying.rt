@@ -1,7 +1,7 @@
 //! One command.
 ghost use Rattle.std.specs.Prelude.{◌≡◌, ◌+◌, ◌<◌, ◌^◌, IfOk, IsTrue, OnOk};
 ghost use Rattle.abstract_monitor.specs.{CommandsOf.{is_pterm, IsCommandOf}, Commands.{command_of}};
-ghost use Rattle.core_state.specs.{Whole.{app_of, IsWhole}, Standing.{IsIndexed, SameApplication, state_of}};
+ghost use Rattle.service_ends.specs.{Whole.{app_of, IsWhole}, Standing.{IsIndexed, SameApplication, state_of}};
 ghost use Rattle.monitor_core.specs.{Commanding.{printed, Comes, IsSingle}, Counted.{IsAhead}};
 
 use crate::clock::tick;
@@ -9,12 +9,12 @@ use crate::input::input;
 use crate::showing::{Shown, show_again, show_next};
 use crate::signing::drop_terminal;
 use abstract_monitor::Command;
-use core_state::MonitorParts;
 use kd_base::{Name, OutOfMemory};
 use kdcs_types::Acts;
-use laws_of_places::states_stay_consistent;
-use laws_of_tables::states_stay_sound;
-use session_table::lterm_of;
+use laws_of_states::laws_of_places::states_stay_consistent;
+use laws_of_states::laws_of_tables::states_stay_sound;
+use monitor_parts::session_table::lterm_of;
+use service_ends::core_state::MonitorParts;
 use std::alloc::Global;
 
 // PRINT and PRINT LAST: the LTERM of the printer takes its next message, or prints the last one again.

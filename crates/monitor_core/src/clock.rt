@@ -2,14 +2,14 @@
 ghost use Rattle.std.specs.Prelude.{◌≡◌, ◌≤◌, ◌+◌, IfOk, OnOk, SomeIff};
 ghost use Rattle.kd_base.specs.Limits.{last_clock};
 ghost use Rattle.abstract_monitor.specs.Commands.{ticked};
-ghost use Rattle.core_state.specs.{Whole.{app_of, IsWhole}, Standing.{IsIndexed, SameApplication, state_of}};
+ghost use Rattle.service_ends.specs.{Whole.{app_of, IsWhole}, Standing.{IsIndexed, SameApplication, state_of}};
 ghost use Rattle.monitor_core.specs.Commanding.{Comes};
 
 use crate::message::{line_alone, line_behind};
-use core_state::MonitorParts;
 use kd_base::{LAST_CLOCK, OutOfMemory};
 use kdcs_types::{Acts, Changes, RowChanges};
-use output_lines::{tick_line, tick_refused_line};
+use monitor_parts::output_lines::{tick_line, tick_refused_line};
+use service_ends::core_state::MonitorParts;
 use std::alloc::Global;
 
 // The clock that many ticks later, where there is one.

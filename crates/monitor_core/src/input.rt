@@ -1,7 +1,9 @@
 //! Terminal inputs: what they mean, and what is done.
 ghost use Rattle.std.specs.{Prelude.{◌≡◌, ◌<◌, ◌^◌, ◌++◌, [], IfOk, IsSome, IsTrue, OnOk, codes}, FinMap.{find}};
-ghost use Rattle.abstract_monitor.specs.{CommandsOf.{is_pterm}, declared.command.Command.TheVariants.{Input}, declared.input_use.ServiceState.TheVariants.{Awaits, NoService}, Bytes.{bytes_cmp}, Commands.{command_of, lterm_at, next_input, says, start_service, uncommitted, use_now, used, user_at}, Lines.{sys_line}, Sessions.{is_awaiting, service_state}};
-ghost use Rattle.core_state.specs.{Whole.{app_of, IsWhole}, Standing.{IsIndexed, SameApplication, state_of}};
+ghost use Rattle.abstract_monitor.specs.{CommandsOf.{is_pterm}, declared.command.Command.TheVariants.{Input}, declared.input_use.ServiceState.TheVariants.{Awaits, NoService}, Bytes.{bytes_cmp}};
+ghost use Rattle.abstract_monitor.specs.{Commands.{command_of, lterm_at, next_input, says, start_service, uncommitted, use_now, used, user_at}, Lines.{sys_line}};
+ghost use Rattle.abstract_monitor.specs.Sessions.{is_awaiting, service_state};
+ghost use Rattle.service_ends.specs.{Whole.{app_of, IsWhole}, Standing.{IsIndexed, SameApplication, state_of}};
 ghost use Rattle.monitor_core.specs.{Commanding.{Comes, HasService, IsFor, off_step}, Counted.{IsAhead}};
 
 use crate::message::{line_alone, say};
@@ -9,11 +11,11 @@ use crate::showing::{Shown, display, show_again, show_next};
 use crate::signing::{sign_off, sign_on};
 use crate::starting::{next_input, start_service};
 use abstract_monitor::{ServiceState, Use};
-use core_state::MonitorParts;
 use kd_base::{Bytes, Name, OutOfMemory};
 use kdcs_types::{Acts, ServiceId};
-use output_lines::{fault_text, refused_line, signed_off_line};
-use session_table::lterm_of;
+use monitor_parts::output_lines::{fault_text, refused_line, signed_off_line};
+use monitor_parts::session_table::lterm_of;
+use service_ends::core_state::MonitorParts;
 use std::alloc::Global;
 
 // Whether the dialogue service of a user awaits an input, where it is neither ready nor in a task.

@@ -5,7 +5,7 @@ ghost use Rattle.abstract_monitor.specs.Lines.{sys_line};
 
 use kd_base::{Bytes, Name, OutOfMemory};
 use kdcs_types::{Act, Acts, Changes};
-use output_lines::sys_line;
+use monitor_parts::output_lines::sys_line;
 use std::alloc::Global;
 
 // A line alone.

@@ -1,13 +1,13 @@
 //! A monitor between two commands.
 ghost use Rattle.std.specs.Prelude.{◌≡◌, ◌<◌, ◌^◌, IfOk, IsTrue};
-ghost use Rattle.kdcdef_check.specs.Soundness.{AreLimits};
-ghost use Rattle.kdcdef_types.specs.Statements.{IsWithin};
+ghost use Rattle.application_check.specs.Soundness.{AreLimits};
+ghost use Rattle.application_types.specs.Statements.{IsWithin};
 ghost use Rattle.kdcs_types.specs.Tables.{IsSortedTables};
-ghost use Rattle.unit_check.specs.Fitted.{IsFit};
-ghost use Rattle.laws_of_applications.specs.Applied.{applied};
-ghost use Rattle.laws_of_steps.specs.{Applications.{IsApplication}, Keeping.{HasFacts}, Replay.{SettlesAs}, Suits.{Suits}};
+ghost use Rattle.application_check.specs.Fitted.{IsFit};
+ghost use Rattle.laws_of_runs.specs.Applied.{applied};
+ghost use Rattle.laws_of_states.specs.{Applications.{IsApplication}, Keeping.{HasFacts}, Replay.{SettlesAs}, Suits.{Suits}};
 ghost use Rattle.abstract_monitor.specs.{CommandsOf.{IsCommandOf, is_pterm}, Commands.{command_of, lterm_at, started, turned_step, use_now}, Endings.{durable}, Turns.{turn_of}};
-ghost use Rattle.laws_of_jobs.specs.QueueLaws.{KeepsQueues};
+ghost use Rattle.laws_of_runs.specs.QueueLaws.{KeepsQueues};
 ghost use Rattle.laws_of_runs.specs.{Replays.{AllReplay}, SerialLaws.{IsSerialStep}};
 ghost use Rattle.service_ends.specs.Ending.{turned_to};
 ghost use Rattle.monitor_core.specs.Commanding.{Comes, IsSingle};
@@ -18,18 +18,18 @@ use crate::input::use_of;
 use crate::start::parts_of;
 use crate::turning::turn;
 use abstract_monitor::{Command, Use};
-use core_state::MonitorParts;
+use application_check::kdcdef_check::Generation;
+use application_check::unit_check::Units;
 use kd_base::{Name, OutOfMemory};
-use kdcdef_check::Generation;
 use kdcs_types::{Acts, Tables};
-use laws_of_applications::fitted_units_make_an_application;
-use laws_of_jobs::commits_keep_queues;
+use laws_of_runs::laws_of_applications::fitted_units_make_an_application;
+use laws_of_runs::laws_of_jobs::commits_keep_queues;
 use laws_of_runs::{commits_are_serial, replays_hold_along_every_script, turns_end_serially};
+use monitor_parts::session_table::lterm_of;
 use service_ends::Turned;
-use session_table::lterm_of;
+use service_ends::core_state::MonitorParts;
 use std::alloc::Global;
 use std::marker::Model;
-use unit_check::Units;
 
 /// A monitor that runs. Contracts see its application, the state of the abstract monitor, and how many turns and commands
 /// it has done. It is gone where memory runs out.
@@ -164,7 +164,6 @@ impl Core {
         ensures application { self.application ≡ applied result.0 result.1 }
         ensures fit { IsFit result.0 result.1 }
     {
-        let parts = Box::into_inner(self.parts);
-        (parts.generation, parts.units)
+        Box::into_inner(self.parts).into_application()
     }
 }

@@ -2,15 +2,15 @@
 ghost use Rattle.std.specs.{Prelude.{◌≡◌, ◌++◌, Some, IfOk, OnOk}, Option.{option_eq, option_map}, FinMap.{find}};
 ghost use Rattle.kdcs_types.specs.{Same.{job_value_eq}, Tables.{shown_of}};
 ghost use Rattle.abstract_monitor.specs.{Bytes.{bytes_cmp}, Commands.{display, due_for, last_by, show_again, show_next}, Lines.{no_message_line}};
-ghost use Rattle.core_state.specs.{Whole.{app_of, IsWhole}, Standing.{IsIndexed, SameApplication, state_of}};
-ghost use Rattle.laws_of_commits.specs.CommitLaws.{shown_changes, shown_set};
+ghost use Rattle.service_ends.specs.{Whole.{app_of, IsWhole}, Standing.{IsIndexed, SameApplication, state_of}};
+ghost use Rattle.laws_of_states.specs.CommitLaws.{shown_changes, shown_set};
 ghost use Rattle.monitor_core.specs.{Commanding.{shown_line, Comes}, Showing.{shown_job, job_with}};
 
 use crate::message::{line_alone, line_behind};
-use core_state::MonitorParts;
 use kd_base::{Bytes, Name, OutOfMemory};
 use kdcs_types::{Acts, Change, Changes, JobValue, Key, Row, RowChanges, Tables, Target};
-use output_lines::{asy_line, no_message_line, out_line, prt_line};
+use monitor_parts::output_lines::{asy_line, no_message_line, out_line, prt_line};
+use service_ends::core_state::MonitorParts;
 use std::alloc::Global;
 use sync_points::is_real;
 

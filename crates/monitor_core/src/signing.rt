@@ -3,16 +3,16 @@ ghost use Rattle.std.specs.{Prelude.{◌≡◌, ◌∷◌, ◌++◌, Some, IfOk,
 ghost use Rattle.kdcs_types.specs.{declared.act.Act.TheVariants.{Emit}, declared.key.ServiceId.TheVariants.{Dialogue}, Tables.{service_of}};
 ghost use Rattle.abstract_monitor.specs.{Bytes.{bytes_cmp}, Commands.{drop_by, lterm_at, out_again, resumed_by, signed_off, signed_on, with_session}, Endings.{restarts}, Lines.{sys_line}};
 ghost use Rattle.open_transaction.specs.Transactions.{HasOrder};
-ghost use Rattle.session_table.specs.Signed.{CanSignOn};
-ghost use Rattle.core_state.specs.{Whole.{app_of, IsWhole}, Standing.{IsIndexed, SameApplication, state_of}};
+ghost use Rattle.monitor_parts.specs.Signed.{CanSignOn};
+ghost use Rattle.service_ends.specs.{Whole.{app_of, IsWhole}, Standing.{IsIndexed, SameApplication, state_of}};
 ghost use Rattle.monitor_core.specs.Commanding.{Comes, Rests};
 
 use crate::message::{line_alone, say};
-use core_state::MonitorParts;
+use application_check::kdcdef_check::Generation;
 use kd_base::{Bytes, Name, OutOfMemory};
-use kdcdef_check::Generation;
 use kdcs_types::{Act, Acts, Service, ServiceId, Tables};
-use output_lines::{out_line, signed_on_line};
+use monitor_parts::output_lines::{out_line, signed_on_line};
+use service_ends::core_state::MonitorParts;
 use service_ends::{go_on, set_row};
 use std::alloc::Global;
 

@@ -1,25 +1,25 @@
 //! A warm or cold start.
 ghost use Rattle.std.specs.Prelude.{◌≡◌, ◌++◌, ◌∷◌, [], IfOk, OnOk, filter, map};
-ghost use Rattle.async_queue.specs.Queue.{untaken};
+ghost use Rattle.open_transaction.specs.Queue.{untaken};
 ghost use Rattle.step_scheduler.specs.Schedule.{all_free};
 ghost use Rattle.abstract_monitor.specs.{Commands.{asynchronous_rows, started}, Endings.{is_asynchronous}};
-ghost use Rattle.laws_of_steps.specs.Suits.{Suits};
-ghost use Rattle.core_state.specs.{Standing.{IsIndexed, SameApplication, state_of}, Whole.{app_of}};
+ghost use Rattle.laws_of_states.specs.Suits.{Suits};
+ghost use Rattle.service_ends.specs.{Standing.{IsIndexed, SameApplication, state_of}, Whole.{app_of}};
 ghost use Rattle.monitor_core.specs.Starting.{AreFresh, IsFresh, all_opened, idle, opened_then};
 
-use area_locks::LockTable;
-use async_queue::Jobs;
-use core_state::MonitorParts;
+use application_check::kdcdef_check::Generation;
+use application_check::unit_check::Units;
 use kd_base::OutOfMemory;
-use kdcdef_check::Generation;
+use kd_base::sorted_pairs::OrderedMap;
 use kdcs_types::{Service, ServiceId, Tables};
+use monitor_parts::area_locks::LockTable;
+use monitor_parts::session_table::Sessions;
+use open_transaction::async_queue::Jobs;
+use service_ends::core_state::MonitorParts;
 use service_ends::go_on;
-use session_table::Sessions;
-use sorted_pairs::OrderedMap;
 use std::alloc::Global;
 use step_scheduler::Scheduler;
 use table_fit::total_charge;
-use unit_check::Units;
 
 // The ready list with all tasks free, and the jobs of the tables, of which none is taken.
 fn queues(

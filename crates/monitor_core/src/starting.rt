@@ -1,19 +1,20 @@
 //! Inputs that services read.
 ghost use Rattle.std.specs.Prelude.{◌≡◌, ◌∷◌, [], ◌<◌, ◌^◌, false, OnOk};
 ghost use Rattle.kdcs_types.specs.declared.key.ServiceId.TheVariants.{Dialogue};
-ghost use Rattle.abstract_monitor.specs.{declared.input_use.ServiceState.TheVariants.{Awaits}, Commands.{next_input, start_service}, Endings.{opened}, Sessions.{is_running, service_state}, Turns.{queued}};
+ghost use Rattle.abstract_monitor.specs.{declared.input_use.ServiceState.TheVariants.{Awaits}, Commands.{next_input, start_service}, Endings.{opened}, Sessions.{is_running, service_state}};
+ghost use Rattle.abstract_monitor.specs.Turns.{queued};
 ghost use Rattle.open_transaction.specs.Transactions.{HasOrder};
-ghost use Rattle.core_state.specs.{Whole.{app_of, IsWhole}, Standing.{IsIndexed, SameApplication, state_of}};
+ghost use Rattle.service_ends.specs.{Whole.{app_of, IsWhole}, Standing.{IsIndexed, SameApplication, state_of}};
 ghost use Rattle.service_ends.specs.Ending.{ForOpen};
 ghost use Rattle.monitor_core.specs.{Commanding.{Rests, queued_with}, Counted.{IsAhead}};
 
 use crate::signing::row_of;
 use abstract_monitor::Happened;
-use core_state::MonitorParts;
 use kd_base::{Bytes, Name, OutOfMemory};
+use kdcs_calls::service_statement::do_statement;
 use kdcs_types::{Header, Parts, Service, ServiceId};
+use service_ends::core_state::MonitorParts;
 use service_ends::header_of_row;
-use service_statement::do_statement;
 use std::alloc::Global;
 
 // A service at rest opens a transaction, from its row if it has one, that has this input to read, and is at the back of the

@@ -2,15 +2,15 @@
 ghost use Rattle.std.specs.Prelude.{◌≡◌, ◌+◌, ◌<◌, ◌^◌, IfOk, OnOk};
 ghost use Rattle.abstract_monitor.specs.Turns.{statement_now};
 ghost use Rattle.step_scheduler.specs.Schedule.{IsTask};
-ghost use Rattle.core_state.specs.{Standing.{IsIndexed, state_of}, Whole.{IsWhole, app_of}};
+ghost use Rattle.service_ends.specs.{Standing.{IsIndexed, state_of}, Whole.{IsWhole, app_of}};
 ghost use Rattle.service_ends.specs.Ending.{ForOpen};
 ghost use Rattle.monitor_core.specs.Turning.{state_by, IsHeldBy};
 
 use abstract_monitor::Happened;
-use core_state::MonitorParts;
 use kd_base::OutOfMemory;
+use kdcs_calls::service_statement::do_statement;
 use kdcs_types::ServiceId;
-use service_statement::do_statement;
+use service_ends::core_state::MonitorParts;
 use std::alloc::Global;
 use step_scheduler::class_of;
 

@@ -4,15 +4,15 @@ ghost use Rattle.kdcs_types.specs.Tables.{job_of};
 ghost use Rattle.abstract_monitor.specs.{Picks.{pick}, Turns.{took}};
 ghost use Rattle.step_scheduler.specs.Schedule.{IsTask};
 ghost use Rattle.service_ends.specs.Ending.{turned_to};
-ghost use Rattle.core_state.specs.{Standing.{IsIndexed, SameApplication, state_of}, Whole.{IsWhole, app_of}};
+ghost use Rattle.service_ends.specs.{Standing.{IsIndexed, SameApplication, state_of}, Whole.{IsWhole, app_of}};
 ghost use Rattle.monitor_core.specs.Turning.{BegunBy};
 
 use abstract_monitor::Work;
-use core_state::MonitorParts;
 use kd_base::OutOfMemory;
 use kdcs_types::{Header, Parts, ServiceId, Target};
 use open_transaction::OpenTransaction;
 use service_ends::Turned;
+use service_ends::core_state::MonitorParts;
 use std::alloc::Global;
 
 // The service of a job begins, in the task that took it.

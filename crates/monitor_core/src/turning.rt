@@ -1,20 +1,20 @@
 //! One turn of a task.
 ghost use Rattle.std.specs.{Prelude.{◌≡◌, ◌+◌, ◌<◌, ◌^◌, IfOk, OnOk}, FinMap.{find}};
-ghost use Rattle.kdcdef_types.specs.Statements.{IsWithin};
+ghost use Rattle.application_types.specs.Statements.{IsWithin};
 ghost use Rattle.kdcs_types.specs.Keys.{id_cmp};
 ghost use Rattle.abstract_monitor.specs.Turns.{turn_of, served};
 ghost use Rattle.service_ends.specs.Ending.{turned_to};
-ghost use Rattle.core_state.specs.{Standing.{IsIndexed, state_of}, Whole.{IsWhole, app_of}};
+ghost use Rattle.service_ends.specs.{Standing.{IsIndexed, state_of}, Whole.{IsWhole, app_of}};
 ghost use Rattle.monitor_core.specs.Turning.{IsHeldBy};
 
 use crate::statement::next_statement;
 use crate::take::take;
 use abstract_monitor::Happened;
-use core_state::MonitorParts;
 use kd_base::OutOfMemory;
 use kdcs_types::ServiceId;
-use laws_of_places::states_stay_consistent;
-use laws_of_tables::states_stay_sound;
+use laws_of_states::laws_of_places::states_stay_consistent;
+use laws_of_states::laws_of_tables::states_stay_sound;
+use service_ends::core_state::MonitorParts;
 use service_ends::{Turned, end, go_back, hold, queue, settle};
 use std::alloc::Global;
 

@@ -1,1 +1,9 @@
+pub mod Deliveries
+pub mod Drafts
+pub mod DueIndex
+pub mod DueOrder
+pub mod DueOrderLaws
+pub mod Marks
+pub mod MarksLaws
+pub mod Queue
 pub mod Transactions

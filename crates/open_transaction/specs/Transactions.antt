@@ -3,7 +3,7 @@ use Rattle.std.specs.Prelude.{Bool, true, false, Box, IsTrue, List, [], Option, 
 use Rattle.std.specs.declared.alloc.Global.{Global}
 use Rattle.std.specs.FinMap.{is_sorted}
 use Rattle.kdcs_types.specs.declared.service.Service.{Service}
-use Rattle.kdcdef_types.specs.Generation.{Generated}
+use Rattle.application_types.specs.Generation.{Generated}
 use Rattle.abstract_monitor.specs.Bytes.{Bytes, bytes_cmp}
 use Rattle.abstract_monitor.specs.State.{OpenTransaction as Transaction}
 use Rattle.abstract_monitor.specs.Endings.{followed, followed_by_input}

@@ -1,23 +1,22 @@
 //! How a transaction opens, and goes on in a further unit run.
 ghost use Rattle.std.specs.{Prelude.{◌≡◌, ◌+◌, ◌<◌, ◌^◌, ◌∷◌, [], ◌++◌, IfOk, IsTrue, OnOk, OnErr}, FinMap.{is_sorted}};
 ghost use Rattle.abstract_monitor.specs.{Bytes.{bytes_cmp}, Endings.{joined, opened, is_asynchronous, fresh_run, kb_of, lssbs_of, handed_on}, Statements.{counted}};
-ghost use Rattle.unit_semantics.specs.Ready.{CanAnswer, IsReady};
+ghost use Rattle.abstract_monitor.specs.Ready.{CanAnswer, IsReady};
 ghost use Rattle.open_transaction.specs.Transactions.{transaction_of, accepted_of, followed_with, HasOrder};
 
+use crate::async_queue::DraftJobs;
 use crate::held::HeldAreas;
-use async_queue::DraftJobs;
+use application_check::kdcdef_check::Generation;
+use application_types::unit_types::Unit;
 use kd_base::{Bytes, Name, OutOfMemory};
-use kdcdef_check::Generation;
 use kdcs_types::{Areas, Header, Notes, Parts, Reply, RunState, Service, ServiceId};
-use message_area::MessageArea;
-use service_runs::{budget, fresh_run, kb_of, restart, spaces};
+use service_parts::message_area::MessageArea;
+use service_parts::service_runs::{budget, fresh_run, kb_of, restart, spaces};
+use service_parts::storage_areas::Overlay;
+use service_parts::unit_step::answered;
 use std::alloc::Global;
-use storage_areas::Overlay;
-use unit_step::answered;
-use unit_types::Unit;
 
 /// All that a service has done since its last synchronisation point. Contracts see all fields.
-#[derive(Drop)]
 pub struct OpenTransaction {
     /// Whose it is.
     pub id: ServiceId,
@@ -45,6 +44,43 @@ pub struct OpenTransaction {
     pub notes: Notes,
     /// How many statements it has done.
     pub statements: u64,
+}
+
+impl Drop for OpenTransaction {
+    fn drop(self) {
+        let OpenTransaction {
+            id,
+            began,
+            first,
+            user,
+            lterm,
+            inputs,
+            current,
+            run,
+            inited,
+            messages,
+            areas,
+            drafts,
+            touched,
+            notes,
+            statements,
+        } = self;
+        let _ = id;
+        let _ = began;
+        let _ = first;
+        let _ = user;
+        let _ = lterm;
+        let _ = inputs;
+        let _ = current;
+        let _ = run;
+        let _ = inited;
+        let _ = messages;
+        let _ = areas;
+        let _ = drafts;
+        let _ = touched;
+        let _ = notes;
+        let _ = statements;
+    }
 }
 
 // The LSSBs of the row, or none.

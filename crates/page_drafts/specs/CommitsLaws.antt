@@ -15,12 +15,13 @@ use Rattle.kd_records.specs.Contents.{Record, Change, changed_all, IsContent}
 use Rattle.kd_records.specs.Charge.{total_charge}
 use Rattle.kd_records.specs.ChargeLaws.{length_within}
 use Rattle.kd_records.specs.Identity.{Identity, IsIdentity}
-use Rattle.page_pool.specs.Places.{At, IsDistinct}
-use Rattle.page_pool.specs.PlacesLaws.{no_item, at_one, at_within, at_take}
-use Rattle.page_pool.specs.Pools.{ArePlanned, flagged, free_count}
-use Rattle.page_pool.specs.PoolsLaws.{length_flagged, flag_kept, flag_set, flag_stays, count_settled}
+use Rattle.kdcfile_layout.specs.Places.{At, IsDistinct}
+use Rattle.kdcfile_layout.specs.PlacesLaws.{no_item, at_one, at_within, at_take}
+use Rattle.kdcfile_layout.specs.Pools.{ArePlanned, flagged, free_count}
+use Rattle.kdcfile_layout.specs.PoolsLaws.{length_flagged, flag_kept, flag_set, flag_stays, count_settled}
 use Rattle.kdcfile_layout.specs.declared.page.PageWrite.{PageWrite}
-use Rattle.kdcfile_layout.specs.Layout.{StandsAt, Layout, Part, PartStands, IsLayout, IsImage, Stands, root_place, page_place, page_count, slots_in_page, head, root, directory_text, record_parts, chain_pages}
+use Rattle.kdcfile_layout.specs.Layout.{StandsAt, Layout, Part, PartStands, IsLayout, IsImage, Stands, root_place, page_place, page_count, slots_in_page, head, root, directory_text, record_parts}
+use Rattle.kdcfile_layout.specs.Layout.{chain_pages}
 use Rattle.kdcfile_layout.specs.WrittenLaws.{written_stands, below_write, above_write}
 use Rattle.kdcfile_layout.specs.Writes.{written_all, total}
 use Rattle.kdcfile_layout.specs.Crash.{AllFree}

@@ -2,7 +2,7 @@
 use Rattle.std.proofs.Common.{◌≡◌, ◌⊎◌, ℕ, ◌+◌, ◌<◌, ◌≤◌, Bool, true, false, List, [], ◌∷◌, length, Option, Some, None}
 use Rattle.std.specs.Prelude.{All, sum_by}
 use Rattle.kd_records.specs.Contents.{Record, Change, changed}
-use Rattle.page_pool.specs.Places.{At}
+use Rattle.kdcfile_layout.specs.Places.{At}
 use Rattle.kdcfile_layout.specs.declared.chain.Chain.{Chain}
 use Rattle.kdcfile_layout.specs.Layout.{Layout}
 use Rattle.kdcfile_layout.specs.Bound.{put_charge}

@@ -1,6 +1,7 @@
 -- All changes of a patch, one after another: first those that remove, then those that put; and then the directory.
 use Rattle.std.specs.FinMap as map
-use Rattle.std.proofs.Common.{◌≡◌, inl, inr, ⊎_elim, ℕ, ◌+◌, ◌*◌, ◌/◌, ◌<◌, ◌≤◌, Bool, true, false, List, [], ◌∷◌, ◌++◌, length, take, drop, get_or, Option, Some, None, refl, ap, sym, subst, ◌∙◌, arith}
+use Rattle.std.proofs.Common.{◌≡◌, inl, inr, ⊎_elim, ℕ, ◌+◌, ◌*◌, ◌/◌, ◌<◌, ◌≤◌, Bool, true, false, List, [], ◌∷◌, ◌++◌, length, take, drop, get_or, Option, Some, None, refl, ap, sym, subst, ◌∙◌}
+use Rattle.std.proofs.Common.{arith}
 use Rattle.std.specs.Prelude.{set, IsTrue}
 use Rattle.std.specs.List.{count_by}
 use Rattle.std.proofs.lemmas.Bool.{cases_eq, false≢true}
@@ -12,11 +13,11 @@ use Rattle.kd_records.specs.Keys.{key_cmp}
 use Rattle.kd_records.specs.Contents.{Record, Change, changed}
 use Rattle.kd_records.specs.Charge.{IsBlockSize, charge_of}
 use Rattle.kdcfile_layout.specs.declared.chain.Chain.{Chain}
-use Rattle.page_pool.specs.Places.{At}
+use Rattle.kdcfile_layout.specs.Places.{At}
 use Rattle.kdcfile_layout.specs.Layout.{Layout, slots_in_page, used}
 use Rattle.kdcfile_layout.specs.Bound.{charge_put, put_charge}
-use Rattle.page_pool.specs.PlacesLaws.{at_one, at_end, at_front, at_set, at_set_same, at_set_other, at_within}
-use Rattle.page_pool.specs.PoolsLaws.{flag_stays}
+use Rattle.kdcfile_layout.specs.PlacesLaws.{at_one, at_end, at_front, at_set, at_set_same, at_set_other, at_within}
+use Rattle.kdcfile_layout.specs.PoolsLaws.{flag_stays}
 use Rattle.page_drafts.specs.Counts.{if_any}
 use Rattle.page_drafts.specs.CountsLaws.{over_changed, ascending_changed, length_over}
 use Rattle.page_drafts.specs.Drafts.{IsUnnamed}

@@ -1,6 +1,7 @@
 -- The steps of a draft: a record that is put, a record that is removed, a directory page that is written.
 use Rattle.std.specs.FinMap as map
-use Rattle.std.proofs.Common.{◌≡◌, ◌⊎◌, inl, inr, ⊎_elim, ℕ, suc, ◌+◌, ◌-◌, ◌*◌, ◌/◌, ◌%◌, ◌<◌, ◌≤◌, Bool, true, false, List, [], ◌∷◌, length, drop, Option, Some, None, refl, ap, sym, subst, ◌∙◌, arith}
+use Rattle.std.proofs.Common.{◌≡◌, ◌⊎◌, inl, inr, ⊎_elim, ℕ, suc, ◌+◌, ◌-◌, ◌*◌, ◌/◌, ◌%◌, ◌<◌, ◌≤◌, Bool, true, false, List, [], ◌∷◌, length, drop, Option, Some, None, refl, ap, sym, subst, ◌∙◌}
+use Rattle.std.proofs.Common.{arith}
 use Rattle.std.specs.Prelude.{All, set}
 use Rattle.std.proofs.Math.Nat.{mul-le-mul_left}
 use Rattle.std.proofs.lemmas.Bool.{cases_lt}
@@ -12,9 +13,9 @@ use Rattle.kd_records.specs.Contents.{Record, changed}
 use Rattle.kd_records.specs.ContentLaws.{change_says_what_is_found}
 use Rattle.kd_records.specs.Charge.{charge_of}
 use Rattle.kdcfile_layout.specs.declared.chain.Chain.{Chain}
-use Rattle.page_pool.specs.Places.{At, IsDistinct}
+use Rattle.kdcfile_layout.specs.Places.{At, IsDistinct}
 use Rattle.kdcfile_layout.specs.Layout.{Layout, Part, Has, Name, InRoot, InChain, Names, record_parts, directory_text, page_count, slots_in_page}
-use Rattle.page_pool.specs.PlacesLaws.{at_set, at_take, at_drop}
+use Rattle.kdcfile_layout.specs.PlacesLaws.{at_set, at_take, at_drop}
 use Rattle.page_drafts.specs.Counts.{if_any, over}
 use Rattle.page_drafts.specs.CountsLaws.{over_changed, ascending_changed, length_over}
 use Rattle.kdcfile_layout.specs.Pages.{Fits, padded, page_writes, pages_of}

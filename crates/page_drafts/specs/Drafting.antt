@@ -4,7 +4,7 @@ use Rattle.std.specs.List.{count_by}
 use Rattle.kd_records.specs.declared.key.RecordKey.{RecordKey}
 use Rattle.kd_records.specs.Charge.{charge_of}
 use Rattle.kd_records.specs.Contents.{Record}
-use Rattle.page_pool.specs.Places.{At}
+use Rattle.kdcfile_layout.specs.Places.{At}
 use Rattle.kdcfile_layout.specs.declared.chain.Chain.{Chain}
 use Rattle.kdcfile_layout.specs.declared.page.PageWrite.{PageWrite}
 use Rattle.kdcfile_layout.specs.Layout.{Layout, slots_in_page, page_place, record_parts, directory_text}

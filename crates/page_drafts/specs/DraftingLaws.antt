@@ -15,7 +15,7 @@ use Rattle.kd_records.specs.Charge.{IsBlockSize, charge_of}
 use Rattle.kd_records.specs.ChargeLaws.{block_from}
 use Rattle.kdcfile_layout.specs.declared.page.PageWrite.{PageWrite}
 use Rattle.kdcfile_layout.specs.Writes.{total}
-use Rattle.page_pool.specs.Places.{At}
+use Rattle.kdcfile_layout.specs.Places.{At}
 use Rattle.kdcfile_layout.specs.Layout.{Layout, Part, slots_in_page, record_parts, directory_text}
 use Rattle.kdcfile_layout.specs.Pages.{Fits, page_write, page_writes}
 use Rattle.kdcfile_layout.specs.CrashLaws.{some_slots}

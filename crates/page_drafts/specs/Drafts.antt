@@ -7,7 +7,7 @@ use Rattle.kd_records.specs.Keys.{key_cmp}
 use Rattle.kd_records.specs.Contents.{Record}
 use Rattle.kd_records.specs.Charge.{charge_of, total_charge}
 use Rattle.kdcfile_layout.specs.declared.chain.Chain.{Chain}
-use Rattle.page_pool.specs.Places.{At, IsDistinct}
+use Rattle.kdcfile_layout.specs.Places.{At, IsDistinct}
 use Rattle.kdcfile_layout.specs.Layout.{Layout, Has, Name, Names, IsLayout, ChainsStand, chain_pages, directory_text, slots_in_page, page_count}
 
 -- pages that are there, each once

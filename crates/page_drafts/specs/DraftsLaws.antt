@@ -15,9 +15,9 @@ use Rattle.kd_records.specs.Contents.{Record, changed}
 use Rattle.kd_records.specs.ContentLaws.{change_says_what_is_found}
 use Rattle.kd_records.specs.Charge.{charge_of}
 use Rattle.kdcfile_layout.specs.declared.chain.Chain.{Chain}
-use Rattle.page_pool.specs.Places.{At}
+use Rattle.kdcfile_layout.specs.Places.{At}
 use Rattle.kdcfile_layout.specs.Layout.{Layout, Part, Has, Name, InRoot, InChain, Names, IsTable, if_used, over_slots, record_parts, spelled_slot, directory_text, slots_in_page}
-use Rattle.page_pool.specs.PlacesLaws.{at_one, at_set, at_set_other, at_set_same}
+use Rattle.kdcfile_layout.specs.PlacesLaws.{at_one, at_set, at_set_other, at_set_same}
 use Rattle.page_drafts.specs.Counts.{if_any, over}
 use Rattle.page_drafts.specs.CountsLaws.{over_slots_set, over_changed, ascending_changed, length_over}
 use Rattle.kdcfile_layout.specs.PagesLaws.{parts_named}

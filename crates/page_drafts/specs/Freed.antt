@@ -2,7 +2,7 @@
 use Rattle.std.specs.Prelude.{◌≡◌, ◌⊎◌, ℕ, ◌+◌, ◌<◌, ◌≤◌, List, length, Some}
 use Rattle.kd_records.specs.declared.key.RecordKey.{RecordKey}
 use Rattle.kd_records.specs.Contents.{Change}
-use Rattle.page_pool.specs.Places.{At, IsDistinct}
+use Rattle.kdcfile_layout.specs.Places.{At, IsDistinct}
 use Rattle.kdcfile_layout.specs.declared.chain.Chain.{Chain}
 use Rattle.kdcfile_layout.specs.Layout.{Layout, Name, Names, chain_pages}
 use Rattle.page_drafts.specs.Drafts.{IsUnnamed}

@@ -3,8 +3,8 @@ use Rattle.std.proofs.Common.{◌≡◌, ◌⊎◌, inl, inr, ⊎_elim, ℕ, zer
 use Rattle.std.specs.Prelude.{set, get_or}
 use Rattle.std.proofs.lemmas.List.{length-set}
 use Rattle.std.proofs.lemmas.Option.{same_Some, slice_get-get_or}
-use Rattle.page_pool.specs.Places.{At}
-use Rattle.page_pool.specs.PlacesLaws.{no_item, at_set}
+use Rattle.kdcfile_layout.specs.Places.{At}
+use Rattle.kdcfile_layout.specs.PlacesLaws.{no_item, at_set}
 use Rattle.kdcfile_layout.specs.declared.chain.Chain.{Chain}
 use Rattle.kdcfile_layout.specs.Layout.{Layout, Name, InRoot, InChain, Names, if_used}
 use Rattle.page_drafts.specs.CountsLaws.{over_slots_set}

@@ -21,6 +21,6 @@ pub mod Tables
 pub mod TablesLaws
 pub mod Undoing
 pub mod UndoingLaws
-pub mod Whole
 pub mod WholeCommitsLaws
+pub mod WholeDrafts
 pub mod WholeLaws

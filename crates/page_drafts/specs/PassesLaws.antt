@@ -13,8 +13,8 @@ use Rattle.kd_records.specs.Keys.{key_cmp}
 use Rattle.kd_records.specs.KeyLaws.{key_total, same_key}
 use Rattle.kd_records.specs.Contents.{Record, Change, changed, changed_all}
 use Rattle.kd_records.specs.ContentLaws.{change_says_what_is_found, find_changed_all, patch_keeps_order}
-use Rattle.page_pool.specs.Places.{At}
-use Rattle.page_pool.specs.PlacesLaws.{no_item}
+use Rattle.kdcfile_layout.specs.Places.{At}
+use Rattle.kdcfile_layout.specs.PlacesLaws.{no_item}
 use Rattle.page_drafts.specs.CountsLaws.{same_first, ascending_changed}
 use Rattle.page_drafts.specs.Freed.{AreOnce}
 use Rattle.page_drafts.specs.Passes.{Said, left_by, put_by}

@@ -4,7 +4,7 @@ use Rattle.std.specs.FinMap.{is_sorted}
 use Rattle.kd_records.specs.Keys.{key_cmp}
 use Rattle.kd_records.specs.Contents.{Record, Change, changed_all}
 use Rattle.kd_records.specs.Charge.{total_charge}
-use Rattle.page_pool.specs.Places.{At}
+use Rattle.kdcfile_layout.specs.Places.{At}
 use Rattle.kdcfile_layout.specs.Layout.{Layout, IsLayout, chain_pages}
 use Rattle.kdcfile_layout.specs.Bound.{put_charge}
 use Rattle.page_drafts.specs.Drafts.{IsPlan, IsUnnamed}

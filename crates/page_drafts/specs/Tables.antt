@@ -7,7 +7,7 @@ use Rattle.std.specs.FinMap.Entries.{where_key}
 use Rattle.kd_records.specs.declared.key.RecordKey.{RecordKey}
 use Rattle.kd_records.specs.Keys.{key_cmp}
 use Rattle.kdcfile_layout.specs.declared.chain.Chain.{Chain}
-use Rattle.page_pool.specs.Places.{At, IsDistinct}
+use Rattle.kdcfile_layout.specs.Places.{At, IsDistinct}
 use Rattle.kdcfile_layout.specs.Layout.{used}
 
 -- keys with their slots

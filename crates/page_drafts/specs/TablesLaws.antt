@@ -1,12 +1,13 @@
 -- The slots of a directory, with an index of their keys and a list of the free ones.
-use Rattle.std.proofs.Common.{◌≡◌, ⊎_elim, inl, inr, ℕ, zero, suc, ◌+◌, ◌-◌, ◌<◌, Bool, true, false, cond, not, List, [], ◌∷◌, ◌++◌, length, take, drop, Option, Some, None, refl, ap, sym, subst, ◌∙◌, arith, length-append}
+use Rattle.std.proofs.Common.{◌≡◌, ⊎_elim, inl, inr, ℕ, zero, suc, ◌+◌, ◌-◌, ◌<◌, Bool, true, false, cond, not, List, [], ◌∷◌, ◌++◌, length, take, drop, Option, Some, None, refl, ap, sym, subst, ◌∙◌}
+use Rattle.std.proofs.Common.{arith, length-append}
 use Rattle.std.specs.Prelude.{set, get_or, replicate, Contains}
 use Rattle.std.proofs.lemmas.List.Sums.{sum_by-cons}
 use Rattle.std.proofs.lemmas.List.Folds.{sum_by-replicate}
 use Rattle.std.specs.Ordering.{eq_by_cmp, is_eq}
 use Rattle.std.specs.FinMap.{find, put}
 use Rattle.std.proofs.lemmas.List.Elements.{Contains-push, Contains-push_cases, Contains-append_left}
-use Rattle.sorted_pairs.specs.PlacesLaws.{left_sorted}
+use Rattle.kd_base.specs.PlacesLaws.{left_sorted}
 use Rattle.kd_base.specs.OrderLaws.{sorted_put}
 use Rattle.std.specs.FinMap.Entries.{find-put, find-where_key}
 use Rattle.std.specs.declared.cmp.Ordering.{Ordering}
@@ -19,9 +20,9 @@ use Rattle.kd_records.specs.declared.key.RecordKey.{RecordKey}
 use Rattle.kd_records.specs.Keys.{key_cmp}
 use Rattle.kd_records.specs.KeyLaws.{key_total, same_key}
 use Rattle.kdcfile_layout.specs.declared.chain.Chain.{Chain}
-use Rattle.page_pool.specs.Places.{At}
+use Rattle.kdcfile_layout.specs.Places.{At}
 use Rattle.kdcfile_layout.specs.Layout.{used, if_used, free_slot}
-use Rattle.page_pool.specs.PlacesLaws.{no_item, at_one, at_set, at_set_other, at_set_same, at_within, at_push, at_front, at_end}
+use Rattle.kdcfile_layout.specs.PlacesLaws.{no_item, at_one, at_set, at_set_other, at_set_same, at_within, at_push, at_front, at_end}
 use Rattle.page_drafts.specs.CountsLaws.{over_slots_set}
 use Rattle.page_drafts.specs.DraftsLaws.{same_or_not}
 use Rattle.page_drafts.specs.Tables.{Index, Parts, HasKey, without, IsIndexed, IsPlaceFor, IsAbsent, IsDescending, HasKeysOnce, IsIndexedTo, IsFreeFrom}

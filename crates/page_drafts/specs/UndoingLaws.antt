@@ -6,16 +6,16 @@ use Rattle.std.proofs.lemmas.Grind.{flat_map-append}
 use Rattle.std.proofs.lemmas.Option.{none-some, same_Some, get_or_from_slice_get}
 use Rattle.std.proofs.lemmas.List.{append-nil, get_or_append_left, length-set, set-set, set-get_or, take-append-le, take_all}
 use Rattle.std.proofs.lemmas.List.Elements.{All-push, All-weaker}
-use Rattle.sorted_pairs.specs.ChangedLaws.{with_value, changed_back}
+use Rattle.kd_base.specs.ChangedLaws.{with_value, changed_back}
 use Rattle.kd_records.specs.declared.key.RecordKey.{RecordKey}
 use Rattle.kd_records.specs.Keys.{key_cmp}
 use Rattle.kd_records.specs.KeyLaws.{key_total, same_key}
 use Rattle.kdcfile_layout.specs.declared.chain.Chain.{Chain}
-use Rattle.page_pool.specs.Places.{At}
+use Rattle.kdcfile_layout.specs.Places.{At}
 use Rattle.page_drafts.specs.declared.parts.Undo.{Undo}
 use Rattle.page_drafts.specs.declared.parts.Undo.TheVariants.{Added, Replaced, Removed}
 use Rattle.page_drafts.specs.Tables.{Index, Parts, HasKey, IsIndexed, IsAbsent}
-use Rattle.page_pool.specs.PlacesLaws.{all_at, at_end, at_within}
+use Rattle.kdcfile_layout.specs.PlacesLaws.{all_at, at_end, at_within}
 use Rattle.page_drafts.specs.TablesLaws.{found_put_same, indexed_replaced, indexed_added, indexed_removed}
 use Rattle.page_drafts.specs.Undoing.{place_of, reverted, undone, undone_all, gone_by, gone_keys, IsChanging}
 

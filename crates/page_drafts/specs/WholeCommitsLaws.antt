@@ -7,8 +7,8 @@ use Rattle.kd_records.specs.declared.content.Content.{Content}
 use Rattle.kd_records.specs.Contents.{IsContent}
 use Rattle.kd_records.specs.Charge.{total_charge}
 use Rattle.kd_records.specs.Identity.{Identity, IsIdentity}
-use Rattle.page_pool.specs.Places.{At}
-use Rattle.page_pool.specs.Pools.{free_count}
+use Rattle.kdcfile_layout.specs.Places.{At}
+use Rattle.kdcfile_layout.specs.Pools.{free_count}
 use Rattle.kdcfile_layout.specs.Layout.{StandsAt, Layout, IsImage, Stands, root_place, page_count, head, root}
 use Rattle.kdcfile_layout.specs.Writes.{written_all, total}
 use Rattle.kdcfile_layout.specs.Crash.{AllFree}
@@ -18,7 +18,7 @@ use Rattle.page_drafts.specs.CommitsLaws.{ended}
 use Rattle.page_drafts.specs.Drafts.{IsUnnamed}
 use Rattle.page_drafts.specs.Drafting.{Drafting, IsDraft}
 use Rattle.page_drafts.specs.OnPlanLaws.{pages_written, plan_free}
-use Rattle.page_drafts.specs.Whole.{CanPrepareWhole, PreparedWhole}
+use Rattle.page_drafts.specs.WholeDrafts.{CanPrepareWhole, PreparedWhole}
 
 module _ (j : Identity) (is : IsIdentity j) (y : Content) (content : IsContent y) (plan : List ℕ) (from : Layout) (can : CanPrepareWhole j.blksize j.pages y.items plan from) (e : Drafting) (made : PreparedWhole j.blksize plan y.items from e) where
   draft : (file : Option (List ℕ)) → IsDraft j.blksize j.pages y.items plan file e

@@ -14,8 +14,8 @@ use Rattle.kd_records.specs.Keys.{key_cmp}
 use Rattle.kd_records.specs.KeyLaws.{key_total, same_key}
 use Rattle.kd_records.specs.Contents.{Record, Change, IsRecord}
 use Rattle.kd_records.specs.Charge.{IsBlockSize, charge_of, total_charge}
-use Rattle.page_pool.specs.Places.{At}
-use Rattle.page_pool.specs.PlacesLaws.{at_one, at_within}
+use Rattle.kdcfile_layout.specs.Places.{At}
+use Rattle.kdcfile_layout.specs.PlacesLaws.{at_one, at_within}
 use Rattle.kdcfile_layout.specs.declared.chain.Chain.{Chain}
 use Rattle.kdcfile_layout.specs.Layout.{Layout, Name, InRoot, InChain, Names, if_used, used, chain_pages}
 use Rattle.kdcfile_layout.specs.Bound.{charge_put, put_charge}
@@ -26,7 +26,7 @@ use Rattle.page_drafts.specs.FreedLaws.{none_freed}
 use Rattle.page_drafts.specs.Passes.{put_by}
 use Rattle.page_drafts.specs.PassesLaws.{ascending_once, found_put, sorted_put}
 use Rattle.page_drafts.specs.Tables.{IsAbsent}
-use Rattle.page_drafts.specs.Whole.{unwritten, puts_of, CanPrepareWhole, PreparedWhole}
+use Rattle.page_drafts.specs.WholeDrafts.{unwritten, puts_of, CanPrepareWhole, PreparedWhole}
 
 -- ---- records as changes
 

@@ -2,21 +2,21 @@
 ghost use Rattle.std.specs.Prelude.{◌≡◌, ◌≤◌, ◌<◌, ◌+◌, ◌*◌, ◌/◌, ◌^◌, min, true, false, List, ℕ, Some, length, All, IfOk, IfErr, OnOk};
 ghost use Rattle.kd_records.specs.Contents.{Record, Change, IsRecord};
 ghost use Rattle.kd_records.specs.Charge.{IsBlockSize, charge_of, total_charge};
-ghost use Rattle.page_pool.specs.Places.{At};
+ghost use Rattle.kdcfile_layout.specs.Places.{At};
 ghost use Rattle.kdcfile_layout.specs.Layout.{used};
 ghost use Rattle.kdcfile_layout.specs.Bound.{charge_put, put_charge};
 ghost use Rattle.page_drafts.specs.Tables.{IsPlaceFor, IsAbsent};
 ghost use Rattle.page_drafts.specs.DraftSteps.{next_pages};
 ghost use Rattle.page_drafts.specs.Drafting.{Drafting, put_in, touched, unprepared, IsRemoved, IsPageWritten, IsSized, stale_pages};
 ghost use Rattle.page_drafts.specs.DraftRuns.{RemovesOne, RemovesAll, PutsOne, PutsAll, HasRoom, AreWide, FreshensOne, Freshens};
-ghost use Rattle.page_drafts.specs.{Prepared.{CanPrepare, Prepared}, Whole.{unwritten, puts_of, CanPrepareWhole, PreparedWhole}};
+ghost use Rattle.page_drafts.specs.{Prepared.{CanPrepare, Prepared}, WholeDrafts.{unwritten, puts_of, CanPrepareWhole, PreparedWhole}};
 
 use crate::table::Table;
 use crate::table_draft::TableDraft;
 use kd_base::{Bytes, OutOfMemory};
 use kd_records::{RecordKey, charge};
+use kdcfile_layout::page_pool::Pages;
 use kdcfile_layout::{Chain, PageWrite, directory_page, page_place, put_chain};
-use page_pool::Pages;
 use std::alloc::Global;
 use std::marker::Model;
 

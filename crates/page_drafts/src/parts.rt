@@ -4,17 +4,25 @@ ghost use Rattle.kd_records.specs.declared.key.RecordKey.{RecordKey as Key};
 ghost use Rattle.kdcfile_layout.specs.declared.chain.Chain.{Chain as ChainIs};
 ghost use Rattle.page_drafts.specs.{Tables.{HasKey, IsAbsent, IsPlaceFor, IsIndexed}, Undoing.{parts_of, place_of, reverted, undone, gone_by}};
 
+use kd_base::sorted_pairs::OrderedMap;
 use kd_records::RecordKey;
 use kdcfile_layout::Chain;
-use sorted_pairs::OrderedMap;
 use std::mem;
 
 /// Slots, the places of their keys, and the places of the free ones.
-#[derive(Drop)]
 pub(crate) struct TableParts {
     pub slots: Vec<Option<Chain>>,
     pub index: OrderedMap<RecordKey, u32>,
     pub free: Vec<u32>,
+}
+
+impl Drop for TableParts {
+    fn drop(self) {
+        let TableParts { slots, index, free } = self;
+        let _ = slots;
+        let _ = index;
+        let _ = free;
+    }
 }
 
 /// What takes back a change of the slot at a place.

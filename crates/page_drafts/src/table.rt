@@ -8,9 +8,9 @@ ghost use Rattle.page_drafts.specs.{Tables.{IsIndexed, IsIndexedTo, IsFreeFrom, 
 
 use crate::parts::TableParts;
 use kd_base::OutOfMemory;
+use kd_base::sorted_pairs::OrderedMap;
 use kd_records::RecordKey;
 use kdcfile_layout::{Chain, Slots};
-use sorted_pairs::OrderedMap;
 use std::alloc::Global;
 use std::marker::Model;
 

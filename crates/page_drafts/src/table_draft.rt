@@ -1,7 +1,7 @@
 //! A table of slots that is being changed, and that can be taken back.
 ghost use Rattle.std.specs.Prelude.{◌≡◌, ◌<◌, ◌≤◌, ◌+◌, [], ℕ, Some, None, length, get_or, set, IfSome, IfNone, IfOk, OnOk, vec_len, vec_capacity};
 ghost use Rattle.kdcfile_layout.specs.declared.chain.Chain.{Chain as ChainIs};
-ghost use Rattle.page_pool.specs.Places.{At};
+ghost use Rattle.kdcfile_layout.specs.Places.{At};
 ghost use Rattle.kdcfile_layout.specs.Layout.{used};
 ghost use Rattle.page_drafts.specs.Tables.{HasKey, IsPlaceFor, IsAbsent, pages_in};
 

@@ -28,7 +28,8 @@ use Rattle.kdcs_types.specs.KeyLaws.{same_key, id_eq_same}
 use Rattle.kdcs_types.specs.Keyed.{keyed, with_item, without_item}
 use Rattle.kdcs_types.specs.KeyedLaws.{items_back}
 use Rattle.kdcs_types.specs.RowLaws.{numbers_changed}
-use Rattle.kdcs_types.specs.Tables.{TableRows, gssb_key, tls_key, uls_key, service_key, job_key, shown_key, gssb_row, tls_row, uls_row, service_row, job_row, shown_row, row_key, with_row, without_row, with_changes, changed, service_fits, row_fits, change_fits, change_key}
+use Rattle.kdcs_types.specs.Tables.{TableRows, gssb_key, tls_key, uls_key, service_key, job_key, shown_key, gssb_row, tls_row, uls_row, service_row, job_row, shown_row, row_key, with_row, without_row}
+use Rattle.kdcs_types.specs.Tables.{with_changes, changed, service_fits, row_fits, change_fits, change_key}
 use Rattle.record_codec.specs.Values.{record_key, value_bytes, service_bytes, job_bytes, record_of, record_change}
 use Rattle.record_codec.specs.Records.{rows_of}
 use Rattle.record_codec.specs.Order.{IsProperKey}

@@ -14,7 +14,8 @@ use Rattle.kdcs_types.specs.declared.key.Target.TheVariants.{Tac, Lterm}
 use Rattle.record_codec.specs.Values.{last_bytes, flag, lterm_bytes, target_bytes}
 use Rattle.record_codec.specs.Fields.{AreBytes, IsShort, name_field, number_field, list_field, either}
 use Rattle.record_codec.specs.FieldsLaws.{IsReading, either_there, by_byte, names_are_read, u64s_are_read, lists_are_read}
-use Rattle.record_codec.specs.Readings.{always, turned, flag_reading, no_message, some_message, last_reading, to_tac, to_lterm, target_reading, LastFits, TargetFits, eight_spaces, no_lterm, lterm_reading, LtermFits}
+use Rattle.record_codec.specs.Readings.{always, turned, flag_reading, no_message, some_message, last_reading, to_tac, to_lterm, target_reading, LastFits, TargetFits, eight_spaces, no_lterm}
+use Rattle.record_codec.specs.Readings.{lterm_reading, LtermFits}
 
 -- ---- flags, last messages and targets
 

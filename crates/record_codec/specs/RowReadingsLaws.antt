@@ -28,7 +28,8 @@ use Rattle.record_codec.specs.Readings.{turned}
 use Rattle.record_codec.specs.ReadingsLaws.{turned_back, turned_there}
 use Rattle.record_codec.specs.WholeValues.{JobFits, job_reading, service_reading, whole}
 use Rattle.record_codec.specs.WholeValuesLaws.{jobs_are_read, services_are_read, IsServiceOf, whole_back, whole_there}
-use Rattle.record_codec.specs.RowReadings.{to_dialogue, to_asynchronous, id_reading, two_names, gssb_of, tls_of, uls_of, service_key_of, job_key_of, shown_of, key_reading, checked_key, key_read, ValueFits, IsProperRow, service_row_of, job_row_of, shown_row_of, value_read, checked_row, row_read, RowThere, RecordsAreOneToOne}
+use Rattle.record_codec.specs.RowReadings.{to_dialogue, to_asynchronous, id_reading, two_names, gssb_of, tls_of, uls_of, service_key_of, job_key_of, shown_of, key_reading, checked_key, key_read}
+use Rattle.record_codec.specs.RowReadings.{ValueFits, IsProperRow, service_row_of, job_row_of, shown_row_of, value_read, checked_row, row_read, RowThere, RecordsAreOneToOne}
 
 -- ---- keys
 

@@ -24,13 +24,15 @@ use Rattle.kdcs_types.specs.declared.service.Service.{Service}
 use Rattle.kdcs_types.specs.Keys.{key_cmp, id_eq}
 use Rattle.kdcs_types.specs.KeyLaws.{id_eq_itself}
 use Rattle.kdcs_types.specs.Keyed.{keyed, ascends}
-use Rattle.kdcs_types.specs.Tables.{TableRows, empty_tables, gssb_key, tls_key, uls_key, service_key, job_key, shown_key, gssb_row, tls_row, uls_row, service_row, job_row, shown_row, is_filled, service_fits, row_key, row_fits, change_fits, change_key, changed, AreChanges, IsSortedTables}
+use Rattle.kdcs_types.specs.Tables.{TableRows, empty_tables, gssb_key, tls_key, uls_key, service_key, job_key, shown_key, gssb_row, tls_row, uls_row, service_row, job_row, shown_row, is_filled}
+use Rattle.kdcs_types.specs.Tables.{service_fits, row_key, row_fits, change_fits, change_key, changed, AreChanges, IsSortedTables}
 use Rattle.kdcs_types.specs.RowLaws.{empty_sorted, changed_sorted}
 use Rattle.record_codec.specs.Values.{record_key, service_bytes, record_of, record_change}
 use Rattle.record_codec.specs.Records.{rows_of, content_of_tables, patch_of, AreTablesOf}
 use Rattle.record_codec.specs.Order.{IsProperKey}
 use Rattle.record_codec.specs.OrderLaws.{keys_keep_their_order}
-use Rattle.record_codec.specs.PatchesLaws.{put_in_front, each_mapped, record_at, Above, above_all, above_more, second, value_of_job, value_of_shown, by_kinds, kinds_are, EachRow, HasProperKey, OfSet, each_row, all_rows, changes_keep, patches_match_changes}
+use Rattle.record_codec.specs.PatchesLaws.{put_in_front, each_mapped, record_at, Above, above_all, above_more, second, value_of_job, value_of_shown, by_kinds, kinds_are, EachRow, HasProperKey, OfSet}
+use Rattle.record_codec.specs.PatchesLaws.{each_row, all_rows, changes_keep, patches_match_changes}
 use Rattle.record_codec.specs.RowReadings.{IsProperRow, row_read}
 use Rattle.record_codec.specs.RowReadingsLaws.{row_back, row_there}
 use Rattle.record_codec.specs.TableReadings.{sets_read, AreRecordBytes, AreProperTables}

@@ -13,7 +13,8 @@ use Rattle.record_codec.specs.Fields.{AreBytes, IsShort, FitAll, name_field, lis
 use Rattle.record_codec.specs.FieldsLaws.{IsReading, names_are_read, u64s_are_read, lists_are_read, both_are_read, counted_are_read}
 use Rattle.record_codec.specs.ReadingsLaws.{turned_back, turned_there, AnyFlag, flags_are_read, lasts_are_read, targets_are_read, lterms_are_read}
 use Rattle.record_codec.specs.Readings.{LastFits, TargetFits, LtermFits}
-use Rattle.record_codec.specs.WholeValues.{JobFits, JobPart, job_part, job_of, job_reading, lssb_reading, LssbFits, ServiceFits, EndPart, ServicePart, end_part, service_part, service_of, service_reading, ended, whole}
+use Rattle.record_codec.specs.WholeValues.{JobFits, JobPart, job_part, job_of, job_reading, lssb_reading, LssbFits, ServiceFits, EndPart, ServicePart, end_part, service_part, service_of}
+use Rattle.record_codec.specs.WholeValues.{service_reading, ended, whole}
 
 -- ---- bytes one after another
 

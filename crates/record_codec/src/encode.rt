@@ -1,6 +1,7 @@
 //! Tables as contents, and changes as patches.
 ghost use Rattle.std.specs.Prelude.{◌≡◌, ◌++◌, ◌∷◌, [], ◌<◌, ◌^◌, List, ℕ, length, map, All, IfOk, OnOk};
-ghost use Rattle.kdcs_types.specs.{declared.service.Service.{Service as ServiceIs}, declared.service.Job.{Job as JobIs}, declared.service.JobValue.{JobValue as JobValueIs}, Tables.{gssb_row, tls_row, uls_row, service_row, job_row, shown_row}};
+ghost use Rattle.kdcs_types.specs.{declared.service.Service.{Service as ServiceIs}, declared.service.Job.{Job as JobIs}, declared.service.JobValue.{JobValue as JobValueIs}};
+ghost use Rattle.kdcs_types.specs.Tables.{gssb_row, tls_row, uls_row, service_row, job_row, shown_row};
 ghost use Rattle.record_codec.specs.{Values.{service_bytes, job_bytes, record_of, record_change, HasShortChange}, Records.{content_of_tables, patch_of, HasShortValues}};
 
 use crate::keys::record_key;

@@ -1,6 +1,7 @@
 //! Values of records, read from their bytes.
 ghost use Rattle.std.specs.{Prelude.{◌≡◌, List, ℕ, Option}, Int.{w8, w32, w64}};
-ghost use Rattle.record_codec.specs.{Reads.{Reads}, Fields.{name_field, number_field, list_field, items, counted_items}, Readings.{flag_reading, last_reading, target_reading, lterm_reading}, WholeValues.{job_reading, lssb_reading, service_reading}};
+ghost use Rattle.record_codec.specs.{Reads.{Reads}, Fields.{name_field, number_field, list_field, items, counted_items}, Readings.{flag_reading, last_reading, target_reading, lterm_reading}};
+ghost use Rattle.record_codec.specs.WholeValues.{job_reading, lssb_reading, service_reading};
 
 use kd_base::{Bytes, Name, OutOfMemory, Reader, Sequence};
 use kdcs_types::{JobValue, Service, ServiceId, Target};

@@ -1,7 +1,8 @@
 //! Records, read as rows.
 ghost use Rattle.std.specs.Prelude.{◌≡◌, ◌≢◌, IsTrue, None, IfOk, IfSome};
 ghost use Rattle.kdcs_types.specs.{declared.act.Row.{Row as RowIs}, Tables.{lterm_fits, service_fits, row_fits}};
-ghost use Rattle.record_codec.specs.{Values.{record_of}, Reads.{Reads, ReadsWhole}, Fields.{AreBytes}, WholeValues.{job_reading, service_reading, ended, whole}, RowReadings.{id_reading, two_names, key_reading, key_read, value_read, row_read, IsProperRow, RowThere}};
+ghost use Rattle.record_codec.specs.{Values.{record_of}, Reads.{Reads, ReadsWhole}, Fields.{AreBytes}, WholeValues.{job_reading, service_reading, ended, whole}};
+ghost use Rattle.record_codec.specs.RowReadings.{id_reading, two_names, key_reading, key_read, value_read, row_read, IsProperRow, RowThere};
 
 use crate::ascending::ascend;
 use crate::keys::record_key;

@@ -2,7 +2,8 @@
 ghost use Rattle.std.specs.{Prelude.{◌≡◌, ◌∷◌, [], List, ℕ, IsTrue, IfOk}, String.{string_bytes}};
 ghost use Rattle.kd_device.specs.Device.{Rose, Frame, SameFaults, SameNames};
 ghost use Rattle.device_acts.specs.Said.{Said, SaidPart};
-ghost use Rattle.refusals.specs.{Statuses.{IsOneOf, status_of, status_of_file}, Lines.{fault_line, trail_line, application_line, double_line, file_line, refusal_line, other_generation_line}, declared.error.FileRefusal.TheVariants.{OtherGeneration}};
+ghost use Rattle.refusals.specs.{Statuses.{IsOneOf, status_of, status_of_file}, Lines.{fault_line, trail_line, application_line, double_line, file_line, refusal_line, other_generation_line}};
+ghost use Rattle.refusals.specs.declared.error.FileRefusal.TheVariants.{OtherGeneration};
 
 use crate::error::{FileRefusal, Refusal};
 use crate::status::Status;

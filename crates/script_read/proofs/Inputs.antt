@@ -9,7 +9,7 @@ use Rattle.std.proofs.lemmas.List.Sums.{passes_at_first}
 use Rattle.kd_base.specs.Text.{is_space}
 use Rattle.kd_base.specs.ToolsLaws.{true_both}
 use Rattle.kd_base.specs.FrontsLaws.{split_there}
-use Rattle.kdcdef_types.specs.Generation.{Generated}
+use Rattle.application_types.specs.Generation.{Generated}
 use Rattle.abstract_monitor.specs.declared.command.Command.{Command}
 use Rattle.abstract_monitor.specs.declared.command.Command.TheVariants.{Input}
 use Rattle.script_read.specs.Script.{Line, Says, IsOutOfRange, as_command}

@@ -6,9 +6,9 @@ use Rattle.std.proofs.lemmas.Bool.{leb-true, not-true}
 use Rattle.std.proofs.lemmas.Bool.Decides.{nat_tests}
 use Rattle.kd_base.specs.Text.{is_name_byte, is_space, IsName, name_of}
 use Rattle.kd_base.specs.ToolsLaws.{both_true, chosen, some_is, and_some}
-use Rattle.kdcdef_types.specs.declared.entry.PtermEntry.{PtermEntry}
-use Rattle.kdcdef_types.specs.declared.entry.LtermEntry.{LtermEntry}
-use Rattle.kdcdef_types.specs.Generation.{Generated, pterm_of, lterm_of}
+use Rattle.application_types.specs.declared.kdcdef_types.entry.PtermEntry.{PtermEntry}
+use Rattle.application_types.specs.declared.kdcdef_types.entry.LtermEntry.{LtermEntry}
+use Rattle.application_types.specs.Generation.{Generated, pterm_of, lterm_of}
 use Rattle.script_read.specs.Script.{Says, IsOutOfRange}
 use Rattle.script_read.specs.Commands.{lterm_at, is_wanted, pterm_by, pterm_in}
 use Rattle.script_read.specs.Spelling.{IsPterm}

@@ -5,13 +5,14 @@ use Rattle.std.specs.List.{list_all, before_first, after_first}
 use Rattle.std.proofs.lemmas.Bool.{eqb-true}
 use Rattle.kd_base.specs.Text.{is_space, is_digit, decimal_value, name_of}
 use Rattle.kd_base.specs.Limits.{last_clock}
-use Rattle.kdcdef_types.specs.Generation.{Generated}
+use Rattle.application_types.specs.Generation.{Generated}
 use Rattle.abstract_monitor.specs.declared.command.Command.{Command}
 use Rattle.abstract_monitor.specs.declared.command.Command.TheVariants.{Input, Tick, Run, Turn, Drop, Print, PrintLast}
 use Rattle.script_read.specs.declared.keyword.Keyword.{Keyword}
 use Rattle.script_read.specs.declared.keyword.Keyword.TheVariants as keywords
 use Rattle.script_read.specs.Script.{Line, Nothing, as_command, words, same, is_comment, is_passed, begins_with_space, line_by, is_count, number_in, number_by, numbered}
-use Rattle.script_read.specs.Commands.{last_turns, lterm_at, is_wanted, pterm_by, pterm_in, is_text_byte, begins_with_in, input_by, keyword_of, alone, with_one, last_by, with_two, with_words, keyed, line_of_words, command_by}
+use Rattle.script_read.specs.Commands.{last_turns, lterm_at, is_wanted, pterm_by, pterm_in, is_text_byte, begins_with_in, input_by, keyword_of, alone, with_one, last_by, with_two, with_words, keyed}
+use Rattle.script_read.specs.Commands.{line_of_words, command_by}
 use Rattle.script_read.specs.Spelling.{IsPassed, PassedAreNothing, PassedOnly}
 use Rattle.kd_base.specs.RoundTripsLaws.{spaces_only, only_spaces}
 

@@ -3,9 +3,9 @@ use Rattle.std.specs.Prelude.{ℕ, Bool, true, false, not, List, [], ◌∷◌, 
 use Rattle.std.specs.List.{list_all, before_first, after_first}
 use Rattle.kd_base.specs.Text.{is_between, is_space, name_of}
 use Rattle.kd_base.specs.Limits.{last_clock}
-use Rattle.kdcdef_types.specs.declared.entry.PtermEntry.{PtermEntry}
-use Rattle.kdcdef_types.specs.declared.entry.LtermEntry.{LtermEntry}
-use Rattle.kdcdef_types.specs.Generation.{Generated, pterm_of, lterm_of}
+use Rattle.application_types.specs.declared.kdcdef_types.entry.PtermEntry.{PtermEntry}
+use Rattle.application_types.specs.declared.kdcdef_types.entry.LtermEntry.{LtermEntry}
+use Rattle.application_types.specs.Generation.{Generated, pterm_of, lterm_of}
 use Rattle.abstract_monitor.specs.declared.command.Command.{Command}
 use Rattle.abstract_monitor.specs.declared.command.Command.TheVariants.{Input, Tick, Run, Turn, Drop, Print, PrintLast, Restart}
 use Rattle.script_read.specs.declared.fault.ScriptFault.{ScriptFault}

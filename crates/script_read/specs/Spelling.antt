@@ -3,10 +3,10 @@ use Rattle.std.specs.Prelude.{◌≡◌, ◌⊎◌, ℕ, ◌≤◌, Bool, true, 
 use Rattle.std.specs.List.{list_all}
 use Rattle.kd_base.specs.Text.{IsName, is_digit, decimal_value}
 use Rattle.kd_base.specs.Limits.{last_clock}
-use Rattle.kdcdef_types.specs.declared.entry.PtermEntry.{PtermEntry}
-use Rattle.kdcdef_types.specs.declared.entry.LtermEntry.{LtermEntry}
-use Rattle.kdcdef_types.specs.Generation.{Generated, pterm_of, lterm_of}
-use Rattle.kdcdef_types.specs.Statements.{IsWithin}
+use Rattle.application_types.specs.declared.kdcdef_types.entry.PtermEntry.{PtermEntry}
+use Rattle.application_types.specs.declared.kdcdef_types.entry.LtermEntry.{LtermEntry}
+use Rattle.application_types.specs.Generation.{Generated, pterm_of, lterm_of}
+use Rattle.application_types.specs.Statements.{IsWithin}
 use Rattle.abstract_monitor.specs.declared.command.Command.{Command}
 use Rattle.abstract_monitor.specs.declared.command.Command.TheVariants.{Input, Tick, Run, Turn, Drop, Print, PrintLast, Restart}
 use Rattle.script_read.specs.Script.{Nothing, Says, IsOutOfRange}

@@ -1,6 +1,7 @@
 //! The command of a line.
 ghost use Rattle.std.specs.{Prelude.{◌≡◌, ◌<◌, length}, List.{list_all}};
-ghost use Rattle.script_read.specs.{Script.{words, is_passed, begins_with_space}, Commands.{is_text_byte, input, alone, with_one, with_two, line_of_words, command_by, begins_with_in, line_in}, Reading.{line_result, found_of, Gives}};
+ghost use Rattle.script_read.specs.{Script.{words, is_passed, begins_with_space}, Commands.{is_text_byte, input, alone, with_one, with_two, line_of_words, command_by, begins_with_in, line_in}};
+ghost use Rattle.script_read.specs.Reading.{line_result, found_of, Gives};
 
 use crate::fault::ScriptFault;
 use crate::keyword::{Keyword, keyword_of};
@@ -10,8 +11,8 @@ use crate::reading::LineReader;
 use crate::terminal::pterm_of;
 use crate::word::{next_word, same, split_at_space};
 use abstract_monitor::Command;
+use application_check::kdcdef_check::Generation;
 use kd_base::{Bytes, LAST_CLOCK};
-use kdcdef_check::Generation;
 use std::alloc::Global;
 
 /// The greatest number of a RUN.

@@ -1,5 +1,6 @@
 //! What holds of every script, as contracts of functions that do nothing.
-ghost use Rattle.script_read.specs.{Laws.{FaultsAreFirst, SaysWhatItsLinesSay}, Examples.{InputRows, NumberRows, NameRows, LineRows, ScriptRows}, Spelling.{CommandsAreSaid, CommandsOnly, OutsideIsTold, OutsideOnly, PassedAreNothing, PassedOnly}};
+ghost use Rattle.script_read.specs.{Laws.{FaultsAreFirst, SaysWhatItsLinesSay}, Examples.{InputRows, NumberRows, NameRows, LineRows, ScriptRows}};
+ghost use Rattle.script_read.specs.Spelling.{CommandsAreSaid, CommandsOnly, OutsideIsTold, OutsideOnly, PassedAreNothing, PassedOnly};
 
 /// A line that is spelled as a command says that command, and no other line says one. A TICK, a RUN or a TURN with digits
 /// that are no number of its range is out of range, and no other line is. Comments and lines of spaces say nothing. Every

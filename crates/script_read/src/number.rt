@@ -1,7 +1,7 @@
 //! Numbers of digits.
 ghost use Rattle.std.specs.{Prelude.{◌≡◌, ◌≤◌, ◌<◌, length, IfOk}, List.{list_all}};
 ghost use Rattle.kd_base.specs.Text.{is_digit};
-ghost use Rattle.kdcdef_types.specs.Statements.{IsWithin};
+ghost use Rattle.application_types.specs.Statements.{IsWithin};
 ghost use Rattle.script_read.specs.{Script.{numbered}, Reading.{line_result, found_of}};
 
 use crate::fault::ScriptFault;

@@ -3,9 +3,9 @@ ghost use Rattle.std.specs.Prelude.{◌≡◌, Some};
 ghost use Rattle.script_read.specs.{Commands.{lterm_at, pterm_in}, Reading.{line_result, found_of}};
 
 use crate::fault::ScriptFault;
+use application_check::kdcdef_check::Generation;
+use application_types::kdcdef_types::LtermEntry;
 use kd_base::Name;
-use kdcdef_check::Generation;
-use kdcdef_types::LtermEntry;
 
 // The LTERM of the PTERM with this name, if there is one.
 fn lterm_at(generation: &Generation, name: Name) -> Option<LtermEntry>

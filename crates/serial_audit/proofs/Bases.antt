@@ -15,16 +15,16 @@ use Rattle.kdcs_types.specs.Keys.{id_eq, key_eq}
 use Rattle.kdcs_types.specs.RowLaws.{numbers_with_change, own_id, row_at_with_change, row_at_without, same_tables, sorted_with_change, sorted_without}
 use Rattle.kdcs_types.specs.TableLaws.{row_after}
 use Rattle.kdcs_types.specs.Tables.{TableRows, IsSortedTables, change_fits, row_at, row_fits, service_key, service_of, service_row}
-use Rattle.kdcdef_types.specs.Generation.{Generated}
+use Rattle.application_types.specs.Generation.{Generated}
 use Rattle.abstract_monitor.specs.Endings.{durable, is_durable, service_change, with_service}
 use Rattle.abstract_monitor.specs.Statements.{Kept}
-use Rattle.laws_of_steps.specs.DurableKeys.{key_is_durable}
-use Rattle.laws_of_steps.specs.DurableLaws.{durable_changed}
-use Rattle.laws_of_steps.specs.Replay.{with_began}
-use Rattle.laws_of_steps.specs.Suits.{Suits, service_suits}
+use Rattle.laws_of_states.specs.DurableKeys.{key_is_durable}
+use Rattle.laws_of_states.specs.DurableLaws.{durable_changed}
+use Rattle.laws_of_states.specs.Replay.{with_began}
+use Rattle.laws_of_states.specs.Suits.{Suits, service_suits}
 use Rattle.laws_of_runs.specs.OwnRowsLaws.{own_key}
-use Rattle.laws_of_tables.specs.EndsLaws.{durable_same, starts_are_sound}
-use Rattle.laws_of_tables.specs.PointLaws.{AreSound}
+use Rattle.laws_of_states.specs.EndsLaws.{durable_same, starts_are_sound}
+use Rattle.laws_of_states.specs.PointLaws.{AreSound}
 use Rattle.serial_audit.specs.Audit.{BeganIn, HasDueJob}
 
 module _ (g : Generated) (t : TableRows) (sorted : IsSortedTables t) (suits : Suits g t) where

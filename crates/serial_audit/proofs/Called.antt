@@ -8,7 +8,7 @@ use Rattle.kdcs_types.specs.declared.key.ServiceId.{ServiceId}
 use Rattle.kdcs_types.specs.declared.service.Note.{Note}
 use Rattle.kdcs_types.specs.declared.service.Note.TheVariants.{Released, Refused}
 use Rattle.kdcs_types.specs.Tables.{TableRows, content_of}
-use Rattle.unit_types.specs.UnitText.{UnitText}
+use Rattle.application_types.specs.UnitText.{UnitText}
 use Rattle.abstract_monitor.specs.declared.answer.Happened.{Happened}
 use Rattle.abstract_monitor.specs.declared.answer.Happened.TheVariants.{Went}
 use Rattle.abstract_monitor.specs.declared.answer.LockAnswer.TheVariants.{Granted}
@@ -18,10 +18,10 @@ use Rattle.abstract_monitor.specs.Endings.{is_asynchronous}
 use Rattle.abstract_monitor.specs.Locks.{Locks, told_now}
 use Rattle.abstract_monitor.specs.State.{Application, OpenTransaction as Transaction}
 use Rattle.abstract_monitor.specs.Statements.{Kept, Stated, area_of_call, by_performed, counted}
-use Rattle.laws_of_steps.specs.Replay.{answer_by_note, content_by_note, first_unused, refuses, replay_told}
+use Rattle.laws_of_states.specs.Replay.{answer_by_note, content_by_note, first_unused, refuses, replay_told}
 use Rattle.open_transaction.specs.declared.open.OpenTransaction.{OpenTransaction}
 use Rattle.open_transaction.specs.Transactions.{transaction_of}
-use Rattle.service_statement.specs.Stating.{call_now}
+use Rattle.kdcs_calls.specs.Stating.{call_now}
 use Rattle.serial_audit.specs.Asking.{HoldsAlone, asks_lock, call_replayed, relabelled, showing}
 use Rattle.serial_audit.proofs.Calls.{AreaCall, area_call, content_alone, held_alone, refusal_answered}
 use Rattle.serial_audit.proofs.Locks.{told_granted}

@@ -10,14 +10,15 @@ use Rattle.kdcs_types.specs.declared.call.Code.TheVariants.{K03, K04, K05, K08}
 use Rattle.kdcs_types.specs.declared.key.Area.{Area}
 use Rattle.kdcs_types.specs.declared.key.Area.TheVariants.{Gssb, Tls, Uls}
 use Rattle.kdcs_types.specs.Keys.{area_cmp}
-use Rattle.kdcdef_types.specs.Generation.{Generated, has_tls, has_uls}
+use Rattle.application_types.specs.Generation.{Generated, has_tls, has_uls}
 use Rattle.abstract_monitor.specs.declared.answer.LockAnswer.{LockAnswer}
 use Rattle.abstract_monitor.specs.Bytes.{Bytes}
-use Rattle.abstract_monitor.specs.Calls.{Told, Performed, answer_by, call_outcome, called, called_by, declared, deleted, first_call, locked, name_in_operand, noted, on_answer, or_empty, read_answer, read_or, replied, shown_by, touches, touching, unlocked, unlocked_by, with_name, wrote}
+use Rattle.abstract_monitor.specs.Calls.{Told, Performed, answer_by, call_outcome, called, called_by, declared, deleted, first_call, locked, name_in_operand, noted, on_answer, or_empty, read_answer}
+use Rattle.abstract_monitor.specs.Calls.{read_or, replied, shown_by, touches, touching, unlocked, unlocked_by, with_name, wrote}
 use Rattle.abstract_monitor.specs.State.{OpenTransaction}
 use Rattle.abstract_monitor.specs.Statements.{area_of_call}
 use Rattle.kdcs_calls.specs.Calling.{is_declared}
-use Rattle.laws_of_steps.specs.Replay.{answer_of_code, refuses}
+use Rattle.laws_of_states.specs.Replay.{answer_of_code, refuses}
 use Rattle.serial_audit.specs.Asking.{asks_lock, locks}
 
 -- a block, of a user or an LTERM

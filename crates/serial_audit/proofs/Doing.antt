@@ -9,7 +9,7 @@ use Rattle.kdcs_types.specs.declared.service.Note.{Note}
 use Rattle.kdcs_types.specs.declared.service.Note.TheVariants.{Released, Refused}
 use Rattle.kdcs_types.specs.Tables.{TableRows}
 use Rattle.abstract_monitor.specs.Bytes.{Bytes}
-use Rattle.unit_types.specs.UnitText.{UnitText}
+use Rattle.application_types.specs.UnitText.{UnitText}
 use Rattle.abstract_monitor.specs.declared.answer.Happened.{Happened}
 use Rattle.abstract_monitor.specs.declared.answer.Happened.TheVariants.{Went}
 use Rattle.abstract_monitor.specs.Calls.{noted, plain_reply, touches}
@@ -17,14 +17,14 @@ use Rattle.abstract_monitor.specs.Locks.{Locks, holder}
 use Rattle.abstract_monitor.specs.State.{OpenTransaction as Transaction}
 use Rattle.abstract_monitor.specs.Statements.{Stated, area_of, area_of_call, counted}
 use Rattle.kdcs_calls.specs.Calling.{HoldersMatch, HoldsJust}
-use Rattle.laws_of_steps.specs.Replay.{first_unused, is_made, replay_statement, replay_told}
-use Rattle.laws_of_steps.specs.Transactions.{CanGoOn, fits_if_there}
-use Rattle.laws_of_tables.specs.OpenLaws.{StatementKeeps}
-use Rattle.laws_of_tables.specs.StatedLaws.{statements_keep}
+use Rattle.laws_of_states.specs.Replay.{first_unused, is_made, replay_statement, replay_told}
+use Rattle.laws_of_states.specs.Transactions.{CanGoOn, fits_if_there}
+use Rattle.laws_of_states.specs.OpenLaws.{StatementKeeps}
+use Rattle.laws_of_states.specs.StatedLaws.{statements_keep}
 use Rattle.open_transaction.specs.declared.open.OpenTransaction.{OpenTransaction}
 use Rattle.open_transaction.specs.Transactions.{transaction_of}
-use Rattle.service_statement.specs.StatingLaws.{contents_fit}
-use Rattle.service_statement.specs.Stating.{ContentsFit, call_now}
+use Rattle.kdcs_calls.specs.StatingLaws.{contents_fit}
+use Rattle.kdcs_calls.specs.Stating.{ContentsFit, call_now}
 use Rattle.serial_audit.specs.Asking.{HoldsAlone, asks_lock, call_replayed, relabelled, showing}
 use Rattle.serial_audit.specs.Audit.{note_fits}
 use Rattle.serial_audit.specs.Replaying.{Goes, IsAuditable, app_of, kept_in, tables_in}

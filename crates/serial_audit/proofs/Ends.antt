@@ -10,7 +10,7 @@ use Rattle.kdcs_types.specs.declared.service.Service.{Service}
 use Rattle.kdcs_types.specs.declared.service.Settled.{Settled}
 use Rattle.kdcs_types.specs.Difference.{difference}
 use Rattle.kdcs_types.specs.Tables.{TableRows}
-use Rattle.kdcdef_types.specs.Generation.{Generated}
+use Rattle.application_types.specs.Generation.{Generated}
 use Rattle.abstract_monitor.specs.declared.answer.Happened.{Happened}
 use Rattle.abstract_monitor.specs.declared.answer.Happened.TheVariants.{Settles, Breaks}
 use Rattle.abstract_monitor.specs.declared.outcome.Outcome.{Outcome}
@@ -18,11 +18,11 @@ use Rattle.abstract_monitor.specs.Endings.{broken, durable, is_asynchronous, ref
 use Rattle.abstract_monitor.specs.Locks.{Locks}
 use Rattle.abstract_monitor.specs.State.{OpenTransaction as Transaction}
 use Rattle.abstract_monitor.specs.Statements.{Stated, area_of}
-use Rattle.laws_of_steps.specs.Replay.{Ended as AtEnd, ended_by, replay_statement, replay_told, settled_as}
-use Rattle.laws_of_steps.specs.Transactions.{IsRooted}
-use Rattle.laws_of_tables.specs.EndsLaws.{ends_stay_sound}
-use Rattle.laws_of_tables.specs.OpenLaws.{OutcomeFits}
-use Rattle.laws_of_tables.specs.PointsLaws.{points_stay_sound}
+use Rattle.laws_of_states.specs.Replay.{Ended as AtEnd, ended_by, replay_statement, replay_told, settled_as}
+use Rattle.laws_of_states.specs.Transactions.{IsRooted}
+use Rattle.laws_of_states.specs.EndsLaws.{ends_stay_sound}
+use Rattle.laws_of_states.specs.OpenLaws.{OutcomeFits}
+use Rattle.laws_of_states.specs.PointsLaws.{points_stay_sound}
 use Rattle.open_transaction.specs.declared.open.OpenTransaction.{OpenTransaction}
 use Rattle.open_transaction.specs.Transactions.{Boxed, boxed_transaction, transaction_of}
 use Rattle.sync_points.specs.Answers.{answer_by, refused_by}

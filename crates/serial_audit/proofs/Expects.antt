@@ -11,19 +11,19 @@ use Rattle.kdcs_types.specs.Difference.{difference}
 use Rattle.kdcs_types.specs.DifferenceLaws.{difference_makes_new}
 use Rattle.kdcs_types.specs.RowLaws.{numbers_apart}
 use Rattle.kdcs_types.specs.Tables.{TableRows, IsSortedTables, changed}
-use Rattle.kdcdef_types.specs.Generation.{Generated}
+use Rattle.application_types.specs.Generation.{Generated}
 use Rattle.abstract_monitor.specs.Bytes.{Bytes}
 use Rattle.abstract_monitor.specs.Commands.{due_for, is_for, shown_tables}
 use Rattle.abstract_monitor.specs.Endings.{durable}
 use Rattle.abstract_monitor.specs.Picks.{due_job, free_jobs}
 use Rattle.abstract_monitor.specs.State.{Application, State}
 use Rattle.abstract_monitor.specs.Statements.{kept_of}
-use Rattle.laws_of_commits.specs.CommitLaws.{shown_changes, tick_changes}
-use Rattle.laws_of_commits.specs.ShowsLaws.{due_stands, shown_made, tick_made}
-use Rattle.laws_of_steps.specs.DurableLaws.{durable_sorted}
-use Rattle.laws_of_steps.specs.Replay.{Ended, with_began}
-use Rattle.laws_of_steps.specs.Suits.{Suits}
-use Rattle.laws_of_tables.specs.EndsLaws.{durable_same, shows_stay_sound, ticks_stay_sound}
+use Rattle.laws_of_states.specs.CommitLaws.{shown_changes, tick_changes}
+use Rattle.laws_of_states.specs.ShowsLaws.{due_stands, shown_made, tick_made}
+use Rattle.laws_of_states.specs.DurableLaws.{durable_sorted}
+use Rattle.laws_of_states.specs.Replay.{Ended, with_began}
+use Rattle.laws_of_states.specs.Suits.{Suits}
+use Rattle.laws_of_states.specs.EndsLaws.{durable_same, shows_stay_sound, ticks_stay_sound}
 use Rattle.audit_trail.specs.declared.entry.By.{By}
 use Rattle.audit_trail.specs.declared.entry.By.TheVariants.{Tick, Shown, Transaction}
 use Rattle.audit_trail.specs.declared.entry.TrailEntry.{TrailEntry}

@@ -3,7 +3,7 @@ use Rattle.std.specs.Prelude.{◌≡◌, ◌⊎◌, ◌+◌, ◌≤◌, Bool, tr
 use Rattle.std.proofs.Common.{arith, inl, inr, sym, ap, subst, ◌∙◌, true≢false}
 use Rattle.std.proofs.lemmas.Result.{IfOk-weaker}
 use Rattle.kdcs_types.specs.declared.key.ServiceId.{ServiceId}
-use Rattle.unit_types.specs.UnitText.{UnitText}
+use Rattle.application_types.specs.UnitText.{UnitText}
 use Rattle.abstract_monitor.specs.declared.answer.Happened.{Happened}
 use Rattle.abstract_monitor.specs.declared.answer.Happened.TheVariants.{Went, Queued, Held}
 use Rattle.abstract_monitor.specs.Bytes.{Bytes}
@@ -11,11 +11,11 @@ use Rattle.abstract_monitor.specs.Endings.{followed_by_input, is_asynchronous}
 use Rattle.abstract_monitor.specs.Locks.{Locks}
 use Rattle.abstract_monitor.specs.State.{OpenTransaction as Transaction, unit_of}
 use Rattle.abstract_monitor.specs.Statements.{Stated}
-use Rattle.laws_of_steps.specs.Replay.{accepted, input_at, replay_statement}
-use Rattle.laws_of_steps.specs.Suits.{has_kind}
-use Rattle.laws_of_steps.specs.Transactions.{CanGoOn}
-use Rattle.laws_of_tables.specs.OpeningsLaws.{further_by_input}
-use Rattle.laws_of_tables.specs.OpenLaws.{HappenedFits, StandsIn}
+use Rattle.laws_of_states.specs.Replay.{accepted, input_at, replay_statement}
+use Rattle.laws_of_states.specs.Suits.{has_kind}
+use Rattle.laws_of_states.specs.Transactions.{CanGoOn}
+use Rattle.laws_of_states.specs.OpeningsLaws.{further_by_input}
+use Rattle.laws_of_states.specs.OpenLaws.{HappenedFits, StandsIn}
 use Rattle.open_transaction.specs.declared.open.OpenTransaction.{OpenTransaction}
 use Rattle.open_transaction.specs.Transactions.{transaction_of}
 use Rattle.serial_audit.specs.Asking.{HoldsAlone}

@@ -5,7 +5,7 @@ use Rattle.kdcs_types.specs.declared.key.Area.{Area}
 use Rattle.kdcs_types.specs.declared.key.ServiceId.{ServiceId}
 use Rattle.kdcs_types.specs.KeyLaws.{id_eq_itself}
 use Rattle.kdcs_types.specs.Tables.{TableRows, content_of}
-use Rattle.area_locks.specs.Asked.{is_holder, no_locks, other_than}
+use Rattle.monitor_parts.specs.Asked.{is_holder, no_locks, other_than}
 use Rattle.abstract_monitor.specs.declared.answer.LockAnswer.{LockAnswer}
 use Rattle.abstract_monitor.specs.declared.answer.LockAnswer.TheVariants.{Granted}
 use Rattle.abstract_monitor.specs.Calls.{Told, touches}

@@ -6,7 +6,7 @@ use Rattle.kdcs_types.specs.declared.key.Area.{Area}
 use Rattle.kdcs_types.specs.declared.service.Note.{Note}
 use Rattle.kdcs_types.specs.KeyLaws.{area_eq_itself, area_eq_same, area_eq_sym}
 use Rattle.kdcs_types.specs.Keys.{area_eq}
-use Rattle.laws_of_steps.specs.Replay.{noted_area, notes_on}
+use Rattle.laws_of_states.specs.Replay.{noted_area, notes_on}
 use Rattle.serial_audit.specs.Notes.{SameOnEach}
 
 -- a note on the area, and one on another

@@ -12,19 +12,19 @@ use Rattle.kdcs_types.specs.declared.service.JobValue.{JobValue}
 use Rattle.kdcs_types.specs.declared.service.Service.{Service}
 use Rattle.kdcs_types.specs.KeyedLaws.{found_passes}
 use Rattle.kdcs_types.specs.Tables.{TableRows, job_of, lterm_fits, service_fits, service_key, service_of}
-use Rattle.kdcdef_types.specs.Generation.{Generated}
+use Rattle.application_types.specs.Generation.{Generated}
 use Rattle.abstract_monitor.specs.Bytes.{Bytes}
 use Rattle.abstract_monitor.specs.Calls.{or_empty}
 use Rattle.abstract_monitor.specs.Endings.{is_asynchronous, lterm_of_row, opened, opened_by_job}
 use Rattle.abstract_monitor.specs.State.{Application}
 use Rattle.abstract_monitor.specs.Statements.{Kept}
-use Rattle.laws_of_steps.specs.Replay.{accepted, dialogue_from, input_at, job_from, lterm_in, opened_from, tac_in}
-use Rattle.laws_of_steps.specs.Suits.{fits_message, has_kind, is_lterm, lterm_suits}
-use Rattle.laws_of_steps.specs.Transactions.{CanGoOn, HasOwnJob}
-use Rattle.laws_of_tables.specs.OpeningsLaws.{inputs_can, jobs_can, rows_can, starts_can}
-use Rattle.laws_of_tables.specs.PointLaws.{AreSound}
-use Rattle.laws_of_tables.specs.RowPartsLaws.{row_parts}
-use Rattle.laws_of_tables.specs.StatesLaws.{FoundRow, job_found, row_found}
+use Rattle.laws_of_states.specs.Replay.{accepted, dialogue_from, input_at, job_from, lterm_in, opened_from, tac_in}
+use Rattle.laws_of_states.specs.Suits.{fits_message, has_kind, is_lterm, lterm_suits}
+use Rattle.laws_of_states.specs.Transactions.{CanGoOn, HasOwnJob}
+use Rattle.laws_of_states.specs.OpeningsLaws.{inputs_can, jobs_can, rows_can, starts_can}
+use Rattle.laws_of_states.specs.PointLaws.{AreSound}
+use Rattle.laws_of_states.specs.RowPartsLaws.{row_parts}
+use Rattle.laws_of_states.specs.StatesLaws.{FoundRow, job_found, row_found}
 use Rattle.open_transaction.specs.Transactions.{Boxed, HasOrder, boxed_transaction}
 use Rattle.serial_audit.specs.Opening.{CanOpen, IsOpened, first_read, reads_first}
 use Rattle.serial_audit.specs.Replaying.{IsAuditable, app_of, kept_in, tables_in}

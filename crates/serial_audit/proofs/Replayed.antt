@@ -6,11 +6,11 @@ use Rattle.kd_base.specs.ToolsLaws.{some_is}
 use Rattle.kdcs_types.specs.declared.key.Area.{Area}
 use Rattle.kdcs_types.specs.declared.service.Ending.{Ending}
 use Rattle.kdcs_types.specs.Tables.{TableRows}
-use Rattle.area_locks.specs.Asked.{no_locks}
+use Rattle.monitor_parts.specs.Asked.{no_locks}
 use Rattle.abstract_monitor.specs.Locks.{Locks}
 use Rattle.abstract_monitor.specs.State.{OpenTransaction as Transaction}
-use Rattle.laws_of_steps.specs.Replay.{Ended as AtEnd, accepted, atomic, notes_on, opened_from, replay}
-use Rattle.laws_of_steps.specs.Transactions.{CanGoOn, HasOwnJob, IsRooted}
+use Rattle.laws_of_states.specs.Replay.{Ended as AtEnd, accepted, atomic, notes_on, opened_from, replay}
+use Rattle.laws_of_states.specs.Transactions.{CanGoOn, HasOwnJob, IsRooted}
 use Rattle.open_transaction.specs.Transactions.{Boxed, boxed_transaction}
 use Rattle.serial_audit.specs.Asking.{HoldsAlone}
 use Rattle.serial_audit.specs.Audit.{Determines}

@@ -10,9 +10,9 @@ use Rattle.abstract_monitor.specs.Bytes.{Bytes}
 use Rattle.abstract_monitor.specs.Endings.{followed_by_input, is_asynchronous}
 use Rattle.abstract_monitor.specs.State.{OpenTransaction as Transaction}
 use Rattle.abstract_monitor.specs.Statements.{Stated, area_of}
-use Rattle.laws_of_places.specs.KeptLaws.{statement_keeps}
+use Rattle.laws_of_states.specs.KeptLaws.{statement_keeps}
 use Rattle.laws_of_runs.specs.ReplaysLaws.{replay_next}
-use Rattle.laws_of_steps.specs.Replay.{GoesOn, accepted, input_at, replay, replay_statement, replay_step, replay_told, went_on}
+use Rattle.laws_of_states.specs.Replay.{GoesOn, accepted, input_at, replay, replay_statement, replay_step, replay_told, went_on}
 use Rattle.serial_audit.specs.Audit.{Determines}
 use Rattle.serial_audit.specs.Replaying.{Ran, ReadInput, WentOn, app_of, kept_in, tables_in}
 use Rattle.serial_audit.specs.declared.replay.Replay.{Replay}

@@ -10,7 +10,7 @@ use Rattle.kdcs_types.specs.declared.service.JobValue.{JobValue}
 use Rattle.kdcs_types.specs.Same.{job_value_eq}
 use Rattle.kdcs_types.specs.Tables.{TableRows, shown_of}
 use Rattle.abstract_monitor.specs.Bytes.{Bytes}
-use Rattle.laws_of_commits.specs.CommitLaws.{shown_set}
+use Rattle.laws_of_states.specs.CommitLaws.{shown_set}
 use Rattle.sync_points.specs.PointChanges.{is_real}
 use Rattle.sync_points.specs.RowsLaws.{same_shown}
 

@@ -8,9 +8,9 @@ use Rattle.kdcs_types.specs.KeyLaws.{key_eq_itself}
 use Rattle.kdcs_types.specs.Keys.{key_eq}
 use Rattle.kdcs_types.specs.Tables.{content_of}
 use Rattle.abstract_monitor.specs.Bytes.{Bytes}
-use Rattle.laws_of_steps.specs.Suits.{fits_content}
-use Rattle.laws_of_steps.specs.Transactions.{fits_if_there}
-use Rattle.service_statement.specs.Stating.{ContentsFit}
+use Rattle.laws_of_states.specs.Suits.{fits_content}
+use Rattle.laws_of_states.specs.Transactions.{fits_if_there}
+use Rattle.kdcs_calls.specs.Stating.{ContentsFit}
 use Rattle.serial_audit.specs.Asking.{showing}
 use Rattle.serial_audit.proofs.Relabelling.{IsShownAs}
 

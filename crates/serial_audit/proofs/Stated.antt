@@ -6,21 +6,21 @@ use Rattle.kdcs_types.specs.declared.call.Call.{Call}
 use Rattle.kdcs_types.specs.declared.call.Cause.{Cause}
 use Rattle.kdcs_types.specs.declared.service.Ending.TheVariants.{Broken}
 use Rattle.kdcs_types.specs.Tables.{TableRows}
-use Rattle.unit_types.specs.UnitText.{UnitText}
-use Rattle.unit_semantics.specs.Statement.{Meaning, Plain, Asks, Ends, step}
-use Rattle.unit_step.specs.Answers.{meaning_of}
-use Rattle.unit_step.specs.declared.stepped.Stepped.{Stepped}
-use Rattle.unit_step.specs.declared.stepped.Stepped.TheVariants as stepped
+use Rattle.application_types.specs.UnitText.{UnitText}
+use Rattle.abstract_monitor.specs.Statement.{Meaning, Plain, Asks, Ends, step}
+use Rattle.service_parts.specs.Answers.{meaning_of}
+use Rattle.service_parts.specs.declared.unit_step.stepped.Stepped.{Stepped}
+use Rattle.service_parts.specs.declared.unit_step.stepped.Stepped.TheVariants as stepped
 use Rattle.abstract_monitor.specs.declared.answer.Happened.{Happened}
 use Rattle.abstract_monitor.specs.declared.answer.Happened.TheVariants.{Went, Breaks}
 use Rattle.abstract_monitor.specs.Endings.{is_asynchronous}
 use Rattle.abstract_monitor.specs.State.{Application, OpenTransaction as Transaction, unit_of}
 use Rattle.abstract_monitor.specs.Statements.{Kept, area_in_unit, area_of, area_of_step, by_step, in_unit, statement}
-use Rattle.laws_of_steps.specs.Replay.{replay_statement, replay_told}
+use Rattle.laws_of_states.specs.Replay.{replay_statement, replay_told}
 use Rattle.open_transaction.specs.declared.open.OpenTransaction.{OpenTransaction}
 use Rattle.open_transaction.specs.Transactions.{transaction_of}
-use Rattle.service_statement.specs.Stating.{StepLeaves}
-use Rattle.service_statement.specs.StatingLaws.{left, means}
+use Rattle.kdcs_calls.specs.Stating.{StepLeaves}
+use Rattle.kdcs_calls.specs.StatingLaws.{left, means}
 use Rattle.serial_audit.specs.Asking.{call_replayed}
 
 module _ (app : Application) (t : TableRows) (r : Kept) where

@@ -2,7 +2,7 @@
 use Rattle.std.specs.Prelude.{◌≡◌, Bool}
 use Rattle.std.proofs.Common.{sym, subst}
 use Rattle.kdcs_types.specs.declared.key.Area.{Area}
-use Rattle.unit_types.specs.UnitText.{UnitText}
+use Rattle.application_types.specs.UnitText.{UnitText}
 use Rattle.abstract_monitor.specs.declared.answer.Called.{Called}
 use Rattle.abstract_monitor.specs.declared.answer.Called.TheVariants.{Replied}
 use Rattle.abstract_monitor.specs.declared.answer.Happened.{Happened}
@@ -12,7 +12,7 @@ use Rattle.abstract_monitor.specs.declared.answer.LockAnswer.TheVariants.{Grante
 use Rattle.abstract_monitor.specs.Calls.{Told, Performed, answer_by, on_answer, touches, touching}
 use Rattle.abstract_monitor.specs.State.{Application, OpenTransaction}
 use Rattle.abstract_monitor.specs.Statements.{Stated, area_of, by_call, by_performed, statement}
-use Rattle.laws_of_places.specs.ShapesLaws.{IsAnswered, AnsweredBy, StatementLeaves, StatementLooks, StatementAlone, StatementLocks, StatementUnlocks, statement_looks}
+use Rattle.laws_of_states.specs.ShapesLaws.{IsAnswered, AnsweredBy, StatementLeaves, StatementLooks, StatementAlone, StatementLocks, StatementUnlocks, statement_looks}
 
 -- a statement that is not done, but still its transaction or holds it
 abbrev pub IsStill : Happened → Type 0

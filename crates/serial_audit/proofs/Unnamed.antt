@@ -3,16 +3,16 @@ use Rattle.std.specs.Prelude.{◌≡◌, refl, ◌≤◌, Bool, false, IfSome, L
 use Rattle.std.proofs.Common.{arith, sym, ap, ◌∙◌}
 use Rattle.std.proofs.lemmas.Option.{slice_get-get_or}
 use Rattle.kd_base.specs.Text.{IsName}
-use Rattle.kdcdef_types.specs.declared.entry.LtermEntry.{LtermEntry}
-use Rattle.kdcdef_types.specs.declared.entry.TacEntry.{TacEntry}
-use Rattle.kdcdef_types.specs.Generation.{Generated, entry_of}
-use Rattle.kdcdef_check.specs.Soundness.{AreNamed, HaveProperNames}
+use Rattle.application_types.specs.declared.kdcdef_types.entry.LtermEntry.{LtermEntry}
+use Rattle.application_types.specs.declared.kdcdef_types.entry.TacEntry.{TacEntry}
+use Rattle.application_types.specs.Generation.{Generated, entry_of}
+use Rattle.application_check.specs.Soundness.{AreNamed, HaveProperNames}
 use Rattle.abstract_monitor.specs.Bytes.{Bytes}
 use Rattle.abstract_monitor.specs.Calls.{or_empty}
 use Rattle.abstract_monitor.specs.Statements.{Kept}
-use Rattle.laws_of_steps.specs.Replay.{tac_in}
-use Rattle.laws_of_steps.specs.Suits.{has_kind, has_kind_by, is_lterm}
-use Rattle.laws_of_tables.specs.EntriesLaws.{entries_have}
+use Rattle.laws_of_states.specs.Replay.{tac_in}
+use Rattle.laws_of_states.specs.Suits.{has_kind, has_kind_by, is_lterm}
+use Rattle.laws_of_states.specs.KeptEntriesLaws.{entries_have}
 
 unnamed : {A : Type 0} (entries : List (Bytes × A)) → HaveProperNames entries → (bytes : Bytes) → (IsName bytes → ⊥) → entry_of entries bytes ≡ None
 unnamed {A} entries proper bytes not = by (entry_of entries bytes) (entries_have (λ (e : Bytes × A). IsName e.0) entries proper bytes)

@@ -13,11 +13,11 @@ use Rattle.kdcs_types.specs.Tables.{TableRows, content_of}
 use Rattle.abstract_monitor.specs.Bytes.{Bytes}
 use Rattle.abstract_monitor.specs.State.{OpenTransaction}
 use Rattle.abstract_monitor.specs.Statements.{Kept}
-use Rattle.laws_of_steps.specs.Replay.{content_by_note, first_unused, noted_area, notes_on, replay_told}
-use Rattle.laws_of_steps.specs.Transactions.{fits_if_there}
-use Rattle.laws_of_tables.specs.ListsLaws.{all_filter, filter_passes}
-use Rattle.laws_of_tables.specs.OpenLaws.{ToldFits}
-use Rattle.service_statement.specs.Stating.{ContentsFit}
+use Rattle.laws_of_states.specs.Replay.{content_by_note, first_unused, noted_area, notes_on, replay_told}
+use Rattle.laws_of_states.specs.Transactions.{fits_if_there}
+use Rattle.laws_of_states.specs.ListsLaws.{all_filter, filter_passes}
+use Rattle.laws_of_states.specs.OpenLaws.{ToldFits}
+use Rattle.kdcs_calls.specs.Stating.{ContentsFit}
 use Rattle.serial_audit.specs.Audit.{note_fits}
 
 module _ {A : Type 0} (q : A → Bool) where

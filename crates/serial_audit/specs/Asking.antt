@@ -6,7 +6,7 @@ use Rattle.kdcs_types.specs.declared.key.Area.{Area}
 use Rattle.kdcs_types.specs.declared.key.ServiceId.{ServiceId}
 use Rattle.kdcs_types.specs.declared.service.Note.{Note}
 use Rattle.kdcs_types.specs.Tables.{TableRows, empty_tables, with_change}
-use Rattle.kdcdef_types.specs.Generation.{Generated}
+use Rattle.application_types.specs.Generation.{Generated}
 use Rattle.abstract_monitor.specs.Bytes.{Bytes}
 use Rattle.abstract_monitor.specs.Calls.{touches}
 use Rattle.abstract_monitor.specs.Endings.{area_change, is_asynchronous}
@@ -15,8 +15,8 @@ use Rattle.abstract_monitor.specs.State.{Application, OpenTransaction}
 use Rattle.abstract_monitor.specs.Statements.{Kept, Stated, area_of_call, by_performed}
 use Rattle.abstract_monitor.specs.Calls.{call_outcome}
 use Rattle.kdcs_calls.specs.Calling.{is_declared}
-use Rattle.laws_of_steps.specs.Replay.{replay_told}
-use Rattle.unit_types.specs.UnitText.{UnitText}
+use Rattle.laws_of_states.specs.Replay.{replay_told}
+use Rattle.application_types.specs.UnitText.{UnitText}
 
 -- ---- calls
 

@@ -15,16 +15,16 @@ use Rattle.kdcs_types.specs.declared.service.Service.{Service}
 use Rattle.kdcs_types.specs.declared.service.Settled.{Settled}
 use Rattle.kdcs_types.specs.Difference.{difference}
 use Rattle.kdcs_types.specs.Tables.{TableRows, changed, job_of, row_fits, service_of}
-use Rattle.kdcdef_types.specs.Generation.{Generated}
+use Rattle.application_types.specs.Generation.{Generated}
 use Rattle.abstract_monitor.specs.Bytes.{Bytes}
 use Rattle.abstract_monitor.specs.Commands.{is_for, shown_tables}
 use Rattle.abstract_monitor.specs.Endings.{durable, is_asynchronous, is_durable}
 use Rattle.abstract_monitor.specs.Picks.{due_job}
 use Rattle.abstract_monitor.specs.State.{Application}
 use Rattle.abstract_monitor.specs.Statements.{Kept, kept_of}
-use Rattle.laws_of_steps.specs.Replay.{GoesOn, accepted, atomic, is_made, lterm_in, notes_on, replay, replay_statement, tac_in, with_began}
-use Rattle.laws_of_steps.specs.Suits.{fits_message, has_kind, is_lterm, is_user, service_suits}
-use Rattle.laws_of_steps.specs.Transactions.{fits_if_there}
+use Rattle.laws_of_states.specs.Replay.{GoesOn, accepted, atomic, is_made, lterm_in, notes_on, replay, replay_statement, tac_in, with_began}
+use Rattle.laws_of_states.specs.Suits.{fits_message, has_kind, is_lterm, is_user, service_suits}
+use Rattle.laws_of_states.specs.Transactions.{fits_if_there}
 use Rattle.audit_trail.specs.declared.entry.By.{By}
 use Rattle.audit_trail.specs.declared.entry.By.TheVariants.{Tick, Shown, Transaction}
 use Rattle.audit_trail.specs.declared.entry.TrailEntry.{TrailEntry}

@@ -3,8 +3,8 @@ use Rattle.std.specs.Prelude.{◌≡◌, Option, Some, None}
 use Rattle.kdcs_types.specs.Difference.{difference}
 use Rattle.abstract_monitor.specs.Endings.{durable}
 use Rattle.abstract_monitor.specs.State.{OpenTransaction as Transaction}
-use Rattle.laws_of_steps.specs.Replay.{Ended as AtEnd, ended_by, replay_statement}
-use Rattle.laws_of_tables.specs.PointLaws.{AreSound, Stands}
+use Rattle.laws_of_states.specs.Replay.{Ended as AtEnd, ended_by, replay_statement}
+use Rattle.laws_of_states.specs.PointLaws.{AreSound, Stands}
 use Rattle.open_transaction.specs.Transactions.{Boxed, boxed_transaction}
 use Rattle.serial_audit.specs.Replaying.{app_of, kept_in, tables_in}
 use Rattle.serial_audit.specs.declared.ending.Ended.{Ended}

@@ -4,13 +4,13 @@ use Rattle.kdcs_types.specs.declared.act.Changes.{Changes}
 use Rattle.kdcs_types.specs.declared.service.Settled.{Settled}
 use Rattle.kdcs_types.specs.Difference.{difference}
 use Rattle.kdcs_types.specs.Tables.{TableRows, IsSortedTables}
-use Rattle.kdcdef_types.specs.Generation.{Generated}
+use Rattle.application_types.specs.Generation.{Generated}
 use Rattle.abstract_monitor.specs.Endings.{durable, is_durable}
 use Rattle.abstract_monitor.specs.State.{Application}
 use Rattle.abstract_monitor.specs.Statements.{kept_of}
-use Rattle.laws_of_steps.specs.Replay.{atomic}
-use Rattle.laws_of_steps.specs.Suits.{Suits}
-use Rattle.laws_of_tables.specs.PointLaws.{AreSound}
+use Rattle.laws_of_states.specs.Replay.{atomic}
+use Rattle.laws_of_states.specs.Suits.{Suits}
+use Rattle.laws_of_states.specs.PointLaws.{AreSound}
 use Rattle.audit_trail.specs.declared.entry.By.{By}
 use Rattle.audit_trail.specs.declared.entry.By.TheVariants.{Transaction}
 use Rattle.serial_audit.specs.Audit.{BeganIn, BeginsRightly, Determines, HasDueJob, HasShortItems, Makes, has_user}

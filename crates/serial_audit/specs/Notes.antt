@@ -1,7 +1,7 @@
 -- The notes of a record, compared area by area.
 use Rattle.std.specs.Prelude.{◌≡◌, List, [], ◌∷◌}
 use Rattle.kdcs_types.specs.declared.service.Note.{Note}
-use Rattle.laws_of_steps.specs.Replay.{noted_area, notes_on}
+use Rattle.laws_of_states.specs.Replay.{noted_area, notes_on}
 
 -- on the area of each of these notes both have the same notes
 abbrev pub SameOnEach : List Note → (a b : List Note) → Type 0

@@ -3,12 +3,12 @@ use Rattle.std.specs.Prelude.{◌≡◌, Bool, true, false, IsTrue, [], ◌∷�
 use Rattle.kdcs_types.specs.declared.run_state.Header.{Header}
 use Rattle.kdcs_types.specs.declared.service.Service.{Service}
 use Rattle.kdcs_types.specs.Tables.{TableRows, service_of}
-use Rattle.kdcdef_types.specs.Generation.{Generated}
+use Rattle.application_types.specs.Generation.{Generated}
 use Rattle.abstract_monitor.specs.Bytes.{Bytes}
 use Rattle.abstract_monitor.specs.Endings.{header_of_row, opened, opened_by_row}
 use Rattle.abstract_monitor.specs.State.{OpenTransaction as Transaction}
 use Rattle.abstract_monitor.specs.Statements.{Kept}
-use Rattle.laws_of_steps.specs.Replay.{input_at, lterm_in}
+use Rattle.laws_of_states.specs.Replay.{input_at, lterm_in}
 use Rattle.open_transaction.specs.Transactions.{Boxed, boxed_transaction}
 use Rattle.serial_audit.specs.Audit.{HasDueJob, has_user}
 use Rattle.serial_audit.specs.Replaying.{app_of, kept_in, tables_in}

@@ -2,20 +2,20 @@
 use Rattle.std.specs.Prelude.{◌≡◌, ◌≤◌, ◌<◌, ℕ, Bool, true, false, IsTrue, length}
 use Rattle.std.specs.List.{list_all}
 use Rattle.kdcs_types.specs.Tables.{TableRows}
-use Rattle.kdcdef_types.specs.Generation.{Generated}
+use Rattle.application_types.specs.Generation.{Generated}
 use Rattle.abstract_monitor.specs.Bytes.{Bytes}
 use Rattle.abstract_monitor.specs.Endings.{followed_by_input}
 use Rattle.abstract_monitor.specs.Locks.{Locks}
 use Rattle.abstract_monitor.specs.State.{Application, OpenTransaction as Transaction}
 use Rattle.abstract_monitor.specs.Statements.{Kept, kept_of}
-use Rattle.laws_of_applications.specs.Applied.{applied}
-use Rattle.laws_of_steps.specs.Applications.{IsApplication}
-use Rattle.laws_of_steps.specs.Replay.{GoesOn, accepted, input_at, is_made, replay, replay_statement, replay_step}
-use Rattle.laws_of_steps.specs.Transactions.{CanGoOn}
-use Rattle.laws_of_tables.specs.PointLaws.{AreSound}
+use Rattle.laws_of_runs.specs.Applied.{applied}
+use Rattle.laws_of_states.specs.Applications.{IsApplication}
+use Rattle.laws_of_states.specs.Replay.{GoesOn, accepted, input_at, is_made, replay, replay_statement, replay_step}
+use Rattle.laws_of_states.specs.Transactions.{CanGoOn}
+use Rattle.laws_of_states.specs.PointLaws.{AreSound}
 use Rattle.open_transaction.specs.declared.open.OpenTransaction.{OpenTransaction}
 use Rattle.open_transaction.specs.Transactions.{transaction_of}
-use Rattle.unit_check.specs.Fitted.{FittedUnits, IsFit}
+use Rattle.application_check.specs.Fitted.{FittedUnits, IsFit}
 use Rattle.serial_audit.specs.Asking.{HoldsAlone}
 use Rattle.serial_audit.specs.Audit.{BeginsRightly, HasShortItems}
 use Rattle.serial_audit.specs.declared.replay.Replay.{Replay}

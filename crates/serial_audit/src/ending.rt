@@ -1,8 +1,8 @@
 //! How the transaction of a record ends.
 ghost use Rattle.std.specs.Prelude.{◌≡◌, ◌+◌, ◌<◌, ◌^◌, IfOk, IfSome, IfNone, IsSome};
 ghost use Rattle.abstract_monitor.specs.{Charges.{total_charge}, Endings.{durable, is_asynchronous}};
-ghost use Rattle.laws_of_steps.specs.{Replay.{ended_by}, Transactions.{IsRooted}};
-ghost use Rattle.laws_of_tables.specs.OpenLaws.{OutcomeFits};
+ghost use Rattle.laws_of_states.specs.{Replay.{ended_by}, Transactions.{IsRooted}};
+ghost use Rattle.laws_of_states.specs.OpenLaws.{OutcomeFits};
 ghost use Rattle.open_transaction.specs.Transactions.{boxed_transaction};
 ghost use Rattle.abstract_monitor.specs.declared.answer.Happened.TheVariants as happened;
 ghost use Rattle.serial_audit.specs.{Ending.{ChangesAre, StandsAt, ended_from}, Replaying.{Goes, IsAuditable, app_of, kept_in, tables_in}};
@@ -10,9 +10,9 @@ ghost use Rattle.serial_audit.specs.{Ending.{ChangesAre, StandsAt, ended_from}, 
 use crate::replay::Replay;
 use crate::statement::next_statement;
 use abstract_monitor::{Happened, Outcome};
-use area_locks::LockTable;
 use kd_base::OutOfMemory;
 use kdcs_types::{Changes, Ending};
+use monitor_parts::area_locks::LockTable;
 use open_transaction::OpenTransaction;
 use sync_points::{SettleAnswer, broken, settle};
 

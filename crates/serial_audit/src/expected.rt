@@ -1,20 +1,20 @@
 //! What each maker is to change.
 ghost use Rattle.std.specs.Prelude.{◌≡◌, ◌+◌, ◌≤◌, IfOk, IfNone, IfSome, OnOk};
 ghost use Rattle.kd_base.specs.Limits.{last_clock};
-ghost use Rattle.laws_of_applications.specs.Applied.{applied};
-ghost use Rattle.laws_of_commits.specs.CommitLaws.{tick_changes};
-ghost use Rattle.laws_of_steps.specs.Suits.{Suits};
-ghost use Rattle.unit_check.specs.Fitted.{IsFit};
+ghost use Rattle.laws_of_runs.specs.Applied.{applied};
+ghost use Rattle.laws_of_states.specs.CommitLaws.{tick_changes};
+ghost use Rattle.laws_of_states.specs.Suits.{Suits};
+ghost use Rattle.application_check.specs.Fitted.{IsFit};
 ghost use Rattle.serial_audit.specs.{Audit.{HasTrailRecord}, Expecting.{Expects}};
 
 use crate::shows::show_changes;
 use crate::transaction::transaction_changes;
+use application_check::kdcdef_check::Generation;
+use application_check::unit_check::Units;
 use audit_trail::By;
 use kd_base::{LAST_CLOCK, OutOfMemory};
-use kdcdef_check::Generation;
 use kdcs_types::{Changes, RowChanges, Tables};
 use std::alloc::Global;
-use unit_check::Units;
 
 // What TICK changes, if it stays within the greatest clock.
 fn ticked(alloc: Global, tables: &Tables, ticks: u64) -> Option<Changes>

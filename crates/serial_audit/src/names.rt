@@ -1,12 +1,12 @@
 //! What a record must say before it is replayed.
 ghost use Rattle.std.specs.{Prelude.{◌≡◌, ◌↔◌, IfNone, IfSome, IsTrue, false}, List.{list_all}};
 ghost use Rattle.abstract_monitor.specs.{Endings.{is_asynchronous}, Statements.{kept_of}};
-ghost use Rattle.laws_of_steps.specs.{Replay.{lterm_in, tac_in}, Suits.{fits_message, has_kind, is_lterm}};
+ghost use Rattle.laws_of_states.specs.{Replay.{lterm_in, tac_in}, Suits.{fits_message, has_kind, is_lterm}};
 ghost use Rattle.serial_audit.specs.Audit.{BeginsRightly, HasShortItems, has_user, note_fits};
 
 use crate::replay::accepted;
+use application_check::kdcdef_check::Generation;
 use kd_base::{Bytes, LONGEST_CONTENT, Name};
-use kdcdef_check::Generation;
 use kdcs_types::{Note, Service, ServiceId, Settled};
 
 /// The names with which the inputs of a record begin.

@@ -2,7 +2,7 @@
 ghost use Rattle.std.specs.Prelude.{◌≡◌, ◌∷◌, [], ◌↔◌, IfNone, IfSome, IsTrue, length, option_copied};
 ghost use Rattle.kdcs_types.specs.declared.key.Area.{Area as OfArea};
 ghost use Rattle.abstract_monitor.specs.Statements.{kept_of};
-ghost use Rattle.laws_of_steps.specs.Replay.{first_unused, noted_area, notes_on};
+ghost use Rattle.laws_of_states.specs.Replay.{first_unused, noted_area, notes_on};
 ghost use Rattle.open_transaction.specs.Transactions.{transaction_of};
 ghost use Rattle.serial_audit.specs.Notes.{SameOnEach};
 

@@ -2,15 +2,15 @@
 ghost use Rattle.std.specs.Prelude.{◌≡◌, ◌∷◌, [], IfOk, Some, if◌then◌else◌};
 ghost use Rattle.abstract_monitor.specs.Endings.{header_of_row, opened, opened_by_job, opened_by_row, user_in_row};
 ghost use Rattle.open_transaction.specs.Transactions.{HasOrder, boxed_transaction};
-ghost use Rattle.laws_of_steps.specs.Replay.{lterm_in, opened_from, tac_in};
+ghost use Rattle.laws_of_states.specs.Replay.{lterm_in, opened_from, tac_in};
 ghost use Rattle.serial_audit.specs.{Audit.{BeginsRightly}, Opening.{CanOpen, IsOpened, dialogue_opened, first_read, reads_first}, Replaying.{IsAuditable, app_of, kept_in, tables_in}};
 
 use crate::names::Names;
 use crate::replay::{Replay, input_at};
 use kd_base::{Bytes, Name, OutOfMemory};
+use kdcs_calls::service_statement::Outside;
 use kdcs_types::{Header, JobValue, Parts, Service, ServiceId};
 use open_transaction::OpenTransaction;
-use service_statement::Outside;
 
 // A dialogue service has the user of its id.
 fn user_in_row(id: ServiceId, row: &Service) -> Name

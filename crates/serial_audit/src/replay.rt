@@ -1,17 +1,17 @@
 //! The replay of a record.
 ghost use Rattle.std.specs.Prelude.{◌≡◌, ◌+◌, ◌≤◌, ◌<◌, ◌^◌, IfOk, false, true, length, nat_le, option_copied, slice_get};
 ghost use Rattle.abstract_monitor.specs.Statements.{kept_of};
-ghost use Rattle.laws_of_steps.specs.Replay.{accepted};
+ghost use Rattle.laws_of_states.specs.Replay.{accepted};
 ghost use Rattle.open_transaction.specs.Transactions.{transaction_of};
 ghost use Rattle.serial_audit.specs.{Audit.{BeginsRightly, Determines, most_statements}, Replaying.{Goes, IsAuditable, Ran, ReadInput, WentOn, app_of, kept_in, tables_in}};
 
 use crate::statement::next_statement;
 use abstract_monitor::Happened;
-use area_locks::LockTable;
 use kd_base::{Bytes, Name, OutOfMemory};
+use kdcs_calls::service_statement::Outside;
 use kdcs_types::Settled;
+use monitor_parts::area_locks::LockTable;
 use open_transaction::OpenTransaction;
-use service_statement::Outside;
 
 /// A record, with what its replay looks at.
 #[derive(Clone, Copy)]

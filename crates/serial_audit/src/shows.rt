@@ -2,7 +2,7 @@
 ghost use Rattle.std.specs.{Prelude.{◌≡◌, ◌++◌, ◌&&◌, None, Some, IfOk, IfNone, IfSome, OnOk, nat_le, option_copied}, Option.{option_eq}};
 ghost use Rattle.kdcs_types.specs.{declared.service.Job.{Job as OfTables}, Same.{job_value_eq}, Tables.{shown_of}};
 ghost use Rattle.abstract_monitor.specs.{Commands.{is_for}, Picks.{due_job, earlier_of, is_earlier}};
-ghost use Rattle.laws_of_commits.specs.CommitLaws.{shown_changes, shown_set};
+ghost use Rattle.laws_of_states.specs.CommitLaws.{shown_changes, shown_set};
 ghost use Rattle.serial_audit.specs.Due.{earlier_if};
 
 use kd_base::{Name, OutOfMemory};

@@ -3,26 +3,26 @@ ghost use Rattle.std.specs.Prelude.{◌≡◌, ◌+◌, ◌≤◌, ◌<◌, ◌^
 ghost use Rattle.abstract_monitor.specs.{Calls.{noted, plain_reply}, Endings.{is_asynchronous}, Statements.{area_of_call, counted}};
 ghost use Rattle.abstract_monitor.specs.declared.answer.Happened.TheVariants.{Went};
 ghost use Rattle.kdcs_types.specs.declared.service.Note.TheVariants.{Refused, Released};
-ghost use Rattle.laws_of_steps.specs.Replay.{first_unused, replay_statement};
-ghost use Rattle.laws_of_tables.specs.OpenLaws.{HappenedFits, StandsIn};
+ghost use Rattle.laws_of_states.specs.Replay.{first_unused, replay_statement};
+ghost use Rattle.laws_of_states.specs.OpenLaws.{HappenedFits, StandsIn};
 ghost use Rattle.open_transaction.specs.Transactions.{transaction_of};
-ghost use Rattle.unit_semantics.specs.{Ready.{CanAnswer, IsReady}, Statement.{Asks, step}};
+ghost use Rattle.abstract_monitor.specs.{Ready.{CanAnswer, IsReady}, Statement.{Asks, step}};
 ghost use Rattle.serial_audit.specs.{Asking.{HoldsAlone, call_replayed, relabelled, showing}, Replaying.{Goes, IsAuditable, app_of, kept_in, tables_in}};
 
 use crate::asking::{area_of_call, asks_lock};
 use crate::notes::first_unused;
 use crate::replay::Replay;
 use abstract_monitor::Happened;
-use area_locks::LockTable;
+use application_types::unit_types::Unit;
 use kd_base::{Bytes, OutOfMemory};
+use kdcs_calls::service_statement::{Outside, perform_call, step_unit};
 use kdcs_types::{Area, Areas, Call, Changes, Code, Ending, Note, Notes, Reply, Tables};
+use monitor_parts::area_locks::LockTable;
 use open_transaction::OpenTransaction;
-use service_statement::{Outside, perform_call, step_unit};
+use service_parts::storage_areas::Overlay;
+use service_parts::unit_step::Stepped;
 use std::alloc::Global;
 use std::mem;
-use storage_areas::Overlay;
-use unit_step::Stepped;
-use unit_types::Unit;
 
 // Tables that have this content in the area, and nothing else.
 fn tables_showing(

@@ -1,12 +1,14 @@
 //! What the transaction of a record changes, run in one go.
 ghost use Rattle.std.specs.Prelude.{◌≡◌, ◌↔◌, ◌≤◌, ◌∷◌, [], IfOk, IfNone, IfSome, IsTrue, OnOk, option_copied};
+ghost use Rattle.monitor_parts.specs.Asked.{no_locks};
 ghost use Rattle.abstract_monitor.specs.{Charges.{total_charge}, Endings.{durable, is_durable, service_change, with_service}, Statements.{kept_of}};
 ghost use Rattle.kdcs_types.specs.Tables.{AreChanges, lterm_fits, service_of};
-ghost use Rattle.laws_of_applications.specs.Applied.{applied};
-ghost use Rattle.laws_of_steps.specs.Suits.{Suits};
-ghost use Rattle.unit_check.specs.Fitted.{IsFit};
-ghost use Rattle.serial_audit.specs.{Audit.{BeganIn, HasDueJob, IsDueFor, IsTrailRecord, most_statements, volatile_row_suits}, Expecting.{ExpectsReplay, IsReady, IsReplayed}, Opening.{Rooted}, Replaying.{Auditable}};
-ghost use Rattle.laws_of_steps.specs.Replay.{lterm_in, tac_in};
+ghost use Rattle.laws_of_runs.specs.Applied.{applied};
+ghost use Rattle.laws_of_states.specs.Suits.{Suits};
+ghost use Rattle.application_check.specs.Fitted.{IsFit};
+ghost use Rattle.serial_audit.specs.{Audit.{BeganIn, HasDueJob, IsDueFor, IsTrailRecord, most_statements, volatile_row_suits}, Expecting.{ExpectsReplay, IsReady, IsReplayed}, Opening.{Rooted}};
+ghost use Rattle.serial_audit.specs.Replaying.{Auditable, IsAuditable, app_of, kept_in, tables_in};
+ghost use Rattle.laws_of_states.specs.Replay.{lterm_in, tac_in};
 
 use crate::ending::end;
 use crate::names::{Names, has_short_items, has_user, names_in};
@@ -14,20 +16,20 @@ use crate::notes::same_notes;
 use crate::opening::open;
 use crate::replay::{Replay, has_read, run};
 use crate::same::same_ending;
-use area_locks::LockTable;
+use application_check::kdcdef_check::Generation;
+use application_check::unit_check::Units;
 use kd_base::{Name, OutOfMemory};
-use kdcdef_check::Generation;
+use kdcs_calls::service_statement::Outside;
 use kdcs_types::{
     Change, Changes, JobValue, Key, Row, RowChanges, Service, ServiceId, Settled, Tables, Target,
 };
-use laws_of_applications::fitted_units_make_an_application;
+use laws_of_runs::laws_of_applications::fitted_units_make_an_application;
+use monitor_parts::area_locks::LockTable;
 use record_codec::ascend;
-use service_runs::is_durable;
-use service_statement::Outside;
+use service_parts::service_runs::is_durable;
 use std::alloc::Global;
 use sync_points::same_service;
 use table_fit::{service_suits, total_charge};
-use unit_check::Units;
 
 fn service_change(id: &ServiceId, row: &Option<Service>) -> Result<Change, OutOfMemory>
     ensures { IfOk result (λ change. change ≡ service_change id.now row.now) }
@@ -144,7 +146,46 @@ fn ready(generation: &Generation, tables: &Tables, record: &Settled) -> Option<N
 }
 
 // What the transaction changes in the durable tables, where the record determines its replay and ends so. The durable
-// rows take `charge` pages.
+// rows take `charge` pages. The replay and the locks are lent: beside the transaction they would be dear to own.
+fn replayed_with(
+    replay: &Replay,
+    locks: &mut LockTable,
+    charge: u64,
+    names: Names,
+) -> Result<Option<Changes>, OutOfMemory>
+    requires auditable { IsAuditable replay.now }
+    requires can { Rooted replay.now.outside.generation.now (tables_in replay.now) (kept_in replay.now) }
+    requires locks { locks.old ≡ no_locks }
+    requires few { replay.now.record.now.statements ≤ most_statements }
+    requires charge { charge ≡ total_charge replay.now.outside.generation.now.limits.blksize (durable replay.now.outside.generation.now (tables_in replay.now)) }
+    requires tac { names.tac ≡ tac_in (kept_in replay.now) }
+    requires lterm { names.lterm ≡ lterm_in (kept_in replay.now) }
+    ensures { IfOk result (IsReplayed (app_of replay.now) (tables_in replay.now) replay.now.record.now) }
+{
+    let record = replay.record;
+    let mut transaction = open(replay, names)?;
+    if !has_read(record, &transaction) {
+        return Ok(None);
+    }
+    if !run(replay, locks, &mut transaction)? {
+        return Ok(None);
+    }
+    if !same_notes(transaction.notes.as_slice(), record.notes.as_slice()) {
+        return Ok(None);
+    }
+    match end(replay, charge, locks, transaction)? {
+        Some(ended) => {
+            if same_ending(ended.ending, record.ending) {
+                Ok(Some(ended.changes))
+            } else {
+                Ok(None)
+            }
+        }
+        None => Ok(None),
+    }
+}
+
+// The same, from no locks.
 fn replayed<'a>(
     outside: &Outside<'a>,
     record: &'a Settled,
@@ -163,21 +204,8 @@ fn replayed<'a>(
         outside: *outside,
         record,
     };
-    let mut transaction = open(&replay, names)?;
-    if !has_read(record, &transaction) {
-        return Ok(None);
-    }
     let mut locks = LockTable::new(outside.alloc);
-    if !run(&replay, &mut locks, &mut transaction)? {
-        return Ok(None);
-    }
-    if !same_notes(transaction.notes.as_slice(), record.notes.as_slice()) {
-        return Ok(None);
-    }
-    match end(&replay, charge, &mut locks, transaction)? {
-        Some(ended) if same_ending(ended.ending, record.ending) => Ok(Some(ended.changes)),
-        _ => Ok(None),
-    }
+    replayed_with(&replay, &mut locks, charge, names)
 }
 
 // The same, over all that is looked at.

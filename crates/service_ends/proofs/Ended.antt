@@ -18,7 +18,7 @@ use Rattle.kdcs_types.specs.declared.service.Settled.{Settled}
 use Rattle.kdcs_types.specs.Keys.{id_cmp, id_eq}
 use Rattle.kdcs_types.specs.KeyedLaws.{found_passes}
 use Rattle.kdcs_types.specs.Tables.{TableRows, IsSortedTables, change_fits, changed, lterm_fits, service_fits, service_key, service_of}
-use Rattle.kdcdef_types.specs.Generation.{Generated}
+use Rattle.application_types.specs.Generation.{Generated}
 use Rattle.abstract_monitor.specs.declared.outcome.Outcome.{Outcome}
 use Rattle.abstract_monitor.specs.declared.outcome.Outcome.TheVariants.{Hold, Stay, Queue, Wait, Point, Follow, Finish, Break, Back}
 use Rattle.abstract_monitor.specs.Bytes.{Bytes, bytes_cmp}
@@ -27,19 +27,20 @@ use Rattle.abstract_monitor.specs.Endings.{broken, joined, row_after, service_ch
 use Rattle.abstract_monitor.specs.Sessions.{is_running}
 use Rattle.abstract_monitor.specs.State.{Application, OpenTransaction, State}
 use Rattle.abstract_monitor.specs.Statements.{kept_record}
-use Rattle.abstract_monitor.specs.Turns.{Turned, abnormal, after_point, committed, dump_acts, ended_acts, message_acts, message_sent, moved_to, settled, settled_by, told_user, user_acts, with_open, with_task, without_open, without_transaction}
-use Rattle.laws_of_places.specs.EntriesLaws.{found_put, found_without}
-use Rattle.laws_of_tables.specs.PointLaws.{Stands}
+use Rattle.abstract_monitor.specs.Turns.{Turned, abnormal, after_point, committed, dump_acts, ended_acts, message_acts, message_sent, moved_to, settled, settled_by, told_user, user_acts, with_open}
+use Rattle.abstract_monitor.specs.Turns.{with_task, without_open, without_transaction}
+use Rattle.laws_of_states.specs.EntriesLaws.{found_put, found_without}
+use Rattle.laws_of_states.specs.PointLaws.{Stands}
 use Rattle.open_transaction.specs.Transactions.{Boxed, boxed_transaction, HasOrder}
-use Rattle.core_state.specs.declared.parts.MonitorParts.{MonitorParts}
-use Rattle.core_state.specs.KeptLaws.{found_transaction}
-use Rattle.core_state.specs.Standing.{IsOwned, SameApplication, state_of}
-use Rattle.core_state.specs.Whole.{app_of}
-use Rattle.core_state.specs.WholeLaws.{same_app, same_twice}
+use Rattle.service_ends.specs.declared.core_state.parts.MonitorParts.{MonitorParts}
+use Rattle.service_ends.specs.KeptLaws.{found_transaction}
+use Rattle.service_ends.specs.Standing.{IsOwned, SameApplication, state_of}
+use Rattle.service_ends.specs.Whole.{app_of}
+use Rattle.service_ends.specs.WholeLaws.{same_app, same_twice}
 use Rattle.sync_points.specs.declared.points.SettleAnswer.TheVariants.{Refused, Synced}
 use Rattle.sync_points.specs.Answers.{answer_by}
-use Rattle.laws_of_commits.specs.CommitLaws.{durable_difference}
-use Rattle.laws_of_commits.specs.EndsLaws.{end_made, point_made}
+use Rattle.laws_of_states.specs.CommitLaws.{durable_difference}
+use Rattle.laws_of_states.specs.ShownEndsLaws.{end_made, point_made}
 use Rattle.service_ends.specs.declared.turned.Turned.{Turned as Did}
 use Rattle.service_ends.specs.Ending.{CanGoOn, IsClosed, Serves, behind_end, behind_point, broken_to, emitted, pointed_to, settled_to, turned_to}
 

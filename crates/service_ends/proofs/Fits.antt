@@ -11,15 +11,15 @@ use Rattle.kdcs_types.specs.Tables.{TableRows, AreChanges, change_fits, changed}
 use Rattle.abstract_monitor.specs.declared.outcome.Outcome.{Outcome}
 use Rattle.abstract_monitor.specs.Charges.{total_charge}
 use Rattle.abstract_monitor.specs.Endings.{broken, durable, is_durable, refusal, service_change, synchronised, with_service}
-use Rattle.laws_of_commits.specs.CommitLaws.{durable_difference}
-use Rattle.laws_of_commits.specs.EndsLaws.{end_made, point_made}
-use Rattle.laws_of_tables.specs.EndsLaws.{ends_stay_sound}
-use Rattle.laws_of_tables.specs.PointLaws.{AreSound, Stands}
-use Rattle.laws_of_tables.specs.PointsLaws.{not_refused}
+use Rattle.laws_of_states.specs.CommitLaws.{durable_difference}
+use Rattle.laws_of_states.specs.ShownEndsLaws.{end_made, point_made}
+use Rattle.laws_of_states.specs.EndsLaws.{ends_stay_sound}
+use Rattle.laws_of_states.specs.PointLaws.{AreSound, Stands}
+use Rattle.laws_of_states.specs.PointsLaws.{not_refused}
 use Rattle.open_transaction.specs.Transactions.{Boxed, boxed_transaction}
-use Rattle.row_charges.specs.Pages.{FitPool}
+use Rattle.table_fit.specs.Pages.{FitPool}
 use Rattle.sync_points.specs.MadeLaws.{service_durable}
-use Rattle.core_state.specs.declared.parts.MonitorParts.{MonitorParts}
+use Rattle.service_ends.specs.declared.core_state.parts.MonitorParts.{MonitorParts}
 use Rattle.service_ends.specs.Ending.{CanCommit}
 use Rattle.service_ends.proofs.Ended.{IsPassed}
 

@@ -21,14 +21,14 @@ use Rattle.abstract_monitor.specs.Statements.{kept_record}
 use Rattle.abstract_monitor.specs.Sessions.{is_running}
 use Rattle.abstract_monitor.specs.State.{Application, OpenTransaction, State}
 use Rattle.abstract_monitor.specs.Turns.{Turned, after_point, commit_of, committed, dump_acts, ended_acts, message_acts, message_sent, moved_to, queued, told_user, user_acts, with_task}
-use Rattle.laws_of_tables.specs.PointLaws.{Stands}
+use Rattle.laws_of_states.specs.PointLaws.{Stands}
 use Rattle.step_scheduler.specs.Schedule.{IsTask}
 use Rattle.open_transaction.specs.Transactions.{Boxed, boxed_transaction, HasOrder}
-use Rattle.row_charges.specs.Pages.{FitPool}
+use Rattle.table_fit.specs.Pages.{FitPool}
 use Rattle.service_ends.specs.declared.turned.Turned.{Turned as Did}
-use Rattle.core_state.specs.declared.parts.MonitorParts.{MonitorParts}
-use Rattle.core_state.specs.Standing.{IsIndexed, state_of}
-use Rattle.core_state.specs.Whole.{app_of}
+use Rattle.service_ends.specs.declared.core_state.parts.MonitorParts.{MonitorParts}
+use Rattle.service_ends.specs.Standing.{IsIndexed, state_of}
+use Rattle.service_ends.specs.Whole.{app_of}
 
 -- a message to the user of a dialogue service
 abbrev pub told_by : State → ServiceId → (message : Bytes) → State

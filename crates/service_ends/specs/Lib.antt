@@ -1,1 +1,9 @@
+pub mod ChangesLaws
 pub mod Ending
+pub mod Kept
+pub mod KeptLaws
+pub mod Queue
+pub mod QueueLaws
+pub mod Standing
+pub mod Whole
+pub mod WholeLaws

@@ -3,13 +3,13 @@ ghost use Rattle.std.specs.Prelude.{◌≡◌, true, Some, None, IfOk, OnOk};
 ghost use Rattle.abstract_monitor.specs.{State.{OpenTransaction as Transaction}, Turns.{back, back_by, ended_acts, last_again, moved_to, without_transaction}};
 ghost use Rattle.open_transaction.specs.Transactions.{boxed_transaction};
 ghost use Rattle.service_ends.specs.Ending.{turned_to, CanGoOn, ForOpen, IsClosed, Serves};
-ghost use Rattle.core_state.specs.{Standing.{IsIndexed, SameApplication, state_of}, Whole.{app_of}};
+ghost use Rattle.service_ends.specs.{Standing.{IsIndexed, SameApplication, state_of}, Whole.{app_of}};
 
 use crate::closed::close_transaction;
+use crate::core_state::MonitorParts;
 use crate::row::go_on;
 use crate::terminal::{say_ended, tell};
 use crate::turned::Turned;
-use core_state::MonitorParts;
 use kd_base::{Bytes, Name, OutOfMemory};
 use kdcs_types::{Acts, Service, ServiceId};
 use open_transaction::OpenTransaction;
@@ -62,7 +62,7 @@ fn back_at(
     ensures same { OnOk result (SameApplication parts.old parts.new) }
 {
     if row.awaits {
-        return send_again(parts, alloc, id, row.last);
+        return send_again(parts, alloc, id, row.into_last());
     }
     go_on(parts, alloc, id, row, lterm)?;
     Ok(Turned::quiet(alloc, true))

@@ -4,17 +4,17 @@ ghost use Rattle.kdcs_types.specs.declared.act.Act.TheVariants.{Commit};
 ghost use Rattle.abstract_monitor.specs.{State.{OpenTransaction as Transaction}, Turns.{abnormal, dump_acts, ended_acts}};
 ghost use Rattle.open_transaction.specs.Transactions.{boxed_transaction, transaction_of};
 ghost use Rattle.service_ends.specs.Ending.{behind_end, broken_to, CanCommit, committed_in, emitted, turned_to, ForOpen, IsClosed, Serves};
-ghost use Rattle.core_state.specs.{Standing.{IsIndexed, SameApplication, state_of}, Whole.{app_of}};
+ghost use Rattle.service_ends.specs.{Standing.{IsIndexed, SameApplication, state_of}, Whole.{app_of}};
 
 use crate::closed::close_transaction;
+use crate::core_state::MonitorParts;
 use crate::row::commit;
 use crate::terminal::say_ended;
 use crate::turned::Turned;
-use core_state::MonitorParts;
 use kd_base::{Bytes, OutOfMemory};
 use kdcs_types::{Act, Acts, Changes, Ending, ServiceId, Settled};
+use monitor_parts::output_lines::dump_line;
 use open_transaction::OpenTransaction;
-use output_lines::dump_line;
 use std::alloc::Global;
 use sync_points::broken;
 

@@ -4,9 +4,9 @@ ghost use Rattle.kdcs_types.specs.Keys.{id_cmp};
 ghost use Rattle.abstract_monitor.specs.{State.{OpenTransaction as Transaction}, Turns.{without_transaction}};
 ghost use Rattle.open_transaction.specs.Transactions.{boxed_transaction};
 ghost use Rattle.service_ends.specs.Ending.{IsClosed, Serves};
-ghost use Rattle.core_state.specs.Standing.{IsIndexed, SameApplication, state_of};
+ghost use Rattle.service_ends.specs.Standing.{IsIndexed, SameApplication, state_of};
 
-use core_state::MonitorParts;
+use crate::core_state::MonitorParts;
 use kdcs_types::ServiceId;
 use open_transaction::OpenTransaction;
 

@@ -1,5 +1,5 @@
 //! What follows a statement of a service that ends its unit run: synchronisation points, abnormal ends, the way back to the
-//! last point, and the places where a service goes on.
+//! last point, and the places where a service goes on; below them the state of a monitor with its indexes (`core_state`).
 //!
 //! It stands on the state of a monitor with its indexes, on synchronisation points, on the lines, and on the laws of
 //! commits. To the layer above, which does turns, its contract says that each end is the abstract monitor's: the state
@@ -9,6 +9,7 @@
 mod back;
 mod broken;
 mod closed;
+pub mod core_state;
 mod places;
 mod point;
 mod row;

@@ -4,11 +4,11 @@ ghost use Rattle.kdcs_types.specs.Keys.{id_cmp};
 ghost use Rattle.abstract_monitor.specs.{State.{OpenTransaction as Transaction}, Turns.{message_acts, message_sent, moved_to, with_task}};
 ghost use Rattle.step_scheduler.specs.Schedule.{IsTask};
 ghost use Rattle.service_ends.specs.Ending.{held_to, turned_to, ForOpen};
-ghost use Rattle.core_state.specs.Standing.{IsIndexed, SameApplication, state_of};
+ghost use Rattle.service_ends.specs.Standing.{IsIndexed, SameApplication, state_of};
 
+use crate::core_state::MonitorParts;
 use crate::terminal::tell;
 use crate::turned::Turned;
-use core_state::MonitorParts;
 use kd_base::OutOfMemory;
 use kdcs_types::{Acts, ServiceId};
 use std::alloc::Global;

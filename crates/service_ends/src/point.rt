@@ -4,15 +4,15 @@ ghost use Rattle.kdcs_types.specs.declared.act.Act.TheVariants.{Commit};
 ghost use Rattle.abstract_monitor.specs.{Endings.{joined}, State.{OpenTransaction as Transaction}, Turns.{settled}};
 ghost use Rattle.open_transaction.specs.Transactions.{boxed_transaction, transaction_of};
 ghost use Rattle.service_ends.specs.Ending.{CanCommit, committed_in, goes_on_from, point_with, pointed_to, sent_by, turned_to, CanGoOn, ForOpen, IsClosed, Serves};
-ghost use Rattle.core_state.specs.{Standing.{IsIndexed, SameApplication, state_of}, Whole.{app_of}};
+ghost use Rattle.service_ends.specs.{Standing.{IsIndexed, SameApplication, state_of}, Whole.{app_of}};
 
 use crate::broken::end_transaction;
 use crate::closed::close_transaction;
+use crate::core_state::MonitorParts;
 use crate::row::{commit, go_on};
 use crate::terminal::tell;
 use crate::turned::Turned;
 use abstract_monitor::Outcome;
-use core_state::MonitorParts;
 use kd_base::{Bytes, Name, OutOfMemory};
 use kdcs_types::{Acts, Changes, Ending, Service, ServiceId, Settled};
 use open_transaction::OpenTransaction;

@@ -3,11 +3,11 @@ ghost use Rattle.std.specs.{Prelude.{◌≡◌, ◌++◌, ◌∷◌, [], false, 
 ghost use Rattle.kdcs_types.specs.{Keys.{id_cmp}, declared.act.Act.TheVariants.{Commit}, Tables.{AreChanges}};
 ghost use Rattle.abstract_monitor.specs.{Endings.{header_of_row, opened_by_row, service_change, user_in_row, with_service}, Sessions.{is_running}, Turns.{queued}};
 ghost use Rattle.open_transaction.specs.Transactions.{HasOrder};
-ghost use Rattle.core_state.specs.Standing.{IsIndexed, SameApplication, state_of};
-ghost use Rattle.row_charges.specs.Pages.{FitPool};
+ghost use Rattle.service_ends.specs.Standing.{IsIndexed, SameApplication, state_of};
+ghost use Rattle.table_fit.specs.Pages.{FitPool};
 ghost use Rattle.service_ends.specs.Ending.{CanCommit, committed_in};
 
-use core_state::MonitorParts;
+use crate::core_state::MonitorParts;
 use kd_base::{Name, OutOfMemory};
 use kdcs_types::{Act, Acts, Change, Changes, Header, Key, Row, RowChanges, Service, ServiceId};
 use std::alloc::Global;

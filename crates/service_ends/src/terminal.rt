@@ -1,12 +1,12 @@
 //! Messages to the terminal of a user.
 ghost use Rattle.std.specs.Prelude.{◌≡◌, ◌++◌, OnOk};
 ghost use Rattle.abstract_monitor.specs.Turns.{ended_acts, told_user, user_acts};
-ghost use Rattle.core_state.specs.Standing.{IsIndexed, SameApplication, state_of};
+ghost use Rattle.service_ends.specs.Standing.{IsIndexed, SameApplication, state_of};
 
-use core_state::MonitorParts;
+use crate::core_state::MonitorParts;
 use kd_base::{Bytes, Name, OutOfMemory};
 use kdcs_types::{Act, Acts, ServiceId};
-use output_lines::{ended_line, out_line};
+use monitor_parts::output_lines::{ended_line, out_line};
 use std::alloc::Global;
 
 // A dialogue message to a user, where they are signed on: it is the last one of the session.

@@ -7,9 +7,9 @@ use Rattle.std.specs.Cmp.{Equal-is}
 use Rattle.std.specs.FinMap.{IsAntisymmetric, nat_cmp-IsAntisymmetric}
 use Rattle.std.proofs.lemmas.List.Folds.{list_any_more}
 use Rattle.std.proofs.lemmas.List.{get_or_default}
-use Rattle.kdcdef_types.specs.Generation.{Generated}
+use Rattle.application_types.specs.Generation.{Generated}
 use Rattle.abstract_monitor.specs.Picks.{Classed, is_allowed, place_passes, service_is_allowed}
-use Rattle.async_queue.specs.DueOrderLaws.{then_equal}
+use Rattle.open_transaction.specs.DueOrderLaws.{then_equal}
 use Rattle.step_scheduler.specs.declared.kinds.Kind.{Kind}
 use Rattle.step_scheduler.specs.Arrivals.{is_of_kinds}
 use Rattle.step_scheduler.specs.Kinds.{kind_cmp, kind_of, is_of_kind}

@@ -17,8 +17,8 @@ use Rattle.std.proofs.lemmas.List.Elements.{All-cons, All-head, All-nil, All-pus
 use Rattle.std.proofs.lemmas.Option.{slice_get-get_or}
 use Rattle.kd_base.specs.ToolsLaws.{both_true, some_is}
 use Rattle.kd_base.specs.OrderLaws.{greater_is, is_less}
-use Rattle.sorted_pairs.specs.Places.{without}
-use Rattle.sorted_pairs.specs.TreeLaws.{same_find, same_left}
+use Rattle.kd_base.specs.Places.{without}
+use Rattle.kd_base.specs.TreeLaws.{same_find, same_left}
 use Rattle.abstract_monitor.specs.Picks.{Classed, place_passes}
 use Rattle.step_scheduler.specs.Arrivals.{Arrivals, IsAfter, passes}
 use Rattle.step_scheduler.specs.Index.{IsLeast}

@@ -9,8 +9,8 @@ use Rattle.std.specs.FinMap.{find, is_sorted}
 use Rattle.std.specs.FinMap.Entries.{below_all}
 use Rattle.kd_base.specs.ToolsLaws.{both_true}
 use Rattle.kd_base.specs.OrderLaws.{is_less}
-use Rattle.sorted_pairs.specs.Places.{from_key}
-use Rattle.sorted_pairs.specs.TreeLaws.{none_before}
+use Rattle.kd_base.specs.Places.{from_key}
+use Rattle.kd_base.specs.TreeLaws.{none_before}
 
 module _ {K : Type 0} (R : K → K → Ordering) (o : IsTotalOrder R) where
   -- a key that is not below q is no key that is

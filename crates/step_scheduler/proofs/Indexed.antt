@@ -7,8 +7,8 @@ use Rattle.std.specs.declared.cmp.Ordering.TheVariants.{Less, Equal, Greater}
 use Rattle.std.specs.Cmp.{IsTotalOrder, Equal-is, nat_cmp_total, tied_itself}
 use Rattle.std.specs.FinMap.{find, put}
 use Rattle.std.specs.FinMap.Entries.{find-put, find_tied}
-use Rattle.sorted_pairs.specs.Places.{without}
-use Rattle.sorted_pairs.specs.PlacesLaws.{find_without}
+use Rattle.kd_base.specs.Places.{without}
+use Rattle.kd_base.specs.PlacesLaws.{find_without}
 use Rattle.abstract_monitor.specs.Picks.{Classed, place_passes}
 use Rattle.step_scheduler.specs.Arrivals.{Arrivals, passes}
 use Rattle.step_scheduler.specs.Index.{Numbered, is_marked, mark_cmp}

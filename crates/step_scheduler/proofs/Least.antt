@@ -8,8 +8,8 @@ use Rattle.std.specs.Cmp.{IsTotalOrder, tied_itself, tied_back, nat_cmp_total, o
 use Rattle.std.specs.FinMap.{is_sorted}
 use Rattle.std.specs.FinMap.Entries.{find_tied}
 use Rattle.kd_base.specs.OrderLaws.{greater_is}
-use Rattle.sorted_pairs.specs.Places.{from_key}
-use Rattle.async_queue.specs.DueOrderLaws.{none_before}
+use Rattle.kd_base.specs.Places.{from_key}
+use Rattle.open_transaction.specs.DueOrderLaws.{none_before}
 use Rattle.step_scheduler.specs.Index.{Numbered, IsLeast, is_marked, mark_cmp}
 use Rattle.step_scheduler.proofs.FirstFrom.{IsFirstFrom, none_from, first_from}
 

@@ -5,8 +5,8 @@ use Rattle.std.specs.Ordering.{nat_cmp, eq_by_cmp}
 use Rattle.std.specs.Cmp.{IsTotalOrder, nat_cmp_total}
 use Rattle.std.specs.FinMap.{find, put}
 use Rattle.std.specs.FinMap.Entries.{find-put}
-use Rattle.sorted_pairs.specs.Places.{without}
-use Rattle.sorted_pairs.specs.PlacesLaws.{find_without}
+use Rattle.kd_base.specs.Places.{without}
+use Rattle.kd_base.specs.PlacesLaws.{find_without}
 use Rattle.kdcs_types.specs.Keys.{id_cmp}
 use Rattle.kdcs_types.specs.KeyLaws.{id_total}
 use Rattle.abstract_monitor.specs.Picks.{Classed, place_passes}

@@ -6,12 +6,12 @@ use Rattle.kdcs_types.specs.declared.key.ServiceId.TheVariants.{Asynchronous}
 use Rattle.kdcs_types.specs.declared.key.Target.{Target}
 use Rattle.kdcs_types.specs.declared.key.Target.TheVariants.{Tac, Lterm}
 use Rattle.kdcs_types.specs.Keys.{id_eq}
-use Rattle.kdcdef_types.specs.Generation.{Generated}
+use Rattle.application_types.specs.Generation.{Generated}
 use Rattle.abstract_monitor.specs.declared.work.Work.{Work}
 use Rattle.abstract_monitor.specs.declared.work.Work.TheVariants as work
 use Rattle.abstract_monitor.specs.Picks.{Classed, class_of, place_passes, service_is_allowed, target_is_allowed}
-use Rattle.async_queue.specs.declared.queue.QueuedJob.{QueuedJob}
-use Rattle.async_queue.specs.Queue.{first_due}
+use Rattle.open_transaction.specs.declared.async_queue.queue.QueuedJob.{QueuedJob}
+use Rattle.open_transaction.specs.Queue.{first_due}
 
 -- services with the classes of their current TACs
 pub record Schedule : Type 0 where

@@ -2,7 +2,7 @@
 ghost use Rattle.std.specs.Ordering.{nat_cmp};
 ghost use Rattle.step_scheduler.specs.Index.{IsLeast, is_marked};
 
-use sorted_pairs::OrderedMap;
+use kd_base::sorted_pairs::OrderedMap;
 
 /// The numbers that keys have, in the order of the keys, and for one key in that of the numbers.
 pub(crate) type Index<K> = OrderedMap<(K, u64), ()>;

@@ -6,10 +6,10 @@ ghost use Rattle.step_scheduler.specs.Schedule.{class_of_target};
 
 use crate::kinds::Kind;
 use crate::places::Places;
-use async_queue::Allows;
+use application_check::kdcdef_check::Generation;
 use kd_base::Name;
-use kdcdef_check::Generation;
 use kdcs_types::Target;
+use open_transaction::async_queue::Allows;
 
 /// The tasks, of which each is free or holds a service, under the limits of a generation.
 #[derive(Clone, Copy)]

@@ -1,6 +1,6 @@
 //! By which the ready services are found: their kinds, and the services themselves.
 ghost use Rattle.std.specs.{Prelude.{◌≡◌, ◌||◌, ◌&&◌, ℕ, Bool, true, Some, None, [], OnOk, OnErr}, List.{list_any}, Ordering.{nat_cmp}, FinMap.{find, put}};
-ghost use Rattle.sorted_pairs.specs.Places.{without};
+ghost use Rattle.kd_base.specs.Places.{without};
 ghost use Rattle.kdcs_types.specs.Keys.{id_eq};
 ghost use Rattle.abstract_monitor.specs.Picks.{Classed, service_is_allowed};
 ghost use Rattle.step_scheduler.specs.{Arrivals.{AreMarks, Arrivals, is_of_kinds, passes}, Index.{IsLeast}, Kinds.{is_of_kind, kind_eq}};
@@ -9,17 +9,29 @@ use crate::index::{Index, first_of};
 use crate::kinds::{Classed, Kind, kind_of};
 use crate::limits::{TaskLimits, is_allowed};
 use kd_base::OutOfMemory;
+use kd_base::sorted_pairs::OrderedMap;
 use kdcs_types::ServiceId;
-use sorted_pairs::OrderedMap;
 use std::alloc::Global;
 
 /// Marks of the ready services, by the numbers of their arrivals.
-#[derive(Drop)]
 pub(crate) struct Marks {
     /// Each kind that a service has or had: at most two for each class.
     kinds: Vec<Kind>,
     by_kind: Index<Kind>,
     by_service: Index<ServiceId>,
+}
+
+impl Drop for Marks {
+    fn drop(self) {
+        let Marks {
+            kinds,
+            by_kind,
+            by_service,
+        } = self;
+        let _ = kinds;
+        let _ = by_kind;
+        let _ = by_service;
+    }
 }
 
 // The lesser of two numbers, where there are numbers.

@@ -14,13 +14,25 @@ const CLASSES: usize = 256;
 
 /// The service that each task holds, if any, with the class of its current TAC. The counts are kept, so that a limit is
 /// asked for without going over the tasks. Contracts see the list of the places.
-#[derive(Drop)]
 pub(crate) struct Places {
     places: Vec<Option<Classed>>,
     /// How many tasks hold a service of each class.
     of_class: Vec<usize>,
     /// How many hold an asynchronous service.
     asynchronous: usize,
+}
+
+impl Drop for Places {
+    fn drop(self) {
+        let Places {
+            places,
+            of_class,
+            asynchronous,
+        } = self;
+        let _ = places;
+        let _ = of_class;
+        let _ = asynchronous;
+    }
 }
 
 impl Model for Places {

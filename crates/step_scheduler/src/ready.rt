@@ -8,18 +8,30 @@ use crate::kinds::Classed;
 use crate::limits::TaskLimits;
 use crate::marks::Marks;
 use kd_base::OutOfMemory;
+use kd_base::sorted_pairs::OrderedMap;
 use kdcs_types::ServiceId;
-use sorted_pairs::OrderedMap;
 use std::alloc::Global;
 use std::marker::Model;
 
 /// The ready list, front first. Each service has the number of its arrival, and is found by marks. Contracts see the
 /// list of the numbers with the services.
-#[derive(Drop)]
 pub(crate) struct ReadyQueue {
     arrivals: OrderedMap<u64, Classed>,
     marks: Marks,
     alloc: Global,
+}
+
+impl Drop for ReadyQueue {
+    fn drop(self) {
+        let ReadyQueue {
+            arrivals,
+            marks,
+            alloc,
+        } = self;
+        let _ = arrivals;
+        let _ = marks;
+        let _ = alloc;
+    }
 }
 
 impl Model for ReadyQueue {

@@ -1,25 +1,33 @@
 //! The ready list and the tasks.
 ghost use Rattle.std.specs.Prelude.{◌≡◌, IsTrue, is_some, IfOk, OnOk, OnErr, None};
-ghost use Rattle.step_scheduler.specs.Schedule.{all_free, is_ready, is_running, released, with_ready, without_ready, IsTask, place_of, service_in, with_class, with_place, took_service, took_job, pick_queued, picked};
+ghost use Rattle.step_scheduler.specs.Schedule.{all_free, is_ready, is_running, released, with_ready, without_ready, IsTask, place_of, service_in, with_class, with_place, took_service, took_job};
+ghost use Rattle.step_scheduler.specs.Schedule.{pick_queued, picked};
 
 use crate::kinds::Classed;
 use crate::limits::{TaskLimits, class_of_target};
 use crate::places::Places;
 use crate::ready::ReadyQueue;
 use abstract_monitor::Work;
-use async_queue::{Jobs, QueuedJob};
+use application_check::kdcdef_check::Generation;
 use kd_base::OutOfMemory;
-use kdcdef_check::Generation;
 use kdcs_types::ServiceId;
+use open_transaction::async_queue::{Jobs, QueuedJob};
 use std::alloc::Global;
 use std::marker::Model;
 
 /// The services that are ready, front first, and the service that each task holds, if any, each with the class of its
 /// current TAC. Tasks count from 1, and classes are 1 to 16, and 0 for a TAC with none. Contracts see both lists.
-#[derive(Drop)]
 pub struct Scheduler {
     ready: ReadyQueue,
     places: Places,
+}
+
+impl Drop for Scheduler {
+    fn drop(self) {
+        let Scheduler { ready, places } = self;
+        let _ = ready;
+        let _ = places;
+    }
 }
 
 impl Model for Scheduler {

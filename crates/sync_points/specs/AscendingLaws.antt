@@ -21,14 +21,14 @@ use Rattle.kdcs_types.specs.declared.service.Service.{Service}
 use Rattle.kdcs_types.specs.Keyed.{ascends, keyed}
 use Rattle.kdcs_types.specs.Keys.{area_cmp, area_key, key_cmp, key_kind, texts_behind, texts_cmp}
 use Rattle.kdcs_types.specs.Tables.{TableRows, change_fits, change_key}
-use Rattle.kdcdef_types.specs.Generation.{Generated}
+use Rattle.application_types.specs.Generation.{Generated}
 use Rattle.abstract_monitor.specs.Bytes.{Bytes}
 use Rattle.abstract_monitor.specs.Endings.{area_change, is_durable, job_change, service_change}
-use Rattle.laws_of_steps.specs.Commits.{AreNumberedFrom}
-use Rattle.laws_of_steps.specs.DurableKeys.{key_is_durable}
-use Rattle.laws_of_tables.specs.ItemsLaws.{job_less}
-use Rattle.laws_of_tables.specs.ListsLaws.{all_append, all_imply}
-use Rattle.storage_areas.specs.Areas.{changes_of}
+use Rattle.laws_of_states.specs.Commits.{AreNumberedFrom}
+use Rattle.laws_of_states.specs.DurableKeys.{key_is_durable}
+use Rattle.laws_of_states.specs.ItemsLaws.{job_less}
+use Rattle.laws_of_states.specs.ListsLaws.{all_append, all_imply}
+use Rattle.service_parts.specs.Areas.{changes_of}
 use Rattle.sync_points.specs.PointChanges.{fate_changes, job_changes, own_job_changes, service_changes}
 
 -- ---- one list after another

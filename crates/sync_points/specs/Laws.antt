@@ -3,11 +3,11 @@ use Rattle.std.specs.Prelude.{◌≡◌}
 use Rattle.kdcs_types.specs.declared.key.ServiceId.{ServiceId}
 use Rattle.kdcs_types.specs.Difference.{difference}
 use Rattle.kdcs_types.specs.Tables.{IsSortedTables, TableRows}
-use Rattle.kdcdef_types.specs.Generation.{Generated}
+use Rattle.application_types.specs.Generation.{Generated}
 use Rattle.abstract_monitor.specs.declared.outcome.Outcome.{Outcome}
 use Rattle.abstract_monitor.specs.Endings.{broken, durable, synchronised}
 use Rattle.abstract_monitor.specs.State.{OpenTransaction}
-use Rattle.laws_of_tables.specs.PointLaws.{Stands}
+use Rattle.laws_of_states.specs.PointLaws.{Stands}
 use Rattle.sync_points.specs.PointChanges.{end_changes, point_changes}
 
 -- a synchronisation point

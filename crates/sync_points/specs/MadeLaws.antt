@@ -23,27 +23,28 @@ use Rattle.kdcs_types.specs.Keyed.{item_at, with_item}
 use Rattle.kdcs_types.specs.KeyedLaws.{all_without, found_key, found_passes}
 use Rattle.kdcs_types.specs.RowLaws.{changed_sorted, numbers_apart, sorted_with_change, sorted_with_changes}
 use Rattle.kdcs_types.specs.Tables.{AreChanges, IsSortedTables, TableRows, change_fits, change_key, changed, job_key, with_change, with_changes}
-use Rattle.kdcdef_types.specs.Generation.{Generated}
+use Rattle.application_types.specs.Generation.{Generated}
 use Rattle.abstract_monitor.specs.declared.outcome.Outcome.{Outcome}
 use Rattle.abstract_monitor.specs.Bytes.{Bytes}
-use Rattle.abstract_monitor.specs.Endings.{area_change, broken, durable, is_durable, job_change, numbered, row_after, service_change, synchronised, with_areas, with_drafts, with_own_fate, with_service, without_own_job}
+use Rattle.abstract_monitor.specs.Endings.{area_change, broken, durable, is_durable, job_change, numbered, row_after, service_change, synchronised, with_areas, with_drafts, with_own_fate}
+use Rattle.abstract_monitor.specs.Endings.{with_service, without_own_job}
 use Rattle.abstract_monitor.specs.State.{OpenTransaction}
-use Rattle.laws_of_steps.specs.Commits.{AreNumberedFrom}
-use Rattle.laws_of_steps.specs.DurableKeys.{key_is_durable}
-use Rattle.laws_of_steps.specs.DurableLaws.{durable_changed, durable_sorted}
-use Rattle.laws_of_steps.specs.JobLaw.{new_jobs}
-use Rattle.laws_of_steps.specs.JobLaws.{areas_same, ends_draw_none, points_number, service_jobs}
-use Rattle.laws_of_steps.specs.Transactions.{HasOwnJob}
-use Rattle.laws_of_tables.specs.ItemsLaws.{ascends_filter}
-use Rattle.laws_of_tables.specs.ListsLaws.{all_append, all_filter, all_imply}
-use Rattle.laws_of_tables.specs.PointLaws.{Stands}
-use Rattle.storage_areas.specs.Areas.{changes_of}
+use Rattle.laws_of_states.specs.Commits.{AreNumberedFrom}
+use Rattle.laws_of_states.specs.DurableKeys.{key_is_durable}
+use Rattle.laws_of_states.specs.DurableLaws.{durable_changed, durable_sorted}
+use Rattle.laws_of_states.specs.JobLaw.{new_jobs}
+use Rattle.laws_of_states.specs.JobLaws.{areas_same, ends_draw_none, points_number, service_jobs}
+use Rattle.laws_of_states.specs.Transactions.{HasOwnJob}
+use Rattle.laws_of_states.specs.ItemsLaws.{ascends_filter}
+use Rattle.laws_of_states.specs.ListsLaws.{all_append, all_filter, all_imply}
+use Rattle.laws_of_states.specs.PointLaws.{Stands}
+use Rattle.service_parts.specs.Areas.{changes_of}
 use Rattle.sync_points.specs.AscendingLaws.{OwnIsBelow, areas_fit, ends_ascend, ends_durable, fate_fits, new_fits, own_fits, points_ascend, points_durable}
 use Rattle.sync_points.specs.Laws.{EndsChangeTheirOwnRows, PointsChangeWhatWasWritten}
 use Rattle.sync_points.specs.PointChanges.{end_writes, fate_changes, is_real, job_changes, own_job_changes, point_changes, point_writes, service_changes}
 use Rattle.sync_points.specs.RealChangesLaws.{difference_is_real, real_in_durable}
 use Rattle.kd_base.specs.OrderLaws.{greater_is}
-use Rattle.laws_of_tables.specs.PointsLaws.{point_row_fits}
+use Rattle.laws_of_states.specs.PointsLaws.{point_row_fits}
 
 changes_append : (t : TableRows) (xs ys : List Change) → with_changes t (xs ++ ys) ≡ with_changes (with_changes t xs) ys
 changes_append t [] ys = refl

@@ -10,15 +10,15 @@ use Rattle.kdcs_types.specs.declared.service.Job.{Job}
 use Rattle.kdcs_types.specs.declared.service.Service.{Service}
 use Rattle.kdcs_types.specs.Same.{row_same}
 use Rattle.kdcs_types.specs.Tables.{TableRows, change_key, job_of, job_row, row_at}
-use Rattle.kdcdef_types.specs.Generation.{Generated}
+use Rattle.application_types.specs.Generation.{Generated}
 use Rattle.abstract_monitor.specs.declared.outcome.Outcome.{Outcome}
 use Rattle.abstract_monitor.specs.Endings.{is_durable, job_change, row_after, service_change}
 use Rattle.abstract_monitor.specs.Redelivery.{fate}
 use Rattle.abstract_monitor.specs.State.{OpenTransaction}
-use Rattle.laws_of_steps.specs.JobLaw.{new_jobs}
-use Rattle.async_queue.specs.Deliveries.{own_job}
-use Rattle.row_charges.specs.Weights.{row_left}
-use Rattle.storage_areas.specs.Areas.{changes_of}
+use Rattle.laws_of_states.specs.JobLaw.{new_jobs}
+use Rattle.open_transaction.specs.Deliveries.{own_job}
+use Rattle.table_fit.specs.Weights.{row_left}
+use Rattle.service_parts.specs.Areas.{changes_of}
 
 -- the change leaves another row than is there
 abbrev pub is_real : TableRows → Change → Bool

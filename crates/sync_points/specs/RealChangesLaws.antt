@@ -20,13 +20,13 @@ use Rattle.kdcs_types.specs.Same.{row_same}
 use Rattle.kdcs_types.specs.SameLaws.{row_same_itself, row_same_only}
 use Rattle.kdcs_types.specs.TableLaws.{row_after}
 use Rattle.kdcs_types.specs.Tables.{AreChanges, IsSortedTables, TableRows, change_at, change_fits, change_key, changed, row_at}
-use Rattle.kdcdef_types.specs.Generation.{Generated}
+use Rattle.application_types.specs.Generation.{Generated}
 use Rattle.abstract_monitor.specs.Endings.{durable}
-use Rattle.laws_of_steps.specs.DurableKeys.{key_is_durable}
-use Rattle.laws_of_steps.specs.DurableLaws.{row_at_durable}
-use Rattle.laws_of_tables.specs.ItemsLaws.{ascends_filter}
-use Rattle.laws_of_tables.specs.ListsLaws.{all_filter}
-use Rattle.row_charges.specs.Weights.{row_left}
+use Rattle.laws_of_states.specs.DurableKeys.{key_is_durable}
+use Rattle.laws_of_states.specs.DurableLaws.{row_at_durable}
+use Rattle.laws_of_states.specs.ItemsLaws.{ascends_filter}
+use Rattle.laws_of_states.specs.ListsLaws.{all_filter}
+use Rattle.table_fit.specs.Weights.{row_left}
 use Rattle.sync_points.specs.PointChanges.{is_real}
 use Rattle.std.proofs.lemmas.Bool.{not-true, not-false}
 

@@ -12,15 +12,15 @@ use Rattle.kdcs_types.specs.declared.service.Service.{Service}
 use Rattle.kd_base.specs.Limits.{last_next_job}
 use Rattle.kdcs_types.specs.RowLaws.{numbers_changed}
 use Rattle.kdcs_types.specs.Tables.{AreChanges, IsSortedTables, TableRows, changed, gssb_row, job_row, service_row, shown_row, tls_row, uls_row, with_changes}
-use Rattle.kdcdef_types.specs.Generation.{Generated}
+use Rattle.application_types.specs.Generation.{Generated}
 use Rattle.abstract_monitor.specs.declared.outcome.Outcome.{Outcome}
 use Rattle.abstract_monitor.specs.Charges.{total_charge}
 use Rattle.abstract_monitor.specs.Endings.{durable, refusal, row_after, synchronised, with_areas, with_drafts, with_service, without_own_job}
 use Rattle.abstract_monitor.specs.State.{OpenTransaction}
-use Rattle.laws_of_tables.specs.PointLaws.{Stands}
-use Rattle.row_charges.specs.Weights.{made_weight, replaced_weight, weight}
-use Rattle.row_charges.specs.WeightsLaws.{changes_weigh}
-use Rattle.storage_areas.specs.Areas.{changes_of}
+use Rattle.laws_of_states.specs.PointLaws.{Stands}
+use Rattle.table_fit.specs.Weights.{made_weight, replaced_weight, weight}
+use Rattle.table_fit.specs.WeightsLaws.{changes_weigh}
+use Rattle.service_parts.specs.Areas.{changes_of}
 use Rattle.sync_points.specs.PointChanges.{point_changes}
 use Rattle.sync_points.specs.MadeLaws.{points_after, points_make, written_made}
 use Rattle.sync_points.specs.Refusals.{gssb_weight}

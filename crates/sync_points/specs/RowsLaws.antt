@@ -17,9 +17,10 @@ use Rattle.kdcs_types.specs.KeyedLaws.{found_key}
 use Rattle.kdcs_types.specs.Keys.{id_eq}
 use Rattle.kdcs_types.specs.KeyLaws.{id_eq_itself}
 use Rattle.kdcs_types.specs.Same.{job_value_eq, row_same, service_eq}
-use Rattle.kdcs_types.specs.Tables.{TableRows, content_of, gssb_key, gssb_row, job_key, job_of, job_row, row_at, service_key, service_of, service_row, shown_key, shown_of, shown_row, tls_key, tls_row, uls_key, uls_row}
+use Rattle.kdcs_types.specs.Tables.{TableRows, content_of, gssb_key, gssb_row, job_key, job_of, job_row, row_at, service_key, service_of, service_row, shown_key, shown_of, shown_row, tls_key, tls_row}
+use Rattle.kdcs_types.specs.Tables.{uls_key, uls_row}
 use Rattle.abstract_monitor.specs.Bytes.{Bytes}
-use Rattle.laws_of_tables.specs.ListsLaws.{bytes_eq_itself}
+use Rattle.laws_of_states.specs.ListsLaws.{bytes_eq_itself}
 
 same_bytes : (a b : Bytes) → b ≡ a → bytes_eq a b ≡ true
 same_bytes a b e = ap (bytes_eq a) e ∙ bytes_eq_itself a

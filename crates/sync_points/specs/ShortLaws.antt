@@ -14,8 +14,8 @@ use Rattle.kdcs_types.specs.declared.key.ServiceId.TheVariants.{Dialogue, Asynch
 use Rattle.kdcs_types.specs.declared.service.Service.{Service}
 use Rattle.kdcs_types.specs.KeyedLaws.{found_passes}
 use Rattle.kdcs_types.specs.Tables.{TableRows, change_key, service_key, service_of}
-use Rattle.kdcdef_types.specs.Generation.{Generated}
-use Rattle.kdcdef_check.specs.Soundness.{AreLimits}
+use Rattle.application_types.specs.Generation.{Generated}
+use Rattle.application_check.specs.Soundness.{AreLimits}
 use Rattle.abstract_monitor.specs.declared.draft.Draft.{Draft}
 use Rattle.abstract_monitor.specs.declared.outcome.Outcome.{Outcome}
 use Rattle.abstract_monitor.specs.declared.outcome.Outcome.TheVariants.{Wait, Point, Follow, Finish}
@@ -24,19 +24,19 @@ use Rattle.abstract_monitor.specs.Calls.{job_target}
 use Rattle.abstract_monitor.specs.Charges.{last_length, list_length, service_length}
 use Rattle.abstract_monitor.specs.Endings.{area_change, is_durable, joined, last_of, new_row, numbered, point_row, row_after, service_change}
 use Rattle.abstract_monitor.specs.State.{OpenTransaction}
-use Rattle.laws_of_steps.specs.DurableKeys.{key_is_durable}
-use Rattle.laws_of_steps.specs.JobLaw.{new_jobs}
-use Rattle.laws_of_steps.specs.Suits.{fits_content, fits_message, last_fits, service_suits, target_name, target_suits}
-use Rattle.laws_of_steps.specs.Transactions.{area_is_declared, draft_fits, due_fits, fits_if_there, written_fits}
-use Rattle.laws_of_tables.specs.ListsLaws.{all_append, all_filter, all_imply}
-use Rattle.laws_of_tables.specs.PointLaws.{Stands}
-use Rattle.laws_of_tables.specs.RowPartsLaws.{row_parts}
+use Rattle.laws_of_states.specs.DurableKeys.{key_is_durable}
+use Rattle.laws_of_states.specs.JobLaw.{new_jobs}
+use Rattle.laws_of_states.specs.Suits.{fits_content, fits_message, last_fits, service_suits, target_name, target_suits}
+use Rattle.laws_of_states.specs.Transactions.{area_is_declared, draft_fits, due_fits, fits_if_there, written_fits}
+use Rattle.laws_of_states.specs.ListsLaws.{all_append, all_filter, all_imply}
+use Rattle.laws_of_states.specs.PointLaws.{Stands}
+use Rattle.laws_of_states.specs.RowPartsLaws.{row_parts}
 use Rattle.table_fit.specs.SmallLaws.{IsSmall, small_short}
-use Rattle.row_charges.specs.Pages.{is_short, leaves_short, longest}
-use Rattle.row_charges.specs.Weights.{row_left}
-use Rattle.storage_areas.specs.Areas.{changes_of}
+use Rattle.table_fit.specs.Pages.{is_short, leaves_short, longest}
+use Rattle.table_fit.specs.Weights.{row_left}
+use Rattle.service_parts.specs.Areas.{changes_of}
 use Rattle.sync_points.specs.PointChanges.{is_real, job_changes, own_job_changes, point_changes, point_writes, service_changes}
-use Rattle.laws_of_tables.specs.PointsLaws.{length_joined}
+use Rattle.laws_of_states.specs.PointsLaws.{length_joined}
 
 -- the row that a change leaves is short, durable or not
 abbrev row_is_short : Change → Bool

@@ -1,7 +1,7 @@
 //! How many GSSBs there are after changes.
 ghost use Rattle.std.specs.Prelude.{◌≡◌, length, nat_lt};
 ghost use Rattle.kdcs_types.specs.Tables.{AreChanges, IsSortedTables, change_key, row_at, with_changes};
-ghost use Rattle.row_charges.specs.Weights.{row_left, row_weight};
+ghost use Rattle.table_fit.specs.Weights.{row_left, row_weight};
 ghost use Rattle.sync_points.specs.Refusals.{gssb_weight};
 
 use kdcs_types::{Area, Change, Key, Row, RowChanges, Tables};

@@ -2,9 +2,9 @@
 ghost use Rattle.std.specs.Prelude.{◌≡◌, ◌++◌, ◌+◌, ◌≤◌, IfOk, OnOk, length, nat_lt};
 ghost use Rattle.kd_base.specs.Limits.{last_clock, last_next_job};
 ghost use Rattle.abstract_monitor.specs.{Charges.{total_charge}, Endings.{durable, numbered, refusal, row_after, synchronised}};
-ghost use Rattle.laws_of_tables.specs.PointLaws.{Stands};
+ghost use Rattle.laws_of_states.specs.PointLaws.{Stands};
 ghost use Rattle.open_transaction.specs.Transactions.{transaction_of};
-ghost use Rattle.storage_areas.specs.Areas.{changes_of};
+ghost use Rattle.service_parts.specs.Areas.{changes_of};
 ghost use Rattle.sync_points.specs.{Answers.{answer_by, point_by, refused_by}, PointChanges.{changes_with, job_changes}};
 
 use crate::gssbs::has_too_many_gssbs;
@@ -13,8 +13,8 @@ use crate::pool::is_pool_full;
 use crate::row::row_after;
 use crate::writes::{real_of, write_own_job, write_service};
 use abstract_monitor::Outcome;
+use application_check::kdcdef_check::Generation;
 use kd_base::{LAST_NEXT_JOB, OutOfMemory};
-use kdcdef_check::Generation;
 use kdcs_types::{Cause, Change, Changes, Ending, Job, Row, RowChanges, Service, Settled, Tables};
 use open_transaction::OpenTransaction;
 use std::alloc::Global;

@@ -2,11 +2,11 @@
 ghost use Rattle.std.specs.{Prelude.{◌≡◌, IsTrue, nat_lt}, List.{list_all}};
 ghost use Rattle.kdcs_types.specs.Tables.{AreChanges, changed};
 ghost use Rattle.abstract_monitor.specs.{Charges.{total_charge}, Endings.{durable}};
-ghost use Rattle.row_charges.specs.Pages.{FitPool, leaves_short};
+ghost use Rattle.table_fit.specs.Pages.{FitPool, leaves_short};
 
-use kdcdef_check::Generation;
+use application_check::kdcdef_check::Generation;
 use kdcs_types::{Changes, Tables};
-use row_charges::charge_after;
+use table_fit::row_charges::charge_after;
 
 /// The durable rows after these changes would take more pages than the pool has, where they take `charge` before them.
 /// It costs a look-up for each change.

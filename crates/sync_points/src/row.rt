@@ -4,11 +4,11 @@ ghost use Rattle.abstract_monitor.specs.Endings.{last_of, lterm_in_row, new_row,
 ghost use Rattle.open_transaction.specs.Transactions.{transaction_of};
 
 use abstract_monitor::Outcome;
+use application_check::kdcdef_check::Generation;
 use kd_base::{Bytes, Name, OutOfMemory};
-use kdcdef_check::Generation;
 use kdcs_types::{Areas, Parts, Service, ServiceId};
 use open_transaction::OpenTransaction;
-use service_runs::spaces;
+use service_parts::service_runs::spaces;
 use std::alloc::Global;
 
 fn lterm_in_row(id: ServiceId, lterm: Name) -> Option<Name>

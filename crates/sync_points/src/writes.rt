@@ -4,11 +4,11 @@ ghost use Rattle.sync_points.specs.PointChanges.{fate_changes, is_real, own_job_
 ghost use Rattle.abstract_monitor.specs.{Endings.{job_change}, Redelivery.{fate, has_dead_letter_queue}};
 
 use crate::real::is_real;
-use async_queue::{dead_letter_queue, fate_change, own_job};
+use application_check::kdcdef_check::Generation;
 use kd_base::OutOfMemory;
-use kdcdef_check::Generation;
 use kdcs_types::{Change, JobValue, Key, Row, RowChanges, Service, ServiceId, Tables};
-use service_runs::is_durable;
+use open_transaction::async_queue::{dead_letter_queue, fate_change, own_job};
+use service_parts::service_runs::is_durable;
 
 pub(crate) fn write_service(
     changes: &mut RowChanges,

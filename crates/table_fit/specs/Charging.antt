@@ -5,11 +5,11 @@ use Rattle.kdcs_types.specs.declared.service.Job.{Job}
 use Rattle.kdcs_types.specs.declared.service.JobValue.{JobValue}
 use Rattle.kdcs_types.specs.declared.service.Service.{Service}
 use Rattle.kdcs_types.specs.Tables.{TableRows}
-use Rattle.kdcdef_types.specs.Generation.{Generated}
+use Rattle.application_types.specs.Generation.{Generated}
 use Rattle.abstract_monitor.specs.Bytes.{Bytes}
 use Rattle.abstract_monitor.specs.Charges.{job_length, service_length}
 use Rattle.abstract_monitor.specs.Endings.{is_asynchronous, is_durable}
-use Rattle.laws_of_steps.specs.Suits.{gssb_suits, has_kind, is_user, job_suits, lterm_suits, owner_suits, service_suits, shown_suits, tls_suits, uls_suits}
+use Rattle.laws_of_states.specs.Suits.{gssb_suits, has_kind, is_user, job_suits, lterm_suits, owner_suits, service_suits, shown_suits, tls_suits, uls_suits}
 
 -- the names of a service's row, which are tested first
 abbrev pub names_suit : Generated → Service → Bool

@@ -13,12 +13,13 @@ use Rattle.kdcs_types.specs.declared.service.Job.{Job}
 use Rattle.kdcs_types.specs.declared.service.JobValue.{JobValue}
 use Rattle.kdcs_types.specs.declared.service.Service.{Service}
 use Rattle.kdcs_types.specs.Tables.{TableRows}
-use Rattle.kdcdef_types.specs.Generation.{Generated, has_tls, has_uls}
-use Rattle.kdcdef_check.specs.Soundness.{AreLimits}
+use Rattle.application_types.specs.Generation.{Generated, has_tls, has_uls}
+use Rattle.application_check.specs.Soundness.{AreLimits}
 use Rattle.abstract_monitor.specs.Bytes.{Bytes}
 use Rattle.abstract_monitor.specs.Calls.{job_target}
 use Rattle.abstract_monitor.specs.Charges.{charge_of, job_length, last_length, service_length, total_charge}
-use Rattle.laws_of_steps.specs.Suits.{Suits, fits_content, fits_message, gssb_suits, is_lterm, is_user, job_suits, last_fits, service_suits, target_name, target_suits, tls_suits, uls_suits, value_suits}
+use Rattle.laws_of_states.specs.Suits.{Suits, fits_content, fits_message, gssb_suits, is_lterm, is_user, job_suits, last_fits, service_suits, target_name, target_suits, tls_suits, uls_suits}
+use Rattle.laws_of_states.specs.Suits.{value_suits}
 use Rattle.table_fit.specs.SmallLaws.{small_short}
 use Rattle.table_fit.specs.Charging.{RowsSuit, AreShort, most_bytes, has_few_bytes, left_after}
 

@@ -1,8 +1,12 @@
-pub mod Lengths
-pub mod LengthsLaws
-pub mod SmallLaws
 pub mod Charging
 pub mod ChargingLaws
-pub mod Suiting
+pub mod Lengths
+pub mod LengthsLaws
+pub mod Pages
+pub mod PagesLaws
 pub mod Short
 pub mod ShortLaws
+pub mod SmallLaws
+pub mod Suiting
+pub mod Weights
+pub mod WeightsLaws

@@ -1,8 +1,8 @@
 -- Tables that suit a generation have values that are short enough for records.
-use Rattle.kdcdef_check.specs.Soundness.{AreLimits}
-use Rattle.kdcdef_types.specs.Generation.{Generated}
+use Rattle.application_check.specs.Soundness.{AreLimits}
+use Rattle.application_types.specs.Generation.{Generated}
 use Rattle.kdcs_types.specs.Tables.{TableRows}
-use Rattle.laws_of_steps.specs.Suits.{Suits}
+use Rattle.laws_of_states.specs.Suits.{Suits}
 use Rattle.record_codec.specs.Records.{HasShortValues}
 use Rattle.record_codec.specs.TableReadings.{AreProperTables}
 

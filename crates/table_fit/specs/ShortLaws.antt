@@ -10,10 +10,10 @@ use Rattle.kdcs_types.specs.declared.service.Job.{Job}
 use Rattle.kdcs_types.specs.declared.service.JobValue.{JobValue}
 use Rattle.kdcs_types.specs.Same.{target_eq}
 use Rattle.kdcs_types.specs.Tables.{TableRows, gssb_row, tls_row, uls_row, service_row, job_row, shown_row}
-use Rattle.kdcdef_types.specs.Generation.{Generated}
+use Rattle.application_types.specs.Generation.{Generated}
 use Rattle.abstract_monitor.specs.Bytes.{Bytes}
 use Rattle.abstract_monitor.specs.Calls.{job_target}
-use Rattle.laws_of_steps.specs.Suits.{Suits, fits_message, is_lterm, is_user, job_suits, last_due, shown_suits, target_name, target_suits, value_suits}
+use Rattle.laws_of_states.specs.Suits.{Suits, fits_message, is_lterm, is_user, job_suits, last_due, shown_suits, target_name, target_suits, value_suits}
 use Rattle.std.proofs.lemmas.List.Elements.{All-from_recursion, recursion_from_All}
 use Rattle.kd_records.specs.Charge.{total_charge}
 use Rattle.kd_records.specs.ChargeLaws.{values_fit}

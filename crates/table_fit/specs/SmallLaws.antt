@@ -8,7 +8,7 @@ use Rattle.kd_base.specs.ToolsLaws.{both_true}
 use Rattle.kdcs_types.specs.declared.service.Service.{Service}
 use Rattle.abstract_monitor.specs.Bytes.{Bytes}
 use Rattle.abstract_monitor.specs.Charges.{last_length, list_length, service_length}
-use Rattle.laws_of_steps.specs.Suits.{fits_content}
+use Rattle.laws_of_states.specs.Suits.{fits_content}
 
 parts_sum : (ps : List Bytes) → sum_by list_length ps ≡ 4 * length ps + sum_by length ps
 parts_sum [] = refl

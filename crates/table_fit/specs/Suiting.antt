@@ -6,7 +6,7 @@ use Rattle.kdcs_types.specs.declared.key.ServiceId.TheVariants.{Asynchronous}
 use Rattle.kdcs_types.specs.declared.service.Job.{Job}
 use Rattle.kdcs_types.specs.declared.service.Service.{Service}
 use Rattle.kdcs_types.specs.Tables.{TableRows, service_of}
-use Rattle.laws_of_steps.specs.Suits.{number_is_below}
+use Rattle.laws_of_states.specs.Suits.{number_is_below}
 
 -- the numbers of jobs and of asynchronous services are below the next one, and none is both
 pub record AreNumbersApart (t : TableRows) : Type 0 where

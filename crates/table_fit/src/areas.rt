@@ -1,10 +1,10 @@
 //! Which areas suit.
 ghost use Rattle.std.specs.{Prelude.{◌≡◌}, List.{list_all}};
-ghost use Rattle.laws_of_steps.specs.Suits.{gssb_suits, tls_suits, uls_suits};
+ghost use Rattle.laws_of_states.specs.Suits.{gssb_suits, tls_suits, uls_suits};
 
 use crate::names::{fits_content, is_lterm, is_user};
+use application_check::kdcdef_check::Generation;
 use kd_base::{Bytes, Name};
-use kdcdef_check::Generation;
 
 /// The content of the GSSB is not too long.
 pub fn gssb_suits(row: &(Name, Bytes)) -> bool

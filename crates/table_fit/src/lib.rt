@@ -1,4 +1,5 @@
-//! Whether tables fit a generation: how long the values of rows are, what they are charged, and which tables suit.
+//! Whether tables fit a generation: how long the values of rows are, what they are charged, which tables suit, and how
+//! many pages changes make of a charge (`row_charges`).
 //!
 //! It stands on record_codec, kdcdef_check and the definitions of laws_of_steps. To the crates that open a KDCFILE or make
 //! tables for one, its contract says that `suits` is true exactly where tables of a file with this BLKSIZE and PGPOOL suit
@@ -13,6 +14,7 @@ mod laws;
 mod lengths;
 mod messages;
 mod names;
+pub mod row_charges;
 mod services;
 mod tables;
 

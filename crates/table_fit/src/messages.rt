@@ -1,13 +1,13 @@
 //! Which jobs and shown messages suit.
 ghost use Rattle.std.specs.{Prelude.{◌≡◌, ◌&&◌}, List.{list_all}};
 ghost use Rattle.kdcs_types.specs.declared.key.Target.TheVariants.{Tac};
-ghost use Rattle.laws_of_steps.specs.Suits.{job_suits, shown_suits, target_name, target_suits, value_suits};
+ghost use Rattle.laws_of_states.specs.Suits.{job_suits, shown_suits, target_name, target_suits, value_suits};
 ghost use Rattle.abstract_monitor.specs.{Calls.{job_target}, Outcomes.{goes_first}};
 
 use crate::names::{fits_message, is_lterm, is_user};
+use application_check::kdcdef_check::Generation;
+use application_types::kdcdef_types::{CallUse, TacEntry};
 use kd_base::Name;
-use kdcdef_check::Generation;
-use kdcdef_types::{CallUse, TacEntry};
 use kdcs_types::{Job, JobValue, Target};
 
 /// The greatest clock and the greatest relative time together, in ticks.

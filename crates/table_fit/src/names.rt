@@ -1,9 +1,9 @@
 //! Which names and lengths a generation allows.
 ghost use Rattle.std.specs.Prelude.{◌≡◌, length, nat_le};
-ghost use Rattle.laws_of_steps.specs.Suits.{fits_content, fits_message, has_kind, is_lterm, is_user};
+ghost use Rattle.laws_of_states.specs.Suits.{fits_content, fits_message, has_kind, is_lterm, is_user};
 
+use application_check::kdcdef_check::Generation;
 use kd_base::{Bytes, LONGEST_CONTENT, Name};
-use kdcdef_check::Generation;
 
 /// The user is declared.
 pub(crate) fn is_user(generation: &Generation, name: Name) -> bool

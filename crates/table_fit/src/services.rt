@@ -1,16 +1,16 @@
 //! Which services suit.
 ghost use Rattle.std.specs.{Prelude.{◌≡◌, length, nat_le, sum_by}, List.{list_all}};
 ghost use Rattle.abstract_monitor.specs.{Bytes.{Bytes as Content}, Endings.{is_asynchronous, is_durable}};
-ghost use Rattle.laws_of_steps.specs.Suits.{awaits_rightly, fits_content, last_fits, lterm_suits, owner_suits, service_suits};
+ghost use Rattle.laws_of_states.specs.Suits.{awaits_rightly, fits_content, last_fits, lterm_suits, owner_suits, service_suits};
 ghost use Rattle.kdcs_types.specs.declared.service.Service.{Service as Row};
 ghost use Rattle.table_fit.specs.Charging.{names_suit};
 
 use crate::names::{fits_content, fits_message, has_kind, is_lterm, is_user};
+use application_check::kdcdef_check::Generation;
 use kd_base::{Bytes, Name};
-use kdcdef_check::Generation;
 use kdcs_types::{Service, ServiceId};
 use record_codec::ascend;
-use service_runs::is_durable;
+use service_parts::service_runs::is_durable;
 
 /// The greatest number of handed parts.
 const MOST_PARTS: usize = 16;

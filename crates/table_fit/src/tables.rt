@@ -1,15 +1,16 @@
 //! Which tables suit a generation.
 ghost use Rattle.std.specs.{Prelude.{◌≡◌, ◌↔◌, ◌&&◌, not, IsTrue, is_some, length, nat_le, nat_lt}, List.{list_all}};
-ghost use Rattle.kdcs_types.specs.{declared.service.Job.{Job as JobRow}, declared.service.Service.{Service as ServiceRow}, declared.key.ServiceId.TheVariants.{Asynchronous}, Limits.{IsInRange}, Tables.{service_of}};
-ghost use Rattle.laws_of_steps.specs.Suits.{SuitsFrom, number_is_below};
+ghost use Rattle.kdcs_types.specs.{declared.service.Job.{Job as JobRow}, declared.service.Service.{Service as ServiceRow}, declared.key.ServiceId.TheVariants.{Asynchronous}, Limits.{IsInRange}};
+ghost use Rattle.kdcs_types.specs.Tables.{service_of};
+ghost use Rattle.laws_of_states.specs.Suits.{SuitsFrom, number_is_below};
 ghost use Rattle.table_fit.specs.{Charging.{RowsSuit}, Suiting.{AreNumbersApart, are_numbers_apart, are_numbers_in_range}};
 
 use crate::areas::{gssbs_suit, tlss_suit, ulss_suit};
 use crate::charges::charges_suit;
 use crate::messages::{all_shown_suit, jobs_suit};
 use crate::services::{services_are_durable, services_suit};
+use application_check::kdcdef_check::Generation;
 use kd_base::{LAST_CLOCK, LAST_NEXT_JOB};
-use kdcdef_check::Generation;
 use kdcs_types::{Job, Service, ServiceId, Tables};
 
 /// The clock and the next job number are in range.

@@ -1,4 +1,5 @@
-//! Lines, blanks, quoted bytes, and the parts of a line, as every reader of a text takes them.
+//! Lines, blanks, quoted bytes, and the parts of a line, as every reader of a text takes them; and the statements of a
+//! KDCDEF text, as they are written (`kdcdef_lex`).
 //!
 //! It stands on kd_base. To the readers of definitions, of units and of scripts its contract says what the first line of a
 //! text is without its end, what a line is without the blanks in front, what is between two quotes, which parts
@@ -7,6 +8,7 @@
 
 mod blank;
 mod choice;
+pub mod kdcdef_lex;
 mod line;
 mod part;
 mod quoted;

@@ -13,15 +13,19 @@ use Rattle.abstract_monitor.specs.Endings.{durable}
 use Rattle.abstract_monitor.specs.Made.{is_commit}
 use Rattle.abstract_monitor.specs.State.{Application, State}
 use Rattle.abstract_monitor.specs.Trace.{history}
-use Rattle.laws_of_steps.specs.EachStep.{EachStep}
-use Rattle.laws_of_steps.specs.Steps.{AreLines, CommitsOnce, MakesNoCommit, MakesOneCommit}
+use Rattle.laws_of_states.specs.EachStep.{EachStep}
+use Rattle.laws_of_states.specs.Steps.{AreLines, CommitsOnce, MakesNoCommit, MakesOneCommit}
 use Rattle.laws_of_runs.specs.RunLaws.{HistoriesCommitOnce}
 use Rattle.laws_of_runs.specs.SerialRuns.{makers_of}
 use Rattle.audit_trail.specs.Makers.{maker_of}
 use Rattle.audit_trail.specs.declared.entry.TrailEntry.{TrailEntry}
 use Rattle.trail_run.specs.Entries.{by_of, changes_among, entry_by, entry_in, entries_in}
 use Rattle.trail_run.specs.Laws.{commits_of, makers_in, EntriesAreTheCommits}
-use Rattle.trail_run.proofs.Steps.{lines_change_nothing}
+
+lines_change_nothing : (acts : List Act) → AreLines acts → changes_among acts ≡ None
+lines_change_nothing [] lines = refl
+lines_change_nothing (Emit line ∷ acts) lines = lines_change_nothing acts lines
+lines_change_nothing (Commit changes ∷ acts) lines = absurd lines
 
 -- what made it, there and back
 same_maker : (maker : Maker) → maker_of (by_of maker) ≡ maker

@@ -13,7 +13,8 @@ use Rattle.abstract_monitor.specs.declared.command.Command.{Command}
 use Rattle.abstract_monitor.specs.declared.command.Command.TheVariants.{Input, Tick, Run, Turn, Drop, Print, PrintLast, Restart}
 use Rattle.abstract_monitor.specs.declared.input_use.Use.{Use}
 use Rattle.abstract_monitor.specs.declared.input_use.Use.TheVariants.{Sign, SignRefused, SignFirst, AlreadySigned, Off, Display, Output, Again, Busy, TooLong, Next, Start, TacRefused}
-use Rattle.abstract_monitor.specs.Commands.{ScriptStep, command_of, display, drop_by, due_for, last_by, lterm_at, out_again, show_again_by, show_by, show_next, signed_on_by, tick_by, use_now, used, user_at}
+use Rattle.abstract_monitor.specs.Commands.{ScriptStep, command_of, display, drop_by, due_for, last_by, lterm_at, out_again, show_again_by, show_by, show_next, signed_on_by, tick_by, use_now, used}
+use Rattle.abstract_monitor.specs.Commands.{user_at}
 use Rattle.abstract_monitor.specs.Lines.{asy_line, no_message_line, prt_line}
 use Rattle.abstract_monitor.specs.State.{Application, Session, State}
 use Rattle.monitor_core.specs.Commanding.{IsSingle}

@@ -1,3 +1,11 @@
+pub mod Auditing
 pub mod Entries
-pub mod Running
+pub mod HoldsFacts
+pub mod InTurn
 pub mod Laws
+pub mod OwnAudits
+pub mod OwnTrails
+pub mod Running
+pub mod RunningLaws
+pub mod Trailing
+pub mod WrittenNames

@@ -1,7 +1,6 @@
 //! What is kept of a run as it goes on.
-ghost use Rattle.std.specs.{Prelude.{◌≡◌, ◌++◌, IfSome, OnOk}, Option.{option_to_list}};
-ghost use Rattle.kdcs_types.specs.Tables.{AreChanges};
-ghost use Rattle.trail_run.specs.Entries.{changed_by, changes_among, entry_by};
+ghost use Rattle.std.specs.{Prelude.{◌≡◌, ◌++◌, OnOk}, Option.{option_to_list}};
+ghost use Rattle.trail_run.specs.Entries.{changes_among, entry_by};
 
 use audit_trail::{By, TrailEntries, TrailEntry};
 use kd_base::OutOfMemory;
@@ -26,17 +25,16 @@ fn changes_among(acts: Acts) -> Option<Changes>
     None
 }
 
-impl Kept {
-    /// The commit among these acts changes the durable tables, and is an entry behind those before.
-    pub(crate) fn keep(&mut self, by: Option<By>, acts: Acts) -> Result<(), OutOfMemory>
-        requires { IfSome (changes_among acts) (λ c. AreChanges c.items) }
-        ensures durable { OnOk result (self.new.durable ≡ changed_by (entry_by (changes_among acts) by) self.old.durable) }
-        ensures entries { OnOk result (self.new.entries ≡ self.old.entries ++ option_to_list (entry_by (changes_among acts) by)) }
-    {
-        let (Some(changes), Some(by)) = (changes_among(acts), by) else {
-            return Ok(());
-        };
-        self.durable.change(&changes)?;
-        self.entries.push(TrailEntry { by, changes })
-    }
+/// The commit among these acts is an entry behind those before.
+pub(crate) fn put_entry(
+    entries: &mut TrailEntries,
+    by: Option<By>,
+    acts: Acts,
+) -> Result<(), OutOfMemory>
+    ensures { OnOk result (entries.new ≡ entries.old ++ option_to_list (entry_by (changes_among acts) by)) }
+{
+    let (Some(changes), Some(by)) = (changes_among(acts), by) else {
+        return Ok(());
+    };
+    entries.push(TrailEntry { by, changes })
 }

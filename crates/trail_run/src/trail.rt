@@ -1,24 +1,24 @@
 //! A whole script.
 ghost use Rattle.std.specs.Prelude.{◌≡◌, ◌≤◌, ◌+◌, ◌^◌, IfOk, sum_by};
 ghost use Rattle.abstract_monitor.specs.Trace.{history};
-ghost use Rattle.laws_of_steps.specs.{Applications.{IsApplication}, Keeping.{IsScriptOf}};
+ghost use Rattle.laws_of_states.specs.{Applications.{IsApplication}, Keeping.{IsScriptOf}};
 ghost use Rattle.monitor_core.specs.CoreSteps.{durable_of, turns_of};
 ghost use Rattle.trail_run.specs.Entries.{entries_in};
 
-use crate::commands::do_command;
 use crate::kept::Kept;
 use abstract_monitor::Command;
 use audit_trail::TrailEntries;
 use kd_base::OutOfMemory;
 use kdcs_types::Tables;
 use monitor_core::Core;
+use script_run::run_script;
 use std::alloc::Global;
 
 /// The commits of a script in their order, from a core and its durable tables: each with what made it and what it changes.
 /// What is open at the end of the script is given up, and commits nothing.
 pub fn trail_of(
     alloc: Global,
-    mut core: Core,
+    core: Core,
     durable: Tables,
     commands: &[Command],
 ) -> Result<TrailEntries, OutOfMemory>
@@ -32,8 +32,6 @@ pub fn trail_of(
         durable,
         entries: TrailEntries::new(alloc),
     };
-    for command in commands {
-        core = do_command(alloc, core, &mut kept, command)?;
-    }
+    let _last = run_script(alloc, &mut kept, core, commands)?;
     Ok(kept.entries)
 }

@@ -3,14 +3,14 @@ use Rattle.std.proofs.Common.{◌≡◌, ◌⊎◌, ◌≤◌, ℕ, List, ◌++�
 use Rattle.std.specs.Prelude.{Option, Some, None}
 use Rattle.kd_device.specs.Device.{Rose}
 use Rattle.kd_records.specs.Identity.{Identity}
-use Rattle.kd_twin.specs.Twin.{Both, half_leaves}
-use Rattle.kd_twin.specs.declared.half.Half.{Half}
-use Rattle.kd_twin.specs.declared.half.Half.TheVariants.{First, Second}
+use Rattle.kd_device.specs.Twin.{Both, half_leaves}
+use Rattle.kd_device.specs.declared.half.Half.{Half}
+use Rattle.kd_device.specs.declared.half.Half.TheVariants.{First, Second}
 use Rattle.kdcs_types.specs.Tables.{TableRows}
 use Rattle.kdcs_types.specs.declared.act.Act.{Act}
 use Rattle.abstract_monitor.specs.Trace.{bytes_of, tables_after}
 use Rattle.record_codec.specs.Records.{content_of_tables}
-use Rattle.warm_start.specs.Stands.{AreTables}
+use Rattle.device_acts.specs.Stands.{AreTables}
 use Rattle.kdcfile_copies.specs.Copies.{IsChosen, IsCopyOf}
 use Rattle.kdcfile_double.specs.Twice.{IsInUse, IsKeptTwice, IsOpen, IsTwice, RoseAt, Twice, identity_of}
 use Rattle.device_acts.specs.Acting.{IsCutOf, IsKeptBy, WithinActs}

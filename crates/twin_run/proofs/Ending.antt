@@ -5,17 +5,17 @@ use Rattle.std.specs.Prelude.{IsTrue, Option, Some, None, true}
 use Rattle.std.proofs.lemmas.List.{append-nil}
 use Rattle.kd_device.specs.Device.{Rose}
 use Rattle.kd_records.specs.Identity.{Identity}
-use Rattle.kd_twin.specs.Twin.{Both, Disk, disk_of}
-use Rattle.kd_twin.specs.declared.half.Half.{Half}
-use Rattle.kd_twin.specs.declared.half.Half.TheVariants.{First, Second}
+use Rattle.kd_device.specs.Twin.{Both, Disk, disk_of}
+use Rattle.kd_device.specs.declared.half.Half.{Half}
+use Rattle.kd_device.specs.declared.half.Half.TheVariants.{First, Second}
 use Rattle.kdcs_types.specs.Tables.{TableRows}
 use Rattle.kdcs_types.specs.declared.act.Act.{Act}
 use Rattle.abstract_monitor.specs.Trace.{bytes_of, tables_after}
 use Rattle.laws_of_runs.specs.ListsLaws.{tables_both}
 use Rattle.monitor_core.specs.CoreSteps.{durable_of}
 use Rattle.monitor_core.specs.CoreValue.{CoreValue}
-use Rattle.kdcfile_halves.specs.Beside.{file_of}
-use Rattle.kdcfile_halves.specs.BesideLaws.{said_stays}
+use Rattle.kdcfile_copies.specs.Beside.{file_of}
+use Rattle.kdcfile_copies.specs.BesideLaws.{said_stays}
 use Rattle.kdcfile_double.specs.Opening.{KeepsTablesTwice}
 use Rattle.kdcfile_double.specs.Twice.{IsInUse, IsKeptTwice, IsOpen, IsTwice, RoseAt, SameFaultsAt, SideRests, Twice, content_of, identity_of, sequence_of}
 use Rattle.device_acts.specs.Acting.{commits_nothing}

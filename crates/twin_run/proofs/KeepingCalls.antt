@@ -5,18 +5,19 @@ use Rattle.kd_device.specs.Device.{Frame, LeavesOnly, Rose}
 use Rattle.kd_records.specs.Contents.{patched}
 use Rattle.kd_records.specs.Identity.{Identity}
 use Rattle.kd_records.specs.declared.content.Patch.{Patch}
-use Rattle.kd_twin.specs.Twin.{Both, Disk, disk_of, half_leaves}
-use Rattle.kd_twin.specs.declared.half.Half.{Half}
-use Rattle.kd_twin.specs.declared.half.Half.TheVariants.{First, Second}
+use Rattle.kd_device.specs.Twin.{Both, Disk, disk_of, half_leaves}
+use Rattle.kd_device.specs.declared.half.Half.{Half}
+use Rattle.kd_device.specs.declared.half.Half.TheVariants.{First, Second}
 use Rattle.kdcfile_copies.specs.declared.answer.LoadedCopy.{LoadedCopy}
 use Rattle.kdcfile_copies.specs.Copies.{IsChosen, IsCopyOf}
-use Rattle.kdcfile_halves.specs.Beside.{LeavesFrontBoth, LeavesPairs, LeavesSamePairs, SameDisk}
-use Rattle.kdcfile_halves.specs.BesideLaws.{said_stays}
+use Rattle.kdcfile_copies.specs.Beside.{LeavesFrontBoth, LeavesPairs, LeavesSamePairs, SameDisk}
+use Rattle.kdcfile_copies.specs.BesideLaws.{said_stays}
 use Rattle.kdcfile_store.specs.Kept.{LeavesPatched, OldOrNew}
 use Rattle.device_acts.specs.Acting.{IsKeptBy}
 use Rattle.device_acts.specs.Said.{LeavesFront}
 use Rattle.kdcfile_double.specs.Opening.{Unchanged}
-use Rattle.kdcfile_double.specs.Twice.{FrameBoth, IsChosenOldOrNew, IsCommitting, IsInUse, IsKeptTwice, IsOldOrNew, IsOpen, IsTwice, LeavesBoth, LeavesCommitted, LosesBy, RoseAt, SameFaultsAt, SideRests, Twice, content_of, copy_at, identity_of, sequence_of}
+use Rattle.kdcfile_double.specs.Twice.{FrameBoth, IsChosenOldOrNew, IsCommitting, IsInUse, IsKeptTwice, IsOldOrNew, IsOpen, IsTwice, LeavesBoth, LeavesCommitted, LosesBy, RoseAt, SameFaultsAt}
+use Rattle.kdcfile_double.specs.Twice.{SideRests, Twice, content_of, copy_at, identity_of, sequence_of}
 use Rattle.twin_run.specs.Images.{OfImage}
 use Rattle.twin_run.specs.Keeping.{CopiesSince, CopiesSinceIf, IsSinceStart, IsSpared, RestBoth, RestsAlone, failures, file_kept, leaves_kept, one_more, stands_kept, state_kept}
 use Rattle.twin_run.specs.KeepingLaws.{all_failed, failures_rise, image_weaker, of_image, rest_stands, spared_before, spared_same, spared_uses}

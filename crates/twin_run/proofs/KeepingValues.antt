@@ -5,14 +5,14 @@ use Rattle.kd_base.specs.ToolsLaws.{err_is, err_of}
 use Rattle.kd_device.specs.Device.{Frame, Rose}
 use Rattle.kd_records.specs.Identity.{Identity}
 use Rattle.kd_records.specs.declared.content.Patch.{Patch}
-use Rattle.kd_twin.specs.Twin.{Both}
-use Rattle.kd_twin.specs.declared.half.Half.{Half}
-use Rattle.kdcdef_types.specs.Generation.{Generated}
-use Rattle.kdcdef_types.specs.declared.limits.Limits.{Limits}
+use Rattle.kd_device.specs.Twin.{Both}
+use Rattle.kd_device.specs.declared.half.Half.{Half}
+use Rattle.application_types.specs.Generation.{Generated}
+use Rattle.application_types.specs.declared.kdcdef_types.limits.Limits.{Limits}
 use Rattle.kdcfile_store.specs.Kept.{LeavesPatched}
 use Rattle.kdcfile_store.specs.Paged.{identity_with}
 use Rattle.kdcs_types.specs.Tables.{TableRows}
-use Rattle.warm_start.specs.MeaningLaws.{one_table}
+use Rattle.device_acts.specs.MeaningLaws.{one_table}
 use Rattle.device_acts.specs.Acting.{IsKeptBy}
 use Rattle.device_run.specs.Keeping.{KeepsSuited, Reopening}
 use Rattle.kdcfile_double.specs.Opening.{KeepsTablesTwice, SameFiles, Unchanged, identity_twice}

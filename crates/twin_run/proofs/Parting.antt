@@ -5,18 +5,18 @@ use Rattle.std.proofs.lemmas.List.{append-nil}
 use Rattle.kd_device.specs.Device.{LeavesOnly}
 use Rattle.kd_device.specs.TimeLaws.{leaves_then, leaves_weaker}
 use Rattle.kd_records.specs.Identity.{Identity}
-use Rattle.kd_twin.specs.Twin.{Both, Disk, half_leaves, half_state}
-use Rattle.kd_twin.specs.declared.half.Half.{Half}
-use Rattle.kd_twin.specs.declared.half.Half.TheVariants.{First, Second}
+use Rattle.kd_device.specs.Twin.{Both, Disk, half_leaves, half_state}
+use Rattle.kd_device.specs.declared.half.Half.{Half}
+use Rattle.kd_device.specs.declared.half.Half.TheVariants.{First, Second}
 use Rattle.kdcs_types.specs.Tables.{TableRows}
 use Rattle.kdcs_types.specs.declared.act.Act.{Act}
 use Rattle.abstract_monitor.specs.Bytes.{Bytes}
 use Rattle.abstract_monitor.specs.Trace.{bytes_of, tables_after}
 use Rattle.laws_of_runs.specs.ListsLaws.{tables_both}
-use Rattle.laws_of_steps.specs.Cut.{SentBy}
+use Rattle.laws_of_states.specs.Cut.{SentBy}
 use Rattle.kdcfile_layout.specs.Layout.{fresh}
-use Rattle.kdcfile_halves.specs.Beside.{LeavesPairs, file_of}
-use Rattle.kdcfile_halves.specs.BesideLaws.{pairs_then, pairs_weaker}
+use Rattle.kdcfile_copies.specs.Beside.{LeavesPairs, file_of}
+use Rattle.kdcfile_copies.specs.BesideLaws.{pairs_then, pairs_weaker}
 use Rattle.kdcfile_double.specs.Twice.{IsInUse, RoseAt, Twice}
 use Rattle.device_acts.specs.Acting.{commits_nothing}
 use Rattle.device_acts.specs.ActingLaws.{Goes, cut_of_part}

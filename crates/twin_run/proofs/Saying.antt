@@ -3,13 +3,13 @@ use Rattle.std.proofs.Common.{◌≡◌, ℕ, List, [], ◌∷◌, ◌++◌, tak
 use Rattle.std.specs.Prelude.{IsTrue}
 use Rattle.std.proofs.lemmas.List.{append-nil}
 use Rattle.kd_device.specs.Device.{Frame}
-use Rattle.kd_twin.specs.Twin.{Both, half_state}
-use Rattle.kd_twin.specs.declared.half.Half.{Half}
+use Rattle.kd_device.specs.Twin.{Both, half_state}
+use Rattle.kd_device.specs.declared.half.Half.{Half}
 use Rattle.kdcs_types.specs.declared.act.Act.{Act}
 use Rattle.kdcs_types.specs.declared.act.Act.TheVariants.{Emit}
 use Rattle.abstract_monitor.specs.Trace.{bytes_of}
-use Rattle.kdcfile_halves.specs.Beside.{LeavesFrontBoth, LeavesSamePairs, SaidBoth, SameDisk}
-use Rattle.kdcfile_halves.specs.BesideLaws.{pairs_weaker}
+use Rattle.kdcfile_copies.specs.Beside.{LeavesFrontBoth, LeavesSamePairs, SaidBoth, SameDisk}
+use Rattle.kdcfile_copies.specs.BesideLaws.{pairs_weaker}
 use Rattle.device_acts.specs.ActingLaws.{no_bytes}
 use Rattle.device_run.specs.Running.{SendsPart}
 use Rattle.twin_run.specs.Parts.{SaysTwice}

@@ -1,7 +1,7 @@
 -- What a stop leaves of two files, as one image: of both, or of one of them by itself.
 use Rattle.std.specs.Prelude.{ℕ, zero, suc, List, [], ◌∷◌, ◌++◌, length, take, drop}
-use Rattle.kd_twin.specs.declared.half.Half.{Half}
-use Rattle.kd_twin.specs.declared.half.Half.TheVariants.{First, Second}
+use Rattle.kd_device.specs.declared.half.Half.{Half}
+use Rattle.kd_device.specs.declared.half.Half.TheVariants.{First, Second}
 
 -- both files: 0, the length of the first, and their bytes
 abbrev pub pair_image : (c d : List ℕ) → List ℕ

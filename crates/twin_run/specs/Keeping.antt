@@ -3,9 +3,9 @@ use Rattle.std.specs.Prelude.{◌≡◌, ◌⊎◌, ◌≤◌, ℕ, ◌+◌, ◌
 use Rattle.kd_device.specs.Device.{State}
 use Rattle.kd_records.specs.Identity.{Identity}
 use Rattle.kd_records.specs.declared.content.Content.{Content}
-use Rattle.kd_twin.specs.Twin.{Both, disk_of, half_leaves}
-use Rattle.kd_twin.specs.declared.half.Half.{Half}
-use Rattle.kd_twin.specs.declared.half.Half.TheVariants.{First, Second}
+use Rattle.kd_device.specs.Twin.{Both, disk_of, half_leaves}
+use Rattle.kd_device.specs.declared.half.Half.{Half}
+use Rattle.kd_device.specs.declared.half.Half.TheVariants.{First, Second}
 use Rattle.kdcfile_layout.specs.Layout.{fresh}
 use Rattle.kdcfile_copies.specs.declared.answer.LoadedCopy.{LoadedCopy}
 use Rattle.kdcfile_copies.specs.Copies.{IsChosen, IsCopyOf}

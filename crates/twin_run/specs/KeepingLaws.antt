@@ -8,10 +8,10 @@ use Rattle.kd_device.specs.Device.{Rose}
 use Rattle.kd_records.specs.Identity.{Identity}
 use Rattle.kd_records.specs.declared.content.Content.{Content}
 use Rattle.kd_records.specs.declared.content.Patch.{Patch}
-use Rattle.kd_twin.specs.HalfLaws.{earlier_half}
-use Rattle.kd_twin.specs.Twin.{Both, disk_of, half_leaves}
-use Rattle.kd_twin.specs.declared.half.Half.{Half}
-use Rattle.kd_twin.specs.declared.half.Half.TheVariants.{First, Second}
+use Rattle.kd_device.specs.HalfLaws.{earlier_half}
+use Rattle.kd_device.specs.Twin.{Both, disk_of, half_leaves}
+use Rattle.kd_device.specs.declared.half.Half.{Half}
+use Rattle.kd_device.specs.declared.half.Half.TheVariants.{First, Second}
 use Rattle.kdcfile_copies.specs.Copies.{IsChosen, IsCopyOf}
 use Rattle.kdcfile_copies.specs.declared.answer.LoadedCopy.{LoadedCopy}
 use Rattle.device_acts.specs.Acting.{GoesOn, IsKeptBy}

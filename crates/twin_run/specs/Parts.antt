@@ -2,12 +2,12 @@
 use Rattle.std.specs.Prelude.{◌≡◌, ℕ, IsTrue, List, [], ◌++◌, Option}
 use Rattle.kd_device.specs.Device.{Frame, LeavesOnly}
 use Rattle.kd_records.specs.Identity.{Identity}
-use Rattle.kd_twin.specs.Twin.{Both, half_leaves, half_state}
-use Rattle.kd_twin.specs.declared.half.Half.{Half}
+use Rattle.kd_device.specs.Twin.{Both, half_leaves, half_state}
+use Rattle.kd_device.specs.declared.half.Half.{Half}
 use Rattle.kdcs_types.specs.Tables.{TableRows}
 use Rattle.kdcs_types.specs.declared.act.Act.{Act}
 use Rattle.abstract_monitor.specs.Trace.{bytes_of, tables_after}
-use Rattle.kdcfile_halves.specs.Beside.{LeavesPairs, LeavesSamePairs, SameDisk}
+use Rattle.kdcfile_copies.specs.Beside.{LeavesPairs, LeavesSamePairs, SameDisk}
 use Rattle.kdcfile_double.specs.Opening.{KeepsTablesTwice}
 use Rattle.kdcfile_double.specs.Twice.{IsInUse, IsKeptTwice, IsTwice, RoseAt, Twice}
 use Rattle.device_acts.specs.Acting.{IsCutOf}

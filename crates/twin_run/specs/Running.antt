@@ -2,23 +2,23 @@
 use Rattle.std.specs.Prelude.{◌≡◌, ◌⊎◌, ◌≤◌, ℕ, IsTrue, List, [], ◌∷◌, ◌++◌, codes, Option, Some, None}
 use Rattle.kd_device.specs.Device.{LeavesOnly, Rose}
 use Rattle.kd_records.specs.Identity.{Identity}
-use Rattle.kd_twin.specs.Twin.{Both, disk_of, half_leaves, half_state}
-use Rattle.kd_twin.specs.declared.half.Half.{Half}
-use Rattle.kd_twin.specs.declared.half.Half.TheVariants.{First, Second}
-use Rattle.kdcdef_check.specs.Soundness.{AreLimits}
+use Rattle.kd_device.specs.Twin.{Both, disk_of, half_leaves, half_state}
+use Rattle.kd_device.specs.declared.half.Half.{Half}
+use Rattle.kd_device.specs.declared.half.Half.TheVariants.{First, Second}
+use Rattle.application_check.specs.Soundness.{AreLimits}
 use Rattle.kdcs_types.specs.Tables.{TableRows}
 use Rattle.kdcs_types.specs.declared.act.Act.{Act}
 use Rattle.kdcs_types.specs.declared.act.Act.TheVariants.{Emit}
 use Rattle.abstract_monitor.specs.Trace.{bytes_of, tables_after}
-use Rattle.laws_of_steps.specs.Applications.{IsApplication}
-use Rattle.laws_of_steps.specs.Cut.{SentBy}
-use Rattle.laws_of_steps.specs.Keeping.{HasFacts}
+use Rattle.laws_of_states.specs.Applications.{IsApplication}
+use Rattle.laws_of_states.specs.Cut.{SentBy}
+use Rattle.laws_of_states.specs.Keeping.{HasFacts}
 use Rattle.record_codec.specs.Records.{content_of_tables}
-use Rattle.warm_start.specs.Stands.{AreTables}
+use Rattle.device_acts.specs.Stands.{AreTables}
 use Rattle.monitor_core.specs.CoreSteps.{durable_of}
 use Rattle.monitor_core.specs.CoreValue.{CoreValue}
 use Rattle.kdcfile_copies.specs.Copies.{IsCopyOf}
-use Rattle.kdcfile_halves.specs.Beside.{LeavesPairs}
+use Rattle.kdcfile_copies.specs.Beside.{LeavesPairs}
 use Rattle.kdcfile_double.specs.Opening.{IsChosenTables, KeepsTablesTwice, identity_twice}
 use Rattle.kdcfile_double.specs.Twice.{IsInUse, RoseAt, SameFaultsAt, Twice}
 

@@ -5,20 +5,19 @@ ghost use Rattle.kdcfile_store.specs.Paged.{identity_with};
 ghost use Rattle.twin_run.specs.Keeping.{IsSinceStart, Kept, content_kept, file_kept, leaves_kept, lost_kept, stands_kept, state_kept};
 ghost use Rattle.twin_run.specs.KeepingLaws.{all_fine, chosen_stands, earlier_kept, left_kept, none_written, sent_kept};
 
+use application_check::kdcdef_check::Generation;
 use device_acts::Keeper;
+use device_acts::warm_start::OpenError;
 use device_run::Reopens;
 use kd_base::OutOfMemory;
-use kd_device::{DeviceError, Failed};
+use kd_device::{DeviceError, Failed, Half, Twin};
 use kd_records::Patch;
-use kd_twin::{Half, Twin};
-use kdcdef_check::Generation;
+use kdcfile_copies::kdcfile_halves::say_both;
 use kdcfile_double::{TwinOpenError, TwinStore};
-use kdcfile_halves::say_both;
 use kdcfile_store::StoreLimits;
 use kdcs_types::Tables;
 use std::alloc::Global;
 use std::marker::{Brand, Model, PhantomData};
-use warm_start::OpenError;
 
 // The kind of the record that only a copy has.
 const SEQUENCE_KIND: u8 = 7;
@@ -27,7 +26,7 @@ const SEQUENCE_KIND: u8 = 7;
 /// the twin and the store as they are then.
 pub(crate) trait Start {
     ghost use Rattle.std.specs.Prelude.{ℕ};
-    ghost use Rattle.kd_twin.specs.Twin.{Both};
+    ghost use Rattle.kd_device.specs.Twin.{Both};
     ghost use Rattle.kdcfile_double.specs.Twice.{Twice};
 
     ghost place: { ℕ };
@@ -39,7 +38,7 @@ pub(crate) trait Start {
 
 impl Start for Brand {
     ghost use Rattle.std.specs.Prelude.{None};
-    ghost use Rattle.kd_twin.specs.Twin.{untold};
+    ghost use Rattle.kd_device.specs.Twin.{untold};
 
     ghost place = { 0 };
 

@@ -4,9 +4,8 @@ ghost use Rattle.kd_device.specs.Device.{Rose};
 ghost use Rattle.abstract_monitor.specs.Trace.{bytes_of};
 ghost use Rattle.twin_run.specs.{Parts.{SaysTwice}, Running.{lines_for, lost_line, mended_line}};
 
-use kd_device::DeviceError;
-use kd_twin::{Half, Twin};
-use kdcfile_halves::say_both;
+use kd_device::{DeviceError, Half, Twin};
+use kdcfile_copies::kdcfile_halves::say_both;
 
 fn mended_line(half: Half) -> &'static [u8]
     ensures { result.now ≡ mended_line half }

@@ -1,6 +1,6 @@
 //! A run over two copies: the line of the one that was mended, its acts, and the line of the one that is lost.
 ghost use Rattle.std.specs.Prelude.{◌≡◌, ◌≤◌, ◌+◌, ◌^◌, List, ℕ, true, IsTrue, IfOk, OnOk, IsErrOf, sum_by};
-ghost use Rattle.laws_of_steps.specs.Keeping.{IsScriptOf};
+ghost use Rattle.laws_of_states.specs.Keeping.{IsScriptOf};
 ghost use Rattle.abstract_monitor.specs.{Commands.{acts_of}, Trace.{history}};
 ghost use Rattle.kdcs_types.specs.Tables.{TableRows};
 ghost use Rattle.kdcfile_store.specs.Paged.{identity_with};
@@ -13,16 +13,15 @@ use crate::keeper::{Start, TwinKeeper};
 use crate::lines::{say_lost, say_mended};
 use abstract_monitor::Command;
 use device_acts::keep_acts;
+use device_acts::warm_start::OpenError;
 use device_run::run_with;
-use kd_device::DeviceError;
-use kd_twin::{Half, Twin};
+use kd_device::{DeviceError, Half, Twin};
 use kdcfile_double::TwinStore;
 use kdcfile_store::StoreLimits;
 use kdcs_types::Act;
 use monitor_core::Core;
 use std::alloc::Global;
 use std::marker::Brand;
-use warm_start::OpenError;
 
 // The lines, and which half is lost then. It goes into `lost`: beside the twin it would keep the borrow of it.
 fn send_on<T: Twin, S: Start>(

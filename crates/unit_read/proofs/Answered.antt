@@ -3,7 +3,7 @@ use Rattle.std.proofs.Common.{ℕ, List, Result, Ok, Err, refl, subst}
 use Rattle.std.specs.Prelude.{◌≢◌, All, IfOk, IfErr}
 use Rattle.std.specs.Global.{Vec}
 use Rattle.kd_base.specs.FirstFaults.{items_of}
-use Rattle.unit_types.specs.UnitText.{UnitText, IsWhole}
+use Rattle.application_types.specs.UnitText.{UnitText, IsWhole}
 use Rattle.unit_read.specs.declared.fault.UnitFault.{UnitFault}
 use Rattle.unit_read.specs.declared.fault.UnitFault.TheVariants.{Memory}
 use Rattle.unit_read.specs.Answers.{Gives}

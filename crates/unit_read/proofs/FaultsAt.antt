@@ -7,8 +7,8 @@ use Rattle.std.proofs.lemmas.Bool.Decides.{nat_tests}
 use Rattle.std.proofs.lemmas.List.{append-nil}
 use Rattle.kd_base.specs.Tools.{◌>>=◌}
 use Rattle.kd_base.specs.ToolsLaws.{chosen, ok_is, err_is, ok_of, err_of, bind_ok, bind_err}
-use Rattle.unit_types.specs.declared.unit.Field.{Field}
-use Rattle.unit_types.specs.UnitText.{UnitText}
+use Rattle.application_types.specs.declared.unit_types.unit.Field.{Field}
+use Rattle.application_types.specs.UnitText.{UnitText}
 use Rattle.unit_read.specs.declared.fault.UnitFault.{UnitFault}
 use Rattle.unit_read.specs.declared.fault.UnitFault.TheVariants.{BadStatement, BadField, LabelTwice, NoEnd, UnitTwice, TooLong, Memory}
 use Rattle.unit_read.specs.declared.piece.Piece.{Piece}

@@ -4,8 +4,8 @@ use Rattle.std.specs.Prelude.{◌||◌, bytes_eq}
 use Rattle.std.specs.BTreeSet.{BTreeSet}
 use Rattle.std.specs.List.{list_any}
 use Rattle.std.proofs.lemmas.Bool.{cases_Bool}
-use Rattle.unit_types.specs.declared.unit.Field.{Field}
-use Rattle.unit_types.specs.UnitText.{UnitText}
+use Rattle.application_types.specs.declared.unit_types.unit.Field.{Field}
+use Rattle.application_types.specs.UnitText.{UnitText}
 use Rattle.unit_read.specs.Names.{holds, AreFieldNames, AreLabelNames, AreUnitNames}
 
 or_false : (a : Bool) → (a || false) ≡ a

@@ -1,5 +1,6 @@
 -- Operands: what is read is written so, and what is written so is read.
-use Rattle.std.proofs.Common.{◌≡◌, ℕ, ◌+◌, ◌-◌, ◌≤◌, Bool, true, false, cond, ◌&&◌, List, [], ◌∷◌, ◌++◌, length, take, drop, Option, Some, None, refl, sym, ap, ◌∙◌, subst, inl, inr, arith, length-append}
+use Rattle.std.proofs.Common.{◌≡◌, ℕ, ◌+◌, ◌-◌, ◌≤◌, Bool, true, false, cond, ◌&&◌, List, [], ◌∷◌, ◌++◌, length, take, drop, Option, Some, None, refl, sym, ap, ◌∙◌, subst, inl, inr, arith}
+use Rattle.std.proofs.Common.{length-append}
 use Rattle.std.specs.Prelude.{IsTrue, bytes_eq, codes, nat_le}
 use Rattle.std.specs.List.{list_all}
 use Rattle.std.proofs.lemmas.Bool.{leb-true}
@@ -10,12 +11,12 @@ use Rattle.kd_base.specs.declared.words.Mode.{Mode}
 use Rattle.kd_base.specs.declared.words.Mode.TheVariants.{Relative, Absolute}
 use Rattle.kd_base.specs.Text.{is_digit, IsDecimal}
 use Rattle.kd_base.specs.ToolsLaws.{chosen, both_true, true_both, some_is}
-use Rattle.unit_types.specs.declared.action.HeaderName.{HeaderName}
-use Rattle.unit_types.specs.declared.action.HeaderName.TheVariants.{Benid, Logter, Tacvg, Tacal, Crccc, Rlm}
-use Rattle.unit_types.specs.declared.action.Operand.{Operand}
-use Rattle.unit_types.specs.declared.action.Operand.TheVariants as operands
-use Rattle.unit_types.specs.declared.action.Relation.{Relation}
-use Rattle.unit_types.specs.declared.action.Relation.TheVariants.{Eq, Ne, Lt, Gt}
+use Rattle.application_types.specs.declared.unit_types.action.HeaderName.{HeaderName}
+use Rattle.application_types.specs.declared.unit_types.action.HeaderName.TheVariants.{Benid, Logter, Tacvg, Tacal, Crccc, Rlm}
+use Rattle.application_types.specs.declared.unit_types.action.Operand.{Operand}
+use Rattle.application_types.specs.declared.unit_types.action.Operand.TheVariants as operands
+use Rattle.application_types.specs.declared.unit_types.action.Relation.{Relation}
+use Rattle.application_types.specs.declared.unit_types.action.Relation.TheVariants.{Eq, Ne, Lt, Gt}
 use Rattle.unit_read.specs.declared.word.Word.{Word}
 use Rattle.unit_read.specs.declared.word.Word.TheVariants.{Plain, Literal}
 use Rattle.unit_read.specs.Operands.{is_letter, is_name, are_digits, name_of, header_of, in_trim, trim_operand, named_operand, operand_of, relation_of, mode_of}

@@ -1,5 +1,6 @@
 -- Pieces: what is read is written so, and what is written so is read.
-use Rattle.std.proofs.Common.{◌≡◌, ℕ, zero, suc, ◌+◌, ◌-◌, ◌≤◌, Bool, true, false, ◌&&◌, List, [], ◌∷◌, ◌++◌, length, take, drop, Option, Some, None, refl, sym, ap, ◌∙◌, subst, inl, inr, arith, length-append}
+use Rattle.std.proofs.Common.{◌≡◌, ℕ, zero, suc, ◌+◌, ◌-◌, ◌≤◌, Bool, true, false, ◌&&◌, List, [], ◌∷◌, ◌++◌, length, take, drop, Option, Some, None, refl, sym, ap, ◌∙◌, subst, inl, inr, arith}
+use Rattle.std.proofs.Common.{length-append}
 use Rattle.std.specs.Prelude.{codes, bytes_eq, nat_le, slice_index, not, is_some, option_and_then, ◌==◌}
 use Rattle.std.specs.Option.{option_map}
 use Rattle.std.specs.List.{list_all}
@@ -7,9 +8,9 @@ use Rattle.std.proofs.lemmas.Bool.{cases_Bool, eqb-true}
 use Rattle.std.proofs.lemmas.List.{take-append-drop, take_at, nil_from_length}
 use Rattle.kd_base.specs.Text.{IsProgName, IsDecimal, prog_name_of, decimal_of, decimal_value, is_digit, is_name_byte}
 use Rattle.kd_base.specs.ToolsLaws.{map_some, some_is, and_some, chosen, both_true}
-use Rattle.unit_types.specs.declared.action.HeaderName.{HeaderName}
-use Rattle.unit_types.specs.declared.action.Action.{Action}
-use Rattle.unit_types.specs.declared.action.Action.TheVariants as actions
+use Rattle.application_types.specs.declared.unit_types.action.HeaderName.{HeaderName}
+use Rattle.application_types.specs.declared.unit_types.action.Action.{Action}
+use Rattle.application_types.specs.declared.unit_types.action.Action.TheVariants as actions
 use Rattle.unit_read.specs.declared.word.Word.{Word}
 use Rattle.unit_read.specs.declared.word.Word.TheVariants.{Plain, Literal}
 use Rattle.unit_read.specs.declared.piece.Piece.{Piece}

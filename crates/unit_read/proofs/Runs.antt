@@ -1,14 +1,15 @@
 -- Lines one after another, and the pieces that they are.
-use Rattle.std.proofs.Common.{◌≡◌, ℕ, ◌+◌, ◌<◌, ◌≤◌, Bool, true, false, List, [], ◌∷◌, ◌++◌, length, Option, Some, None, Result, Ok, Err, refl, sym, ap, ◌∙◌, subst, inl, inr, arith, append_assoc, length-append}
+use Rattle.std.proofs.Common.{◌≡◌, ℕ, ◌+◌, ◌<◌, ◌≤◌, Bool, true, false, List, [], ◌∷◌, ◌++◌, length, Option, Some, None, Result, Ok, Err, refl, sym, ap, ◌∙◌, subst, inl, inr, arith, append_assoc}
+use Rattle.std.proofs.Common.{length-append}
 use Rattle.std.specs.Prelude.{nat_le}
 use Rattle.std.proofs.lemmas.Bool.Decides.{nat_tests}
 use Rattle.std.proofs.lemmas.List.{append-nil}
 use Rattle.kd_base.specs.Tools.{◌>>=◌}
 use Rattle.kd_base.specs.ToolsLaws.{chosen, both_true, ok_is, ok_of, bind_ok}
-use Rattle.unit_types.specs.declared.action.Action.{Action}
-use Rattle.unit_types.specs.declared.action.UnitStatement.{UnitStatement}
-use Rattle.unit_types.specs.declared.unit.Field.{Field}
-use Rattle.unit_types.specs.UnitText.{UnitText}
+use Rattle.application_types.specs.declared.unit_types.action.Action.{Action}
+use Rattle.application_types.specs.declared.unit_types.action.UnitStatement.{UnitStatement}
+use Rattle.application_types.specs.declared.unit_types.unit.Field.{Field}
+use Rattle.application_types.specs.UnitText.{UnitText}
 use Rattle.unit_read.specs.declared.fault.UnitFault.{UnitFault}
 use Rattle.unit_read.specs.declared.piece.Piece.{Piece}
 use Rattle.unit_read.specs.declared.piece.Piece.TheVariants as pieces
@@ -18,7 +19,8 @@ use Rattle.unit_read.specs.Used.{uses}
 use Rattle.unit_read.specs.Units.{begun, add_field, add_label, add_statement, State, nothing_read, in_unit, stepped}
 use Rattle.unit_read.specs.Reading.{piece_in, piece_step, line_step}
 use Rattle.unit_read.specs.Grammar.{SpellsPiece}
-use Rattle.unit_read.specs.Spelling.{Placed, placed, has_no_body, ArePieces, is_field, is_inner, are_fields, are_inner, field_in, label_in, statement_in, fields_in, statements_in, labels_in, FieldsAreNew, LabelsAreNew, are_defined, IsBegun, MayComeAfter, AreUnits}
+use Rattle.unit_read.specs.Spelling.{Placed, placed, has_no_body, ArePieces, is_field, is_inner, are_fields, are_inner, field_in, label_in, statement_in, fields_in, statements_in, labels_in}
+use Rattle.unit_read.specs.Spelling.{FieldsAreNew, LabelsAreNew, are_defined, IsBegun, MayComeAfter, AreUnits}
 use Rattle.unit_read.specs.Faults.{IsOpen, Stand}
 use Rattle.unit_read.proofs.Pieced.{line_is, line_again}
 use Rattle.unit_read.proofs.Standing.{stand_more}

@@ -2,8 +2,8 @@
 use Rattle.std.proofs.Common.{◌≡◌, ℕ, List, [], ◌∷◌, Option, Some, None, refl, ap, subst}
 use Rattle.kd_base.specs.declared.words.Mode.{Mode}
 use Rattle.kd_base.specs.ToolsLaws.{map_some, some_is}
-use Rattle.unit_types.specs.declared.action.Operand.{Operand}
-use Rattle.unit_types.specs.declared.action.Relation.{Relation}
+use Rattle.application_types.specs.declared.unit_types.action.Operand.{Operand}
+use Rattle.application_types.specs.declared.unit_types.action.Relation.{Relation}
 use Rattle.unit_read.specs.declared.word.Word.{Word}
 use Rattle.unit_read.specs.declared.word.Word.TheVariants.{Plain}
 use Rattle.unit_read.specs.declared.shape.DelayedMessage.{DelayedMessage}

@@ -1,14 +1,15 @@
 -- Pieces after pieces: what is read so far is above.
-use Rattle.std.proofs.Common.{◌≡◌, ℕ, ◌+◌, ◌<◌, ◌≤◌, Bool, true, false, cond, eqb, List, [], ◌∷◌, ◌++◌, length, Option, Some, None, Ok, Err, refl, sym, ap, ◌∙◌, subst, inl, inr, arith, append_assoc, length-append}
+use Rattle.std.proofs.Common.{◌≡◌, ℕ, ◌+◌, ◌<◌, ◌≤◌, Bool, true, false, cond, eqb, List, [], ◌∷◌, ◌++◌, length, Option, Some, None, Ok, Err, refl, sym, ap, ◌∙◌, subst, inl, inr, arith, append_assoc}
+use Rattle.std.proofs.Common.{length-append}
 use Rattle.std.specs.Prelude.{nat_le}
 use Rattle.std.specs.List.{list_all}
 use Rattle.std.proofs.lemmas.Bool.{cases_Bool, eqb-true, leb-false}
 use Rattle.std.proofs.lemmas.List.{append-nil, nil_from_length}
 use Rattle.kd_base.specs.ToolsLaws.{chosen, both_true, ok_is, ok_of, bind_ok}
-use Rattle.unit_types.specs.declared.action.Action.{Action}
-use Rattle.unit_types.specs.declared.action.UnitStatement.{UnitStatement}
-use Rattle.unit_types.specs.declared.unit.Field.{Field}
-use Rattle.unit_types.specs.UnitText.{UnitText}
+use Rattle.application_types.specs.declared.unit_types.action.Action.{Action}
+use Rattle.application_types.specs.declared.unit_types.action.UnitStatement.{UnitStatement}
+use Rattle.application_types.specs.declared.unit_types.unit.Field.{Field}
+use Rattle.application_types.specs.UnitText.{UnitText}
 use Rattle.unit_read.specs.declared.fault.UnitFault.{UnitFault}
 use Rattle.unit_read.specs.declared.fault.UnitFault.TheVariants.{BadStatement, BadField, LabelTwice, UnitTwice, TooLong}
 use Rattle.unit_read.specs.declared.piece.Piece.{Piece}
@@ -16,7 +17,8 @@ use Rattle.unit_read.specs.declared.piece.Piece.TheVariants as pieces
 use Rattle.unit_read.specs.Names.{has_field, has_label, has_unit}
 use Rattle.unit_read.specs.Used.{uses}
 use Rattle.unit_read.specs.Units.{begun, add_field, add_label, add_statement, with_field, with_label, with_statement, State, in_unit, by_current}
-use Rattle.unit_read.specs.Spelling.{Placed, placed, has_no_body, is_field, is_inner, are_inner, field_in, label_in, statement_in, fields_in, statements_in, labels_in, FieldsAreNew, LabelsAreNew, are_defined, IsBegun, MayComeAfter, AreUnits}
+use Rattle.unit_read.specs.Spelling.{Placed, placed, has_no_body, is_field, is_inner, are_inner, field_in, label_in, statement_in, fields_in, statements_in, labels_in, FieldsAreNew, LabelsAreNew}
+use Rattle.unit_read.specs.Spelling.{are_defined, IsBegun, MayComeAfter, AreUnits}
 use Rattle.unit_read.specs.Faults.{Stand}
 
 -- ---- lists with one more at the end

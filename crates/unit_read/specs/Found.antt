@@ -1,6 +1,6 @@
 -- What reading finds, against what a text spells.
 use Rattle.std.specs.Prelude.{◌≡◌, ℕ, List, Ok}
-use Rattle.unit_types.specs.UnitText.{UnitText}
+use Rattle.application_types.specs.UnitText.{UnitText}
 use Rattle.unit_read.specs.Reading.{read_text}
 use Rattle.unit_read.specs.Spelling.{SpellsUnits}
 

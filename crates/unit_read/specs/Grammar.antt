@@ -6,14 +6,14 @@ use Rattle.kd_base.specs.Fronts.{begins}
 use Rattle.kd_base.specs.Text.{IsProgName, IsDecimal, decimal_value}
 use Rattle.kd_base.specs.declared.words.Mode.{Mode}
 use Rattle.kd_base.specs.declared.words.Mode.TheVariants.{Relative, Absolute}
-use Rattle.unit_types.specs.declared.action.HeaderName.{HeaderName}
-use Rattle.unit_types.specs.declared.action.HeaderName.TheVariants.{Benid, Logter, Tacvg, Tacal, Crccc, Rlm}
-use Rattle.unit_types.specs.declared.action.Operand.{Operand}
-use Rattle.unit_types.specs.declared.action.Operand.TheVariants as operands
-use Rattle.unit_types.specs.declared.action.Relation.{Relation}
-use Rattle.unit_types.specs.declared.action.Relation.TheVariants.{Eq, Ne, Lt, Gt}
-use Rattle.unit_types.specs.declared.action.Action.{Action}
-use Rattle.unit_types.specs.declared.action.Action.TheVariants as actions
+use Rattle.application_types.specs.declared.unit_types.action.HeaderName.{HeaderName}
+use Rattle.application_types.specs.declared.unit_types.action.HeaderName.TheVariants.{Benid, Logter, Tacvg, Tacal, Crccc, Rlm}
+use Rattle.application_types.specs.declared.unit_types.action.Operand.{Operand}
+use Rattle.application_types.specs.declared.unit_types.action.Operand.TheVariants as operands
+use Rattle.application_types.specs.declared.unit_types.action.Relation.{Relation}
+use Rattle.application_types.specs.declared.unit_types.action.Relation.TheVariants.{Eq, Ne, Lt, Gt}
+use Rattle.application_types.specs.declared.unit_types.action.Action.{Action}
+use Rattle.application_types.specs.declared.unit_types.action.Action.TheVariants as actions
 use Rattle.unit_read.specs.declared.word.Word.{Word}
 use Rattle.unit_read.specs.declared.word.Word.TheVariants.{Plain, Literal}
 use Rattle.unit_read.specs.declared.piece.Piece.{Piece}

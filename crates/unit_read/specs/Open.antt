@@ -1,7 +1,7 @@
 -- What a unit that is open, and what was read so far, stand for.
 use Rattle.std.specs.Prelude.{◌≤◌, length, Option, Some, None}
 use Rattle.std.specs.Option.{option_map}
-use Rattle.unit_types.specs.UnitText.{UnitText}
+use Rattle.application_types.specs.UnitText.{UnitText}
 use Rattle.unit_read.specs.declared.open_unit.OpenUnit.{OpenUnit}
 use Rattle.unit_read.specs.declared.reading.Reading.{Reading}
 use Rattle.unit_read.specs.Names.{AreFieldNames, AreLabelNames, AreUnitNames}

@@ -6,12 +6,12 @@ use Rattle.kd_base.specs.declared.words.Mode.{Mode}
 use Rattle.kd_base.specs.declared.words.Mode.TheVariants.{Relative, Absolute}
 use Rattle.kd_base.specs.Fronts.{begins}
 use Rattle.kd_base.specs.Text.{is_between, is_digit}
-use Rattle.unit_types.specs.declared.action.HeaderName.{HeaderName}
-use Rattle.unit_types.specs.declared.action.HeaderName.TheVariants.{Benid, Logter, Tacvg, Tacal, Crccc, Rlm}
-use Rattle.unit_types.specs.declared.action.Operand.{Operand}
-use Rattle.unit_types.specs.declared.action.Operand.TheVariants as operands
-use Rattle.unit_types.specs.declared.action.Relation.{Relation}
-use Rattle.unit_types.specs.declared.action.Relation.TheVariants.{Eq, Ne, Lt, Gt}
+use Rattle.application_types.specs.declared.unit_types.action.HeaderName.{HeaderName}
+use Rattle.application_types.specs.declared.unit_types.action.HeaderName.TheVariants.{Benid, Logter, Tacvg, Tacal, Crccc, Rlm}
+use Rattle.application_types.specs.declared.unit_types.action.Operand.{Operand}
+use Rattle.application_types.specs.declared.unit_types.action.Operand.TheVariants as operands
+use Rattle.application_types.specs.declared.unit_types.action.Relation.{Relation}
+use Rattle.application_types.specs.declared.unit_types.action.Relation.TheVariants.{Eq, Ne, Lt, Gt}
 use Rattle.unit_read.specs.declared.word.Word.{Word}
 use Rattle.unit_read.specs.declared.word.Word.TheVariants.{Plain, Literal}
 

@@ -1,9 +1,10 @@
 -- The pieces of units, one to a line.
-use Rattle.std.specs.Prelude.{ℕ, ◌-◌, Bool, true, false, not, ◌&&◌, ◌==◌, nat_le, List, [], ◌∷◌, length, take, Option, None, Some, is_some, if◌then◌else◌, codes, bytes_eq, slice_index, option_and_then}
+use Rattle.std.specs.Prelude.{ℕ, ◌-◌, Bool, true, false, not, ◌&&◌, ◌==◌, nat_le, List, [], ◌∷◌, length, take, Option, None, Some, is_some, if◌then◌else◌, codes, bytes_eq, slice_index}
+use Rattle.std.specs.Prelude.{option_and_then}
 use Rattle.std.specs.Option.{option_map}
 use Rattle.kd_base.specs.Limits.{longest_content}
 use Rattle.kd_base.specs.Text.{decimal_of, prog_name_of}
-use Rattle.unit_types.specs.declared.action.Action.{Action}
+use Rattle.application_types.specs.declared.unit_types.action.Action.{Action}
 use Rattle.unit_read.specs.declared.word.Word.{Word}
 use Rattle.unit_read.specs.declared.word.Word.TheVariants.{Plain, Literal}
 use Rattle.unit_read.specs.declared.piece.Piece.{Piece}

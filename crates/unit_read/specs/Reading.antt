@@ -3,7 +3,7 @@ use Rattle.std.specs.Prelude.{ℕ, ◌+◌, nat_lt, List, [], ◌∷◌, length,
 use Rattle.std.specs.Str.Lines.{lines}
 use Rattle.kd_base.specs.Limits.{longest_text}
 use Rattle.kd_base.specs.Tools.{◌>>=◌}
-use Rattle.unit_types.specs.UnitText.{UnitText}
+use Rattle.application_types.specs.UnitText.{UnitText}
 use Rattle.unit_read.specs.declared.fault.UnitFault.{UnitFault}
 use Rattle.unit_read.specs.declared.fault.UnitFault.TheVariants.{BadStatement, TooLong}
 use Rattle.unit_read.specs.declared.piece.Piece.{Piece}

@@ -3,9 +3,9 @@ use Rattle.std.specs.Prelude.{◌≡◌, ℕ, ◌+◌, ◌≤◌, ◌⊎◌, Boo
 use Rattle.std.specs.List.{list_all}
 use Rattle.std.specs.Str.Lines.{lines}
 use Rattle.kd_base.specs.Limits.{longest_text}
-use Rattle.unit_types.specs.declared.action.UnitStatement.{UnitStatement}
-use Rattle.unit_types.specs.declared.unit.Field.{Field}
-use Rattle.unit_types.specs.UnitText.{UnitText}
+use Rattle.application_types.specs.declared.unit_types.action.UnitStatement.{UnitStatement}
+use Rattle.application_types.specs.declared.unit_types.unit.Field.{Field}
+use Rattle.application_types.specs.UnitText.{UnitText}
 use Rattle.unit_read.specs.declared.piece.Piece.{Piece}
 use Rattle.unit_read.specs.declared.piece.Piece.TheVariants as pieces
 use Rattle.unit_read.specs.Lines.{is_passed}

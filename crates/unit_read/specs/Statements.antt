@@ -3,10 +3,10 @@ use Rattle.std.specs.Prelude.{ℕ, Bool, true, false, List, [], ◌∷◌, drop,
 use Rattle.std.specs.Option.{option_map}
 use Rattle.kd_base.specs.declared.words.Variant.{Variant}
 use Rattle.kd_base.specs.declared.words.Variant.TheVariants as variants
-use Rattle.unit_types.specs.declared.action.Operand.{Operand}
-use Rattle.unit_types.specs.declared.action.Relation.{Relation}
-use Rattle.unit_types.specs.declared.action.Action.{Action}
-use Rattle.unit_types.specs.declared.action.Action.TheVariants as actions
+use Rattle.application_types.specs.declared.unit_types.action.Operand.{Operand}
+use Rattle.application_types.specs.declared.unit_types.action.Relation.{Relation}
+use Rattle.application_types.specs.declared.unit_types.action.Action.{Action}
+use Rattle.application_types.specs.declared.unit_types.action.Action.TheVariants as actions
 use Rattle.unit_read.specs.declared.word.Word.{Word}
 use Rattle.unit_read.specs.declared.shape.DelayedMessage.{DelayedMessage}
 use Rattle.unit_read.specs.declared.key.Key.{Key}

@@ -1,8 +1,8 @@
 -- Pieces, one after another, as units.
 use Rattle.std.specs.Prelude.{ℕ, ◌+◌, ◌&&◌, ◌==◌, nat_le, List, [], ◌∷◌, ◌++◌, length, Option, None, Some, Result, Ok, Err, if◌then◌else◌}
-use Rattle.unit_types.specs.declared.action.Action.{Action}
-use Rattle.unit_types.specs.declared.unit.Field.{Field}
-use Rattle.unit_types.specs.UnitText.{UnitText}
+use Rattle.application_types.specs.declared.unit_types.action.Action.{Action}
+use Rattle.application_types.specs.declared.unit_types.unit.Field.{Field}
+use Rattle.application_types.specs.UnitText.{UnitText}
 use Rattle.unit_read.specs.declared.fault.UnitFault.{UnitFault}
 use Rattle.unit_read.specs.declared.fault.UnitFault.TheVariants.{BadStatement, BadField, LabelTwice, NoEnd, UnitTwice, TooLong}
 use Rattle.unit_read.specs.declared.piece.Piece.{Piece}

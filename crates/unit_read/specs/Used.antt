@@ -1,9 +1,9 @@
 -- The fields that a statement names.
 use Rattle.std.specs.Prelude.{ℕ, Bool, true, ◌&&◌, List, Some}
-use Rattle.unit_types.specs.declared.action.Operand.{Operand}
-use Rattle.unit_types.specs.declared.action.Operand.TheVariants as operands
-use Rattle.unit_types.specs.declared.action.Action.{Action}
-use Rattle.unit_types.specs.declared.action.Action.TheVariants as actions
+use Rattle.application_types.specs.declared.unit_types.action.Operand.{Operand}
+use Rattle.application_types.specs.declared.unit_types.action.Operand.TheVariants as operands
+use Rattle.application_types.specs.declared.unit_types.action.Action.{Action}
+use Rattle.application_types.specs.declared.unit_types.action.Action.TheVariants as actions
 
 -- the field that the operand names passes the test
 abbrev pub operand_uses : (List ℕ → Bool) → Operand → Bool

@@ -5,12 +5,12 @@ use Rattle.std.proofs.lemmas.List.Elements.{All-from_recursion}
 use Rattle.std.specs.Map.{lookup}
 use Rattle.std.specs.Str.Lines.{lines}
 use Rattle.std.proofs.Common.{arith, sym, subst, inl, inr}
-use Rattle.unit_types.specs.declared.action.Action.{Action}
-use Rattle.unit_types.specs.declared.action.Action.TheVariants as actions
-use Rattle.unit_types.specs.declared.action.Operand.{Operand}
-use Rattle.unit_types.specs.declared.action.Operand.TheVariants as operands
-use Rattle.unit_types.specs.declared.action.UnitStatement.{UnitStatement}
-use Rattle.unit_types.specs.UnitText.{UnitText, IsShortOperand, IsWhole, operands_of}
+use Rattle.application_types.specs.declared.unit_types.action.Action.{Action}
+use Rattle.application_types.specs.declared.unit_types.action.Action.TheVariants as actions
+use Rattle.application_types.specs.declared.unit_types.action.Operand.{Operand}
+use Rattle.application_types.specs.declared.unit_types.action.Operand.TheVariants as operands
+use Rattle.application_types.specs.declared.unit_types.action.UnitStatement.{UnitStatement}
+use Rattle.application_types.specs.UnitText.{UnitText, IsShortOperand, IsWhole, operands_of}
 use Rattle.unit_read.specs.declared.piece.Piece.{Piece}
 use Rattle.unit_read.specs.declared.piece.Piece.TheVariants as pieces
 use Rattle.unit_read.specs.Grammar.{IsOperand, IsAction, SpellsPiece}

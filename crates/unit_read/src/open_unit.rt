@@ -8,15 +8,14 @@ use crate::piece::Piece;
 use crate::push::push;
 use crate::said::Said;
 use crate::used::is_defined;
+use application_types::unit_types::{Field, Unit, UnitStatement};
 use kd_base::{Bytes, OutOfMemory, ProgName};
 use std::alloc::Global;
-use unit_types::{Field, Unit, UnitStatement};
 
 /// The greatest number of statements in a unit.
 const MAX_STATEMENTS: usize = 10_000;
 
 /// A unit so far, with sets of the names of its fields and its labels.
-#[derive(Drop)]
 pub(crate) struct OpenUnit {
     name: ProgName,
     line: u32,
@@ -25,6 +24,27 @@ pub(crate) struct OpenUnit {
     statements: Vec<UnitStatement>,
     field_names: Names,
     label_names: Names,
+}
+
+impl Drop for OpenUnit {
+    fn drop(self) {
+        let OpenUnit {
+            name,
+            line,
+            fields,
+            labels,
+            statements,
+            field_names,
+            label_names,
+        } = self;
+        let _ = name;
+        let _ = line;
+        let _ = fields;
+        let _ = labels;
+        let _ = statements;
+        let _ = field_names;
+        let _ = label_names;
+    }
 }
 
 impl OpenUnit {
@@ -122,13 +142,17 @@ impl OpenUnit {
         requires { IsKept self }
         ensures { IfOk result (λ u. u ≡ unit_so_far self) }
     {
-        Unit::new(
-            alloc,
-            self.name,
-            self.line,
-            self.fields,
-            self.labels,
-            self.statements,
-        )
+        let OpenUnit {
+            name,
+            line,
+            fields,
+            labels,
+            statements,
+            field_names,
+            label_names,
+        } = self;
+        let _ = field_names;
+        let _ = label_names;
+        Unit::new(alloc, name, line, fields, labels, statements)
     }
 }

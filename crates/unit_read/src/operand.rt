@@ -5,10 +5,10 @@ ghost use Rattle.unit_read.specs.Operands.{is_letter, is_name_byte, is_name, are
 
 use crate::line::same;
 use crate::word::Word;
+use application_types::unit_types::{HeaderName, Operand, Relation};
 use kd_base::{Bytes, LONGEST_CONTENT, Mode, OutOfMemory};
 use std::alloc::Global;
 use texts::first_true;
-use unit_types::{HeaderName, Operand, Relation};
 
 fn is_letter(b: u8) -> bool
     ensures { result ≡ is_letter b }

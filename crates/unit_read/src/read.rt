@@ -1,18 +1,19 @@
 //! Reading a units text.
 ghost use Rattle.std.specs.Prelude.{◌≢◌, All, List, IfOk, IfErr, OnOk};
 ghost use Rattle.kd_base.specs.FirstFaults.{items_of};
-ghost use Rattle.unit_types.specs.UnitText.{UnitText, IsWhole};
-ghost use Rattle.unit_read.specs.{declared.fault.UnitFault.TheVariants.{Memory}, Spelling.{SpellsUnits}, Faults.{HasTextFault}, Open.{state_of, AreKept}, Answers.{Gives, after}, Reading.{line_step, read_text}};
+ghost use Rattle.application_types.specs.UnitText.{UnitText, IsWhole};
+ghost use Rattle.unit_read.specs.{declared.fault.UnitFault.TheVariants.{Memory}, Spelling.{SpellsUnits}, Faults.{HasTextFault}, Open.{state_of, AreKept}, Answers.{Gives, after}};
+ghost use Rattle.unit_read.specs.Reading.{line_step, read_text};
 
 use crate::fault::UnitFault;
 use crate::line::is_passed;
 use crate::piece::piece_of;
 use crate::reading::Reading;
 use crate::word::Word;
+use application_types::unit_types::Unit;
 use kd_base::LONGEST_TEXT;
 use std::alloc::Global;
 use texts::{next_line, parts_of};
-use unit_types::Unit;
 
 // One more line.
 fn line_step(

@@ -8,8 +8,8 @@ use crate::names::{UnitNames, add_unit_name, holds_unit, no_unit_names};
 use crate::open_unit::OpenUnit;
 use crate::piece::Piece;
 use crate::push::push;
+use application_types::unit_types::Unit;
 use std::alloc::Global;
-use unit_types::Unit;
 
 /// The greatest number of units in a text.
 const MAX_UNITS: usize = 1_000;

@@ -1,10 +1,10 @@
 //! A statement as it was read.
 ghost use Rattle.std.specs.Prelude.{◌≡◌, [], ◌∷◌, ◌++◌, IfOk, OnOk};
 
+use application_types::unit_types::{Action, UnitStatement};
 use kd_base::OutOfMemory;
 use std::alloc::Global;
 use std::marker::Model;
-use unit_types::{Action, UnitStatement};
 
 /// What a statement does. Contracts see the action.
 #[derive(Drop)]
@@ -13,7 +13,7 @@ pub(crate) struct Said {
 }
 
 impl Model for Said {
-    ghost use Rattle.unit_types.specs.declared.action.Action.{Action};
+    ghost use Rattle.application_types.specs.declared.unit_types.action.Action.{Action};
 
     ghost Value = { Action };
 

@@ -4,9 +4,9 @@ ghost use Rattle.unit_read.specs.{Operands.{mode_of, operand_of}, Shapes.{both, 
 
 use crate::operand::{mode_of, name_of, operand_of, relation_of};
 use crate::word::Word;
+use application_types::unit_types::{Operand, Relation};
 use kd_base::{Bytes, Mode, OutOfMemory};
 use std::alloc::Global;
-use unit_types::{Operand, Relation};
 
 /// What words say; `None` where they are not of the form.
 pub(crate) type Found<T> = Result<Option<T>, OutOfMemory>;

@@ -1,6 +1,6 @@
 //! A statement from its words: the table of keywords and operands.
 ghost use Rattle.std.specs.{Prelude.{◌≡◌, ℕ, List, IfOk}, Option.{option_map}};
-ghost use Rattle.unit_types.specs.declared.action.Operand.{Operand};
+ghost use Rattle.application_types.specs.declared.unit_types.action.Operand.{Operand};
 ghost use Rattle.unit_read.specs.Shapes.{one_name, one_operand, two_operands, name_and_operand, operand_and_name};
 ghost use Rattle.unit_read.specs.Statements.{takes_follow_up, pend_action, delayed_action, stored, join_action, if_action, named, given, written, read, action_at, action_of};
 
@@ -11,9 +11,9 @@ use crate::shape::{
     one_operand, operand_and_name, two_operands,
 };
 use crate::word::Word;
+use application_types::unit_types::Action;
 use kd_base::{OutOfMemory, Variant};
 use std::alloc::Global;
-use unit_types::Action;
 
 fn takes_follow_up(variant: Variant) -> bool
     ensures { result ≡ takes_follow_up variant }

@@ -3,8 +3,8 @@ ghost use Rattle.std.specs.Prelude.{◌≡◌, ◌&&◌};
 ghost use Rattle.unit_read.specs.{Names.{holds}, Used.{dput_uses, operand_uses, uses}};
 
 use crate::names::{Names, holds};
+use application_types::unit_types::{Action, Operand};
 use kd_base::Bytes;
-use unit_types::{Action, Operand};
 
 fn operand_is_defined(operand: &Operand, names: &Names) -> bool
     ensures { result ≡ operand_uses (holds names.now) operand.now }

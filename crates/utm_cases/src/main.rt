@@ -6,8 +6,7 @@
 #![tactic(auto)]
 
 use case_text::{Cases, Program};
-use kd_device::MemRoom;
-use kd_twin::MemTwin;
+use kd_device::{MemRoom, MemTwin};
 use std::alloc::Global;
 use std::{env, fs};
 use utm_twin::utm_twin;

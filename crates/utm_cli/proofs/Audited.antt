@@ -1,11 +1,11 @@
 -- What an audit finds; the trail of a run is read, and all its entries hold.
 use Rattle.std.proofs.Common.{List, [], ℕ, Some, Ok, refl}
 use Rattle.kd_device.specs.Room.{RoomState}
-use Rattle.warm_start.specs.Fingerprints.{fingerprint as print_of}
-use Rattle.laws_of_applications.specs.Applied.{applied}
+use Rattle.device_acts.specs.Fingerprints.{fingerprint as print_of}
+use Rattle.laws_of_runs.specs.Applied.{applied}
 use Rattle.refusals.specs.declared.error.FileRefusal.{FileRefusal}
-use Rattle.trail_words.specs.Auditing.{TrailsAreJudgedOnce}
-use Rattle.trail_words.specs.OwnAudits.{OwnTrailsHold, own_trail}
+use Rattle.trail_run.specs.Auditing.{TrailsAreJudgedOnce}
+use Rattle.trail_run.specs.OwnAudits.{OwnTrailsHold, own_trail}
 use Rattle.utm_cli.specs.declared.words.Word.TheVariants.{Audit}
 use Rattle.utm_cli.specs.Asking.{Errand}
 use Rattle.utm_cli.specs.Doing.{HoldsAll, AuditRefuses, own}

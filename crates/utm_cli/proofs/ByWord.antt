@@ -11,7 +11,7 @@ use Rattle.kdcs_types.specs.declared.act.Act.TheVariants.{Emit}
 use Rattle.abstract_monitor.specs.declared.command.Command.{Command}
 use Rattle.abstract_monitor.specs.Listing.{listing}
 use Rattle.abstract_monitor.specs.Trace.{bytes_of}
-use Rattle.warm_start.specs.MeaningLaws.{answers_exclude_each_other}
+use Rattle.device_acts.specs.MeaningLaws.{answers_exclude_each_other}
 use Rattle.kdcfile_update.specs.Updating.{Stored}
 use Rattle.device_acts.specs.Said.{Said, SaidPart}
 use Rattle.refusals.specs.declared.error.FileRefusal.{FileRefusal}
@@ -21,8 +21,8 @@ use Rattle.utm_cli.specs.declared.words.Word.TheVariants.{Gen, Run, Show, Update
 use Rattle.utm_cli.specs.Asking.{Errand, app_of}
 use Rattle.utm_cli.specs.Doing.{IsOverFile, Opens, OpensWith, OpeningRefuses, StartsBy, Starts, RefusesBy, Refuses, identity_of, own, tables_by, tables_of, acts_by, acts_of, trail_of, entry_count}
 use Rattle.utm_cli.specs.Words.{IsOfBase}
-use Rattle.trail_words.specs.Auditing.{verdict_line}
-use Rattle.trail_words.specs.declared.verdict.Verdict.TheVariants.{Holds}
+use Rattle.trail_run.specs.Auditing.{verdict_line}
+use Rattle.trail_run.specs.declared.trail_words.verdict.Verdict.TheVariants.{Holds}
 use Rattle.utm_cli.specs.Promise.{RanOver, RanBy, Ran, IsCutOver, IsCutBy, IsCutOfRun, IsFront, SaysFront, MakesFile, MayAttach, MayHandOn, HandsOn, WritesActsAlone}
 use Rattle.utm_cli.proofs.Ran.{part_then, nothing_said}
 

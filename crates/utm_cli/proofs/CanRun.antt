@@ -7,13 +7,13 @@ use Rattle.application_read.specs.Texts.{TextsGenerate}
 use Rattle.abstract_monitor.specs.CommandsOf.{IsCommandOf}
 use Rattle.abstract_monitor.specs.declared.command.Command.{Command}
 use Rattle.audit_trail.specs.Laws.{ReadTrailsAreTrails}
-use Rattle.kdcdef_types.specs.Generation.{Generated}
+use Rattle.application_types.specs.Generation.{Generated}
 use Rattle.monitor_core.specs.CoreSteps.{turns_of}
 use Rattle.script_read.specs.Spelling.{CommandsOnly}
 use Rattle.utm_cli.specs.Asking.{Errand, ThirdAsks, CanBeAudited, CanRun, TextsCanRun, TextsOfTwoCanRun}
 use Rattle.utm_cli.specs.Words.{audits}
 use Rattle.utm_cli.specs.declared.words.Word.{Word}
-use Rattle.laws_of_applications.proofs.Made.{application_made}
+use Rattle.laws_of_runs.proofs.laws_of_applications.Made.{application_made}
 use Rattle.utm_cli.proofs.Scripts.{few_turns, script_names}
 
 -- ---- the third text

@@ -1,14 +1,14 @@
 -- The acts of an errand, from tables that a store keeps.
 use Rattle.std.proofs.Common.{◌≡◌, true, ℕ, List, ◌++◌, sym, ap, subst, ◌∙◌, Result, Ok, Err}
 use Rattle.std.specs.Prelude.{IsTrue, OnOk}
-use Rattle.kdcdef_check.specs.Soundness.{AreLimits}
+use Rattle.application_check.specs.Soundness.{AreLimits}
 use Rattle.kd_device.specs.Device.{State}
 use Rattle.kd_records.specs.Identity.{Identity}
 use Rattle.kd_records.specs.declared.content.Content.{Content}
 use Rattle.kdcfile_layout.specs.Layout.{StandsFor}
 use Rattle.kdcfile_store.specs.Kept.{write_most}
 use Rattle.kdcfile_store.specs.Paged.{Paged, HasFile}
-use Rattle.kdcdef_types.specs.Generation.{Generated}
+use Rattle.application_types.specs.Generation.{Generated}
 use Rattle.kdcs_types.specs.declared.act.Act.{Act}
 use Rattle.kdcs_types.specs.Tables.{TableRows}
 use Rattle.abstract_monitor.specs.State.{Application}
@@ -16,11 +16,11 @@ use Rattle.abstract_monitor.specs.declared.command.Command.{Command}
 use Rattle.abstract_monitor.specs.Commands.{started, acts_of as acts_in}
 use Rattle.abstract_monitor.specs.Endings.{durable}
 use Rattle.abstract_monitor.specs.Trace.{history, tables_after, bytes_of, trace}
-use Rattle.laws_of_steps.specs.Applications.{IsApplication}
-use Rattle.laws_of_steps.specs.Keeping.{HasFacts, IsScriptOf}
-use Rattle.laws_of_steps.specs.Suits.{Suits}
-use Rattle.warm_start.specs.MeaningLaws.{kept_means}
-use Rattle.warm_start.specs.Stands.{StandsForTables, KeepsTables, identity_for}
+use Rattle.laws_of_states.specs.Applications.{IsApplication}
+use Rattle.laws_of_states.specs.Keeping.{HasFacts, IsScriptOf}
+use Rattle.laws_of_states.specs.Suits.{Suits}
+use Rattle.device_acts.specs.MeaningLaws.{kept_means}
+use Rattle.device_acts.specs.Stands.{StandsForTables, KeepsTables, identity_for}
 use Rattle.monitor_core.specs.CoreValue.{CoreValue}
 use Rattle.device_acts.specs.Acting.{acts_most, commits_nothing, content_after, AreCommittable, WithinActs, WritesUpTo, Sent}
 use Rattle.device_acts.specs.LinesLaws.{tables_same, kept_content, lines_within, lines_written}
@@ -32,8 +32,8 @@ use Rattle.utm_cli.specs.Doing.{identity_of, own, acts_by, acts_of}
 use Rattle.utm_cli.specs.Report.{report}
 use Rattle.utm_cli.specs.Parts.{ErrandWrites}
 use Rattle.utm_cli.specs.Promise.{RanOver}
-use Rattle.laws_of_tables.specs.EndsLaws.{durable_same}
-use Rattle.laws_of_steps.specs.TablesStayLaws.{started_tables}
+use Rattle.laws_of_states.specs.EndsLaws.{durable_same}
+use Rattle.laws_of_states.specs.TablesStayLaws.{started_tables}
 
 -- what follows from two facts of a success
 pub on_ok_both : {X E : Type 0} (r : Result X E) (P Q R : Type 0) → (P → Q → R) → OnOk r P → OnOk r Q → OnOk r R

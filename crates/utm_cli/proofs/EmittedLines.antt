@@ -11,9 +11,9 @@ use Rattle.std.proofs.lemmas.List.Sums.{sum_by-cons}
 use Rattle.std.proofs.lemmas.Map.Text.{is_eq-slice_cmp}
 use Rattle.kd_base.specs.Text.{IsName, is_name_byte, is_between, hex_digit, escaped_byte, escaped}
 use Rattle.kd_base.specs.ToolsLaws.{both_true, some_is}
-use Rattle.kdcdef_types.specs.Generation.{entry_of, tac_of}
-use Rattle.kdcdef_types.specs.declared.entry.TacEntry.{TacEntry}
-use Rattle.kdcdef_check.specs.Soundness.{AreNamed, HaveProperNames}
+use Rattle.application_types.specs.Generation.{entry_of, tac_of}
+use Rattle.application_types.specs.declared.kdcdef_types.entry.TacEntry.{TacEntry}
+use Rattle.application_check.specs.Soundness.{AreNamed, HaveProperNames}
 use Rattle.kdcs_types.specs.declared.act.Act.{Act}
 use Rattle.kdcs_types.specs.declared.act.Act.TheVariants.{Commit, Emit}
 use Rattle.kdcs_types.specs.declared.call.Cause.{Cause}
@@ -58,19 +58,21 @@ use Rattle.abstract_monitor.specs.Access.{denial_of}
 use Rattle.abstract_monitor.specs.Sessions.{use_under, use_of, service_state}
 use Rattle.abstract_monitor.specs.State.{Application, OpenTransaction, Session, State}
 use Rattle.abstract_monitor.specs.Trace.{history, trace, bytes_of}
-use Rattle.abstract_monitor.specs.Turns.{Turned, pterm_by, pterm_of_user, commit_of, without_transaction, out_acts, user_acts, ended_at, ended_acts, dump_acts, abnormal, message_acts, after_point, settled, last_again, back_by, back, happens, statement_now, served, took_job_for, took_job, took, turn_by, turn_of}
-use Rattle.abstract_monitor.specs.Commands.{ScriptStep, started, acts_of, user_by, fault_text, refusal_text, out_again, signed_on_by, last_by, due_for, show_by, show_next, show_again_by, show_again, display, used, user_at, lterm_at, use_now, tick_by, drop_by, command_of}
-use Rattle.laws_of_places.specs.Along.{StepLaw}
-use Rattle.laws_of_places.specs.AlongLaws.{EachMeets, meets_along}
-use Rattle.laws_of_places.specs.TerminalsLaws.{bytes_itself}
-use Rattle.laws_of_steps.specs.EachStep.{EachStep}
-use Rattle.laws_of_steps.specs.EachTurnLaws.{of_point}
-use Rattle.laws_of_steps.specs.Facts.{IsSoundState, IsSessionOf}
-use Rattle.laws_of_steps.specs.Keeping.{Leads, HasFacts}
-use Rattle.laws_of_steps.specs.Suits.{is_user, has_kind_by}
-use Rattle.laws_of_steps.specs.Transactions.{IsOwner, CanGoOn}
-use Rattle.laws_of_tables.specs.EntriesLaws.{entries_have}
-use Rattle.laws_of_tables.specs.UsesLaws.{UseFits, use_fits}
+use Rattle.abstract_monitor.specs.Turns.{Turned, pterm_by, pterm_of_user, commit_of, without_transaction, out_acts, user_acts, ended_at, ended_acts, dump_acts, abnormal, message_acts, after_point}
+use Rattle.abstract_monitor.specs.Turns.{settled, last_again, back_by, back, happens, statement_now, served, took_job_for, took_job, took, turn_by, turn_of}
+use Rattle.abstract_monitor.specs.Commands.{ScriptStep, started, acts_of, user_by, fault_text, refusal_text, out_again, signed_on_by, last_by, due_for, show_by, show_next, show_again_by, show_again}
+use Rattle.abstract_monitor.specs.Commands.{display, used, user_at, lterm_at, use_now, tick_by, drop_by, command_of}
+use Rattle.laws_of_states.specs.Along.{StepLaw}
+use Rattle.laws_of_states.specs.AlongLaws.{EachMeets, meets_along}
+use Rattle.laws_of_states.specs.TerminalsLaws.{bytes_itself}
+use Rattle.laws_of_states.specs.EachStep.{EachStep}
+use Rattle.laws_of_states.specs.EachTurnLaws.{of_point}
+use Rattle.laws_of_states.specs.Facts.{IsSoundState, IsSessionOf}
+use Rattle.laws_of_states.specs.Keeping.{Leads, HasFacts}
+use Rattle.laws_of_states.specs.Suits.{is_user, has_kind_by}
+use Rattle.laws_of_states.specs.Transactions.{IsOwner, CanGoOn}
+use Rattle.laws_of_states.specs.KeptEntriesLaws.{entries_have}
+use Rattle.laws_of_states.specs.UsesLaws.{UseFits, use_fits}
 use Rattle.utm_cli.specs.MadeReport.{lines_in}
 use Rattle.utm_cli.specs.EmittedLines.{IsUnbroken, IsOneLine, SendsOneLine, CanStart, EmitsAreLines}
 

@@ -6,7 +6,7 @@ use Rattle.application_read.specs.declared.application.Application.{Application 
 use Rattle.application_read.specs.declared.fault.ApplicationFault.{ApplicationFault}
 use Rattle.application_read.specs.declared.fault.ApplicationFault.TheVariants as faults
 use Rattle.application_read.specs.Texts.{TextsGenerate, TextsHaveFault, Gives}
-use Rattle.warm_start.specs.Fingerprints.{fingerprint as print_of}
+use Rattle.device_acts.specs.Fingerprints.{fingerprint as print_of}
 use Rattle.refusals.specs.Statuses.{status_of}
 use Rattle.refusals.specs.declared.error.Refusal.{Refusal}
 use Rattle.refusals.specs.declared.error.Refusal.TheVariants.{Application, Double, Script, Trail}

@@ -6,29 +6,30 @@ use Rattle.std.specs.List.{All}
 use Rattle.std.proofs.lemmas.List.{append-nil}
 use Rattle.std.proofs.lemmas.List.Elements.{All-from_recursion, All-head, All-tail}
 use Rattle.kd_base.specs.ToolsLaws.{both_true}
-use Rattle.kdcdef_types.specs.declared.statement.Said.{Said}
-use Rattle.kdcdef_types.specs.declared.statement.Said.TheVariants as says
-use Rattle.kdcdef_types.specs.declared.statement.Statement.{Statement}
-use Rattle.kdcdef_types.specs.declared.entry.TacEntry.{TacEntry}
-use Rattle.kdcdef_types.specs.Statements.{EndsOnce}
-use Rattle.kdcdef_lex.specs.declared.statement.RawValue.TheVariants as values
-use Rattle.kdcdef_lex.specs.declared.statement.RawOperand.{RawOperand}
-use Rattle.kdcdef_lex.specs.declared.statement.RawStatement.{RawStatement}
-use Rattle.kdcdef_lex.specs.Reading.{read_text as read_statements}
-use Rattle.kdcdef_lex.specs.Found.{ReadStatementsAreSpelled}
+use Rattle.application_types.specs.declared.kdcdef_types.statement.Said.{Said}
+use Rattle.application_types.specs.declared.kdcdef_types.statement.Said.TheVariants as says
+use Rattle.application_types.specs.declared.kdcdef_types.statement.Statement.{Statement}
+use Rattle.application_types.specs.declared.kdcdef_types.entry.TacEntry.{TacEntry}
+use Rattle.application_types.specs.Statements.{EndsOnce}
+use Rattle.texts.specs.declared.kdcdef_lex.statement.RawValue.TheVariants as values
+use Rattle.texts.specs.declared.kdcdef_lex.statement.RawOperand.{RawOperand}
+use Rattle.texts.specs.declared.kdcdef_lex.statement.RawStatement.{RawStatement}
+use Rattle.texts.specs.Reading.{read_text as read_statements}
+use Rattle.texts.specs.Found.{ReadStatementsAreSpelled}
 use Rattle.kdcdef_read.specs.Meaning.{Say}
-use Rattle.kdcdef_check.specs.declared.fault.CheckFault.{CheckFault}
-use Rattle.kdcdef_check.specs.declared.fault.CheckFault.TheVariants as faults
-use Rattle.kdcdef_check.specs.Generating.{generated, max_given}
-use Rattle.kdcdef_check.specs.EndsLaws.{end_is}
-use Rattle.kdcdef_check.specs.Faults.{AreFaultless, shows, is_taken, shares_lterm, kind_of, kind_count, lacks_program, lacks_lterm, has_other_class, is_end, has_small_pool, lacks_user, lacks_kset, has_full_pool}
-use Rattle.unit_types.specs.declared.action.UnitStatement.{UnitStatement}
-use Rattle.unit_types.specs.UnitText.{UnitText, IsWhole, jump_of, label_place}
+use Rattle.application_check.specs.declared.kdcdef_check.fault.CheckFault.{CheckFault}
+use Rattle.application_check.specs.declared.kdcdef_check.fault.CheckFault.TheVariants as faults
+use Rattle.application_check.specs.Generating.{generated, max_given}
+use Rattle.application_check.specs.EndsLaws.{end_is}
+use Rattle.application_check.specs.Faults.{AreFaultless, shows, is_taken, shares_lterm, kind_of, kind_count, lacks_program, lacks_lterm, has_other_class, is_end, has_small_pool, lacks_user}
+use Rattle.application_check.specs.Faults.{lacks_kset, has_full_pool}
+use Rattle.application_types.specs.declared.unit_types.action.UnitStatement.{UnitStatement}
+use Rattle.application_types.specs.UnitText.{UnitText, IsWhole, jump_of, label_place}
 use Rattle.unit_read.specs.Reading.{read_text as read_units}
 use Rattle.unit_read.specs.Spelling.{SpellsUnits}
 use Rattle.unit_read.specs.Found.{ReadUnitsAreSpelled}
 use Rattle.unit_read.specs.WholeLaws.{spelled_whole}
-use Rattle.unit_check.specs.Fitted.{unit_named, IsInside, literal_follow_up, tac_in, IsFitted, AreFittedTo}
+use Rattle.application_check.specs.Fitted.{unit_named, IsInside, literal_follow_up, tac_in, IsFitted, AreFittedTo}
 use Rattle.application_read.specs.Definition.{Generates}
 use Rattle.application_read.specs.Texts.{SpellsFitted, TextsGenerate}
 use Rattle.abstract_monitor.specs.Made.{made_tac, made_user, made_lterm, made_pterm, made_generation, add_unit, tally_unit}

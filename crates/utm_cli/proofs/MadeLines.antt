@@ -4,19 +4,19 @@ use Rattle.std.specs.Prelude.{codes}
 use Rattle.std.specs.Fmt.{digits}
 use Rattle.std.proofs.lemmas.List.Elements.{All-from_recursion}
 use Rattle.kd_base.specs.Text.{IsName}
-use Rattle.kdcdef_types.specs.declared.entry.LtermEntry.{LtermEntry}
-use Rattle.kdcdef_types.specs.declared.entry.PtermEntry.{PtermEntry}
-use Rattle.kdcdef_types.specs.declared.entry.TacEntry.{TacEntry}
-use Rattle.kdcdef_types.specs.declared.entry.UserEntry.{UserEntry}
-use Rattle.kdcdef_check.specs.Soundness.{AreNamed}
+use Rattle.application_types.specs.declared.kdcdef_types.entry.LtermEntry.{LtermEntry}
+use Rattle.application_types.specs.declared.kdcdef_types.entry.PtermEntry.{PtermEntry}
+use Rattle.application_types.specs.declared.kdcdef_types.entry.TacEntry.{TacEntry}
+use Rattle.application_types.specs.declared.kdcdef_types.entry.UserEntry.{UserEntry}
+use Rattle.application_check.specs.Soundness.{AreNamed}
 use Rattle.kdcs_types.specs.RowLaws.{empty_sorted}
 use Rattle.kdcs_types.specs.Tables.{empty_tables}
 use Rattle.abstract_monitor.specs.Bytes.{Bytes}
 use Rattle.abstract_monitor.specs.Made.{made_generation, made_application, made_script, made_lines, number_line, total_line}
 use Rattle.abstract_monitor.specs.Trace.{tables_after, bytes_of}
-use Rattle.laws_of_steps.specs.Applications.{IsApplication}
-use Rattle.laws_of_steps.specs.Cut.{commits_in}
-use Rattle.laws_of_steps.specs.EmptyTablesLaws.{empty_suit}
+use Rattle.laws_of_states.specs.Applications.{IsApplication}
+use Rattle.laws_of_states.specs.Cut.{commits_in}
+use Rattle.laws_of_states.specs.EmptyTablesLaws.{empty_suit}
 use Rattle.script_read.specs.Spelling.{CommandsAreSaid}
 use Rattle.utm_cli.specs.EmittedLines.{CanStart, EmitsAreLines}
 use Rattle.utm_cli.specs.MadeReading.{made_acts, MakeReports}

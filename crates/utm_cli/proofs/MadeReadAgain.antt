@@ -8,12 +8,12 @@ use Rattle.kdcs_types.specs.Tables.{TableRows}
 use Rattle.kdcfile_load.specs.declared.fault.LoadError.{LoadError}
 use Rattle.kdcfile_load.specs.declared.fault.LoadError.TheVariants as load
 use Rattle.kdcfile_layout.specs.Layout.{IsNoImage}
-use Rattle.kdcfile_read.specs.ReadFilesLaws.{one_meaning}
+use Rattle.kdcfile_layout.specs.ReadFilesLaws.{one_meaning}
 use Rattle.kdcfile_store.specs.Paged.{Paged, HasFile}
 use Rattle.record_codec.specs.Records.{content_of_tables, AreTablesOf}
 use Rattle.record_codec.specs.TableReadings.{AreProperTables}
-use Rattle.warm_start.specs.MeaningLaws.{one_table}
-use Rattle.warm_start.specs.Stands.{StandsForTables}
+use Rattle.device_acts.specs.MeaningLaws.{one_table}
+use Rattle.device_acts.specs.Stands.{StandsForTables}
 
 pub never_rose : Rose 0 0 → ⊥
 never_rose rose = absurd (omega (arith, rose))

@@ -6,12 +6,12 @@ use Rattle.kd_base.specs.Text.{decimal_of}
 use Rattle.kd_base.specs.ToolsLaws.{both_true, some_is}
 use Rattle.kd_device.specs.declared.error.DeviceError.{DeviceError}
 use Rattle.kd_device.specs.declared.error.DeviceError.TheVariants as room
-use Rattle.kdcdef_types.specs.Statements.{IsWithin}
+use Rattle.application_types.specs.Statements.{IsWithin}
 use Rattle.application_read.specs.Texts.{TextsGenerate}
 use Rattle.abstract_monitor.specs.Made.{made_script}
 use Rattle.script_read.specs.Commands.{script_in}
 use Rattle.script_read.specs.Script.{same}
-use Rattle.warm_start.specs.Fingerprints.{fingerprint as print_of}
+use Rattle.device_acts.specs.Fingerprints.{fingerprint as print_of}
 use Rattle.refusals.specs.declared.error.Refusal.{Refusal}
 use Rattle.refusals.specs.declared.error.TextError.{TextError}
 use Rattle.refusals.specs.declared.error.TextError.TheVariants as error

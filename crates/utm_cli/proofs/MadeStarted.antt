@@ -1,14 +1,14 @@
 -- A monitor that starts from the empty tables, and the lines on its run.
 use Rattle.std.proofs.Common.{◌≡◌, ℕ, List, refl, sym, ap, subst, ◌∙◌}
 use Rattle.std.specs.Prelude.{Result, Ok, Err, IfOk}
-use Rattle.kdcdef_check.specs.Soundness.{AreLimits}
+use Rattle.application_check.specs.Soundness.{AreLimits}
 use Rattle.kdcfile_store.specs.Paged.{Paged}
 use Rattle.kdcs_types.specs.declared.act.Act.{Act}
 use Rattle.kdcs_types.specs.Tables.{TableRows, empty_tables}
-use Rattle.laws_of_steps.specs.Applications.{IsApplication}
-use Rattle.laws_of_steps.specs.Cut.{commits_in}
-use Rattle.laws_of_steps.specs.Keeping.{HasFacts, IsScriptOf}
-use Rattle.laws_of_steps.specs.Suits.{Suits}
+use Rattle.laws_of_states.specs.Applications.{IsApplication}
+use Rattle.laws_of_states.specs.Cut.{commits_in}
+use Rattle.laws_of_states.specs.Keeping.{HasFacts, IsScriptOf}
+use Rattle.laws_of_states.specs.Suits.{Suits}
 use Rattle.abstract_monitor.specs.Commands.{started, acts_of}
 use Rattle.abstract_monitor.specs.declared.command.Command.{Command}
 use Rattle.abstract_monitor.specs.Endings.{durable}
@@ -18,10 +18,10 @@ use Rattle.abstract_monitor.specs.Trace.{history, trace, tables_after, bytes_of}
 use Rattle.monitor_core.specs.CoreValue.{CoreValue}
 use Rattle.monitor_core.specs.CoreSteps.{durable_of}
 use Rattle.device_run.specs.Running.{IsRunning}
-use Rattle.warm_start.specs.Stands.{KeepsTables, identity_for}
+use Rattle.device_acts.specs.Stands.{KeepsTables, identity_for}
 use Rattle.utm_cli.specs.MadeReport.{report_with, report_by, report_of}
-use Rattle.laws_of_tables.specs.EndsLaws.{durable_same}
-use Rattle.laws_of_steps.specs.TablesStayLaws.{started_tables}
+use Rattle.laws_of_states.specs.EndsLaws.{durable_same}
+use Rattle.laws_of_states.specs.TablesStayLaws.{started_tables}
 
 -- a monitor that starts from the empty tables
 abbrev fresh : Application → CoreValue

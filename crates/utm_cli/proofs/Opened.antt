@@ -4,7 +4,7 @@ use Rattle.kd_device.specs.Device.{State, LeavesOnly}
 use Rattle.kd_device.specs.TimeLaws.{leaves_weaker, leaves_then}
 use Rattle.kd_device.specs.Rest.{Rests, Before}
 use Rattle.kd_records.specs.Identity.{Identity}
-use Rattle.warm_start.specs.Opening.{IsOpening}
+use Rattle.device_acts.specs.Opening.{IsOpening}
 
 module _ (i : Identity) (a b : State) (la lb : ℕ → List ℕ → List ℕ → Type 0) (rests : Rests a b la lb) where
   -- before the file is opened

@@ -7,9 +7,9 @@ use Rattle.kd_device.specs.Rest.{Rests}
 use Rattle.kdcs_types.specs.declared.act.Act.{Act}
 use Rattle.kdcs_types.specs.Tables.{TableRows, empty_tables}
 use Rattle.abstract_monitor.specs.Trace.{tables_after}
-use Rattle.warm_start.specs.Stands.{StandsForTables}
-use Rattle.warm_start.specs.Opening.{IsOpening, IsBeingMade}
-use Rattle.warm_start.specs.MeaningLaws.{nothing_stands, answers_exclude_each_other}
+use Rattle.device_acts.specs.Stands.{StandsForTables}
+use Rattle.device_acts.specs.Opening.{IsOpening, IsBeingMade}
+use Rattle.device_acts.specs.MeaningLaws.{nothing_stands, answers_exclude_each_other}
 use Rattle.device_acts.specs.Said.{Said, SaidPart}
 use Rattle.device_acts.specs.Acting.{IsCutOf}
 use Rattle.device_run.specs.Running.{IsCutSince}

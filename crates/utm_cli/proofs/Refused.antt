@@ -2,12 +2,12 @@
 use Rattle.std.proofs.Common.{◌≡◌, ◌⊎◌, inl, inr, ⊎_elim, ℕ, List, refl, sym, ap, subst, ◌∙◌}
 use Rattle.std.specs.Prelude.{Result, Err, IsErrAnd, IsErrOf}
 use Rattle.kd_base.specs.ToolsLaws.{err_is, error_same}
-use Rattle.kd_update.specs.declared.error.UpdateError.{UpdateError}
-use Rattle.kd_update.specs.declared.error.UpdateError.TheVariants as cause
-use Rattle.warm_start.specs.MeaningLaws.{answers_exclude_each_other}
-use Rattle.warm_start.specs.Opening.{HasOneAnswer, IsRefused, IsOfOtherTexts}
-use Rattle.warm_start.specs.declared.error.OpenError.{OpenError}
-use Rattle.warm_start.specs.declared.error.OpenError.TheVariants as opening
+use Rattle.kdcfile_update.specs.declared.kd_update.error.UpdateError.{UpdateError}
+use Rattle.kdcfile_update.specs.declared.kd_update.error.UpdateError.TheVariants as cause
+use Rattle.device_acts.specs.MeaningLaws.{answers_exclude_each_other}
+use Rattle.device_acts.specs.Opening.{HasOneAnswer, IsRefused, IsOfOtherTexts}
+use Rattle.device_acts.specs.declared.warm_start.error.OpenError.{OpenError}
+use Rattle.device_acts.specs.declared.warm_start.error.OpenError.TheVariants as opening
 use Rattle.kdcfile_update.specs.Updating.{Stored, RefusesAs, HasOneUpdate}
 use Rattle.kdcfile_update.specs.UpdatingLaws.{update_answers_exclude_each_other}
 use Rattle.kdcfile_update.specs.declared.error.CarryError.{CarryError}
@@ -18,7 +18,7 @@ use Rattle.utm_cli.specs.declared.error.CallError.{CallError}
 use Rattle.utm_cli.specs.declared.error.CallError.TheVariants.{Refused}
 use Rattle.utm_cli.specs.declared.words.Word.{Word}
 use Rattle.utm_cli.specs.declared.words.Word.TheVariants.{Gen, Run, Show, Update, Trail, Audit, Make}
-use Rattle.trail_words.specs.Auditing.{TrailsAreJudgedOnce}
+use Rattle.trail_run.specs.Auditing.{TrailsAreJudgedOnce}
 use Rattle.utm_cli.specs.Asking.{Errand}
 use Rattle.utm_cli.specs.AuditLaws.{holds_or_differs, differs_once}
 use Rattle.utm_cli.specs.Causes.{of_open, of_carry}

@@ -3,17 +3,17 @@ use Rattle.std.proofs.Common.{◌≡◌, inl, inr, true, List, [], refl, sym, ap
 use Rattle.std.specs.Prelude.{ℕ}
 use Rattle.kdcs_types.specs.RowLaws.{empty_sorted}
 use Rattle.kdcs_types.specs.Tables.{TableRows, IsSortedTables}
-use Rattle.laws_of_steps.specs.EmptyTablesLaws.{empty_suit}
-use Rattle.laws_of_steps.specs.Suits.{Suits}
+use Rattle.laws_of_states.specs.EmptyTablesLaws.{empty_suit}
+use Rattle.laws_of_states.specs.Suits.{Suits}
 use Rattle.abstract_monitor.specs.Commands.{started}
 use Rattle.laws_of_runs.specs.RunLaws.{StartsHaveFacts}
-use Rattle.laws_of_access.specs.Access.{RunsKeepAccess, LocksMakeTheRule}
-use Rattle.laws_of_jobs.specs.Lawful.{RunsAreLawful}
-use Rattle.laws_of_jobs.specs.ManyRuns.{AllRunsKeepJobs}
-use Rattle.laws_of_jobs.specs.QueueLaws.{JobsAreDoneOnce}
-use Rattle.laws_of_jobs.specs.ResumeLaws.{CutsResume}
-use Rattle.laws_of_jobs.specs.SerialCuts.{CutsAreSerial}
-use Rattle.kdcdef_check.specs.Soundness.{AreLimits}
+use Rattle.laws_of_runs.specs.Access.{RunsKeepAccess, LocksMakeTheRule}
+use Rattle.laws_of_runs.specs.Lawful.{RunsAreLawful}
+use Rattle.laws_of_runs.specs.ManyRuns.{AllRunsKeepJobs}
+use Rattle.laws_of_runs.specs.QueueLaws.{JobsAreDoneOnce}
+use Rattle.laws_of_runs.specs.ResumeLaws.{CutsResume}
+use Rattle.laws_of_runs.specs.SerialCuts.{CutsAreSerial}
+use Rattle.application_check.specs.Soundness.{AreLimits}
 use Rattle.kdcfile_update.specs.Laws.{TakenTablesSuit}
 use Rattle.kdcfile_update.specs.Updating.{Stored}
 use Rattle.audit_trail.specs.Facts.{IsTrail}
@@ -23,7 +23,7 @@ use Rattle.utm_cli.specs.Doing.{Opens, StartsBy, Starts, tables_by, tables_of}
 use Rattle.utm_cli.specs.declared.words.Word.{Word}
 use Rattle.utm_cli.specs.declared.words.Word.TheVariants.{Gen, Run, Show, Update, Trail, Audit, Make}
 use Rattle.utm_cli.specs.Promise.{RunsLawfully}
-use Rattle.laws_of_tables.specs.EndsLaws.{durable_same}
+use Rattle.laws_of_states.specs.EndsLaws.{durable_same}
 
 opened : (e : Errand) (bytes : List ℕ) (t : TableRows) → Opens e bytes t → IsSortedTables t × Suits e.application.generation t
 opened e bytes t (inl (empty, is)) = (subst IsSortedTables (sym is) empty_sorted, subst (Suits e.application.generation) (sym is) (empty_suit e.application.generation))

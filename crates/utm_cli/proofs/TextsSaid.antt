@@ -4,17 +4,17 @@ use Rattle.std.specs.Prelude.{nat_lt, IsSomeAnd, IsErrOf, IsErrAnd, IfOk, IfErr}
 use Rattle.std.proofs.lemmas.List.{take_all, length-take}
 use Rattle.std.proofs.lemmas.Bool.Decides.{nat_tests}
 use Rattle.kd_base.specs.ToolsLaws.{err_is, ok_is}
-use Rattle.laws_of_steps.specs.Suits.{Suits}
+use Rattle.laws_of_states.specs.Suits.{Suits}
 use Rattle.kd_device.specs.Room.{RoomState, text_of}
 use Rattle.kd_device.specs.declared.error.DeviceError.{DeviceError}
 use Rattle.kd_device.specs.declared.error.DeviceError.TheVariants as room
-use Rattle.kdcdef_lex.specs.declared.fault.LexFault.TheVariants as lex
-use Rattle.kdcdef_types.specs.Generation.{Generated}
+use Rattle.texts.specs.declared.kdcdef_lex.fault.LexFault.TheVariants as lex
+use Rattle.application_types.specs.Generation.{Generated}
 use Rattle.abstract_monitor.specs.declared.command.Command.{Command}
 use Rattle.application_read.specs.declared.definition_fault.DefinitionFault.{DefinitionFault}
 use Rattle.application_read.specs.declared.definition_fault.DefinitionFault.TheVariants as definition
 use Rattle.application_read.specs.Definition.{Generates, HasFault}
-use Rattle.unit_types.specs.UnitText.{UnitText}
+use Rattle.application_types.specs.UnitText.{UnitText}
 use Rattle.unit_read.specs.declared.fault.UnitFault.{UnitFault}
 use Rattle.unit_read.specs.Spelling.{SpellsUnits}
 use Rattle.unit_read.specs.Faults.{HasTextFault}
@@ -22,7 +22,7 @@ use Rattle.application_read.specs.declared.application.Application.{Application 
 use Rattle.application_read.specs.declared.fault.ApplicationFault.{ApplicationFault}
 use Rattle.application_read.specs.declared.fault.ApplicationFault.TheVariants as application
 use Rattle.application_read.specs.Texts.{TextsGenerate, TextsHaveFault, Gives}
-use Rattle.warm_start.specs.Fingerprints.{fingerprint as print_of}
+use Rattle.device_acts.specs.Fingerprints.{fingerprint as print_of}
 use Rattle.script_read.specs.declared.fault.ScriptFault.{ScriptFault}
 use Rattle.script_read.specs.declared.fault.ScriptFault.TheVariants as fault
 use Rattle.script_read.specs.Commands.{script_in}
@@ -40,7 +40,8 @@ use Rattle.utm_cli.specs.declared.words.Word.TheVariants.{Gen, Run, Show, Update
 use Rattle.refusals.specs.Causes.{of_room, of_application}
 use Rattle.utm_cli.specs.Words.{IsOfBase, audits, definition_name, units_name, script_name, trail_name}
 use Rattle.refusals.specs.Texts.{shown_of}
-use Rattle.utm_cli.specs.Asking.{IsLong, AreAlike, Reading, SaysTrail, IsOfOthers, StartsElsewhere, HasTrailFault, ThirdAsks, ThirdRefuses, AskFor, AskForTwo, AreThere, TextIs, ScriptIs, WereRead, ReadsFor, ReadsForTwo}
+use Rattle.utm_cli.specs.Asking.{IsLong, AreAlike, Reading, SaysTrail, IsOfOthers, StartsElsewhere, HasTrailFault, ThirdAsks, ThirdRefuses, AskFor, AskForTwo, AreThere, TextIs, ScriptIs, WereRead}
+use Rattle.utm_cli.specs.Asking.{ReadsFor, ReadsForTwo}
 use Rattle.std.proofs.lemmas.Option.{same_Some}
 
 -- ---- texts longer than the limit

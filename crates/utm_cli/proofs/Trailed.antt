@@ -5,7 +5,7 @@ use Rattle.kd_device.specs.Rest.{Rests}
 use Rattle.kdcs_types.specs.Tables.{TableRows}
 use Rattle.abstract_monitor.specs.declared.command.Command.{Command}
 use Rattle.device_acts.specs.Said.{Said}
-use Rattle.trail_words.specs.Trailing.{HasBytes, text_of}
+use Rattle.trail_run.specs.Trailing.{HasBytes, text_of}
 use Rattle.utm_cli.specs.Asking.{Errand, app_of}
 use Rattle.utm_cli.specs.Doing.{Opens, trail_of}
 use Rattle.utm_cli.proofs.Ran.{said_then}

@@ -5,17 +5,17 @@ use Rattle.kd_device.specs.Rest.{Rests, Before}
 use Rattle.kd_device.specs.RestLaws.{rests_then}
 use Rattle.kd_device.specs.TimeLaws.{leaves_weaker, leaves_then}
 use Rattle.kdcs_types.specs.Tables.{TableRows}
-use Rattle.kdcdef_types.specs.Generation.{Generated}
+use Rattle.application_types.specs.Generation.{Generated}
 use Rattle.abstract_monitor.specs.Trace.{bytes_of}
-use Rattle.kd_update.specs.Carrying.{carried}
-use Rattle.warm_start.specs.Stands.{StandsForTables}
+use Rattle.kdcfile_update.specs.Carrying.{carried}
+use Rattle.device_acts.specs.Stands.{StandsForTables}
 use Rattle.device_acts.specs.Acting.{commits_nothing, WritesUpTo}
 use Rattle.device_acts.specs.LinesLaws.{tables_same}
 use Rattle.device_acts.specs.Said.{SameDisk}
 use Rattle.device_run.specs.Running.{commits_most}
 use Rattle.kdcfile_update.specs.Report.{is_same_print, report_by}
 use Rattle.kdcfile_update.specs.Updating.{Stored, IsUpToDate, IsUpdated, IsUpdateCut, RefusesAs, UpdateWrites, report_of}
-use Rattle.kd_update.specs.declared.error.UpdateError.{UpdateError}
+use Rattle.kdcfile_update.specs.declared.kd_update.error.UpdateError.{UpdateError}
 use Rattle.refusals.specs.declared.error.FileRefusal.{FileRefusal}
 use Rattle.utm_cli.specs.declared.words.Word.{Word}
 use Rattle.utm_cli.specs.declared.words.Word.TheVariants.{Update}

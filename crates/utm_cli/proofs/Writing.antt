@@ -4,7 +4,7 @@ use Rattle.kd_device.specs.Device.{State}
 use Rattle.kd_device.specs.Rest.{Rests}
 use Rattle.kdcs_types.specs.declared.act.Act.{Act}
 use Rattle.kdcs_types.specs.Tables.{TableRows, empty_tables}
-use Rattle.warm_start.specs.Opening.{opening_most}
+use Rattle.device_acts.specs.Opening.{opening_most}
 use Rattle.device_acts.specs.Acting.{WritesUpTo}
 use Rattle.device_acts.specs.WritingLaws.{writes_after, writes_none}
 use Rattle.device_run.specs.Running.{commits_most}

@@ -2,18 +2,18 @@
 use Rattle.std.specs.Prelude.{◌≡◌, ◌≢◌, ◌⊎◌, ◌≤◌, ◌<◌, ◌^◌, ℕ, Bool, true, false, List, [], length, sum_by, Option, Some, None, IsSome, Result, Ok, Err}
 use Rattle.kd_base.specs.Limits.{longest_text}
 use Rattle.kd_device.specs.Room.{RoomState, text_of}
-use Rattle.unit_check.specs.Fitted.{IsFit}
-use Rattle.kdcdef_check.specs.Soundness.{AreNamed}
+use Rattle.application_check.specs.Fitted.{IsFit}
+use Rattle.application_check.specs.Soundness.{AreNamed}
 use Rattle.application_read.specs.declared.application.Application.{Application as Made}
 use Rattle.application_read.specs.Texts.{TextsGenerate, TextsHaveFault}
-use Rattle.laws_of_applications.specs.Applied.{applied}
+use Rattle.laws_of_runs.specs.Applied.{applied}
 use Rattle.abstract_monitor.specs.State.{Application as Monitored}
 use Rattle.abstract_monitor.specs.declared.command.Command.{Command}
-use Rattle.laws_of_steps.specs.Applications.{IsApplication}
-use Rattle.laws_of_steps.specs.Keeping.{IsScriptOf}
-use Rattle.laws_of_steps.specs.Suits.{Suits}
+use Rattle.laws_of_states.specs.Applications.{IsApplication}
+use Rattle.laws_of_states.specs.Keeping.{IsScriptOf}
+use Rattle.laws_of_states.specs.Suits.{Suits}
 use Rattle.script_read.specs.Commands.{script_in}
-use Rattle.warm_start.specs.Fingerprints.{fingerprint as print_of}
+use Rattle.device_acts.specs.Fingerprints.{fingerprint as print_of}
 use Rattle.monitor_core.specs.CoreSteps.{turns_of}
 use Rattle.audit_trail.specs.declared.entry.Trail.{Trail as Kept}
 use Rattle.audit_trail.specs.declared.fault.TrailFault.{TrailFault}

@@ -5,9 +5,9 @@ use Rattle.audit_trail.specs.declared.entry.Trail.{Trail as Kept}
 use Rattle.kdcfile_update.specs.Updating.{Stored}
 use Rattle.refusals.specs.declared.error.FileRefusal.{FileRefusal}
 use Rattle.refusals.specs.declared.error.FileRefusal.TheVariants as why
-use Rattle.trail_words.specs.Auditing.{IsJudged, TrailsAreJudgedOnce}
-use Rattle.trail_words.specs.declared.verdict.Verdict.{Verdict}
-use Rattle.trail_words.specs.declared.verdict.Verdict.TheVariants.{Holds, Differs}
+use Rattle.trail_run.specs.Auditing.{IsJudged, TrailsAreJudgedOnce}
+use Rattle.trail_run.specs.declared.trail_words.verdict.Verdict.{Verdict}
+use Rattle.trail_run.specs.declared.trail_words.verdict.Verdict.TheVariants.{Holds, Differs}
 use Rattle.utm_cli.specs.Asking.{Errand, app_of}
 use Rattle.utm_cli.specs.Doing.{HoldsAll, AuditRefuses, own, entry_count}
 use Rattle.utm_cli.specs.Parts.{Finds}

@@ -6,18 +6,18 @@ use Rattle.kdcs_types.specs.declared.act.Act.TheVariants.{Emit}
 use Rattle.kdcs_types.specs.Tables.{TableRows, empty_tables}
 use Rattle.abstract_monitor.specs.Listing.{listing}
 use Rattle.abstract_monitor.specs.Trace.{trace}
-use Rattle.warm_start.specs.Stands.{identity_for}
-use Rattle.warm_start.specs.Opening.{StartsFrom, IsRefused, IsOfOtherTexts}
-use Rattle.kd_update.specs.Carrying.{carried}
-use Rattle.kd_update.specs.declared.error.UpdateError.TheVariants as cause
+use Rattle.device_acts.specs.Stands.{identity_for}
+use Rattle.device_acts.specs.Opening.{StartsFrom, IsRefused, IsOfOtherTexts}
+use Rattle.kdcfile_update.specs.Carrying.{carried}
+use Rattle.kdcfile_update.specs.declared.kd_update.error.UpdateError.TheVariants as cause
 use Rattle.kdcfile_update.specs.Updating.{Stored, Takes, RefusesAs, report_of as update_report}
 use Rattle.refusals.specs.declared.error.FileRefusal.{FileRefusal}
 use Rattle.refusals.specs.declared.error.FileRefusal.TheVariants.{NotKdcfile, OtherGeneration, OtherBlksize, SmallerPool, TooManyGssbs, TooLarge, Differs}
 use Rattle.audit_trail.specs.declared.entry.Trail.{Trail as Kept}
-use Rattle.laws_of_trails.specs.InTurn.{AllHold}
-use Rattle.trail_words.specs.Auditing.{IsFirstToDiffer, verdict_line}
-use Rattle.trail_words.specs.Trailing.{text_of}
-use Rattle.trail_words.specs.declared.verdict.Verdict.TheVariants.{Holds}
+use Rattle.trail_run.specs.InTurn.{AllHold}
+use Rattle.trail_run.specs.Auditing.{IsFirstToDiffer, verdict_line}
+use Rattle.trail_run.specs.Trailing.{text_of}
+use Rattle.trail_run.specs.declared.trail_words.verdict.Verdict.TheVariants.{Holds}
 use Rattle.utm_cli.specs.MadeReport.{report_of}
 use Rattle.utm_cli.specs.declared.words.Word.{Word}
 use Rattle.utm_cli.specs.declared.words.Word.TheVariants.{Gen, Run, Show, Update, Trail, Audit, Make}

@@ -1,7 +1,7 @@
 -- What is sent in a run is lines: each Emit has one line feed, at its end, so line feeds count the Emits.
 use Rattle.std.specs.Prelude.{◌≡◌, ◌==◌, not, IsTrue, List, count_by, All}
 use Rattle.std.specs.List.{list_all}
-use Rattle.kdcdef_check.specs.Soundness.{AreNamed}
+use Rattle.application_check.specs.Soundness.{AreNamed}
 use Rattle.kdcs_types.specs.declared.act.Act.{Act}
 use Rattle.kdcs_types.specs.declared.act.Act.TheVariants.{Commit, Emit}
 use Rattle.kdcs_types.specs.Tables.{TableRows, IsSortedTables}
@@ -11,9 +11,9 @@ use Rattle.abstract_monitor.specs.Made.{is_emit}
 use Rattle.abstract_monitor.specs.State.{Application}
 use Rattle.abstract_monitor.specs.Trace.{trace, bytes_of}
 use Rattle.abstract_monitor.specs.declared.command.Command.{Command}
-use Rattle.laws_of_steps.specs.Applications.{IsApplication}
-use Rattle.laws_of_steps.specs.Keeping.{IsScriptOf}
-use Rattle.laws_of_steps.specs.Suits.{Suits}
+use Rattle.laws_of_states.specs.Applications.{IsApplication}
+use Rattle.laws_of_states.specs.Keeping.{IsScriptOf}
+use Rattle.laws_of_states.specs.Suits.{Suits}
 use Rattle.utm_cli.specs.MadeReport.{lines_in}
 
 -- no byte is a line feed

@@ -6,7 +6,7 @@ use Rattle.kd_records.specs.Identity.{Identity}
 use Rattle.kdcs_types.specs.Tables.{TableRows}
 use Rattle.kdcs_types.specs.declared.act.Act.{Act}
 use Rattle.abstract_monitor.specs.Trace.{bytes_of}
-use Rattle.laws_of_steps.specs.Cut.{SentBy}
+use Rattle.laws_of_states.specs.Cut.{SentBy}
 use Rattle.device_run.specs.Running.{IsCutSince}
 use Rattle.kdcfile_update.specs.Updating.{Stored}
 use Rattle.utm_cli.specs.declared.words.Word.{Word}

@@ -1,10 +1,10 @@
 -- What the made texts say: the made application, and its script.
 use Rattle.std.specs.Prelude.{◌≡◌, ℕ, List, Ok}
-use Rattle.kdcdef_types.specs.Statements.{IsWithin}
-use Rattle.unit_check.specs.Fitted.{FittedUnits}
+use Rattle.application_types.specs.Statements.{IsWithin}
+use Rattle.application_check.specs.Fitted.{FittedUnits}
 use Rattle.application_read.specs.declared.application.Application.{Application as Read}
 use Rattle.application_read.specs.Texts.{TextsGenerate}
-use Rattle.laws_of_applications.specs.Applied.{applied}
+use Rattle.laws_of_runs.specs.Applied.{applied}
 use Rattle.abstract_monitor.specs.Made.{made_generation, made_application, made_script}
 use Rattle.script_read.specs.Commands.{script_in}
 use Rattle.utm_cli.specs.MadeTexts.{definition_text, units_text, script_text}

@@ -5,7 +5,7 @@ use Rattle.kdcs_types.specs.declared.act.Act.{Act}
 use Rattle.kdcs_types.specs.Tables.{empty_tables}
 use Rattle.abstract_monitor.specs.Made.{made_application, made_script, made_lines}
 use Rattle.abstract_monitor.specs.Trace.{trace, tables_after, bytes_of}
-use Rattle.warm_start.specs.Fingerprints.{fingerprint as print_of}
+use Rattle.device_acts.specs.Fingerprints.{fingerprint as print_of}
 use Rattle.utm_cli.specs.declared.words.Word.TheVariants.{Make}
 use Rattle.utm_cli.specs.Asking.{Errand, app_of}
 use Rattle.utm_cli.specs.MadeApplication.{generated_application}

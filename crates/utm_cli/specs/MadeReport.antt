@@ -12,7 +12,7 @@ use Rattle.abstract_monitor.specs.Made.{number_line, total_line}
 use Rattle.abstract_monitor.specs.State.{Application}
 use Rattle.abstract_monitor.specs.Trace.{trace, tables_after, bytes_of}
 use Rattle.abstract_monitor.specs.declared.command.Command.{Command}
-use Rattle.laws_of_steps.specs.Cut.{commits_in}
+use Rattle.laws_of_states.specs.Cut.{commits_in}
 
 -- how many lines were sent: each ends in LF, and has no other
 abbrev pub lines_in : (sent : Bytes) → ℕ

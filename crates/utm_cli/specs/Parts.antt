@@ -6,14 +6,14 @@ use Rattle.kdcs_types.specs.Tables.{TableRows}
 use Rattle.abstract_monitor.specs.Listing.{listing}
 use Rattle.abstract_monitor.specs.Trace.{tables_after}
 use Rattle.kdcs_types.specs.declared.act.Act.{Act}
-use Rattle.warm_start.specs.Opening.{IsOpening, opening_most}
-use Rattle.warm_start.specs.Stands.{StandsForTables}
+use Rattle.device_acts.specs.Opening.{IsOpening, opening_most}
+use Rattle.device_acts.specs.Stands.{StandsForTables}
 use Rattle.device_acts.specs.Acting.{WithinActs, WritesUpTo}
 use Rattle.device_run.specs.Running.{commits_most}
 use Rattle.audit_trail.specs.declared.entry.Trail.{Trail as Kept}
-use Rattle.trail_words.specs.Auditing.{IsJudged}
-use Rattle.trail_words.specs.Trailing.{HasBytes}
-use Rattle.trail_words.specs.declared.verdict.Verdict.{Verdict}
+use Rattle.trail_run.specs.Auditing.{IsJudged}
+use Rattle.trail_run.specs.Trailing.{HasBytes}
+use Rattle.trail_run.specs.declared.trail_words.verdict.Verdict.{Verdict}
 use Rattle.utm_cli.specs.declared.words.Word.TheVariants.{Trail}
 use Rattle.utm_cli.specs.Asking.{Errand, app_of}
 use Rattle.kdcfile_update.specs.Updating.{Stored, IsUpdated, IsUpdateCut}

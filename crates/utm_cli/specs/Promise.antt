@@ -11,23 +11,23 @@ use Rattle.abstract_monitor.specs.declared.command.Command.{Command}
 use Rattle.abstract_monitor.specs.Commands.{started}
 use Rattle.abstract_monitor.specs.Endings.{durable}
 use Rattle.abstract_monitor.specs.Trace.{history, trace, tables_after, bytes_of}
-use Rattle.laws_of_steps.specs.EachStep.{EachStep}
-use Rattle.laws_of_jobs.specs.Lawful.{IsLawful}
-use Rattle.laws_of_jobs.specs.ManyRuns.{StoppedRun, AreRunsFrom, RunsKeepJobs}
-use Rattle.laws_of_jobs.specs.QueueLaws.{JobsAreKept}
-use Rattle.laws_of_jobs.specs.ResumeLaws.{CutResumes}
-use Rattle.laws_of_jobs.specs.SerialCuts.{IsSerialCut}
-use Rattle.laws_of_access.specs.Access.{KeepsAccess, HasNoLocks, IsWithoutRule}
-use Rattle.warm_start.specs.Opening.{opening_most}
-use Rattle.warm_start.specs.Stands.{StandsForTables}
+use Rattle.laws_of_states.specs.EachStep.{EachStep}
+use Rattle.laws_of_runs.specs.Lawful.{IsLawful}
+use Rattle.laws_of_runs.specs.ManyRuns.{StoppedRun, AreRunsFrom, RunsKeepJobs}
+use Rattle.laws_of_runs.specs.QueueLaws.{JobsAreKept}
+use Rattle.laws_of_runs.specs.ResumeLaws.{CutResumes}
+use Rattle.laws_of_runs.specs.SerialCuts.{IsSerialCut}
+use Rattle.laws_of_runs.specs.Access.{KeepsAccess, HasNoLocks, IsWithoutRule}
+use Rattle.device_acts.specs.Opening.{opening_most}
+use Rattle.device_acts.specs.Stands.{StandsForTables}
 use Rattle.device_acts.specs.Acting.{commits_nothing, WritesUpTo}
 use Rattle.device_acts.specs.Said.{SameDisk, Said, SaidPart}
 use Rattle.device_run.specs.Running.{IsCutSince, commits_most}
 use Rattle.application_read.specs.declared.application.Application.{Application as Made}
 use Rattle.application_read.specs.Texts.{TextsGenerate}
-use Rattle.laws_of_applications.specs.Applied.{applied}
-use Rattle.warm_start.specs.Fingerprints.{fingerprint as print_of}
-use Rattle.trail_words.specs.OwnAudits.{IsOwnTrail}
+use Rattle.laws_of_runs.specs.Applied.{applied}
+use Rattle.device_acts.specs.Fingerprints.{fingerprint as print_of}
+use Rattle.trail_run.specs.OwnAudits.{IsOwnTrail}
 use Rattle.refusals.specs.declared.error.Refusal.{Refusal}
 use Rattle.refusals.specs.declared.error.FileRefusal.{FileRefusal}
 use Rattle.refusals.specs.Lines.{refusal_line, file_line}

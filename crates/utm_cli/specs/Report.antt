@@ -3,8 +3,8 @@ use Rattle.std.specs.Prelude.{ℕ, List, [], ◌∷◌, ◌++◌, codes}
 use Rattle.std.specs.Fmt.{decimal}
 use Rattle.kdcs_types.specs.declared.act.Act.{Act}
 use Rattle.kdcs_types.specs.declared.act.Act.TheVariants.{Emit}
-use Rattle.kdcdef_types.specs.declared.limits.Counts.{Counts}
-use Rattle.kdcdef_types.specs.Generation.{Generated}
+use Rattle.application_types.specs.declared.kdcdef_types.limits.Counts.{Counts}
+use Rattle.application_types.specs.Generation.{Generated}
 
 -- APPLINAME
 abbrev pub name_line : List ℕ → List ℕ

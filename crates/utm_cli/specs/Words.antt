@@ -1,7 +1,7 @@
 -- What the words of a call ask for, and the line where they ask for nothing.
 use Rattle.std.specs.Prelude.{⊤, ℕ, Bool, true, false, ◌&&◌, nat_le, List, [], ◌∷◌, ◌++◌, length, codes, Option, Some, None}
 use Rattle.kd_base.specs.Text.{decimal_of}
-use Rattle.kdcdef_types.specs.Statements.{IsWithin}
+use Rattle.application_types.specs.Statements.{IsWithin}
 use Rattle.script_read.specs.Script.{same}
 use Rattle.utm_cli.specs.declared.words.Word.{Word}
 use Rattle.utm_cli.specs.declared.words.Word.TheVariants.{Gen, Run, Show, Update, Trail, Audit, Make}

@@ -3,13 +3,13 @@ ghost use Rattle.std.specs.Prelude.{◌≡◌};
 ghost use Rattle.utm_cli.specs.Causes.{of_carry, of_device, of_open};
 ghost use Rattle.utm_cli.specs.declared.error.CallError.TheVariants as errors;
 
+use device_acts::warm_start::OpenError;
 use kd_base::OutOfMemory;
 use kd_device::DeviceError;
-use kd_update::UpdateError;
 use kdcfile_update::CarryError;
+use kdcfile_update::kd_update::UpdateError;
 use refusals::FileRefusal;
 use thiserror::Error;
-use warm_start::OpenError;
 
 /// Why a call did not do what is asked for, when its texts were read.
 #[derive(Clone, Copy, Debug, Error)]

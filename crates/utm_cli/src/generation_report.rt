@@ -2,9 +2,9 @@
 ghost use Rattle.std.specs.Prelude.{◌≡◌, IfOk};
 ghost use Rattle.utm_cli.specs.Report.{name_line, counts_line, passed_line, report};
 
+use application_check::kdcdef_check::Generation;
+use application_types::kdcdef_types::Counts;
 use kd_base::{Bytes, OutOfMemory};
-use kdcdef_check::Generation;
-use kdcdef_types::Counts;
 use kdcs_types::{Act, Acts};
 use std::alloc::{AllocError, Global};
 

@@ -3,17 +3,17 @@ ghost use Rattle.std.specs.Prelude.{List, ℕ, Ok};
 ghost use Rattle.kd_device.specs.Room.{RoomState};
 ghost use Rattle.kdcfile_update.specs.Updating.{Stored};
 ghost use Rattle.kdcs_types.specs.Tables.{TableRows, IsSortedTables};
-ghost use Rattle.laws_of_steps.specs.Suits.{Suits};
+ghost use Rattle.laws_of_states.specs.Suits.{Suits};
 ghost use Rattle.utm_cli.specs.{Asking.{CanRun, Errand, TextsCanRun, TextsOfTwoCanRun, app_of}, Doing.{Starts, tables_of}, Promise.{Reads, RunsLawfully}};
 
 use application_read::generations_are_sound;
 use audit_trail::says_what_its_lines_say;
 use kdcfile_update::taken_tables_suit;
-use laws_of_access::{locks_make_the_rule, runs_keep_access};
-use laws_of_jobs::{
+use laws_of_runs::facts_hold_along_every_script;
+use laws_of_runs::laws_of_access::{locks_make_the_rule, runs_keep_access};
+use laws_of_runs::laws_of_jobs::{
     cuts_are_serial, cuts_resume, jobs_are_done_once, runs_are_lawful, runs_keep_jobs,
 };
-use laws_of_runs::facts_hold_along_every_script;
 use script_read::commands_are_said;
 
 /// Texts that ask for something make an application, with a script of its names or a trail that can be audited. It does

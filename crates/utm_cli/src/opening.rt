@@ -2,16 +2,16 @@
 ghost use Rattle.std.specs.Prelude.{◌≡◌, ◌≤◌, ◌+◌, ◌++◌, ◌∷◌, [], List, ℕ, IsTrue, IfOk, OnOk, IsErrOf};
 ghost use Rattle.kd_device.specs.{Device.{Rose, Frame, SameFaults}, Rest.{Rests}};
 ghost use Rattle.kdcfile_store.specs.{Kept.{IsKept}, Paged.{HasFile}};
-ghost use Rattle.laws_of_steps.specs.Suits.{Suits};
-ghost use Rattle.warm_start.specs.{Stands.{AreTables, KeepsTables, identity_for}, Opening.{StartsFrom, IsRefused, IsOfOtherTexts, opening_most}};
+ghost use Rattle.laws_of_states.specs.Suits.{Suits};
+ghost use Rattle.device_acts.specs.{Stands.{AreTables, KeepsTables, identity_for}, Opening.{StartsFrom, IsRefused, IsOfOtherTexts, opening_most}};
 ghost use Rattle.utm_cli.specs.{Promise.{MayAttach}, Parts.{LeavesOpening}};
 
+use application_check::kdcdef_check::Generation;
+use device_acts::warm_start::{OpenError, open_tables, read_tables};
 use kd_device::Device;
-use kdcdef_check::Generation;
 use kdcfile_store::PagedStore;
 use kdcs_types::Tables;
 use std::alloc::Global;
-use warm_start::{OpenError, open_tables, read_tables};
 
 /// Attaches the file of this name.
 pub(crate) fn attach<D: Device>(device: &mut D, name: &[u8]) -> Result<(), OpenError>

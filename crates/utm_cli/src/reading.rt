@@ -2,19 +2,21 @@
 ghost use Rattle.std.specs.Prelude.{◌≡◌, List, ℕ, IsTrue, IfOk, OnOk, IfErr, IsErrOf, IfNone, IfSome, IsSome, None, Ok, Err, ◌≢◌};
 ghost use Rattle.audit_trail.specs.Facts.{IsTrail};
 ghost use Rattle.kd_device.specs.{Device.{Rose}, Room.{SameRoom}};
-ghost use Rattle.utm_cli.specs.{Asking.{Reading, AskFor, AskForTwo, CanRun, IsErrandOf, ScriptIs, ReadsFor, ReadsForTwo, SaysTrail, HasTrailFault, ThirdAsks, ThirdRefuses, AreThere, WereRead}, Words.{IsForm, IsOfBase, audits}};
+ghost use Rattle.utm_cli.specs.Asking.{Reading, AskFor, AskForTwo, CanRun, IsErrandOf, ScriptIs, ReadsFor, ReadsForTwo, SaysTrail, HasTrailFault, ThirdAsks, ThirdRefuses, AreThere, WereRead};
+ghost use Rattle.utm_cli.specs.Words.{IsForm, IsOfBase, audits};
 ghost use Rattle.refusals.specs.{Statuses.{status_of}, Texts.{NoReadFailed, shown_of}, declared.error.Refusal.{Refusal}};
 ghost use Rattle.application_read.specs.{Texts.{TextsGenerate}, declared.application.Application.{Application as Made}};
-ghost use Rattle.warm_start.specs.Fingerprints.{fingerprint as print_of};
+ghost use Rattle.device_acts.specs.Fingerprints.{fingerprint as print_of};
 ghost use Rattle.utm_cli.specs.MadeTexts.{definition_text as made_definition, units_text as made_units, script_text as made_script};
 ghost use Rattle.utm_cli.specs.{MadeApplication.{AreMade}, declared.words.Word.TheVariants.{Make}};
-ghost use Rattle.kdcdef_types.specs.Statements.{IsWithin};
+ghost use Rattle.application_types.specs.Statements.{IsWithin};
 
 use crate::made_run::{made, made_texts_are_taken};
 use crate::words::Word;
 use abstract_monitor::Command;
 use application_read::{Application, ApplicationFault, generations_are_sound, read_application};
 use audit_trail::{Trail, TrailFault, faults_are_first, read_trail, says_what_its_lines_say};
+use device_acts::warm_start::fingerprint_of;
 use kd_base::OutOfMemory;
 use kd_device::{DeviceError, Room};
 use refusals::{Refusal, TextError, text};
@@ -22,7 +24,6 @@ use script_read::{commands_are_said, read_script};
 use std::alloc::Global;
 use std::marker::Model;
 use table_fit::suits;
-use warm_start::fingerprint_of;
 
 /// What a call asks for.
 #[derive(Drop)]

@@ -3,14 +3,17 @@ ghost use Rattle.std.specs.Prelude.{◌≡◌, ◌++◌, ◌∷◌, [], List, �
 ghost use Rattle.kd_device.specs.{Device.{Rose, Frame, SameFaults, SameNames}, Rest.{Rests}};
 ghost use Rattle.kdcfile_store.specs.{Kept.{IsKept}, Paged.{HasFile}};
 ghost use Rattle.kdcs_types.specs.Tables.{TableRows};
-ghost use Rattle.laws_of_steps.specs.Suits.{Suits};
-ghost use Rattle.kdcdef_types.specs.Statements.{IsWithin};
+ghost use Rattle.laws_of_states.specs.Suits.{Suits};
+ghost use Rattle.application_types.specs.Statements.{IsWithin};
 ghost use Rattle.abstract_monitor.specs.Listing.{listing};
-ghost use Rattle.warm_start.specs.Stands.{KeepsTables};
+ghost use Rattle.device_acts.specs.Stands.{KeepsTables};
 ghost use Rattle.kdcfile_update.specs.Updating.{Stored, UpdateWrites};
-ghost use Rattle.utm_cli.specs.{Words.{IsForm, IsOfBase, file_name}, declared.words.Word.TheVariants.{Gen, Run, Audit}, Asking.{CanRun, app_of}, Doing.{Opens, OpeningRefuses, UpdateTakes, UpdateRefuses, HoldsAll, AuditRefuses, Starts, Refuses, identity_of, own, trail_of, entry_count}, Promise.{Ran, WritesFor, SaysFront, MakesFile, MayAttach, MayHandOn, HandsOn, AttachedBy, CallFailed, LeavesFile, LeavesLines, SaysWhy}, Parts.{WithinErrand, ErrandWrites, StoreWrites, RanActs, RanOpened, RanUpdate, ShowsFront, TrailsFront, Finds, HasTrailBytes, StopsInCut, StopsInUpdate, StopsOverStore}};
+ghost use Rattle.utm_cli.specs.{Words.{IsForm, IsOfBase, file_name}, declared.words.Word.TheVariants.{Gen, Run, Audit}, Asking.{CanRun, app_of}};
+ghost use Rattle.utm_cli.specs.Doing.{Opens, OpeningRefuses, UpdateTakes, UpdateRefuses, HoldsAll, AuditRefuses, Starts, Refuses, identity_of, own, trail_of, entry_count};
+ghost use Rattle.utm_cli.specs.Promise.{Ran, WritesFor, SaysFront, MakesFile, MayAttach, MayHandOn, HandsOn, AttachedBy, CallFailed, LeavesFile, LeavesLines, SaysWhy};
+ghost use Rattle.utm_cli.specs.Parts.{WithinErrand, ErrandWrites, StoreWrites, RanActs, RanOpened, RanUpdate, ShowsFront, TrailsFront, Finds, HasTrailBytes, StopsInCut, StopsInUpdate, StopsOverStore};
 ghost use Rattle.refusals.specs.{declared.error.FileRefusal.{FileRefusal}, Lines.{file_line}, Statuses.{IsOneOf, status_of_file}};
-ghost use Rattle.trail_words.specs.{Auditing.{verdict_line}, Trailing.{HasBytes}, declared.verdict.Verdict.TheVariants.{Holds}};
+ghost use Rattle.trail_run.specs.{Auditing.{verdict_line}, Trailing.{HasBytes}, declared.trail_words.verdict.Verdict.TheVariants.{Holds}};
 ghost use Rattle.device_acts.specs.Said.{SameDisk, Said, SaidPart};
 ghost use Rattle.utm_cli.specs.MadeReport.{report_of};
 
@@ -21,6 +24,7 @@ use crate::opening::{attach, look, open};
 use crate::reading::Errand;
 use crate::words::Word;
 use application_read::Application;
+use device_acts::warm_start::OpenError;
 use device_acts::{do_acts, say};
 use device_run::run_script;
 use kd_base::OutOfMemory;
@@ -29,11 +33,12 @@ use kdcfile_store::PagedStore;
 use kdcfile_update::update;
 use kdcs_types::Tables;
 use monitor_core::Core;
-use output_lines::table_lines;
+use monitor_parts::output_lines::table_lines;
 use refusals::{FileRefusal, Status, named, refuse_file};
 use std::alloc::Global;
-use trail_words::{Verdict, audit_trail, trail_text, verdict_line, verdicts_exclude_each_other};
-use warm_start::OpenError;
+use trail_run::trail_words::{
+    Verdict, audit_trail, trail_text, verdict_line, verdicts_exclude_each_other,
+};
 
 /// The report of the generation, over an opened store.
 fn do_report<D: Device>(

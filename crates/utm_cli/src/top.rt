@@ -3,10 +3,11 @@ ghost use Rattle.std.specs.{Prelude.{◌≡◌, ◌⊎◌, ◌∷◌, [], List, 
 ghost use Rattle.kd_device.specs.{Device.{Rose, Frame, SameFaults, SameNames}, Room.{SameRoom}};
 ghost use Rattle.kdcfile_update.specs.Updating.{Stored};
 ghost use Rattle.utm_cli.specs.{Words.{usage_line}, Asking.{app_of}, Doing.{Starts, tables_of}};
-ghost use Rattle.utm_cli.specs.Promise.{Misses, Request, EndsInCut, RunsLawfully, Attaches, AsksNothing, CallFailed, Completes, ForErrand, ForFile, ForRefusal, ForStartAtRest, ForStart, ForTrail, ForOwnTrail, HasDone, LeavesCuts, LeavesFile, SaysFile, SaysPart, SaysRefusal, Writes, call};
+ghost use Rattle.utm_cli.specs.Promise.{Misses, Request, EndsInCut, RunsLawfully, Attaches, AsksNothing, CallFailed, Completes, ForErrand, ForFile, ForRefusal, ForStartAtRest, ForStart, ForTrail};
+ghost use Rattle.utm_cli.specs.Promise.{ForOwnTrail, HasDone, LeavesCuts, LeavesFile, SaysFile, SaysPart, SaysRefusal, Writes, call};
 ghost use Rattle.refusals.specs.{Lines.{refusal_line, file_line}, Statuses.{IsOneOf, status_of, status_of_file}, Texts.{NoReadFailed}};
 ghost use Rattle.device_acts.specs.Said.{Said, SaidPart};
-ghost use Rattle.trail_words.specs.Trailing.{HasBytes};
+ghost use Rattle.trail_run.specs.Trailing.{HasBytes};
 ghost use Rattle.utm_cli.specs.declared.words.Word.TheVariants.{Make};
 
 use crate::lawful::scripts_run_lawfully;
@@ -16,7 +17,7 @@ use crate::words::request_of;
 use kd_device::{Device, Room};
 use refusals::{Status, TextError, refuse, refuse_texts};
 use std::alloc::Global;
-use trail_words::{own_trails_hold, verdicts_exclude_each_other};
+use trail_run::trail_words::{own_trails_hold, verdicts_exclude_each_other};
 
 /// What is sent where the words are none of the forms.
 const USAGE: &[u8] =

@@ -1,8 +1,8 @@
 -- The status of a call over two copies.
 use Rattle.std.proofs.Common.{◌≡◌, inl, inr, ⊎_elim, ℕ, List, [], ◌∷◌, ◌++◌, take, refl, ap, ◌∙◌, arith}
 use Rattle.std.proofs.lemmas.Bool.Decides.{nat_tests}
-use Rattle.kd_twin.specs.Twin.{Both, disk_of}
-use Rattle.kd_twin.specs.declared.half.Half.{Half}
+use Rattle.kd_device.specs.Twin.{Both, disk_of}
+use Rattle.kd_device.specs.declared.half.Half.{Half}
 use Rattle.kdcfile_double.specs.Opening.{SameFiles}
 use Rattle.refusals.specs.Statuses.{IsOneOf}
 use Rattle.utm_twin.specs.Promise.{FrameTwin, MayAttachTwo, SaidTwo, SaysPartTwo}

@@ -3,9 +3,9 @@ use Rattle.std.proofs.Common.{◌≡◌, ◌∙◌, ℕ, List, ap, subst}
 use Rattle.kdcs_types.specs.Tables.{TableRows}
 use Rattle.abstract_monitor.specs.declared.command.Command.{Command}
 use Rattle.kdcfile_update.specs.Updating.{Stored}
-use Rattle.trail_words.specs.Trailing.{text_of}
-use Rattle.trail_words.specs.declared.verdict.Verdict.{Verdict}
-use Rattle.trail_words.specs.declared.verdict.Verdict.TheVariants.{Holds, Differs}
+use Rattle.trail_run.specs.Trailing.{text_of}
+use Rattle.trail_run.specs.declared.trail_words.verdict.Verdict.{Verdict}
+use Rattle.trail_run.specs.declared.trail_words.verdict.Verdict.TheVariants.{Holds, Differs}
 use Rattle.utm_cli.specs.Asking.{Errand, app_of}
 use Rattle.utm_cli.specs.AuditLaws.{holds_of}
 use Rattle.utm_cli.specs.Doing.{DiffersAt, HoldsAll, entry_count, own, trail_of}

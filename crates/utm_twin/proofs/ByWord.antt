@@ -1,15 +1,15 @@
 -- What holds of each word: of those over copies that are kept, and of those that send their lines beside both files.
 use Rattle.std.proofs.Common.{◌≡◌, ℕ, List, [], ◌∷◌, sym, subst, ◌∙◌}
-use Rattle.kd_twin.specs.Twin.{Both, disk_of}
-use Rattle.kd_twin.specs.declared.half.Half.{Half}
+use Rattle.kd_device.specs.Twin.{Both, disk_of}
+use Rattle.kd_device.specs.declared.half.Half.{Half}
 use Rattle.kdcs_types.specs.Tables.{TableRows}
 use Rattle.kdcs_types.specs.declared.act.Act.{Act}
 use Rattle.kdcs_types.specs.declared.act.Act.TheVariants.{Emit}
 use Rattle.abstract_monitor.specs.Listing.{listing}
 use Rattle.abstract_monitor.specs.Trace.{bytes_of}
 use Rattle.std.proofs.lemmas.List.{append-nil}
-use Rattle.trail_words.specs.Auditing.{verdict_line}
-use Rattle.trail_words.specs.declared.verdict.Verdict.TheVariants.{Holds}
+use Rattle.trail_run.specs.Auditing.{verdict_line}
+use Rattle.trail_run.specs.declared.trail_words.verdict.Verdict.TheVariants.{Holds}
 use Rattle.utm_cli.specs.Asking.{Errand}
 use Rattle.utm_cli.specs.Doing.{HoldsAll, entry_count, own, trail_of}
 use Rattle.utm_cli.specs.declared.words.Word.{Word}

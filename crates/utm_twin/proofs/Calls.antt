@@ -5,8 +5,8 @@ use Rattle.std.proofs.lemmas.Bool.Decides.{nat_tests}
 use Rattle.std.proofs.lemmas.Option.{same_Some}
 use Rattle.kd_device.specs.Device.{Rose}
 use Rattle.kd_device.specs.Room.{RoomState, SameRoom}
-use Rattle.kd_twin.specs.Twin.{Both, disk_of, half_leaves, half_state}
-use Rattle.kd_twin.specs.declared.half.Half.TheVariants.{First, Second}
+use Rattle.kd_device.specs.Twin.{Both, disk_of, half_leaves, half_state}
+use Rattle.kd_device.specs.declared.half.Half.TheVariants.{First, Second}
 use Rattle.kdcfile_double.specs.Opening.{SameFiles}
 use Rattle.kdcs_types.specs.Tables.{TableRows}
 use Rattle.refusals.specs.Lines.{refusal_line}
@@ -21,7 +21,8 @@ use Rattle.utm_cli.specs.declared.words.Word.TheVariants.{Gen, Run, Show, Update
 use Rattle.utm_twin.specs.declared.error.TwinRefusal.{TwinRefusal}
 use Rattle.utm_twin.specs.Doing.{KeepsTwo, RefusesTwo, StartsTwo}
 use Rattle.utm_twin.specs.Parts.{AnswersCall}
-use Rattle.utm_twin.specs.Promise.{AttachesTwoBy, CompletesTwo, EndsTwo, FailsTwo, FaultsTwo, ForTwo, FrameTwin, IsSingleCall, MayAttachTwo, ReadsTwo, SaysPartTwo, SaysWhyTwo, StopsTwo, status_of_two, twin_call, twin_line}
+use Rattle.utm_twin.specs.Promise.{AttachesTwoBy, CompletesTwo, EndsTwo, FailsTwo, FaultsTwo, ForTwo, FrameTwin, IsSingleCall, MayAttachTwo, ReadsTwo, SaysPartTwo, SaysWhyTwo, StopsTwo, status_of_two}
+use Rattle.utm_twin.specs.Promise.{twin_call, twin_line}
 use Rattle.utm_twin.specs.Single.{AsUtm, SendsRefusalTwo}
 use Rattle.utm_twin.proofs.Answered.{same_frame, same_names}
 use Rattle.utm_twin.proofs.Stays.{none_said, stays_same, stays_stops}

@@ -6,19 +6,19 @@ use Rattle.kd_base.specs.ToolsLaws.{err_is}
 use Rattle.kd_device.specs.Device.{Frame, Rose}
 use Rattle.kd_device.specs.declared.error.DeviceError.{DeviceError}
 use Rattle.kd_device.specs.declared.error.DeviceError.TheVariants as device
-use Rattle.kd_twin.specs.Twin.{Both, Disk, half_state}
-use Rattle.kd_twin.specs.declared.half.Half.{Half}
-use Rattle.kd_twin.specs.declared.half.Half.TheVariants.{First, Second}
+use Rattle.kd_device.specs.Twin.{Both, Disk, half_state}
+use Rattle.kd_device.specs.declared.half.Half.{Half}
+use Rattle.kd_device.specs.declared.half.Half.TheVariants.{First, Second}
 use Rattle.kdcs_types.specs.Tables.{TableRows}
 use Rattle.kdcfile_double.specs.Mended.{BothRest}
 use Rattle.kdcfile_double.specs.Opening.{IsRefusedTwo, IsSpent, IsTwoOfOtherTexts}
 use Rattle.kdcfile_double.specs.Twice.{IsInUse, IsOpen, RoseAt, SameFaultsAt, Twice}
 use Rattle.kdcfile_double.specs.declared.error.TwinOpenError.{TwinOpenError}
 use Rattle.kdcfile_double.specs.declared.error.TwinOpenError.TheVariants as opening
-use Rattle.kdcfile_halves.specs.Beside.{LeavesFrontBoth, SaidBoth, SameDisk}
+use Rattle.kdcfile_copies.specs.Beside.{LeavesFrontBoth, SaidBoth, SameDisk}
 use Rattle.twin_run.specs.Running.{FailsTwice, RanTwice, WithinTwice}
-use Rattle.warm_start.specs.declared.error.OpenError.{OpenError}
-use Rattle.warm_start.specs.declared.error.OpenError.TheVariants as script
+use Rattle.device_acts.specs.declared.warm_start.error.OpenError.{OpenError}
+use Rattle.device_acts.specs.declared.warm_start.error.OpenError.TheVariants as script
 use Rattle.utm_cli.specs.Asking.{Errand}
 use Rattle.utm_cli.specs.Doing.{DiffersAt}
 use Rattle.utm_cli.specs.declared.words.Word.{Word}

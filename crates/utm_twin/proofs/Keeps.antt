@@ -2,14 +2,14 @@
 use Rattle.std.proofs.Common.{◌≡◌, ◌⊎◌, inl, inr, ⊎_elim, ℕ, List, ◌++◌, Some, refl, ap, ◌∙◌, arith}
 use Rattle.std.specs.Prelude.{IsTrue}
 use Rattle.kd_records.specs.Identity.{Identity}
-use Rattle.kd_twin.specs.Twin.{Both, half_leaves}
-use Rattle.kd_twin.specs.declared.half.Half.{Half}
-use Rattle.kd_twin.specs.declared.half.Half.TheVariants.{First, Second}
+use Rattle.kd_device.specs.Twin.{Both, half_leaves}
+use Rattle.kd_device.specs.declared.half.Half.{Half}
+use Rattle.kd_device.specs.declared.half.Half.TheVariants.{First, Second}
 use Rattle.kdcs_types.specs.declared.act.Act.{Act}
 use Rattle.kdcs_types.specs.Tables.{TableRows}
 use Rattle.abstract_monitor.specs.Trace.{bytes_of}
 use Rattle.kdcfile_double.specs.Twice.{IsInUse, IsOpen, RoseAt, SameFaultsAt, Twice}
-use Rattle.kdcfile_halves.specs.Beside.{file_of}
+use Rattle.kdcfile_copies.specs.Beside.{file_of}
 use Rattle.twin_run.specs.Running.{CountsAs, FailsTwice, FrameTwice, IsCopyOfTables, IsCutTwice, RanTwice, WithinTwice, with_copies}
 use Rattle.utm_twin.specs.Opening.{LeavesOpening}
 use Rattle.utm_twin.specs.Promise.{AttachesBoth, FailsTwo, FaultsTwo, FrameTwin, IsCutOfTwo, IsStopOfRun, LeavesUnmadeTwo, RanTwo, WasBehind}

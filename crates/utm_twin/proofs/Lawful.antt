@@ -2,11 +2,11 @@
 use Rattle.std.proofs.Common.{◌≡◌, inl, inr, true, List, ℕ, sym, ap, subst}
 use Rattle.std.specs.Prelude.{Ok}
 use Rattle.kd_device.specs.Room.{RoomState}
-use Rattle.kd_twin.specs.Twin.{Both}
+use Rattle.kd_device.specs.Twin.{Both}
 use Rattle.kdcs_types.specs.RowLaws.{empty_sorted}
 use Rattle.kdcs_types.specs.Tables.{TableRows, IsSortedTables}
-use Rattle.laws_of_steps.specs.EmptyTablesLaws.{empty_suit}
-use Rattle.laws_of_steps.specs.Suits.{Suits}
+use Rattle.laws_of_states.specs.EmptyTablesLaws.{empty_suit}
+use Rattle.laws_of_states.specs.Suits.{Suits}
 use Rattle.audit_trail.specs.Facts.{IsTrail}
 use Rattle.kdcfile_update.specs.Updating.{Stored}
 use Rattle.utm_cli.specs.Asking.{Errand, CanBeAudited, CanRun, TextsOfTwoCanRun, app_of}

@@ -1,10 +1,10 @@
 -- Two files are accepted, or refused for one reason.
 use Rattle.std.proofs.Common.{◌≡◌, ◌⊎◌, inl, inr, ℕ, List, refl, sym, ap, ◌∙◌}
-use Rattle.kd_twin.specs.Twin.{Both}
+use Rattle.kd_device.specs.Twin.{Both}
 use Rattle.kdcs_types.specs.Tables.{TableRows}
 use Rattle.kdcfile_double.specs.Opening.{IsRefusedTwo, IsSpent, IsTwoOfOtherTexts}
 use Rattle.refusals.specs.declared.error.FileRefusal.TheVariants as file
-use Rattle.trail_words.specs.Auditing.{TrailsAreJudgedOnce}
+use Rattle.trail_run.specs.Auditing.{TrailsAreJudgedOnce}
 use Rattle.utm_cli.specs.Asking.{Errand}
 use Rattle.utm_cli.specs.AuditLaws.{differs_once, holds_or_differs}
 use Rattle.utm_cli.specs.Doing.{AuditRefuses, HoldsAll, own}

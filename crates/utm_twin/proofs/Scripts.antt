@@ -2,11 +2,11 @@
 use Rattle.std.proofs.Common.{◌≡◌, ◌≤◌, ◌+◌, ℕ, List, refl, sym, ap, subst, ◌∙◌, arith}
 use Rattle.std.specs.Prelude.{sum_by, ◌^◌}
 use Rattle.kd_records.specs.Identity.{Identity}
-use Rattle.kd_twin.specs.Twin.{Both}
-use Rattle.kdcdef_check.specs.Soundness.{AreLimits}
+use Rattle.kd_device.specs.Twin.{Both}
+use Rattle.application_check.specs.Soundness.{AreLimits}
 use Rattle.kdcfile_store.specs.Paged.{identity_with}
 use Rattle.kdcfile_store.specs.declared.store.StoreLimits.{StoreLimits}
-use Rattle.kdcdef_types.specs.Generation.{Generated}
+use Rattle.application_types.specs.Generation.{Generated}
 use Rattle.kdcs_types.specs.declared.act.Act.{Act}
 use Rattle.kdcs_types.specs.Tables.{TableRows}
 use Rattle.abstract_monitor.specs.State.{Application}
@@ -14,11 +14,11 @@ use Rattle.abstract_monitor.specs.declared.command.Command.{Command}
 use Rattle.abstract_monitor.specs.Commands.{started, acts_of}
 use Rattle.abstract_monitor.specs.Endings.{durable}
 use Rattle.abstract_monitor.specs.Trace.{history, trace}
-use Rattle.laws_of_steps.specs.Applications.{IsApplication}
-use Rattle.laws_of_steps.specs.Keeping.{HasFacts, IsScriptOf}
-use Rattle.laws_of_steps.specs.Suits.{Suits}
-use Rattle.laws_of_steps.specs.TablesStayLaws.{started_tables}
-use Rattle.laws_of_tables.specs.EndsLaws.{durable_same}
+use Rattle.laws_of_states.specs.Applications.{IsApplication}
+use Rattle.laws_of_states.specs.Keeping.{HasFacts, IsScriptOf}
+use Rattle.laws_of_states.specs.Suits.{Suits}
+use Rattle.laws_of_states.specs.TablesStayLaws.{started_tables}
+use Rattle.laws_of_states.specs.EndsLaws.{durable_same}
 use Rattle.monitor_core.specs.CoreSteps.{durable_of, turns_of}
 use Rattle.monitor_core.specs.CoreValue.{CoreValue}
 use Rattle.kdcfile_double.specs.Opening.{KeepsTablesTwice, identity_twice}
@@ -29,7 +29,7 @@ use Rattle.utm_cli.specs.Asking.{CanRun, Errand, app_of}
 use Rattle.utm_cli.specs.Report.{report}
 use Rattle.utm_cli.specs.declared.words.Word.{Word}
 use Rattle.utm_cli.specs.declared.words.Word.TheVariants.{Gen, Run}
-use Rattle.warm_start.specs.Stands.{limits_of}
+use Rattle.device_acts.specs.Stands.{limits_of}
 use Rattle.utm_twin.specs.Doing.{acts_two_by, acts_two, identity_of_two}
 
 -- the copies were made with the limits of the generation, with one page more

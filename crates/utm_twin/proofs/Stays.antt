@@ -1,9 +1,9 @@
 -- Files that stay as they are, and a line that is said then: what a stop leaves.
 use Rattle.std.proofs.Common.{◌≡◌, ◌⊎◌, inl, inr, ⊎_elim, ℕ, List, [], ◌++◌, take, None, refl, sym, ap, subst, ◌∙◌, arith}
 use Rattle.std.proofs.lemmas.List.{append-nil}
-use Rattle.kd_twin.specs.Twin.{Both, Disk}
-use Rattle.kd_twin.specs.declared.half.Half.{Half}
-use Rattle.kd_twin.specs.declared.half.Half.TheVariants.{First, Second}
+use Rattle.kd_device.specs.Twin.{Both, Disk}
+use Rattle.kd_device.specs.declared.half.Half.{Half}
+use Rattle.kd_device.specs.declared.half.Half.TheVariants.{First, Second}
 use Rattle.kd_records.specs.Identity.{Identity}
 use Rattle.kdcs_types.specs.declared.act.Act.{Act}
 use Rattle.kdcs_types.specs.Tables.{TableRows}
@@ -12,7 +12,7 @@ use Rattle.kdcfile_copies.specs.Copies.{IsNoCopy}
 use Rattle.kdcfile_double.specs.ChoiceLaws.{nothing_is_no_copy}
 use Rattle.kdcfile_double.specs.Mended.{BothRest}
 use Rattle.kdcfile_double.specs.Opening.{SameFiles, Unchanged}
-use Rattle.kdcfile_halves.specs.Beside.{LeavesFrontBoth, SaidBoth, SameDisk}
+use Rattle.kdcfile_copies.specs.Beside.{LeavesFrontBoth, SaidBoth, SameDisk}
 use Rattle.twin_run.specs.Running.{CountsAs, with_copies}
 use Rattle.utm_cli.specs.Asking.{Errand}
 use Rattle.utm_cli.specs.declared.words.Word.{Word}

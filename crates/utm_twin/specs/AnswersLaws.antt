@@ -2,10 +2,10 @@
 use Rattle.std.specs.Prelude.{◌≡◌, ℕ, List}
 use Rattle.std.proofs.Common.{inl, inr, arith, refl, sym, ap, subst, ◌∙◌}
 use Rattle.kd_records.specs.Identity.{Identity}
-use Rattle.kdcdef_types.specs.Generation.{Generated}
+use Rattle.application_types.specs.Generation.{Generated}
 use Rattle.kdcs_types.specs.Tables.{TableRows}
 use Rattle.record_codec.specs.Records.{content_of_tables}
-use Rattle.warm_start.specs.MeaningLaws.{one_table}
+use Rattle.device_acts.specs.MeaningLaws.{one_table}
 use Rattle.kdcfile_copies.specs.Copies.{IsChosen, IsCopyOf}
 use Rattle.kdcfile_copies.specs.CopiesLaws.{one_is_chosen}
 use Rattle.kdcfile_double.specs.ChoiceLaws.{nothing_is_no_copy}

@@ -3,9 +3,9 @@ use Rattle.std.specs.Prelude.{◌≡◌, ◌⊎◌, ℕ, List, [], ◌∷◌, Op
 use Rattle.std.proofs.Common.{inl, inr, ⊎_elim, arith, refl, sym, subst, ◌∙◌}
 use Rattle.kd_records.specs.Identity.{Identity}
 use Rattle.kd_records.specs.declared.content.Content.{Content}
-use Rattle.kd_twin.specs.Twin.{Both}
-use Rattle.kd_twin.specs.declared.half.Half.{Half}
-use Rattle.kd_twin.specs.declared.half.Half.TheVariants.{First, Second}
+use Rattle.kd_device.specs.Twin.{Both}
+use Rattle.kd_device.specs.declared.half.Half.{Half}
+use Rattle.kd_device.specs.declared.half.Half.TheVariants.{First, Second}
 use Rattle.kdcfile_copies.specs.declared.answer.LoadedCopy.{LoadedCopy}
 use Rattle.kdcfile_copies.specs.Copies.{AtMost, Below, IsCopyOf}
 use Rattle.kdcfile_copies.specs.CopiesLaws.{one_meaning_of_copies, some_none}

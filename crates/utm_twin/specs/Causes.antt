@@ -1,8 +1,8 @@
 -- How an error is handed on.
 use Rattle.kd_device.specs.declared.error.DeviceError.{DeviceError}
 use Rattle.kd_device.specs.declared.error.DeviceError.TheVariants as device
-use Rattle.warm_start.specs.declared.error.OpenError.{OpenError}
-use Rattle.warm_start.specs.declared.error.OpenError.TheVariants as opening
+use Rattle.device_acts.specs.declared.warm_start.error.OpenError.{OpenError}
+use Rattle.device_acts.specs.declared.warm_start.error.OpenError.TheVariants as opening
 use Rattle.kdcfile_double.specs.declared.error.TwinOpenError.{TwinOpenError}
 use Rattle.kdcfile_double.specs.declared.error.TwinOpenError.TheVariants as twin
 use Rattle.utm_twin.specs.declared.error.TwinRefusal.TheVariants as why

@@ -1,15 +1,15 @@
 -- What a call over two disks does, once its texts are read: which files it starts from, which it refuses, and its acts.
 use Rattle.std.specs.Prelude.{⊤, ℕ, List, [], ◌∷◌}
 use Rattle.kd_records.specs.Identity.{Identity}
-use Rattle.kd_twin.specs.Twin.{Both}
+use Rattle.kd_device.specs.Twin.{Both}
 use Rattle.kdcs_types.specs.declared.act.Act.{Act}
 use Rattle.kdcs_types.specs.declared.act.Act.TheVariants.{Emit}
 use Rattle.kdcs_types.specs.Tables.{TableRows}
 use Rattle.abstract_monitor.specs.Listing.{listing}
 use Rattle.abstract_monitor.specs.Trace.{trace}
 use Rattle.kdcfile_double.specs.Opening.{IsRefusedTwo, IsSpent, IsTwoOfOtherTexts, StartsFromTwo, identity_twice}
-use Rattle.trail_words.specs.Auditing.{verdict_line}
-use Rattle.trail_words.specs.declared.verdict.Verdict.TheVariants.{Holds}
+use Rattle.trail_run.specs.Auditing.{verdict_line}
+use Rattle.trail_run.specs.declared.trail_words.verdict.Verdict.TheVariants.{Holds}
 use Rattle.utm_cli.specs.Asking.{Errand, app_of}
 use Rattle.utm_cli.specs.Doing.{DiffersAt, HoldsAll, entry_count, own, trail_of}
 use Rattle.utm_cli.specs.Report.{report}

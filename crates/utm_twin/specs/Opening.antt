@@ -1,8 +1,8 @@
 -- What the opening of two files leaves at a stop.
 use Rattle.std.specs.Prelude.{◌≡◌, ◌⊎◌, ◌++◌, ◌∷◌, [], ℕ, List}
 use Rattle.kd_records.specs.Identity.{Identity}
-use Rattle.kd_twin.specs.Twin.{Both, disk_of}
-use Rattle.kd_twin.specs.declared.half.Half.{Half}
+use Rattle.kd_device.specs.Twin.{Both, disk_of}
+use Rattle.kd_device.specs.declared.half.Half.{Half}
 use Rattle.kdcs_types.specs.Tables.{TableRows}
 use Rattle.kdcfile_double.specs.Opening.{SameFiles, Unchanged}
 use Rattle.kdcfile_double.specs.Twice.{LeavesBoth}

@@ -2,8 +2,8 @@
 use Rattle.std.specs.Prelude.{◌≡◌, ◌∷◌, [], ℕ, IsTrue, List, Result, OnOk, IsErrOf}
 use Rattle.kd_device.specs.Device.{Rose}
 use Rattle.kd_device.specs.Room.{RoomState, SameRoom}
-use Rattle.kd_twin.specs.Twin.{Both, disk_of, half_leaves, half_state}
-use Rattle.kd_twin.specs.declared.half.Half.TheVariants.{First, Second}
+use Rattle.kd_device.specs.Twin.{Both, disk_of, half_leaves, half_state}
+use Rattle.kd_device.specs.declared.half.Half.TheVariants.{First, Second}
 use Rattle.kdcs_types.specs.Tables.{TableRows}
 use Rattle.kdcfile_double.specs.Opening.{SameFiles}
 use Rattle.refusals.specs.Lines.{refusal_line}
@@ -17,7 +17,8 @@ use Rattle.utm_twin.specs.declared.error.TwinCallError.TheVariants.{Refused, Fai
 use Rattle.utm_twin.specs.declared.error.TwinRefusal.{TwinRefusal}
 use Rattle.utm_twin.specs.Doing.{AuditRefusesTwo, KeepsTwo, RefusesTwo, StartsTwo}
 use Rattle.utm_twin.specs.Opening.{StaysAsItIs}
-use Rattle.utm_twin.specs.Promise.{AttachesTwoBy, CompletesTwo, EndsTwo, FailsTwo, FaultsTwo, ForTwo, ForTwoErrand, ForTwoRefusal, FrameTwin, IsSingleCall, MayAttachTwo, SaysPartTwo, SaysWhyTwo, StopsTwo, status_of_two, twin_call, twin_line}
+use Rattle.utm_twin.specs.Promise.{AttachesTwoBy, CompletesTwo, EndsTwo, FailsTwo, FaultsTwo, ForTwo, ForTwoErrand, ForTwoRefusal, FrameTwin, IsSingleCall, MayAttachTwo, SaysPartTwo, SaysWhyTwo}
+use Rattle.utm_twin.specs.Promise.{StopsTwo, status_of_two, twin_call, twin_line}
 use Rattle.utm_twin.specs.Single.{AsUtm}
 
 -- what an errand over the two files of a BASE did, and what it answered

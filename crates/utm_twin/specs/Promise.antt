@@ -4,15 +4,15 @@ use Rattle.kd_device.specs.Device.{Rose}
 use Rattle.kd_device.specs.Room.{RoomState}
 use Rattle.kd_records.specs.declared.content.Content.{Content}
 use Rattle.kd_records.specs.Identity.{Identity}
-use Rattle.kd_twin.specs.Twin.{Both, disk_of}
-use Rattle.kd_twin.specs.declared.half.Half.{Half}
-use Rattle.kd_twin.specs.declared.half.Half.TheVariants.{First, Second}
+use Rattle.kd_device.specs.Twin.{Both, disk_of}
+use Rattle.kd_device.specs.declared.half.Half.{Half}
+use Rattle.kd_device.specs.declared.half.Half.TheVariants.{First, Second}
 use Rattle.kdcs_types.specs.declared.act.Act.{Act}
 use Rattle.kdcs_types.specs.Tables.{TableRows}
 use Rattle.abstract_monitor.specs.Trace.{bytes_of, tables_after}
-use Rattle.laws_of_steps.specs.Cut.{SentBy}
+use Rattle.laws_of_states.specs.Cut.{SentBy}
 use Rattle.kdcfile_copies.specs.Copies.{AtMost, Below, IsCopyOf, IsNoCopy}
-use Rattle.kdcfile_halves.specs.Beside.{file_of}
+use Rattle.kdcfile_copies.specs.Beside.{file_of}
 use Rattle.kdcfile_double.specs.Mended.{BothRest}
 use Rattle.kdcfile_double.specs.Opening.{AreEmpty, SameFiles}
 use Rattle.kdcfile_double.specs.Twice.{RoseAt}

@@ -2,17 +2,18 @@
 use Rattle.std.specs.Prelude.{◌≡◌, ◌⊎◌, ℕ, IsTrue, List, [], ◌∷◌}
 use Rattle.kd_device.specs.Device.{State, Rose, Frame, SameFaults, SameNames}
 use Rattle.kd_device.specs.Room.{RoomState, SameRoom}
-use Rattle.kd_twin.specs.Twin.{Both, disk_of, half_state}
-use Rattle.kd_twin.specs.declared.half.Half.{Half}
+use Rattle.kd_device.specs.Twin.{Both, disk_of, half_state}
+use Rattle.kd_device.specs.declared.half.Half.{Half}
 use Rattle.device_acts.specs.Said.{Said, SaidPart}
 use Rattle.kdcfile_update.specs.Updating.{Stored}
 use Rattle.refusals.specs.Lines.{refusal_line, file_line}
 use Rattle.refusals.specs.Statuses.{IsOneOf, status_of, status_of_file}
 use Rattle.refusals.specs.Texts.{NoReadFailed}
-use Rattle.trail_words.specs.Trailing.{HasBytes}
+use Rattle.trail_run.specs.Trailing.{HasBytes}
 use Rattle.utm_cli.specs.Asking.{app_of}
 use Rattle.utm_cli.specs.Doing.{Starts, tables_of}
-use Rattle.utm_cli.specs.Promise.{Misses, Request, EndsInCut, RunsLawfully, Attaches, AsksNothing, CallFailed, Completes, ForErrand, ForFile, ForRefusal, ForStartAtRest, ForStart, ForTrail, ForOwnTrail, HasDone, LeavesCuts, LeavesFile, SaysFile, SaysPart, SaysRefusal, Writes, call}
+use Rattle.utm_cli.specs.Promise.{Misses, Request, EndsInCut, RunsLawfully, Attaches, AsksNothing, CallFailed, Completes, ForErrand, ForFile, ForRefusal, ForStartAtRest, ForStart, ForTrail}
+use Rattle.utm_cli.specs.Promise.{ForOwnTrail, HasDone, LeavesCuts, LeavesFile, SaysFile, SaysPart, SaysRefusal, Writes, call}
 use Rattle.utm_cli.specs.Words.{usage_line}
 use Rattle.utm_cli.specs.declared.words.Word.TheVariants.{Make}
 use Rattle.utm_twin.specs.Promise.{FrameTwin, SaidTwo, SaysPartTwo, status_of_two, twin_line}

@@ -6,8 +6,8 @@ use Rattle.std.proofs.lemmas.List.{append-nil}
 use Rattle.std.proofs.lemmas.Option.{same_Some}
 use Rattle.kd_device.specs.Device.{State, Rose, Frame, Only}
 use Rattle.kd_device.specs.Room.{RoomState, SameRoom}
-use Rattle.kd_twin.specs.Twin.{Both, half_leaves, half_state}
-use Rattle.kd_twin.specs.declared.half.Half.TheVariants.{First}
+use Rattle.kd_device.specs.Twin.{Both, half_leaves, half_state}
+use Rattle.kd_device.specs.declared.half.Half.TheVariants.{First}
 use Rattle.device_acts.specs.Said.{Said, SaidPart}
 use Rattle.kdcfile_update.specs.Updating.{Stored}
 use Rattle.refusals.specs.Lines.{refusal_line, file_line}

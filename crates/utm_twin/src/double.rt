@@ -1,30 +1,31 @@
 //! What a call does over two copies of its KDCFILE.
 ghost use Rattle.std.specs.Prelude.{◌≡◌, ◌∷◌, [], IsSome, IsTrue, OnOk, IsErrOf, List, ℕ};
 ghost use Rattle.kdcs_types.specs.Tables.{TableRows};
-ghost use Rattle.laws_of_steps.specs.Suits.{Suits};
+ghost use Rattle.laws_of_states.specs.Suits.{Suits};
 ghost use Rattle.kdcfile_double.specs.{Opening.{KeepsTablesTwice, SameFiles}, Twice.{IsKeptTwice, IsOpen, identity_of}};
 ghost use Rattle.refusals.specs.Statuses.{IsOneOf};
 ghost use Rattle.twin_run.specs.Running.{FailsTwice, RanTwice, WithinTwice};
 ghost use Rattle.utm_cli.specs.{Asking.{CanRun}, Words.{IsOfBase}, declared.words.Word.TheVariants.{Audit, Gen, Run, Show, Trail, Update}};
-ghost use Rattle.utm_twin.specs.{declared.error.TwinRefusal.{TwinRefusal}, Doing.{AuditRefusesTwo, KeepsTwo, RefusesTwo, StartsTwo, acts_two, identity_of_two}, Promise.{AttachesTwoBy, EndsTwo, FailsTwo, FaultsTwo, FrameTwin, MayAttachTwo, SaysPartTwo, SaysWhyTwo, StopsTwo, status_of_two, twin_line}, Opening.{StaysAsItIs}, Parts.{DoesTwo}};
+ghost use Rattle.utm_twin.specs.{declared.error.TwinRefusal.{TwinRefusal}, Doing.{AuditRefusesTwo, KeepsTwo, RefusesTwo, StartsTwo, acts_two, identity_of_two}};
+ghost use Rattle.utm_twin.specs.{Promise.{AttachesTwoBy, EndsTwo, FailsTwo, FaultsTwo, FrameTwin, MayAttachTwo, SaysPartTwo, SaysWhyTwo, StopsTwo, status_of_two, twin_line}, Opening.{StaysAsItIs}};
+ghost use Rattle.utm_twin.specs.Parts.{DoesTwo};
 
 use crate::error::{TwinCallError, TwinRefusal};
 use crate::opening::{look_at_copies, open_copies};
 use crate::single::refuse_twin;
 use application_read::Application;
-use kd_device::DeviceError;
-use kd_twin::Twin;
+use device_acts::warm_start::{OpenError, limits_of};
+use kd_device::{DeviceError, Twin};
+use kdcfile_copies::kdcfile_halves::say_both;
 use kdcfile_double::TwinStore;
-use kdcfile_halves::say_both;
 use kdcs_types::Tables;
 use monitor_core::Core;
-use output_lines::table_lines;
+use monitor_parts::output_lines::table_lines;
 use refusals::Status;
 use std::alloc::Global;
-use trail_words::{Verdict, trail_text, verdict_line, verdicts_exclude_each_other};
+use trail_run::trail_words::{Verdict, trail_text, verdict_line, verdicts_exclude_each_other};
 use twin_run::{run_twice, send_twice};
 use utm_cli::{Errand, Word, report, verdict_of};
-use warm_start::{OpenError, limits_of};
 
 /// The report of the generation, over copies that were opened.
 fn report_copies<T: Twin>(

@@ -3,11 +3,11 @@ ghost use Rattle.std.specs.Prelude.{◌≡◌};
 ghost use Rattle.utm_twin.specs.Causes.{of_device, of_open, of_twin};
 ghost use Rattle.utm_twin.specs.declared.error.TwinCallError.TheVariants as errors;
 
+use device_acts::warm_start::OpenError;
 use kd_base::OutOfMemory;
 use kd_device::DeviceError;
 use kdcfile_double::TwinOpenError;
 use thiserror::Error;
-use warm_start::OpenError;
 
 /// Why a call does nothing with its two files, or finds that its trail does not hold.
 #[derive(Debug, Clone, Copy, PartialEq, Eq)]

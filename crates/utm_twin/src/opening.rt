@@ -1,15 +1,15 @@
 //! The two files of a BASE are attached and opened.
 ghost use Rattle.std.specs.Prelude.{◌≡◌, ◌⊎◌, ◌++◌, IsSome, IsTrue, IfOk, OnOk, IsErrOf, List, ℕ, Some};
-ghost use Rattle.kd_twin.specs.{declared.half.Half.{Half as Side}, declared.half.Half.TheVariants.{First, Second}, Twin.{disk_of, other}};
+ghost use Rattle.kd_device.specs.{declared.half.Half.{Half as Side}, declared.half.Half.TheVariants.{First, Second}, Twin.{disk_of, other}};
 ghost use Rattle.kdcs_types.specs.Tables.{TableRows};
-ghost use Rattle.laws_of_steps.specs.Suits.{Suits};
-ghost use Rattle.warm_start.specs.Stands.{AreTables};
-ghost use Rattle.kdcfile_double.specs.{Twice.{IsInUse, IsKeptTwice, IsOpen, NoneRose, RoseAt, SameFaultsAt}, Mended.{BothRest}, MakingLaws.{RestsBoth}, Opening.{IsRefusedTwo, IsSpent, IsTwoOfOtherTexts, KeepsTablesTwice, StartsFromTwo, identity_twice}};
+ghost use Rattle.laws_of_states.specs.Suits.{Suits};
+ghost use Rattle.device_acts.specs.Stands.{AreTables};
+ghost use Rattle.kdcfile_double.specs.{Twice.{IsInUse, IsKeptTwice, IsOpen, NoneRose, RoseAt, SameFaultsAt}, Mended.{BothRest}, MakingLaws.{RestsBoth}};
+ghost use Rattle.kdcfile_double.specs.Opening.{IsRefusedTwo, IsSpent, IsTwoOfOtherTexts, KeepsTablesTwice, StartsFromTwo, identity_twice};
 ghost use Rattle.utm_twin.specs.{Promise.{AttachesBoth, FrameTwin, MayAttachTwo, WasBehind}, Opening.{AttachesHalf, LeavesOpening, MayAttachHalf, StaysAsItIs}};
 
-use kd_device::DeviceError;
-use kd_twin::{Half, Twin};
-use kdcdef_check::Generation;
+use application_check::kdcdef_check::Generation;
+use kd_device::{DeviceError, Half, Twin};
 use kdcfile_double::{TwinOpenError, TwinStore};
 use kdcs_types::Tables;
 use refusals::named;

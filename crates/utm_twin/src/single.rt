@@ -1,13 +1,12 @@
 //! A call over one file: what `utm` does, over the first disk. And the line of a refusal, beside both files.
 ghost use Rattle.std.specs.{Prelude.{◌≡◌, ◌∷◌, [], IsTrue, map}, String.{string_bytes}};
 ghost use Rattle.kd_device.specs.{Device.{Rose, SameFaults}, Room.{SameRoom}};
-ghost use Rattle.kd_twin.specs.{Apart.{IsSince}, Twin.{disk_of, half_leaves, half_state}, declared.half.Half.{Half as Side}, declared.half.Half.TheVariants.{First, Second}};
+ghost use Rattle.kd_device.specs.{Apart.{IsSince}, Twin.{disk_of, half_leaves, half_state}, declared.half.Half.{Half as Side}, declared.half.Half.TheVariants.{First, Second}};
 ghost use Rattle.refusals.specs.{Lines.{refusal_line}, Statuses.{IsOneOf, status_of}};
 ghost use Rattle.utm_twin.specs.{Promise.{FrameTwin, SaidTwo, SaysPartTwo, status_of_two, twin_line}, Single.{AsUtm, SendsRefusal, SendsRefusalTwo, line_for, status_for}};
 
 use crate::error::TwinRefusal;
-use kd_device::{Device, Room};
-use kd_twin::{Half, HalfDevice, Origin, Twin};
+use kd_device::{Device, Half, HalfDevice, Origin, Room, Twin};
 use refusals::{FileRefusal, Refusal, Status, refuse, refuse_file, refuse_texts};
 use std::alloc::Global;
 use std::marker::Brand;

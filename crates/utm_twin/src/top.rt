@@ -1,18 +1,20 @@
 //! The top call over two disks: what the words ask for is done over one file or two, and answered as a status.
 ghost use Rattle.std.specs.{Prelude.{◌≡◌, ◌⊎◌, ◌∷◌, [], List, ℕ, IsTrue, map}, String.{string_bytes}};
 ghost use Rattle.kd_device.specs.{Device.{Rose}, Room.{SameRoom}};
-ghost use Rattle.kd_twin.specs.{Twin.{Both, disk_of, half_leaves, half_state}, declared.half.Half.TheVariants.{First, Second}};
+ghost use Rattle.kd_device.specs.{Twin.{Both, disk_of, half_leaves, half_state}, declared.half.Half.TheVariants.{First, Second}};
 ghost use Rattle.kdcs_types.specs.Tables.{TableRows};
 ghost use Rattle.kdcfile_double.specs.Opening.{SameFiles};
 ghost use Rattle.refusals.specs.{Lines.{refusal_line}, Statuses.{IsOneOf, status_of}, Texts.{NoReadFailed}};
-ghost use Rattle.utm_twin.specs.{declared.error.TwinRefusal.{TwinRefusal}, Doing.{KeepsTwo, RefusesTwo, StartsTwo}, Promise.{AttachesTwoBy, CompletesTwo, EndsTwo, FailsTwo, FaultsTwo, ForTwo, ForTwoErrand, ForTwoRefusal, FrameTwin, IsSingleCall, MayAttachTwo, SaysPartTwo, SaysWhyTwo, StopsTwo, status_of_two, twin_call, twin_line}, Parts.{AnswersCall}, Single.{AsUtm}};
+ghost use Rattle.utm_twin.specs.{declared.error.TwinRefusal.{TwinRefusal}, Doing.{KeepsTwo, RefusesTwo, StartsTwo}};
+ghost use Rattle.utm_twin.specs.Promise.{AttachesTwoBy, CompletesTwo, EndsTwo, FailsTwo, FaultsTwo, ForTwo, ForTwoErrand, ForTwoRefusal, FrameTwin, IsSingleCall, MayAttachTwo, SaysPartTwo};
+ghost use Rattle.utm_twin.specs.Promise.{SaysWhyTwo, StopsTwo, status_of_two, twin_call, twin_line};
+ghost use Rattle.utm_twin.specs.{Parts.{AnswersCall}, Single.{AsUtm}};
 ghost use Rattle.utm_cli.specs.{Asking.{app_of}, Promise.{Request, RunsLawfully}};
 
 use crate::double::double;
 use crate::kept_room::{KeptRoom, Lender, LentRoom};
 use crate::single::{refuse_text, single};
-use kd_device::Room;
-use kd_twin::Twin;
+use kd_device::{Room, Twin};
 use refusals::{Status, TextError};
 use std::alloc::Global;
 use std::marker::Brand;

@@ -7,7 +7,7 @@ use Rattle.kd_device.specs.TimeLaws.{leaves_weaker, leaves_then, quiet_leaves}
 use Rattle.kd_records.specs.declared.content.Content.{Content}
 use Rattle.kd_records.specs.Identity.{Identity, IsIdentity}
 use Rattle.kd_records.specs.Contents.{IsContent}
-use Rattle.kdcfile_images.specs.FreshLaws.{zeros_at}
+use Rattle.kdcfile_layout.specs.FreshLaws.{zeros_at}
 use Rattle.whole_store.specs.File.{Stands, IsNoImage, spelled, root, head, mark, image_size}
 use Rattle.kdcfile_layout.specs.Layout.{zeros, fresh}
 use Rattle.kdcfile_layout.specs.PagesLaws.{length_zeros}

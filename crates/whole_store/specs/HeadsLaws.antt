@@ -8,7 +8,7 @@ use Rattle.std.proofs.lemmas.Option.{same_Some}
 use Rattle.std.proofs.lemmas.List.{take-take, take_at, drop_at, take-append-drop, get_or-take, length-take, length-drop}
 use Rattle.kd_records.specs.declared.content.Content.{Content}
 use Rattle.kd_records.specs.Identity.{Identity, IsIdentity}
-use Rattle.kdcfile_read.specs.ReadHeadsLaws.{selected_so, so_selected}
+use Rattle.kdcfile_layout.specs.ReadHeadsLaws.{selected_so, so_selected}
 use Rattle.whole_store.specs.declared.head.Head.{Head}
 use Rattle.whole_store.specs.File.{Stands, head, place, spelled}
 use Rattle.kdcfile_layout.specs.Layout.{selector}

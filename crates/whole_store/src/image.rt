@@ -18,11 +18,23 @@ pub struct Root {
 }
 
 /// The selected image of a file, whose sizes are those that a file may have.
-#[derive(Drop)]
 pub struct Image {
     blksize: u32,
     root: Root,
     second: bool,
+}
+
+impl Drop for Image {
+    fn drop(self) {
+        let Image {
+            blksize,
+            root,
+            second,
+        } = self;
+        let _ = blksize;
+        let _ = root;
+        let _ = second;
+    }
 }
 
 impl Model for Image {

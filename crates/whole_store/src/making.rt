@@ -6,7 +6,7 @@ ghost use Rattle.kd_records.specs.Identity.{Identity, IsIdentity};
 ghost use Rattle.whole_store.specs.File.{Stands, mark, image_size};
 ghost use Rattle.kdcfile_layout.specs.Layout.{fresh, zeros};
 ghost use Rattle.whole_store.specs.Commit.{spelled_root};
-ghost use Rattle.kdcfile_images.specs.Fresh.{made_with};
+ghost use Rattle.kdcfile_layout.specs.Fresh.{made_with};
 ghost use Rattle.whole_store.specs.Fresh.{in_image, fresh_rest, fresh_file, fresh_root, LeavesMade, two_images};
 
 use crate::image::{Image, Root};

@@ -28,10 +28,17 @@ use std::alloc::Global;
 use std::marker::Model;
 
 /// A content in a file of two whole images.
-#[derive(Drop)]
 pub struct WholeStore {
     image: Image,
     content: Content,
+}
+
+impl Drop for WholeStore {
+    fn drop(self) {
+        let WholeStore { image, content } = self;
+        let _ = image;
+        let _ = content;
+    }
 }
 
 impl Model for WholeStore {

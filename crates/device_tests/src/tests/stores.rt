@@ -6,10 +6,10 @@ ghost use Rattle.kd_records.specs.{Charge.{IsBlockSize, total_charge}, Contents.
 ghost use Rattle.kdcfile_store.specs.Kept.{IsKept};
 
 use kd_base::Bytes;
+use kd_base::sorted_pairs::SortedPairs;
 use kd_device::MemDevice;
 use kd_records::{Content, Patch, PatchItems, RecordKey, Records, charge};
 use kdcfile_store::{PagedStore, Store, StoreLimits};
-use sorted_pairs::SortedPairs;
 use std::alloc::Global;
 use std::process::Abort;
 use std::test::Fail;

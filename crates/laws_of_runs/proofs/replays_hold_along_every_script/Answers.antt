@@ -1,4 +1,4 @@
-use Rattle.laws_of_places.specs.AlongLaws.{holds_along}
+use Rattle.laws_of_states.specs.AlongLaws.{holds_along}
 use Rattle.laws_of_runs.specs.SerialLaws.{HasReplays}
 use Rattle.laws_of_runs.proofs.Along.{replays_are_records, steps_keep}
 use Rattle.laws_of_runs.proofs.replays_hold_along_every_script.Goals as goal

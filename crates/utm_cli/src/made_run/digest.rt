@@ -5,7 +5,7 @@ ghost use Rattle.utm_cli.specs.MadeReport.{digested};
 
 use kd_base::OutOfMemory;
 use kdcs_types::Tables;
-use output_lines::table_lines;
+use monitor_parts::output_lines::table_lines;
 use sha2::{Digest, Sha256};
 use std::alloc::Global;
 

@@ -1,6 +1,6 @@
 //! The texts of the made input.
 ghost use Rattle.std.specs.Prelude.{◌≡◌, ◌++◌, ◌%◌, ◌==◌, ◌||◌, [], cond, flat_map, IfOk, OnOk};
-ghost use Rattle.kdcdef_types.specs.Statements.{IsWithin};
+ghost use Rattle.application_types.specs.Statements.{IsWithin};
 ghost use Rattle.abstract_monitor.specs.Made.{made_round};
 ghost use Rattle.utm_cli.specs.MadeTexts.{command_line, input_line, definition_text, units_text, script_text};
 

@@ -1,10 +1,10 @@
 //! Laws on the definitions of the made input and its report. The functions do nothing.
 ghost use Rattle.utm_cli.specs.{EmittedLines.{EmitsAreLines}, MadeApplication.{MadeTextsAreTaken}, MadeExamples.{ScriptRows}, MadeReading.{MakeIsRead, MakeReports}};
 
-use kdcdef_lex::read_statements_are_spelled;
-use laws_of_places::{facts_hold_along, states_stay_consistent};
-use laws_of_tables::{states_stay_sound, the_made_application_is_taken};
+use laws_of_states::laws_of_places::{facts_hold_along, states_stay_consistent};
+use laws_of_states::laws_of_tables::{states_stay_sound, the_made_application_is_taken};
 use script_read::commands_are_said;
+use texts::kdcdef_lex::read_statements_are_spelled;
 use unit_read::read_units_are_spelled;
 
 /// Scripts for a few inputs, and rounds at a hundredth one.

@@ -3,29 +3,29 @@ ghost use Rattle.std.specs.Prelude.{◌≡◌, ◌≤◌, ◌+◌, ◌^◌, [], 
 ghost use Rattle.kd_device.specs.Sure.{sure_state, sure_leaves};
 ghost use Rattle.kdcfile_store.specs.{Kept.{IsKept}, Paged.{HasFile}};
 ghost use Rattle.kdcs_types.specs.Tables.{empty_tables};
-ghost use Rattle.unit_check.specs.Fitted.{IsFit};
-ghost use Rattle.laws_of_applications.specs.Applied.{applied};
-ghost use Rattle.laws_of_steps.specs.{Keeping.{IsScriptOf}, Suits.{Suits}};
+ghost use Rattle.application_check.specs.Fitted.{IsFit};
+ghost use Rattle.laws_of_runs.specs.Applied.{applied};
+ghost use Rattle.laws_of_states.specs.{Keeping.{IsScriptOf}, Suits.{Suits}};
 ghost use Rattle.abstract_monitor.specs.{Commands.{acts_of}, Trace.{history}};
-ghost use Rattle.warm_start.specs.declared.error.OpenError.TheVariants as errors;
+ghost use Rattle.device_acts.specs.declared.warm_start.error.OpenError.TheVariants as errors;
 ghost use Rattle.monitor_core.specs.CoreSteps.{durable_of, turns_of};
 ghost use Rattle.device_run.specs.Running.{IsRunning};
-ghost use Rattle.warm_start.specs.Stands.{KeepsTables, identity_for};
+ghost use Rattle.device_acts.specs.Stands.{KeepsTables, identity_for};
 ghost use Rattle.utm_cli.specs.MadeReport.{report_by, report_of};
 
 use crate::made_run::lines::report;
 use crate::made_run::stored::stored_tables;
 use abstract_monitor::Command;
+use application_check::kdcdef_check::Generation;
+use application_check::unit_check::Units;
+use device_acts::warm_start::{OpenError, open_tables};
 use device_run::run_script;
 use kd_base::{Bytes, OutOfMemory};
 use kd_device::SureDevice;
-use kdcdef_check::Generation;
 use kdcfile_store::PagedStore;
 use kdcs_types::Tables;
 use monitor_core::Core;
 use std::alloc::Global;
-use unit_check::Units;
-use warm_start::{OpenError, open_tables};
 
 // The one error over a device of its own, which tells its content and never fails.
 fn want_of_memory(error: OpenError) -> OutOfMemory

@@ -4,7 +4,7 @@ ghost use Rattle.kd_device.specs.Sure.{sure_state};
 ghost use Rattle.kd_records.specs.Identity.{Identity};
 ghost use Rattle.kdcfile_load.specs.declared.fault.LoadError.TheVariants as errors;
 ghost use Rattle.kdcs_types.specs.Tables.{TableRows};
-ghost use Rattle.warm_start.specs.Stands.{StandsForTables};
+ghost use Rattle.device_acts.specs.Stands.{StandsForTables};
 
 use kd_base::OutOfMemory;
 use kd_device::SureDevice;

@@ -2,9 +2,9 @@
 use Rattle.std.specs.Prelude.{◌≡◌, ℕ, List, [], IsTrue}
 use Rattle.std.proofs.Common.{inl, inr, ⊎_elim, arith, ap, ◌∙◌}
 use Rattle.kd_device.specs.Device.{Frame, Quiet}
-use Rattle.kd_twin.specs.Twin.{Both, Disk, disk_of, half_state, other, slice}
-use Rattle.kd_twin.specs.declared.half.Half.{Half}
-use Rattle.kd_twin.specs.declared.half.Half.TheVariants.{First, Second}
+use Rattle.kd_device.specs.Twin.{Both, Disk, disk_of, half_state, other, slice}
+use Rattle.kd_device.specs.declared.half.Half.{Half}
+use Rattle.kd_device.specs.declared.half.Half.TheVariants.{First, Second}
 use Rattle.kdcfile_double.specs.MakingLaws.{RestsBoth}
 use Rattle.kdcfile_double.specs.Twice.{FrameBoth, NoneRose}
 use Rattle.utm_twin.specs.Promise.{AttachesBoth, FrameTwin, MayAttachTwo}

@@ -1,19 +1,24 @@
 -- Two files are opened: which tables a stop leaves of them, and on which halves a call failed.
-use Rattle.std.specs.Prelude.{◌≡◌, ◌⊎◌, ℕ, List, []}
-use Rattle.std.proofs.Common.{inl, inr, ⊎_elim, arith, refl, sym, subst, ◌∙◌}
+use Rattle.std.specs.Prelude.{◌≡◌, ◌⊎◌, ℕ, List, [], IsErrAnd, IsErrOf}
+use Rattle.std.proofs.Common.{inl, inr, ⊎_elim, arith, refl, sym, subst, ◌∙◌, Result, Ok, Err}
+use Rattle.kd_device.specs.declared.error.DeviceError.{DeviceError}
+use Rattle.kd_device.specs.declared.error.DeviceError.TheVariants as device
 use Rattle.kd_records.specs.Identity.{Identity}
 use Rattle.kd_records.specs.declared.content.Content.{Content}
-use Rattle.kd_twin.specs.Twin.{Both}
-use Rattle.kd_twin.specs.declared.half.Half.{Half}
-use Rattle.kd_twin.specs.declared.half.Half.TheVariants.{First, Second}
-use Rattle.kdcdef_types.specs.Generation.{Generated}
+use Rattle.kd_device.specs.Twin.{Both}
+use Rattle.kd_device.specs.declared.half.Half.{Half}
+use Rattle.kd_device.specs.declared.half.Half.TheVariants.{First, Second}
+use Rattle.application_types.specs.Generation.{Generated}
 use Rattle.kdcs_types.specs.Tables.{TableRows, empty_tables}
 use Rattle.kdcfile_copies.specs.Copies.{IsChosen, IsNoCopy}
-use Rattle.kdcfile_halves.specs.BesideLaws.{pairs_then, pairs_weaker}
+use Rattle.kdcfile_copies.specs.BesideLaws.{pairs_then, pairs_weaker}
+use Rattle.kdcfile_double.specs.Causes.{of_device}
 use Rattle.kdcfile_double.specs.ChoiceLaws.{nothing_is_no_copy}
 use Rattle.kdcfile_double.specs.MakingLaws.{RestsBoth, empty_are_tables, rose_then}
 use Rattle.kdcfile_double.specs.Mended.{BothRest, IsMendingOne}
 use Rattle.kdcfile_double.specs.Opening.{AreEmpty, AreInUseSo, IsChosenTables, IsMakingTwo, KeepsTablesTwice, SameFiles, StartsFromTwo, Unchanged, identity_twice}
+use Rattle.kdcfile_double.specs.declared.error.TwinOpenError.{TwinOpenError}
+use Rattle.kdcfile_double.specs.declared.error.TwinOpenError.TheVariants as to
 use Rattle.kdcfile_double.specs.Twice.{IsInUse, IsOpen, LeavesBoth, NoneRose, RoseAt, Twice, content_of, identity_of, sequence_of}
 use Rattle.twin_run.specs.Running.{CountsAs}
 use Rattle.utm_twin.specs.AnswersLaws.{nothing_counts}
@@ -154,3 +159,9 @@ keeps_after i s s' t made kept keeps = record { identity_is = made ∙ keeps.ide
 pub failed_after : (a e f : Both) (s : Twice) → NoneRose a e → IsOpen s → ((half : Half) → IsInUse half s → RoseAt half e f) → RoseAt First a f ⊎ RoseAt Second a f
 failed_after a e f s none (inl first) rose = inl (rose_then First a e f none (rose First first))
 failed_after a e f s none (inr second) rose = inr (rose_then Second a e f none (rose Second second))
+
+-- where an answer is a device's error handed on, and it is that a call failed, a call of the device did
+pub failed_of : (T U : Type 0) (r : Result T TwinOpenError) (e : DeviceError) → IsErrAnd r (λ x. x ≡ of_device e) → IsErrOf r to.Failed → IsErrOf {T = U} (Err e) device.Failed
+failed_of T U (Ok x) e gives is = absurd gives
+failed_of T U (Err x) device.Failed gives is = refl
+failed_of T U (Err x) device.Memory gives is = absurd cc

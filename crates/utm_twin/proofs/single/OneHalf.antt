@@ -3,11 +3,11 @@ use Rattle.std.proofs.Common.{◌≡◌, ◌≤◌, ℕ, List, refl, ap, subst, 
 use Rattle.std.specs.Prelude.{IsTrue}
 use Rattle.kd_device.specs.Device.{Frame, SameFaults}
 use Rattle.kd_device.specs.Room.{RoomState}
-use Rattle.kd_twin.specs.declared.half.Half.{Half}
-use Rattle.kd_twin.specs.declared.half.Half.TheVariants.{First, Second}
-use Rattle.kd_twin.specs.Twin.{Both, Disk, disk_of, half_leaves, half_state}
-use Rattle.kd_twin.specs.Apart.{IsSince}
-use Rattle.kd_twin.specs.ApartLaws.{since_here}
+use Rattle.kd_device.specs.declared.half.Half.{Half}
+use Rattle.kd_device.specs.declared.half.Half.TheVariants.{First, Second}
+use Rattle.kd_device.specs.Twin.{Both, Disk, disk_of, half_leaves, half_state}
+use Rattle.kd_device.specs.Apart.{IsSince}
+use Rattle.kd_device.specs.ApartLaws.{since_here}
 use Rattle.device_acts.specs.Said.{SameDisk}
 use Rattle.kdcfile_double.specs.Opening.{SameFiles}
 use Rattle.utm_twin.specs.Promise.{FrameTwin}

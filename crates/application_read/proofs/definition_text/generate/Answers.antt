@@ -1,8 +1,8 @@
 use Rattle.std.proofs.Common.{Ok, Err, refl}
 use Rattle.kdcdef_read.specs.declared.fault.ReadFault.TheVariants as read
 use Rattle.kdcdef_read.specs.Faults.{is_memory as is_read_memory}
-use Rattle.kdcdef_check.specs.declared.fault.CheckFault.TheVariants as check
-use Rattle.kdcdef_check.specs.Faults.{is_memory as is_check_memory}
+use Rattle.application_check.specs.declared.kdcdef_check.fault.CheckFault.TheVariants as check
+use Rattle.application_check.specs.Faults.{is_memory as is_check_memory}
 use Rattle.application_read.specs.declared.definition_fault.DefinitionFault.TheVariants.{Read, Check, Memory}
 use Rattle.application_read.specs.Definition.{HasFault, is_memory}
 use Rattle.application_read.specs.Causes.{of_lex, of_read, of_check}

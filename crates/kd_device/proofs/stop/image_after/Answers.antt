@@ -1,40 +1,39 @@
 use Rattle.std.proofs.Common.{◌∙◌, take, length, ap, sym, subst, arith, List}
 use Rattle.std.proofs.lemmas.List.{take_all}
-use Rattle.kd_device.specs.History.{Disk, Torns, after, fresh}
-use Rattle.kd_device.specs.Tape.{events}
-use Rattle.kd_device.specs.declared.step.Step.{Step}
+use Rattle.kd_device.specs.declared.call.Call.{Call}
+use Rattle.kd_device.specs.History.{Disk, Moment, Stands, after}
+use Rattle.kd_device.specs.Recording.{events}
 use Rattle.kd_device.proofs.Replay.{inside_at, after_more, done_at}
 use Rattle.kd_device.proofs.stop.image_after.Goals as goal
 
-pub advance-requires : goal.advance-requires
-advance-requires c = inside_at (length c.args.kept.now) c.args.calls.now c.loop-call.call-index _ c.requires c.loop-call-test.true
+pub advance_if-requires : goal.advance_if-requires
+advance_if-requires c = inside_at (length c.args.kept.now) c.args.calls.now c.loop-call.call-index _ c.requires c.loop-call-test.true
 
 pub loop-call-preserved : goal.loop-call-preserved
 loop-call-preserved c =
-    let more = after_more (fresh c.args.start.now) c.args.kept.now c.args.calls.now c.loop-call.call-index _ c.loop-call-test.true in
-    let before = after (fresh c.args.start.now) (events c.args.kept.now (take c.loop-call.call-index c.args.calls.now)) in
+    let a = c.args in let i = c.loop-call.invariant in let e = c.in_ok-advance_if.ensures in
+    let more = λ (s : Moment). after_more a.disk s a.kept.now a.calls.now c.loop-call.call-index _ c.loop-call-test.true in
+    let before = λ (s : Moment). (after s (events a.kept.now (take c.loop-call.call-index a.calls.now))).disk a.disk in
     record {
-      bytes = c.in_ok-advance.ensures.bytes before c.loop-call.invariant.bytes ∙ ap (λ (d : Disk). d.bytes) (sym more);
-      image = subst (λ (d : Disk). Torns d.pending d.base c.advance.new.image.items) (sym more) (c.in_ok-advance.ensures.image before c.loop-call.invariant.bytes c.loop-call.invariant.image);
-      zero = λ is. c.next_digits-digits.ensures.old is (c.loop-call.invariant.zero is);
-      one = λ is. c.next_digits-digits.ensures.new is (c.loop-call.invariant.one is);
-      old = λ zero. c.in_ok-advance.ensures.old before (c.part_of-part.ensures.old (c.loop-call.invariant.zero zero)) c.loop-call.invariant.bytes (c.loop-call.invariant.old zero) ∙ ap (λ (d : Disk). d.base) (sym more);
-      new = λ one all.
-          c.in_ok-advance.ensures.new (c.part_of-part.ensures.new (c.loop-call.invariant.one one)) (done_at c.args.kept.now c.args.calls.now c.loop-call.call-index _ all c.loop-call-test.true) (c.loop-call.invariant.new one all ∙ sym c.loop-call.invariant.bytes)
-          ∙ c.in_ok-advance.ensures.bytes before c.loop-call.invariant.bytes ∙ ap (λ (d : Disk). d.bytes) (sym more);
+      bytes = λ s is. e.bytes (before s) (i.bytes s is) ∙ ap (λ (d : Disk). d.bytes) (sym (more s));
+      image = λ s is. subst (λ (d : Disk). Stands d c.advance_if.new.image.items) (sym (more s)) (e.image (before s) (i.bytes s is) (i.image s is));
+      zero = λ is. c.next_digits-digits.ensures.old is (i.zero is);
+      one = λ is. c.next_digits-digits.ensures.new is (i.one is);
+      old = λ zero s is. e.old (before s) (c.part_of-part.ensures.old (i.zero zero)) (i.bytes s is) (i.old zero s is) ∙ ap (λ (d : Disk). d.base) (sym (more s));
+      new = λ one all. e.new (c.part_of-part.ensures.new (i.one one)) (done_at a.kept.now a.calls.now c.loop-call.call-index _ all c.loop-call-test.true) (i.new one all);
     }
 
 pub returns-clause-image : goal.returns-clause-image
-returns-clause-image c =
-    let all = take_all c.loop-call.call-index c.args.calls.now (omega arith) in
-    subst (λ (l : List Step). let d = after (fresh c.args.start.now) (events c.args.kept.now l) in Torns d.pending d.base c.loop-call.image.items) all c.loop-call.invariant.image
+returns-clause-image c = λ s is.
+    let a = c.args in let l = c.loop-call in
+    subst (λ (x : List Call). Stands ((after s (events a.kept.now x)).disk a.disk) l.image.items) (take_all l.call-index a.calls.now (omega arith)) (l.invariant.image s is)
 
 pub returns-clause-old : goal.returns-clause-old
-returns-clause-old c = λ zero.
-    let all = take_all c.loop-call.call-index c.args.calls.now (omega arith) in
-    c.loop-call.invariant.old zero ∙ ap (λ (l : List Step). (after (fresh c.args.start.now) (events c.args.kept.now l)).base) all
+returns-clause-old c = λ zero s is.
+    let a = c.args in let l = c.loop-call in
+    l.invariant.old zero s is ∙ ap (λ (x : List Call). ((after s (events a.kept.now x)).disk a.disk).base) (take_all l.call-index a.calls.now (omega arith))
 
 pub returns-clause-new : goal.returns-clause-new
-returns-clause-new c = λ one done.
-    let all = take_all c.loop-call.call-index c.args.calls.now (omega arith) in
-    c.loop-call.invariant.new one done ∙ ap (λ (l : List Step). (after (fresh c.args.start.now) (events c.args.kept.now l)).bytes) all
+returns-clause-new c = λ one done s is.
+    let a = c.args in let l = c.loop-call in
+    l.invariant.new one done ∙ l.invariant.bytes s is ∙ ap (λ (x : List Call). ((after s (events a.kept.now x)).disk a.disk).bytes) (take_all l.call-index a.calls.now (omega arith))

@@ -1,7 +1,7 @@
 use Rattle.std.proofs.Common.{◌∙◌, subst, ℕ}
 use Rattle.std.specs.Prelude.{Result}
-use Rattle.sorted_pairs.specs.Places.{IsPlace}
-use Rattle.sorted_pairs.specs.PlacesLaws.{found_entry, none_found, put_entry, inserted_entry, removed_entry, none_to_remove}
+use Rattle.kd_base.specs.Places.{IsPlace}
+use Rattle.kd_base.specs.PlacesLaws.{found_entry, none_found, put_entry, inserted_entry, removed_entry, none_to_remove}
 use Rattle.kd_records.specs.Keys.{key_cmp}
 use Rattle.kd_records.specs.KeyLaws.{key_total}
 use Rattle.kd_records.proofs.in_place.change_in_room.Goals as goal

@@ -1,7 +1,7 @@
 use Rattle.std.proofs.Common.{◌≡◌, ℕ, Bool, true, false, get_or, Ok, Err, refl, sym, ap, ◌∙◌}
 use Rattle.std.proofs.lemmas.Option.{unwrap_or-slice_get}
 use Rattle.std.proofs.lemmas.Result.{err_from_is_err_and}
-use Rattle.kdcdef_lex.specs.declared.statement.RawOperand.{RawOperand}
+use Rattle.texts.specs.declared.kdcdef_lex.statement.RawOperand.{RawOperand}
 use Rattle.kdcdef_read.specs.declared.fault.Cause.{Cause}
 use Rattle.kdcdef_read.specs.declared.fault.Cause.TheVariants.{OperandTwice}
 use Rattle.kdcdef_read.specs.declared.operands.Given.{Given}

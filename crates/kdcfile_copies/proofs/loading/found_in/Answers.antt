@@ -1,5 +1,4 @@
 use Rattle.std.proofs.Common.{refl, subst}
-use Rattle.kdcfile_store.specs.Paged.{IsPaged}
 use Rattle.kdcfile_copies.specs.Copies.{HasSequence}
 use Rattle.kd_records.specs.declared.content.Content.{Content}
 use Rattle.kdcfile_copies.proofs.Told.{loaded}
@@ -7,4 +6,4 @@ use Rattle.kdcfile_copies.proofs.loading.found_in.Goals as goal
 
 pub returns-in-Some : goal.returns-in-Some
 returns-in-Some c =
-    (refl, loaded c.args.store c.in-Some.sequence (subst IsPaged c.store.view_is c.store.invariant) (subst (λ (x : Content). HasSequence c.in-Some.sequence x) c.kept.ensures c.in-Some.ensures.some))
+    (refl, loaded c.args.store c.in-Some.sequence c.is_in_order.ensures (subst (λ (x : Content). HasSequence c.in-Some.sequence x) c.kept.ensures c.in-Some.ensures.some))

@@ -1,10 +1,11 @@
 use Rattle.std.proofs.Common.{sym, subst}
 use Rattle.std.specs.Prelude.{IsTrue}
-use Rattle.kd_twin.specs.declared.half.Half.TheVariants.{First, Second}
+use Rattle.kd_device.specs.declared.half.Half.TheVariants.{First, Second}
 use Rattle.kdcfile_double.specs.Twice.{with_copies}
 use Rattle.kdcfile_double.specs.CommitLaws.{other_kept_at}
-use Rattle.kdcfile_double.specs.CommitTwoLaws.{both_moments, both_within, faults_before, first_is_kept, first_moment, first_newly, first_stays, first_within, on_err, one_fine, one_frame, second_is_kept, second_newly, second_stays, second_unused, two_lost, two_unused}
-use Rattle.kdcfile_double.specs.MakingLaws.{frame_then}
+use Rattle.kdcfile_double.specs.CommitTwoLaws.{both_moments, both_within, faults_before, first_is_kept, first_moment, first_newly, first_stays, first_within, on_err, one_fine, one_frame}
+use Rattle.kdcfile_double.specs.CommitTwoLaws.{second_is_kept, second_newly, second_stays, second_unused, two_lost, two_unused}
+use Rattle.kdcfile_double.specs.MakingLaws.{two_frames}
 use Rattle.kdcfile_double.proofs.commit.commit_two.Goals as goal
 
 pub commit_one-requires-clause-kept : goal.commit_one-requires-clause-kept
@@ -49,7 +50,7 @@ pub returns-in_err-second-clause-unused : goal.returns-in_err-second-clause-unus
 returns-in_err-second-clause-unused g c = λ half none. second_unused c.args.first c.args.second c.in_ok-first.first c.args.lost.now c.commit_one.new.lost c.commit_one-2.new.lost (g.T.Twin.both c.args.twin.now) (g.T.Twin.both c.commit_one.new.twin) (g.T.Twin.both c.commit_one-2.new.twin) c.commit_one-2.ensures.other_half c.in_ok-first.ensures.lost (faults_before Second (g.T.Twin.both c.args.twin.now) (g.T.Twin.both c.commit_one.new.twin) (g.T.Twin.both c.commit_one-2.new.twin) c.commit_one.ensures.other_half c.in_err-second.ensures.memory.1) half none
 
 pub returns-in_err-second-clause-frame : goal.returns-in_err-second-clause-frame
-returns-in_err-second-clause-frame g c = frame_then (g.T.Twin.both c.args.twin.now) (g.T.Twin.both c.commit_one.new.twin) (g.T.Twin.both c.commit_one-2.new.twin) (one_frame First (g.T.Twin.both c.args.twin.now) (g.T.Twin.both c.commit_one.new.twin) c.commit_one.ensures.frame c.commit_one.ensures.names c.commit_one.ensures.other_half c.commit_one.ensures.sent) (one_frame Second (g.T.Twin.both c.commit_one.new.twin) (g.T.Twin.both c.commit_one-2.new.twin) c.commit_one-2.ensures.frame c.commit_one-2.ensures.names c.commit_one-2.ensures.other_half c.commit_one-2.ensures.sent)
+returns-in_err-second-clause-frame g c = two_frames (g.T.Twin.both c.args.twin.now) (g.T.Twin.both c.commit_one.new.twin) (g.T.Twin.both c.commit_one-2.new.twin) c.commit_one.ensures.other_half c.commit_one-2.ensures.other_half c.commit_one.ensures.frame c.commit_one.ensures.names c.commit_one.ensures.sent c.commit_one-2.ensures.frame c.commit_one-2.ensures.names c.commit_one-2.ensures.sent
 
 pub returns-clause-first_kept : goal.returns-clause-first_kept
 returns-clause-first_kept g c = λ told. other_kept_at Second c.in_ok-first.first (g.T.Twin.both c.commit_one.new.twin) (g.T.Twin.both c.commit_one-2.new.twin) (g.T.Twin.leaves c.commit_one.new.twin) (g.T.Twin.leaves c.commit_one-2.new.twin) c.commit_one-2.ensures.other_half (c.commit_one-2.ensures.other_stays (subst IsTrue (sym c.commit_one.ensures.frame.told) told)) (c.in_ok-first.ensures.kept told)
@@ -70,4 +71,4 @@ pub returns-clause-unused : goal.returns-clause-unused
 returns-clause-unused g c = λ half none. two_unused c.args.first c.args.second c.in_ok-first.first c.in_ok-second.second c.args.lost.now c.commit_one-2.new.lost (g.T.Twin.both c.args.twin.now) (g.T.Twin.both c.commit_one-2.new.twin) (two_lost c.args.first c.args.second c.in_ok-first.first c.in_ok-second.second c.args.lost.now c.commit_one.new.lost c.commit_one-2.new.lost (g.T.Twin.both c.args.twin.now) (g.T.Twin.both c.commit_one.new.twin) (g.T.Twin.both c.commit_one-2.new.twin) c.commit_one-2.ensures.other_half c.commit_one.ensures.other_half c.in_ok-first.ensures.lost c.in_ok-second.ensures.lost) half none
 
 pub returns-clause-frame : goal.returns-clause-frame
-returns-clause-frame g c = frame_then (g.T.Twin.both c.args.twin.now) (g.T.Twin.both c.commit_one.new.twin) (g.T.Twin.both c.commit_one-2.new.twin) (one_frame First (g.T.Twin.both c.args.twin.now) (g.T.Twin.both c.commit_one.new.twin) c.commit_one.ensures.frame c.commit_one.ensures.names c.commit_one.ensures.other_half c.commit_one.ensures.sent) (one_frame Second (g.T.Twin.both c.commit_one.new.twin) (g.T.Twin.both c.commit_one-2.new.twin) c.commit_one-2.ensures.frame c.commit_one-2.ensures.names c.commit_one-2.ensures.other_half c.commit_one-2.ensures.sent)
+returns-clause-frame g c = two_frames (g.T.Twin.both c.args.twin.now) (g.T.Twin.both c.commit_one.new.twin) (g.T.Twin.both c.commit_one-2.new.twin) c.commit_one.ensures.other_half c.commit_one-2.ensures.other_half c.commit_one.ensures.frame c.commit_one.ensures.names c.commit_one.ensures.sent c.commit_one-2.ensures.frame c.commit_one-2.ensures.names c.commit_one-2.ensures.sent

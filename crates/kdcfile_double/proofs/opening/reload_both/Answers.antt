@@ -1,10 +1,13 @@
 use Rattle.std.proofs.Common.{sym, subst}
 use Rattle.std.specs.Prelude.{IsTrue}
-use Rattle.kd_twin.specs.declared.half.Half.TheVariants.{First, Second}
+use Rattle.kd_device.specs.declared.half.Half.TheVariants.{First, Second}
 use Rattle.kdcfile_double.specs.declared.error.TwinOpenError.TheVariants as to
 use Rattle.kdcfile_double.specs.CommitLaws.{other_kept_at}
-use Rattle.kdcfile_double.specs.MakingLaws.{first_rests_both, second_rests_both, rests_then, frame_then, first_frame, second_frame}
+use Rattle.kdcfile_double.specs.CommitTwoLaws.{one_frame}
+use Rattle.kdcfile_double.specs.MakingLaws.{RestsBoth, first_rests_both, two_frames, two_rests}
 use Rattle.kdcfile_double.specs.OpenedLaws.{handed_on}
+use Rattle.kdcfile_double.proofs.opening.reload_both.Given.{Over}
+use Rattle.kdcfile_double.proofs.opening.reload_both.Goals.{After-reload-2}
 use Rattle.kdcfile_double.proofs.opening.reload_both.Goals as goal
 
 pub reload-requires-2-clause-kept : goal.reload-requires-2-clause-kept
@@ -34,22 +37,17 @@ returns-in_err-first-clause-failed g c = λ is. c.in_err-first.ensures.failed (h
 
 pub returns-in_err-first-clause-frame : goal.returns-in_err-first-clause-frame
 returns-in_err-first-clause-frame g c =
-    first_frame (g.T.Twin.both c.args.twin.now) (g.T.Twin.both c.reload.new.twin) c.reload.ensures.frame c.reload.ensures.names c.reload.ensures.other_half (λ told. (c.reload.ensures.rests told).sent)
+    one_frame First (g.T.Twin.both c.args.twin.now) (g.T.Twin.both c.reload.new.twin) c.reload.ensures.frame c.reload.ensures.names c.reload.ensures.other_half (λ told. (c.reload.ensures.rests told).sent)
+
+-- both files stay as they are
+rests : (g : Over) (c : After-reload-2 g) → IsTrue (g.T.Twin.both c.args.twin.now).told → RestsBoth (g.T.Twin.both c.args.twin.now) (g.T.Twin.both c.reload-2.new.twin) (g.T.Twin.leaves c.args.twin.now) (g.T.Twin.leaves c.reload-2.new.twin)
+rests g c told =
+    let told_b : IsTrue (g.T.Twin.both c.reload.new.twin).told = subst IsTrue (sym c.reload.ensures.frame.told) told in
+    two_rests (g.T.Twin.both c.args.twin.now) (g.T.Twin.both c.reload.new.twin) (g.T.Twin.both c.reload-2.new.twin) c.reload.ensures.other_half c.reload-2.ensures.other_half (g.T.Twin.leaves c.reload.new.twin) (g.T.Twin.leaves c.reload-2.new.twin) (c.reload-2.ensures.other_stays told_b) (g.T.Twin.leaves c.args.twin.now) (λ x y out left. g.met.T.Twin.sent_now c.args.twin.now x y out told left) (λ x y out left. g.met.T.Twin.sent_now c.reload.new.twin x y out told_b left)
+    (c.reload.ensures.rests told) (c.reload.ensures.any_moment told) (c.reload.ensures.other_stays told) (c.reload-2.ensures.rests told_b) (c.reload-2.ensures.any_moment told_b)
 
 pub returns-in_err-second-clause-rests : goal.returns-in_err-second-clause-rests
-returns-in_err-second-clause-rests g c = λ told.
-    let tw = c.args.twin.now in
-    let a = g.T.Twin.both tw in
-    let b = g.T.Twin.both c.reload.new.twin in
-    let e = g.T.Twin.both c.reload-2.new.twin in
-    let la = g.T.Twin.leaves tw in
-    let lb = g.T.Twin.leaves c.reload.new.twin in
-    let le = g.T.Twin.leaves c.reload-2.new.twin in
-    let told_b : IsTrue b.told = subst IsTrue (sym c.reload.ensures.frame.told) told in
-    rests_then a b la lb
-    (first_rests_both a b la lb (λ x y out left. g.met.T.Twin.sent_now tw x y out told left) (c.reload.ensures.rests told) (c.reload.ensures.any_moment told) c.reload.ensures.other_half (c.reload.ensures.other_stays told)) e le
-    (second_rests_both b e lb le (λ x y out left. g.met.T.Twin.sent_now c.reload.new.twin x y out told_b left) (c.reload-2.ensures.rests told_b) (c.reload-2.ensures.any_moment told_b) c.reload-2.ensures.other_half
-    (c.reload-2.ensures.other_stays told_b))
+returns-in_err-second-clause-rests g c = rests g (goal.at.returns-in_err-second-clause-rests g c).After-reload-2
 
 pub returns-in_err-second-clause-refused : goal.returns-in_err-second-clause-refused
 returns-in_err-second-clause-refused g c = λ is told.
@@ -66,11 +64,7 @@ returns-in_err-second-clause-failed g c = λ is. c.in_err-second.ensures.failed 
 
 pub returns-in_err-second-clause-frame : goal.returns-in_err-second-clause-frame
 returns-in_err-second-clause-frame g c =
-    let a = g.T.Twin.both c.args.twin.now in
-    let b = g.T.Twin.both c.reload.new.twin in
-    let e = g.T.Twin.both c.reload-2.new.twin in
-    frame_then a b e (first_frame a b c.reload.ensures.frame c.reload.ensures.names c.reload.ensures.other_half (λ told. (c.reload.ensures.rests told).sent))
-    (second_frame b e c.reload-2.ensures.frame c.reload-2.ensures.names c.reload-2.ensures.other_half (λ told. (c.reload-2.ensures.rests told).sent))
+    two_frames (g.T.Twin.both c.args.twin.now) (g.T.Twin.both c.reload.new.twin) (g.T.Twin.both c.reload-2.new.twin) c.reload.ensures.other_half c.reload-2.ensures.other_half c.reload.ensures.frame c.reload.ensures.names (λ told. (c.reload.ensures.rests told).sent) c.reload-2.ensures.frame c.reload-2.ensures.names (λ told. (c.reload-2.ensures.rests told).sent)
 
 pub returns-clause-again : goal.returns-clause-again
 returns-clause-again g c = record {
@@ -92,25 +86,9 @@ returns-clause-first_kept g c = λ told.
 pub returns-clause-second_kept : goal.returns-clause-second_kept
 returns-clause-second_kept g c = λ told. c.in_ok-second.ensures.kept (subst IsTrue (sym c.reload.ensures.frame.told) told)
 
-pub returns-clause-rests : goal.returns-clause-rests
-returns-clause-rests g c = λ told.
-    let tw = c.args.twin.now in
-    let a = g.T.Twin.both tw in
-    let b = g.T.Twin.both c.reload.new.twin in
-    let e = g.T.Twin.both c.reload-2.new.twin in
-    let la = g.T.Twin.leaves tw in
-    let lb = g.T.Twin.leaves c.reload.new.twin in
-    let le = g.T.Twin.leaves c.reload-2.new.twin in
-    let told_b : IsTrue b.told = subst IsTrue (sym c.reload.ensures.frame.told) told in
-    rests_then a b la lb
-    (first_rests_both a b la lb (λ x y out left. g.met.T.Twin.sent_now tw x y out told left) (c.reload.ensures.rests told) (c.reload.ensures.any_moment told) c.reload.ensures.other_half (c.reload.ensures.other_stays told)) e le
-    (second_rests_both b e lb le (λ x y out left. g.met.T.Twin.sent_now c.reload.new.twin x y out told_b left) (c.reload-2.ensures.rests told_b) (c.reload-2.ensures.any_moment told_b) c.reload-2.ensures.other_half
-    (c.reload-2.ensures.other_stays told_b))
-
 pub returns-clause-frame : goal.returns-clause-frame
 returns-clause-frame g c =
-    let a = g.T.Twin.both c.args.twin.now in
-    let b = g.T.Twin.both c.reload.new.twin in
-    let e = g.T.Twin.both c.reload-2.new.twin in
-    frame_then a b e (first_frame a b c.reload.ensures.frame c.reload.ensures.names c.reload.ensures.other_half (λ told. (c.reload.ensures.rests told).sent))
-    (second_frame b e c.reload-2.ensures.frame c.reload-2.ensures.names c.reload-2.ensures.other_half (λ told. (c.reload-2.ensures.rests told).sent))
+    two_frames (g.T.Twin.both c.args.twin.now) (g.T.Twin.both c.reload.new.twin) (g.T.Twin.both c.reload-2.new.twin) c.reload.ensures.other_half c.reload-2.ensures.other_half c.reload.ensures.frame c.reload.ensures.names (λ told. (c.reload.ensures.rests told).sent) c.reload-2.ensures.frame c.reload-2.ensures.names (λ told. (c.reload-2.ensures.rests told).sent)
+
+pub returns-clause-rests : goal.returns-clause-rests
+returns-clause-rests g c = rests g (goal.at.returns-clause-rests g c).After-reload-2

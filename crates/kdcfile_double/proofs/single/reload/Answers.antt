@@ -1,6 +1,6 @@
 use Rattle.std.proofs.Common.{Bool, subst, refl, ◌≡◌, false, true}
 use Rattle.std.specs.Prelude.{Option, IsTrue}
-use Rattle.kd_twin.specs.Twin.{half_state, half_leaves}
+use Rattle.kd_device.specs.Twin.{half_state, half_leaves}
 use Rattle.kdcfile_store.specs.Kept.{IsKept}
 use Rattle.kdcfile_copies.specs.declared.answer.LoadedCopy.{LoadedCopy}
 use Rattle.kdcfile_copies.specs.declared.answer.Found.{Found}

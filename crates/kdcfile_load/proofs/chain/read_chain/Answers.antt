@@ -2,9 +2,9 @@ use Rattle.std.proofs.Common.{◌≡◌, ◌<◌, ◌≤◌, ◌+◌, ◌-◌, �
 use Rattle.std.specs.Prelude.{IsTrue, Option}
 use Rattle.std.specs.Option.{option_map}
 use Rattle.kdcfile_load.proofs.RestedLaws.{rests_after}
-use Rattle.kdcfile_read.specs.declared.part.Part.{Part}
-use Rattle.kdcfile_read.specs.Chains.{Held}
-use Rattle.kdcfile_read.specs.ReadChainsLaws.{some_chain}
+use Rattle.kdcfile_layout.specs.declared.kdcfile_read.part.Part.{Part}
+use Rattle.kdcfile_layout.specs.Chains.{Held}
+use Rattle.kdcfile_layout.specs.ReadChainsLaws.{some_chain}
 use Rattle.kdcfile_load.proofs.Choices.{not_failed, of_some}
 use Rattle.kdcfile_load.proofs.SoFarLaws.{none_now, more_now, none_last, last_now, last_pages, last_bytes, not_last, is_last}
 use Rattle.kdcfile_load.proofs.chain.read_chain.Goals as goal

@@ -3,8 +3,8 @@ use Rattle.std.specs.Prelude.{IsTrue}
 use Rattle.std.specs.Option.{option_map}
 use Rattle.kdcfile_layout.specs.Fields.{AreBytes}
 use Rattle.kdcfile_layout.specs.Layout.{slots_in_page}
-use Rattle.kdcfile_read.specs.declared.slot.First.{First}
-use Rattle.kdcfile_read.specs.Chains.{page_at}
+use Rattle.kdcfile_layout.specs.declared.kdcfile_read.slot.First.{First}
+use Rattle.kdcfile_layout.specs.Chains.{page_at}
 use Rattle.kdcfile_load.specs.Reads.{slots_at, after_page, AreFirsts}
 use Rattle.kdcfile_load.proofs.FirstsLaws.{more_firsts}
 use Rattle.kdcfile_load.proofs.RestedLaws.{rested_then}

@@ -1,9 +1,9 @@
 use Rattle.std.proofs.Common.{◌≡◌, ◌*◌, ℕ, [], take, drop}
 use Rattle.std.specs.Prelude.{IsTrue}
 use Rattle.kdcfile_layout.specs.Layout.{slots_in_page}
-use Rattle.page_pool.specs.Places.{At}
+use Rattle.kdcfile_layout.specs.Places.{At}
 use Rattle.kdcfile_layout.specs.Fields.{AreBytes}
-use Rattle.kdcfile_read.specs.Chains.{page_at}
+use Rattle.kdcfile_layout.specs.Chains.{page_at}
 use Rattle.kdcfile_load.specs.Reads.{directory_from, AreFirsts}
 use Rattle.kdcfile_load.proofs.Rested.{Rested}
 use Rattle.kdcfile_load.proofs.directory.read_directory.Given as goal

@@ -3,7 +3,7 @@ use Rattle.std.specs.Prelude.{IsTrue}
 use Rattle.kdcfile_layout.specs.Fields.{AreBytes}
 use Rattle.kdcfile_layout.specs.Layout.{slots_in_page}
 use Rattle.kdcfile_load.specs.Reads.{AreFirsts}
-use Rattle.kdcfile_read.specs.Chains.{page_at}
+use Rattle.kdcfile_layout.specs.Chains.{page_at}
 use Rattle.kdcfile_load.proofs.Choices.{some_then}
 use Rattle.kdcfile_load.proofs.FirstsLaws.{firsts_of}
 use Rattle.kdcfile_load.proofs.directory.slots_at.Goals as goal

@@ -2,7 +2,7 @@ use Rattle.std.proofs.Common.{◌≡◌, ◌∙◌, ◌*◌, List, ℕ, subst, s
 use Rattle.std.specs.Prelude.{IsTrue}
 use Rattle.kdcfile_layout.specs.Layout.{Stands, IsNoImage, slots_in_page}
 use Rattle.kdcfile_layout.specs.Stored.{IsStored}
-use Rattle.kdcfile_images.specs.Opened.{identity_of, layout_in}
+use Rattle.kdcfile_layout.specs.Opened.{identity_of, layout_in}
 use Rattle.kdcfile_load.specs.Openings.{directory_length, IsOpening, Opens}
 use Rattle.kdcfile_load.specs.Reads.{IsGathering}
 use Rattle.kdcfile_load.specs.Slots.{ReadsSlots}

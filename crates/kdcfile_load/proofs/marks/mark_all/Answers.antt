@@ -1,7 +1,7 @@
 use Rattle.std.proofs.Common.{◌∙◌, List, Bool, false, true, get_or, refl, ap, subst, sym}
 use Rattle.std.specs.Prelude.{set, length}
 use Rattle.std.proofs.lemmas.List.{length-set}
-use Rattle.page_pool.specs.Places.{At}
+use Rattle.kdcfile_layout.specs.Places.{At}
 use Rattle.kdcfile_load.proofs.MarksLaws.{one_clear, one_flagged, one_taken}
 use Rattle.kdcfile_load.proofs.marks.mark_all.Goals as goal
 

@@ -1,5 +1,5 @@
 use Rattle.std.proofs.Common.{◌∙◌, List, Bool, true, ap, subst, sym}
-use Rattle.page_pool.specs.Pools.{flagged}
+use Rattle.kdcfile_layout.specs.Pools.{flagged}
 use Rattle.kdcfile_load.specs.Marks.{AreClear, pages_of}
 use Rattle.kdcfile_load.proofs.MarksLaws.{slot_clear, slot_flagged, slot_taken}
 use Rattle.kdcfile_load.proofs.marks.mark_slots.Goals as goal

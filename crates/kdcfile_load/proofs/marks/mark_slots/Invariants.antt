@@ -1,5 +1,5 @@
 use Rattle.std.proofs.Common.{◌≡◌, true, take, length}
-use Rattle.page_pool.specs.Pools.{flagged}
+use Rattle.kdcfile_layout.specs.Pools.{flagged}
 use Rattle.kdcfile_load.specs.Marks.{AreClear, pages_in}
 use Rattle.kdcfile_load.proofs.marks.mark_slots.Given as goal
 

@@ -1,5 +1,5 @@
 use Rattle.std.proofs.Common.{◌∙◌, List, Bool, true, ap, subst, sym}
-use Rattle.page_pool.specs.Pools.{flagged}
+use Rattle.kdcfile_layout.specs.Pools.{flagged}
 use Rattle.kdcfile_load.specs.Marks.{AreClear, pages_in, all_free}
 use Rattle.kdcfile_load.proofs.MarksLaws.{clear_front, clear_rest, clear_joined, flagged_joined}
 use Rattle.kdcfile_load.proofs.marks.pool_of.Goals as goal

@@ -1,10 +1,10 @@
 use Rattle.std.proofs.Common.{◌≡◌, ◌∙◌, Bool, List, ℕ, Option, Some, None, subst, sym, ap}
 use Rattle.kdcfile_layout.specs.Fields.{AreBytes}
 use Rattle.kdcfile_layout.specs.Layout.{directory_pages}
-use Rattle.kdcfile_read.specs.declared.head.Head.{Head}
-use Rattle.kdcfile_read.specs.declared.root.RootFields.{RootFields}
-use Rattle.kdcfile_read.specs.Reading.{root_of, numbers_of}
-use Rattle.kdcfile_read.specs.Reads.{root_in, numbers_in}
+use Rattle.kdcfile_layout.specs.declared.kdcfile_read.head.Head.{Head}
+use Rattle.kdcfile_layout.specs.declared.kdcfile_read.root.RootFields.{RootFields}
+use Rattle.kdcfile_layout.specs.Reading.{root_of, numbers_of}
+use Rattle.kdcfile_layout.specs.Reads.{root_in, numbers_in}
 use Rattle.kdcfile_load.proofs.OpeningsLaws.{no_head, no_root, no_numbers}
 use Rattle.kdcfile_load.proofs.opening.read_opening.Goals as goal
 

@@ -1,5 +1,5 @@
 use Rattle.std.proofs.Common.{◌≡◌, ◌∙◌, List, ℕ, Option, Some, None, get_or, refl, sym, ap}
-use Rattle.kdcfile_read.specs.declared.slot.First.{First}
+use Rattle.kdcfile_layout.specs.declared.kdcfile_read.slot.First.{First}
 use Rattle.kdcfile_load.specs.Reads.{after_slot}
 use Rattle.kdcfile_load.specs.declared.records.Gathering.{Gathering}
 use Rattle.kdcfile_load.proofs.RecordsLaws.{gathering_more}

@@ -1,10 +1,10 @@
 use Rattle.std.proofs.Common.{◌≡◌, ◌∙◌, ◌*◌, List, [], ℕ, Option, Some, None, length, subst, sym, ap}
 use Rattle.std.specs.Prelude.{IsTrue}
-use Rattle.page_pool.specs.Places.{At}
+use Rattle.kdcfile_layout.specs.Places.{At}
 use Rattle.kdcfile_layout.specs.Fields.{AreBytes}
 use Rattle.kdcfile_layout.specs.Layout.{IsNoImage, slots_in_page}
-use Rattle.kdcfile_read.specs.declared.slot.First.{First}
-use Rattle.kdcfile_read.specs.Chains.{page_at}
+use Rattle.kdcfile_layout.specs.declared.kdcfile_read.slot.First.{First}
+use Rattle.kdcfile_layout.specs.Chains.{page_at}
 use Rattle.kdcfile_load.specs.Openings.{Opens, pages_of_file}
 use Rattle.kdcfile_load.specs.Reads.{AreFirsts, directory_from, records_from, none_yet}
 use Rattle.kdcfile_load.specs.Slots.{ReadsSlots}

@@ -2,7 +2,7 @@ use Rattle.std.proofs.Common.{◌∙◌, ◌<◌, List, subst}
 use Rattle.std.specs.List.Sorted.{IsPermutation}
 use Rattle.kd_records.specs.Contents.{Record}
 use Rattle.kd_records.specs.Keys.{key_cmp}
-use Rattle.sorted_pairs.specs.Places.{times}
+use Rattle.kd_base.specs.Places.{times}
 use Rattle.kdcfile_load.proofs.SortingLaws.{sorted_gathered, sorted_new, twice_not_new}
 use Rattle.kdcfile_load.proofs.sorting.gather.Goals as goal
 

@@ -1,7 +1,7 @@
 use Rattle.std.proofs.Common.{◌∙◌, List, ℕ, refl, ap, subst}
 use Rattle.kd_records.specs.Contents.{Record}
-use Rattle.kdcfile_images.specs.Opened.{root_for}
-use Rattle.page_pool.specs.Pools.{ArePlanned}
+use Rattle.kdcfile_layout.specs.Opened.{root_for}
+use Rattle.kdcfile_layout.specs.Pools.{ArePlanned}
 use Rattle.page_drafts.specs.Undoing.{Changing}
 use Rattle.kdcfile_store.specs.Paged.{identity_with}
 use Rattle.kdcfile_store.specs.Whole.{IsWholeDraft, used_by, whole_pages, widened}

@@ -1,5 +1,5 @@
 use Rattle.std.proofs.Common.{ap, arith, List, Bool}
-use Rattle.page_pool.specs.Pools.{free_count}
+use Rattle.kdcfile_layout.specs.Pools.{free_count}
 use Rattle.kdcfile_store.proofs.WholeMaking.{enough_others, can_begin}
 use Rattle.kdcfile_store.proofs.carrying.whole_draft.Goals as goal
 

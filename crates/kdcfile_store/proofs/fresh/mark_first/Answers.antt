@@ -1,6 +1,6 @@
 use Rattle.std.proofs.Common.{◌∙◌, ap, arith}
 use Rattle.std.specs.Prelude.{set, true, List, Bool}
-use Rattle.kdcfile_images.specs.Fresh.{numbers}
+use Rattle.kdcfile_layout.specs.Fresh.{numbers}
 use Rattle.kdcfile_store.proofs.FreshPool.{marked_none, marked_more, marked_length}
 use Rattle.kdcfile_store.proofs.fresh.mark_first.Goals as goal
 

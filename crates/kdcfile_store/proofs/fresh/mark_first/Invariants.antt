@@ -1,6 +1,6 @@
 use Rattle.std.proofs.Common.{◌≡◌, true}
-use Rattle.page_pool.specs.Pools.{flagged}
-use Rattle.kdcfile_images.specs.Fresh.{numbers}
+use Rattle.kdcfile_layout.specs.Pools.{flagged}
+use Rattle.kdcfile_layout.specs.Fresh.{numbers}
 use Rattle.kdcfile_store.proofs.fresh.mark_first.Given as goal
 
 abbrev pub invariant-loop-page : goal.invariant-loop-page

@@ -1,8 +1,8 @@
 use Rattle.std.proofs.Common.{sym, subst, List}
 use Rattle.kdcfile_layout.specs.Layout.{StandsFor}
 use Rattle.kdcs_types.specs.declared.act.Act.{Act}
-use Rattle.warm_start.specs.MeaningLaws.{kept_means}
-use Rattle.warm_start.specs.Stands.{StandsForTables}
+use Rattle.device_acts.specs.MeaningLaws.{kept_means}
+use Rattle.device_acts.specs.Stands.{StandsForTables}
 use Rattle.device_acts.specs.Acting.{AreCommittable, WithinActs, content_after}
 use Rattle.device_acts.specs.LinesLaws.{lines_can, lines_within}
 use Rattle.kdcfile_update.proofs.sending.send.Goals as goal

@@ -5,7 +5,7 @@ use Rattle.kdcs_types.specs.declared.call.Code.{Code}
 use Rattle.abstract_monitor.specs.Bytes.{Bytes, bytes_cmp}
 use Rattle.abstract_monitor.specs.Calls.{Performed, delete_local, delete_local_by, read_answer, read_away, read_away_by, replied, without_local}
 use Rattle.abstract_monitor.specs.State.{OpenTransaction as Transaction}
-use Rattle.storage_areas.specs.Areas.{PrivateAreas, with_areas_of}
+use Rattle.service_parts.specs.Areas.{PrivateAreas, with_areas_of}
 use Rattle.open_transaction.specs.Transactions.{transaction_of}
 use Rattle.kdcs_calls.proofs.locals.read_away.Goals as goal
 

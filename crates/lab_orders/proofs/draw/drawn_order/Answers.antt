@@ -1,7 +1,7 @@
 use Rattle.std.proofs.Common.{[], arith, subst, sym, ◌∙◌}
 use Rattle.abstract_monitor.specs.State.{Application}
-use Rattle.laws_of_applications.specs.Applied.{applied}
-use Rattle.laws_of_steps.specs.Keeping.{IsScriptOf}
+use Rattle.laws_of_runs.specs.Applied.{applied}
+use Rattle.laws_of_states.specs.Keeping.{IsScriptOf}
 use Rattle.lab_orders.proofs.Finding.{drawn_found}
 use Rattle.lab_orders.proofs.draw.drawn_order.Goals as goal
 

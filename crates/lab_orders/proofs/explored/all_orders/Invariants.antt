@@ -1,4 +1,4 @@
-use Rattle.laws_of_applications.specs.Applied.{applied}
+use Rattle.laws_of_runs.specs.Applied.{applied}
 use Rattle.lab_orders.specs.Exploring.{IsTally}
 use Rattle.lab_orders.specs.Finding.{CanStart}
 use Rattle.lab_orders.proofs.Exploring.{Ahead}

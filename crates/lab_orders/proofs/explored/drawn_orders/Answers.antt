@@ -1,4 +1,4 @@
-use Rattle.laws_of_applications.specs.Applied.{applied}
+use Rattle.laws_of_runs.specs.Applied.{applied}
 use Rattle.lab_orders.proofs.Exploring.{tally_more, tally_start}
 use Rattle.lab_orders.proofs.Finding.{found_next, start_again, start_next}
 use Rattle.lab_orders.proofs.explored.drawn_orders.Goals as goal

@@ -1,4 +1,4 @@
-use Rattle.laws_of_applications.specs.Applied.{applied}
+use Rattle.laws_of_runs.specs.Applied.{applied}
 use Rattle.lab_orders.proofs.Finding.{backed_end, backed_start, start_again}
 use Rattle.lab_orders.proofs.search.order_after.Goals as goal
 

@@ -1,5 +1,5 @@
 use Rattle.std.proofs.Common.{length}
-use Rattle.laws_of_applications.specs.Applied.{applied}
+use Rattle.laws_of_runs.specs.Applied.{applied}
 use Rattle.lab_orders.specs.Finding.{CanStart}
 use Rattle.lab_orders.proofs.Finding.{Backed}
 use Rattle.lab_orders.proofs.search.order_after.Given as goal

@@ -1,8 +1,8 @@
 use Rattle.std.proofs.Common.{arith, subst, sym, ◌∙◌}
 use Rattle.abstract_monitor.specs.State.{Application}
-use Rattle.laws_of_steps.specs.Keeping.{IsScriptOf}
+use Rattle.laws_of_states.specs.Keeping.{IsScriptOf}
 use Rattle.std.specs.Prelude.{Bool, Option}
-use Rattle.laws_of_applications.specs.Applied.{applied}
+use Rattle.laws_of_runs.specs.Applied.{applied}
 use Rattle.lab_orders.specs.declared.search.Found.{Found}
 use Rattle.lab_orders.specs.Finding.{LeastPast}
 use Rattle.lab_orders.specs.Walking.{Walked}

@@ -1,12 +1,12 @@
 use Rattle.std.proofs.Common.{◌≡◌, ℕ, ◌-◌, ap, sym, ◌∙◌}
 use Rattle.std.specs.Prelude.{Option, Some, None, slice_get}
 use Rattle.std.specs.FinMap.{find}
-use Rattle.kdcdef_types.specs.Statements.{IsWithin}
+use Rattle.application_types.specs.Statements.{IsWithin}
 use Rattle.kdcs_types.specs.declared.key.ServiceId.{ServiceId}
 use Rattle.kdcs_types.specs.Keys.{id_cmp}
-use Rattle.laws_of_steps.specs.Keeping.{HasFacts}
+use Rattle.laws_of_states.specs.Keeping.{HasFacts}
 use Rattle.step_scheduler.specs.Schedule.{IsTask, place_of, service_in}
-use Rattle.core_state.specs.declared.parts.MonitorParts.{MonitorParts}
+use Rattle.service_ends.specs.declared.core_state.parts.MonitorParts.{MonitorParts}
 use Rattle.monitor_core.specs.CoreValue.{CoreValue, core_value}
 use Rattle.monitor_core.specs.WholeLaws.{is_task, seat_of}
 use Rattle.lab_orders.specs.Orders.{wait_by, wait_in}

@@ -1,4 +1,4 @@
-use Rattle.core_state.specs.Standing.{state_of}
+use Rattle.service_ends.specs.Standing.{state_of}
 use Rattle.monitor_core.proofs.Uses.{rests_here}
 use Rattle.monitor_core.proofs.input.begin.Goals as goal
 

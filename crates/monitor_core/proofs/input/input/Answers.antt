@@ -1,6 +1,6 @@
 use Rattle.std.proofs.Common.{subst, sym}
-use Rattle.core_state.specs.Standing.{state_of}
-use Rattle.core_state.specs.Whole.{app_of}
+use Rattle.service_ends.specs.Standing.{state_of}
+use Rattle.service_ends.specs.Whole.{app_of}
 use Rattle.monitor_core.specs.Commanding.{IsFor}
 use Rattle.monitor_core.proofs.Uses.{use_for}
 use Rattle.monitor_core.proofs.input.input.Goals as goal

@@ -2,8 +2,8 @@ use Rattle.std.proofs.Common.{◌≡◌, ◌∙◌}
 use Rattle.std.proofs.lemmas.Result.{IfOk-weaker}
 use Rattle.abstract_monitor.specs.Commands.{use_now}
 use Rattle.abstract_monitor.specs.Sessions.{use_of}
-use Rattle.core_state.specs.Standing.{state_of}
-use Rattle.core_state.specs.Whole.{app_of}
+use Rattle.service_ends.specs.Standing.{state_of}
+use Rattle.service_ends.specs.Whole.{app_of}
 use Rattle.monitor_core.proofs.Signs.{meant_signed, meant_unsigned}
 use Rattle.monitor_core.proofs.input.use_of.Goals as goal
 use Rattle.monitor_core.proofs.input.use_of.Goals.{in-Some, in-None}

@@ -1,9 +1,9 @@
 -- The first due job of the queue is in the tables.
 use Rattle.std.proofs.Common.{sym, ◌∙◌}
 use Rattle.kd_base.specs.ToolsLaws.{map_none}
-use Rattle.async_queue.specs.Queue.{untaken}
+use Rattle.open_transaction.specs.Queue.{untaken}
 use Rattle.abstract_monitor.specs.Commands.{due_for}
-use Rattle.core_state.specs.Standing.{state_of}
+use Rattle.service_ends.specs.Standing.{state_of}
 use Rattle.monitor_core.proofs.Shows.{first_is, one_due}
 use Rattle.monitor_core.proofs.showing.due_for.Goals as goal
 

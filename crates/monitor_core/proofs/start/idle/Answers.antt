@@ -1,13 +1,13 @@
 use Rattle.std.specs.Prelude.{min}
 use Rattle.std.proofs.Common.{arith, ap, sym, ◌≡◌, ◌-◌, ◌^◌, ◌∙◌, ℕ}
 use Rattle.kdcs_types.specs.Tables.{TableRows}
-use Rattle.kdcdef_check.specs.Soundness.{AreLimits}
-use Rattle.kdcdef_types.specs.declared.limits.Limits.{Limits}
-use Rattle.kdcdef_types.specs.Generation.{Generated}
+use Rattle.application_check.specs.Soundness.{AreLimits}
+use Rattle.application_types.specs.declared.kdcdef_types.limits.Limits.{Limits}
+use Rattle.application_types.specs.Generation.{Generated}
 use Rattle.abstract_monitor.specs.Charges.{total_charge}
 use Rattle.abstract_monitor.specs.Endings.{durable}
-use Rattle.laws_of_steps.specs.Suits.{Suits}
-use Rattle.laws_of_tables.specs.EndsLaws.{durable_same}
+use Rattle.laws_of_states.specs.Suits.{Suits}
+use Rattle.laws_of_states.specs.EndsLaws.{durable_same}
 use Rattle.table_fit.specs.ChargingLaws.{suiting_short}
 use Rattle.monitor_core.proofs.Opening.{rest_indexed, rest_state}
 use Rattle.monitor_core.proofs.start.idle.Goals as goal

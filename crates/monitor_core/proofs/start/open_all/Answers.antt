@@ -1,4 +1,4 @@
-use Rattle.core_state.specs.WholeLaws.{same_twice}
+use Rattle.service_ends.specs.WholeLaws.{same_twice}
 use Rattle.monitor_core.proofs.Opening.{fresh_more, made_more}
 use Rattle.monitor_core.proofs.start.open_all.Goals as goal
 

@@ -1,6 +1,6 @@
 use Rattle.std.proofs.Common.{◌≡◌}
-use Rattle.core_state.specs.Standing.{IsIndexed, SameApplication, state_of}
-use Rattle.core_state.specs.Whole.{app_of}
+use Rattle.service_ends.specs.Standing.{IsIndexed, SameApplication, state_of}
+use Rattle.service_ends.specs.Whole.{app_of}
 use Rattle.monitor_core.specs.Starting.{AreFresh, all_opened}
 use Rattle.monitor_core.proofs.start.open_all.Given as goal
 

@@ -3,8 +3,8 @@ use Rattle.std.proofs.Common.{ap, sym, subst, ◌∙◌}
 use Rattle.std.proofs.lemmas.Result.{on_ok_weaker}
 use Rattle.kdcs_types.specs.declared.service.Service.{Service}
 use Rattle.abstract_monitor.specs.Endings.{is_asynchronous}
-use Rattle.core_state.specs.Standing.{state_of}
-use Rattle.core_state.specs.Whole.{app_of}
+use Rattle.service_ends.specs.Standing.{state_of}
+use Rattle.service_ends.specs.Whole.{app_of}
 use Rattle.monitor_core.specs.Starting.{AreFresh, all_opened}
 use Rattle.monitor_core.proofs.start.open_services.Goals as goal
 

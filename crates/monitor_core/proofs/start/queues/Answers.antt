@@ -1,5 +1,5 @@
 use Rattle.std.proofs.Common.{ap, ◌∙◌}
-use Rattle.kdcdef_types.specs.declared.limits.Limits.{Limits}
+use Rattle.application_types.specs.declared.kdcdef_types.limits.Limits.{Limits}
 use Rattle.step_scheduler.specs.Schedule.{all_free}
 use Rattle.monitor_core.proofs.start.queues.Goals as goal
 

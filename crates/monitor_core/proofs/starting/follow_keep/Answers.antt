@@ -2,8 +2,8 @@ use Rattle.std.specs.Prelude.{is_some}
 use Rattle.std.proofs.Common.{ap, ◌∙◌}
 use Rattle.std.proofs.lemmas.Result.{on_ok_weaker}
 use Rattle.kdcs_types.specs.declared.key.ServiceId.TheVariants.{Dialogue}
-use Rattle.core_state.specs.KeptLaws.{none_found}
-use Rattle.core_state.specs.Standing.{state_of}
+use Rattle.service_ends.specs.KeptLaws.{none_found}
+use Rattle.service_ends.specs.Standing.{state_of}
 use Rattle.monitor_core.proofs.Starts.{can_go_on, fits_count, gone_indexed, gone_open, gone_ready, has_nb, holds_just, no_other, no_point, still_fits}
 use Rattle.monitor_core.proofs.starting.follow_keep.Goals as goal
 

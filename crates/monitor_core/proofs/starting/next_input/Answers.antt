@@ -1,13 +1,13 @@
 use Rattle.std.proofs.Common.{sym, ◌∙◌}
 use Rattle.std.proofs.lemmas.Result.{on_ok_weaker}
 use Rattle.kdcs_types.specs.declared.key.ServiceId.TheVariants.{Dialogue}
-use Rattle.core_state.specs.KeptLaws.{found_open}
-use Rattle.core_state.specs.Standing.{state_of}
-use Rattle.core_state.specs.Whole.{app_of}
+use Rattle.service_ends.specs.KeptLaws.{found_open}
+use Rattle.service_ends.specs.Standing.{state_of}
+use Rattle.service_ends.specs.Whole.{app_of}
 use Rattle.monitor_core.proofs.Entering.{row_order}
 use Rattle.monitor_core.proofs.Starts.{awaiting_closed, awaiting_row, next_kept, next_row}
 use Rattle.monitor_core.proofs.starting.next_input.Goals as goal
-use Rattle.laws_of_tables.specs.CommandedLaws.{awaits_not_running}
+use Rattle.laws_of_states.specs.CommandedLaws.{awaits_not_running}
 
 pub follow_keep-requires-clause-rests : goal.follow_keep-requires-clause-rests
 follow_keep-requires-clause-rests c = awaits_not_running (state_of c.args.parts.now) c.args.user.now c.requires.awaits

@@ -1,4 +1,4 @@
-use Rattle.core_state.specs.Standing.{state_of}
+use Rattle.service_ends.specs.Standing.{state_of}
 use Rattle.monitor_core.proofs.Starts.{opened_there}
 use Rattle.monitor_core.proofs.starting.open_with.Goals as goal
 

@@ -1,6 +1,6 @@
 use Rattle.std.specs.Prelude.{is_some}
 use Rattle.std.proofs.Common.{ap, ◌∙◌}
-use Rattle.core_state.specs.KeptLaws.{none_found}
+use Rattle.service_ends.specs.KeptLaws.{none_found}
 use Rattle.monitor_core.specs.StatedLaws.{can_go_on, fits_count, holds_just, indexed_with, owned, state_with, then_exact, then_for, then_indexed}
 use Rattle.monitor_core.specs.SteppingLaws.{is_seated, stepped}
 use Rattle.monitor_core.specs.WholeLaws.{open_there}

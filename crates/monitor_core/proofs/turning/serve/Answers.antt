@@ -1,7 +1,7 @@
 use Rattle.std.proofs.Common.{ap, subst, ◌∙◌}
 use Rattle.std.proofs.lemmas.Result.{IfOk-weaker}
 use Rattle.service_ends.specs.Ending.{turned_to}
-use Rattle.core_state.specs.Standing.{state_of}
+use Rattle.service_ends.specs.Standing.{state_of}
 use Rattle.monitor_core.specs.WholeLaws.{Exact, StateThen, breaks, breaks_serves, holds_it, queued_there, queues, returns, returns_serves, settles, settles_serves, task_then, waited, went}
 use Rattle.monitor_core.proofs.turning.serve.Goals as goal
 

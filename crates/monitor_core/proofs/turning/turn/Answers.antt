@@ -2,8 +2,8 @@ use Rattle.std.specs.Prelude.{None, Some, refl}
 use Rattle.std.proofs.Common.{◌+◌, ◌∙◌}
 use Rattle.std.proofs.lemmas.Result.{IfOk-weaker}
 use Rattle.service_ends.specs.Ending.{turned_to}
-use Rattle.core_state.specs.Standing.{state_of}
-use Rattle.core_state.specs.Whole.{app_of}
+use Rattle.service_ends.specs.Standing.{state_of}
+use Rattle.service_ends.specs.Whole.{app_of}
 use Rattle.monitor_core.specs.WholeLaws.{is_task, more_steps, seat_of, turned_free, turned_held, whole_after, whole_served}
 use Rattle.monitor_core.proofs.turning.turn.Goals as goal
 

@@ -1,4 +1,4 @@
-use Rattle.laws_of_applications.specs.Applied.{applied}
+use Rattle.laws_of_runs.specs.Applied.{applied}
 use Rattle.serial_audit.proofs.Expects.{audited_differs, audited_holds, audited_suits}
 use Rattle.serial_audit.proofs.audited.audit_entry.Goals as goal
 

@@ -1,4 +1,4 @@
-use Rattle.laws_of_applications.specs.Applied.{applied}
+use Rattle.laws_of_runs.specs.Applied.{applied}
 use Rattle.serial_audit.proofs.Expects.{show_by, tick_by}
 use Rattle.serial_audit.proofs.expected.expected_changes.Goals as goal
 

@@ -1,6 +1,6 @@
 use Rattle.std.specs.List.{list_all}
 use Rattle.std.proofs.Common.{ap, sym, ◌∙◌}
-use Rattle.laws_of_steps.specs.Suits.{fits_message}
+use Rattle.laws_of_states.specs.Suits.{fits_message}
 use Rattle.serial_audit.specs.Audit.{note_fits}
 use Rattle.serial_audit.proofs.names.has_short_items.Goals as goal
 

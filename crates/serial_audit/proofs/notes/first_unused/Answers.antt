@@ -1,6 +1,6 @@
 use Rattle.std.specs.Prelude.{◌<◌, length}
 use Rattle.std.proofs.Common.{sym, ap, subst, ◌∙◌}
-use Rattle.laws_of_steps.specs.Replay.{notes_on}
+use Rattle.laws_of_states.specs.Replay.{notes_on}
 use Rattle.serial_audit.proofs.NotesOn.{all_used}
 use Rattle.serial_audit.proofs.Places.{drop_more}
 use Rattle.serial_audit.proofs.notes.first_unused.Goals as goal

@@ -1,5 +1,5 @@
 use Rattle.std.specs.Prelude.{◌≡◌, drop}
-use Rattle.laws_of_steps.specs.Replay.{notes_on}
+use Rattle.laws_of_states.specs.Replay.{notes_on}
 use Rattle.serial_audit.proofs.notes.first_unused.Given as goal
 
 abbrev pub invariant-loop : goal.invariant-loop

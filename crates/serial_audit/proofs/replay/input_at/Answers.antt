@@ -1,6 +1,6 @@
 use Rattle.std.specs.Prelude.{slice_get}
 use Rattle.std.proofs.Common.{ap, ◌∙◌}
-use Rattle.unit_types.specs.PlacesLaws.{lent_at}
+use Rattle.application_types.specs.PlacesLaws.{lent_at}
 use Rattle.serial_audit.proofs.replay.input_at.Goals as goal
 
 pub returns : goal.returns

@@ -3,7 +3,7 @@ use Rattle.std.proofs.Common.{sym, ap, ◌∙◌}
 use Rattle.std.proofs.lemmas.Option.{slice_get_within}
 use Rattle.abstract_monitor.specs.Calls.{or_empty}
 use Rattle.abstract_monitor.specs.Endings.{followed_by_input}
-use Rattle.laws_of_steps.specs.Replay.{accepted}
+use Rattle.laws_of_states.specs.Replay.{accepted}
 use Rattle.open_transaction.specs.Transactions.{transaction_of}
 use Rattle.serial_audit.specs.Replaying.{app_of, kept_in}
 use Rattle.serial_audit.proofs.Places.{past_end}

@@ -2,7 +2,7 @@ use Rattle.std.specs.Prelude.{Some}
 use Rattle.std.proofs.Common.{sym, ap, ◌∙◌}
 use Rattle.std.proofs.lemmas.Result.{IfOk-weaker, on_ok_weaker}
 use Rattle.open_transaction.specs.Transactions.{transaction_of}
-use Rattle.service_statement.specs.StatingLaws.{contents_fit}
+use Rattle.kdcs_calls.specs.StatingLaws.{contents_fit}
 use Rattle.serial_audit.specs.Replaying.{app_of, kept_in, tables_in}
 use Rattle.serial_audit.proofs.Doing.{call_alone, just, none_done, plain_done}
 use Rattle.serial_audit.proofs.Unused.{refused_first, released_first}

@@ -2,7 +2,7 @@ use Rattle.std.proofs.lemmas.Result.{IfOk-weaker, on_ok_weaker}
 use Rattle.std.specs.Prelude.{is_some}
 use Rattle.std.proofs.Common.{sym, ap, ◌∙◌}
 use Rattle.open_transaction.specs.Transactions.{transaction_of}
-use Rattle.service_statement.specs.StatingLaws.{contents_fit}
+use Rattle.kdcs_calls.specs.StatingLaws.{contents_fit}
 use Rattle.serial_audit.specs.Replaying.{app_of, tables_in}
 use Rattle.serial_audit.proofs.Doing.{call_alone, held_done, just, refused_done, unasked_done}
 use Rattle.serial_audit.proofs.statement.do_refused.Goals.{then-held-via-then-held, then-held-via-else-held+then-not-asks_lock}

@@ -1,8 +1,8 @@
 use Rattle.std.proofs.Common.{◌∙◌}
 use Rattle.abstract_monitor.specs.declared.answer.Happened.TheVariants.{Went}
 use Rattle.open_transaction.specs.Transactions.{transaction_of}
-use Rattle.laws_of_applications.specs.AppliedLaws.{unit_found}
-use Rattle.service_statement.specs.StatingLaws.{asks_stands}
+use Rattle.laws_of_runs.specs.AppliedLaws.{unit_found}
+use Rattle.kdcs_calls.specs.StatingLaws.{asks_stands}
 use Rattle.serial_audit.specs.Replaying.{app_of, kept_in, tables_in}
 use Rattle.serial_audit.proofs.Doing.{alone}
 use Rattle.serial_audit.proofs.Goings.{fits_after, goes_after, goes_after_call, stands}

@@ -5,7 +5,7 @@ use Rattle.kdcs_types.specs.declared.act.Act.{Act}
 use Rattle.kdcs_types.specs.Keys.{id_cmp}
 use Rattle.abstract_monitor.specs.State.{State}
 use Rattle.abstract_monitor.specs.Turns.{message_acts}
-use Rattle.core_state.specs.Standing.{state_of}
+use Rattle.service_ends.specs.Standing.{state_of}
 use Rattle.service_ends.proofs.Ended.{holds_as}
 use Rattle.service_ends.proofs.places.hold.Goals as goal
 

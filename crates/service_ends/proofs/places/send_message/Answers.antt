@@ -4,7 +4,7 @@ use Rattle.std.proofs.lemmas.Result.{on_ok_weaker}
 use Rattle.abstract_monitor.specs.Endings.{joined}
 use Rattle.abstract_monitor.specs.State.{OpenTransaction}
 use Rattle.open_transaction.specs.declared.open.OpenTransaction.{OpenTransaction as Transaction}
-use Rattle.core_state.specs.KeptLaws.{none_found}
+use Rattle.service_ends.specs.KeptLaws.{none_found}
 use Rattle.service_ends.proofs.Ended.{sends_as, sends_acts}
 use Rattle.service_ends.proofs.places.send_message.Goals as goal
 

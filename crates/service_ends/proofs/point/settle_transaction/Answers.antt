@@ -8,7 +8,7 @@ use Rattle.service_ends.specs.Ending.{IsClosed}
 use Rattle.service_ends.proofs.Ended.{goes_on, passed_as, points_as, refused_as, refuses_as, row_after_order}
 use Rattle.service_ends.proofs.Fits.{point_commits}
 use Rattle.service_ends.proofs.point.settle_transaction.Goals as goal
-use Rattle.laws_of_tables.specs.PointsLaws.{point_row_fits}
+use Rattle.laws_of_states.specs.PointsLaws.{point_row_fits}
 
 pub end_transaction-requires-clause-closed : goal.end_transaction-requires-clause-closed
 end_transaction-requires-clause-closed c =

@@ -5,7 +5,7 @@ use Rattle.kdcs_types.specs.declared.act.Change.{Change}
 use Rattle.kdcs_types.specs.Tables.{AreChanges, IsSortedTables, TableRows, with_changes}
 use Rattle.sync_points.specs.Refusals.{gssb_weight}
 use Rattle.sync_points.specs.RefusalsLaws.{gssbs_after, lt_alike}
-use Rattle.row_charges.specs.Weights.{made_weight, replaced_weight}
+use Rattle.table_fit.specs.Weights.{made_weight, replaced_weight}
 use Rattle.sync_points.proofs.gssbs.has_too_many_gssbs.Goals as goal
 
 all_counted : (t : TableRows) (cs items : List Change) (limit after allowed n : ℕ) → items ≡ cs → length items ≤ n → IsSortedTables t → AreChanges cs

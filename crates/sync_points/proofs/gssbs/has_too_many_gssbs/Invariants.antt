@@ -1,6 +1,6 @@
 use Rattle.std.proofs.Common.{◌≡◌, ◌+◌, ◌≤◌, length, take}
 use Rattle.sync_points.specs.Refusals.{gssb_weight}
-use Rattle.row_charges.specs.Weights.{made_weight, replaced_weight}
+use Rattle.table_fit.specs.Weights.{made_weight, replaced_weight}
 use Rattle.sync_points.proofs.gssbs.has_too_many_gssbs.Given as goal
 
 abbrev pub invariant-loop-change : goal.invariant-loop-change

@@ -1,7 +1,7 @@
 use Rattle.std.proofs.Common.{sym, ap, subst, ◌≡◌, ◌+◌, ◌∙◌, ℕ, Bool, true, false, List, length}
 use Rattle.std.specs.List.{list_all}
 use Rattle.std.specs.Prelude.{IsTrue, nat_lt, Option, Some, None}
-use Rattle.kdcdef_types.specs.declared.limits.Limits.{Limits}
+use Rattle.application_types.specs.declared.kdcdef_types.limits.Limits.{Limits}
 use Rattle.kdcs_types.specs.declared.act.Change.{Change}
 use Rattle.kdcs_types.specs.declared.act.Changes.{Changes}
 use Rattle.kdcs_types.specs.declared.call.Cause.{Cause}
@@ -9,15 +9,15 @@ use Rattle.kdcs_types.specs.declared.call.Cause.TheVariants.{E09, E10, E11}
 use Rattle.kdcs_types.specs.declared.service.Service.{Service}
 use Rattle.kd_base.specs.Limits.{last_next_job}
 use Rattle.kdcs_types.specs.Tables.{AreChanges, TableRows, changed, with_changes}
-use Rattle.kdcdef_types.specs.Generation.{Generated}
+use Rattle.application_types.specs.Generation.{Generated}
 use Rattle.abstract_monitor.specs.declared.outcome.Outcome.{Outcome}
 use Rattle.abstract_monitor.specs.Charges.{total_charge}
 use Rattle.abstract_monitor.specs.Endings.{durable, refusal, row_after, synchronised}
-use Rattle.laws_of_tables.specs.PointLaws.{Stands}
+use Rattle.laws_of_states.specs.PointLaws.{Stands}
 use Rattle.open_transaction.specs.declared.open.OpenTransaction.{OpenTransaction}
 use Rattle.open_transaction.specs.Transactions.{transaction_of}
-use Rattle.row_charges.specs.Pages.{leaves_short}
-use Rattle.storage_areas.specs.Areas.{changes_of}
+use Rattle.table_fit.specs.Pages.{leaves_short}
+use Rattle.service_parts.specs.Areas.{changes_of}
 use Rattle.sync_points.specs.declared.points.Point.TheVariants.{Passed}
 use Rattle.sync_points.specs.Answers.{point_by}
 use Rattle.sync_points.specs.MadeLaws.{points_are, points_change}

@@ -1,6 +1,7 @@
 use Rattle.std.proofs.Common.{rules}
 use Rattle.kdcfile_double.specs.Twice.{identity_of}
-use Rattle.abstract_monitor.specs.{Commands.{acts_of}, Trace.{history}}
+use Rattle.abstract_monitor.specs.Commands.{acts_of}
+use Rattle.abstract_monitor.specs.Trace.{history}
 use Rattle.monitor_core.specs.CoreSteps.{durable_of}
 use Rattle.twin_run.proofs.Lent.{did_lent, fails_lent, part_lent}
 use Rattle.twin_run.proofs.running.run_between.Goals as goal

@@ -1,5 +1,5 @@
 use Rattle.kdcfile_store.specs.Paged.{identity_with}
-use Rattle.abstract_monitor.specs.{Trace.{history}}
+use Rattle.abstract_monitor.specs.Trace.{history}
 use Rattle.std.proofs.lemmas.Result.{on_ok_weaker}
 use Rattle.twin_run.proofs.Handing.{done_both, failed_both}
 use Rattle.twin_run.proofs.Keepers.{did_run, fails_made, kept_made, part_run, running_made, since_made, told_made}

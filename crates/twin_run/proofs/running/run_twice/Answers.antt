@@ -1,7 +1,8 @@
 use Rattle.std.proofs.Common.{inl}
 use Rattle.kd_base.specs.ToolsLaws.{error_same}
 use Rattle.kdcfile_double.specs.Twice.{identity_of}
-use Rattle.abstract_monitor.specs.{Commands.{acts_of}, Trace.{history}}
+use Rattle.abstract_monitor.specs.Commands.{acts_of}
+use Rattle.abstract_monitor.specs.Trace.{history}
 use Rattle.monitor_core.specs.CoreSteps.{durable_of}
 use Rattle.device_run.specs.HandedOnLaws.{act_failed, act_knows_no_other, act_refuses_nothing}
 use Rattle.twin_run.specs.Running.{lines_for, mended_line}

@@ -1,7 +1,7 @@
 use Rattle.std.proofs.Common.{ap, arith}
 use Rattle.std.specs.Prelude.{IsTrue}
-use Rattle.warm_start.specs.Opening.{opening_most}
-use Rattle.warm_start.specs.Stands.{identity_for}
+use Rattle.device_acts.specs.Opening.{opening_most}
+use Rattle.device_acts.specs.Stands.{identity_for}
 use Rattle.utm_cli.proofs.Opened.{opening_then}
 use Rattle.utm_cli.proofs.opening.open.Goals as goal
 

@@ -1,6 +1,6 @@
 use Rattle.std.proofs.Common.{◌∙◌, List, ℕ, ap, subst}
 use Rattle.device_acts.specs.Said.{Said}
-use Rattle.trail_words.specs.Auditing.{verdict_line}
+use Rattle.trail_run.specs.Auditing.{verdict_line}
 use Rattle.utm_cli.specs.AuditLaws.{holds_of}
 use Rattle.utm_cli.proofs.run.audit.Goals as goal
 

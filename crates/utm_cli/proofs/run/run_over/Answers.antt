@@ -10,11 +10,12 @@ use Rattle.utm_cli.specs.declared.words.Word.TheVariants.{Show, Trail, Audit, Ma
 use Rattle.utm_cli.specs.Asking.{Errand, app_of}
 use Rattle.utm_cli.specs.Doing.{IsOverFile, HoldsAll, StartsBy, Starts, RefusesBy, own, trail_of, entry_count}
 use Rattle.utm_cli.specs.Words.{IsOfBase}
-use Rattle.trail_words.specs.Auditing.{verdict_line}
-use Rattle.trail_words.specs.Trailing.{HasBytes}
-use Rattle.trail_words.specs.declared.verdict.Verdict.TheVariants.{Holds}
+use Rattle.trail_run.specs.Auditing.{verdict_line}
+use Rattle.trail_run.specs.Trailing.{HasBytes}
+use Rattle.trail_run.specs.declared.trail_words.verdict.Verdict.TheVariants.{Holds}
 use Rattle.utm_cli.specs.Promise.{Ran, IsCutOfRun, LeavesLines, MakesFile}
-use Rattle.utm_cli.proofs.ByWord.{OpensFile, starts, refuses_opening, for_opened, is_there, opened_once, opening_over, stored_word, stored_opening, ran_stored, cut_stored, hands_on, may_hand_on, over_of_base, SendsAside, ran_aside, cut_aside}
+use Rattle.utm_cli.proofs.ByWord.{OpensFile, starts, refuses_opening, for_opened, is_there, opened_once, opening_over, stored_word, stored_opening, ran_stored, cut_stored, hands_on, may_hand_on}
+use Rattle.utm_cli.proofs.ByWord.{over_of_base, SendsAside, ran_aside, cut_aside}
 use Rattle.utm_cli.proofs.Updated.{update_over, update_starts, update_takes, update_refuses, update_own, update_ran, update_cut, update_written}
 use Rattle.utm_cli.proofs.Writing.{run_written}
 use Rattle.utm_cli.proofs.run.run_over.Given.{Over}

@@ -4,7 +4,7 @@ use Rattle.std.proofs.lemmas.Result.{on_ok_weaker}
 use Rattle.kd_device.specs.Device.{LeavesOnly}
 use Rattle.kdcs_types.specs.Tables.{TableRows}
 use Rattle.abstract_monitor.specs.Trace.{bytes_of}
-use Rattle.warm_start.specs.Opening.{IsOpening, IsRefused, IsOfOtherTexts, opening_most}
+use Rattle.device_acts.specs.Opening.{IsOpening, IsRefused, IsOfOtherTexts, opening_most}
 use Rattle.utm_cli.specs.Asking.{Errand}
 use Rattle.utm_cli.specs.Doing.{Opens, OpeningRefuses, identity_of, own, acts_of}
 use Rattle.device_acts.specs.Acting.{commits_nothing}

@@ -1,5 +1,5 @@
 use Rattle.std.proofs.Common.{Ok, ap, refl, ◌∙◌}
-use Rattle.trail_words.specs.Auditing.{verdict_line}
+use Rattle.trail_run.specs.Auditing.{verdict_line}
 use Rattle.utm_cli.specs.Doing.{HoldsAll, own}
 use Rattle.utm_twin.proofs.Aside.{differs_of, held_of}
 use Rattle.utm_twin.proofs.ByWord.{audit_attaches, held_line, judges}

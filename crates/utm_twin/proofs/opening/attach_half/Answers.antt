@@ -1,6 +1,6 @@
 use Rattle.std.proofs.Common.{arith, sym, subst}
 use Rattle.std.specs.Prelude.{IsTrue}
-use Rattle.kd_twin.specs.declared.half.Half.TheVariants.{First, Second}
+use Rattle.kd_device.specs.declared.half.Half.TheVariants.{First, Second}
 use Rattle.kdcfile_double.specs.MakingLaws.{rests_then}
 use Rattle.utm_twin.proofs.opening.Attached.{quiet_rests, reserved_frame, reserved_none_rose}
 use Rattle.utm_twin.proofs.opening.attach_half.Goals as goal

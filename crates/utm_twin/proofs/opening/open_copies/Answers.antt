@@ -1,11 +1,11 @@
 use Rattle.std.proofs.Common.{List, ℕ, refl, sym, subst, inl, ◌∙◌}
 use Rattle.std.specs.Prelude.{IsTrue}
-use Rattle.kdcfile_double.specs.MakingLaws.{failed_of, none_rose_then, told_of}
+use Rattle.kdcfile_double.specs.MakingLaws.{none_rose_then, told_of}
 use Rattle.kdcfile_double.specs.Opening.{StartsFromTwo, identity_twice}
 use Rattle.utm_twin.specs.AnswersLaws.{started_two_once}
 use Rattle.utm_twin.specs.BehindLaws.{behind_is_mended, mended_was_behind, used_or_lost}
 use Rattle.utm_twin.proofs.opening.Attached.{may_attach_then}
-use Rattle.utm_twin.proofs.opening.Opened.{attached_leaves, failed_after, keeps_after, mended_leaves, not_empty, opened_before, opened_leaves, opened_stay, same_files, started_stay}
+use Rattle.utm_twin.proofs.opening.Opened.{attached_leaves, failed_after, failed_of, keeps_after, mended_leaves, not_empty, opened_before, opened_leaves, opened_stay, same_files, started_stay}
 use Rattle.utm_twin.proofs.opening.open_copies.Goals as goal
 
 pub returns-in_err-attach_both-clause-any_moment : goal.returns-in_err-attach_both-clause-any_moment

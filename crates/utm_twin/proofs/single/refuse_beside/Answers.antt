@@ -1,5 +1,5 @@
 use Rattle.std.proofs.Common.{rules}
-use Rattle.kd_twin.specs.declared.half.Half.TheVariants.{First}
+use Rattle.kd_device.specs.declared.half.Half.TheVariants.{First}
 use Rattle.utm_twin.proofs.single.OneHalf.{begins, refusal_given}
 use Rattle.utm_twin.proofs.single.refuse_beside.Goals as goal
 

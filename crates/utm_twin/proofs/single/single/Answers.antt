@@ -1,5 +1,5 @@
 use Rattle.std.proofs.Common.{rules}
-use Rattle.kd_twin.specs.declared.half.Half.TheVariants.{First}
+use Rattle.kd_device.specs.declared.half.Half.TheVariants.{First}
 use Rattle.utm_twin.proofs.single.OneHalf.{as_utm_given, begins, frame_given, second_stays}
 use Rattle.utm_twin.proofs.single.single.Goals as goal
 

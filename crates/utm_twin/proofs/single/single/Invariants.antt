@@ -1,4 +1,4 @@
-use Rattle.kd_twin.specs.declared.half.Half.TheVariants.{First}
+use Rattle.kd_device.specs.declared.half.Half.TheVariants.{First}
 use Rattle.utm_twin.proofs.single.single.Given as goal
 
 abbrev pub ghosts-single_on : goal.ghosts-single_on

@@ -1,6 +1,6 @@
 use Rattle.std.proofs.Common.{◌∙◌}
 use Rattle.std.specs.Vec.{vec_len}
-use Rattle.kdcfile_images.specs.FreshLaws.{filled}
+use Rattle.kdcfile_layout.specs.FreshLaws.{filled}
 use Rattle.whole_store.proofs.making.add_zeros.Goals as goal
 
 pub returns : goal.returns

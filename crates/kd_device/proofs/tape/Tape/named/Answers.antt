@@ -1,14 +1,27 @@
-use Rattle.std.proofs.Common.{arith}
-use Rattle.kd_device.proofs.Kept.{spare_same, pieces_are, fits_push}
+use Rattle.std.proofs.Common.{ap, arith}
+use Rattle.kd_device.specs.Recording.{Recording}
+use Rattle.kd_device.proofs.Kept.{named_push, names_are, events_stay}
 use Rattle.kd_device.proofs.tape.Tape.named.Goals as goal
 
 pub invariant_of-self : goal.invariant_of-self
 invariant_of-self c =
-    let s = c.self.inside in
-    let fits = fits_push s.name_bytes.items c.args.name.now s.names.items c.keep-span.result c.keep-span.new.kept.items c.put.new.to.items c.keep-span.ensures.items c.put.ensures.items c.keep-span.ensures.span c.self.invariant.1.0 in
-    (c.self.invariant.0, (fits, grind (arith, spare_same _ _ c.self.view_is, c.self.invariant.1.1, c.requires, c.put.ensures, c.keep-span.ensures)))
+    let s = c.self.inside in let a = c.args in let k = c.self.invariant.0 in let room = c.self.invariant.1 in let put = c.keep-span in
+    let calls = ap (λ (r : Recording). r.spare_calls) c.self.view_is in
+    let bytes = ap (λ (r : Recording). r.spare_bytes) c.self.view_is in (
+      named_push s.kept.items a.name.now s.made.items s.names.items put.new.kept.items put.ensures.items k.inside k.fit a.disk put.result c.put.new.to.items c.put.ensures.items put.ensures.span s.files.items s.sent.items k.made,
+      record {
+        for_files = room.for_files;
+        for_made = omega (arith, room.for_made, calls, c.requires.calls);
+        for_kept = omega (arith, room.for_kept, bytes, c.requires.bytes, put.ensures.len, put.ensures.capacity);
+        for_sent = omega (arith, room.for_sent, bytes, c.requires.bytes);
+        for_names = omega (arith, room.for_names, calls, c.requires.calls, c.put.ensures.len, c.put.ensures.capacity);
+      },
+    )
 
 pub returns : goal.returns
 returns c =
-    let s = c.self.inside in
-    rw (← c.self.view_is) (rw (pieces_are s.name_bytes.items c.args.name.now s.names.items c.keep-span.result c.keep-span.new.kept.items c.put.new.to.items c.keep-span.ensures.items c.put.ensures.items c.keep-span.ensures.span c.self.invariant.1.0))
+    let s = c.self.inside in let a = c.args in let k = c.self.invariant.0 in let put = c.keep-span in
+    rw (← c.self.view_is) (rw (
+      events_stay s.kept.items a.name.now s.made.items s.names.items put.new.kept.items put.ensures.items k.inside k.fit,
+      names_are s.kept.items a.name.now s.made.items s.names.items put.new.kept.items put.ensures.items k.inside k.fit a.disk put.result c.put.new.to.items c.put.ensures.items put.ensures.span,
+    ))

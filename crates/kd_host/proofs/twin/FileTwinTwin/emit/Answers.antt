@@ -1,5 +1,5 @@
 use Rattle.std.proofs.Common.{ap, arith}
-use Rattle.kd_twin.specs.declared.half.Half.TheVariants.{First}
+use Rattle.kd_device.specs.declared.half.Half.TheVariants.{First}
 use Rattle.kd_host.specs.Silent.{TwinCounts}
 use Rattle.kd_host.proofs.twin.FileTwinTwin.emit.Goals as goal
 

@@ -1,13 +1,14 @@
 use Rattle.std.proofs.Common.{◌≡◌, ◌⊎◌, IsTrue, Some, inl, sym, subst}
-use Rattle.kd_twin.specs.Twin.{disk_of, other}
-use Rattle.kd_twin.specs.declared.half.Half.{Half}
-use Rattle.kd_twin.specs.declared.half.Half.TheVariants.{First}
+use Rattle.kd_device.specs.Twin.{disk_of, other}
+use Rattle.kd_device.specs.declared.half.Half.{Half}
+use Rattle.kd_device.specs.declared.half.Half.TheVariants.{First}
 use Rattle.kdcfile_copies.specs.declared.answer.LoadedCopy.{LoadedCopy}
 use Rattle.kdcfile_copies.specs.Copies.{IsCopyOf}
 use Rattle.kdcfile_store.specs.Paged.{HasFile}
 use Rattle.kdcfile_double.specs.Twice.{Twice, IsInUse, IsKeptTwice, copy_at, identity_of, sequence_of, content_of}
 use Rattle.kdcfile_double.specs.Mended.{TakesAfter}
-use Rattle.kdcfile_double.specs.MendLaws.{after_mended, both_rest, copy_open, copying_pairs, each_rests, frame_of_halves, holds_copy, kept_lost, kept_mended, mended_pairs, on_ok, on_ok_then, target_is}
+use Rattle.kdcfile_double.specs.MendLaws.{after_mended, both_rest, copy_open, copying_pairs, each_rests, frame_of_halves, holds_copy, kept_lost, kept_mended, mended_pairs, on_ok, on_ok_then}
+use Rattle.kdcfile_double.specs.MendLaws.{target_is}
 use Rattle.kdcfile_double.proofs.store.TwinStore.mend.Goals as goal
 
 pub returns-in_default-clause-lost : goal.returns-in_default-clause-lost

@@ -2,9 +2,12 @@ use Rattle.std.proofs.Common.{◌⊎◌, sym, subst, inl, ⊎_elim, ◌∙◌}
 use Rattle.std.specs.Prelude.{IsTrue, false}
 use Rattle.kdcfile_double.specs.Twice.{IsKeptTwice, LeavesBoth}
 use Rattle.kdcfile_double.specs.Opening.{AreEmpty, IsMakingTwo, SameFiles, Unchanged, identity_twice}
-use Rattle.kdcfile_double.specs.OpenedLaws.{empty_suits, empty_tables_are, empty_sequence, pages_fit, empty_starts, empty_is_open, empty_made, kept_lifted, empty_in_use, opened_pages, opened_tables, opened_starts, opened_in_use, opened_kept, opened_made}
+use Rattle.kdcfile_double.specs.OpenedLaws.{empty_suits, empty_tables_are, empty_sequence, pages_fit, empty_starts, empty_is_open, empty_made, kept_lifted, empty_in_use, opened_pages, opened_tables}
+use Rattle.kdcfile_double.specs.OpenedLaws.{opened_starts, opened_in_use, opened_kept, opened_made}
 use Rattle.kdcfile_double.specs.MakingLaws.{empty_answer, rests_making, frame_then, none_rose_then, one_rose_then}
-use Rattle.kdcfile_halves.specs.BesideLaws.{pairs_weaker}
+use Rattle.kdcfile_copies.specs.BesideLaws.{pairs_weaker}
+use Rattle.kdcfile_double.proofs.store.TwinStore.open.Given.{Over}
+use Rattle.kdcfile_double.proofs.store.TwinStore.open.Goals.{After-empty}
 use Rattle.kdcfile_double.proofs.store.TwinStore.open.Goals as goal
 
 pub returns-then-are_empty-clause-suits : goal.returns-then-are_empty-clause-suits
@@ -19,28 +22,27 @@ returns-then-are_empty-clause-sequence g c = empty_sequence c.empty.result c.emp
 pub returns-then-are_empty-clause-fits : goal.returns-then-are_empty-clause-fits
 returns-then-are_empty-clause-fits g c = pages_fit c.args.generation.now c.args.fingerprint.now c.empty.result c.empty.ensures.keeps (empty_suits c.args.generation.now c.empty.result c.empty.ensures.empty)
 
+-- both files are empty
+both_empty : (g : Over) (c : After-empty g) → IsTrue (g.T.Twin.both c.args.twin.now).told → AreEmpty (g.T.Twin.both c.args.twin.now).first.holds (g.T.Twin.both c.args.twin.now).second.holds
+both_empty g c told =
+    let a = g.T.Twin.both c.args.twin.now in
+    let both = c.are_empty.ensures.0 c.if-are_empty.true in
+    (empty_answer c.in_ok-found.found.0 a.first.holds both.0 (c.in_ok-found.ensures.first_answer told), empty_answer c.in_ok-found.found.1 a.second.holds both.1 (c.in_ok-found.ensures.second_answer told))
+
 pub returns-then-are_empty-clause-starts : goal.returns-then-are_empty-clause-starts
 returns-then-are_empty-clause-starts g c =
     let a = g.T.Twin.both c.args.twin.now in
-    let both = c.are_empty.ensures.0 c.if-are_empty.true in
-    empty_starts c.args.generation.now c.args.fingerprint.now a.first.holds a.second.holds (IsTrue a.told) c.empty.result
-    (λ told. (empty_answer c.in_ok-found.found.0 a.first.holds both.0 (c.in_ok-found.ensures.first_answer told), empty_answer c.in_ok-found.found.1 a.second.holds both.1 (c.in_ok-found.ensures.second_answer told)))
-    c.empty.ensures.empty
+    empty_starts c.args.generation.now c.args.fingerprint.now a.first.holds a.second.holds (IsTrue a.told) c.empty.result (both_empty g (goal.at.returns-then-are_empty-clause-starts g c).After-empty) c.empty.ensures.empty
 
 pub returns-then-are_empty-clause-is_open : goal.returns-then-are_empty-clause-is_open
 returns-then-are_empty-clause-is_open g c =
     let a = g.T.Twin.both c.args.twin.now in
-    let both = c.are_empty.ensures.0 c.if-are_empty.true in
-    empty_is_open a.first.holds a.second.holds (IsTrue a.told) c.args.make c.empty.result
-    (λ told. (empty_answer c.in_ok-found.found.0 a.first.holds both.0 (c.in_ok-found.ensures.first_answer told), empty_answer c.in_ok-found.found.1 a.second.holds both.1 (c.in_ok-found.ensures.second_answer told)))
-    c.empty.ensures.is_open
+    empty_is_open a.first.holds a.second.holds (IsTrue a.told) c.args.make c.empty.result (both_empty g (goal.at.returns-then-are_empty-clause-is_open g c).After-empty) c.empty.ensures.is_open
 
 pub returns-then-are_empty-clause-in_use : goal.returns-then-are_empty-clause-in_use
 returns-then-are_empty-clause-in_use g c =
     let a = g.T.Twin.both c.args.twin.now in
-    let both = c.are_empty.ensures.0 c.if-are_empty.true in
-    empty_in_use a.first.holds a.second.holds (IsTrue a.told) c.empty.result
-    (λ told. (empty_answer c.in_ok-found.found.0 a.first.holds both.0 (c.in_ok-found.ensures.first_answer told), empty_answer c.in_ok-found.found.1 a.second.holds both.1 (c.in_ok-found.ensures.second_answer told)))
+    empty_in_use a.first.holds a.second.holds (IsTrue a.told) c.empty.result (both_empty g (goal.at.returns-then-are_empty-clause-in_use g c).After-empty)
 
 pub returns-then-are_empty-clause-kept : goal.returns-then-are_empty-clause-kept
 returns-then-are_empty-clause-kept g c =
@@ -64,11 +66,9 @@ pub returns-then-are_empty-clause-still : goal.returns-then-are_empty-clause-sti
 returns-then-are_empty-clause-still g c = λ told asked.
     let a = g.T.Twin.both c.args.twin.now in
     let la = g.T.Twin.leaves c.args.twin.now in
-    let both = c.are_empty.ensures.0 c.if-are_empty.true in
-    let empty : AreEmpty a.first.holds a.second.holds = (empty_answer c.in_ok-found.found.0 a.first.holds both.0 (c.in_ok-found.ensures.first_answer told), empty_answer c.in_ok-found.found.1 a.second.holds both.1 (c.in_ok-found.ensures.second_answer told)) in
     let rests = c.read_both.ensures.rests told in
     ⊎_elim
-    (λ filled. absurd (filled empty))
+    (λ filled. absurd (filled (both_empty g (goal.at.returns-then-are_empty-clause-still g c).After-empty told)))
     (λ none. subst (λ t. SameFiles a (g.T.Twin.both t) × LeavesBoth a (g.T.Twin.both t) la (g.T.Twin.leaves t) (Unchanged a la)) (sym (c.empty.ensures.still none)) (rests.files, rests.leaves))
     asked
 

@@ -1,6 +1,9 @@
 use Rattle.std.proofs.Common.{◌≡◌, sym, ap, subst, ◌∙◌}
-use Rattle.std.specs.Prelude.{IsTrue}
-use Rattle.kd_twin.specs.declared.half.Half.TheVariants.{First, Second}
+use Rattle.std.specs.Prelude.{IsTrue, Option}
+use Rattle.kd_device.specs.Twin.{Both}
+use Rattle.kd_device.specs.declared.half.Half.{Half}
+use Rattle.kd_device.specs.declared.half.Half.TheVariants.{First, Second}
+use Rattle.kdcfile_copies.specs.declared.answer.LoadedCopy.{LoadedCopy}
 use Rattle.kdcfile_double.specs.declared.error.TwinOpenError.TheVariants as to
 use Rattle.kdcfile_double.specs.Twice.{Twice, IsOpen, IsTwice}
 use Rattle.kdcfile_double.specs.Choice.{KeepsNoneTwice, KeepsOthersTwice}
@@ -10,6 +13,8 @@ use Rattle.kdcfile_double.specs.OpenedLaws.{handed_on}
 use Rattle.kdcfile_double.specs.OpeningLaws.{fits_twice}
 use Rattle.kdcfile_double.specs.SingleLaws.{KeepsSome, first_keeps_some, second_keeps_some}
 use Rattle.kdcfile_double.specs.ReopenLaws.{AreAgain, IsReopened, err_failed, failed_only, read_failed, read_is_twice, read_suits, read_texts, reopened}
+use Rattle.kdcfile_double.proofs.store.TwinStore.reopen.Given.{Over}
+use Rattle.kdcfile_double.proofs.store.TwinStore.reopen.Goals.{In_ok-store}
 use Rattle.kdcfile_double.proofs.store.TwinStore.reopen.Goals as goal
 
 pub reload_both-requires-clause-first_keeps : goal.reload_both-requires-clause-first_keeps
@@ -24,12 +29,13 @@ reload_both-requires-clause-first_kept g c = λ told. subst (λ (u : Twice). IsK
 pub reload_both-requires-clause-second_kept : goal.reload_both-requires-clause-second_kept
 reload_both-requires-clause-second_kept g c = λ told. subst (λ (u : Twice). IsKeptAt Second u.second (g.T.Twin.both c.args.twin.now) (g.T.Twin.leaves c.args.twin.now)) (sym c.self.view_is) (second_is_kept c.args.self (g.T.Twin.both c.args.twin.now) (g.T.Twin.leaves c.args.twin.now) (g.met.T.Twin.holds_now c.args.twin.now) c.requires.kept told)
 
+-- the copies were read again, told of the store as it is seen
+seen_again : {u s : Twice} {p q : Option LoadedCopy} {lost : Option Half} {a b : Both} → u ≡ s → AreAgain u.first u.second p q u.lost lost a b → AreAgain s.first s.second p q s.lost lost a b
+seen_again {u} {s} {p} {q} {lost} {a} {b} seen r = subst (λ (z : Twice). AreAgain z.first z.second p q z.lost lost a b) seen r
+
 pub again-requires : goal.again-requires
 again-requires g c =
-    let s : Twice = c.args.self in
-    let is_twice : IsTwice s = subst IsTwice c.self.view_is c.self.invariant in
-    let r : AreAgain s.first s.second c.in_ok-found.found.0 c.in_ok-found.found.1 s.lost c.reload_both.new.lost (g.T.Twin.both c.args.twin.now) (g.T.Twin.both c.reload_both.new.twin) = subst (λ (u : Twice). AreAgain u.first u.second c.in_ok-found.found.0 c.in_ok-found.found.1 u.lost c.reload_both.new.lost (g.T.Twin.both c.args.twin.now) (g.T.Twin.both c.reload_both.new.twin)) c.self.view_is c.in_ok-found.ensures.again in
-    subst (λ (u : Twice). IsTwice (record { first = c.in_ok-found.found.0; second = c.in_ok-found.found.1; mended = u.mended; lost = c.reload_both.new.lost })) (sym c.self.view_is) (read_is_twice s is_twice c.in_ok-found.found.0 c.in_ok-found.found.1 c.reload_both.new.lost (g.T.Twin.both c.args.twin.now) (g.T.Twin.both c.reload_both.new.twin) r)
+    subst (λ (u : Twice). IsTwice (record { first = c.in_ok-found.found.0; second = c.in_ok-found.found.1; mended = u.mended; lost = c.reload_both.new.lost })) (sym c.self.view_is) (read_is_twice c.args.self (subst IsTwice c.self.view_is c.self.invariant) c.in_ok-found.found.0 c.in_ok-found.found.1 c.reload_both.new.lost (g.T.Twin.both c.args.twin.now) (g.T.Twin.both c.reload_both.new.twin) (seen_again c.self.view_is c.in_ok-found.ensures.again))
 
 pub returns-in_err-found-clause-refused : goal.returns-in_err-found-clause-refused
 returns-in_err-found-clause-refused g c = λ t keeps suits is told. c.in_err-found.ensures.refused (handed_on _ _ c.from_residual.result c.in_err-found.field-0.0 to.NotKdcfile c.from_residual.ensures.1 is) told
@@ -60,10 +66,7 @@ returns-in_err-store-clause-spent g c = λ n is. let h : to.Spent n ≡ to.Faile
 
 pub returns-in_err-store-clause-failed : goal.returns-in_err-store-clause-failed
 returns-in_err-store-clause-failed g c = λ is.
-    let s : Twice = c.args.self in
-    let is_twice : IsTwice s = subst IsTwice c.self.view_is c.self.invariant in
-    let r : AreAgain s.first s.second c.in_ok-found.found.0 c.in_ok-found.found.1 s.lost c.reload_both.new.lost (g.T.Twin.both c.args.twin.now) (g.T.Twin.both c.reload_both.new.twin) = subst (λ (u : Twice). AreAgain u.first u.second c.in_ok-found.found.0 c.in_ok-found.found.1 u.lost c.reload_both.new.lost (g.T.Twin.both c.args.twin.now) (g.T.Twin.both c.reload_both.new.twin)) c.self.view_is c.in_ok-found.ensures.again in
-    read_failed s is_twice c.in_ok-found.found.0 c.in_ok-found.found.1 c.reload_both.new.lost (g.T.Twin.both c.args.twin.now) (g.T.Twin.both c.reload_both.new.twin) r c.in_err-store.ensures.failed.1 c.in_err-store.ensures.failed.2
+    read_failed c.args.self (subst IsTwice c.self.view_is c.self.invariant) c.in_ok-found.found.0 c.in_ok-found.found.1 c.reload_both.new.lost (g.T.Twin.both c.args.twin.now) (g.T.Twin.both c.reload_both.new.twin) (seen_again c.self.view_is c.in_ok-found.ensures.again) c.in_err-store.ensures.failed.1 c.in_err-store.ensures.failed.2
 
 pub returns-in_err-store-clause-still : goal.returns-in_err-store-clause-still
 returns-in_err-store-clause-still g c = λ told. let rests = c.reload_both.ensures.rests told in (rests.files, rests.leaves)
@@ -71,28 +74,37 @@ returns-in_err-store-clause-still g c = λ told. let rests = c.reload_both.ensur
 pub returns-in_err-store-clause-frame : goal.returns-in_err-store-clause-frame
 returns-in_err-store-clause-frame g c = c.reload_both.ensures.frame
 
+-- the store of the copies that were read again
+abbrev of : (g : Over) (c : In_ok-store g) → Twice
+of g c = record { first = c.in_ok-found.found.0; second = c.in_ok-found.found.1; mended = c.args.self.mended; lost = c.reload_both.new.lost }
+
+same : (g : Over) (c : In_ok-store g) → c.in_ok-store.store ≡ of g c
+same g c = c.in_ok-store.ensures.store ∙ ap (λ (u : Twice). record { first = c.in_ok-found.found.0; second = c.in_ok-found.found.1; mended = u.mended; lost = c.reload_both.new.lost }) c.self.view_is
+
+open_now : (g : Over) (c : In_ok-store g) → IsOpen (of g c)
+open_now g c = subst IsOpen (same g c) c.in_ok-store.ensures.is_open
+
+now_open : (g : Over) (c : In_ok-store g) → IsReopened (IsTrue (g.T.Twin.both c.args.twin.now).told) c.args.self c.in_ok-store.store (g.T.Twin.both c.args.twin.now) (g.T.Twin.both c.reload_both.new.twin) (g.T.Twin.leaves c.reload_both.new.twin)
+now_open g c =
+    let a = g.T.Twin.both c.args.twin.now in
+    let b = g.T.Twin.both c.reload_both.new.twin in
+    let leaves = g.T.Twin.leaves c.reload_both.new.twin in
+    subst (λ (u : Twice). IsReopened (IsTrue a.told) c.args.self u a b leaves) (sym (same g c))
+    (reopened c.args.self (subst IsTwice c.self.view_is c.self.invariant) c.in_ok-found.found.0 c.in_ok-found.found.1 c.reload_both.new.lost a b (seen_again c.self.view_is c.in_ok-found.ensures.again) (open_now g c) (IsTrue a.told)
+    (g.T.Twin.leaves c.args.twin.now) leaves c.requires.kept c.reload_both.ensures.rests c.in_ok-found.ensures.first_kept c.in_ok-found.ensures.second_kept)
+
 pub tables_for-requires : goal.tables_for-requires
 tables_for-requires g c = c.in_ok-store.ensures.is_open
 
 pub returns-in_err-tables-clause-refused : goal.returns-in_err-tables-clause-refused
 returns-in_err-tables-clause-refused g c = λ t keeps suits is told.
-    let s : Twice = c.args.self in
-    let is_twice : IsTwice s = subst IsTwice c.self.view_is c.self.invariant in
-    let r : AreAgain s.first s.second c.in_ok-found.found.0 c.in_ok-found.found.1 s.lost c.reload_both.new.lost (g.T.Twin.both c.args.twin.now) (g.T.Twin.both c.reload_both.new.twin) = subst (λ (u : Twice). AreAgain u.first u.second c.in_ok-found.found.0 c.in_ok-found.found.1 u.lost c.reload_both.new.lost (g.T.Twin.both c.args.twin.now) (g.T.Twin.both c.reload_both.new.twin)) c.self.view_is c.in_ok-found.ensures.again in
-    let of : Twice = record { first = c.in_ok-found.found.0; second = c.in_ok-found.found.1; mended = s.mended; lost = c.reload_both.new.lost } in
-    let same : c.in_ok-store.store ≡ of = c.in_ok-store.ensures.store ∙ ap (λ (u : Twice). record { first = c.in_ok-found.found.0; second = c.in_ok-found.found.1; mended = u.mended; lost = c.reload_both.new.lost }) c.self.view_is in
-    let open_now : IsOpen of = subst IsOpen same c.in_ok-store.ensures.is_open in
-    read_suits s is_twice c.in_ok-found.found.0 c.in_ok-found.found.1 c.reload_both.new.lost (g.T.Twin.both c.args.twin.now) (g.T.Twin.both c.reload_both.new.twin) r open_now c.args.generation.now c.args.fingerprint.now t keeps suits (subst (λ (u : Twice). KeepsNoneTwice c.args.generation.now c.args.fingerprint.now u) same (c.in_err-tables.ensures.refused (handed_on _ _ c.from_residual-in_err-tables.result c.in_err-tables.field-0.0 to.NotKdcfile c.from_residual-in_err-tables.ensures.1 is)))
+    let here = (goal.at.returns-in_err-tables-clause-refused g c).In_ok-store in
+    read_suits c.args.self (subst IsTwice c.self.view_is c.self.invariant) c.in_ok-found.found.0 c.in_ok-found.found.1 c.reload_both.new.lost (g.T.Twin.both c.args.twin.now) (g.T.Twin.both c.reload_both.new.twin) (seen_again c.self.view_is c.in_ok-found.ensures.again) (open_now g here) c.args.generation.now c.args.fingerprint.now t keeps suits (subst (λ (u : Twice). KeepsNoneTwice c.args.generation.now c.args.fingerprint.now u) (same g here) (c.in_err-tables.ensures.refused (handed_on _ _ c.from_residual-in_err-tables.result c.in_err-tables.field-0.0 to.NotKdcfile c.from_residual-in_err-tables.ensures.1 is)))
 
 pub returns-in_err-tables-clause-other : goal.returns-in_err-tables-clause-other
 returns-in_err-tables-clause-other g c = λ t stored keeps is told.
-    let s : Twice = c.args.self in
-    let is_twice : IsTwice s = subst IsTwice c.self.view_is c.self.invariant in
-    let r : AreAgain s.first s.second c.in_ok-found.found.0 c.in_ok-found.found.1 s.lost c.reload_both.new.lost (g.T.Twin.both c.args.twin.now) (g.T.Twin.both c.reload_both.new.twin) = subst (λ (u : Twice). AreAgain u.first u.second c.in_ok-found.found.0 c.in_ok-found.found.1 u.lost c.reload_both.new.lost (g.T.Twin.both c.args.twin.now) (g.T.Twin.both c.reload_both.new.twin)) c.self.view_is c.in_ok-found.ensures.again in
-    let of : Twice = record { first = c.in_ok-found.found.0; second = c.in_ok-found.found.1; mended = s.mended; lost = c.reload_both.new.lost } in
-    let same : c.in_ok-store.store ≡ of = c.in_ok-store.ensures.store ∙ ap (λ (u : Twice). record { first = c.in_ok-found.found.0; second = c.in_ok-found.found.1; mended = u.mended; lost = c.reload_both.new.lost }) c.self.view_is in
-    let open_now : IsOpen of = subst IsOpen same c.in_ok-store.ensures.is_open in
-    read_texts s is_twice c.in_ok-found.found.0 c.in_ok-found.found.1 c.reload_both.new.lost (g.T.Twin.both c.args.twin.now) (g.T.Twin.both c.reload_both.new.twin) r open_now c.args.generation.now c.args.fingerprint.now stored t keeps (subst (λ (u : Twice). KeepsOthersTwice stored c.args.fingerprint.now u) same (c.in_err-tables.ensures.other stored (handed_on _ _ c.from_residual-in_err-tables.result c.in_err-tables.field-0.0 (to.OtherGeneration stored) c.from_residual-in_err-tables.ensures.1 is)))
+    let here = (goal.at.returns-in_err-tables-clause-other g c).In_ok-store in
+    read_texts c.args.self (subst IsTwice c.self.view_is c.self.invariant) c.in_ok-found.found.0 c.in_ok-found.found.1 c.reload_both.new.lost (g.T.Twin.both c.args.twin.now) (g.T.Twin.both c.reload_both.new.twin) (seen_again c.self.view_is c.in_ok-found.ensures.again) (open_now g here) c.args.generation.now c.args.fingerprint.now stored t keeps (subst (λ (u : Twice). KeepsOthersTwice stored c.args.fingerprint.now u) (same g here) (c.in_err-tables.ensures.other stored (handed_on _ _ c.from_residual-in_err-tables.result c.in_err-tables.field-0.0 (to.OtherGeneration stored) c.from_residual-in_err-tables.ensures.1 is)))
 
 pub returns-in_err-tables-clause-spent : goal.returns-in_err-tables-clause-spent
 returns-in_err-tables-clause-spent g c = λ n is. c.in_err-tables.ensures.spent n (handed_on _ _ c.from_residual-in_err-tables.result c.in_err-tables.field-0.0 (to.Spent n) c.from_residual-in_err-tables.ensures.1 is)
@@ -106,104 +118,25 @@ returns-in_err-tables-clause-still g c = λ told. let rests = c.reload_both.ensu
 pub returns-in_err-tables-clause-frame : goal.returns-in_err-tables-clause-frame
 returns-in_err-tables-clause-frame g c = c.reload_both.ensures.frame
 
-pub returns-clause-suits : goal.returns-clause-suits
-returns-clause-suits g c = c.in_ok-tables.ensures.suits
-
-pub returns-clause-keeps : goal.returns-clause-keeps
-returns-clause-keeps g c = c.in_ok-tables.ensures.tables
-
-pub returns-clause-fits : goal.returns-clause-fits
-returns-clause-fits g c = fits_twice c.args.generation.now c.args.fingerprint.now c.in_ok-store.store c.in_ok-tables.tables c.in_ok-tables.ensures.tables c.in_ok-tables.ensures.suits
-
-pub returns-clause-is_open : goal.returns-clause-is_open
-returns-clause-is_open g c = c.in_ok-store.ensures.is_open
-
-pub returns-clause-same : goal.returns-clause-same
-returns-clause-same g c =
-    let s : Twice = c.args.self in
-    let is_twice : IsTwice s = subst IsTwice c.self.view_is c.self.invariant in
-    let r : AreAgain s.first s.second c.in_ok-found.found.0 c.in_ok-found.found.1 s.lost c.reload_both.new.lost (g.T.Twin.both c.args.twin.now) (g.T.Twin.both c.reload_both.new.twin) = subst (λ (u : Twice). AreAgain u.first u.second c.in_ok-found.found.0 c.in_ok-found.found.1 u.lost c.reload_both.new.lost (g.T.Twin.both c.args.twin.now) (g.T.Twin.both c.reload_both.new.twin)) c.self.view_is c.in_ok-found.ensures.again in
-    let of : Twice = record { first = c.in_ok-found.found.0; second = c.in_ok-found.found.1; mended = s.mended; lost = c.reload_both.new.lost } in
-    let same : c.in_ok-store.store ≡ of = c.in_ok-store.ensures.store ∙ ap (λ (u : Twice). record { first = c.in_ok-found.found.0; second = c.in_ok-found.found.1; mended = u.mended; lost = c.reload_both.new.lost }) c.self.view_is in
-    let open_now : IsOpen of = subst IsOpen same c.in_ok-store.ensures.is_open in
-    let told : Type 0 = IsTrue (g.T.Twin.both c.args.twin.now).told in
-    let z : IsReopened told s c.in_ok-store.store (g.T.Twin.both c.args.twin.now) (g.T.Twin.both c.reload_both.new.twin) (g.T.Twin.leaves c.reload_both.new.twin) = subst (λ (u : Twice). IsReopened told s u (g.T.Twin.both c.args.twin.now) (g.T.Twin.both c.reload_both.new.twin) (g.T.Twin.leaves c.reload_both.new.twin)) (sym same) (reopened s is_twice c.in_ok-found.found.0 c.in_ok-found.found.1 c.reload_both.new.lost (g.T.Twin.both c.args.twin.now) (g.T.Twin.both c.reload_both.new.twin) r open_now told (g.T.Twin.leaves c.args.twin.now) (g.T.Twin.leaves c.reload_both.new.twin) c.requires.kept c.reload_both.ensures.rests c.in_ok-found.ensures.first_kept c.in_ok-found.ensures.second_kept) in
-    λ now. z.same
-
-pub returns-clause-mended : goal.returns-clause-mended
-returns-clause-mended g c =
-    let s : Twice = c.args.self in
-    let is_twice : IsTwice s = subst IsTwice c.self.view_is c.self.invariant in
-    let r : AreAgain s.first s.second c.in_ok-found.found.0 c.in_ok-found.found.1 s.lost c.reload_both.new.lost (g.T.Twin.both c.args.twin.now) (g.T.Twin.both c.reload_both.new.twin) = subst (λ (u : Twice). AreAgain u.first u.second c.in_ok-found.found.0 c.in_ok-found.found.1 u.lost c.reload_both.new.lost (g.T.Twin.both c.args.twin.now) (g.T.Twin.both c.reload_both.new.twin)) c.self.view_is c.in_ok-found.ensures.again in
-    let of : Twice = record { first = c.in_ok-found.found.0; second = c.in_ok-found.found.1; mended = s.mended; lost = c.reload_both.new.lost } in
-    let same : c.in_ok-store.store ≡ of = c.in_ok-store.ensures.store ∙ ap (λ (u : Twice). record { first = c.in_ok-found.found.0; second = c.in_ok-found.found.1; mended = u.mended; lost = c.reload_both.new.lost }) c.self.view_is in
-    let open_now : IsOpen of = subst IsOpen same c.in_ok-store.ensures.is_open in
-    let told : Type 0 = IsTrue (g.T.Twin.both c.args.twin.now).told in
-    let z : IsReopened told s c.in_ok-store.store (g.T.Twin.both c.args.twin.now) (g.T.Twin.both c.reload_both.new.twin) (g.T.Twin.leaves c.reload_both.new.twin) = subst (λ (u : Twice). IsReopened told s u (g.T.Twin.both c.args.twin.now) (g.T.Twin.both c.reload_both.new.twin) (g.T.Twin.leaves c.reload_both.new.twin)) (sym same) (reopened s is_twice c.in_ok-found.found.0 c.in_ok-found.found.1 c.reload_both.new.lost (g.T.Twin.both c.args.twin.now) (g.T.Twin.both c.reload_both.new.twin) r open_now told (g.T.Twin.leaves c.args.twin.now) (g.T.Twin.leaves c.reload_both.new.twin) c.requires.kept c.reload_both.ensures.rests c.in_ok-found.ensures.first_kept c.in_ok-found.ensures.second_kept) in
-    z.mended
-
-pub returns-clause-lost : goal.returns-clause-lost
-returns-clause-lost g c =
-    let s : Twice = c.args.self in
-    let is_twice : IsTwice s = subst IsTwice c.self.view_is c.self.invariant in
-    let r : AreAgain s.first s.second c.in_ok-found.found.0 c.in_ok-found.found.1 s.lost c.reload_both.new.lost (g.T.Twin.both c.args.twin.now) (g.T.Twin.both c.reload_both.new.twin) = subst (λ (u : Twice). AreAgain u.first u.second c.in_ok-found.found.0 c.in_ok-found.found.1 u.lost c.reload_both.new.lost (g.T.Twin.both c.args.twin.now) (g.T.Twin.both c.reload_both.new.twin)) c.self.view_is c.in_ok-found.ensures.again in
-    let of : Twice = record { first = c.in_ok-found.found.0; second = c.in_ok-found.found.1; mended = s.mended; lost = c.reload_both.new.lost } in
-    let same : c.in_ok-store.store ≡ of = c.in_ok-store.ensures.store ∙ ap (λ (u : Twice). record { first = c.in_ok-found.found.0; second = c.in_ok-found.found.1; mended = u.mended; lost = c.reload_both.new.lost }) c.self.view_is in
-    let open_now : IsOpen of = subst IsOpen same c.in_ok-store.ensures.is_open in
-    let told : Type 0 = IsTrue (g.T.Twin.both c.args.twin.now).told in
-    let z : IsReopened told s c.in_ok-store.store (g.T.Twin.both c.args.twin.now) (g.T.Twin.both c.reload_both.new.twin) (g.T.Twin.leaves c.reload_both.new.twin) = subst (λ (u : Twice). IsReopened told s u (g.T.Twin.both c.args.twin.now) (g.T.Twin.both c.reload_both.new.twin) (g.T.Twin.leaves c.reload_both.new.twin)) (sym same) (reopened s is_twice c.in_ok-found.found.0 c.in_ok-found.found.1 c.reload_both.new.lost (g.T.Twin.both c.args.twin.now) (g.T.Twin.both c.reload_both.new.twin) r open_now told (g.T.Twin.leaves c.args.twin.now) (g.T.Twin.leaves c.reload_both.new.twin) c.requires.kept c.reload_both.ensures.rests c.in_ok-found.ensures.first_kept c.in_ok-found.ensures.second_kept) in
-    z.loses
-
-pub returns-clause-stays : goal.returns-clause-stays
-returns-clause-stays g c =
-    let s : Twice = c.args.self in
-    let is_twice : IsTwice s = subst IsTwice c.self.view_is c.self.invariant in
-    let r : AreAgain s.first s.second c.in_ok-found.found.0 c.in_ok-found.found.1 s.lost c.reload_both.new.lost (g.T.Twin.both c.args.twin.now) (g.T.Twin.both c.reload_both.new.twin) = subst (λ (u : Twice). AreAgain u.first u.second c.in_ok-found.found.0 c.in_ok-found.found.1 u.lost c.reload_both.new.lost (g.T.Twin.both c.args.twin.now) (g.T.Twin.both c.reload_both.new.twin)) c.self.view_is c.in_ok-found.ensures.again in
-    let of : Twice = record { first = c.in_ok-found.found.0; second = c.in_ok-found.found.1; mended = s.mended; lost = c.reload_both.new.lost } in
-    let same : c.in_ok-store.store ≡ of = c.in_ok-store.ensures.store ∙ ap (λ (u : Twice). record { first = c.in_ok-found.found.0; second = c.in_ok-found.found.1; mended = u.mended; lost = c.reload_both.new.lost }) c.self.view_is in
-    let open_now : IsOpen of = subst IsOpen same c.in_ok-store.ensures.is_open in
-    let told : Type 0 = IsTrue (g.T.Twin.both c.args.twin.now).told in
-    let z : IsReopened told s c.in_ok-store.store (g.T.Twin.both c.args.twin.now) (g.T.Twin.both c.reload_both.new.twin) (g.T.Twin.leaves c.reload_both.new.twin) = subst (λ (u : Twice). IsReopened told s u (g.T.Twin.both c.args.twin.now) (g.T.Twin.both c.reload_both.new.twin) (g.T.Twin.leaves c.reload_both.new.twin)) (sym same) (reopened s is_twice c.in_ok-found.found.0 c.in_ok-found.found.1 c.reload_both.new.lost (g.T.Twin.both c.args.twin.now) (g.T.Twin.both c.reload_both.new.twin) r open_now told (g.T.Twin.leaves c.args.twin.now) (g.T.Twin.leaves c.reload_both.new.twin) c.requires.kept c.reload_both.ensures.rests c.in_ok-found.ensures.first_kept c.in_ok-found.ensures.second_kept) in
-    z.stays
-
-pub returns-clause-no_other : goal.returns-clause-no_other
-returns-clause-no_other g c =
-    let s : Twice = c.args.self in
-    let is_twice : IsTwice s = subst IsTwice c.self.view_is c.self.invariant in
-    let r : AreAgain s.first s.second c.in_ok-found.found.0 c.in_ok-found.found.1 s.lost c.reload_both.new.lost (g.T.Twin.both c.args.twin.now) (g.T.Twin.both c.reload_both.new.twin) = subst (λ (u : Twice). AreAgain u.first u.second c.in_ok-found.found.0 c.in_ok-found.found.1 u.lost c.reload_both.new.lost (g.T.Twin.both c.args.twin.now) (g.T.Twin.both c.reload_both.new.twin)) c.self.view_is c.in_ok-found.ensures.again in
-    let of : Twice = record { first = c.in_ok-found.found.0; second = c.in_ok-found.found.1; mended = s.mended; lost = c.reload_both.new.lost } in
-    let same : c.in_ok-store.store ≡ of = c.in_ok-store.ensures.store ∙ ap (λ (u : Twice). record { first = c.in_ok-found.found.0; second = c.in_ok-found.found.1; mended = u.mended; lost = c.reload_both.new.lost }) c.self.view_is in
-    let open_now : IsOpen of = subst IsOpen same c.in_ok-store.ensures.is_open in
-    let told : Type 0 = IsTrue (g.T.Twin.both c.args.twin.now).told in
-    let z : IsReopened told s c.in_ok-store.store (g.T.Twin.both c.args.twin.now) (g.T.Twin.both c.reload_both.new.twin) (g.T.Twin.leaves c.reload_both.new.twin) = subst (λ (u : Twice). IsReopened told s u (g.T.Twin.both c.args.twin.now) (g.T.Twin.both c.reload_both.new.twin) (g.T.Twin.leaves c.reload_both.new.twin)) (sym same) (reopened s is_twice c.in_ok-found.found.0 c.in_ok-found.found.1 c.reload_both.new.lost (g.T.Twin.both c.args.twin.now) (g.T.Twin.both c.reload_both.new.twin) r open_now told (g.T.Twin.leaves c.args.twin.now) (g.T.Twin.leaves c.reload_both.new.twin) c.requires.kept c.reload_both.ensures.rests c.in_ok-found.ensures.first_kept c.in_ok-found.ensures.second_kept) in
-    z.no_other
-
-pub returns-clause-kept : goal.returns-clause-kept
-returns-clause-kept g c =
-    let s : Twice = c.args.self in
-    let is_twice : IsTwice s = subst IsTwice c.self.view_is c.self.invariant in
-    let r : AreAgain s.first s.second c.in_ok-found.found.0 c.in_ok-found.found.1 s.lost c.reload_both.new.lost (g.T.Twin.both c.args.twin.now) (g.T.Twin.both c.reload_both.new.twin) = subst (λ (u : Twice). AreAgain u.first u.second c.in_ok-found.found.0 c.in_ok-found.found.1 u.lost c.reload_both.new.lost (g.T.Twin.both c.args.twin.now) (g.T.Twin.both c.reload_both.new.twin)) c.self.view_is c.in_ok-found.ensures.again in
-    let of : Twice = record { first = c.in_ok-found.found.0; second = c.in_ok-found.found.1; mended = s.mended; lost = c.reload_both.new.lost } in
-    let same : c.in_ok-store.store ≡ of = c.in_ok-store.ensures.store ∙ ap (λ (u : Twice). record { first = c.in_ok-found.found.0; second = c.in_ok-found.found.1; mended = u.mended; lost = c.reload_both.new.lost }) c.self.view_is in
-    let open_now : IsOpen of = subst IsOpen same c.in_ok-store.ensures.is_open in
-    let told : Type 0 = IsTrue (g.T.Twin.both c.args.twin.now).told in
-    let z : IsReopened told s c.in_ok-store.store (g.T.Twin.both c.args.twin.now) (g.T.Twin.both c.reload_both.new.twin) (g.T.Twin.leaves c.reload_both.new.twin) = subst (λ (u : Twice). IsReopened told s u (g.T.Twin.both c.args.twin.now) (g.T.Twin.both c.reload_both.new.twin) (g.T.Twin.leaves c.reload_both.new.twin)) (sym same) (reopened s is_twice c.in_ok-found.found.0 c.in_ok-found.found.1 c.reload_both.new.lost (g.T.Twin.both c.args.twin.now) (g.T.Twin.both c.reload_both.new.twin) r open_now told (g.T.Twin.leaves c.args.twin.now) (g.T.Twin.leaves c.reload_both.new.twin) c.requires.kept c.reload_both.ensures.rests c.in_ok-found.ensures.first_kept c.in_ok-found.ensures.second_kept) in
-    z.kept
-
-pub returns-clause-fine : goal.returns-clause-fine
-returns-clause-fine g c =
-    let s : Twice = c.args.self in
-    let is_twice : IsTwice s = subst IsTwice c.self.view_is c.self.invariant in
-    let r : AreAgain s.first s.second c.in_ok-found.found.0 c.in_ok-found.found.1 s.lost c.reload_both.new.lost (g.T.Twin.both c.args.twin.now) (g.T.Twin.both c.reload_both.new.twin) = subst (λ (u : Twice). AreAgain u.first u.second c.in_ok-found.found.0 c.in_ok-found.found.1 u.lost c.reload_both.new.lost (g.T.Twin.both c.args.twin.now) (g.T.Twin.both c.reload_both.new.twin)) c.self.view_is c.in_ok-found.ensures.again in
-    let of : Twice = record { first = c.in_ok-found.found.0; second = c.in_ok-found.found.1; mended = s.mended; lost = c.reload_both.new.lost } in
-    let same : c.in_ok-store.store ≡ of = c.in_ok-store.ensures.store ∙ ap (λ (u : Twice). record { first = c.in_ok-found.found.0; second = c.in_ok-found.found.1; mended = u.mended; lost = c.reload_both.new.lost }) c.self.view_is in
-    let open_now : IsOpen of = subst IsOpen same c.in_ok-store.ensures.is_open in
-    let told : Type 0 = IsTrue (g.T.Twin.both c.args.twin.now).told in
-    let z : IsReopened told s c.in_ok-store.store (g.T.Twin.both c.args.twin.now) (g.T.Twin.both c.reload_both.new.twin) (g.T.Twin.leaves c.reload_both.new.twin) = subst (λ (u : Twice). IsReopened told s u (g.T.Twin.both c.args.twin.now) (g.T.Twin.both c.reload_both.new.twin) (g.T.Twin.leaves c.reload_both.new.twin)) (sym same) (reopened s is_twice c.in_ok-found.found.0 c.in_ok-found.found.1 c.reload_both.new.lost (g.T.Twin.both c.args.twin.now) (g.T.Twin.both c.reload_both.new.twin) r open_now told (g.T.Twin.leaves c.args.twin.now) (g.T.Twin.leaves c.reload_both.new.twin) c.requires.kept c.reload_both.ensures.rests c.in_ok-found.ensures.first_kept c.in_ok-found.ensures.second_kept) in
-    z.fine
-
-pub returns-clause-still : goal.returns-clause-still
-returns-clause-still g c = λ told. let rests = c.reload_both.ensures.rests told in (rests.files, rests.leaves)
-
-pub returns-clause-frame : goal.returns-clause-frame
-returns-clause-frame g c = c.reload_both.ensures.frame
+pub returns : goal.returns
+returns g c =
+    let now_is = now_open g (goal.at.returns g c).In_ok-store in
+    record {
+      suits = c.in_ok-tables.ensures.suits;
+      keeps = c.in_ok-tables.ensures.tables;
+      fits = fits_twice c.args.generation.now c.args.fingerprint.now c.in_ok-store.store c.in_ok-tables.tables c.in_ok-tables.ensures.tables c.in_ok-tables.ensures.suits;
+      is_open = c.in_ok-store.ensures.is_open;
+      same = λ now. now_is.same;
+      mended = now_is.mended;
+      lost = now_is.loses;
+      stays = now_is.stays;
+      no_other = now_is.no_other;
+      kept = now_is.kept;
+      refused = λ t keeps suits is told. absurd cc;
+      other = λ t stored keeps is told. absurd cc;
+      spent = λ n is. absurd cc;
+      still = λ told. let rests = c.reload_both.ensures.rests told in (rests.files, rests.leaves);
+      failed = λ is half used. absurd cc;
+      fine = now_is.fine;
+      frame = c.reload_both.ensures.frame;
+    }

@@ -1,19 +1,12 @@
-use Rattle.std.proofs.Common.{◌≡◌, Bool, true, false, not, List, ℕ, refl, sym, subst, ◌∙◌}
-use Rattle.std.specs.Prelude.{Option, IfSome, nat_eq}
-use Rattle.std.specs.Cmp.Lexicographic.{pointwise}
+use Rattle.std.proofs.Common.{sym, subst, ◌∙◌}
+use Rattle.std.specs.Prelude.{Option, IfSome}
+use Rattle.std.proofs.lemmas.Bool.{not-false}
 use Rattle.kd_base.specs.OrderLaws.{equal_is_same}
 use Rattle.kdcs_types.specs.declared.tables.Tables.{Tables}
 use Rattle.record_codec.specs.Records.{AreTablesOf}
 use Rattle.record_codec.specs.TableReadings.{AreProperTables}
 use Rattle.kdcfile_double.specs.ChoiceLaws.{keeps_suited}
 use Rattle.kdcfile_double.proofs.store.TwinStore.tables_for.Goals as goal
-
-same_print : (r : Bool) (a b : List ℕ) → r ≡ false → r ≡ not (pointwise nat_eq a b) → a ≡ b
-same_print r a b is gives = (equal_is_same a b).0 (not_false (pointwise nat_eq a b) (sym gives ∙ is))
-  where
-    not_false : (b : Bool) → not b ≡ false → b ≡ true
-    not_false true e = refl
-    not_false false e = sym e
 
 pub returns-clause-tables : goal.returns-clause-tables
 returns-clause-tables c =
@@ -23,4 +16,4 @@ returns-clause-tables c =
     let are : AreTablesOf x t = subst (λ (o : Option Tables). IfSome o (λ u. AreTablesOf x u)) c.in-Some-2.is c.in_ok-tables.ensures.found in
     let proper : AreProperTables t = subst (λ (o : Option Tables). IfSome o (λ u. AreProperTables u)) c.in-Some-2.is c.in_ok-tables.ensures.proper in
     keeps_suited c.args.self.now c.in-Some.copy.now x c.in-Some.ensures.some c.in_ok-content.ensures t are proper c.args.generation.now c.args.fingerprint.now print c.limits.result c.fingerprint.ensures
-    (same_print c.ne.result print c.args.fingerprint.now c.if-ne.false c.ne.ensures) c.limits.ensures.blksize c.limits.ensures.pgpool (c.suits_twice.ensures.0 c.if-not-suits_twice.false)
+    ((equal_is_same print c.args.fingerprint.now).0 (not-false _ (sym c.ne.ensures ∙ c.if-ne.false))) c.limits.ensures.blksize c.limits.ensures.pgpool (c.suits_twice.ensures.0 c.if-not-suits_twice.false)

@@ -1,6 +1,6 @@
 use Rattle.std.proofs.Common.{◌≡◌, subst, ap, refl, ◌∙◌, Some}
-use Rattle.kd_twin.specs.Twin.{other}
-use Rattle.kd_twin.specs.declared.half.Half.{Half}
+use Rattle.kd_device.specs.Twin.{other}
+use Rattle.kd_device.specs.declared.half.Half.{Half}
 use Rattle.kdcfile_double.specs.Twice.{AreAlike, copy_at}
 use Rattle.kdcfile_double.specs.MendLaws.{taken_first, taken_second}
 use Rattle.kdcfile_double.proofs.store.TwinStore.take.Goals.{in-First+in-Some-1, in-First+in-None-1, in-Second+in-Some-1, in-Second+in-None-1}

@@ -1,5 +1,5 @@
 use Rattle.std.proofs.Common.{sym, ◌∙◌, inl}
-use Rattle.kd_twin.specs.Twin.{disk_of}
+use Rattle.kd_device.specs.Twin.{disk_of}
 use Rattle.kdcfile_copies.specs.CopiesLaws.{some_none}
 use Rattle.kdcfile_double.specs.Twice.{identity_of, sequence_of, content_of}
 use Rattle.kdcfile_double.specs.CommitTwoLaws.{one_frame}

@@ -1,7 +1,7 @@
 use Rattle.std.proofs.Common.{◌∙◌, ap, sym, subst}
 use Rattle.kd_device.specs.Device.{LeavesOnly}
-use Rattle.kdcfile_images.specs.Commit.{Either}
-use Rattle.kdcfile_images.specs.Opened.{layout_in}
+use Rattle.kdcfile_layout.specs.Commit.{Either}
+use Rattle.kdcfile_layout.specs.Opened.{layout_in}
 use Rattle.kdcfile_store.specs.Paged.{Paged, HasFile, identity_with}
 use Rattle.kdcfile_store.proofs.WholeCommitting.{are_pages, apart, would_be, leaves_carried, now_stands}
 use Rattle.kdcfile_store.proofs.paged.PagedStore.carry.Goals as goal

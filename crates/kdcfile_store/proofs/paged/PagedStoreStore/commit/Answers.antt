@@ -2,7 +2,7 @@ use Rattle.std.proofs.Common.{sym, subst}
 use Rattle.kd_device.specs.Device.{LeavesOnly}
 use Rattle.kd_records.specs.Contents.{patched}
 use Rattle.kdcfile_layout.specs.Layout.{StandsFor}
-use Rattle.kdcfile_images.specs.Opened.{layout_in}
+use Rattle.kdcfile_layout.specs.Opened.{layout_in}
 use Rattle.kdcfile_store.specs.declared.filed.Filed.{Filed}
 use Rattle.kdcfile_store.specs.Kept.{OldOrNew}
 use Rattle.kdcfile_store.specs.Next.{IsNext}

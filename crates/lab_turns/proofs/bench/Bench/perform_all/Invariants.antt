@@ -1,7 +1,7 @@
-use Rattle.std.proofs.Common.{drop}
+use Rattle.std.proofs.Common.{take}
 use Rattle.abstract_monitor.specs.Trace.{history}
-use Rattle.lab_turns.proofs.Parts.{Part}
+use Rattle.lab_turns.specs.Running.{Told}
 use Rattle.lab_turns.proofs.bench.Bench.perform_all.Given as goal
 
 abbrev pub invariant-loop-command : goal.invariant-loop-command
-invariant-loop-command g l = Part g.L.Listener.hears l.fn.self l.fn.listener (history l.fn.self.application l.fn.self.state l.commands) l.bench l.listener (history l.bench.application l.bench.state (drop l.command-index l.commands))
+invariant-loop-command g l = Told g.L.Listener.hears l.fn.self (history l.fn.self.application l.fn.self.state (take l.command-index l.commands)) l.fn.listener l.listener l.bench

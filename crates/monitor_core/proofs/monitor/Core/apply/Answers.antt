@@ -1,6 +1,6 @@
 use Rattle.std.specs.Prelude.{refl}
 use Rattle.std.proofs.Common.{ap, subst, sym, ◌∙◌}
-use Rattle.core_state.specs.Standing.{state_of}
+use Rattle.service_ends.specs.Standing.{state_of}
 use Rattle.monitor_core.specs.CoreValue.{core_value}
 use Rattle.monitor_core.specs.Sound.{IsSound}
 use Rattle.monitor_core.proofs.Going.{sound_command, serial_command, queues_command}

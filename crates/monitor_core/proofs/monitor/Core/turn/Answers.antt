@@ -1,7 +1,7 @@
 use Rattle.std.specs.Prelude.{refl}
 use Rattle.std.proofs.Common.{ap, subst, sym, ◌∙◌}
 use Rattle.service_ends.specs.Ending.{turned_to}
-use Rattle.core_state.specs.Standing.{state_of}
+use Rattle.service_ends.specs.Standing.{state_of}
 use Rattle.monitor_core.specs.CoreValue.{core_value}
 use Rattle.monitor_core.specs.Sound.{IsSound}
 use Rattle.monitor_core.proofs.Going.{sound_turn, serial_turn, ended_turn, queues_turn}

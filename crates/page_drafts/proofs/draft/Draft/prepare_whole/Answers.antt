@@ -2,7 +2,7 @@ use Rattle.std.proofs.Common.{[], sym, subst}
 use Rattle.std.proofs.lemmas.Result.{on_ok_weaker}
 use Rattle.page_drafts.specs.Drafting.{Drafting}
 use Rattle.page_drafts.specs.DraftRuns.{PutsAll, HasRoom}
-use Rattle.page_drafts.specs.Whole.{puts_of}
+use Rattle.page_drafts.specs.WholeDrafts.{puts_of}
 use Rattle.page_drafts.specs.WholeLaws.{room, prepared_whole}
 use Rattle.page_drafts.proofs.draft.Draft.prepare_whole.Goals as goal
 

@@ -3,7 +3,7 @@ use Rattle.std.specs.Prelude.{Option, None}
 use Rattle.std.specs.Vec.{vec_len}
 use Rattle.kdcfile_layout.specs.declared.chain.Chain.{Chain}
 use Rattle.kdcfile_layout.specs.Layout.{used}
-use Rattle.page_pool.specs.PlacesLaws.{at_within}
+use Rattle.kdcfile_layout.specs.PlacesLaws.{at_within}
 use Rattle.page_drafts.specs.Tables.{Parts, IsAbsent}
 use Rattle.page_drafts.specs.TablesLaws.{last_free, place_from_free}
 use Rattle.page_drafts.specs.Undoing.{Changing, parts_of}

@@ -1,6 +1,6 @@
 use Rattle.std.proofs.Common.{◌∙◌, Some, ap, sym, subst, arith}
 use Rattle.kdcfile_layout.specs.declared.chain.Chain.{Chain}
-use Rattle.page_pool.specs.Places.{At}
+use Rattle.kdcfile_layout.specs.Places.{At}
 use Rattle.page_drafts.specs.Tables.{Parts}
 use Rattle.page_drafts.specs.Undoing.{Changing, parts_of}
 use Rattle.page_drafts.specs.UndoingLaws.{removed_on, not_free}

@@ -2,7 +2,7 @@ use Rattle.std.proofs.Common.{ap, ◌∙◌}
 use Rattle.std.specs.Ordering.{is_eq}
 use Rattle.std.specs.Cmp.{tied_itself}
 use Rattle.std.specs.FinMap.{put}
-use Rattle.sorted_pairs.specs.Places.{without}
+use Rattle.kd_base.specs.Places.{without}
 use Rattle.step_scheduler.specs.Index.{mark_cmp}
 use Rattle.step_scheduler.specs.Kinds.{is_of_kind, kind_cmp, kind_of}
 use Rattle.step_scheduler.proofs.Marked.{kind_total, marks_back, marks_with}

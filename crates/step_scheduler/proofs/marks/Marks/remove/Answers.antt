@@ -1,5 +1,5 @@
 use Rattle.std.proofs.Common.{refl, ap, ◌∙◌}
-use Rattle.sorted_pairs.specs.Places.{without}
+use Rattle.kd_base.specs.Places.{without}
 use Rattle.step_scheduler.specs.Index.{mark_cmp}
 use Rattle.step_scheduler.specs.Kinds.{kind_cmp}
 use Rattle.step_scheduler.proofs.Marked.{marks_without}

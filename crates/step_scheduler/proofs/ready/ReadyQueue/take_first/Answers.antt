@@ -4,7 +4,7 @@ use Rattle.std.specs.List.{list_any}
 use Rattle.std.specs.Map.{values_of}
 use Rattle.std.specs.Ordering.{nat_cmp}
 use Rattle.std.specs.FinMap.{find}
-use Rattle.sorted_pairs.specs.PlacesLaws.{left_sorted}
+use Rattle.kd_base.specs.PlacesLaws.{left_sorted}
 use Rattle.kdcs_types.specs.Keys.{id_eq}
 use Rattle.abstract_monitor.specs.Picks.{place_passes}
 use Rattle.step_scheduler.specs.Arrivals.{Arrivals}

@@ -1,4 +1,4 @@
-use Rattle.kd_twin.specs.declared.half.Half.TheVariants.{First}
+use Rattle.kd_device.specs.declared.half.Half.TheVariants.{First}
 use Rattle.kdcfile_store.specs.Paged.{identity_with}
 use Rattle.twin_run.proofs.KeepingCalls.{frame_kept, said_kept, said_moments, said_rise, said_since}
 use Rattle.twin_run.proofs.keeper.TwinKeeperKeeper.say.Goals as goal

@@ -1,5 +1,5 @@
 use Rattle.std.proofs.Common.{sym, ap, ◌∙◌, subst}
-use Rattle.unit_types.specs.UnitText.{UnitText}
+use Rattle.application_types.specs.UnitText.{UnitText}
 use Rattle.unit_read.proofs.Kept.{OneMore, unit_kept}
 use Rattle.unit_read.proofs.reading.Reading.closed.Goals as goal
 

@@ -1,4 +1,4 @@
-use Rattle.laws_of_applications.specs.Applied.{applied}
+use Rattle.laws_of_runs.specs.Applied.{applied}
 use Rattle.utm_cli.proofs.MadeStarted.{runs, script_is, report_is, handed}
 use Rattle.utm_cli.proofs.made_run.report.made_report.Goals as goal
 

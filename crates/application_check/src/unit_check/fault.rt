@@ -1,0 +1,75 @@
+//! Why units do not fit a generation.
+ghost use Rattle.std.specs.Prelude.{◌≡◌};
+ghost use Rattle.application_check.specs.{declared.unit_check.fault.FitFault.TheVariants.{Memory}, FitFaults.{line_of, number_of, name_of}};
+
+use kd_base::OutOfMemory;
+use std::fmt::{self, Debug, Display, Formatter, Write};
+use thiserror::Error;
+
+/// The first reason why units do not fit a generation, with a line counted from 1.
+///
+/// A PROGRAM statement without a unit comes before all others; of these the one of the least line is answered, and on one
+/// line the one that is first here.
+#[derive(Clone, Copy, Error)]
+pub enum FitFault {
+    /// A PROGRAM statement, on this line of the definition, whose unit is missing.
+    #[error("line {0} of the definition: no unit has this name")]
+    NoUnit(u32),
+    /// A statement that jumps to a label that its unit has not.
+    #[error("line {0}: no such label")]
+    NoLabel(u32),
+    /// A field that ends after the last byte of KB or SPAB.
+    #[error("line {0}: a field past the end of its area")]
+    FieldPastArea(u32),
+    /// A PEND that names by a literal what is no TAC.
+    #[error("line {0}: no TAC has this name")]
+    LiteralFollowUp(u32),
+    /// Memory ran out, which may be answered in place of anything else.
+    #[error("out of memory")]
+    Memory,
+}
+
+impl FitFault {
+    // Its line, its number among the faults of one line, and the name by which it is printed.
+    pub(crate) fn row(&self) -> (u32, u8, &'static str)
+        ensures line { result.0 ≡ line_of self.now }
+        ensures number { result.1 ≡ number_of self.now }
+        ensures name { result.2.now ≡ name_of self.now }
+    {
+        match *self {
+            FitFault::NoUnit(line) => (line, 1, "NoUnit"),
+            FitFault::NoLabel(line) => (line, 2, "NoLabel"),
+            FitFault::FieldPastArea(line) => (line, 3, "FieldPastArea"),
+            FitFault::LiteralFollowUp(line) => (line, 4, "LiteralFollowUp"),
+            FitFault::Memory => (0, 0, "Memory"),
+        }
+    }
+
+    /// The number of its line, counted from 1. It takes no memory.
+    pub fn line(&self) -> u32
+        ensures { result ≡ line_of self.now }
+    {
+        self.row().0
+    }
+
+    /// The name by which it is printed. It takes no memory.
+    pub fn name(&self) -> &'static str
+        ensures { result.now ≡ name_of self.now }
+    {
+        self.row().2
+    }
+}
+
+impl Debug for FitFault {
+    fn fmt<W: Write>(&self, f: &mut Formatter<W>) -> fmt::Result {
+        Display::fmt(self, f)
+    }
+}
+
+impl From<OutOfMemory> for FitFault {
+    ghost from_gives = { λ _ e. e ≡ Memory };
+
+    fn from(_: OutOfMemory) -> FitFault {
+        FitFault::Memory
+    }
+}

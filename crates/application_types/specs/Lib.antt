@@ -1,0 +1,5 @@
+pub mod Generation
+pub mod Index
+pub mod PlacesLaws
+pub mod Statements
+pub mod UnitText

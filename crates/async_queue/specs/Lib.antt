@@ -1,8 +1,0 @@
-pub mod Queue
-pub mod Marks
-pub mod MarksLaws
-pub mod DueOrder
-pub mod DueOrderLaws
-pub mod DueIndex
-pub mod Deliveries
-pub mod Drafts

@@ -1,7 +1,0 @@
-use Rattle.std.proofs.Common.{◌≡◌, drop}
-use Rattle.core_state.specs.Queue.{queue_after_all}
-use Rattle.core_state.specs.Standing.{active_of}
-use Rattle.core_state.proofs.rows.change_all_jobs.Given as goal
-
-abbrev pub invariant-loop-change : goal.invariant-loop-change
-invariant-loop-change l = queue_after_all (active_of l.fn.active) (drop l.change-index l.fn.changes) l.jobs ≡ queue_after_all (active_of l.fn.active) l.fn.changes l.fn.jobs

@@ -1,0 +1,191 @@
+-- How steps of a script go on from one another.
+use Rattle.std.proofs.Common.{◌≡◌, ◌≤◌, ◌+◌, arith, ℕ, List, [], ◌∷◌, ◌++◌, refl, sym, ap, subst, ◌∙◌}
+use Rattle.std.specs.Prelude.{IsTrue}
+use Rattle.std.proofs.lemmas.List.{append-nil}
+use Rattle.std.proofs.lemmas.Grind.{flat_map-append}
+use Rattle.kd_device.specs.Device.{State}
+use Rattle.kd_records.specs.Identity.{Identity}
+use Rattle.kd_records.specs.declared.content.Content.{Content}
+use Rattle.kd_records.specs.declared.content.Patch.{Patch}
+use Rattle.kdcs_types.specs.declared.act.Act.{Act}
+use Rattle.kdcs_types.specs.Tables.{TableRows, IsSortedTables}
+use Rattle.laws_of_states.specs.Applications.{IsApplication}
+use Rattle.laws_of_states.specs.Keeping.{HasFacts}
+use Rattle.laws_of_states.specs.Steps.{CommitsOnce, StepsMakeTheirTables}
+use Rattle.laws_of_runs.specs.HistoryLaws.{after_none, after_one, no_history}
+use Rattle.laws_of_runs.specs.ListsLaws.{after_both, tables_both}
+use Rattle.application_check.specs.Soundness.{AreLimits}
+use Rattle.abstract_monitor.specs.State.{Application, State as MonitorState}
+use Rattle.abstract_monitor.specs.declared.command.Command.{Command}
+use Rattle.abstract_monitor.specs.Commands.{ScriptStep, acts_of, state_after}
+use Rattle.abstract_monitor.specs.Endings.{durable}
+use Rattle.abstract_monitor.specs.Trace.{history, tables_after, bytes_of}
+use Rattle.record_codec.specs.Records.{content_of_tables}
+use Rattle.device_acts.specs.Stands.{AreTables, identity_for}
+use Rattle.monitor_core.specs.CoreValue.{CoreValue}
+use Rattle.device_acts.specs.Storing.{AreStorable}
+use Rattle.device_acts.specs.Acting.{GoesOn, IsKeptBy, Performed, WithinActs, WritesUpTo, acts_most, content_after, AreCommittable}
+use Rattle.monitor_core.specs.CoreSteps.{durable_of}
+use Rattle.device_run.specs.Running.{identity_of, commits_most_with}
+use Rattle.device_run.specs.Keeping.{DidSteps, IsRunningWith, KeepsRows, RanWith, StandsForRows, StepsWriteWith, WithinStepsWith}
+use Rattle.device_acts.specs.ActingLaws.{Running, running_start, running_within, running_more}
+use Rattle.device_acts.specs.WritingLaws.{writes_all, writes_none, writes_within, put_then}
+use Rattle.device_run.specs.TablesLaws.{tables_go, tables_stay, contents_are, committable, tables_within, nothing_after, most_of, commits_add, commits_written}
+
+pub acts_both : (xs ys : List ScriptStep) → acts_of (xs ++ ys) ≡ acts_of xs ++ acts_of ys
+acts_both xs ys = flat_map-append (λ (d : ScriptStep). d.acts) xs ys
+
+pub acts_of_one : (d : ScriptStep) → acts_of (d ∷ []) ≡ d.acts
+acts_of_one d = append-nil d.acts
+
+-- the fingerprint that a running core's file was made with
+pub fingerprint_is : (fingerprint : List ℕ) (c : CoreValue) (j : Identity) (x : Content) → IsRunningWith fingerprint c j x → j.fingerprint ≡ fingerprint
+fingerprint_is fingerprint c j x h = ap (λ (i : Identity). i.fingerprint) h.keeps.identity_is
+
+-- ---- one step whose acts are performed
+
+-- a step of a core, whose acts these are, and which its keeper can take
+pub record CanStep (fingerprint : List ℕ) (c : CoreValue) (j : Identity) (x : Content) (step : ScriptStep) (acts : List Act) : Type 0 where
+  pub running : IsRunningWith fingerprint c j x
+  pub same : acts ≡ step.acts
+  pub storable : AreStorable c.application.generation.limits.blksize c.application.generation.limits.pgpool (durable_of c) step.acts
+
+module _ (fingerprint : List ℕ) (c : CoreValue) (j : Identity) (x : Content) (step : ScriptStep) (acts : List Act) (can : CanStep fingerprint c j x step acts) where
+  pub can_act : AreCommittable j x acts
+  can_act =
+      subst (λ (i : Identity). AreCommittable i x acts) (sym can.running.keeps.identity_is)
+      (subst (λ (y : Content). AreCommittable (identity_of fingerprint c) y acts) (sym can.running.keeps.content)
+      (subst (λ (l : List Act). AreCommittable (identity_of fingerprint c) (content_of_tables (durable_of c)) l) (sym can.same) (committable (identity_of fingerprint c) (durable_of c) step.acts can.storable)))
+
+  pub step_within : (stands : Identity → Content → List ℕ → Type 0) (a b : State) (la lb : ℕ → List ℕ → List ℕ → Type 0) → WithinActs content_after (stands j) x acts a b la lb → WithinStepsWith stands fingerprint c (step ∷ []) a b la lb
+  step_within stands a b la lb p =
+      let i = identity_of fingerprint c in
+      let at_identity = subst (λ (k : Identity). WithinActs content_after (stands k) x acts a b la lb) can.running.keeps.identity_is p in
+      let at_content = subst (λ (y : Content). WithinActs content_after (stands i) y acts a b la lb) can.running.keeps.content at_identity in
+      let at_acts = subst (λ (l : List Act). WithinActs content_after (stands i) (content_of_tables (durable_of c)) l a b la lb) can.same at_content in
+      subst (λ (l : List Act). WithinActs tables_after (StandsForRows stands i) (durable_of c) l a b la lb) (sym (acts_of_one step)) (tables_within i stands (durable_of c) step.acts a b la lb can.running.keeps.tables can.storable at_acts)
+
+  pub step_writes : (written : Identity → Content → Patch → ℕ) (most : Identity → Patch → ℕ) → ((i : Identity) (y : Content) (patch : Patch) → written i y patch ≤ most i patch) → (a b : State) → (IsTrue a.told → WritesUpTo (acts_most written j x) acts a b) → StepsWriteWith most fingerprint c (step ∷ []) a b
+  step_writes written most bounded a b h = λ told.
+      let i = identity_of fingerprint c in
+      let at_identity = subst (λ (k : Identity). WritesUpTo (commits_most_with most k) acts a b) can.running.keeps.identity_is (commits_written most j written bounded x acts a b (h told)) in
+      subst (λ (l : List Act). WritesUpTo (commits_most_with most i) l a b) (can.same ∙ sym (acts_of_one step)) at_identity
+
+  pub did_step : (fine : State → State → Type 0) → StepsMakeTheirTables → CommitsOnce c.application c.state step → (d : CoreValue) (k : Identity) (y : Content) (file : List ℕ → Type 0) (a b : State) (lb : ℕ → List ℕ → List ℕ → Type 0) → d.application ≡ c.application → HasFacts d.application d.state → d.state ≡ step.after
+      → k ≡ j → y ≡ content_after x acts → Performed fine file acts a b lb → DidSteps fine fingerprint c (step ∷ []) d k y file a b lb
+  did_step fine make once d k y file a b lb app facts after identity content sent =
+      let i = identity_of fingerprint c in
+      let made = make c.application c.state step can.running.facts.1.order (subst (λ (s : MonitorState). IsSortedTables s.tables) after facts.1.order) once in
+      let now : durable_of d ≡ durable c.application.generation step.after.tables = λ n. durable (app n).generation (after n).tables in
+      let tables_are : tables_after (durable_of c) step.acts ≡ durable_of d = made ∙ sym now in
+      let at_acts : y ≡ content_after (content_of_tables (durable_of c)) step.acts = content ∙ (λ n. content_after (can.running.keeps.content n) (can.same n)) in
+      record {
+        application = app;
+        running = record {
+          application = subst IsApplication (sym app) can.running.application;
+          limits = subst (λ (z : Application). AreLimits z.generation.limits) (sym app) can.running.limits;
+          facts = facts;
+          keeps = record {
+            identity_is = identity ∙ can.running.keeps.identity_is ∙ ap (λ (z : Application). identity_for z.generation fingerprint) (sym app);
+            tables = subst AreTables tables_are (tables_stay i (durable_of c) step.acts can.running.keeps.tables can.storable);
+            content = at_acts ∙ contents_are i (durable_of c) step.acts can.storable ∙ ap content_of_tables tables_are;
+          };
+        };
+        state = λ told. after ∙ sym (after_one c.state step);
+        tables = λ told. sym tables_are ∙ ap (λ (l : List Act). tables_after (durable_of c) l) (sym (acts_of_one step));
+        acts = subst (λ (l : List Act). Performed fine file l a b lb) (can.same ∙ sym (acts_of_one step)) sent;
+      }
+
+-- nothing was written or sent
+pub none_written : (most : Identity → Patch → ℕ) (fingerprint : List ℕ) (c : CoreValue) (steps : List ScriptStep) (a : State) → StepsWriteWith most fingerprint c steps a a
+none_written most fingerprint c steps a = λ told. writes_none (commits_most_with most (identity_of fingerprint c)) (acts_of steps) a a refl (omega arith)
+
+-- ---- steps so far, of all
+
+-- some first steps of all are done: a is the keeper at the start, and b the keeper now
+pub record Stepping (stands : Identity → Content → List ℕ → Type 0) (most : Identity → Patch → ℕ) (fine : State → State → Type 0) (fingerprint : List ℕ) (c d : CoreValue) (j : Identity) (x : Content) (file : List ℕ → Type 0) (all done : List ScriptStep) (a b : State) (la lb : ℕ → List ℕ → List ℕ → Type 0) : Type 0 where
+  pub within : WithinStepsWith stands fingerprint c all a b la lb
+  pub did : DidSteps fine fingerprint c done d j x file a b lb
+  pub put : IsTrue a.told → b.put ≤ a.put + commits_most_with most (identity_of fingerprint c) (acts_of done)
+
+module _ (stands : Identity → Content → List ℕ → Type 0) (most : Identity → Patch → ℕ) (fine : State → State → Type 0) (on : GoesOn fine) (fingerprint : List ℕ) (c : CoreValue) where
+  pub stepping_start : (j : Identity) (x : Content) (file : List ℕ → Type 0) (all : List ScriptStep) (a : State) (la : ℕ → List ℕ → List ℕ → Type 0) → IsRunningWith fingerprint c j x → (IsTrue a.told → IsKeptBy file a la) → Stepping stands most fine fingerprint c c j x file all [] a a la la
+  stepping_start j x file all a la running kept =
+      let start = running_start fine on tables_after tables_go (StandsForRows stands (identity_of fingerprint c)) file (durable_of c) (acts_of all) a la kept in
+      record {
+        within = start.within;
+        did = record { application = refl; running = running; state = λ told. sym (after_none c.state); tables = λ told. sym (tables_go.none (durable_of c)); acts = start.sent };
+        put = λ told. omega arith;
+      }
+
+  -- nothing of a script is done yet
+  pub history_start : (j : Identity) (x : Content) (file : List ℕ → Type 0) (cs : List Command) (a : State) (la : ℕ → List ℕ → List ℕ → Type 0) → IsRunningWith fingerprint c j x → (IsTrue a.told → IsKeptBy file a la) → Stepping stands most fine fingerprint c c j x file (history c.application c.state cs) (history c.application c.state []) a a la la
+  history_start j x file cs a la running kept = subst (λ (l : List ScriptStep). Stepping stands most fine fingerprint c c j x file (history c.application c.state cs) l a a la la) (sym (no_history c.application c.state)) (stepping_start j x file (history c.application c.state cs) a la running kept)
+
+  -- these are all steps
+  pub stepping_over : (d : CoreValue) (j : Identity) (x : Content) (file : List ℕ → Type 0) (all done : List ScriptStep) (a b : State) (la lb : ℕ → List ℕ → List ℕ → Type 0) → Stepping stands most fine fingerprint c d j x file all done a b la lb → all ≡ done → StepsWriteWith most fingerprint c all a b
+  stepping_over d j x file all done a b la lb run over =
+      subst (λ (l : List ScriptStep). StepsWriteWith most fingerprint c l a b) (sym over) (λ told. writes_all (commits_most_with most (identity_of fingerprint c)) (acts_of done) a b (run.did.acts.sent told) (run.put told))
+
+module _ (stands : Identity → Content → List ℕ → Type 0) (most : Identity → Patch → ℕ) (fine : State → State → Type 0) (on : GoesOn fine) (fingerprint : List ℕ) (c d : CoreValue) (j : Identity) (x : Content) (file : List ℕ → Type 0) (all done here rest : List ScriptStep) (a b e : State) (la lb le : ℕ → List ℕ → List ℕ → Type 0) (run : Stepping stands most fine fingerprint c d j x file all done a b la lb) (split : IsTrue a.told → all ≡ done ++ (here ++ rest)) (step : WithinStepsWith stands fingerprint d here b e lb le) (writes : StepsWriteWith most fingerprint d here b e) where
+  told_then : IsTrue a.told → IsTrue b.told
+  told_then told = rw run.within.frame.told told
+
+  same_identity : identity_of fingerprint d ≡ identity_of fingerprint c
+  same_identity = ap (λ (z : Application). identity_for z.generation fingerprint) run.did.application
+
+  step_here : WithinActs tables_after (StandsForRows stands (identity_of fingerprint c)) (durable_of d) (acts_of here) b e lb le
+  step_here = subst (λ (i : Identity). WithinActs tables_after (StandsForRows stands i) (durable_of d) (acts_of here) b e lb le) same_identity step
+
+  so_far : Running fine tables_after (StandsForRows stands (identity_of fingerprint c)) file (durable_of c) (acts_of all) (acts_of done) a b la lb
+  so_far = record { within = run.within; sent = run.did.acts }
+
+  split_acts : IsTrue a.told → acts_of all ≡ acts_of done ++ (acts_of here ++ acts_of rest)
+  split_acts told = ap acts_of (split told) ∙ acts_both done (here ++ rest) ∙ ap (λ (l : List Act). acts_of done ++ l) (acts_both here rest)
+
+  pub stepping_within : WithinStepsWith stands fingerprint c all a e la le
+  stepping_within =
+      running_within fine on tables_after tables_go (StandsForRows stands (identity_of fingerprint c)) file (durable_of c) (durable_of d) (acts_of all) (acts_of done) (acts_of here) (acts_of rest) a b e la lb le run.did.tables split_acts so_far step_here
+
+  writes_here : IsTrue a.told → WritesUpTo (commits_most_with most (identity_of fingerprint c)) (acts_of here) b e
+  writes_here told = subst (λ (i : Identity). WritesUpTo (commits_most_with most i) (acts_of here) b e) same_identity (writes (told_then told))
+
+  pub stepping_writes : StepsWriteWith most fingerprint c all a e
+  stepping_writes = λ told.
+      writes_within nothing_after (most_of most (identity_of fingerprint c)) (commits_add most (identity_of fingerprint c)) tt tt (acts_of all) (acts_of done) (acts_of here) (acts_of rest) a b e refl (run.did.acts.sent told) (run.put told) (writes_here told) (split_acts told)
+
+  put_here : IsTrue a.told → e.put ≤ a.put + commits_most_with most (identity_of fingerprint c) (acts_of done ++ acts_of here)
+  put_here told =
+      put_then nothing_after (most_of most (identity_of fingerprint c)) (commits_add most (identity_of fingerprint c)) tt tt (acts_of all) (acts_of done) (acts_of here) (acts_of rest) a b e refl (run.did.acts.sent told) (run.put told) (writes_here told)
+
+  pub stepping_more : (next : CoreValue) (k : Identity) (y : Content) (file' : List ℕ → Type 0) (done' : List ScriptStep) → (IsTrue a.told → done' ≡ done ++ here) → DidSteps fine fingerprint d here next k y file' b e le → Stepping stands most fine fingerprint c next k y file' all done' a e la le
+  stepping_more next k y file' done' more did =
+      let i = identity_of fingerprint c in
+      let acts_more : Running fine tables_after (StandsForRows stands i) file' (durable_of c) (acts_of all) (acts_of done ++ acts_of here) a e la le =
+      running_more fine on tables_after tables_go (StandsForRows stands i) file (durable_of c) (durable_of d) (acts_of all) (acts_of done) (acts_of here) (acts_of rest) a b e la lb le run.did.tables split_acts so_far step_here file' did.acts in
+      let done_acts : IsTrue a.told → acts_of done' ≡ acts_of done ++ acts_of here = λ told. ap acts_of (more told) ∙ acts_both done here in
+      record {
+        within = acts_more.within;
+        did = record {
+          application = did.application ∙ run.did.application;
+          running = did.running;
+          state = λ told. did.state (told_then told) ∙ ap (λ (s : MonitorState). state_after s here) (run.did.state told) ∙ sym (after_both c.state done here) ∙ ap (λ (l : List ScriptStep). state_after c.state l) (sym (more told));
+          tables = λ told. did.tables (told_then told) ∙ ap (λ (t : TableRows). tables_after t (acts_of here)) (run.did.tables told) ∙ sym (tables_both (durable_of c) (acts_of done) (acts_of here)) ∙ ap (λ (l : List Act). tables_after (durable_of c) l) (sym (done_acts told));
+          acts = record {
+            rest = acts_more.sent.rest;
+            sent = λ told. acts_more.sent.sent told ∙ ap (λ (l : List Act). a.sent ++ bytes_of l) (sym (done_acts told));
+            calls = acts_more.sent.calls;
+          };
+        };
+        put = λ told. subst (λ (l : List Act). e.put ≤ a.put + commits_most_with most (identity_of fingerprint c) l) (sym (done_acts told)) (put_here told);
+      }
+
+-- all steps were done
+pub steps_ran : (fine : State → State → Type 0) (fingerprint : List ℕ) (c d : CoreValue) (j : Identity) (x : Content) (file : List ℕ → Type 0) (steps : List ScriptStep) (a b : State) (lb : ℕ → List ℕ → List ℕ → Type 0) → DidSteps fine fingerprint c steps d j x file a b lb → IsTrue a.told → RanWith fingerprint c steps j x file a b lb
+steps_ran fine fingerprint c d j x file steps a b lb did told =
+    let same : identity_of fingerprint d ≡ identity_of fingerprint c = ap (λ (z : Application). identity_for z.generation fingerprint) did.application in
+    record {
+      sent = did.acts.sent told;
+      keeps = subst (λ (t : TableRows). KeepsRows (identity_of fingerprint c) j x t) (did.tables told) (subst (λ (i : Identity). KeepsRows i j x (durable_of d)) same did.running.keeps);
+      at_rest = did.acts.rest told;
+    }

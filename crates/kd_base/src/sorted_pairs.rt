@@ -1,0 +1,11 @@
+//! Pairs of keys and values in ascending order of the keys.
+//!
+//! It stands on the crate of pieces. To the layers above, its contract says that a key's value is the one found in the
+//! list of pairs, that a pair put in is in its place in the order, that one taken out is gone, and that a call that
+//! fails changes nothing.
+
+mod ordered;
+mod pairs;
+
+pub use ordered::OrderedMap;
+pub use pairs::{SortedPairs, place_of};

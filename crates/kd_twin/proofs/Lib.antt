@@ -1,5 +1,0 @@
-mod Grows
-mod InUse
-mod Kept
-mod Replay
-mod Seen

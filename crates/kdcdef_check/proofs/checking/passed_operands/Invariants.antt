@@ -1,6 +1,0 @@
-use Rattle.std.proofs.Common.{◌≡◌, take}
-use Rattle.kdcdef_types.specs.Statements.{passed_count}
-use Rattle.kdcdef_check.proofs.checking.passed_operands.Given as goal
-
-abbrev pub invariant-loop-statement : goal.invariant-loop-statement
-invariant-loop-statement l = l.count ≡ passed_count (take l.statement-index l.statements)

@@ -1,6 +1,0 @@
-use Rattle.std.proofs.Common.{◌≡◌, take}
-use Rattle.kdcdef_check.specs.Generating.{max_given}
-use Rattle.kdcdef_check.proofs.limits.max_given.Given as goal
-
-abbrev pub invariant-loop-statement : goal.invariant-loop-statement
-invariant-loop-statement l = l.given ≡ max_given (take l.statement-index l.statements)

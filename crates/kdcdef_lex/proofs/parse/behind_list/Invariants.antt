@@ -1,9 +1,0 @@
-use Rattle.std.proofs.Common.{◌≡◌, length}
-use Rattle.kdcdef_lex.specs.Parsing.{behind_list}
-use Rattle.kdcdef_lex.proofs.parse.behind_list.Given as goal
-
-abbrev pub invariant-loop-more : goal.invariant-loop-more
-invariant-loop-more l = behind_list l.rest ≡ behind_list l.inside
-
-abbrev pub decreases-loop-more : goal.decreases-loop-more
-decreases-loop-more l = length l.rest

@@ -1,5 +1,0 @@
-use Rattle.kdcdef_lex.proofs.HexPairs.{pairs_on}
-use Rattle.kdcdef_lex.proofs.quoted.is_hex.Goals as goal
-
-pub loop-after-preserved : goal.loop-after-preserved
-loop-after-preserved c = pairs_on c.loop-after.rest c.in-Some.after c.in-Some.field-0-0 _ c.in-Some.ensures c.loop-after.invariant

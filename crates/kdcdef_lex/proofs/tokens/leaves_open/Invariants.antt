@@ -1,9 +1,0 @@
-use Rattle.std.proofs.Common.{◌≡◌, false, length}
-use Rattle.kdcdef_lex.specs.Reading.{leaves_open}
-use Rattle.kdcdef_lex.proofs.tokens.leaves_open.Given as goal
-
-abbrev pub invariant-loop-token : goal.invariant-loop-token
-invariant-loop-token l = leaves_open l.is_open l.rest ≡ leaves_open false l.tokens
-
-abbrev pub decreases-loop-token : goal.decreases-loop-token
-decreases-loop-token l = length l.rest

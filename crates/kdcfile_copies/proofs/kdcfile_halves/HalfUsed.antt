@@ -1,0 +1,50 @@
+-- One half of a twin is used as a device, and given back.
+use Rattle.std.proofs.Common.{◌≡◌, ◌≤◌, ◌⊎◌, ℕ, List, refl, inl, ⊎_elim, subst}
+use Rattle.std.specs.Prelude.{IsTrue}
+use Rattle.kd_device.specs.Device.{LeavesOnly}
+use Rattle.kd_device.specs.TimeLaws.{leaves_weaker}
+use Rattle.kd_device.specs.Rest.{Rests, Before}
+use Rattle.kd_device.specs.declared.half.Half.{Half}
+use Rattle.kd_device.specs.Twin.{Both, other, half_state, slice, half_leaves}
+use Rattle.kd_device.specs.Apart.{IsSince}
+use Rattle.kd_device.specs.ApartLaws.{since_here}
+use Rattle.kd_device.specs.PairLaws.{others_stay, leaves_beside}
+use Rattle.kdcfile_copies.specs.Keeping.{LeavesNoCopy}
+use Rattle.kdcfile_copies.specs.Beside.{LeavesBeside, NoMore, OtherStays}
+
+-- the laws of a twin at one moment
+abbrev pub SentAt : Both → (ℕ → List ℕ → List ℕ → List ℕ → Type 0) → Type 0
+SentAt b l = (c d out : List ℕ) → IsTrue b.told → l b.moment c d out → out ≡ b.sent
+
+abbrev pub EarlierAt : Both → (ℕ → List ℕ → List ℕ → List ℕ → Type 0) → Type 0
+EarlierAt b l = (t u : ℕ) (c d out : List ℕ) → IsTrue b.told → t ≤ u → l u c d out → l t c d out
+
+-- the twin as it is now is an origin
+pub begins : (b : Both) (l : ℕ → List ℕ → List ℕ → List ℕ → Type 0) → SentAt b l → EarlierAt b l → (half : Half) (place : ℕ) → IsSince half place place b b l l
+begins b l sent earlier half place =
+    since_here half place place b b l l
+    (record { same_place = refl; same_both = refl; to = λ t c d out left. left; from = λ t c d out left. left })
+    sent earlier
+
+-- what is left of two files, at a twin that is another's equal
+module _ {T : Type 0} (both : T → Both) (leaves : T → ℕ → List ℕ → List ℕ → List ℕ → Type 0) {half : Half} {place0 place : ℕ} {x y : T} (since : IsSince half place0 place (both x) (both y) (leaves x) (leaves y)) where
+  -- what a stop leaves of the other half afterwards
+  pub other_stays : EarlierAt (both y) (leaves y) → (z : T) → y ≡ z → IsTrue (both x).told → OtherStays half (both x) (both z) (leaves x) (leaves z)
+  other_stays earlier z is told = subst (λ (t : T). OtherStays half (both x) (both t) (leaves x) (leaves t)) is (others_stay half place0 place (both x) (both y) (leaves x) (leaves y) since told earlier)
+
+  -- what it leaves of both within the calls
+  pub beside : (P : List ℕ → List ℕ → Type 0) → (IsTrue (both x).told → LeavesOnly (half_state half (both x)) (half_state half (both y)) (half_leaves half (leaves x)) (half_leaves half (leaves y)) P) → (z : T) → y ≡ z → IsTrue (both x).told → LeavesBeside half (both x) (both z) (leaves x) (leaves z) P
+  beside P only z is told = subst (λ (t : T). LeavesBeside half (both x) (both t) (leaves x) (leaves t) P) is (leaves_beside half place0 place (both x) (both y) (leaves x) (leaves y) since told P (only told))
+
+  -- and where no byte was changed
+  pub rests_beside : (IsTrue (both x).told → Rests (half_state half (both x)) (half_state half (both y)) (half_leaves half (leaves x)) (half_leaves half (leaves y))) → (z : T) → y ≡ z → IsTrue (both x).told → LeavesBeside half (both x) (both z) (leaves x) (leaves z) NoMore
+  rests_beside rests z is told d =
+      leaves_weaker (half_state half (both x)) (half_state half (both z)) (slice half d (leaves x)) (slice half d (leaves z))
+      (λ c out. half_leaves (other half) (leaves x) (both x).moment d (both x).sent × (half_leaves half (leaves x) (both x).moment c out ⊎ Before (half_state half (both x)) (half_leaves half (leaves x)) c out))
+      (λ c out. half_leaves (other half) (leaves x) (both x).moment d (both x).sent × (half_leaves half (leaves x) (both x).moment c out ⊎ NoMore c out))
+      (beside (Before (half_state half (both x)) (half_leaves half (leaves x))) (λ now. (rests now).leaves) z is told d)
+      (λ c out p. (p.0, ⊎_elim (λ l. inl l) (λ n. inl (rw n.0 n.1)) p.1))
+
+  -- and where it leaves no copy of the one half
+  pub no_copy : (IsTrue (both x).told → LeavesNoCopy (half_state half (both y)) (half_leaves half (leaves y))) → (z : T) → y ≡ z → IsTrue (both x).told → LeavesNoCopy (half_state half (both z)) (half_leaves half (leaves z))
+  no_copy none z is told = subst (λ (t : T). LeavesNoCopy (half_state half (both t)) (half_leaves half (leaves t))) is (none told)

@@ -1,6 +1,0 @@
-use Rattle.std.proofs.Common.{◌≡◌}
-use Rattle.kdcfile_images.specs.Fresh.{numbers}
-use Rattle.kdcfile_images.proofs.making.numbers.Given as goal
-
-abbrev pub invariant-loop-n : goal.invariant-loop-n
-invariant-loop-n l = l.pages ≡ numbers l.n

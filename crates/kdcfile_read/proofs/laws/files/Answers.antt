@@ -1,6 +1,0 @@
-use Rattle.kdcfile_read.specs.ReadsLaws.{files_are_read}
-use Rattle.kdcfile_read.specs.ReadFilesLaws.{read_files_stand}
-use Rattle.kdcfile_read.proofs.laws.files.Goals as goal
-
-pub returns : goal.returns
-returns c = record { written = files_are_read; read = read_files_stand }

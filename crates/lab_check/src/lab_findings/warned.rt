@@ -1,0 +1,92 @@
+//! Where there is something to warn of.
+
+use crate::lab_findings::text_name::TextName;
+use crate::lab_findings::warning::Warning;
+use kd_base::{Bytes, OutOfMemory, escape};
+use std::alloc::Global;
+
+/// Something in a line that is accepted and likely wrong.
+pub struct Warned {
+    pub text: TextName,
+    /// The number of the line, from 1.
+    pub line: u32,
+    pub warning: Warning,
+    /// What is printed behind the name.
+    pub details: Bytes,
+}
+
+impl Drop for Warned {
+    fn drop(self) {
+        let Warned {
+            text,
+            line,
+            warning,
+            details,
+        } = self;
+        let _ = text;
+        let _ = line;
+        let _ = warning;
+        let _ = details;
+    }
+}
+
+/// The warnings so far.
+#[derive(Drop)]
+pub struct Warnings {
+    pub items: Vec<Warned>,
+}
+
+impl Warned {
+    /// The line that is printed, without its end: WARN, text, line and name, and the details, in which a byte that is none
+    /// from a space to `~` is written as `\x` and two digits.
+    pub fn printed(&self, alloc: Global) -> Result<Vec<u8>, OutOfMemory> {
+        let text = self.text.word();
+        let name = self.warning.name();
+        let front = format!(in alloc; "WARN {text} {} {name}", self.line)?;
+        let mut printed = front.into_bytes();
+        if !self.details.is_empty() {
+            printed.extend_from_slice(b" ")?;
+            printed.extend_from_slice(escape(alloc, self.details.as_slice())?.as_slice())?;
+        }
+        Ok(printed)
+    }
+}
+
+impl Warnings {
+    pub fn new(alloc: Global) -> Warnings {
+        Warnings {
+            items: Vec::new(alloc),
+        }
+    }
+
+    /// Adds a warning with one or two words as its details, or none; a second word that is empty is left out.
+    pub fn warn(
+        &mut self,
+        alloc: Global,
+        text: TextName,
+        line: u32,
+        warning: Warning,
+        first: &[u8],
+        second: &[u8],
+    ) -> Result<(), OutOfMemory> {
+        let mut details = Bytes::from_slice(alloc, first)?;
+        if !second.is_empty() {
+            details.push(b' ')?;
+            details.append(second)?;
+        }
+        self.items.push(Warned {
+            text,
+            line,
+            warning,
+            details,
+        })?;
+        Ok(())
+    }
+
+    /// Puts the warnings in the order of text and line.
+    pub fn sort(&mut self) -> Result<(), OutOfMemory> {
+        self.items
+            .sort_by_key(|warned| (warned.text.rank(), warned.line))?;
+        Ok(())
+    }
+}

@@ -1,0 +1,233 @@
+//! Warnings of the units of an accepted application.
+
+use crate::lab_findings::{Label, TextName, Warning, Warnings, labels_of};
+use crate::lab_warnings::flow::Reach;
+use crate::lab_warnings::held::held_warnings;
+use crate::lab_warnings::targets::{
+    Names, add_fields, add_label, message_of, takes_jobs, target_of, undeclared,
+};
+use application_check::kdcdef_check::Generation;
+use application_check::unit_check::Units;
+use application_types::unit_types::{Action, Unit};
+use kd_base::OutOfMemory;
+use std::alloc::Global;
+use std::collections::BTreeSet;
+
+// The fields that statements of the unit name.
+fn named_fields(alloc: Global, unit: &Unit) -> Result<Names, OutOfMemory> {
+    let mut names: Names = BTreeSet::new(alloc);
+    for statement in unit.statements() {
+        add_fields(&mut names, &statement.action)?;
+    }
+    Ok(names)
+}
+
+// The labels that statements of the unit jump to.
+fn named_labels(alloc: Global, unit: &Unit) -> Result<Names, OutOfMemory> {
+    let mut names: Names = BTreeSet::new(alloc);
+    for statement in unit.statements() {
+        add_label(&mut names, &statement.action)?;
+    }
+    Ok(names)
+}
+
+// Warns of fields that no statement names.
+fn field_warnings(alloc: Global, unit: &Unit, warned: &mut Warnings) -> Result<(), OutOfMemory> {
+    let names = named_fields(alloc, unit)?;
+    for field in unit.fields() {
+        if !names.contains(&field.name) {
+            warned.warn(
+                alloc,
+                TextName::Units,
+                field.line,
+                Warning::UnusedField,
+                field.name.as_slice(),
+                b"",
+            )?;
+        }
+    }
+    Ok(())
+}
+
+// Warns of labels that no statement jumps to.
+fn label_warnings(
+    alloc: Global,
+    unit: &Unit,
+    labels: &[Label],
+    warned: &mut Warnings,
+) -> Result<(), OutOfMemory> {
+    let names = named_labels(alloc, unit)?;
+    for label in labels {
+        if label.unit == *unit.name() && !names.contains(&label.name) {
+            warned.warn(
+                alloc,
+                TextName::Units,
+                label.line,
+                Warning::UnusedLabel,
+                label.name.as_slice(),
+                b"",
+            )?;
+        }
+    }
+    Ok(())
+}
+
+// Warns of a literal that is longer than a message may be.
+fn message_warning(
+    alloc: Global,
+    generation: &Generation,
+    line: u32,
+    action: &Action,
+    warned: &mut Warnings,
+) -> Result<(), OutOfMemory> {
+    let Some(message) = message_of(action) else {
+        return Ok(());
+    };
+    let most = generation.max().nb;
+    if message.len() <= most as usize {
+        return Ok(());
+    }
+    let numbers = format!(in alloc; "{} {most}", message.len())?;
+    warned.warn(
+        alloc,
+        TextName::Units,
+        line,
+        Warning::LongMessage,
+        numbers.as_bytes(),
+        b"",
+    )
+}
+
+// Warns of what a statement at this line names.
+fn name_warnings(
+    alloc: Global,
+    generation: &Generation,
+    line: u32,
+    action: &Action,
+    warned: &mut Warnings,
+) -> Result<(), OutOfMemory> {
+    if let Some(target) = target_of(action) {
+        if !takes_jobs(generation, target) {
+            warned.warn(alloc, TextName::Units, line, Warning::NoTarget, target, b"")?;
+        }
+    }
+    if let Some(block) = undeclared(generation, action) {
+        warned.warn(alloc, TextName::Units, line, Warning::NoBlock, block, b"")?;
+    }
+    message_warning(alloc, generation, line, action, warned)
+}
+
+// Warns of statements that are never reached, the first of several.
+fn reach_warnings(
+    alloc: Global,
+    unit: &Unit,
+    reach: &Reach,
+    warned: &mut Warnings,
+) -> Result<(), OutOfMemory> {
+    let mut place: u32 = 1;
+    let mut was_reached = true;
+    for statement in unit.statements() {
+        let is_reached = reach.has(place);
+        if was_reached && !is_reached {
+            warned.warn(
+                alloc,
+                TextName::Units,
+                statement.line,
+                Warning::NeverReached,
+                b"",
+                b"",
+            )?;
+        }
+        was_reached = is_reached;
+        place = place.saturating_add(1);
+    }
+    end_warning(alloc, unit, reach, place, warned)
+}
+
+// Warns of a run that comes to the place behind the last statement.
+fn end_warning(
+    alloc: Global,
+    unit: &Unit,
+    reach: &Reach,
+    end: u32,
+    warned: &mut Warnings,
+) -> Result<(), OutOfMemory> {
+    if !reach.has(end) {
+        return Ok(());
+    }
+    let line = match unit.statements().last() {
+        Some(last) => last.line,
+        None => unit.line(),
+    };
+    warned.warn(
+        alloc,
+        TextName::Units,
+        line,
+        Warning::RunsPastEnd,
+        unit.name().as_slice(),
+        b"",
+    )
+}
+
+// Warns of a unit that no PROGRAM statement names.
+fn use_warning(
+    alloc: Global,
+    generation: &Generation,
+    unit: &Unit,
+    warned: &mut Warnings,
+) -> Result<(), OutOfMemory> {
+    if generation.programs().contains_key(unit.name()) {
+        return Ok(());
+    }
+    warned.warn(
+        alloc,
+        TextName::Units,
+        unit.line(),
+        Warning::UnusedUnit,
+        unit.name().as_slice(),
+        b"",
+    )
+}
+
+// Warns of where runs of a unit go.
+fn flow_warnings(
+    alloc: Global,
+    generation: &Generation,
+    unit: &Unit,
+    warned: &mut Warnings,
+) -> Result<(), OutOfMemory> {
+    let reach = Reach::from(alloc, unit, &[1])?;
+    reach_warnings(alloc, unit, &reach, warned)?;
+    held_warnings(alloc, generation, unit, &reach, warned)
+}
+
+fn warnings_of(
+    alloc: Global,
+    generation: &Generation,
+    unit: &Unit,
+    labels: &[Label],
+    warned: &mut Warnings,
+) -> Result<(), OutOfMemory> {
+    use_warning(alloc, generation, unit, warned)?;
+    field_warnings(alloc, unit, warned)?;
+    label_warnings(alloc, unit, labels, warned)?;
+    for statement in unit.statements() {
+        name_warnings(alloc, generation, statement.line, &statement.action, warned)?;
+    }
+    flow_warnings(alloc, generation, unit, warned)
+}
+
+/// Warns of what the units of an accepted application do.
+pub fn unit_warnings(
+    alloc: Global,
+    generation: &Generation,
+    units: &Units,
+    text: &[u8],
+    warned: &mut Warnings,
+) -> Result<(), OutOfMemory> {
+    let labels = labels_of(alloc, text)?;
+    for unit in units.all() {
+        warnings_of(alloc, generation, unit, &labels, warned)?;
+    }
+    Ok(())
+}

@@ -1,0 +1,6 @@
+use Rattle.std.proofs.Common.{◌≡◌, ◌++◌, drop}
+use Rattle.abstract_monitor.specs.Trace.{bytes_of}
+use Rattle.lab_orders.proofs.path.send.Given as goal
+
+abbrev pub invariant-loop-act : goal.invariant-loop-act
+invariant-loop-act l = l.sent ++ bytes_of (drop l.act-index l.acts) ≡ l.fn.sent ++ bytes_of l.acts

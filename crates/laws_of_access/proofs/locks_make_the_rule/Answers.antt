@@ -1,5 +1,0 @@
-use Rattle.laws_of_access.proofs.Ruleless.{locks_make_the_rule}
-use Rattle.laws_of_access.proofs.locks_make_the_rule.Goals as goal
-
-pub returns : goal.returns
-returns c = locks_make_the_rule

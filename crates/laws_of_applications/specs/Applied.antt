@@ -1,7 +1,0 @@
--- The application of a generation and the units that were fitted to it.
-use Rattle.kdcdef_types.specs.Generation.{Generated}
-use Rattle.unit_check.specs.Fitted.{FittedUnits}
-use Rattle.abstract_monitor.specs.State.{Application}
-
-abbrev pub applied : Generated → FittedUnits → Application
-applied g fitted = record { generation = g; units = fitted.units }

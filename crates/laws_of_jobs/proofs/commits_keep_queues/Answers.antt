@@ -1,5 +1,0 @@
-use Rattle.laws_of_jobs.proofs.Queues.{turns_keep_queues, commands_keep_queues}
-use Rattle.laws_of_jobs.proofs.commits_keep_queues.Goals as goal
-
-pub returns : goal.returns
-returns c = record { turns = turns_keep_queues c.makers_say_what_commits_do.ensures.turns; commands = commands_keep_queues c.makers_say_what_commits_do.ensures.commands }

@@ -1,5 +1,0 @@
-use Rattle.laws_of_jobs.proofs.Resuming.{starts_resume, sign_ons_resume}
-use Rattle.laws_of_jobs.proofs.services_resume.Goals as goal
-
-pub returns : goal.returns
-returns c = record { starts = starts_resume; sign_ons = sign_ons_resume }

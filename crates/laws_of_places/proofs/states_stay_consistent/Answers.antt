@@ -1,5 +1,0 @@
-use Rattle.laws_of_places.proofs.Keeping.{turns_stay, commands_stay, starts_are}
-use Rattle.laws_of_places.proofs.states_stay_consistent.Goals as goal
-
-pub returns : goal.returns
-returns c = record { turns = turns_stay; commands = commands_stay; starts = starts_are }

@@ -1,5 +1,0 @@
-use Rattle.abstract_monitor.specs.DeadlocksLaws.{deadlocks_found}
-use Rattle.laws_of_steps.proofs.deadlocks_are_found.Goals as goal
-
-pub returns : goal.returns
-returns c = deadlocks_found

@@ -1,5 +1,0 @@
-use Rattle.laws_of_steps.specs.OwnRowLaws.{points_set, ends_remove}
-use Rattle.laws_of_steps.proofs.ends_change_their_own_row.Goals as goal
-
-pub returns : goal.returns
-returns c = record { points = points_set; ends = ends_remove }

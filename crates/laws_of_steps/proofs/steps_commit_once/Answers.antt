@@ -1,5 +1,0 @@
-use Rattle.laws_of_steps.proofs.Commits.{turns_commit_once, commands_commit_once, steps_make_their_tables}
-use Rattle.laws_of_steps.proofs.steps_commit_once.Goals as goal
-
-pub returns : goal.returns
-returns c = record { turns = turns_commit_once; commands = commands_commit_once; tables = steps_make_their_tables }

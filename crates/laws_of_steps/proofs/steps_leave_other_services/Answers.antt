@@ -1,5 +1,0 @@
-use Rattle.laws_of_steps.proofs.Frames.{turns_leave_others, commands_touch_one}
-use Rattle.laws_of_steps.proofs.steps_leave_other_services.Goals as goal
-
-pub returns : goal.returns
-returns c = record { turns = turns_leave_others; commands = commands_touch_one }

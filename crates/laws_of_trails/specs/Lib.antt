@@ -1,4 +1,0 @@
-pub mod HoldsFacts
-pub mod InTurn
-pub mod OwnTrails
-pub mod WrittenNames

@@ -1,0 +1,6 @@
+pub mod Asked
+pub mod Index
+pub mod Inputs
+pub mod Parts
+pub mod SameLocksLaws
+pub mod Signed

@@ -1,0 +1,27 @@
+//! Who may start what: the rule of locks and keys.
+//!
+//! It stands on the generation and on the definitions of the abstract monitor. To the crates that ask before a dialogue
+//! service begins its contract says whether the rule denies a TAC to a user at an LTERM, and for whose lack of which code.
+
+ghost use Rattle.std.specs.Prelude.{◌≡◌};
+ghost use Rattle.abstract_monitor.specs.Access.{denial_of};
+
+use abstract_monitor::Denial;
+use application_check::kdcdef_check::Generation;
+use kd_base::Name;
+
+/// Why this user, at a terminal of this LTERM, may not start a service with this TAC; `None` where the TAC has no lock, or
+/// both have its code. The user's keys are asked first. It takes no memory.
+#[tactic(auto, unfolding(abstract_monitor::specs::Access::denial_of))]
+pub fn decide(generation: &Generation, user: Name, lterm: Name, tac: Name) -> Option<Denial>
+    ensures { result ≡ denial_of generation.now user lterm tac }
+{
+    let code = generation.lock_of(tac)?;
+    if !generation.user_keys(user).has(code) {
+        return Some(Denial::User(code));
+    }
+    if !generation.lterm_keys(lterm).has(code) {
+        return Some(Denial::Lterm(code));
+    }
+    None
+}

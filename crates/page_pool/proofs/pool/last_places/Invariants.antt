@@ -1,5 +1,0 @@
-use Rattle.page_pool.specs.Pools.{AreLast}
-use Rattle.page_pool.proofs.pool.last_places.Given as goal
-
-abbrev pub invariant-loop-n : goal.invariant-loop-n
-invariant-loop-n l = AreLast l.order.items l.free l.n l.out.items

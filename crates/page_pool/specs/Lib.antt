@@ -1,4 +1,0 @@
-pub mod Places
-pub mod PlacesLaws
-pub mod Pools
-pub mod PoolsLaws

@@ -1,4 +1,0 @@
-pub mod Weights
-pub mod WeightsLaws
-pub mod Pages
-pub mod PagesLaws

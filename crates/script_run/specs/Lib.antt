@@ -1,0 +1,5 @@
+pub mod Sinks
+pub mod Keeping
+pub mod KeepingLaws
+pub mod ScriptsLaws
+pub mod ResultsLaws

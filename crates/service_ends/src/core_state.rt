@@ -1,0 +1,13 @@
+//! The state of a monitor with its indexes: sessions, ready list and tasks, open transactions, locks, marks of jobs.
+//!
+//! It stands on the crates of sessions, tasks, jobs, locks, open transactions and tables. To the layers above, which do
+//! turns and commands, its contract says that each change of the parts is a change of the abstract monitor's state, and
+//! that every index stays the state's.
+
+mod parts;
+mod places;
+mod rows;
+mod terminals;
+mod transactions;
+
+pub use parts::MonitorParts;

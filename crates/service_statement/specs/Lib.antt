@@ -1,2 +1,0 @@
-pub mod Stating
-pub mod StatingLaws

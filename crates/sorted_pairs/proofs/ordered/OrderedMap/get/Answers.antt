@@ -1,6 +1,0 @@
-use Rattle.std.proofs.Common.{◌∙◌}
-use Rattle.sorted_pairs.specs.TreeLaws.{same_find}
-use Rattle.sorted_pairs.proofs.ordered.OrderedMap.get.Goals as goal
-
-pub returns-clause-value : goal.returns-clause-value
-returns-clause-value g c = rw (← c.self.view_is) (c.get.ensures.value ∙ same_find g.K.Ord.cmp c.args.key.now c.self.inside.tree.entries)

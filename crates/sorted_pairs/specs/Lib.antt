@@ -1,8 +1,0 @@
-pub mod Places
-pub mod PlacesLaws
-pub mod TimesLaws
-pub mod ChangedLaws
-pub mod Lends
-pub mod MappedLaws
-pub mod LendsTree
-pub mod TreeLaws

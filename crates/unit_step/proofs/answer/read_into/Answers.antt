@@ -1,6 +1,0 @@
-use Rattle.unit_step.proofs.Fields.{found_inside}
-use Rattle.unit_step.proofs.answer.read_into.Goals as goal
-
-pub store-requires : goal.store-requires
-store-requires c =
-    found_inside c.args.unit.now c.args.run.now c.as_slice.result.now c.in-Some-field.field.now c.requires c.in-Some-field.ensures

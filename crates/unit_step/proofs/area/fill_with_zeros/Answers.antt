@@ -1,6 +1,0 @@
-use Rattle.unit_step.proofs.Writing.{zeros_and_digits}
-use Rattle.unit_step.proofs.area.fill_with_zeros.Goals as goal
-
-pub returns : goal.returns
-returns c =
-    zeros_and_digits c.args.at c.args.count c.args.digits.now c.args.area.now c.fill.new.self c.overwrite.new.self c.requires.bounded c.requires.inside c.fill.ensures c.overwrite.ensures

@@ -1,6 +1,0 @@
-use Rattle.unit_step.proofs.Fields.{found_inside}
-use Rattle.unit_step.proofs.plain.arithmetic.Goals as goal
-
-pub calculate-requires-clause-field : goal.calculate-requires-clause-field
-calculate-requires-clause-field c =
-    found_inside c.args.unit.now c.args.run.now c.as_slice.result.now c.in-Some.field.now c.requires.inside c.in-Some.ensures

@@ -1,5 +1,0 @@
-use Rattle.std.proofs.Common.{arith}
-use Rattle.unit_step.proofs.stepping.step.Goals as goal
-
-pub do_action-requires-clause-count : goal.do_action-requires-clause-count
-do_action-requires-clause-count c = omega arith

@@ -1,3 +1,0 @@
-pub mod UnitText
-pub mod Index
-pub mod PlacesLaws
