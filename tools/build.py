@@ -1,8 +1,12 @@
 #!/usr/bin/env python3
-"""Proves the crates that a program stands on, builds it, and runs it with the words of this call.
+"""Proves the crates that programs stand on, and builds the programs.
 
-The first word is the program's launcher, utm or lab; the others are the program's own. What both programs stand on is
-proved once.
+    python3 tools/build.py NAME JOBS LAUNCHER,.. [run WORD..]
+
+NAME is the launcher under whose name all is told. JOBS is how many processors are used, and 0 stands for all that
+there are. Then come the launchers whose programs are built: utm, lab, or test, whose program is utm_cases. With `run`
+this process becomes the first of these programs, with the words behind it. What several programs stand on is proved
+once.
 
 Each crate is proved by the kit's prover, `rattle build`, from its sources and over the libraries of the crates below it,
 side by side with others. A library has the statements of its crate and not the proofs, as in the gate, so that those
@@ -10,11 +14,9 @@ above read little. It is moved into the crate's out/ when it is whole, with a di
 stop loses only the crates at work, and the next start proves what has no library of its digest.
 """
 
-import contextlib
 import fcntl
-import hashlib
 import os
-import re
+import resource
 import shutil
 import signal
 import subprocess
@@ -22,166 +24,39 @@ import sys
 import time
 from pathlib import Path
 
-TOP = Path(__file__).resolve().parent.parent
-CRATES = TOP / "crates"
-# By its launcher, the crate of a program, and words that it ends with status 6, by which it is tried before it is kept.
-PROGRAMS = {"utm": ("utm", ["run", "nothing"]), "lab": ("kdcs_lab", ["trace", "nothing"])}
-LAUNCHER = sys.argv[1] if len(sys.argv) > 1 and sys.argv[1] in PROGRAMS else "utm"
-PROGRAM, FIRST_WORDS = PROGRAMS[LAUNCHER]
-OUT = CRATES / PROGRAM / "out"
-# There during a build; after a failure its logs stay.
-WORKSHOP = OUT / "build"
-SOURCES = WORKSHOP / "sources"
-MADE = WORKSHOP / "made"
-LOGS = WORKSHOP / "logs"
-# The launcher asks whether one of the files below these folders is newer than the program.
-SOURCE_LIST = OUT / "sources"
-PARTS = ("src", "specs", "proofs")
+sys.dont_write_bytecode = True
+
+from crates import CRATES, GIGABYTE, PROGRAMS, TOP, Failure, copy_sources, read_crates, remove
+from launched import Launcher, Stopped, count_of
+from machine import free_memory, processors
+from schedule import MOST_JOBS, Forecast, speed
 
 NO_ANSWER = 9
 TARGET = "x86_64-unknown-linux-gnu"
-FIRST_STATUS = 6
-MOST_JOBS = 4
-GIGABYTE = 10**9
-# What a proof takes at most: memory for itself, for each line of code of the crate and of those below it, and for each
-# further job a part of the sum; and time for a line below, of that for a line of its own.
-MEMORY = GIGABYTE
-MEMORY_OF_LINE = 500_000
-MEMORY_OF_LINE_BELOW = 100_000
-MEMORY_OF_JOB = 0.6
-TIME_OF_LINE_BELOW = 1 / 16
 # What is left on the disk for each line of code, and what has to be free beside that.
 DISK_OF_LINE = 150_000
 DISK_TO_WORK = 0.5 * GIGABYTE
 SECONDS_BETWEEN_REPORTS = 60
+# How long a build has to go on until its own pace counts as much as the measured seconds.
+SECONDS_OF_PACE = 60
 LINES_OF_LOG = 20
-
-
-class Failure(Exception):
-    """The program cannot be built; the text says why."""
-
-
-class Stopped(Exception):
-    """A signal, whose number this is, told this process to end."""
-
-
-def say(text):
-    """Tells the user something on standard error, where there is one: standard output is the program's own."""
-    if sys.stderr is not None:
-        with contextlib.suppress(OSError):
-            print(f"{LAUNCHER}: {text}", file=sys.stderr, flush=True)
-
-
-def count_of(number, word):
-    return f"{number} {word}" if number == 1 else f"{number} {word}s"
 
 
 def gigabytes(size):
     return f"{size / GIGABYTE:.1f} GB"
 
 
-# The crates
+def minutes_of(seconds):
+    """The minutes of an estimate, at least one."""
+    return max(round(seconds / 60), 1)
 
 
-class Crate:
-    """A crate as its line of crates.txt has it. Crates compare as objects."""
+class Workshop:
+    """A folder that is there during a build. After a failure its logs stay."""
 
-    def __init__(self, line):
-        self.line = line
-        head, _, libraries = line.partition(":")
-        self.name = head.split()[0]
-        self.libraries = re.findall(r"[^\s,]+", libraries)
-        # What is made of it: the program, or a library. Beside it lies the digest of what it was made from.
-        self.made = OUT / PROGRAM if self.is_program() else CRATES / self.name / "out" / "proved" / f"{self.name}.rlib"
-        self.mark_file = self.made.parent / (f"{PROGRAM}.digest" if self.is_program() else "digest")
-        # The libraries of the kit that it stands on, and the crates of the repository: by its line, and in all.
-        self.of_kit, self.uses, self.below = [], [], set()
-        # Its lines of code, and the digest of all that it is made from.
-        self.lines, self.digest = 0, None
-        # The work of the longest chain of crates that begins with it and goes up.
-        self.chain = 0
-
-    def is_program(self):
-        return self.name == PROGRAM
-
-    def sources(self):
-        files = [file for part in PARTS for file in (CRATES / self.name / part).rglob("*")]
-        return sorted(file for file in files if file.is_file())
-
-    def mark(self):
-        """The digest, and for a program, which the gate may replace by another, the one of its bytes too."""
-        return f"{self.digest} {sum_of(self.made)}" if self.is_program() else self.digest
-
-    def is_proved(self):
-        with contextlib.suppress(OSError):
-            return self.made.exists() and self.mark_file.read_text() == self.mark()
-        return False
-
-    def keep(self, made):
-        """Takes what was made of it, with the digest of what it was made from."""
-        self.made.parent.mkdir(parents=True, exist_ok=True)
-        self.mark_file.unlink(missing_ok=True)
-        if self.made.is_dir():
-            remove(self.made)
-        made.rename(self.made)
-        self.mark_file.write_text(self.mark())
-
-    def lines_below(self):
-        return sum(it.lines for it in self.below)
-
-    def work(self):
-        """How long its proof takes, measured in lines of code."""
-        return 1 + self.lines + TIME_OF_LINE_BELOW * self.lines_below()
-
-    def memory(self, jobs):
-        """The most that its proof takes, in bytes."""
-        one = MEMORY + MEMORY_OF_LINE * self.lines + MEMORY_OF_LINE_BELOW * self.lines_below()
-        return one + MEMORY_OF_JOB * one * (jobs - 1)
-
-
-def sum_of(file):
-    return hashlib.sha256(file.read_bytes()).hexdigest()
-
-
-def read_crates():
-    """Returns the crates that the program stands on, lowest first, and the program's own behind them."""
-    rows = [row.partition("#")[0].strip() for row in (TOP / "crates.txt").read_text().splitlines()]
-    listed = {it.name: it for it in (Crate(row) for row in rows if row)}
-    found = []
-
-    def visit(crate, above):
-        if crate in above:
-            raise Failure(f"crates.txt: {crate.name} stands on itself")
-        if crate not in found:
-            crate.uses = [listed[name] for name in crate.libraries if name in listed]
-            crate.of_kit = ["std", *(name for name in crate.libraries if name not in listed)]
-            for lower in crate.uses:
-                visit(lower, [*above, crate])
-            crate.below = set(crate.uses).union(*(lower.below for lower in crate.uses))
-            found.append(crate)
-
-    visit(listed[PROGRAM], [])
-    return found
-
-
-def copy_sources(crates, version):
-    """Copies the sources, so that what is edited meanwhile counts for the next start, and takes lines and digests."""
-    for crate in crates:
-        read = hashlib.sha256(version + crate.line.encode())
-        for lower in crate.uses:
-            read.update(lower.digest.encode())
-        for file in crate.sources():
-            name, text = file.relative_to(TOP), file.read_bytes()
-            read.update(repr((str(name), text)).encode())
-            crate.lines += text.count(b"\n") if file.suffix == ".rt" else 0
-            (SOURCES / name).parent.mkdir(parents=True, exist_ok=True)
-            (SOURCES / name).write_bytes(text)
-        crate.digest = read.hexdigest()
-    for crate in reversed(crates):
-        crate.chain = crate.work() + max((it.chain for it in crates if crate in it.uses), default=0)
-
-
-# The kit
+    def __init__(self, folder):
+        self.folder = folder
+        self.sources, self.made, self.logs = folder / "sources", folder / "made", folder / "logs"
 
 
 class Kit:
@@ -194,8 +69,8 @@ class Kit:
         self.version = subprocess.run(["rt", "version"], **how).stdout
 
     def prove(self, crate, jobs, made):
-        """The words of the command that proves a crate, and makes a library of it or the object file of the program."""
-        root = "src/main.rt" if crate.is_program() else "src/lib.rt"
+        """The words of the command that proves a crate, and makes a library of it or the object file of a program."""
+        root = "src/main.rt" if crate.program else "src/lib.rt"
         words = [self.folder / "bin" / "rattle", "build", "--crate-name", crate.name, root]
         for name in crate.of_kit:
             words += ["--extern", f"{name}={self.libraries / name}.rlib"]
@@ -206,7 +81,7 @@ class Kit:
             words += ["-L", f"dependency={it.made.parent}"]
         words += ["--antt-project", self.folder / "rattle" / "logic" / "antt-project.json"]
         words += ["--logic-built", self.folder / "logic_built", "--jobs", jobs]
-        words += ["--toolchain", self.folder / "toolchain"] if crate.is_program() else ["--statements"]
+        words += ["--toolchain", self.folder / "toolchain"] if crate.program else ["--statements"]
         return [str(it) for it in [*words, "-o", made]]
 
     def link(self, made, program):
@@ -216,59 +91,7 @@ class Kit:
         return [str(it) for it in words]
 
 
-# What the machine has
-
-
-def number_in(file, pattern):
-    try:
-        return int(re.search(pattern, Path(file).read_text(), re.M)[1])
-    except (OSError, TypeError):
-        return None
-
-
-def control_groups(kind):
-    """Yields the folders of the control groups of this process for memory or cpu, in both versions, its own first."""
-    with contextlib.suppress(OSError):
-        for row in Path("/proc/self/cgroup").read_text().splitlines():
-            _, kinds, path = row.split(":", 2)
-            if not kinds or kind in kinds.split(","):
-                root = Path("/sys/fs/cgroup", kind if kinds else "")
-                group = root / path.lstrip("/")
-                yield from (it for it in (group, *group.parents) if it == root or root in it.parents)
-
-
-def free_memory():
-    """Returns the bytes that may still be taken, by the machine and by each control group."""
-    free = [1024 * (number_in("/proc/meminfo", r"^MemAvailable:\s+(\d+)") or 0)]
-    for group in control_groups("memory"):
-        limit = number_in(group / "memory.max", r"^(\d+)") or number_in(group / "memory.limit_in_bytes", r"^(\d+)")
-        held = number_in(group / "memory.stat", r"^(?:anon|total_rss) (\d+)")
-        if limit and held is not None:
-            free.append(max(limit - held, 0))
-    return min(free)
-
-
-def processors():
-    """Returns how many processors may be used; a control group may give a share of their time."""
-    found = len(os.sched_getaffinity(0))
-    for group in control_groups("cpu"):
-        quota = number_in(group / "cpu.max", r"^(\d+)") or number_in(group / "cpu.cfs_quota_us", r"^(\d+)")
-        period = number_in(group / "cpu.max", r" (\d+)") or number_in(group / "cpu.cfs_period_us", r"^(\d+)")
-        if quota and period:
-            found = min(found, max(quota // period, 1))
-    return found
-
-
 # Provers
-
-
-def remove(folder):
-    """Removes a folder, in which a prover that was just ended may write for a moment longer."""
-    for _ in range(50):
-        shutil.rmtree(folder, ignore_errors=True)
-        if not folder.exists():
-            return
-        time.sleep(0.1)
 
 
 def start_guard():
@@ -278,23 +101,32 @@ def start_guard():
     return subprocess.Popen(words, stdin=subprocess.PIPE, preexec_fn=os.setpgrp, **quiet)
 
 
-class Prover:
-    """A prover at work on a crate. Of the program it makes an object file, which is then linked and tried."""
+def seconds_of_ended():
+    """The processor seconds of all processes that this one has started and that have ended."""
+    used = resource.getrusage(resource.RUSAGE_CHILDREN)
+    return used.ru_utime + used.ru_stime
 
-    def __init__(self, kit, crate, jobs, group, is_alone=False):
+
+class Prover:
+    """A prover at work on a crate. Of a program it makes an object file, which is then linked and tried."""
+
+    def __init__(self, kit, workshop, crate, jobs, group, is_alone=False):
         self.crate, self.jobs, self.is_alone, self.group = crate, jobs, is_alone, group
-        self.log = LOGS / f"{crate.name}.log"
-        self.made = MADE / crate.name / crate.made.name
+        self.folder = workshop.sources / "crates" / crate.name
+        self.log = workshop.logs / f"{crate.name}.log"
+        self.made = workshop.made / crate.name / crate.made.name
         self.made.parent.mkdir(parents=True)
-        if crate.is_program():
+        if crate.program:
             object_file = self.made.with_suffix(".o")
             prove = kit.prove(crate, jobs, object_file)
-            steps = [(prove, 0), (kit.link(object_file, self.made), 0), ([str(self.made), *FIRST_WORDS], FIRST_STATUS)]
+            tries = [str(self.made), *crate.program.words]
+            steps = [(prove, 0), (kit.link(object_file, self.made), 0), (tries, crate.program.status)]
         else:
             steps = [(kit.prove(crate, jobs, self.made), 0)]
         self.steps = iter(steps)
         self.log.unlink(missing_ok=True)
         self.process, self.wanted = None, None
+        self.began, self.seconds = time.monotonic(), 0
         self.go_on()
 
     def go_on(self):
@@ -305,7 +137,7 @@ class Prover:
         with open(self.log, "ab") as log:
             self.process = subprocess.Popen(
                 words,
-                cwd=SOURCES / "crates" / self.crate.name,
+                cwd=self.folder,
                 stdin=subprocess.DEVNULL,
                 stdout=log,
                 stderr=log,
@@ -315,8 +147,15 @@ class Prover:
 
     def has_ended(self):
         """Whether no step is at work or left. The next one starts when the one before has done what it had to."""
+        before = seconds_of_ended()
         status = self.process.poll()
+        self.seconds += seconds_of_ended() - before
         return status is not None and (status != self.wanted or not self.go_on())
+
+    def left(self):
+        """The seconds of work that are left, as far as it can be known: where it takes longer, a tenth of all."""
+        work = self.crate.work()
+        return max(work - (time.monotonic() - self.began) * speed(self.jobs), work / 10)
 
     def is_done(self):
         return self.wanted is None and self.made.exists()
@@ -327,27 +166,74 @@ class Prover:
 
 
 class Build:
-    """Proves the crates that are not proved yet, as many side by side as processors and memory allow."""
+    """Proves the crates that programs stand on, as many side by side as processors and memory allow."""
 
-    def __init__(self, kit, crates, signals):
-        self.kit, self.crates, self.signals = kit, crates, signals
-        self.proved = {it for it in crates if it.is_proved()}
-        self.waiting = sorted((it for it in crates if it not in self.proved), key=lambda it: -it.chain)
-        self.at_work, self.killed, self.has_failed = [], [], False
-        self.processors, self.memory = processors(), free_memory()
-        self.began = self.told = time.monotonic()
-        self.news, self.guard = None, None
+    def __init__(self, launcher, launchers, asked, most_jobs=MOST_JOBS, is_anew=False):
+        """The programs of `launchers` are built. `asked` is how many processors are used, and 0 stands for all.
+
+        One crate gets at most `most_jobs` jobs; where all is done anew, nothing counts as proved.
+        """
+        self.launcher, self.launchers, self.most_jobs, self.is_anew = launcher, launchers, most_jobs, is_anew
+        self.processors, self.memory = asked or processors(), free_memory()
+        self.workshop = Workshop(CRATES / PROGRAMS[launchers[0]].crate / "out" / "build")
+        # The moment at which the sources were read.
+        self.kit, self.guard, self.moment = None, None, None
+        self.crates, self.proved, self.waiting, self.at_work, self.killed = [], set(), [], [], []
+        self.has_failed = False
+        # By their names the processor seconds of the crates that were proved now.
+        self.seconds = {}
+        # When it began to prove, how long that may take, and what was told last, and when.
+        self.began, self.expected, self.news, self.told = 0, 0, None, 0
+
+    def answer(self):
+        """Builds the programs, says where it does not come to its end, and returns the status."""
+        say = self.launcher.say
+        try:
+            self.run()
+        except Stopped as stopped:
+            remove(self.workshop.folder)
+            say("stopped: what is proved is kept, and the next start goes on with the rest")
+            return 128 + stopped.args[0]
+        except Failure as failure:
+            say(failure)
+            return NO_ANSWER
+        except (OSError, subprocess.SubprocessError) as error:
+            say(f"the build broke off: {error}; what is proved is kept: when this is mended, start again")
+            return NO_ANSWER
+        return 0
 
     def run(self):
+        """Proves what is not proved yet, and notes that the programs suit their sources as they were when these were read."""
+        self.crates = read_crates(self.launchers)
+        lock(self.launcher, self.crates)
+        remove(self.workshop.folder)
+        try:
+            self.workshop.logs.mkdir(parents=True)
+            self.moment = time.time()
+            self.kit = Kit()
+            copy_sources(self.crates, self.workshop.sources, self.kit.version)
+            self.prove_all()
+        finally:
+            remove(self.workshop.made)
+            remove(self.workshop.sources)
+        remove(self.workshop.folder)
+        for it in self.crates:
+            if it.program:
+                it.date(self.moment)
+
+    def prove_all(self):
         """Proves all. Where a crate fails it starts no other, and waits for those at work, so that these are kept."""
+        self.waiting = sorted(self.unproved(), key=lambda it: -it.chain)
+        self.proved = {*self.crates}.difference(self.waiting)
         if self.waiting:
+            self.began, self.expected = time.monotonic(), self.forecast().seconds
             self.announce()
             self.guard = start_guard()
             try:
                 while self.at_work or not self.has_failed and (self.waiting or self.killed):
                     self.start_provers()
                     self.tell()
-                    wait(0.2, self.signals)
+                    self.launcher.wait(0.2)
                     self.look_at_provers()
             finally:
                 os.killpg(self.guard.pid, signal.SIGKILL)
@@ -357,29 +243,62 @@ class Build:
         if self.has_failed:
             raise Failure("what is proved is kept: when this is mended, start again")
 
+    def unproved(self):
+        """The programs that are not there as their sources are now, and what is not proved of the crates below them."""
+        if self.is_anew:
+            return self.crates
+        programs = {it for it in self.crates if it.program and not it.is_proved() and not it.is_of_gate()}
+        wanted = programs.union(*(it.below for it in programs))
+        return [it for it in self.crates if it in wanted and not it.is_proved()]
+
+    def forecast(self):
+        at_work = {it.crate: (it.jobs, it.left()) for it in self.at_work}
+        return Forecast([*self.waiting, *self.killed], at_work, self.processors)
+
+    def seconds_left(self):
+        """How long it may take still: as reckoned ahead, at the pace that this machine has had until now."""
+        left = self.forecast().seconds
+        had = time.monotonic() - self.began
+        return left * (SECONDS_OF_PACE + had) / (SECONDS_OF_PACE + max(self.expected - left, 0))
+
     def announce(self):
-        """Says what is to be done and with what, and where that may be too little."""
+        """Says what is to be done, with what and how long, and why it is done here."""
+        say = self.launcher.say
         say(
             f"proving {len(self.waiting)} of {count_of(len(self.crates), 'crate')}, with"
-            f" {count_of(self.processors, 'processor')} and {gigabytes(self.memory)} of free memory"
+            f" {count_of(self.processors, 'processor')} and {gigabytes(self.memory)} of free memory;"
+            f" it takes about {count_of(minutes_of(self.expected), 'minute')}"
         )
+        say("only what is proved is built, and it is proved on this machine, once: then the programs start at once")
+        say("it may be stopped, and goes on from there. With --jobs N as first words it takes N processors")
+        say("'./utm --build' builds both programs, utm and lab, and runs neither")
+        self.warn()
+
+    def warn(self):
+        """Says where memory or disk may be too small."""
         most = max(it.memory(1) for it in self.waiting)
         if self.memory < most:
-            say(f"that may be too little memory: one of the proofs may take {gigabytes(most)}")
+            self.launcher.say(f"that may be too little memory: one of the proofs may take {gigabytes(most)}")
         wanted = DISK_TO_WORK + DISK_OF_LINE * sum(it.lines for it in self.waiting)
         free = shutil.disk_usage(TOP).free
         if free < wanted:
-            say(f"the disk may be too small: {gigabytes(free)} are free, and {gigabytes(wanted)} may be needed")
+            room = f"{gigabytes(free)} are free, and {gigabytes(wanted)} may be needed"
+            self.launcher.say(f"the disk may be too small: {room}")
 
     def tell(self):
-        """Says what is done, how long it has taken and what is at work, where that is news or was long ago."""
+        """Says what is done, how long it took and may take, and what is at work, where that is news or was long ago."""
         now = time.monotonic()
-        names = ", ".join(it.crate.name for it in self.at_work)
+        names = self.names_at_work()
         news = f"{len(self.proved)} of {count_of(len(self.crates), 'crate')} are proved", names
         if news != self.news or now - self.told > SECONDS_BETWEEN_REPORTS:
             self.news, self.told = news, now
-            minutes = count_of(int(now - self.began) // 60, "minute")
-            say(f"{news[0]}, {minutes} so far" + (f"; at work: {names}" if names else ""))
+            left = f", about {minutes_of(self.seconds_left())} left" if names and not self.has_failed else ""
+            at_work = f"; at work: {names}" if names else ""
+            so_far = count_of(int(now - self.began) // 60, "minute")
+            self.launcher.say(f"{news[0]}, {so_far} so far{left}{at_work}")
+
+    def names_at_work(self):
+        return ", ".join(it.crate.name for it in self.at_work)
 
     def start_provers(self):
         """Starts what there is room for, the longest chain first. A crate that was killed starts again alone."""
@@ -390,6 +309,8 @@ class Build:
                 self.start(self.killed.pop(), 1, is_alone=True)
             return
         for crate in [it for it in self.waiting if it.below <= self.proved]:
+            if len(self.at_work) >= self.processors:
+                return
             jobs = next((it for it in range(self.jobs_for(crate), 0, -1) if self.has_room(crate, it)), None)
             if jobs is None:
                 return
@@ -397,32 +318,37 @@ class Build:
             self.start(crate, jobs)
 
     def start(self, crate, jobs, is_alone=False):
-        self.at_work.append(Prover(self.kit, crate, jobs, self.guard.pid, is_alone))
+        self.at_work.append(Prover(self.kit, self.workshop, crate, jobs, self.guard.pid, is_alone))
 
     def jobs_for(self, crate):
-        """The processors that the crates beside it leave idle on average: while it runs it gets no more of them."""
-        beside = sum(it.work() for it in self.waiting if it is not crate and crate not in it.below)
-        beside += sum(it.crate.work() for it in self.at_work) / 2
-        return min(max(self.processors - round(beside / crate.work()), 1), MOST_JOBS)
+        """The processors that it has by the forecast: one, and its part of those that the crates beside it leave idle.
+
+        While it runs it gets no more. So one that can start while all are given is not kept waiting, but gets one job;
+        and the last crates, one after another, get all.
+        """
+        if sum(it.jobs for it in self.at_work) >= self.processors:
+            return 1
+        return min(max(round(self.forecast().average[crate]), 1), self.most_jobs)
 
     def has_room(self, crate, jobs):
-        """Whether a processor and memory are free for the crate. One job alone always has room."""
+        """Whether memory is free for the crate. One job alone always has room."""
         if not self.at_work:
             return jobs == 1 or crate.memory(jobs) <= self.memory
         taken = sum(it.crate.memory(it.jobs) for it in self.at_work)
-        has_memory = taken + crate.memory(jobs) <= self.memory and crate.memory(jobs) <= free_memory()
-        return has_memory and len(self.at_work) < self.processors
+        return taken + crate.memory(jobs) <= self.memory and crate.memory(jobs) <= free_memory()
 
     def look_at_provers(self):
         """Takes what was made by those that have ended."""
         for prover in [it for it in self.at_work if it.has_ended()]:
             self.at_work.remove(prover)
+            name = prover.crate.name
             if prover.is_done():
-                prover.crate.keep(prover.made)
+                prover.crate.keep(prover.made, self.moment)
                 prover.log.unlink()
                 self.proved.add(prover.crate)
+                self.seconds[name] = prover.seconds
             elif prover.was_killed() and not prover.is_alone:
-                say(f"{prover.crate.name} was ended, most likely for want of memory: it is tried once more, alone")
+                self.launcher.say(f"{name} was ended, most likely for want of memory: it is tried once more, alone")
                 self.killed.append(prover.crate)
             else:
                 self.has_failed = True
@@ -431,6 +357,7 @@ class Build:
 
     def tell_failure(self, prover):
         """Says what failed, why as far as it shows, and what goes on."""
+        say = self.launcher.say
         lines = prover.log.read_text(errors="replace").splitlines()[-LINES_OF_LOG:]
         say("\n".join([f"{prover.crate.name} failed; the end of its log:", *lines]))
         say(f"the whole log is {prover.log}")
@@ -440,29 +367,13 @@ class Build:
         elif free < DISK_TO_WORK:
             say(f"the disk has only {gigabytes(free)} free")
         if self.at_work:
-            names = ", ".join(it.crate.name for it in self.at_work)
-            say(f"still at work, and waited for, so that it is kept: {names}")
+            say(f"still at work, and waited for, so that it is kept: {self.names_at_work()}")
 
 
 # The call
 
 
-def heed_signals():
-    """Has the signals that tell this process to end noted, where they are not ignored; returns the list of them."""
-    came = []
-    for it in (signal.SIGINT, signal.SIGTERM, signal.SIGHUP):
-        if signal.getsignal(it) != signal.SIG_IGN:
-            signal.signal(it, lambda number, _: came.append(number))
-    return came
-
-
-def wait(seconds, signals):
-    time.sleep(seconds)
-    if signals:
-        raise Stopped(signals[0])
-
-
-def lock(crates, signals):
+def lock(launcher, crates):
     """Waits until no other command works in the crates' folders, and keeps others out until this process ends.
 
     rt takes these locks too, and in this order, so that no two commands wait for one another.
@@ -470,9 +381,9 @@ def lock(crates, signals):
     for crate in sorted(crates, key=lambda it: os.path.realpath(CRATES / it.name)):
         folder = os.open(CRATES / crate.name, os.O_RDONLY)
         if not is_locked(folder):
-            say(f"another command is at work in crates/{crate.name}: waiting until it has ended")
+            launcher.say(f"another command is at work in crates/{crate.name}: waiting until it has ended")
             while not is_locked(folder):
-                wait(1, signals)
+                launcher.wait(1)
 
 
 def is_locked(folder):
@@ -486,44 +397,21 @@ def is_locked(folder):
     return True
 
 
-def build(signals):
-    """Proves and builds what is not yet, and dates the program by the moment at which its sources were read."""
-    crates = read_crates()
-    lock(crates, signals)
-    remove(WORKSHOP)
-    try:
-        LOGS.mkdir(parents=True)
-        moment = time.time()
-        kit = Kit()
-        copy_sources(crates, kit.version)
-        Build(kit, crates, signals).run()
-    finally:
-        remove(MADE)
-        remove(SOURCES)
-    remove(WORKSHOP)
-    SOURCE_LIST.write_text("".join(f"crates/{it.name}/{part}\n" for it in crates for part in PARTS))
-    os.utime(OUT / PROGRAM, (moment, moment))
-
-
-def main(words):
-    signals = heed_signals()
-    try:
-        build(signals)
-    except Stopped as stopped:
-        remove(WORKSHOP)
-        say("stopped: what is proved is kept, and the next start goes on with the rest")
-        return 128 + stopped.args[0]
-    except Failure as failure:
-        say(failure)
-        return NO_ANSWER
-    except (OSError, subprocess.SubprocessError) as error:
-        say(f"the build broke off: {error}; what is proved is kept: when this is mended, start again")
-        return NO_ANSWER
-    # Python ignores these two, and the program would inherit that.
+def become(launcher, words):
+    """Becomes the launcher's program. Python ignores two signals, and the program would inherit that."""
     for it in (signal.SIGPIPE, signal.SIGXFSZ):
         signal.signal(it, signal.SIG_DFL)
-    return os.execv(OUT / PROGRAM, [LAUNCHER, *words])
+    crate = PROGRAMS[launcher].crate
+    os.execv(CRATES / crate / "out" / crate, [launcher, *words])
+
+
+def main(name, asked, launchers, *words):
+    launchers = launchers.split(",")
+    status = Build(Launcher(name), launchers, int(asked)).answer()
+    if status == 0 and words:
+        become(launchers[0], words[1:])
+    return status
 
 
 if __name__ == "__main__":
-    sys.exit(main(sys.argv[2:]))
+    sys.exit(main(*sys.argv[1:]))

@@ -1,13 +1,38 @@
-# What the launchers have in common, which read this file: each sets its `name`, under which it speaks, and the `crate` of its
-# program. At the first use, and where a source is newer than the program, it is proved and built first, which is told on
-# standard error. Standard output and the exit status are the program's own.
+# What the launchers have in common, which read this file: each sets `top`, and the `name` under which it speaks. At the
+# first use, and where a source is newer than its program, this is proved and built first, which is told on standard
+# error. Standard output and the exit status are the program's own.
 
-program=$top/crates/$crate/out/$crate
-sources=$top/crates/$crate/out/sources
+# refuse TEXT: says why the launcher does nothing
+refuse() {
+    echo "$name: $1" >&2
+    exit 9
+}
 
-# Whether the program is missing, or one of the files that it stands on is newer. The build lists their folders; a program
-# that the gate has built has no such list, and is compared with the sources of all crates.
+# Two words are the launcher's own, where they come first: with `--jobs N` what is built gets N processors, and with
+# `--build` the programs are built and none is run.
+jobs=0 builds_only=no
+while :; do
+    case ${1-} in
+    --jobs)
+        case ${2-} in
+        '' | 0* | *[!0-9]*) refuse '--jobs N: N is the number of processors to use, from 1 on' ;;
+        esac
+        jobs=$2
+        shift 2
+        ;;
+    --build)
+        builds_only=yes
+        shift
+        ;;
+    *) break ;;
+    esac
+done
+
+# is_stale CRATE: whether its program is missing, or one of the files that it stands on is newer. The build lists their
+# folders; a program that the gate has built has no such list, and is compared with the sources of all crates.
 is_stale() {
+    program=$top/crates/$1/out/$1
+    sources=$top/crates/$1/out/sources
     [ -x "$program" ] || return 0
     folders='crates/*/src crates/*/specs crates/*/proofs'
     [ ! -f "$sources" ] || folders=$(cat "$sources")
@@ -16,16 +41,38 @@ is_stale() {
     [ -n "$(cd -- "$top" && find crates.txt $folders -newer "$program" 2>/dev/null | head -n 1)" ]
 }
 
-# Becomes the program with these words, which is built first where it has to be.
-become() {
-    if is_stale; then
-        for command in rt python3; do
-            command -v "$command" >/dev/null 2>&1 || {
-                echo "$name: the program has to be built, and the command $command of the Rattle kit is not on the PATH" >&2
-                exit 9
-            }
-        done
-        exec python3 "$top/tools/build.py" "$name" "$@"
+# needs_kit: what builds is there
+needs_kit() {
+    for command in rt python3; do
+        command -v "$command" >/dev/null 2>&1 ||
+            refuse "the program has to be built, and the command $command of the Rattle kit is not on the PATH"
+    done
+}
+
+# builds LAUNCHER:CRATE..: builds those of these programs that are missing or stale, all at once
+builds() {
+    stale=
+    for it in "$@"; do
+        if is_stale "${it#*:}"; then stale=$stale${stale:+,}${it%:*}; fi
+    done
+    [ -n "$stale" ] || return 0
+    needs_kit
+    python3 "$top/tools/build.py" "$name" "$jobs" "$stale"
+}
+
+# becomes CRATE WORD..: becomes its program with these words, which is built first where it has to be
+becomes() {
+    crate=$1
+    shift
+    if [ "$builds_only" = yes ]; then
+        [ $# = 0 ] || refuse '--build runs nothing, so no other word comes behind it'
+        builds utm:utm lab:kdcs_lab || exit
+        echo "$name: utm and lab are built" >&2
+        exit 0
+    fi
+    if is_stale "$crate"; then
+        needs_kit
+        exec python3 "$top/tools/build.py" "$name" "$jobs" "$name" run "$@"
     fi
     exec "$program" "$@"
 }

@@ -4,7 +4,8 @@
 
 KIND is `files`, `texts`, `runs` or `updates`, and COUNT how many files, texts, faults and stops of runs, or updates are
 tried. The program is the built utm_cases. What is answered otherwise is printed as a case, in the form of
-docs/cases.md; the status is 1 then. docs/building.md says what each kind makes.
+docs/cases.md; the status is 1 then. The last line has how many passed and failed. docs/building.md says what each kind
+makes.
 """
 
 import argparse
@@ -41,7 +42,7 @@ def main():
             print(f"* {asked.kind} {asked.seed}", *complaints, *case, "", sep="\n")
         tried += len(batch.tries)
         print(f"{asked.kind}: {tried} tried, {wrong} answered otherwise", file=sys.stderr)
-    print(f"{asked.kind} {asked.seed}: {tried} tried, {wrong} answered otherwise")
+    print(f"{asked.kind} {asked.seed}: {tried - wrong} passed, {wrong} failed")
     return wrong != 0
 
 
