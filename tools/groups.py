@@ -39,8 +39,12 @@ def made(kind):
 GROUPS = {
     "made-runs": made("runs"),
     "cases": checks("cases"),
+    "made-disks": made("disks"),
     "program": checks("program"),
+    "made-pairs": made("pairs"),
+    "made-laboratory": made("laboratory"),
     "laboratory": checks("laboratory"),
+    "made-trails": made("trails"),
     "made-updates": made("updates"),
     "made-texts": made("texts"),
     "files": checks("files"),

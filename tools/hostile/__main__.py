@@ -2,10 +2,10 @@
 
     python3 tools/hostile KIND SEED COUNT [--program PROGRAM]
 
-KIND is `files`, `texts`, `runs` or `updates`, and COUNT how many files, texts, faults and stops of runs, or updates are
-tried. The program is the built utm_cases. What is answered otherwise is printed as a case, in the form of
-docs/cases.md; the status is 1 then. The last line has how many passed and failed. docs/building.md says what each kind
-makes.
+KIND is one of those below, and COUNT how many things of it are tried. The program is the built utm_cases, but for `disks`
+the built utm, and for `laboratory` the built kdcs_lab. What is answered otherwise is printed, where it is one as a case in
+the form of docs/cases.md; the status is 1 then. The last line has how many passed and failed. docs/building.md says what
+each kind makes.
 """
 
 import argparse
@@ -15,14 +15,26 @@ from pathlib import Path
 
 sys.dont_write_bytecode = True
 
+import made_disks
 import made_files
+import made_laboratory
+import made_pairs
 import made_runs
 import made_texts
+import made_trails
 import made_updates
 from cases import PROGRAM
 
-MADE = {"files": made_files, "texts": made_texts, "runs": made_runs, "updates": made_updates}
-KINDS = {kind: made.Batch for kind, made in MADE.items()}
+KINDS = {
+    "files": made_files,
+    "texts": made_texts,
+    "runs": made_runs,
+    "updates": made_updates,
+    "pairs": made_pairs,
+    "disks": made_disks,
+    "trails": made_trails,
+    "laboratory": made_laboratory,
+}
 AT_ONCE = 500
 
 
@@ -31,13 +43,15 @@ def main():
     parser.add_argument("kind", choices=KINDS)
     parser.add_argument("seed", type=int)
     parser.add_argument("count", type=int)
-    parser.add_argument("--program", default=PROGRAM, type=Path)
+    parser.add_argument("--program", type=Path)
     asked = parser.parse_args()
+    kind = KINDS[asked.kind]
+    program = asked.program or getattr(kind, "PROGRAM", PROGRAM)
     tried = wrong = 0
     while tried < asked.count:
         made = random.Random(f"{asked.kind} {asked.seed} {tried}")
-        batch = KINDS[asked.kind](made, min(AT_ONCE, asked.count - tried), not tried)
-        for complaints, case in batch.differences(asked.program.resolve()):
+        batch = kind.Batch(made, min(AT_ONCE, asked.count - tried), not tried)
+        for complaints, case in batch.differences(program.resolve()):
             wrong += 1
             print(f"* {asked.kind} {asked.seed}", *complaints, *case, "", sep="\n")
         tried += len(batch.tries)

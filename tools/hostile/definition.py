@@ -2,6 +2,7 @@
 
 import re
 from collections import namedtuple
+from functools import lru_cache
 
 LONGEST_TEXT = 16_777_216
 BLANKS = b" \t"
@@ -65,6 +66,7 @@ def groups_of(text):
         yield first + 1, place, joined, True
 
 
+@lru_cache(5000)
 def tokens_of(joined):
     """The signs, words and quoted values of a statement, and a blank wherever there are some."""
     found, place = [], 0
@@ -87,7 +89,7 @@ class Tokens:
     """The tokens of a statement, read from the left."""
 
     def __init__(self, joined):
-        self.all = tokens_of(joined.strip(BLANKS))
+        self.all = list(tokens_of(joined.strip(BLANKS)))
 
     def skip(self):
         while self.all and self.all[0][0] == "blank":
@@ -137,6 +139,7 @@ def operand_of(tokens):
     return Operand(None, form, value)
 
 
+@lru_cache(20000)
 def statement_of(line, joined):
     tokens = Tokens(joined)
     keyword = tokens.take("word")[1].upper()
@@ -153,6 +156,7 @@ def statement_of(line, joined):
     return Statement(line, keyword, operands)
 
 
+@lru_cache(20000)
 def spelling_fault(joined):
     """What is wrong with a statement but its operands: a number of the list, or none."""
     if any(it != 0x09 and not 0x20 <= it <= 0x7E for it in joined):

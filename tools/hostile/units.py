@@ -1,6 +1,7 @@
 """A reader of program units by docs/units.md, and of scripts by docs/scripts.md: the first fault of a text, if any."""
 
 import re
+from functools import lru_cache
 
 from definition import LONGEST_TEXT, PROGRAM_NAME, Fault, lines_of
 
@@ -25,6 +26,7 @@ class BadStatement(Exception):
     pass
 
 
+@lru_cache(20000)
 def words_of(line):
     """The words of a line; a literal is a pair of None and its bytes."""
     found, place = [], 0
