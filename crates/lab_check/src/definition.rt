@@ -1,9 +1,8 @@
 //! Why a definition is refused: its first fault, then that of the text mended for it, and so on.
 
+use crate::definition_details::detail_of;
 use crate::draft::Draft;
-use crate::lab_findings::{
-    Refusals, TextName, Warning, Warnings, first_word, nearest, without_blanks,
-};
+use crate::lab_findings::{Details, Refusals, TextName, first_word, nearest, without_blanks};
 use crate::parts::{Parts, joined};
 use application_check::kdcdef_check::{CheckFault, Generation};
 use application_read::{DefinitionFault, generate};
@@ -16,13 +15,13 @@ use texts::kdcdef_lex::LexFault;
 pub(crate) const MOST_FAULTS: u32 = 1_000;
 
 /// How many operands of a faulty statement are left out one after another.
-const MOST_OPERANDS: usize = 40;
+pub(crate) const MOST_OPERANDS: usize = 40;
 
 /// A statement with which no users and LTERMs are too many, and no copy too long.
 const POOL: &[u8] = b"MAX PGPOOL=29999";
 
 /// The keywords of all statements.
-const KEYWORDS: &[&str] = &[
+pub(crate) const KEYWORDS: &[&str] = &[
     "MAX", "PROGRAM", "TAC", "USER", "PTERM", "LTERM", "TLS", "ULS", "TACCLASS", "KSET", "END",
     "FORMSYS", "ROOT", "OPTION", "EXIT", "MESSAGE", "BCAMAPPL", "RESERVE", "SIGNON", "ACCOUNT",
 ];
@@ -107,7 +106,7 @@ fn with_name_alone(
 }
 
 // The parts of the statement at this line.
-fn parts_at(alloc: Global, draft: &Draft, line: u32) -> Result<Parts, OutOfMemory> {
+pub(crate) fn parts_at(alloc: Global, draft: &Draft, line: u32) -> Result<Parts, OutOfMemory> {
     Parts::of(alloc, draft.statement(alloc, line)?.as_slice())
 }
 
@@ -215,31 +214,6 @@ fn mend(alloc: Global, draft: &mut Draft, fault: DefinitionFault) -> Result<bool
     Ok(true)
 }
 
-// What a keyword that no statement has may have meant.
-fn hint(
-    alloc: Global,
-    draft: &Draft,
-    fault: DefinitionFault,
-    hints: &mut Warnings,
-) -> Result<(), OutOfMemory> {
-    let DefinitionFault::Read(ReadFault::UnknownStatement(line)) = fault else {
-        return Ok(());
-    };
-    let (word, _) = first_word(without_blanks(draft.content(line)));
-    let number = draft.number_of(line);
-    match nearest(word, KEYWORDS) {
-        Some(near) => hints.warn(
-            alloc,
-            TextName::Definition,
-            number,
-            Warning::NearKeyword,
-            word,
-            near.as_bytes(),
-        ),
-        None => Ok(()),
-    }
-}
-
 // Whether the statement at this line has this keyword, and an operand of this key where one is asked for.
 fn is_statement(
     alloc: Global,
@@ -298,13 +272,15 @@ fn tell(
     draft: &Draft,
     fault: DefinitionFault,
     refused: &mut Refusals,
-    hints: &mut Warnings,
+    details: &mut Details,
 ) -> Result<(), OutOfMemory> {
-    if refused.items.is_empty() || is_own(alloc, text, draft, fault)? {
-        let number = draft.number_of(fault.line());
-        refused.refuse(TextName::Definition, number, fault.name())?;
+    if !refused.items.is_empty() && !is_own(alloc, text, draft, fault)? {
+        return Ok(());
     }
-    hint(alloc, draft, fault, hints)
+    let number = draft.number_of(fault.line());
+    refused.refuse(TextName::Definition, number, fault.name())?;
+    let words = detail_of(alloc, draft, fault)?;
+    details.add(TextName::Definition, number, fault.name(), words)
 }
 
 /// Tells why a definition is refused, and mends it; none where it cannot be read on.
@@ -312,7 +288,7 @@ pub(crate) fn definition_refusals(
     alloc: Global,
     text: &[u8],
     refused: &mut Refusals,
-    hints: &mut Warnings,
+    details: &mut Details,
 ) -> Result<Option<Mended>, OutOfMemory> {
     let mut draft = Draft::of(alloc, text)?;
     for _ in 0..MOST_FAULTS {
@@ -321,7 +297,7 @@ pub(crate) fn definition_refusals(
             Err(DefinitionFault::Memory) => return Err(OutOfMemory),
             Err(fault) => fault,
         };
-        tell(alloc, text, &draft, fault, refused, hints)?;
+        tell(alloc, text, &draft, fault, refused, details)?;
         if !mend(alloc, &mut draft, fault)? {
             return Ok(None);
         }

@@ -69,6 +69,16 @@ fn operands_of(alloc: Global, text: &[u8]) -> Result<Vec<Bytes>, OutOfMemory> {
     Ok(operands)
 }
 
+/// The key of an operand, if it has one.
+pub(crate) fn key_of(operand: &[u8]) -> Option<&[u8]> {
+    let n = len_before(b'=', operand);
+    if n >= operand.len() {
+        return None;
+    }
+    let (front, _) = operand.split_at(n);
+    Some(without_blanks(front))
+}
+
 // What is behind the key of an operand that has this key.
 fn behind_key<'a>(operand: &'a [u8], key: &str) -> Option<&'a [u8]> {
     let n = len_before(b'=', operand);
@@ -94,6 +104,10 @@ impl Parts {
         })
     }
 
+    pub fn keyword(&self) -> &[u8] {
+        self.keyword.as_slice()
+    }
+
     pub fn has_keyword(&self, keyword: &str) -> bool {
         self.keyword
             .as_slice()
@@ -117,6 +131,28 @@ impl Parts {
             }
         }
         Ok(text)
+    }
+
+    /// The statement up to the operand at this place, from 0.
+    pub fn up_to(&self, last: usize) -> Result<Bytes, OutOfMemory> {
+        let mut text = self.keyword.clone()?;
+        let mut mark = b' ';
+        for (i, operand) in self.operands.iter().enumerate() {
+            if i <= last {
+                text.push(mark)?;
+                text.append(operand.as_slice())?;
+                mark = b',';
+            }
+        }
+        Ok(text)
+    }
+
+    /// The operand at this place, from 0, without the blanks around it; empty where there is none.
+    pub fn operand(&self, place: usize) -> &[u8] {
+        match self.operands.get(place) {
+            Some(operand) => without_blanks(operand.as_slice()),
+            None => b"",
+        }
     }
 
     /// The statement of its first operand, and these bytes behind it.

@@ -2,7 +2,8 @@
 ghost use Rattle.std.specs.Prelude.{OnOk};
 ghost use Rattle.lab_check.specs.Verdicts.{AddsOfScript};
 
-use crate::lab_findings::{Refusals, TextName};
+use crate::lab_findings::{Details, Refusals, TextName};
+use crate::unit_details::command_detail;
 use application_check::kdcdef_check::Generation;
 use kd_base::OutOfMemory;
 use script_read::{ScriptFault, read_script};
@@ -32,11 +33,13 @@ fn line_refusal(
     line: &[u8],
     number: u32,
     refused: &mut Refusals,
+    details: &mut Details,
 ) -> Result<(), OutOfMemory>
     ensures { OnOk result (AddsOfScript refused.old.items.items refused.new.items.items) }
 {
     if let Some(name) = fault_of(alloc, generation, line)? {
         refused.refuse(TextName::Script, number, name)?;
+        details.add(TextName::Script, number, name, command_detail(alloc, line)?)?;
     }
     Ok(())
 }
@@ -47,6 +50,7 @@ fn line_refusals(
     generation: &Generation,
     text: &[u8],
     refused: &mut Refusals,
+    details: &mut Details,
 ) -> Result<(), OutOfMemory>
     ensures { OnOk result (AddsOfScript refused.old.items.items refused.new.items.items) }
 {
@@ -54,7 +58,7 @@ fn line_refusals(
     let mut rest = text;
     while !rest.is_empty() {
         let (line, after) = next_line(rest);
-        line_refusal(alloc, generation, line, number, refused)?;
+        line_refusal(alloc, generation, line, number, refused, details)?;
         number = number.saturating_add(1);
         rest = after;
     }
@@ -68,6 +72,7 @@ pub(crate) fn script_refusals(
     generation: &Generation,
     script: Option<&[u8]>,
     refused: &mut Refusals,
+    details: &mut Details,
 ) -> Result<(), OutOfMemory>
     ensures { OnOk result (AddsOfScript refused.old.items.items refused.new.items.items) }
 {
@@ -80,6 +85,6 @@ pub(crate) fn script_refusals(
             refused.refuse(TextName::Script, 0, "TooLong")?;
             Ok(())
         }
-        Some(_) => line_refusals(alloc, generation, text, refused),
+        Some(_) => line_refusals(alloc, generation, text, refused, details),
     }
 }

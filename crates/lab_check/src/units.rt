@@ -2,8 +2,9 @@
 
 use crate::definition::{MOST_FAULTS, Mended};
 use crate::draft::Draft;
-use crate::lab_findings::{LineKind, Refusals, TextName, first_word, kind_of};
+use crate::lab_findings::{Details, LineKind, Refusals, TextName, first_word, kind_of};
 use crate::parts::joined;
+use crate::unit_details::{fit_detail, unit_detail};
 use application_check::kdcdef_check::Generation;
 use application_check::unit_check::{FitFault, Units, fit};
 use application_types::unit_types::Unit;
@@ -84,6 +85,7 @@ fn read_refusals(
     alloc: Global,
     draft: &mut Draft,
     refused: &mut Refusals,
+    details: &mut Details,
 ) -> Result<bool, OutOfMemory> {
     for _ in 0..MOST_FAULTS {
         let Some(fault) = read_fault(alloc, draft)? else {
@@ -91,7 +93,10 @@ fn read_refusals(
         };
         let line = fault.line();
         if !draft.is_made(line) {
-            refused.refuse(TextName::Units, draft.number_of(line), fault.name())?;
+            let number = draft.number_of(line);
+            refused.refuse(TextName::Units, number, fault.name())?;
+            let words = unit_detail(alloc, draft, fault)?;
+            details.add(TextName::Units, number, fault.name(), words)?;
         }
         if !mend(alloc, draft, fault)? {
             return Ok(false);
@@ -171,20 +176,29 @@ fn fit_fault(
 
 // Tells why units do not fit, where it is no matter of what mending put in.
 fn tell_fit(
+    alloc: Global,
     draft: &Draft,
     mended: &Mended,
     fault: FitFault,
     refused: &mut Refusals,
+    details: &mut Details,
 ) -> Result<(), OutOfMemory> {
     let line = fault.line();
-    if let FitFault::NoUnit(_) = fault {
-        if mended.draft.is_made(line) {
-            return Ok(());
-        }
-        let number = mended.draft.number_of(line);
-        return refused.refuse(TextName::Definition, number, fault.name());
-    }
-    refused.refuse(TextName::Units, draft.number_of(line), fault.name())
+    let (text, number, program) = match fault {
+        FitFault::NoUnit(_) if mended.draft.is_made(line) => return Ok(()),
+        FitFault::NoUnit(_) => (
+            TextName::Definition,
+            mended.draft.number_of(line),
+            program_at(&mended.generation, line),
+        ),
+        FitFault::NoLabel(_)
+        | FitFault::FieldPastArea(_)
+        | FitFault::LiteralFollowUp(_)
+        | FitFault::Memory => (TextName::Units, draft.number_of(line), None),
+    };
+    refused.refuse(text, number, fault.name())?;
+    let words = fit_detail(alloc, draft, &mended.generation, program, fault)?;
+    details.add(text, number, fault.name(), words)
 }
 
 // Tells why units that were read do not fit.
@@ -193,12 +207,13 @@ fn fit_refusals(
     draft: &mut Draft,
     mended: &Mended,
     refused: &mut Refusals,
+    details: &mut Details,
 ) -> Result<(), OutOfMemory> {
     for _ in 0..MOST_FAULTS {
         let Some(fault) = fit_fault(alloc, draft, &mended.generation)? else {
             return Ok(());
         };
-        tell_fit(draft, mended, fault, refused)?;
+        tell_fit(alloc, draft, mended, fault, refused, details)?;
         if !mend_fit(alloc, draft, &mended.generation, fault)? {
             return Ok(());
         }
@@ -212,13 +227,14 @@ pub(crate) fn units_refusals(
     text: &[u8],
     mended: &Option<Mended>,
     refused: &mut Refusals,
+    details: &mut Details,
 ) -> Result<(), OutOfMemory> {
     let mut draft = Draft::of(alloc, text)?;
-    if !read_refusals(alloc, &mut draft, refused)? {
+    if !read_refusals(alloc, &mut draft, refused, details)? {
         return Ok(());
     }
     match mended {
-        Some(mended) => fit_refusals(alloc, &mut draft, mended, refused),
+        Some(mended) => fit_refusals(alloc, &mut draft, mended, refused, details),
         None => Ok(()),
     }
 }

@@ -5,8 +5,7 @@ ghost use Rattle.lab_check.specs.Lines.{word_of};
 ghost use Rattle.application_read.specs.{Faults.{text_of}, Texts.{is_memory}};
 
 use crate::definition::definition_refusals;
-use crate::lab_findings::{Refusal, Refusals, TextName, Warned, Warnings};
-use crate::lab_warnings::{definition_warnings, unit_warnings};
+use crate::lab_findings::{Details, Refusal, Refusals, TextName};
 use crate::script::script_refusals;
 use crate::units::units_refusals;
 use application_check::kdcdef_check::Generation;
@@ -31,8 +30,8 @@ pub struct Checked {
     /// Why the texts are refused, in the order in which it comes where one fault after another is mended. At most 1,000
     /// refusals of a text are told.
     pub refusals: Vec<Refusal>,
-    /// What is accepted and likely wrong, in the order of text and line.
-    pub warnings: Vec<Warned>,
+    /// What is at fault in them.
+    pub details: Details,
 }
 
 impl Drop for Checked {
@@ -40,11 +39,11 @@ impl Drop for Checked {
         let Checked {
             verdict,
             refusals,
-            warnings,
+            details,
         } = self;
         let _ = verdict;
         let _ = refusals;
-        let _ = warnings;
+        let _ = details;
     }
 }
 
@@ -60,7 +59,7 @@ struct Texts<'a> {
 #[derive(Drop)]
 struct Told {
     refusals: Vec<Refusal>,
-    warnings: Vec<Warned>,
+    details: Details,
 }
 
 // What is refused behind the units: the script.
@@ -69,33 +68,13 @@ fn later_refusals(
     alloc: Global,
     generation: &Generation,
     script: Option<&[u8]>,
+    details: &mut Details,
 ) -> Result<Refusals, OutOfMemory>
     ensures { IfOk result (λ refused. All IsOfScript refused.items.items) }
 {
     let mut refused = Refusals::new(alloc);
-    script_refusals(alloc, generation, script, &mut refused)?;
+    script_refusals(alloc, generation, script, &mut refused, details)?;
     Ok(refused)
-}
-
-// What is likely wrong in texts that make an application.
-fn warnings_of(
-    alloc: Global,
-    texts: Texts,
-    application: &Application,
-) -> Result<Vec<Warned>, OutOfMemory> {
-    let generation = &application.generation;
-    let units = &application.units;
-    let mut warned = Warnings::new(alloc);
-    definition_warnings(
-        alloc,
-        texts.definition,
-        generation,
-        Some(units),
-        &mut warned,
-    )?;
-    unit_warnings(alloc, generation, units, texts.units, &mut warned)?;
-    warned.sort()?;
-    Ok(warned.items)
 }
 
 // What is told of texts that make an application.
@@ -106,30 +85,12 @@ fn told_of_accepted(
 ) -> Result<Told, OutOfMemory>
     ensures { IfOk result (λ told. All IsOfScript told.refusals.items) }
 {
-    let refused = later_refusals(alloc, &application.generation, texts.script)?;
-    let warnings = warnings_of(alloc, texts, application)?;
+    let mut details = Details::new(alloc);
+    let refused = later_refusals(alloc, &application.generation, texts.script, &mut details)?;
     Ok(Told {
         refusals: refused.items,
-        warnings,
+        details,
     })
-}
-
-// What is found behind the units in texts that make no application, with what their definition, mended where it is not
-// accepted, generates.
-fn find_behind(
-    alloc: Global,
-    texts: Texts,
-    generation: &Generation,
-    is_accepted: bool,
-    refused: &mut Refusals,
-    warned: &mut Warnings,
-) -> Result<(), OutOfMemory> {
-    let mut later = later_refusals(alloc, generation, texts.script)?;
-    refused.items.append(&mut later.items)?;
-    if is_accepted {
-        definition_warnings(alloc, texts.definition, generation, None, warned)?;
-    }
-    Ok(())
 }
 
 // What is found in texts that make no application.
@@ -137,18 +98,16 @@ fn find_in_refused(
     alloc: Global,
     texts: Texts,
     refused: &mut Refusals,
-    warned: &mut Warnings,
+    details: &mut Details,
 ) -> Result<(), OutOfMemory> {
-    let mended = definition_refusals(alloc, texts.definition, refused, warned)?;
-    let is_accepted = refused.items.is_empty();
-    units_refusals(alloc, texts.units, &mended, refused)?;
-    match &mended {
-        Some(mended) => {
-            let generation = &mended.generation;
-            find_behind(alloc, texts, generation, is_accepted, refused, warned)
-        }
-        None => Ok(()),
-    }
+    let mended = definition_refusals(alloc, texts.definition, refused, details)?;
+    units_refusals(alloc, texts.units, &mended, refused, details)?;
+    let Some(mended) = &mended else {
+        return Ok(());
+    };
+    let mut later = later_refusals(alloc, &mended.generation, texts.script, details)?;
+    refused.items.append(&mut later.items)?;
+    Ok(())
 }
 
 // The text that a fault counts its line in.
@@ -200,14 +159,10 @@ fn told_of_refused(
     ensures { IfOk result (λ told. is_memory fault.now ≡ false → IsToldFirst fault.now told.refusals.items) }
 {
     let mut refused = Refusals::new(alloc);
-    let mut warned = Warnings::new(alloc);
-    find_in_refused(alloc, texts, &mut refused, &mut warned)?;
-    warned.sort()?;
+    let mut details = Details::new(alloc);
+    find_in_refused(alloc, texts, &mut refused, &mut details)?;
     let refusals = led_by(alloc, fault, refused)?;
-    Ok(Told {
-        refusals,
-        warnings: warned.items,
-    })
+    Ok(Told { refusals, details })
 }
 
 // What the definition and the units are taken for.
@@ -235,8 +190,7 @@ fn told_of(alloc: Global, texts: Texts, verdict: &Verdict) -> Result<Told, OutOf
     }
 }
 
-/// All that would be refused in the text of a definition, of its units and of a script, and what is accepted and likely
-/// wrong. Of several faults in the operands of one statement the first is told. The script is read with what the
+/// All that would be refused in the text of a definition, of its units and of a script, and what is at fault. Of several faults in the operands of one statement the first is told. The script is read with what the
 /// definition, mended where it is refused, generates.
 #[tactic(auto, using(crate::proofs::Taken::verdict_is_no_memory))]
 pub fn findings(
@@ -260,6 +214,6 @@ pub fn findings(
     Ok(Checked {
         verdict,
         refusals: told.refusals,
-        warnings: told.warnings,
+        details: told.details,
     })
 }

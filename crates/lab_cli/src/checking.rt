@@ -8,6 +8,7 @@ use kd_device::{DeviceError, Room};
 use lab_check::lab_findings::{Refusal, TextName};
 use lab_check::{Checked, findings};
 use lab_turns::lab_printing::Console;
+use lab_warnings::{Warned, warnings};
 use refusals::{Status, text};
 use std::alloc::Global;
 
@@ -43,25 +44,40 @@ fn ended(mut line: Vec<u8>) -> Result<Vec<u8>, OutOfMemory> {
 }
 
 // Prints what was found, a line each.
-fn tell<C: Console>(alloc: Global, console: &mut C, checked: &Checked) -> Result<(), Stop> {
+fn tell<C: Console>(
+    alloc: Global,
+    console: &mut C,
+    checked: &Checked,
+    warned: &[Warned],
+) -> Result<(), Stop> {
     for refusal in &checked.refusals {
-        console.put(&ended(refusal.printed(alloc)?)?)?;
+        let mut line = refusal.printed(alloc)?;
+        line.extend_from_slice(checked.details.printed(alloc, refusal)?.as_slice())?;
+        console.put(&ended(line)?)?;
     }
-    for warned in &checked.warnings {
-        console.put(&ended(warned.printed(alloc)?)?)?;
+    for warning in warned {
+        console.put(&ended(warning.printed(alloc)?)?)?;
     }
-    if checked.refusals.is_empty() && checked.warnings.is_empty() {
+    if checked.refusals.is_empty() && warned.is_empty() {
         console.put(b"OK\n")?;
     }
     Ok(())
 }
 
-// What is found in the texts of this BASE.
-fn checked_texts<R: Room>(alloc: Global, room: &mut R, base: &[u8]) -> Result<Checked, Stop> {
+// Prints what is found in the texts of this BASE, and says what it is.
+fn tell_texts<R: Room, C: Console>(
+    alloc: Global,
+    room: &mut R,
+    console: &mut C,
+    base: &[u8],
+) -> Result<Checked, Stop> {
     let definition = text(alloc, room, base, b".def")?;
     let units = text(alloc, room, base, b".units")?;
     let script = script_of(alloc, room, base)?;
-    Ok(findings(alloc, &definition, &units, script.as_deref())?)
+    let checked = findings(alloc, &definition, &units, script.as_deref())?;
+    let warned = warnings(alloc, &definition, &units, &checked.verdict)?;
+    tell(alloc, console, &checked, warned.as_slice())?;
+    Ok(checked)
 }
 
 /// Prints all that is found in the texts of this BASE, a line each, or `OK`. The script need not be there.
@@ -73,7 +89,6 @@ pub(crate) fn check<R: Room, C: Console>(
 ) -> Result<Status, Stop>
     ensures { IfOk result (λ status. IsOneOf (0 ∷ 1 ∷ 2 ∷ 3 ∷ []) status.code) }
 {
-    let checked = checked_texts(alloc, room, base)?;
-    tell(alloc, console, &checked)?;
+    let checked = tell_texts(alloc, room, console, base)?;
     Ok(status_of(checked.refusals.as_slice()))
 }

@@ -1,14 +1,14 @@
 //! The words of the laboratory: `check`, `trace`, `talk`, `explore` and `test`.
 //!
 //! It stands on lab_turns, which performs commands step by step, on lab_orders, which tries the orders of the tasks, on
-//! lab_check, which looks for faults, on lab_printing, and on the readers of texts and of a KDCFILE as the program `utm` has
-//! them. A call starts from the tables that a KDCFILE keeps, or from the empty ones, and keeps what it does in memory: no
-//! file is made, attached or written. It is generic over the room that has the texts and over the console, so that all of it
-//! can be tried in memory.
+//! lab_check, which looks for faults, on lab_warnings, which looks for slips, and on the readers of texts and of a
+//! KDCFILE as the program `utm` has them. A call starts from the tables that a KDCFILE keeps, or from the empty ones, and
+//! keeps what it does in memory: no file is made, attached or written. It is generic over the room that has the texts and
+//! over the console, so that all of it can be tried in memory.
 //!
-//! To the program above, its contract says which words `lab` takes and what its status is; that a session of `talk` comes
-//! to the state after the script that was typed, and that a line that is refused changes nothing; and that what
-//! `explore_orders` prints are outcomes of orders, all of them where it says so.
+//! To the program above, its contract says which words `lab` takes and what its status is; that a session of `talk`
+//! comes to the state after a script, and that a line that is refused changes nothing; and that what `explore_orders`
+//! prints are outcomes of orders, all of them where it says so.
 #![tactic(auto)]
 
 mod checking;

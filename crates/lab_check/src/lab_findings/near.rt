@@ -28,9 +28,9 @@ fn differ_little(a: &[u8], b: &[u8]) -> bool {
     }
 }
 
-// Whether two words are not the same, and differ by one letter, by two that are swapped, or by what one of them, which
-// has three letters at least, has behind the other.
-fn is_near(a: &[u8], b: &[u8]) -> bool {
+/// Whether two words are not the same, and differ by one letter, by two that are swapped, or by what one of them, which
+/// has three letters at least, has behind the other.
+pub fn is_near(a: &[u8], b: &[u8]) -> bool {
     let (a_rest, b_rest) = behind_same(a, b);
     if a_rest.is_empty() && b_rest.is_empty() {
         return false;

@@ -22,8 +22,8 @@ impl TextName {
         }
     }
 
-    // Its place among the texts.
-    pub(crate) fn rank(&self) -> u64 {
+    /// Its place among the texts.
+    pub fn rank(&self) -> u64 {
         match self {
             TextName::Definition => 0,
             TextName::Units => 1,

@@ -1,5 +1,5 @@
 use Rattle.std.proofs.Common.{length}
-use Rattle.lab_check.proofs.lab_warnings.operands.is_passed.Given as goal
+use Rattle.lab_warnings.proofs.operands.statement_warnings.Given as goal
 
 abbrev pub decreases-loop-operand : goal.decreases-loop-operand
 decreases-loop-operand l = length l.left

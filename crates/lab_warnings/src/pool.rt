@@ -1,15 +1,17 @@
 //! Whether what the units can write has room in the page pool.
 ghost use Rattle.kd_records.specs.Charge.{IsBlockSize};
 
-use crate::lab_findings::{TextName, Warning, Warnings};
-use crate::lab_warnings::said::count_of;
-use crate::lab_warnings::targets::Names;
+use crate::said::count_of;
+use crate::targets::Names;
+use crate::warned::Warnings;
+use crate::warning::Warning;
 use application_check::kdcdef_check::Generation;
 use application_check::unit_check::Units;
 use application_types::kdcdef_types::{Said, Statement};
 use application_types::unit_types::{Action, HeaderName, Operand, Unit};
 use kd_base::OutOfMemory;
 use kd_records::charge;
+use lab_check::lab_findings::TextName;
 use std::alloc::Global;
 use std::collections::BTreeSet;
 
@@ -194,7 +196,7 @@ pub(crate) fn pool_warning(
     if needed <= u64::from(pool) {
         return Ok(());
     }
-    let numbers = format!(in alloc; "{needed} {pool}")?;
+    let numbers = format!(in alloc; "PGPOOL={pool} {needed}")?;
     let line = pool_line(said);
     let text = TextName::Definition;
     warned.warn(

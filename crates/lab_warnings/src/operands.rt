@@ -1,72 +1,56 @@
 //! Warnings of operands that are kept nowhere.
 
-use crate::lab_findings::{TextName, Warning, Warnings, nearest};
-use kd_base::OutOfMemory;
+use crate::warned::Warnings;
+use crate::warning::Warning;
+use kd_base::{Bytes, OutOfMemory};
+use lab_check::lab_findings::{Form, TextName, form_of, is_near};
 use std::alloc::Global;
 use texts::kdcdef_lex::{RawOperand, RawStatement, RawValue, Statements};
 
-/// The keys of a statement's operands that are kept, and whether its first operand has none.
-#[derive(Clone, Copy)]
-struct Form {
-    has_first: bool,
-    keys: &'static [&'static str],
-}
-
-const MAX_KEYS: &[&str] = &[
-    "APPLINAME",
-    "KDCFILE",
-    "TASKS",
-    "ASYNTASKS",
-    "GSSBS",
-    "LSSBS",
-    "KB",
-    "SPAB",
-    "NB",
-    "PGPOOL",
-    "RESWAIT",
-    "BLKSIZE",
-    "APPLIMODE",
-    "REDELIVERY",
+/// Keys of KDCDEF that restrict access, where their statement does not keep them.
+const ACCESS: &[&str] = &[
+    "ACCESS-LIST",
+    "ADMIN",
+    "CARD",
+    "CERTIFICATE",
+    "ENCRYPTION-LEVEL",
+    "KEYS",
+    "KSET",
+    "LOCK",
+    "PASS",
+    "PASSWORD",
+    "PERMIT",
+    "PRINCIPAL",
+    "PROTECT-PW",
+    "STATUS",
 ];
 
-const TAC_KEYS: &[&str] = &[
-    "PROGRAM", "TYPE", "CALL", "STATUS", "TACCLASS", "TIME", "LOCK",
-];
-
-/// The statements with operands that are kept.
-const FORMS: [(&str, bool, &[&str]); 11] = [
-    ("MAX", false, MAX_KEYS),
-    ("PROGRAM", true, &[]),
-    ("TAC", true, TAC_KEYS),
-    ("USER", true, &["PASS", "RESTART", "KSET"]),
-    ("PTERM", true, &["LTERM"]),
-    ("LTERM", true, &["USAGE", "KSET"]),
-    ("TLS", true, &[]),
-    ("ULS", true, &[]),
-    ("TACCLASS", true, &["TASKS"]),
-    ("KSET", true, &["KEYS"]),
-    ("END", false, &[]),
-];
-
-fn form_of(keyword: &[u8]) -> Option<Form> {
-    for (word, has_first, keys) in &FORMS {
-        if keyword.eq_ignore_ascii_case(word.as_bytes()) {
-            return Some(Form {
-                has_first: *has_first,
-                keys: *keys,
-            });
+// Whether an operand that is not kept would restrict access. STATUS=ON restricts nothing.
+fn restricts(key: &[u8], value: &RawValue) -> bool {
+    if let RawValue::Word(word) = value {
+        if key.eq_ignore_ascii_case(b"STATUS") && word.as_slice().eq_ignore_ascii_case(b"ON") {
+            return false;
         }
     }
-    None
-}
-
-fn is_known(keys: &[&str], key: &[u8]) -> bool {
-    for known in keys {
+    for known in ACCESS {
         if key.eq_ignore_ascii_case(known.as_bytes()) {
             return true;
         }
     }
     false
+}
+
+// What restricts access in such a statement.
+fn restricting(keyword: &[u8]) -> &'static str {
+    if keyword.eq_ignore_ascii_case(b"USER") {
+        "PASS,KSET"
+    } else if keyword.eq_ignore_ascii_case(b"TAC") {
+        "LOCK,STATUS"
+    } else if keyword.eq_ignore_ascii_case(b"LTERM") {
+        "KSET"
+    } else {
+        ""
+    }
 }
 
 // How a value without a key is named.
@@ -75,6 +59,36 @@ fn named<'a>(operand: &RawOperand<'a>) -> &'a [u8] {
         RawValue::Word(word) => word.as_slice(),
         RawValue::Quoted(_) => b"'..'",
         RawValue::Listed(_) => b"(..)",
+    }
+}
+
+// How an operand with a key is named: with its value, but for a password.
+fn keyed<'a>(alloc: Global, key: &'a [u8], operand: &RawOperand<'a>) -> Result<Bytes, OutOfMemory> {
+    let mut text = Bytes::from_slice(alloc, key)?;
+    if let RawValue::Word(word) = &operand.value {
+        if !is_near(key, b"PASS") {
+            text.push(b'=')?;
+            text.append(word.as_slice())?;
+        }
+    }
+    Ok(text)
+}
+
+// What is likely wrong with an operand of this key that is not kept, and what would be right.
+fn wrong_with(form: Form, key: &[u8], value: &RawValue) -> (Warning, &'static str) {
+    let near = form.near_key(key);
+    let is_of_access = match near {
+        Some(near) => restricts(near.as_bytes(), value),
+        None => false,
+    };
+    match near {
+        Some(near) if is_of_access => (Warning::AccessNotKept, near),
+        _ if restricts(key, value) => (
+            Warning::AccessNotKept,
+            restricting(form.keyword.as_bytes()),
+        ),
+        Some(near) => (Warning::NearOperand, near),
+        None => (Warning::NotKept, ""),
     }
 }
 
@@ -89,28 +103,25 @@ fn operand_warning(
 ) -> Result<(), OutOfMemory> {
     let text = TextName::Definition;
     let Some(word) = &operand.key else {
-        if is_first && form.has_first {
+        if is_first && !form.first.is_empty() {
             return Ok(());
         }
         return warned.warn(alloc, text, line, Warning::NotKept, named(operand), b"");
     };
     let key = word.as_slice();
-    if is_known(form.keys, key) {
+    if form.right_of(key).is_some() {
         return Ok(());
     }
-    match nearest(key, form.keys) {
-        Some(near) => {
-            warned.warn(
-                alloc,
-                text,
-                line,
-                Warning::NearOperand,
-                key,
-                near.as_bytes(),
-            )
-        }
-        None => warned.warn(alloc, text, line, Warning::NotKept, key, b""),
-    }
+    let (warning, right) = wrong_with(form, key, &operand.value);
+    let words = keyed(alloc, key, operand)?;
+    warned.warn(
+        alloc,
+        text,
+        line,
+        warning,
+        words.as_slice(),
+        right.as_bytes(),
+    )
 }
 
 // Whether the statement is a PTERM that names no LTERM, which is passed over.
@@ -149,7 +160,7 @@ fn passed_warning(
         raw.line,
         Warning::PassedPterm,
         name,
-        b"",
+        b"LTERM=",
     )
 }
 

@@ -1,9 +1,11 @@
 //! What statements name: fields, labels, targets, blocks and messages.
 
+use crate::areas::stored;
 use application_check::kdcdef_check::Generation;
-use application_types::kdcdef_types::CallUse;
+use application_types::kdcdef_types::{CallUse, Said, Statement};
 use application_types::unit_types::{Action, Operand};
 use kd_base::{Bytes, Name, OutOfMemory, trim_end};
+use lab_check::lab_findings::is_near;
 use std::collections::BTreeSet;
 
 /// Names of fields or labels.
@@ -15,26 +17,6 @@ fn add_operand(names: &mut Names, operand: Option<&Operand>) -> Result<(), OutOf
         names.insert(name.clone()?)?;
     }
     Ok(())
-}
-
-// The field that a statement stores into.
-fn stored(action: &Action) -> Option<&Bytes> {
-    match action {
-        Action::Move(f, _)
-        | Action::Join(f, _, _)
-        | Action::Add(f, _)
-        | Action::Sub(f, _)
-        | Action::Mul(f, _)
-        | Action::Div(f, _)
-        | Action::Mget(f)
-        | Action::Fget(f)
-        | Action::SgetGb(_, f)
-        | Action::SgetKp(_, f)
-        | Action::SgetRl(_, f)
-        | Action::SgetUs(_, f)
-        | Action::Gtda(_, f) => Some(f),
-        _ => None,
-    }
 }
 
 // The operands that a statement reads, but for the moment of a DPUT.
@@ -148,6 +130,45 @@ pub(crate) fn undeclared<'a>(generation: &Generation, action: &'a Action) -> Opt
         None => false,
     };
     if is_declared { None } else { Some(literal) }
+}
+
+/// Whose name a literal is to be.
+#[derive(Clone, Copy)]
+pub(crate) enum Wanted {
+    Target,
+    Uls,
+    Tls,
+}
+
+/// Whose name the literal of a call on a block is to be.
+pub(crate) fn wanted_block(action: &Action) -> Wanted {
+    match action {
+        Action::SgetUs(_, _) | Action::SputUs(_, _) | Action::UnlkUs(_) => Wanted::Uls,
+        _ => Wanted::Tls,
+    }
+}
+
+// The name that a statement gives to what is wanted.
+fn given(said: &Said, wanted: Wanted) -> Option<&Name> {
+    match (said, wanted) {
+        (Said::Lterm(name, _), Wanted::Target) => Some(name),
+        (Said::Tac(name, entry), Wanted::Target) if entry.asynchronous => Some(name),
+        (Said::Uls(name), Wanted::Uls) => Some(name),
+        (Said::Tls(name), Wanted::Tls) => Some(name),
+        _ => None,
+    }
+}
+
+/// The first name of what is wanted that is nearly the literal; empty where there is none.
+pub(crate) fn near_name<'a>(said: &'a [Statement], wanted: Wanted, literal: &[u8]) -> &'a [u8] {
+    for statement in said {
+        if let Some(name) = given(&statement.said, wanted) {
+            if is_near(trim_end(literal), name.as_slice()) {
+                return name.as_slice();
+            }
+        }
+    }
+    b""
 }
 
 /// The literal that a statement puts as a message or a part of one.

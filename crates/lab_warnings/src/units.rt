@@ -1,15 +1,26 @@
 //! Warnings of the units of an accepted application.
 
-use crate::lab_findings::{Label, TextName, Warning, Warnings, labels_of};
-use crate::lab_warnings::flow::Reach;
-use crate::lab_warnings::held::held_warnings;
-use crate::lab_warnings::targets::{
-    Names, add_fields, add_label, message_of, takes_jobs, target_of, undeclared,
+use crate::comparisons::comparison_warning;
+use crate::flow::Walk;
+use crate::follow_ups::service_warnings;
+use crate::held::held_warnings;
+use crate::labels::{Label, labels_of};
+use crate::messages::message_warnings;
+use crate::roles::{Continued, Role, role_of};
+use crate::targets::{
+    Names, Wanted, add_fields, add_label, message_of, near_name, takes_jobs, target_of, undeclared,
+    wanted_block,
 };
+use crate::unlocked::unlock_warnings;
+use crate::unmatched::unmatched_warnings;
+use crate::warned::Warnings;
+use crate::warning::Warning;
 use application_check::kdcdef_check::Generation;
 use application_check::unit_check::Units;
+use application_types::kdcdef_types::Statement;
 use application_types::unit_types::{Action, Unit};
 use kd_base::OutOfMemory;
+use lab_check::lab_findings::TextName;
 use std::alloc::Global;
 use std::collections::BTreeSet;
 
@@ -87,7 +98,7 @@ fn message_warning(
     if message.len() <= most as usize {
         return Ok(());
     }
-    let numbers = format!(in alloc; "{} {most}", message.len())?;
+    let numbers = format!(in alloc; "{} NB={most}", message.len())?;
     warned.warn(
         alloc,
         TextName::Units,
@@ -102,17 +113,27 @@ fn message_warning(
 fn name_warnings(
     alloc: Global,
     generation: &Generation,
+    said: &[Statement],
     line: u32,
     action: &Action,
     warned: &mut Warnings,
 ) -> Result<(), OutOfMemory> {
     if let Some(target) = target_of(action) {
         if !takes_jobs(generation, target) {
-            warned.warn(alloc, TextName::Units, line, Warning::NoTarget, target, b"")?;
+            let near = near_name(said, Wanted::Target, target);
+            warned.warn(
+                alloc,
+                TextName::Units,
+                line,
+                Warning::NoTarget,
+                target,
+                near,
+            )?;
         }
     }
     if let Some(block) = undeclared(generation, action) {
-        warned.warn(alloc, TextName::Units, line, Warning::NoBlock, block, b"")?;
+        let near = near_name(said, wanted_block(action), block);
+        warned.warn(alloc, TextName::Units, line, Warning::NoBlock, block, near)?;
     }
     message_warning(alloc, generation, line, action, warned)
 }
@@ -121,13 +142,13 @@ fn name_warnings(
 fn reach_warnings(
     alloc: Global,
     unit: &Unit,
-    reach: &Reach,
+    walk: &Walk,
     warned: &mut Warnings,
 ) -> Result<(), OutOfMemory> {
     let mut place: u32 = 1;
     let mut was_reached = true;
     for statement in unit.statements() {
-        let is_reached = reach.has(place);
+        let is_reached = walk.comes(place);
         if was_reached && !is_reached {
             warned.warn(
                 alloc,
@@ -141,18 +162,18 @@ fn reach_warnings(
         was_reached = is_reached;
         place = place.saturating_add(1);
     }
-    end_warning(alloc, unit, reach, place, warned)
+    end_warning(alloc, unit, walk, place, warned)
 }
 
 // Warns of a run that comes to the place behind the last statement.
 fn end_warning(
     alloc: Global,
     unit: &Unit,
-    reach: &Reach,
+    walk: &Walk,
     end: u32,
     warned: &mut Warnings,
 ) -> Result<(), OutOfMemory> {
-    if !reach.has(end) {
+    if !walk.comes(end) {
         return Ok(());
     }
     let line = match unit.statements().last() {
@@ -189,22 +210,49 @@ fn use_warning(
     )
 }
 
-// Warns of where runs of a unit go.
+// Warns of what a statement at this place does where runs come to it.
+fn reached_warnings(
+    alloc: Global,
+    generation: &Generation,
+    unit: &Unit,
+    role: Role,
+    walk: &Walk,
+    warned: &mut Warnings,
+) -> Result<(), OutOfMemory> {
+    let mut place: u32 = 1;
+    for statement in unit.statements() {
+        if walk.comes(place) {
+            let line = statement.line;
+            service_warnings(alloc, generation, role, line, &statement.action, warned)?;
+            comparison_warning(alloc, unit, place, line, &statement.action, warned)?;
+        }
+        place = place.saturating_add(1);
+    }
+    Ok(())
+}
+
+// Warns of where runs of a unit go, and what they do there.
 fn flow_warnings(
     alloc: Global,
     generation: &Generation,
     unit: &Unit,
+    role: Role,
     warned: &mut Warnings,
 ) -> Result<(), OutOfMemory> {
-    let reach = Reach::from(alloc, unit, &[1])?;
-    reach_warnings(alloc, unit, &reach, warned)?;
-    held_warnings(alloc, generation, unit, &reach, warned)
+    let walk = Walk::whole(alloc, unit)?;
+    reach_warnings(alloc, unit, &walk, warned)?;
+    held_warnings(alloc, generation, unit, &walk, warned)?;
+    reached_warnings(alloc, generation, unit, role, &walk, warned)?;
+    message_warnings(alloc, unit, role, warned)?;
+    unlock_warnings(alloc, unit, role, warned)
 }
 
 fn warnings_of(
     alloc: Global,
     generation: &Generation,
     unit: &Unit,
+    role: Role,
+    said: &[Statement],
     labels: &[Label],
     warned: &mut Warnings,
 ) -> Result<(), OutOfMemory> {
@@ -212,22 +260,32 @@ fn warnings_of(
     field_warnings(alloc, unit, warned)?;
     label_warnings(alloc, unit, labels, warned)?;
     for statement in unit.statements() {
-        name_warnings(alloc, generation, statement.line, &statement.action, warned)?;
+        name_warnings(
+            alloc,
+            generation,
+            said,
+            statement.line,
+            &statement.action,
+            warned,
+        )?;
     }
-    flow_warnings(alloc, generation, unit, warned)
+    flow_warnings(alloc, generation, unit, role, warned)
 }
 
-/// Warns of what the units of an accepted application do.
-pub fn unit_warnings(
+/// Warns of what the units of an accepted application do, whose definition says this.
+pub(crate) fn unit_warnings(
     alloc: Global,
     generation: &Generation,
+    said: &[Statement],
     units: &Units,
     text: &[u8],
     warned: &mut Warnings,
 ) -> Result<(), OutOfMemory> {
     let labels = labels_of(alloc, text)?;
+    let continued = Continued::of(alloc, units)?;
     for unit in units.all() {
-        warnings_of(alloc, generation, unit, &labels, warned)?;
+        let role = role_of(generation, &continued, unit);
+        warnings_of(alloc, generation, unit, role, said, &labels, warned)?;
     }
-    Ok(())
+    unmatched_warnings(alloc, generation, units, warned)
 }

@@ -1,8 +1,9 @@
 //! Where there is something to warn of.
 
-use crate::lab_findings::text_name::TextName;
-use crate::lab_findings::warning::Warning;
+use crate::flow::Ways;
+use crate::warning::Warning;
 use kd_base::{Bytes, OutOfMemory, escape};
+use lab_check::lab_findings::TextName;
 use std::alloc::Global;
 
 /// Something in a line that is accepted and likely wrong.
@@ -32,7 +33,7 @@ impl Drop for Warned {
 
 /// The warnings so far.
 #[derive(Drop)]
-pub struct Warnings {
+pub(crate) struct Warnings {
     pub items: Vec<Warned>,
 }
 
@@ -59,7 +60,7 @@ impl Warnings {
         }
     }
 
-    /// Adds a warning with one or two words as its details, or none; a second word that is empty is left out.
+    /// Adds a warning with one or two words as its details, or none; a word that is empty is left out.
     pub fn warn(
         &mut self,
         alloc: Global,
@@ -70,10 +71,10 @@ impl Warnings {
         second: &[u8],
     ) -> Result<(), OutOfMemory> {
         let mut details = Bytes::from_slice(alloc, first)?;
-        if !second.is_empty() {
+        if !first.is_empty() && !second.is_empty() {
             details.push(b' ')?;
-            details.append(second)?;
         }
+        details.append(second)?;
         self.items.push(Warned {
             text,
             line,
@@ -83,10 +84,33 @@ impl Warnings {
         Ok(())
     }
 
-    /// Puts the warnings in the order of text and line.
+    /// Adds a warning of a statement of a unit that is so on these ways: none where it is so on no way, and behind its
+    /// details `on some way` where it is not so on all.
+    pub fn warn_on(
+        &mut self,
+        alloc: Global,
+        ways: Ways,
+        line: u32,
+        warning: Warning,
+        details: &[u8],
+    ) -> Result<(), OutOfMemory> {
+        let which: &[u8] = match ways {
+            Ways::None => return Ok(()),
+            Ways::Some => b"on some way",
+            Ways::All => b"",
+        };
+        self.warn(alloc, TextName::Units, line, warning, details, which)
+    }
+
+    /// Puts the warnings in the order of text and line, those of access first.
     pub fn sort(&mut self) -> Result<(), OutOfMemory> {
-        self.items
-            .sort_by_key(|warned| (warned.text.rank(), warned.line))?;
+        self.items.sort_by_key(|warned| {
+            (
+                !warned.warning.is_of_access(),
+                warned.text.rank(),
+                warned.line,
+            )
+        })?;
         Ok(())
     }
 }

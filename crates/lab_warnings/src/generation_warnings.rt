@@ -1,12 +1,14 @@
 //! Warnings of the statements of an accepted definition.
 
-use crate::lab_findings::{TextName, Warning, Warnings};
-use crate::lab_warnings::flow::shortest_run;
+use crate::flow::Walk;
+use crate::warned::Warnings;
+use crate::warning::Warning;
 use application_check::kdcdef_check::Generation;
 use application_check::unit_check::Units;
 use application_types::kdcdef_types::{KeySet, Said, Statement, TacEntry};
 use application_types::unit_types::Unit;
 use kd_base::{Name, OutOfMemory, ProgName};
+use lab_check::lab_findings::TextName;
 use std::alloc::Global;
 use std::collections::BTreeSet;
 
@@ -124,7 +126,7 @@ fn run_warnings(
     warned: &mut Warnings,
 ) -> Result<(), OutOfMemory> {
     let text = TextName::Definition;
-    let Some(count) = shortest_run(alloc, unit)? else {
+    let Some(count) = Walk::whole(alloc, unit)?.shortest(unit) else {
         return warned.warn(
             alloc,
             text,
@@ -137,7 +139,7 @@ fn run_warnings(
     if count <= entry.time {
         return Ok(());
     }
-    let numbers = format!(in alloc; "{} {count}", entry.time)?;
+    let numbers = format!(in alloc; "TIME={} {count}", entry.time)?;
     warned.warn(
         alloc,
         text,
@@ -166,7 +168,7 @@ fn job_warning(
         line,
         Warning::NoAsyntasks,
         name.as_slice(),
-        b"",
+        b"ASYNTASKS=0 1..240",
     )
 }
 
@@ -185,7 +187,7 @@ fn lock_warning(
     if whole.used.has_code(code) {
         return Ok(());
     }
-    let number = format!(in alloc; "{code}")?;
+    let number = format!(in alloc; "LOCK={code}")?;
     warned.warn(
         alloc,
         TextName::Definition,
@@ -224,10 +226,10 @@ fn class_warnings(
     tasks: u16,
     warned: &mut Warnings,
 ) -> Result<(), OutOfMemory> {
-    let warning = if !whole.used.classes.contains(&class) {
-        Warning::UnusedClass
+    let (warning, wrong): (Warning, &[u8]) = if !whole.used.classes.contains(&class) {
+        (Warning::UnusedClass, b"")
     } else if tasks == 0 {
-        Warning::ClassNeverRuns
+        (Warning::ClassNeverRuns, b"TASKS=0 1..240")
     } else {
         return Ok(());
     };
@@ -238,7 +240,7 @@ fn class_warnings(
         line,
         warning,
         number.as_bytes(),
-        b"",
+        wrong,
     )
 }
 

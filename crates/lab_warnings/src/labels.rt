@@ -1,7 +1,7 @@
 //! Where the labels of a units text stand.
 
-use crate::lab_findings::line_kind::{LineKind, kind_of};
 use kd_base::{Bytes, OutOfMemory, ProgName};
+use lab_check::lab_findings::{LineKind, kind_of};
 use std::alloc::Global;
 use texts::next_line;
 

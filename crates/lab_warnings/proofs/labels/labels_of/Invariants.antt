@@ -1,5 +1,5 @@
 use Rattle.std.proofs.Common.{length}
-use Rattle.lab_check.proofs.lab_findings.labels.labels_of.Given as goal
+use Rattle.lab_warnings.proofs.labels.labels_of.Given as goal
 
 abbrev pub decreases-loop-rest : goal.decreases-loop-rest
 decreases-loop-rest l = length l.rest
