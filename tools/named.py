@@ -59,19 +59,34 @@ def prose_of(text):
 # ---- what the sources have
 
 
+def records_of(pages):
+    """The fields of each record, by its crate and its name."""
+    found = {}
+    for path, text in pages.items():
+        for name, fields in re.findall(r"(?m)^(?:pub )?record (\w+).* where\n((?:  .*\n)*)", text):
+            found[path.parts[0], name] = re.findall(r"(?m)^  (?:pub )?(\w+) :", fields)
+    return found
+
+
+RECORDS = records_of(SPECS)
+
+
 def contracts(name, home, file=None):
-    """The names of the clauses of each function of this name; a clause without a name is the empty one."""
+    """The names of the clauses of each function of this name, and the fields of a record that is a clause; a clause
+    without a name is the empty one."""
     found = []
     for path, text in CODE.items():
         if HOME[path] == home and file in (None, str(path)):
             for head in re.finditer(rf"\bfn {re.escape(name)}\b.*?(?:;\n|\n *\{{)", text, re.S):
-                found.append(re.findall(r"\bensures (\w*) *\{", head.group()))
+                clauses = re.findall(r"\bensures (\w*) *\{ *(\w*)", head.group())
+                fields = [it for _, word in clauses for it in RECORDS.get((path.parts[0], word), [])]
+                found.append([it for it, _ in clauses] + fields)
     return found
 
 
 def top_contracts():
     """The clauses of the two top calls, over one disk and over two."""
-    return contracts("utm", "utm_cli") + contracts("utm_twin", "utm_twin")
+    return contracts("utm", "utm_cli") + contracts("utm_twin", "utm_cli")
 
 
 def has_word(home, word):
@@ -210,7 +225,7 @@ def answer_faults(text):
     for cells in [[it.strip() for it in line.split("|")] for line in re.findall(r"(?m)^\|(.*)\|$", section)]:
         if cells[-1] == "Clauses" or set(cells[0]) <= set("-"):
             continue
-        calls = [("utm_cli", "`utm`"), ("utm_twin", "`utm_twin`")] if cells[0].isdigit() else re.findall(r"(\w+) ((?:`[\w:]+`(?:, )?)+)", cells[0])
+        calls = [("utm_cli", "`utm`"), ("utm_cli", "`utm_twin`")] if cells[0].isdigit() else re.findall(r"(\w+) ((?:`[\w:]+`(?:, )?)+)", cells[0])
         found = []
         for home, names in calls:
             for name in QUOTED.findall(names):

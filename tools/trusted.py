@@ -4,7 +4,7 @@
     python3 tools/trusted.py            writes the page
     python3 tools/trusted.py --check    says where the page is another one; the status is 1 then
 
-It begins with the clauses of `utm_twin` in crates/utm_twin/src/top.rt, and follows each word to its definition, and the words
+It begins with the clauses of `utm_twin` in crates/utm_cli/src/twin/top.rt, and follows each word to its definition, and the words
 of that one to theirs, down to the words of the kit.
 """
 
@@ -18,15 +18,15 @@ sys.dont_write_bytecode = True
 from antt_text import TOP, Item, Page, Reader, antt_paths, free_words, head_of, is_kit, module_of, rust_pages, tokens_of
 
 PAGE = TOP / "docs" / "TRUSTED.md"
-START = ("utm_twin", ["top"], "utm_twin")
+START = ("utm_cli", ["twin", "top"], "utm_twin")
 LANGUAGE = ("⊥", "⊤", "Unit", "tt", "absurd")
 
 INTRODUCTION = """# What has to be read
 
 `tools/trusted.py` makes this page, and `./test` checks that it is up to date.
 
-What `utm_twin`, the one call of the program, promises is what its clauses say. They are in utm_twin/src/top.rt, in
-words that are defined elsewhere; those of `utm` are among them, as the fields of `AsUtm`. This page lists each
+What `utm_twin`, the one call of the program, promises is what its clauses say. It is the record `AnswersTwo`,
+whose fields are clauses in words that are defined elsewhere; those of `utm` are among them, as `AnswersOne`. This page lists each
 definition that they reach: the words of the clauses, the words of their definitions, and so on, down to the words of
 the kit. Whoever has read these definitions knows what is promised. The rest of `specs/` and all of `proofs/` are lemmas
 with their proofs, and definitions that only lemmas and the contracts of inner calls name. The prover checks them: what

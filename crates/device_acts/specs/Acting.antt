@@ -1,7 +1,7 @@
 -- How far some acts are done, over whatever the acts make of one another: contents of records, or tables.
-use Rattle.std.specs.Prelude.{◌≡◌, ◌≤◌, ℕ, ◌+◌, Bool, true, false, IsTrue, ⊤, List, [], ◌∷◌, ◌++◌, All}
+use Rattle.std.specs.Prelude.{◌≡◌, ◌⊎◌, ◌≤◌, ℕ, ◌+◌, Bool, true, false, IsTrue, ⊤, List, [], ◌∷◌, ◌++◌, All}
 use Rattle.std.specs.List.{list_all}
-use Rattle.kd_device.specs.Device.{State, Frame, SameFaults, SameNames, LeavesOnly}
+use Rattle.kd_device.specs.Device.{State, Rose, Frame, SameFaults, SameNames, LeavesOnly}
 use Rattle.kd_records.specs.Charge.{total_charge}
 use Rattle.kd_records.specs.Contents.{patched, IsPatch}
 use Rattle.kd_records.specs.Identity.{Identity}
@@ -12,6 +12,7 @@ use Rattle.kdcs_types.specs.declared.act.Act.{Act}
 use Rattle.kdcs_types.specs.declared.act.Act.TheVariants.{Commit, Emit}
 use Rattle.kdcs_types.specs.declared.act.Changes.{Changes}
 use Rattle.abstract_monitor.specs.Bytes.{Bytes}
+use Rattle.abstract_monitor.specs.Lines.{restart_line}
 use Rattle.abstract_monitor.specs.Trace.{bytes_of}
 use Rattle.laws_of_states.specs.Cut.{SentBy}
 use Rattle.record_codec.specs.Records.{patch_of}
@@ -77,6 +78,37 @@ pub record WritesUpTo (most : List Act → ℕ) (acts : List Act) (a b : State) 
   pub whole : acts ≡ done ++ left
   pub bytes : SentBy done left since
   pub put : b.put ≤ a.put + most done
+
+-- the image stands for what these first acts make, or the last of them is a commit that was begun, and it stands for what those before it make
+abbrev pub HasOrBegan : {X : Type 0} → (after : X → List Act → X) → (stands : X → Bytes → Type 0) → X → (done : List Act) → Bytes → Type 0
+HasOrBegan after stands start done image = stands (after start done) image ⊎ ((before : List Act) × (c : Changes) × (done ≡ before ++ Commit c ∷ []) × stands (after start before) image)
+
+-- the bytes written are at most those of some first acts, which are those whose lines were sent and whose commits the image has, but for a last one that was begun
+pub record WritesBegun {X : Type 0} (after : X → List Act → X) (stands : X → Bytes → Type 0) (start : X) (most : List Act → ℕ) (acts : List Act) (a b : State) (image : Bytes) : Type 0 where
+  pub writes : WritesUpTo most acts a b
+  pub file : HasOrBegan after stands start writes.done image
+
+-- whatever became of the acts: so it is with each image that a stop now leaves
+abbrev pub WritesWithin : {X : Type 0} → (after : X → List Act → X) → (stands : X → Bytes → Type 0) → X → (most : List Act → ℕ) → (acts : List Act) → (a b : State) → (lb : ℕ → List ℕ → List ℕ → Type 0) → Type 0
+WritesWithin after stands start most acts a b lb = IsTrue a.told → (image : List ℕ) → lb b.moment image b.sent → WritesBegun after stands start most acts a b image
+
+-- an act that asks for the disk: a commit, or the line of a RESTART, before which the files are opened again
+abbrev pub AsksDisk : Act → Type 0
+AsksDisk (Commit changes) = ⊤
+AsksDisk (Emit line) = line ≡ restart_line
+
+-- just the lines before an act were sent that asks for the disk
+pub record HaltsAt (acts : List Act) (a b : State) : Type 0 where
+  pub done : List Act
+  pub next : Act
+  pub left : List Act
+  pub asks : AsksDisk next
+  pub whole : acts ≡ done ++ next ∷ left
+  pub sent : b.sent ≡ a.sent ++ bytes_of done
+
+-- a call of the line failed, or the acts halted at one that asks for the disk
+abbrev pub LineOrDisk : (acts : List Act) → (a b : State) → Type 0
+LineOrDisk acts a b = IsTrue a.told → Rose a.line_faults b.line_faults ⊎ HaltsAt acts a b
 
 -- ---- contents of records
 

@@ -1,17 +1,17 @@
 -- How acts go on from one another, over whatever they make.
-use Rattle.std.proofs.Common.{◌≡◌, inl, inr, ℕ, ◌+◌, ◌<◌, List, [], ◌∷◌, ◌++◌, length, take, drop, get_or, refl, sym, ap, subst, ◌∙◌, arith, append_assoc}
+use Rattle.std.proofs.Common.{◌≡◌, ◌⊎◌, inl, inr, ℕ, ◌+◌, ◌<◌, List, [], ◌∷◌, ◌++◌, length, take, drop, get_or, refl, sym, ap, subst, ◌∙◌, arith, append_assoc}
 use Rattle.std.specs.Prelude.{IsTrue, true}
 use Rattle.std.proofs.lemmas.List.{append-nil, take-append-drop, drop_more, take_more}
 use Rattle.std.proofs.lemmas.List.Folds.{list_all-append}
 use Rattle.kd_base.specs.ToolsLaws.{both_true}
-use Rattle.kd_device.specs.Device.{State}
+use Rattle.kd_device.specs.Device.{State, Frame, Rose}
 use Rattle.kd_device.specs.TimeLaws.{leaves_weaker, leaves_then}
 use Rattle.kdcs_types.specs.declared.act.Act.{Act}
 use Rattle.kdcs_types.specs.declared.act.Act.TheVariants.{Commit, Emit}
 use Rattle.abstract_monitor.specs.Bytes.{Bytes}
 use Rattle.abstract_monitor.specs.Trace.{bytes_of}
 use Rattle.laws_of_states.specs.Cut.{SentBy}
-use Rattle.device_acts.specs.Acting.{is_line, commits_nothing, GoesOn, IsCutOf, IsKeptBy, Performed, WithinActs}
+use Rattle.device_acts.specs.Acting.{is_line, commits_nothing, AsksDisk, GoesOn, HaltsAt, IsCutOf, IsKeptBy, LineOrDisk, Performed, WithinActs}
 
 pub bytes_joined : (p q : List Act) → bytes_of (p ++ q) ≡ bytes_of p ++ bytes_of q
 unfolding bytes_of
@@ -136,6 +136,28 @@ module _ {X : Type 0} (fine : State → State → Type 0) (on : GoesOn fine) (af
         calls = on.after a b d run.sent.calls h.calls;
       };
     }
+
+-- ---- where they halt
+
+-- at the first of them, which asks for the disk
+pub halts_at_once : (next : Act) (left : List Act) (a b : State) → AsksDisk next → b.sent ≡ a.sent → HaltsAt (next ∷ left) a b
+halts_at_once next left a b asks same = record { done = []; next = next; left = left; asks = asks; whole = refl; sent = same ∙ sym (ap (λ (l : Bytes). a.sent ++ l) no_bytes ∙ append-nil a.sent) }
+
+-- within those that come after these
+pub halts_within : (all done here rest : List Act) (a b d : State) → Frame a b → (IsTrue a.told → b.sent ≡ a.sent ++ bytes_of done) → (IsTrue a.told → all ≡ done ++ (here ++ rest)) → LineOrDisk here b d → LineOrDisk all a d
+halts_within all done here rest a b d frame sent split step told = by (step (subst IsTrue (sym frame.told) told))
+  where
+    by : Rose b.line_faults d.line_faults ⊎ HaltsAt here b d → Rose a.line_faults d.line_faults ⊎ HaltsAt all a d
+    by (inl rose) = inl (omega (arith, frame.line_faults, rose))
+    by (inr h) =
+        inr (record {
+          done = done ++ h.done;
+          next = h.next;
+          left = h.left ++ rest;
+          asks = h.asks;
+          whole = split told ∙ ap (λ (l : List Act). done ++ l) (ap (λ (l : List Act). l ++ rest) h.whole ∙ append_assoc h.done (h.next ∷ h.left) rest) ∙ sym (append_assoc done h.done (h.next ∷ (h.left ++ rest)));
+          sent = h.sent ∙ ap (λ (s : Bytes). s ++ bytes_of h.done) (sent told) ∙ append_assoc a.sent (bytes_of done) (bytes_of h.done) ∙ ap (λ (s : Bytes). a.sent ++ s) (sym (bytes_joined done h.done));
+        })
 
 -- the list around its element at i
 pub around : {X : Type 0} (xs : List X) (i : ℕ) (d x : X) → x ≡ get_or xs i d → i < length xs → xs ≡ take i xs ++ ((x ∷ []) ++ drop (i + 1) xs)

@@ -5,8 +5,8 @@
 //! with a store. It stands on kdcfile_store, which keeps each commit whole or not at all, on kd_device, and on
 //! record_codec, whose patch a commit's changes are. It knows no core and performs no command. To the run of a script,
 //! its contract says that at each moment what was sent and what the files stand for are a cut of the acts, that after
-//! `Ok` all of them are done, and that the bytes written are at most the bounds of the commits among some first acts
-//! whose lines were sent.
+//! `Ok` all of them are done, that the bytes written are at most the bounds of the commits that the files have, and of
+//! one that was begun, and that the disk fails only at a commit.
 #![tactic(auto)]
 
 mod acts;

@@ -1,12 +1,11 @@
 -- A restart: the files are opened again, and a line is said.
-use Rattle.std.proofs.Common.{◌≡◌, arith, ℕ, List, [], ◌∷◌, ◌++◌, take, refl, sym, ap, subst, ◌∙◌}
+use Rattle.std.proofs.Common.{◌≡◌, ℕ, List, [], ◌∷◌, ◌++◌, take, refl, sym, ap, subst, ◌∙◌}
 use Rattle.std.specs.Prelude.{IsTrue}
 use Rattle.std.proofs.lemmas.List.{append-nil}
 use Rattle.kd_device.specs.Device.{State, Frame, SameNames, LeavesOnly}
 use Rattle.kd_device.specs.TimeLaws.{leaves_weaker, told_after}
 use Rattle.kd_records.specs.Identity.{Identity}
 use Rattle.kd_records.specs.declared.content.Content.{Content}
-use Rattle.kd_records.specs.declared.content.Patch.{Patch}
 use Rattle.application_types.specs.Generation.{Generated}
 use Rattle.kdcs_types.specs.declared.act.Act.{Act}
 use Rattle.kdcs_types.specs.declared.act.Act.TheVariants.{Emit}
@@ -23,14 +22,14 @@ use Rattle.laws_of_states.specs.Keeping.{HasFacts}
 use Rattle.record_codec.specs.Records.{content_of_tables}
 use Rattle.device_acts.specs.Stands.{AreTables, identity_for}
 use Rattle.monitor_core.specs.CoreValue.{CoreValue}
-use Rattle.device_acts.specs.Acting.{GoesOn, IsCutOf, IsKeptBy, Performed, WithinActs, WritesUpTo}
+use Rattle.device_acts.specs.Acting.{GoesOn, IsCutOf, IsKeptBy, Performed, WithinActs}
 use Rattle.monitor_core.specs.CoreSteps.{durable_of}
-use Rattle.device_run.specs.Running.{identity_of, commits_most_with}
-use Rattle.device_run.specs.Keeping.{DidSteps, IsAgain, IsRunningWith, KeepsSuited, Reopening, StandsForRows, StepsWriteWith, WithinStepsWith}
+use Rattle.device_run.specs.Running.{identity_of}
+use Rattle.device_run.specs.Keeping.{DidSteps, IsAgain, IsRunningWith, KeepsSuited, Reopening, StandsForRows, WithinStepsWith}
 use Rattle.device_acts.specs.Said.{Said, SaidPart}
 use Rattle.device_acts.specs.ActingLaws.{no_bytes, cut_none, Running, running_within}
 use Rattle.device_acts.specs.ContentsLaws.{line_within, line_sent}
-use Rattle.device_acts.specs.WritingLaws.{writes_line, writes_none}
+use Rattle.device_run.specs.SteppingLaws.{rows_stand}
 use Rattle.device_run.specs.TablesLaws.{tables_go}
 use Rattle.laws_of_states.specs.EndsLaws.{durable_same}
 use Rattle.laws_of_states.specs.TablesStayLaws.{started_tables}
@@ -55,18 +54,11 @@ module _ (fingerprint : List ℕ) (c : CoreValue) (j : Identity) (x : Content) (
   pub own_suited : (g : Generated) → c.application.generation ≡ g → KeepsSuited g fingerprint j x (durable_of c)
   own_suited g is = subst (λ (h : Generated). KeepsSuited h fingerprint j x (durable_of c)) is (record { keeps = running.keeps; suits = running.facts.1.suits })
 
-  -- images that stand for what its files keep
-  rows_stand : (stands : Identity → Content → List ℕ → Type 0) (image : List ℕ) → stands j x image → StandsForRows stands (identity_of fingerprint c) (durable_of c) image
-  rows_stand stands image here = record {
-    tables = running.keeps.tables;
-    content = subst (λ (y : Content). stands (identity_of fingerprint c) y image) running.keeps.content (subst (λ (k : Identity). stands k x image) running.keeps.identity_is here);
-  }
-
   pub reopening_rows : (stands : Identity → Content → List ℕ → Type 0) (a b : State) (la lb : ℕ → List ℕ → List ℕ → Type 0) → Reopening (stands j x) a b la lb → Reopening (StandsForRows stands (identity_of fingerprint c) (durable_of c)) a b la lb
   reopening_rows stands a b la lb h = record {
     disk = h.disk;
     sent = h.sent;
-    leaves = leaves_weaker a b la lb (λ image out. (out ≡ a.sent) × stands j x image) (λ image out. (out ≡ a.sent) × StandsForRows stands (identity_of fingerprint c) (durable_of c) image) h.leaves (λ image out left. (left.0, rows_stand stands image left.1));
+    leaves = leaves_weaker a b la lb (λ image out. (out ≡ a.sent) × stands j x image) (λ image out. (out ≡ a.sent) × StandsForRows stands (identity_of fingerprint c) (durable_of c) image) h.leaves (λ image out left. (left.0, rows_stand fingerprint c j x running stands image left.1));
   }
 
   -- a core that starts from the tables that the files were opened with
@@ -107,20 +99,6 @@ module _ (stands : Identity → Content → List ℕ → Type 0) (fingerprint : 
         any_moment = λ told. leaves_weaker a b la lb (λ image out. (out ≡ a.sent) × StandsForRows stands (identity_of fingerprint c) (durable_of c) image) (IsCutOf tables_after (StandsForRows stands (identity_of fingerprint c)) (durable_of c) acts a.sent) (still told).leaves (in_opening acts);
         quiet = λ told lines. (still told).disk;
       }
-
-  module _ (most : Identity → Patch → ℕ) where
-    -- it writes nothing
-    pub opening_writes : StepsWriteWith most fingerprint c (again c ∷ []) a b
-    opening_writes = λ told. let same = (still told).disk.put in writes_none (commits_most_with most (identity_of fingerprint c)) (acts_of (again c ∷ [])) a b (still told).sent (omega (arith, same))
-
-    -- nor does the line
-    pub restart_writes : (d : State) → (IsTrue b.told → SaidPart restart_line b d) → StepsWriteWith most fingerprint c (again c ∷ []) a d
-    restart_writes d part = λ told.
-        let rest = still told in
-        let said = part (subst IsTrue (sym frame.told) told) in
-        subst (λ (l : List Act). WritesUpTo (commits_most_with most (identity_of fingerprint c)) l a d) (sym (acts_again c))
-        (writes_line (commits_most_with most (identity_of fingerprint c)) a d (Emit restart_line) restart_line refl
-        (record { disk = record { holds = said.disk.holds ∙ rest.disk.holds; put = said.disk.put ∙ rest.disk.put }; sent = (said.sent.0, said.sent.1 ∙ ap (λ (s : List ℕ). s ++ take said.sent.0 restart_line) rest.sent) }))
 
   module _ (fine : State → State → Type 0) (on : GoesOn fine) (next : CoreValue) (k : Identity) (y : Content) (file : List ℕ → Type 0) (begun : IsAgain fine fingerprint c next k y file a b lb) (d : State) (ld : ℕ → List ℕ → List ℕ → Type 0) where
     told_before : IsTrue b.told → IsTrue a.told

@@ -1,17 +1,19 @@
 -- A content that is kept in one file of a device, under a run.
-use Rattle.std.proofs.Common.{◌≡◌, inr, ℕ, List, [], subst}
-use Rattle.std.specs.Prelude.{IsTrue, Result, OnOk}
+use Rattle.std.proofs.Common.{◌≡◌, inl, inr, ⊎_elim, ℕ, List, [], ◌++◌, subst}
+use Rattle.std.specs.Prelude.{IsTrue, Result, Ok, Err, OnErr, OnOk}
 use Rattle.std.proofs.lemmas.Result.{on_ok_weaker}
 use Rattle.kd_device.specs.Device.{State}
 use Rattle.kd_device.specs.Rest.{Rests, Before}
 use Rattle.kd_device.specs.TimeLaws.{leaves_weaker}
 use Rattle.kd_records.specs.Identity.{Identity}
 use Rattle.application_types.specs.Generation.{Generated}
+use Rattle.kdcfile_layout.specs.Bound.{write_bound}
 use Rattle.kdcfile_layout.specs.Layout.{StandsFor}
 use Rattle.kdcfile_store.specs.Paged.{Paged, HasFile}
 use Rattle.kdcs_types.specs.Tables.{TableRows}
 use Rattle.abstract_monitor.specs.Commands.{ScriptStep, acts_of}
-use Rattle.abstract_monitor.specs.Trace.{tables_after}
+use Rattle.abstract_monitor.specs.Trace.{bytes_of, tables_after}
+use Rattle.abstract_monitor.specs.declared.command.Command.{Command}
 use Rattle.kdcs_types.specs.declared.act.Act.{Act}
 use Rattle.laws_of_states.specs.Suits.{Suits}
 use Rattle.device_acts.specs.MeaningLaws.{kept_stands, nothing_stands}
@@ -20,8 +22,8 @@ use Rattle.device_acts.specs.Stands.{StandsForTables, KeepsTables, identity_for}
 use Rattle.monitor_core.specs.CoreSteps.{durable_of}
 use Rattle.monitor_core.specs.CoreValue.{CoreValue}
 use Rattle.device_acts.specs.Acting.{IsCutOf, IsKeptBy, OwnFile}
-use Rattle.device_run.specs.Running.{IsRunning, Ran, WithinSteps, identity_of}
-use Rattle.device_run.specs.Keeping.{IsRunningWith, KeepsRows, KeepsSuited, RanWith, Reopening, StandsForRows, WithinStepsWith}
+use Rattle.device_run.specs.Running.{IsRunning, Ran, StepsWrite, Stops, WithinSteps, acts_before, acts_then, identity_of}
+use Rattle.device_run.specs.Keeping.{IsRunningWith, KeepsRows, KeepsSuited, RanWith, Reopening, StandsForRows, StepsWriteWith, StopsWith, WithinStepsWith}
 
 -- ---- what it keeps
 
@@ -49,6 +51,33 @@ within_single fingerprint c steps a b la lb h =
       names = h.names;
       any_moment = λ told. leaves_weaker a b la lb (IsCutOf tables_after (StandsForRows StandsFor i) (durable_of c) (acts_of steps) a.sent) (IsCutOf tables_after (StandsForTables i) (durable_of c) (acts_of steps) a.sent) (h.any_moment told) (cut_single i (durable_of c) (acts_of steps) a.sent);
       quiet = h.quiet;
+    }
+
+-- what was written, and where it stopped
+rows_single : (i : Identity) (t : TableRows) (image : List ℕ) → StandsForRows StandsFor i t image → StandsForTables i t image
+rows_single i t image h = record { tables = h.tables; content = h.content }
+
+pub writes_single : (fingerprint : List ℕ) (c : CoreValue) (steps : List ScriptStep) (a b : State) (lb : ℕ → List ℕ → List ℕ → Type 0) → (IsTrue a.told → lb b.moment b.holds b.sent) → StepsWriteWith StandsFor write_bound fingerprint c steps a b lb → StepsWrite fingerprint c steps a b
+writes_single fingerprint c steps a b lb now h = λ told.
+    let i = identity_of fingerprint c in
+    let here = h told b.holds (now told) in
+    record {
+      writes = here.writes;
+      file = ⊎_elim
+          (λ file. inl (rows_single i (tables_after (durable_of c) here.writes.done) b.holds file))
+          (λ last. inr (last.0, last.1, last.2, rows_single i (tables_after (durable_of c) last.0) b.holds last.3))
+          here.file;
+    }
+
+pub stops_single : (fingerprint : List ℕ) (c : CoreValue) (script : List Command) (n : ℕ) (a b : State) (lb : ℕ → List ℕ → List ℕ → Type 0) → (IsTrue a.told → lb b.moment b.holds b.sent) → StopsWith StandsFor fingerprint c script n a b lb → Stops fingerprint c script n a b
+stops_single fingerprint c script n a b lb now h = λ told.
+    let here = h told b.holds (now told) in
+    record {
+      command = here.command;
+      rest = here.rest;
+      split = here.split;
+      part = cut_single (identity_of fingerprint c) (tables_after (durable_of c) (acts_before c script n)) (acts_then c script n here.command) (a.sent ++ bytes_of (acts_before c script n)) b.holds b.sent here.part;
+      restart = here.restart;
     }
 
 pub ran_single : (fingerprint : List ℕ) (c : CoreValue) (steps : List ScriptStep) (store : Paged) (a b : State) (lb : ℕ → List ℕ → List ℕ → Type 0) → lb b.moment b.holds b.sent → RanWith fingerprint c steps store.identity store.content (OwnFile (HasFile store) b) a b lb → Ran fingerprint c steps a b lb
@@ -103,3 +132,10 @@ module _ {T : Type 0} (state : T → State) (leaves : T → ℕ → List ℕ →
       on_ok_weaker result
       (λ ran told. subst (λ (t : T). Ran fingerprint c steps (state x) (state t) (leaves t)) is (ran_single fingerprint c steps store (state x) (state y) (leaves y) (now told) (ran told)))
       h
+
+  pub writes_given : (IsTrue (state x).told → leaves y (state y).moment (state y).holds (state y).sent) → StepsWriteWith StandsFor write_bound fingerprint c steps (state x) (state y) (leaves y) → (z : T) → y ≡ z → StepsWrite fingerprint c steps (state x) (state z)
+  writes_given now h z is = subst (λ (t : T). StepsWrite fingerprint c steps (state x) (state t)) is (writes_single fingerprint c steps (state x) (state y) (leaves y) now h)
+
+  pub stops_given : {N : Type 0} {E : Type 0} (result : Result N E) (script : List Command) (n : ℕ) → (IsTrue (state x).told → leaves y (state y).moment (state y).holds (state y).sent) → OnErr result (StopsWith StandsFor fingerprint c script n (state x) (state y) (leaves y)) → (z : T) → y ≡ z → OnErr result (Stops fingerprint c script n (state x) (state z))
+  stops_given (Ok v) script n now h z is = tt
+  stops_given (Err e) script n now h z is = subst (λ (t : T). Stops fingerprint c script n (state x) (state t)) is (stops_single fingerprint c script n (state x) (state y) (leaves y) now h)

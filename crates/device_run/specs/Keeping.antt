@@ -7,6 +7,7 @@ use Rattle.kd_records.specs.declared.content.Patch.{Patch}
 use Rattle.kdcs_types.specs.Tables.{TableRows}
 use Rattle.application_check.specs.Soundness.{AreLimits}
 use Rattle.application_types.specs.Generation.{Generated}
+use Rattle.abstract_monitor.specs.declared.command.Command.{Command}
 use Rattle.abstract_monitor.specs.Commands.{ScriptStep, acts_of, started, state_after}
 use Rattle.abstract_monitor.specs.Trace.{tables_after, bytes_of}
 use Rattle.laws_of_states.specs.Applications.{IsApplication}
@@ -16,9 +17,9 @@ use Rattle.record_codec.specs.Records.{content_of_tables}
 use Rattle.device_acts.specs.Stands.{AreTables, identity_for}
 use Rattle.monitor_core.specs.CoreSteps.{durable_of}
 use Rattle.monitor_core.specs.CoreValue.{CoreValue}
-use Rattle.device_acts.specs.Acting.{IsKeptBy, Performed, WithinActs, WritesUpTo}
+use Rattle.device_acts.specs.Acting.{IsKeptBy, Performed, WithinActs, WritesWithin}
 use Rattle.device_acts.specs.Said.{SameDisk}
-use Rattle.device_run.specs.Running.{commits_most_with, identity_of}
+use Rattle.device_run.specs.Running.{StoppedIn, commits_most_with, identity_of}
 
 -- files that were made with j and keep a content: they were made with i, and their records are the rows of these tables
 pub record KeepsRows (i j : Identity) (x : Content) (t : TableRows) : Type 0 where
@@ -47,9 +48,9 @@ pub record IsRunningWith (fingerprint : List ℕ) (c : CoreValue) (i : Identity)
 abbrev pub WithinStepsWith : (stands : Identity → Content → List ℕ → Type 0) → (fingerprint : List ℕ) → CoreValue → List ScriptStep → (a b : State) → (la lb : ℕ → List ℕ → List ℕ → Type 0) → Type 0
 WithinStepsWith stands fingerprint c steps a b la lb = WithinActs tables_after (StandsForRows stands (identity_of fingerprint c)) (durable_of c) (acts_of steps) a b la lb
 
--- whatever became of some steps of the core: the bytes written are at most those of the commits among some first acts, whose lines were sent
-abbrev pub StepsWriteWith : (most : Identity → Patch → ℕ) → (fingerprint : List ℕ) → CoreValue → List ScriptStep → (a b : State) → Type 0
-StepsWriteWith most fingerprint c steps a b = IsTrue a.told → WritesUpTo (commits_most_with most (identity_of fingerprint c)) (acts_of steps) a b
+-- whatever became of some steps of the core: the bytes written are at most those of the commits that the files have, and of one that was begun
+abbrev pub StepsWriteWith : (stands : Identity → Content → List ℕ → Type 0) → (most : Identity → Patch → ℕ) → (fingerprint : List ℕ) → CoreValue → List ScriptStep → (a b : State) → (lb : ℕ → List ℕ → List ℕ → Type 0) → Type 0
+StepsWriteWith stands most fingerprint c steps a b lb = WritesWithin tables_after (StandsForRows stands (identity_of fingerprint c)) (durable_of c) (commits_most_with most (identity_of fingerprint c)) (acts_of steps) a b lb
 
 -- the core came to the state after some steps, files that were made with j keep its tables, and all their acts are done
 pub record DidSteps (fine : State → State → Type 0) (fingerprint : List ℕ) (c : CoreValue) (steps : List ScriptStep) (d : CoreValue) (j : Identity) (x : Content) (file : List ℕ → Type 0) (a b : State) (lb : ℕ → List ℕ → List ℕ → Type 0) : Type 0 where
@@ -80,3 +81,7 @@ pub record RanWith (fingerprint : List ℕ) (c : CoreValue) (steps : List Script
   pub sent : b.sent ≡ a.sent ++ bytes_of (acts_of steps)
   pub keeps : KeepsRows (identity_of fingerprint c) j x (tables_after (durable_of c) (acts_of steps))
   pub at_rest : IsKeptBy file b lb
+
+-- a script stopped within the command that comes after the first n, with each image that a stop now leaves
+abbrev pub StopsWith : (stands : Identity → Content → List ℕ → Type 0) → (fingerprint : List ℕ) → CoreValue → (script : List Command) → (n : ℕ) → (a b : State) → (lb : ℕ → List ℕ → List ℕ → Type 0) → Type 0
+StopsWith stands fingerprint c script n a b lb = IsTrue a.told → (image : List ℕ) → lb b.moment image b.sent → StoppedIn (StandsForRows stands (identity_of fingerprint c)) c script n a b image

@@ -6,3 +6,4 @@ pub mod SingleLaws
 pub mod TablesLaws
 pub mod SteppingLaws
 pub mod StoringLaws
+pub mod StoppingLaws

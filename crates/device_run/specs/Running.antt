@@ -1,5 +1,5 @@
 -- A core and its store of one file, between two steps of a script.
-use Rattle.std.specs.Prelude.{◌≡◌, ◌⊎◌, ℕ, ◌+◌, IsTrue, List, [], ◌∷◌, ◌++◌}
+use Rattle.std.specs.Prelude.{◌≡◌, ◌⊎◌, ℕ, ◌+◌, IsTrue, List, [], ◌∷◌, ◌++◌, take}
 use Rattle.kd_device.specs.Device.{State, Only, Rose}
 use Rattle.kd_records.specs.Identity.{Identity}
 use Rattle.kd_records.specs.declared.content.Patch.{Patch}
@@ -21,7 +21,7 @@ use Rattle.record_codec.specs.Records.{patch_of}
 use Rattle.device_acts.specs.Stands.{StandsForTables, KeepsTables, identity_for}
 use Rattle.monitor_core.specs.CoreSteps.{durable_of}
 use Rattle.monitor_core.specs.CoreValue.{CoreValue}
-use Rattle.device_acts.specs.Acting.{WithinActs, WritesUpTo}
+use Rattle.device_acts.specs.Acting.{IsCutOf, WithinActs, WritesBegun}
 
 -- what the file of this core was made with, from texts with this fingerprint
 abbrev pub identity_of : (fingerprint : List ℕ) → CoreValue → Identity
@@ -48,9 +48,9 @@ commits_most_with most i (Emit line ∷ acts) = commits_most_with most i acts
 abbrev pub commits_most : Identity → List Act → ℕ
 commits_most i acts = commits_most_with write_bound i acts
 
--- whatever became of some steps of the core: the bytes written are at most those of the commits among some first acts, whose lines were sent
+-- whatever became of some steps of the core: the bytes written are at most those of the commits that the file has, and of one that was begun
 abbrev pub StepsWrite : (fingerprint : List ℕ) → CoreValue → List ScriptStep → (a b : State) → Type 0
-StepsWrite fingerprint c steps a b = IsTrue a.told → WritesUpTo (commits_most (identity_of fingerprint c)) (acts_of steps) a b
+StepsWrite fingerprint c steps a b = IsTrue a.told → WritesBegun tables_after (StandsForTables (identity_of fingerprint c)) (durable_of c) (commits_most (identity_of fingerprint c)) (acts_of steps) a b b.holds
 
 -- some first acts of all were done, the image stands for the durable tables after them, and these bytes were sent beyond those before
 pub record IsCutSince (stands : TableRows → Bytes → Type 0) (start : TableRows) (all : List Act) (sent image out : Bytes) : Type 0 where
@@ -77,12 +77,22 @@ pub record SendsPart (acts : List Act) (sent out : Bytes) : Type 0 where
   pub whole : acts ≡ done ++ left
   pub bytes : SentBy done left since
 
--- a script stopped within one of its commands: all before it were done, and it sent a part; a RESTART sent nothing,
--- unless a call of the line failed
-pub record StoppedIn (c : CoreValue) (script : List Command) (a b : State) : Type 0 where
-  pub before : List Command
+-- the acts of the first n commands of a script
+abbrev pub acts_before : CoreValue → (script : List Command) → (n : ℕ) → List Act
+acts_before c script n = acts_of (history c.application c.state (take n script))
+
+-- the acts of a command that comes after these
+abbrev pub acts_then : CoreValue → (script : List Command) → (n : ℕ) → Command → List Act
+acts_then c script n command = acts_of (steps_of c.application (state_after c.state (history c.application c.state (take n script))) command)
+
+-- a script stopped within the command that comes after the first n: these were done, and of its own acts some first ones; a RESTART sent nothing, unless a call of the line failed
+pub record StoppedIn (stands : TableRows → Bytes → Type 0) (c : CoreValue) (script : List Command) (n : ℕ) (a b : State) (image : Bytes) : Type 0 where
   pub command : Command
   pub rest : List Command
-  pub split : script ≡ before ++ command ∷ rest
-  pub part : SendsPart (acts_of (steps_of c.application (state_after c.state (history c.application c.state before)) command)) (a.sent ++ bytes_of (acts_of (history c.application c.state before))) b.sent
-  pub restart : command ≡ Restart → (b.sent ≡ a.sent ++ bytes_of (acts_of (history c.application c.state before))) ⊎ Rose a.line_faults b.line_faults
+  pub split : script ≡ take n script ++ command ∷ rest
+  pub part : IsCutOf tables_after stands (tables_after (durable_of c) (acts_before c script n)) (acts_then c script n command) (a.sent ++ bytes_of (acts_before c script n)) image b.sent
+  pub restart : command ≡ Restart → (b.sent ≡ a.sent ++ bytes_of (acts_before c script n)) ⊎ Rose a.line_faults b.line_faults
+
+-- and so it is with the file
+abbrev pub Stops : (fingerprint : List ℕ) → CoreValue → (script : List Command) → (n : ℕ) → (a b : State) → Type 0
+Stops fingerprint c script n a b = IsTrue a.told → StoppedIn (StandsForTables (identity_of fingerprint c)) c script n a b b.holds

@@ -1,5 +1,5 @@
 -- How steps of a script go on from one another.
-use Rattle.std.proofs.Common.{◌≡◌, ◌≤◌, ◌+◌, arith, ℕ, List, [], ◌∷◌, ◌++◌, refl, sym, ap, subst, ◌∙◌}
+use Rattle.std.proofs.Common.{◌≡◌, ◌≤◌, ◌+◌, ℕ, List, [], ◌∷◌, ◌++◌, sym, ap, subst, ◌∙◌}
 use Rattle.std.specs.Prelude.{IsTrue}
 use Rattle.std.proofs.lemmas.List.{append-nil}
 use Rattle.std.proofs.lemmas.Grind.{flat_map-append}
@@ -12,25 +12,24 @@ use Rattle.kdcs_types.specs.Tables.{TableRows, IsSortedTables}
 use Rattle.laws_of_states.specs.Applications.{IsApplication}
 use Rattle.laws_of_states.specs.Keeping.{HasFacts}
 use Rattle.laws_of_states.specs.Steps.{CommitsOnce, StepsMakeTheirTables}
-use Rattle.laws_of_runs.specs.HistoryLaws.{after_none, after_one, no_history}
+use Rattle.laws_of_runs.specs.HistoryLaws.{after_one}
 use Rattle.laws_of_runs.specs.ListsLaws.{after_both, tables_both}
 use Rattle.application_check.specs.Soundness.{AreLimits}
 use Rattle.abstract_monitor.specs.State.{Application, State as MonitorState}
-use Rattle.abstract_monitor.specs.declared.command.Command.{Command}
 use Rattle.abstract_monitor.specs.Commands.{ScriptStep, acts_of, state_after}
 use Rattle.abstract_monitor.specs.Endings.{durable}
-use Rattle.abstract_monitor.specs.Trace.{history, tables_after, bytes_of}
+use Rattle.abstract_monitor.specs.Trace.{tables_after, bytes_of}
 use Rattle.record_codec.specs.Records.{content_of_tables}
 use Rattle.device_acts.specs.Stands.{AreTables, identity_for}
 use Rattle.monitor_core.specs.CoreValue.{CoreValue}
 use Rattle.device_acts.specs.Storing.{AreStorable}
-use Rattle.device_acts.specs.Acting.{GoesOn, IsKeptBy, Performed, WithinActs, WritesUpTo, acts_most, content_after, AreCommittable}
+use Rattle.device_acts.specs.Acting.{GoesOn, Performed, WithinActs, WritesBegun, WritesWithin, acts_most, content_after, AreCommittable}
 use Rattle.monitor_core.specs.CoreSteps.{durable_of}
 use Rattle.device_run.specs.Running.{identity_of, commits_most_with}
 use Rattle.device_run.specs.Keeping.{DidSteps, IsRunningWith, KeepsRows, RanWith, StandsForRows, StepsWriteWith, WithinStepsWith}
-use Rattle.device_acts.specs.ActingLaws.{Running, running_start, running_within, running_more}
-use Rattle.device_acts.specs.WritingLaws.{writes_all, writes_none, writes_within, put_then}
-use Rattle.device_run.specs.TablesLaws.{tables_go, tables_stay, contents_are, committable, tables_within, nothing_after, most_of, commits_add, commits_written}
+use Rattle.device_acts.specs.ActingLaws.{Running, running_within, running_more}
+use Rattle.device_acts.specs.WritingLaws.{begun_within, put_then}
+use Rattle.device_run.specs.TablesLaws.{tables_go, tables_stay, contents_are, committable, tables_within, most_of, commits_add, commits_written}
 
 pub acts_both : (xs ys : List ScriptStep) → acts_of (xs ++ ys) ≡ acts_of xs ++ acts_of ys
 acts_both xs ys = flat_map-append (λ (d : ScriptStep). d.acts) xs ys
@@ -38,9 +37,12 @@ acts_both xs ys = flat_map-append (λ (d : ScriptStep). d.acts) xs ys
 pub acts_of_one : (d : ScriptStep) → acts_of (d ∷ []) ≡ d.acts
 acts_of_one d = append-nil d.acts
 
--- the fingerprint that a running core's file was made with
-pub fingerprint_is : (fingerprint : List ℕ) (c : CoreValue) (j : Identity) (x : Content) → IsRunningWith fingerprint c j x → j.fingerprint ≡ fingerprint
-fingerprint_is fingerprint c j x h = ap (λ (i : Identity). i.fingerprint) h.keeps.identity_is
+-- images that stand for what the files of a running core keep
+pub rows_stand : (fingerprint : List ℕ) (c : CoreValue) (j : Identity) (x : Content) → IsRunningWith fingerprint c j x → (stands : Identity → Content → List ℕ → Type 0) (image : List ℕ) → stands j x image → StandsForRows stands (identity_of fingerprint c) (durable_of c) image
+rows_stand fingerprint c j x running stands image here = record {
+  tables = running.keeps.tables;
+  content = subst (λ (y : Content). stands (identity_of fingerprint c) y image) running.keeps.content (subst (λ (k : Identity). stands k x image) running.keeps.identity_is here);
+}
 
 -- ---- one step whose acts are performed
 
@@ -65,11 +67,15 @@ module _ (fingerprint : List ℕ) (c : CoreValue) (j : Identity) (x : Content) (
       let at_acts = subst (λ (l : List Act). WithinActs content_after (stands i) (content_of_tables (durable_of c)) l a b la lb) can.same at_content in
       subst (λ (l : List Act). WithinActs tables_after (StandsForRows stands i) (durable_of c) l a b la lb) (sym (acts_of_one step)) (tables_within i stands (durable_of c) step.acts a b la lb can.running.keeps.tables can.storable at_acts)
 
-  pub step_writes : (written : Identity → Content → Patch → ℕ) (most : Identity → Patch → ℕ) → ((i : Identity) (y : Content) (patch : Patch) → written i y patch ≤ most i patch) → (a b : State) → (IsTrue a.told → WritesUpTo (acts_most written j x) acts a b) → StepsWriteWith most fingerprint c (step ∷ []) a b
-  step_writes written most bounded a b h = λ told.
+  pub step_writes : (stands : Identity → Content → List ℕ → Type 0) (written : Identity → Content → Patch → ℕ) (most : Identity → Patch → ℕ) → ((i : Identity) (y : Content) (patch : Patch) → written i y patch ≤ most i patch) → (a b : State) (lb : ℕ → List ℕ → List ℕ → Type 0) → WritesWithin content_after (stands j) x (acts_most written j x) acts a b lb
+      → StepsWriteWith stands most fingerprint c (step ∷ []) a b lb
+  step_writes stands written most bounded a b lb h = λ told image left.
       let i = identity_of fingerprint c in
-      let at_identity = subst (λ (k : Identity). WritesUpTo (commits_most_with most k) acts a b) can.running.keeps.identity_is (commits_written most j written bounded x acts a b (h told)) in
-      subst (λ (l : List Act). WritesUpTo (commits_most_with most i) l a b) (can.same ∙ sym (acts_of_one step)) at_identity
+      let rows = content_of_tables (durable_of c) in
+      let at_identity = subst (λ (k : Identity). WritesBegun content_after (stands k) x (acts_most written k x) acts a b image) can.running.keeps.identity_is (h told image left) in
+      let at_content = subst (λ (y : Content). WritesBegun content_after (stands i) y (acts_most written i y) acts a b image) can.running.keeps.content at_identity in
+      let at_acts = subst (λ (l : List Act). WritesBegun content_after (stands i) rows (acts_most written i rows) l a b image) can.same at_content in
+      subst (λ (l : List Act). WritesBegun tables_after (StandsForRows stands i) (durable_of c) (commits_most_with most i) l a b image) (sym (acts_of_one step)) (commits_written most i written bounded stands (durable_of c) step.acts a b image can.running.keeps.tables can.storable at_acts)
 
   pub did_step : (fine : State → State → Type 0) → StepsMakeTheirTables → CommitsOnce c.application c.state step → (d : CoreValue) (k : Identity) (y : Content) (file : List ℕ → Type 0) (a b : State) (lb : ℕ → List ℕ → List ℕ → Type 0) → d.application ≡ c.application → HasFacts d.application d.state → d.state ≡ step.after
       → k ≡ j → y ≡ content_after x acts → Performed fine file acts a b lb → DidSteps fine fingerprint c (step ∷ []) d k y file a b lb
@@ -96,10 +102,6 @@ module _ (fingerprint : List ℕ) (c : CoreValue) (j : Identity) (x : Content) (
         acts = subst (λ (l : List Act). Performed fine file l a b lb) (can.same ∙ sym (acts_of_one step)) sent;
       }
 
--- nothing was written or sent
-pub none_written : (most : Identity → Patch → ℕ) (fingerprint : List ℕ) (c : CoreValue) (steps : List ScriptStep) (a : State) → StepsWriteWith most fingerprint c steps a a
-none_written most fingerprint c steps a = λ told. writes_none (commits_most_with most (identity_of fingerprint c)) (acts_of steps) a a refl (omega arith)
-
 -- ---- steps so far, of all
 
 -- some first steps of all are done: a is the keeper at the start, and b the keeper now
@@ -108,26 +110,7 @@ pub record Stepping (stands : Identity → Content → List ℕ → Type 0) (mos
   pub did : DidSteps fine fingerprint c done d j x file a b lb
   pub put : IsTrue a.told → b.put ≤ a.put + commits_most_with most (identity_of fingerprint c) (acts_of done)
 
-module _ (stands : Identity → Content → List ℕ → Type 0) (most : Identity → Patch → ℕ) (fine : State → State → Type 0) (on : GoesOn fine) (fingerprint : List ℕ) (c : CoreValue) where
-  pub stepping_start : (j : Identity) (x : Content) (file : List ℕ → Type 0) (all : List ScriptStep) (a : State) (la : ℕ → List ℕ → List ℕ → Type 0) → IsRunningWith fingerprint c j x → (IsTrue a.told → IsKeptBy file a la) → Stepping stands most fine fingerprint c c j x file all [] a a la la
-  stepping_start j x file all a la running kept =
-      let start = running_start fine on tables_after tables_go (StandsForRows stands (identity_of fingerprint c)) file (durable_of c) (acts_of all) a la kept in
-      record {
-        within = start.within;
-        did = record { application = refl; running = running; state = λ told. sym (after_none c.state); tables = λ told. sym (tables_go.none (durable_of c)); acts = start.sent };
-        put = λ told. omega arith;
-      }
-
-  -- nothing of a script is done yet
-  pub history_start : (j : Identity) (x : Content) (file : List ℕ → Type 0) (cs : List Command) (a : State) (la : ℕ → List ℕ → List ℕ → Type 0) → IsRunningWith fingerprint c j x → (IsTrue a.told → IsKeptBy file a la) → Stepping stands most fine fingerprint c c j x file (history c.application c.state cs) (history c.application c.state []) a a la la
-  history_start j x file cs a la running kept = subst (λ (l : List ScriptStep). Stepping stands most fine fingerprint c c j x file (history c.application c.state cs) l a a la la) (sym (no_history c.application c.state)) (stepping_start j x file (history c.application c.state cs) a la running kept)
-
-  -- these are all steps
-  pub stepping_over : (d : CoreValue) (j : Identity) (x : Content) (file : List ℕ → Type 0) (all done : List ScriptStep) (a b : State) (la lb : ℕ → List ℕ → List ℕ → Type 0) → Stepping stands most fine fingerprint c d j x file all done a b la lb → all ≡ done → StepsWriteWith most fingerprint c all a b
-  stepping_over d j x file all done a b la lb run over =
-      subst (λ (l : List ScriptStep). StepsWriteWith most fingerprint c l a b) (sym over) (λ told. writes_all (commits_most_with most (identity_of fingerprint c)) (acts_of done) a b (run.did.acts.sent told) (run.put told))
-
-module _ (stands : Identity → Content → List ℕ → Type 0) (most : Identity → Patch → ℕ) (fine : State → State → Type 0) (on : GoesOn fine) (fingerprint : List ℕ) (c d : CoreValue) (j : Identity) (x : Content) (file : List ℕ → Type 0) (all done here rest : List ScriptStep) (a b e : State) (la lb le : ℕ → List ℕ → List ℕ → Type 0) (run : Stepping stands most fine fingerprint c d j x file all done a b la lb) (split : IsTrue a.told → all ≡ done ++ (here ++ rest)) (step : WithinStepsWith stands fingerprint d here b e lb le) (writes : StepsWriteWith most fingerprint d here b e) where
+module _ (stands : Identity → Content → List ℕ → Type 0) (most : Identity → Patch → ℕ) (fine : State → State → Type 0) (on : GoesOn fine) (fingerprint : List ℕ) (c d : CoreValue) (j : Identity) (x : Content) (file : List ℕ → Type 0) (all done here rest : List ScriptStep) (a b e : State) (la lb le : ℕ → List ℕ → List ℕ → Type 0) (run : Stepping stands most fine fingerprint c d j x file all done a b la lb) (split : IsTrue a.told → all ≡ done ++ (here ++ rest)) (step : WithinStepsWith stands fingerprint d here b e lb le) where
   told_then : IsTrue a.told → IsTrue b.told
   told_then told = rw run.within.frame.told told
 
@@ -147,19 +130,14 @@ module _ (stands : Identity → Content → List ℕ → Type 0) (most : Identit
   stepping_within =
       running_within fine on tables_after tables_go (StandsForRows stands (identity_of fingerprint c)) file (durable_of c) (durable_of d) (acts_of all) (acts_of done) (acts_of here) (acts_of rest) a b e la lb le run.did.tables split_acts so_far step_here
 
-  writes_here : IsTrue a.told → WritesUpTo (commits_most_with most (identity_of fingerprint c)) (acts_of here) b e
-  writes_here told = subst (λ (i : Identity). WritesUpTo (commits_most_with most i) (acts_of here) b e) same_identity (writes (told_then told))
+  pub stepping_writes : StepsWriteWith stands most fingerprint d here b e le → StepsWriteWith stands most fingerprint c all a e le
+  stepping_writes writes = λ told image left.
+      let i = identity_of fingerprint c in
+      let next = subst (λ (k : Identity). WritesBegun tables_after (StandsForRows stands k) (durable_of d) (commits_most_with most k) (acts_of here) b e image) same_identity (writes (told_then told) image left) in
+      begun_within tables_after tables_go (StandsForRows stands i) (most_of most i) (commits_add most i) (durable_of c) (durable_of d) (acts_of done) (acts_of here) a b e (run.did.tables told) (run.put told) (acts_of all) (acts_of rest) image (run.did.acts.sent told) next (split_acts told)
 
-  pub stepping_writes : StepsWriteWith most fingerprint c all a e
-  stepping_writes = λ told.
-      writes_within nothing_after (most_of most (identity_of fingerprint c)) (commits_add most (identity_of fingerprint c)) tt tt (acts_of all) (acts_of done) (acts_of here) (acts_of rest) a b e refl (run.did.acts.sent told) (run.put told) (writes_here told) (split_acts told)
-
-  put_here : IsTrue a.told → e.put ≤ a.put + commits_most_with most (identity_of fingerprint c) (acts_of done ++ acts_of here)
-  put_here told =
-      put_then nothing_after (most_of most (identity_of fingerprint c)) (commits_add most (identity_of fingerprint c)) tt tt (acts_of all) (acts_of done) (acts_of here) (acts_of rest) a b e refl (run.did.acts.sent told) (run.put told) (writes_here told)
-
-  pub stepping_more : (next : CoreValue) (k : Identity) (y : Content) (file' : List ℕ → Type 0) (done' : List ScriptStep) → (IsTrue a.told → done' ≡ done ++ here) → DidSteps fine fingerprint d here next k y file' b e le → Stepping stands most fine fingerprint c next k y file' all done' a e la le
-  stepping_more next k y file' done' more did =
+  pub stepping_more : (next : CoreValue) (k : Identity) (y : Content) (file' : List ℕ → Type 0) (done' : List ScriptStep) → (IsTrue a.told → done' ≡ done ++ here) → (IsTrue b.told → e.put ≤ b.put + commits_most_with most (identity_of fingerprint d) (acts_of here)) → DidSteps fine fingerprint d here next k y file' b e le → Stepping stands most fine fingerprint c next k y file' all done' a e la le
+  stepping_more next k y file' done' more put did =
       let i = identity_of fingerprint c in
       let acts_more : Running fine tables_after (StandsForRows stands i) file' (durable_of c) (acts_of all) (acts_of done ++ acts_of here) a e la le =
       running_more fine on tables_after tables_go (StandsForRows stands i) file (durable_of c) (durable_of d) (acts_of all) (acts_of done) (acts_of here) (acts_of rest) a b e la lb le run.did.tables split_acts so_far step_here file' did.acts in
@@ -177,7 +155,10 @@ module _ (stands : Identity → Content → List ℕ → Type 0) (most : Identit
             calls = acts_more.sent.calls;
           };
         };
-        put = λ told. subst (λ (l : List Act). e.put ≤ a.put + commits_most_with most (identity_of fingerprint c) l) (sym (done_acts told)) (put_here told);
+        put = λ told.
+            let here_most = subst (λ (j : Identity). e.put ≤ b.put + commits_most_with most j (acts_of here)) same_identity (put (told_then told)) in
+            subst (λ (l : List Act). e.put ≤ a.put + commits_most_with most i l) (sym (done_acts told))
+            (put_then tables_after tables_go (StandsForRows stands i) (most_of most i) (commits_add most i) (durable_of c) (durable_of d) (acts_of done) (acts_of here) a b e (run.did.tables told) (run.put told) here_most);
       }
 
 -- all steps were done

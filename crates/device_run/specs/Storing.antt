@@ -7,7 +7,7 @@ use Rattle.kd_records.specs.declared.content.Patch.{Patch}
 use Rattle.abstract_monitor.specs.Commands.{ScriptStep, acts_of}
 use Rattle.laws_of_states.specs.Cut.{commits_in}
 use Rattle.monitor_core.specs.CoreValue.{CoreValue}
-use Rattle.device_acts.specs.Acting.{IsKeptBy}
+use Rattle.device_acts.specs.Acting.{IsKeptBy, LineOrDisk}
 use Rattle.device_acts.specs.declared.warm_start.error.OpenError.{OpenError}
 use Rattle.device_acts.specs.declared.warm_start.error.OpenError.TheVariants.{Failed, NotKdcfile, OtherGeneration}
 use Rattle.device_run.specs.Keeping.{DidSteps, IsRunningWith, StepsWriteWith, WithinStepsWith}
@@ -30,9 +30,10 @@ pub record TookSteps (stands : Identity → Content → List ℕ → Type 0) (mo
 -- no more than the steps are done, for this error
 pub record FailedSteps (stands : Identity → Content → List ℕ → Type 0) (most : Identity → Patch → ℕ) (fine : State → State → Type 0) (fingerprint place place' : List ℕ) (c : CoreValue) (steps : List ScriptStep) (e : OpenError) (a b : State) (la lb : ℕ → List ℕ → List ℕ → Type 0) : Type 0 where
   pub within : WithinStepsWith stands fingerprint c steps a b la lb
-  pub put : StepsWriteWith most fingerprint c steps a b
+  pub put : StepsWriteWith stands most fingerprint c steps a b lb
   pub went : (e ≡ Failed → ⊥) → fine a b
   pub failed : e ≡ Failed → Rose a.disk_faults b.disk_faults ⊎ Rose a.line_faults b.line_faults
+  pub halted : e ≡ Failed → LineOrDisk (acts_of steps) a b
   pub refused : e ≡ NotKdcfile → IsTrue a.told → ⊥
   pub other : (stored : List ℕ) → e ≡ OtherGeneration stored → IsTrue a.told → ⊥
   pub same_place : place' ≡ place

@@ -8,6 +8,9 @@ use Rattle.kd_records.specs.Identity.{Identity}
 use Rattle.kd_records.specs.declared.content.Content.{Content}
 use Rattle.kd_records.specs.declared.content.Patch.{Patch}
 use Rattle.abstract_monitor.specs.Commands.{ScriptStep, acts_of}
+use Rattle.kdcs_types.specs.Tables.{TableRows}
+use Rattle.kdcs_types.specs.declared.act.Act.{Act}
+use Rattle.abstract_monitor.specs.State.{Application}
 use Rattle.abstract_monitor.specs.Trace.{tables_after}
 use Rattle.laws_of_states.specs.Cut.{commits_in}
 use Rattle.laws_of_states.specs.StepsLaws.{commits_of_both}
@@ -15,21 +18,27 @@ use Rattle.laws_of_runs.specs.HistoryLaws.{after_none}
 use Rattle.monitor_core.specs.CoreSteps.{durable_of}
 use Rattle.monitor_core.specs.CoreValue.{CoreValue}
 use Rattle.device_acts.specs.Acting.{GoesOn}
-use Rattle.device_acts.specs.ActingLaws.{running_start, running_within}
-use Rattle.device_acts.specs.WritingLaws.{writes_all}
+use Rattle.device_acts.specs.ActingLaws.{halts_within, running_start, running_within}
+use Rattle.device_acts.specs.Stands.{identity_for}
+use Rattle.device_acts.specs.WritingLaws.{all_begun}
 use Rattle.device_acts.specs.declared.warm_start.error.OpenError.{OpenError}
 use Rattle.script_run.specs.Sinks.{GoesOn as StepsGoOn}
 use Rattle.device_run.specs.Running.{identity_of, commits_most_with}
 use Rattle.device_run.specs.Keeping.{DidSteps, IsRunningWith, StandsForRows, StepsWriteWith, WithinStepsWith}
 use Rattle.device_run.specs.Storing.{FailedSteps, IsReadyWith, TookSteps}
 use Rattle.device_run.specs.TablesLaws.{tables_go}
-use Rattle.device_run.specs.SteppingLaws.{Stepping, acts_both, stepping_more, stepping_within, stepping_writes}
+use Rattle.device_run.specs.SteppingLaws.{Stepping, acts_both, rows_stand, stepping_more, stepping_within, stepping_writes}
 
 module _ (stands : Identity → Content → List ℕ → Type 0) (most : Identity → Patch → ℕ) (fine : State → State → Type 0) (on : GoesOn fine) where
-  -- what some steps write
-  pub steps_write : (fingerprint : List ℕ) (c d : CoreValue) (steps : List ScriptStep) (j : Identity) (x : Content) (file : List ℕ → Type 0) (a b : State) (lb : ℕ → List ℕ → List ℕ → Type 0) → DidSteps fine fingerprint c steps d j x file a b lb
-      → (IsTrue a.told → b.put ≤ a.put + commits_most_with most (identity_of fingerprint c) (acts_of steps)) → StepsWriteWith most fingerprint c steps a b
-  steps_write fingerprint c d steps j x file a b lb did put = λ told. writes_all (commits_most_with most (identity_of fingerprint c)) (acts_of steps) a b (did.acts.sent told) (put told)
+  -- what some steps write that are done
+  pub steps_write : (fingerprint : List ℕ) (c d : CoreValue) (steps : List ScriptStep) (j : Identity) (x : Content) (file : List ℕ → Type 0) (a b : State) (lb : ℕ → List ℕ → List ℕ → Type 0) → ((image : List ℕ) → file image → stands j x image) → DidSteps fine fingerprint c steps d j x file a b lb
+      → (IsTrue a.told → b.put ≤ a.put + commits_most_with most (identity_of fingerprint c) (acts_of steps)) → StepsWriteWith stands most fingerprint c steps a b lb
+  steps_write fingerprint c d steps j x file a b lb means did put = λ told image left.
+      let i = identity_of fingerprint c in
+      all_begun tables_after tables_go (StandsForRows stands i) (durable_of c) (commits_most_with most i) (acts_of steps) a b image (did.acts.sent told) (put told)
+      (subst (λ (t : TableRows). StandsForRows stands i t image) (did.tables told)
+      (subst (λ (z : Application). StandsForRows stands (identity_for z.generation fingerprint) (durable_of d) image) did.application
+      (rows_stand fingerprint d j x did.running stands image (means image (did.acts.rest told image left)))))
 
   -- no step was taken
   pub took_nothing : (fingerprint place : List ℕ) (c : CoreValue) (j : Identity) (x : Content) (file : List ℕ → Type 0) (a : State) (la : ℕ → List ℕ → List ℕ → Type 0) (m : ℕ) → IsReadyWith fingerprint c j x file a la → TookSteps stands most fine fingerprint fingerprint place place c [] c j x file a a la la m m
@@ -71,29 +80,27 @@ module _ (stands : Identity → Content → List ℕ → Type 0) (most : Identit
       told_then told = subst IsTrue (sym first.within.frame.told) told
 
       -- some more steps, whatever became of them
-      module _ (within : WithinStepsWith stands (fingerprint t) d ys (state t) (state u) (leaves t) (leaves u)) (writes : StepsWriteWith most (fingerprint t) d ys (state t) (state u)) where
+      module _ (within : WithinStepsWith stands (fingerprint t) d ys (state t) (state u) (leaves t) (leaves u)) where
         within_here : WithinStepsWith stands (fingerprint s) d ys (state t) (state u) (leaves t) (leaves u)
         within_here = subst (λ f. WithinStepsWith stands f d ys (state t) (state u) (leaves t) (leaves u)) first.same_fingerprint within
 
-        writes_here : StepsWriteWith most (fingerprint s) d ys (state t) (state u)
-        writes_here = subst (λ f. StepsWriteWith most f d ys (state t) (state u)) first.same_fingerprint writes
-
         run_within : WithinStepsWith stands (fingerprint s) c all (state s) (state u) (leaves s) (leaves u)
-        run_within = stepping_within stands most fine on (fingerprint s) c d (identity t) (kept t) (file t) all xs ys rest (state s) (state t) (state u) (leaves s) (leaves t) (leaves u) run is within_here writes_here
+        run_within = stepping_within stands most fine on (fingerprint s) c d (identity t) (kept t) (file t) all xs ys rest (state s) (state t) (state u) (leaves s) (leaves t) (leaves u) run is within_here
 
-        run_writes : StepsWriteWith most (fingerprint s) c all (state s) (state u)
-        run_writes = stepping_writes stands most fine on (fingerprint s) c d (identity t) (kept t) (file t) all xs ys rest (state s) (state t) (state u) (leaves s) (leaves t) (leaves u) run is within_here writes_here
+        run_writes : StepsWriteWith stands most (fingerprint t) d ys (state t) (state u) (leaves u) → StepsWriteWith stands most (fingerprint s) c all (state s) (state u) (leaves u)
+        run_writes writes =
+            stepping_writes stands most fine on (fingerprint s) c d (identity t) (kept t) (file t) all xs ys rest (state s) (state t) (state u) (leaves s) (leaves t) (leaves u) run is within_here
+            (subst (λ f. StepsWriteWith stands most f d ys (state t) (state u) (leaves u)) first.same_fingerprint writes)
 
-        run_more : (e : CoreValue) → (IsTrue (state s).told → all ≡ xs ++ ys) → DidSteps fine (fingerprint t) d ys e (identity u) (kept u) (file u) (state t) (state u) (leaves u) → Stepping stands most fine (fingerprint s) c e (identity u) (kept u) (file u) all all (state s) (state u) (leaves s) (leaves u)
-        run_more e both did =
-            stepping_more stands most fine on (fingerprint s) c d (identity t) (kept t) (file t) all xs ys rest (state s) (state t) (state u) (leaves s) (leaves t) (leaves u) run is within_here writes_here
-            e (identity u) (kept u) (file u) all both (subst (λ f. DidSteps fine f d ys e (identity u) (kept u) (file u) (state t) (state u) (leaves u)) first.same_fingerprint did)
+        run_more : (e : CoreValue) → (IsTrue (state s).told → all ≡ xs ++ ys) → (IsTrue (state t).told → (state u).put ≤ (state t).put + commits_most_with most (identity_of (fingerprint t) d) (acts_of ys)) → DidSteps fine (fingerprint t) d ys e (identity u) (kept u) (file u) (state t) (state u) (leaves u) → Stepping stands most fine (fingerprint s) c e (identity u) (kept u) (file u) all all (state s) (state u) (leaves s) (leaves u)
+        run_more e both put did =
+            stepping_more stands most fine on (fingerprint s) c d (identity t) (kept t) (file t) all xs ys rest (state s) (state t) (state u) (leaves s) (leaves t) (leaves u) run is within_here
+            e (identity u) (kept u) (file u) all both (subst (λ f. IsTrue (state t).told → (state u).put ≤ (state t).put + commits_most_with most (identity_of f d) (acts_of ys)) first.same_fingerprint put) (subst (λ f. DidSteps fine f d ys e (identity u) (kept u) (file u) (state t) (state u) (leaves u)) first.same_fingerprint did)
 
     took_more : (s t u : S) (c d e : CoreValue) (xs ys all : List ScriptStep) → Took s c xs t d → Took t d ys u e → (IsTrue (state s).told → all ≡ xs ++ ys) → Took s c all u e
     took_more s t u c d e xs ys all first next is =
         let split : IsTrue (state s).told → all ≡ xs ++ (ys ++ []) = λ told. is told ∙ ap (λ (l : List ScriptStep). xs ++ l) (sym (append-nil ys)) in
-        let writes = steps_write (fingerprint t) d e ys (identity u) (kept u) (file u) (state t) (state u) (leaves u) next.did next.put in
-        let more = run_more s t u c d xs ys [] all first split next.within writes e is next.did in
+        let more = run_more s t u c d xs ys [] all first split next.within e is next.put next.did in
         record {
           within = more.within;
           did = more.did;
@@ -110,10 +117,11 @@ module _ (stands : Identity → Content → List ℕ → Type 0) (most : Identit
 
     took_fails : (s t u : S) (c d : CoreValue) (xs ys rest all : List ScriptStep) (e : OpenError) → Took s c xs t d → Failing t d ys e u → (IsTrue (state s).told → all ≡ xs ++ (ys ++ rest)) → Failing s c all e u
     took_fails s t u c d xs ys rest all e first here is = record {
-      within = run_within s t u c d xs ys rest all first is here.within here.put;
+      within = run_within s t u c d xs ys rest all first is here.within;
       put = run_writes s t u c d xs ys rest all first is here.within here.put;
       went = λ none. on.after (state s) (state t) (state u) first.did.acts.calls (here.went none);
       failed = λ failed. rose_either (state s) (state t) (state u) first.within.frame (here.failed failed);
+      halted = λ failed. halts_within (acts_of all) (acts_of xs) (acts_of ys) (acts_of rest) (state s) (state t) (state u) first.within.frame first.did.acts.sent (λ told. ap acts_of (is told) ∙ acts_both xs (ys ++ rest) ∙ ap (λ (l : List Act). acts_of xs ++ l) (acts_both ys rest)) (here.halted failed);
       refused = λ refused told. here.refused refused (told_then s t u c d xs ys rest all first is told);
       other = λ stored other told. here.other stored other (told_then s t u c d xs ys rest all first is told);
       same_place = here.same_place ∙ first.same_place;

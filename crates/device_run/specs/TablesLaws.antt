@@ -1,8 +1,7 @@
 -- What acts make of tables, where a keeper has the records of them.
-use Rattle.std.proofs.Common.{◌≡◌, ℕ, ◌≤◌, ◌+◌, arith, List, [], ◌∷◌, ◌++◌, refl, sym, ap, subst, ◌∙◌}
+use Rattle.std.proofs.Common.{◌≡◌, inl, inr, ⊎_elim, ℕ, ◌≤◌, ◌+◌, arith, List, [], ◌∷◌, ◌++◌, refl, sym, ap, subst, ◌∙◌, append_assoc}
 use Rattle.kd_device.specs.Device.{State}
 use Rattle.kd_device.specs.TimeLaws.{leaves_weaker}
-use Rattle.std.specs.Prelude.{⊤}
 use Rattle.kd_records.specs.Charge.{total_charge}
 use Rattle.kd_records.specs.Contents.{patched}
 use Rattle.kd_records.specs.Identity.{Identity}
@@ -16,7 +15,7 @@ use Rattle.laws_of_runs.specs.ListsLaws.{tables_both}
 use Rattle.record_codec.specs.Records.{content_of_tables, patch_of}
 use Rattle.device_acts.specs.Stands.{AreTables}
 use Rattle.device_acts.specs.Storing.{AreStorable}
-use Rattle.device_acts.specs.Acting.{IsCutOf, WithinActs, WritesUpTo, acts_most, content_after, AreCommittable}
+use Rattle.device_acts.specs.Acting.{IsCutOf, WithinActs, WritesBegun, acts_most, content_after, AreCommittable}
 use Rattle.device_acts.specs.ActingLaws.{Goes}
 use Rattle.device_acts.specs.WritingLaws.{Adds}
 use Rattle.device_run.specs.Running.{commits_most_with}
@@ -56,18 +55,22 @@ module _ (i : Identity) where
   committable t (Emit line ∷ acts) s = committable t acts s
 
   module _ (stands : Identity → Content → List ℕ → Type 0) where
+    -- what some first acts make of a content, where it is that of tables
+    pub rows_of_part : (t : TableRows) (p q all : List Act) (image : List ℕ) → AreTables t → AreStorable i.blksize i.pages t all → all ≡ p ++ q → stands i (content_after (content_of_tables t) p) image → StandsForRows stands i (tables_after t p) image
+    rows_of_part t p q all image h s whole file =
+        let first = storable_first t p q (subst (λ (l : List Act). AreStorable i.blksize i.pages t l) whole s) in
+        record { tables = tables_stay t p h first; content = subst (λ (x : Content). stands i x image) (contents_are t p first) file }
+
     cut_of_tables : (t : TableRows) (all : List Act) (sent image out : List ℕ) → AreTables t → AreStorable i.blksize i.pages t all → IsCutOf content_after (stands i) (content_of_tables t) all sent image out → IsCutOf tables_after (StandsForRows stands i) t all sent image out
-    cut_of_tables t all sent image out h s cut =
-        let first = storable_first t cut.done cut.left (subst (λ (l : List Act). AreStorable i.blksize i.pages t l) cut.whole s) in
-        record {
-          since = cut.since;
-          more = cut.more;
-          done = cut.done;
-          left = cut.left;
-          whole = cut.whole;
-          file = record { tables = tables_stay t cut.done h first; content = subst (λ (x : Content). stands i x image) (contents_are t cut.done first) cut.file };
-          bytes = cut.bytes;
-        }
+    cut_of_tables t all sent image out h s cut = record {
+      since = cut.since;
+      more = cut.more;
+      done = cut.done;
+      left = cut.left;
+      whole = cut.whole;
+      file = rows_of_part t cut.done cut.left all image h s cut.whole cut.file;
+      bytes = cut.bytes;
+    }
 
     -- what acts make of a content is what they make of its tables
     pub tables_within : (t : TableRows) (acts : List Act) (a b : State) (la lb : ℕ → List ℕ → List ℕ → Type 0) → AreTables t → AreStorable i.blksize i.pages t acts → WithinActs content_after (stands i) (content_of_tables t) acts a b la lb → WithinActs tables_after (StandsForRows stands i) t acts a b la lb
@@ -80,21 +83,18 @@ module _ (i : Identity) where
 
 -- ---- what acts write
 
--- what a commit writes at most does not hang on what acts make
-abbrev pub nothing_after : ⊤ → List Act → ⊤
-nothing_after x acts = x
-
 module _ (most : Identity → Patch → ℕ) (i : Identity) where
   most_both : (p q : List Act) → commits_most_with most i (p ++ q) ≡ commits_most_with most i p + commits_most_with most i q
   most_both [] q = omega arith
   most_both (Commit c ∷ p) q = let rest = most_both p q in omega (arith, rest)
   most_both (Emit line ∷ p) q = most_both p q
 
-  abbrev pub most_of : ⊤ → List Act → ℕ
-  most_of x acts = commits_most_with most i acts
+  -- what a commit writes at most does not hang on the tables
+  abbrev pub most_of : TableRows → List Act → ℕ
+  most_of t acts = commits_most_with most i acts
 
-  pub commits_add : Adds nothing_after most_of
-  commits_add = record { joined = λ x p q. most_both p q }
+  pub commits_add : Adds tables_after most_of
+  commits_add = record { joined = λ t p q. most_both p q }
 
   -- what acts write over contents is at most what their commits write
   module _ (written : Identity → Content → Patch → ℕ) (bounded : (j : Identity) (x : Content) (patch : Patch) → written j x patch ≤ most j patch) where
@@ -106,7 +106,15 @@ module _ (most : Identity → Patch → ℕ) (i : Identity) where
         omega (arith, here, rest)
     acts_bounded x (Emit line ∷ acts) = acts_bounded x acts
 
-    pub commits_written : (x : Content) (acts : List Act) (a b : State) → WritesUpTo (acts_most written i x) acts a b → WritesUpTo (commits_most_with most i) acts a b
-    commits_written x acts a b h =
-        let bound = acts_bounded x h.done in
-        record { since = h.since; more = h.more; done = h.done; left = h.left; whole = h.whole; bytes = h.bytes; put = omega (arith, h.put, bound) }
+    pub commits_written : (stands : Identity → Content → List ℕ → Type 0) (t : TableRows) (acts : List Act) (a b : State) (image : List ℕ) → AreTables t → AreStorable i.blksize i.pages t acts → WritesBegun content_after (stands i) (content_of_tables t) (acts_most written i (content_of_tables t)) acts a b image
+        → WritesBegun tables_after (StandsForRows stands i) t (commits_most_with most i) acts a b image
+    commits_written stands t acts a b image h s begun =
+        let w = begun.writes in
+        let bound = acts_bounded (content_of_tables t) w.done in
+        record {
+          writes = record { since = w.since; more = w.more; done = w.done; left = w.left; whole = w.whole; bytes = w.bytes; put = omega (arith, w.put, bound) };
+          file = ⊎_elim
+              (λ file. inl (rows_of_part i stands t w.done w.left acts image h s w.whole file))
+              (λ last. inr (last.0, last.1, last.2, rows_of_part i stands t last.0 (Commit last.1 ∷ w.left) acts image h s (w.whole ∙ ap (λ (l : List Act). l ++ w.left) last.2 ∙ append_assoc last.0 (Commit last.1 ∷ []) w.left) last.3))
+              begun.file;
+        }

@@ -18,8 +18,8 @@ use Rattle.kdcfile_copies.specs.Keeping.{CopyKeeps}
 use Rattle.kdcfile_copies.specs.Beside.{file_of, LeavesBeside, OtherStays, SameDisk}
 use Rattle.kdcfile_copies.specs.BesideLaws.{pairs_then, pairs_weaker}
 use Rattle.kdcfile_double.specs.Twice.{Twice, AreAlike, KeepsIf, IsCommitting, IsInUse, IsOpen, IsKeptTwice, IsTwice, FrameBoth, LeavesBoth, LeavesCommitted, LosesBy, LostIsUnused, RoseAt}
-use Rattle.kdcfile_double.specs.Twice.{SameFaultsAt, SideWithin, content_of, copy_at, identity_of, sequence_of, with_copies}
-use Rattle.kdcfile_double.specs.Committing.{CanTakeIf, AreLostSo, AreWithin, IsKeptAt, IsLostSo, IsNextIf, IsWithin, WithinOne, lost_with}
+use Rattle.kdcfile_double.specs.Twice.{FineTwice, SameFaultsAt, SideWithin, SparesLine, SparesOne, content_of, copy_at, identity_of, sequence_of, with_copies}
+use Rattle.kdcfile_double.specs.Committing.{CanTakeIf, AreLostSo, AreWithin, IsKeptAt, IsLineFine, IsLostSo, IsNextIf, IsWithin, WithinOne, lost_with}
 use Rattle.kdcfile_double.specs.ChosenLaws.{IsSomeOf}
 use Rattle.kdcfile_double.specs.CommitLaws.{alike_after, content_after, first_kept_at, identity_after, kept_after, sequence_after, second_kept_at, kept_within, still_within, step_within}
 use Rattle.kdcfile_double.specs.CommitLaws.{within_is_committing, within_one}
@@ -360,6 +360,40 @@ first_newly l k a b same half is = inl (sym same ∙ is)
 
 pub first_stays : (l k : Option Half) → k ≡ l → (half : Half) → l ≡ Some half → k ≡ Some half
 first_stays l k same half is = same ∙ is
+
+-- ---- calls that did not fail as a whole
+
+-- no call was made
+pub fine_still : (s : Twice) (a : Both) → IsOpen s → FineTwice s a a
+fine_still s a (inl used) = record { spared = (First, used, refl); line = inl refl }
+fine_still s a (inr used) = record { spared = (Second, used, refl); line = inl refl }
+
+-- of the line, in two calls
+pub two_line : (p q : Option LoadedCopy) (a b e : Both) → SameDisk Second a b → SameDisk First b e → IsLineFine First p a b → IsLineFine Second q b e → SparesLine (with_copies p q) a e
+two_line p q a b e before later (inr rose) also = inr (First, (rose.0, rose.1), rose_later First a b e later rose.2)
+two_line p q a b e before later (inl same) (inr rose) = inr (Second, (rose.0, rose.1), rose_before Second a b e before rose.2)
+two_line p q a b e before later (inl same) (inl too) = inl (too ∙ same)
+
+pub first_line : (p q : Option LoadedCopy) (a b : Both) → IsLineFine First p a b → SparesLine (with_copies p q) a b
+first_line p q a b (inr rose) = inr (First, (rose.0, rose.1), rose.2)
+first_line p q a b (inl same) = inl same
+
+used_with : (s : Twice) (half : Half) → IsInUse half (with_copies s.first s.second) → IsInUse half s
+used_with s First used = used
+used_with s Second used = used
+
+-- of the two copies of a store alone
+pub line_with : (u s : Twice) → u ≡ s → (a b : Both) → SparesLine (with_copies u.first u.second) a b → SparesLine s a b
+line_with u s is a b (inl same) = inl same
+line_with u s is a b (inr rose) = inr (rose.0, subst (λ (z : Twice). IsInUse rose.0 z) is (used_with u rose.0 rose.1), rose.2)
+
+pub spared_with : (u s : Twice) → u ≡ s → (a b : Both) → SparesOne (with_copies u.first u.second) a b → SparesOne s a b
+spared_with u s is a b one = (one.0, subst (λ (z : Twice). IsInUse one.0 z) is (used_with u one.0 one.1), one.2)
+
+-- where a half is in use after them
+pub spared_open : (s s' : Twice) (a b : Both) → IsOpen s' → ((half : Half) → IsInUse half s' → IsInUse half s) → ((half : Half) → IsInUse half s' → SameFaultsAt half a b) → SparesOne s a b
+spared_open s s' a b (inl used) before fine = (First, before First used, fine First used)
+spared_open s s' a b (inr used) before fine = (Second, before Second used, fine Second used)
 
 -- ---- the ends of a commit
 

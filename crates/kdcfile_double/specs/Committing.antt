@@ -1,5 +1,5 @@
 -- A commit or a reading on one half, where it is in use.
-use Rattle.std.specs.Prelude.{◌≡◌, ◌≤◌, ◌<◌, ◌+◌, ◌^◌, ℕ, List, Option, Some, None}
+use Rattle.std.specs.Prelude.{◌≡◌, ◌⊎◌, ◌≤◌, ◌<◌, ◌+◌, ◌^◌, ℕ, List, Option, Some, None}
 use Rattle.kd_records.specs.Charge.{total_charge}
 use Rattle.kd_records.specs.Contents.{patched}
 use Rattle.kd_records.specs.declared.content.Content.{Content}
@@ -67,6 +67,10 @@ abbrev pub IsLostSo : Half → (before after : Option LoadedCopy) → (lost lost
 IsLostSo half (Some p) (Some q) lost lost' old new = (lost' ≡ lost) × SameFaultsAt half old new
 IsLostSo half (Some p) None lost lost' old new = (lost' ≡ lost_with lost half) × RoseAt half old new
 IsLostSo half None q lost lost' old new = (lost' ≡ lost) × SameFaultsAt half old new
+
+-- no further call of the line failed, unless one on this half did, which was in use
+abbrev pub IsLineFine : Half → Option LoadedCopy → (old new : Both) → Type 0
+IsLineFine half copy old new = (new.line_faults ≡ old.line_faults) ⊎ ((p : LoadedCopy) × (copy ≡ Some p) × RoseAt half old new)
 
 -- what became of both halves, the first one first
 pub record AreLostSo (p q p' q' : Option LoadedCopy) (lost lost' : Option Half) (old new : Both) : Type 0 where

@@ -158,6 +158,19 @@ SideWithin half i n x y None image = StaysBehind half i n x image
 abbrev pub SameFaultsAt : Half → Both → Both → Type 0
 SameFaultsAt half old new = (disk_of half new).disk_faults ≡ (disk_of half old).disk_faults
 
+-- a half in use on which no further call failed
+abbrev pub SparesOne : Twice → Both → Both → Type 0
+SparesOne s old new = (half : Half) × IsInUse half s × SameFaultsAt half old new
+
+-- no further call of the line failed, unless one on a half in use did
+abbrev pub SparesLine : Twice → Both → Both → Type 0
+SparesLine s old new = (new.line_faults ≡ old.line_faults) ⊎ ((half : Half) × IsInUse half s × RoseAt half old new)
+
+-- what is known where calls did not fail as a whole
+pub record FineTwice (s : Twice) (old new : Both) : Type 0 where
+  pub spared : SparesOne s old new
+  pub line : SparesLine s old new
+
 -- within a commit nothing more is sent, the copy that counts is the old or the new one, and so is each half in use on which no call failed
 pub record IsCommitting (s : Twice) (y : Content) (old new : Both) (c d out : List ℕ) : Type 0 where
   pub silent : out ≡ old.sent

@@ -4,7 +4,7 @@ ghost use Rattle.kd_records.specs.{Contents.{IsPatch, patched}, Charge.{total_ch
 ghost use Rattle.kd_device.specs.{declared.half.Half.{Half as Side}, declared.half.Half.TheVariants.{First, Second}};
 ghost use Rattle.kdcfile_copies.specs.Copies.{HasNoSequence, next_patch};
 ghost use Rattle.kdcfile_double.specs.Twice.{AreAlike, IsOpen, IsInUse, IsKeptTwice, FrameBoth, RoseAt, SameFaultsAt, LosesBy, LeavesBoth, LeavesCommitted, content_of, copy_at, identity_of};
-ghost use Rattle.kdcfile_double.specs.Twice.{sequence_of, with_copies};
+ghost use Rattle.kdcfile_double.specs.Twice.{FineTwice, SparesLine, SparesOne, sequence_of, with_copies};
 ghost use Rattle.kdcfile_double.specs.Committing.{AreLostSo, AreWithin, CanTakeIf, IsKeptAt, IsNextIf, IsWithin};
 
 use crate::single::commit_one;
@@ -41,6 +41,8 @@ fn commit_two<T: Twin>(
     ensures memory { OnErr result ((half : Side) → lost.new ≡ Some half → (lost.old ≡ Some half) ⊎ RoseAt half (T.both twin.old) (T.both twin.new)) }
     ensures memory_stays { OnErr result ((half : Side) → lost.old ≡ Some half → lost.new ≡ Some half) }
     ensures unused { (half : Side) → copy_at half (with_copies first second) ≡ None → SameFaultsAt half (T.both twin.old) (T.both twin.new) }
+    ensures spared { OnErr result (SparesOne (with_copies first second) (T.both twin.old) (T.both twin.new)) }
+    ensures line { SparesLine (with_copies first second) (T.both twin.old) (T.both twin.new) }
     ensures frame { FrameBoth (T.both twin.old) (T.both twin.new) }
 {
     let first = commit_one(alloc, twin, Half::First, first, patch, next, lost)?;
@@ -106,6 +108,7 @@ impl TwinStore {
 
         // It fails only where a call failed on each half that was in use.
         ensures failed { IsErrOf result DeviceError.Failed → (half : Side) → IsInUse half self.old → RoseAt half (T.both twin.old) (T.both twin.new) }
+        ensures went { (IsErrOf result DeviceError.Failed → ⊥) → FineTwice self.old (T.both twin.old) (T.both twin.new) }
         ensures frame { FrameBoth (T.both twin.old) (T.both twin.new) }
     {
         let Ok(next) = self.next_of(alloc, patch) else {

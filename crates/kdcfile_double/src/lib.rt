@@ -1,10 +1,10 @@
 //! A KDCFILE on two disks: two copies that are kept alike, and a run that goes on with one of them.
 //!
-//! It stands on kdcfile_halves, which reads, makes and commits a copy on one half of a twin, on kdcfile_mending, which
-//! writes one half anew from the other one, and on record_codec, table_fit and warm_start for the tables. To the call
-//! above, its contract says which copy counts and why two files are refused, that at every stop the copy that counts has
-//! the content with the patch or without it, as has each half on which no call failed, and that a half is lost only where
-//! a call on it failed.
+//! It stands on kdcfile_copies, whose kdcfile_halves reads, makes and commits a copy on one half of a twin, and whose
+//! kdcfile_mending writes one half anew from the other one; and for the tables on device_acts, with its warm_start,
+//! record_codec and table_fit. To the call above, its contract says which copy counts and why two files are refused,
+//! that at every stop the copy that counts has the content with the patch or without it, as has each half on which no
+//! call failed, and that a half is lost only where a call on it failed.
 #![tactic(auto)]
 
 mod alike;

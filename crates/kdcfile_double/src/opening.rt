@@ -9,7 +9,7 @@ ghost use Rattle.laws_of_states.specs.Suits.{Suits};
 ghost use Rattle.device_acts.specs.Stands.{AreTables};
 ghost use Rattle.kdcfile_double.specs.Twice.{IsOpen, IsInUse, IsKeptTwice, IsTwice, FrameBoth, RoseAt, NoneRose, SameFaultsAt, LosesBy, LeavesBoth, content_of, identity_of, sequence_of};
 ghost use Rattle.kdcfile_double.specs.Opening.{AreEmpty, AreInUseSo, HasNoTablesInTwo, IsMakingTwo, IsRefusedTwo, IsSpent, IsTwoOfOtherTexts, KeepsTablesTwice, SameFiles, StartsFromTwo, Unchanged};
-ghost use Rattle.kdcfile_double.specs.Opening.{identity_twice};
+ghost use Rattle.kdcfile_double.specs.{Opening.{identity_twice}, Twice.{FineTwice, SparesLine, SparesOne, with_copies}};
 ghost use Rattle.kdcfile_double.specs.{Choice.{AreOfFiles}, Mended.{BothRest}, MakingLaws.{RestsBoth}, Committing.{IsKeptAt}, SingleLaws.{KeepsSome}, ReopenLaws.{AreAgain}};
 
 use crate::choosing::{chosen, copy_in, in_use};
@@ -160,6 +160,8 @@ fn reload_both<T: Twin>(
     ensures refused { IsErrOf result TwinOpenError.NotKdcfile → IsTrue (T.both twin.old).told → ⊥ }
     ensures told { ((stored : List ℕ) → IsErrOf result (TwinOpenError.OtherGeneration stored) → ⊥) × ((n : ℕ) → IsErrOf result (TwinOpenError.Spent n) → ⊥) }
     ensures failed { IsErrOf result TwinOpenError.Failed → ⊥ }
+    ensures spared { OnErr result (SparesOne (with_copies first second) (T.both twin.old) (T.both twin.new)) }
+    ensures line { SparesLine (with_copies first second) (T.both twin.old) (T.both twin.new) }
     ensures frame { FrameBoth (T.both twin.old) (T.both twin.new) }
 {
     let first = reload(alloc, twin, Half::First, first, lost)?;
@@ -281,6 +283,7 @@ impl TwinStore {
         ensures still { IsTrue (T.both twin.old).told → SameFiles (T.both twin.old) (T.both twin.new) × LeavesBoth (T.both twin.old) (T.both twin.new) (T.leaves twin.old) (T.leaves twin.new) (Unchanged (T.both twin.old) (T.leaves twin.old)) }
         ensures failed { IsErrOf result TwinOpenError.Failed → (half : Side) → IsInUse half self → RoseAt half (T.both twin.old) (T.both twin.new) }
         ensures fine { IfOk result (λ o. (half : Side) → IsInUse half o.0 → SameFaultsAt half (T.both twin.old) (T.both twin.new)) }
+        ensures went { (IsErrOf result TwinOpenError.Failed → ⊥) → FineTwice self (T.both twin.old) (T.both twin.new) }
         ensures frame { FrameBoth (T.both twin.old) (T.both twin.new) }
     {
         let TwinStore {

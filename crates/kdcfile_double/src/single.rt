@@ -1,11 +1,11 @@
 //! A commit, or a reading, on one half.
-ghost use Rattle.std.specs.Prelude.{◌≡◌, ◌⊎◌, ◌≤◌, ◌+◌, ℕ, List, IsTrue, IfOk, OnErr, IsErrOf};
+ghost use Rattle.std.specs.Prelude.{◌≡◌, ◌⊎◌, ◌≤◌, ◌+◌, ℕ, List, IsTrue, IfOk, OnErr, IsErrOf, Some};
 ghost use Rattle.kd_device.specs.{Device.{Frame, SameNames}, Rest.{Rests}};
 ghost use Rattle.kd_records.specs.Contents.{IsPatch};
 ghost use Rattle.kd_device.specs.Twin.{half_state, half_leaves, other};
 ghost use Rattle.kdcfile_copies.specs.Copies.{HasNoSequence};
 ghost use Rattle.kdcfile_copies.specs.Beside.{SameDisk, LeavesBeside, NoMore, OtherStays};
-ghost use Rattle.kdcfile_double.specs.{Twice.{SameFaultsAt}, Committing.{CanTakeIf, IsKeptAt, IsNextIf, IsSameIf, WithinOne, IsLostSo, lost_with}, SingleLaws.{KeepsSome}};
+ghost use Rattle.kdcfile_double.specs.{Twice.{SameFaultsAt}, Committing.{CanTakeIf, IsKeptAt, IsLineFine, IsNextIf, IsSameIf, WithinOne, IsLostSo, lost_with}, SingleLaws.{KeepsSome}};
 
 use crate::alike::are_alike;
 use crate::error::TwinOpenError;
@@ -47,6 +47,8 @@ pub(crate) fn commit_one<T: Twin>(
     ensures other_stays { IsTrue (T.both twin.old).told → OtherStays half (T.both twin.old) (T.both twin.new) (T.leaves twin.old) (T.leaves twin.new) }
     ensures lost { IfOk result (λ q. IsLostSo half copy q lost.old lost.new (T.both twin.old) (T.both twin.new)) }
     ensures memory { OnErr result ((lost.new ≡ lost.old) × SameFaultsAt half (T.both twin.old) (T.both twin.new)) }
+    ensures used { OnErr result ((p : LoadedCopy) × (copy ≡ Some p)) }
+    ensures line { IsLineFine half copy (T.both twin.old) (T.both twin.new) }
     ensures frame { Frame (half_state half (T.both twin.old)) (half_state half (T.both twin.new)) }
     ensures names { SameNames (half_state half (T.both twin.old)) (half_state half (T.both twin.new)) }
 {
@@ -83,6 +85,8 @@ pub(crate) fn reload<T: Twin>(
     ensures refused { IsErrOf result TwinOpenError.NotKdcfile → IsTrue (T.both twin.old).told → ⊥ }
     ensures told { ((stored : List ℕ) → IsErrOf result (TwinOpenError.OtherGeneration stored) → ⊥) × ((n : ℕ) → IsErrOf result (TwinOpenError.Spent n) → ⊥) }
     ensures failed { IsErrOf result TwinOpenError.Failed → ⊥ }
+    ensures unread { OnErr result (((p : LoadedCopy) × (copy ≡ Some p)) × SameFaultsAt half (T.both twin.old) (T.both twin.new)) }
+    ensures line { IsLineFine half copy (T.both twin.old) (T.both twin.new) }
     ensures frame { Frame (half_state half (T.both twin.old)) (half_state half (T.both twin.new)) }
     ensures names { SameNames (half_state half (T.both twin.old)) (half_state half (T.both twin.new)) }
 {

@@ -2,11 +2,11 @@
 //! judged, and in one commit the file is made with the new fingerprint and page pool and keeps the new tables; then a
 //! report says what went.
 //!
-//! What becomes of tables is said by `kd_update`. It stands on table_fit, kdcfile_store, warm_start and device_acts. To
-//! the program, its definitions say which files are taken and which are refused and why. Its contract says that a stop
-//! leaves the old tables, as they were made, with nothing sent, or the new ones with a front of the report; that after
-//! `Ok` the new ones stand and the whole report was sent; that a file that is up to date, or refused, is not written;
-//! and how many bytes are written at most.
+//! What becomes of tables is said by `kd_update`. It stands on device_acts, whose warm_start opens a file of any texts,
+//! on kdcfile_store and on table_fit. To the program, its definitions say which files are taken and which are refused
+//! and why. Its contract says that a stop leaves the old tables, as they were made, with nothing sent, or the new ones
+//! with a front of the report; that after `Ok` the new ones stand and the whole report was sent; that a file that is up
+//! to date, or refused, is not written; and how many bytes are written at most.
 #![tactic(auto)]
 
 mod carrying;

@@ -4,3 +4,6 @@ mod Beginnings
 mod Turns
 mod Commands
 mod Ruleless
+mod Keyless
+mod KeylessTurns
+mod KeylessRuns

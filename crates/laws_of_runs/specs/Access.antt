@@ -1,5 +1,5 @@
 -- Who starts what in each step of a run: a dialogue service begins at an input or at a PEND FC that the rule of locks and keys allows, and an input is answered with a denial just where that rule alone forbids it.
-use Rattle.std.specs.Prelude.{◌≡◌, ◌⊎◌, ℕ, true, false, List, [], ◌∷◌, Option, Some, None, bytes_eq, codes, option_and_then}
+use Rattle.std.specs.Prelude.{◌≡◌, ◌⊎◌, ℕ, true, false, List, [], ◌∷◌, map, Option, Some, None, bytes_eq, codes, option_and_then}
 use Rattle.std.specs.List.{list_any}
 use Rattle.std.specs.FinMap.{find}
 use Rattle.kd_base.specs.declared.words.Variant.{Variant}
@@ -8,7 +8,9 @@ use Rattle.kdcs_types.specs.declared.service.Ending.TheVariants.{Synced}
 use Rattle.kdcs_types.specs.declared.service.Service.{Service}
 use Rattle.kdcs_types.specs.Keys.{id_cmp}
 use Rattle.kdcs_types.specs.Tables.{TableRows, IsSortedTables, service_of}
+use Rattle.application_types.specs.declared.kdcdef_types.entry.LtermEntry.{LtermEntry}
 use Rattle.application_types.specs.declared.kdcdef_types.entry.TacEntry.{TacEntry}
+use Rattle.application_types.specs.declared.kdcdef_types.entry.UserEntry.{UserEntry}
 use Rattle.application_types.specs.Generation.{Generated, tac_of, lock_of}
 use Rattle.abstract_monitor.specs.declared.access.Denial.{Denial}
 use Rattle.abstract_monitor.specs.declared.answer.Happened.TheVariants.{Settles}
@@ -29,7 +31,7 @@ use Rattle.abstract_monitor.specs.Statements.{kept_record}
 use Rattle.abstract_monitor.specs.Lines.{sys_line}
 use Rattle.abstract_monitor.specs.Turns.{statement_now, turn_of}
 use Rattle.abstract_monitor.specs.Commands.{ScriptStep, ByTransaction, says, lterm_at, user_at, denial_text, use_now, turned_step, command_of, started}
-use Rattle.abstract_monitor.specs.Trace.{history}
+use Rattle.abstract_monitor.specs.Trace.{history, trace}
 use Rattle.laws_of_states.specs.Applications.{IsApplication}
 use Rattle.laws_of_states.specs.EachStep.{EachStep}
 use Rattle.laws_of_states.specs.Keeping.{HasFacts, IsScriptOf}
@@ -150,3 +152,30 @@ pub record IsWithoutRule (g : Generated) : Type 0 where
 
 abbrev pub LocksMakeTheRule : Type 0
 LocksMakeTheRule = (g : Generated) → HasNoLocks g → IsWithoutRule g
+
+-- a user and an LTERM that have no key set
+abbrev pub user_without_keys : UserEntry → UserEntry
+user_without_keys user = record user { kset = None }
+
+abbrev pub lterm_without_keys : LtermEntry → LtermEntry
+lterm_without_keys lterm = record lterm { kset = None }
+
+-- the generation without key sets: none is there, and no user and no LTERM has one
+abbrev pub without_keys : Generated → Generated
+without_keys g = record g {
+  users = map (λ (e : Bytes × UserEntry). (e.0, user_without_keys e.1)) g.users;
+  lterms = map (λ (e : Bytes × LtermEntry). (e.0, lterm_without_keys e.1)) g.lterms;
+  ksets = [];
+}
+
+-- the application without key sets
+abbrev pub keyless : Application → Application
+keyless app = record app { generation = without_keys app.generation }
+
+-- each script does, step by step and from every state, what it does without key sets; so from all tables it has the trace that it has without them
+pub record RunsAsKeyless (app : Application) : Type 0 where
+  pub steps : (s : State) (script : List Command) → history app s script ≡ history (keyless app) s script
+  pub traces : (t : TableRows) (script : List Command) → trace app t script ≡ trace (keyless app) t script
+
+abbrev pub LocksMakeTheTrace : Type 0
+LocksMakeTheTrace = (app : Application) → HasNoLocks app.generation → RunsAsKeyless app

@@ -4,7 +4,7 @@
 //! It stands on the definitions of the monitor and on the facts of every state that a script comes to. The functions do
 //! nothing: their contracts are laws on the definitions, which the program above cites.
 
-ghost use Rattle.laws_of_runs.specs.Access.{TurnsKeepAccess, CommandsKeepAccess, RunsKeepAccess, LocksMakeTheRule};
+ghost use Rattle.laws_of_runs.specs.Access.{TurnsKeepAccess, CommandsKeepAccess, RunsKeepAccess, LocksMakeTheRule, LocksMakeTheTrace};
 
 use crate::facts_hold_along_every_script;
 use laws_of_states::laws_of_places::facts_hold_along;
@@ -30,4 +30,9 @@ pub fn runs_keep_access()
 /// In a generation in which no TAC has a lock, inputs and the follow-ups of PENDs are what they are without the rule.
 pub fn locks_make_the_rule()
     ensures { LocksMakeTheRule }
+{}
+
+/// In such a generation each script has the trace that it has without key sets, whatever key sets there are.
+pub fn locks_make_the_trace()
+    ensures { LocksMakeTheTrace }
 {}

@@ -11,6 +11,7 @@ use Rattle.monitor_core.specs.Commanding.{Comes}
 use Rattle.laws_of_states.specs.Applications.{IsApplication}
 use Rattle.abstract_monitor.specs.CommandsOf.{IsCommandOf}
 use Rattle.laws_of_states.specs.Replay.{SettlesAs}
+use Rattle.laws_of_runs.specs.Access.{KeepsAccess, TurnsKeepAccess, CommandsKeepAccess}
 use Rattle.laws_of_runs.specs.QueueLaws.{KeepsQueues, TurnsKeepQueues, CommandsKeepQueues}
 use Rattle.laws_of_runs.specs.Replays.{AllReplay}
 use Rattle.laws_of_runs.specs.SerialLaws.{HasReplays, IsSerialStep, StepsKeepReplays, ReplaysAreRecords, TurnsEndSerially, TurnsCommitSerially, CommandsCommitSerially}
@@ -59,6 +60,9 @@ module _ (p : MonitorParts) (v : CoreValue) (is : core_value p ≡ v) (sound : I
   pub queues_turn : TurnsKeepQueues → KeepsQueues v.application v.state (turned_step did)
   queues_turn queues = subst (λ (t : Turned). KeepsQueues v.application v.state (turned_step t)) turned (queues v.application v.state task (has_replays p v is sound).0)
 
+  pub access_turn : TurnsKeepAccess → KeepsAccess v.application v.state (turned_step did)
+  access_turn access = subst (λ (t : Turned). KeepsAccess v.application v.state (turned_step t)) turned (access v.application v.state task (has_replays p v is sound).0)
+
   pub ended_turn : TurnsEndSerially → ReplaysAreRecords → SettlesAs v.application v.state.tables did.after.tables did.settled
   ended_turn ends records =
       let replays = has_replays p v is sound in
@@ -84,3 +88,6 @@ module _ (p : MonitorParts) (v : CoreValue) (is : core_value p ≡ v) (sound : I
 
   pub queues_command : CommandsKeepQueues → KeepsQueues v.application v.state (came_to s acts (command_of v.application v.state c).by)
   queues_command queues = subst (KeepsQueues v.application v.state) same_step (queues v.application v.state c (has_replays p v is sound).0)
+
+  pub access_command : CommandsKeepAccess → KeepsAccess v.application v.state (came_to s acts (command_of v.application v.state c).by)
+  access_command access = subst (KeepsAccess v.application v.state) same_step (access v.application v.state c (has_replays p v is sound).0)

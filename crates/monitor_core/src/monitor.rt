@@ -7,8 +7,7 @@ ghost use Rattle.application_check.specs.Fitted.{IsFit};
 ghost use Rattle.laws_of_runs.specs.Applied.{applied};
 ghost use Rattle.laws_of_states.specs.{Applications.{IsApplication}, Keeping.{HasFacts}, Replay.{SettlesAs}, Suits.{Suits}};
 ghost use Rattle.abstract_monitor.specs.{CommandsOf.{IsCommandOf, is_pterm}, Commands.{command_of, lterm_at, started, turned_step, use_now}, Endings.{durable}, Turns.{turn_of}};
-ghost use Rattle.laws_of_runs.specs.QueueLaws.{KeepsQueues};
-ghost use Rattle.laws_of_runs.specs.{Replays.{AllReplay}, SerialLaws.{IsSerialStep}};
+ghost use Rattle.laws_of_runs.specs.{Access.{KeepsAccess}, QueueLaws.{KeepsQueues}, Replays.{AllReplay}, SerialLaws.{IsSerialStep}};
 ghost use Rattle.service_ends.specs.Ending.{turned_to};
 ghost use Rattle.monitor_core.specs.Commanding.{Comes, IsSingle};
 ghost use Rattle.monitor_core.specs.{CoreValue.{OneStep, core_value}, Steps.{came_to}};
@@ -22,6 +21,7 @@ use application_check::kdcdef_check::Generation;
 use application_check::unit_check::Units;
 use kd_base::{Name, OutOfMemory};
 use kdcs_types::{Acts, Tables};
+use laws_of_runs::laws_of_access::steps_keep_access;
 use laws_of_runs::laws_of_applications::fitted_units_make_an_application;
 use laws_of_runs::laws_of_jobs::commits_keep_queues;
 use laws_of_runs::{commits_are_serial, replays_hold_along_every_script, turns_end_serially};
@@ -78,7 +78,8 @@ impl Core {
 
     /// A command that is no RUN, TURN or RESTART, and names what the generation has. Fewer than 10^18 turns and commands
     /// were done. Its commit meets the laws on jobs and on services' rows, and one of a transaction is what its record, run
-    /// in one go, makes of the durable tables.
+    /// in one go, makes of the durable tables. A dialogue service begins only where the rule of locks and keys allows it, and
+    /// an input is denied just where that rule alone forbids it.
     pub fn apply(self, alloc: Global, command: &Command) -> Result<(Core, Acts), OutOfMemory>
         requires single { IsSingle command.now }
         requires names { IsCommandOf self.application.generation command.now }
@@ -89,17 +90,20 @@ impl Core {
         ensures replays { IfOk result (λ done. AllReplay done.0.application done.0.state) }
         ensures serial { IfOk result (λ done. IsSerialStep self.application self.state (came_to done.0.state done.1 (command_of self.application self.state command.now).by)) }
         ensures queues { IfOk result (λ done. KeepsQueues self.application self.state (came_to done.0.state done.1 (command_of self.application self.state command.now).by)) }
+        ensures access { IfOk result (λ done. KeepsAccess self.application self.state (came_to done.0.state done.1 (command_of self.application self.state command.now).by)) }
     {
         replays_hold_along_every_script();
         commits_are_serial();
         commits_keep_queues();
+        steps_keep_access();
         let mut parts = self.parts;
         let acts = apply(&mut parts, alloc, command)?;
         Ok((Core { parts }, acts))
     }
 
-    /// One turn of a task, from 1 to TASKS. Fewer than 10^18 turns and commands were done. Its commit meets the same laws,
-    /// and a transaction that it ends comes to the tables and the ending of its record, run in one go on the tables before.
+    /// One turn of a task, from 1 to TASKS. Fewer than 10^18 turns and commands were done. It meets the same laws, that of
+    /// access at a PEND FC, and a transaction that it ends comes to the tables and the ending of its record, run in one go on
+    /// the tables before.
     pub fn turn(self, alloc: Global, task: u16) -> Result<(Core, Turned), OutOfMemory>
         requires task { IsWithin 1 self.application.generation.limits.tasks task }
         requires steps { self.steps < 10 ^ 18 }
@@ -110,11 +114,13 @@ impl Core {
         ensures serial { IfOk result (λ done. IsSerialStep self.application self.state (turned_step (turned_to done.0.state done.1))) }
         ensures ends { IfOk result (λ done. SettlesAs self.application self.state.tables done.0.state.tables done.1.settled) }
         ensures queues { IfOk result (λ done. KeepsQueues self.application self.state (turned_step (turned_to done.0.state done.1))) }
+        ensures access { IfOk result (λ done. KeepsAccess self.application self.state (turned_step (turned_to done.0.state done.1))) }
     {
         replays_hold_along_every_script();
         commits_are_serial();
         turns_end_serially();
         commits_keep_queues();
+        steps_keep_access();
         let mut parts = self.parts;
         let did = turn(&mut parts, alloc, task)?;
         Ok((Core { parts }, did))

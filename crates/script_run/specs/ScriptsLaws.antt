@@ -89,9 +89,8 @@ module _ {S E : Type 0} (ready : S → CoreValue → Type 0) (known : S → Type
             goes.fails s t u c d (history c.application c.state (take i cs)) (steps_of d.application d.state command) (history c.application (state_after now (steps_of c.application now command)) (drop (i + 1) cs)) (history c.application c.state cs) e run here
             (λ is_known. history_around cs i command is lt c d app (reached is_known))
 
-        pub script_stopped : (unopened : S → CoreValue → E → S → Type 0) → (command ≡ Restart → unopened t d e u) → Stopped took failed unopened s c cs e u
+        pub script_stopped : (unopened : S → CoreValue → E → S → Type 0) → (command ≡ Restart → unopened t d e u) → Stopped took failed unopened s c cs i e u
         script_stopped unopened restart = record {
-          before = take i cs;
           command = command;
           rest = drop (i + 1) cs;
           split = around cs i command is lt;

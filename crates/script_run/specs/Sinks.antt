@@ -1,5 +1,5 @@
 -- What a sink takes of the steps of a script.
-use Rattle.std.specs.Prelude.{◌≡◌, ◌+◌, ℕ, Bool, List, [], ◌∷◌, ◌++◌}
+use Rattle.std.specs.Prelude.{◌≡◌, ◌+◌, ℕ, Bool, List, [], ◌∷◌, ◌++◌, take}
 use Rattle.abstract_monitor.specs.declared.command.Command.{Command}
 use Rattle.abstract_monitor.specs.declared.command.Command.TheVariants.{Restart}
 use Rattle.abstract_monitor.specs.Commands.{ScriptStep, state_after, steps_of}
@@ -22,14 +22,13 @@ pub record DidTurn (c : CoreValue) (task : ℕ) (d : CoreValue) (moved : Bool) :
   pub state : d.state ≡ (turn_of c.application c.state task).after
   pub steps : d.steps ≡ c.steps + 1
 
--- a script stopped within one of its commands: all before it were taken
-pub record Stopped {S E : Type 0} (took : S → CoreValue → List ScriptStep → S → CoreValue → Type 0) (failed : S → CoreValue → List ScriptStep → E → S → Type 0) (unopened : S → CoreValue → E → S → Type 0) (s : S) (c : CoreValue) (script : List Command) (e : E) (u : S) : Type 0 where
-  pub before : List Command
+-- a script stopped within the command that comes after the first n: these were taken
+pub record Stopped {S E : Type 0} (took : S → CoreValue → List ScriptStep → S → CoreValue → Type 0) (failed : S → CoreValue → List ScriptStep → E → S → Type 0) (unopened : S → CoreValue → E → S → Type 0) (s : S) (c : CoreValue) (script : List Command) (n : ℕ) (e : E) (u : S) : Type 0 where
   pub command : Command
   pub rest : List Command
-  pub split : script ≡ before ++ command ∷ rest
+  pub split : script ≡ take n script ++ command ∷ rest
   pub t : S
   pub d : CoreValue
-  pub done : took s c (history c.application c.state before) t d
+  pub done : took s c (history c.application c.state (take n script)) t d
   pub here : failed t d (steps_of d.application d.state command) e u
   pub restart : command ≡ Restart → unopened t d e u

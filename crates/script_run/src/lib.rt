@@ -2,8 +2,8 @@
 //!
 //! It stands on monitor_core, whose core says what each turn and each command does. What is done with their acts, and how
 //! a monitor starts again at a RESTART, says a `Sink`. To the layers above, which give it files, a trail or a listener, its
-//! contract says that the sink took just the steps of the abstract monitor's history of the script, or failed within one
-//! of its commands after all before it. For a sink that keeps the durable tables beside the core, `turn_beside` and its kin
+//! contract says that the sink took just the steps of the abstract monitor's history of the script, or failed within the
+//! command that comes after those that it says were done. For a sink that keeps the durable tables beside the core, `turn_beside` and its kin
 //! bring both on together.
 #![tactic(auto)]
 

@@ -1,9 +1,10 @@
 //! An auditor of runs: each commit of a trail is checked by itself, by replaying its transaction alone.
 //!
 //! It stands on KDCS calls, statements, synchronisation points and the laws of the monitor, and on nothing of the core
-//! that made the run: no lock of another service, no task and no queue. To the program above, its contract says that an
-//! entry of a trail holds exactly where the definitions say so: what made the commit makes, alone and in one go, just
-//! these tables of those before it, and the changes of the entry are just the difference.
+//! that made the run: no other service, no task and no queue. Its lock table is that of the one transaction. To the
+//! program above, its contract says that an entry of a trail holds exactly where the definitions say so: what made the
+//! commit makes, alone and in one go, just these tables of those before it, and the changes of the entry are just the
+//! difference.
 #![tactic(auto)]
 
 mod asking;

@@ -32,6 +32,7 @@ pub fn trail_of(
         durable,
         entries: TrailEntries::new(alloc),
     };
-    let _last = run_script(alloc, &mut kept, core, commands)?;
+    let mut done = 0;
+    let _last = run_script(alloc, &mut kept, core, commands, &mut done)?;
     Ok(kept.entries)
 }

@@ -14,10 +14,11 @@ use Rattle.abstract_monitor.specs.Trace.{bytes_of, tables_after}
 use Rattle.laws_of_runs.specs.ListsLaws.{tables_both}
 use Rattle.monitor_core.specs.CoreSteps.{durable_of}
 use Rattle.monitor_core.specs.CoreValue.{CoreValue}
-use Rattle.kdcfile_copies.specs.Beside.{file_of}
+use Rattle.kdcfile_copies.specs.Beside.{SameDisk, file_of}
 use Rattle.kdcfile_copies.specs.BesideLaws.{said_stays}
 use Rattle.kdcfile_double.specs.Opening.{KeepsTablesTwice}
-use Rattle.kdcfile_double.specs.Twice.{IsInUse, IsKeptTwice, IsOpen, IsTwice, RoseAt, SameFaultsAt, SideRests, Twice, content_of, identity_of, sequence_of}
+use Rattle.kdcfile_double.specs.CommitTwoLaws.{fine_still}
+use Rattle.kdcfile_double.specs.Twice.{FineTwice, IsInUse, IsKeptTwice, IsOpen, IsTwice, RoseAt, SameFaultsAt, SideRests, Twice, content_of, identity_of, sequence_of}
 use Rattle.device_acts.specs.Acting.{commits_nothing}
 use Rattle.device_acts.specs.ActingLaws.{bytes_joined}
 use Rattle.device_acts.specs.LinesLaws.{tables_same}
@@ -171,6 +172,7 @@ module _ (i : Identity) (s : Twice) (t : TableRows) (acts : List Act) (a b : Bot
           lost_stays = λ half is. (did (told_b told)).lost_is ∙ (did (told_b told)).since.lost_stays half is;
           sent = all_sent told (more (told_e told));
           counts = (rests told).counts f.first.holds f.second.holds left_e;
+          counts_after = λ c d left. (rests told).counts c d (last.stop (told_e told) c d left);
           copies = λ half used. ⊎_elim (λ u. inr (last_copy half u)) (λ l. inl ((did (told_b told)).lost_is ∙ l.0)) ((did (told_b told)).since.unused half used);
         }
 
@@ -184,3 +186,27 @@ fails_second s lines a b e la lb says (inr gone) = inr (λ half used. rose_befor
 -- of the last line
 pub fails_third : (s : Twice) (lines : List Act) (a b e f : Both) (la lb : ℕ → List ℕ → List ℕ → List ℕ → Type 0) → SaysTwice lines a b la lb → FrameTwice b e → Rose e.line_faults f.line_faults → FailsTwice s a f
 fails_third s lines a b e f la lb says more rose = let frame = frame_of_lines lines a b la lb says in inl (omega (arith, frame.line_faults, more.line_faults, rose))
+
+-- ---- where nothing failed as a whole
+
+said_spared : (half : Half) (a b : Both) → SameDisk half a b → (disk_of half b).disk_faults ≡ (disk_of half a).disk_faults
+said_spared half a b same = ap (λ (k : Disk). k.disk_faults) same
+
+module _ (s : Twice) (lines : List Act) (a b : Both) (la lb : ℕ → List ℕ → List ℕ → List ℕ → Type 0) (says : SaysTwice lines a b la lb) (line : b.line_faults ≡ a.line_faults) where
+  -- of a line alone
+  pub fine_line : IsOpen s → FineTwice s a b
+  fine_line is_open = let still = fine_still s a is_open in record { spared = (still.spared.0, still.spared.1, said_spared still.spared.0 a b (says.disks still.spared.0)); line = inl line }
+
+  -- of the acts, after the first line
+  pub fine_second : (e : Both) → FineTwice s b e → FineTwice s a e
+  fine_second e h = record {
+    spared = (h.spared.0, h.spared.1, h.spared.2 ∙ said_spared h.spared.0 a b (says.disks h.spared.0));
+    line = ⊎_elim (λ same. inl (same ∙ line)) (λ rose. inr (rose.0, rose.1, subst (λ (k : Disk). Rose k.disk_faults (disk_of rose.0 e).disk_faults) (says.disks rose.0) rose.2)) h.line;
+  }
+
+  -- of the last line, after the acts
+  pub fine_third : (z : Both) → FineTwice s z a → FineTwice s z b
+  fine_third z h = record {
+    spared = (h.spared.0, h.spared.1, said_spared h.spared.0 a b (says.disks h.spared.0) ∙ h.spared.2);
+    line = ⊎_elim (λ same. inl (line ∙ same)) (λ rose. inr (rose.0, rose.1, subst (λ (k : Disk). Rose (disk_of rose.0 z).disk_faults k.disk_faults) (sym (says.disks rose.0)) rose.2)) h.line;
+  }

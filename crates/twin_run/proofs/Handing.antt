@@ -20,3 +20,10 @@ same_error (Err e) x v is = let same : e ≡ v = cc in ap (λ z. Err z) same
 
 pub failed_both : {N E A : Type 0} (r : Result N E) (x : A) (v : E) (o : Result A E) → o ≡ result_and r (Ok x) → IsErrOf o v → IsErrOf r v
 failed_both r x v o is failed = same_error r x v (subst (λ z. IsErrOf z v) is failed)
+
+error_kept : {N E A : Type 0} (r : Result N E) (x : A) (v : E) → IsErrOf r v → IsErrOf (result_and r (Ok x)) v
+error_kept (Ok y) x v is = absurd cc
+error_kept (Err e) x v is = let same : e ≡ v = cc in ap (λ z. Err z) same
+
+pub not_failed_both : {N E A : Type 0} (r : Result N E) (x : A) (v : E) (o : Result A E) → o ≡ result_and r (Ok x) → (IsErrOf o v → ⊥) → IsErrOf r v → ⊥
+not_failed_both r x v o is none failed = none (subst (λ z. IsErrOf z v) (sym is) (error_kept r x v failed))

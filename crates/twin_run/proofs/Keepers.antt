@@ -15,14 +15,16 @@ use Rattle.device_acts.specs.Stands.{AreTables}
 use Rattle.monitor_core.specs.CoreSteps.{durable_of}
 use Rattle.monitor_core.specs.CoreValue.{CoreValue}
 use Rattle.kdcfile_double.specs.Opening.{KeepsTablesTwice}
-use Rattle.kdcfile_double.specs.Twice.{IsKeptTwice, IsOpen, IsTwice, Twice, content_of, identity_of}
+use Rattle.kdcfile_double.specs.Twice.{FineTwice, IsKeptTwice, IsOpen, IsTwice, Twice, content_of, identity_of}
 use Rattle.device_acts.specs.Acting.{IsKeptBy, Performed, WithinActs, commits_nothing, content_after}
 use Rattle.device_acts.specs.LinesLaws.{kept_content, lines_within, tables_same}
 use Rattle.device_run.specs.Keeping.{IsRunningWith, KeepsRows, RanWith, StandsForRows, WithinStepsWith}
 use Rattle.device_run.specs.Running.{identity_of as identity_of_core}
-use Rattle.twin_run.specs.Keeping.{IsSinceStart, Kept, content_kept, failures, file_kept, leaves_kept, lost_kept, one_more, stands_kept, state_kept}
+use Rattle.twin_run.specs.Keeping.{IsSinceStart, Kept, StaysFine, content_kept, failures, file_kept, leaves_kept, lost_kept, one_more, stands_kept, state_kept}
 use Rattle.twin_run.specs.Parts.{DidTwice, PartTwice}
 use Rattle.twin_run.specs.Running.{FailsTwice, FrameTwice, IsRunningTwice}
+use Rattle.kdcfile_double.specs.CommitTwoLaws.{fine_still}
+use Rattle.twin_run.specs.KeepingLaws.{fine_since, since_fine}
 use Rattle.twin_run.proofs.Decoding.{did_acts, fails_twice, frame_kept, kept_here, part_of_acts, since_here}
 
 -- files of one page more were made with one identity
@@ -92,7 +94,7 @@ module _ {T : Type 0} (both : T → Both) (leaves : T → ℕ → List ℕ → L
           (subst (λ (z : T). DidTwice (identity_of s) s t acts (lost_kept k'.store) (both x) (both z) (leaves z)) (sym back) did)
 
       pub did_lines : KeepsTablesTwice (identity_of s) s t → commits_nothing acts ≡ true → (half : Option Half) → half ≡ lost_kept k'.store → k'.identity ≡ k.identity → content_kept k'.store ≡ content_after (content_kept k.store) acts
-          → Performed (λ a b. Unit {0}) (file_kept k'.identity k'.store (both k'.twin)) acts (state_kept s0 b0 (both k.twin)) (state_kept s0 b0 (both k'.twin)) (leaves_kept s0 b0 (both k'.twin) (leaves k'.twin))
+          → Performed (StaysFine s0 b0) (file_kept k'.identity k'.store (both k'.twin)) acts (state_kept s0 b0 (both k.twin)) (state_kept s0 b0 (both k'.twin)) (leaves_kept s0 b0 (both k'.twin) (leaves k'.twin))
           → (IsTrue (both k'.twin).told → leaves k'.twin (both k'.twin).moment (both k'.twin).first.holds (both k'.twin).second.holds (both k'.twin).sent) → IsTrue (both x).told → DidTwice (identity_of s) s t acts half (both x) (both y) (leaves y)
       did_lines keeps lines half lost same content performed now told =
           let after : t ≡ tables_after t acts = sym (tables_same acts t lines) in
@@ -131,3 +133,10 @@ module _ {T : Type 0} (both : T → Both) (leaves : T → ℕ → List ℕ → L
         subst (λ (z : T). FailsTwice s (both x) (both z)) (sym back)
         (fails_twice s0 s b0 (both x) (both k'.twin) (leaves x) (leaves k'.twin) copies begins
         (subst (λ (z : Kept T). Rose (failures s0 b0 (both z.twin)) (failures s0 b0 (both k'.twin)) ⊎ Rose (both z.twin).line_faults (both k'.twin).line_faults) made rose))
+
+    pub fine_made : IsOpen s → (k' : Kept T) (y : T) → y ≡ k'.twin → StaysFine s0 b0 (state_kept s0 b0 (both k.twin)) (state_kept s0 b0 (both k'.twin)) → FineTwice s (both x) (both y)
+    fine_made is_open k' y back stays =
+        let stays_x = subst (λ (z : Kept T). StaysFine s0 b0 (state_kept s0 b0 (both z.twin)) (state_kept s0 b0 (both k'.twin))) made stays in
+        let start : FineTwice s0 b0 (both x) = subst (λ (z : Twice). FineTwice z b0 (both x)) (sym copies) (subst (λ (z : Both). FineTwice s z (both x)) (sym begins) (fine_still s (both x) is_open)) in
+        let fine : FineTwice s0 b0 (both k'.twin) = since_fine s0 b0 (both k'.twin) (stays_x (fine_since s0 b0 (both x) start)) in
+        subst (λ (z : T). FineTwice s (both x) (both z)) (sym back) (subst (λ (z : Both). FineTwice s z (both k'.twin)) begins (subst (λ (z : Twice). FineTwice z b0 (both k'.twin)) copies fine))

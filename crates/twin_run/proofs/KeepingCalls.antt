@@ -16,11 +16,12 @@ use Rattle.kdcfile_store.specs.Kept.{LeavesPatched, OldOrNew}
 use Rattle.device_acts.specs.Acting.{IsKeptBy}
 use Rattle.device_acts.specs.Said.{LeavesFront}
 use Rattle.kdcfile_double.specs.Opening.{Unchanged}
-use Rattle.kdcfile_double.specs.Twice.{FrameBoth, IsChosenOldOrNew, IsCommitting, IsInUse, IsKeptTwice, IsOldOrNew, IsOpen, IsTwice, LeavesBoth, LeavesCommitted, LosesBy, RoseAt, SameFaultsAt}
+use Rattle.kdcfile_double.specs.Twice.{FineTwice, FrameBoth, IsChosenOldOrNew, IsCommitting, IsInUse, IsKeptTwice, IsOldOrNew, IsOpen, IsTwice}
+use Rattle.kdcfile_double.specs.Twice.{LeavesBoth, LeavesCommitted, LosesBy, RoseAt, SameFaultsAt}
 use Rattle.kdcfile_double.specs.Twice.{SideRests, Twice, content_of, copy_at, identity_of, sequence_of}
 use Rattle.twin_run.specs.Images.{OfImage}
-use Rattle.twin_run.specs.Keeping.{CopiesSince, CopiesSinceIf, IsSinceStart, IsSpared, RestBoth, RestsAlone, failures, file_kept, leaves_kept, one_more, stands_kept, state_kept}
-use Rattle.twin_run.specs.KeepingLaws.{all_failed, failures_rise, image_weaker, of_image, rest_stands, spared_before, spared_same, spared_uses}
+use Rattle.twin_run.specs.Keeping.{CopiesSince, CopiesSinceIf, IsSinceStart, IsSpared, RestBoth, RestsAlone, StaysFine, failures, file_kept, leaves_kept, one_more, stands_kept, state_kept}
+use Rattle.twin_run.specs.KeepingLaws.{all_failed, failures_rise, fine_since, image_weaker, of_image, rest_stands, since_fine, spared_before, spared_same, spared_uses}
 
 -- ---- what no call lowers
 
@@ -80,6 +81,17 @@ module _ (s0 : Twice) (b0 a b : Both) (i : Identity) (s : Twice) (since : IsSinc
 
   pub failed_since : ((half : Half) → IsInUse half s → RoseAt half a b) → Rose (failures s0 b0 a) (failures s0 b0 b)
   failed_since failed = all_failed s0 b0 a b (λ half u. ⊎_elim (λ used. now half (failed half used)) (λ gone. later half gone.1) (since.copies.unused half u))
+
+  -- what was fine is so after calls that did not fail as a whole
+  pub fine_then : FineTwice s a b → StaysFine s0 b0 (state_kept s0 b0 a) (state_kept s0 b0 b)
+  fine_then h was =
+      let before = since_fine s0 b0 a was in
+      let one = since.copies.used h.spared.0 h.spared.1 in
+      fine_since s0 b0 b
+      (record {
+        spared = (h.spared.0, one.0, h.spared.2 ∙ one.1);
+        line = ⊎_elim (λ same. ⊎_elim (λ too. inl (too ∙ same)) (λ rose. inr (rose.0, (since.copies.used rose.0 rose.1).0, now rose.0 rose.2)) h.line) (λ rose. inr (rose.0, rose.1, later rose.0 rose.2)) before.line;
+      })
 
   module _ (twice : IsTwice s) (s' : Twice) (loses : LosesBy s s' a b) (stays : (half : Half) → IsInUse half s → IsInUse half s' ⊎ (s'.lost ≡ Some half)) (no_other : (half : Half) → IsInUse half s' → IsInUse half s) (fine : (half : Half) → IsInUse half s' → SameFaultsAt half a b) where
     rose_lost : (half : Half) → IsInUse half s → s'.lost ≡ Some half → RoseAt half b0 b
@@ -162,6 +174,15 @@ module _ (s0 : Twice) (b0 a b : Both) (i : Identity) (disks : (half : Half) → 
 
   pub said_since : (o : Option Twice) → b.told ≡ a.told → IsSinceStart s0 b0 a i o → IsSinceStart s0 b0 b i o
   said_since o told h = since_then s0 b0 a b i i o o told said_rise (λ half was. ap (λ (d : Disk). d.names) (disks half)) h (said_copies o h.copies)
+
+  pub said_fine : b.line_faults ≡ a.line_faults → StaysFine s0 b0 (state_kept s0 b0 a) (state_kept s0 b0 b)
+  said_fine line was =
+      let before = since_fine s0 b0 a was in
+      fine_since s0 b0 b
+      (record {
+        spared = (before.spared.0, before.spared.1, said_faults before.spared.0 ∙ before.spared.2);
+        line = ⊎_elim (λ same. inl (line ∙ same)) (λ rose. inr (rose.0, rose.1, subst (λ (n : ℕ). Rose (disk_of rose.0 b0).disk_faults n) (sym (said_faults rose.0)) rose.2)) before.line;
+      })
 
   said_file : (o : Option Twice) (image : List ℕ) → file_kept i o a image → file_kept i o b image
   said_file None image file = absurd file

@@ -16,10 +16,10 @@ use Rattle.device_acts.specs.MeaningLaws.{one_table}
 use Rattle.device_acts.specs.Acting.{IsKeptBy}
 use Rattle.device_run.specs.Keeping.{KeepsSuited, Reopening}
 use Rattle.kdcfile_double.specs.Opening.{KeepsTablesTwice, SameFiles, Unchanged, identity_twice}
-use Rattle.kdcfile_double.specs.Twice.{FrameBoth, IsInUse, IsKeptTwice, IsOpen, IsTwice, LeavesBoth, LeavesCommitted, LosesBy, RoseAt, SameFaultsAt, Twice, content_of, identity_of}
-use Rattle.twin_run.specs.Keeping.{CopiesSince, CopiesSinceIf, IsSinceStart, Kept, content_kept, failures, file_kept, leaves_kept, one_more, stands_kept, state_kept}
+use Rattle.kdcfile_double.specs.Twice.{FineTwice, FrameBoth, IsInUse, IsKeptTwice, IsOpen, IsTwice, LeavesBoth, LeavesCommitted, LosesBy, RoseAt, SameFaultsAt, Twice, content_of, identity_of}
+use Rattle.twin_run.specs.Keeping.{CopiesSince, CopiesSinceIf, IsSinceStart, Kept, StaysFine, content_kept, failures, file_kept, leaves_kept, one_more, stands_kept, state_kept}
 use Rattle.twin_run.specs.KeepingLaws.{kept_both, kept_images}
-use Rattle.twin_run.proofs.KeepingCalls.{commit_moments, copies_then, failed_since, faults_both, frame_kept, names_both, reopen_moments, since_then}
+use Rattle.twin_run.proofs.KeepingCalls.{commit_moments, copies_then, failed_since, faults_both, fine_then, frame_kept, names_both, reopen_moments, since_then}
 
 -- one error that tells of another
 pub error_then : {E F : Type 0} (T U : Type 0) (r v : E) (e w : F) → (r ≡ v → e ≡ w) → IsErrOf {T = T} (Err r) v → IsErrOf {T = U} (Err e) w
@@ -64,6 +64,9 @@ module _ {T : Type 0} {both : T → Both} (leaves : T → ℕ → List ℕ → L
 
     pub failed_then : ((half : Half) → IsInUse half s → RoseAt half (both x) b) → Rose (failures s0 b0 (both k.twin)) (failures s0 b0 b)
     failed_then failed = of_keeper (λ (z : Kept T). Rose (failures s0 b0 (both z.twin)) (failures s0 b0 b)) (failed_since s0 b0 (both x) b i s was.since frame failed)
+
+    pub went_then : FineTwice s (both x) b → StaysFine s0 b0 (state_kept s0 b0 (both k.twin)) (state_kept s0 b0 b)
+    went_then went = of_keeper (λ (z : Kept T). StaysFine s0 b0 (state_kept s0 b0 (both z.twin)) (state_kept s0 b0 b)) (fine_then s0 b0 (both x) b i s was.since frame went)
 
     -- the copies are given up, or are these now
     since_with : (j : Identity) (o : Option Twice) → CopiesSinceIf s0 b0 b j o → IsSinceStart s0 b0 b j o

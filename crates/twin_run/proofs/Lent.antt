@@ -7,7 +7,7 @@ use Rattle.kd_device.specs.declared.half.Half.{Half}
 use Rattle.kdcs_types.specs.Tables.{TableRows}
 use Rattle.kdcs_types.specs.declared.act.Act.{Act}
 use Rattle.kdcfile_double.specs.Opening.{KeepsTablesTwice}
-use Rattle.kdcfile_double.specs.Twice.{Twice}
+use Rattle.kdcfile_double.specs.Twice.{FineTwice, Twice}
 use Rattle.twin_run.specs.Parts.{DidTwice, PartTwice}
 use Rattle.twin_run.specs.Running.{FailsTwice, FrameTwice}
 
@@ -21,6 +21,9 @@ module _ {T : Type 0} (both : T → Both) (leaves : T → ℕ → List ℕ → L
   module _ (s : Twice) where
     pub fails_lent : FailsTwice s (both x) (both y) → (z : T) → y ≡ z → FailsTwice s (both x) (both z)
     fails_lent h z is = subst (λ (w : T). FailsTwice s (both x) (both w)) is h
+
+    pub fine_lent : FineTwice s (both x) (both y) → (z : T) → y ≡ z → FineTwice s (both x) (both z)
+    fine_lent h z is = subst (λ (w : T). FineTwice s (both x) (both w)) is h
 
     module _ (i : Identity) (acts : List Act) {E : Type 0} (lost : Result (Option Half) E) where
       pub did_lent : (t : TableRows) → IfOk lost (λ half. IsTrue (both x).told → DidTwice i s t acts half (both x) (both y) (leaves y)) → (z : T) → y ≡ z → IfOk lost (λ half. IsTrue (both x).told → DidTwice i s t acts half (both x) (both z) (leaves z))

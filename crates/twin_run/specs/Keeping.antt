@@ -1,6 +1,6 @@
 -- Two copies as what keeps a content, from where a run begins: b0 is the twin there, and s0 the copies.
 use Rattle.std.specs.Prelude.{◌≡◌, ◌⊎◌, ◌≤◌, ℕ, ◌+◌, ◌-◌, ◌^◌, Bool, true, ◌&&◌, nat_le, min, cond, IsTrue, List, [], Option, Some, None}
-use Rattle.kd_device.specs.Device.{State}
+use Rattle.kd_device.specs.Device.{Rose, State}
 use Rattle.kd_records.specs.Identity.{Identity}
 use Rattle.kd_records.specs.declared.content.Content.{Content}
 use Rattle.kd_device.specs.Twin.{Both, disk_of, half_leaves}
@@ -65,10 +65,24 @@ state_kept s0 b0 b =
       disk_faults = failures s0 b0 b;
       line_faults = b.line_faults;
       moment = b.moment;
-      spare_calls = b.spare_calls;
-      spare_bytes = b.spare_bytes;
-      spare_end = b.spare_end;
+      spare_calls = b.first.disk_faults;
+      spare_bytes = b.second.disk_faults;
+      spare_end = 0;
     }
+
+-- what a device spares, no keeper tells: the counts of faults of both halves stand in its place
+abbrev pub faults_kept : Half → State → ℕ
+faults_kept First x = x.spare_calls
+faults_kept Second x = x.spare_bytes
+
+-- since the run began no call failed on some half in use, and none of the line, unless one on a half in use did
+pub record IsFineSince (s0 : Twice) (b0 : Both) (x : State) : Type 0 where
+  pub spared : (half : Half) × IsInUse half s0 × (faults_kept half x ≡ (disk_of half b0).disk_faults)
+  pub line : (x.line_faults ≡ b0.line_faults) ⊎ ((half : Half) × IsInUse half s0 × Rose (disk_of half b0).disk_faults (faults_kept half x))
+
+-- what was fine since the run began is so still
+abbrev pub StaysFine : Twice → Both → (a b : State) → Type 0
+StaysFine s0 b0 a b = IsFineSince s0 b0 a → IsFineSince s0 b0 b
 
 -- the half was in use where the run began, and no call on it failed since
 pub record IsSpared (half : Half) (s0 : Twice) (b0 b : Both) : Type 0 where

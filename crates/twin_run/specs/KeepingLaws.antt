@@ -1,6 +1,6 @@
 -- Laws: two copies as what keeps a content.
 use Rattle.std.specs.Prelude.{◌≡◌, ◌≤◌, ◌↔◌, ℕ, zero, suc, ◌+◌, ◌-◌, ◌^◌, min, Bool, true, false, ◌&&◌, cond, nat_le, List, [], ◌∷◌, ◌++◌, length, take, drop, Option, Some, None}
-use Rattle.std.proofs.Common.{inl, inr, ⊎_elim, refl, sym, ap, subst, arith}
+use Rattle.std.proofs.Common.{inl, inr, ⊎_elim, refl, sym, ap, subst, ◌∙◌, arith}
 use Rattle.std.proofs.Math.Seq.{take-append_seam, drop-append_seam}
 use Rattle.std.proofs.lemmas.Bool.{leb-true, leb-false, le-leb, cases_Bool}
 use Rattle.kd_base.specs.ToolsLaws.{both_true, true_both}
@@ -18,9 +18,10 @@ use Rattle.device_acts.specs.Acting.{GoesOn, IsKeptBy}
 use Rattle.kdcfile_double.specs.ChosenLaws.{IsSomeOf, both_chosen, kept_copy, second_chosen}
 use Rattle.kdcfile_double.specs.CommitLaws.{open_some}
 use Rattle.kdcfile_double.specs.MendLaws.{kept_at}
-use Rattle.kdcfile_double.specs.Twice.{IsInUse, IsKeptTwice, IsOpen, IsTwice, KeepsIf, RoseAt, SameFaultsAt, SideRests, Twice, content_of, identity_of, sequence_of}
+use Rattle.kdcfile_double.specs.Twice.{FineTwice, IsInUse, IsKeptTwice, IsOpen, IsTwice, KeepsIf, RoseAt, SameFaultsAt, SideRests, Twice, content_of, identity_of, sequence_of}
 use Rattle.twin_run.specs.Images.{OfImage, alone_image, pair_image}
-use Rattle.twin_run.specs.Keeping.{CopiesSince, IsSpared, RestBoth, RestsAlone, content_kept, failures, file_kept, is_gone, leaves_kept, one_more, stands_kept, state_kept}
+use Rattle.twin_run.specs.Keeping.{CopiesSince, IsFineSince, IsSpared, RestBoth, RestsAlone, StaysFine, content_kept, failures, faults_kept, file_kept}
+use Rattle.twin_run.specs.Keeping.{is_gone, leaves_kept, one_more, stands_kept, state_kept}
 
 -- ---- images
 
@@ -89,8 +90,25 @@ chosen_stands i (Some s) b image file = rest_stands s b file.0 i file.2 file.1 i
 
 -- ---- the laws of what keeps a content
 
-pub all_fine : GoesOn (λ a b. Unit {0})
-all_fine = record { none = λ a. tt; after = λ a b d h k. tt }
+pub goes_fine : (s0 : Twice) (b0 : Both) → GoesOn (StaysFine s0 b0)
+goes_fine s0 b0 = record { none = λ a fine. fine; after = λ a b d h k fine. k (h fine) }
+
+module _ (s0 : Twice) (b0 b : Both) where
+  faults_at : (half : Half) → faults_kept half (state_kept s0 b0 b) ≡ (disk_of half b).disk_faults
+  faults_at First = refl
+  faults_at Second = refl
+
+  pub fine_since : FineTwice s0 b0 b → IsFineSince s0 b0 (state_kept s0 b0 b)
+  fine_since h = record {
+    spared = (h.spared.0, h.spared.1, faults_at h.spared.0 ∙ h.spared.2);
+    line = ⊎_elim (λ same. inl same) (λ rose. inr (rose.0, rose.1, subst (λ (n : ℕ). Rose (disk_of rose.0 b0).disk_faults n) (sym (faults_at rose.0)) rose.2)) h.line;
+  }
+
+  pub since_fine : IsFineSince s0 b0 (state_kept s0 b0 b) → FineTwice s0 b0 b
+  since_fine h = record {
+    spared = (h.spared.0, h.spared.1, sym (faults_at h.spared.0) ∙ h.spared.2);
+    line = ⊎_elim (λ same. inl same) (λ rose. inr (rose.0, rose.1, subst (λ (n : ℕ). Rose (disk_of rose.0 b0).disk_faults n) (faults_at rose.0) rose.2)) h.line;
+  }
 
 pub none_written : (i : Identity) (x : Content) (patch : Patch) → 0 ≤ 0
 none_written i x patch = omega arith

@@ -87,13 +87,14 @@ pub record IsLastCopy (i : Identity) (half : Half) (t : TableRows) (a b : Both) 
   pub holds : IsCopyOfTables i t (disk_of half b).holds
   pub at_rest : (c : List ℕ) → half_leaves half lb b.moment c b.sent → c ≡ (disk_of half b).holds
 
--- all acts were done, with the lines of the copies: a half that was in use has the last copy, or is lost
+-- all acts were done, with the lines of the copies: a half that was in use has the last copy, or is lost; and whatever files a stop leaves of both, the copy that counts has the last tables
 pub record RanTwice (i : Identity) (s : Twice) (t : TableRows) (acts : List Act) (a b : Both) (lb : ℕ → List ℕ → List ℕ → List ℕ → Type 0) : Type 0 where
   pub lost : Option Half
   pub lost_may : MayBeLost s a b lost
   pub lost_stays : (half : Half) → s.lost ≡ Some half → lost ≡ Some half
   pub sent : b.sent ≡ a.sent ++ bytes_of (with_copies s.mended acts lost)
   pub counts : CountsAs i (tables_after t acts) b.first.holds b.second.holds
+  pub counts_after : (c d : List ℕ) → lb b.moment c d b.sent → CountsAs i (tables_after t acts) c d
   pub copies : (half : Half) → IsInUse half s → (lost ≡ Some half) ⊎ IsLastCopy i half (tables_after t acts) a b lb
 
 -- a call of the line failed, or calls on all halves in use

@@ -2,8 +2,8 @@
 ghost use Rattle.std.specs.Prelude.{◌≡◌, ℕ, List, [], ◌∷◌, Some, false};
 ghost use Rattle.kdcfile_copies.specs.Copies.{HasNoSequence};
 ghost use Rattle.kdcfile_store.specs.Paged.{identity_with};
-ghost use Rattle.twin_run.specs.Keeping.{IsSinceStart, Kept, content_kept, file_kept, leaves_kept, lost_kept, stands_kept, state_kept};
-ghost use Rattle.twin_run.specs.KeepingLaws.{all_fine, chosen_stands, earlier_kept, left_kept, none_written, sent_kept};
+ghost use Rattle.twin_run.specs.Keeping.{IsSinceStart, Kept, StaysFine, content_kept, file_kept, leaves_kept, lost_kept, stands_kept, state_kept};
+ghost use Rattle.twin_run.specs.KeepingLaws.{chosen_stands, earlier_kept, goes_fine, left_kept, none_written, sent_kept};
 
 use application_check::kdcdef_check::Generation;
 use device_acts::Keeper;
@@ -206,6 +206,7 @@ fn reopen_error(error: TwinOpenError) -> OpenError
     ensures refused { result ≡ OpenError.NotKdcfile → error ≡ TwinOpenError.NotKdcfile }
     ensures other { (stored : List ℕ) → result ≡ OpenError.OtherGeneration stored → error ≡ TwinOpenError.OtherGeneration stored }
     ensures failed { result ≡ OpenError.Failed → error ≡ TwinOpenError.Failed }
+    ensures fine { error ≡ TwinOpenError.Failed → result ≡ OpenError.Failed }
 {
     match error {
         TwinOpenError::NotKdcfile => OpenError::NotKdcfile,
@@ -231,7 +232,7 @@ impl<T: Twin, S: Start> Keeper for TwinKeeper<T, S> {
 
     ghost most_written = { λ i x patch. 0 };
 
-    ghost fine = { λ a b. Unit {0} };
+    ghost fine = { StaysFine S.store S.both };
 
     ghost place = { λ k. S.place ∷ [] };
 
@@ -256,7 +257,7 @@ impl<T: Twin, S: Start> Keeper for TwinKeeper<T, S> {
 
     ghost file_stands = { λ k c file. chosen_stands k.identity k.store (T.both k.twin) c file };
 
-    ghost fine_goes = { all_fine };
+    ghost fine_goes = { goes_fine S.store S.both };
 
     ghost left_now = { λ k told. left_kept S.store S.both (T.both k.twin) (T.leaves k.twin) (T.holds_now k.twin told) };
 

@@ -30,6 +30,7 @@ pub(crate) fn say_mended<T: Twin>(twin: &mut T, mended: Option<Half>) -> Result<
     ensures says { SaysTwice (lines_for mended_line mended) (T.both twin.old) (T.both twin.new) (T.leaves twin.old) (T.leaves twin.new) }
     ensures sent { OnOk result (IsTrue (T.both twin.old).told → (T.both twin.new).sent ≡ (T.both twin.old).sent ++ bytes_of (lines_for mended_line mended)) }
     ensures failed { IsErrOf result DeviceError.Failed → Rose (T.both twin.old).line_faults (T.both twin.new).line_faults }
+    ensures fine { (IsErrOf result DeviceError.Failed → ⊥) → (T.both twin.new).line_faults ≡ (T.both twin.old).line_faults }
 {
     match mended {
         Some(half) => say_both(twin, mended_line(half)),
@@ -42,6 +43,7 @@ pub(crate) fn say_lost<T: Twin>(twin: &mut T, lost: Option<Half>) -> Result<(), 
     ensures says { SaysTwice (lines_for lost_line lost) (T.both twin.old) (T.both twin.new) (T.leaves twin.old) (T.leaves twin.new) }
     ensures sent { OnOk result (IsTrue (T.both twin.old).told → (T.both twin.new).sent ≡ (T.both twin.old).sent ++ bytes_of (lines_for lost_line lost)) }
     ensures failed { IsErrOf result DeviceError.Failed → Rose (T.both twin.old).line_faults (T.both twin.new).line_faults }
+    ensures fine { (IsErrOf result DeviceError.Failed → ⊥) → (T.both twin.new).line_faults ≡ (T.both twin.old).line_faults }
 {
     match lost {
         Some(half) => say_both(twin, lost_line(half)),

@@ -6,7 +6,7 @@ ghost use Rattle.kdcs_types.specs.Tables.{TableRows};
 ghost use Rattle.kdcfile_store.specs.Paged.{identity_with};
 ghost use Rattle.monitor_core.specs.CoreSteps.{durable_of, turns_of};
 ghost use Rattle.device_acts.specs.Acting.{commits_nothing};
-ghost use Rattle.kdcfile_double.specs.{Opening.{KeepsTablesTwice}, Twice.{IsKeptTwice, IsOpen, IsTwice, identity_of}};
+ghost use Rattle.kdcfile_double.specs.{Opening.{KeepsTablesTwice}, Twice.{FineTwice, IsKeptTwice, IsOpen, IsTwice, identity_of}};
 ghost use Rattle.twin_run.specs.{Keeping.{one_more}, Parts.{DidTwice, PartTwice}, Running.{FailsTwice, FrameTwice, IsRunningTwice, RanTwice, WithinTwice}};
 
 use crate::keeper::{Start, TwinKeeper};
@@ -46,6 +46,7 @@ fn send_on<T: Twin, S: Start>(
     ensures any { (t : TableRows) → KeepsTablesTwice (identity_of store) store t → PartTwice (identity_of store) store t acts.now (T.both twin) (T.both result) (T.leaves twin) (T.leaves result) }
     ensures done { IfOk lost.new (λ half. IsTrue (T.both twin).told → (t : TableRows) → KeepsTablesTwice (identity_of store) store t → DidTwice (identity_of store) store t acts.now half (T.both twin) (T.both result) (T.leaves result)) }
     ensures failed { IsErrOf lost.new DeviceError.Failed → FailsTwice store (T.both twin) (T.both result) }
+    ensures fine { (IsErrOf lost.new DeviceError.Failed → ⊥) → FineTwice store (T.both twin) (T.both result) }
 {
     let mut keeper: TwinKeeper<T, S> = TwinKeeper::new(twin, store, limits, fingerprint);
     let sent = keep_acts(alloc, &mut keeper, acts);
@@ -71,6 +72,7 @@ fn send_between<T: Twin>(
     ensures any { (t : TableRows) → KeepsTablesTwice (identity_of store) store t → PartTwice (identity_of store) store t acts.now (T.both twin.old) (T.both twin.new) (T.leaves twin.old) (T.leaves twin.new) }
     ensures done { IfOk result (λ half. IsTrue (T.both twin.old).told → (t : TableRows) → KeepsTablesTwice (identity_of store) store t → DidTwice (identity_of store) store t acts.now half (T.both twin.old) (T.both twin.new) (T.leaves twin.new)) }
     ensures failed { IsErrOf result DeviceError.Failed → FailsTwice store (T.both twin.old) (T.both twin.new) }
+    ensures fine { (IsErrOf result DeviceError.Failed → ⊥) → FineTwice store (T.both twin.old) (T.both twin.new) }
 {
     let mut lost = Err(DeviceError::Memory);
     send_on::<&mut T, Brand>(alloc, twin, store, limits, fingerprint, acts, &mut lost);
@@ -94,6 +96,7 @@ pub fn send_twice<T: Twin>(
     ensures any { (t : TableRows) → KeepsTablesTwice (identity_of store) store t → WithinTwice (identity_of store) store t acts.now (T.both twin.old) (T.both twin.new) (T.leaves twin.old) (T.leaves twin.new) }
     ensures done { OnOk result (IsTrue (T.both twin.old).told → (t : TableRows) → KeepsTablesTwice (identity_of store) store t → RanTwice (identity_of store) store t acts.now (T.both twin.old) (T.both twin.new) (T.leaves twin.new)) }
     ensures failed { IsErrOf result DeviceError.Failed → FailsTwice store (T.both twin.old) (T.both twin.new) }
+    ensures fine { (IsErrOf result DeviceError.Failed → ⊥) → FineTwice store (T.both twin.old) (T.both twin.new) }
 {
     store.copies_are_alike();
     say_mended(twin, store.mended())?;
@@ -127,11 +130,13 @@ fn run_on<T: Twin, S: Start>(
     ensures any { PartTwice (identity_of store) store (durable_of core) (acts_of (history core.application core.state commands.now)) (T.both twin) (T.both result) (T.leaves twin) (T.leaves result) }
     ensures done { IfOk lost.new (λ half. IsTrue (T.both twin).told → DidTwice (identity_of store) store (durable_of core) (acts_of (history core.application core.state commands.now)) half (T.both twin) (T.both result) (T.leaves result)) }
     ensures failed { IsErrOf lost.new OpenError.Failed → FailsTwice store (T.both twin) (T.both result) }
+    ensures fine { (IsErrOf lost.new OpenError.Failed → ⊥) → FineTwice store (T.both twin) (T.both result) }
     ensures refused { IsErrOf lost.new OpenError.NotKdcfile → IsTrue (T.both twin).told → ⊥ }
     ensures other { (stored : List ℕ) → IsErrOf lost.new (OpenError.OtherGeneration stored) → IsTrue (T.both twin).told → ⊥ }
 {
     let mut keeper: TwinKeeper<T, S> = TwinKeeper::new(twin, store, limits, fingerprint);
-    let ran = run_with(alloc, &mut keeper, core, fingerprint, commands);
+    let mut done = 0;
+    let ran = run_with(alloc, &mut keeper, core, fingerprint, commands, &mut done);
     *lost = ran.and(Ok(keeper.lost()));
     keeper.into_twin()
 }
@@ -156,6 +161,7 @@ fn run_between<T: Twin>(
     ensures any { PartTwice (identity_of store) store (durable_of core) (acts_of (history core.application core.state commands.now)) (T.both twin.old) (T.both twin.new) (T.leaves twin.old) (T.leaves twin.new) }
     ensures done { IfOk result (λ half. IsTrue (T.both twin.old).told → DidTwice (identity_of store) store (durable_of core) (acts_of (history core.application core.state commands.now)) half (T.both twin.old) (T.both twin.new) (T.leaves twin.new)) }
     ensures failed { IsErrOf result OpenError.Failed → FailsTwice store (T.both twin.old) (T.both twin.new) }
+    ensures fine { (IsErrOf result OpenError.Failed → ⊥) → FineTwice store (T.both twin.old) (T.both twin.new) }
     ensures refused { IsErrOf result OpenError.NotKdcfile → IsTrue (T.both twin.old).told → ⊥ }
     ensures other { (stored : List ℕ) → IsErrOf result (OpenError.OtherGeneration stored) → IsTrue (T.both twin.old).told → ⊥ }
 {
@@ -194,6 +200,7 @@ pub fn run_twice<T: Twin>(
     ensures any { WithinTwice (identity_of store) store (durable_of core) (acts_of (history core.application core.state commands.now)) (T.both twin.old) (T.both twin.new) (T.leaves twin.old) (T.leaves twin.new) }
     ensures done { OnOk result (IsTrue (T.both twin.old).told → RanTwice (identity_of store) store (durable_of core) (acts_of (history core.application core.state commands.now)) (T.both twin.old) (T.both twin.new) (T.leaves twin.new)) }
     ensures failed { IsErrOf result OpenError.Failed → FailsTwice store (T.both twin.old) (T.both twin.new) }
+    ensures fine { (IsErrOf result OpenError.Failed → ⊥) → FineTwice store (T.both twin.old) (T.both twin.new) }
     ensures refused { IsErrOf result OpenError.NotKdcfile → IsTrue (T.both twin.old).told → ⊥ }
     ensures other { (stored : List ℕ) → IsErrOf result (OpenError.OtherGeneration stored) → IsTrue (T.both twin.old).told → ⊥ }
 {

@@ -1,12 +1,12 @@
 //! The program `utm`: the top call over the files of the current folder and the standard output.
 //!
-//! It stands on utm_twin, whose call `utm_twin` carries all promises, and on kd_host, the trusted edge.
+//! It stands on utm_cli, whose call `utm_twin` carries all promises, and on kd_host, the trusted edge.
 #![tactic(auto)]
 
 use kd_host::{FileTwin, FolderRoom, StandardDescriptors};
 use std::env;
 use std::process::ExitCode;
-use utm_twin::utm_twin;
+use utm_cli::utm_twin;
 
 /// The exit status where descriptors 0 to 2 could not be kept from the files, or the words of the call could not be had.
 const NO_ANSWER: u8 = 9;

@@ -1,6 +1,6 @@
 //! Tries `utm` on cases: the words are the names of texts of cases, of which `docs/cases.md` says the form.
 //!
-//! It stands on case_text, which reads the texts, and on utm_twin, whose call `utm_twin` it makes. Each line that is not met
+//! It stands on case_text, which reads the texts, and on utm_cli, whose call `utm_twin` it makes. Each line that is not met
 //! is printed, and at the end of each text how many lines of it were wrong. What must be printed is in `stdout`, so
 //! that the gate fails where a line is not met. The last text is wrong on purpose: a wrong line is seen.
 #![tactic(auto)]
@@ -9,7 +9,7 @@ use case_text::{Cases, Program};
 use kd_device::{MemRoom, MemTwin};
 use std::alloc::Global;
 use std::{env, fs};
-use utm_twin::utm_twin;
+use utm_cli::utm_twin;
 
 /// The program `utm`.
 struct Utm;

@@ -1,5 +1,6 @@
 -- What an audit finds; the trail of a run is read, and all its entries hold.
-use Rattle.std.proofs.Common.{List, [], ℕ, Some, Ok, refl}
+use Rattle.std.proofs.Common.{◌≡◌, List, [], ℕ, Option, Some, None, Ok, true, refl}
+use Rattle.std.specs.Prelude.{IsSome}
 use Rattle.kd_device.specs.Room.{RoomState}
 use Rattle.device_acts.specs.Fingerprints.{fingerprint as print_of}
 use Rattle.laws_of_runs.specs.Applied.{applied}
@@ -7,12 +8,13 @@ use Rattle.refusals.specs.declared.error.FileRefusal.{FileRefusal}
 use Rattle.trail_run.specs.Auditing.{TrailsAreJudgedOnce}
 use Rattle.trail_run.specs.OwnAudits.{OwnTrailsHold, own_trail}
 use Rattle.utm_cli.specs.declared.words.Word.TheVariants.{Audit}
-use Rattle.utm_cli.specs.Asking.{Errand}
+use Rattle.utm_cli.specs.Asking.{Errand, ThirdAsks}
+use Rattle.utm_cli.specs.PromiseTwo.{ReadsTwo}
 use Rattle.utm_cli.specs.Doing.{HoldsAll, AuditRefuses, own}
 use Rattle.utm_cli.specs.Promise.{Reads, AuditsOwn}
 use Rattle.utm_cli.specs.AuditLaws.{holds_or_differs}
 
-module _ (hold : OwnTrailsHold) (words : List (List ℕ)) (room : RoomState) (o : AuditsOwn words room) where
+module _ (hold : OwnTrailsHold) (IsOf : Option ℕ → Type 0) (words : List (List ℕ)) (room : RoomState) (o : AuditsOwn IsOf words room) where
   -- what such a call asks for
   abbrev pub own_errand : Errand
   own_errand = record {
@@ -23,21 +25,28 @@ module _ (hold : OwnTrailsHold) (words : List (List ℕ)) (room : RoomState) (o 
     trail = Some (own_trail (applied o.application.generation o.application.units) (print_of o.definition o.units) o.start o.script);
   }
 
-  pub own_reading : Reads words room (Ok own_errand)
-  own_reading =
+  own_asks : ThirdAsks true o.application (print_of o.definition o.units) o.text [] own_errand.trail
+  own_asks =
       let holds = hold (applied o.application.generation o.application.units) (print_of o.definition o.units) o.start o.script o.text o.own in
-      record {
-        word = Audit;
-        base = o.base;
-        asked = o.asked;
-        reads = record {
-          definition = o.definition;
-          units = o.units;
-          text = o.text;
-          there = o.there;
-          says = (refl, o.generate, o.single, refl, (refl, (own_trail (applied o.application.generation o.application.units) (print_of o.definition o.units) o.start o.script, refl, record { says = holds.0; own_texts = refl; suits = o.own.run.suits })));
-        };
-      }
+      (refl, (own_trail (applied o.application.generation o.application.units) (print_of o.definition o.units) o.start o.script, refl, record { says = holds.0; own_texts = refl; suits = o.own.run.suits }))
+
+  -- over one file
+  pub own_reading : o.application.generation.double ≡ None → Reads words room (Ok own_errand)
+  own_reading single = record {
+    word = Audit;
+    base = o.base;
+    asked = o.asked;
+    reads = record { definition = o.definition; units = o.units; text = o.text; there = o.there; says = (refl, o.generate, single, refl, own_asks) };
+  }
+
+  -- over two copies
+  pub own_reading_two : IsSome o.application.generation.double → ReadsTwo words room (Ok own_errand)
+  own_reading_two double = record {
+    word = Audit;
+    base = o.base;
+    asked = o.asked;
+    reads = record { of_base = tt; definition = o.definition; units = o.units; text = o.text; there = o.there; says = (refl, o.generate, double, refl, own_asks) };
+  }
 
   pub own_not_refused : TrailsAreJudgedOnce → (why : FileRefusal) → AuditRefuses own_errand why → ⊥
   own_not_refused once why refuses =

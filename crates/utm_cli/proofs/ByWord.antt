@@ -1,6 +1,6 @@
 -- What holds of each word: of those over the store, and of those that send their lines aside of it.
-use Rattle.std.proofs.Common.{◌≡◌, ◌⊎◌, inl, inr, ℕ, List, [], ◌∷◌, ◌++◌, take, refl, sym, ap, subst, ◌∙◌}
-use Rattle.std.specs.Prelude.{⊤}
+use Rattle.std.proofs.Common.{◌≡◌, inl, inr, ℕ, List, [], ◌∷◌, ◌++◌, take, refl, sym, ap, subst, ◌∙◌}
+use Rattle.std.specs.Prelude.{⊤, Bool, IsTrue}
 use Rattle.std.proofs.lemmas.List.{append-nil}
 use Rattle.kd_device.specs.Device.{State, LeavesOnly, Only}
 use Rattle.kd_device.specs.TimeLaws.{leaves_weaker, leaves_then}
@@ -8,7 +8,6 @@ use Rattle.kd_device.specs.Rest.{Rests, Before}
 use Rattle.kdcs_types.specs.Tables.{TableRows, empty_tables}
 use Rattle.kdcs_types.specs.declared.act.Act.{Act}
 use Rattle.kdcs_types.specs.declared.act.Act.TheVariants.{Emit}
-use Rattle.abstract_monitor.specs.declared.command.Command.{Command}
 use Rattle.abstract_monitor.specs.Listing.{listing}
 use Rattle.abstract_monitor.specs.Trace.{bytes_of}
 use Rattle.device_acts.specs.MeaningLaws.{answers_exclude_each_other}
@@ -20,10 +19,15 @@ use Rattle.utm_cli.specs.declared.words.Word.{Word}
 use Rattle.utm_cli.specs.declared.words.Word.TheVariants.{Gen, Run, Show, Update, Trail, Audit, Make}
 use Rattle.utm_cli.specs.Asking.{Errand, app_of}
 use Rattle.utm_cli.specs.Doing.{IsOverFile, Opens, OpensWith, OpeningRefuses, StartsBy, Starts, RefusesBy, Refuses, identity_of, own, tables_by, tables_of, acts_by, acts_of, trail_of, entry_count}
-use Rattle.utm_cli.specs.Words.{IsOfBase}
+use Rattle.utm_cli.specs.Asking.{looking_word, storing_word}
+use Rattle.utm_cli.specs.Parts.{looked_by}
+use Rattle.utm_cli.specs.declared.errand.Looking.{Looking}
+use Rattle.utm_cli.specs.declared.errand.Looking.TheVariants as looking
+use Rattle.utm_cli.specs.declared.errand.Storing.{Storing}
+use Rattle.utm_cli.specs.declared.errand.Storing.TheVariants as storing
 use Rattle.trail_run.specs.Auditing.{verdict_line}
 use Rattle.trail_run.specs.declared.trail_words.verdict.Verdict.TheVariants.{Holds}
-use Rattle.utm_cli.specs.Promise.{RanOver, RanBy, Ran, IsCutOver, IsCutBy, IsCutOfRun, IsFront, SaysFront, MakesFile, MayAttach, MayHandOn, HandsOn, WritesActsAlone}
+use Rattle.utm_cli.specs.Promise.{RanOver, RanBy, Ran, IsCutOver, IsCutBy, IsCutOfRun, IsFront, SaysFront, MakesFile, MayAttach, MayHandOn, HandsOn, WritesActsAlone, Tells}
 use Rattle.utm_cli.proofs.Ran.{part_then, nothing_said}
 
 -- ---- what a call starts from
@@ -176,26 +180,32 @@ pub may_then : (word : Word) (name : List ℕ) (a b d : State) → MayHandOn wor
 may_then word name a b d (inl none) same = inl (same ∙ none)
 may_then word name a b d (inr named) same = inr (hands_same_by word name a b d named same)
 
--- a word over the file has a BASE
-of_base_by : (word : Word) → IsOverFile word → IsOfBase word
-of_base_by Gen over = tt
-of_base_by Run over = tt
-of_base_by Show over = tt
-of_base_by Update over = tt
-of_base_by Trail over = tt
-of_base_by Audit over = absurd over
-of_base_by (Make n) over = absurd over
-
-pub over_of_base : (e : Errand) → IsOverFile e.word → IsOfBase e.word
-over_of_base e over = of_base_by e.word over
-
 pub may_hand_on : (e : Errand) → IsOverFile e.word → (name : List ℕ) (a b : State) → MayAttach name a b → MayHandOn e.word name a b
 may_hand_on e over name a b (inl none) = inl none
 may_hand_on e over name a b (inr named) = inr (hands_on e over name a b named)
 
-pub stored_word : (word : Word) → (word ≡ Gen) ⊎ (word ≡ Run) → MakesFile word
-stored_word word (inl is) = subst MakesFile (sym is) tt
-stored_word word (inr is) = subst MakesFile (sym is) tt
+-- the bytes of a file that a word looks into are told
+told_by : (word : Word) → IsOverFile word → (told : Bool) → Tells word told → IsTrue told
+told_by Gen over told tells = tells
+told_by Run over told tells = tells
+told_by Show over told tells = tells
+told_by Update over told tells = tells
+told_by Trail over told tells = tells
+told_by Audit over told tells = absurd over
+told_by (Make n) over told tells = absurd over
+
+pub told_over : (e : Errand) → IsOverFile e.word → (told : Bool) → Tells e.word told → IsTrue told
+told_over e over told tells = told_by e.word over told tells
+
+-- ---- tasks
+
+pub storing_keeps : (s : Storing) → MakesFile (storing_word s)
+storing_keeps storing.Report = tt
+storing_keeps (storing.Script commands) = tt
+
+pub looking_opens : (l : Looking) → OpensFile (looking_word l)
+looking_opens looking.Listing = tt
+looking_opens (looking.Trail commands) = tt
 
 -- ---- words that send their lines and leave the file
 
@@ -208,6 +218,10 @@ SendsAside Update e t lines = ⊥
 SendsAside Trail e t lines = lines ≡ trail_of e t
 SendsAside Audit e t lines = lines ≡ verdict_line (Holds (entry_count e.trail))
 SendsAside (Make n) e t lines = lines ≡ report_of n (app_of e) e.commands
+
+pub looking_sends : (l : Looking) (e : Errand) (t : TableRows) → SendsAside (looking_word l) e t (looked_by l e t)
+looking_sends looking.Listing e t = refl
+looking_sends (looking.Trail commands) e t = refl
 
 one_line : (line : List ℕ) → line ≡ bytes_of (Emit line ∷ [])
 unfolding bytes_of
@@ -271,14 +285,7 @@ none_front line a b la lb rests = record {
   any_moment = leaves_weaker a b la lb (Before a la) (λ c out. la a.moment c a.sent × ((n : ℕ) × (out ≡ a.sent ++ take n line))) rests.leaves (λ c out now. (now.1, (0, now.0 ∙ sym (append-nil a.sent))));
 }
 
--- the report of `make`, of an errand by its parts
-pub made_front : (n : ℕ) (v e : Errand) → v ≡ e → (commands : List Command) → commands ≡ v.commands → (line : List ℕ) → line ≡ report_of n (app_of v) commands
-    → (a d : State) (la ld : ℕ → List ℕ → List ℕ → Type 0) → SaysFront line a d la ld → SaysFront (report_of n (app_of e) e.commands) a d la ld
-made_front n v e same commands is line made a d la ld front =
-    subst (λ (l : List ℕ). SaysFront l a d la ld) (made ∙ ap (report_of n (app_of v)) is ∙ ap (λ (x : Errand). report_of n (app_of x) x.commands) same) front
-
 -- what is said of the tables that a file stands for, which was looked at
-pub looked_front : (says : Errand → TableRows → List ℕ) (v e : Errand) → v ≡ e → (tables t : TableRows) (line : List ℕ) → line ≡ says v tables → (a b d : State) (la lb ld : ℕ → List ℕ → List ℕ → Type 0) (rests : Rests a b la lb) → Opens v a.holds tables → Opens e a.holds t → SaidPart line b d → LeavesOnly b d lb ld (Front line a b d la lb ld rests b lb) → SaysFront (says e t) a d la ld
-looked_front says v e same tables t line is a b d la lb ld rests from opens part h =
-    let once = opened_once e a.holds tables t (subst (λ (x : Errand). Opens x a.holds tables) same from) opens in
-    subst (λ (l : List ℕ). SaysFront l a d la ld) (is ∙ (λ i. says (same i) (once i))) (front_then line a b d la lb ld rests part h)
+pub looked_front : (says : TableRows → List ℕ) (e : Errand) (tables t : TableRows) (line : List ℕ) → line ≡ says tables → (a b d : State) (la lb ld : ℕ → List ℕ → List ℕ → Type 0) (rests : Rests a b la lb) → Opens e a.holds tables → Opens e a.holds t → SaidPart line b d → LeavesOnly b d lb ld (Front line a b d la lb ld rests b lb) → SaysFront (says t) a d la ld
+looked_front says e tables t line is a b d la lb ld rests from opens part h =
+    subst (λ (l : List ℕ). SaysFront l a d la ld) (is ∙ ap says (opened_once e a.holds tables t from opens)) (front_then line a b d la lb ld rests part h)

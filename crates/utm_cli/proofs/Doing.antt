@@ -1,12 +1,12 @@
 -- The acts of an errand, from tables that a store keeps.
-use Rattle.std.proofs.Common.{◌≡◌, true, ℕ, List, ◌++◌, sym, ap, subst, ◌∙◌, Result, Ok, Err}
+use Rattle.std.proofs.Common.{◌≡◌, inl, inr, ⊎_elim, arith, true, ℕ, List, ◌++◌, sym, ap, subst, ◌∙◌, Result, Ok, Err}
 use Rattle.std.specs.Prelude.{IsTrue, OnOk}
 use Rattle.application_check.specs.Soundness.{AreLimits}
 use Rattle.kd_device.specs.Device.{State}
 use Rattle.kd_records.specs.Identity.{Identity}
 use Rattle.kd_records.specs.declared.content.Content.{Content}
 use Rattle.kdcfile_layout.specs.Layout.{StandsFor}
-use Rattle.kdcfile_store.specs.Kept.{write_most}
+use Rattle.kdcfile_store.specs.Kept.{IsKept}
 use Rattle.kdcfile_store.specs.Paged.{Paged, HasFile}
 use Rattle.application_types.specs.Generation.{Generated}
 use Rattle.kdcs_types.specs.declared.act.Act.{Act}
@@ -19,19 +19,21 @@ use Rattle.abstract_monitor.specs.Trace.{history, tables_after, bytes_of, trace}
 use Rattle.laws_of_states.specs.Applications.{IsApplication}
 use Rattle.laws_of_states.specs.Keeping.{HasFacts, IsScriptOf}
 use Rattle.laws_of_states.specs.Suits.{Suits}
-use Rattle.device_acts.specs.MeaningLaws.{kept_means}
+use Rattle.device_acts.specs.MeaningLaws.{kept_means, kept_stands}
 use Rattle.device_acts.specs.Stands.{StandsForTables, KeepsTables, identity_for}
 use Rattle.monitor_core.specs.CoreValue.{CoreValue}
-use Rattle.device_acts.specs.Acting.{acts_most, commits_nothing, content_after, AreCommittable, WithinActs, WritesUpTo, Sent}
-use Rattle.device_acts.specs.LinesLaws.{tables_same, kept_content, lines_within, lines_written}
-use Rattle.device_run.specs.Running.{commits_most, IsRunning, WithinSteps, StepsWrite, Ran as RanSteps}
+use Rattle.device_acts.specs.Acting.{commits_nothing, content_after, AreCommittable, LineOrDisk, WithinActs, WritesBegun, Sent}
+use Rattle.device_acts.specs.LinesLaws.{tables_same, kept_content, lines_within}
+use Rattle.device_acts.specs.WritingLaws.{quiet_begun}
+use Rattle.device_run.specs.Running.{commits_most, IsRunning, WithinSteps, StepsWrite, Stops, Ran as RanSteps}
+use Rattle.device_run.specs.TablesLaws.{tables_go}
 use Rattle.utm_cli.specs.declared.words.Word.{Word}
 use Rattle.utm_cli.specs.declared.words.Word.TheVariants.{Gen, Run}
 use Rattle.utm_cli.specs.Asking.{Errand, CanRun, app_of}
 use Rattle.utm_cli.specs.Doing.{identity_of, own, acts_by, acts_of}
 use Rattle.utm_cli.specs.Report.{report}
-use Rattle.utm_cli.specs.Parts.{ErrandWrites}
-use Rattle.utm_cli.specs.Promise.{RanOver}
+use Rattle.utm_cli.specs.Parts.{ErrandHalts, ErrandStops, ErrandWrites}
+use Rattle.utm_cli.specs.Promise.{RanOver, begun_with}
 use Rattle.laws_of_states.specs.EndsLaws.{durable_same}
 use Rattle.laws_of_states.specs.TablesStayLaws.{started_tables}
 
@@ -53,15 +55,17 @@ module _ (e : Errand) (t : TableRows) (acts : List Act) (gen : e.word ≡ Gen) (
   report_lines : commits_nothing acts ≡ true
   report_lines = ap commits_nothing made
 
-  pub report_writes : (store : Paged) (a b : State) → (IsTrue a.told → WritesUpTo (acts_most write_most store.identity store.content) acts a b) → ErrandWrites e t a b
-  report_writes store a b h = λ told.
-      subst (λ (l : List Act). WritesUpTo (commits_most (identity_of e)) l a b) report_is (lines_written write_most store.identity store.content (commits_most (identity_of e)) acts a b report_lines (h told))
-
   module _ (store : Paged) (keeps : KeepsTables (identity_of e) store t) (a b : State) (la lb : ℕ → List ℕ → List ℕ → Type 0) where
     pub report_within : WithinActs content_after (StandsFor store.identity) store.content acts a b la lb → WithinActs tables_after (StandsForTables (identity_of e)) t (acts_of e (own e t)) a b la lb
     report_within h =
         subst (λ (l : List Act). WithinActs tables_after (StandsForTables (identity_of e)) t l a b la lb) report_is
         (lines_within (StandsFor store.identity) store.content (StandsForTables (identity_of e)) t (kept_means (identity_of e) store t keeps) acts report_lines a b la lb h)
+
+    pub report_writes : WithinActs content_after (StandsFor store.identity) store.content acts a b la lb → (IsTrue a.told → IsKept (HasFile store) a la) → (IsTrue a.told → (c out : List ℕ) → la a.moment c out → out ≡ a.sent) → (IsTrue a.told → lb a.moment b.holds b.sent) → ErrandWrites e t a b
+    report_writes h kept sent now = λ told.
+        let quiet = (h.quiet told report_lines).put in
+        quiet_begun tables_after tables_go (StandsForTables (identity_of e)) t (commits_most (identity_of e)) (acts_of e (own e t)) a b b.holds la lb (omega (arith, quiet)) (sent told)
+        (λ c left. subst (λ (l : List ℕ). StandsForTables (identity_of e) t l) (sym ((kept told).at_rest c left)) (kept_stands (identity_of e) store t a.holds keeps (kept told).bytes)) ((report_within h).any_moment told) (now told)
 
     pub report_ran : (after : Paged) → after.identity ≡ store.identity → after.content ≡ content_after store.content acts → Sent (HasFile after) acts a b lb → IsTrue a.told → RanOver (identity_of e) (acts_of e (own e t)) t a b lb
     report_ran after identity content sent told =
@@ -76,12 +80,8 @@ module _ (e : Errand) (t : TableRows) (acts : List Act) (gen : e.word ≡ Gen) (
 
 -- ---- the script
 
--- a monitor that starts from these tables
-abbrev fresh : Errand → TableRows → CoreValue
-fresh e t = record { application = app_of e; state = started (app_of e) t; steps = 0 }
-
 module _ (e : Errand) (t : TableRows) (core : CoreValue) (application : core.application ≡ app_of e) (state : core.state ≡ started core.application t) (steps : core.steps ≡ 0) where
-  core_is : core ≡ fresh e t
+  core_is : core ≡ begun_with (app_of e) t
   core_is =
       let here : core.state ≡ started (app_of e) t = state ∙ ap (λ (app : Application). started app t) application in
       λ i. record { application = application i; state = here i; steps = steps i }
@@ -115,7 +115,17 @@ module _ (e : Errand) (t : TableRows) (core : CoreValue) (application : core.app
     pub script_writes : StepsWrite e.fingerprint core (history core.application core.state e.commands) a b → ErrandWrites e t a b
     script_writes h =
         let here = subst (λ (c : CoreValue). StepsWrite e.fingerprint c (history c.application c.state e.commands) a b) core_is h in
-        subst (λ (l : List Act). IsTrue a.told → WritesUpTo (commits_most (identity_of e)) l a b) script_is here
+        subst (λ (u : TableRows). IsTrue a.told → WritesBegun tables_after (StandsForTables (identity_of e)) u (commits_most (identity_of e)) (acts_of e (own e t)) a b b.holds) (durable_is suits)
+        (subst (λ (l : List Act). IsTrue a.told → WritesBegun tables_after (StandsForTables (identity_of e)) (durable e.application.generation (started (app_of e) t).tables) (commits_most (identity_of e)) l a b b.holds) script_is here)
+
+    pub script_stops : (n : ℕ) → Stops e.fingerprint core e.commands n a b → ErrandStops e t a b
+    script_stops n h told is = inr (n, subst (λ (c : CoreValue). Stops e.fingerprint c e.commands n a b) core_is h told)
+
+    pub script_halts : LineOrDisk (acts_in (history core.application core.state e.commands)) a b → ErrandHalts e t a b
+    script_halts h told is =
+        let here = subst (λ (c : CoreValue). LineOrDisk (acts_in (history c.application c.state e.commands)) a b) core_is h in
+        let at = subst (λ (l : List Act). LineOrDisk l a b) script_is here told in
+        ⊎_elim (λ line. inl line) (λ halts. inr (inr halts)) at
 
     pub script_ran : RanSteps e.fingerprint core (history core.application core.state e.commands) a b lb → RanOver (identity_of e) (acts_of e (own e t)) t a b lb
     script_ran h =
@@ -127,36 +137,24 @@ module _ (e : Errand) (t : TableRows) (core : CoreValue) (application : core.app
           at_rest = here.at_rest;
         }
 
--- ---- an errand, and what its parts make
+-- ---- the script as it is handed on
 
-module _ (e v : Errand) (same : e ≡ v) (t : TableRows) (core : CoreValue) (application : core.application ≡ app_of v) (state : core.state ≡ started core.application t) (steps : core.steps ≡ 0) (can : CanRun e) (suits : Suits e.application.generation t) where
-  can_too : CanRun v
-  can_too = subst CanRun same can
+module _ (e : Errand) (t : TableRows) (core : CoreValue) (application : core.application ≡ app_of e) (state : core.state ≡ started core.application t) (steps : core.steps ≡ 0) (commands : List Command) (is : commands ≡ e.commands) where
+  pub parts_script : CanRun e → IsScriptOf core.application commands
+  parts_script can = subst (λ (l : List Command). IsScriptOf core.application l) (sym is) (core_script e t core application state steps can)
 
-  suits_too : Suits v.application.generation t
-  suits_too = subst (λ (x : Errand). Suits x.application.generation t) same suits
+  module _ (run : e.word ≡ Run) (suits : Suits e.application.generation t) (a b : State) (la lb : ℕ → List ℕ → List ℕ → Type 0) where
+    pub parts_within : WithinSteps e.fingerprint core (history core.application core.state commands) a b la lb → WithinActs tables_after (StandsForTables (identity_of e)) t (acts_of e (own e t)) a b la lb
+    parts_within h = script_within e t core application state steps run suits a b la lb (subst (λ (l : List Command). WithinSteps e.fingerprint core (history core.application core.state l) a b la lb) is h)
 
-  pub parts_run : HasFacts core.application core.state → AreLimits core.application.generation.limits → (store : Paged) → KeepsTables (identity_of e) store t → IsRunning v.fingerprint core store
-  parts_run facts limits store keeps = core_runs v t core application state steps can_too suits_too facts limits store (subst (λ (x : Errand). KeepsTables (identity_of x) store t) same keeps)
+    pub parts_writes : StepsWrite e.fingerprint core (history core.application core.state commands) a b → ErrandWrites e t a b
+    parts_writes h = script_writes e t core application state steps run suits a b la lb (subst (λ (l : List Command). StepsWrite e.fingerprint core (history core.application core.state l) a b) is h)
 
-  pub parts_script : (commands : List Command) → commands ≡ v.commands → IsScriptOf core.application commands
-  parts_script commands is = subst (λ (l : List Command). IsScriptOf core.application l) (sym is) (core_script v t core application state steps can_too)
+    pub parts_stops : (n : ℕ) → Stops e.fingerprint core commands n a b → ErrandStops e t a b
+    parts_stops n h = script_stops e t core application state steps run suits a b la lb n (subst (λ (l : List Command). Stops e.fingerprint core l n a b) is h)
 
-  module _ (run : e.word ≡ Run) (commands : List Command) (is : commands ≡ v.commands) (a b : State) (la lb : ℕ → List ℕ → List ℕ → Type 0) where
-    run_too : v.word ≡ Run
-    run_too = sym (ap (λ (x : Errand). x.word) same) ∙ run
+    pub parts_halts : LineOrDisk (acts_in (history core.application core.state commands)) a b → ErrandHalts e t a b
+    parts_halts h = script_halts e t core application state steps run suits a b la lb (subst (λ (l : List Command). LineOrDisk (acts_in (history core.application core.state l)) a b) is h)
 
-    pub parts_within : WithinSteps v.fingerprint core (history core.application core.state commands) a b la lb → WithinActs tables_after (StandsForTables (identity_of e)) t (acts_of e (own e t)) a b la lb
-    parts_within h =
-        subst (λ (x : Errand). WithinActs tables_after (StandsForTables (identity_of x)) t (acts_of x (own x t)) a b la lb) (sym same)
-        (script_within v t core application state steps run_too suits_too a b la lb (subst (λ (l : List Command). WithinSteps v.fingerprint core (history core.application core.state l) a b la lb) is h))
-
-    pub parts_writes : StepsWrite v.fingerprint core (history core.application core.state commands) a b → ErrandWrites e t a b
-    parts_writes h =
-        subst (λ (x : Errand). ErrandWrites x t a b) (sym same)
-        (script_writes v t core application state steps run_too suits_too a b la lb (subst (λ (l : List Command). StepsWrite v.fingerprint core (history core.application core.state l) a b) is h))
-
-    pub parts_ran : RanSteps v.fingerprint core (history core.application core.state commands) a b lb → RanOver (identity_of e) (acts_of e (own e t)) t a b lb
-    parts_ran h =
-        subst (λ (x : Errand). RanOver (identity_of x) (acts_of x (own x t)) t a b lb) (sym same)
-        (script_ran v t core application state steps run_too suits_too a b la lb (subst (λ (l : List Command). RanSteps v.fingerprint core (history core.application core.state l) a b lb) is h))
+    pub parts_ran : RanSteps e.fingerprint core (history core.application core.state commands) a b lb → RanOver (identity_of e) (acts_of e (own e t)) t a b lb
+    parts_ran h = script_ran e t core application state steps run suits a b la lb (subst (λ (l : List Command). RanSteps e.fingerprint core (history core.application core.state l) a b lb) is h)

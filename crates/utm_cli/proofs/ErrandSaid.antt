@@ -1,11 +1,9 @@
 -- What the texts of a call say, where the definition and the units make one application.
-use Rattle.std.proofs.Common.{◌≡◌, ◌≢◌, ℕ, Bool, List, Option, Some, None, Result, Ok, Err, refl, sym, ap, subst, ◌∙◌}
-use Rattle.std.specs.Prelude.{IfOk, IfNone, IfSome, IsSome}
-use Rattle.kd_base.specs.ToolsLaws.{ok_is}
+use Rattle.std.proofs.Common.{◌≡◌, ℕ, Bool, List, Some, None, Ok, Err, refl, sym, ap, subst, ◌∙◌}
+use Rattle.std.specs.Prelude.{IsSome}
 use Rattle.application_read.specs.declared.application.Application.{Application as Made}
 use Rattle.application_read.specs.declared.fault.ApplicationFault.{ApplicationFault}
-use Rattle.application_read.specs.declared.fault.ApplicationFault.TheVariants as faults
-use Rattle.application_read.specs.Texts.{TextsGenerate, TextsHaveFault, Gives}
+use Rattle.application_read.specs.Texts.{TextsGenerate, TextsHaveFault}
 use Rattle.device_acts.specs.Fingerprints.{fingerprint as print_of}
 use Rattle.refusals.specs.Statuses.{status_of}
 use Rattle.refusals.specs.declared.error.Refusal.{Refusal}
@@ -13,8 +11,15 @@ use Rattle.refusals.specs.declared.error.Refusal.TheVariants.{Application, Doubl
 use Rattle.utm_cli.specs.declared.words.Word.{Word}
 use Rattle.utm_cli.specs.declared.words.Word.TheVariants.{Gen, Run, Show, Update, Trail as TrailWord, Audit, Make}
 use Rattle.utm_cli.specs.Words.{IsOfBase, audits}
-use Rattle.utm_cli.specs.Asking.{Errand, Reading, IsErrandOf, ThirdAsks, ThirdRefuses, AskFor, AskForTwo}
+use Rattle.utm_cli.specs.Asking.{Errand, Reading, ThirdAsks, ThirdRefuses, AskFor, AskForTwo}
 use Rattle.utm_cli.proofs.TextsSaid.{said_refused, refuses_once, asks_or_refuses, asks_once}
+
+-- an errand of the word over this application of the two texts, for which the third text asks
+pub record IsAskedOf (word : Word) (a : Made) (definition units text : List ℕ) (e : Errand) : Type 0 where
+  pub word_is : e.word ≡ word
+  pub application_is : e.application ≡ a
+  pub fingerprint_is : e.fingerprint ≡ print_of definition units
+  pub asks : ThirdAsks (audits word) a e.fingerprint text e.commands e.trail
 
 abbrev said_errand : Errand → Reading
 said_errand e = Ok e
@@ -40,7 +45,7 @@ module _ (word : Word) (d u s : List ℕ) (made : Made) (one : (a : Made) → Te
     same_refusal a h q refuses_too = refuses_once made (print_of d u) s (audits word) q r (refused_here a h q refuses_too) refuses
 
   -- the third text asks for this errand
-  module _ (e : Errand) (is : IsErrandOf word made d u s e) where
+  module _ (e : Errand) (is : IsAskedOf word made d u s e) where
     asks_own : ThirdAsks (audits word) made (print_of d u) s e.commands e.trail
     asks_own = subst (λ (p : List ℕ). ThirdAsks (audits word) made p s e.commands e.trail) is.fingerprint_is is.asks
 
@@ -80,10 +85,10 @@ module _ (word : Word) (d u s : List ℕ) (made : Made) (one : (a : Made) → Te
     third_refused_one r refuses (Err (Script f)) h = ap said_refused (same_refusal r refuses h.0 h.1 (Script f) h.3)
     third_refused_one r refuses (Err (Trail f)) h = ap said_refused (same_refusal r refuses h.0 h.1 (Trail f) h.3)
 
-    pub errand_asked : TextsGenerate d u made → (e : Errand) → IsErrandOf word made d u s e → AskFor word d u s (Ok e)
+    pub errand_asked : TextsGenerate d u made → (e : Errand) → IsAskedOf word made d u s e → AskFor word d u s (Ok e)
     errand_asked generates e is = (is.word_is, own_generates e is generates, ap (λ (a : Made). a.generation.double) is.application_is ∙ single, is.fingerprint_is, own_asks e is)
 
-    pub errand_one : (e : Errand) → IsErrandOf word made d u s e → (said : Reading) → AskFor word d u s said → said ≡ Ok e
+    pub errand_one : (e : Errand) → IsAskedOf word made d u s e → (said : Reading) → AskFor word d u s said → said ≡ Ok e
     errand_one e is (Ok f) h = ap said_errand (same_errand e is f h.0 h.1 h.3 h.4)
     errand_one e is (Err (Application f)) h = absurd (faultless f h)
     errand_one e is (Err (Double line)) h = absurd (not_double h.0 h.1 line h.2)
@@ -92,27 +97,16 @@ module _ (word : Word) (d u s : List ℕ) (made : Made) (one : (a : Made) → Te
 
   -- ---- over two copies
 
+  pub two_asked : TextsGenerate d u made → IsSome made.generation.double → (e : Errand) → IsAskedOf word made d u s e → AskForTwo word d u s (Ok e)
+  two_asked generates double e is = (is.word_is, own_generates e is generates, subst (λ (a : Made). IsSome a.generation.double) (sym is.application_is) double, is.fingerprint_is, own_asks e is)
+
   pub two_refused_one : (r : Refusal) → ThirdRefuses (audits word) made (print_of d u) s r → (said : Reading) → AskForTwo word d u s said → said ≡ Err r
   two_refused_one r refuses (Ok e) h = absurd (no_errand r refuses e h.1 h.3 h.4)
   two_refused_one r refuses (Err q) h = ap said_refused (same_refusal r refuses h.0 h.1 q h.3)
 
-  pub two_errand_one : (e : Errand) → IsErrandOf word made d u s e → (said : Reading) → AskForTwo word d u s said → said ≡ Ok e
+  pub two_errand_one : (e : Errand) → IsAskedOf word made d u s e → (said : Reading) → AskForTwo word d u s said → said ≡ Ok e
   two_errand_one e is (Ok f) h = ap said_errand (same_errand e is f h.0 h.1 h.3 h.4)
   two_errand_one e is (Err q) h = absurd (no_refusal e is h.0 h.1 q h.3)
-
--- what reading two texts gives is the one application that they make
-pub given_one : (made a : Made) → Gives (Ok made) (Ok a) → a ≡ made
-given_one made a gives = ok_is ApplicationFault a made gives
-
-pub given_single : (made a : Made) → made.generation.double ≡ None → Gives (Ok made) (Ok a) → a.generation.double ≡ None
-given_single made a single gives = ap (λ (b : Made). b.generation.double) (given_one made a gives) ∙ single
-
--- two texts that are refused make none
-pub given_none : (fault : ApplicationFault) → fault ≢ faults.Memory → (a : Made) → Gives (Err fault) (Ok a) → ⊥
-given_none (faults.Definition f) some a gives = let no : Ok a ≡ Err (faults.Definition f) = gives in cc
-given_none (faults.Units f) some a gives = let no : Ok a ≡ Err (faults.Units f) = gives in cc
-given_none (faults.Fit f) some a gives = let no : Ok a ≡ Err (faults.Fit f) = gives in cc
-given_none faults.Memory some a gives = absurd (some refl)
 
 -- the definition asks for one KDCFILE, or no application is made
 pub no_two : (word : Word) (d u s : List ℕ) → ((a : Made) → TextsGenerate d u a → a.generation.double ≡ None) → (said : Reading) → AskForTwo word d u s said → ⊥
@@ -130,35 +124,8 @@ of_base Audit other = tt
 of_base (Make n) other = other n refl
 
 -- the status of a third text that is refused
-third_three : (audit : Bool) (a : Made) (print s : List ℕ) (why : Refusal) → ThirdRefuses audit a print s why → status_of why ≡ 3
+pub third_three : (audit : Bool) (a : Made) (print s : List ℕ) (why : Refusal) → ThirdRefuses audit a print s why → status_of why ≡ 3
 third_three audit a print s (Application f) h = absurd h
 third_three audit a print s (Double line) h = absurd h
 third_three audit a print s (Script f) h = refl
 third_three audit a print s (Trail f) h = refl
-
-pub two_three : (word : Word) (d u s : List ℕ) (why : Refusal) → AskForTwo word d u s (Err why) → status_of why ≡ 3
-two_three word d u s why h = third_three (audits word) h.0 (print_of d u) s why h.3
-
--- ---- results
-
--- what there may be has what follows from what it has
-pub some_weaker : {X E : Type 0} (r : Result (Option X) E) (P Q : X → Type 0) → ((x : X) → P x → Q x) → IfOk r (λ o. IfSome o P) → IfOk r (λ o. IfSome o Q)
-some_weaker (Ok (Some x)) P Q h p = h x p
-some_weaker (Ok None) P Q h p = p
-some_weaker (Err e) P Q h p = p
-
-pub some_is : {X : Type 0} (P : X → Type 0) (o : Option X) (x : X) → o ≡ Some x → IfSome o P → P x
-some_is P o x is p = subst (λ r. IfSome r P) is p
-
-pub none_is : {X : Type 0} (A : Type 0) (o : Option X) → o ≡ None → IfNone o A → A
-none_is A o is p = subst (λ r. IfNone r A) is p
-
-pub some_all : {X E : Type 0} (r : Result (Option X) E) (A : Type 0) → A → IfOk r (λ o. IfSome o (λ x. A))
-some_all (Ok (Some x)) A a = a
-some_all (Ok None) A a = tt
-some_all (Err e) A a = tt
-
-pub none_weaker : {X E : Type 0} (r : Result (Option X) E) (A B : Type 0) → (A → B) → IfOk r (λ o. IfNone o A) → IfOk r (λ o. IfNone o B)
-none_weaker (Ok (Some x)) A B h p = p
-none_weaker (Ok None) A B h p = h p
-none_weaker (Err e) A B h p = p

@@ -2,6 +2,7 @@ pub mod Scripts
 pub mod CanRun
 pub mod TextsSaid
 pub mod ErrandSaid
+pub mod AskedSaid
 pub mod Started
 pub mod Opened
 pub mod Ran
@@ -9,10 +10,13 @@ pub mod ByWord
 pub mod Updated
 pub mod Refused
 pub mod Writing
+pub mod Stopping
 pub mod Doing
 pub mod Audited
 pub mod Trailed
 pub mod Codes
+pub mod Answering
+pub mod Running
 pub mod MadeTexts
 pub mod MadeExamples
 pub mod MadeReadAgain

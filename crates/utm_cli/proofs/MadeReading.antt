@@ -7,6 +7,7 @@ use Rattle.kd_base.specs.ToolsLaws.{both_true, some_is}
 use Rattle.kd_device.specs.declared.error.DeviceError.{DeviceError}
 use Rattle.kd_device.specs.declared.error.DeviceError.TheVariants as room
 use Rattle.application_types.specs.Statements.{IsWithin}
+use Rattle.application_read.specs.declared.application.Application.{Application as Made}
 use Rattle.application_read.specs.Texts.{TextsGenerate}
 use Rattle.abstract_monitor.specs.Made.{made_script}
 use Rattle.script_read.specs.Commands.{script_in}
@@ -23,7 +24,7 @@ use Rattle.utm_cli.specs.MadeApplication.{generated_application, AreMade, MadeTe
 use Rattle.utm_cli.specs.MadeReading.{MakeIsRead}
 use Rattle.utm_cli.specs.MadeTexts.{definition_text, units_text, script_text}
 use Rattle.utm_cli.specs.Promise.{Request}
-use Rattle.utm_cli.specs.Words.{IsOfBase, audits, is_input_count, is_base, word_by, made_by, made_input, over_base, word_with, asked}
+use Rattle.utm_cli.specs.Words.{audits, is_input_count, is_base, word_by, made_by, made_input, over_base, word_with, asked}
 
 -- ---- how many inputs
 
@@ -98,6 +99,10 @@ module _ (taken : MadeTextsAreTaken) where
     generated : TextsGenerate d u generated_application
     generated = subst (λ (x : List ℕ). TextsGenerate x u generated_application) (sym made.definition_is) (subst (λ (x : List ℕ). TextsGenerate definition_text x generated_application) (sym made.units_are) taken.application)
 
+    -- they ask for one file
+    pub made_single : (a : Made) → ((b : Made) → TextsGenerate d u b → b ≡ a) → a.generation.double ≡ None
+    made_single a one = ap (λ (b : Made). b.generation.double) (sym (one generated_application generated))
+
     says : AskFor word d u s (Ok errand)
     says = (refl, generated, refl, refl, subst (λ (audit : Bool). ThirdAsks audit generated_application (print_of d u) s (made_script n) None) (sym runs) (ap (script_in generated_application.generation) made.script_is ∙ taken.script n within, refl))
 
@@ -112,9 +117,6 @@ room_not_refused T (Err x) room.Failed why gives is = absurd (let no : error.Roo
 room_not_refused T (Err x) room.Memory why gives is = absurd (let no : error.Memory ≡ error.Refused why = cc in cc)
 
 -- ---- its status
-
-pub looks_not : (word : Word) (n : ℕ) → word ≡ Make n → IsOfBase word → ⊥
-looks_not word n is looks = subst (λ (w : Word). IsOfBase w) is looks
 
 pub asked_make : (words : List (List ℕ)) (word : Word) (base : List ℕ) (n : ℕ) (operand : List ℕ) → Request words word base → Request words (Make n) operand → word ≡ Make n
 asked_make words word base n operand h k =

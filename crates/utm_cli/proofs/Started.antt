@@ -7,7 +7,7 @@ use Rattle.laws_of_states.specs.EmptyTablesLaws.{empty_suit}
 use Rattle.laws_of_states.specs.Suits.{Suits}
 use Rattle.abstract_monitor.specs.Commands.{started}
 use Rattle.laws_of_runs.specs.RunLaws.{StartsHaveFacts}
-use Rattle.laws_of_runs.specs.Access.{RunsKeepAccess, LocksMakeTheRule}
+use Rattle.laws_of_runs.specs.Access.{RunsKeepAccess, LocksMakeTheRule, LocksMakeTheTrace}
 use Rattle.laws_of_runs.specs.Lawful.{RunsAreLawful}
 use Rattle.laws_of_runs.specs.ManyRuns.{AllRunsKeepJobs}
 use Rattle.laws_of_runs.specs.QueueLaws.{JobsAreDoneOnce}
@@ -42,14 +42,15 @@ suited_by Audit e trail taken limits bytes s holds =
 suited_by (Make n) e trail taken limits bytes s is = opened e [] s.tables (inl (refl, ap (λ (x : Stored). x.tables) is))
 
 -- from tables that suit, whatever they are kept in
-pub suited_lawfully : (e : Errand) → CanRun e → StartsHaveFacts → RunsAreLawful → RunsKeepAccess → LocksMakeTheRule → JobsAreDoneOnce → CutsResume → CutsAreSerial → AllRunsKeepJobs
+pub suited_lawfully : (e : Errand) → CanRun e → StartsHaveFacts → RunsAreLawful → RunsKeepAccess → LocksMakeTheRule → LocksMakeTheTrace → JobsAreDoneOnce → CutsResume → CutsAreSerial → AllRunsKeepJobs
     → (t : TableRows) → IsSortedTables t → Suits e.application.generation t → RunsLawfully (app_of e) t e.commands
-suited_lawfully e can facts lawful access ruleless once resume serial runs t sorted suits =
+suited_lawfully e can facts lawful access ruleless traced once resume serial runs t sorted suits =
     record {
       lasting = durable_same e.application.generation t suits;
       steps = lawful (app_of e) t e.commands can.applies can.names sorted suits;
       access = access (app_of e) t e.commands can.applies can.names sorted suits;
       ruleless = ruleless e.application.generation;
+      keyless_runs = traced (app_of e);
       jobs = λ first more rest whole. once (app_of e) (started (app_of e) t) e.commands can.applies can.names (facts (app_of e) t can.applies sorted suits) first more rest whole;
       resumes = λ done left whole. resume (app_of e) t e.commands can.applies can.names sorted suits done left whole;
       serial = λ done left whole. serial (app_of e) t e.commands can.applies can.names sorted suits done left whole;

@@ -291,9 +291,6 @@ application_is T (Err x) (application.Units f) why gives is = (λ e. cc, cc)
 application_is T (Err x) (application.Fit f) why gives is = (λ e. cc, cc)
 application_is T (Err x) application.Memory why gives is = absurd (let h : error.Memory ≡ error.Refused why = cc in cc)
 
-pub double_is : (T : Type 0) (line : ℕ) (why : Refusal) → IsErrOf {T = T} (Err (error.Refused (Double line))) (error.Refused why) → Double line ≡ why
-double_is T line why is = cc
-
 -- a fault that is not want of memory is the answer
 refused_as : (e : ApplicationFault) → e ≢ application.Memory → (wanted : Result Made ApplicationFault) → Gives (Err e) wanted → wanted ≡ Err e
 refused_as (application.Definition f) some wanted h = h
@@ -307,7 +304,7 @@ said_refused why = Err why
 -- ---- the definition or the units are refused
 
 module _ (word : Word) (d u s : List ℕ) (e : ApplicationFault) (some : e ≢ application.Memory) (only : (a : Made) → TextsGenerate d u a → Gives (Err e) (Ok a)) (refused : (f : ApplicationFault) → TextsHaveFault d u f → Gives (Err e) (Err f)) where
-  not_generated : (a : Made) → TextsGenerate d u a → ⊥
+  pub not_generated : (a : Made) → TextsGenerate d u a → ⊥
   not_generated a h = let no = refused_as e some (Ok a) (only a h) in cc
 
   pub application_one : (said : Reading) → AskFor word d u s said → said ≡ Err (Application e)

@@ -1,5 +1,5 @@
 -- The word `update`: after the file is attached, and as what was asked for.
-use Rattle.std.proofs.Common.{◌≡◌, inl, inr, ⊎_elim, ℕ, List, Bool, true, false, ◌+◌, ◌++◌, refl, sym, ap, subst, ◌∙◌, arith}
+use Rattle.std.proofs.Common.{◌≡◌, inl, inr, ⊎_elim, ℕ, List, Bool, true, false, ◌++◌, refl, sym, ap, subst, ◌∙◌, arith}
 use Rattle.kd_device.specs.Device.{State, LeavesOnly, Only}
 use Rattle.kd_device.specs.Rest.{Rests, Before}
 use Rattle.kd_device.specs.RestLaws.{rests_then}
@@ -9,19 +9,17 @@ use Rattle.application_types.specs.Generation.{Generated}
 use Rattle.abstract_monitor.specs.Trace.{bytes_of}
 use Rattle.kdcfile_update.specs.Carrying.{carried}
 use Rattle.device_acts.specs.Stands.{StandsForTables}
-use Rattle.device_acts.specs.Acting.{commits_nothing, WritesUpTo}
+use Rattle.device_acts.specs.Acting.{commits_nothing}
 use Rattle.device_acts.specs.LinesLaws.{tables_same}
 use Rattle.device_acts.specs.Said.{SameDisk}
-use Rattle.device_run.specs.Running.{commits_most}
 use Rattle.kdcfile_update.specs.Report.{is_same_print, report_by}
 use Rattle.kdcfile_update.specs.Updating.{Stored, IsUpToDate, IsUpdated, IsUpdateCut, RefusesAs, UpdateWrites, report_of}
 use Rattle.kdcfile_update.specs.declared.kd_update.error.UpdateError.{UpdateError}
-use Rattle.refusals.specs.declared.error.FileRefusal.{FileRefusal}
 use Rattle.utm_cli.specs.declared.words.Word.{Word}
 use Rattle.utm_cli.specs.declared.words.Word.TheVariants.{Update}
 use Rattle.utm_cli.specs.Asking.{Errand}
-use Rattle.utm_cli.specs.Doing.{IsOverFile, StartsBy, Starts, UpdateTakes, UpdateRefuses, RefusesBy, Refuses, identity_of, tables_by, acts_by}
-use Rattle.utm_cli.specs.Promise.{RanBy, Ran, IsCutBy, IsCutOfRun, WritesActsAlone, WritesFor, making_most}
+use Rattle.utm_cli.specs.Doing.{StartsBy, Starts, UpdateTakes, identity_of, tables_by, acts_by}
+use Rattle.utm_cli.specs.Promise.{RanBy, Ran, IsCutBy, IsCutOfRun, WritesBy, WritesFor}
 use Rattle.utm_cli.specs.CutsLaws.{cut_since}
 
 -- ---- a file that is taken
@@ -88,21 +86,8 @@ module _ (v e : Errand) (same : v ≡ e) (is : v.word ≡ Update) where
   update : e.word ≡ Update
   update = sym (ap (λ (x : Errand). x.word) same) ∙ is
 
-  pub update_over : IsOverFile e.word
-  update_over = subst IsOverFile (sym update) tt
-
   pub update_starts : (bytes : List ℕ) (s : Stored) → UpdateTakes e bytes s → Starts e bytes s
   update_starts bytes s takes = subst (λ (w : Word). StartsBy w e bytes s) (sym update) takes
-
-  pub update_takes : (bytes : List ℕ) (s : Stored) → Starts e bytes s → UpdateTakes e bytes s
-  update_takes bytes s from = subst (λ (w : Word). StartsBy w e bytes s) update from
-
-  pub update_refuses : (bytes : List ℕ) (why : FileRefusal) → UpdateRefuses e bytes why → Refuses e bytes why
-  update_refuses bytes why refuses = subst (λ (w : Word). RefusesBy w e bytes why) (sym update) refuses
-
-  -- it writes nothing where the file is of these texts
-  pub update_own : (s : Stored) (a : State) → WritesActsAlone e.word e s a → s.identity ≡ identity_of e
-  update_own s a alone = subst (λ (w : Word). WritesActsAlone w e s a) update alone
 
   pub update_ran : (s : Stored) (a b : State) (lb : ℕ → List ℕ → List ℕ → Type 0) → IsUpdated e.application.generation e.fingerprint s a b lb → Ran e s a b lb
   update_ran s a b lb h =
@@ -123,6 +108,5 @@ module _ (v e : Errand) (same : v ≡ e) (is : v.word ≡ Update) where
       inr (
         s,
         update_starts a.holds s takes,
-        subst (λ (w : Word). WritesUpTo (λ acts. making_most w e a.holds s + commits_most (identity_of e) acts) (acts_by w e s) a b) (sym update)
-            (record { since = h.since; more = h.more; done = h.done; left = h.left; whole = h.whole; bytes = h.bytes; put = omega (arith, h.put) }),
+        subst (λ (w : Word). WritesBy w e (acts_by w e s) s a b) (sym update) h,
       )

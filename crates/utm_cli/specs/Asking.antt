@@ -1,5 +1,5 @@
 -- What the texts of a call ask for.
-use Rattle.std.specs.Prelude.{◌≡◌, ◌≢◌, ◌⊎◌, ◌≤◌, ◌<◌, ◌^◌, ℕ, Bool, true, false, List, [], length, sum_by, Option, Some, None, IsSome, Result, Ok, Err}
+use Rattle.std.specs.Prelude.{◌≡◌, ◌≢◌, ◌⊎◌, ◌≤◌, ◌<◌, ◌^◌, ℕ, Bool, true, false, IsTrue, List, [], length, sum_by, Option, Some, None, IsSome, Result, Ok, Err}
 use Rattle.kd_base.specs.Limits.{longest_text}
 use Rattle.kd_device.specs.Room.{RoomState, text_of}
 use Rattle.application_check.specs.Fitted.{IsFit}
@@ -23,6 +23,22 @@ use Rattle.audit_trail.specs.Places.{trail_in}
 use Rattle.utm_cli.specs.MadeTexts.{definition_text as made_definition, units_text as made_units, script_text as made_script}
 use Rattle.refusals.specs.declared.error.Refusal.{Refusal}
 use Rattle.refusals.specs.declared.error.Refusal.TheVariants.{Application, Double, Script, Trail as TrailRefused}
+use Rattle.refusals.specs.declared.error.TextError.{TextError}
+use Rattle.refusals.specs.declared.error.TextError.TheVariants as error
+use Rattle.refusals.specs.Statuses.{status_of}
+use Rattle.utm_cli.specs.declared.errand.Work.{Work}
+use Rattle.utm_cli.specs.declared.errand.Task.{Task}
+use Rattle.utm_cli.specs.declared.errand.Task.TheVariants as task
+use Rattle.utm_cli.specs.declared.errand.Storing.{Storing}
+use Rattle.utm_cli.specs.declared.errand.Storing.TheVariants as storing
+use Rattle.utm_cli.specs.declared.errand.Looking.{Looking}
+use Rattle.utm_cli.specs.declared.errand.Looking.TheVariants as looking
+use Rattle.utm_cli.specs.declared.errand.OneFile.{OneFile}
+use Rattle.utm_cli.specs.declared.errand.OneFile.TheVariants as file
+use Rattle.utm_cli.specs.declared.errand.TwoFiles.{TwoFiles}
+use Rattle.utm_cli.specs.declared.errand.TwoFiles.TheVariants as files
+use Rattle.utm_cli.specs.declared.errand.Asked.{Asked}
+use Rattle.utm_cli.specs.declared.errand.Asked.TheVariants.{One, Two}
 use Rattle.utm_cli.specs.declared.words.Word.{Word}
 use Rattle.utm_cli.specs.declared.words.Word.TheVariants.{Gen, Run, Show, Update, Trail, Audit, Make}
 use Rattle.utm_cli.specs.Words.{IsOfBase, audits, definition_name, units_name, script_name, trail_name}
@@ -34,6 +50,71 @@ pub record Errand : Type 0 where
   pub fingerprint : List ℕ
   pub commands : List Command
   pub trail : Option Kept
+
+-- the word of a task, its commands and its trail
+abbrev pub storing_word : Storing → Word
+storing_word storing.Report = Gen
+storing_word (storing.Script commands) = Run
+
+abbrev pub storing_commands : Storing → List Command
+storing_commands storing.Report = []
+storing_commands (storing.Script commands) = commands
+
+abbrev pub looking_word : Looking → Word
+looking_word looking.Listing = Show
+looking_word (looking.Trail commands) = Trail
+
+abbrev pub looking_commands : Looking → List Command
+looking_commands looking.Listing = []
+looking_commands (looking.Trail commands) = commands
+
+abbrev pub task_word : Task → Word
+task_word (task.Store s) = storing_word s
+task_word (task.Look l) = looking_word l
+task_word task.Update = Update
+task_word (task.Audit trail) = Audit
+
+abbrev pub task_commands : Task → List Command
+task_commands (task.Store s) = storing_commands s
+task_commands (task.Look l) = looking_commands l
+task_commands task.Update = []
+task_commands (task.Audit trail) = []
+
+abbrev pub task_trail : Task → Option Kept
+task_trail (task.Store s) = None
+task_trail (task.Look l) = None
+task_trail task.Update = None
+task_trail (task.Audit trail) = Some trail
+
+-- the errand of a task, and that of so many made inputs
+abbrev pub errand_for : Work → Task → Errand
+errand_for w t = record { word = task_word t; application = w.application; fingerprint = w.fingerprint; commands = task_commands t; trail = task_trail t }
+
+abbrev pub making : ℕ → Work → List Command → Errand
+making n w commands = record { word = Make n; application = w.application; fingerprint = w.fingerprint; commands = commands; trail = None }
+
+abbrev pub one_errand : OneFile → Errand
+one_errand (file.Over w t) = errand_for w t
+one_errand (file.Make n w commands) = making n w commands
+
+-- each task by itself
+abbrev pub storing_errand : Work → Storing → Errand
+storing_errand w s = errand_for w (task.Store s)
+
+abbrev pub gen_errand : Work → Errand
+gen_errand w = storing_errand w storing.Report
+
+abbrev pub run_errand : Work → List Command → Errand
+run_errand w commands = storing_errand w (storing.Script commands)
+
+abbrev pub looking_errand : Work → Looking → Errand
+looking_errand w l = errand_for w (task.Look l)
+
+abbrev pub update_errand : Work → Errand
+update_errand w = errand_for w task.Update
+
+abbrev pub audit_errand : Work → Kept → Errand
+audit_errand w trail = errand_for w (task.Audit trail)
 
 -- an errand, or why there is none
 abbrev pub Reading : Type 0
@@ -97,12 +178,12 @@ AskForTwo word definition units text (Ok e) =
 AskForTwo word definition units text (Err why) =
     (a : Made) × TextsGenerate definition units a × IsSome a.generation.double × ThirdRefuses (audits word) a (print_of definition units) text why
 
--- an errand of the word over this application of the two texts, for which the third text asks
-pub record IsErrandOf (word : Word) (a : Made) (definition units text : List ℕ) (e : Errand) : Type 0 where
+-- an errand of the word over this application, for which the third text asks
+pub record IsErrandOf (word : Word) (w : Work) (text : List ℕ) (e : Errand) : Type 0 where
   pub word_is : e.word ≡ word
-  pub application_is : e.application ≡ a
-  pub fingerprint_is : e.fingerprint ≡ print_of definition units
-  pub asks : ThirdAsks (audits word) a e.fingerprint text e.commands e.trail
+  pub application_is : e.application ≡ w.application
+  pub fingerprint_is : e.fingerprint ≡ w.fingerprint
+  pub asks : ThirdAsks (audits word) w.application w.fingerprint text e.commands e.trail
 
 -- a text of a word: the room's of this name, or for `make` the made one
 abbrev pub TextIs : Word → RoomState → (name : List ℕ) → (made : ℕ → List ℕ) → List ℕ → Type 0
@@ -146,6 +227,75 @@ pub record ReadsForTwo (word : Word) (base : List ℕ) (room : RoomState) (said 
   pub text : List ℕ
   pub there : AreThere word base room definition units text
   pub says : AskForTwo word definition units text said
+
+-- the room tells the texts of the word; those of `make` are its own
+abbrev pub TellsTexts : Word → RoomState → Type 0
+TellsTexts word room = IsTrue room.told ⊎ ((n : ℕ) × (word ≡ Make n))
+
+-- ---- what was read
+
+-- what the texts say over one file, and over two where they ask for two
+abbrev pub one_reading : Asked → Reading
+one_reading (One o) = Ok (one_errand o)
+one_reading (Two line t) = Err (Double line)
+
+abbrev pub two_reading : TwoFiles → Reading
+two_reading (files.Over w t) = Ok (errand_for w t)
+two_reading (files.Refused why) = Err why
+
+abbrev pub IsTwo : Asked → Reading → Type 0
+IsTwo (One o) said = ⊥
+IsTwo (Two line t) said = said ≡ two_reading t
+
+-- what a third text asks for, where the definition asks for two copies at a line, or for one
+abbrev pub over_by : Option ℕ → Work → Task → Result Asked TextError
+over_by None w t = Ok (One (file.Over w t))
+over_by (Some line) w t = Ok (Two line (files.Over w t))
+
+abbrev pub refused_by : Option ℕ → Refusal → Result Asked TextError
+refused_by None why = Err (error.Refused why)
+refused_by (Some line) why = Ok (Two line (files.Refused why))
+
+abbrev pub asked_by : Option ℕ → Result OneFile TextError → Result Asked TextError
+asked_by double (Ok (file.Over w t)) = over_by double w t
+asked_by double (Ok (file.Make n w commands)) = Ok (One (file.Make n w commands))
+asked_by double (Err (error.Refused why)) = refused_by double why
+asked_by double (Err error.Room) = Err error.Room
+asked_by double (Err error.Memory) = Err error.Memory
+
+-- what was read is what the texts say, and all that they say
+pub record SaysOver (word : Word) (definition units text : List ℕ) (o : Asked) : Type 0 where
+  pub one : AskFor word definition units text (one_reading o)
+  pub one_only : (said : Reading) → AskFor word definition units text said → said ≡ one_reading o
+  pub two : (said : Reading) → IsTwo o said → AskForTwo word definition units text said
+  pub two_only : (said : Reading) → AskForTwo word definition units text said → IsTwo o said
+
+-- the texts are refused for this fault, and ask for no two copies
+pub record SaysFault (word : Word) (definition units text : List ℕ) (why : Refusal) : Type 0 where
+  pub one : AskFor word definition units text (Err why)
+  pub one_only : (said : Reading) → AskFor word definition units text said → said ≡ Err why
+  pub none : (said : Reading) → AskForTwo word definition units text said → ⊥
+
+-- the same of the texts of a room
+pub record ToldOver (word : Word) (base : List ℕ) (room : RoomState) (o : Asked) : Type 0 where
+  pub one : ReadsFor word base room (one_reading o)
+  pub one_only : (said : Reading) → ReadsFor word base room said → said ≡ one_reading o
+  pub two : (said : Reading) → IsTwo o said → ReadsForTwo word base room said
+  pub two_only : (said : Reading) → ReadsForTwo word base room said → IsTwo o said
+
+pub record ToldFault (word : Word) (base : List ℕ) (room : RoomState) (why : Refusal) : Type 0 where
+  pub one : ReadsFor word base room (Err why)
+  pub one_only : (said : Reading) → ReadsFor word base room said → said ≡ Err why
+  pub none : (said : Reading) → ReadsForTwo word base room said → ⊥
+
+-- it is asked by this word; over two copies by one that has a BASE
+abbrev pub IsOfWordTwo : Word → TwoFiles → Type 0
+IsOfWordTwo word (files.Over w t) = task_word t ≡ word
+IsOfWordTwo word (files.Refused why) = IsOfBase word
+
+abbrev pub IsOfWord : Word → Asked → Type 0
+IsOfWord word (One o) = (one_errand o).word ≡ word
+IsOfWord word (Two line t) = IsOfWordTwo word t
 
 -- longer than a text may be
 abbrev pub IsLong : List ℕ → Type 0
@@ -194,3 +344,12 @@ TextsCanRun = (word : Word) (definition units text : List ℕ) (e : Errand) → 
 -- and so can what texts of two copies ask for
 abbrev pub TextsOfTwoCanRun : Type 0
 TextsOfTwoCanRun = (word : Word) (definition units text : List ℕ) (e : Errand) → AskForTwo word definition units text (Ok e) → CanRun e
+
+-- what was read can run; a third text over two copies is refused with its own status
+abbrev pub MakesFitTwo : TwoFiles → Type 0
+MakesFitTwo (files.Over w t) = CanRun (errand_for w t) × IsSome w.application.generation.double
+MakesFitTwo (files.Refused why) = status_of why ≡ 3
+
+abbrev pub MakesFit : Asked → Type 0
+MakesFit (One o) = CanRun (one_errand o)
+MakesFit (Two line t) = MakesFitTwo t

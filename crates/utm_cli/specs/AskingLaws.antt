@@ -42,10 +42,13 @@ module _ (words : List (List ℕ)) (room : RoomState) (word : Word) (base : List
   lacked Audit d u s there (inr (inl none)) = let differ = sym there.units_is ∙ none in cc
   lacked Audit d u s there (inr (inr none)) = let differ = sym there.script_is ∙ none in cc
 
-  pub not_missed : (said : Reading) → ReadsFor word base room said → Misses words room → ⊥
-  not_missed said h k =
+  pub there_not_missed : (d u s : List ℕ) → AreThere word base room d u s → Misses words room → ⊥
+  there_not_missed d u s there k =
       let same = same_request k.word k.base k.asked in
-      lacked word h.definition h.units h.text h.there (subst (λ (b : List ℕ). Lacks word b room) same.1 (subst (λ (w : Word). Lacks w k.base room) same.0 k.not_there))
+      lacked word d u s there (subst (λ (b : List ℕ). Lacks word b room) same.1 (subst (λ (w : Word). Lacks w k.base room) same.0 k.not_there))
+
+  pub not_missed : (said : Reading) → ReadsFor word base room said → Misses words room → ⊥
+  not_missed said h k = there_not_missed h.definition h.units h.text h.there k
 
   -- a text, or none
   found : (name : List ℕ) → (text_of name room.texts ≡ None) ⊎ ((text : List ℕ) × (text_of name room.texts ≡ Some text))

@@ -5,6 +5,13 @@ pub mod Causes
 pub mod Doing
 pub mod Promise
 pub mod Parts
+pub mod TwinCauses
+pub mod DoingTwo
+pub mod PromiseTwo
+pub mod OpeningTwo
+pub mod PartsTwo
+pub mod Beside
+pub mod Answers
 pub mod MadeTexts
 pub mod MadeReport
 pub mod MadeExamples
@@ -15,3 +22,5 @@ pub mod AuditLaws
 pub mod AskingLaws
 pub mod CutsLaws
 pub mod EndsLaws
+pub mod TwoAnswersLaws
+pub mod BehindLaws

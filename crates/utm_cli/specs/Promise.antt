@@ -1,5 +1,5 @@
 -- The words in which the top call promises.
-use Rattle.std.specs.Prelude.{◌≡◌, ⊤, ◌⊎◌, ℕ, ◌+◌, true, IsTrue, List, [], ◌∷◌, ◌++◌, take, Some, None, Ok, Err}
+use Rattle.std.specs.Prelude.{◌≡◌, ⊤, ◌⊎◌, ◌≤◌, ℕ, ◌+◌, Bool, true, IsTrue, List, [], ◌∷◌, ◌++◌, take, Option, Some, None, Ok, Err}
 use Rattle.kd_device.specs.Device.{State, Rose, LeavesOnly, Only}
 use Rattle.kd_device.specs.Room.{RoomState, text_of}
 use Rattle.kd_records.specs.Identity.{Identity}
@@ -17,12 +17,13 @@ use Rattle.laws_of_runs.specs.ManyRuns.{StoppedRun, AreRunsFrom, RunsKeepJobs}
 use Rattle.laws_of_runs.specs.QueueLaws.{JobsAreKept}
 use Rattle.laws_of_runs.specs.ResumeLaws.{CutResumes}
 use Rattle.laws_of_runs.specs.SerialCuts.{IsSerialCut}
-use Rattle.laws_of_runs.specs.Access.{KeepsAccess, HasNoLocks, IsWithoutRule}
+use Rattle.laws_of_runs.specs.Access.{KeepsAccess, HasNoLocks, IsWithoutRule, RunsAsKeyless}
 use Rattle.device_acts.specs.Opening.{opening_most}
 use Rattle.device_acts.specs.Stands.{StandsForTables}
-use Rattle.device_acts.specs.Acting.{commits_nothing, WritesUpTo}
+use Rattle.device_acts.specs.Acting.{commits_nothing, HaltsAt, WritesBegun, WritesUpTo}
 use Rattle.device_acts.specs.Said.{SameDisk, Said, SaidPart}
-use Rattle.device_run.specs.Running.{IsCutSince, commits_most}
+use Rattle.device_run.specs.Running.{IsCutSince, StoppedIn, commits_most}
+use Rattle.monitor_core.specs.CoreValue.{CoreValue}
 use Rattle.application_read.specs.declared.application.Application.{Application as Made}
 use Rattle.application_read.specs.Texts.{TextsGenerate}
 use Rattle.laws_of_runs.specs.Applied.{applied}
@@ -35,7 +36,7 @@ use Rattle.refusals.specs.Statuses.{IsOneOf, status_of, status_of_file}
 use Rattle.utm_cli.specs.declared.words.Word.{Word}
 use Rattle.utm_cli.specs.declared.words.Word.TheVariants.{Gen, Run, Show, Update, Trail, Audit, Make}
 use Rattle.utm_cli.specs.Words.{request_of, definition_name, units_name, script_name, trail_name, file_name}
-use Rattle.utm_cli.specs.Asking.{Errand, Reading, ReadsFor, AreThere}
+use Rattle.utm_cli.specs.Asking.{Errand, Reading, ReadsFor, AreThere, app_of}
 use Rattle.kdcfile_update.specs.Updating.{Stored, update_most}
 use Rattle.utm_cli.specs.Doing.{Starts, Refuses, identity_of, tables_of, acts_of}
 
@@ -151,23 +152,36 @@ MakesFile Trail = ⊥
 MakesFile Audit = ⊥
 MakesFile (Make n) = ⊥
 
--- how many bytes the word writes at most before its acts: those of a fresh file and one, where it makes the file, and under `update` those of the new tables, where they are carried
-abbrev pub making_most : Word → Errand → (bytes : List ℕ) → Stored → ℕ
-making_most Gen e bytes s = opening_most (identity_of e) bytes
-making_most Run e bytes s = opening_most (identity_of e) bytes
-making_most Show e bytes s = 0
-making_most Update e bytes s = update_most e.application.generation e.fingerprint s
-making_most Trail e bytes s = 0
-making_most Audit e bytes s = 0
-making_most (Make n) e bytes s = 0
+-- so many bytes at most were written before the acts, and nothing was sent; or the acts were begun, and the bytes written are at most those and those of some first acts, which are those whose lines were sent and whose commits the file has, but for a last one that was begun
+abbrev pub WritesOver : (making : ℕ) → Identity → List Act → TableRows → (a b : State) → Type 0
+WritesOver making i acts t a b =
+    ((b.sent ≡ a.sent) × (b.put ≤ a.put + making)) ⊎ WritesBegun tables_after (StandsForTables i) t (λ (first : List Act). making + commits_most i first) acts a b b.holds
 
--- how many bytes an errand over a file with these bytes has written at most when it has performed or begun these first acts
-abbrev pub errand_most : Errand → (bytes : List ℕ) → Stored → List Act → ℕ
-errand_most e bytes s acts = making_most e.word e bytes s + commits_most (identity_of e) acts
+-- what the word writes at most: `gen` and `run` the bytes of a fresh file and one, where the file is made, and those of their commits; `update` those of the new tables; and the other words none
+abbrev pub WritesBy : Word → Errand → List Act → Stored → (a b : State) → Type 0
+WritesBy Gen e acts s a b = WritesOver (opening_most (identity_of e) a.holds) (identity_of e) acts s.tables a b
+WritesBy Run e acts s a b = WritesOver (opening_most (identity_of e) a.holds) (identity_of e) acts s.tables a b
+WritesBy Show e acts s a b = ⊥
+WritesBy Update e acts s a b = WritesUpTo (λ (first : List Act). update_most e.application.generation e.fingerprint s) acts a b
+WritesBy Trail e acts s a b = ⊥
+WritesBy Audit e acts s a b = ⊥
+WritesBy (Make n) e acts s a b = ⊥
 
--- nothing was written, or the errand was begun, and the bytes written are at most those of the making of its file, or of its new tables, and of the commits that were performed or begun
+-- nothing was written, or the errand was begun, and what it has written is bounded so
 abbrev pub WritesFor : Errand → (a b : State) → Type 0
-WritesFor e a b = (b.put ≡ a.put) ⊎ ((s : Stored) × Starts e a.holds s × WritesUpTo (errand_most e a.holds s) (acts_of e s) a b)
+WritesFor e a b = (b.put ≡ a.put) ⊎ ((s : Stored) × Starts e a.holds s × WritesBy e.word e (acts_of e s) s a b)
+
+-- a monitor that begins with these tables
+abbrev pub begun_with : Application → TableRows → CoreValue
+begun_with app t = record { application = app; state = started app t; steps = 0 }
+
+-- a run that stopped: nothing was sent; or it stopped within the command that comes after the first n, which were done
+abbrev pub StopsRun : Errand → Stored → (a b : State) → Type 0
+StopsRun e s a b = (b.sent ≡ a.sent) ⊎ ((n : ℕ) × StoppedIn (StandsForTables (identity_of e)) (begun_with (app_of e) s.tables) e.commands n a b b.holds)
+
+-- a run on which a call failed: one of the line; or nothing was sent, or just the lines before a commit or before that of a RESTART
+abbrev pub HaltsRun : Errand → Stored → (a b : State) → Type 0
+HaltsRun e s a b = Rose a.line_faults b.line_faults ⊎ (b.sent ≡ a.sent) ⊎ HaltsAt (acts_of e s) a b
 
 -- every step of the script is lawful, begins only services that the rule of locks and keys allows, and jobs are kept from each of its states to each later one; wherever a stop cuts its acts, what is stored are tables from which all services go on, and a serial run of the commits that are done stores the same; and jobs are kept over runs of any scripts one after another
 pub record RunsLawfully (app : Application) (t : TableRows) (script : List Command) : Type 0 where
@@ -177,6 +191,7 @@ pub record RunsLawfully (app : Application) (t : TableRows) (script : List Comma
   -- who may start what
   pub access : EachStep (KeepsAccess app) (started app t) (history app (started app t) script)
   pub ruleless : HasNoLocks app.generation → IsWithoutRule app.generation
+  pub keyless_runs : HasNoLocks app.generation → RunsAsKeyless app
   pub jobs : JobsAreKept app (started app t) (history app (started app t) script)
   pub resumes : (done left : List Act) → trace app t script ≡ done ++ left → CutResumes app t script done
   pub serial : (done left : List Act) → trace app t script ≡ done ++ left → IsSerialCut app t script done
@@ -218,33 +233,55 @@ call words room device = record { words = words; room = room; device = device }
 abbrev pub AsksNothing : List (List ℕ) → Type 0
 AsksNothing words = request_of words ≡ None
 
+-- the words are `make` with a number
+abbrev pub AsksMake : List (List ℕ) → Type 0
+AsksMake words = (n : ℕ) × ((operand : List ℕ) × Request words (Make n) operand)
+
+-- the room tells its texts, or the words are `make`, which reads none of them
+abbrev pub RoomTells : Call → Type 0
+RoomTells c = IsTrue c.room.told ⊎ AsksMake c.words
+
+-- the bytes of the file are told, or the word looks at none of them
+abbrev pub Tells : Word → (told : Bool) → Type 0
+Tells Gen told = IsTrue told
+Tells Run told = IsTrue told
+Tells Show told = IsTrue told
+Tells Update told = IsTrue told
+Tells Trail told = IsTrue told
+Tells Audit told = ⊤
+Tells (Make n) told = ⊤
+
 -- what holds of the errand that the words and the texts ask for
 abbrev pub ForErrand : Call → (Errand → Type 0) → Type 0
-ForErrand c P = IsTrue c.room.told → (e : Errand) → Reads c.words c.room (Ok e) → P e
+ForErrand c P = RoomTells c → (e : Errand) → Reads c.words c.room (Ok e) → P e
 
 -- what holds of the fault for which the texts are refused
 abbrev pub ForRefusal : Call → (Refusal → Type 0) → Type 0
-ForRefusal c P = IsTrue c.room.told → (why : Refusal) → Reads c.words c.room (Err why) → P why
+ForRefusal c P = RoomTells c → (why : Refusal) → Reads c.words c.room (Err why) → P why
 
 -- what holds of the reason for which the file is refused, or the trail does not hold
 abbrev pub ForFile : Call → (FileRefusal → Type 0) → Type 0
-ForFile c P = IsTrue c.room.told → IsTrue c.device.told → (e : Errand) → Reads c.words c.room (Ok e) → (why : FileRefusal) → Refuses e c.device.holds why → P why
+ForFile c P = RoomTells c → (e : Errand) → Reads c.words c.room (Ok e) → Tells e.word c.device.told → (why : FileRefusal) → Refuses e c.device.holds why → P why
 
 -- what holds of the errand, and of what is stored where it starts, where the file is accepted
 abbrev pub ForStart : Call → (Errand → Stored → Type 0) → Type 0
-ForStart c P = IsTrue c.room.told → IsTrue c.device.told → (e : Errand) (s : Stored) → Reads c.words c.room (Ok e) → Starts e c.device.holds s → P e s
+ForStart c P = RoomTells c → (e : Errand) (s : Stored) → Reads c.words c.room (Ok e) → Tells e.word c.device.told → Starts e c.device.holds s → P e s
 
 -- the same, where a stop before the call leaves just the file
 abbrev pub ForStartAtRest : Call → (ℕ → List ℕ → List ℕ → Type 0) → (Errand → Stored → Type 0) → Type 0
 ForStartAtRest c la P =
-    IsTrue c.room.told → IsTrue c.device.told → Only c.device.holds c.device la → (e : Errand) (s : Stored) → Reads c.words c.room (Ok e) → Starts e c.device.holds s → P e s
+    RoomTells c → IsTrue c.device.told → Only c.device.holds c.device la → (e : Errand) (s : Stored) → Reads c.words c.room (Ok e) → Starts e c.device.holds s → P e s
 
 -- what holds of a call of `trail` whose file is accepted, with the tables from which the trail begins
 abbrev pub ForTrail : Call → (Errand → TableRows → Type 0) → Type 0
-ForTrail c P = IsTrue c.room.told → IsTrue c.device.told → (e : Errand) (s : Stored) → Reads c.words c.room (Ok e) → Starts e c.device.holds s → e.word ≡ Trail → P e s.tables
+ForTrail c P = RoomTells c → IsTrue c.device.told → (e : Errand) (s : Stored) → Reads c.words c.room (Ok e) → Starts e c.device.holds s → e.word ≡ Trail → P e s.tables
 
--- the texts of a call of `audit` are there: two that generate an application, and the trail of a run of it
-pub record AuditsOwn (words : List (List ℕ)) (room : RoomState) : Type 0 where
+-- what holds of a call of `run` whose file is accepted, and of what is stored where it starts
+abbrev pub ForRun : Call → (Errand → Stored → Type 0) → Type 0
+ForRun c P = RoomTells c → IsTrue c.device.told → (e : Errand) (s : Stored) → Reads c.words c.room (Ok e) → Starts e c.device.holds s → e.word ≡ Run → P e s
+
+-- the texts of a call of `audit` are there: two that generate an application of so many copies, and the trail of a run of it
+pub record AuditsOwn (IsOf : Option ℕ → Type 0) (words : List (List ℕ)) (room : RoomState) : Type 0 where
   pub base : List ℕ
   pub asked : Request words Audit base
   pub definition : List ℕ
@@ -253,7 +290,7 @@ pub record AuditsOwn (words : List (List ℕ)) (room : RoomState) : Type 0 where
   pub there : AreThere Audit base room definition units text
   pub application : Made
   pub generate : TextsGenerate definition units application
-  pub single : application.generation.double ≡ None
+  pub copies : IsOf application.generation.double
   -- the tables from which the run began, and its script
   pub start : TableRows
   pub script : List Command
@@ -261,7 +298,7 @@ pub record AuditsOwn (words : List (List ℕ)) (room : RoomState) : Type 0 where
 
 -- what holds of a call that audits the trail of a run
 abbrev pub ForOwnTrail : Call → Type 0 → Type 0
-ForOwnTrail c P = IsTrue c.room.told → AuditsOwn c.words c.room → P
+ForOwnTrail c P = IsTrue c.room.told → AuditsOwn (λ o. o ≡ None) c.words c.room → P
 
 -- ---- what became of it
 
@@ -276,23 +313,27 @@ SaysPart line a b = IsTrue a.told → SaidPart line a b
 -- the texts were refused with this status, and the line of their fault was sent
 abbrev pub SaysRefusal : Call → (code : ℕ) → State → Type 0
 SaysRefusal c code b =
-    IsTrue c.room.told → (why : Refusal) × Reads c.words c.room (Err why) × (code ≡ status_of why) × (IsTrue c.device.told → Said (refusal_line why) c.device b)
+    RoomTells c → (why : Refusal) × Reads c.words c.room (Err why) × (code ≡ status_of why) × (IsTrue c.device.told → Said (refusal_line why) c.device b)
 
 -- the file is refused, or the trail does not hold, and this is the status; the line that says why was sent
 abbrev pub SaysWhy : Errand → (code : ℕ) → (a b : State) → Type 0
-SaysWhy e code a b = (why : FileRefusal) × Refuses e a.holds why × (code ≡ status_of_file why) × Said (file_line why) a b
+SaysWhy e code a b = (why : FileRefusal) × Refuses e a.holds why × (code ≡ status_of_file why) × (IsTrue a.told → Said (file_line why) a b)
 
 abbrev pub SaysFile : Call → (code : ℕ) → State → Type 0
-SaysFile c code b = (e : Errand) × (IsTrue c.room.told → Reads c.words c.room (Ok e)) × (IsTrue c.device.told → SaysWhy e code c.device b)
+SaysFile c code b = (e : Errand) × (RoomTells c → Reads c.words c.room (Ok e)) × (Tells e.word c.device.told → SaysWhy e code c.device b)
+
+-- all was done that was asked for, from what is stored
+abbrev pub HasRun : Errand → (a b : State) → (ℕ → List ℕ → List ℕ → Type 0) → Type 0
+HasRun e a b lb = (s : Stored) × Starts e a.holds s × (IsTrue a.told → Ran e s a b lb)
 
 -- all was done that the words and the texts ask for
 abbrev pub HasDone : Call → State → (ℕ → List ℕ → List ℕ → Type 0) → Type 0
 HasDone c b lb =
-    IsTrue c.room.told → IsTrue c.device.told → (e : Errand) × Reads c.words c.room (Ok e) × (s : Stored) × Starts e c.device.holds s × Ran e s c.device b lb
+    RoomTells c → (e : Errand) × Reads c.words c.room (Ok e) × (Tells e.word c.device.told → HasRun e c.device b lb)
 
--- nothing was written, or what the words and the texts ask for was begun, and the bytes written are at most those of the making of its file and of the commits that were performed or begun
+-- nothing was written, or what the words and the texts ask for was begun, and the bytes written are at most those of the making of its file and of the commits that the file has, and of one that was begun
 abbrev pub Writes : Call → State → Type 0
-Writes c b = IsTrue c.room.told → IsTrue c.device.told → (b.put ≡ c.device.put) ⊎ ((e : Errand) × Reads c.words c.room (Ok e) × WritesFor e c.device b)
+Writes c b = RoomTells c → IsTrue c.device.told → (b.put ≡ c.device.put) ⊎ ((e : Errand) × Reads c.words c.room (Ok e) × WritesFor e c.device b)
 
 -- where no call of the device failed and no read did, or the room is sure, all was done or memory ran out
 abbrev pub Completes : (code : ℕ) → (r s : RoomState) → (a b : State) → Type 0

@@ -43,6 +43,16 @@ audits Trail = false
 audits Audit = true
 audits (Make n) = false
 
+-- the word reads no third text
+abbrev pub HasNoThird : Word → Type 0
+HasNoThird Gen = ⊤
+HasNoThird Run = ⊥
+HasNoThird Show = ⊤
+HasNoThird Update = ⊤
+HasNoThird Trail = ⊥
+HasNoThird Audit = ⊥
+HasNoThird (Make n) = ⊥
+
 -- how many inputs `make` can make
 abbrev pub is_input_count : ℕ → Bool
 is_input_count n = nat_le 1 n && nat_le n 20000

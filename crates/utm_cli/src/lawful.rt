@@ -10,7 +10,7 @@ use application_read::generations_are_sound;
 use audit_trail::says_what_its_lines_say;
 use kdcfile_update::taken_tables_suit;
 use laws_of_runs::facts_hold_along_every_script;
-use laws_of_runs::laws_of_access::{locks_make_the_rule, runs_keep_access};
+use laws_of_runs::laws_of_access::{locks_make_the_rule, locks_make_the_trace, runs_keep_access};
 use laws_of_runs::laws_of_jobs::{
     cuts_are_serial, cuts_resume, jobs_are_done_once, runs_are_lawful, runs_keep_jobs,
 };
@@ -27,7 +27,7 @@ pub(crate) fn texts_can_run()
 }
 
 /// Texts of two copies that ask for something do so too. It does nothing.
-pub fn texts_of_two_can_run()
+pub(crate) fn texts_of_two_can_run()
     ensures { TextsOfTwoCanRun }
 {
     generations_are_sound();
@@ -38,13 +38,14 @@ pub fn texts_of_two_can_run()
 /// From tables that suit what texts generate, each step of the script is lawful, begins only services that the rule of
 /// locks and keys allows, and keeps jobs; each cut of it can be gone on from and is stored by a serial run; and runs
 /// one after another keep jobs too, whatever the tables are kept in. It does nothing.
-pub fn suited_scripts_run_lawfully()
+pub(crate) fn suited_scripts_run_lawfully()
     ensures { (e : Errand) → CanRun e → (t : TableRows) → IsSortedTables t → Suits e.application.generation t → RunsLawfully (app_of e) t e.commands }
 {
     facts_hold_along_every_script();
     runs_are_lawful();
     runs_keep_access();
     locks_make_the_rule();
+    locks_make_the_trace();
     jobs_are_done_once();
     cuts_resume();
     cuts_are_serial();
@@ -52,7 +53,7 @@ pub fn suited_scripts_run_lawfully()
 }
 
 /// The same from the tables that a call goes on from. It does nothing.
-pub fn scripts_run_lawfully()
+pub(crate) fn scripts_run_lawfully()
     ensures { (words : List (List ℕ)) (room : RoomState) (e : Errand) → Reads words room (Ok e) → (bytes : List ℕ) (s : Stored) → Starts e bytes s → RunsLawfully (app_of e) (tables_of e s) e.commands }
 {
     texts_can_run();

@@ -3,24 +3,24 @@
 //! generation (`update`) or the trail of a script's run (`trail`); the audit of a trail (`audit`); and on a device of its
 //! own the run of the made application (`make`).
 //!
-//! It stands on all crates over one disk. Its public call `utm` carries the promises that the program makes over one disk.
-//! The program over two disks stands on it: `read_double` says which texts ask for two copies of their KDCFILE.
+//! It stands on all crates over one disk, and on kdcfile_double and twin_run, which keep two copies alike. It has two public
+//! calls: `utm`, over one disk, and `utm_twin`, over two, which the program makes. Where the texts define one file it
+//! promises what `utm` does; and for two copies that a run goes on while one disk fails, and what every stop leaves of the
+//! pair and of each half by itself.
 #![tactic(auto)]
 
+mod errand;
 mod error;
 mod generation_report;
 mod lawful;
 mod made_run;
 mod opening;
 mod reading;
+mod refusing;
 mod run;
 mod top;
+mod twin;
 mod words;
 
-pub use generation_report::report;
-pub use lawful::{scripts_run_lawfully, suited_scripts_run_lawfully, texts_of_two_can_run};
-pub use reading::{Errand, read_double};
-pub use refusals::Status;
-pub use run::verdict_of;
 pub use top::utm;
-pub use words::{Word, request_of};
+pub use twin::utm_twin;

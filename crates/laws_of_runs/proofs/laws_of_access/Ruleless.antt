@@ -12,7 +12,7 @@ use Rattle.abstract_monitor.specs.State.{OpenTransaction}
 use Rattle.laws_of_runs.specs.Access.{HasNoLocks, no_rule, LocksMakeTheRule}
 
 module _ (g : Generated) (none : HasNoLocks g) where
-  nothing_denied : ◌≡◌ {A = Rule} (denial_of g) no_rule
+  pub nothing_denied : ◌≡◌ {A = Rule} (denial_of g) no_rule
   unfolding denial_of
   nothing_denied i user lterm tac = denial_at (none tac i) (user_keys g user) (lterm_keys g lterm)
 

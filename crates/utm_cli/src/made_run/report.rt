@@ -74,7 +74,8 @@ fn ran(
     requires silent { (sure_state device.old).sent ≡ [] }
     ensures exact { IfOk result (λ lines. lines ≡ report_by n (durable_of core) (acts_of (history core.application core.state commands.now))) }
 {
-    let commits = match run_script(alloc, device, store, core, fingerprint, commands) {
+    let mut done = 0;
+    let commits = match run_script(alloc, device, store, core, fingerprint, commands, &mut done) {
         Ok(commits) => commits,
         Err(error) => return Err(want_of_memory(error)),
     };

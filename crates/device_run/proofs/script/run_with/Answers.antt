@@ -5,9 +5,9 @@ use Rattle.kd_device.specs.Device.{Rose}
 use Rattle.abstract_monitor.specs.Commands.{acts_of}
 use Rattle.abstract_monitor.specs.Trace.{history}
 use Rattle.laws_of_states.specs.Cut.{commits_in}
+use Rattle.device_acts.specs.Acting.{LineOrDisk}
 use Rattle.script_run.specs.ResultsLaws.{handed_on}
-use Rattle.device_run.specs.Running.{StoppedIn}
-use Rattle.device_run.specs.Keeping.{RanWith, StepsWriteWith, WithinStepsWith}
+use Rattle.device_run.specs.Keeping.{RanWith, StepsWriteWith, StopsWith, WithinStepsWith}
 use Rattle.device_run.specs.SteppingLaws.{steps_ran}
 use Rattle.device_run.specs.StoringLaws.{steps_write}
 use Rattle.device_run.proofs.Counting.{script_commits}
@@ -27,19 +27,22 @@ pub returns-in_err-_last-clause-any : goal.returns-in_err-_last-clause-any
 returns-in_err-_last-clause-any g c = given (λ k. WithinStepsWith g.K.Keeper.stands c.args.fingerprint.now c.args.core (history c.args.core.application c.args.core.state c.args.commands.now) (g.K.Keeper.state c.args.keeper.now) (g.K.Keeper.state k) (g.K.Keeper.leaves c.args.keeper.now) (g.K.Keeper.leaves k)) c.in_err-_last.ensures.failed.within _ (let same = c.in_err-_last.ensures.failed.same_place in search rules)
 
 pub returns-in_err-_last-clause-put : goal.returns-in_err-_last-clause-put
-returns-in_err-_last-clause-put g c = given (λ k. StepsWriteWith g.K.Reopens.commit_most c.args.fingerprint.now c.args.core (history c.args.core.application c.args.core.state c.args.commands.now) (g.K.Keeper.state c.args.keeper.now) (g.K.Keeper.state k)) c.in_err-_last.ensures.failed.put _ (let same = c.in_err-_last.ensures.failed.same_place in search rules)
+returns-in_err-_last-clause-put g c = given (λ k. StepsWriteWith g.K.Keeper.stands g.K.Reopens.commit_most c.args.fingerprint.now c.args.core (history c.args.core.application c.args.core.state c.args.commands.now) (g.K.Keeper.state c.args.keeper.now) (g.K.Keeper.state k) (g.K.Keeper.leaves k)) c.in_err-_last.ensures.failed.put _ (let same = c.in_err-_last.ensures.failed.same_place in search rules)
 
 pub returns-in_err-_last-clause-stopped : goal.returns-in_err-_last-clause-stopped
 returns-in_err-_last-clause-stopped g c =
-    handed_on _ c.from_residual.result c.in_err-_last.field-0.0 c.from_residual.ensures.1 (λ told.
-    given (λ k. StoppedIn c.args.core c.args.commands.now (g.K.Keeper.state c.args.keeper.now) (g.K.Keeper.state k))
-    (stopped_in g.K.Keeper.stands g.K.Reopens.commit_most g.K.Keeper.fine _ _ _ _ _ c.in_err-_last.ensures.stopped told (λ k. g.met.K.Keeper.left_now k.keeper.now) (λ k. g.met.K.Keeper.sent_now k.keeper.now) (λ k. g.met.K.Keeper.earlier k.keeper.now)) _ (let same = c.in_err-_last.ensures.failed.same_place in search rules))
+    handed_on _ c.from_residual.result c.in_err-_last.field-0.0 c.from_residual.ensures.1
+    (given (λ k. StopsWith g.K.Keeper.stands c.args.fingerprint.now c.args.core c.args.commands.now c.run_script.new.done (g.K.Keeper.state c.args.keeper.now) (g.K.Keeper.state k) (g.K.Keeper.leaves k))
+    (λ told image left. stopped_in g.K.Keeper.stands g.K.Reopens.commit_most g.K.Keeper.fine _ _ _ _ _ _ c.in_err-_last.ensures.stopped told (λ k. g.met.K.Keeper.file_stands k.keeper.now) (λ k. g.met.K.Keeper.sent_now k.keeper.now) (λ k. g.met.K.Keeper.earlier k.keeper.now) image left) _ (let same = c.in_err-_last.ensures.failed.same_place in search rules))
 
 pub returns-in_err-_last-clause-fine : goal.returns-in_err-_last-clause-fine
 returns-in_err-_last-clause-fine g c = λ none. given (λ k. g.K.Keeper.fine (g.K.Keeper.state c.args.keeper.now) (g.K.Keeper.state k)) (c.in_err-_last.ensures.failed.went (other_cause c.from_residual.result c.in_err-_last.field-0.0 _ c.from_residual.ensures.1 none)) _ (let same = c.in_err-_last.ensures.failed.same_place in search rules)
 
 pub returns-in_err-_last-clause-failed : goal.returns-in_err-_last-clause-failed
 returns-in_err-_last-clause-failed g c = λ is. given (λ k. Rose (g.K.Keeper.state c.args.keeper.now).disk_faults (g.K.Keeper.state k).disk_faults ⊎ Rose (g.K.Keeper.state c.args.keeper.now).line_faults (g.K.Keeper.state k).line_faults) (c.in_err-_last.ensures.failed.failed (cc (error_same _ _ c.from_residual.result c.in_err-_last.field-0.0 _ c.from_residual.ensures.1 is))) _ (let same = c.in_err-_last.ensures.failed.same_place in search rules)
+
+pub returns-in_err-_last-clause-halted : goal.returns-in_err-_last-clause-halted
+returns-in_err-_last-clause-halted g c = λ is. given (λ k. LineOrDisk (acts_of (history c.args.core.application c.args.core.state c.args.commands.now)) (g.K.Keeper.state c.args.keeper.now) (g.K.Keeper.state k)) (c.in_err-_last.ensures.failed.halted (cc (error_same _ _ c.from_residual.result c.in_err-_last.field-0.0 _ c.from_residual.ensures.1 is))) _ (let same = c.in_err-_last.ensures.failed.same_place in search rules)
 
 pub returns-in_err-_last-clause-place : goal.returns-in_err-_last-clause-place
 returns-in_err-_last-clause-place g c = given (λ k. g.K.Keeper.place k ≡ g.K.Keeper.place c.args.keeper.now) {x = c.run_script.new.sink.keeper.now} (cc c.in_err-_last.ensures.failed.same_place) _ (let same = c.in_err-_last.ensures.failed.same_place in search rules)
@@ -48,7 +51,7 @@ pub returns-clause-any : goal.returns-clause-any
 returns-clause-any g c = given (λ k. WithinStepsWith g.K.Keeper.stands c.args.fingerprint.now c.args.core (history c.args.core.application c.args.core.state c.args.commands.now) (g.K.Keeper.state c.args.keeper.now) (g.K.Keeper.state k) (g.K.Keeper.leaves c.args.keeper.now) (g.K.Keeper.leaves k)) c.in_ok-_last.ensures.took.within _ (let same = c.in_ok-_last.ensures.took.same_place in search rules)
 
 pub returns-clause-put : goal.returns-clause-put
-returns-clause-put g c = given (λ k. StepsWriteWith g.K.Reopens.commit_most c.args.fingerprint.now c.args.core (history c.args.core.application c.args.core.state c.args.commands.now) (g.K.Keeper.state c.args.keeper.now) (g.K.Keeper.state k)) (steps_write g.K.Keeper.stands g.K.Reopens.commit_most g.K.Keeper.fine g.met.K.Keeper.fine_goes c.args.fingerprint.now c.args.core _ (history c.args.core.application c.args.core.state c.args.commands.now) _ _ _ _ _ _ c.in_ok-_last.ensures.took.did c.in_ok-_last.ensures.took.put) _ (let same = c.in_ok-_last.ensures.took.same_place in search rules)
+returns-clause-put g c = given (λ k. StepsWriteWith g.K.Keeper.stands g.K.Reopens.commit_most c.args.fingerprint.now c.args.core (history c.args.core.application c.args.core.state c.args.commands.now) (g.K.Keeper.state c.args.keeper.now) (g.K.Keeper.state k) (g.K.Keeper.leaves k)) (steps_write g.K.Keeper.stands g.K.Reopens.commit_most g.K.Keeper.fine g.met.K.Keeper.fine_goes c.args.fingerprint.now c.args.core _ (history c.args.core.application c.args.core.state c.args.commands.now) _ _ _ _ _ _ (g.met.K.Keeper.file_stands c.run_script.new.sink.keeper.now) c.in_ok-_last.ensures.took.did c.in_ok-_last.ensures.took.put) _ (let same = c.in_ok-_last.ensures.took.same_place in search rules)
 
 pub returns-clause-done : goal.returns-clause-done
 returns-clause-done g c = λ told. given (λ k. RanWith c.args.fingerprint.now c.args.core (history c.args.core.application c.args.core.state c.args.commands.now) (g.K.Keeper.identity k) (g.K.Keeper.kept k) (g.K.Keeper.file k) (g.K.Keeper.state c.args.keeper.now) (g.K.Keeper.state k) (g.K.Keeper.leaves k)) (steps_ran _ _ _ _ _ _ _ _ _ _ _ c.in_ok-_last.ensures.took.did told) _ (let same = c.in_ok-_last.ensures.took.same_place in search rules)

@@ -1,10 +1,10 @@
 use Rattle.std.proofs.Common.{sym, subst}
 use Rattle.std.specs.Prelude.{IsTrue}
 use Rattle.kd_device.specs.declared.half.Half.TheVariants.{First, Second}
-use Rattle.kdcfile_double.specs.Twice.{with_copies}
+use Rattle.kdcfile_double.specs.Twice.{SparesOne, with_copies}
 use Rattle.kdcfile_double.specs.CommitLaws.{other_kept_at}
 use Rattle.kdcfile_double.specs.CommitTwoLaws.{both_moments, both_within, faults_before, first_is_kept, first_moment, first_newly, first_stays, first_within, on_err, one_fine, one_frame}
-use Rattle.kdcfile_double.specs.CommitTwoLaws.{second_is_kept, second_newly, second_stays, second_unused, two_lost, two_unused}
+use Rattle.kdcfile_double.specs.CommitTwoLaws.{first_line, second_is_kept, second_newly, second_stays, second_unused, two_line, two_lost, two_unused}
 use Rattle.kdcfile_double.specs.MakingLaws.{two_frames}
 use Rattle.kdcfile_double.proofs.commit.commit_two.Goals as goal
 
@@ -72,3 +72,18 @@ returns-clause-unused g c = λ half none. two_unused c.args.first c.args.second 
 
 pub returns-clause-frame : goal.returns-clause-frame
 returns-clause-frame g c = two_frames (g.T.Twin.both c.args.twin.now) (g.T.Twin.both c.commit_one.new.twin) (g.T.Twin.both c.commit_one-2.new.twin) c.commit_one.ensures.other_half c.commit_one-2.ensures.other_half c.commit_one.ensures.frame c.commit_one.ensures.names c.commit_one.ensures.sent c.commit_one-2.ensures.frame c.commit_one-2.ensures.names c.commit_one-2.ensures.sent
+
+pub returns-in_err-first-clause-spared : goal.returns-in_err-first-clause-spared
+returns-in_err-first-clause-spared g c = let one : SparesOne (with_copies c.args.first c.args.second) (g.T.Twin.both c.args.twin.now) (g.T.Twin.both c.commit_one.new.twin) = (First, c.in_err-first.ensures.used, c.in_err-first.ensures.memory.1) in on_err _ _ one
+
+pub returns-in_err-first-clause-line : goal.returns-in_err-first-clause-line
+returns-in_err-first-clause-line g c = first_line c.args.first c.args.second (g.T.Twin.both c.args.twin.now) (g.T.Twin.both c.commit_one.new.twin) c.commit_one.ensures.line
+
+pub returns-in_err-second-clause-spared : goal.returns-in_err-second-clause-spared
+returns-in_err-second-clause-spared g c = let one : SparesOne (with_copies c.args.first c.args.second) (g.T.Twin.both c.args.twin.now) (g.T.Twin.both c.commit_one-2.new.twin) = (Second, c.in_err-second.ensures.used, faults_before Second (g.T.Twin.both c.args.twin.now) (g.T.Twin.both c.commit_one.new.twin) (g.T.Twin.both c.commit_one-2.new.twin) c.commit_one.ensures.other_half c.in_err-second.ensures.memory.1) in on_err _ _ one
+
+pub returns-in_err-second-clause-line : goal.returns-in_err-second-clause-line
+returns-in_err-second-clause-line g c = two_line c.args.first c.args.second (g.T.Twin.both c.args.twin.now) (g.T.Twin.both c.commit_one.new.twin) (g.T.Twin.both c.commit_one-2.new.twin) c.commit_one.ensures.other_half c.commit_one-2.ensures.other_half c.commit_one.ensures.line c.commit_one-2.ensures.line
+
+pub returns-clause-line : goal.returns-clause-line
+returns-clause-line g c = two_line c.args.first c.args.second (g.T.Twin.both c.args.twin.now) (g.T.Twin.both c.commit_one.new.twin) (g.T.Twin.both c.commit_one-2.new.twin) c.commit_one.ensures.other_half c.commit_one-2.ensures.other_half c.commit_one.ensures.line c.commit_one-2.ensures.line

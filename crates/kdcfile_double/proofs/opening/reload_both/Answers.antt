@@ -3,9 +3,10 @@ use Rattle.std.specs.Prelude.{IsTrue}
 use Rattle.kd_device.specs.declared.half.Half.TheVariants.{First, Second}
 use Rattle.kdcfile_double.specs.declared.error.TwinOpenError.TheVariants as to
 use Rattle.kdcfile_double.specs.CommitLaws.{other_kept_at}
-use Rattle.kdcfile_double.specs.CommitTwoLaws.{one_frame}
+use Rattle.kdcfile_double.specs.CommitTwoLaws.{faults_before, first_line, on_err, one_frame, two_line}
 use Rattle.kdcfile_double.specs.MakingLaws.{RestsBoth, first_rests_both, two_frames, two_rests}
 use Rattle.kdcfile_double.specs.OpenedLaws.{handed_on}
+use Rattle.kdcfile_double.specs.Twice.{SparesOne, with_copies}
 use Rattle.kdcfile_double.proofs.opening.reload_both.Given.{Over}
 use Rattle.kdcfile_double.proofs.opening.reload_both.Goals.{After-reload-2}
 use Rattle.kdcfile_double.proofs.opening.reload_both.Goals as goal
@@ -92,3 +93,18 @@ returns-clause-frame g c =
 
 pub returns-clause-rests : goal.returns-clause-rests
 returns-clause-rests g c = rests g (goal.at.returns-clause-rests g c).After-reload-2
+
+pub returns-in_err-first-clause-spared : goal.returns-in_err-first-clause-spared
+returns-in_err-first-clause-spared g c = let one : SparesOne (with_copies c.args.first c.args.second) (g.T.Twin.both c.args.twin.now) (g.T.Twin.both c.reload.new.twin) = (First, c.in_err-first.ensures.unread.0, c.in_err-first.ensures.unread.1) in on_err _ _ one
+
+pub returns-in_err-first-clause-line : goal.returns-in_err-first-clause-line
+returns-in_err-first-clause-line g c = first_line c.args.first c.args.second (g.T.Twin.both c.args.twin.now) (g.T.Twin.both c.reload.new.twin) c.reload.ensures.line
+
+pub returns-in_err-second-clause-spared : goal.returns-in_err-second-clause-spared
+returns-in_err-second-clause-spared g c = let one : SparesOne (with_copies c.args.first c.args.second) (g.T.Twin.both c.args.twin.now) (g.T.Twin.both c.reload-2.new.twin) = (Second, c.in_err-second.ensures.unread.0, faults_before Second (g.T.Twin.both c.args.twin.now) (g.T.Twin.both c.reload.new.twin) (g.T.Twin.both c.reload-2.new.twin) c.reload.ensures.other_half c.in_err-second.ensures.unread.1) in on_err _ _ one
+
+pub returns-in_err-second-clause-line : goal.returns-in_err-second-clause-line
+returns-in_err-second-clause-line g c = two_line c.args.first c.args.second (g.T.Twin.both c.args.twin.now) (g.T.Twin.both c.reload.new.twin) (g.T.Twin.both c.reload-2.new.twin) c.reload.ensures.other_half c.reload-2.ensures.other_half c.reload.ensures.line c.reload-2.ensures.line
+
+pub returns-clause-line : goal.returns-clause-line
+returns-clause-line g c = two_line c.args.first c.args.second (g.T.Twin.both c.args.twin.now) (g.T.Twin.both c.reload.new.twin) (g.T.Twin.both c.reload-2.new.twin) c.reload.ensures.other_half c.reload-2.ensures.other_half c.reload.ensures.line c.reload-2.ensures.line

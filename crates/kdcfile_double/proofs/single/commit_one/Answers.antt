@@ -1,5 +1,5 @@
-use Rattle.std.proofs.Common.{sym, subst}
-use Rattle.std.specs.Prelude.{IsTrue, Option}
+use Rattle.std.proofs.Common.{ap, inl, inr, refl, sym, subst}
+use Rattle.std.specs.Prelude.{Err, IsTrue, Option}
 use Rattle.kdcfile_copies.specs.declared.answer.LoadedCopy.{LoadedCopy}
 use Rattle.kdcfile_copies.specs.Beside.{LeavesBeside}
 use Rattle.kdcfile_double.specs.Committing.{WithinOne}
@@ -19,3 +19,18 @@ returns-in-Err-Failed-clause-any_moment g c = moment g (goal.at.returns-in-Err-F
 
 pub returns-clause-any_moment : goal.returns-clause-any_moment
 returns-clause-any_moment g c = moment g (goal.at.returns-clause-any_moment g c).After-commit_half
+
+pub returns-in-Ok-clause-line : goal.returns-in-Ok-clause-line
+returns-in-Ok-clause-line g c = inl (c.in-Ok.ensures.fine (λ is. absurd cc)).line
+
+pub returns-in-Err-Failed-clause-line : goal.returns-in-Err-Failed-clause-line
+returns-in-Err-Failed-clause-line g c = inr (c.in-Some.kept, c.in-Some.is, c.in-Err-Failed.ensures.failed (ap (λ z. Err z) c.in-Err-Failed.field-0-is))
+
+pub returns-clause-line : goal.returns-clause-line
+returns-clause-line g c = inl (c.commit_half.ensures.fine (λ is. absurd cc)).line
+
+pub returns-clause-used : goal.returns-clause-used
+returns-clause-used g c = (c.in-Some.kept, c.in-Some.is)
+
+pub returns-in_default-clause-line : goal.returns-in_default-clause-line
+returns-in_default-clause-line g c = inl refl

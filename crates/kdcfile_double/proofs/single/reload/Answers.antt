@@ -1,5 +1,5 @@
-use Rattle.std.proofs.Common.{Bool, subst, refl, ◌≡◌, false, true}
-use Rattle.std.specs.Prelude.{Option, IsTrue}
+use Rattle.std.proofs.Common.{Bool, ap, inl, inr, subst, refl, ◌≡◌, false, true}
+use Rattle.std.specs.Prelude.{Err, Option, IsTrue}
 use Rattle.kd_device.specs.Twin.{half_state, half_leaves}
 use Rattle.kdcfile_store.specs.Kept.{IsKept}
 use Rattle.kdcfile_copies.specs.declared.answer.LoadedCopy.{LoadedCopy}
@@ -46,3 +46,36 @@ returns-in-Ok-NoCopy-clause-refused g c = λ is told.
 
 pub returns-in_default-clause-rests : goal.returns-in_default-clause-rests
 returns-in_default-clause-rests g c = λ told. untouched_rests c.args.half (g.T.Twin.both c.args.twin.now) (g.T.Twin.leaves c.args.twin.now)
+
+pub returns-then-not-are_alike-clause-unread : goal.returns-then-not-are_alike-clause-unread
+returns-then-not-are_alike-clause-unread g c = ((c.in-Some.kept, c.in-Some.is), (c.in-Ok-Copy.ensures.fine (λ is. absurd cc)).disk)
+
+pub returns-then-not-are_alike-clause-line : goal.returns-then-not-are_alike-clause-line
+returns-then-not-are_alike-clause-line g c = inl (c.in-Ok-Copy.ensures.fine (λ is. absurd cc)).line
+
+pub returns-in-Ok-Copy-clause-line : goal.returns-in-Ok-Copy-clause-line
+returns-in-Ok-Copy-clause-line g c = inl (c.in-Ok-Copy.ensures.fine (λ is. absurd cc)).line
+
+pub returns-in-Ok-Empty-clause-unread : goal.returns-in-Ok-Empty-clause-unread
+returns-in-Ok-Empty-clause-unread g c = ((c.in-Some.kept, c.in-Some.is), (c.in-Ok-Empty.ensures.fine (λ is. absurd cc)).disk)
+
+pub returns-in-Ok-Empty-clause-line : goal.returns-in-Ok-Empty-clause-line
+returns-in-Ok-Empty-clause-line g c = inl (c.in-Ok-Empty.ensures.fine (λ is. absurd cc)).line
+
+pub returns-in-Ok-NoCopy-clause-unread : goal.returns-in-Ok-NoCopy-clause-unread
+returns-in-Ok-NoCopy-clause-unread g c = ((c.in-Some.kept, c.in-Some.is), (c.in-Ok-NoCopy.ensures.fine (λ is. absurd cc)).disk)
+
+pub returns-in-Ok-NoCopy-clause-line : goal.returns-in-Ok-NoCopy-clause-line
+returns-in-Ok-NoCopy-clause-line g c = inl (c.in-Ok-NoCopy.ensures.fine (λ is. absurd cc)).line
+
+pub returns-in-Err-Failed-clause-line : goal.returns-in-Err-Failed-clause-line
+returns-in-Err-Failed-clause-line g c = inr (c.in-Some.kept, c.in-Some.is, c.in-Err-Failed.ensures.failed (ap (λ z. Err z) c.in-Err-Failed.field-0-is))
+
+pub returns-clause-unread : goal.returns-clause-unread
+returns-clause-unread g c = ((c.in-Some.kept, c.in-Some.is), (c.load_half.ensures.fine (λ is. absurd cc)).disk)
+
+pub returns-clause-line : goal.returns-clause-line
+returns-clause-line g c = inl (c.load_half.ensures.fine (λ is. absurd cc)).line
+
+pub returns-in_default-clause-line : goal.returns-in_default-clause-line
+returns-in_default-clause-line g c = inl refl

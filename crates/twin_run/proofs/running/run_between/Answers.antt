@@ -3,7 +3,7 @@ use Rattle.kdcfile_double.specs.Twice.{identity_of}
 use Rattle.abstract_monitor.specs.Commands.{acts_of}
 use Rattle.abstract_monitor.specs.Trace.{history}
 use Rattle.monitor_core.specs.CoreSteps.{durable_of}
-use Rattle.twin_run.proofs.Lent.{did_lent, fails_lent, part_lent}
+use Rattle.twin_run.proofs.Lent.{did_lent, fails_lent, fine_lent, part_lent}
 use Rattle.twin_run.proofs.running.run_between.Goals as goal
 
 pub returns-clause-any : goal.returns-clause-any
@@ -14,3 +14,6 @@ returns-clause-done g c = did_lent g.T.Twin.both g.T.Twin.leaves c.args.twin.now
 
 pub returns-clause-failed : goal.returns-clause-failed
 returns-clause-failed g c = λ is. fails_lent g.T.Twin.both g.T.Twin.leaves c.args.twin.now c.args.store (c.run_on.ensures.failed is) _ (search rules)
+
+pub returns-clause-fine : goal.returns-clause-fine
+returns-clause-fine g c = λ none. fine_lent g.T.Twin.both g.T.Twin.leaves c.args.twin.now c.args.store (c.run_on.ensures.fine none) _ (search rules)

@@ -1,8 +1,8 @@
 use Rattle.kdcfile_store.specs.Paged.{identity_with}
 use Rattle.abstract_monitor.specs.Trace.{history}
 use Rattle.std.proofs.lemmas.Result.{on_ok_weaker}
-use Rattle.twin_run.proofs.Handing.{done_both, failed_both}
-use Rattle.twin_run.proofs.Keepers.{did_run, fails_made, kept_made, part_run, running_made, since_made, told_made}
+use Rattle.twin_run.proofs.Handing.{done_both, failed_both, not_failed_both}
+use Rattle.twin_run.proofs.Keepers.{did_run, fails_made, fine_made, kept_made, part_run, running_made, since_made, told_made}
 use Rattle.twin_run.proofs.running.run_on.Goals as goal
 
 pub new-keeper-requires-clause-copies : goal.new-keeper-requires-clause-copies
@@ -39,3 +39,7 @@ returns-clause-refused g c = λ is told.
 pub returns-clause-other : goal.returns-clause-other
 returns-clause-other g c = λ stored is told.
     c.run_with-ran.ensures.other stored (failed_both c.run_with-ran.result c.lost.result _ _ c.and.ensures is) (told_made g.T.Twin.both g.T.Twin.leaves g.S.Start.store c.args.store g.S.Start.both c.args.twin c.requires.copies c.requires.begins (identity_with c.args.limits c.args.fingerprint.now) c.requires.identity c.new-keeper.result c.new-keeper.ensures told)
+
+pub returns-clause-fine : goal.returns-clause-fine
+returns-clause-fine g c = λ none.
+    fine_made g.T.Twin.both g.T.Twin.leaves g.S.Start.store c.args.store g.S.Start.both c.args.twin c.requires.copies c.requires.begins (identity_with c.args.limits c.args.fingerprint.now) c.requires.identity c.new-keeper.result c.new-keeper.ensures c.requires.is_open c.run_with-ran.new.keeper c.into_twin.result c.into_twin.ensures.twin (c.run_with-ran.ensures.fine (not_failed_both c.run_with-ran.result c.lost.result _ _ c.and.ensures none))

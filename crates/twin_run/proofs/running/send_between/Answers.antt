@@ -1,6 +1,6 @@
 use Rattle.std.proofs.Common.{rules}
 use Rattle.kdcfile_double.specs.Twice.{identity_of}
-use Rattle.twin_run.proofs.Lent.{fails_lent, frame_lent, lines_lent, part_lent}
+use Rattle.twin_run.proofs.Lent.{fails_lent, fine_lent, frame_lent, lines_lent, part_lent}
 use Rattle.twin_run.proofs.running.send_between.Goals as goal
 
 pub returns-clause-frame : goal.returns-clause-frame
@@ -14,3 +14,6 @@ returns-clause-done g c = lines_lent g.T.Twin.both g.T.Twin.leaves c.args.twin.n
 
 pub returns-clause-failed : goal.returns-clause-failed
 returns-clause-failed g c = λ is. fails_lent g.T.Twin.both g.T.Twin.leaves c.args.twin.now c.args.store (c.send_on.ensures.failed is) _ (search rules)
+
+pub returns-clause-fine : goal.returns-clause-fine
+returns-clause-fine g c = λ none. fine_lent g.T.Twin.both g.T.Twin.leaves c.args.twin.now c.args.store (c.send_on.ensures.fine none) _ (search rules)

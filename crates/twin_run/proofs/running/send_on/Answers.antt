@@ -1,8 +1,8 @@
 use Rattle.kdcfile_store.specs.Paged.{identity_with}
 use Rattle.device_acts.specs.LinesLaws.{lines_can}
 use Rattle.std.proofs.lemmas.Result.{on_ok_weaker}
-use Rattle.twin_run.proofs.Handing.{both_ok, done_both, failed_both}
-use Rattle.twin_run.proofs.Keepers.{did_lines, fails_made, frame_made, kept_made, part_lines, since_made}
+use Rattle.twin_run.proofs.Handing.{both_ok, done_both, failed_both, not_failed_both}
+use Rattle.twin_run.proofs.Keepers.{did_lines, fails_made, fine_made, frame_made, kept_made, part_lines, since_made}
 use Rattle.twin_run.proofs.running.send_on.Goals as goal
 
 pub new-keeper-requires-clause-copies : goal.new-keeper-requires-clause-copies
@@ -35,3 +35,7 @@ returns-clause-done g c =
 pub returns-clause-failed : goal.returns-clause-failed
 returns-clause-failed g c = λ is.
     fails_made g.T.Twin.both g.T.Twin.leaves g.S.Start.store c.args.store g.S.Start.both c.args.twin c.requires.copies c.requires.begins (identity_with c.args.limits c.args.fingerprint.now) c.requires.identity c.new-keeper.result c.new-keeper.ensures c.keep_acts-sent.new.keeper c.into_twin.result c.into_twin.ensures.twin (c.keep_acts-sent.ensures.failed (failed_both c.keep_acts-sent.result c.lost.result _ _ c.and.ensures is))
+
+pub returns-clause-fine : goal.returns-clause-fine
+returns-clause-fine g c = λ none.
+    fine_made g.T.Twin.both g.T.Twin.leaves g.S.Start.store c.args.store g.S.Start.both c.args.twin c.requires.copies c.requires.begins (identity_with c.args.limits c.args.fingerprint.now) c.requires.identity c.new-keeper.result c.new-keeper.ensures c.requires.is_open c.keep_acts-sent.new.keeper c.into_twin.result c.into_twin.ensures.twin (c.keep_acts-sent.ensures.fine (not_failed_both c.keep_acts-sent.result c.lost.result _ _ c.and.ensures none))

@@ -1,6 +1,18 @@
-use Rattle.std.proofs.Common.{refl}
-use Rattle.utm_cli.proofs.CanRun.{errand_runs}
+use Rattle.kd_base.specs.ToolsLaws.{error_same}
+use Rattle.std.proofs.Common.{false, refl}
+use Rattle.refusals.specs.declared.error.TextError.TheVariants.{Refused}
+use Rattle.utm_cli.specs.declared.words.Word.TheVariants.{Run, Trail, Make}
+use Rattle.utm_cli.proofs.AskedSaid.{refused_as}
 use Rattle.utm_cli.proofs.reading.errand_of.Goals as goal
 
-pub returns-clause-can : goal.returns-clause-can
-returns-clause-can c = errand_runs c.generations_are_sound.ensures.sound c.generations_are_sound.ensures.fit c.commands_are_said.ensures.commands_only c.says_what_its_lines_say.ensures.trails c.args.word c.args.definition.now c.args.units.now c.args.third.now _ refl c.requires c.in_ok-commands.ensures.asks
+pub returns-in_err-commands-in-Run-clause-refused : goal.returns-in_err-commands-in-Run-clause-refused
+returns-in_err-commands-in-Run-clause-refused c = λ why is.
+    refused_as c.args.word c.args.work c.args.third.now Run c.in-Run.is false refl why (c.in_err-commands-in-Run.ensures.refused why (error_same _ _ c.from_residual.result c.in_err-commands-in-Run.field-0.0 (Refused why) c.from_residual.ensures.1 is))
+
+pub returns-in_err-commands-in-Trail-clause-refused : goal.returns-in_err-commands-in-Trail-clause-refused
+returns-in_err-commands-in-Trail-clause-refused c = λ why is.
+    refused_as c.args.word c.args.work c.args.third.now Trail c.in-Trail.is false refl why (c.in_err-commands-in-Trail.ensures.refused why (error_same _ _ c.from_residual-in_err-commands-in-Trail.result c.in_err-commands-in-Trail.field-0.0 (Refused why) c.from_residual-in_err-commands-in-Trail.ensures.1 is))
+
+pub returns-in_err-commands-in-Make-clause-refused : goal.returns-in_err-commands-in-Make-clause-refused
+returns-in_err-commands-in-Make-clause-refused c = λ why is.
+    refused_as c.args.word c.args.work c.args.third.now (Make c.in-Make.inputs) c.in-Make.is false refl why (c.in_err-commands-in-Make.ensures.refused why (error_same _ _ c.from_residual-in_err-commands-in-Make.result c.in_err-commands-in-Make.field-0.0 (Refused why) c.from_residual-in_err-commands-in-Make.ensures.1 is))

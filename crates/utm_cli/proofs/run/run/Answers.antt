@@ -1,82 +1,33 @@
-use Rattle.std.proofs.Common.{◌∙◌, ap, subst, inl, List, [], ◌∷◌, ℕ, Err}
-use Rattle.std.specs.Prelude.{IsTrue}
-use Rattle.kd_device.specs.Rest.{Rests}
-use Rattle.refusals.specs.declared.error.FileRefusal.{FileRefusal}
-use Rattle.refusals.specs.Lines.{file_line}
-use Rattle.refusals.specs.Statuses.{IsOneOf, status_of_file}
-use Rattle.device_acts.specs.Said.{SaidPart}
-use Rattle.utm_cli.specs.declared.error.CallError.{CallError}
-use Rattle.utm_cli.specs.Doing.{Refuses}
-use Rattle.utm_cli.specs.Promise.{MayHandOn}
-use Rattle.utm_cli.specs.Words.{file_name}
-use Rattle.utm_cli.proofs.ByWord.{may_then}
-use Rattle.utm_cli.proofs.Refused.{not_both, one_reason}
-use Rattle.utm_cli.proofs.Ran.{said_then, part_then, nothing_said}
-use Rattle.utm_cli.proofs.run.run.Given.{Over}
+use Rattle.std.proofs.Common.{sym, subst}
+use Rattle.utm_cli.specs.Asking.{one_errand}
+use Rattle.utm_cli.specs.Parts.{EndsOne}
+use Rattle.utm_cli.specs.declared.errand.OneFile.{OneFile}
 use Rattle.utm_cli.proofs.run.run.Goals as goal
 
-pub returns-in-Ok-run_over-clause-refused : goal.returns-in-Ok-run_over-clause-refused
-returns-in-Ok-run_over-clause-refused g c = λ told why refuses.
-    let done = c.in-Ok-run_over.ensures.done told in
-    absurd (not_both c.verdicts_exclude_each_other.ensures c.args.asked _ done.0 why done.1 refuses)
+pub returns-in-Over : goal.returns-in-Over
+returns-in-Over g c =
+    subst (λ (o : OneFile). EndsOne (one_errand o) c.args.base.now (g.D.Device.state c.args.device.now) (g.D.Device.state c.run_task.new.device) (g.D.Device.leaves c.args.device.now) (g.D.Device.leaves c.run_task.new.device) c.run_task.result.code) (sym c.in-Over.is)
+    (record {
+      code = c.run_task.ensures.code;
+      refused = c.run_task.ensures.refused;
+      refused_only = c.run_task.ensures.refused_only;
+      refused_part = c.run_task.ensures.refused_part;
+      accepted = c.run_task.ensures.accepted;
+      done = c.run_task.ensures.done;
+      any_moment = c.run_task.ensures.any_moment;
+      written = c.run_task.ensures.written;
+      left = c.run_task.ensures.left;
+      bytes = c.run_task.ensures.bytes;
+      names = c.run_task.ensures.names;
+      attached = c.run_task.ensures.attached;
+      fine = c.run_task.ensures.fine;
+      failed = c.run_task.ensures.failed;
+      stopped = c.run_task.ensures.stopped;
+      halted = c.run_task.ensures.halted;
+      frame = c.run_task.ensures.frame;
+    })
 
-pub returns-in-Ok-run_over-clause-refused_part : goal.returns-in-Ok-run_over-clause-refused_part
-returns-in-Ok-run_over-clause-refused_part g c = λ told why refuses.
-    let done = c.in-Ok-run_over.ensures.done told in
-    absurd (not_both c.verdicts_exclude_each_other.ensures c.args.asked _ done.0 why done.1 refuses)
-
-pub returns-in-Err-Failed-clause-refused_part : goal.returns-in-Err-Failed-clause-refused_part
-returns-in-Err-Failed-clause-refused_part g c = λ told why refuses.
-    nothing_said (file_line why) _ _ _ _ (c.run_over.ensures.still told (λ s starts. not_both c.verdicts_exclude_each_other.ensures c.args.asked _ s why starts refuses))
-
-pub returns-in-Err-Memory-clause-refused_part : goal.returns-in-Err-Memory-clause-refused_part
-returns-in-Err-Memory-clause-refused_part g c = λ told why refuses.
-    nothing_said (file_line why) _ _ _ _ (c.run_over.ensures.still told (λ s starts. not_both c.verdicts_exclude_each_other.ensures c.args.asked _ s why starts refuses))
-
--- ---- the file is refused
-
-refuses : (g : Over) (c : goal.After-drop-name-2 g) → IsTrue (g.D.Device.state c.args.device.now).told → Refuses c.args.asked (g.D.Device.state c.args.device.now).holds c.in-Err-Refused.why
-refuses g c told = c.in-Err-Refused.ensures.refused c.in-Err-Refused.why (ap (λ (e : CallError). Err e) c.in-Err-Refused.field-0-is) told
-
-rests : (g : Over) (c : goal.After-drop-name-2 g) → IsTrue (g.D.Device.state c.args.device.now).told → Rests (g.D.Device.state c.args.device.now) (g.D.Device.state c.run_over.new.device) (g.D.Device.leaves c.args.device.now) (g.D.Device.leaves c.run_over.new.device)
-rests g c told = c.run_over.ensures.still told (λ s starts. not_both c.verdicts_exclude_each_other.ensures c.args.asked _ s c.in-Err-Refused.why starts (refuses g c told))
-
-told_too : (g : Over) (c : goal.After-drop-name-2 g) → IsTrue (g.D.Device.state c.args.device.now).told → IsTrue (g.D.Device.state c.run_over.new.device).told
-told_too g c told = rw c.run_over.ensures.frame.told told
-
-pub returns-clause-refused_only : goal.returns-clause-refused_only
-returns-clause-refused_only g c = λ code told.
-    let said = c.refuse_file.ensures.said code in
-    (c.in-Err-Refused.why, refuses g c told, said.0, said_then (file_line c.in-Err-Refused.why) _ _ _ _ _ (rests g c told) (said.1 (told_too g c told)))
-
-pub returns-clause-refused : goal.returns-clause-refused
-returns-clause-refused g c = λ told why again.
-    subst (λ (r : FileRefusal). IsOneOf (status_of_file r ∷ 5 ∷ 7 ∷ []) c.refuse_file.result.code) (one_reason c.verdicts_exclude_each_other.ensures c.args.asked _ c.in-Err-Refused.why why (refuses g c told) again) c.refuse_file.ensures.code
-
-pub returns-clause-judged : goal.returns-clause-judged
-returns-clause-judged g c = λ code word. (c.in-Err-Refused.why, c.in-Err-Refused.ensures.judged c.in-Err-Refused.why (ap (λ (e : CallError). Err e) c.in-Err-Refused.field-0-is) word)
-
-pub returns-clause-refused_part : goal.returns-clause-refused_part
-returns-clause-refused_part g c = λ told why again.
-    subst (λ (r : FileRefusal). SaidPart (file_line r) (g.D.Device.state c.args.device.now) (g.D.Device.state c.refuse_file.new.device)) (one_reason c.verdicts_exclude_each_other.ensures c.args.asked _ c.in-Err-Refused.why why (refuses g c told) again)
-    (part_then (file_line c.in-Err-Refused.why) _ _ _ _ _ (rests g c told) (c.refuse_file.ensures.part (told_too g c told)))
-
-pub returns-clause-looks : goal.returns-clause-looks
-returns-clause-looks g c = λ code. c.in-Err-Refused.ensures.looks c.in-Err-Refused.why (ap (λ (e : CallError). Err e) c.in-Err-Refused.field-0-is)
-
-pub returns-clause-accepted : goal.returns-clause-accepted
-returns-clause-accepted g c = λ told s starts. absurd (not_both c.verdicts_exclude_each_other.ensures c.args.asked _ s c.in-Err-Refused.why starts (refuses g c told))
-
-pub returns-clause-any_moment : goal.returns-clause-any_moment
-returns-clause-any_moment g c = λ told only s starts. absurd (not_both c.verdicts_exclude_each_other.ensures c.args.asked _ s c.in-Err-Refused.why starts (refuses g c told))
-
-pub returns-clause-left : goal.returns-clause-left
-returns-clause-left g c = λ told s starts. absurd (not_both c.verdicts_exclude_each_other.ensures c.args.asked _ s c.in-Err-Refused.why starts (refuses g c told))
-
-pub returns-clause-names : goal.returns-clause-names
-returns-clause-names g c = λ told.
-    may_then c.args.asked.word (file_name c.args.base.now) (g.D.Device.state c.args.device.now) (g.D.Device.state c.run_over.new.device) (g.D.Device.state c.refuse_file.new.device)
-    (subst (λ (name : List ℕ). MayHandOn c.args.asked.word name (g.D.Device.state c.args.device.now) (g.D.Device.state c.run_over.new.device)) (c.deref.ensures.value ∙ c.in-Ok.ensures) (c.run_over.ensures.names told)) c.refuse_file.ensures.names
-
-pub returns-clause-written : goal.returns-clause-written
-returns-clause-written g c = λ told. inl ((c.refuse_file.ensures.part (told_too g c told)).disk.put ∙ (rests g c told).put)
+pub returns-in-Make : goal.returns-in-Make
+returns-in-Make g c =
+    subst (λ (o : OneFile). EndsOne (one_errand o) c.args.base.now (g.D.Device.state c.args.device.now) (g.D.Device.state c.make.new.device) (g.D.Device.leaves c.args.device.now) (g.D.Device.leaves c.make.new.device) c.make.result.code) (sym c.in-Make.is)
+    (c.make.ensures c.args.base.now)

@@ -5,7 +5,7 @@ use Rattle.kdcfile_copies.specs.declared.answer.LoadedCopy.{LoadedCopy}
 use Rattle.kdcfile_double.specs.Twice.{Twice, IsInUse, IsKeptTwice, RoseAt}
 use Rattle.kdcfile_double.specs.Committing.{CanTakeIf}
 use Rattle.kdcfile_double.specs.CommitTwoLaws.{IsBroken, IsDone, IsTaken, alike_with, broken_so, done_end, done_twice, failed_end, failed_rose, first_takes, kept_with, memory_end, none_is, none_isnt}
-use Rattle.kdcfile_double.specs.CommitTwoLaws.{second_takes, taken}
+use Rattle.kdcfile_double.specs.CommitTwoLaws.{fine_still, line_with, second_takes, spared_open, spared_with, taken}
 use Rattle.kdcfile_double.proofs.store.TwinStore.commit.Given.{Over}
 use Rattle.kdcfile_double.proofs.store.TwinStore.commit.Goals.{else-is_none-via-then-is_none+else-is_none-2, else-is_none-via-else-is_none, After-take-second, In_default-commit_two}
 use Rattle.kdcfile_double.proofs.store.TwinStore.commit.Goals as goal
@@ -45,6 +45,18 @@ returns-in_default-commit_two-clause-unused g c = (out_of_memory g (goal.at.retu
 pub returns-in_default-commit_two-clause-any_moment : goal.returns-in_default-commit_two-clause-any_moment
 returns-in_default-commit_two-clause-any_moment g c = (out_of_memory g (goal.at.returns-in_default-commit_two-clause-any_moment g c).In_default-commit_two).any_moment
 
+pub returns-in_default-clause-went : goal.returns-in_default-clause-went
+returns-in_default-clause-went g c = λ none. fine_still c.args.self.now (g.T.Twin.both c.args.twin.now) c.requires.is_open
+
+pub returns-in_default-commit_two-clause-went : goal.returns-in_default-commit_two-clause-went
+returns-in_default-commit_two-clause-went g c = λ none.
+    let here = (goal.at.returns-in_default-commit_two-clause-went g c).After-take-second in
+    let it = were_taken g here in
+    record {
+      spared = spared_with (copies g here) c.args.self.now it.same (g.T.Twin.both c.args.twin.now) (g.T.Twin.both c.commit_two.new.twin) c.in_default-commit_two.ensures.spared;
+      line = line_with (copies g here) c.args.self.now it.same (g.T.Twin.both c.args.twin.now) (g.T.Twin.both c.commit_two.new.twin) c.commit_two.ensures.line;
+    }
+
 pub returns-then-is_none-2 : goal.returns-then-is_none-2
 returns-then-is_none-2 g c =
     let here = (goal.at.returns-then-is_none-2 g c).After-take-second in
@@ -66,6 +78,7 @@ returns-then-is_none-2 g c =
       unused = broken.unused;
       any_moment = broken.any_moment;
       failed = λ is. subst (λ (z : Twice). (half : Half) → IsInUse half z → RoseAt half (g.T.Twin.both c.args.twin.now) (g.T.Twin.both c.commit_two.new.twin)) it.same (failed_rose (copies g here) c.args.patch.now (g.T.Twin.both c.args.twin.now) (g.T.Twin.both c.commit_two.new.twin) (g.T.Twin.leaves c.args.twin.now) (g.T.Twin.leaves c.commit_two.new.twin) c.commit_two.new.lost it.known it.opened c.commit_two.ensures.any_moment c.commit_two.ensures.unused c.in-Ok-commit_two.first c.in-Ok-commit_two.second c.in-Ok-commit_two.ensures.first_next c.in-Ok-commit_two.ensures.second_next c.in-Ok-commit_two.ensures.lost (none_is c.in-Ok-commit_two.first c.is_none.result c.is_none.ensures c.if-is_none.true) (none_is c.in-Ok-commit_two.second c.is_none-then-is_none.result c.is_none-then-is_none.ensures c.if-is_none-2.true));
+      went = λ none. absurd (none refl);
       frame = c.commit_two.ensures.frame;
     }
 
@@ -102,5 +115,9 @@ returns g c =
       unused = done.unused;
       any_moment = done.any_moment;
       failed = λ is. absurd cc;
+      went = λ none. record {
+        spared = spared_open c.args.self.now _ (g.T.Twin.both c.args.twin.now) (g.T.Twin.both c.commit_two.new.twin) done.is_open done.no_other done.fine;
+        line = line_with (copies g here) c.args.self.now it.same (g.T.Twin.both c.args.twin.now) (g.T.Twin.both c.commit_two.new.twin) c.commit_two.ensures.line;
+      };
       frame = c.commit_two.ensures.frame;
     }

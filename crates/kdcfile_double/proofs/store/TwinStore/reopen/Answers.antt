@@ -1,14 +1,15 @@
 use Rattle.std.proofs.Common.{◌≡◌, sym, ap, subst, ◌∙◌}
 use Rattle.std.specs.Prelude.{IsTrue, Option}
 use Rattle.kd_device.specs.Twin.{Both}
+use Rattle.device_acts.specs.ErrorsLaws.{other_error}
 use Rattle.kd_device.specs.declared.half.Half.{Half}
 use Rattle.kd_device.specs.declared.half.Half.TheVariants.{First, Second}
 use Rattle.kdcfile_copies.specs.declared.answer.LoadedCopy.{LoadedCopy}
 use Rattle.kdcfile_double.specs.declared.error.TwinOpenError.TheVariants as to
-use Rattle.kdcfile_double.specs.Twice.{Twice, IsOpen, IsTwice}
+use Rattle.kdcfile_double.specs.Twice.{FineTwice, Twice, IsOpen, IsTwice}
 use Rattle.kdcfile_double.specs.Choice.{KeepsNoneTwice, KeepsOthersTwice}
 use Rattle.kdcfile_double.specs.Committing.{IsKeptAt}
-use Rattle.kdcfile_double.specs.CommitTwoLaws.{first_is_kept, second_is_kept}
+use Rattle.kdcfile_double.specs.CommitTwoLaws.{first_is_kept, line_with, second_is_kept, spared_open, spared_with}
 use Rattle.kdcfile_double.specs.OpenedLaws.{handed_on}
 use Rattle.kdcfile_double.specs.OpeningLaws.{fits_twice}
 use Rattle.kdcfile_double.specs.SingleLaws.{KeepsSome, first_keeps_some, second_keeps_some}
@@ -93,6 +94,27 @@ now_open g c =
     (reopened c.args.self (subst IsTwice c.self.view_is c.self.invariant) c.in_ok-found.found.0 c.in_ok-found.found.1 c.reload_both.new.lost a b (seen_again c.self.view_is c.in_ok-found.ensures.again) (open_now g c) (IsTrue a.told)
     (g.T.Twin.leaves c.args.twin.now) leaves c.requires.kept c.reload_both.ensures.rests c.in_ok-found.ensures.first_kept c.in_ok-found.ensures.second_kept)
 
+-- the calls did not fail as a whole
+went_open : (g : Over) (c : In_ok-store g) → FineTwice c.args.self (g.T.Twin.both c.args.twin.now) (g.T.Twin.both c.reload_both.new.twin)
+went_open g c =
+    let now_is = now_open g c in
+    record {
+      spared = spared_open c.args.self c.in_ok-store.store (g.T.Twin.both c.args.twin.now) (g.T.Twin.both c.reload_both.new.twin) c.in_ok-store.ensures.is_open now_is.no_other now_is.fine;
+      line = line_with _ c.args.self c.self.view_is (g.T.Twin.both c.args.twin.now) (g.T.Twin.both c.reload_both.new.twin) c.reload_both.ensures.line;
+    }
+
+pub returns-in_err-found-clause-went : goal.returns-in_err-found-clause-went
+returns-in_err-found-clause-went g c = λ none. record {
+  spared = spared_with _ c.args.self c.self.view_is (g.T.Twin.both c.args.twin.now) (g.T.Twin.both c.reload_both.new.twin) c.in_err-found.ensures.spared;
+  line = line_with _ c.args.self c.self.view_is (g.T.Twin.both c.args.twin.now) (g.T.Twin.both c.reload_both.new.twin) c.reload_both.ensures.line;
+}
+
+pub returns-in_err-store-clause-went : goal.returns-in_err-store-clause-went
+returns-in_err-store-clause-went g c = λ none. absurd (other_error _ _ c.from_residual-in_err-store.result c.in_err-store.field-0.0 to.Failed c.from_residual-in_err-store.ensures.1 none c.in_err-store.ensures.failed.0)
+
+pub returns-in_err-tables-clause-went : goal.returns-in_err-tables-clause-went
+returns-in_err-tables-clause-went g c = λ none. went_open g (goal.at.returns-in_err-tables-clause-went g c).In_ok-store
+
 pub tables_for-requires : goal.tables_for-requires
 tables_for-requires g c = c.in_ok-store.ensures.is_open
 
@@ -138,5 +160,6 @@ returns g c =
       still = λ told. let rests = c.reload_both.ensures.rests told in (rests.files, rests.leaves);
       failed = λ is half used. absurd cc;
       fine = now_is.fine;
+      went = λ none. went_open g (goal.at.returns g c).In_ok-store;
       frame = c.reload_both.ensures.frame;
     }

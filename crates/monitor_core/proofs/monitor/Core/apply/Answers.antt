@@ -3,7 +3,7 @@ use Rattle.std.proofs.Common.{ap, subst, sym, ◌∙◌}
 use Rattle.service_ends.specs.Standing.{state_of}
 use Rattle.monitor_core.specs.CoreValue.{core_value}
 use Rattle.monitor_core.specs.Sound.{IsSound}
-use Rattle.monitor_core.proofs.Going.{sound_command, serial_command, queues_command}
+use Rattle.monitor_core.proofs.Going.{sound_command, serial_command, queues_command, access_command}
 use Rattle.monitor_core.proofs.monitor.Core.apply.Goals as goal
 
 pub invariant_of-result : goal.invariant_of-result
@@ -23,3 +23,8 @@ pub returns-clause-queues : goal.returns-clause-queues
 returns-clause-queues c =
     queues_command c.deref_mut.result.now c.args.self (ap core_value c.deref_mut.ensures.value ∙ c.self.view_is) (subst IsSound (sym c.deref_mut.ensures.value) c.self.invariant) c.args.command.now (state_of c.apply.new.parts) c.in_ok-acts.acts c.in_ok-acts.ensures.exact
     c.commits_keep_queues.ensures.commands
+
+pub returns-clause-access : goal.returns-clause-access
+returns-clause-access c =
+    access_command c.deref_mut.result.now c.args.self (ap core_value c.deref_mut.ensures.value ∙ c.self.view_is) (subst IsSound (sym c.deref_mut.ensures.value) c.self.invariant) c.args.command.now (state_of c.apply.new.parts) c.in_ok-acts.acts c.in_ok-acts.ensures.exact
+    c.steps_keep_access.ensures.commands

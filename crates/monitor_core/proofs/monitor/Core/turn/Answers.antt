@@ -4,7 +4,7 @@ use Rattle.service_ends.specs.Ending.{turned_to}
 use Rattle.service_ends.specs.Standing.{state_of}
 use Rattle.monitor_core.specs.CoreValue.{core_value}
 use Rattle.monitor_core.specs.Sound.{IsSound}
-use Rattle.monitor_core.proofs.Going.{sound_turn, serial_turn, ended_turn, queues_turn}
+use Rattle.monitor_core.proofs.Going.{sound_turn, serial_turn, ended_turn, queues_turn, access_turn}
 use Rattle.monitor_core.proofs.monitor.Core.turn.Goals as goal
 
 pub invariant_of-result : goal.invariant_of-result
@@ -29,3 +29,8 @@ pub returns-clause-queues : goal.returns-clause-queues
 returns-clause-queues c =
     queues_turn c.deref_mut.result.now c.args.self (ap core_value c.deref_mut.ensures.value ∙ c.self.view_is) (subst IsSound (sym c.deref_mut.ensures.value) c.self.invariant) c.args.task (turned_to (state_of c.turn.new.parts) c.in_ok-did.did) c.in_ok-did.ensures.exact
     c.commits_keep_queues.ensures.turns
+
+pub returns-clause-access : goal.returns-clause-access
+returns-clause-access c =
+    access_turn c.deref_mut.result.now c.args.self (ap core_value c.deref_mut.ensures.value ∙ c.self.view_is) (subst IsSound (sym c.deref_mut.ensures.value) c.self.invariant) c.args.task (turned_to (state_of c.turn.new.parts) c.in_ok-did.did) c.in_ok-did.ensures.exact
+    c.steps_keep_access.ensures.turns

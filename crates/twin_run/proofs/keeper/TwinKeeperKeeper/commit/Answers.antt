@@ -1,7 +1,8 @@
 use Rattle.kd_base.specs.ToolsLaws.{error_same}
 use Rattle.std.proofs.Common.{◌∙◌}
+use Rattle.device_acts.specs.ErrorsLaws.{other_error}
 use Rattle.kdcfile_store.specs.Paged.{identity_with}
-use Rattle.twin_run.proofs.KeepingValues.{commit_then, failed_then, frame_then, keeper_was, kept_some, kept_was, since_none, since_some}
+use Rattle.twin_run.proofs.KeepingValues.{commit_then, failed_then, frame_then, keeper_was, kept_some, kept_was, since_none, since_some, went_then}
 use Rattle.twin_run.proofs.keeper.TwinKeeperKeeper.commit.Goals as goal
 
 pub commit-requires-clause-kept : goal.commit-requires-clause-kept
@@ -45,3 +46,24 @@ pub returns-clause-any_moment : goal.returns-clause-any_moment
 returns-clause-any_moment g c =
     let was = keeper_was g.T.Twin.both g.S.Start.store g.S.Start.both c.self.view_is c.self.invariant c.take.ensures.value c.in-Some.is in
     commit_then g.T.Twin.leaves was c.commit.ensures.frame (g.T.Twin.leaves c.commit.new.twin) c.args.patch.now c.commit.ensures.any_moment
+
+pub returns-then-sets_sequence-clause-fine : goal.returns-then-sets_sequence-clause-fine
+returns-then-sets_sequence-clause-fine g c = λ none fine. fine
+
+pub returns-in_default-clause-fine : goal.returns-in_default-clause-fine
+returns-in_default-clause-fine g c = rw (← c.self.view_is) (λ none fine. fine)
+
+pub returns-in_err-commit-clause-fine : goal.returns-in_err-commit-clause-fine
+returns-in_err-commit-clause-fine g c = λ none.
+    let was = keeper_was g.T.Twin.both g.S.Start.store g.S.Start.both c.self.view_is c.self.invariant c.take.ensures.value c.in-Some.is in
+    went_then g.T.Twin.leaves was c.commit.ensures.frame (c.in_err-commit.ensures.went (other_error _ _ c.from_residual.result c.in_err-commit.field-0.0 _ c.from_residual.ensures.1 none))
+
+pub returns-clause-fine : goal.returns-clause-fine
+returns-clause-fine g c = λ none.
+    let was = keeper_was g.T.Twin.both g.S.Start.store g.S.Start.both c.self.view_is c.self.invariant c.take.ensures.value c.in-Some.is in
+    went_then g.T.Twin.leaves was c.commit.ensures.frame (c.in_ok-commit.ensures.went (λ is. absurd cc))
+
+pub returns-clause-frame : goal.returns-clause-frame
+returns-clause-frame g c =
+    let was = keeper_was g.T.Twin.both g.S.Start.store g.S.Start.both c.self.view_is c.self.invariant c.take.ensures.value c.in-Some.is in
+    frame_then g.T.Twin.leaves was c.commit.ensures.frame

@@ -1,6 +1,6 @@
 use Rattle.kd_device.specs.declared.half.Half.TheVariants.{First}
 use Rattle.kdcfile_store.specs.Paged.{identity_with}
-use Rattle.twin_run.proofs.KeepingCalls.{frame_kept, said_kept, said_moments, said_rise, said_since}
+use Rattle.twin_run.proofs.KeepingCalls.{frame_kept, said_fine, said_kept, said_moments, said_rise, said_since}
 use Rattle.twin_run.proofs.keeper.TwinKeeperKeeper.say.Goals as goal
 
 pub invariant_of-self : goal.invariant_of-self
@@ -21,3 +21,8 @@ pub returns-clause-frame : goal.returns-clause-frame
 returns-clause-frame g c =
     rw (← c.self.view_is)
     (let frame = c.say_both.ensures.frame First in frame_kept g.S.Start.store g.S.Start.both (g.T.Twin.both c.self.inside.twin) (g.T.Twin.both c.say_both.new.twin) frame.told (said_rise g.S.Start.store g.S.Start.both (g.T.Twin.both c.self.inside.twin) (g.T.Twin.both c.say_both.new.twin) (identity_with c.self.inside.limits c.self.inside.fingerprint) c.say_both.ensures.disks) frame.line_faults frame.moment)
+
+pub returns-clause-fine : goal.returns-clause-fine
+returns-clause-fine g c =
+    rw (← c.self.view_is)
+    (λ none. said_fine g.S.Start.store g.S.Start.both (g.T.Twin.both c.self.inside.twin) (g.T.Twin.both c.say_both.new.twin) (identity_with c.self.inside.limits c.self.inside.fingerprint) c.say_both.ensures.disks (c.say_both.ensures.fine none))

@@ -1,5 +1,5 @@
 use Rattle.kdcfile_store.specs.Paged.{identity_with}
-use Rattle.twin_run.proofs.KeepingValues.{error_then, failed_then, frame_then, keeper_was, keeps_twice, kept_some, kept_was, made_twice, reopen_then, same_tables, since_some, told_was}
+use Rattle.twin_run.proofs.KeepingValues.{error_then, failed_then, frame_then, keeper_was, keeps_twice, kept_some, kept_was, made_twice, reopen_then, same_tables, since_some, told_was, went_then}
 use Rattle.twin_run.proofs.keeper.TwinKeeperReopens.reopen.Goals as goal
 
 pub reopen-requires-clause-kept : goal.reopen-requires-clause-kept
@@ -50,3 +50,19 @@ pub returns-clause-frame : goal.returns-clause-frame
 returns-clause-frame g c =
     let was = keeper_was g.T.Twin.both g.S.Start.store g.S.Start.both c.self.view_is c.self.invariant c.take.ensures.value c.in-Some.is in
     frame_then g.T.Twin.leaves was c.reopen.ensures.frame
+
+pub returns-then-is_none-clause-fine : goal.returns-then-is_none-clause-fine
+returns-then-is_none-clause-fine g c = λ none fine. fine
+
+pub returns-in_default-clause-fine : goal.returns-in_default-clause-fine
+returns-in_default-clause-fine g c = rw (← c.self.view_is) (λ none fine. fine)
+
+pub returns-in-Err-clause-fine : goal.returns-in-Err-clause-fine
+returns-in-Err-clause-fine g c = λ none.
+    let was = keeper_was g.T.Twin.both g.S.Start.store g.S.Start.both c.self.view_is c.self.invariant c.take.ensures.value c.in-Some.is in
+    went_then g.T.Twin.leaves was c.reopen.ensures.frame (c.in-Err.ensures.went (λ is. none (error_then _ _ c.in-Err.error _ c.reopen_error.result _ c.reopen_error.ensures.fine is)))
+
+pub returns-clause-fine : goal.returns-clause-fine
+returns-clause-fine g c = λ none.
+    let was = keeper_was g.T.Twin.both g.S.Start.store g.S.Start.both c.self.view_is c.self.invariant c.take.ensures.value c.in-Some.is in
+    went_then g.T.Twin.leaves was c.reopen.ensures.frame (c.in-Ok.ensures.went (λ is. absurd cc))

@@ -1,0 +1,24 @@
+use Rattle.std.proofs.Common.{Err, sym, subst}
+use Rattle.utm_cli.specs.Asking.{errand_for}
+use Rattle.utm_cli.specs.PartsTwo.{DoesTwo}
+use Rattle.utm_cli.specs.declared.errand.Task.{Task}
+use Rattle.utm_cli.specs.declared.errand.Task.TheVariants as task
+use Rattle.utm_cli.specs.declared.twin.error.TwinCallError.TheVariants.{Refused}
+use Rattle.utm_cli.specs.declared.twin.error.TwinRefusal.TheVariants.{Double}
+use Rattle.utm_cli.specs.declared.words.Word.TheVariants.{Update}
+use Rattle.utm_cli.proofs.twin.Does.{not_looked_at, refused_does}
+use Rattle.utm_cli.proofs.twin.double.over_copies.Goals as goal
+
+pub returns-in-Store : goal.returns-in-Store
+returns-in-Store g c = subst (λ (t : Task). DoesTwo (errand_for c.args.work t) c.args.base.now c.keep_copies.result (g.T.Twin.both c.args.twin.now) (g.T.Twin.both c.keep_copies.new.twin) (g.T.Twin.leaves c.args.twin.now) (g.T.Twin.leaves c.keep_copies.new.twin)) (sym c.in-Store.is) (c.keep_copies.ensures)
+
+pub returns-in-Look : goal.returns-in-Look
+returns-in-Look g c = subst (λ (t : Task). DoesTwo (errand_for c.args.work t) c.args.base.now c.look_copies.result (g.T.Twin.both c.args.twin.now) (g.T.Twin.both c.look_copies.new.twin) (g.T.Twin.leaves c.args.twin.now) (g.T.Twin.leaves c.look_copies.new.twin)) (sym c.in-Look.is) (c.look_copies.ensures)
+
+pub returns-in-Audit : goal.returns-in-Audit
+returns-in-Audit g c = subst (λ (t : Task). DoesTwo (errand_for c.args.work t) c.args.base.now c.audit_copies.result (g.T.Twin.both c.args.twin.now) (g.T.Twin.both c.audit_copies.new.twin) (g.T.Twin.leaves c.args.twin.now) (g.T.Twin.leaves c.audit_copies.new.twin)) (sym c.in-Audit.is) (c.audit_copies.ensures c.args.base.now)
+
+pub returns-in-Update : goal.returns-in-Update
+returns-in-Update g c =
+    subst (λ (t : Task). DoesTwo (errand_for c.args.work t) c.args.base.now (Err (Refused Double)) (g.T.Twin.both c.args.twin.now) (g.T.Twin.both c.args.twin.now) (g.T.Twin.leaves c.args.twin.now) (g.T.Twin.leaves c.args.twin.now)) (sym c.in-Update.is)
+    (refused_does (errand_for c.args.work task.Update) c.args.base.now _ _ _ _ (not_looked_at g.T.Twin.both g.T.Twin.leaves g.met.T.Twin.sent_now g.met.T.Twin.earlier Update c.args.base.now c.args.twin.now) Double tt)

@@ -1,0 +1,267 @@
+-- The words in which the top call over two disks promises.
+use Rattle.std.specs.Prelude.{◌≡◌, ⊤, ◌⊎◌, ◌≤◌, ℕ, Bool, IsTrue, List, [], ◌∷◌, ◌++◌, take, codes, Option, Some, IsSome, Ok, Err}
+use Rattle.kd_device.specs.Device.{Rose}
+use Rattle.kd_device.specs.Room.{RoomState}
+use Rattle.kd_records.specs.declared.content.Content.{Content}
+use Rattle.kd_records.specs.Identity.{Identity}
+use Rattle.kd_device.specs.Twin.{Both, disk_of}
+use Rattle.kd_device.specs.declared.half.Half.{Half}
+use Rattle.kd_device.specs.declared.half.Half.TheVariants.{First, Second}
+use Rattle.kdcs_types.specs.declared.act.Act.{Act}
+use Rattle.kdcs_types.specs.Tables.{TableRows}
+use Rattle.abstract_monitor.specs.Trace.{bytes_of, tables_after}
+use Rattle.laws_of_states.specs.Cut.{SentBy}
+use Rattle.kdcfile_copies.specs.Copies.{AtMost, Below, IsCopyOf, IsNoCopy}
+use Rattle.kdcfile_copies.specs.Beside.{file_of}
+use Rattle.kdcfile_double.specs.Mended.{BothRest}
+use Rattle.kdcfile_double.specs.Opening.{AreEmpty, SameFiles}
+use Rattle.kdcfile_double.specs.Twice.{RoseAt}
+use Rattle.refusals.specs.Lines.{file_line}
+use Rattle.refusals.specs.Statuses.{IsOneOf}
+use Rattle.refusals.specs.declared.error.FileRefusal.TheVariants as why
+use Rattle.refusals.specs.declared.error.Refusal.{Refusal}
+use Rattle.twin_run.specs.Running.{CountsAs, IsCopyOfTables, IsLastCopy, with_copies}
+use Rattle.utm_cli.specs.Asking.{Errand, Reading, ReadsForTwo}
+use Rattle.utm_cli.specs.Promise.{AsksMake, AsksNothing, AuditsOwn, Request}
+use Rattle.utm_cli.specs.Words.{file_name}
+use Rattle.utm_cli.specs.declared.words.Word.{Word}
+use Rattle.utm_cli.specs.declared.words.Word.TheVariants.{Gen, Run, Show, Update, Trail, Audit, Make}
+use Rattle.utm_cli.specs.declared.twin.error.TwinRefusal.{TwinRefusal}
+use Rattle.utm_cli.specs.declared.twin.error.TwinRefusal.TheVariants.{NotKdcfile, OtherGeneration, Spent, Double, Differs}
+use Rattle.utm_cli.specs.DoingTwo.{RefusesTwo, StartsTwo, acts_two, identity_of_two}
+
+-- ---- a call
+
+-- what a call is given: its words, the texts of its room, and its twin with the files
+pub record TwinCall : Type 0 where
+  pub words : List (List ℕ)
+  pub room : RoomState
+  pub twin : Both
+
+abbrev pub twin_call : List (List ℕ) → RoomState → Both → TwinCall
+twin_call words room twin = record { words = words; room = room; twin = twin }
+
+-- the words ask for something over a definition of two copies, the texts that it reads are there, and this is what they say
+pub record ReadsTwo (words : List (List ℕ)) (room : RoomState) (said : Reading) : Type 0 where
+  pub word : Word
+  pub base : List ℕ
+  pub asked : Request words word base
+  pub reads : ReadsForTwo word base room said
+
+-- the words are none of the forms, or `make`, or the texts are told and do not define two copies
+abbrev pub IsSingleCall : List (List ℕ) → RoomState → Type 0
+IsSingleCall words room = AsksNothing words ⊎ AsksMake words ⊎ (IsTrue room.told × ((said : Reading) → ReadsTwo words room said → ⊥))
+
+-- what holds of the errand over two copies that the words and the texts ask for
+abbrev pub ForTwoErrand : TwinCall → (Errand → Type 0) → Type 0
+ForTwoErrand c P = IsTrue c.room.told → (e : Errand) → ReadsTwo c.words c.room (Ok e) → P e
+
+-- the bytes of both files are told, or the word looks at none of them; `update` refuses all
+abbrev pub TellsTwo : Word → (told : Bool) → Type 0
+TellsTwo Gen told = IsTrue told
+TellsTwo Run told = IsTrue told
+TellsTwo Show told = IsTrue told
+TellsTwo Update told = ⊤
+TellsTwo Trail told = IsTrue told
+TellsTwo Audit told = ⊤
+TellsTwo (Make n) told = ⊤
+
+-- and where they are told
+abbrev pub ForTwo : TwinCall → (Errand → Type 0) → Type 0
+ForTwo c P = IsTrue c.room.told → (e : Errand) → ReadsTwo c.words c.room (Ok e) → TellsTwo e.word c.twin.told → P e
+
+-- and of the tables where it starts
+abbrev pub ForTwoStart : TwinCall → (Errand → TableRows → Type 0) → Type 0
+ForTwoStart c P = IsTrue c.room.told → (e : Errand) (t : TableRows) → ReadsTwo c.words c.room (Ok e) → TellsTwo e.word c.twin.told → StartsTwo e c.twin t → P e t
+
+-- what holds of a call over two copies that audits the trail of a run
+abbrev pub ForOwnTrailTwo : TwinCall → Type 0 → Type 0
+ForOwnTrailTwo c P = IsTrue c.room.told → AuditsOwn IsSome c.words c.room → P
+
+-- and of the files that the errand has at this BASE
+abbrev pub ForTwoFiles : TwinCall → (Errand → List ℕ → Type 0) → Type 0
+ForTwoFiles c P = IsTrue c.room.told → IsTrue c.twin.told → (e : Errand) → ReadsTwo c.words c.room (Ok e) → (base : List ℕ) → Request c.words e.word base → P e base
+
+-- what holds of the fault of the third text of a call over two copies
+abbrev pub ForTwoRefusal : TwinCall → (Refusal → Type 0) → Type 0
+ForTwoRefusal c P = IsTrue c.room.told → (why : Refusal) → ReadsTwo c.words c.room (Err why) → P why
+
+-- ---- why it is refused
+
+-- the line of a refusal
+abbrev pub twin_line : TwinRefusal → List ℕ
+twin_line NotKdcfile = file_line why.NotKdcfile
+twin_line (OtherGeneration stored) = file_line (why.OtherGeneration stored)
+twin_line Spent = codes "KDCFILE SEQUENCE SPENT\n"
+twin_line Double = codes "KDCFILE IS DOUBLE\n"
+twin_line (Differs n) = file_line (why.Differs n)
+
+-- its status
+abbrev pub status_of_two : TwinRefusal → ℕ
+status_of_two NotKdcfile = 4
+status_of_two (OtherGeneration stored) = 4
+status_of_two Spent = 4
+status_of_two Double = 4
+status_of_two (Differs n) = 8
+
+-- ---- a cut
+
+-- at the call the half was no copy or had the lesser sequence, and the other half was a copy; of two copies of one sequence that differ the second counts as the lesser
+abbrev pub WasBehind : Half → Both → Type 0
+WasBehind First a = (i : Identity) × (n : ℕ) × (x : Content) × IsCopyOf i n x a.second.holds × Below n a.first.holds
+WasBehind Second a = (i : Identity) × (n : ℕ) × (x : Content) × IsCopyOf i n x a.first.holds × AtMost n a.second.holds × (IsCopyOf i n x a.second.holds → ⊥)
+
+-- some first acts were done, with the lines of a half that was behind and of one on which a call failed; files have the tables after them, and these bytes were sent beyond those before
+pub record IsCutOfTwo (keeps : TableRows → Type 0) (t : TableRows) (acts : List Act) (a b : Both) (out : List ℕ) : Type 0 where
+  pub mended : Option Half
+  pub mended_was : (half : Half) → mended ≡ Some half → WasBehind half a
+  pub lost : Option Half
+  pub lost_rose : (half : Half) → lost ≡ Some half → RoseAt half a b
+  pub since : List ℕ
+  pub more : out ≡ a.sent ++ since
+  pub done : List Act
+  pub left : List Act
+  pub whole : with_copies mended acts lost ≡ done ++ left
+  pub files : keeps (tables_after t done)
+  pub bytes : SentBy done left since
+
+-- both files were empty at the call, nothing was sent, and neither is a copy yet
+pub record LeavesUnmadeTwo (a : Both) (c d out : List ℕ) : Type 0 where
+  pub empty : AreEmpty a.first.holds a.second.holds
+  pub silent : out ≡ a.sent
+  pub first_none : IsNoCopy c
+  pub second_none : IsNoCopy d
+
+-- what was sent and the copy that counts are a cut of the acts; and where a byte was sent, so is each half by itself on which no call failed
+pub record IsStopOfRun (i : Identity) (t : TableRows) (acts : List Act) (a b : Both) (c d out : List ℕ) : Type 0 where
+  pub pair : IsCutOfTwo (λ u. CountsAs i u c d) t acts a b out ⊎ LeavesUnmadeTwo a c d out
+  pub alone : (half : Half) → (out ≡ a.sent → ⊥) → (RoseAt half a b → ⊥) → IsCutOfTwo (λ u. IsCopyOfTables i u (file_of half c d)) t acts a b out
+
+-- both files are as they were, and a front of these bytes was sent
+pub record IsFrontOfTwo (bytes : List ℕ) (a : Both) (c d out : List ℕ) : Type 0 where
+  pub first_same : c ≡ a.first.holds
+  pub second_same : d ≡ a.second.holds
+  pub front : (n : ℕ) × (out ≡ a.sent ++ take n bytes)
+
+abbrev pub IsStopBy : Word → Identity → TableRows → List Act → (a b : Both) → (c d out : List ℕ) → Type 0
+IsStopBy Gen i t acts a b c d out = IsStopOfRun i t acts a b c d out
+IsStopBy Run i t acts a b c d out = IsStopOfRun i t acts a b c d out
+IsStopBy Show i t acts a b c d out = IsFrontOfTwo (bytes_of acts) a c d out
+IsStopBy Update i t acts a b c d out = IsFrontOfTwo (bytes_of acts) a c d out
+IsStopBy Trail i t acts a b c d out = IsFrontOfTwo (bytes_of acts) a c d out
+IsStopBy Audit i t acts a b c d out = IsFrontOfTwo (bytes_of acts) a c d out
+IsStopBy (Make n) i t acts a b c d out = IsFrontOfTwo (bytes_of acts) a c d out
+
+-- what a stop since the call leaves of both files and of the line, where they were at rest
+abbrev pub StopsTwo : Errand → TableRows → (a b : Both) → (la lb : ℕ → List ℕ → List ℕ → List ℕ → Type 0) → Type 0
+StopsTwo e t a b la lb = BothRest a la → (c d out : List ℕ) → lb a.moment c d out → IsStopBy e.word (identity_of_two e) t (acts_two e t) a b c d out
+
+-- ---- an end
+
+-- all was done: the lines of the acts were sent with those of the copies, and each half that is not lost has the last copy; and whatever files a stop leaves of both, the copy that counts has the last tables
+pub record RanTwo (i : Identity) (t : TableRows) (acts : List Act) (a b : Both) (lb : ℕ → List ℕ → List ℕ → List ℕ → Type 0) : Type 0 where
+  pub mended : Option Half
+  pub mended_was : (half : Half) → mended ≡ Some half → WasBehind half a
+  pub lost : Option Half
+  pub lost_rose : (half : Half) → lost ≡ Some half → RoseAt half a b
+  pub mended_all : (half : Half) → WasBehind half a → (mended ≡ Some half) ⊎ (lost ≡ Some half)
+  pub sent : b.sent ≡ a.sent ++ bytes_of (with_copies mended acts lost)
+  pub counts : CountsAs i (tables_after t acts) b.first.holds b.second.holds
+  pub counts_after : (c d : List ℕ) → lb b.moment c d b.sent → CountsAs i (tables_after t acts) c d
+  pub copies : (half : Half) → (lost ≡ Some half) ⊎ IsLastCopy i half (tables_after t acts) a b lb
+
+-- both files are as they were, and these bytes were sent
+pub record SaidTwo (bytes : List ℕ) (a b : Both) : Type 0 where
+  pub files : SameFiles a b
+  pub sent : b.sent ≡ a.sent ++ bytes
+
+abbrev pub EndsBy : Word → Identity → TableRows → List Act → (a b : Both) → (lb : ℕ → List ℕ → List ℕ → List ℕ → Type 0) → Type 0
+EndsBy Gen i t acts a b lb = RanTwo i t acts a b lb
+EndsBy Run i t acts a b lb = RanTwo i t acts a b lb
+EndsBy Show i t acts a b lb = SaidTwo (bytes_of acts) a b
+EndsBy Update i t acts a b lb = ⊥
+EndsBy Trail i t acts a b lb = SaidTwo (bytes_of acts) a b
+EndsBy Audit i t acts a b lb = SaidTwo (bytes_of acts) a b
+EndsBy (Make n) i t acts a b lb = ⊥
+
+-- all that was asked for was done, from the tables of the copy that counts
+abbrev pub EndsTwo : Errand → (a b : Both) → (lb : ℕ → List ℕ → List ℕ → List ℕ → Type 0) → Type 0
+EndsTwo e a b lb = (t : TableRows) × StartsTwo e a t × (IsTrue a.told → EndsBy e.word (identity_of_two e) t (acts_two e t) a b lb)
+
+-- ---- faults
+
+-- a call of the line failed, or of both halves, or of one half before a byte was sent
+abbrev pub FailsTwo : (a b : Both) → Type 0
+FailsTwo a b =
+    Rose a.line_faults b.line_faults ⊎ (RoseAt First a b × RoseAt Second a b) ⊎ ((RoseAt First a b ⊎ RoseAt Second a b) × (b.sent ≡ a.sent))
+
+-- some call failed
+abbrev pub FaultsTwo : (a b : Both) → Type 0
+FaultsTwo a b = Rose a.line_faults b.line_faults ⊎ RoseAt First a b ⊎ RoseAt Second a b
+
+-- ---- names
+
+-- the name of the second half's file
+abbrev pub second_name : List ℕ → List ℕ
+second_name base = base ++ codes ".KDCB"
+
+abbrev pub name_of : Half → List ℕ → List ℕ
+name_of First base = file_name base
+name_of Second base = second_name base
+
+-- this half's name, or none, was handed to attach
+abbrev pub MayAttachTwo : List ℕ → (a b : Both) → Type 0
+MayAttachTwo base a b =
+    (half : Half) → ((disk_of half b).names ≡ (disk_of half a).names) ⊎ ((disk_of half b).names ≡ (disk_of half a).names ++ name_of half base ∷ [])
+
+-- each half's name was handed to attach
+abbrev pub AttachesBoth : List ℕ → (a b : Both) → Type 0
+AttachesBoth base a b = (half : Half) → (disk_of half b).names ≡ (disk_of half a).names ++ name_of half base ∷ []
+
+-- no name was handed to attach
+abbrev pub SameNamesTwo : (a b : Both) → Type 0
+SameNamesTwo a b = (half : Half) → (disk_of half b).names ≡ (disk_of half a).names
+
+-- the names that a word hands to attach; `update` and `audit` hand on none
+abbrev pub AttachesTwoBy : Word → List ℕ → (a b : Both) → Type 0
+AttachesTwoBy Gen base a b = AttachesBoth base a b
+AttachesTwoBy Run base a b = AttachesBoth base a b
+AttachesTwoBy Show base a b = AttachesBoth base a b
+AttachesTwoBy Update base a b = SameNamesTwo a b
+AttachesTwoBy Trail base a b = AttachesBoth base a b
+AttachesTwoBy Audit base a b = SameNamesTwo a b
+AttachesTwoBy (Make n) base a b = SameNamesTwo a b
+
+-- of each half that name or none
+abbrev pub MayAttachTwoBy : Word → List ℕ → (a b : Both) → Type 0
+MayAttachTwoBy Gen base a b = MayAttachTwo base a b
+MayAttachTwoBy Run base a b = MayAttachTwo base a b
+MayAttachTwoBy Show base a b = MayAttachTwo base a b
+MayAttachTwoBy Update base a b = SameNamesTwo a b
+MayAttachTwoBy Trail base a b = MayAttachTwo base a b
+MayAttachTwoBy Audit base a b = SameNamesTwo a b
+MayAttachTwoBy (Make n) base a b = SameNamesTwo a b
+
+-- what no call changes or lowers
+pub record FrameTwin (a b : Both) : Type 0 where
+  pub told : b.told ≡ a.told
+  pub first_faults : a.first.disk_faults ≤ b.first.disk_faults
+  pub second_faults : a.second.disk_faults ≤ b.second.disk_faults
+  pub line_faults : a.line_faults ≤ b.line_faults
+  pub moment : a.moment ≤ b.moment
+
+-- ---- a refusal
+
+-- a front of this line was sent, and nothing else
+pub record SaysPartTwo (line : List ℕ) (a b : Both) : Type 0 where
+  pub files : SameFiles a b
+  pub front : (n : ℕ) × (b.sent ≡ a.sent ++ take n line)
+
+-- two files are refused, or the trail does not hold, and this is the status; the line that says why was sent
+abbrev pub SaysWhyTwo : Errand → (code : ℕ) → (a b : Both) → Type 0
+SaysWhyTwo e code a b = (why : TwinRefusal) × RefusesTwo e a why × (code ≡ status_of_two why) × (IsTrue a.told → SaidTwo (twin_line why) a b)
+
+-- where no call of the twin failed and no read did, or the room is sure, all was done or memory ran out
+abbrev pub CompletesTwo : (code : ℕ) → (r s : RoomState) → (a b : Both) → Type 0
+CompletesTwo code r s a b =
+    (FaultsTwo a b → ⊥) → (Rose r.faults s.faults → ⊥) ⊎ IsTrue r.sure → IsOneOf (0 ∷ 7 ∷ []) code

@@ -1,0 +1,13 @@
+//! The program over two disks.
+//!
+//! Where the texts define one file it is that over one disk, over the first half; for two copies `double` opens both files,
+//! runs over them and says what became of them.
+
+mod beside;
+mod double;
+mod error;
+mod opening;
+mod top;
+
+pub(crate) use error::TwinRefusal;
+pub use top::utm_twin;

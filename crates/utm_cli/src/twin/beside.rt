@@ -1,0 +1,70 @@
+//! The first half of a twin as a device: a call over one file, and the line of a refusal beside both files.
+ghost use Rattle.std.specs.Prelude.{◌≡◌};
+ghost use Rattle.kd_device.specs.{Apart.{IsSince}, Twin.{disk_of, half_leaves, half_state}, declared.half.Half.TheVariants.{First, Second}};
+ghost use Rattle.utm_cli.specs.{Asking.{CanRun, one_errand}, Beside.{SendsRefusal, SendsRefusalTwo, line_for, status_for}, Parts.{EndsOne}, PromiseTwo.{FrameTwin}};
+
+use crate::errand::OneFile;
+use crate::refusing::{Cause, refuse_for};
+use crate::run::run;
+use kd_device::{Half, HalfDevice, Origin, Twin};
+use refusals::Status;
+use std::alloc::Global;
+use std::marker::Brand;
+
+// The answer goes into `status`: beside the twin it would keep the borrow of it.
+fn run_on<T: Twin, O: Origin>(
+    alloc: Global,
+    twin: T,
+    half: Half,
+    base: &[u8],
+    asked: OneFile,
+    status: &mut Status,
+) -> T
+    requires half { half ≡ O.half }
+    requires since { IsSince O.half O.place (T.place twin) O.both (T.both twin) O.leaves (T.leaves twin) }
+    requires can { CanRun (one_errand asked) }
+    ensures since { IsSince O.half O.place (T.place result) O.both (T.both result) O.leaves (T.leaves result) }
+    ensures ends { EndsOne (one_errand asked) base.now (half_state O.half (T.both twin)) (half_state O.half (T.both result)) (half_leaves O.half (T.leaves twin)) (half_leaves O.half (T.leaves result)) status.new.code }
+{
+    let mut device: HalfDevice<T, O> = HalfDevice::new(twin, half);
+    *status = run(alloc, &mut device, base, asked);
+    device.into_twin()
+}
+
+/// Does what is asked for over one file, over the first disk. The second disk stays as it is.
+pub(crate) fn run_first<T: Twin>(alloc: Global, twin: &mut T, base: &[u8], asked: OneFile) -> Status
+    requires can { CanRun (one_errand asked) }
+    ensures ends { EndsOne (one_errand asked) base.now (half_state First (T.both twin.old)) (half_state First (T.both twin.new)) (half_leaves First (T.leaves twin.old)) (half_leaves First (T.leaves twin.new)) result.code }
+    ensures second { disk_of Second (T.both twin.new) ≡ disk_of Second (T.both twin.old) }
+    ensures frame { FrameTwin (T.both twin.old) (T.both twin.new) }
+{
+    let mut status = Status::MEMORY;
+    run_on::<&mut T, Brand>(alloc, twin, Half::First, base, asked, &mut status);
+    status
+}
+
+fn refuse_on<T: Twin, O: Origin>(
+    alloc: Global,
+    twin: T,
+    half: Half,
+    why: Cause,
+    status: &mut Status,
+) -> T
+    requires half { half ≡ O.half }
+    requires since { IsSince O.half O.place (T.place twin) O.both (T.both twin) O.leaves (T.leaves twin) }
+    ensures since { IsSince O.half O.place (T.place result) O.both (T.both result) O.leaves (T.leaves result) }
+    ensures refuses { SendsRefusal (status_for why) (line_for why) (half_state O.half (T.both twin)) (half_state O.half (T.both result)) status.new.code }
+{
+    let mut device: HalfDevice<T, O> = HalfDevice::new(twin, half);
+    *status = refuse_for(alloc, &mut device, why);
+    device.into_twin()
+}
+
+/// Sends the line of its cause. Both files stay as they are.
+pub(crate) fn refuse_beside<T: Twin>(alloc: Global, twin: &mut T, why: Cause) -> Status
+    ensures { SendsRefusalTwo (status_for why) (line_for why) (T.both twin.old) (T.both twin.new) result.code }
+{
+    let mut status = Status::MEMORY;
+    refuse_on::<&mut T, Brand>(alloc, twin, Half::First, why, &mut status);
+    status
+}
