@@ -46,9 +46,9 @@ LIKELY = [
     ("def", "KSET X{n},KEYS=4", "WARN DEF {at} UnusedKset X{n}"),
     ("def", "PTERM X{n}", "WARN DEF {at} PassedPterm X{n}"),
     ("def", "LTERM X{n}", "WARN DEF {at} NoPterm X{n}"),
-    ("def", "USER X{n},RESTARTS=NO", "WARN DEF {at} NearOperand RESTARTS RESTART"),
-    ("def", "USER X{n},COLOUR=RED", "WARN DEF {at} NotKept COLOUR"),
-    ("def", "TAC X{n},PROGRAM=PROGRAM,LOCK=3999", "WARN DEF {at} LockWithoutKey X{n} 3999"),
+    ("def", "USER X{n},RESTARTS=NO", "WARN DEF {at} NearOperand RESTARTS=NO RESTART"),
+    ("def", "USER X{n},COLOUR=RED", "WARN DEF {at} NotKept COLOUR=RED"),
+    ("def", "TAC X{n},PROGRAM=PROGRAM,LOCK=3999", "WARN DEF {at} LockWithoutKey X{n} LOCK=3999"),
     ("units", "UNIT X{n}\nPEND FI\nEND", "WARN UNITS {at} UnusedUnit X{n}"),
     ("units", "UNIT X{n}\nINIT\nPEND FI\nMPUT 'A'\nPEND FI\nEND", "WARN UNITS {at+3} NeverReached"),
     ("units", "UNIT X{n}\nFIELD f KB 0 1\nINIT\nPEND FI\nEND", "WARN UNITS {at+1} UnusedField f"),
@@ -221,7 +221,8 @@ class Check:
     def tried(self, folder):
         folder.write(self.written)
         status, lines = folder.call(folder.lab, "check", "app")
-        faults = [it for it in lines if not it.startswith("WARN ")]
+        # Text, line and fault. What stands behind them helps who mends it, and is tried by rows of its own.
+        faults = [" ".join(it.split(" ")[:3]) for it in lines if not it.startswith("WARN ")]
         wanted = self.wanted or ["OK"] * (len(lines) == 1 and not lines[0].startswith("WARN"))
         code = {"D": 2, "U": 2, "S": 3}[self.wanted[0][0]] if self.wanted else 0
         if (status, faults) != (code, wanted):
