@@ -47,6 +47,11 @@ def main():
     asked = parser.parse_args()
     kind = KINDS[asked.kind]
     program = asked.program or getattr(kind, "PROGRAM", PROGRAM)
+    why_not = getattr(kind, "why_not", lambda: None)()
+    if why_not:
+        print(f"{asked.kind}: none is tried: {why_not}")
+        print(f"{asked.kind} {asked.seed}: 0 passed, 0 failed")
+        return 0
     tried = wrong = 0
     while tried < asked.count:
         made = random.Random(f"{asked.kind} {asked.seed} {tried}")

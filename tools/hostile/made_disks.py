@@ -519,6 +519,11 @@ class Scenario:
         self.expects(files == self.left, f"{said}: other bytes")
 
 
+def why_not():
+    """Why none of these can be tried here, or nothing."""
+    return None if traced.is_possible() else "calls of the system cannot be looked at here"
+
+
 class Batch:
     """As many scenarios as there have to be tries."""
 
@@ -527,10 +532,6 @@ class Batch:
         self.tries = []
 
     def differences(self, program):
-        if not traced.is_possible():
-            print("disks: calls of the system cannot be looked at here; faults and stops of real files are not tried")
-            self.tries = [None] * self.count
-            return
         folder = Folder(program)
         try:
             while len(self.tries) < self.count:
